@@ -1,0 +1,5 @@
+pub mod Number
+pub mod Rounding
+pub mod ByteString
+pub mod Bytes
+pub mod Lending

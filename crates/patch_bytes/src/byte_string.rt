@@ -1,0 +1,82 @@
+ghost use Rattle.std.specs.Prelude.{◌≡◌, IfOk};
+
+use std::alloc::{AllocError, Global};
+use std::marker::Model;
+
+/// Bytes that are borrowed until the first change, and owned from then on.
+#[derive(Debug, Drop)]
+pub struct ByteString<'data> {
+    source: &'data [u8],
+    copy: Option<Vec<u8>>,
+}
+
+impl<'data> Model for ByteString<'data> {
+    ghost use Rattle.std.specs.Prelude.{List, ℕ};
+    ghost use Rattle.patch_bytes.specs.ByteString.{bytes_shown};
+
+    ghost Value = { List ℕ };
+
+    ghost view = { λ s. bytes_shown s.source.now s.copy };
+}
+
+impl<'data> ByteString<'data> {
+    ghost use Rattle.std.specs.Borrow.{sem};
+    ghost use Rattle.patch_bytes.specs.Lending.{LendsBytes};
+
+    /// Bytes that stay where they are. Takes no memory.
+    pub fn borrowed(bytes: &'data [u8]) -> Self
+        ensures { result ≡ bytes.entry.now }
+    {
+        ByteString {
+            source: bytes,
+            copy: None,
+        }
+    }
+
+    /// Bytes that the string owns. Takes no memory.
+    pub fn owned(bytes: Vec<u8>) -> Self
+        ensures { result ≡ bytes.items }
+    {
+        ByteString {
+            source: &[],
+            copy: Some(bytes),
+        }
+    }
+
+    /// The bytes. Takes no memory.
+    pub fn as_slice(&self) -> &[u8]
+        ensures { result.now ≡ self.now }
+    {
+        match &self.copy {
+            None => self.source,
+            Some(bytes) => bytes.as_slice(),
+        }
+    }
+
+    /// The bytes to change: the first such call copies borrowed bytes, and is refused where there is no
+    /// memory for that.
+    pub fn to_mut(&mut self, alloc: Global) -> Result<&mut Vec<u8>, AllocError>
+        ensures* lends { sem 𝓛 (LendsBytes self.entry result) }
+        ensures value { IfOk result (λ bytes. bytes.now.items ≡ self.old) }
+    {
+        let copy = match self.copy.take() {
+            Some(copy) => copy,
+            None => Vec::from_slice(alloc, self.source)?,
+        };
+        Ok(self.copy.insert(copy))
+    }
+
+    /// The same bytes: borrowed ones are lent again, owned ones copied.
+    pub fn try_clone(&self, alloc: Global) -> Result<ByteString<'data>, AllocError>
+        ensures { IfOk result (λ copy. copy ≡ self.now) }
+    {
+        let copy = match &self.copy {
+            None => None,
+            Some(bytes) => Some(Vec::from_slice(alloc, bytes.as_slice())?),
+        };
+        Ok(ByteString {
+            source: self.source,
+            copy,
+        })
+    }
+}
