@@ -1,3 +1,4 @@
 pub mod NumberLemmas
 pub mod NumberLaws
 pub mod RoundingLemmas
+pub mod MemoryLaws

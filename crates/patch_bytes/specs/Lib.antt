@@ -3,3 +3,4 @@ pub mod Rounding
 pub mod ByteString
 pub mod Bytes
 pub mod Lending
+pub mod Memory
