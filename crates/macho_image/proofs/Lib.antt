@@ -1,0 +1,16 @@
+pub mod AreaLaws
+pub mod CommandLaws
+pub mod ContentLaws
+pub mod CutLaws
+pub mod FatLaws
+pub mod FatSteps
+pub mod FileLaws
+pub mod FirstLaws
+pub mod FormLaws
+pub mod LaidLaws
+pub mod ListingLaws
+pub mod PlaceLaws
+pub mod StoreLaws
+pub mod StoredFields
+pub mod StoredParts
+pub mod TextLaws

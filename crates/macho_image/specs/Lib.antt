@@ -1,0 +1,13 @@
+pub use Rattle.patch_bytes.specs.Bytes
+pub use Rattle.patch_bytes.specs.Number
+pub mod Checks
+pub mod Command
+pub mod Commands
+pub mod Fat
+pub mod File
+pub mod Form
+pub mod Image
+pub mod Layout
+pub mod Parsed
+pub mod Prepared
+pub mod Ready
