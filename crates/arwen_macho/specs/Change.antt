@@ -1,0 +1,37 @@
+-- A batch of edits that was decided, and waits to be carried out.
+use Rattle.std.specs.Prelude.{ℕ, ◌≡◌, ◌≤◌, ◌<◌, max, true, List, Option, Some, None, ⊤}
+use Rattle.std.specs.List.{concat}
+use Rattle.macho_image.specs.Commands.{cut}
+use Rattle.macho_image.specs.Form.{ctx_of}
+use Rattle.macho_image.specs.Prepared.{IsMadeFor}
+use Rattle.arwen_macho.specs.declared.change.Change.{Change}
+use Rattle.arwen_macho.specs.Call.{Cause}
+use Rattle.arwen_macho.specs.Call.Cause.{no_room}
+use Rattle.arwen_macho.specs.Held.{Held, image_held}
+use Rattle.arwen_macho.specs.State.{State, available, end_of}
+use Rattle.arwen_macho.specs.Whole.{Keeps}
+
+-- the list of load commands that a change brings
+abbrev pub list_of : Held → Change → List (List ℕ)
+list_of held change = cut (ctx_of held.state.old).le change.prepared.count change.prepared.area
+
+-- a change of this file: made for it, with a list that keeps what edits keep and ends where it may
+pub record IsChangeOf (held : Held) (change : Change) : Type 0 where
+  pub made : IsMadeFor (image_held held) change.prepared.count change.prepared.area change.prepared
+  pub area : change.prepared.area ≡ concat (list_of held change)
+  pub keeps : Keeps (ctx_of held.state.old).le held.state.list (list_of held change)
+  pub room : end_of (ctx_of held.state.old) (list_of held change) ≤ available held.state
+  pub high : change.high ≡ max held.state.high (end_of (ctx_of held.state.old) (list_of held change))
+
+-- the file with the change carried out
+abbrev pub changed : Held → Change → Held
+changed held change = record {
+  state = record { old = held.state.old; list = list_of held change; high = change.high };
+  is_edited = true;
+}
+
+-- an error of a change is want of memory, or want of room for this list
+abbrev pub RefusesRoom : State → List (List ℕ) → Option Cause → Type 0
+RefusesRoom s list None = ⊤
+RefusesRoom s list (Some cause) =
+    (available s < end_of (ctx_of s.old) list) × (cause ≡ no_room (end_of (ctx_of s.old) list) (available s))

@@ -1,0 +1,79 @@
+-- A Mach-O file of either shape under edits.
+use Rattle.std.specs.Prelude.{ℕ, ◌≡◌, Bool, List, [], ◌∷◌, Result, Ok, Err, map, MatchResult, IsOk, ⊤, if◌then◌else◌}
+use Rattle.std.specs.declared.alloc.Global.{Global}
+use Rattle.std.specs.declared.vec.Vec.{Vec}
+use Rattle.arwen_macho.specs.declared.batch.MachoBatchError.{MachoBatchError}
+use Rattle.arwen_macho.specs.declared.batch.MachoEdit.{MachoEdit}
+use Rattle.arwen_macho.specs.declared.error.MachoError.{MachoError}
+use Rattle.arwen_macho.specs.declared.macho.MachoType.{MachoType}
+use Rattle.arwen_macho.specs.declared.macho.MachoType.TheVariants.{Fat, SingleArch}
+use Rattle.arwen_macho.specs.Batch.{RefusesAt, calls_of, is_edited_by}
+use Rattle.arwen_macho.specs.Call.{Call}
+use Rattle.arwen_macho.specs.FatHeld.{first_fat_held}
+use Rattle.arwen_macho.specs.FatState.{FatState, fat_laid, fat_step}
+use Rattle.arwen_macho.specs.Found.{begins_fat}
+use Rattle.arwen_macho.specs.Held.{RefusesStep, first_held}
+use Rattle.arwen_macho.specs.Refused.{cause_of}
+use Rattle.arwen_macho.specs.State.{Refusal, State, laid, step}
+
+-- a file as it was parsed
+abbrev pub first_container : List ℕ → MachoType
+first_container old = if begins_fat old then Fat (first_fat_held old) else SingleArch (first_held old)
+
+-- the bytes of a file under edits
+abbrev pub container_bytes : MachoType → List ℕ
+container_bytes (SingleArch held) = laid held.state
+container_bytes (Fat held) = fat_laid held.state
+
+-- what a batch makes of a file: all of its edits, or none and why
+abbrev pub as_thin : Bool → Result State Refusal → Result MachoType Refusal
+as_thin is_edited (Ok state) = Ok (SingleArch (record { state = state; is_edited = is_edited }))
+as_thin is_edited (Err refusal) = Err refusal
+
+abbrev pub as_fat : Bool → Result FatState Refusal → Result MachoType Refusal
+as_fat is_edited (Ok state) = Ok (Fat (record { state = state; is_edited = is_edited }))
+as_fat is_edited (Err refusal) = Err refusal
+
+unfoldable pub container_step : List Call → MachoType → Result MachoType Refusal
+container_step calls (SingleArch held) = as_thin (is_edited_by calls held.is_edited) (step calls held.state)
+container_step calls (Fat held) = as_fat (is_edited_by calls held.is_edited) (fat_step calls held.state)
+
+-- an answer to one edit, and what it leaves
+abbrev pub TakesOnce : Call → MachoType → MachoType → Result (Unit {0}) MachoError → Type 0
+TakesOnce call old new answer =
+    MatchResult answer (λ _. container_step (call ∷ []) old ≡ Ok new)
+    (λ e. (new ≡ old) × RefusesStep (cause_of e) (container_step (call ∷ []) old))
+
+-- an answer to a batch
+abbrev pub AnswersBatch : List Call → MachoType → Result (Unit {0}) MachoBatchError → Type 0
+AnswersBatch calls old answer =
+    MatchResult answer (λ _. IsOk (container_step calls old)) (λ e. RefusesAt e.index (cause_of e.fault) (container_step calls old))
+
+-- what a batch leaves by its answer: an accepted batch its step, any other what was there
+abbrev pub left_by : MachoType → Result MachoType Refusal → Result (Unit {0}) MachoBatchError → MachoType
+left_by old (Ok new) (Ok tt') = new
+left_by old (Ok new) (Err e) = old
+left_by old (Err refusal) answer = old
+
+-- an answer to a batch, and what it leaves
+abbrev pub TakesBatch : List Call → MachoType → MachoType → Result (Unit {0}) MachoBatchError → Type 0
+TakesBatch calls old new answer =
+    AnswersBatch calls old answer × (new ≡ left_by old (container_step calls old) answer)
+
+-- what a list of batches leaves by their answers, and that each answer is the one of its batch upon what
+-- those before it left
+abbrev pub left_by_all : List (List Call) → List (Result (Unit {0}) MachoBatchError) → MachoType → MachoType
+left_by_all [] answers file = file
+left_by_all (calls ∷ batches) [] file = file
+left_by_all (calls ∷ batches) (answer ∷ answers) file = left_by_all batches answers (left_by file (container_step calls file) answer)
+
+abbrev pub AnswersAll : List (List Call) → List (Result (Unit {0}) MachoBatchError) → MachoType → Type 0
+AnswersAll [] [] file = ⊤
+AnswersAll [] (answer ∷ answers) file = ⊥
+AnswersAll (calls ∷ batches) [] file = ⊥
+AnswersAll (calls ∷ batches) (answer ∷ answers) file =
+    AnswersBatch calls file answer × AnswersAll batches answers (left_by file (container_step calls file) answer)
+
+-- the calls of a list of batches
+abbrev pub all_calls : List (Vec MachoEdit Global) → List (List Call)
+all_calls batches = map (λ batch. calls_of batch.items) batches

@@ -1,0 +1,352 @@
+ghost use Rattle.std.specs.Prelude.{◌≡◌, ◌∷◌, [], ◌+◌, ◌≤◌, All, IfOk, IfErr, MatchResult, None, Ok, Some, length, map, take};
+ghost use Rattle.std.specs.List.{AllZip};
+ghost use Rattle.std.specs.Str.{bytes_eq};
+ghost use Rattle.patch_bytes.specs.ByteString.{bytes_shown};
+ghost use Rattle.macho_image.specs.Fat.{archs_of, slice_of, table_fault};
+ghost use Rattle.arwen_macho.specs.Batch.{RefusesAt, calls_of};
+ghost use Rattle.arwen_macho.specs.Call.Call.{add_rpath, change_install_id, change_install_name, change_rpath, remove_rpath};
+ghost use Rattle.arwen_macho.specs.Edit.{call_of};
+ghost use Rattle.arwen_macho.specs.FatSlice.{IsReadyIn, IsStepOf, changed_macho, changed_machos, first_macho, front_of, fronts_over, slice_held};
+ghost use Rattle.arwen_macho.specs.FatState.{put_at, step_slices};
+ghost use Rattle.arwen_macho.specs.Found.{ARCHIVE, Finds, found_fault, slice_found, slices_found};
+ghost use Rattle.arwen_macho.specs.Held.{RefusesStep};
+ghost use Rattle.arwen_macho.specs.Refused.{cause_of};
+ghost use Rattle.arwen_macho.specs.Whole.{TextsAreBytes};
+
+use crate::batch::{MachoBatchError, MachoEdit};
+use crate::change::Change;
+use crate::draft::Edit;
+use crate::error::MachoError;
+use crate::macho::SingleMachO;
+use macho_image::{FatArch, fat_archs};
+use std::alloc::{AllocError, Global};
+use std::marker::Model;
+
+/// A slice of a fat file: its record in the table, and the file in it.
+#[derive(Drop)]
+pub struct FatMacho<'a> {
+    inner: SingleMachO<'a>,
+    arch: FatArch,
+}
+
+impl<'a> FatMacho<'a> {
+    /// The file in the slice, as edited. Takes no memory.
+    pub fn inner(&self) -> &SingleMachO<'a>
+        ensures { result.now ≡ self.now.inner }
+    {
+        &self.inner
+    }
+
+    /// The slice's record in the table, `fat_arch` of fat.h. Takes no memory.
+    pub fn arch(&self) -> FatArch
+        ensures { result ≡ self.now.arch }
+    {
+        self.arch
+    }
+}
+
+// The records of a fat file's table, or the first of its checks that fails.
+fn read_table(alloc: Global, bytes: &[u8]) -> Result<Vec<FatArch>, MachoError>
+    ensures { MatchResult result (λ archs. (table_fault bytes.now ≡ None) × (archs.items ≡ archs_of bytes.now)) (λ e. Finds e (found_fault (table_fault bytes.now))) }
+{
+    let archs = fat_archs(alloc, bytes)?;
+    Ok(archs)
+}
+
+// Whether bytes begin as a Unix archive does.
+fn is_archive(bytes: &[u8]) -> bool
+    ensures { result ≡ bytes_eq (take 8 bytes.now) ARCHIVE }
+{
+    let front = &bytes[..bytes.len().min(8)];
+    front == b"!<arch>\n".as_slice()
+}
+
+// Parses one slice.
+fn parse_slice<'a>(
+    alloc: Global,
+    bytes: &'a [u8],
+    arch: FatArch,
+) -> Result<FatMacho<'a>, MachoError>
+    requires { arch.offset + arch.size ≤ length bytes.now }
+    ensures { MatchResult result (λ m. (slice_found (slice_of bytes.entry.now arch) ≡ None) × (m ≡ first_macho bytes.entry.now arch)) (λ e. Finds e (slice_found (slice_of bytes.entry.now arch))) }
+{
+    let start = arch.offset as usize;
+    let slice = &bytes[start..start + arch.size as usize];
+    if is_archive(slice) {
+        return Err(MachoError::UnixArchive);
+    }
+    let inner = SingleMachO::parse(alloc, slice)?;
+    Ok(FatMacho { inner, arch })
+}
+
+// Parses the slices of a table, in its order.
+fn parse_slices<'a>(
+    alloc: Global,
+    bytes: &'a [u8],
+    archs: &[FatArch],
+) -> Result<Vec<FatMacho<'a>>, MachoError>
+    requires { All (λ arch. arch.offset + arch.size ≤ length bytes.now) archs.now }
+    ensures { MatchResult result (λ slices. (slices_found (map (slice_of bytes.entry.now) archs.now) ≡ None) × (slices.items ≡ map (first_macho bytes.entry.now) archs.now)) (λ e. Finds e (slices_found (map (slice_of bytes.entry.now) archs.now))) }
+{
+    let mut slices = Vec::new(alloc);
+    for arch in archs {
+        let slice = parse_slice(alloc, bytes, *arch)?;
+        slices.push(slice)?;
+    }
+    Ok(slices)
+}
+
+// What one edit asks of each slice, decided in their order.
+fn changes_once(
+    alloc: Global,
+    slices: &[FatMacho<'_>],
+    edit: Edit<'_>,
+) -> Result<Vec<Change>, MachoError>
+    requires { TextsAreBytes (call_of edit) }
+    ensures ok { IfOk result (λ changes. AllZip (IsStepOf (call_of edit.entry ∷ [])) slices.now changes.items) }
+    ensures err { IfErr result (λ e. RefusesStep (cause_of e) (step_slices (call_of edit.entry ∷ []) (map slice_held slices.now))) }
+{
+    let mut changes = Vec::with_capacity(alloc, slices.len())?;
+    for slice in slices {
+        let change = slice.inner.change_by(alloc, edit)?;
+        changes.push(change)?;
+    }
+    Ok(changes)
+}
+
+// What a batch of edits asks of each slice, decided in their order.
+fn changes_all(
+    alloc: Global,
+    slices: &[FatMacho<'_>],
+    edits: &[MachoEdit],
+) -> Result<Vec<Change>, MachoBatchError>
+    ensures ok { IfOk result (λ changes. AllZip (IsStepOf (calls_of edits.now)) slices.now changes.items) }
+    ensures err { IfErr result (λ e. RefusesAt e.index (cause_of e.fault) (step_slices (calls_of edits.now) (map slice_held slices.now))) }
+{
+    let mut changes = Vec::with_capacity(alloc, slices.len())?;
+    for slice in slices {
+        let change = slice.inner.change_by_all(alloc, edits)?;
+        changes.push(change)?;
+    }
+    Ok(changes)
+}
+
+// Writes a part over the bytes from a position on.
+fn put(bytes: &mut [u8], at: usize, part: &[u8])
+    requires { at + length part.now ≤ length bytes.old }
+    ensures { bytes.new ≡ put_at at part.now bytes.old }
+{
+    bytes[at..at + part.len()].copy_from_slice(part);
+}
+
+// Carries out a change of one slice, and in the file's copy. Takes no memory.
+fn commit_slice(slice: &mut FatMacho<'_>, change: Change, copy: &mut [u8])
+    requires { IsReadyIn (length copy.old) slice.old change }
+    ensures slice { slice.new ≡ changed_macho slice.old change }
+    ensures bytes { copy.new ≡ put_at slice.old.arch.offset (front_of slice.old change) copy.old }
+{
+    let high = change.high;
+    slice.inner.commit(change);
+    put(
+        copy,
+        slice.arch.offset as usize,
+        &slice.inner.bytes()[..high],
+    );
+}
+
+// Carries out a change of each slice, from the last one back. Takes no memory.
+fn commit_all(slices: &mut [FatMacho<'_>], mut changes: Vec<Change>, copy: &mut [u8])
+    requires { AllZip (IsReadyIn (length copy.old)) slices.old changes.items }
+    ensures slices { slices.new ≡ changed_machos slices.old changes.items }
+    ensures bytes { copy.new ≡ fronts_over slices.old changes.items copy.old }
+{
+    while let Some(change) = changes.pop() {
+        let index = changes.len();
+        commit_slice(&mut slices[index], change, copy);
+    }
+}
+
+// The copy of the file, or a new one. A new one is refused where there is no memory.
+fn copy_of(alloc: Global, source: &[u8], edited: Option<Vec<u8>>) -> Result<Vec<u8>, AllocError>
+    ensures { MatchResult result (λ copy. copy.items ≡ bytes_shown source.now edited) (λ _. edited ≡ None) }
+{
+    match edited {
+        Some(copy) => Ok(copy),
+        None => Ok(Vec::from_slice(alloc, source)?),
+    }
+}
+
+/// A fat file under edits, `fat_header` of fat.h: an edit is made in every slice, or in none. It keeps the
+/// bytes as read.
+#[derive(Drop)]
+pub struct FatMachoContainer<'a> {
+    source: &'a [u8],
+    archs: Vec<FatMacho<'a>>,
+    // The bytes as edited, from the first edit on.
+    edited: Option<Vec<u8>>,
+}
+
+impl<'a> Model for FatMachoContainer<'a> {
+    ghost use Rattle.arwen_macho.specs.FatHeld.{FatHeld};
+
+    ghost Value = { FatHeld };
+
+    ghost use Rattle.arwen_macho.specs.FatHeldBy.{IsFatHeld, fat_held_of};
+
+    ghost view = { fat_held_of };
+
+    ghost invariant = { IsFatHeld };
+}
+
+impl<'a> FatMachoContainer<'a> {
+    ghost use Rattle.arwen_macho.specs.FatChange.{AreChangesOf, fat_changed};
+    ghost use Rattle.arwen_macho.specs.FatHeld.{FatStepsBatch, FatStepsOnce, first_fat_held};
+    ghost use Rattle.arwen_macho.specs.FatShown.{FatShows};
+    ghost use Rattle.arwen_macho.specs.FatState.{fat_laid, fat_step};
+    ghost use Rattle.arwen_macho.specs.Found.{fat_found};
+
+    /// Parses a fat file. It is refused by the first check that fails: those of the table, then those of
+    /// each slice in the table's order, among them that it is no Unix archive; or where there is no memory.
+    pub fn parse(alloc: Global, bytes: &'a [u8]) -> Result<FatMachoContainer<'a>, MachoError>
+        ensures { MatchResult result (λ fat. (fat_found bytes.entry.now ≡ None) × (fat ≡ first_fat_held bytes.entry.now)) (λ e. Finds e (fat_found bytes.entry.now)) }
+    {
+        let table = read_table(alloc, bytes)?;
+        let archs = parse_slices(alloc, bytes, &table)?;
+        Ok(FatMachoContainer {
+            source: bytes,
+            archs,
+            edited: None,
+        })
+    }
+
+    /// The bytes as edited: those that were read until the first accepted edit. Takes no memory.
+    pub fn bytes(&self) -> &[u8]
+        ensures bytes { result.now ≡ fat_laid self.now.state }
+        ensures shows { FatShows self.now.state result.now }
+    {
+        match &self.edited {
+            None => self.source,
+            Some(copy) => copy.as_slice(),
+        }
+    }
+
+    /// The slices, in the order of the table. Takes no memory.
+    pub fn archs(&self) -> &[FatMacho<'a>]
+        ensures { map slice_held result.now ≡ self.now.state.slices }
+    {
+        self.archs.as_slice()
+    }
+
+    // What one edit asks of the slices.
+    fn changes_by(&self, alloc: Global, edit: Edit<'_>) -> Result<Vec<Change>, MachoError>
+        requires { TextsAreBytes (call_of edit) }
+        ensures ok { IfOk result (λ changes. AreChangesOf self.now changes.items × (fat_step (call_of edit.entry ∷ []) self.now.state ≡ Ok (fat_changed self.now changes.items).state)) }
+        ensures err { IfErr result (λ e. RefusesStep (cause_of e) (fat_step (call_of edit.entry ∷ []) self.now.state)) }
+    {
+        changes_once(alloc, &self.archs, edit)
+    }
+
+    // What a batch of edits asks of the slices.
+    fn changes_by_all(
+        &self,
+        alloc: Global,
+        edits: &[MachoEdit],
+    ) -> Result<Vec<Change>, MachoBatchError>
+        ensures ok { IfOk result (λ changes. AreChangesOf self.now changes.items × (fat_step (calls_of edits.now) self.now.state ≡ Ok (fat_changed self.now changes.items).state)) }
+        ensures err { IfErr result (λ e. RefusesAt e.index (cause_of e.fault) (fat_step (calls_of edits.now) self.now.state)) }
+    {
+        changes_all(alloc, &self.archs, edits)
+    }
+
+    // Carries out a change of each slice, in the copy of the file. There may be no memory for the copy.
+    fn commit(&mut self, alloc: Global, changes: Vec<Change>) -> Result<(), AllocError>
+        requires { AreChangesOf self.old changes.items }
+        ensures { MatchResult result (λ _. self.new ≡ fat_changed self.old changes.items) (λ _. self.new ≡ self.old) }
+    {
+        let mut copy = copy_of(alloc, self.source, self.edited.take())?;
+        commit_all(&mut self.archs, changes, &mut copy);
+        self.edited = Some(copy);
+        Ok(())
+    }
+
+    // One edit of every slice, or none of it.
+    pub(crate) fn edit(&mut self, alloc: Global, edit: Edit<'_>) -> Result<(), MachoError>
+        requires { TextsAreBytes (call_of edit) }
+        ensures { FatStepsOnce (call_of edit.entry) self.old self.new result }
+    {
+        let changes = self.changes_by(alloc, edit)?;
+        self.commit(alloc, changes)?;
+        Ok(())
+    }
+
+    /// Appends an rpath command with this text to every slice.
+    pub fn add_rpath(&mut self, alloc: Global, new: &str) -> Result<(), MachoError>
+        ensures { FatStepsOnce (add_rpath new.now) self.old self.new result }
+    {
+        self.edit(alloc, Edit::AddRpath(new))
+    }
+
+    /// Replaces the first rpath command with the old text by one with the new text, in every slice.
+    pub fn change_rpath(&mut self, alloc: Global, old: &str, new: &str) -> Result<(), MachoError>
+        ensures { FatStepsOnce (change_rpath old.now new.now) self.old self.new result }
+    {
+        self.edit(alloc, Edit::ChangeRpath(old, new))
+    }
+
+    /// Drops the first rpath command with this text from every slice.
+    pub fn remove_rpath(&mut self, alloc: Global, old: &str) -> Result<(), MachoError>
+        ensures { FatStepsOnce (remove_rpath old.now) self.old self.new result }
+    {
+        self.edit(alloc, Edit::RemoveRpath(old))
+    }
+
+    /// Gives the first command with the library's own name another name, its numbers kept, in every slice.
+    pub fn change_install_id(&mut self, alloc: Global, new: &str) -> Result<(), MachoError>
+        ensures { FatStepsOnce (change_install_id new.now) self.old self.new result }
+    {
+        self.edit(alloc, Edit::ChangeInstallId(new))
+    }
+
+    /// Gives the first command that loads the library of the old name the new name, its kind and its
+    /// numbers kept, in every slice.
+    pub fn change_install_name(
+        &mut self,
+        alloc: Global,
+        old: &str,
+        new: &str,
+    ) -> Result<(), MachoError>
+        ensures { FatStepsOnce (change_install_name old.now new.now) self.old self.new result }
+    {
+        self.edit(alloc, Edit::ChangeInstallName(old, new))
+    }
+
+    /// Makes several edits in every slice, each upon what the one before it left: all of them in all
+    /// slices, or none. The first slice that refuses decides the error. No edits are accepted and change
+    /// nothing.
+    pub fn apply(&mut self, alloc: Global, edits: &[MachoEdit]) -> Result<(), MachoBatchError>
+        ensures { FatStepsBatch (calls_of edits.now) self.old self.new result }
+    {
+        if edits.is_empty() {
+            let _held = self.edited.is_some();
+            return Ok(());
+        }
+        let changes = self.changes_by_all(alloc, edits)?;
+        self.commit(alloc, changes)?;
+        Ok(())
+    }
+
+    /// The bytes as edited: the copy that was edited, or a new one of the bytes that were read.
+    pub fn into_bytes(self, alloc: Global) -> Result<Vec<u8>, AllocError>
+        ensures { IfOk result (λ bytes. bytes.items ≡ fat_laid self.entry.state) }
+    {
+        let FatMachoContainer {
+            source,
+            archs: _,
+            edited,
+        } = self;
+        copy_of(alloc, source, edited)
+    }
+}
+
+#[cfg(test)]
+mod tests;

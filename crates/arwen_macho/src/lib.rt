@@ -1,0 +1,17 @@
+//! Edits the load commands of Mach-O files: run paths, library names and the library's own name.
+#![tactic(auto)]
+
+mod batch;
+mod change;
+pub mod commands;
+mod draft;
+mod error;
+mod fat;
+pub mod laws;
+pub mod macho;
+pub mod patcher;
+mod room;
+pub mod rows;
+#[cfg(test)]
+mod tests;
+pub mod utils;

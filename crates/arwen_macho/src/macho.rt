@@ -1,0 +1,401 @@
+ghost use Rattle.std.specs.Prelude.{◌≡◌, ◌+◌, ◌≤◌, ◌∷◌, [], max, nat_le, length, true, None, Ok, IsOk, IfOk, IfErr, OnErr, MatchResult};
+ghost use Rattle.std.specs.List.{concat};
+ghost use Rattle.macho_image.specs.Checks.{file_fault};
+ghost use Rattle.macho_image.specs.Commands.{first_content_of};
+ghost use Rattle.macho_image.specs.Form.{commands_end, ctx_of};
+ghost use Rattle.arwen_macho.specs.Call.Call.{add_rpath, change_install_id, change_install_name, change_rpath, remove_rpath};
+
+use crate::batch::edit_all;
+pub use crate::batch::{MachoBatchError, MachoEdit};
+use crate::change::Change;
+use crate::draft::{Edit, edit_commands};
+pub use crate::error::MachoError;
+pub use crate::fat::{FatMacho, FatMachoContainer};
+use crate::room::{available, commands_end, fits};
+pub use macho_image::{Ctx, MachFault, MachO};
+use macho_image::{header_size, is_fat};
+use patch_bytes::ByteString;
+use std::alloc::{AllocError, Global};
+use std::marker::Model;
+
+/// A thin Mach-O file under edits. It keeps the bytes as read, and how far load commands ever reached.
+#[derive(Drop)]
+pub struct SingleMachO<'a> {
+    source: &'a [u8],
+    inner: MachO<'a>,
+    high: usize,
+}
+
+impl<'a> Model for SingleMachO<'a> {
+    ghost use Rattle.arwen_macho.specs.Held.{Held};
+
+    ghost Value = { Held };
+
+    ghost use Rattle.arwen_macho.specs.HeldBy.{IsHeld, held_of};
+
+    ghost view = { held_of };
+
+    ghost invariant = { IsHeld };
+}
+
+// The byte strings joined.
+fn joined(alloc: Global, commands: &[ByteString<'_>]) -> Result<Vec<u8>, AllocError>
+    ensures { IfOk result (λ area. area.items ≡ concat commands.now) }
+{
+    let mut area = Vec::new(alloc);
+    for command in commands {
+        area.extend_from_slice(command.as_slice())?;
+    }
+    Ok(area)
+}
+
+impl<'a> SingleMachO<'a> {
+    ghost use Rattle.arwen_macho.specs.Batch.{RefusesAt, StepsBatch, calls_of};
+    ghost use Rattle.arwen_macho.specs.Change.{IsChangeOf, RefusesRoom, changed, list_of};
+    ghost use Rattle.arwen_macho.specs.Edit.{call_of};
+    ghost use Rattle.arwen_macho.specs.Found.{Finds, found_fault};
+    ghost use Rattle.arwen_macho.specs.Held.{RefusesStep, StepsOnce, first_held, image_held};
+    ghost use Rattle.arwen_macho.specs.Refused.{cause_of};
+    ghost use Rattle.arwen_macho.specs.Shown.{Shows};
+    ghost use Rattle.arwen_macho.specs.State.{laid, step};
+    ghost use Rattle.arwen_macho.specs.Whole.{IsState, Keeps, TextsAreBytes};
+
+    /// Parses a thin file. It is refused by the first check that fails, or where there is no memory.
+    pub fn parse(alloc: Global, bytes: &'a [u8]) -> Result<SingleMachO<'a>, MachoError>
+        ensures { MatchResult result (λ macho. (file_fault bytes.entry.now ≡ None) × (macho ≡ first_held bytes.entry.now)) (λ e. Finds e (found_fault (file_fault bytes.entry.now))) }
+    {
+        let inner = MachO::parse(alloc, bytes)?;
+        let high = commands_end(&inner);
+        Ok(SingleMachO {
+            source: bytes,
+            inner,
+            high,
+        })
+    }
+
+    /// The bytes as edited: those that were read until the first accepted edit. Takes no memory.
+    pub fn bytes(&self) -> &[u8]
+        ensures bytes { result.now ≡ laid self.now.state }
+        ensures shows { Shows self.now.state result.now }
+        ensures state { IsState self.now.state }
+    {
+        self.inner.bytes()
+    }
+
+    /// The parsed file, as edited. Takes no memory.
+    pub fn inner(&self) -> &MachO<'a>
+        ensures { result.now ≡ image_held self.now }
+    {
+        &self.inner
+    }
+
+    /// The file's form. Takes no memory.
+    pub fn ctx(&self) -> Ctx
+        ensures { result ≡ ctx_of self.now.state.old }
+    {
+        self.inner.ctx()
+    }
+
+    /// The bytes as edited, handed out: without a copy where they were edited, else copied. The only
+    /// error is that there is no memory.
+    pub fn into_bytes(self, alloc: Global) -> Result<Vec<u8>, AllocError>
+        ensures bytes { IfOk result (λ bytes. bytes.items ≡ laid self.entry.state) }
+        ensures owned { self.entry.is_edited ≡ true → IsOk result }
+    {
+        let SingleMachO { inner, .. } = self;
+        inner.into_bytes(alloc)
+    }
+
+    // What it takes to bring in another list of load commands, if there is room for it.
+    fn change_for(&self, alloc: Global, commands: &[ByteString<'_>]) -> Result<Change, MachoError>
+        requires { Keeps (ctx_of self.now.state.old).le self.now.state.list commands.now }
+        ensures ok { IfOk result (λ change. IsChangeOf self.now change × (list_of self.now change ≡ commands.now)) }
+        ensures err { IfErr result (λ e. RefusesRoom self.now.state commands.now (cause_of e)) }
+    {
+        let area = joined(alloc, commands)?;
+        let end = header_size(self.inner.ctx().container) + area.len();
+        if !fits(&self.inner, end) {
+            return Err(MachoError::NoRoom {
+                needed: end as u64,
+                available: available(&self.inner) as u64,
+            });
+        }
+        let prepared = self.inner.prepare(alloc, commands.len() as u32, area)?;
+        Ok(Change {
+            prepared,
+            high: self.high.max(end),
+        })
+    }
+
+    // Carries out a change. Takes no memory.
+    pub(crate) fn commit(&mut self, change: Change)
+        requires { IsChangeOf self.old change }
+        ensures { self.new ≡ changed self.old change }
+    {
+        let Change { prepared, high } = change;
+        self.inner.store(prepared, high);
+        self.high = high;
+    }
+
+    // What one edit asks for, decided upon a draft of the list.
+    pub(crate) fn change_by(&self, alloc: Global, edit: Edit<'_>) -> Result<Change, MachoError>
+        requires { TextsAreBytes (call_of edit) }
+        ensures ok { IfOk result (λ change. IsChangeOf self.now change × (step (call_of edit.entry ∷ []) self.now.state ≡ Ok (changed self.now change).state)) }
+        ensures err { IfErr result (λ e. RefusesStep (cause_of e) (step (call_of edit.entry ∷ []) self.now.state)) }
+    {
+        let mut commands = self.inner.commands(alloc)?;
+        edit_commands(alloc, self.inner.ctx(), &mut commands, edit)?;
+        self.change_for(alloc, commands.as_slice())
+    }
+
+    // One edit, or none of it.
+    pub(crate) fn edit(&mut self, alloc: Global, edit: Edit<'_>) -> Result<(), MachoError>
+        requires { TextsAreBytes (call_of edit) }
+        ensures { StepsOnce (call_of edit.entry) self.old self.new result }
+    {
+        let change = self.change_by(alloc, edit)?;
+        self.commit(change);
+        Ok(())
+    }
+
+    /// Appends an rpath command with this text.
+    pub fn add_rpath(&mut self, alloc: Global, new: &str) -> Result<(), MachoError>
+        ensures { StepsOnce (add_rpath new.now) self.old self.new result }
+    {
+        self.edit(alloc, Edit::AddRpath(new))
+    }
+
+    /// Replaces the first rpath command with the old text by one with the new text.
+    pub fn change_rpath(&mut self, alloc: Global, old: &str, new: &str) -> Result<(), MachoError>
+        ensures { StepsOnce (change_rpath old.now new.now) self.old self.new result }
+    {
+        self.edit(alloc, Edit::ChangeRpath(old, new))
+    }
+
+    /// Drops the first rpath command with this text.
+    pub fn remove_rpath(&mut self, alloc: Global, old: &str) -> Result<(), MachoError>
+        ensures { StepsOnce (remove_rpath old.now) self.old self.new result }
+    {
+        self.edit(alloc, Edit::RemoveRpath(old))
+    }
+
+    /// Gives the first command with the library's own name another name, its numbers kept.
+    pub fn change_install_id(&mut self, alloc: Global, new: &str) -> Result<(), MachoError>
+        ensures { StepsOnce (change_install_id new.now) self.old self.new result }
+    {
+        self.edit(alloc, Edit::ChangeInstallId(new))
+    }
+
+    /// Gives the first command that loads the library of the old name the new name, its kind and its
+    /// numbers kept.
+    pub fn change_install_name(
+        &mut self,
+        alloc: Global,
+        old: &str,
+        new: &str,
+    ) -> Result<(), MachoError>
+        ensures { StepsOnce (change_install_name old.now new.now) self.old self.new result }
+    {
+        self.edit(alloc, Edit::ChangeInstallName(old, new))
+    }
+
+    // What a batch of edits asks for, decided upon a draft of the list.
+    pub(crate) fn change_by_all(
+        &self,
+        alloc: Global,
+        edits: &[MachoEdit],
+    ) -> Result<Change, MachoBatchError>
+        ensures ok { IfOk result (λ change. IsChangeOf self.now change × (step (calls_of edits.now) self.now.state ≡ Ok (changed self.now change).state)) }
+        ensures err { IfErr result (λ e. RefusesAt e.index (cause_of e.fault) (step (calls_of edits.now) self.now.state)) }
+    {
+        let mut commands = match self.inner.commands(alloc) {
+            Ok(commands) => commands,
+            Err(_) => {
+                return Err(MachoBatchError {
+                    index: 0,
+                    fault: MachoError::Memory,
+                });
+            }
+        };
+        edit_all(alloc, self.inner.ctx(), &mut commands, edits)?;
+        match self.change_for(alloc, commands.as_slice()) {
+            Ok(change) => Ok(change),
+            Err(fault) => Err(MachoBatchError {
+                index: edits.len(),
+                fault,
+            }),
+        }
+    }
+
+    /// Makes several edits, each upon what the one before it left: all of them, or none. Whether there is
+    /// room is decided by the last list alone. No edits are accepted and change nothing.
+    pub fn apply(&mut self, alloc: Global, edits: &[MachoEdit]) -> Result<(), MachoBatchError>
+        ensures { StepsBatch (calls_of edits.now) self.old self.new result }
+    {
+        if edits.is_empty() {
+            let _held = self.high;
+            return Ok(());
+        }
+        let change = self.change_by_all(alloc, edits)?;
+        self.commit(change);
+        Ok(())
+    }
+}
+
+/// A Mach-O file by its shape.
+#[derive(Drop)]
+pub enum MachoType<'a> {
+    /// A thin file.
+    SingleArch(SingleMachO<'a>),
+    /// A fat file.
+    Fat(FatMachoContainer<'a>),
+}
+
+/// A Mach-O file under edits. Its bytes stay the borrowed input until the first accepted edit.
+#[derive(Drop)]
+pub struct MachoContainer<'a> {
+    inner: MachoType<'a>,
+}
+
+impl<'a> Model for MachoContainer<'a> {
+    ghost use Rattle.arwen_macho.specs.declared.macho.MachoType.{MachoType};
+
+    ghost Value = { MachoType };
+
+    ghost view = { λ c. c.inner };
+}
+
+impl<'a> MachoContainer<'a> {
+    ghost use Rattle.arwen_macho.specs.Batch.{calls_of};
+    ghost use Rattle.arwen_macho.specs.Container.{AnswersAll, TakesBatch, TakesOnce, all_calls, container_bytes, first_container, left_by_all};
+    ghost use Rattle.arwen_macho.specs.ContainerShown.{ShowsFile};
+    ghost use Rattle.arwen_macho.specs.Edit.{call_of};
+    ghost use Rattle.arwen_macho.specs.Found.{Finds, container_found};
+    ghost use Rattle.arwen_macho.specs.Whole.{TextsAreBytes};
+
+    /// Parses a file, which is fat where it begins with the magic of fat files. It is refused by the first
+    /// check that fails, or where there is no memory.
+    #[tactic(auto, unfolding(crate::specs::Found::container_found))]
+    pub fn parse(alloc: Global, bytes_of_file: &'a [u8]) -> Result<MachoContainer<'a>, MachoError>
+        ensures { MatchResult result (λ file. (container_found bytes_of_file.entry.now ≡ None) × (file ≡ first_container bytes_of_file.entry.now)) (λ e. Finds e (container_found bytes_of_file.entry.now)) }
+    {
+        let inner = if is_fat(bytes_of_file) {
+            MachoType::Fat(FatMachoContainer::parse(alloc, bytes_of_file)?)
+        } else {
+            MachoType::SingleArch(SingleMachO::parse(alloc, bytes_of_file)?)
+        };
+        Ok(MachoContainer { inner })
+    }
+
+    /// The file's bytes as edited. A parse accepts them, and finds the edited load commands. Takes no
+    /// memory.
+    pub fn bytes(&self) -> &[u8]
+        ensures bytes { result.now ≡ container_bytes self.now }
+        ensures shows { ShowsFile self.now result.now }
+    {
+        match &self.inner {
+            MachoType::SingleArch(single) => single.bytes(),
+            MachoType::Fat(fat) => fat.bytes(),
+        }
+    }
+
+    /// The file's bytes as edited, handed out: without a copy where they were edited, else copied. The
+    /// only error is that there is no memory.
+    pub fn into_bytes(self, alloc: Global) -> Result<Vec<u8>, AllocError>
+        ensures { IfOk result (λ bytes. bytes.items ≡ container_bytes self.entry) }
+    {
+        let MachoContainer { inner } = self;
+        match inner {
+            MachoType::SingleArch(single) => single.into_bytes(alloc),
+            MachoType::Fat(fat) => fat.into_bytes(alloc),
+        }
+    }
+
+    /// The file by its shape. Takes no memory.
+    pub fn inner(&self) -> &MachoType<'a>
+        ensures { result.now ≡ self.now }
+    {
+        &self.inner
+    }
+
+    // One edit, or none of it.
+    fn edit(&mut self, alloc: Global, edit: Edit<'_>) -> Result<(), MachoError>
+        requires { TextsAreBytes (call_of edit) }
+        ensures { TakesOnce (call_of edit.entry) self.old self.new result }
+    {
+        match &mut self.inner {
+            MachoType::SingleArch(single) => single.edit(alloc, edit),
+            MachoType::Fat(fat) => fat.edit(alloc, edit),
+        }
+    }
+
+    /// Appends an rpath command with this text.
+    pub fn add_rpath(&mut self, alloc: Global, new: &str) -> Result<(), MachoError>
+        ensures { TakesOnce (add_rpath new.now) self.old self.new result }
+    {
+        self.edit(alloc, Edit::AddRpath(new))
+    }
+
+    /// Replaces the first rpath command with the old text by one with the new text.
+    pub fn change_rpath(&mut self, alloc: Global, old: &str, new: &str) -> Result<(), MachoError>
+        ensures { TakesOnce (change_rpath old.now new.now) self.old self.new result }
+    {
+        self.edit(alloc, Edit::ChangeRpath(old, new))
+    }
+
+    /// Drops the first rpath command with this text.
+    pub fn remove_rpath(&mut self, alloc: Global, old: &str) -> Result<(), MachoError>
+        ensures { TakesOnce (remove_rpath old.now) self.old self.new result }
+    {
+        self.edit(alloc, Edit::RemoveRpath(old))
+    }
+
+    /// Gives the first command with the library's own name another name, its numbers kept.
+    pub fn change_install_id(&mut self, alloc: Global, new: &str) -> Result<(), MachoError>
+        ensures { TakesOnce (change_install_id new.now) self.old self.new result }
+    {
+        self.edit(alloc, Edit::ChangeInstallId(new))
+    }
+
+    /// Gives the first command that loads the library of the old name the new name, its kind and its
+    /// numbers kept.
+    pub fn change_install_name(
+        &mut self,
+        alloc: Global,
+        old: &str,
+        new: &str,
+    ) -> Result<(), MachoError>
+        ensures { TakesOnce (change_install_name old.now new.now) self.old self.new result }
+    {
+        self.edit(alloc, Edit::ChangeInstallName(old, new))
+    }
+
+    /// Makes several edits, each upon what the one before it left: all of them, or none.
+    pub fn apply(&mut self, alloc: Global, edits: &[MachoEdit]) -> Result<(), MachoBatchError>
+        ensures { TakesBatch (calls_of edits.now) self.old self.new result }
+    {
+        match &mut self.inner {
+            MachoType::SingleArch(single) => single.apply(alloc, edits),
+            MachoType::Fat(fat) => fat.apply(alloc, edits),
+        }
+    }
+
+    /// Applies batch after batch, each of them all or none, and answers each. After an error, that there
+    /// is no memory for the answers, nothing was applied.
+    pub fn apply_each(
+        &mut self,
+        alloc: Global,
+        batches: &[Vec<MachoEdit>],
+    ) -> Result<Vec<Result<(), MachoBatchError>>, AllocError>
+        ensures answers { IfOk result (λ answers. AnswersAll (all_calls batches.now) answers.items self.old) }
+        ensures left { IfOk result (λ answers. self.new ≡ left_by_all (all_calls batches.now) answers.items self.old) }
+        ensures err { OnErr result (self.new ≡ self.old) }
+    {
+        let mut answers = Vec::with_capacity(alloc, batches.len())?;
+        for batch in batches {
+            let answer = self.apply(alloc, batch.as_slice());
+            answers.push_reserved(answer);
+        }
+        Ok(answers)
+    }
+}
