@@ -1,0 +1,52 @@
+//! Patches finished Mach-O files from the command line: run paths, the install id and library names.
+#![tactic(auto)]
+
+pub mod cli;
+
+pub use arwen_macho::{commands, macho, patcher, utils};
+use cli::{ArwenError, execute};
+use std::process::ExitCode;
+use std::rt::{Env, Files};
+use std::{env, io};
+
+/// Reads the words behind the program's name and does what they ask.
+fn run<R: Env + Files + AllocGlobal>(rt: &R) -> Result<(), ArwenError> {
+    let words = given_words(rt)?;
+    let mut texts = Vec::with_capacity(rt.alloc(), words.len())?;
+    for word in words.as_slice() {
+        texts.push(word.as_str())?;
+    }
+    execute(rt, texts.get(1..).unwrap_or_default())
+}
+
+/// All words of the line, the program's name first. A word that is no UTF-8 is a line fault.
+fn given_words<R: Env + AllocGlobal>(rt: &R) -> Result<Vec<String>, ArwenError> {
+    let given = match env::args(rt) {
+        Ok(given) => given,
+        Err(error) if error.kind() == io::ErrorKind::InvalidData => {
+            let text = String::from_str(rt.alloc(), "error: a word is not UTF-8\n")?;
+            return Err(ArwenError::Line { text, status: 2 });
+        }
+        Err(error) => return Err(ArwenError::from(error)),
+    };
+    Ok(given.collect(rt.alloc())?)
+}
+
+/// Prints help on the standard output and a fault on the standard error.
+fn report<R: Print + Eprint>(rt: &R, error: &ArwenError) -> io::Result<()> {
+    match error {
+        ArwenError::Line { text, status: 0 } => rt.print(text),
+        ArwenError::Line { text, .. } => rt.eprint(text),
+        _ => rt.eprintln(error.line()),
+    }
+}
+
+fn main(rt: HostRuntime) -> ExitCode {
+    match run(&rt) {
+        Ok(()) => ExitCode::SUCCESS,
+        Err(error) => match report(&rt, &error) {
+            Ok(()) => ExitCode::from(error.status()),
+            Err(_) => ExitCode::FAILURE,
+        },
+    }
+}
