@@ -1,0 +1,15 @@
+pub mod Agreement
+pub mod Placed
+pub mod Accepted
+pub mod ViewsAgree
+pub mod Computing
+pub mod Meaning
+pub mod NumberSteps
+pub mod PlainSteps
+pub mod TableSteps
+pub mod EntrySteps
+pub mod ChainSteps
+pub mod JoinSteps
+pub mod SymbolSteps
+pub mod ViewSteps
+pub mod TopSteps

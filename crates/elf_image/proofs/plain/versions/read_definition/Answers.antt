@@ -1,0 +1,21 @@
+-- A record is whole where its chain is there.
+use Rattle.std.proofs.lemmas.Result.{err_from_is_err_and}
+use Rattle.patch_bytes.specs.Memory.{memory_of}
+use Rattle.elf_image.proofs.ChainSteps.{definition_fails, definition_fails_names, definition_read}
+use Rattle.elf_image.proofs.plain.versions.read_definition.Goals as goal
+
+pub returns-in_err-record : goal.returns-in_err-record
+returns-in_err-record c =
+    let p = err_from_is_err_and c.from_residual.result c.from_residual.ensures.1 in
+    rw (p.1, p.2) (definition_fails c.args.form (memory_of c.args.bytes.now) c.args.place c.in_err-record.field-0.0 c.in_err-record.ensures)
+
+pub returns-in_err-names : goal.returns-in_err-names
+returns-in_err-names c =
+    let p = err_from_is_err_and c.from_residual-in_err-names.result c.from_residual-in_err-names.ensures.1 in
+    rw (p.1, p.2) (definition_fails_names c.args.form (memory_of c.args.bytes.now) c.args.place c.in_err-names.field-0.0 c.in_ok-record.record.now c.fixed-count.result c.fixed-distance.result
+    c.in_ok-record.ensures c.fixed-count.ensures c.fixed-distance.ensures c.in_err-names.ensures)
+
+pub returns : goal.returns
+returns c =
+    definition_read c.args.form (memory_of c.args.bytes.now) c.args.place c.in_ok-record.record.now c.in_ok-names.names.items c.fixed-count.result c.fixed-distance.result c.fixed.result c.fixed-2.result c.fixed-3.result
+    c.in_ok-record.ensures c.fixed-count.ensures c.fixed-distance.ensures c.in_ok-names.ensures c.fixed.ensures c.fixed-2.ensures c.fixed-3.ensures

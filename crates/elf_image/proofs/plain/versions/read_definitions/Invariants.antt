@@ -1,0 +1,12 @@
+use Rattle.std.proofs.Common.{◌≡◌, ◌-◌, map}
+use Rattle.patch_bytes.specs.Memory.{memory_of}
+use Rattle.elf_image.specs.Plain.{chain}
+use Rattle.elf_image.specs.PlainViews.{raw_definition}
+use Rattle.elf_image.specs.Versions.{definition_at}
+use Rattle.elf_image.proofs.PlainSteps.{with_front}
+use Rattle.elf_image.proofs.plain.versions.read_definitions.Given as goal
+
+-- what was read so far, and what the rest of the chain gives
+abbrev pub invariant-loop-i : goal.invariant-loop-i
+invariant-loop-i l =
+    with_front (map raw_definition l.made.items) (chain (definition_at l.form (memory_of l.bytes)) (l.count - l.i) l.place) ≡ chain (definition_at l.form (memory_of l.bytes)) l.count 0

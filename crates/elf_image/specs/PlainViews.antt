@@ -1,0 +1,93 @@
+-- What the answers of plain readers show.
+use Rattle.std.specs.Prelude.{ℕ, length, Bool, ◌&&◌, ◌==◌, List, map, Option, None, Some, option_map}
+use Rattle.elf_image.specs.declared.plain.view.ShownEntry.{ShownEntry}
+use Rattle.elf_image.specs.declared.plain.view.ShownEntry.TheVariants as shown
+use Rattle.elf_image.specs.declared.plain.view.RawDefinition.{RawDefinition}
+use Rattle.elf_image.specs.declared.plain.view.RawNeeds.{RawNeeds}
+use Rattle.elf_image.specs.declared.plain.view.ShownDefinition.{ShownDefinition}
+use Rattle.elf_image.specs.declared.plain.view.ShownName.{ShownName}
+use Rattle.elf_image.specs.declared.plain.view.ShownNeeds.{ShownNeeds}
+use Rattle.elf_image.specs.declared.plain.view.ShownSymbol.{ShownSymbol}
+use Rattle.elf_image.specs.declared.plain.view.Outline.{Outline}
+use Rattle.elf_image.specs.declared.plain.view.ShownView.{ShownView}
+use Rattle.elf_image.specs.declared.constants.TheConstants.{PT_GNU_STACK, PT_INTERP, SHT_PROGBITS}
+use Rattle.elf_image.specs.File.{Opened, section_bytes, segment_of_type}
+use Rattle.elf_image.specs.Form.{Form}
+use Rattle.elf_image.specs.Records.{FileHeader, SectionHeader, SegmentHeader}
+use Rattle.elf_image.specs.Views.{NamedSymbol, View, interpreter_section, tables_by_sections, view_of}
+use Rattle.patch_bytes.specs.Memory.{◌>>=◌, memory_of}
+use Rattle.elf_image.specs.Plain.{borrowed}
+use Rattle.elf_image.specs.Versions.{DefinitionNumbers, NeedNumbers, VersionDefinition, VersionName, VersionNeeds}
+use Rattle.elf_image.specs.Dynamic.{Auto, Entry, Integer, Text, entries_at}
+
+-- an entry, seen without where its text lies
+abbrev pub entry_seen : ShownEntry → Entry
+entry_seen (shown.Auto tag) = Auto tag
+entry_seen (shown.Integer tag value) = Integer tag value
+entry_seen (shown.Text tag text) = Text tag text.now
+
+-- version records, their texts by where they stand
+abbrev pub raw_definition : RawDefinition → DefinitionNumbers
+raw_definition d = record { index = d.index; flags = d.flags; names = d.names.items }
+
+abbrev pub raw_needs : RawNeeds → NeedNumbers
+raw_needs n = record { file = n.file; versions = n.versions.items }
+
+-- version records, seen without where their texts lie
+abbrev pub definition_seen : ShownDefinition → VersionDefinition
+definition_seen d = record { index = d.index; flags = d.flags; names = map borrowed d.names.items }
+
+abbrev pub name_seen : ShownName → VersionName
+name_seen v = record { index = v.index; name = v.name.now; flags = v.flags }
+
+abbrev pub needs_seen : ShownNeeds → VersionNeeds
+needs_seen n = record { file = n.file.now; versions = map name_seen n.versions.items }
+
+-- a symbol, seen without where its name lies
+abbrev pub symbol_seen : ShownSymbol → NamedSymbol
+symbol_seen y = record { name = y.name.now; st_info = y.st_info; st_other = y.st_other; st_shndx = y.st_shndx; st_value = y.st_value; st_size = y.st_size; version = y.version }
+
+-- the test by which the interpreter's section is found
+abbrev pub is_interpreter : SegmentHeader → SectionHeader → Bool
+is_interpreter p s = s.sh_type == SHT_PROGBITS && s.sh_offset == p.p_offset && s.sh_addr == p.p_vaddr && s.sh_size == p.p_filesz
+
+-- an opened file, by its identification and its header
+abbrev pub opened_seen : List ℕ → Form × FileHeader → Opened
+opened_seen file x = record { file = file; form = x.0; header = x.1 }
+
+-- what is shown besides the list
+abbrev pub outline_seen : Outline → View
+outline_seen o = record {
+  os_abi = o.os_abi;
+  stack_flags = o.stack_flags;
+  interpreter = option_map borrowed o.interpreter;
+  entries = None;
+  symbols = None;
+  definitions = None;
+  needs = None;
+}
+
+-- a whole view, seen without where its bytes lie
+abbrev pub view_seen : ShownView → View
+view_seen v = record {
+  os_abi = v.os_abi;
+  stack_flags = v.stack_flags;
+  interpreter = option_map borrowed v.interpreter;
+  entries = option_map (λ l. map entry_seen l.items) v.entries;
+  symbols = option_map (λ l. map symbol_seen l.items) v.symbols;
+  definitions = option_map (λ l. map definition_seen l.items) v.definitions;
+  needs = option_map (λ l. map needs_seen l.items) v.needs;
+}
+
+-- the flags of the first PT_GNU_STACK, and the bytes of the interpreter's section
+abbrev pub flags_of_stack : List SegmentHeader → Option ℕ
+flags_of_stack segments = segment_of_type PT_GNU_STACK segments >>= (λ p. Some p.p_flags)
+
+abbrev pub bytes_of_interpreter : List ℕ → List SegmentHeader → List SectionHeader → Option (List ℕ)
+bytes_of_interpreter file segments sections = segment_of_type PT_INTERP segments >>= λ p. interpreter_section p sections >>= λ s. Some (section_bytes file s)
+
+-- the section view, by what the headers show and by the dynamic section
+abbrev pub view_by_dynamic : Form → List ℕ → View → List SectionHeader → Option SectionHeader → Option View
+view_by_dynamic form file outline sections None = Some outline
+view_by_dynamic form file outline sections (Some list) =
+    entries_at (length file) form (memory_of (section_bytes file list)) 0 >>= λ raw. view_of form (length file) outline raw (tables_by_sections form file sections list)

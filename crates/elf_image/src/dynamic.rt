@@ -1,0 +1,29 @@
+ghost use Rattle.std.specs.Prelude.{◌≡◌};
+
+use patch_bytes::ByteString;
+
+/// An entry of the dynamic list (gABI, Dynamic Section).
+#[derive(Debug, Drop)]
+pub enum Dynamic<'data> {
+    /// A tag whose value follows from where a table lies, how long it is or how many records it has.
+    Auto { tag: u64 },
+    /// A tag with a number.
+    Integer { tag: u64, val: u64 },
+    /// A tag with a text of the dynamic strings.
+    Text { tag: u64, val: ByteString<'data> },
+}
+
+impl Dynamic<'_> {
+    ghost use Rattle.elf_image.specs.DynamicTag.{tag_of};
+
+    /// The entry's tag.
+    pub fn tag(&self) -> u64
+        ensures { result ≡ tag_of self.now }
+    {
+        match self {
+            Dynamic::Auto { tag } => *tag,
+            Dynamic::Integer { tag, .. } => *tag,
+            Dynamic::Text { tag, .. } => *tag,
+        }
+    }
+}

@@ -1,0 +1,24 @@
+//! What is proved of the definitions themselves. The functions do nothing: each stands for the law that
+//! is its contract.
+ghost use Rattle.elf_image.specs.Facts.{TestsMean};
+ghost use Rattle.elf_image.specs.Rules.{AcceptedFilesMeetTheRules, HeldSectionsAreSeen, ViewsAgree};
+
+/// For every byte string that the read rules accept, the section headers show what a loader sees.
+pub fn views_agree()
+    ensures { ViewsAgree }
+{}
+
+/// A file is accepted exactly where each of the read rules holds of it.
+pub fn accepted_files_meet_the_rules()
+    ensures { AcceptedFilesMeetTheRules }
+{}
+
+/// What a segment holds is seen at its address.
+pub fn held_sections_are_seen()
+    ensures { HeldSectionsAreSeen }
+{}
+
+/// What the tests of the read rules mean.
+pub fn tests_mean()
+    ensures { TestsMean }
+{}

@@ -1,0 +1,113 @@
+ghost use Rattle.std.specs.Prelude.{◌≡◌, ◌≤◌, is_some, length};
+ghost use Rattle.patch_bytes.specs.Memory.{memory_of};
+ghost use Rattle.elf_image.specs.Dynamic.{has_tag as tag_is_there, value_of_tag as first_value};
+ghost use Rattle.elf_image.specs.File.{has_file_bytes as is_filed, linked_section as linked_one, section_bytes as bytes_of_section, section_of_type as first_section, segment_of_type as first_segment};
+ghost use Rattle.elf_image.specs.PlainViews.{is_interpreter};
+ghost use Rattle.elf_image.specs.Views.{interpreter_section as interpreter_of, section_memory};
+
+use crate::constants::{SHT_NOBITS, SHT_NULL, SHT_PROGBITS};
+use crate::plain::numbers::part;
+use crate::records::{EntryNumbers, SectionHeader, SegmentHeader};
+
+pub(crate) fn segment_of_type(segments: &[SegmentHeader], kind: u64) -> Option<SegmentHeader>
+    ensures { result ≡ first_segment kind segments.now }
+{
+    for p in segments {
+        if p.p_type == kind {
+            return Some(*p);
+        }
+    }
+    None
+}
+
+pub(crate) fn section_of_type(sections: &[SectionHeader], kind: u64) -> Option<SectionHeader>
+    ensures { result ≡ first_section kind sections.now }
+{
+    for s in sections {
+        if s.sh_type == kind {
+            return Some(*s);
+        }
+    }
+    None
+}
+
+// Whether a section is the interpreter's.
+fn stands_at(section: SectionHeader, segment: SegmentHeader) -> bool
+    ensures { result ≡ is_interpreter segment section }
+{
+    section.sh_type == SHT_PROGBITS as u64
+        && section.sh_offset == segment.p_offset
+        && section.sh_addr == segment.p_vaddr
+        && section.sh_size == segment.p_filesz
+}
+
+pub(crate) fn interpreter_section(
+    segment: SegmentHeader,
+    sections: &[SectionHeader],
+) -> Option<SectionHeader>
+    ensures { result ≡ interpreter_of segment sections.now }
+{
+    for s in sections {
+        if stands_at(*s, segment) {
+            return Some(*s);
+        }
+    }
+    None
+}
+
+pub(crate) fn linked_section(
+    sections: &[SectionHeader],
+    section: SectionHeader,
+) -> Option<SectionHeader>
+    ensures { result ≡ linked_one sections.now section }
+{
+    sections.get(section.sh_link as usize).copied()
+}
+
+// The first value of a tag.
+pub(crate) fn value_of_tag(entries: &[EntryNumbers], tag: u64) -> Option<u64>
+    ensures { result ≡ first_value tag entries.now }
+{
+    for e in entries {
+        if e.d_tag == tag {
+            return Some(e.d_value);
+        }
+    }
+    None
+}
+
+pub(crate) fn has_tag(entries: &[EntryNumbers], tag: u64) -> bool
+    ensures { result ≡ tag_is_there tag entries.now }
+{
+    value_of_tag(entries, tag).is_some()
+}
+
+fn has_file_bytes(section: SectionHeader) -> bool
+    ensures { result ≡ is_filed section }
+{
+    section.sh_type != SHT_NULL as u64 && section.sh_type != SHT_NOBITS as u64
+}
+
+// The bytes of the file that a section header names.
+#[tactic(auto, unfolding(crate::specs::File::section_bytes))]
+pub(crate) fn section_bytes(file: &[u8], section: SectionHeader) -> &[u8]
+    ensures value { result.now ≡ bytes_of_section file.now section }
+    ensures short { length result.now ≤ length file.now }
+{
+    if has_file_bytes(section) {
+        part(file, section.sh_offset as usize, section.sh_size as usize)
+    } else {
+        &[]
+    }
+}
+
+// The bytes of a section, or none without one.
+pub(crate) fn bytes_of(file: &[u8], section: Option<SectionHeader>) -> &[u8]
+    ensures value { memory_of result.now ≡ section_memory file.now section }
+    ensures short { length result.now ≤ length file.now }
+{
+    match section {
+        None => &[],
+        Some(section) => section_bytes(file, section),
+    }
+}

@@ -1,0 +1,54 @@
+use patch_bytes::ByteString;
+
+/// What the bytes of a section are (gABI, Sections, `sh_type`; GNU hash and symbol versioning).
+#[derive(Clone, Copy, Debug, PartialEq, Eq)]
+pub enum SectionData {
+    /// Bytes that are kept as they are.
+    Opaque,
+    /// No bytes in the file; zeros in memory.
+    Uninitialized,
+    /// The dynamic list.
+    Dynamic,
+    /// Relocations against a symbol table, or against none.
+    Relocation,
+    /// Notes, which are kept as they are.
+    Note,
+    /// Texts, each with a NUL behind it.
+    Strings,
+    /// Symbols for a link editor.
+    Symbols,
+    /// Symbols for a loader.
+    DynamicSymbols,
+    /// A hash table over the dynamic symbols, as the gABI has it.
+    Hash,
+    /// The GNU hash table over the dynamic symbols.
+    GnuHash,
+    /// A version number for each dynamic symbol.
+    GnuVersym,
+    /// The versions that the file defines.
+    GnuVerdef,
+    /// The versions that the file needs of others.
+    GnuVerneed,
+}
+
+/// A section (gABI, Sections). Offsets and sizes are in bytes.
+#[derive(Debug, Drop)]
+pub struct Section<'data> {
+    pub name: ByteString<'data>,
+    pub sh_type: u32,
+    pub sh_flags: u64,
+    /// Where it stands in memory, 0 where it takes none.
+    pub sh_addr: u64,
+    /// Where it stands in the file.
+    pub sh_offset: u64,
+    pub sh_size: u64,
+    /// The number of a section that this one leans on; which, the type says.
+    pub sh_link: u32,
+    /// A section's number, a count of records or of local symbols, as the type says.
+    pub sh_info: u32,
+    pub sh_addralign: u64,
+    /// The size of an entry, where all have one size.
+    pub sh_entsize: u64,
+    /// The bytes of the file that the section header names; none for an uninitialized section.
+    pub content: &'data [u8],
+}

@@ -1,0 +1,26 @@
+use patch_bytes::ByteString;
+
+/// A version that the file defines (GNU symbol versioning, `Elfxx_Verdef`).
+#[derive(Debug, Drop)]
+pub struct VersionDef<'data> {
+    pub index: u16,
+    pub flags: u16,
+    /// The version's own name, then those of the versions that it comes after.
+    pub names: Vec<ByteString<'data>>,
+}
+
+/// The versions that the file needs of one library (GNU symbol versioning, `Elfxx_Verneed`).
+#[derive(Debug, Drop)]
+pub struct VersionNeed<'data> {
+    /// The library's name.
+    pub file: ByteString<'data>,
+    pub versions: Vec<VersionNeedName<'data>>,
+}
+
+/// One needed version (GNU symbol versioning, `Elfxx_Vernaux`).
+#[derive(Debug, Drop)]
+pub struct VersionNeedName<'data> {
+    pub index: u16,
+    pub name: ByteString<'data>,
+    pub flags: u16,
+}
