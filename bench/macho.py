@@ -1,0 +1,200 @@
+#!/usr/bin/env python3
+"""Times `arwen macho add-rpath` beside `cp` and LLVM's install_name_tool, and measures its memory.
+
+    python3 bench/macho.py [--runs N] [--only WORD] [--tool NAME]
+
+Each file is made in bench/work, which git ignores. Each timed run works on a fresh copy of it, made
+outside the timed part. The times are medians of N runs (5), and all runs of one call stand side by side:
+each round times every program once. `cp --reflink=never` writes onto a file that is there already. The
+peak is the largest resident size of the runs; it says nothing for the small file, where this script's
+own size is the larger one. The status is 1 where a target is missed, 2 where a program is missing or
+fails.
+"""
+
+import argparse
+import os
+import shutil
+import statistics
+import struct
+import subprocess
+import sys
+import time
+
+HERE = os.path.dirname(os.path.abspath(__file__))
+TOP = os.path.dirname(HERE)
+WORK = os.path.join(HERE, "work")
+PROGRAM = os.path.join(TOP, "crates", "arwen", "out", "arwen")
+RUN_PATH = "/usr/local/lib"
+MEGABYTE = 1 << 20
+
+sys.path.insert(0, os.path.join(TOP, "examples"))
+sys.dont_write_bytecode = True
+
+import make  # noqa: E402
+
+# A file's size in bytes, its slices, and the targets: at most so many times the time of cp, the time of
+# LLVM's tool, and its own size in memory.
+FILES = {
+    "small": (0, 1, None, 1.0, None),
+    "thin-50": (50 * MEGABYTE, 1, 3.5, 1.0, 2.2),
+    "fat-50": (50 * MEGABYTE, 2, 5.0, 1.0, 3.3),
+    "thin-300": (300 * MEGABYTE, 1, 3.5, None, 2.2),
+}
+
+
+def head(size):
+    """The bytes before the code of a program of about this size, and those behind it."""
+    form = make.Form(64, "<")
+    base = 0x100000000
+    code_at = 4096
+    code_size = size - code_at
+    code = make.section(form, b"__text", b"__TEXT", base + code_at, code_size, code_at)
+    table, link_data = make.symbol_table(form, size, b"_main", base + code_at)
+    commands = [
+        make.segment(form, b"__PAGEZERO", 0, base, 0, 0, 0),
+        make.segment(form, b"__TEXT", base, size, 0, size, 5, [code]),
+        make.segment(form, b"__LINKEDIT", base + size, 0x1000, size, len(link_data), 1),
+        table,
+        make.dylib(form, make.LC_LOAD_DYLIB, make.SYSTEM_LIBRARY),
+    ]
+    area = b"".join(commands)
+    fields = (0xFEEDFACF, *make.X86_64, make.MH_EXECUTE, len(commands), len(area), make.MH_FLAGS)
+    header = form.pack("IIIIIII", *fields)
+    return (header.ljust(form.header_size, b"\0") + area).ljust(code_at, b"\0"), link_data
+
+
+def write_thin(out, size):
+    """Writes a program of about this size, whose code is a pattern."""
+    front, link_data = head(size)
+    pattern = bytes(range(256)) * (MEGABYTE // 256)
+    out.write(front)
+    left = size - len(front)
+    while left > 0:
+        left -= out.write(pattern[: min(left, MEGABYTE)])
+    out.write(link_data)
+    return size + len(link_data)
+
+
+def write_fat(out, size, count):
+    """Writes a fat file of so many programs, together of about this size."""
+    one = size // count // 4096 * 4096 - 4096
+    length = one + len(head(one)[1])
+    offsets = [4096 + at * (one + 4096) for at in range(count)]
+    processors = [make.X86_64, make.ARM64][:count]
+    out.write(struct.pack(">II", 0xCAFEBABE, count))
+    for processor, offset in zip(processors, offsets):
+        out.write(struct.pack(">IIIII", *processor, offset, length, 12))
+    for processor, offset in zip(processors, offsets):
+        out.write(bytes(offset - out.tell()))
+        write_thin(out, one)
+        end = out.tell()
+        out.seek(offset + 4)
+        out.write(struct.pack("<II", *processor))
+        out.seek(end)
+
+
+def make_file(name):
+    """Makes one of the files, unless it is there."""
+    path = os.path.join(WORK, name)
+    size, slices = FILES[name][:2]
+    if os.path.exists(path):
+        return path
+    os.makedirs(WORK, exist_ok=True)
+    with open(path + ".part", "wb") as out:
+        if size == 0:
+            out.write(make.files()["hello"])
+        elif slices == 1:
+            write_thin(out, size)
+        else:
+            write_fat(out, size, slices)
+    os.replace(path + ".part", path)
+    return path
+
+
+def timed(words):
+    """The wall time of a program in seconds, and its peak resident size in bytes."""
+    start = time.perf_counter()
+    process = subprocess.Popen(words, stdin=subprocess.DEVNULL)
+    _, status, usage = os.wait4(process.pid, 0)
+    wall = time.perf_counter() - start
+    process.returncode = os.waitstatus_to_exitcode(status)
+    if process.returncode != 0:
+        print(f"{words[0]} ended with status {process.returncode}", file=sys.stderr)
+        sys.exit(2)
+    return wall, usage.ru_maxrss * 1024
+
+
+def fresh_copy(path):
+    """A copy of a file that nothing has touched, on disk before the clock starts."""
+    copy = os.path.join(WORK, "copy")
+    shutil.copyfile(path, copy)
+    with open(copy, "rb+") as file:
+        os.fsync(file.fileno())
+    return copy
+
+
+def measure(path, runs, tool):
+    """The median times of arwen, cp and LLVM's tool (None where it is not there), and arwen's peak."""
+    copy = os.path.join(WORK, "copy")
+    programs = {
+        "arwen": [PROGRAM, "macho", "add-rpath", RUN_PATH, copy],
+        "cp": ["cp", "--reflink=never", path, copy],
+    }
+    if tool:
+        programs["llvm"] = [tool, "-add_rpath", RUN_PATH, copy]
+    times = {name: [] for name in programs}
+    peak = 0
+    for _ in range(runs):
+        for name, words in programs.items():
+            fresh_copy(path)
+            wall, resident = timed(words)
+            times[name].append(wall)
+            if name == "arwen":
+                peak = max(peak, resident)
+    os.remove(copy)
+    medians = {name: statistics.median(walls) for name, walls in times.items()}
+    return medians["arwen"], medians["cp"], medians.get("llvm"), peak
+
+
+def verdict(value, target):
+    if target is None:
+        return f"{value:.2f}"
+    return f"{value:.2f} ({'within' if value <= target else 'PAST'} {target})"
+
+
+def main():
+    parser = argparse.ArgumentParser(description=__doc__.split("\n", 1)[0])
+    parser.add_argument("--runs", type=int, default=5)
+    parser.add_argument("--only", default="")
+    parser.add_argument("--tool", default="llvm-install-name-tool-19")
+    options = parser.parse_args()
+    if not os.access(PROGRAM, os.X_OK):
+        print("the program is not built: run ./arwen --help first", file=sys.stderr)
+        return 2
+    tool = shutil.which(options.tool)
+    if not tool:
+        print(f"{options.tool} is not there: its column stays empty", file=sys.stderr)
+    missed = False
+    for name, (_, _, most_time, most_llvm, most_memory) in FILES.items():
+        if options.only not in name:
+            continue
+        path = make_file(name)
+        size = os.path.getsize(path)
+        arwen, cp, llvm, peak = measure(path, options.runs, tool)
+        ratios = [(arwen / cp, most_time), (peak / size, most_memory)]
+        memory = verdict(peak / size, most_memory) if most_memory else "-"
+        if llvm:
+            ratios.append((arwen / llvm, most_llvm))
+        missed = missed or any(most is not None and value > most for value, most in ratios)
+        beside = verdict(arwen / llvm, most_llvm) if llvm else "-"
+        print(
+            f"{name}: {size} bytes, arwen {arwen * 1000:.1f} ms, cp {cp * 1000:.1f} ms, "
+            + (f"llvm {llvm * 1000:.1f} ms; " if llvm else "")
+            + f"to cp {verdict(arwen / cp, most_time)}, to llvm {beside}, "
+            + f"peak to size {memory}"
+        )
+    return 1 if missed else 0
+
+
+if __name__ == "__main__":
+    sys.exit(main())
