@@ -1,6 +1,6 @@
 -- Where the parts of a file with a stored area stand.
-use Rattle.std.proofs.Common.{◌≡◌, ◌≤◌, ◌<◌, ◌^◌, ℕ, ◌+◌, ◌-◌, List, ◌++◌, length, take, drop, replicate, refl, sym, ap, ◌∙◌, subst, arith}
-use Rattle.std.proofs.lemmas.List.{append_assoc, drop_at, drop-drop, length-append, length-drop, length-replicate, length-take-le, take_at}
+use Rattle.std.proofs.Common.{◌≡◌, ◌≤◌, ◌<◌, ◌^◌, ℕ, ◌+◌, ◌-◌, List, [], ◌++◌, length, take, drop, replicate, refl, sym, ap, ◌∙◌, subst, arith}
+use Rattle.std.proofs.lemmas.List.{append-nil, append_assoc, drop_all, drop_at, drop-drop, drop-take, length-append, length-drop, length-replicate, length-take-le, take-take, take_at}
 use Rattle.patch_bytes.specs.declared.number.ByteOrder2.{ByteOrder2}
 use Rattle.patch_bytes.specs.Number.{bytes_of, number_at}
 use Rattle.patch_bytes.proofs.NumberLaws.{length-bytes_of, number_at-append_right, number_at-bytes_of, number_at-drop, number_at-take}
@@ -158,3 +158,34 @@ number_at-with_area_fields order n pos ctx old count area high fits small =
     sym (number_at-take order n size pos (drop 24 new) inside ∙ number_at-drop order n 24 pos new)
     ∙ ap (number_at order n pos) (fields_behind-with_area ctx old count area high fits)
     ∙ number_at-take order n size pos (drop 24 old) inside ∙ number_at-drop order n 24 pos old
+
+-- the front of the file is that of the old bytes' front
+fields_behind-take : (ctx : Ctx) (old : List ℕ) (high : ℕ) → header_size ctx.container ≤ high → fields_behind ctx (take high old) ≡ fields_behind ctx old
+fields_behind-take ctx old high room =
+    let least : 28 ≤ header_size ctx.container = header_size-least ctx.container in
+    let split : 24 + (high - 24) ≡ high = omega arith in
+    let P : ℕ → Type 0 = λ k. take (header_size ctx.container - 24) (drop 24 (take k old)) ≡ fields_behind ctx old in
+    subst P split
+    (ap (take (header_size ctx.container - 24)) (drop-take 24 (high - 24) old)
+    ∙ take-take (header_size ctx.container - 24) (high - 24) (drop 24 old) (omega arith))
+
+header_with-take : (ctx : Ctx) (old : List ℕ) (count size high : ℕ) → header_size ctx.container ≤ high → header_with ctx (take high old) count size ≡ header_with ctx old count size
+header_with-take ctx old count size high room =
+    let least : 28 ≤ header_size ctx.container = header_size-least ctx.container in
+    rw (take-take 16 high old (omega arith), fields_behind-take ctx old high room) refl
+
+pub take-with_area_high : (ctx : Ctx) (old : List ℕ) (count : ℕ) (area : List ℕ) (high : ℕ) → Fits ctx old area high → with_area ctx (take high old) count area high ≡ take high (with_area ctx old count area high)
+take-with_area_high ctx old count area high fits =
+    let zeros : List ℕ = replicate (high - (header_size ctx.container + length area)) 0 in
+    let head : List ℕ = header_with ctx old count (length area) in
+    let room : header_size ctx.container + length area ≤ high = fits.room in
+    let whole : head ++ (area ++ (zeros ++ drop high old)) ≡ (head ++ (area ++ zeros)) ++ drop high old = simp append_assoc in
+    let long : length (head ++ (area ++ zeros)) ≡ high = omega (arith, length-append head (area ++ zeros), length-append area zeros, length-header_with ctx old area high count (length area) fits, length-replicate {A = ℕ} (high - (header_size ctx.container + length area)) 0) in
+    let none : drop high (take high old) ≡ [] = drop_all high (take high old) (omega (arith, length-take-le high old fits.inside)) in
+    let front : with_area ctx (take high old) count area high ≡ head ++ (area ++ (zeros ++ [])) =
+    with_area-parts ctx (take high old) count area high
+    ∙ ap (λ (l : List ℕ). l ++ (area ++ (zeros ++ drop high (take high old)))) (header_with-take ctx old count (length area) high (omega arith))
+    ∙ ap (λ (l : List ℕ). head ++ (area ++ (zeros ++ l))) none in
+    front
+    ∙ ap (λ (l : List ℕ). head ++ (area ++ l)) (append-nil zeros)
+    ∙ sym (ap (take high) (with_area-parts ctx old count area high ∙ whole) ∙ take_at (head ++ (area ++ zeros)) (drop high old) high long)

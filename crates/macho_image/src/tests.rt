@@ -205,6 +205,23 @@ fn reads_header(rt: HostRuntime) -> Result<(), Fail> {
     Ok(())
 }
 
+// The name of that file, whose command begins here.
+fn own_name(offset: usize) -> LoadCommand {
+    LoadCommand {
+        offset,
+        command: CommandVariant::IdDylib(DylibCommand {
+            cmd: 0xd,
+            cmdsize: 32,
+            dylib: Dylib {
+                name: 24,
+                timestamp: 1,
+                current_version: 0x1_0203,
+                compatibility_version: 0x1_0000,
+            },
+        }),
+    }
+}
+
 #[test]
 fn reads_commands(rt: HostRuntime) -> Result<(), Fail> {
     for form in FORMS {
@@ -213,19 +230,6 @@ fn reads_commands(rt: HostRuntime) -> Result<(), Fail> {
         let start = match form.container {
             Wide::W32 => 28,
             Wide::W64 => 32,
-        };
-        let name = LoadCommand {
-            offset: start,
-            command: CommandVariant::IdDylib(DylibCommand {
-                cmd: 0xd,
-                cmdsize: 32,
-                dylib: Dylib {
-                    name: 24,
-                    timestamp: 1,
-                    current_version: 0x1_0203,
-                    compatibility_version: 0x1_0000,
-                },
-            }),
         };
         let path = LoadCommand {
             offset: start + 32,
@@ -244,7 +248,7 @@ fn reads_commands(rt: HostRuntime) -> Result<(), Fail> {
         };
         let found = file.load_commands();
         assert_eq!(rt; found.len(), 4);
-        assert_eq!(rt; found[0], name);
+        assert_eq!(rt; found[0], own_name(start));
         assert_eq!(rt; found[1], path);
         assert_eq!(rt; found[2].offset, start + 48);
         assert_eq!(rt; found[2].command.cmdsize(), 32);

@@ -1,4 +1,4 @@
-ghost use Rattle.std.specs.Prelude.{◌≡◌, ◌+◌, ◌<◌, ◌≤◌, ◌^◌, IfOk, length, true, vec_len};
+ghost use Rattle.std.specs.Prelude.{◌≡◌, ◌+◌, ◌<◌, ◌≤◌, ◌^◌, IfOk, length, take, true, vec_len};
 ghost use Rattle.patch_bytes.specs.Number.{with_number};
 ghost use Rattle.macho_image.specs.Checks.{area_fault};
 ghost use Rattle.macho_image.specs.Form.{ctx_of, header_size};
@@ -63,6 +63,25 @@ impl<'a> MachO<'a> {
             first_content: listed.first_content,
             copy,
         })
+    }
+
+    /// The file's first `high` bytes as they are after an area of so many load commands was stored: the
+    /// header with both counts, the area, and zeros. The file stays as it is, and the bytes behind are not
+    /// copied. The only error is that there is no memory.
+    pub fn front_with(
+        &self,
+        alloc: Global,
+        count: u32,
+        area: &[u8],
+        high: usize,
+    ) -> Result<Vec<u8>, AllocError>
+        requires room { header_size (ctx_of self.now.bytes).container + length area.now ≤ high }
+        requires inside { high ≤ length self.now.bytes }
+        ensures { IfOk result (λ front. front.items ≡ take high (with_area (ctx_of self.now.bytes) self.now.bytes count area.now high)) }
+    {
+        let mut front = Vec::from_slice(alloc, &self.bytes()[..high])?;
+        lay_area(&mut front, self.ctx(), count, area, high);
+        Ok(front)
     }
 
     /// Stores a prepared area behind the header, with zeros behind it up to `high`. From then on the
