@@ -101,3 +101,13 @@ kept_count s commands is keeps room =
     let most = available-le s is in
     let short = (found s.old is.accepted).short in
     omega arith
+
+-- the area of a change has no fault
+pub change_fault : (held : Held) (change : Change) → IsState held.state → IsChangeOf held change → area_fault (ctx_of (laid held.state)).le change.prepared.count change.prepared.area ≡ None
+change_fault held change is of =
+    let form = (laid_shows held.state is).form in
+    let count : length (list_of held change) ≡ change.prepared.count = length-cut (ctx_of held.state.old).le change.prepared.count change.prepared.area in
+    ap (λ (ctx : Ctx). area_fault ctx.le change.prepared.count change.prepared.area) form
+    ∙ ap (λ (n : ℕ). area_fault (ctx_of held.state.old).le n change.prepared.area) (sym count)
+    ∙ ap (area_fault (ctx_of held.state.old).le (length (list_of held change))) of.area
+    ∙ kept_fault (ctx_of held.state.old) held.state.list (list_of held change) of.keeps

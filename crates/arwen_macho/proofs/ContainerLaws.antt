@@ -49,6 +49,14 @@ refuses_fat_at : (index : ℕ) (found : Option Cause) (flag : Bool) (answer : Re
 refuses_fat_at index None flag answer refuses = tt
 refuses_fat_at index (Some cause) flag answer refuses = ap (as_fat flag) refuses
 
+pub refused_thin : (calls : List Call) (held : Held) (index : ℕ) (found : Option Cause) → RefusesAt index found (step calls held.state) → RefusesAt index found (container_step calls (SingleArch held))
+unfolding container_step
+refused_thin calls held index found refuses = refuses_thin_at index found (is_edited_by calls held.is_edited) (step calls held.state) refuses
+
+pub refused_fat : (calls : List Call) (held : FatHeld) (index : ℕ) (found : Option Cause) → RefusesAt index found (fat_step calls held.state) → RefusesAt index found (container_step calls (Fat held))
+unfolding container_step
+refused_fat calls held index found refuses = refuses_fat_at index found (is_edited_by calls held.is_edited) (fat_step calls held.state) refuses
+
 -- what a refused batch leaves
 left_refused : (old : MachoType) (answer : Result MachoType Refusal) (e : MachoBatchError) → left_by old answer (Err e) ≡ old
 left_refused old (Ok new) e = refl

@@ -40,7 +40,7 @@ pub shown_long : (s : Inside) → IsFatHeld s → length (bytes_shown s.source.n
 shown_long s is = ap length is.bytes ∙ (fat_laid_shows (fat_held_of s).state is.is_state).long
 
 -- the fronts over the bytes of a state
-fronts_over_laid : (old : List ℕ) (slices : List FatMacho) (changes : List Change) → IsFatState (record { old = old; slices = map slice_held slices }) → AllZip (IsReadyIn (length old)) slices changes → fronts_over slices changes (fat_laid (record { old = old; slices = map slice_held slices })) ≡ fat_laid (record { old = old; slices = map slice_held (changed_machos slices changes) })
+pub fronts_over_laid : (old : List ℕ) (slices : List FatMacho) (changes : List Change) → IsFatState (record { old = old; slices = map slice_held slices }) → AllZip (IsReadyIn (length old)) slices changes → fronts_over slices changes (fat_laid (record { old = old; slices = map slice_held slices })) ≡ fat_laid (record { old = old; slices = map slice_held (changed_machos slices changes) })
 unfolding fat_laid
 fronts_over_laid old slices changes is ready =
     fronts_laid (length old) slices changes old refl ready (lie_of (record { old = old; slices = map slice_held slices }) is)

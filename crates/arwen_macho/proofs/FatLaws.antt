@@ -80,7 +80,7 @@ pub none_first : (here rest : Option Found) → found_first here rest ≡ None �
 none_first None rest e = (refl, e)
 none_first (Some found) rest e = absurd (cc)
 
-none_fault : (check : Option MachFault) → found_fault check ≡ None → check ≡ None
+pub none_fault : (check : Option MachFault) → found_fault check ≡ None → check ≡ None
 none_fault None e = refl
 none_fault (Some check) e = absurd (cc)
 

@@ -10,6 +10,7 @@ pub mod FatLaws
 pub mod FatStepLaws
 pub mod FrontLaws
 pub mod HeldLaws
+pub mod LeadLaws
 pub mod PatchLemmas
 pub mod PutLaws
 pub mod SliceLaws

@@ -3,17 +3,25 @@ use Rattle.std.specs.Prelude.{ℕ, ◌≡◌, ◌≤◌, ◌<◌, max, true, Lis
 use Rattle.std.specs.List.{concat}
 use Rattle.macho_image.specs.Commands.{cut}
 use Rattle.macho_image.specs.Form.{ctx_of}
-use Rattle.macho_image.specs.Prepared.{IsMadeFor}
+use Rattle.macho_image.specs.Prepared.{IsMadeFor, copy_for}
 use Rattle.arwen_macho.specs.declared.change.Change.{Change}
+use Rattle.arwen_macho.specs.declared.change.Fit.{Fit}
 use Rattle.arwen_macho.specs.Call.{Cause}
 use Rattle.arwen_macho.specs.Call.Cause.{no_room}
 use Rattle.arwen_macho.specs.Held.{Held, image_held}
-use Rattle.arwen_macho.specs.State.{State, available, end_of}
+use Rattle.arwen_macho.specs.State.{State, available, end_of, laid}
 use Rattle.arwen_macho.specs.Whole.{Keeps}
 
 -- the list of load commands that a change brings
 abbrev pub list_of : Held → Change → List (List ℕ)
 list_of held change = cut (ctx_of held.state.old).le change.prepared.count change.prepared.area
+
+-- the change that brings in a list which fits, with the copy that it wants
+abbrev pub change_with : Held → Fit → Change
+change_with held fit = record {
+  prepared = record { form = ctx_of (laid held.state); count = fit.count; area = fit.area.items; copy = copy_for (image_held held) };
+  high = fit.high;
+}
 
 -- a change of this file: made for it, with a list that keeps what edits keep and ends where it may
 pub record IsChangeOf (held : Held) (change : Change) : Type 0 where

@@ -24,6 +24,7 @@ pub mod FatShown
 pub mod FatSlice
 pub mod FatState
 pub mod Found
+pub mod Fronts
 pub mod Held
 pub mod HeldBy
 pub mod Laws

@@ -1,5 +1,16 @@
 use macho_image::image::Prepared;
 
+/// The load commands that edits leave, which fit the file.
+#[derive(Drop)]
+pub struct Fit {
+    /// How many they are.
+    pub count: u32,
+    /// Their bytes.
+    pub area: Vec<u8>,
+    /// The furthest offset where commands will ever have ended.
+    pub high: usize,
+}
+
 /// A batch of edits that was decided, with all the memory that carrying it out wants.
 #[derive(Drop)]
 pub struct Change {

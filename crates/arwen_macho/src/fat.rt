@@ -9,6 +9,7 @@ ghost use Rattle.arwen_macho.specs.Edit.{call_of};
 ghost use Rattle.arwen_macho.specs.FatSlice.{IsReadyIn, IsStepOf, changed_macho, changed_machos, first_macho, front_of, fronts_over, slice_held};
 ghost use Rattle.arwen_macho.specs.FatState.{put_at, step_slices};
 ghost use Rattle.arwen_macho.specs.Found.{ARCHIVE, Finds, found_fault, slice_found, slices_found};
+ghost use Rattle.arwen_macho.specs.Fronts.{IsFrontOf};
 ghost use Rattle.arwen_macho.specs.Held.{RefusesStep};
 ghost use Rattle.arwen_macho.specs.Refused.{cause_of};
 ghost use Rattle.arwen_macho.specs.Whole.{TextsAreBytes};
@@ -17,6 +18,7 @@ use crate::batch::{MachoBatchError, MachoEdit};
 use crate::change::Change;
 use crate::draft::Edit;
 use crate::error::MachoError;
+use crate::front::{Front, put};
 use crate::macho::SingleMachO;
 use macho_image::{FatArch, fat_archs};
 use std::alloc::{AllocError, Global};
@@ -131,12 +133,22 @@ fn changes_all(
     Ok(changes)
 }
 
-// Writes a part over the bytes from a position on.
-fn put(bytes: &mut [u8], at: usize, part: &[u8])
-    requires { at + length part.now ≤ length bytes.old }
-    ensures { bytes.new ≡ put_at at part.now bytes.old }
+// The front of each slice that a batch of edits asks for, decided in their order.
+fn fronts_all(
+    alloc: Global,
+    slices: &[FatMacho<'_>],
+    edits: &[MachoEdit],
+) -> Result<Vec<Front>, MachoBatchError>
+    ensures ok { IfOk result (λ fronts. AllZip (IsFrontOf (calls_of edits.now)) slices.now fronts.items) }
+    ensures err { IfErr result (λ e. RefusesAt e.index (cause_of e.fault) (step_slices (calls_of edits.now) (map slice_held slices.now))) }
 {
-    bytes[at..at + part.len()].copy_from_slice(part);
+    let mut fronts = Vec::with_capacity(alloc, slices.len())?;
+    for slice in slices {
+        let offset = slice.arch.offset as usize;
+        let front = slice.inner.front_at(alloc, offset, edits)?;
+        fronts.push(front)?;
+    }
+    Ok(fronts)
 }
 
 // Carries out a change of one slice, and in the file's copy. Takes no memory.
@@ -204,6 +216,7 @@ impl<'a> FatMachoContainer<'a> {
     ghost use Rattle.arwen_macho.specs.FatShown.{FatShows};
     ghost use Rattle.arwen_macho.specs.FatState.{fat_laid, fat_step};
     ghost use Rattle.arwen_macho.specs.Found.{fat_found};
+    ghost use Rattle.arwen_macho.specs.Fronts.{LeadOn};
 
     /// Parses a fat file. It is refused by the first check that fails: those of the table, then those of
     /// each slice in the table's order, among them that it is no Unix archive; or where there is no memory.
@@ -256,6 +269,18 @@ impl<'a> FatMachoContainer<'a> {
         ensures err { IfErr result (λ e. RefusesAt e.index (cause_of e.fault) (fat_step (calls_of edits.now) self.now.state)) }
     {
         changes_all(alloc, &self.archs, edits)
+    }
+
+    // What a batch of edits writes over the file's bytes.
+    pub(crate) fn fronts(
+        &self,
+        alloc: Global,
+        edits: &[MachoEdit],
+    ) -> Result<Vec<Front>, MachoBatchError>
+        ensures ok { IfOk result (λ fronts. LeadOn fat_laid self.now.state (fat_step (calls_of edits.now) self.now.state) fronts.items) }
+        ensures err { IfErr result (λ e. RefusesAt e.index (cause_of e.fault) (fat_step (calls_of edits.now) self.now.state)) }
+    {
+        fronts_all(alloc, &self.archs, edits)
     }
 
     // Carries out a change of each slice, in the copy of the file. There may be no memory for the copy.

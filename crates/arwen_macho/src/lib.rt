@@ -7,6 +7,7 @@ pub mod commands;
 mod draft;
 mod error;
 mod fat;
+mod front;
 pub mod laws;
 pub mod macho;
 pub mod patcher;

@@ -1,4 +1,4 @@
-ghost use Rattle.std.specs.Prelude.{◌≡◌, ◌+◌, ◌≤◌, ◌∷◌, [], max, nat_le, length, true, None, Ok, IsOk, IfOk, IfErr, OnErr, MatchResult};
+ghost use Rattle.std.specs.Prelude.{◌≡◌, ◌+◌, ◌≤◌, ◌∷◌, [], max, nat_le, length, take, true, None, Ok, IsOk, IfOk, IfErr, OnErr, MatchResult};
 ghost use Rattle.std.specs.List.{concat};
 ghost use Rattle.macho_image.specs.Checks.{file_fault};
 ghost use Rattle.macho_image.specs.Commands.{first_content_of};
@@ -7,10 +7,11 @@ ghost use Rattle.arwen_macho.specs.Call.Call.{add_rpath, change_install_id, chan
 
 use crate::batch::edit_all;
 pub use crate::batch::{MachoBatchError, MachoEdit};
-use crate::change::Change;
+use crate::change::{Change, Fit};
 use crate::draft::{Edit, edit_commands};
 pub use crate::error::MachoError;
 pub use crate::fat::{FatMacho, FatMachoContainer};
+pub use crate::front::{Front, lay_fronts};
 use crate::room::{available, commands_end, fits};
 pub use macho_image::{Ctx, MachFault, MachO};
 use macho_image::{header_size, is_fat};
@@ -51,9 +52,10 @@ fn joined(alloc: Global, commands: &[ByteString<'_>]) -> Result<Vec<u8>, AllocEr
 
 impl<'a> SingleMachO<'a> {
     ghost use Rattle.arwen_macho.specs.Batch.{RefusesAt, StepsBatch, calls_of};
-    ghost use Rattle.arwen_macho.specs.Change.{IsChangeOf, RefusesRoom, changed, list_of};
+    ghost use Rattle.arwen_macho.specs.Change.{IsChangeOf, RefusesRoom, change_with, changed, list_of};
     ghost use Rattle.arwen_macho.specs.Edit.{call_of};
     ghost use Rattle.arwen_macho.specs.Found.{Finds, found_fault};
+    ghost use Rattle.arwen_macho.specs.Fronts.{IsFrontAt, LeadOn};
     ghost use Rattle.arwen_macho.specs.Held.{RefusesStep, StepsOnce, first_held, image_held};
     ghost use Rattle.arwen_macho.specs.Refused.{cause_of};
     ghost use Rattle.arwen_macho.specs.Shown.{Shows};
@@ -106,10 +108,10 @@ impl<'a> SingleMachO<'a> {
         inner.into_bytes(alloc)
     }
 
-    // What it takes to bring in another list of load commands, if there is room for it.
-    fn change_for(&self, alloc: Global, commands: &[ByteString<'_>]) -> Result<Change, MachoError>
+    // Another list of load commands, if there is room for it.
+    fn fit_for(&self, alloc: Global, commands: &[ByteString<'_>]) -> Result<Fit, MachoError>
         requires { Keeps (ctx_of self.now.state.old).le self.now.state.list commands.now }
-        ensures ok { IfOk result (λ change. IsChangeOf self.now change × (list_of self.now change ≡ commands.now)) }
+        ensures ok { IfOk result (λ fit. IsChangeOf self.now (change_with self.now fit) × (list_of self.now (change_with self.now fit) ≡ commands.now)) }
         ensures err { IfErr result (λ e. RefusesRoom self.now.state commands.now (cause_of e)) }
     {
         let area = joined(alloc, commands)?;
@@ -120,11 +122,29 @@ impl<'a> SingleMachO<'a> {
                 available: available(&self.inner) as u64,
             });
         }
-        let prepared = self.inner.prepare(alloc, commands.len() as u32, area)?;
-        Ok(Change {
-            prepared,
+        Ok(Fit {
+            count: commands.len() as u32,
+            area,
             high: self.high.max(end),
         })
+    }
+
+    // What it takes to bring in a list that fits.
+    pub(crate) fn change_with(&self, alloc: Global, fit: Fit) -> Result<Change, AllocError>
+        requires { IsChangeOf self.now (change_with self.now fit) }
+        ensures { IfOk result (λ change. change ≡ change_with self.now fit) }
+    {
+        let Fit { count, area, high } = fit;
+        let prepared = self.inner.prepare(alloc, count, area)?;
+        Ok(Change { prepared, high })
+    }
+
+    // The bytes that differ where a list that fits is brought in: the file's front with it.
+    pub(crate) fn front_with(&self, alloc: Global, fit: &Fit) -> Result<Vec<u8>, AllocError>
+        requires { IsChangeOf self.now (change_with self.now fit.now) }
+        ensures { IfOk result (λ front. front.items ≡ take fit.now.high (laid (changed self.now (change_with self.now fit.now)).state)) }
+    {
+        self.inner.front_with(alloc, fit.count, &fit.area, fit.high)
     }
 
     // Carries out a change. Takes no memory.
@@ -137,15 +157,25 @@ impl<'a> SingleMachO<'a> {
         self.high = high;
     }
 
-    // What one edit asks for, decided upon a draft of the list.
+    // The list that one edit leaves, decided upon a draft of it.
+    fn fit_by(&self, alloc: Global, edit: Edit<'_>) -> Result<Fit, MachoError>
+        requires { TextsAreBytes (call_of edit) }
+        ensures ok { IfOk result (λ fit. IsChangeOf self.now (change_with self.now fit) × (step (call_of edit.entry ∷ []) self.now.state ≡ Ok (changed self.now (change_with self.now fit)).state)) }
+        ensures err { IfErr result (λ e. RefusesStep (cause_of e) (step (call_of edit.entry ∷ []) self.now.state)) }
+    {
+        let mut commands = self.inner.commands(alloc)?;
+        edit_commands(alloc, self.inner.ctx(), &mut commands, edit)?;
+        self.fit_for(alloc, commands.as_slice())
+    }
+
+    // What one edit asks for.
     pub(crate) fn change_by(&self, alloc: Global, edit: Edit<'_>) -> Result<Change, MachoError>
         requires { TextsAreBytes (call_of edit) }
         ensures ok { IfOk result (λ change. IsChangeOf self.now change × (step (call_of edit.entry ∷ []) self.now.state ≡ Ok (changed self.now change).state)) }
         ensures err { IfErr result (λ e. RefusesStep (cause_of e) (step (call_of edit.entry ∷ []) self.now.state)) }
     {
-        let mut commands = self.inner.commands(alloc)?;
-        edit_commands(alloc, self.inner.ctx(), &mut commands, edit)?;
-        self.change_for(alloc, commands.as_slice())
+        let fit = self.fit_by(alloc, edit)?;
+        Ok(self.change_with(alloc, fit)?)
     }
 
     // One edit, or none of it.
@@ -199,13 +229,13 @@ impl<'a> SingleMachO<'a> {
         self.edit(alloc, Edit::ChangeInstallName(old, new))
     }
 
-    // What a batch of edits asks for, decided upon a draft of the list.
-    pub(crate) fn change_by_all(
+    // The list that a batch of edits leaves, decided upon a draft of it.
+    pub(crate) fn fit_by_all(
         &self,
         alloc: Global,
         edits: &[MachoEdit],
-    ) -> Result<Change, MachoBatchError>
-        ensures ok { IfOk result (λ change. IsChangeOf self.now change × (step (calls_of edits.now) self.now.state ≡ Ok (changed self.now change).state)) }
+    ) -> Result<Fit, MachoBatchError>
+        ensures ok { IfOk result (λ fit. IsChangeOf self.now (change_with self.now fit) × (step (calls_of edits.now) self.now.state ≡ Ok (changed self.now (change_with self.now fit)).state)) }
         ensures err { IfErr result (λ e. RefusesAt e.index (cause_of e.fault) (step (calls_of edits.now) self.now.state)) }
     {
         let mut commands = match self.inner.commands(alloc) {
@@ -218,13 +248,53 @@ impl<'a> SingleMachO<'a> {
             }
         };
         edit_all(alloc, self.inner.ctx(), &mut commands, edits)?;
-        match self.change_for(alloc, commands.as_slice()) {
-            Ok(change) => Ok(change),
+        match self.fit_for(alloc, commands.as_slice()) {
+            Ok(fit) => Ok(fit),
             Err(fault) => Err(MachoBatchError {
                 index: edits.len(),
                 fault,
             }),
         }
+    }
+
+    // What a batch of edits asks for.
+    pub(crate) fn change_by_all(
+        &self,
+        alloc: Global,
+        edits: &[MachoEdit],
+    ) -> Result<Change, MachoBatchError>
+        ensures ok { IfOk result (λ change. IsChangeOf self.now change × (step (calls_of edits.now) self.now.state ≡ Ok (changed self.now change).state)) }
+        ensures err { IfErr result (λ e. RefusesAt e.index (cause_of e.fault) (step (calls_of edits.now) self.now.state)) }
+    {
+        let fit = self.fit_by_all(alloc, edits)?;
+        Ok(self.change_with(alloc, fit)?)
+    }
+
+    // The front of the file that a batch of edits asks for, where the file begins at an offset of another.
+    pub(crate) fn front_at(
+        &self,
+        alloc: Global,
+        offset: usize,
+        edits: &[MachoEdit],
+    ) -> Result<Front, MachoBatchError>
+        ensures ok { IfOk result (λ front. IsFrontAt (calls_of edits.now) self.now offset front) }
+        ensures err { IfErr result (λ e. RefusesAt e.index (cause_of e.fault) (step (calls_of edits.now) self.now.state)) }
+    {
+        let fit = self.fit_by_all(alloc, edits)?;
+        let bytes = self.front_with(alloc, &fit)?;
+        Ok(Front { offset, bytes })
+    }
+
+    // What a batch of edits writes over the file's bytes.
+    fn fronts(&self, alloc: Global, edits: &[MachoEdit]) -> Result<Vec<Front>, MachoBatchError>
+        ensures ok { IfOk result (λ fronts. LeadOn laid self.now.state (step (calls_of edits.now) self.now.state) fronts.items) }
+        ensures err { IfErr result (λ e. RefusesAt e.index (cause_of e.fault) (step (calls_of edits.now) self.now.state)) }
+    {
+        let _held = self.high;
+        let front = self.front_at(alloc, 0, edits)?;
+        let mut fronts = Vec::new(alloc);
+        fronts.push(front)?;
+        Ok(fronts)
     }
 
     /// Makes several edits, each upon what the one before it left: all of them, or none. Whether there is
@@ -266,11 +336,13 @@ impl<'a> Model for MachoContainer<'a> {
 }
 
 impl<'a> MachoContainer<'a> {
-    ghost use Rattle.arwen_macho.specs.Batch.{calls_of};
-    ghost use Rattle.arwen_macho.specs.Container.{AnswersAll, TakesBatch, TakesOnce, all_calls, container_bytes, first_container, left_by_all};
+    ghost use Rattle.arwen_macho.specs.Batch.{RefusesAt, calls_of};
+    ghost use Rattle.arwen_macho.specs.Container.{AnswersAll, TakesBatch, TakesOnce, all_calls, container_bytes, container_step, first_container, left_by_all};
     ghost use Rattle.arwen_macho.specs.ContainerShown.{ShowsFile};
     ghost use Rattle.arwen_macho.specs.Edit.{call_of};
     ghost use Rattle.arwen_macho.specs.Found.{Finds, container_found};
+    ghost use Rattle.arwen_macho.specs.Refused.{cause_of};
+    ghost use Rattle.arwen_macho.specs.Fronts.{LeadOn};
     ghost use Rattle.arwen_macho.specs.Whole.{TextsAreBytes};
 
     /// Parses a file, which is fat where it begins with the magic of fat files. It is refused by the first
@@ -377,6 +449,18 @@ impl<'a> MachoContainer<'a> {
         match &mut self.inner {
             MachoType::SingleArch(single) => single.apply(alloc, edits),
             MachoType::Fat(fat) => fat.apply(alloc, edits),
+        }
+    }
+
+    /// What `apply` would write over the file's bytes: the front of each thin file in it, without what
+    /// lies behind. It is refused where `apply` is, and the file stays as it is.
+    pub fn fronts(&self, alloc: Global, edits: &[MachoEdit]) -> Result<Vec<Front>, MachoBatchError>
+        ensures ok { IfOk result (λ fronts. LeadOn container_bytes self.now (container_step (calls_of edits.now) self.now) fronts.items) }
+        ensures err { IfErr result (λ e. RefusesAt e.index (cause_of e.fault) (container_step (calls_of edits.now) self.now)) }
+    {
+        match &self.inner {
+            MachoType::SingleArch(single) => single.fronts(alloc, edits),
+            MachoType::Fat(fat) => fat.fronts(alloc, edits),
         }
     }
 

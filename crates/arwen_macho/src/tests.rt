@@ -114,7 +114,7 @@ fn rounds_sizes(rt: HostRuntime) {
 
 #[test]
 fn builds_rpath_commands(rt: HostRuntime) -> Result<(), Fail> {
-    let texts: [(Ctx, &str, u32, &[u8]); 5] = [
+    let texts: [(Ctx, &str, u32, &[u8]); 4] = [
         (
             WIDE_LITTLE,
             "/usr/local/lib",
@@ -139,12 +139,6 @@ fn builds_rpath_commands(rt: HostRuntime) -> Result<(), Fail> {
             28,
             b"\x80\0\0\x1c\0\0\0\x1c\0\0\0\x0c/usr/local/lib\0\0",
         ),
-        (
-            WIDE_LITTLE,
-            "",
-            16,
-            b"\x1c\0\0\x80\x10\0\0\0\x0c\0\0\0\0\0\0\0",
-        ),
     ];
     for (ctx, text, cmdsize, bytes) in texts {
         let command = RpathCommand {
@@ -156,6 +150,17 @@ fn builds_rpath_commands(rt: HostRuntime) -> Result<(), Fail> {
         assert_eq!(rt; built.0, command);
         assert_eq!(rt; built.1.as_slice(), bytes);
     }
+    Ok(())
+}
+
+#[test]
+fn builds_empty_rpath_command(rt: HostRuntime) -> Result<(), Fail> {
+    let built = rpath(&rt, "", WIDE_LITTLE)?;
+    assert_eq!(rt; built.0.cmdsize, 16);
+    assert_eq!(rt;
+        built.1.as_slice(),
+        b"\x1c\0\0\x80\x10\0\0\0\x0c\0\0\0\0\0\0\0".as_slice()
+    );
     Ok(())
 }
 
@@ -199,21 +204,25 @@ fn refuses_nul(rt: HostRuntime) {
 }
 
 #[test]
-fn prints_errors(rt: HostRuntime) -> Result<(), Fail> {
+fn prints_builder_errors(rt: HostRuntime) -> Result<(), Fail> {
     let nul = NulInside { position: 1 };
-    let builder: [(CommandBuilderError, &str); 4] = [
+    let errors: [(CommandBuilderError, &str); 2] = [
         (nul.into(), "error when creating a CStr: NUL at 1"),
         (
             CommandBuilderError::ScrollError,
             "error when writing rpath command as bytes: command too long",
         ),
-        (AllocError.into(), "out of memory"),
-        (AllocFailed { value: 1u8 }.into(), "out of memory"),
     ];
-    for (error, text) in builder {
+    for (error, text) in errors {
         assert_eq!(rt; shown(&rt, &error)?.as_str(), text);
     }
-    let edit: [(MachoError, &str); 11] = [
+    Ok(())
+}
+
+#[test]
+fn prints_file_errors(rt: HostRuntime) -> Result<(), Fail> {
+    let nul = NulInside { position: 1 };
+    let errors: [(MachoError, &str); 3] = [
         (
             MachFault::Truncated.into(),
             "error while parsing Mach-O file",
@@ -226,6 +235,16 @@ fn prints_errors(rt: HostRuntime) -> Result<(), Fail> {
             CommandBuilderError::CStrError(nul).into(),
             "error when creating a new command: error when creating a CStr: NUL at 1",
         ),
+    ];
+    for (error, text) in errors {
+        assert_eq!(rt; shown(&rt, &error)?.as_str(), text);
+    }
+    Ok(())
+}
+
+#[test]
+fn prints_edit_errors(rt: HostRuntime) -> Result<(), Fail> {
+    let errors: [(MachoError, &str); 4] = [
         (
             MachoError::RpathMissing(string(&rt, "/a")?),
             "requested rpath is missing: /a",
@@ -245,13 +264,27 @@ fn prints_errors(rt: HostRuntime) -> Result<(), Fail> {
             },
             "no room: 96 > 64",
         ),
-        (CommandBuilderError::Memory.into(), "out of memory"),
-        (MachFault::Memory.into(), "out of memory"),
-        (AllocError.into(), "out of memory"),
-        (AllocFailed { value: 1u8 }.into(), "out of memory"),
     ];
-    for (error, text) in edit {
+    for (error, text) in errors {
         assert_eq!(rt; shown(&rt, &error)?.as_str(), text);
+    }
+    Ok(())
+}
+
+#[test]
+fn prints_want_of_memory(rt: HostRuntime) -> Result<(), Fail> {
+    let builder: [CommandBuilderError; 2] = [AllocError.into(), AllocFailed { value: 1u8 }.into()];
+    for error in builder {
+        assert_eq!(rt; shown(&rt, &error)?.as_str(), "out of memory");
+    }
+    let edit: [MachoError; 4] = [
+        CommandBuilderError::Memory.into(),
+        MachFault::Memory.into(),
+        AllocError.into(),
+        AllocFailed { value: 1u8 }.into(),
+    ];
+    for error in edit {
+        assert_eq!(rt; shown(&rt, &error)?.as_str(), "out of memory");
     }
     Ok(())
 }

@@ -1,6 +1,7 @@
 use super::FatMachoContainer;
 use crate::batch::{MachoBatchError, MachoEdit};
 use crate::error::MachoError;
+use crate::front::Front;
 use crate::macho::SingleMachO;
 use macho_image::MachFault;
 use std::alloc::AllocError;
@@ -147,6 +148,22 @@ fn apply(
     }
 }
 
+fn fronts(
+    rt: &HostRuntime,
+    fat: &FatMachoContainer<'_>,
+    edits: &[MachoEdit],
+) -> Result<Vec<Front>, MachoBatchError> {
+    match fat.fronts(rt.alloc(), edits) {
+        Err(
+            MachoBatchError {
+                index: _,
+                fault: MachoError::Memory,
+            },
+        ) => fat.fronts(rt.alloc(), edits),
+        answer => answer,
+    }
+}
+
 // How many run paths the slices have together.
 fn rpath_count(rt: &HostRuntime, fat: &FatMachoContainer<'_>) -> Result<usize, Fail> {
     let mut count = 0usize;
@@ -192,6 +209,24 @@ fn edits_all_slices(rt: HostRuntime) -> Result<(), Fail> {
     assert_eq!(rt; fat.bytes(), file.as_slice());
     add_rpath(&rt, &mut fat, "")?;
     assert_eq!(rt; fat.bytes(), edited.as_slice());
+    Ok(())
+}
+
+#[test]
+fn writes_fronts_alone(rt: HostRuntime) -> Result<(), Fail> {
+    let file = three(&rt, PLAIN, WITH_RPATH, NARROW)?;
+    let edited = edited_three(&rt)?;
+    let fat = parse(&rt, &file)?;
+    let edits = [MachoEdit::AddRpath(string(&rt, "")?)];
+    let fronts = fronts(&rt, &fat, &edits)?;
+    let mut places = [(80, 112), (216, 128), (400, 44)].iter();
+    for front in fronts.as_slice() {
+        assert_eq!(rt; Some(&(front.offset, front.bytes.len())), places.next());
+        let there = edited.get(front.offset..).unwrap_or_default();
+        assert!(rt; there.starts_with(&front.bytes));
+    }
+    assert_eq!(rt; places.next(), None);
+    assert_eq!(rt; fat.bytes(), file.as_slice());
     Ok(())
 }
 

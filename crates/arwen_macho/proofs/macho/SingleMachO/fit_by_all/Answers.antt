@@ -3,6 +3,7 @@ use Rattle.std.proofs.lemmas.List.{length-map}
 use Rattle.std.proofs.lemmas.Result.{err_from_is_err_and}
 use Rattle.macho_image.specs.Form.{ctx_of}
 use Rattle.arwen_macho.specs.Batch.{RefusesAt, call_made, calls_of}
+use Rattle.arwen_macho.specs.Change.{change_with}
 use Rattle.arwen_macho.specs.Held.{Held}
 use Rattle.arwen_macho.specs.HeldBy.{held_of}
 use Rattle.arwen_macho.specs.Refused.{cause_of}
@@ -10,10 +11,10 @@ use Rattle.arwen_macho.specs.State.{Refusal, edited_by, step}
 use Rattle.arwen_macho.specs.Whole.{Keeps}
 use Rattle.arwen_macho.proofs.StateLaws.{edited_by_keeps}
 use Rattle.arwen_macho.proofs.StepLaws.{edited_by_is, step_changed, step_refused_batch, step_unfit}
-use Rattle.arwen_macho.proofs.macho.SingleMachO.change_by_all.Goals as goal
+use Rattle.arwen_macho.proofs.macho.SingleMachO.fit_by_all.Goals as goal
 
-pub change_for-requires : goal.change_for-requires
-change_for-requires c =
+pub fit_for-requires : goal.fit_for-requires
+fit_for-requires c =
     let s = c.self.inside in
     let calls = calls_of c.args.edits.now in
     let same = edited_by_is s c.ctx.result c.in-Ok.commands.items calls c.self.invariant c.ctx.ensures.form c.in-Ok.ensures in
@@ -36,23 +37,23 @@ returns-in_err-edit_all-clause-err c =
     let p = err_from_is_err_and c.from_residual.result c.from_residual.ensures.1 in
     rw (p.1, p.2) (subst Stepped c.self.view_is (step_refused_batch calls (held_of s).state e.index found refuses))
 
-pub returns-in-Ok-change_for-clause-ok : goal.returns-in-Ok-change_for-clause-ok
-returns-in-Ok-change_for-clause-ok c =
+pub returns-in-Ok-fit_for-clause-ok : goal.returns-in-Ok-fit_for-clause-ok
+returns-in-Ok-fit_for-clause-ok c =
     let s = c.self.inside in
     let calls = calls_of c.args.edits.now in
     let same = edited_by_is s c.ctx.result c.in-Ok.commands.items calls c.self.invariant c.ctx.ensures.form c.in-Ok.ensures in
     let Drafted : Held → Type 0 = λ h. edited_by (ctx_of h.state.old) 0 calls h.state.list ≡ Ok c.edit_all.new.commands.items in
     let drafted = subst Drafted c.self.view_is (sym same ∙ c.in_ok-edit_all.ensures.edits) in
-    let of = c.in-Ok-change_for.ensures.ok in
-    (of.0, step_changed calls c.args.self.now c.in-Ok-change_for.change c.edit_all.new.commands.items drafted of.0 (of.1 ∙ c.as_slice.ensures.value))
+    let of = c.in-Ok-fit_for.ensures.ok in
+    (of.0, step_changed calls c.args.self.now (change_with c.args.self.now c.in-Ok-fit_for.fit) c.edit_all.new.commands.items drafted of.0 (of.1 ∙ c.as_slice.ensures.value))
 
 pub returns-clause-err : goal.returns-clause-err
 returns-clause-err c =
     let s = c.self.inside in
     let calls = calls_of c.args.edits.now in
     let same = edited_by_is s c.ctx.result c.in-Ok.commands.items calls c.self.invariant c.ctx.ensures.form c.in-Ok.ensures in
-    let found = cause_of c.in-Err-change_for.fault in
+    let found = cause_of c.in-Err-fit_for.fault in
     let Drafted : Held → Type 0 = λ h. edited_by (ctx_of h.state.old) 0 calls h.state.list ≡ Ok c.as_slice.result.now in
     let drafted = subst Drafted c.self.view_is (sym same ∙ c.in_ok-edit_all.ensures.edits ∙ ap (λ (l : List (List ℕ)). Ok l) (sym c.as_slice.ensures.value)) in
     let At : ℕ → Type 0 = λ n. RefusesAt n found (step calls c.args.self.now.state) in
-    subst At (length-map c.args.edits.now call_made) (step_unfit calls c.args.self.now.state c.as_slice.result.now found drafted c.in-Err-change_for.ensures.err)
+    subst At (length-map c.args.edits.now call_made) (step_unfit calls c.args.self.now.state c.as_slice.result.now found drafted c.in-Err-fit_for.ensures.err)

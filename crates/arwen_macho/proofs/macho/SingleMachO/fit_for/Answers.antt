@@ -1,22 +1,20 @@
 -- The numbers that the file shows are those of its state.
-use Rattle.std.proofs.Common.{◌≡◌, ◌+◌, ℕ, List, length, max, Some, ap, arith, sym, ◌∙◌, subst}
+use Rattle.std.proofs.Common.{◌≡◌, ◌+◌, ℕ, length, max, Some, ap, arith, refl, sym, ◌∙◌, subst}
 use Rattle.std.specs.List.{concat}
 use Rattle.std.proofs.lemmas.Bool.{leb-false}
-use Rattle.macho_image.specs.Checks.{area_fault}
 use Rattle.macho_image.specs.Commands.{first_content_of}
 use Rattle.macho_image.specs.Form.{commands_end, ctx_of}
-use Rattle.macho_image.specs.Image.{Image}
 use Rattle.macho_image.specs.Prepared.{IsMadeFor}
-use Rattle.arwen_macho.specs.declared.change.Change.{Change}
+use Rattle.arwen_macho.specs.declared.change.Fit.{Fit}
 use Rattle.arwen_macho.specs.Call.Cause.{no_room}
-use Rattle.arwen_macho.specs.Change.{IsChangeOf, RefusesRoom, list_of}
+use Rattle.arwen_macho.specs.Change.{IsChangeOf, RefusesRoom, change_with, list_of}
 use Rattle.arwen_macho.specs.Held.{Held, image_held}
 use Rattle.arwen_macho.specs.HeldBy.{held_of}
 use Rattle.arwen_macho.specs.State.{available, end_of}
 use Rattle.arwen_macho.specs.Whole.{Keeps}
 use Rattle.arwen_macho.proofs.ChangeLaws.{change_of, kept_count}
-use Rattle.arwen_macho.proofs.HeldLaws.{area_fits, available_is, end_is, ends_inside, fits_inside, image_is}
-use Rattle.arwen_macho.proofs.macho.SingleMachO.change_for.Goals as goal
+use Rattle.arwen_macho.proofs.HeldLaws.{available_is, end_is, ends_inside}
+use Rattle.arwen_macho.proofs.macho.SingleMachO.fit_for.Goals as goal
 
 pub returns-then-not-fits-clause-err : goal.returns-then-not-fits-clause-err
 returns-then-not-fits-clause-err c =
@@ -29,8 +27,8 @@ returns-then-not-fits-clause-err c =
     let Refused : Held → Type 0 = λ h. RefusesRoom h.state c.args.commands.now (Some (no_room (c.header_size.result + c.len.result) c.available.result)) in
     subst Refused c.self.view_is (omega arith, ap (λ (n : ℕ). no_room n c.available.result) end ∙ ap (λ (n : ℕ). no_room (end_of (ctx_of s.source.now) c.args.commands.now) n) here)
 
-pub overflow_cast-commands : goal.overflow_cast-commands
-overflow_cast-commands c =
+pub overflow_cast-result : goal.overflow_cast-result
+overflow_cast-result c =
     let s = c.self.inside in
     let size : c.len.result ≡ length (concat c.args.commands.now) = rw (← c.in_ok-area.ensures) (omega arith) in
     let ends = ends_inside s c.ctx.result c.header_size.result c.len.result c.args.commands.now c.self.invariant c.ctx.ensures.form c.header_size.ensures size c.if-not-fits.ensures in
@@ -38,34 +36,17 @@ overflow_cast-commands c =
     let keeps = subst Kept (sym c.self.view_is) c.requires in
     record { fits = kept_count (held_of s).state c.args.commands.now c.self.invariant.is_state keeps ends }
 
-pub prepare-requires-clause-commands : goal.prepare-requires-clause-commands
-prepare-requires-clause-commands c =
-    let s = c.self.inside in
-    let Kept : Held → Type 0 = λ h. Keeps (ctx_of h.state.old).le h.state.list c.args.commands.now in
-    let keeps = subst Kept (sym c.self.view_is) c.requires in
-    ap (area_fault (ctx_of s.inner.bytes).le (length c.args.commands.now)) c.in_ok-area.ensures ∙ area_fits s c.args.commands.now c.self.invariant keeps
-
-pub prepare-requires-clause-room : goal.prepare-requires-clause-room
-prepare-requires-clause-room c =
-    let s = c.self.inside in
-    let size : c.len.result ≡ length (concat c.args.commands.now) = rw (← c.in_ok-area.ensures) (omega arith) in
-    let ends = ends_inside s c.ctx.result c.header_size.result c.len.result c.args.commands.now c.self.invariant c.ctx.ensures.form c.header_size.ensures size c.if-not-fits.ensures in
-    let room = fits_inside s c.args.commands.now c.self.invariant ends in
-    omega arith
-
-pub returns-clause-ok : goal.returns-clause-ok
-returns-clause-ok c =
+pub returns : goal.returns
+returns c =
     let s = c.self.inside in
     let size : c.len.result ≡ length (concat c.args.commands.now) = rw (← c.in_ok-area.ensures) (omega arith) in
     let ends = ends_inside s c.ctx.result c.header_size.result c.len.result c.args.commands.now c.self.invariant c.ctx.ensures.form c.header_size.ensures size c.if-not-fits.ensures in
     let Kept : Held → Type 0 = λ h. Keeps (ctx_of h.state.old).le h.state.list c.args.commands.now in
     let keeps = subst Kept (sym c.self.view_is) c.requires in
     let end = end_is s c.ctx.result c.header_size.result c.len.result c.args.commands.now c.self.invariant c.ctx.ensures.form c.header_size.ensures size in
-    let change : Change = record { prepared = c.in_ok-prepared.prepared; high = c.max.result } in
-    let Area : List ℕ → Type 0 = λ area. IsMadeFor s.inner (length c.args.commands.now) area change.prepared in
-    let Shown : Image → Type 0 = λ image. IsMadeFor image (length c.args.commands.now) (concat c.args.commands.now) change.prepared in
-    let made : IsMadeFor (image_held (held_of s)) (length c.args.commands.now) (concat c.args.commands.now) change.prepared =
-    subst Shown (image_is s c.self.invariant) (subst Area c.in_ok-area.ensures c.in_ok-prepared.ensures) in
     let high : c.max.result ≡ max s.high (end_of (ctx_of s.source.now) c.args.commands.now) = c.max.ensures ∙ ap (max s.high) end in
-    let Of : Held → Type 0 = λ h. IsChangeOf h change × (list_of h change ≡ c.args.commands.now) in
-    subst Of c.self.view_is (change_of (held_of s) c.args.commands.now change made keeps ends high)
+    let fit : Fit = record { count = length c.args.commands.now; area = c.in_ok-area.area; high = c.max.result } in
+    let made : IsMadeFor (image_held (held_of s)) (length c.args.commands.now) (concat c.args.commands.now) (change_with (held_of s) fit).prepared =
+    record { same_form = refl; same_count = refl; same_area = c.in_ok-area.ensures; same_copy = refl } in
+    let Of : Held → Type 0 = λ h. IsChangeOf h (change_with h fit) × (list_of h (change_with h fit) ≡ c.args.commands.now) in
+    record { ok = subst Of c.self.view_is (change_of (held_of s) c.args.commands.now (change_with (held_of s) fit) made keeps ends high); err = tt }

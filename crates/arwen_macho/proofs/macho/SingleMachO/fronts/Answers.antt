@@ -1,0 +1,17 @@
+use Rattle.std.proofs.Common.{◌∷◌, [], ◌++◌, List, ap, sym, ◌∙◌, subst}
+use Rattle.arwen_macho.specs.declared.front.Front.{Front}
+use Rattle.arwen_macho.specs.Batch.{calls_of}
+use Rattle.arwen_macho.specs.Fronts.{LeadOn}
+use Rattle.arwen_macho.specs.Held.{Held}
+use Rattle.arwen_macho.specs.State.{laid, step}
+use Rattle.arwen_macho.specs.Whole.{IsState}
+use Rattle.arwen_macho.proofs.LeadLaws.{lead_thin}
+use Rattle.arwen_macho.proofs.macho.SingleMachO.fronts.Goals as goal
+
+pub returns-clause-ok : goal.returns-clause-ok
+returns-clause-ok c =
+    let calls = calls_of c.args.edits.now in
+    let State : Held → Type 0 = λ h. IsState h.state in
+    let is = subst State c.self.view_is c.self.invariant.is_state in
+    let Lead : List Front → Type 0 = λ l. LeadOn laid c.args.self.now.state (step calls c.args.self.now.state) l in
+    subst Lead (sym (c.in_ok-push.ensures.items ∙ ap (λ (l : List Front). l ++ c.in_ok-front.front ∷ []) c.new-fronts.ensures.items)) (lead_thin calls c.args.self.now c.in_ok-front.front is c.in_ok-front.ensures.ok)

@@ -1,0 +1,38 @@
+-- What edits write over a file's bytes.
+use Rattle.std.specs.Prelude.{ℕ, ◌≡◌, ◌+◌, ◌≤◌, List, [], ◌∷◌, length, take, All, Result, Ok}
+use Rattle.arwen_macho.specs.declared.change.Change.{Change}
+use Rattle.arwen_macho.specs.declared.fat.FatMacho.{FatMacho}
+use Rattle.arwen_macho.specs.declared.front.Front.{Front}
+use Rattle.arwen_macho.specs.Call.{Call}
+use Rattle.arwen_macho.specs.Change.{IsChangeOf, changed}
+use Rattle.arwen_macho.specs.FatState.{put_at}
+use Rattle.arwen_macho.specs.Held.{Held}
+use Rattle.arwen_macho.specs.State.{Refusal, laid, step}
+
+-- bytes with fronts over them, the first one last
+abbrev pub fronts_on : List Front → List ℕ → List ℕ
+fronts_on [] bytes = bytes
+fronts_on (front ∷ fronts) bytes = put_at front.offset front.bytes.items (fronts_on fronts bytes)
+
+-- a front that lies in so many bytes
+abbrev pub LiesIn : ℕ → Front → Type 0
+LiesIn len front = front.offset + length front.bytes.items ≤ len
+
+-- fronts that lie in the bytes of a state, and make them those of the state that a step gives
+pub record LeadOn {S : Type 0} (bytes_of : S → List ℕ) (old : S) (answer : Result S Refusal) (fronts : List Front) : Type 0 where
+  pub new : S
+  pub is : answer ≡ Ok new
+  pub inside : All (LiesIn (length (bytes_of old))) fronts
+  pub after : fronts_on fronts (bytes_of old) ≡ bytes_of new
+
+-- the front of a thin file that stands at this offset, after a change that does what these calls do
+pub record IsFrontAt (calls : List Call) (held : Held) (at : ℕ) (front : Front) : Type 0 where
+  pub change : Change
+  pub of : IsChangeOf held change
+  pub steps : step calls held.state ≡ Ok (changed held change).state
+  pub offset : front.offset ≡ at
+  pub bytes : front.bytes.items ≡ take change.high (laid (changed held change).state)
+
+-- that of a slice
+abbrev pub IsFrontOf : List Call → FatMacho → Front → Type 0
+IsFrontOf calls m front = IsFrontAt calls m.inner m.arch.offset front
