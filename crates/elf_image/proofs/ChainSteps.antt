@@ -15,7 +15,7 @@ use Rattle.elf_image.specs.Versions.{DefinitionNumbers, NeedNameNumbers, NeedNum
 use Rattle.elf_image.specs.Views.{whole_chain}
 use Rattle.elf_image.proofs.PlainSteps.{with_front, with_front-cons}
 
-eqb-suc : (m n : ℕ) → eqb (suc m) (suc n) ≡ eqb m n
+pub eqb-suc : (m n : ℕ) → eqb (suc m) (suc n) ≡ eqb m n
 eqb-suc m n = elim (cases_eq m n) [
   | inl e ↦ eq-eqb (suc m) (suc n) (ap suc e) ∙ sym (eq-eqb m n e)
   | inr ne ↦ ne_eqb (suc m) (suc n) (λ e. ne (omega arith)) ∙ sym (ne_eqb m n ne)

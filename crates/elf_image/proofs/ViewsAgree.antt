@@ -66,7 +66,7 @@ test_alone test section (Some v) h = (there_and (λ _. test v) section h).2
 
 -- ## Memories
 
-first_by_tag-Keeps : (o : Option ℕ) (f : Memory) → Keeps (first_by_tag o f) f
+pub first_by_tag-Keeps : (o : Option ℕ) (f : Memory) → Keeps (first_by_tag o f) f
 first_by_tag-Keeps None f = Keeps-refl f
 first_by_tag-Keeps (Some n) f = Keeps-first_places n f
 
@@ -78,13 +78,13 @@ first_by_tag-keeps (Some n) f g h = first_places-keeps n f g h
 front-Keeps : (n : ℕ) (xs : List ℕ) → Keeps (memory_of (take n xs)) (memory_of xs)
 front-Keeps n xs a x h = ap (slice_get xs) (sym (zero-add a)) ∙ slice_get-field n 0 a x xs h
 
-nat_le_refl : (n : ℕ) → n ≤ n
+pub nat_le_refl : (n : ℕ) → n ≤ n
 nat_le_refl n = omega arith
 
 -- ## A view by its parts
 
 -- a view is there where each of its parts is
-view_of-parts : (form : Form) (room : ℕ) (outline : View) (raw : List EntryNumbers) (tables : Tables) (entries : List Entry) (symbols : Option (List NamedSymbol)) (definitions : Option (List VersionDefinition)) (needs : Option (List VersionNeeds))
+pub view_of-parts : (form : Form) (room : ℕ) (outline : View) (raw : List EntryNumbers) (tables : Tables) (entries : List Entry) (symbols : Option (List NamedSymbol)) (definitions : Option (List VersionDefinition)) (needs : Option (List VersionNeeds))
     → each (shown_entry room tables.entry_texts) raw ≡ Some entries
     → where_asked (has_tag DT_SYMTAB raw) (dynamic_symbols form room (has_tag DT_VERSYM raw) tables.symbols tables.versions) ≡ Some symbols
     → where_asked (has_tag DT_VERDEF raw && has_tag DT_VERDEFNUM raw) (defined_versions form room tables.definitions) ≡ Some definitions
@@ -108,7 +108,7 @@ symbol_size-pos : (w : Wide) → 0 < by_class w 16 24
 symbol_size-pos W32 = omega arith
 symbol_size-pos W64 = omega arith
 
-whole_count : (x n : ℕ) → 0 < n → x % n ≡ 0 → (x / n) * n ≡ x
+pub whole_count : (x n : ℕ) → 0 < n → x % n ≡ 0 → (x / n) * n ≡ x
 whole_count x n pos h = omega arith
 
 half_count : (x : ℕ) → (x / 2) * 2 ≤ x
@@ -124,7 +124,7 @@ module _ (p : Parts) (rules : MeetsRules p) where
       let in_file = and_parts (list_all (λ t. ends_by size (file_range t)) (filter has_file_bytes p.sections)) (list_all (λ q. ends_by size (file_part q)) (loads_of p.segments)) rules.in_file in
       leb-true (s.sh_offset + s.sh_size) size (passes_picked s p.sections here (λ t. ends_by size (file_range t)) has_file_bytes in_file.0 bytes)
 
-  length-bytes : (s : SectionHeader) → IsIn s p.sections → has_file_bytes s ≡ true → length (section_bytes (file_of p) s) ≡ s.sh_size
+  pub length-bytes : (s : SectionHeader) → IsIn s p.sections → has_file_bytes s ≡ true → length (section_bytes (file_of p) s) ≡ s.sh_size
   length-bytes s here bytes =
       let inside : s.sh_offset + s.sh_size ≤ length (file_of p) = lies_in_file s here bytes in
       ap length (section_bytes-is (file_of p) s bytes)
@@ -176,11 +176,11 @@ module _ (p : Parts) (rules : MeetsRules p) where
       (IsIn-slice_get p.sections s.sh_link l e, has_bytes_by_type l SHT_STRTAB typed refl)
 
   -- a section's size is a whole number of its entries
-  whole_entries : (s : SectionHeader) → IsIn s p.sections → s.sh_size % unit_of p.opened.form s ≡ 0
+  pub whole_entries : (s : SectionHeader) → IsIn s p.sections → s.sh_size % unit_of p.opened.form s ≡ 0
   whole_entries s here = eqb-true (s.sh_size % unit_of p.opened.form s) 0 (here.passes (λ t. eqb (t.sh_size % unit_of p.opened.form t) 0) whole_right)
 
   -- a table by the section of its type
-  table_there : (count : SectionHeader → ℕ) (type : ℕ) (s : SectionHeader) → section_of_type type p.sections ≡ Some s
+  pub table_there : (count : SectionHeader → ℕ) (type : ℕ) (s : SectionHeader) → section_of_type type p.sections ≡ Some s
       → section_table (file_of p) p.sections count type ≡ record { bytes = memory_of (section_bytes (file_of p) s); texts = section_memory (file_of p) (linked_section p.sections s); count = count s }
   table_there count type s e = ap (λ o. table_by count o) e
     where
@@ -203,17 +203,17 @@ module _ (p : Parts) (rules : MeetsRules p) where
   needs_texted = (and_parts _ _ rules.texts).1
 
   -- each part of the rule on versions
-  definitions_whole : is_none_or (λ s. is_whole_walk s.sh_info (definition_steps p s)) (section_of_type SHT_GNU_VERDEF p.sections) ≡ true
+  pub definitions_whole : is_none_or (λ s. is_whole_walk s.sh_info (definition_steps p s)) (section_of_type SHT_GNU_VERDEF p.sections) ≡ true
   definitions_whole = (and_parts _ _ (and_parts _ _ (and_parts _ _ rules.versions).0).0).0
 
-  needs_whole : is_none_or (λ s. is_whole_walk s.sh_info (need_steps p s)) (section_of_type SHT_GNU_VERNEED p.sections) ≡ true
+  pub needs_whole : is_none_or (λ s. is_whole_walk s.sh_info (need_steps p s)) (section_of_type SHT_GNU_VERNEED p.sections) ≡ true
   needs_whole = (and_parts _ _ (and_parts _ _ (and_parts _ _ rules.versions).0).0).1
 
-  version_symbols_right : is_none_or (λ s. version_symbols_agree p s) (section_of_type SHT_GNU_VERSYM p.sections) ≡ true
+  pub version_symbols_right : is_none_or (λ s. version_symbols_agree p s) (section_of_type SHT_GNU_VERSYM p.sections) ≡ true
   version_symbols_right = (and_parts _ _ (and_parts _ _ rules.versions).0).1
 
   -- the bytes of all symbols
-  symbols_bytes : (s : SectionHeader) → IsIn s p.sections → eqb s.sh_type SHT_DYNSYM ≡ true
+  pub symbols_bytes : (s : SectionHeader) → IsIn s p.sections → eqb s.sh_type SHT_DYNSYM ≡ true
       → bytes_at ((s.sh_size / symbol_size p.opened.form) * symbol_size p.opened.form) (memory_of (section_bytes (file_of p) s)) 0 ≡ Some (section_bytes (file_of p) s)
   symbols_bytes s here typed =
       let size : ℕ = symbol_size p.opened.form in
@@ -325,10 +325,10 @@ module _ (p : Parts) (rules : MeetsRules p) (list : SectionHeader) (is_list : se
   pub strings_right : strings_agree p list ≡ true
   strings_right = (and_parts _ _ (and_parts _ _ (and_parts _ _ (and_parts _ _ (and_parts _ _ agrees).0).0).0).0).1
 
-  symbols_right : symbols_agree p ≡ true
+  pub symbols_right : symbols_agree p ≡ true
   symbols_right = (and_parts _ _ (and_parts _ _ (and_parts _ _ (and_parts _ _ agrees).0).0).0).1
 
-  versions_right : versions_agree p ≡ true
+  pub versions_right : versions_agree p ≡ true
   versions_right = (and_parts _ _ (and_parts _ _ agrees).0).1
 
   shared_right : texts_are_shared p list ≡ true

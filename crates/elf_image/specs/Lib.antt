@@ -18,3 +18,13 @@ pub mod Facts
 pub mod DynamicTag
 pub mod Plain
 pub mod PlainViews
+pub mod Image
+pub mod Read
+pub mod ImageSeen
+pub mod BuilderSeen
+pub mod Machine
+pub mod TextSteps
+pub mod WalkSteps
+pub mod PlacementSteps
+pub mod LinkSteps
+pub mod ReadNumbers

@@ -45,6 +45,9 @@ pub const PT_GNU_RELRO: u32 = 0x6474_e552;
 
 pub const PT_GNU_PROPERTY: u32 = 0x6474_e553;
 
+/// The flag of a segment whose bytes may be run (gABI, Program Header, `p_flags`).
+pub const PF_X: u32 = 1;
+
 /// Section types (gABI, Sections, `sh_type`); those named GNU are extensions.
 pub const SHT_NULL: u32 = 0;
 

@@ -1,3 +1,7 @@
+ghost use Rattle.std.specs.Prelude.{◌≡◌};
+ghost use Rattle.elf_image.specs.declared.fault.ElfFault.TheVariants.{Memory};
+
+use std::alloc::{AllocError, AllocFailed};
 use std::error::Error;
 use std::fmt;
 
@@ -35,3 +39,19 @@ impl fmt::Display for ElfFault {
 }
 
 impl Error for ElfFault {}
+
+impl From<AllocError> for ElfFault {
+    ghost from_gives = { λ _ e. e ≡ Memory };
+
+    fn from(_fault: AllocError) -> ElfFault {
+        ElfFault::Memory
+    }
+}
+
+impl<T: Drop> From<AllocFailed<T>> for ElfFault {
+    ghost from_gives = { λ _ e. e ≡ Memory };
+
+    fn from(_fault: AllocFailed<T>) -> ElfFault {
+        ElfFault::Memory
+    }
+}

@@ -1,6 +1,8 @@
 //! What is proved of the definitions themselves. The functions do nothing: each stands for the law that
 //! is its contract.
 ghost use Rattle.elf_image.specs.Facts.{TestsMean};
+ghost use Rattle.elf_image.specs.Image.{ImagesShow};
+ghost use Rattle.elf_image.specs.ReadNumbers.{NumbersAreThere};
 ghost use Rattle.elf_image.specs.Rules.{AcceptedFilesMeetTheRules, HeldSectionsAreSeen, ViewsAgree};
 
 /// For every byte string that the read rules accept, the section headers show what a loader sees.
@@ -21,4 +23,14 @@ pub fn held_sections_are_seen()
 /// What the tests of the read rules mean.
 pub fn tests_mean()
     ensures { TestsMean }
+{}
+
+/// Every accepted file has an image, which shows what its section headers show and what a loader sees.
+pub fn images_show()
+    ensures { ImagesShow }
+{}
+
+/// An image that was read has a number at read for each section and each symbol.
+pub fn numbers_are_there()
+    ensures { NumbersAreThere }
 {}

@@ -35,6 +35,8 @@ pub enum SectionData {
 #[derive(Debug, Drop)]
 pub struct Section<'data> {
     pub name: ByteString<'data>,
+    /// What its bytes are.
+    pub kind: SectionData,
     pub sh_type: u32,
     pub sh_flags: u64,
     /// Where it stands in memory, 0 where it takes none.

@@ -1,14 +1,69 @@
-/// A program header (gABI, Program Header), and the bytes of the file that it covers. Offsets, addresses
-/// and sizes are in bytes.
+ghost use Rattle.std.specs.Prelude.{◌≡◌};
+
+use crate::records::SegmentHeader;
+use std::marker::PhantomData;
+
+/// A program header of a file (gABI, Program Header). Offsets, addresses and sizes are in bytes.
 #[derive(Clone, Copy, Debug)]
 pub struct Segment<'data> {
-    pub p_type: u32,
-    pub p_flags: u32,
-    pub p_offset: u64,
-    pub p_vaddr: u64,
-    pub p_paddr: u64,
-    pub p_filesz: u64,
-    pub p_memsz: u64,
-    pub p_align: u64,
-    pub content: &'data [u8],
+    pub(crate) numbers: SegmentHeader,
+    pub(crate) of: PhantomData<&'data ()>,
+}
+
+impl Segment<'_> {
+    /// What the segment is for, as `PT_LOAD`.
+    pub fn p_type(&self) -> u32
+        ensures { result ≡ self.now.numbers.p_type }
+    {
+        self.numbers.p_type
+    }
+
+    /// Whether it may be read (4), written (2) and run (1).
+    pub fn p_flags(&self) -> u32
+        ensures { result ≡ self.now.numbers.p_flags }
+    {
+        self.numbers.p_flags
+    }
+
+    /// Where it stands in the file.
+    pub fn p_offset(&self) -> u64
+        ensures { result ≡ self.now.numbers.p_offset }
+    {
+        self.numbers.p_offset
+    }
+
+    /// Where it stands in memory.
+    pub fn p_vaddr(&self) -> u64
+        ensures { result ≡ self.now.numbers.p_vaddr }
+    {
+        self.numbers.p_vaddr
+    }
+
+    /// Where it stands in memory that isn't virtual.
+    pub fn p_paddr(&self) -> u64
+        ensures { result ≡ self.now.numbers.p_paddr }
+    {
+        self.numbers.p_paddr
+    }
+
+    /// How many bytes it has in the file.
+    pub fn p_filesz(&self) -> u64
+        ensures { result ≡ self.now.numbers.p_filesz }
+    {
+        self.numbers.p_filesz
+    }
+
+    /// How many bytes it takes in memory.
+    pub fn p_memsz(&self) -> u64
+        ensures { result ≡ self.now.numbers.p_memsz }
+    {
+        self.numbers.p_memsz
+    }
+
+    /// What its address and its offset are congruent by, 0 or 1 for anything.
+    pub fn p_align(&self) -> u64
+        ensures { result ≡ self.now.numbers.p_align }
+    {
+        self.numbers.p_align
+    }
 }

@@ -24,3 +24,12 @@ pub struct VersionNeedName<'data> {
     pub name: ByteString<'data>,
     pub flags: u16,
 }
+
+/// The versions of dynamic symbols that the file has records of (GNU symbol versioning).
+#[derive(Debug, Drop)]
+pub struct Versions<'data> {
+    /// The versions that the file defines.
+    pub definitions: Vec<VersionDef<'data>>,
+    /// The versions that it needs, library by library.
+    pub needs: Vec<VersionNeed<'data>>,
+}

@@ -35,7 +35,7 @@ fn symbols_by_section<'a>(
     ensures { Gives (λ v. map symbol_seen v.items) result (dynamic_symbols form (length file.now) with_versions (section_table file.now sections.now (λ s. s.sh_size / symbol_size form) DYNSYM) (memory_of versions.now)) }
 {
     let room = file.len();
-    match section_of_type(sections, SHT_DYNSYM as u64) {
+    match section_of_type(sections, SHT_DYNSYM) {
         None => show_symbols(alloc, form, room, with_versions, &[], &[], 0, versions),
         Some(section) => {
             let texts = bytes_of(file, linked_section(sections, section));
@@ -98,12 +98,19 @@ fn definitions_by_section<'a>(
 ) -> Result<Vec<ShownDefinition<'a>>, ViewFault>
     ensures { Gives (λ v. map definition_seen v.items) result (defined_versions form (length file.now) (section_table file.now sections.now (λ s. s.sh_info) VERDEFS)) }
 {
-    match section_of_type(sections, SHT_GNU_VERDEF as u64) {
+    match section_of_type(sections, SHT_GNU_VERDEF) {
         None => definitions_of(alloc, form, file.len(), &[], &[], 0),
         Some(section) => {
             let texts = bytes_of(file, linked_section(sections, section));
             let bytes = section_bytes(file, section);
-            definitions_of(alloc, form, file.len(), bytes, texts, section.sh_info)
+            definitions_of(
+                alloc,
+                form,
+                file.len(),
+                bytes,
+                texts,
+                section.sh_info as u64,
+            )
         }
     }
 }
@@ -117,12 +124,19 @@ fn needs_by_section<'a>(
 ) -> Result<Vec<ShownNeeds<'a>>, ViewFault>
     ensures { Gives (λ v. map needs_seen v.items) result (needed_versions form (length file.now) (section_table file.now sections.now (λ s. s.sh_info) VERNEEDS)) }
 {
-    match section_of_type(sections, SHT_GNU_VERNEED as u64) {
+    match section_of_type(sections, SHT_GNU_VERNEED) {
         None => needs_of(alloc, form, file.len(), &[], &[], 0),
         Some(section) => {
             let texts = bytes_of(file, linked_section(sections, section));
             let bytes = section_bytes(file, section);
-            needs_of(alloc, form, file.len(), bytes, texts, section.sh_info)
+            needs_of(
+                alloc,
+                form,
+                file.len(),
+                bytes,
+                texts,
+                section.sh_info as u64,
+            )
         }
     }
 }
@@ -140,7 +154,7 @@ pub(crate) fn asked_symbols<'a>(
     if !has_tag(raw, DT_SYMTAB) {
         return Ok(None);
     }
-    let versions = bytes_of(file, section_of_type(sections, SHT_GNU_VERSYM as u64));
+    let versions = bytes_of(file, section_of_type(sections, SHT_GNU_VERSYM));
     let with_versions = has_tag(raw, DT_VERSYM);
     let shown = symbols_by_section(alloc, form, file, sections, with_versions, versions)?;
     Ok(Some(shown))

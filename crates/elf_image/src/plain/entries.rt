@@ -58,7 +58,7 @@ fn is_table_tag(tag: u64) -> bool
 
 // An entry with its text.
 #[tactic(auto, unfolding(crate::specs::Dynamic::shown_entry))]
-fn show_entry<'a>(
+pub(crate) fn show_entry<'a>(
     room: usize,
     texts: &'a [u8],
     entry: EntryNumbers,

@@ -9,7 +9,7 @@ use crate::constants::{SHT_NOBITS, SHT_NULL, SHT_PROGBITS};
 use crate::plain::numbers::part;
 use crate::records::{EntryNumbers, SectionHeader, SegmentHeader};
 
-pub(crate) fn segment_of_type(segments: &[SegmentHeader], kind: u64) -> Option<SegmentHeader>
+pub(crate) fn segment_of_type(segments: &[SegmentHeader], kind: u32) -> Option<SegmentHeader>
     ensures { result ≡ first_segment kind segments.now }
 {
     for p in segments {
@@ -20,7 +20,7 @@ pub(crate) fn segment_of_type(segments: &[SegmentHeader], kind: u64) -> Option<S
     None
 }
 
-pub(crate) fn section_of_type(sections: &[SectionHeader], kind: u64) -> Option<SectionHeader>
+pub(crate) fn section_of_type(sections: &[SectionHeader], kind: u32) -> Option<SectionHeader>
     ensures { result ≡ first_section kind sections.now }
 {
     for s in sections {
@@ -35,7 +35,7 @@ pub(crate) fn section_of_type(sections: &[SectionHeader], kind: u64) -> Option<S
 fn stands_at(section: SectionHeader, segment: SegmentHeader) -> bool
     ensures { result ≡ is_interpreter segment section }
 {
-    section.sh_type == SHT_PROGBITS as u64
+    section.sh_type == SHT_PROGBITS
         && section.sh_offset == segment.p_offset
         && section.sh_addr == segment.p_vaddr
         && section.sh_size == segment.p_filesz
@@ -82,10 +82,10 @@ pub(crate) fn has_tag(entries: &[EntryNumbers], tag: u64) -> bool
     value_of_tag(entries, tag).is_some()
 }
 
-fn has_file_bytes(section: SectionHeader) -> bool
+pub(crate) fn has_file_bytes(section: SectionHeader) -> bool
     ensures { result ≡ is_filed section }
 {
-    section.sh_type != SHT_NULL as u64 && section.sh_type != SHT_NOBITS as u64
+    section.sh_type != SHT_NULL && section.sh_type != SHT_NOBITS
 }
 
 // The bytes of the file that a section header names.

@@ -16,14 +16,14 @@ fn show_texts<'a>(
     alloc: Global,
     room: usize,
     texts: &'a [u8],
-    places: &[u64],
+    places: &[u32],
 ) -> Result<Vec<&'a [u8]>, ViewFault>
     requires { length texts.now ≤ room }
     ensures { Gives (λ v. map borrowed v.items) result (each (text_at room (memory_of texts.now)) places.now) }
 {
     let mut shown = Vec::new(alloc);
     for place in places {
-        let one = text(room, texts, *place)?;
+        let one = text(room, texts, *place as u64)?;
         shown.push(one)?;
     }
     Ok(shown)
@@ -76,7 +76,7 @@ fn show_name<'a>(
     requires { length texts.now ≤ room }
     ensures { Gives name_seen result (shown_need_name room (memory_of texts.now) version) }
 {
-    let name = text(room, texts, version.name)?;
+    let name = text(room, texts, version.name as u64)?;
     Ok(ShownName {
         index: version.index,
         name,
@@ -113,7 +113,7 @@ fn show_need<'a>(
     requires { length texts.now ≤ room }
     ensures { Gives needs_seen result (shown_need room (memory_of texts.now) (raw_needs needs.now)) }
 {
-    let file = text(room, texts, needs.file)?;
+    let file = text(room, texts, needs.file as u64)?;
     let versions = show_names(alloc, room, texts, &needs.versions)?;
     Ok(ShownNeeds { file, versions })
 }

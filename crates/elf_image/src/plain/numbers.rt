@@ -51,7 +51,8 @@ pub(crate) fn part(bytes: &[u8], position: usize, width: usize) -> &[u8]
 // The number in a field, as far as its bytes are there.
 fn number_in(order: ByteOrder2, bytes: &[u8], place: (usize, usize)) -> u64
     requires { place.1 ≤ 8 }
-    ensures { result ≡ number_at order place.1 place.0 bytes.now }
+    ensures value { result ≡ number_at order place.1 place.0 bytes.now }
+    ensures below { result < 256 ^ place.1 }
 {
     let field = part(bytes, place.0, place.1);
     match order {
@@ -61,7 +62,7 @@ fn number_in(order: ByteOrder2, bytes: &[u8], place: (usize, usize)) -> u64
 }
 
 // The number in a field that has one place in 32-bit files and another in 64-bit files.
-fn field(form: Form, bytes: &[u8], narrow: (usize, usize), wide: (usize, usize)) -> u64
+pub(crate) fn long(form: Form, bytes: &[u8], narrow: (usize, usize), wide: (usize, usize)) -> u64
     requires narrow { narrow.1 ≤ 8 }
     requires wide { wide.1 ≤ 8 }
     ensures { result ≡ field_of form narrow wide bytes.now }
@@ -72,12 +73,45 @@ fn field(form: Form, bytes: &[u8], narrow: (usize, usize), wide: (usize, usize))
     }
 }
 
-// The number in a field that has one place in files of both classes.
-pub(crate) fn fixed(form: Form, bytes: &[u8], place: (usize, usize)) -> u64
-    requires { place.1 ≤ 8 }
-    ensures { result ≡ field_of form place place bytes.now }
+// The same for a field of four bytes, of two and of one.
+fn word(form: Form, bytes: &[u8], narrow: usize, wide: usize) -> u32
+    ensures { result ≡ field_of form (narrow, 4) (wide, 4) bytes.now }
 {
-    field(form, bytes, place, place)
+    match form.wide {
+        Wide::W32 => number_in(form.order, bytes, (narrow, 4)) as u32,
+        Wide::W64 => number_in(form.order, bytes, (wide, 4)) as u32,
+    }
+}
+
+pub(crate) fn half(form: Form, bytes: &[u8], narrow: usize, wide: usize) -> u16
+    ensures { result ≡ field_of form (narrow, 2) (wide, 2) bytes.now }
+{
+    match form.wide {
+        Wide::W32 => number_in(form.order, bytes, (narrow, 2)) as u16,
+        Wide::W64 => number_in(form.order, bytes, (wide, 2)) as u16,
+    }
+}
+
+fn single(form: Form, bytes: &[u8], narrow: usize, wide: usize) -> u8
+    ensures { result ≡ field_of form (narrow, 1) (wide, 1) bytes.now }
+{
+    match form.wide {
+        Wide::W32 => number_in(form.order, bytes, (narrow, 1)) as u8,
+        Wide::W64 => number_in(form.order, bytes, (wide, 1)) as u8,
+    }
+}
+
+// The number in a field of four or of two bytes that has one place in files of both classes.
+pub(crate) fn word_at(form: Form, bytes: &[u8], position: usize) -> u32
+    ensures { result ≡ field_of form (position, 4) (position, 4) bytes.now }
+{
+    word(form, bytes, position, position)
+}
+
+pub(crate) fn half_at(form: Form, bytes: &[u8], position: usize) -> u16
+    ensures { result ≡ field_of form (position, 2) (position, 2) bytes.now }
+{
+    half(form, bytes, position, position)
 }
 
 #[tactic(auto, unfolding(crate::specs::Records::file_header))]
@@ -85,19 +119,19 @@ pub(crate) fn read_file_header(form: Form, bytes: &[u8]) -> FileHeader
     ensures { result ≡ file_header form bytes.now }
 {
     FileHeader {
-        os_abi: fixed(form, bytes, (7, 1)),
-        abi_version: fixed(form, bytes, (8, 1)),
-        e_type: fixed(form, bytes, (16, 2)),
-        e_machine: fixed(form, bytes, (18, 2)),
-        e_entry: field(form, bytes, (24, 4), (24, 8)),
-        e_phoff: field(form, bytes, (28, 4), (32, 8)),
-        e_shoff: field(form, bytes, (32, 4), (40, 8)),
-        e_flags: field(form, bytes, (36, 4), (48, 4)),
-        e_phentsize: field(form, bytes, (42, 2), (54, 2)),
-        e_phnum: field(form, bytes, (44, 2), (56, 2)),
-        e_shentsize: field(form, bytes, (46, 2), (58, 2)),
-        e_shnum: field(form, bytes, (48, 2), (60, 2)),
-        e_shstrndx: field(form, bytes, (50, 2), (62, 2)),
+        os_abi: single(form, bytes, 7, 7),
+        abi_version: single(form, bytes, 8, 8),
+        e_type: half_at(form, bytes, 16),
+        e_machine: half_at(form, bytes, 18),
+        e_entry: long(form, bytes, (24, 4), (24, 8)),
+        e_phoff: long(form, bytes, (28, 4), (32, 8)),
+        e_shoff: long(form, bytes, (32, 4), (40, 8)),
+        e_flags: word(form, bytes, 36, 48),
+        e_phentsize: half(form, bytes, 42, 54),
+        e_phnum: half(form, bytes, 44, 56),
+        e_shentsize: half(form, bytes, 46, 58),
+        e_shnum: half(form, bytes, 48, 60),
+        e_shstrndx: half(form, bytes, 50, 62),
     }
 }
 
@@ -106,14 +140,14 @@ pub(crate) fn read_segment_header(form: Form, bytes: &[u8]) -> SegmentHeader
     ensures { result ≡ segment_header form bytes.now }
 {
     SegmentHeader {
-        p_type: fixed(form, bytes, (0, 4)),
-        p_flags: field(form, bytes, (24, 4), (4, 4)),
-        p_offset: field(form, bytes, (4, 4), (8, 8)),
-        p_vaddr: field(form, bytes, (8, 4), (16, 8)),
-        p_paddr: field(form, bytes, (12, 4), (24, 8)),
-        p_filesz: field(form, bytes, (16, 4), (32, 8)),
-        p_memsz: field(form, bytes, (20, 4), (40, 8)),
-        p_align: field(form, bytes, (28, 4), (48, 8)),
+        p_type: word_at(form, bytes, 0),
+        p_flags: word(form, bytes, 24, 4),
+        p_offset: long(form, bytes, (4, 4), (8, 8)),
+        p_vaddr: long(form, bytes, (8, 4), (16, 8)),
+        p_paddr: long(form, bytes, (12, 4), (24, 8)),
+        p_filesz: long(form, bytes, (16, 4), (32, 8)),
+        p_memsz: long(form, bytes, (20, 4), (40, 8)),
+        p_align: long(form, bytes, (28, 4), (48, 8)),
     }
 }
 
@@ -122,16 +156,16 @@ pub(crate) fn read_section_header(form: Form, bytes: &[u8]) -> SectionHeader
     ensures { result ≡ section_header form bytes.now }
 {
     SectionHeader {
-        sh_name: fixed(form, bytes, (0, 4)),
-        sh_type: fixed(form, bytes, (4, 4)),
-        sh_flags: field(form, bytes, (8, 4), (8, 8)),
-        sh_addr: field(form, bytes, (12, 4), (16, 8)),
-        sh_offset: field(form, bytes, (16, 4), (24, 8)),
-        sh_size: field(form, bytes, (20, 4), (32, 8)),
-        sh_link: field(form, bytes, (24, 4), (40, 4)),
-        sh_info: field(form, bytes, (28, 4), (44, 4)),
-        sh_addralign: field(form, bytes, (32, 4), (48, 8)),
-        sh_entsize: field(form, bytes, (36, 4), (56, 8)),
+        sh_name: word_at(form, bytes, 0),
+        sh_type: word_at(form, bytes, 4),
+        sh_flags: long(form, bytes, (8, 4), (8, 8)),
+        sh_addr: long(form, bytes, (12, 4), (16, 8)),
+        sh_offset: long(form, bytes, (16, 4), (24, 8)),
+        sh_size: long(form, bytes, (20, 4), (32, 8)),
+        sh_link: word(form, bytes, 24, 40),
+        sh_info: word(form, bytes, 28, 44),
+        sh_addralign: long(form, bytes, (32, 4), (48, 8)),
+        sh_entsize: long(form, bytes, (36, 4), (56, 8)),
     }
 }
 
@@ -140,12 +174,12 @@ pub(crate) fn read_symbol_numbers(form: Form, bytes: &[u8]) -> SymbolNumbers
     ensures { result ≡ symbol_numbers form bytes.now }
 {
     SymbolNumbers {
-        st_name: fixed(form, bytes, (0, 4)),
-        st_info: field(form, bytes, (12, 1), (4, 1)),
-        st_other: field(form, bytes, (13, 1), (5, 1)),
-        st_shndx: field(form, bytes, (14, 2), (6, 2)),
-        st_value: field(form, bytes, (4, 4), (8, 8)),
-        st_size: field(form, bytes, (8, 4), (16, 8)),
+        st_name: word_at(form, bytes, 0),
+        st_info: single(form, bytes, 12, 4),
+        st_other: single(form, bytes, 13, 5),
+        st_shndx: half(form, bytes, 14, 6),
+        st_value: long(form, bytes, (4, 4), (8, 8)),
+        st_size: long(form, bytes, (8, 4), (16, 8)),
     }
 }
 
@@ -154,8 +188,8 @@ pub(crate) fn read_entry_numbers(form: Form, bytes: &[u8]) -> EntryNumbers
     ensures { result ≡ entry_numbers form bytes.now }
 {
     EntryNumbers {
-        d_tag: field(form, bytes, (0, 4), (0, 8)),
-        d_value: field(form, bytes, (4, 4), (8, 8)),
+        d_tag: long(form, bytes, (0, 4), (0, 8)),
+        d_value: long(form, bytes, (4, 4), (8, 8)),
     }
 }
 
@@ -163,9 +197,9 @@ pub(crate) fn read_entry_numbers(form: Form, bytes: &[u8]) -> EntryNumbers
 pub(crate) fn read_version_id(form: Form, bytes: &[u8]) -> VersionId
     ensures { result ≡ version_id form bytes.now }
 {
-    let number = fixed(form, bytes, (0, 2));
+    let number = half_at(form, bytes, 0);
     VersionId {
-        index: (number % VERSYM_HIDDEN as u64) as u16,
-        hidden: number >= VERSYM_HIDDEN as u64,
+        index: number % VERSYM_HIDDEN,
+        hidden: number >= VERSYM_HIDDEN,
     }
 }

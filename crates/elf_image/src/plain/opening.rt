@@ -1,7 +1,8 @@
-ghost use Rattle.std.specs.Prelude.{◌≡◌, ◌*◌, slice_index};
+ghost use Rattle.std.specs.Prelude.{◌≡◌, ◌*◌, ◌<◌, slice_index};
 ghost use Rattle.elf_image.specs.File.{bytes_in, class_of, form_of, opened_of, order_of, sections_of, segments_of};
 ghost use Rattle.elf_image.specs.Plain.{Gives, borrowed};
 ghost use Rattle.elf_image.specs.PlainViews.{opened_seen};
+ghost use Rattle.elf_image.specs.Rules.{has_magic as begins_as_elf};
 ghost use Rattle.elf_image.specs.Records.{file_header_size, section_header_size, segment_header_size};
 
 use crate::constants::{ELFCLASS32, ELFCLASS64, ELFDATA2LSB, ELFDATA2MSB, EV_CURRENT};
@@ -50,8 +51,15 @@ fn byte(file: &[u8], position: usize) -> u8
     }
 }
 
+// Whether the first four bytes are those of an ELF file.
+pub(crate) fn has_magic(file: &[u8]) -> bool
+    ensures { result ≡ begins_as_elf file.now }
+{
+    file.starts_with(&[0x7f, 0x45, 0x4c, 0x46])
+}
+
 // The class and the byte order.
-fn form(file: &[u8]) -> Option<Form>
+pub(crate) fn form(file: &[u8]) -> Option<Form>
     ensures { result ≡ form_of file.now }
 {
     let wide = class(byte(file, 4))?;
@@ -94,7 +102,7 @@ fn file_table(file: &[u8], offset: u64, count: u64, size: u64) -> Result<&[u8], 
     Ok(&file[offset as usize..(offset + all) as usize])
 }
 
-fn file_header_bytes(form: Form) -> u64
+pub(crate) fn file_header_bytes(form: Form) -> u64
     ensures { result ≡ file_header_size form }
 {
     match form.wide {
@@ -103,7 +111,7 @@ fn file_header_bytes(form: Form) -> u64
     }
 }
 
-fn segment_header_bytes(form: Form) -> usize
+pub(crate) fn segment_header_bytes(form: Form) -> usize
     ensures { result ≡ segment_header_size form }
 {
     match form.wide {
@@ -112,8 +120,9 @@ fn segment_header_bytes(form: Form) -> usize
     }
 }
 
-fn section_header_bytes(form: Form) -> usize
-    ensures { result ≡ section_header_size form }
+pub(crate) fn section_header_bytes(form: Form) -> usize
+    ensures value { result ≡ section_header_size form }
+    ensures positive { 0 < result }
 {
     match form.wide {
         Wide::W32 => 40,
@@ -144,7 +153,7 @@ pub(crate) fn segments(
     ensures { Gives (λ v. v.items) result (segments_of (opened_seen file.now (form, header))) }
 {
     let size = segment_header_bytes(form);
-    let bytes = file_table(file, header.e_phoff, header.e_phnum, size as u64)?;
+    let bytes = file_table(file, header.e_phoff, header.e_phnum as u64, size as u64)?;
     Ok(read_segments(alloc, form, size, header.e_phnum as usize, bytes)?)
 }
 
@@ -159,6 +168,6 @@ pub(crate) fn sections(
     ensures { Gives (λ v. v.items) result (sections_of (opened_seen file.now (form, header))) }
 {
     let size = section_header_bytes(form);
-    let bytes = file_table(file, header.e_shoff, header.e_shnum, size as u64)?;
+    let bytes = file_table(file, header.e_shoff, header.e_shnum as u64, size as u64)?;
     Ok(read_sections(alloc, form, size, header.e_shnum as usize, bytes)?)
 }

@@ -116,7 +116,7 @@ pub(crate) fn read_versions(
 }
 
 // How many bytes a dynamic entry takes.
-fn entry_bytes(form: Form) -> usize
+pub(crate) fn entry_bytes(form: Form) -> usize
     ensures { result ≡ entry_size form }
 {
     match form.wide {

@@ -36,7 +36,7 @@ pub(crate) fn symbol_names<'a>(
 {
     let mut names = Vec::new(alloc);
     for symbol in symbols {
-        let name = text(room, texts, symbol.st_name)?;
+        let name = text(room, texts, symbol.st_name as u64)?;
         names.push(name)?;
     }
     Ok(names)

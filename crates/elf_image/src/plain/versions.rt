@@ -6,14 +6,14 @@ ghost use Rattle.elf_image.specs.Versions.{definition_at, definition_name_at, ne
 
 use crate::form::Form;
 use crate::plain::fault::ViewFault;
-use crate::plain::numbers::fixed;
+use crate::plain::numbers::{half_at, word_at};
 use crate::plain::tables::range;
 use crate::plain::view::{RawDefinition, RawNeeds};
 use crate::records::NeedNameNumbers;
 use std::alloc::Global;
 
 // The place of what stands some bytes behind another place.
-fn behind(bytes: &[u8], place: u64, distance: u64) -> Result<u64, ViewFault>
+pub(crate) fn behind(bytes: &[u8], place: u64, distance: u64) -> Result<u64, ViewFault>
     ensures { StandsBehind bytes.now place distance result }
 {
     let length = bytes.len() as u64;
@@ -27,7 +27,7 @@ fn behind(bytes: &[u8], place: u64, distance: u64) -> Result<u64, ViewFault>
 }
 
 // The place of the next record, where there is one more.
-fn step_on(bytes: &[u8], place: u64, next: u64, is_last: bool) -> Result<u64, ViewFault>
+pub(crate) fn step_on(bytes: &[u8], place: u64, next: u64, is_last: bool) -> Result<u64, ViewFault>
     ensures { StepsOn bytes.now place next is_last result }
 {
     if is_last {
@@ -47,24 +47,32 @@ fn step_on(bytes: &[u8], place: u64, next: u64, is_last: bool) -> Result<u64, Vi
 }
 
 #[tactic(auto, unfolding(crate::specs::Versions::definition_name_at))]
-fn read_definition_name(form: Form, bytes: &[u8], place: u64) -> Result<(u64, u64), ViewFault>
+pub(crate) fn read_definition_name(
+    form: Form,
+    bytes: &[u8],
+    place: u64,
+) -> Result<(u32, u32), ViewFault>
     ensures { Gives (step_seen (λ n. n)) result (whole_step (definition_name_at form (memory_of bytes.now) place)) }
 {
     let record = range(bytes, place, 8)?;
-    Ok((fixed(form, record, (0, 4)), fixed(form, record, (4, 4))))
+    Ok((word_at(form, record, 0), word_at(form, record, 4)))
 }
 
 #[tactic(auto, unfolding(crate::specs::Versions::need_name_at))]
-fn read_need_name(form: Form, bytes: &[u8], place: u64) -> Result<(NeedNameNumbers, u64), ViewFault>
+pub(crate) fn read_need_name(
+    form: Form,
+    bytes: &[u8],
+    place: u64,
+) -> Result<(NeedNameNumbers, u32), ViewFault>
     ensures { Gives (step_seen (λ n. n)) result (whole_step (need_name_at form (memory_of bytes.now) place)) }
 {
     let record = range(bytes, place, 16)?;
     let name = NeedNameNumbers {
-        index: fixed(form, record, (6, 2)),
-        name: fixed(form, record, (8, 4)),
-        flags: fixed(form, record, (4, 2)),
+        index: half_at(form, record, 6),
+        name: word_at(form, record, 8),
+        flags: half_at(form, record, 4),
     };
-    Ok((name, fixed(form, record, (12, 4))))
+    Ok((name, word_at(form, record, 12)))
 }
 
 // The names of a defined version, from some bytes behind its record on.
@@ -74,7 +82,7 @@ fn definition_names(
     bytes: &[u8],
     count: u64,
     start: u64,
-) -> Result<Vec<u64>, ViewFault>
+) -> Result<Vec<u32>, ViewFault>
     ensures { Gives (λ v. v.items) result (chain (definition_name_at form (memory_of bytes.now)) count start) }
 {
     let mut made = Vec::new(alloc);
@@ -82,7 +90,7 @@ fn definition_names(
     for i in 0..count {
         let (value, next) = read_definition_name(form, bytes, place)?;
         made.push(value)?;
-        place = step_on(bytes, place, next, i + 1 == count)?;
+        place = step_on(bytes, place, next as u64, i + 1 == count)?;
     }
     Ok(made)
 }
@@ -102,7 +110,7 @@ fn need_names(
     for i in 0..count {
         let (value, next) = read_need_name(form, bytes, place)?;
         made.push(value)?;
-        place = step_on(bytes, place, next, i + 1 == count)?;
+        place = step_on(bytes, place, next as u64, i + 1 == count)?;
     }
     Ok(made)
 }
@@ -115,7 +123,7 @@ fn definition_names_behind(
     count: u64,
     place: u64,
     distance: u64,
-) -> Result<Vec<u64>, ViewFault>
+) -> Result<Vec<u32>, ViewFault>
     ensures { Gives (λ v. v.items) result (chain (definition_name_at form (memory_of bytes.now)) count (place + distance)) }
 {
     if count == 0 {
@@ -149,19 +157,19 @@ fn read_definition(
     form: Form,
     bytes: &[u8],
     place: u64,
-) -> Result<(RawDefinition, u64), ViewFault>
+) -> Result<(RawDefinition, u32), ViewFault>
     ensures { Gives (step_seen raw_definition) result (whole_step (definition_at form (memory_of bytes.now) place)) }
 {
     let record = range(bytes, place, 20)?;
-    let count = fixed(form, record, (6, 2));
-    let distance = fixed(form, record, (12, 4));
+    let count = half_at(form, record, 6) as u64;
+    let distance = word_at(form, record, 12) as u64;
     let names = definition_names_behind(alloc, form, bytes, count, place, distance)?;
     let definition = RawDefinition {
-        index: fixed(form, record, (4, 2)),
-        flags: fixed(form, record, (2, 2)),
+        index: half_at(form, record, 4),
+        flags: half_at(form, record, 2),
         names,
     };
-    Ok((definition, fixed(form, record, (16, 4))))
+    Ok((definition, word_at(form, record, 16)))
 }
 
 // The versions needed of one library, and how far behind the next ones stand.
@@ -170,18 +178,18 @@ fn read_need(
     form: Form,
     bytes: &[u8],
     place: u64,
-) -> Result<(RawNeeds, u64), ViewFault>
+) -> Result<(RawNeeds, u32), ViewFault>
     ensures { Gives (step_seen raw_needs) result (whole_step (need_at form (memory_of bytes.now) place)) }
 {
     let record = range(bytes, place, 16)?;
-    let count = fixed(form, record, (2, 2));
-    let distance = fixed(form, record, (8, 4));
+    let count = half_at(form, record, 2) as u64;
+    let distance = word_at(form, record, 8) as u64;
     let versions = need_names_behind(alloc, form, bytes, count, place, distance)?;
     let needs = RawNeeds {
-        file: fixed(form, record, (4, 4)),
+        file: word_at(form, record, 4),
         versions,
     };
-    Ok((needs, fixed(form, record, (12, 4))))
+    Ok((needs, word_at(form, record, 12)))
 }
 
 // The defined versions.
@@ -198,7 +206,7 @@ pub(crate) fn read_definitions(
     for i in 0..count {
         let (value, next) = read_definition(alloc, form, bytes, place)?;
         made.push(value)?;
-        place = step_on(bytes, place, next, i + 1 == count)?;
+        place = step_on(bytes, place, next as u64, i + 1 == count)?;
     }
     Ok(made)
 }
@@ -217,7 +225,7 @@ pub(crate) fn read_needs(
     for i in 0..count {
         let (value, next) = read_need(alloc, form, bytes, place)?;
         made.push(value)?;
-        place = step_on(bytes, place, next, i + 1 == count)?;
+        place = step_on(bytes, place, next as u64, i + 1 == count)?;
     }
     Ok(made)
 }

@@ -20,22 +20,22 @@ use crate::records::{EntryNumbers, SectionHeader, SegmentHeader};
 use std::alloc::Global;
 
 // The flags of the first PT_GNU_STACK.
-fn stack_flags(segments: &[SegmentHeader]) -> Option<u64>
+fn stack_flags(segments: &[SegmentHeader]) -> Option<u32>
     ensures { result ≡ flags_of_stack segments.now }
 {
-    let segment = segment_of_type(segments, PT_GNU_STACK as u64)?;
+    let segment = segment_of_type(segments, PT_GNU_STACK)?;
     Some(segment.p_flags)
 }
 
 // The bytes of the interpreter's section.
-fn interpreter<'a>(
+pub(crate) fn interpreter<'a>(
     file: &'a [u8],
     segments: &[SegmentHeader],
     sections: &[SectionHeader],
 ) -> Option<&'a [u8]>
     ensures { option_map borrowed result ≡ bytes_of_interpreter file.now segments.now sections.now }
 {
-    let segment = segment_of_type(segments, PT_INTERP as u64)?;
+    let segment = segment_of_type(segments, PT_INTERP)?;
     let section = interpreter_section(segment, sections)?;
     Some(section_bytes(file, section))
 }
@@ -78,7 +78,7 @@ fn show_dynamic<'a>(
 ) -> Result<ShownView<'a>, ViewFault>
     ensures { Gives view_seen result (view_by_dynamic form file.now (outline_seen outline.entry) sections.now (first_section DYNAMIC sections.now)) }
 {
-    match section_of_type(sections, SHT_DYNAMIC as u64) {
+    match section_of_type(sections, SHT_DYNAMIC) {
         None => Ok(ShownView {
             os_abi: outline.os_abi,
             stack_flags: outline.stack_flags,

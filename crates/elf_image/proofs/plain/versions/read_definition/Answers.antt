@@ -12,10 +12,10 @@ returns-in_err-record c =
 pub returns-in_err-names : goal.returns-in_err-names
 returns-in_err-names c =
     let p = err_from_is_err_and c.from_residual-in_err-names.result c.from_residual-in_err-names.ensures.1 in
-    rw (p.1, p.2) (definition_fails_names c.args.form (memory_of c.args.bytes.now) c.args.place c.in_err-names.field-0.0 c.in_ok-record.record.now c.fixed-count.result c.fixed-distance.result
-    c.in_ok-record.ensures c.fixed-count.ensures c.fixed-distance.ensures c.in_err-names.ensures)
+    rw (p.1, p.2) (definition_fails_names c.args.form (memory_of c.args.bytes.now) c.args.place c.in_err-names.field-0.0 c.in_ok-record.record.now c.half_at-count.result c.word_at-distance.result
+    c.in_ok-record.ensures c.half_at-count.ensures c.word_at-distance.ensures c.in_err-names.ensures)
 
 pub returns : goal.returns
 returns c =
-    definition_read c.args.form (memory_of c.args.bytes.now) c.args.place c.in_ok-record.record.now c.in_ok-names.names.items c.fixed-count.result c.fixed-distance.result c.fixed.result c.fixed-2.result c.fixed-3.result
-    c.in_ok-record.ensures c.fixed-count.ensures c.fixed-distance.ensures c.in_ok-names.ensures c.fixed.ensures c.fixed-2.ensures c.fixed-3.ensures
+    definition_read c.args.form (memory_of c.args.bytes.now) c.args.place c.in_ok-record.record.now c.in_ok-names.names.items c.half_at-count.result c.word_at-distance.result c.half_at.result c.half_at-2.result c.word_at.result
+    c.in_ok-record.ensures c.half_at-count.ensures c.word_at-distance.ensures c.in_ok-names.ensures c.half_at.ensures c.half_at-2.ensures c.word_at.ensures

@@ -1,0 +1,10 @@
+use Rattle.std.proofs.Common.{◌∙◌, ap, map}
+use Rattle.elf_image.specs.File.{loads_of}
+use Rattle.elf_image.specs.PlacementSteps.{range_of}
+use Rattle.elf_image.specs.Ranges.{all_apart}
+use Rattle.elf_image.proofs.PlacementSteps.{file_extents}
+use Rattle.elf_image.proofs.read.placement.apart_in_file.Goals as goal
+
+pub returns : goal.returns
+returns c =
+    c.all_apart.ensures.value ∙ ap (λ es. all_apart (map range_of es)) (c.deref_mut.ensures.value ∙ c.in_ok-parts.ensures) ∙ ap all_apart (file_extents (loads_of c.args.segments.now))

@@ -1,0 +1,13 @@
+use Rattle.std.proofs.Common.{◌≡◌, drop, map}
+use Rattle.patch_bytes.specs.Memory.{memory_of}
+use Rattle.elf_image.specs.Options.{each}
+use Rattle.elf_image.specs.Dynamic.{shown_entry}
+use Rattle.elf_image.specs.ImageSeen.{entry_kept}
+use Rattle.elf_image.proofs.PlainSteps.{with_front}
+use Rattle.elf_image.proofs.read.texts.entries.kept_entries.Given as goal
+
+-- what was made so far, and what the rest gives
+abbrev pub invariant-loop-entry : goal.invariant-loop-entry
+invariant-loop-entry l =
+    with_front (map entry_kept l.made.items) (each (shown_entry l.room (memory_of l.texts)) (drop l.entry-index l.raw))
+    ≡ each (shown_entry l.room (memory_of l.texts)) l.raw

@@ -1,0 +1,26 @@
+-- What a builder holds, seen as an image.
+use Rattle.std.specs.Prelude.{map}
+use Rattle.std.specs.Option.{option_map}
+use Rattle.elf_image.specs.declared.builder.Builder.TheInside.{Inside}
+use Rattle.elf_image.specs.Image.{Image}
+use Rattle.elf_image.specs.ImageSeen.{definition_kept, entry_kept, needs_kept, section_kept, segment_kept, symbol_kept}
+
+abbrev pub image_kept : Inside → Image
+image_kept b = record {
+  source = b.source.now;
+  changed = b.changed;
+  form = b.form;
+  header = b.header;
+  segments = map segment_kept b.segments.items;
+  sections = map section_kept b.sections.items;
+  symbols = map symbol_kept b.symbols.items;
+  dynamic_symbols = map symbol_kept b.dynamic_symbols.items;
+  definitions = map definition_kept b.versions.definitions.items;
+  needs = map needs_kept b.versions.needs.items;
+  entries = option_map (λ list. map entry_kept list.items) b.dynamic;
+  interpreter = b.interpreter;
+  section_numbers = b.section_numbers.items;
+  symbol_numbers = b.symbol_numbers.items;
+  dynamic_symbol_numbers = b.dynamic_symbol_numbers.items;
+  page_size = b.page_size;
+}

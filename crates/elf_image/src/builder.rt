@@ -1,0 +1,188 @@
+ghost use Rattle.std.specs.Prelude.{◌≡◌, ◌<◌, length, map, slice_index, IfOk, option_map};
+ghost use Rattle.elf_image.specs.Image.{counted as numbers_below};
+ghost use Rattle.elf_image.specs.ImageSeen.{definition_kept, entry_kept, needs_kept, section_kept, segment_kept, symbol_kept};
+ghost use Rattle.elf_image.specs.Plain.{borrowed};
+
+use crate::dynamic::Dynamic;
+use crate::form::Form;
+use crate::header::Header;
+use crate::section::Section;
+use crate::segment::Segment;
+use crate::symbol::Symbol;
+use crate::version::Versions;
+use patch_bytes::{ByteOrder2, ByteString, Wide};
+use std::alloc::{AllocError, Global};
+use std::marker::Model;
+
+/// The image of an ELF file that every read rule accepts: what the file shows, to be looked at, edited and
+/// written. Texts and contents stay slices of the file's bytes until they are edited.
+#[derive(Debug, Drop)]
+pub struct Builder<'data> {
+    pub(crate) source: &'data [u8],
+    pub(crate) changed: bool,
+    pub(crate) form: Form,
+    pub(crate) header: Header,
+    pub(crate) segments: Vec<Segment<'data>>,
+    pub(crate) sections: Vec<Section<'data>>,
+    pub(crate) symbols: Vec<Symbol<'data>>,
+    pub(crate) dynamic_symbols: Vec<Symbol<'data>>,
+    pub(crate) versions: Versions<'data>,
+    pub(crate) dynamic: Option<Vec<Dynamic<'data>>>,
+    pub(crate) interpreter: Option<ByteString<'data>>,
+    // The numbers at read of what stands now at each position.
+    pub(crate) section_numbers: Vec<usize>,
+    pub(crate) symbol_numbers: Vec<usize>,
+    pub(crate) dynamic_symbol_numbers: Vec<usize>,
+    pub(crate) page_size: Option<u32>,
+}
+
+impl<'data> Model for Builder<'data> {
+    ghost use Rattle.elf_image.specs.Image.{Image};
+
+    ghost Value = { Image };
+
+    ghost use Rattle.elf_image.specs.BuilderSeen.{image_kept};
+
+    ghost view = { image_kept };
+}
+
+impl<'data> Builder<'data> {
+    /// The class (gABI, ELF Identification, `EI_CLASS`). Takes no memory.
+    pub fn class(&self) -> Wide
+        ensures { result ≡ self.now.form.wide }
+    {
+        self.form.wide
+    }
+
+    /// The byte order (gABI, ELF Identification, `EI_DATA`). Takes no memory.
+    pub fn order(&self) -> ByteOrder2
+        ensures { result ≡ self.now.form.order }
+    {
+        self.form.order
+    }
+
+    /// What the file header says (gABI, ELF Header). Takes no memory.
+    pub fn header(&self) -> &Header
+        ensures { result.now ≡ self.now.header }
+    {
+        &self.header
+    }
+
+    /// The program headers (gABI, Program Header), in order. Takes no memory.
+    pub fn segments(&self) -> &[Segment<'data>]
+        ensures { map segment_kept result.now ≡ self.now.segments }
+    {
+        self.segments.as_slice()
+    }
+
+    /// The sections with their names and bytes (gABI, Sections), in order, the first of them the null
+    /// section. Takes no memory.
+    pub fn sections(&self) -> &[Section<'data>]
+        ensures { map section_kept result.now ≡ self.now.sections }
+    {
+        self.sections.as_slice()
+    }
+
+    /// The symbols for a link editor (gABI, Symbol Table, `SHT_SYMTAB`); none without that section. Takes no
+    /// memory.
+    pub fn symbols(&self) -> &[Symbol<'data>]
+        ensures { map symbol_kept result.now ≡ self.now.symbols }
+    {
+        self.symbols.as_slice()
+    }
+
+    /// The symbols for a loader with their versions (gABI, Symbol Table, `SHT_DYNSYM`); none without that
+    /// section. Takes no memory.
+    pub fn dynamic_symbols(&self) -> &[Symbol<'data>]
+        ensures { map symbol_kept result.now ≡ self.now.dynamic_symbols }
+    {
+        self.dynamic_symbols.as_slice()
+    }
+
+    /// The versions that the file defines and needs (GNU symbol versioning). Takes no memory.
+    pub fn versions(&self) -> &Versions<'data>
+        ensures definitions { map definition_kept result.now.definitions.items ≡ self.now.definitions }
+        ensures needs { map needs_kept result.now.needs.items ≡ self.now.needs }
+    {
+        &self.versions
+    }
+
+    /// The dynamic list before its DT_NULL (gABI, Dynamic Section); `None` without a dynamic section. Takes no
+    /// memory.
+    pub fn dynamic_data(&self) -> Option<&[Dynamic<'data>]>
+        ensures { option_map (λ list. map entry_kept list.now) result ≡ self.now.entries }
+    {
+        match &self.dynamic {
+            None => None,
+            Some(list) => Some(list.as_slice()),
+        }
+    }
+
+    /// The bytes of the interpreter's section with their NUL (gABI, Program Interpreter); `None` without a
+    /// PT_INTERP. Takes no memory.
+    pub fn interp_data(&self) -> Option<&[u8]>
+        ensures { option_map borrowed result ≡ self.now.interpreter }
+    {
+        match &self.interpreter {
+            None => None,
+            Some(bytes) => Some(bytes.as_slice()),
+        }
+    }
+
+    /// The page size that was set, in bytes. Takes no memory.
+    pub fn page_size(&self) -> Option<u32>
+        ensures { result ≡ self.now.page_size }
+    {
+        self.page_size
+    }
+
+    /// Whether something was edited. Takes no memory.
+    pub fn changed(&self) -> bool
+        ensures { result ≡ self.now.changed }
+    {
+        self.changed
+    }
+
+    /// The file's bytes as read. Takes no memory.
+    pub fn source(&self) -> &'data [u8]
+        ensures { result.now ≡ self.now.source }
+    {
+        self.source
+    }
+
+    /// The number that the section at a position had at read. Takes no memory.
+    pub fn read_section(&self, i: usize) -> usize
+        requires { i < length self.now.section_numbers }
+        ensures { result ≡ slice_index self.now.section_numbers i }
+    {
+        self.section_numbers[i]
+    }
+
+    /// The number that the symbol for a link editor at a position had at read. Takes no memory.
+    pub fn read_symbol(&self, i: usize) -> usize
+        requires { i < length self.now.symbol_numbers }
+        ensures { result ≡ slice_index self.now.symbol_numbers i }
+    {
+        self.symbol_numbers[i]
+    }
+
+    /// The number that the symbol for a loader at a position had at read. Takes no memory.
+    pub fn read_dynamic_symbol(&self, i: usize) -> usize
+        requires { i < length self.now.dynamic_symbol_numbers }
+        ensures { result ≡ slice_index self.now.dynamic_symbol_numbers i }
+    {
+        self.dynamic_symbol_numbers[i]
+    }
+}
+
+// The numbers from 0 on, as many as that.
+#[tactic(auto, unfolding(crate::specs::Image::counted))]
+pub(crate) fn counted(alloc: Global, count: usize) -> Result<Vec<usize>, AllocError>
+    ensures { IfOk result (λ v. v.items ≡ numbers_below count) }
+{
+    let mut made = Vec::with_capacity(alloc, count)?;
+    for i in 0..count {
+        made.push(i)?;
+    }
+    Ok(made)
+}

@@ -1,0 +1,211 @@
+//! The reader: the read rules in their order, each in time in proportion to what it looks at.
+ghost use Rattle.std.specs.Prelude.{◌≡◌, ◌≢◌, Ok, Err, MatchResult, All, map, IfOk};
+ghost use Rattle.elf_image.specs.Image.{header_kept, image_in, image_of, interpreter_read};
+ghost use Rattle.elf_image.specs.ImageSeen.{segment_kept};
+ghost use Rattle.elf_image.specs.Plain.{Gives, borrowed};
+ghost use Rattle.elf_image.specs.Read.{Passes, Reads, last_rules, parts_seen};
+ghost use Rattle.elf_image.specs.Rules.{checked, data_of, raw_entries as entries_of, there_or};
+ghost use Rattle.elf_image.specs.declared.fault.ElfFault.TheVariants.{BadText};
+ghost use Rattle.elf_image.specs.LinkSteps.{IsChecked};
+ghost use Rattle.elf_image.specs.WalkSteps.{AreDefinitions, AreNeeds};
+
+pub(crate) mod dynamic;
+pub(crate) mod headers;
+pub(crate) mod kind;
+pub(crate) mod linked;
+pub(crate) mod placement;
+#[cfg(test)]
+pub(crate) mod tests;
+pub(crate) mod texts;
+pub(crate) mod versions;
+
+use crate::builder::{Builder, counted};
+use crate::fault::ElfFault;
+use crate::header::Header;
+use crate::plain::ViewFault;
+use crate::read::dynamic::{check_links, raw_entries};
+use crate::read::headers::{Headers, read_headers};
+use crate::read::linked::{Checked, are_tables_linked, check_relocations, kind_of};
+use crate::read::placement::{check_placement, header_table_loaded};
+use crate::read::texts::entries::entries;
+use crate::read::texts::interpreter;
+use crate::read::texts::sections::sections;
+use crate::read::texts::symbols::{dynamic_symbols, static_symbols};
+use crate::read::texts::versions::{definitions, needs};
+use crate::read::versions::{
+    DefinitionWalk, NeedWalk, are_versions_right, walk_definitions, walk_needs,
+};
+use crate::records::{EntryNumbers, FileHeader, SegmentHeader};
+use crate::section::SectionData;
+use crate::segment::Segment;
+use crate::version::Versions;
+use patch_bytes::ByteString;
+use std::alloc::{AllocError, Global};
+use std::marker::PhantomData;
+
+// What the file header says besides the tables' sizes.
+fn header(read: FileHeader) -> Header
+    ensures { result ≡ header_kept read }
+{
+    Header {
+        os_abi: read.os_abi,
+        abi_version: read.abi_version,
+        e_type: read.e_type,
+        e_machine: read.e_machine,
+        e_entry: read.e_entry,
+        e_flags: read.e_flags,
+        e_phoff: read.e_phoff,
+        e_shoff: read.e_shoff,
+        e_shstrndx: read.e_shstrndx,
+    }
+}
+
+// The program headers.
+fn segments<'data>(
+    alloc: Global,
+    headers: &[SegmentHeader],
+) -> Result<Vec<Segment<'data>>, AllocError>
+    ensures { IfOk result (λ made. map segment_kept made.items ≡ headers.now) }
+{
+    let mut made = Vec::with_capacity(alloc, headers.len())?;
+    for numbers in headers {
+        made.push(Segment {
+            numbers: *numbers,
+            of: PhantomData,
+        })?;
+    }
+    Ok(made)
+}
+
+// What the bytes of each section are.
+fn kinds(
+    alloc: Global,
+    parts: &Headers<'_>,
+    checked: &[Checked],
+) -> Result<Vec<SectionData>, AllocError>
+    requires { All (IsChecked parts.now.form parts.now.file.now) checked.now }
+    ensures { IfOk result (λ made. made.items ≡ map (data_of (parts_seen parts.now)) parts.now.sections.items) }
+{
+    let mut made = Vec::with_capacity(alloc, parts.sections.len())?;
+    for section in parts.sections.as_slice() {
+        made.push(kind_of(parts, checked, *section))?;
+    }
+    Ok(made)
+}
+
+// The file's image, absent where a text isn't there.
+#[tactic(auto, unfolding(crate::specs::Image::image_in))]
+fn image<'data>(
+    alloc: Global,
+    parts: &Headers<'data>,
+    raw: &[EntryNumbers],
+    kinds: &[SectionData],
+    defined: &DefinitionWalk,
+    needed: &NeedWalk,
+) -> Result<Builder<'data>, ViewFault>
+    requires kinds { kinds.now ≡ map (data_of (parts_seen parts.now)) parts.now.sections.items }
+    requires raw { raw.now ≡ entries_of (parts_seen parts.now) }
+    requires defined { AreDefinitions (parts_seen parts.now) defined.now }
+    requires needed { AreNeeds (parts_seen parts.now) needed.now }
+    ensures { Gives (λ b. b) result (image_in (parts_seen parts.now)) }
+{
+    let sections = sections(alloc, parts, kinds)?;
+    let symbols = static_symbols(alloc, parts)?;
+    let dynamic_symbols = dynamic_symbols(alloc, parts, raw)?;
+    let dynamic = entries(alloc, parts, raw)?;
+    let definitions = definitions(alloc, parts, raw, &defined.values)?;
+    let needs = needs(alloc, parts, raw, &needed.values)?;
+    let segments = segments(alloc, &parts.segments)?;
+    let section_numbers = counted(alloc, sections.len())?;
+    let symbol_numbers = counted(alloc, symbols.len())?;
+    let dynamic_symbol_numbers = counted(alloc, dynamic_symbols.len())?;
+    Ok(Builder {
+        source: parts.file,
+        changed: false,
+        form: parts.form,
+        header: header(parts.header),
+        segments,
+        sections,
+        symbols,
+        dynamic_symbols,
+        versions: Versions { definitions, needs },
+        dynamic,
+        interpreter: interpreter_kept(parts),
+        section_numbers,
+        symbol_numbers,
+        dynamic_symbol_numbers,
+        page_size: None,
+    })
+}
+
+// The interpreter's bytes.
+fn interpreter_kept<'data>(parts: &Headers<'data>) -> Option<ByteString<'data>>
+    ensures { result ≡ interpreter_read (parts_seen parts.now) }
+{
+    Some(ByteString::borrowed(interpreter(parts)?))
+}
+
+// The rules on versions and on where the program header table stands.
+#[tactic(auto, unfolding(crate::specs::Rules::checked))]
+fn check_last(
+    alloc: Global,
+    parts: &Headers<'_>,
+    defined: &DefinitionWalk,
+    needed: &NeedWalk,
+) -> Result<(), ElfFault>
+    requires defined { AreDefinitions (parts_seen parts.now) defined.now }
+    requires needed { AreNeeds (parts_seen parts.now) needed.now }
+    ensures { Passes (parts_seen parts.now) result (checked last_rules (parts_seen parts.now)) }
+{
+    if !are_versions_right(alloc, parts, defined, needed)? {
+        return Err(ElfFault::Disagree(11));
+    }
+    if !header_table_loaded(parts) {
+        return Err(ElfFault::Disagree(12));
+    }
+    Ok(())
+}
+
+// The file's image, or that a text isn't there.
+fn image_or_fault<'data>(
+    alloc: Global,
+    parts: &Headers<'data>,
+    raw: &[EntryNumbers],
+    kinds: &[SectionData],
+    defined: &DefinitionWalk,
+    needed: &NeedWalk,
+) -> Result<Builder<'data>, ElfFault>
+    requires kinds { kinds.now ≡ map (data_of (parts_seen parts.now)) parts.now.sections.items }
+    requires raw { raw.now ≡ entries_of (parts_seen parts.now) }
+    requires defined { AreDefinitions (parts_seen parts.now) defined.now }
+    requires needed { AreNeeds (parts_seen parts.now) needed.now }
+    ensures { Reads (λ b. b) result (there_or BadText (image_in (parts_seen parts.now))) }
+{
+    match image(alloc, parts, raw, kinds, defined, needed) {
+        Ok(image) => Ok(image),
+        Err(ViewFault::Absent) => Err(ElfFault::BadText),
+        Err(ViewFault::Memory) => Err(ElfFault::Memory),
+    }
+}
+
+impl<'data> Builder<'data> {
+    /// Reads a file: its image where every read rule holds, else the fault of the first rule that doesn't (see
+    /// the read rules in docs/FORMATS.md for their order); `Memory` only where a growth was refused.
+    pub fn read(alloc: Global, bytes: &'data [u8]) -> Result<Builder<'data>, ElfFault>
+        ensures { MatchResult result
+            (λ b. image_of bytes.entry.now ≡ Ok b)
+            (λ e. e ≢ ElfFault.Memory → image_of bytes.entry.now ≡ Err e) }
+    {
+        let parts = read_headers(alloc, bytes)?;
+        check_placement(alloc, &parts)?;
+        let raw = raw_entries(alloc, &parts)?;
+        let checked = check_relocations(alloc, &parts)?;
+        check_links(are_tables_linked(&parts, &checked), &parts, &raw)?;
+        let kinds = kinds(alloc, &parts, &checked)?;
+        let defined = walk_definitions(alloc, &parts)?;
+        let needed = walk_needs(alloc, &parts)?;
+        let image = image_or_fault(alloc, &parts, &raw, &kinds, &defined, &needed)?;
+        check_last(alloc, &parts, &defined, &needed)?;
+        Ok(image)
+    }
+}

@@ -1,0 +1,73 @@
+ghost use Rattle.std.specs.Prelude.{◌≡◌, ◌≤◌, length, map, option_map};
+ghost use Rattle.patch_bytes.specs.Memory.{memory_of};
+ghost use Rattle.elf_image.specs.declared.constants.TheConstants.{SHT_DYNAMIC as DYNAMIC};
+ghost use Rattle.elf_image.specs.Dynamic.{shown_entry};
+ghost use Rattle.elf_image.specs.File.{section_of_type as first_section};
+ghost use Rattle.elf_image.specs.Image.{entries_read};
+ghost use Rattle.elf_image.specs.ImageSeen.{entry_kept};
+ghost use Rattle.elf_image.specs.Options.{each};
+ghost use Rattle.elf_image.specs.Plain.{Gives};
+ghost use Rattle.elf_image.specs.PlainViews.{entry_seen};
+ghost use Rattle.elf_image.specs.Read.{parts_seen};
+ghost use Rattle.elf_image.specs.Rules.{raw_entries};
+
+use crate::constants::SHT_DYNAMIC;
+use crate::dynamic::Dynamic;
+use crate::plain::entries::show_entry;
+use crate::plain::fault::ViewFault;
+use crate::plain::lookups::section_of_type;
+use crate::plain::view::ShownEntry;
+use crate::read::headers::Headers;
+use crate::read::texts::dynamic_texts;
+use crate::records::EntryNumbers;
+use patch_bytes::ByteString;
+use std::alloc::Global;
+
+// An entry whose text stays where it is.
+fn kept(entry: ShownEntry<'_>) -> Dynamic<'_>
+    ensures { entry_kept result ≡ entry_seen entry.entry }
+{
+    match entry {
+        ShownEntry::Auto(tag) => Dynamic::Auto { tag },
+        ShownEntry::Integer(tag, val) => Dynamic::Integer { tag, val },
+        ShownEntry::Text(tag, text) => Dynamic::Text {
+            tag,
+            val: ByteString::borrowed(text),
+        },
+    }
+}
+
+// The entries with their texts.
+fn kept_entries<'data>(
+    alloc: Global,
+    room: usize,
+    texts: &'data [u8],
+    raw: &[EntryNumbers],
+) -> Result<Vec<Dynamic<'data>>, ViewFault>
+    requires { length texts.now ≤ room }
+    ensures { Gives (λ v. map entry_kept v.items) result (each (shown_entry room (memory_of texts.now)) raw.now) }
+{
+    let mut made = Vec::new(alloc);
+    for entry in raw {
+        let one = show_entry(room, texts, *entry)?;
+        made.push(kept(one))?;
+    }
+    Ok(made)
+}
+
+// The dynamic list with its texts, where there is one.
+pub(crate) fn entries<'data>(
+    alloc: Global,
+    parts: &Headers<'data>,
+    raw: &[EntryNumbers],
+) -> Result<Option<Vec<Dynamic<'data>>>, ViewFault>
+    requires { raw.now ≡ raw_entries (parts_seen parts.now) }
+    ensures { Gives (λ o. option_map (λ v. map entry_kept v.items) o) result (entries_read (parts_seen parts.now) (first_section DYNAMIC parts.now.sections.items)) }
+{
+    let Some(section) = section_of_type(&parts.sections, SHT_DYNAMIC) else {
+        return Ok(None);
+    };
+    let texts = dynamic_texts(parts, raw, section);
+    let list = kept_entries(alloc, parts.file.len(), texts, raw)?;
+    Ok(Some(list))
+}

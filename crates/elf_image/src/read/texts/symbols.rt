@@ -1,0 +1,123 @@
+ghost use Rattle.std.specs.Prelude.{◌≡◌, ◌≤◌, ◌<◌, ◌*◌, ◌^◌, length, map, option_map};
+ghost use Rattle.patch_bytes.specs.Memory.{memory_of};
+ghost use Rattle.elf_image.specs.declared.constants.TheConstants.{SHT_DYNSYM as DYNSYM, SHT_GNU_VERSYM as VERSYMS, SHT_SYMTAB as SYMTAB};
+ghost use Rattle.elf_image.specs.File.{section_bytes as bytes_of_section, section_of_type as first_section};
+ghost use Rattle.elf_image.specs.Image.{dynamic_symbols_read, static_symbols as static_ones};
+ghost use Rattle.elf_image.specs.ImageSeen.{symbol_kept};
+ghost use Rattle.elf_image.specs.Plain.{Gives, borrowed};
+ghost use Rattle.elf_image.specs.Read.{parts_seen};
+ghost use Rattle.elf_image.specs.Rules.{raw_entries};
+ghost use Rattle.elf_image.specs.TextSteps.{named_symbol, symbols_shown, version_at};
+
+use crate::constants::{SHT_DYNSYM, SHT_GNU_VERSYM, SHT_SYMTAB};
+use crate::form::Form;
+use crate::plain::fault::ViewFault;
+use crate::plain::lookups::{bytes_of, linked_section, section_bytes, section_of_type};
+use crate::plain::numbers::{part, read_symbol_numbers, read_version_id};
+use crate::plain::symbols::symbol_bytes;
+use crate::plain::texts::text;
+use crate::read::headers::Headers;
+use crate::read::texts::dynamic_texts;
+use crate::records::{EntryNumbers, SymbolNumbers};
+use crate::symbol::{Symbol, VersionId};
+use patch_bytes::ByteString;
+use std::alloc::Global;
+
+// The version of the symbol at a position, where there are versions.
+fn version(form: Form, versions: Option<&[u8]>, i: usize) -> Option<VersionId>
+    requires { i * 2 < 2 ^ 64 }
+    ensures { result ≡ version_at form (option_map borrowed versions.entry) i }
+{
+    let bytes = versions?;
+    Some(read_version_id(form, part(bytes, i * 2, 2)))
+}
+
+// A symbol with its name.
+#[tactic(auto, unfolding(crate::specs::TextSteps::named_symbol))]
+fn symbol<'data>(
+    room: usize,
+    texts: &'data [u8],
+    numbers: SymbolNumbers,
+    version: Option<VersionId>,
+) -> Result<Symbol<'data>, ViewFault>
+    requires { length texts.now ≤ room }
+    ensures { Gives symbol_kept result (named_symbol room (memory_of texts.now) numbers version) }
+{
+    let name = text(room, texts, numbers.st_name as u64)?;
+    Ok(Symbol {
+        name: ByteString::borrowed(name),
+        st_info: numbers.st_info,
+        st_other: numbers.st_other,
+        st_shndx: numbers.st_shndx,
+        st_value: numbers.st_value,
+        st_size: numbers.st_size,
+        version,
+    })
+}
+
+// The symbols of a table, each with its name and with its version where there are versions.
+fn symbols<'data>(
+    alloc: Global,
+    form: Form,
+    room: usize,
+    texts: &'data [u8],
+    bytes: &[u8],
+    versions: Option<&[u8]>,
+) -> Result<Vec<Symbol<'data>>, ViewFault>
+    requires { length texts.now ≤ room }
+    ensures { Gives (λ v. map symbol_kept v.items) result (symbols_shown form room (memory_of texts.now) bytes.now (option_map borrowed versions.entry)) }
+{
+    let size = symbol_bytes(form);
+    let count = bytes.len() / size;
+    let mut made = Vec::new(alloc);
+    let mut rest = bytes;
+    for i in 0..count {
+        let (record, after) = rest.split_at(size);
+        let numbers = read_symbol_numbers(form, record);
+        let one = symbol(room, texts, numbers, version(form, versions, i))?;
+        made.push(one)?;
+        rest = after;
+    }
+    Ok(made)
+}
+
+// The static symbols (gABI, Symbol Table); they have no versions.
+pub(crate) fn static_symbols<'data>(
+    alloc: Global,
+    parts: &Headers<'data>,
+) -> Result<Vec<Symbol<'data>>, ViewFault>
+    ensures { Gives (λ v. map symbol_kept v.items) result (static_ones (parts_seen parts.now) (first_section SYMTAB parts.now.sections.items)) }
+{
+    let Some(section) = section_of_type(&parts.sections, SHT_SYMTAB) else {
+        return Ok(Vec::new(alloc));
+    };
+    let texts = bytes_of(parts.file, linked_section(&parts.sections, section));
+    let bytes = section_bytes(parts.file, section);
+    symbols(alloc, parts.form, parts.file.len(), texts, bytes, None)
+}
+
+// The bytes of the section with the versions of symbols (GNU symbol versioning, .gnu.version).
+fn version_bytes<'data>(parts: &Headers<'data>) -> Option<&'data [u8]>
+    ensures { option_map borrowed result ≡ option_map (bytes_of_section parts.now.file.now) (first_section VERSYMS parts.now.sections.items) }
+{
+    let section = section_of_type(&parts.sections, SHT_GNU_VERSYM)?;
+    Some(section_bytes(parts.file, section))
+}
+
+// The dynamic symbols, with versions where there is a section of them.
+pub(crate) fn dynamic_symbols<'data>(
+    alloc: Global,
+    parts: &Headers<'data>,
+    raw: &[EntryNumbers],
+) -> Result<Vec<Symbol<'data>>, ViewFault>
+    requires { raw.now ≡ raw_entries (parts_seen parts.now) }
+    ensures { Gives (λ v. map symbol_kept v.items) result (dynamic_symbols_read (parts_seen parts.now) (first_section DYNSYM parts.now.sections.items)) }
+{
+    let Some(section) = section_of_type(&parts.sections, SHT_DYNSYM) else {
+        return Ok(Vec::new(alloc));
+    };
+    let texts = dynamic_texts(parts, raw, section);
+    let bytes = section_bytes(parts.file, section);
+    let versions = version_bytes(parts);
+    symbols(alloc, parts.form, parts.file.len(), texts, bytes, versions)
+}

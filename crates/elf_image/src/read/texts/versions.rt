@@ -1,0 +1,188 @@
+ghost use Rattle.std.specs.Prelude.{◌≡◌, ◌≤◌, length, map};
+ghost use Rattle.patch_bytes.specs.Memory.{memory_of, text_at};
+ghost use Rattle.elf_image.specs.declared.constants.TheConstants.{SHT_GNU_VERDEF as VERDEFS, SHT_GNU_VERNEED as VERNEEDS};
+ghost use Rattle.elf_image.specs.File.{section_of_type as first_section};
+ghost use Rattle.elf_image.specs.Image.{definitions_read, needs_read};
+ghost use Rattle.elf_image.specs.ImageSeen.{definition_kept, name_kept, needs_kept};
+ghost use Rattle.elf_image.specs.Options.{each, list_at};
+ghost use Rattle.elf_image.specs.Plain.{Gives};
+ghost use Rattle.elf_image.specs.PlainViews.{raw_definition, raw_needs};
+ghost use Rattle.elf_image.specs.Read.{parts_seen};
+ghost use Rattle.elf_image.specs.Rules.{definition_steps, need_steps, raw_entries};
+ghost use Rattle.elf_image.specs.Versions.{shown_definition, shown_need, shown_need_name, values_of};
+
+use crate::constants::{SHT_GNU_VERDEF, SHT_GNU_VERNEED};
+use crate::plain::fault::ViewFault;
+use crate::plain::lookups::section_of_type;
+use crate::plain::texts::text;
+use crate::plain::view::{RawDefinition, RawNeeds};
+use crate::read::headers::Headers;
+use crate::read::texts::dynamic_texts;
+use crate::records::{EntryNumbers, NeedNameNumbers};
+use crate::version::{VersionDef, VersionNeed, VersionNeedName};
+use patch_bytes::ByteString;
+use std::alloc::Global;
+
+// Texts by where they stand.
+fn kept_texts<'data>(
+    alloc: Global,
+    room: usize,
+    texts: &'data [u8],
+    places: &[u32],
+) -> Result<Vec<ByteString<'data>>, ViewFault>
+    requires { length texts.now ≤ room }
+    ensures { Gives (λ v. v.items) result (each (text_at room (memory_of texts.now)) places.now) }
+{
+    let mut made = Vec::new(alloc);
+    for place in places {
+        let one = text(room, texts, *place as u64)?;
+        made.push(ByteString::borrowed(one))?;
+    }
+    Ok(made)
+}
+
+// A defined version with its names.
+#[tactic(auto, unfolding(crate::specs::Versions::shown_definition))]
+fn definition<'data>(
+    alloc: Global,
+    room: usize,
+    texts: &'data [u8],
+    raw: &RawDefinition,
+) -> Result<VersionDef<'data>, ViewFault>
+    requires { length texts.now ≤ room }
+    ensures { Gives definition_kept result (shown_definition room (memory_of texts.now) (raw_definition raw.now)) }
+{
+    let names = kept_texts(alloc, room, texts, &raw.names)?;
+    Ok(VersionDef {
+        index: raw.index,
+        flags: raw.flags,
+        names,
+    })
+}
+
+// Defined versions with their names.
+fn kept_definitions<'data>(
+    alloc: Global,
+    room: usize,
+    texts: &'data [u8],
+    walked: &[RawDefinition],
+) -> Result<Vec<VersionDef<'data>>, ViewFault>
+    requires { length texts.now ≤ room }
+    ensures { Gives (λ v. map definition_kept v.items) result (each (shown_definition room (memory_of texts.now)) (map raw_definition walked.now)) }
+{
+    let mut made = Vec::new(alloc);
+    for raw in walked {
+        let one = definition(alloc, room, texts, raw)?;
+        made.push(one)?;
+    }
+    Ok(made)
+}
+
+// A needed version with its name.
+#[tactic(auto, unfolding(crate::specs::Versions::shown_need_name))]
+fn need_name<'data>(
+    room: usize,
+    texts: &'data [u8],
+    raw: NeedNameNumbers,
+) -> Result<VersionNeedName<'data>, ViewFault>
+    requires { length texts.now ≤ room }
+    ensures { Gives name_kept result (shown_need_name room (memory_of texts.now) raw) }
+{
+    let name = text(room, texts, raw.name as u64)?;
+    Ok(VersionNeedName {
+        index: raw.index,
+        name: ByteString::borrowed(name),
+        flags: raw.flags,
+    })
+}
+
+// Needed versions with their names.
+fn need_names<'data>(
+    alloc: Global,
+    room: usize,
+    texts: &'data [u8],
+    versions: &[NeedNameNumbers],
+) -> Result<Vec<VersionNeedName<'data>>, ViewFault>
+    requires { length texts.now ≤ room }
+    ensures { Gives (λ v. map name_kept v.items) result (each (shown_need_name room (memory_of texts.now)) versions.now) }
+{
+    let mut made = Vec::new(alloc);
+    for version in versions {
+        let one = need_name(room, texts, *version)?;
+        made.push(one)?;
+    }
+    Ok(made)
+}
+
+// The versions needed of one library, with its name.
+#[tactic(auto, unfolding(crate::specs::Versions::shown_need))]
+fn need<'data>(
+    alloc: Global,
+    room: usize,
+    texts: &'data [u8],
+    raw: &RawNeeds,
+) -> Result<VersionNeed<'data>, ViewFault>
+    requires { length texts.now ≤ room }
+    ensures { Gives needs_kept result (shown_need room (memory_of texts.now) (raw_needs raw.now)) }
+{
+    let file = text(room, texts, raw.file as u64)?;
+    let versions = need_names(alloc, room, texts, &raw.versions)?;
+    Ok(VersionNeed {
+        file: ByteString::borrowed(file),
+        versions,
+    })
+}
+
+// Needed versions, library by library.
+fn kept_needs<'data>(
+    alloc: Global,
+    room: usize,
+    texts: &'data [u8],
+    walked: &[RawNeeds],
+) -> Result<Vec<VersionNeed<'data>>, ViewFault>
+    requires { length texts.now ≤ room }
+    ensures { Gives (λ v. map needs_kept v.items) result (each (shown_need room (memory_of texts.now)) (map raw_needs walked.now)) }
+{
+    let mut made = Vec::new(alloc);
+    for raw in walked {
+        let one = need(alloc, room, texts, raw)?;
+        made.push(one)?;
+    }
+    Ok(made)
+}
+
+// The versions that the file defines.
+pub(crate) fn definitions<'data>(
+    alloc: Global,
+    parts: &Headers<'data>,
+    raw: &[EntryNumbers],
+    walked: &[RawDefinition],
+) -> Result<Vec<VersionDef<'data>>, ViewFault>
+    requires raw { raw.now ≡ raw_entries (parts_seen parts.now) }
+    requires walked { map raw_definition walked.now ≡ list_at (λ s. values_of (definition_steps (parts_seen parts.now) s)) (first_section VERDEFS parts.now.sections.items) }
+    ensures { Gives (λ v. map definition_kept v.items) result (definitions_read (parts_seen parts.now) (first_section VERDEFS parts.now.sections.items)) }
+{
+    let Some(section) = section_of_type(&parts.sections, SHT_GNU_VERDEF) else {
+        return Ok(Vec::new(alloc));
+    };
+    let texts = dynamic_texts(parts, raw, section);
+    kept_definitions(alloc, parts.file.len(), texts, walked)
+}
+
+// The versions that the file needs.
+pub(crate) fn needs<'data>(
+    alloc: Global,
+    parts: &Headers<'data>,
+    raw: &[EntryNumbers],
+    walked: &[RawNeeds],
+) -> Result<Vec<VersionNeed<'data>>, ViewFault>
+    requires raw { raw.now ≡ raw_entries (parts_seen parts.now) }
+    requires walked { map raw_needs walked.now ≡ list_at (λ s. values_of (need_steps (parts_seen parts.now) s)) (first_section VERNEEDS parts.now.sections.items) }
+    ensures { Gives (λ v. map needs_kept v.items) result (needs_read (parts_seen parts.now) (first_section VERNEEDS parts.now.sections.items)) }
+{
+    let Some(section) = section_of_type(&parts.sections, SHT_GNU_VERNEED) else {
+        return Ok(Vec::new(alloc));
+    };
+    let texts = dynamic_texts(parts, raw, section);
+    kept_needs(alloc, parts.file.len(), texts, walked)
+}

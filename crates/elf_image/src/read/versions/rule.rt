@@ -1,0 +1,126 @@
+ghost use Rattle.std.specs.Prelude.{◌≡◌, ◌^◌, ◌||◌, ◌==◌, ◌∷◌, [], IfOk, false, length, nat_lt, not, slice_index_or};
+ghost use Rattle.std.specs.List.{list_all};
+ghost use Rattle.elf_image.specs.declared.constants.TheConstants.{SHT_DYNAMIC as DYNAMIC, SHT_DYNSYM as DYNSYM, SHT_GNU_VERDEF as VERDEF, SHT_GNU_VERNEED as VERNEED, SHT_NULL as NULL, VER_NDX_FIRST as FIRST};
+ghost use Rattle.elf_image.specs.Form.{records};
+ghost use Rattle.elf_image.specs.Options.{is_one_of};
+ghost use Rattle.elf_image.specs.Read.{parts_seen};
+ghost use Rattle.elf_image.specs.Rules.{are_dynamic_strings_own as strings_own, are_versions_right as versions_right, dynamic_strings_user as strings_user, version_symbols_agree as symbols_agree};
+ghost use Rattle.elf_image.specs.Versions.{version_id};
+ghost use Rattle.elf_image.specs.WalkSteps.{AreDefinitions, AreNeeds};
+
+use crate::constants::{
+    SHT_DYNAMIC, SHT_DYNSYM, SHT_GNU_VERDEF, SHT_GNU_VERNEED, SHT_GNU_VERSYM, SHT_NULL,
+    VER_NDX_FIRST,
+};
+use crate::form::Form;
+use crate::plain::lookups::{section_bytes, section_of_type};
+use crate::plain::numbers::{part, read_version_id};
+use crate::plain::symbols::symbol_bytes;
+use crate::read::headers::Headers;
+use crate::read::versions::known::mark_known;
+use crate::read::versions::{DefinitionWalk, NeedWalk};
+use crate::records::SectionHeader;
+use std::alloc::{AllocError, Global};
+
+// Whether each of so many version symbols is below VER_NDX_FIRST or has a mark. Those past the end of the
+// bytes have the index 0.
+fn are_marked(form: Form, marks: &[bool], count: u64, bytes: &[u8]) -> bool
+    requires { length marks.now ≡ 2 ^ 16 }
+    ensures { result ≡ list_all (λ v. nat_lt v.index FIRST || slice_index_or marks.now v.index false) (records (version_id form) 2 count bytes.now) }
+{
+    let mut rest = bytes;
+    for _ in 0..count {
+        if rest.is_empty() {
+            return true;
+        }
+        let id = read_version_id(form, part(rest, 0, 2));
+        if id.index >= VER_NDX_FIRST && !marks[id.index as usize] {
+            return false;
+        }
+        rest = part(rest, 2, rest.len());
+    }
+    true
+}
+
+// Whether there is a version for each dynamic symbol, and each from VER_NDX_FIRST on is known.
+fn version_symbols_agree(
+    alloc: Global,
+    parts: &Headers<'_>,
+    section: SectionHeader,
+    definitions: &DefinitionWalk,
+    needs: &NeedWalk,
+) -> Result<bool, AllocError>
+    requires definitions { AreDefinitions (parts_seen parts.now) definitions.now }
+    requires needs { AreNeeds (parts_seen parts.now) needs.now }
+    ensures { IfOk result (λ b. b ≡ symbols_agree (parts_seen parts.now) section) }
+{
+    let Some(symbols) = section_of_type(&parts.sections, SHT_DYNSYM) else {
+        return Ok(false);
+    };
+    let count = section.sh_size / 2;
+    if count != symbols.sh_size / symbol_bytes(parts.form) as u64 {
+        return Ok(false);
+    }
+    let marks = mark_known(alloc, &definitions.values, &needs.values)?;
+    let bytes = section_bytes(parts.file, section);
+    Ok(are_marked(parts.form, &marks, count, bytes))
+}
+
+// The section whose texts are the dynamic strings: the dynamic list, or without one the dynamic symbols.
+fn dynamic_strings_user(sections: &[SectionHeader]) -> Option<SectionHeader>
+    ensures { result ≡ strings_user sections.now }
+{
+    match section_of_type(sections, SHT_DYNAMIC) {
+        Some(list) => Some(list),
+        None => section_of_type(sections, SHT_DYNSYM),
+    }
+}
+
+// Whether sections of a type may have texts in the dynamic strings.
+fn may_use_dynamic_strings(kind: u32) -> bool
+    ensures { result ≡ is_one_of (NULL ∷ DYNAMIC ∷ DYNSYM ∷ VERDEF ∷ VERNEED ∷ []) kind }
+{
+    kind == SHT_NULL
+        || kind == SHT_DYNAMIC
+        || kind == SHT_DYNSYM
+        || kind == SHT_GNU_VERDEF
+        || kind == SHT_GNU_VERNEED
+}
+
+// Whether only those sections have texts where a section has its own.
+fn are_texts_own(sections: &[SectionHeader], user: SectionHeader) -> bool
+    ensures { result ≡ list_all (λ s. not (s.sh_link == user.sh_link) || is_one_of (NULL ∷ DYNAMIC ∷ DYNSYM ∷ VERDEF ∷ VERNEED ∷ []) s.sh_type) sections.now }
+{
+    sections.iter().all(|s| s.sh_link != user.sh_link || may_use_dynamic_strings(s.sh_type))
+}
+
+// Whether only the list, the dynamic symbols and the version records have texts in the dynamic strings.
+fn are_dynamic_strings_own(sections: &[SectionHeader]) -> bool
+    ensures { result ≡ strings_own sections.now }
+{
+    match dynamic_strings_user(sections) {
+        None => true,
+        Some(user) => are_texts_own(sections, user),
+    }
+}
+
+// Whether the version symbols, the version records and the users of the dynamic strings are right.
+pub(crate) fn are_versions_right(
+    alloc: Global,
+    parts: &Headers<'_>,
+    definitions: &DefinitionWalk,
+    needs: &NeedWalk,
+) -> Result<bool, AllocError>
+    requires definitions { AreDefinitions (parts_seen parts.now) definitions.now }
+    requires needs { AreNeeds (parts_seen parts.now) needs.now }
+    ensures { IfOk result (λ b. b ≡ versions_right (parts_seen parts.now)) }
+{
+    let are_whole = definitions.is_whole && needs.is_whole;
+    if !are_whole || !are_dynamic_strings_own(&parts.sections) {
+        return Ok(false);
+    }
+    match section_of_type(&parts.sections, SHT_GNU_VERSYM) {
+        None => Ok(true),
+        Some(section) => version_symbols_agree(alloc, parts, section, definitions, needs),
+    }
+}
