@@ -1,0 +1,2 @@
+pub mod ReadSteps
+pub mod PrintSteps

@@ -1,0 +1,7 @@
+//! ELF files: the container that the program works with, over the writer that holds a file's image.
+
+pub mod container;
+pub mod rewriter;
+
+pub use crate::elf::container::ElfContainer;
+pub use crate::elf::rewriter::{BuilderExt, ElfError, ModifyCause, Needed, ProbeAnswer, Writer};

@@ -1,0 +1,184 @@
+ghost use Rattle.std.specs.Prelude.{◌≡◌, Ok, IfErr, IfOk, OnOk, MatchResult, map, option_map, unwrap_or, string_bytes};
+ghost use Rattle.std.specs.Io.KnownBytes.{Appends};
+ghost use Rattle.elf_image.specs.Image.{image_of, shown};
+ghost use Rattle.elf_image.specs.Plain.{borrowed};
+ghost use Rattle.arwen_elf.specs.Causes.{FailsPrint, FailsWrite, RefusesRead};
+ghost use Rattle.arwen_elf.specs.PageSizes.{page_size_of};
+ghost use Rattle.arwen_elf.specs.Prints.{before_nul as bytes_before_nul, cut_at_colons as parts_between_colons, directories_shown, line_if, line_of, printed_exec_stack, printed_interpreter, printed_needed, printed_os_abi, printed_runpath, printed_soname};
+ghost use Rattle.arwen_elf.specs.WriterSeen.{ShowsBothViews};
+
+use crate::elf::rewriter::error::{ElfError, Result};
+use crate::elf::rewriter::writer::Writer;
+use bstr::ByteSlice;
+use elf_image::constants::PF_X;
+use std::alloc::{AllocError, Global};
+use std::io::Write;
+
+/// An ELF file as the program works with it: its image, and its bytes as read.
+#[derive(Debug, Drop)]
+pub struct ElfContainer<'a> {
+    /// The image.
+    pub inner: Writer<'a>,
+    bytes: &'a [u8],
+}
+
+// A text as it is printed: lossily, with a line feed.
+fn line(alloc: Global, text: &[u8]) -> std::result::Result<Vec<u8>, AllocError>
+    ensures { IfOk result (λ made. made.items ≡ line_of text.now) }
+{
+    let shown = text.to_str_lossy(alloc)?;
+    let mut made = Vec::new(alloc);
+    made.extend_from_slice(shown.as_bytes())?;
+    made.push(b'\n')?;
+    Ok(made)
+}
+
+// Writes a text's line, or nothing where there is no text.
+fn write_line<W: Write>(alloc: Global, out: &mut W, text: Option<&[u8]>) -> Result<()>
+    ensures prints { OnOk result (Appends (W.contents out.old) (W.contents out.new) (line_if (option_map borrowed text.entry))) }
+    ensures fails { IfErr result (FailsPrint out.old out.new) }
+{
+    match text {
+        None => Ok(()),
+        Some(text) => Ok(out.write_all(line(alloc, text)?.as_slice())?),
+    }
+}
+
+// The bytes before the first NUL, all where there is none.
+fn before_nul(bytes: &[u8]) -> &[u8]
+    ensures { result.now ≡ bytes_before_nul bytes.now }
+{
+    for (i, byte) in bytes.iter().enumerate() {
+        if *byte == 0 {
+            return &bytes[..i];
+        }
+    }
+    bytes
+}
+
+// A text cut at its colons; the empty text has no parts.
+fn cut_at_colons(alloc: Global, text: &str) -> std::result::Result<Vec<String>, AllocError>
+    ensures { IfOk result (λ parts. map string_bytes parts.items ≡ parts_between_colons text.now) }
+{
+    let mut parts = Vec::new(alloc);
+    if text.is_empty() {
+        return Ok(parts);
+    }
+    for part in text.split(':') {
+        parts.push(String::from_str(alloc, part)?)?;
+    }
+    Ok(parts)
+}
+
+impl<'a> ElfContainer<'a> {
+    /// Reads a file: its image where every read rule holds. An image shows what the section headers show, and what
+    /// a loader sees by the program headers alone (gABI, Sections and Program Header). Errors: `Parse` with the fault
+    /// of the first rule that doesn't hold, `Memory`.
+    pub fn parse(alloc: Global, bytes_of_file: &'a [u8]) -> Result<ElfContainer<'a>>
+        ensures reads { MatchResult result
+            (λ c. (image_of bytes_of_file.entry.now ≡ Ok c.inner) × (c.bytes.now ≡ bytes_of_file.entry.now))
+            (λ e. RefusesRead e (image_of bytes_of_file.entry.now)) }
+        ensures shows { IfOk result (λ c. ShowsBothViews bytes_of_file.entry.now c.inner) }
+    {
+        let inner = Writer::read(alloc, bytes_of_file)?;
+        Ok(ElfContainer {
+            inner,
+            bytes: bytes_of_file,
+        })
+    }
+
+    /// The file's bytes as read. Takes no memory.
+    pub fn bytes(&self) -> &'a [u8]
+        ensures { result.now ≡ self.now.bytes.now }
+    {
+        self.bytes
+    }
+
+    /// The page size that was set, else the default one of the file's machine (gABI, ELF Header, `e_machine`), in
+    /// bytes. Takes no memory.
+    pub fn get_page_size(&self) -> u32
+        ensures { result ≡ unwrap_or self.now.inner.page_size (page_size_of self.now.inner.header.e_machine) }
+    {
+        self.inner.elf_get_page_size()
+    }
+
+    /// The directories of the run path that a loader goes by: the text of the first DT_RUNPATH entry, else that of
+    /// the first DT_RPATH entry (gABI, Dynamic Section), lossily, cut at its colons. There are none without such an
+    /// entry and in the empty text; `/a::/b` is `/a`, the empty text and `/b`. Error: `Memory`.
+    pub fn get_rpath(&self, alloc: Global) -> Result<Vec<String>>
+        ensures { MatchResult result
+            (λ directories. map string_bytes directories.items ≡ directories_shown (shown self.now.inner))
+            (λ e. e ≡ ElfError.Memory) }
+    {
+        match self.inner.searched_runpath() {
+            None => Ok(Vec::new(alloc)),
+            Some(text) => Ok(cut_at_colons(alloc, &text.to_str_lossy(alloc)?)?),
+        }
+    }
+
+    /// Prints the text of the first DT_RPATH or DT_RUNPATH entry (gABI, Dynamic Section): with U+FFFD for what is no
+    /// character, and a line feed; nothing without such an entry. Errors: `Memory`, before anything was printed; `Io`.
+    pub fn print_runpath<W: Write>(&self, alloc: Global, out: &mut W) -> Result<()>
+        ensures prints { OnOk result (Appends (W.contents out.old) (W.contents out.new) (printed_runpath (shown self.now.inner))) }
+        ensures fails { IfErr result (FailsPrint out.old out.new) }
+    {
+        write_line(alloc, out, self.inner.elf_runpath())
+    }
+
+    /// Prints the text of the first DT_SONAME entry (gABI, Dynamic Section), the library's own name, in the same way.
+    /// Errors: `Memory`, before anything was printed; `Io`.
+    pub fn print_soname<W: Write>(&self, alloc: Global, out: &mut W) -> Result<()>
+        ensures prints { OnOk result (Appends (W.contents out.old) (W.contents out.new) (printed_soname (shown self.now.inner))) }
+        ensures fails { IfErr result (FailsPrint out.old out.new) }
+    {
+        write_line(alloc, out, self.inner.elf_soname())
+    }
+
+    /// Prints the text of each DT_NEEDED entry (gABI, Dynamic Section) in the same way, in order. Errors: `Memory`,
+    /// before anything was printed; `Io`.
+    pub fn print_needed<W: Write>(&self, alloc: Global, out: &mut W) -> Result<()>
+        ensures prints { OnOk result (Appends (W.contents out.old) (W.contents out.new) (printed_needed (shown self.now.inner))) }
+        ensures fails { IfErr result (FailsPrint out.old out.new) }
+    {
+        let mut lines = Vec::new(alloc);
+        for text in self.inner.elf_needed() {
+            lines.extend_from_slice(line(alloc, text)?.as_slice())?;
+        }
+        Ok(out.write_all(lines.as_slice())?)
+    }
+
+    /// Prints the bytes of the interpreter's section before the first NUL (gABI, Program Interpreter) in the same way.
+    /// Errors: `Memory`, before anything was printed; `Io`.
+    pub fn print_interpreter<W: Write>(&self, alloc: Global, out: &mut W) -> Result<()>
+        ensures prints { OnOk result (Appends (W.contents out.old) (W.contents out.new) (printed_interpreter (shown self.now.inner))) }
+        ensures fails { IfErr result (FailsPrint out.old out.new) }
+    {
+        write_line(alloc, out, self.inner.elf_interpreter().map(before_nul))
+    }
+
+    /// Prints the ABI byte (gABI, ELF Identification, `EI_OSABI`) in decimal, with a line feed. Errors: `Memory`,
+    /// before anything was printed; `Io`.
+    pub fn print_os_abi<W: Write>(&self, alloc: Global, out: &mut W) -> Result<()>
+        ensures prints { OnOk result (Appends (W.contents out.old) (W.contents out.new) (printed_os_abi (shown self.now.inner))) }
+        ensures fails { IfErr result (FailsPrint out.old out.new) }
+    {
+        let mut text = self.inner.header().os_abi.to_string(alloc)?;
+        text.push('\n')?;
+        Ok(out.write_all(text.as_bytes())?)
+    }
+
+    /// Prints `X` where the flags of the first PT_GNU_STACK (GNU extension) let the stack be run (`PF_X`), else `-`,
+    /// with a line feed; nothing without a PT_GNU_STACK. Takes no memory. Error: `Io`.
+    pub fn print_exec_stack<W: Write>(&self, out: &mut W) -> Result<()>
+        ensures prints { OnOk result (Appends (W.contents out.old) (W.contents out.new) (printed_exec_stack (shown self.now.inner))) }
+        ensures fails { IfErr result FailsWrite }
+    {
+        match self.inner.elf_gnu_exec_stack() {
+            None => Ok(()),
+            Some(flags) => {
+                let text = if flags & PF_X == 0 { b"-\n" } else { b"X\n" };
+                Ok(out.write_all(text)?)
+            }
+        }
+    }
+}
