@@ -1,6 +1,8 @@
 -- A line that means a command is taken by the parser.
 use Rattle.std.proofs.Common.{◌≡◌, ◌∷◌, [], ◌++◌, ◌≤◌, List, Option, Some, None, Bool, false, ℕ, length, refl, sym, ap, ap₂, ◌∙◌, subst, codes, inl, inr, ◌≢◌, arith, map, Bor}
-use Rattle.std.specs.Prelude.{is_some, slice_get}
+use Rattle.std.specs.Prelude.{slice_get}
+use Rattle.std.specs.Option.{option_map}
+use Rattle.std.specs.Str.{bytes_eq}
 use Rattle.std.proofs.lemmas.List.{length-map}
 use Rattle.std.specs.List.{fold}
 use Rattle.clap.specs.Lexer.{usize_max}
@@ -12,37 +14,15 @@ use Rattle.std.proofs.lemmas.Bool.Decides.{nat_tests}
 use Rattle.clap.specs.Faults.{check_fault, defaults_fault, entered_fault, fault_of, level_fault, settle_fault, step_fault, turn_fault, walk_fault, word_fault}
 use Rattle.clap.proofs.FaultLemmas.{stopped_fault}
 use Rattle.clap.proofs.OnLiterals.{clap_on_literals}
-use Rattle.arwen.specs.Line.{Meaning, add_rpath, apply, change_install_id, change_install_name, change_rpath, delete_rpath, has_option, macho_meaning, meaning_of, of_many, of_three, of_two}
+use Rattle.arwen.specs.Line.{MachoMeaning, Meaning, add_rpath, apply, change_install_id, change_install_name, change_rpath, delete_rpath, has_option, macho_meaning, meaning_of, of_macho, of_many, of_three, of_two}
 use Rattle.arwen.specs.Parser.{found_meaning, from_three, from_two, macho_app, path_in}
 use Rattle.arwen.specs.Parser
-use Rattle.arwen.proofs.Words.{IsValue, at, value_at_idle, value_at_positional, walked_idle}
+use Rattle.arwen.proofs.Words.{IsValue, at, end_fault, no_words, one_word, value_at_positional}
 use Rattle.arwen.proofs.Values.{TakesThree, TakesTwo, add_leaf, add_takes, apply_leaf, change_leaf, change_takes, delete_leaf, delete_takes, first_value, found_many, gathered, install_id_leaf, install_id_takes, install_name_leaf, install_name_takes, met_all, met_first, met_more, met_path, one_held, path_alone, path_and_words, step_three, three_held, two_held, walk_two}
-use Rattle.arwen.proofs.Lines.{IsTaken, differs, found_by_name, line, meaning_in, names, walk_name, walked_name}
+use Rattle.arwen.proofs.Lines.{IsTaken, add_named, apply_named, change_named, delete_named, install_id_named, install_name_named, line}
+use Rattle.arwen.proofs.Named.{IsNamed, differs, named_taken}
 
--- ---- words that pass
-
-word_passes : (s : Shape) (h : Held) (word : Text) → IsValue word → word_fault s [] false idle word h ≡ []
-word_passes s h [] is = refl
-word_passes s h (x ∷ xs) is = simp is
-
-turn_passes : (s : Shape) (h : Held) (position : ℕ) (word : Text) → IsValue word → step_fault s position h value ≡ [] → turn_fault s [] (at idle position h) word ≡ []
-turn_passes s h position word is step =
-    ap₂ or_else (word_passes s h word is) (ap (λ (p : Held × Step). step_fault s position p.0 p.1) (value_at_idle s.rules h position word is) ∙ step)
-
-no_words : (s : Shape) (w : Walk) → walk_fault s [] w [] ≡ []
-unfolding walk_fault
-no_words s w = refl
-
-one_word : (s : Shape) (h : Held) (position : ℕ) (word : Text) (rest : List Text) → IsValue word → step_fault s position h value ≡ []
-    → walk_fault s [] (to_positional s.rules (arg_by_index s.rules position) word (at idle position h) h) rest ≡ [] → walk_fault s [] (at idle position h) (word ∷ rest) ≡ []
-unfolding walk_fault
-one_word s h position word rest is step after =
-    ap₂ or_else (turn_passes s h position word is step) (ap (λ w. walk_fault s [] w rest) (walked_idle s.rules h position word is) ∙ after)
-
--- what is looked at behind the words of a command
-abbrev end_fault : Shape → Held → Kinds
-end_fault s h =
-    or_else (settle_fault s.rules s.args_override_self h) (or_else (defaults_fault (settled s.rules h).rows s.rules) (check_fault s (finished s.rules h) false))
+-- ---- what is known of a command by computing with it
 
 pub record PassesTwo (s : Shape) : Type 0 where
   first : step_fault s 1 nothing_held value ≡ []
@@ -66,7 +46,7 @@ module _ (s : Shape) (id : Text) (t : TakesTwo s id) (p : PassesTwo s) (x y : Te
   pub two_pass : level_fault s [] nothing_held (x ∷ y ∷ []) false [] ≡ []
   two_pass = ap₂ or_else two_walk (ap (λ (w : Walk). end_fault s w.held) (walk_two s id t x y is_x is_y) ∙ p.end x y)
 
-  pub two_found : (meaning : Text → Text → Meaning)
+  pub two_found : (meaning : Text → Text → MachoMeaning)
       → from_two meaning (first_of id (rows_after s.rules [] (x ∷ y ∷ []))) (path_in (rows_after s.rules [] (x ∷ y ∷ []))) ≡ Some (meaning x y)
   two_found meaning =
       ap (λ (w : Walk). from_two meaning (first_of id (finished s.rules w.held)) (path_in (finished s.rules w.held))) (walk_two s id t x y is_x is_y)
@@ -84,7 +64,7 @@ module _ (s : Shape) (old new : Text) (t : TakesThree s old new) (p : PassesThre
   pub three_pass : level_fault s [] nothing_held (x ∷ y ∷ z ∷ []) false [] ≡ []
   three_pass = ap₂ or_else three_walk (ap (λ (w : Walk). end_fault s w.held) (step_three s old new t x y z is_x is_y is_z) ∙ p.end x y z)
 
-  pub three_found : (meaning : Text → Text → Text → Meaning)
+  pub three_found : (meaning : Text → Text → Text → MachoMeaning)
       → from_three meaning (first_of old (rows_after s.rules [] (x ∷ y ∷ z ∷ []))) (first_of new (rows_after s.rules [] (x ∷ y ∷ z ∷ []))) (path_in (rows_after s.rules [] (x ∷ y ∷ z ∷ []))) ≡ Some (meaning x y z)
   three_found meaning =
       ap (λ (w : Walk). from_three meaning (first_of old (finished s.rules w.held)) (first_of new (finished s.rules w.held)) (path_in (finished s.rules w.held))) (step_three s old new t x y z is_x is_y is_z)
@@ -198,7 +178,7 @@ many_pass path (word ∷ words) plain fits =
     let q = first_value word words p.1 in
     ap₂ or_else (many_walk path (word ∷ words) p.0 p.1) (ap (λ (w : Walk). end_fault apply_leaf w.held) (walk_path_words path word words p.0 q.0 q.1) ∙ words_end path word words fits)
 
-pub many_found : (meaning : Text → List Text → Meaning) (path : Text) (words : List Text) → has_option (path ∷ words) ≡ false
+pub many_found : (meaning : Text → List Text → MachoMeaning) (path : Text) (words : List Text) → has_option (path ∷ words) ≡ false
     → found_many meaning (fold (walked apply_leaf.rules []) (at idle 1 nothing_held) (path ∷ words)) ≡ Some (meaning path words)
 many_found meaning path [] plain = ap (found_many meaning) (met_path path (first_value path [] plain).0) ∙ path_alone meaning path
 many_found meaning path (word ∷ words) plain =
@@ -206,86 +186,26 @@ many_found meaning path (word ∷ words) plain =
     let q = first_value word words p.1 in
     ap (found_many meaning) (walk_path_words path word words p.0 q.0 q.1) ∙ path_and_words meaning path word words
 
--- ---- behind a name
+-- ---- each command
 
--- what is looked at behind the words of a line
-abbrev rest_fault : Held → Option (Text × List Row) → Kinds
-rest_fault h found =
-    or_else (settle_fault line.top.rules line.top.args_override_self h)
-    (or_else (defaults_fault (settled line.top.rules h).rows line.top.rules) (check_fault line.top (finished line.top.rules h) (is_some found)))
-
-abbrev line_fault : Walk → Kinds
-line_fault w = or_else (entered_fault line w.stopped) (rest_fault w.held (entered line w.stopped))
-
-module _ (name : Text) (is : subcommand_met names idle name ≡ Some name) (turn : turn_fault line.top names (at idle 1 nothing_held) name ≡ []) where
-  name_walk : (words : List Text) → walk_fault line.top names (at idle 1 nothing_held) (name ∷ words) ≡ []
-  unfolding walk_fault
-  name_walk words =
-      ap₂ or_else turn (ap (λ w. walk_fault line.top names w words) (walked_name name is) ∙ stopped_fault line.top names (at idle 1 nothing_held) (name, []) words)
-
-  name_passes : (first : Text) (words : List Text) → entered_fault line (Some (name, words)) ≡ [] → rest_fault nothing_held (entered line (Some (name, words))) ≡ []
-      → fault_of macho_app (first ∷ name ∷ words) ≡ []
-  name_passes first words below rest = ap₂ or_else (name_walk words) (ap line_fault (walk_name name is words) ∙ ap₂ or_else below rest)
-
--- what is known of a command by computing with its name
-pub record IsNamed (name : Text) (leaf : Shape) : Type 0 where
-  met : subcommand_met names idle name ≡ Some name
-  turn : turn_fault line.top names (at idle 1 nothing_held) name ≡ []
-  below : (words : List Text) → entered_fault line (Some (name, words)) ≡ level_fault leaf [] nothing_held words false []
-  rest : (words : List Text) → rest_fault nothing_held (entered line (Some (name, words))) ≡ []
-  found : (words : List Text) → meaning_in (entered line (Some (name, words))) ≡ found_meaning name (rows_after leaf.rules [] words)
-
-named_taken : (name : Text) (leaf : Shape) (n : IsNamed name leaf) (first : Text) (words : List Text) (m : Meaning) → level_fault leaf [] nothing_held words false [] ≡ []
-    → found_meaning name (rows_after leaf.rules [] words) ≡ Some m → IsTaken first name words m
-named_taken name leaf n first words m faults found = (
-  name_passes name n.met n.turn first words (n.below words ∙ faults) (n.rest words),
-  ap meaning_in (found_by_name name n.met first words) ∙ n.found words ∙ found,
-)
-
--- ---- each name
-
-delete_named : IsNamed (codes "delete-rpath") delete_leaf
-unfolding clap_on_literals
-delete_named = record { met = refl; turn = refl; below = λ ws. refl; rest = λ ws. refl; found = λ ws. refl }
-
-change_named : IsNamed (codes "change-rpath") change_leaf
-unfolding clap_on_literals
-change_named = record { met = refl; turn = refl; below = λ ws. refl; rest = λ ws. refl; found = λ ws. refl }
-
-add_named : IsNamed (codes "add-rpath") add_leaf
-unfolding clap_on_literals
-add_named = record { met = refl; turn = refl; below = λ ws. refl; rest = λ ws. refl; found = λ ws. refl }
-
-install_name_named : IsNamed (codes "change-install-name") install_name_leaf
-unfolding clap_on_literals
-install_name_named = record { met = refl; turn = refl; below = λ ws. refl; rest = λ ws. refl; found = λ ws. refl }
-
-install_id_named : IsNamed (codes "change-install-id") install_id_leaf
-unfolding clap_on_literals
-install_id_named = record { met = refl; turn = refl; below = λ ws. refl; rest = λ ws. refl; found = λ ws. refl }
-
-apply_named : IsNamed (codes "apply") apply_leaf
-unfolding clap_on_literals
-apply_named = record { met = refl; turn = refl; below = λ ws. refl; rest = λ ws. refl; found = λ ws. refl }
-
-module _ (first : Text) (m : Meaning) where
+module _ (m : MachoMeaning) where
   -- a command with a value and the path
-  two_taken : (name id : Text) (leaf : Shape) (meaning : Text → Text → Meaning) → IsNamed name leaf → (t : TakesTwo leaf id) → PassesTwo leaf
+  two_taken : (name id : Text) (leaf : Shape) (meaning : Text → Text → MachoMeaning) → IsNamed line found_meaning name leaf → (t : TakesTwo leaf id) → PassesTwo leaf
       → ((rows : List Row) → found_meaning name rows ≡ from_two meaning (first_of id rows) (path_in rows)) → (words : List Text) → has_option words ≡ false
-      → of_two meaning words ≡ Some m → IsTaken first name words m
+      → of_two meaning words ≡ Some m → IsTaken name words m
   two_taken name id leaf meaning n t p reads [] plain is = absurd (cc)
   two_taken name id leaf meaning n t p reads (x ∷ []) plain is = absurd (cc)
   two_taken name id leaf meaning n t p reads (x ∷ y ∷ []) plain is =
       let a = first_value x (y ∷ []) plain in
       let b = first_value y [] a.1 in
-      named_taken name leaf n first (x ∷ y ∷ []) m (two_pass leaf id t p x y a.0 b.0)
+      named_taken line found_meaning name leaf n (x ∷ y ∷ []) m (two_pass leaf id t p x y a.0 b.0)
       (reads (rows_after leaf.rules [] (x ∷ y ∷ [])) ∙ two_found leaf id t p x y a.0 b.0 meaning ∙ is)
   two_taken name id leaf meaning n t p reads (x ∷ y ∷ z ∷ rest) plain is = absurd (cc)
 
   -- a command with two values and the path
-  three_taken : (name old new : Text) (leaf : Shape) (meaning : Text → Text → Text → Meaning) → IsNamed name leaf → (t : TakesThree leaf old new) → PassesThree leaf
+  three_taken : (name old new : Text) (leaf : Shape) (meaning : Text → Text → Text → MachoMeaning) → IsNamed line found_meaning name leaf → (t : TakesThree leaf old new) → PassesThree leaf
       → ((rows : List Row) → found_meaning name rows ≡ from_three meaning (first_of old rows) (first_of new rows) (path_in rows)) → (words : List Text) → has_option words ≡ false
-      → of_three meaning words ≡ Some m → IsTaken first name words m
+      → of_three meaning words ≡ Some m → IsTaken name words m
   three_taken name old new leaf meaning n t p reads [] plain is = absurd (cc)
   three_taken name old new leaf meaning n t p reads (x ∷ []) plain is = absurd (cc)
   three_taken name old new leaf meaning n t p reads (x ∷ y ∷ []) plain is = absurd (cc)
@@ -293,37 +213,37 @@ module _ (first : Text) (m : Meaning) where
       let a = first_value x (y ∷ z ∷ []) plain in
       let b = first_value y (z ∷ []) a.1 in
       let c = first_value z [] b.1 in
-      named_taken name leaf n first (x ∷ y ∷ z ∷ []) m (three_pass leaf old new t p x y z a.0 b.0 c.0)
+      named_taken line found_meaning name leaf n (x ∷ y ∷ z ∷ []) m (three_pass leaf old new t p x y z a.0 b.0 c.0)
       (reads (rows_after leaf.rules [] (x ∷ y ∷ z ∷ [])) ∙ three_found leaf old new t p x y z a.0 b.0 c.0 meaning ∙ is)
   three_taken name old new leaf meaning n t p reads (x ∷ y ∷ z ∷ u ∷ rest) plain is = absurd (cc)
 
-  many_taken : (words : List Text) → has_option words ≡ false → length words ≤ usize_max → of_many apply words ≡ Some m → IsTaken first (codes "apply") words m
+  many_taken : (words : List Text) → has_option words ≡ false → length words ≤ usize_max → of_many apply words ≡ Some m → IsTaken (codes "apply") words m
   many_taken [] plain fits is = absurd (cc)
   many_taken (path ∷ words) plain fits is =
-      named_taken (codes "apply") apply_leaf apply_named first (path ∷ words) m (many_pass path words plain (omega arith)) (many_found apply path words plain ∙ is)
+      named_taken line found_meaning (codes "apply") apply_leaf apply_named (path ∷ words) m (many_pass path words plain (omega arith)) (many_found apply path words plain ∙ is)
 
 -- ---- any name
 
-module _ (first name : Text) (words : List Text) (m : Meaning) (plain : has_option (name ∷ words) ≡ false) (fits : length words ≤ usize_max) (is : macho_meaning name words ≡ Some m) where
+module _ (name : Text) (words : List Text) (m : MachoMeaning) (plain : has_option (name ∷ words) ≡ false) (fits : length words ≤ usize_max) (is : macho_meaning name words ≡ Some m) where
   plain_words : has_option words ≡ false
   plain_words = (first_value name words plain).1
 
-  by_name : (known : Text) → name ≡ known → (macho_meaning known words ≡ Some m → IsTaken first known words m) → IsTaken first name words m
-  by_name known same law = subst (λ (n : Text). IsTaken first n words m) (sym same) (law (subst (λ (n : Text). macho_meaning n words ≡ Some m) same is))
+  by_name : (known : Text) → name ≡ known → (macho_meaning known words ≡ Some m → IsTaken known words m) → IsTaken name words m
+  by_name known same law = subst (λ (n : Text). IsTaken n words m) (sym same) (law (subst (λ (n : Text). macho_meaning n words ≡ Some m) same is))
 
-  pub meaning_taken : IsTaken first name words m
+  pub meaning_taken : IsTaken name words m
   meaning_taken = elim (differs name (codes "delete-rpath")) [
-    | inl same ↦ by_name (codes "delete-rpath") same (λ e. two_taken first m (codes "delete-rpath") (codes "rpath_to_remove") delete_leaf delete_rpath delete_named delete_takes delete_passes (λ rows. refl) words plain_words e)
+    | inl same ↦ by_name (codes "delete-rpath") same (λ e. two_taken m (codes "delete-rpath") (codes "rpath_to_remove") delete_leaf delete_rpath delete_named delete_takes delete_passes (λ rows. refl) words plain_words e)
     | inr not_delete ↦ elim (differs name (codes "change-rpath")) [
-      | inl same ↦ by_name (codes "change-rpath") same (λ e. three_taken first m (codes "change-rpath") (codes "old_rpath") (codes "new_rpath") change_leaf change_rpath change_named change_takes change_passes (λ rows. refl) words plain_words e)
+      | inl same ↦ by_name (codes "change-rpath") same (λ e. three_taken m (codes "change-rpath") (codes "old_rpath") (codes "new_rpath") change_leaf change_rpath change_named change_takes change_passes (λ rows. refl) words plain_words e)
       | inr not_change ↦ elim (differs name (codes "add-rpath")) [
-        | inl same ↦ by_name (codes "add-rpath") same (λ e. two_taken first m (codes "add-rpath") (codes "new_rpath") add_leaf add_rpath add_named add_takes add_passes (λ rows. refl) words plain_words e)
+        | inl same ↦ by_name (codes "add-rpath") same (λ e. two_taken m (codes "add-rpath") (codes "new_rpath") add_leaf add_rpath add_named add_takes add_passes (λ rows. refl) words plain_words e)
         | inr not_add ↦ elim (differs name (codes "change-install-name")) [
-          | inl same ↦ by_name (codes "change-install-name") same (λ e. three_taken first m (codes "change-install-name") (codes "old_install_name") (codes "new_install_name") install_name_leaf change_install_name install_name_named install_name_takes install_name_passes (λ rows. refl) words plain_words e)
+          | inl same ↦ by_name (codes "change-install-name") same (λ e. three_taken m (codes "change-install-name") (codes "old_install_name") (codes "new_install_name") install_name_leaf change_install_name install_name_named install_name_takes install_name_passes (λ rows. refl) words plain_words e)
           | inr not_install_name ↦ elim (differs name (codes "change-install-id")) [
-            | inl same ↦ by_name (codes "change-install-id") same (λ e. two_taken first m (codes "change-install-id") (codes "new_install_id") install_id_leaf change_install_id install_id_named install_id_takes install_id_passes (λ rows. refl) words plain_words e)
+            | inl same ↦ by_name (codes "change-install-id") same (λ e. two_taken m (codes "change-install-id") (codes "new_install_id") install_id_leaf change_install_id install_id_named install_id_takes install_id_passes (λ rows. refl) words plain_words e)
             | inr not_install_id ↦ elim (differs name (codes "apply")) [
-              | inl same ↦ by_name (codes "apply") same (λ e. many_taken first m words plain_words fits e)
+              | inl same ↦ by_name (codes "apply") same (λ e. many_taken m words plain_words fits e)
               | inr not_apply ↦
                   let none : macho_meaning name words ≡ None = simp (not_delete, not_change, not_add, not_install_name, not_install_id, not_apply) in
                   absurd (cc)
@@ -336,28 +256,39 @@ module _ (first name : Text) (words : List Text) (m : Meaning) (plain : has_opti
 
 -- ---- a whole line
 
+module _ {A B : Type 0} (f : A → B) where
+  -- what is made of a value was made of one
+  pub made_of : (o : Option A) (b : B) → option_map f o ≡ Some b → (a : A) × (o ≡ Some a)
+  made_of None b e = absurd (cc)
+  made_of (Some a) b e = (a, refl)
+
 abbrev texts : List (Bor Text) → List Text
 texts = map (λ w. w.now)
 
 pub line_passes : (words : List (Bor Text)) (first : Bor Text) (m : Meaning) → Some first ≡ slice_get words 0 → first.now ≡ codes "macho" → length words ≤ usize_max
-    → has_option (texts words) ≡ false → meaning_of (texts words) ≡ Some m → Parser.IsTaken (texts words) m
+    → has_option (texts words) ≡ false → meaning_of (texts words) ≡ Some m → (taken : MachoMeaning) × Parser.IsTaken (texts words) taken
 line_passes [] first m is named fits plain meant = absurd (cc)
 line_passes (word ∷ []) first m is named fits plain meant = absurd (cc)
 line_passes (word ∷ name ∷ words) first m is named fits plain meant =
     let same : first ≡ word = cc in
     let known : word.now ≡ codes "macho" = ap (λ (w : Bor Text). w.now) (sym same) ∙ named in
     let counted : length (texts words) ≡ length words = length-map words (λ w. w.now) in
-    let At : Text → Type 0 = λ w. has_option (w ∷ name.now ∷ texts words) ≡ false → meaning_of (w ∷ name.now ∷ texts words) ≡ Some m → Parser.IsTaken (w ∷ name.now ∷ texts words) m in
-    let at_macho : At (codes "macho") = λ p e. meaning_taken (codes "macho") name.now (texts words) m p (omega arith) e in
-    subst At (sym known) at_macho plain meant
+    let rest = (first_value word.now (name.now ∷ texts words) plain).1 in
+    let at_macho = subst (λ (w : Text). meaning_of (w ∷ name.now ∷ texts words) ≡ Some m) known meant in
+    let made = made_of of_macho (macho_meaning name.now (texts words)) m at_macho in
+    (made.0, meaning_taken name.now (texts words) made.0 rest (omega arith) made.1)
 
 -- a line with another first word means nothing
-pub other_line : (words : List (Bor Text)) (m : Meaning) → ((first : Bor Text) → Some first ≡ slice_get words 0 → first.now ≢ codes "macho") → meaning_of (texts words) ≢ Some m
-other_line [] m other e = cc
-other_line (word ∷ []) m other e = cc
-other_line (word ∷ name ∷ words) m other e = elim (differs word.now (codes "macho")) [
-  | inl same ↦ other word refl same
-  | inr not_macho ↦
-      let none : meaning_of (texts (word ∷ name ∷ words)) ≡ None = simp not_macho in
-      cc
+pub other_line : (words : List (Bor Text)) (m : Meaning) → ((first : Bor Text) → Some first ≡ slice_get words 0 → first.now ≢ codes "macho")
+    → ((first : Bor Text) → Some first ≡ slice_get words 0 → first.now ≢ codes "elf") → meaning_of (texts words) ≢ Some m
+other_line [] m macho elf e = cc
+other_line (word ∷ []) m macho elf e = cc
+other_line (word ∷ name ∷ words) m macho elf e = elim (differs word.now (codes "macho")) [
+  | inl same ↦ macho word refl same
+  | inr not_macho ↦ elim (differs word.now (codes "elf")) [
+    | inl same ↦ elf word refl same
+    | inr not_elf ↦
+        let none : meaning_of (texts (word ∷ name ∷ words)) ≡ None = simp (not_macho, not_elf) in
+        cc
+  ]
 ]

@@ -5,7 +5,7 @@ use Rattle.clap.specs.Walk.{Held, Text, Walk, all_of, arg_by_index, finished, fi
 use Rattle.clap.specs.Simple.{Shape, built_leaf}
 use Rattle.clap.specs.Faults.{step_fault, walk_fault}
 use Rattle.clap.proofs.OnLiterals.{clap_on_literals}
-use Rattle.arwen.specs.Line.{Meaning, has_option, of_many, of_three, of_two}
+use Rattle.arwen.specs.Line.{MachoMeaning, has_option, of_many, of_three, of_two}
 use Rattle.arwen.specs.Parser.{add_app, apply_app, change_app, delete_app, from_many, from_three, from_two, install_id_app, install_name_app, path_in}
 use Rattle.arwen.proofs.Words.{IsValue, at, no_fault_after, no_fault_here, walked_idle, walked_positional}
 
@@ -46,10 +46,10 @@ pub record TakesTwo (s : Shape) (id : Text) : Type 0 where
   pub value_is : (x y : Text) → first_of id (finished s.rules (two_held s x y)) ≡ Some x
   pub path_is : (x y : Text) → path_in (finished s.rules (two_held s x y)) ≡ Some y
 
-abbrev found_two : Shape → Text → (Text → Text → Meaning) → Walk → Option Meaning
+abbrev found_two : Shape → Text → (Text → Text → MachoMeaning) → Walk → Option MachoMeaning
 found_two s id meaning w = from_two meaning (first_of id (finished s.rules w.held)) (path_in (finished s.rules w.held))
 
-from_two-path : (meaning : Text → Text → Meaning) (given : Option Text) → from_two meaning given None ≡ None
+from_two-path : (meaning : Text → Text → MachoMeaning) (given : Option Text) → from_two meaning given None ≡ None
 from_two-path meaning None = refl
 from_two-path meaning (Some given) = refl
 
@@ -60,8 +60,8 @@ module _ (s : Shape) (id : Text) (t : TakesTwo s id) where
   pub walk_two : (x y : Text) → IsValue x → IsValue y → walked s.rules [] (walked s.rules [] (at idle 1 nothing_held) x) y ≡ at idle 3 (two_held s x y)
   walk_two x y p q = ap (λ w. walked s.rules [] w y) (walk_one x p) ∙ walked_idle s.rules (one_held s x) 2 y q ∙ t.second x y
 
-module _ (s : Shape) (id : Text) (t : TakesTwo s id) (meaning : Text → Text → Meaning) where
-  pub two_words : (words : List Text) (m : Meaning) → has_option words ≡ false → walk_fault s [] (at idle 1 nothing_held) words ≡ []
+module _ (s : Shape) (id : Text) (t : TakesTwo s id) (meaning : Text → Text → MachoMeaning) where
+  pub two_words : (words : List Text) (m : MachoMeaning) → has_option words ≡ false → walk_fault s [] (at idle 1 nothing_held) words ≡ []
       → from_two meaning (first_of id (rows_after s.rules [] words)) (path_in (rows_after s.rules [] words)) ≡ Some m → of_two meaning words ≡ Some m
   two_words [] m plain none found =
       let missing : found_two s id meaning (at idle 1 nothing_held) ≡ None = ap (λ v. from_two meaning v (path_in (finished s.rules nothing_held))) t.none in
@@ -99,15 +99,15 @@ pub record TakesThree (s : Shape) (old new : Text) : Type 0 where
   pub new_is : (x y z : Text) → first_of new (finished s.rules (three_held s x y z)) ≡ Some y
   pub path_is : (x y z : Text) → path_in (finished s.rules (three_held s x y z)) ≡ Some z
 
-abbrev found_three : Shape → Text → Text → (Text → Text → Text → Meaning) → Walk → Option Meaning
+abbrev found_three : Shape → Text → Text → (Text → Text → Text → MachoMeaning) → Walk → Option MachoMeaning
 found_three s old new meaning w =
     from_three meaning (first_of old (finished s.rules w.held)) (first_of new (finished s.rules w.held)) (path_in (finished s.rules w.held))
 
-from_three-new : (meaning : Text → Text → Text → Meaning) (old path : Option Text) → from_three meaning old None path ≡ None
+from_three-new : (meaning : Text → Text → Text → MachoMeaning) (old path : Option Text) → from_three meaning old None path ≡ None
 from_three-new meaning None path = refl
 from_three-new meaning (Some old) path = refl
 
-from_three-path : (meaning : Text → Text → Text → Meaning) (old new : Option Text) → from_three meaning old new None ≡ None
+from_three-path : (meaning : Text → Text → Text → MachoMeaning) (old new : Option Text) → from_three meaning old new None ≡ None
 from_three-path meaning None new = refl
 from_three-path meaning (Some old) None = refl
 from_three-path meaning (Some old) (Some new) = refl
@@ -123,8 +123,8 @@ module _ (s : Shape) (old new : Text) (t : TakesThree s old new) where
       → walked s.rules [] (walked s.rules [] (walked s.rules [] (at idle 1 nothing_held) x) y) z ≡ at idle 4 (three_held s x y z)
   step_three x y z p q r = ap (λ w. walked s.rules [] w z) (step_two x y p q) ∙ walked_idle s.rules (two_held s x y) 3 z r ∙ t.third x y z
 
-module _ (s : Shape) (old new : Text) (t : TakesThree s old new) (meaning : Text → Text → Text → Meaning) where
-  pub three_words : (words : List Text) (m : Meaning) → has_option words ≡ false → walk_fault s [] (at idle 1 nothing_held) words ≡ []
+module _ (s : Shape) (old new : Text) (t : TakesThree s old new) (meaning : Text → Text → Text → MachoMeaning) where
+  pub three_words : (words : List Text) (m : MachoMeaning) → has_option words ≡ false → walk_fault s [] (at idle 1 nothing_held) words ≡ []
       → from_three meaning (first_of old (rows_after s.rules [] words)) (first_of new (rows_after s.rules [] words)) (path_in (rows_after s.rules [] words)) ≡ Some m
       → of_three meaning words ≡ Some m
   three_words [] m plain none found =
@@ -191,22 +191,22 @@ met_all path met (word ∷ words) plain =
     ap (λ w. fold (walked apply_leaf.rules []) w words) (met_more path word met p.0) ∙ met_all path (met ++ word ∷ []) words p.1
     ∙ ap (gathered path) (append_assoc met (word ∷ []) words)
 
-abbrev pub found_many : (Text → List Text → Meaning) → Walk → Option Meaning
+abbrev pub found_many : (Text → List Text → MachoMeaning) → Walk → Option MachoMeaning
 found_many meaning w = from_many meaning (path_in (finished apply_leaf.rules w.held)) (all_of (codes "edits") (finished apply_leaf.rules w.held))
 
-no_path : (meaning : Text → List Text → Meaning) → found_many meaning (at idle 1 nothing_held) ≡ None
+no_path : (meaning : Text → List Text → MachoMeaning) → found_many meaning (at idle 1 nothing_held) ≡ None
 unfolding clap_on_literals
 no_path meaning = refl
 
-pub path_alone : (meaning : Text → List Text → Meaning) (path : Text) → found_many meaning (at idle 2 (one_held apply_leaf path)) ≡ Some (meaning path [])
+pub path_alone : (meaning : Text → List Text → MachoMeaning) (path : Text) → found_many meaning (at idle 2 (one_held apply_leaf path)) ≡ Some (meaning path [])
 unfolding clap_on_literals
 path_alone meaning path = refl
 
-pub path_and_words : (meaning : Text → List Text → Meaning) (path word : Text) (words : List Text) → found_many meaning (gathered path (word ∷ words)) ≡ Some (meaning path (word ∷ words))
+pub path_and_words : (meaning : Text → List Text → MachoMeaning) (path word : Text) (words : List Text) → found_many meaning (gathered path (word ∷ words)) ≡ Some (meaning path (word ∷ words))
 unfolding clap_on_literals
 path_and_words meaning path word words = refl
 
-pub many_words : (meaning : Text → List Text → Meaning) (words : List Text) (m : Meaning) → has_option words ≡ false
+pub many_words : (meaning : Text → List Text → MachoMeaning) (words : List Text) (m : MachoMeaning) → has_option words ≡ false
     → from_many meaning (path_in (rows_after apply_leaf.rules [] words)) (all_of (codes "edits") (rows_after apply_leaf.rules [] words)) ≡ Some m → of_many meaning words ≡ Some m
 many_words meaning [] m plain found = absurd (some≢none m (sym (no_path meaning) ∙ found))
 many_words meaning (path ∷ []) m plain found =

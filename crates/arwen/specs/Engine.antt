@@ -1,8 +1,9 @@
 -- What a command makes of a file's bytes.
-use Rattle.std.specs.Prelude.{ℕ, ◌≡◌, List, [], ◌∷◌, Option, Some, None, Result, Ok, Err, ⊤}
+use Rattle.std.specs.Prelude.{ℕ, ◌≡◌, List, [], ◌∷◌, length, All, Option, Some, None, Result, Ok, Err, ⊤}
 use Rattle.arwen_macho.specs.declared.batch.MachoBatchError.{MachoBatchError}
 use Rattle.arwen_macho.specs.declared.error.MachoError.{MachoError}
 use Rattle.arwen_macho.specs.declared.error.MachoError.TheVariants.{Parsing, UnixArchive}
+use Rattle.arwen_macho.specs.declared.front.Front.{Front}
 use Rattle.arwen_macho.specs.declared.macho.MachoType.{MachoType}
 use Rattle.arwen_macho.specs.Call.{Call}
 use Rattle.arwen_macho.specs.Call.Call.{add_rpath, change_install_id, change_install_name}
@@ -10,6 +11,7 @@ use Rattle.arwen_macho.specs.Call.Call.{change_rpath, remove_rpath}
 use Rattle.arwen_macho.specs.Container.{container_bytes, container_step, first_container}
 use Rattle.arwen_macho.specs.Found.{Found, container_found}
 use Rattle.arwen_macho.specs.Found.Found.{archive, fault}
+use Rattle.arwen_macho.specs.Fronts.{LiesIn, fronts_on}
 use Rattle.arwen_macho.specs.Refused.{cause_of}
 use Rattle.arwen_macho.specs.State.{Refusal}
 use Rattle.arwen.specs.declared.cli.edits.EditFault.{EditFault}
@@ -17,18 +19,20 @@ use Rattle.arwen.specs.declared.cli.edits.EditsError.{EditsError}
 use Rattle.arwen.specs.declared.cli.edits.EditsError.TheVariants.{Fault}
 use Rattle.arwen.specs.declared.cli.edits.EditsError.TheVariants as edits
 use Rattle.arwen.specs.declared.cli.error.ArwenError.{ArwenError}
-use Rattle.arwen.specs.declared.cli.error.ArwenError.TheVariants.{Edits, Io, Line, Macho, MachoBatch, Memory}
+use Rattle.arwen.specs.declared.cli.error.ArwenError.TheVariants.{Edits, Elf, Io, Line, Macho, MachoBatch, Memory}
 use Rattle.arwen.specs.Edits.{edits_of}
-use Rattle.arwen.specs.Line.{Meaning}
-use Rattle.arwen.specs.Line.Meaning.{add_rpath as line_add, apply, change_install_id as line_id}
-use Rattle.arwen.specs.Line.Meaning.{change_install_name as line_name, change_rpath as line_change, delete_rpath}
+use Rattle.arwen.specs.Fault.{answer_to, answer_to_batch}
+use Rattle.arwen.specs.Line.{MachoMeaning, Meaning, of_elf, of_macho}
+use Rattle.arwen.specs.Line.MachoMeaning.{add_rpath as line_add, apply, change_install_id as line_id}
+use Rattle.arwen.specs.Line.MachoMeaning.{change_install_name as line_name, change_rpath as line_change, delete_rpath}
+use Rattle.arwen.specs.Prints.{SomeAccepted}
 
 -- what a line asks for: one edit, or those that words name
 pub data Asked : Type 0 where
   one : Call → Asked
   several : Result (List Call) EditFault → Asked
 
-abbrev pub asked : Meaning → Asked
+abbrev pub asked : MachoMeaning → Asked
 asked (delete_rpath old path) = one (remove_rpath old)
 asked (line_change old new path) = one (change_rpath old new)
 asked (line_add new path) = one (add_rpath new)
@@ -64,8 +68,21 @@ outcome_of (several (Ok calls)) file = edited_file refused_batch calls file (con
 outcome_of (several (Err wrong)) file = no_edits wrong
 
 -- what a line makes of a file's bytes
-abbrev pub outcome : Meaning → List ℕ → Outcome
+abbrev pub outcome : MachoMeaning → List ℕ → Outcome
 outcome meaning file = outcome_of (asked meaning) file
+
+-- a command can be done: some file has new bytes by it. No clause can name the bytes of a file that is
+-- read, so a run that succeeds tells no more
+pub record IsDone (meaning : MachoMeaning) : Type 0 where
+  pub old : List ℕ
+  pub new : List ℕ
+  pub makes : outcome meaning old ≡ bytes new
+
+-- words mean a command, and it can be done
+abbrev pub CanBeDone : Option Meaning → Type 0
+CanBeDone (Some (of_macho meaning)) = IsDone meaning
+CanBeDone (Some (of_elf meaning)) = SomeAccepted
+CanBeDone None = ⊥
 
 -- ---- which answer tells an outcome; want of memory may be answered in any case
 
@@ -95,16 +112,27 @@ Tells outcome Memory = ⊤
 Tells outcome (Macho e) = TellsMacho outcome e
 Tells outcome (MachoBatch e) = TellsBatch outcome e
 Tells outcome (Edits e) = TellsWords outcome e
+Tells outcome (Elf e) = ⊥
 Tells outcome (Io e) = ⊥
 Tells outcome (Line text status) = ⊥
 
--- ---- one edit of a container
+-- ---- the edits that a command asks for, and what they write
 
--- what a command that asks for one edit leaves, and how it is refused; no other command edits
-abbrev pub EditsOne : Asked → MachoType → MachoType → Type 0
-EditsOne (one call) old new = container_step (call ∷ []) old ≡ Ok new
-EditsOne (several edits) old new = new ≡ old
+-- edits are those that are asked for
+abbrev pub AreAsked : Asked → List Call → Type 0
+AreAsked (one call) calls = calls ≡ call ∷ []
+AreAsked (several edits) calls = edits ≡ Ok calls
 
-abbrev pub one_outcome : Asked → MachoType → Outcome
-one_outcome (one call) file = written refused (container_step (call ∷ []) file)
-one_outcome (several edits) file = bytes (container_bytes file)
+-- an error that tells the outcome of each file, since no file was looked at
+abbrev pub TellsAsked : Asked → ArwenError → Type 0
+TellsAsked a e = (file : List ℕ) → Tells (outcome_of a file) e
+
+-- how a refused batch is answered: where one edit was asked for, by its fault alone
+abbrev pub refused_answer : Asked → MachoBatchError → ArwenError
+refused_answer (one call) e = answer_to e.fault
+refused_answer (several edits) e = answer_to_batch e
+
+-- fronts that lie in a file's bytes, and make them those of an outcome
+pub record Writes (result : Outcome) (file : List ℕ) (fronts : List Front) : Type 0 where
+  pub inside : All (LiesIn (length file)) fronts
+  pub is : result ≡ bytes (fronts_on fronts file)

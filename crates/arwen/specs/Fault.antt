@@ -1,12 +1,14 @@
 -- What the program answers when it does not do what was asked.
 use Rattle.std.specs.Prelude.{ℕ}
+use Rattle.arwen_elf.specs.declared.elf.rewriter.error.ElfError.{ElfError}
+use Rattle.arwen_elf.specs.declared.elf.rewriter.error.ElfError.TheVariants as elf
 use Rattle.arwen_macho.specs.declared.error.MachoError.{MachoError}
 use Rattle.arwen_macho.specs.declared.error.MachoError.TheVariants as macho
 use Rattle.arwen_macho.specs.declared.batch.MachoBatchError.{MachoBatchError}
 use Rattle.arwen.specs.declared.cli.edits.EditsError.{EditsError}
 use Rattle.arwen.specs.declared.cli.edits.EditsError.TheVariants as edits
 use Rattle.arwen.specs.declared.cli.error.ArwenError.{ArwenError}
-use Rattle.arwen.specs.declared.cli.error.ArwenError.TheVariants.{Edits, Line, Macho, MachoBatch, Memory}
+use Rattle.arwen.specs.declared.cli.error.ArwenError.TheVariants.{Edits, Elf, Line, Macho, MachoBatch, Memory}
 
 -- the status that the program ends with
 abbrev pub status_of : ArwenError → ℕ
@@ -18,6 +20,11 @@ status_of _ = 1
 abbrev pub answer_to : MachoError → ArwenError
 answer_to macho.Memory = Memory
 answer_to fault = Macho fault
+
+-- the program's answer for a fault of an ELF file, in the same way
+abbrev pub answer_to_elf : ElfError → ArwenError
+answer_to_elf elf.Memory = Memory
+answer_to_elf fault = Elf fault
 
 -- the program's answer for a refused batch
 abbrev pub answer_by_fault : MachoBatchError → MachoError → ArwenError

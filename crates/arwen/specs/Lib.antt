@@ -3,3 +3,4 @@ pub mod Engine
 pub mod Fault
 pub mod Line
 pub mod Parser
+pub mod Prints

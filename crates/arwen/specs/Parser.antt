@@ -1,7 +1,7 @@
--- What the parser of lines is told of a line that begins with `macho`, and what is made of what it
--- finds.
+-- What the parser of lines is told of a line that begins with `macho` or `elf`, and what is made of
+-- what it finds.
 use Rattle.std.specs.Prelude.{◌≡◌, Bool, List, [], Option, Some, None, codes, true, if◌then◌else◌}
-use Rattle.std.specs.Prelude.{option_and_then, unwrap_or}
+use Rattle.std.specs.Prelude.{option_and_then, option_map, unwrap_or}
 use Rattle.std.specs.Str.{bytes_eq}
 use Rattle.clap.specs.Words.{App, Row, Rule, all_of, fault_of, first_of, new_app, new_rule}
 use Rattle.clap.specs.Words.{subcommand_of, with_rule, with_subcommand}
@@ -10,8 +10,10 @@ use Rattle.clap.specs.declared.builder.command.Command.TheViews.{out-Command}
 use Rattle.clap.specs.declared.builder.action.ArgAction.TheVariants.{Append}
 use Rattle.clap.specs.Lexer.{usize_max}
 use Rattle.arwen.specs.Edits.{Text}
-use Rattle.arwen.specs.Line.{Meaning, add_rpath, apply, change_install_id, change_install_name}
-use Rattle.arwen.specs.Line.{change_rpath, delete_rpath}
+use Rattle.arwen.specs.Line.{ElfMeaning, MachoMeaning, add_rpath, apply, change_install_id}
+use Rattle.arwen.specs.Line.{change_install_name, change_rpath, delete_rpath, print_exec_stack}
+use Rattle.arwen.specs.Line.{print_interpreter, print_needed, print_os_abi, print_rpath}
+use Rattle.arwen.specs.Line.{print_soname}
 
 -- ---- the commands
 
@@ -61,9 +63,9 @@ apply_app = with_rule
     (values_rule (codes "edits"))
 
 -- a command that asks for a subcommand, and shows its help where no word is given
-abbrev pub top_app : App
-top_app = record (new_app (codes "macho")) {
-  top = record (new_app (codes "macho")).top {
+abbrev pub top_app : Text → App
+top_app name = record (new_app name) {
+  top = record (new_app name).top {
     subcommand_required = true;
     arg_required_else_help = true;
   };
@@ -75,22 +77,37 @@ macho_app = with_subcommand
     (with_subcommand
     (with_subcommand
     (with_subcommand
-    (with_subcommand top_app delete_app.top) change_app.top) add_app.top) install_name_app.top)
+    (with_subcommand (top_app (codes "macho")) delete_app.top) change_app.top) add_app.top) install_name_app.top)
     install_id_app.top) apply_app.top
+
+-- a command that prints something of the file at a path
+abbrev pub print_app : Text → App
+print_app name = with_rule (new_app name) (value_rule (codes "path_to_binary"))
+
+abbrev pub elf_app : App
+elf_app = with_subcommand
+    (with_subcommand
+    (with_subcommand
+    (with_subcommand
+    (with_subcommand
+    (with_subcommand (top_app (codes "elf")) (print_app (codes "print-rpath")).top)
+    (print_app (codes "print-needed")).top) (print_app (codes "print-soname")).top)
+    (print_app (codes "print-interpreter")).top) (print_app (codes "print-os-abi")).top)
+    (print_app (codes "print-exec-stack")).top
 
 -- ---- what is made of the values that were found
 
-abbrev pub from_two : (Text → Text → Meaning) → Option Text → Option Text → Option Meaning
+abbrev pub from_two : (Text → Text → MachoMeaning) → Option Text → Option Text → Option MachoMeaning
 from_two meaning (Some value) (Some path) = Some (meaning value path)
 from_two meaning _ _ = None
 
-abbrev pub from_three : (Text → Text → Text → Meaning) → Option Text → Option Text → Option Text
-    → Option Meaning
+abbrev pub from_three : (Text → Text → Text → MachoMeaning) → Option Text → Option Text → Option Text
+    → Option MachoMeaning
 from_three meaning (Some old) (Some new) (Some path) = Some (meaning old new path)
 from_three meaning _ _ _ = None
 
-abbrev pub from_many : (Text → List Text → Meaning) → Option Text → Option (List Text)
-    → Option Meaning
+abbrev pub from_many : (Text → List Text → MachoMeaning) → Option Text → Option (List Text)
+    → Option MachoMeaning
 from_many meaning (Some path) words = Some (meaning path (unwrap_or words []))
 from_many meaning None words = None
 
@@ -99,7 +116,7 @@ abbrev pub path_in : List Row → Option Text
 path_in = first_of (codes "path_to_binary")
 
 -- the meaning of a command's name, with the values that were found
-abbrev pub found_meaning : Text → List Row → Option Meaning
+abbrev pub found_meaning : Text → List Row → Option MachoMeaning
 found_meaning name rows =
     if bytes_eq name (codes "delete-rpath")
     then from_two delete_rpath (first_of (codes "rpath_to_remove") rows) (path_in rows)
@@ -117,7 +134,23 @@ found_meaning name rows =
     then from_many apply (path_in rows) (all_of (codes "edits") rows)
     else None)))))
 
+abbrev pub found_elf : Text → List Row → Option ElfMeaning
+found_elf name rows =
+    if bytes_eq name (codes "print-rpath") then option_map print_rpath (path_in rows)
+    else (if bytes_eq name (codes "print-needed") then option_map print_needed (path_in rows)
+    else (if bytes_eq name (codes "print-soname") then option_map print_soname (path_in rows)
+    else (if bytes_eq name (codes "print-interpreter") then option_map print_interpreter (path_in rows)
+    else (if bytes_eq name (codes "print-os-abi") then option_map print_os_abi (path_in rows)
+    else (if bytes_eq name (codes "print-exec-stack") then option_map print_exec_stack (path_in rows)
+    else None)))))
+
 -- the parser takes the words, and this is made of what it finds
-abbrev pub IsTaken : List Text → Meaning → Type 0
-IsTaken words meaning = (fault_of macho_app words ≡ [])
-    × (option_and_then (λ p. found_meaning p.0 p.1) (subcommand_of macho_app words) ≡ Some meaning)
+abbrev pub IsTakenBy : {M : Type 0} → App → (Text → List Row → Option M) → List Text → M → Type 0
+IsTakenBy app found words meaning = (fault_of app words ≡ [])
+    × (option_and_then (λ p. found p.0 p.1) (subcommand_of app words) ≡ Some meaning)
+
+abbrev pub IsTaken : List Text → MachoMeaning → Type 0
+IsTaken = IsTakenBy macho_app found_meaning
+
+abbrev pub IsElfTaken : List Text → ElfMeaning → Type 0
+IsElfTaken = IsTakenBy elf_app found_elf

@@ -1,10 +1,15 @@
-//! The command line: what a line means, the engine that makes new bytes of old ones, and the files.
+//! The command line: what a line means, the engines that make new bytes of old ones and print what a
+//! file says, and the files.
+ghost use Rattle.std.specs.Prelude.{◌≡◌, false, IfOk, map};
+ghost use Rattle.arwen.specs.Engine.{CanBeDone, IsDone};
+ghost use Rattle.arwen.specs.Line.{has_option, macho_shown, meaning_of};
 
 pub mod add;
 pub mod apply;
 pub mod change;
 pub mod delete;
 mod edits;
+pub mod elf;
 mod engine;
 mod error;
 mod file;
@@ -13,6 +18,7 @@ pub mod install_name;
 mod line;
 
 pub use edits::{EditFault, EditKind, EditsError, parse_macho_edits};
+pub use elf::engine::{Probe, run_elf};
 pub use engine::run_macho;
 pub use error::{ArwenError, FaultLine};
 pub use line::parse_line;
@@ -23,6 +29,8 @@ use std::rt::Files;
 pub enum Command {
     /// Something of a Mach-O file.
     Macho(MachoCommand),
+    /// Something of an ELF file.
+    Elf(ElfCommand),
 }
 
 /// What a line asks of a Mach-O file.
@@ -61,20 +69,59 @@ impl MachoCommand {
     }
 }
 
+/// What a line asks of an ELF file.
+#[derive(Debug, Drop)]
+pub enum ElfCommand {
+    /// Print the run path.
+    PrintRpath(elf::print_rpath::Args),
+    /// Print the needed libraries.
+    PrintNeeded(elf::print_needed::Args),
+    /// Print the library's own name.
+    PrintSoname(elf::print_soname::Args),
+    /// Print the interpreter.
+    PrintInterpreter(elf::print_interpreter::Args),
+    /// Print the ABI byte.
+    PrintOsAbi(elf::print_os_abi::Args),
+    /// Print whether the stack may be run.
+    PrintExecStack(elf::print_execstack::Args),
+}
+
+impl ElfCommand {
+    ghost use Rattle.std.specs.Prelude.{◌≡◌};
+    ghost use Rattle.arwen.specs.Line.{elf_file_of, elf_shown};
+
+    /// The file that is read.
+    pub fn path_to_binary(&self) -> &str
+        ensures { result.now ≡ elf_file_of (elf_shown self.now) }
+    {
+        match self {
+            ElfCommand::PrintRpath(args) => args.path_to_binary.as_str(),
+            ElfCommand::PrintNeeded(args) => args.path_to_binary.as_str(),
+            ElfCommand::PrintSoname(args) => args.path_to_binary.as_str(),
+            ElfCommand::PrintInterpreter(args) => args.path_to_binary.as_str(),
+            ElfCommand::PrintOsAbi(args) => args.path_to_binary.as_str(),
+            ElfCommand::PrintExecStack(args) => args.path_to_binary.as_str(),
+        }
+    }
+}
+
 /// Does what the words behind the program's name ask. A line that asks for help, and one that is
 /// wrong, is answered by `ArwenError::Line`.
-pub fn execute<R: Files + AllocGlobal>(rt: &R, words: &[&str]) -> Result<(), ArwenError> {
+pub fn execute<R: Files + Print + AllocGlobal>(rt: &R, words: &[&str]) -> Result<(), ArwenError>
+    ensures { IfOk result (λ _. has_option (map (λ w. w.now) words.now) ≡ false
+        → CanBeDone (meaning_of (map (λ w. w.now) words.now))) }
+{
     match parse_line(rt.alloc(), words)? {
         Command::Macho(macho) => macho_execute(rt, macho),
+        Command::Elf(elf) => elf::execute(rt, elf),
     }
 }
 
 /// Edits a Mach-O file in its place. The file is written only after all its new bytes exist, so a
 /// refused edit leaves it as it was.
-pub fn macho_execute<R: Files + AllocGlobal>(
-    rt: &R,
-    macho: MachoCommand,
-) -> Result<(), ArwenError> {
+pub fn macho_execute<R: Files + AllocGlobal>(rt: &R, macho: MachoCommand) -> Result<(), ArwenError>
+    ensures { IfOk result (λ _. IsDone (macho_shown macho)) }
+{
     match macho {
         MachoCommand::DeleteRpath(args) => delete::execute(rt, args),
         MachoCommand::ChangeRpath(args) => change::execute(rt, args),

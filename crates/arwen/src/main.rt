@@ -1,8 +1,10 @@
 //! Patches finished Mach-O files from the command line: run paths, the install id and library names.
+//! Prints what a loader takes from ELF files.
 #![tactic(auto)]
 
 pub mod cli;
 
+pub use arwen_elf::elf;
 pub use arwen_macho::{commands, macho, patcher, utils};
 use cli::{ArwenError, execute};
 use std::process::ExitCode;
@@ -10,7 +12,7 @@ use std::rt::{Env, Files};
 use std::{env, io};
 
 /// Reads the words behind the program's name and does what they ask.
-fn run<R: Env + Files + AllocGlobal>(rt: &R) -> Result<(), ArwenError> {
+fn run<R: Env + Files + Print + AllocGlobal>(rt: &R) -> Result<(), ArwenError> {
     let words = given_words(rt)?;
     let mut texts = Vec::with_capacity(rt.alloc(), words.len())?;
     for word in words.as_slice() {

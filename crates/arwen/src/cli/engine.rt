@@ -1,14 +1,13 @@
 //! New bytes of old ones.
-ghost use Rattle.std.specs.Prelude.{◌≡◌, Ok, IfOk, IfErr, map, string_bytes};
+ghost use Rattle.std.specs.Prelude.{◌≡◌, ◌∷◌, [], Ok, IfOk, IfErr, OnErr, map, string_bytes};
 ghost use Rattle.arwen_macho.specs.Batch.{calls_of};
-ghost use Rattle.arwen.specs.Edits.{edits_of};
-ghost use Rattle.arwen.specs.Engine.{EditsOne, Outcome, Tells, asked, edited_file, one_outcome, outcome};
+ghost use Rattle.arwen.specs.Engine.{AreAsked, IsDone, Outcome, Tells, TellsAsked, Writes, asked, outcome, refused_answer};
 ghost use Rattle.arwen.specs.Line.{macho_shown};
-ghost use Rattle.arwen_macho.specs.Found.{container_found};
+ghost use Rattle.arwen.specs.declared.cli.error.ArwenError.TheVariants.{Memory};
 
 use crate::cli::file::{read_file, write_file};
 use crate::cli::{ArwenError, MachoCommand, parse_macho_edits};
-use arwen_macho::macho::{MachoContainer, MachoEdit};
+use arwen_macho::macho::{Front, MachoBatchError, MachoContainer, MachoEdit, lay_fronts};
 use std::alloc::{AllocError, Global};
 use std::rt::Files;
 
@@ -17,55 +16,89 @@ pub fn run_macho(alloc: Global, bytes: &[u8], command: &MachoCommand) -> Result<
     ensures ok { IfOk result (λ new. outcome (macho_shown command.now) bytes.now ≡ Outcome.bytes new.items) }
     ensures err { IfErr result (λ e. Tells (outcome (macho_shown command.now) bytes.now) e) }
 {
-    if let MachoCommand::Apply(args) = command {
-        let words = words_of(alloc, args.edits.as_slice())?;
-        let edits = parse_macho_edits(alloc, words.as_slice())?;
-        return run_batch(alloc, bytes, edits.as_slice());
-    }
-    let mut macho = MachoContainer::parse(alloc, bytes)?;
-    edit(alloc, &mut macho, command)?;
-    Ok(macho.into_bytes(alloc)?)
+    let fronts = fronts_of(alloc, bytes, command)?;
+    let mut new = Vec::from_slice(alloc, bytes)?;
+    lay_fronts(&mut new, fronts);
+    Ok(new)
 }
 
-/// The bytes of a file after several edits.
-fn run_batch(alloc: Global, bytes: &[u8], edits: &[MachoEdit]) -> Result<Vec<u8>, ArwenError>
-    ensures ok { IfOk result (λ new. edited_file Outcome.refused_batch (calls_of edits.now) bytes.now (container_found bytes.now) ≡ Outcome.bytes new.items) }
-    ensures err { IfErr result (λ e. Tells (edited_file Outcome.refused_batch (calls_of edits.now) bytes.now (container_found bytes.now)) e) }
+/// The same in the bytes' place. A refused command leaves them as they were.
+fn run_in_place(alloc: Global, bytes: &mut [u8], command: &MachoCommand) -> Result<(), ArwenError>
+    ensures ok { IfOk result (λ _. outcome (macho_shown command.now) bytes.old ≡ Outcome.bytes bytes.new) }
+    ensures err { IfErr result (λ e. Tells (outcome (macho_shown command.now) bytes.old) e) }
+    ensures kept { OnErr result (bytes.new ≡ bytes.old) }
 {
-    let mut macho = MachoContainer::parse(alloc, bytes)?;
-    macho.apply(alloc, edits)?;
-    Ok(macho.into_bytes(alloc)?)
+    let fronts = fronts_of(alloc, bytes, command)?;
+    lay_fronts(bytes, fronts);
+    Ok(())
 }
 
-/// Makes the edit of a command that asks for one; any other makes none here.
-fn edit(
-    alloc: Global,
-    macho: &mut MachoContainer<'_>,
-    command: &MachoCommand,
-) -> Result<(), ArwenError>
-    ensures ok { IfOk result (λ _. EditsOne (asked (macho_shown command.now)) macho.old macho.new) }
-    ensures err { IfErr result (λ e. Tells (one_outcome (asked (macho_shown command.now)) macho.old) e) }
+/// What a command writes over the bytes of a file. Its edits are read before the bytes are looked at.
+fn fronts_of(alloc: Global, bytes: &[u8], command: &MachoCommand) -> Result<Vec<Front>, ArwenError>
+    ensures ok { IfOk result (λ fronts. Writes (outcome (macho_shown command.now) bytes.now) bytes.now fronts.items) }
+    ensures err { IfErr result (λ e. Tells (outcome (macho_shown command.now) bytes.now) e) }
+{
+    let edits = edits_asked(alloc, command)?;
+    let macho = MachoContainer::parse(alloc, bytes)?;
+    match macho.fronts(alloc, &edits) {
+        Ok(fronts) => Ok(fronts),
+        Err(error) => Err(refusal(command, error)),
+    }
+}
+
+/// A refused edit as it is answered to a command. Of several it is told which one is refused.
+fn refusal(command: &MachoCommand, error: MachoBatchError) -> ArwenError
+    ensures { result ≡ refused_answer (asked (macho_shown command.now)) error }
 {
     match command {
-        MachoCommand::DeleteRpath(args) => macho.remove_rpath(
-            alloc,
-            args.rpath_to_remove.as_str(),
-        )?,
-        MachoCommand::ChangeRpath(args) => {
-            macho.change_rpath(alloc, args.old_rpath.as_str(), args.new_rpath.as_str())?;
-        }
-        MachoCommand::AddRpath(args) => macho.add_rpath(alloc, args.new_rpath.as_str())?,
-        MachoCommand::ChangeInstallName(args) => macho.change_install_name(
-            alloc,
-            args.old_install_name.as_str(),
-            args.new_install_name.as_str(),
-        )?,
-        MachoCommand::ChangeInstallId(args) => {
-            macho.change_install_id(alloc, args.new_install_id.as_str())?;
-        }
-        MachoCommand::Apply(_) => {}
+        MachoCommand::Apply(_) => ArwenError::from(error),
+        _ => ArwenError::from(error.fault),
     }
-    Ok(())
+}
+
+/// The edits that a command asks for.
+fn edits_asked(alloc: Global, command: &MachoCommand) -> Result<Vec<MachoEdit>, ArwenError>
+    ensures ok { IfOk result (λ edits. AreAsked (asked (macho_shown command.now)) (calls_of edits.items)) }
+    ensures err { IfErr result (λ e. TellsAsked (asked (macho_shown command.now)) e) }
+{
+    match command {
+        MachoCommand::DeleteRpath(args) => {
+            let old = String::from_str(alloc, args.rpath_to_remove.as_str())?;
+            alone(alloc, MachoEdit::RemoveRpath(old))
+        }
+        MachoCommand::ChangeRpath(args) => {
+            let old = String::from_str(alloc, args.old_rpath.as_str())?;
+            let new = String::from_str(alloc, args.new_rpath.as_str())?;
+            alone(alloc, MachoEdit::ChangeRpath(old, new))
+        }
+        MachoCommand::AddRpath(args) => {
+            let new = String::from_str(alloc, args.new_rpath.as_str())?;
+            alone(alloc, MachoEdit::AddRpath(new))
+        }
+        MachoCommand::ChangeInstallName(args) => {
+            let old = String::from_str(alloc, args.old_install_name.as_str())?;
+            let new = String::from_str(alloc, args.new_install_name.as_str())?;
+            alone(alloc, MachoEdit::ChangeInstallName(old, new))
+        }
+        MachoCommand::ChangeInstallId(args) => {
+            let new = String::from_str(alloc, args.new_install_id.as_str())?;
+            alone(alloc, MachoEdit::ChangeInstallId(new))
+        }
+        MachoCommand::Apply(args) => {
+            let words = words_of(alloc, args.edits.as_slice())?;
+            Ok(parse_macho_edits(alloc, words.as_slice())?)
+        }
+    }
+}
+
+/// One edit as a list.
+fn alone(alloc: Global, edit: MachoEdit) -> Result<Vec<MachoEdit>, ArwenError>
+    ensures ok { IfOk result (λ edits. edits.items ≡ edit ∷ []) }
+    ensures err { IfErr result (λ e. e ≡ Memory) }
+{
+    let mut edits = Vec::new(alloc);
+    edits.push(edit)?;
+    Ok(edits)
 }
 
 /// The same words, lent.
@@ -83,9 +116,11 @@ fn words_of<'a>(alloc: Global, words: &'a [String]) -> Result<Vec<&'a str>, Allo
 pub(crate) fn patch_file<R: Files + AllocGlobal>(
     rt: &R,
     command: &MachoCommand,
-) -> Result<(), ArwenError> {
+) -> Result<(), ArwenError>
+    ensures { IfOk result (λ _. IsDone (macho_shown command.now)) }
+{
     let path = command.path_to_binary();
-    let bytes = read_file(rt, path)?;
-    let edited = run_macho(rt.alloc(), bytes.as_slice(), command)?;
-    write_file(rt, path, edited.as_slice())
+    let mut bytes = read_file(rt, path)?;
+    run_in_place(rt.alloc(), &mut bytes, command)?;
+    write_file(rt, path, bytes.as_slice())
 }

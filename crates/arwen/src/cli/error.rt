@@ -1,9 +1,11 @@
 //! What the program answers when it does not do what was asked.
 ghost use Rattle.std.specs.Prelude.{◌≡◌};
-ghost use Rattle.arwen.specs.Fault.{answer_to, answer_to_batch, answer_to_words, status_of};
+ghost use Rattle.arwen.specs.Fault.{answer_to, answer_to_batch, answer_to_elf, answer_to_words};
+ghost use Rattle.arwen.specs.Fault.{status_of};
 ghost use Rattle.arwen.specs.declared.cli.error.ArwenError.TheVariants.{Io, Memory};
 
 use crate::cli::EditsError;
+use arwen_elf::elf::ElfError;
 use arwen_macho::macho::{MachoBatchError, MachoError};
 use std::alloc::{AllocError, AllocFailed};
 use std::{fmt, io};
@@ -15,6 +17,9 @@ pub enum ArwenError {
     /// An edit of a Mach-O file was refused.
     #[error("error while patching Mach-O file")]
     Macho(MachoError),
+    /// An ELF file was not read, or what it says was not printed.
+    #[error("error while patching ELF file")]
+    Elf(ElfError),
     /// A file could not be read, created or written.
     #[error("file error")]
     Io(io::Error),
@@ -50,7 +55,9 @@ impl ArwenError {
     }
 
     /// The fault as one line of text, its causes joined by `: `.
-    pub fn line(&self) -> FaultLine<'_> {
+    pub fn line(&self) -> FaultLine<'_>
+        ensures { result.error.now ≡ self.now }
+    {
         FaultLine { error: self }
     }
 }
@@ -62,6 +69,17 @@ impl From<MachoError> for ArwenError {
         match error {
             MachoError::Memory => ArwenError::Memory,
             error => ArwenError::Macho(error),
+        }
+    }
+}
+
+impl From<ElfError> for ArwenError {
+    ghost from_gives = { λ e answer. answer ≡ answer_to_elf e };
+
+    fn from(error: ElfError) -> ArwenError {
+        match error {
+            ElfError::Memory => ArwenError::Memory,
+            error => ArwenError::Elf(error),
         }
     }
 }
@@ -129,6 +147,10 @@ impl fmt::Display for FaultLine<'_> {
                 let causes = MachoCauses { fault };
                 write!(f, "{outer}: {causes}")
             }
+            ArwenError::Elf(fault) => {
+                let causes = ElfCauses { fault };
+                write!(f, "{outer}: {causes}")
+            }
             ArwenError::Io(fault) => write!(f, "{outer}: {fault}"),
             ArwenError::Line { text, .. } => write!(f, "{text}"),
             ArwenError::Memory => write!(f, "{outer}"),
@@ -161,6 +183,24 @@ impl fmt::Display for MachoCauses<'_> {
         match fault {
             MachoError::Parsing(cause) => write!(f, "{fault}: {cause}"),
             _ => write!(f, "{fault}"),
+        }
+    }
+}
+
+/// A fault of an ELF file with its causes.
+#[derive(Clone, Copy)]
+struct ElfCauses<'a> {
+    fault: &'a ElfError,
+}
+
+impl fmt::Display for ElfCauses<'_> {
+    fn fmt<W: fmt::Write>(&self, f: &mut fmt::Formatter<W>) -> fmt::Result {
+        let fault = self.fault;
+        match fault {
+            ElfError::Io(cause) => write!(f, "{fault}: {cause}"),
+            ElfError::Parse(cause) | ElfError::Write(cause) => write!(f, "{fault}: {cause}"),
+            ElfError::Modify(cause) => write!(f, "{fault}: {cause}"),
+            ElfError::InvalidDtNeededEncoding | ElfError::Memory => write!(f, "{fault}"),
         }
     }
 }

@@ -1,6 +1,7 @@
 //! `change-install-id`.
 ghost use Rattle.std.specs.Prelude.{◌≡◌, false, IfOk, codes, option_map};
 ghost use Rattle.clap.specs.Words.{app_of, found_of, rows_of};
+ghost use Rattle.arwen.specs.Engine.{IsDone};
 ghost use Rattle.arwen.specs.Line.{macho_shown};
 ghost use Rattle.arwen.specs.Parser.{install_id_app, found_meaning, has_globals};
 
@@ -24,7 +25,9 @@ pub struct Args {
 }
 
 /// Edits the file.
-pub fn execute<R: Files + AllocGlobal>(rt: &R, args: Args) -> Result<(), ArwenError> {
+pub fn execute<R: Files + AllocGlobal>(rt: &R, args: Args) -> Result<(), ArwenError>
+    ensures { IfOk result (λ _. IsDone (macho_shown (MachoCommand.ChangeInstallId args))) }
+{
     patch_file(rt, &MachoCommand::ChangeInstallId(args))
 }
 

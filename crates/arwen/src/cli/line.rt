@@ -2,10 +2,13 @@
 ghost use Rattle.std.specs.Prelude.{◌≡◌, [], Some, false, IfOk, IfErr, map, option_map, string_bytes};
 ghost use Rattle.std.specs.Prelude.{unwrap_or};
 ghost use Rattle.clap.specs.Words.{all_of, app_of, first_of, found_of, kind_of, rows_of, rule_of};
-ghost use Rattle.arwen.specs.Line.{Meaning, has_option, macho_shown, meaning_of, shown};
+ghost use Rattle.arwen.specs.Fault.{status_of};
+ghost use Rattle.arwen.specs.Line.{MachoMeaning, Meaning, has_option, macho_shown, meaning_of};
+ghost use Rattle.arwen.specs.Line.{shown};
 ghost use Rattle.arwen.specs.Parser.{IsTaken, found_meaning, macho_app, top_app, value_rule};
 ghost use Rattle.arwen.specs.Parser.{values_rule};
 
+use crate::cli::elf::line::parse_elf;
 use crate::cli::{
     ArwenError, Command, MachoCommand, add, apply, change, delete, install_id, install_name,
 };
@@ -14,12 +17,13 @@ use clap::{Arg, ArgAction, ArgMatches, Error};
 use std::alloc::{AllocError, Global};
 
 /// What the program says where no command is named.
-const USAGE: &str = "Patches finished Mach-O files.
+const USAGE: &str = "Patches finished Mach-O files, and prints what ELF files say.
 
 Usage: arwen <COMMAND>
 
 Commands:
   macho  Edit a Mach-O file (`arwen macho --help` lists the edits)
+  elf    Print what an ELF file says (`arwen elf --help` lists the commands)
   help   Print this text
 
 Options:
@@ -40,13 +44,16 @@ pub fn parse_line(alloc: Global, words: &[&str]) -> Result<Command, ArwenError>
     };
     match *first {
         "macho" => Ok(Command::Macho(parse_macho(alloc, words)?)),
+        "elf" => Ok(Command::Elf(parse_elf(alloc, words)?)),
         "help" | "-h" | "--help" => Err(usage(alloc, 0)?),
         _ => Err(usage(alloc, 2)?),
     }
 }
 
 /// The usage text, as the fault of a line.
-fn usage(alloc: Global, status: u8) -> Result<ArwenError, AllocError> {
+pub(crate) fn usage(alloc: Global, status: u8) -> Result<ArwenError, AllocError>
+    ensures { IfOk result (λ fault. status_of fault ≡ status) }
+{
     let text = String::from_str(alloc, USAGE)?;
     Ok(ArwenError::Line { text, status })
 }
@@ -55,7 +62,7 @@ fn usage(alloc: Global, status: u8) -> Result<ArwenError, AllocError> {
 fn parse_macho(alloc: Global, words: &[&str]) -> Result<MachoCommand, ArwenError>
     ensures taken { IfOk result (λ command.
         IsTaken (map (λ w. w.now) words.now) (macho_shown command)) }
-    ensures refused { IfErr result (λ error. (meaning : Meaning)
+    ensures refused { IfErr result (λ error. (meaning : MachoMeaning)
         → IsTaken (map (λ w. w.now) words.now) meaning → error ≡ ArwenError.Memory) }
 {
     let matches = match macho_line(alloc)?.try_get_matches_from(words) {
@@ -72,7 +79,7 @@ fn parse_macho(alloc: Global, words: &[&str]) -> Result<MachoCommand, ArwenError
 }
 
 /// What clap has to say of a line.
-fn line_fault(alloc: Global, error: &Error) -> Result<ArwenError, AllocError>
+pub(crate) fn line_fault(alloc: Global, error: &Error) -> Result<ArwenError, AllocError>
     ensures { IfOk result (λ fault. kind_of error.now ≡ ErrorKind.OutOfMemory
         → fault ≡ ArwenError.Memory) }
 {
@@ -88,7 +95,7 @@ fn line_fault(alloc: Global, error: &Error) -> Result<ArwenError, AllocError>
 fn macho_line<'a>(alloc: Global) -> Result<clap::Command<'a>, AllocError>
     ensures { IfOk result (λ line. app_of line ≡ macho_app) }
 {
-    top_line(alloc)?
+    top_line(alloc, "macho", "arwen macho", "Edit a Mach-O file")?
         .subcommand(delete::line(alloc)?)?
         .subcommand(change::line(alloc)?)?
         .subcommand(add::line(alloc)?)?
@@ -97,13 +104,18 @@ fn macho_line<'a>(alloc: Global) -> Result<clap::Command<'a>, AllocError>
         .subcommand(apply::line(alloc)?)
 }
 
-/// The same without the commands.
-fn top_line<'a>(alloc: Global) -> Result<clap::Command<'a>, AllocError>
-    ensures { IfOk result (λ line. app_of line ≡ top_app) }
+/// The lines that begin with a word, without their commands.
+pub(crate) fn top_line<'a>(
+    alloc: Global,
+    name: &'a str,
+    shown_as: &'a str,
+    about: &'a str,
+) -> Result<clap::Command<'a>, AllocError>
+    ensures { IfOk result (λ line. app_of line ≡ top_app name.entry.now) }
 {
-    let line = clap::Command::new(alloc, "macho").bin_name("arwen macho")?;
+    let line = clap::Command::new(alloc, name).bin_name(shown_as)?;
     Ok(
-        line.about("Edit a Mach-O file")
+        line.about(about)
             .subcommand_required(true)
             .arg_required_else_help(true),
     )

@@ -8,10 +8,18 @@ use std::test::Fail;
 use std::{env, fmt, fs, io, process};
 
 // A call that was refused memory is made once more.
-fn line(rt: &HostRuntime, words: &[&str]) -> Result<Command, ArwenError> {
+pub(crate) fn line(rt: &HostRuntime, words: &[&str]) -> Result<Command, ArwenError> {
     match parse_line(rt.alloc(), words) {
         Err(ArwenError::Memory) => parse_line(rt.alloc(), words),
         answer => answer,
+    }
+}
+
+// The command of a line that begins with `macho`.
+fn macho_line(rt: &HostRuntime, words: &[&str]) -> Result<MachoCommand, ArwenError> {
+    match line(rt, words)? {
+        Command::Macho(command) => Ok(command),
+        Command::Elf(_) => Err(ArwenError::from(io::Error::from(io::ErrorKind::InvalidInput))),
     }
 }
 
@@ -29,21 +37,21 @@ fn run(rt: &HostRuntime, bytes: &[u8], command: &MachoCommand) -> Result<Vec<u8>
     }
 }
 
-fn string(rt: &HostRuntime, text: &str) -> Result<String, AllocError> {
+pub(crate) fn string(rt: &HostRuntime, text: &str) -> Result<String, AllocError> {
     match String::from_str(rt.alloc(), text) {
         Err(_) => String::from_str(rt.alloc(), text),
         answer => answer,
     }
 }
 
-fn shown<T: fmt::Display>(rt: &HostRuntime, value: &T) -> Result<String, AllocError> {
+pub(crate) fn shown<T: fmt::Display>(rt: &HostRuntime, value: &T) -> Result<String, AllocError> {
     match format!(in rt.alloc(); "{value}") {
         Err(_) => format!(in rt.alloc(); "{value}"),
         answer => answer,
     }
 }
 
-fn debugged<T: fmt::Debug>(rt: &HostRuntime, value: &T) -> Result<String, AllocError> {
+pub(crate) fn debugged<T: fmt::Debug>(rt: &HostRuntime, value: &T) -> Result<String, AllocError> {
     match format!(in rt.alloc(); "{value:?}") {
         Err(_) => format!(in rt.alloc(); "{value:?}"),
         answer => answer,
@@ -52,7 +60,7 @@ fn debugged<T: fmt::Debug>(rt: &HostRuntime, value: &T) -> Result<String, AllocE
 
 #[test]
 fn reads_lines(rt: HostRuntime) -> Result<(), Fail> {
-    let lines: [(&[&str], &str); 9] = [
+    let lines: [(&[&str], &str); 7] = [
         (
             &["macho", "delete-rpath", "/a", "f"],
             r#"Macho(DeleteRpath(Args { rpath_to_remove: "/a", path_to_binary: "f" }))"#,
@@ -81,6 +89,17 @@ fn reads_lines(rt: HostRuntime) -> Result<(), Fail> {
             &["macho", "apply", "f"],
             r#"Macho(Apply(Args { path_to_binary: "f", edits: [] }))"#,
         ),
+    ];
+    for (words, want) in lines {
+        let text = debugged(&rt, &line(&rt, words)?)?;
+        assert_eq!(rt; text.as_str(), want);
+    }
+    Ok(())
+}
+
+#[test]
+fn reads_unusual_values(rt: HostRuntime) -> Result<(), Fail> {
+    let lines: [(&[&str], &str); 2] = [
         (
             &["macho", "add-rpath", "", "f"],
             r#"Macho(AddRpath(Args { new_rpath: "", path_to_binary: "f" }))"#,
@@ -180,7 +199,7 @@ fn refuses_edits(rt: HostRuntime) {
 }
 
 #[test]
-fn tells_why_an_edit_was_refused(rt: HostRuntime) -> Result<(), Fail> {
+fn tells_why_a_file_was_refused(rt: HostRuntime) -> Result<(), Fail> {
     let nul = CommandBuilderError::CStrError(NulInside { position: 1 });
     let rows = [
         (
@@ -199,6 +218,19 @@ fn tells_why_an_edit_was_refused(rt: HostRuntime) -> Result<(), Fail> {
             MachoError::CommandBuilderError(CommandBuilderError::ScrollError),
             "error while patching Mach-O file: error when creating a new command: error when writing rpath command as bytes: command too long",
         ),
+        (MachoError::Memory, "out of memory"),
+    ];
+    for (fault, want) in rows {
+        let error = ArwenError::from(fault);
+        assert_eq!(rt; shown(&rt, &error.line())?.as_str(), want);
+        assert_eq!(rt; error.status(), 1);
+    }
+    Ok(())
+}
+
+#[test]
+fn tells_why_an_edit_was_refused(rt: HostRuntime) -> Result<(), Fail> {
+    let rows = [
         (
             MachoError::RpathMissing(string(&rt, "/zz")?),
             "error while patching Mach-O file: requested rpath is missing: /zz",
@@ -218,7 +250,6 @@ fn tells_why_an_edit_was_refused(rt: HostRuntime) -> Result<(), Fail> {
             },
             "error while patching Mach-O file: no room: 96 > 64",
         ),
-        (MachoError::Memory, "out of memory"),
     ];
     for (fault, want) in rows {
         let error = ArwenError::from(fault);
@@ -320,7 +351,7 @@ const WITH_OTHER_NAME: &[u8; 72] =
 
 #[test]
 fn runs_each_command(rt: HostRuntime) -> Result<(), Fail> {
-    let rows: [(&[&str], &[u8], &[u8]); 7] = [
+    let rows: [(&[&str], &[u8], &[u8]); 5] = [
         (
             &["macho", "add-rpath", "/usr/local/lib", "f"],
             EMPTY,
@@ -346,6 +377,19 @@ fn runs_each_command(rt: HostRuntime) -> Result<(), Fail> {
             WITH_NAME,
             WITH_OTHER_NAME,
         ),
+    ];
+    for (words, bytes, want) in rows {
+        let command = macho_line(&rt, words)?;
+        assert_eq!(rt; command.path_to_binary(), "f");
+        let edited = run(&rt, bytes, &command)?;
+        assert_eq!(rt; edited.as_slice(), want, "{command:?}");
+    }
+    Ok(())
+}
+
+#[test]
+fn runs_edits_together(rt: HostRuntime) -> Result<(), Fail> {
+    let rows: [(&[&str], &[u8], &[u8]); 2] = [
         (
             &["macho", "apply", "f", "add-rpath", "/usr/local/lib"],
             EMPTY,
@@ -367,7 +411,7 @@ fn runs_each_command(rt: HostRuntime) -> Result<(), Fail> {
         ),
     ];
     for (words, bytes, want) in rows {
-        let Command::Macho(command) = line(&rt, words)?;
+        let command = macho_line(&rt, words)?;
         assert_eq!(rt; command.path_to_binary(), "f");
         let edited = run(&rt, bytes, &command)?;
         assert_eq!(rt; edited.as_slice(), want, "{command:?}");
@@ -409,7 +453,7 @@ fn refuses_with_the_first_fault(rt: HostRuntime) -> Result<(), Fail> {
         ),
     ];
     for (words, bytes, want) in rows {
-        let Command::Macho(command) = line(&rt, words)?;
+        let command = macho_line(&rt, words)?;
         match run(&rt, bytes, &command) {
             Ok(edited) => assert_eq!(rt; edited.as_slice(), b"".as_slice(), "{command:?}"),
             Err(error) => assert_eq!(rt; shown(&rt, &error.line())?.as_str(), want),
@@ -481,7 +525,7 @@ fn reads_a_file_in_pieces(rt: HostRuntime) -> Result<(), Fail> {
 }
 
 // Does what a line asks, once more where memory was refused.
-fn done(rt: &HostRuntime, words: &[&str]) -> Result<(), ArwenError> {
+pub(crate) fn done(rt: &HostRuntime, words: &[&str]) -> Result<(), ArwenError> {
     match execute(rt, words) {
         Err(ArwenError::Memory) => execute(rt, words),
         answer => answer,
@@ -489,20 +533,20 @@ fn done(rt: &HostRuntime, words: &[&str]) -> Result<(), ArwenError> {
 }
 
 // A path that no other run of the tests uses.
-fn own_path(rt: &HostRuntime) -> Result<String, Fail> {
+pub(crate) fn own_path(rt: &HostRuntime, name: &str) -> Result<String, Fail> {
     let folder = match env::temp_dir(rt) {
         Err(_) => env::temp_dir(rt)?,
         Ok(folder) => folder,
     };
     let folder = folder.as_path().to_string_lossy();
     let id = process::id(rt.process());
-    match format!(in rt.alloc(); "{folder}/arwen-test-{id}") {
-        Err(_) => Ok(format!(in rt.alloc(); "{folder}/arwen-test-{id}")?),
+    match format!(in rt.alloc(); "{folder}/arwen-test-{name}-{id}") {
+        Err(_) => Ok(format!(in rt.alloc(); "{folder}/arwen-test-{name}-{id}")?),
         Ok(path) => Ok(path),
     }
 }
 
-fn content(rt: &HostRuntime, path: &str) -> io::Result<Vec<u8>> {
+pub(crate) fn content(rt: &HostRuntime, path: &str) -> io::Result<Vec<u8>> {
     match fs::read(rt, path) {
         Err(_) => fs::read(rt, path),
         answer => answer,
@@ -511,7 +555,7 @@ fn content(rt: &HostRuntime, path: &str) -> io::Result<Vec<u8>> {
 
 #[test]
 fn edits_a_file_in_its_place(rt: HostRuntime) -> Result<(), Fail> {
-    let path = own_path(&rt)?;
+    let path = own_path(&rt, "macho")?;
     let words = ["macho", "add-rpath", "/usr/local/lib", path.as_str()];
 
     let missing = done(&rt, &words);

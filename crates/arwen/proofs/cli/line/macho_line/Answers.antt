@@ -1,13 +1,7 @@
 -- Each subcommand is added as it is.
-use Rattle.std.proofs.Common.{◌≡◌, false, ap, ap₂, ◌∙◌}
 use Rattle.std.proofs.lemmas.Result.{IfOk-weaker}
-use Rattle.clap.specs.Words.{AddsSubcommand, App, app_of, with_subcommand}
-use Rattle.clap.specs.declared.builder.command.Command.{Command}
-use Rattle.arwen.specs.Parser.{has_globals}
+use Rattle.arwen.proofs.Parsing.{added}
 use Rattle.arwen.proofs.cli.line.macho_line.Goals as goal
-
-added : (old sub new : Command) (a s : App) → app_of old ≡ a → app_of sub ≡ s → has_globals sub ≡ false → AddsSubcommand old sub new → app_of new ≡ with_subcommand a s.top
-added old sub new a s old_is sub_is local h = h.shape local ∙ ap₂ with_subcommand old_is (ap (λ (app : App). app.top) sub_is)
 
 pub returns : goal.returns
 returns c =

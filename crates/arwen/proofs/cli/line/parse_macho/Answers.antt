@@ -1,18 +1,14 @@
 -- The parser's clauses, at the commands that it was told.
-use Rattle.std.proofs.Common.{◌≡◌, ◌∷◌, [], Option, Some, None, map, true, Box, List, Bor, refl, sym, ap, ◌∙◌, inl, inr}
+use Rattle.std.proofs.Common.{◌≡◌, Option, List, Bor, map, true, refl, sym, ap, ◌∙◌}
 use Rattle.std.specs.Prelude.{option_and_then}
 use Rattle.std.specs.Option.{option_map}
-use Rattle.std.specs.Box.{box_value}
 use Rattle.std.proofs.lemmas.Result.{err_from_is_err_and}
 use Rattle.clap.specs.Walk.{Row, Text, rows_of}
-use Rattle.clap.specs.Words.{App, HasKind, Kinds, fault_of, found_of, is_simple, is_simple_and_free, kind_of, subcommand_of, subcommand_rows}
-use Rattle.clap.specs.declared.error.Error.{Error}
-use Rattle.clap.specs.declared.error.kind.ErrorKind.TheVariants.{OutOfMemory}
-use Rattle.clap.specs.declared.parser.matches.ArgMatches.TheViews.{out-SubCommand}
-use Rattle.clap.specs.declared.parser.matches.SubCommand.{SubCommand}
+use Rattle.clap.specs.Words.{App, fault_of, found_of, is_simple, is_simple_and_free, subcommand_of}
 use Rattle.clap.proofs.OnLiterals.{clap_on_literals}
 use Rattle.arwen.specs.Line.{macho_shown}
 use Rattle.arwen.specs.Parser.{found_meaning, macho_app}
+use Rattle.arwen.proofs.Parsing.{by_memory, by_parts}
 use Rattle.arwen.proofs.cli.line.parse_macho.Goals as goal
 
 simple : is_simple macho_app ≡ true
@@ -22,17 +18,6 @@ simple = refl
 simple_and_free : is_simple_and_free macho_app ≡ true
 unfolding clap_on_literals
 simple_and_free = refl
-
-module _ {Z : Type 0} where
-  by_parts : (o : Option (Box SubCommand Z)) (name : Text) (rows : List Row) → Some name ≡ option_map (λ b. (out-SubCommand (box_value b)).name.now) o
-      → Some rows ≡ option_map (λ (p : Text × List Row). p.1) (subcommand_rows o) → subcommand_rows o ≡ Some (name, rows)
-  by_parts None name rows n r = absurd (cc)
-  by_parts (Some b) name rows n r = cc
-
--- where the words have no fault, only memory can fail
-by_memory : (kinds : Kinds) (e : Error) → kinds ≡ [] → HasKind kinds e → kind_of e ≡ OutOfMemory
-by_memory [] e none h = elim h [ inl memory ↦ memory | inr other ↦ absurd other ]
-by_memory (kind ∷ kinds) e none h = absurd (cc)
 
 pub returns-in-Err-clause-refused : goal.returns-in-Err-clause-refused
 returns-in-Err-clause-refused c meaning taken =
