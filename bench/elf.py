@@ -3,7 +3,7 @@
 
     python3 bench/elf.py [--runs N] [--tool NAME]
 
-The libraries are made with gcc in bench/work, which git ignores: a small one, and three of 300 MB with
+The libraries are made with gcc in bench/made, which git ignores: a small one, and three of 300 MB with
 1, 50,000 and 500,000 dynamic symbols. The times are medians of N runs (5); each round times every
 program once. Targets: not slower than patchelf on the small one, at most twice its time on the largest,
 and no more time for a symbol among 500,000 than among 50,000 (half as much again is taken for noise).
@@ -19,7 +19,7 @@ import sys
 import time
 
 HERE = os.path.dirname(os.path.abspath(__file__))
-WORK = os.path.join(HERE, "work")
+WORK = os.path.join(HERE, "made")
 PROGRAM = os.path.join(os.path.dirname(HERE), "crates", "arwen", "out", "arwen")
 MEGABYTE = 1 << 20
 

@@ -3,7 +3,7 @@
 
     python3 bench/macho.py [--runs N] [--only WORD] [--tool NAME]
 
-Each file is made in bench/work, which git ignores. Each timed run works on a fresh copy of it, made
+Each file is made in bench/made, which git ignores. Each timed run works on a fresh copy of it, made
 outside the timed part. The times are medians of N runs (5), and all runs of one call stand side by side:
 each round times every program once. `cp --reflink=never` writes onto a file that is there already. The
 peak is the largest resident size of the runs; it says nothing for the small file, where this script's
@@ -22,7 +22,7 @@ import time
 
 HERE = os.path.dirname(os.path.abspath(__file__))
 TOP = os.path.dirname(HERE)
-WORK = os.path.join(HERE, "work")
+WORK = os.path.join(HERE, "made")
 PROGRAM = os.path.join(TOP, "crates", "arwen", "out", "arwen")
 RUN_PATH = "/usr/local/lib"
 MEGABYTE = 1 << 20

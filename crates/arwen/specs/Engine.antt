@@ -21,11 +21,11 @@ use Rattle.arwen.specs.declared.cli.edits.EditsError.TheVariants as edits
 use Rattle.arwen.specs.declared.cli.error.ArwenError.{ArwenError}
 use Rattle.arwen.specs.declared.cli.error.ArwenError.TheVariants.{Edits, Elf, Io, Line, Macho, MachoBatch, Memory}
 use Rattle.arwen.specs.Edits.{edits_of}
-use Rattle.arwen.specs.Fault.{answer_to, answer_to_batch}
+use Rattle.arwen.specs.Fault.{IsOfLine, answer_to, answer_to_batch}
 use Rattle.arwen.specs.Line.{MachoMeaning, Meaning, of_elf, of_macho}
 use Rattle.arwen.specs.Line.MachoMeaning.{add_rpath as line_add, apply, change_install_id as line_id}
 use Rattle.arwen.specs.Line.MachoMeaning.{change_install_name as line_name, change_rpath as line_change, delete_rpath}
-use Rattle.arwen.specs.Prints.{SomeAccepted}
+use Rattle.arwen.specs.Prints.{PrintMayFail, SomeAccepted}
 
 -- what a line asks for: one edit, or those that words name
 pub data Asked : Type 0 where
@@ -115,6 +115,20 @@ Tells outcome (Edits e) = TellsWords outcome e
 Tells outcome (Elf e) = ⊥
 Tells outcome (Io e) = ⊥
 Tells outcome (Line text status) = ⊥
+
+-- ---- why a command may fail. No clause can say that a file can be read or written
+
+-- the error of a command: a file's, want of memory, or one that tells the outcome of some file
+abbrev pub MayFail : MachoMeaning → ArwenError → Type 0
+MayFail meaning Memory = ⊤
+MayFail meaning (Io e) = ⊤
+MayFail meaning e = (file : List ℕ) × Tells (outcome meaning file) e
+
+-- the error of a line: that of the command that it means, or else of the line
+abbrev pub LineMayFail : Option Meaning → ArwenError → Type 0
+LineMayFail (Some (of_macho meaning)) e = MayFail meaning e
+LineMayFail (Some (of_elf meaning)) e = PrintMayFail e
+LineMayFail None e = IsOfLine e
 
 -- ---- the edits that a command asks for, and what they write
 

@@ -1,5 +1,5 @@
 -- What the program answers when it does not do what was asked.
-use Rattle.std.specs.Prelude.{ℕ}
+use Rattle.std.specs.Prelude.{ℕ, ⊤}
 use Rattle.arwen_elf.specs.declared.elf.rewriter.error.ElfError.{ElfError}
 use Rattle.arwen_elf.specs.declared.elf.rewriter.error.ElfError.TheVariants as elf
 use Rattle.arwen_macho.specs.declared.error.MachoError.{MachoError}
@@ -8,13 +8,25 @@ use Rattle.arwen_macho.specs.declared.batch.MachoBatchError.{MachoBatchError}
 use Rattle.arwen.specs.declared.cli.edits.EditsError.{EditsError}
 use Rattle.arwen.specs.declared.cli.edits.EditsError.TheVariants as edits
 use Rattle.arwen.specs.declared.cli.error.ArwenError.{ArwenError}
-use Rattle.arwen.specs.declared.cli.error.ArwenError.TheVariants.{Edits, Elf, Line, Macho, MachoBatch, Memory}
+use Rattle.arwen.specs.declared.cli.error.ArwenError.TheVariants.{Edits, Elf, Io, Line, Macho, MachoBatch, Memory}
 
 -- the status that the program ends with
 abbrev pub status_of : ArwenError → ℕ
 status_of (Line text status) = status
 status_of (Edits fault) = 2
 status_of _ = 1
+
+-- the error of a line that means no command, or want of memory
+abbrev pub IsOfLine : ArwenError → Type 0
+IsOfLine (Line text status) = ⊤
+IsOfLine Memory = ⊤
+IsOfLine _ = ⊥
+
+-- the error of reading or writing a file, or want of memory
+abbrev pub IsOfFile : ArwenError → Type 0
+IsOfFile (Io e) = ⊤
+IsOfFile Memory = ⊤
+IsOfFile _ = ⊥
 
 -- the program's answer for a refused edit: want of memory is its own
 abbrev pub answer_to : MachoError → ArwenError

@@ -1,5 +1,5 @@
 -- What a command prints of an ELF file.
-use Rattle.std.specs.Prelude.{◌≡◌, ℕ, List, Option, Ok, Err, Result}
+use Rattle.std.specs.Prelude.{◌≡◌, ℕ, List, Option, Ok, Err, Result, ⊤}
 use Rattle.std.specs.Io.KnownBytes.{Appends}
 use Rattle.arwen_elf.specs.Prints.{printed_exec_stack, printed_interpreter, printed_needed}
 use Rattle.arwen_elf.specs.Prints.{printed_os_abi, printed_runpath, printed_soname}
@@ -9,7 +9,7 @@ use Rattle.elf_image.specs.Image.{Image, image_of, shown}
 use Rattle.elf_image.specs.Views.{View}
 use Rattle.elf_image.specs.declared.fault.ElfFault.{ElfFault}
 use Rattle.arwen.specs.declared.cli.error.ArwenError.{ArwenError}
-use Rattle.arwen.specs.declared.cli.error.ArwenError.TheVariants.{Elf, Memory}
+use Rattle.arwen.specs.declared.cli.error.ArwenError.TheVariants.{Elf, Io, Memory}
 use Rattle.arwen.specs.Line.{ElfMeaning, print_exec_stack, print_interpreter, print_needed}
 use Rattle.arwen.specs.Line.{print_os_abi, print_rpath, print_soname}
 
@@ -45,3 +45,16 @@ abbrev pub TellsElf : {W : Type 0} → Result Image ElfFault → W → W → Arw
 TellsElf read old new Memory = new ≡ old
 TellsElf read old new (Elf e) = TellsElfFault read old new e
 TellsElf read old new _ = ⊥
+
+-- the error of a command that prints: a file's or the output's, want of memory, or the first rule that some
+-- file breaks
+abbrev pub PrintMayFailBy : ElfError → Type 0
+PrintMayFailBy (elf.Parse fault) = (file : List ℕ) × (image_of file ≡ Err fault)
+PrintMayFailBy (elf.Io e) = ⊤
+PrintMayFailBy _ = ⊥
+
+abbrev pub PrintMayFail : ArwenError → Type 0
+PrintMayFail Memory = ⊤
+PrintMayFail (Io e) = ⊤
+PrintMayFail (Elf e) = PrintMayFailBy e
+PrintMayFail _ = ⊥

@@ -1,7 +1,7 @@
 //! The command line: what a line means, the engines that make new bytes of old ones and print what a
 //! file says, and the files.
-ghost use Rattle.std.specs.Prelude.{◌≡◌, false, IfOk, map};
-ghost use Rattle.arwen.specs.Engine.{CanBeDone, IsDone};
+ghost use Rattle.std.specs.Prelude.{◌≡◌, false, IfErr, IfOk, map};
+ghost use Rattle.arwen.specs.Engine.{CanBeDone, IsDone, LineMayFail, MayFail};
 ghost use Rattle.arwen.specs.Line.{has_option, macho_shown, meaning_of};
 
 pub mod add;
@@ -108,8 +108,10 @@ impl ElfCommand {
 /// Does what the words behind the program's name ask. A line that asks for help, and one that is
 /// wrong, is answered by `ArwenError::Line`.
 pub fn execute<R: Files + Print + AllocGlobal>(rt: &R, words: &[&str]) -> Result<(), ArwenError>
-    ensures { IfOk result (λ _. has_option (map (λ w. w.now) words.now) ≡ false
+    ensures ok { IfOk result (λ _. has_option (map (λ w. w.now) words.now) ≡ false
         → CanBeDone (meaning_of (map (λ w. w.now) words.now))) }
+    ensures err { IfErr result (λ e. has_option (map (λ w. w.now) words.now) ≡ false
+        → LineMayFail (meaning_of (map (λ w. w.now) words.now)) e) }
 {
     match parse_line(rt.alloc(), words)? {
         Command::Macho(macho) => macho_execute(rt, macho),
@@ -120,7 +122,8 @@ pub fn execute<R: Files + Print + AllocGlobal>(rt: &R, words: &[&str]) -> Result
 /// Edits a Mach-O file in its place. The file is written only after all its new bytes exist, so a
 /// refused edit leaves it as it was.
 pub fn macho_execute<R: Files + AllocGlobal>(rt: &R, macho: MachoCommand) -> Result<(), ArwenError>
-    ensures { IfOk result (λ _. IsDone (macho_shown macho)) }
+    ensures ok { IfOk result (λ _. IsDone (macho_shown macho)) }
+    ensures err { IfErr result (λ e. MayFail (macho_shown macho) e) }
 {
     match macho {
         MachoCommand::DeleteRpath(args) => delete::execute(rt, args),

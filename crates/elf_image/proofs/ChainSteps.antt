@@ -181,17 +181,6 @@ need_name-past form xs a past =
     ap (λ o. whole_step (o >>= (λ b. Some (record { value = record { index = fixed_field form (6, 2) b; name = fixed_field form (8, 4) b; flags = fixed_field form (4, 2) b }; is_whole = true; next = fixed_field form (12, 4) b }))))
     (bytes_at-past 16 a xs (omega arith) (omega arith))
 
--- a chain whose first record isn't there
-pub chain_absent : {A : Type 0} → (read : ℕ → Option (Step A)) (count a : ℕ) → (count ≡ 0 → ⊥) → whole_step (read a) ≡ None → chain read count a ≡ None
-unfolding chain
-chain_absent read zero a nonzero absent = absurd (nonzero refl)
-chain_absent read (suc n) a nonzero absent = ap (λ o. o >>= (λ s. elim (eqb n 0 || not (eqb s.next 0)) [ true ↦ chain read n (a + s.next) >>= (λ xs. Some (s.value ∷ xs)) | _ ↦ None ])) absent
-
-pub chain_empty : {A : Type 0} → (read : ℕ → Option (Step A)) (count a : ℕ) → count ≡ 0 → chain read count a ≡ Some []
-unfolding chain
-chain_empty read zero a e = refl
-chain_empty read (suc n) a e = absurd (omega arith)
-
 -- a walk whose chain is there is whole, and has its values
 walk_is : {A : Type 0} → (read : ℕ → Option (Step A)) (n a : ℕ) (xs : List A) → chain read n a ≡ Some xs → (is_whole_walk n (walked read n a) ≡ true) × (values_of (walked read n a) ≡ xs)
 walk_is read n a xs e = cond_some (is_whole_walk n (walked read n a)) (values_of (walked read n a)) xs (walked-chain read n a ∙ e)
@@ -272,13 +261,6 @@ module _ (form : Form) (f : Memory) (a : ℕ) where
   unfolding need_at need_by
   need_absent here = ap (λ o. whole_step (o >>= (λ c. Some (need_by form c (is_whole_walk (fixed_field form (2, 2) c) (walked (need_name_at form f) (fixed_field form (2, 2) c) (a + fixed_field form (8, 4) c)))
       (values_of (walked (need_name_at form f) (fixed_field form (2, 2) c) (a + fixed_field form (8, 4) c))))))) here
-
--- records past the end of a list aren't there
-pub definition-past : (form : Form) (xs : List ℕ) (a : ℕ) → length xs < a → whole_step (definition_at form (memory_of xs) a) ≡ None
-definition-past form xs a past = definition_absent form (memory_of xs) a (bytes_at-past 20 a xs (omega arith) (omega arith))
-
-pub need-past : (form : Form) (xs : List ℕ) (a : ℕ) → length xs < a → whole_step (need_at form (memory_of xs) a) ≡ None
-need-past form xs a past = need_absent form (memory_of xs) a (bytes_at-past 16 a xs (omega arith) (omega arith))
 
 -- ## What the reader of a record with a chain answers
 

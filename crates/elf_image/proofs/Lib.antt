@@ -10,6 +10,7 @@ pub mod TableSteps
 pub mod EntrySteps
 pub mod ChainSteps
 pub mod JoinSteps
+pub mod SourceSteps
 pub mod SymbolSteps
 pub mod ViewSteps
 pub mod TopSteps
@@ -26,5 +27,6 @@ pub mod PlacementHeld
 pub mod PlacementClear
 pub mod KindSteps
 pub mod LinkSteps
+pub mod LoadedSteps
 pub mod ReadSteps
 pub mod ReadNumbers

@@ -1,17 +1,16 @@
 -- What the readers of version tables and of the whole view answer.
 use Rattle.std.specs.Prelude.{◌&&◌}
-use Rattle.std.proofs.Common.{◌≡◌, ◌/◌, ℕ, length, List, sym, ap, ◌∙◌, subst, Option, Some}
+use Rattle.std.proofs.Common.{◌≡◌, ℕ, List, refl, sym, ap, ◌∙◌, subst, Option, Some}
 use Rattle.patch_bytes.specs.Memory.{◌>>=◌, Memory}
 use Rattle.elf_image.specs.declared.plain.fault.ViewFault.{ViewFault}
-use Rattle.elf_image.specs.declared.constants.TheConstants.{DT_SYMTAB, DT_VERDEF, DT_VERDEFNUM, DT_VERNEED, DT_VERNEEDNUM, DT_VERSYM, SHT_DYNSYM, SHT_GNU_VERDEF, SHT_GNU_VERNEED, SHT_GNU_VERSYM}
+use Rattle.elf_image.specs.declared.constants.TheConstants.{DT_SYMTAB, DT_VERDEF, DT_VERDEFNUM, DT_VERNEED, DT_VERNEEDNUM, DT_VERSYM}
 use Rattle.elf_image.specs.Dynamic.{Entry, has_tag, shown_entry}
-use Rattle.elf_image.specs.File.{linked_section, section_of_type}
 use Rattle.elf_image.specs.Form.{Form}
-use Rattle.elf_image.specs.Records.{EntryNumbers, SectionHeader, symbol_size}
+use Rattle.elf_image.specs.Records.{EntryNumbers}
 use Rattle.elf_image.specs.Options.{each, where_asked}
 use Rattle.elf_image.specs.Plain.{Fails, chain}
 use Rattle.elf_image.specs.Versions.{DefinitionNumbers, NeedNumbers, VersionDefinition, VersionNeeds, definition_at, need_at, shown_definition, shown_need}
-use Rattle.elf_image.specs.Views.{NamedSymbol, View, defined_versions, dynamic_symbols, needed_versions, section_memory, section_table, tables_by_sections, view_of}
+use Rattle.elf_image.specs.Views.{NamedSymbol, Tables, View, defined_versions, dynamic_symbols, needed_versions, view_of}
 use Rattle.elf_image.proofs.ChainSteps.{whole_chain-chain}
 use Rattle.patch_bytes.proofs.MemoryLaws.{some_bind}
 use Rattle.elf_image.proofs.SymbolSteps.{bind_fails, bind_on}
@@ -74,58 +73,48 @@ module _ {A B C D E : Type 0} (o1 : Option A) (o2 : Option B) (o3 : Option C) (o
 
 -- ## A view by its four parts
 
-module _ (form : Form) (file : List ℕ) (outline : View) (raw : List EntryNumbers) (sections : List SectionHeader) (list : SectionHeader) (m : Memory) (is_m : m ≡ section_memory file (linked_section sections list)) where
-  entries_part : Memory → Option (List Entry)
-  entries_part t = each (shown_entry (length file) t) raw
+module _ (form : Form) (room : ℕ) (outline : View) (raw : List EntryNumbers) (tables : Tables) where
+  abbrev pub entries_part : Option (List Entry)
+  entries_part = each (shown_entry room tables.entry_texts) raw
 
-  symbols_part : Option (Option (List NamedSymbol))
-  symbols_part = where_asked (has_tag DT_SYMTAB raw) (dynamic_symbols form (length file) (has_tag DT_VERSYM raw) (section_table file sections (λ s. s.sh_size / symbol_size form) SHT_DYNSYM) (section_memory file (section_of_type SHT_GNU_VERSYM sections)))
+  abbrev pub symbols_part : Option (Option (List NamedSymbol))
+  symbols_part = where_asked (has_tag DT_SYMTAB raw) (dynamic_symbols form room (has_tag DT_VERSYM raw) tables.symbols tables.versions)
 
-  definitions_part : Option (Option (List VersionDefinition))
-  definitions_part = where_asked (has_tag DT_VERDEF raw && has_tag DT_VERDEFNUM raw) (defined_versions form (length file) (section_table file sections (λ s. s.sh_info) SHT_GNU_VERDEF))
+  abbrev pub definitions_part : Option (Option (List VersionDefinition))
+  definitions_part = where_asked (has_tag DT_VERDEF raw && has_tag DT_VERDEFNUM raw) (defined_versions form room tables.definitions)
 
-  needs_part : Option (Option (List VersionNeeds))
-  needs_part = where_asked (has_tag DT_VERNEED raw && has_tag DT_VERNEEDNUM raw) (needed_versions form (length file) (section_table file sections (λ s. s.sh_info) SHT_GNU_VERNEED))
+  abbrev pub needs_part : Option (Option (List VersionNeeds))
+  needs_part = where_asked (has_tag DT_VERNEED raw && has_tag DT_VERNEEDNUM raw) (needed_versions form room tables.needs)
 
   made : List Entry → Option (List NamedSymbol) → Option (List VersionDefinition) → Option (List VersionNeeds) → View
   made es ys ds ns = record outline { entries = Some es; symbols = ys; definitions = ds; needs = ns }
 
   view : Option View
-  view = view_of form (length file) outline raw (tables_by_sections form file sections list)
+  view = view_of form room outline raw tables
 
-  view_four : view ≡ four (entries_part m) symbols_part definitions_part needs_part made
-  unfolding view view_of four entries_part symbols_part definitions_part needs_part made
-  view_four = ap (λ t. four (entries_part t) symbols_part definitions_part needs_part made) (sym is_m)
+  view_four : view ≡ four entries_part symbols_part definitions_part needs_part made
+  unfolding view view_of four made
+  view_four = refl
 
-  pub view_fails_entries : (fault : ViewFault) → Fails fault (each (shown_entry (length file) m) raw) → Fails fault (view_of form (length file) outline raw (tables_by_sections form file sections list))
-  unfolding view entries_part
-  view_fails_entries fault h = subst (Fails fault) (sym view_four) (first_fails (entries_part m) symbols_part definitions_part needs_part made fault h)
+  pub view_fails_entries : (fault : ViewFault) → Fails fault entries_part → Fails fault (view_of form room outline raw tables)
+  unfolding view
+  view_fails_entries fault h = subst (Fails fault) (sym view_four) (first_fails entries_part symbols_part definitions_part needs_part made fault h)
 
-  pub view_fails_symbols : (fault : ViewFault) (es : List Entry) → each (shown_entry (length file) m) raw ≡ Some es
-      → Fails fault (where_asked (has_tag DT_SYMTAB raw) (dynamic_symbols form (length file) (has_tag DT_VERSYM raw) (section_table file sections (λ s. s.sh_size / symbol_size form) SHT_DYNSYM) (section_memory file (section_of_type SHT_GNU_VERSYM sections))))
-      → Fails fault (view_of form (length file) outline raw (tables_by_sections form file sections list))
-  unfolding view entries_part symbols_part
-  view_fails_symbols fault es e1 h = subst (Fails fault) (sym view_four) (second_fails (entries_part m) symbols_part definitions_part needs_part made fault es e1 h)
+  pub view_fails_symbols : (fault : ViewFault) (es : List Entry) → entries_part ≡ Some es → Fails fault symbols_part → Fails fault (view_of form room outline raw tables)
+  unfolding view
+  view_fails_symbols fault es e1 h = subst (Fails fault) (sym view_four) (second_fails entries_part symbols_part definitions_part needs_part made fault es e1 h)
 
-  pub view_fails_definitions : (fault : ViewFault) (es : List Entry) (ys : Option (List NamedSymbol)) → each (shown_entry (length file) m) raw ≡ Some es
-      → where_asked (has_tag DT_SYMTAB raw) (dynamic_symbols form (length file) (has_tag DT_VERSYM raw) (section_table file sections (λ s. s.sh_size / symbol_size form) SHT_DYNSYM) (section_memory file (section_of_type SHT_GNU_VERSYM sections))) ≡ Some ys
-      → Fails fault (where_asked (has_tag DT_VERDEF raw && has_tag DT_VERDEFNUM raw) (defined_versions form (length file) (section_table file sections (λ s. s.sh_info) SHT_GNU_VERDEF)))
-      → Fails fault (view_of form (length file) outline raw (tables_by_sections form file sections list))
-  unfolding view entries_part symbols_part definitions_part
-  view_fails_definitions fault es ys e1 e2 h = subst (Fails fault) (sym view_four) (third_fails (entries_part m) symbols_part definitions_part needs_part made fault es ys e1 e2 h)
+  pub view_fails_definitions : (fault : ViewFault) (es : List Entry) (ys : Option (List NamedSymbol)) → entries_part ≡ Some es → symbols_part ≡ Some ys → Fails fault definitions_part
+      → Fails fault (view_of form room outline raw tables)
+  unfolding view
+  view_fails_definitions fault es ys e1 e2 h = subst (Fails fault) (sym view_four) (third_fails entries_part symbols_part definitions_part needs_part made fault es ys e1 e2 h)
 
-  pub view_fails_needs : (fault : ViewFault) (es : List Entry) (ys : Option (List NamedSymbol)) (ds : Option (List VersionDefinition)) → each (shown_entry (length file) m) raw ≡ Some es
-      → where_asked (has_tag DT_SYMTAB raw) (dynamic_symbols form (length file) (has_tag DT_VERSYM raw) (section_table file sections (λ s. s.sh_size / symbol_size form) SHT_DYNSYM) (section_memory file (section_of_type SHT_GNU_VERSYM sections))) ≡ Some ys
-      → where_asked (has_tag DT_VERDEF raw && has_tag DT_VERDEFNUM raw) (defined_versions form (length file) (section_table file sections (λ s. s.sh_info) SHT_GNU_VERDEF)) ≡ Some ds
-      → Fails fault (where_asked (has_tag DT_VERNEED raw && has_tag DT_VERNEEDNUM raw) (needed_versions form (length file) (section_table file sections (λ s. s.sh_info) SHT_GNU_VERNEED)))
-      → Fails fault (view_of form (length file) outline raw (tables_by_sections form file sections list))
-  unfolding view entries_part symbols_part definitions_part needs_part
-  view_fails_needs fault es ys ds e1 e2 e3 h = subst (Fails fault) (sym view_four) (fourth_fails (entries_part m) symbols_part definitions_part needs_part made fault es ys ds e1 e2 e3 h)
+  pub view_fails_needs : (fault : ViewFault) (es : List Entry) (ys : Option (List NamedSymbol)) (ds : Option (List VersionDefinition)) → entries_part ≡ Some es → symbols_part ≡ Some ys → definitions_part ≡ Some ds
+      → Fails fault needs_part → Fails fault (view_of form room outline raw tables)
+  unfolding view
+  view_fails_needs fault es ys ds e1 e2 e3 h = subst (Fails fault) (sym view_four) (fourth_fails entries_part symbols_part definitions_part needs_part made fault es ys ds e1 e2 e3 h)
 
-  pub view_shown : (es : List Entry) (ys : Option (List NamedSymbol)) (ds : Option (List VersionDefinition)) (ns : Option (List VersionNeeds)) → each (shown_entry (length file) m) raw ≡ Some es
-      → where_asked (has_tag DT_SYMTAB raw) (dynamic_symbols form (length file) (has_tag DT_VERSYM raw) (section_table file sections (λ s. s.sh_size / symbol_size form) SHT_DYNSYM) (section_memory file (section_of_type SHT_GNU_VERSYM sections))) ≡ Some ys
-      → where_asked (has_tag DT_VERDEF raw && has_tag DT_VERDEFNUM raw) (defined_versions form (length file) (section_table file sections (λ s. s.sh_info) SHT_GNU_VERDEF)) ≡ Some ds
-      → where_asked (has_tag DT_VERNEED raw && has_tag DT_VERNEEDNUM raw) (needed_versions form (length file) (section_table file sections (λ s. s.sh_info) SHT_GNU_VERNEED)) ≡ Some ns
-      → view_of form (length file) outline raw (tables_by_sections form file sections list) ≡ Some (record outline { entries = Some es; symbols = ys; definitions = ds; needs = ns })
-  unfolding view entries_part symbols_part definitions_part needs_part made
-  view_shown es ys ds ns e1 e2 e3 e4 = view_four ∙ four_shown (entries_part m) symbols_part definitions_part needs_part made es ys ds ns e1 e2 e3 e4
+  pub view_shown : (es : List Entry) (ys : Option (List NamedSymbol)) (ds : Option (List VersionDefinition)) (ns : Option (List VersionNeeds)) → entries_part ≡ Some es → symbols_part ≡ Some ys
+      → definitions_part ≡ Some ds → needs_part ≡ Some ns → view_of form room outline raw tables ≡ Some (record outline { entries = Some es; symbols = ys; definitions = ds; needs = ns })
+  unfolding view made
+  view_shown es ys ds ns e1 e2 e3 e4 = view_four ∙ four_shown entries_part symbols_part definitions_part needs_part made es ys ds ns e1 e2 e3 e4

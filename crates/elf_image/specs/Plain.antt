@@ -1,5 +1,5 @@
 -- What plain readers answer: what the definitions say, seen through the types of the readers.
-use Rattle.std.specs.Prelude.{ℕ, zero, suc, ◌≡◌, ◌+◌, ◌<◌, ◌⊎◌, ◌||◌, ◌==◌, if◌then◌else◌, not, Bool, true, false, List, [], ◌∷◌, length, Option, Some, None, Result, Ok, Err}
+use Rattle.std.specs.Prelude.{ℕ, zero, suc, ◌≡◌, ◌+◌, ◌≤◌, ◌<◌, ◌⊎◌, ◌||◌, ◌==◌, if◌then◌else◌, not, Bool, true, false, List, [], ◌∷◌, length, Option, Some, None, Result, Ok, Err}
 use Rattle.std.specs.Borrow.{Bor}
 use Rattle.patch_bytes.specs.Memory.{◌>>=◌}
 use Rattle.elf_image.specs.Versions.{Step}
@@ -42,3 +42,8 @@ StandsBehind bytes place distance (Err e) = (e ≡ faults.Absent) × (length byt
 abbrev pub StepsOn : List ℕ → ℕ → ℕ → Bool → Result ℕ ViewFault → Type 0
 StepsOn bytes place next is_last (Ok p) = (is_last ≡ true) ⊎ ((next ≡ 0 → ⊥) × (p ≡ place + next))
 StepsOn bytes place next is_last (Err e) = (e ≡ faults.Absent) × (is_last ≡ false) × ((next ≡ 0) ⊎ (length bytes < place + next))
+
+-- the same where no place is too far
+abbrev pub GoesOn : ℕ → ℕ → Bool → Result ℕ ViewFault → Type 0
+GoesOn place next is_last (Ok p) = ((is_last ≡ true) ⊎ ((next ≡ 0 → ⊥) × (p ≡ place + next))) × (p ≤ place + next)
+GoesOn place next is_last (Err e) = (e ≡ faults.Absent) × (is_last ≡ false) × (next ≡ 0)

@@ -55,3 +55,6 @@ impl<T: Drop> From<AllocFailed<T>> for ElfFault {
         ElfFault::Memory
     }
 }
+
+#[cfg(test)]
+mod tests;

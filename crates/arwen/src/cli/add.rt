@@ -1,7 +1,7 @@
 //! `add-rpath`.
-ghost use Rattle.std.specs.Prelude.{◌≡◌, false, IfOk, codes, option_map};
+ghost use Rattle.std.specs.Prelude.{◌≡◌, false, IfErr, IfOk, codes, option_map};
 ghost use Rattle.clap.specs.Words.{app_of, found_of, rows_of};
-ghost use Rattle.arwen.specs.Engine.{IsDone};
+ghost use Rattle.arwen.specs.Engine.{IsDone, MayFail};
 ghost use Rattle.arwen.specs.Line.{macho_shown};
 ghost use Rattle.arwen.specs.Parser.{add_app, found_meaning, has_globals};
 
@@ -26,7 +26,8 @@ pub struct Args {
 
 /// Edits the file.
 pub fn execute<R: Files + AllocGlobal>(rt: &R, args: Args) -> Result<(), ArwenError>
-    ensures { IfOk result (λ _. IsDone (macho_shown (MachoCommand.AddRpath args))) }
+    ensures ok { IfOk result (λ _. IsDone (macho_shown (MachoCommand.AddRpath args))) }
+    ensures err { IfErr result (λ e. MayFail (macho_shown (MachoCommand.AddRpath args)) e) }
 {
     patch_file(rt, &MachoCommand::AddRpath(args))
 }

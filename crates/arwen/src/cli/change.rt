@@ -1,7 +1,7 @@
 //! `change-rpath`.
-ghost use Rattle.std.specs.Prelude.{◌≡◌, false, IfOk, codes, option_map};
+ghost use Rattle.std.specs.Prelude.{◌≡◌, false, IfErr, IfOk, codes, option_map};
 ghost use Rattle.clap.specs.Words.{app_of, found_of, rows_of};
-ghost use Rattle.arwen.specs.Engine.{IsDone};
+ghost use Rattle.arwen.specs.Engine.{IsDone, MayFail};
 ghost use Rattle.arwen.specs.Line.{macho_shown};
 ghost use Rattle.arwen.specs.Parser.{change_app, found_meaning, has_globals};
 
@@ -28,7 +28,8 @@ pub struct Args {
 
 /// Edits the file.
 pub fn execute<R: Files + AllocGlobal>(rt: &R, args: Args) -> Result<(), ArwenError>
-    ensures { IfOk result (λ _. IsDone (macho_shown (MachoCommand.ChangeRpath args))) }
+    ensures ok { IfOk result (λ _. IsDone (macho_shown (MachoCommand.ChangeRpath args))) }
+    ensures err { IfErr result (λ e. MayFail (macho_shown (MachoCommand.ChangeRpath args)) e) }
 {
     patch_file(rt, &MachoCommand::ChangeRpath(args))
 }

@@ -1,6 +1,6 @@
 //! The commands for ELF files.
-ghost use Rattle.std.specs.Prelude.{IfOk};
-ghost use Rattle.arwen.specs.Prints.{SomeAccepted};
+ghost use Rattle.std.specs.Prelude.{IfErr, IfOk};
+ghost use Rattle.arwen.specs.Prints.{PrintMayFail, SomeAccepted};
 
 pub(crate) mod engine;
 pub(crate) mod line;
@@ -18,7 +18,8 @@ use std::rt::Files;
 
 /// Does what is asked of an ELF file. What is printed goes to the standard output.
 pub fn execute<R: Files + Print + AllocGlobal>(rt: &R, elf: ElfCommand) -> Result<(), ArwenError>
-    ensures { IfOk result (λ _. SomeAccepted) }
+    ensures ok { IfOk result (λ _. SomeAccepted) }
+    ensures err { IfErr result (λ e. PrintMayFail e) }
 {
     match elf {
         ElfCommand::PrintRpath(args) => print_rpath::execute(rt, args),
@@ -45,7 +46,8 @@ pub(crate) fn print_file<R: Files + Print + AllocGlobal>(
     rt: &R,
     command: &ElfCommand,
 ) -> Result<(), ArwenError>
-    ensures { IfOk result (λ _. SomeAccepted) }
+    ensures ok { IfOk result (λ _. SomeAccepted) }
+    ensures err { IfErr result (λ e. PrintMayFail e) }
 {
     let bytes = read_file(rt, command.path_to_binary())?;
     let mut out = io::writer(rt);

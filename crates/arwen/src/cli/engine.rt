@@ -1,7 +1,7 @@
 //! New bytes of old ones.
 ghost use Rattle.std.specs.Prelude.{◌≡◌, ◌∷◌, [], Ok, IfOk, IfErr, OnErr, map, string_bytes};
 ghost use Rattle.arwen_macho.specs.Batch.{calls_of};
-ghost use Rattle.arwen.specs.Engine.{AreAsked, IsDone, Outcome, Tells, TellsAsked, Writes, asked, outcome, refused_answer};
+ghost use Rattle.arwen.specs.Engine.{AreAsked, IsDone, MayFail, Outcome, Tells, TellsAsked, Writes, asked, outcome, refused_answer};
 ghost use Rattle.arwen.specs.Line.{macho_shown};
 ghost use Rattle.arwen.specs.declared.cli.error.ArwenError.TheVariants.{Memory};
 
@@ -117,7 +117,8 @@ pub(crate) fn patch_file<R: Files + AllocGlobal>(
     rt: &R,
     command: &MachoCommand,
 ) -> Result<(), ArwenError>
-    ensures { IfOk result (λ _. IsDone (macho_shown command.now)) }
+    ensures ok { IfOk result (λ _. IsDone (macho_shown command.now)) }
+    ensures err { IfErr result (λ e. MayFail (macho_shown command.now) e) }
 {
     let path = command.path_to_binary();
     let mut bytes = read_file(rt, path)?;

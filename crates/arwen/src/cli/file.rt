@@ -1,6 +1,7 @@
 //! Files, read whole and written whole.
-ghost use Rattle.std.specs.Prelude.{◌≡◌, ◌++◌, ◌<◌, ℕ, List, IfOk, IsTrue, length, vec_len};
+ghost use Rattle.std.specs.Prelude.{◌≡◌, ◌++◌, ◌<◌, ℕ, List, IfErr, IfOk, IsTrue, length, vec_len};
 ghost use Rattle.std.specs.Io.KnownBytes.{Consumes, IsAtEnd};
+ghost use Rattle.arwen.specs.Fault.{IsOfFile};
 
 use crate::cli::ArwenError;
 use std::alloc::{AllocError, Global};
@@ -19,7 +20,9 @@ const MOST_BYTES: usize = 1 << 32;
 const CHUNK: usize = 1 << 16;
 
 /// The bytes of a file, of which the first `MOST_BYTES` are enough to see that there are too many.
-pub(crate) fn read_file<R: Files + AllocGlobal>(rt: &R, path: &str) -> Result<Vec<u8>, ArwenError> {
+pub(crate) fn read_file<R: Files + AllocGlobal>(rt: &R, path: &str) -> Result<Vec<u8>, ArwenError>
+    ensures { IfErr result (λ e. IsOfFile e) }
+{
     let mut file = fs::open(rt, path)?;
     let length = file.metadata()?.len();
     read_bytes(rt.alloc(), &mut file, length)
@@ -36,6 +39,7 @@ pub(crate) fn read_bytes<F: Read>(
         Consumes (F.remaining reader.old) (F.remaining reader.new) bytes.items) }
     ensures whole { IfOk result (λ bytes.
         vec_len bytes < MOST_BYTES → IsAtEnd (F.remaining reader.new)) }
+    ensures err { IfErr result (λ e. IsOfFile e) }
 {
     let expected = usize::try_from(length).unwrap_or(MOST_BYTES);
     let mut bytes = Vec::with_capacity(alloc, expected.min(MOST_BYTES))?;
@@ -71,6 +75,7 @@ fn read_once<F: Read>(
         × (bytes.new.items ≡ bytes.old.items ++ piece)) }
     ensures end { IfOk result (λ is_at_end. 0 < length chunk.old → IsTrue is_at_end
         → IsAtEnd (F.remaining reader.new)) }
+    ensures err { IfErr result (λ e. IsOfFile e) }
 {
     match reader.read(chunk) {
         Ok(count) => {
@@ -83,6 +88,8 @@ fn read_once<F: Read>(
 }
 
 /// Writes a file's bytes in its place, so that its links, its mode and its number stay.
-pub(crate) fn write_file<R: Files>(rt: &R, path: &str, bytes: &[u8]) -> Result<(), ArwenError> {
+pub(crate) fn write_file<R: Files>(rt: &R, path: &str, bytes: &[u8]) -> Result<(), ArwenError>
+    ensures { IfErr result (λ e. IsOfFile e) }
+{
     Ok(fs::write(rt, path, bytes)?)
 }

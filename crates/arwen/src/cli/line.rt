@@ -2,7 +2,7 @@
 ghost use Rattle.std.specs.Prelude.{◌≡◌, [], Some, false, IfOk, IfErr, map, option_map, string_bytes};
 ghost use Rattle.std.specs.Prelude.{unwrap_or};
 ghost use Rattle.clap.specs.Words.{all_of, app_of, first_of, found_of, kind_of, rows_of, rule_of};
-ghost use Rattle.arwen.specs.Fault.{status_of};
+ghost use Rattle.arwen.specs.Fault.{IsOfLine, status_of};
 ghost use Rattle.arwen.specs.Line.{MachoMeaning, Meaning, has_option, macho_shown, meaning_of};
 ghost use Rattle.arwen.specs.Line.{shown};
 ghost use Rattle.arwen.specs.Parser.{IsTaken, found_meaning, macho_app, top_app, value_rule};
@@ -38,6 +38,7 @@ pub fn parse_line(alloc: Global, words: &[&str]) -> Result<Command, ArwenError>
     ensures refused { IfErr result (λ error. has_option (map (λ w. w.now) words.now) ≡ false
         → (meaning : Meaning) → meaning_of (map (λ w. w.now) words.now) ≡ Some meaning
         → error ≡ ArwenError.Memory) }
+    ensures err { IfErr result (λ error. IsOfLine error) }
 {
     let Some(first) = words.first() else {
         return Err(usage(alloc, 2)?);
@@ -52,7 +53,8 @@ pub fn parse_line(alloc: Global, words: &[&str]) -> Result<Command, ArwenError>
 
 /// The usage text, as the fault of a line.
 pub(crate) fn usage(alloc: Global, status: u8) -> Result<ArwenError, AllocError>
-    ensures { IfOk result (λ fault. status_of fault ≡ status) }
+    ensures status { IfOk result (λ fault. status_of fault ≡ status) }
+    ensures kind { IfOk result (λ fault. IsOfLine fault) }
 {
     let text = String::from_str(alloc, USAGE)?;
     Ok(ArwenError::Line { text, status })
@@ -64,6 +66,7 @@ fn parse_macho(alloc: Global, words: &[&str]) -> Result<MachoCommand, ArwenError
         IsTaken (map (λ w. w.now) words.now) (macho_shown command)) }
     ensures refused { IfErr result (λ error. (meaning : MachoMeaning)
         → IsTaken (map (λ w. w.now) words.now) meaning → error ≡ ArwenError.Memory) }
+    ensures err { IfErr result (λ error. IsOfLine error) }
 {
     let matches = match macho_line(alloc)?.try_get_matches_from(words) {
         Ok(matches) => matches,
@@ -80,8 +83,9 @@ fn parse_macho(alloc: Global, words: &[&str]) -> Result<MachoCommand, ArwenError
 
 /// What clap has to say of a line.
 pub(crate) fn line_fault(alloc: Global, error: &Error) -> Result<ArwenError, AllocError>
-    ensures { IfOk result (λ fault. kind_of error.now ≡ ErrorKind.OutOfMemory
+    ensures memory { IfOk result (λ fault. kind_of error.now ≡ ErrorKind.OutOfMemory
         → fault ≡ ArwenError.Memory) }
+    ensures kind { IfOk result (λ fault. IsOfLine fault) }
 {
     if error.kind() == ErrorKind::OutOfMemory {
         return Ok(ArwenError::Memory);

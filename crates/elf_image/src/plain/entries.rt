@@ -1,18 +1,22 @@
 ghost use Rattle.std.specs.Prelude.{◌≡◌, ◌≤◌, length, map};
 ghost use Rattle.patch_bytes.specs.Memory.{memory_of};
-ghost use Rattle.elf_image.specs.Dynamic.{shown_entry, table_tags, text_tags};
+ghost use Rattle.elf_image.specs.Dynamic.{entries_at, shown_entry, table_tags, text_tags};
 ghost use Rattle.elf_image.specs.Options.{each, is_one_of};
 ghost use Rattle.elf_image.specs.Plain.{Gives};
-ghost use Rattle.elf_image.specs.PlainViews.{entry_seen};
+ghost use Rattle.elf_image.specs.PlainViews.{entry_seen, entry_viewed, source_seen};
 
 use crate::constants::{
     DT_AUDIT, DT_AUXILIARY, DT_CONFIG, DT_DEPAUDIT, DT_FILTER, DT_GNU_HASH, DT_HASH, DT_NEEDED,
     DT_RPATH, DT_RUNPATH, DT_SONAME, DT_STRSZ, DT_STRTAB, DT_SYMENT, DT_SYMTAB, DT_VERDEF,
     DT_VERDEFNUM, DT_VERNEED, DT_VERNEEDNUM, DT_VERSYM,
 };
+use crate::form::Form;
 use crate::plain::fault::ViewFault;
+use crate::plain::numbers::read_entry_numbers;
+use crate::plain::source::{Source, read_bytes, read_text};
+use crate::plain::tables::entry_bytes;
 use crate::plain::texts::text;
-use crate::plain::view::ShownEntry;
+use crate::plain::view::{EntryView, ShownEntry};
 use crate::records::EntryNumbers;
 use std::alloc::Global;
 
@@ -76,20 +80,63 @@ pub(crate) fn show_entry<'a>(
     }
 }
 
-// The entries with their texts.
-pub(crate) fn show_entries<'a>(
+// An entry with a copy of its text.
+#[tactic(auto, unfolding(crate::specs::Dynamic::shown_entry))]
+fn view_entry(
     alloc: Global,
     room: usize,
-    texts: &'a [u8],
+    texts: &Source<'_>,
+    entry: EntryNumbers,
+) -> Result<EntryView, ViewFault>
+    ensures { Gives entry_viewed result (shown_entry room (source_seen texts.now) entry) }
+{
+    if is_text_tag(entry.d_tag) {
+        let shown = read_text(alloc, room, texts, entry.d_value)?;
+        Ok(EntryView::Text(entry.d_tag, shown))
+    } else if is_table_tag(entry.d_tag) {
+        Ok(EntryView::Auto(entry.d_tag))
+    } else {
+        Ok(EntryView::Integer(entry.d_tag, entry.d_value))
+    }
+}
+
+// The entries with copies of their texts.
+pub(crate) fn view_entries(
+    alloc: Global,
+    room: usize,
+    texts: &Source<'_>,
     entries: &[EntryNumbers],
-) -> Result<Vec<ShownEntry<'a>>, ViewFault>
-    requires { length texts.now ≤ room }
-    ensures { Gives (λ v. map entry_seen v.items) result (each (shown_entry room (memory_of texts.now)) entries.now) }
+) -> Result<Vec<EntryView>, ViewFault>
+    ensures { Gives (λ v. map entry_viewed v.items) result (each (shown_entry room (source_seen texts.now)) entries.now) }
 {
     let mut shown = Vec::new(alloc);
     for entry in entries {
-        let one = show_entry(room, texts, *entry)?;
+        let one = view_entry(alloc, room, texts, *entry)?;
         shown.push(one)?;
     }
     Ok(shown)
+}
+
+// The dynamic entries before the first DT_NULL, which is one of the first `room` entries.
+pub(crate) fn entries_from(
+    alloc: Global,
+    form: Form,
+    room: usize,
+    source: &Source<'_>,
+) -> Result<Vec<EntryNumbers>, ViewFault>
+    ensures { Gives (λ v. v.items) result (entries_at room form (source_seen source.now) 0) }
+{
+    let size = entry_bytes(form) as u128;
+    let mut made = Vec::new(alloc);
+    let mut place = 0;
+    for _ in 0..room {
+        let record = read_bytes(alloc, source, place, size)?;
+        let entry = read_entry_numbers(form, &record);
+        if entry.d_tag == 0 {
+            return Ok(made);
+        }
+        made.push(entry)?;
+        place += size;
+    }
+    Err(ViewFault::Absent)
 }

@@ -1,29 +1,28 @@
-ghost use Rattle.std.specs.Prelude.{◌≡◌, ◌≤◌, length, map};
-ghost use Rattle.patch_bytes.specs.Memory.{memory_of, text_at};
+ghost use Rattle.std.specs.Prelude.{map};
+ghost use Rattle.patch_bytes.specs.Memory.{text_at};
 ghost use Rattle.elf_image.specs.Options.{each};
-ghost use Rattle.elf_image.specs.Plain.{Gives, borrowed};
-ghost use Rattle.elf_image.specs.PlainViews.{definition_seen, name_seen, needs_seen, raw_definition, raw_needs};
+ghost use Rattle.elf_image.specs.Plain.{Gives};
+ghost use Rattle.elf_image.specs.PlainViews.{definition_seen, name_seen, needs_seen, raw_definition, raw_needs, source_seen, text_seen};
 ghost use Rattle.elf_image.specs.Versions.{shown_definition, shown_need, shown_need_name};
 
 use crate::plain::fault::ViewFault;
-use crate::plain::texts::text;
+use crate::plain::source::{Source, read_text};
 use crate::plain::view::{RawDefinition, RawNeeds, ShownDefinition, ShownName, ShownNeeds};
 use crate::records::NeedNameNumbers;
 use std::alloc::Global;
 
 // Texts by where they stand.
-fn show_texts<'a>(
+fn show_texts(
     alloc: Global,
     room: usize,
-    texts: &'a [u8],
+    texts: &Source<'_>,
     places: &[u32],
-) -> Result<Vec<&'a [u8]>, ViewFault>
-    requires { length texts.now ≤ room }
-    ensures { Gives (λ v. map borrowed v.items) result (each (text_at room (memory_of texts.now)) places.now) }
+) -> Result<Vec<Vec<u8>>, ViewFault>
+    ensures { Gives (λ v. map text_seen v.items) result (each (text_at room (source_seen texts.now)) places.now) }
 {
     let mut shown = Vec::new(alloc);
     for place in places {
-        let one = text(room, texts, *place as u64)?;
+        let one = read_text(alloc, room, texts, *place as u64)?;
         shown.push(one)?;
     }
     Ok(shown)
@@ -31,14 +30,13 @@ fn show_texts<'a>(
 
 // A defined version with its names.
 #[tactic(auto, unfolding(crate::specs::Versions::shown_definition))]
-fn show_definition<'a>(
+fn show_definition(
     alloc: Global,
     room: usize,
-    texts: &'a [u8],
+    texts: &Source<'_>,
     definition: &RawDefinition,
-) -> Result<ShownDefinition<'a>, ViewFault>
-    requires { length texts.now ≤ room }
-    ensures { Gives definition_seen result (shown_definition room (memory_of texts.now) (raw_definition definition.now)) }
+) -> Result<ShownDefinition, ViewFault>
+    ensures { Gives definition_seen result (shown_definition room (source_seen texts.now) (raw_definition definition.now)) }
 {
     let names = show_texts(alloc, room, texts, &definition.names)?;
     Ok(ShownDefinition {
@@ -49,14 +47,13 @@ fn show_definition<'a>(
 }
 
 // The defined versions with their names.
-pub(crate) fn show_definitions<'a>(
+pub(crate) fn show_definitions(
     alloc: Global,
     room: usize,
-    texts: &'a [u8],
+    texts: &Source<'_>,
     definitions: &[RawDefinition],
-) -> Result<Vec<ShownDefinition<'a>>, ViewFault>
-    requires { length texts.now ≤ room }
-    ensures { Gives (λ v. map definition_seen v.items) result (each (shown_definition room (memory_of texts.now)) (map raw_definition definitions.now)) }
+) -> Result<Vec<ShownDefinition>, ViewFault>
+    ensures { Gives (λ v. map definition_seen v.items) result (each (shown_definition room (source_seen texts.now)) (map raw_definition definitions.now)) }
 {
     let mut shown = Vec::new(alloc);
     for definition in definitions {
@@ -68,15 +65,15 @@ pub(crate) fn show_definitions<'a>(
 
 // A needed version with its name.
 #[tactic(auto, unfolding(crate::specs::Versions::shown_need_name))]
-fn show_name<'a>(
+fn show_name(
+    alloc: Global,
     room: usize,
-    texts: &'a [u8],
+    texts: &Source<'_>,
     version: NeedNameNumbers,
-) -> Result<ShownName<'a>, ViewFault>
-    requires { length texts.now ≤ room }
-    ensures { Gives name_seen result (shown_need_name room (memory_of texts.now) version) }
+) -> Result<ShownName, ViewFault>
+    ensures { Gives name_seen result (shown_need_name room (source_seen texts.now) version) }
 {
-    let name = text(room, texts, version.name as u64)?;
+    let name = read_text(alloc, room, texts, version.name as u64)?;
     Ok(ShownName {
         index: version.index,
         name,
@@ -85,18 +82,17 @@ fn show_name<'a>(
 }
 
 // Needed versions with their names.
-fn show_names<'a>(
+fn show_names(
     alloc: Global,
     room: usize,
-    texts: &'a [u8],
+    texts: &Source<'_>,
     versions: &[NeedNameNumbers],
-) -> Result<Vec<ShownName<'a>>, ViewFault>
-    requires { length texts.now ≤ room }
-    ensures { Gives (λ v. map name_seen v.items) result (each (shown_need_name room (memory_of texts.now)) versions.now) }
+) -> Result<Vec<ShownName>, ViewFault>
+    ensures { Gives (λ v. map name_seen v.items) result (each (shown_need_name room (source_seen texts.now)) versions.now) }
 {
     let mut shown = Vec::new(alloc);
     for version in versions {
-        let one = show_name(room, texts, *version)?;
+        let one = show_name(alloc, room, texts, *version)?;
         shown.push(one)?;
     }
     Ok(shown)
@@ -104,29 +100,27 @@ fn show_names<'a>(
 
 // The versions needed of one library with its name.
 #[tactic(auto, unfolding(crate::specs::Versions::shown_need))]
-fn show_need<'a>(
+fn show_need(
     alloc: Global,
     room: usize,
-    texts: &'a [u8],
+    texts: &Source<'_>,
     needs: &RawNeeds,
-) -> Result<ShownNeeds<'a>, ViewFault>
-    requires { length texts.now ≤ room }
-    ensures { Gives needs_seen result (shown_need room (memory_of texts.now) (raw_needs needs.now)) }
+) -> Result<ShownNeeds, ViewFault>
+    ensures { Gives needs_seen result (shown_need room (source_seen texts.now) (raw_needs needs.now)) }
 {
-    let file = text(room, texts, needs.file as u64)?;
+    let file = read_text(alloc, room, texts, needs.file as u64)?;
     let versions = show_names(alloc, room, texts, &needs.versions)?;
     Ok(ShownNeeds { file, versions })
 }
 
 // The needed versions, library by library.
-pub(crate) fn show_needs<'a>(
+pub(crate) fn show_needs(
     alloc: Global,
     room: usize,
-    texts: &'a [u8],
+    texts: &Source<'_>,
     libraries: &[RawNeeds],
-) -> Result<Vec<ShownNeeds<'a>>, ViewFault>
-    requires { length texts.now ≤ room }
-    ensures { Gives (λ v. map needs_seen v.items) result (each (shown_need room (memory_of texts.now)) (map raw_needs libraries.now)) }
+) -> Result<Vec<ShownNeeds>, ViewFault>
+    ensures { Gives (λ v. map needs_seen v.items) result (each (shown_need room (source_seen texts.now)) (map raw_needs libraries.now)) }
 {
     let mut shown = Vec::new(alloc);
     for library in libraries {

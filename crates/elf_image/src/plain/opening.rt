@@ -72,7 +72,7 @@ pub(crate) fn form(file: &[u8]) -> Option<Form>
 }
 
 // The bytes of a range of the file, where it lies in it.
-fn file_part(file: &[u8], offset: u64, size: u64) -> Result<&[u8], ViewFault>
+pub(crate) fn file_part(file: &[u8], offset: u64, size: u64) -> Result<&[u8], ViewFault>
     ensures { Gives borrowed result (bytes_in file.now offset size) }
 {
     let length = file.len() as u64;

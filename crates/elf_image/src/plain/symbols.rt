@@ -1,14 +1,13 @@
-ghost use Rattle.std.specs.Prelude.{◌≡◌, ◌≤◌, ◌<◌, ◌*◌, ◌^◌, length, map, replicate, IfOk, None};
-ghost use Rattle.patch_bytes.specs.Memory.{memory_of};
-ghost use Rattle.elf_image.specs.Plain.{Gives, borrowed};
-ghost use Rattle.elf_image.specs.PlainViews.{symbol_seen};
+ghost use Rattle.std.specs.Prelude.{◌≡◌, map, replicate, IfOk, None};
+ghost use Rattle.elf_image.specs.Plain.{Gives};
+ghost use Rattle.elf_image.specs.PlainViews.{source_seen, symbol_seen, table_seen, text_seen};
 ghost use Rattle.elf_image.specs.Records.{symbol_size};
-ghost use Rattle.elf_image.specs.Views.{dynamic_symbols, named_symbols, symbol_versions};
+ghost use Rattle.elf_image.specs.Views.{dynamic_symbols, named_symbols, names_of, symbol_versions};
 
 use crate::form::Form;
 use crate::plain::fault::ViewFault;
-use crate::plain::tables::{range, read_symbols, read_versions};
-use crate::plain::texts::symbol_names;
+use crate::plain::source::{Source, TableSource, read_bytes, read_text};
+use crate::plain::tables::{read_symbols, read_versions};
 use crate::plain::view::ShownSymbol;
 use crate::records::SymbolNumbers;
 use crate::symbol::VersionId;
@@ -16,13 +15,13 @@ use patch_bytes::Wide;
 use std::alloc::{AllocError, Global};
 
 // Numbers, names and versions put together, symbol by symbol.
-fn join_symbols<'a>(
+fn join_symbols(
     alloc: Global,
     symbols: &[SymbolNumbers],
-    names: &[&'a [u8]],
+    names: &[Vec<u8>],
     versions: &[Option<VersionId>],
-) -> Result<Vec<ShownSymbol<'a>>, AllocError>
-    ensures { IfOk result (λ v. map symbol_seen v.items ≡ named_symbols symbols.now (map borrowed names.now) versions.now) }
+) -> Result<Vec<ShownSymbol>, AllocError>
+    ensures { IfOk result (λ v. map symbol_seen v.items ≡ named_symbols symbols.now (map text_seen names.now) versions.now) }
 {
     let mut made = Vec::new(alloc);
     for i in 0..symbols.len() {
@@ -34,7 +33,7 @@ fn join_symbols<'a>(
         }
         let symbol = symbols[i];
         made.push(ShownSymbol {
-            name: names[i],
+            name: Vec::from_slice(alloc, &names[i])?,
             st_info: symbol.st_info,
             st_other: symbol.st_other,
             st_shndx: symbol.st_shndx,
@@ -73,37 +72,50 @@ fn versions_of(
     form: Form,
     with_versions: bool,
     count: usize,
-    versions: &[u8],
+    versions: &Source<'_>,
 ) -> Result<Vec<Option<VersionId>>, ViewFault>
-    requires { count * 2 < 2 ^ 64 }
-    ensures { Gives (λ v. v.items) result (symbol_versions form with_versions count (memory_of versions.now)) }
+    ensures { Gives (λ v. v.items) result (symbol_versions form with_versions count (source_seen versions.now)) }
 {
     if !with_versions {
         return Ok(no_versions(alloc, count)?);
     }
-    let all = range(versions, 0, (count * 2) as u64)?;
-    Ok(read_versions(alloc, form, 2, count, all)?)
+    let all = read_bytes(alloc, versions, 0, count as u128 * 2)?;
+    Ok(read_versions(alloc, form, 2, count, &all)?)
+}
+
+// The names of symbols.
+fn symbol_names(
+    alloc: Global,
+    room: usize,
+    texts: &Source<'_>,
+    symbols: &[SymbolNumbers],
+) -> Result<Vec<Vec<u8>>, ViewFault>
+    ensures { Gives (λ v. map text_seen v.items) result (names_of room (source_seen texts.now) symbols.now) }
+{
+    let mut names = Vec::new(alloc);
+    for symbol in symbols {
+        let name = read_text(alloc, room, texts, symbol.st_name as u64)?;
+        names.push(name)?;
+    }
+    Ok(names)
 }
 
 // The dynamic symbols with their names and versions.
-pub(crate) fn show_symbols<'a>(
+pub(crate) fn show_symbols(
     alloc: Global,
     form: Form,
     room: usize,
     with_versions: bool,
-    bytes: &'a [u8],
-    texts: &'a [u8],
-    count: usize,
-    versions: &[u8],
-) -> Result<Vec<ShownSymbol<'a>>, ViewFault>
-    requires texts { length texts.now ≤ room }
-    requires count { count * symbol_size form < 2 ^ 64 }
-    ensures { Gives (λ v. map symbol_seen v.items) result (dynamic_symbols form room with_versions (record { bytes = memory_of bytes.now; texts = memory_of texts.now; count = count }) (memory_of versions.now)) }
+    table: &TableSource<'_>,
+    versions: &Source<'_>,
+) -> Result<Vec<ShownSymbol>, ViewFault>
+    ensures { Gives (λ v. map symbol_seen v.items) result (dynamic_symbols form room with_versions (table_seen table.now) (source_seen versions.now)) }
 {
     let size = symbol_bytes(form);
-    let all = range(bytes, 0, (count * size) as u64)?;
-    let symbols = read_symbols(alloc, form, size, count, all)?;
-    let names = symbol_names(alloc, room, texts, &symbols)?;
+    let count = table.count as usize;
+    let all = read_bytes(alloc, &table.bytes, 0, count as u128 * size as u128)?;
+    let symbols = read_symbols(alloc, form, size, count, &all)?;
+    let names = symbol_names(alloc, room, &table.texts, &symbols)?;
     let ids = versions_of(alloc, form, with_versions, count, versions)?;
     Ok(join_symbols(alloc, &symbols, &names, &ids)?)
 }

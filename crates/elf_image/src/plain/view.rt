@@ -9,10 +9,18 @@ pub enum ShownEntry<'a> {
     Text(u64, &'a [u8]),
 }
 
+/// An entry of the dynamic list, with a copy of its text.
+#[derive(Debug, Drop, PartialEq, Eq)]
+pub enum EntryView {
+    Auto(u64),
+    Integer(u64, u64),
+    Text(u64, Vec<u8>),
+}
+
 /// A dynamic symbol, with its name and its version.
-#[derive(Clone, Copy, Debug, PartialEq, Eq)]
-pub struct ShownSymbol<'a> {
-    pub name: &'a [u8],
+#[derive(Debug, Drop, PartialEq, Eq)]
+pub struct ShownSymbol {
+    pub name: Vec<u8>,
     pub st_info: u8,
     pub st_other: u8,
     pub st_shndx: u16,
@@ -23,37 +31,37 @@ pub struct ShownSymbol<'a> {
 
 /// A defined version, with its names.
 #[derive(Debug, Drop, PartialEq, Eq)]
-pub struct ShownDefinition<'a> {
+pub struct ShownDefinition {
     pub index: u16,
     pub flags: u16,
-    pub names: Vec<&'a [u8]>,
+    pub names: Vec<Vec<u8>>,
 }
 
 /// A needed version, with its name.
-#[derive(Clone, Copy, Debug, PartialEq, Eq)]
-pub struct ShownName<'a> {
+#[derive(Debug, Drop, PartialEq, Eq)]
+pub struct ShownName {
     pub index: u16,
-    pub name: &'a [u8],
+    pub name: Vec<u8>,
     pub flags: u16,
 }
 
 /// The versions needed of one library, with its name.
 #[derive(Debug, Drop, PartialEq, Eq)]
-pub struct ShownNeeds<'a> {
-    pub file: &'a [u8],
-    pub versions: Vec<ShownName<'a>>,
+pub struct ShownNeeds {
+    pub file: Vec<u8>,
+    pub versions: Vec<ShownName>,
 }
 
-/// What a file shows.
+/// What a file shows: its bytes are copied, but for the interpreter's, which lie in one piece of the file.
 #[derive(Debug, Drop, PartialEq, Eq)]
 pub struct ShownView<'a> {
     pub os_abi: u8,
     pub stack_flags: Option<u32>,
     pub interpreter: Option<&'a [u8]>,
-    pub entries: Option<Vec<ShownEntry<'a>>>,
-    pub symbols: Option<Vec<ShownSymbol<'a>>>,
-    pub definitions: Option<Vec<ShownDefinition<'a>>>,
-    pub needs: Option<Vec<ShownNeeds<'a>>>,
+    pub entries: Option<Vec<EntryView>>,
+    pub symbols: Option<Vec<ShownSymbol>>,
+    pub definitions: Option<Vec<ShownDefinition>>,
+    pub needs: Option<Vec<ShownNeeds>>,
 }
 
 /// A defined version, its names by where they stand.

@@ -1,6 +1,7 @@
 //! What the words of a line mean that begins with `elf`.
 ghost use Rattle.std.specs.Prelude.{◌≡◌, false, IfOk, IfErr, map, option_map};
 ghost use Rattle.clap.specs.Words.{app_of, found_of, rows_of};
+ghost use Rattle.arwen.specs.Fault.{IsOfLine};
 ghost use Rattle.arwen.specs.Line.{ElfMeaning, elf_shown};
 ghost use Rattle.arwen.specs.Parser.{IsElfTaken, elf_app, found_elf, has_globals, print_app};
 
@@ -18,6 +19,7 @@ pub(crate) fn parse_elf(alloc: Global, words: &[&str]) -> Result<ElfCommand, Arw
         IsElfTaken (map (λ w. w.now) words.now) (elf_shown command)) }
     ensures refused { IfErr result (λ error. (meaning : ElfMeaning)
         → IsElfTaken (map (λ w. w.now) words.now) meaning → error ≡ ArwenError.Memory) }
+    ensures err { IfErr result (λ error. IsOfLine error) }
 {
     let matches = match elf_line(alloc)?.try_get_matches_from(words) {
         Ok(matches) => matches,

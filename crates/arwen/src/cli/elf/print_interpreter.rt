@@ -1,9 +1,9 @@
 //! `print-interpreter`.
-ghost use Rattle.std.specs.Prelude.{◌≡◌, false, IfOk, codes, option_map};
+ghost use Rattle.std.specs.Prelude.{◌≡◌, false, IfErr, IfOk, codes, option_map};
 ghost use Rattle.clap.specs.Words.{app_of, found_of, rows_of};
 ghost use Rattle.arwen.specs.Line.{elf_shown};
 ghost use Rattle.arwen.specs.Parser.{found_elf, has_globals, print_app};
-ghost use Rattle.arwen.specs.Prints.{SomeAccepted};
+ghost use Rattle.arwen.specs.Prints.{PrintMayFail, SomeAccepted};
 
 use crate::cli::elf::line::print_line;
 use crate::cli::elf::print_file;
@@ -25,7 +25,8 @@ pub struct Args {
 
 /// Prints to the standard output.
 pub fn execute<R: Files + Print + AllocGlobal>(rt: &R, args: Args) -> Result<(), ArwenError>
-    ensures { IfOk result (λ _. SomeAccepted) }
+    ensures ok { IfOk result (λ _. SomeAccepted) }
+    ensures err { IfErr result (λ e. PrintMayFail e) }
 {
     print_file(rt, &ElfCommand::PrintInterpreter(args))
 }

@@ -7,7 +7,7 @@ use crate::dynamic::Dynamic;
 use crate::plain::fault::ViewFault;
 use crate::plain::section_view;
 use crate::plain::view::{
-    ShownDefinition, ShownEntry, ShownName, ShownNeeds, ShownSymbol, ShownView,
+    EntryView, ShownDefinition, ShownName, ShownNeeds, ShownSymbol, ShownView,
 };
 use crate::read::tests::read;
 use crate::samples::{LINKED, SMALL, TWIN, VERSIONED};
@@ -29,27 +29,27 @@ fn has_tag(list: &[Dynamic<'_>], tag: u64) -> bool {
     list.iter().any(|entry| entry.tag() == tag)
 }
 
-fn entries<'a>(alloc: Global, list: &'a [Dynamic<'_>]) -> Result<Vec<ShownEntry<'a>>, AllocError> {
+fn entries(alloc: Global, list: &[Dynamic<'_>]) -> Result<Vec<EntryView>, AllocError> {
     let mut made = Vec::new(alloc);
     for entry in list {
         made.push(match entry {
-            Dynamic::Auto { tag } => ShownEntry::Auto(*tag),
-            Dynamic::Integer { tag, val } => ShownEntry::Integer(*tag, *val),
-            Dynamic::Text { tag, val } => ShownEntry::Text(*tag, val.as_slice()),
+            Dynamic::Auto { tag } => EntryView::Auto(*tag),
+            Dynamic::Integer { tag, val } => EntryView::Integer(*tag, *val),
+            Dynamic::Text { tag, val } => EntryView::Text(*tag, text(alloc, val)?),
         })?;
     }
     Ok(made)
 }
 
-fn symbols<'a>(
+fn symbols(
     alloc: Global,
-    list: &'a [Symbol<'_>],
+    list: &[Symbol<'_>],
     with_versions: bool,
-) -> Result<Vec<ShownSymbol<'a>>, AllocError> {
+) -> Result<Vec<ShownSymbol>, AllocError> {
     let mut made = Vec::new(alloc);
     for symbol in list {
         made.push(ShownSymbol {
-            name: symbol.name.as_slice(),
+            name: text(alloc, &symbol.name)?,
             st_info: symbol.st_info,
             st_other: symbol.st_other,
             st_shndx: symbol.st_shndx,
@@ -61,10 +61,7 @@ fn symbols<'a>(
     Ok(made)
 }
 
-fn definitions<'a>(
-    alloc: Global,
-    list: &'a [VersionDef<'_>],
-) -> Result<Vec<ShownDefinition<'a>>, AllocError> {
+fn definitions(alloc: Global, list: &[VersionDef<'_>]) -> Result<Vec<ShownDefinition>, AllocError> {
     let mut made = Vec::new(alloc);
     for definition in list {
         made.push(ShownDefinition {
@@ -76,35 +73,39 @@ fn definitions<'a>(
     Ok(made)
 }
 
-fn texts<'a>(alloc: Global, list: &'a [ByteString<'_>]) -> Result<Vec<&'a [u8]>, AllocError> {
-    list.iter().map(|text| text.as_slice()).collect(alloc)
+fn text(alloc: Global, text: &ByteString<'_>) -> Result<Vec<u8>, AllocError> {
+    Vec::from_slice(alloc, text.as_slice())
 }
 
-fn needs<'a>(
-    alloc: Global,
-    list: &'a [VersionNeed<'_>],
-) -> Result<Vec<ShownNeeds<'a>>, AllocError> {
+fn texts(alloc: Global, list: &[ByteString<'_>]) -> Result<Vec<Vec<u8>>, AllocError> {
+    let mut made = Vec::new(alloc);
+    for one in list {
+        made.push(text(alloc, one)?)?;
+    }
+    Ok(made)
+}
+
+fn needs(alloc: Global, list: &[VersionNeed<'_>]) -> Result<Vec<ShownNeeds>, AllocError> {
     let mut made = Vec::new(alloc);
     for need in list {
         made.push(ShownNeeds {
-            file: need.file.as_slice(),
+            file: text(alloc, &need.file)?,
             versions: names(alloc, &need.versions)?,
         })?;
     }
     Ok(made)
 }
 
-fn names<'a>(
-    alloc: Global,
-    list: &'a [VersionNeedName<'_>],
-) -> Result<Vec<ShownName<'a>>, AllocError> {
-    list.iter()
-        .map(|version| ShownName {
+fn names(alloc: Global, list: &[VersionNeedName<'_>]) -> Result<Vec<ShownName>, AllocError> {
+    let mut made = Vec::new(alloc);
+    for version in list {
+        made.push(ShownName {
             index: version.index,
-            name: version.name.as_slice(),
+            name: text(alloc, &version.name)?,
             flags: version.flags,
-        })
-        .collect(alloc)
+        })?;
+    }
+    Ok(made)
 }
 
 // What an image shows by its own lists.

@@ -24,7 +24,7 @@ returns-in-Err-clause-refused c meaning taken =
     let app_is = c.in_ok-macho_line.ensures in
     let words = map (λ (w : Bor Text). w.now) c.args.words.now in
     let none = ap (λ (a : App). fault_of a words) app_is ∙ taken.0 in
-    c.in_ok-line_fault-in-Err.ensures (by_memory _ c.in-Err.error none (c.in-Err.ensures.kinds (ap is_simple_and_free app_is ∙ simple_and_free)))
+    c.in_ok-line_fault-in-Err.ensures.memory (by_memory _ c.in-Err.error none (c.in-Err.ensures.kinds (ap is_simple_and_free app_is ∙ simple_and_free)))
 
 pub returns-in_err-command-clause-refused : goal.returns-in_err-command-clause-refused
 returns-in_err-command-clause-refused c =

@@ -2,11 +2,10 @@
 use Rattle.std.proofs.Common.{◌≡◌, ◌<◌, ◌≤◌, ◌++◌, ◌∷◌, [], ℕ, List, map, Option, get_or, length, sym, ap, subst, ◌∙◌, arith}
 use Rattle.std.proofs.lemmas.List.{get_or-map, length-map, map_push}
 use Rattle.std.proofs.lemmas.Result.{err_from_is_err_and}
-use Rattle.patch_bytes.specs.Memory.{memory_of}
 use Rattle.elf_image.specs.declared.plain.view.RawDefinition.{RawDefinition}
 use Rattle.elf_image.specs.Options.{each}
 use Rattle.elf_image.specs.Plain.{Fails}
-use Rattle.elf_image.specs.PlainViews.{definition_seen, raw_definition}
+use Rattle.elf_image.specs.PlainViews.{definition_seen, raw_definition, source_seen}
 use Rattle.elf_image.specs.Versions.{DefinitionNumbers, VersionDefinition, shown_definition}
 use Rattle.elf_image.proofs.PlainSteps.{each_done, each_ends, each_goes}
 use Rattle.elf_image.proofs.plain.names.show_definitions.Goals as goal
@@ -18,7 +17,7 @@ at_place xs i x less is = get_or-map raw_definition xs i x (raw_definition x) le
 pub returns-in_err-one : goal.returns-in_err-one
 returns-in_err-one c =
     let p = err_from_is_err_and c.from_residual.result c.from_residual.ensures.1 in
-    let f : DefinitionNumbers → Option VersionDefinition = shown_definition c.args.room (memory_of c.args.texts.now) in
+    let f : DefinitionNumbers → Option VersionDefinition = shown_definition c.args.room (source_seen c.args.texts.now) in
     let xs : List DefinitionNumbers = map raw_definition c.args.definitions.now in
     let x : RawDefinition = c.definition-item.result in
     let less : c.loop-definition.definition-index < length xs = omega (arith, length-map c.args.definitions.now raw_definition) in
@@ -28,7 +27,7 @@ returns-in_err-one c =
 
 pub loop-definition-preserved : goal.loop-definition-preserved
 loop-definition-preserved c =
-    let f : DefinitionNumbers → Option VersionDefinition = shown_definition c.args.room (memory_of c.args.texts.now) in
+    let f : DefinitionNumbers → Option VersionDefinition = shown_definition c.args.room (source_seen c.args.texts.now) in
     let xs : List DefinitionNumbers = map raw_definition c.args.definitions.now in
     let x : RawDefinition = c.definition-item.result in
     let made = c.in_ok-one.one in
@@ -39,7 +38,7 @@ loop-definition-preserved c =
 
 pub returns : goal.returns
 returns c =
-    let f : DefinitionNumbers → Option VersionDefinition = shown_definition c.args.room (memory_of c.args.texts.now) in
+    let f : DefinitionNumbers → Option VersionDefinition = shown_definition c.args.room (source_seen c.args.texts.now) in
     let xs : List DefinitionNumbers = map raw_definition c.args.definitions.now in
     let past : length xs ≤ c.loop-definition.definition-index = omega (arith, length-map c.args.definitions.now raw_definition) in
     each_done f (map definition_seen c.loop-definition.shown.items) xs c.loop-definition.definition-index (each f xs) past c.loop-definition.invariant

@@ -2,11 +2,10 @@
 use Rattle.std.proofs.Common.{◌≡◌, ◌<◌, ◌≤◌, ◌++◌, ◌∷◌, [], ℕ, List, map, Option, get_or, length, sym, ap, subst, ◌∙◌, arith}
 use Rattle.std.proofs.lemmas.List.{get_or-map, length-map, map_push}
 use Rattle.std.proofs.lemmas.Result.{err_from_is_err_and}
-use Rattle.patch_bytes.specs.Memory.{memory_of}
 use Rattle.elf_image.specs.declared.plain.view.RawNeeds.{RawNeeds}
 use Rattle.elf_image.specs.Options.{each}
 use Rattle.elf_image.specs.Plain.{Fails}
-use Rattle.elf_image.specs.PlainViews.{needs_seen, raw_needs}
+use Rattle.elf_image.specs.PlainViews.{needs_seen, raw_needs, source_seen}
 use Rattle.elf_image.specs.Versions.{NeedNumbers, VersionNeeds, shown_need}
 use Rattle.elf_image.proofs.PlainSteps.{each_done, each_ends, each_goes}
 use Rattle.elf_image.proofs.plain.names.show_needs.Goals as goal
@@ -18,7 +17,7 @@ at_place xs i x less is = get_or-map raw_needs xs i x (raw_needs x) less ∙ ap 
 pub returns-in_err-one : goal.returns-in_err-one
 returns-in_err-one c =
     let p = err_from_is_err_and c.from_residual.result c.from_residual.ensures.1 in
-    let f : NeedNumbers → Option VersionNeeds = shown_need c.args.room (memory_of c.args.texts.now) in
+    let f : NeedNumbers → Option VersionNeeds = shown_need c.args.room (source_seen c.args.texts.now) in
     let xs : List NeedNumbers = map raw_needs c.args.libraries.now in
     let x : RawNeeds = c.library-item.result in
     let less : c.loop-library.library-index < length xs = omega (arith, length-map c.args.libraries.now raw_needs) in
@@ -28,7 +27,7 @@ returns-in_err-one c =
 
 pub loop-library-preserved : goal.loop-library-preserved
 loop-library-preserved c =
-    let f : NeedNumbers → Option VersionNeeds = shown_need c.args.room (memory_of c.args.texts.now) in
+    let f : NeedNumbers → Option VersionNeeds = shown_need c.args.room (source_seen c.args.texts.now) in
     let xs : List NeedNumbers = map raw_needs c.args.libraries.now in
     let x : RawNeeds = c.library-item.result in
     let made = c.in_ok-one.one in
@@ -39,7 +38,7 @@ loop-library-preserved c =
 
 pub returns : goal.returns
 returns c =
-    let f : NeedNumbers → Option VersionNeeds = shown_need c.args.room (memory_of c.args.texts.now) in
+    let f : NeedNumbers → Option VersionNeeds = shown_need c.args.room (source_seen c.args.texts.now) in
     let xs : List NeedNumbers = map raw_needs c.args.libraries.now in
     let past : length xs ≤ c.loop-library.library-index = omega (arith, length-map c.args.libraries.now raw_needs) in
     each_done f (map needs_seen c.loop-library.shown.items) xs c.loop-library.library-index (each f xs) past c.loop-library.invariant

@@ -1,7 +1,6 @@
 use Rattle.std.proofs.Common.{◌≡◌, drop, map}
-use Rattle.patch_bytes.specs.Memory.{memory_of}
 use Rattle.elf_image.specs.Options.{each}
-use Rattle.elf_image.specs.PlainViews.{needs_seen, raw_needs}
+use Rattle.elf_image.specs.PlainViews.{needs_seen, raw_needs, source_seen}
 use Rattle.elf_image.specs.Versions.{shown_need}
 use Rattle.elf_image.proofs.PlainSteps.{with_front}
 use Rattle.elf_image.proofs.plain.names.show_needs.Given as goal
@@ -9,5 +8,5 @@ use Rattle.elf_image.proofs.plain.names.show_needs.Given as goal
 -- what was made so far, and what the rest gives
 abbrev pub invariant-loop-library : goal.invariant-loop-library
 invariant-loop-library l =
-    with_front (map needs_seen l.shown.items) (each (shown_need l.room (memory_of l.texts)) (drop l.library-index (map raw_needs l.libraries)))
-    ≡ each (shown_need l.room (memory_of l.texts)) (map raw_needs l.libraries)
+    with_front (map needs_seen l.shown.items) (each (shown_need l.room (source_seen l.texts)) (drop l.library-index (map raw_needs l.libraries)))
+    ≡ each (shown_need l.room (source_seen l.texts)) (map raw_needs l.libraries)

@@ -1,12 +1,12 @@
 use Rattle.std.proofs.Common.{◌≡◌, drop, map}
-use Rattle.patch_bytes.specs.Memory.{memory_of, text_at}
+use Rattle.patch_bytes.specs.Memory.{text_at}
 use Rattle.elf_image.specs.Options.{each}
-use Rattle.elf_image.specs.Plain.{borrowed}
 use Rattle.elf_image.proofs.PlainSteps.{with_front}
+use Rattle.elf_image.specs.PlainViews.{source_seen, text_seen}
 use Rattle.elf_image.proofs.plain.names.show_texts.Given as goal
 
 -- what was made so far, and what the rest gives
 abbrev pub invariant-loop-place : goal.invariant-loop-place
 invariant-loop-place l =
-    with_front (map borrowed l.shown.items) (each (text_at l.room (memory_of l.texts)) (drop l.place-index l.places))
-    ≡ each (text_at l.room (memory_of l.texts)) l.places
+    with_front (map text_seen l.shown.items) (each (text_at l.room (source_seen l.texts)) (drop l.place-index l.places))
+    ≡ each (text_at l.room (source_seen l.texts)) l.places
