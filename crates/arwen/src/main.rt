@@ -2,11 +2,10 @@
 //! Prints what a loader takes from ELF files.
 #![tactic(auto)]
 
-pub mod cli;
-
+pub use arwen_cli::cli;
+use arwen_cli::cli::{ArwenError, execute};
 pub use arwen_elf::elf;
 pub use arwen_macho::{commands, macho, patcher, utils};
-use cli::{ArwenError, execute};
 use std::process::ExitCode;
 use std::rt::{Env, Files};
 use std::{env, io};

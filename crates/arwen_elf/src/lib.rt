@@ -5,6 +5,3 @@
 pub mod elf;
 
 pub use elf_image::machine_of;
-
-#[cfg(test)]
-mod tests;

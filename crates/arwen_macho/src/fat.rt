@@ -271,12 +271,9 @@ impl<'a> FatMachoContainer<'a> {
         changes_all(alloc, &self.archs, edits)
     }
 
-    // What a batch of edits writes over the file's bytes.
-    pub(crate) fn fronts(
-        &self,
-        alloc: Global,
-        edits: &[MachoEdit],
-    ) -> Result<Vec<Front>, MachoBatchError>
+    /// What `apply` would write over the file's bytes: the front of each slice, in their order. It is refused
+    /// where `apply` is, and nothing changes.
+    pub fn fronts(&self, alloc: Global, edits: &[MachoEdit]) -> Result<Vec<Front>, MachoBatchError>
         ensures ok { IfOk result (λ fronts. LeadOn fat_laid self.now.state (fat_step (calls_of edits.now) self.now.state) fronts.items) }
         ensures err { IfErr result (λ e. RefusesAt e.index (cause_of e.fault) (fat_step (calls_of edits.now) self.now.state)) }
     {
@@ -372,6 +369,3 @@ impl<'a> FatMachoContainer<'a> {
         copy_of(alloc, source, edited)
     }
 }
-
-#[cfg(test)]
-mod tests;

@@ -13,6 +13,4 @@ pub mod macho;
 pub mod patcher;
 mod room;
 pub mod rows;
-#[cfg(test)]
-mod tests;
 pub mod utils;

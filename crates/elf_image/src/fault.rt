@@ -55,6 +55,3 @@ impl<T: Drop> From<AllocFailed<T>> for ElfFault {
         ElfFault::Memory
     }
 }
-
-#[cfg(test)]
-mod tests;

@@ -14,8 +14,6 @@ pub mod plain;
 mod read;
 pub mod records;
 pub mod rows;
-#[cfg(test)]
-mod samples;
 pub mod section;
 pub mod segment;
 pub mod symbol;

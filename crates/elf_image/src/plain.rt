@@ -24,6 +24,3 @@ pub use crate::plain::fault::ViewFault;
 pub use crate::plain::loaded::loader_view;
 pub use crate::plain::view::ShownView;
 pub use crate::plain::whole_view::section_view;
-
-#[cfg(test)]
-mod tests;

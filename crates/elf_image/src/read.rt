@@ -14,8 +14,6 @@ pub(crate) mod headers;
 pub(crate) mod kind;
 pub(crate) mod linked;
 pub(crate) mod placement;
-#[cfg(test)]
-pub(crate) mod tests;
 pub(crate) mod texts;
 pub(crate) mod versions;
 

@@ -178,6 +178,3 @@ fn neighbours_share(archs: &[FatArch]) -> bool
     }
     false
 }
-
-#[cfg(test)]
-mod tests;

@@ -20,7 +20,4 @@ pub use crate::command::{
 pub use crate::fat::{FatArch, fat_archs, is_fat};
 pub use crate::format::{Ctx, Header, MachFault};
 pub use crate::image::{MachO, Prepared};
-pub use crate::parse::header_size;
-
-#[cfg(test)]
-mod tests;
+pub use crate::parse::{Listed, header_size, read_commands};

@@ -128,17 +128,18 @@ fn read_header(ctx: Ctx, bytes: &[u8]) -> Header
     }
 }
 
-/// The commands of an area with their fields, and the lesser of a position and of where the content that
-/// they name begins.
+/// What the load commands of an area tell.
 #[derive(Drop)]
-pub(crate) struct Listed {
-    pub(crate) commands: Vec<LoadCommand>,
-    pub(crate) first_content: usize,
+pub struct Listed {
+    /// The commands with their fields, in order.
+    pub commands: Vec<LoadCommand>,
+    /// The lesser of a given position and of where the content that the commands name begins.
+    pub first_content: usize,
 }
 
 /// Reads `count` commands that are to fill the area, the first of them at the offset `start`, or answers
 /// the first check that fails. `limit` is a bound on where content begins. `Memory` where there is none.
-pub(crate) fn read_commands(
+pub fn read_commands(
     alloc: Global,
     order: ByteOrder2,
     start: usize,

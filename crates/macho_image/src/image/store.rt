@@ -132,6 +132,3 @@ fn lay_area(bytes: &mut [u8], ctx: Ctx, count: u32, area: &[u8], high: usize)
     bytes[start..end].copy_from_slice(area);
     bytes[end..high].fill(0);
 }
-
-#[cfg(test)]
-mod tests;

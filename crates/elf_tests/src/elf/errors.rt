@@ -1,0 +1,132 @@
+//! The texts of errors, and what becomes which error.
+
+use arwen_elf::elf::{ElfError, ModifyCause, ProbeAnswer};
+use elf_image::ElfFault;
+use patch_bytes::ByteString;
+use std::alloc::{AllocError, AllocFailed};
+use std::test::Fail;
+use std::{fmt, io};
+
+fn shown<E: fmt::Display>(rt: &HostRuntime, error: &E) -> Result<String, AllocError> {
+    match format!(in rt.alloc(); "{error}") {
+        Err(_) => format!(in rt.alloc(); "{error}"),
+        answer => answer,
+    }
+}
+
+fn debug<E: fmt::Debug>(rt: &HostRuntime, value: &E) -> Result<String, AllocError> {
+    match format!(in rt.alloc(); "{value:?}") {
+        Err(_) => format!(in rt.alloc(); "{value:?}"),
+        answer => answer,
+    }
+}
+
+fn string(rt: &HostRuntime, text: &str) -> Result<String, AllocError> {
+    match String::from_str(rt.alloc(), text) {
+        Err(_) => String::from_str(rt.alloc(), text),
+        answer => answer,
+    }
+}
+
+#[test]
+fn texts_of_errors(rt: HostRuntime) -> Result<(), Fail> {
+    let rows: [(ElfError, &str); 9] = [
+        (
+            io::Error::from(io::ErrorKind::NotFound).into(),
+            "I/O error occurred while writing the file",
+        ),
+        (
+            ElfFault::Disagree(4).into(),
+            "A parse error occurred while reading the file",
+        ),
+        (
+            ElfError::Write(ElfFault::NumberTooLarge),
+            "A validation error occurred while writing the file",
+        ),
+        (
+            ElfError::Modify(ModifyCause::Overlap),
+            "A validation error occurred while modifying the file",
+        ),
+        (
+            ElfError::InvalidDtNeededEncoding,
+            "Non-UTF-8 DT_NEEDED entry",
+        ),
+        (ElfError::Memory, "out of memory"),
+        (ElfFault::Memory.into(), "out of memory"),
+        (AllocError.into(), "out of memory"),
+        (AllocFailed { value: 1u8 }.into(), "out of memory"),
+    ];
+    for (error, text) in rows {
+        assert_eq!(rt; shown(&rt, &error)?.as_str(), text);
+    }
+    Ok(())
+}
+
+#[test]
+fn texts_of_causes(rt: HostRuntime) -> Result<(), Fail> {
+    let rows = [
+        (
+            ModifyCause::NoDynamic("set runpath"),
+            "No dynamic section found; can't set runpath",
+        ),
+        (
+            ModifyCause::NoInterp,
+            "No interp section found; can't set interpreter",
+        ),
+        (
+            ModifyCause::UnknownAbi(string(&rt, "ns")?),
+            "Unknown ABI ns",
+        ),
+        (
+            ModifyCause::BadPageSize(1000),
+            "Page size must be a power of 2 and >= 1024, got 1000",
+        ),
+        (ModifyCause::NoRunPath, "No DT_RPATH entry found"),
+        (ModifyCause::Overlap, "Overlapping immovable sections"),
+    ];
+    for (cause, text) in rows {
+        assert_eq!(rt; shown(&rt, &cause)?.as_str(), text);
+    }
+    Ok(())
+}
+
+#[test]
+fn texts_of_further_causes(rt: HostRuntime) -> Result<(), Fail> {
+    let rows = [
+        (ModifyCause::NulInText, "NUL in a text"),
+        (ModifyCause::MipsImage, "MIPS images can't be modified"),
+        (
+            ModifyCause::SymbolInRelocation,
+            "Symbol is used by a relocation",
+        ),
+        (
+            ModifyCause::CannotRenumber,
+            "Symbol table can't be renumbered",
+        ),
+        (ModifyCause::SectionInUse, "Section is in use"),
+        (ModifyCause::TooManyHeaders, "Too many program headers"),
+    ];
+    for (cause, text) in rows {
+        assert_eq!(rt; shown(&rt, &cause)?.as_str(), text);
+    }
+    Ok(())
+}
+
+#[test]
+fn debug_texts(rt: HostRuntime) -> Result<(), Fail> {
+    let fault: ElfError = ElfFault::Disagree(4).into();
+    assert_eq!(rt; debug(&rt, &fault)?.as_str(), "Parse(Disagree(4))");
+    let answer = ProbeAnswer {
+        directory: ByteString::borrowed(b"/a"),
+        needed: ByteString::borrowed(b"b"),
+        machine: Some(62),
+    };
+    assert_eq!(rt; answer.machine, Some(62));
+    assert_eq!(rt; answer.directory.as_slice(), b"/a".as_slice());
+    assert!(rt;
+        debug(&rt, &answer)?
+            .as_str()
+            .starts_with("ProbeAnswer { directory: ")
+    );
+    Ok(())
+}

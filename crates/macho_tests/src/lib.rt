@@ -1,0 +1,14 @@
+//! Tests of the Mach-O side: how files are read, kept and edited, thin and fat. They stand apart, so that a
+//! proof of what they test does not wait for them.
+#![tactic(auto)]
+
+#[cfg(test)]
+mod edits;
+#[cfg(test)]
+mod fat;
+#[cfg(test)]
+mod fat_table;
+#[cfg(test)]
+mod image;
+#[cfg(test)]
+mod store;

@@ -1,0 +1,260 @@
+ghost use Rattle.std.specs.Prelude.{◌≡◌, ◌+◌, ◌≤◌, IfOk, None, length};
+ghost use Rattle.macho_image.specs.Checks.{area_fault};
+ghost use Rattle.macho_image.specs.Form.{ctx_of, header_size};
+ghost use Rattle.macho_image.specs.Prepared.{IsMadeFor};
+
+use macho_image::command::{LC_RPATH, LC_SYMTAB};
+use macho_image::format::{MH_MAGIC, MH_MAGIC_64, MachFault};
+use macho_image::{Ctx, MachO, Prepared, header_size, read_commands};
+use patch_bytes::{ByteOrder2, Wide};
+use std::alloc::{AllocError, Global};
+use std::process::Abort;
+use std::test::Fail;
+
+// Bytes that a test lays out one behind the other, up to 128 of them.
+#[derive(Drop)]
+struct Laid {
+    bytes: [u8; 128],
+    end: usize,
+}
+
+impl Laid {
+    // Nothing yet.
+    fn new() -> Laid {
+        Laid {
+            bytes: [0; 128],
+            end: 0,
+        }
+    }
+
+    // Appends bytes.
+    fn put(&mut self, bytes: &[u8]) {
+        for byte in bytes {
+            if self.end < 128 {
+                self.bytes[self.end] = *byte;
+                self.end += 1;
+            }
+        }
+    }
+
+    // Appends numbers of 32 bits.
+    fn words(&mut self, order: ByteOrder2, words: &[u32]) {
+        for word in words {
+            let spelled = match order {
+                ByteOrder2::Little => word.to_le_bytes(),
+                ByteOrder2::Big => word.to_be_bytes(),
+            };
+            self.put(&spelled);
+        }
+    }
+
+    fn as_slice(&self) -> &[u8] {
+        &self.bytes[..self.end.min(128)]
+    }
+}
+
+// Three pieces, one behind the other.
+fn joined(first: &[u8], second: &[u8], third: &[u8]) -> Laid {
+    let mut laid = Laid::new();
+    laid.put(first);
+    laid.put(second);
+    laid.put(third);
+    laid
+}
+
+// An rpath command of 16 bytes, with a text of one letter.
+fn rpath(order: ByteOrder2, letter: u8) -> Laid {
+    let mut laid = Laid::new();
+    laid.words(order, &[LC_RPATH, 16, 12]);
+    laid.put(&[letter, 0, 0, 0]);
+    laid
+}
+
+// A run path, and a symbol table with one symbol and four bytes of strings.
+fn two_commands(order: ByteOrder2, symbols: u32, strings: u32) -> Laid {
+    let mut laid = rpath(order, b'b');
+    laid.words(order, &[LC_SYMTAB, 24, symbols, 1, strings, 4]);
+    laid
+}
+
+// A file of this form with these counts, and with `body` behind the header.
+fn file_of(ctx: Ctx, counts: [u32; 2], body: &[u8]) -> Laid {
+    let mut laid = Laid::new();
+    match ctx.container {
+        Wide::W32 => laid.words(ctx.le, &[MH_MAGIC]),
+        Wide::W64 => laid.words(ctx.le, &[MH_MAGIC_64]),
+    }
+    laid.put(&[7; 12]);
+    laid.words(ctx.le, &counts);
+    match ctx.container {
+        Wide::W32 => laid.put(&[9; 4]),
+        Wide::W64 => laid.put(&[9; 8]),
+    }
+    laid.put(body);
+    laid
+}
+
+// What a file shows: the counts of its header, the bytes behind it, where each of its commands begins
+// (up to two), and where its content does.
+#[derive(Drop)]
+struct Shown<'a> {
+    counts: [u32; 2],
+    body: &'a [u8],
+    offsets: [usize; 2],
+    first_content: usize,
+}
+
+fn expect_file(rt: &impl Abort, file: &MachO<'_>, shown: &Shown<'_>) {
+    let expected = file_of(file.ctx(), shown.counts, shown.body);
+    assert_eq!(rt; file.bytes(), expected.as_slice());
+    assert_eq!(rt;
+        [file.header().ncmds, file.header().sizeofcmds],
+        shown.counts
+    );
+    let commands = file.load_commands();
+    assert_eq!(rt; commands.len(), shown.counts[0] as usize);
+    for (command, offset) in commands.iter().zip(&shown.offsets) {
+        assert_eq!(rt; command.offset, *offset);
+    }
+    assert_eq!(rt; file.first_content(), shown.first_content);
+}
+
+// A call that was refused memory is made once more.
+fn parse<'a>(alloc: Global, bytes: &'a [u8]) -> Result<MachO<'a>, MachFault> {
+    match MachO::parse(alloc, bytes) {
+        Err(MachFault::Memory) => MachO::parse(alloc, bytes),
+        answer => answer,
+    }
+}
+
+fn copied(alloc: Global, bytes: &[u8]) -> Result<Vec<u8>, AllocError>
+    ensures { IfOk result (λ copy. copy.items ≡ bytes.now) }
+{
+    match Vec::from_slice(alloc, bytes) {
+        Err(_) => Vec::from_slice(alloc, bytes),
+        answer => answer,
+    }
+}
+
+// The area passes its checks.
+fn check_area(alloc: Global, ctx: Ctx, count: u32, area: &[u8]) -> Result<(), MachFault>
+    ensures { IfOk result (λ _. area_fault ctx.le count area.now ≡ None) }
+{
+    let start = header_size(ctx.container);
+    let first = read_commands(alloc, ctx.le, start, count, area, usize::MAX);
+    if let Err(MachFault::Memory) = first {
+        read_commands(alloc, ctx.le, start, count, area, usize::MAX)?;
+        return Ok(());
+    }
+    first?;
+    Ok(())
+}
+
+// An area made ready. Where memory is refused, the file shows what it did before.
+fn prepared(
+    rt: &impl Abort,
+    alloc: Global,
+    file: &MachO<'_>,
+    shown: &Shown<'_>,
+    count: u32,
+    area: &[u8],
+) -> Result<Prepared, AllocError>
+    requires commands { area_fault (ctx_of file.now.bytes).le count area.now ≡ None }
+    requires room { header_size (ctx_of file.now.bytes).container + length area.now ≤ length file.now.bytes }
+    ensures { IfOk result (IsMadeFor file.now count area.now) }
+{
+    if let Ok(made) = file.prepare(alloc, count, copied(alloc, area)?) {
+        return Ok(made);
+    }
+    expect_file(rt, file, shown);
+    file.prepare(alloc, count, copied(alloc, area)?)
+}
+
+// What storing writes at the file's front, told before.
+fn told_front(
+    alloc: Global,
+    file: &MachO<'_>,
+    count: u32,
+    area: &[u8],
+    high: usize,
+) -> Result<Vec<u8>, AllocError>
+    requires area { header_size (ctx_of file.now.bytes).container + length area.now ≤ high }
+    requires high { high ≤ length file.now.bytes }
+{
+    match file.front_with(alloc, count, area, high) {
+        Err(_) => file.front_with(alloc, count, area, high),
+        answer => answer,
+    }
+}
+
+// Stores an area of commands that pass their checks in a file that shows this before, with zeros behind
+// the area up to `high`.
+fn store_area(
+    rt: &impl Abort,
+    alloc: Global,
+    file: &mut MachO<'_>,
+    shown: &Shown<'_>,
+    count: u32,
+    area: &[u8],
+    high: usize,
+) -> Result<(), Fail> {
+    let ctx = file.ctx();
+    check_area(alloc, ctx, count, area)?;
+    let start = header_size(ctx.container);
+    assert!(rt; area.len() <= high && start <= high - area.len());
+    assert!(rt; high <= file.bytes().len());
+    expect_file(rt, file, shown);
+    let front = told_front(alloc, file, count, area, high)?;
+    let prepared = prepared(rt, alloc, file, shown, count, area)?;
+    file.store(prepared, high);
+    assert_eq!(rt; front.len(), high);
+    assert!(rt; file.bytes().starts_with(&front));
+    Ok(())
+}
+
+// Stores two commands in place of one, and then none over the copy that is there.
+fn expect_stores(rt: &impl Abort, alloc: Global, ctx: Ctx, start: u8) -> Result<(), Fail> {
+    let end = usize::from(start) + 56;
+    let tail = [0xff; 12];
+    let one = joined(rpath(ctx.le, b'a').as_slice(), &[0xff; 28], &tail);
+    let bytes = file_of(ctx, [1, 16], one.as_slice());
+    let mut file = parse(alloc, bytes.as_slice())?;
+    let before = Shown {
+        counts: [1, 16],
+        body: one.as_slice(),
+        offsets: [usize::from(start), 0],
+        first_content: end,
+    };
+    let strings = u32::from(start) + 48;
+    let area = two_commands(ctx.le, strings + 4, strings);
+    store_area(rt, alloc, &mut file, &before, 2, area.as_slice(), end - 12)?;
+
+    let two = joined(area.as_slice(), &[0; 4], &tail);
+    let longer = Shown {
+        counts: [2, 40],
+        body: two.as_slice(),
+        offsets: [usize::from(start), usize::from(start) + 16],
+        first_content: end - 8,
+    };
+    store_area(rt, alloc, &mut file, &longer, 0, &[], end - 12)?;
+
+    let none = joined(&[0; 40], &[0; 4], &tail);
+    let shorter = Shown {
+        counts: [0, 0],
+        body: none.as_slice(),
+        offsets: [0, 0],
+        first_content: end,
+    };
+    expect_file(rt, &file, &shorter);
+    Ok(())
+}
+
+#[test]
+fn stores_in_each_form(rt: HostRuntime) -> Result<(), Fail> {
+    for (container, start) in [(Wide::W32, 28), (Wide::W64, 32)] {
+        for le in [ByteOrder2::Little, ByteOrder2::Big] {
+            expect_stores(&rt, rt.alloc(), Ctx { container, le }, start)?;
+        }
+    }
+    Ok(())
+}
