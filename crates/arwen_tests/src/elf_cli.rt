@@ -2,9 +2,9 @@ use crate::cli::{content, debugged, done, line, own_path, shown};
 use arwen_cli::cli::{ArwenError, Command, ElfCommand, Probe, run_elf};
 use arwen_elf::elf::{ElfError, ModifyCause};
 use elf_image::ElfFault;
-use std::fs;
 use std::io::Cursor;
 use std::test::Fail;
+use std::{fs, io};
 
 // A library that needs `libc.so.6` and has the run path `/a`: 64 bits, low byte first.
 const LIBRARY: &[u8; 608] = b"\
@@ -98,6 +98,16 @@ fn refuses_lines_and_shows_help(rt: HostRuntime) {
     }
 }
 
+// Finds no library.
+#[derive(Drop)]
+struct NoMachines;
+
+impl Probe for NoMachines {
+    fn machine(&mut self, _directory: &[u8], _needed: &[u8]) -> Option<u16> {
+        None
+    }
+}
+
 // Prints, once more where there was no memory, which leaves the page as it was.
 fn printed(
     rt: &HostRuntime,
@@ -105,8 +115,8 @@ fn printed(
     command: &ElfCommand,
     page: &mut Cursor<[u8; 32]>,
 ) -> Result<Option<Vec<u8>>, ArwenError> {
-    match run_elf(rt.alloc(), bytes, command, &mut NoLibraries, page) {
-        Err(ArwenError::Memory) => run_elf(rt.alloc(), bytes, command, &mut NoLibraries, page),
+    match run_elf(rt.alloc(), bytes, command, &mut NoMachines, page) {
+        Err(ArwenError::Memory) => run_elf(rt.alloc(), bytes, command, &mut NoMachines, page),
         answer => answer,
     }
 }
@@ -172,9 +182,9 @@ fn refuses_headers_that_disagree(rt: HostRuntime) -> Result<(), Fail> {
 fn tells_a_writer_that_fails(rt: HostRuntime) -> Result<(), Fail> {
     let command = elf_line(&rt, &["elf", "print-needed", "f"])?;
     let mut page = Cursor::new([0u8; 3]);
-    let answer = match run_elf(rt.alloc(), LIBRARY, &command, &mut NoLibraries, &mut page) {
+    let answer = match run_elf(rt.alloc(), LIBRARY, &command, &mut NoMachines, &mut page) {
         Err(ArwenError::Memory) => {
-            run_elf(rt.alloc(), LIBRARY, &command, &mut NoLibraries, &mut page)
+            run_elf(rt.alloc(), LIBRARY, &command, &mut NoMachines, &mut page)
         }
         answer => answer,
     };
