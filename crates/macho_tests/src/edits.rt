@@ -317,7 +317,7 @@ fn opened(rt: &HostRuntime, bytes: &[u8]) -> Result<(HeaderContainer, Vec<u8>), 
 }
 
 #[test]
-#[tactic(auto, using(crate::proofs::PatchLemmas::held_ncmds, crate::proofs::PatchLemmas::held_sizeofcmds))]
+#[tactic(auto, using(arwen_macho::proofs::PatchLemmas::held_ncmds, arwen_macho::proofs::PatchLemmas::held_sizeofcmds))]
 fn inserts_command(rt: HostRuntime) -> Result<(), Fail> {
     let (mut header, mut buffer) = opened(&rt, FILE)?;
     let command = rpath(&rt, "/a", header.ctx)?.1;
@@ -333,7 +333,7 @@ fn inserts_command(rt: HostRuntime) -> Result<(), Fail> {
 }
 
 #[test]
-#[tactic(auto, using(crate::proofs::PatchLemmas::held_ncmds, crate::proofs::PatchLemmas::held_sizeofcmds))]
+#[tactic(auto, using(arwen_macho::proofs::PatchLemmas::held_ncmds, arwen_macho::proofs::PatchLemmas::held_sizeofcmds))]
 fn removes_command(rt: HostRuntime) -> Result<(), Fail> {
     let (mut header, mut buffer) = opened(&rt, WITH_RPATH)?;
     let command = LoadCommand {
