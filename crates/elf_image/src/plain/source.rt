@@ -15,34 +15,48 @@ use std::alloc::Global;
 /// (gABI, Program Loading). Without an address nothing is seen.
 #[derive(Clone, Copy, Debug)]
 pub struct Loaded<'a> {
+    /// The file's bytes.
     pub file: &'a [u8],
+    /// Its program headers.
     pub segments: &'a [SegmentHeader],
+    /// The address of the first byte; without one nothing is there.
     pub start: Option<u64>,
+    /// How many bytes may be read from there; without a size as many as are loaded.
     pub size: Option<u64>,
 }
 
 /// Where bytes are read: in a slice, from its first byte on, or where a loader sees them.
 #[derive(Clone, Copy, Debug)]
 pub enum Source<'a> {
+    /// From the slice's first byte on.
     Slice(&'a [u8]),
+    /// Where the loaded segments hold it.
     Segments(Loaded<'a>),
 }
 
 /// Where records are read, where their texts are, and how many there are.
 #[derive(Clone, Copy, Debug)]
 pub struct TableSource<'a> {
+    /// Where the first record begins.
     pub bytes: Source<'a>,
+    /// Where the texts begin that records name by offset.
     pub texts: Source<'a>,
+    /// How many records there are.
     pub count: u64,
 }
 
 /// Where the dynamic list's texts and the tables that it names are read.
 #[derive(Clone, Copy, Debug)]
 pub struct TableSources<'a> {
+    /// The texts of dynamic entries.
     pub entry_texts: Source<'a>,
+    /// The dynamic symbols.
     pub symbols: TableSource<'a>,
+    /// The version of each symbol, two bytes each.
     pub versions: Source<'a>,
+    /// The records of defined versions.
     pub definitions: TableSource<'a>,
+    /// The records of needed versions.
     pub needs: TableSource<'a>,
 }
 
