@@ -1,15 +1,15 @@
 -- The lines that begin with `elf`: what the parser takes is what the words say.
-use Rattle.std.proofs.Common.{◌≡◌, ◌≢◌, ◌∷◌, [], ◌⊎◌, inl, inr, List, Option, Some, None, Bool, true, false, refl, sym, ap, ap₂, ◌∙◌, subst, codes, map, Bor}
+use Rattle.std.proofs.Common.{◌≡◌, ◌≢◌, ◌∷◌, [], ◌⊎◌, inl, inr, List, Option, Some, None, false, refl, sym, ap, ap₂, ◌∙◌, subst, codes, map, Bor}
 use Rattle.std.specs.Prelude.{slice_get}
 use Rattle.std.specs.Option.{option_map}
 use Rattle.std.specs.Str.{bytes_eq}
-use Rattle.std.proofs.lemmas.Slice.Eq.{bytes_eq-Decides}
 use Rattle.clap.specs.Walk.{Held, Row, Text, Walk, finished, idle, nothing_held, rows_after, subcommand_met, value, walked}
 use Rattle.clap.specs.Simple.{App, Shape, built, built_leaf, names_of}
 use Rattle.clap.specs.Kinds.{or_else}
 use Rattle.clap.specs.Faults.{level_fault, step_fault, walk_fault}
 use Rattle.clap.proofs.OnLiterals.{clap_on_literals}
-use Rattle.arwen_cli.specs.Line.{ElfMeaning, Meaning, elf_meaning, has_option, meaning_of, of_elf, of_one, print_exec_stack, print_interpreter, print_needed, print_os_abi, print_rpath, print_soname}
+use Rattle.arwen_commands.specs.Meaning.{ElfMeaning, Meaning, of_elf, print_exec_stack, print_interpreter, print_needed, print_os_abi, print_rpath, print_soname}
+use Rattle.arwen_cli.specs.Line.{elf_meaning, has_option, meaning_of, of_one}
 use Rattle.arwen_cli.specs.Parser.{elf_app, found_elf, path_in, print_app}
 use Rattle.arwen_cli.specs.Parser
 use Rattle.arwen_cli.proofs.Named.{IsNamed, IsTakenAt, differs, fault_of_stranger, found_at, found_by_name, meaning_by, named_fault, named_found, named_taken}

@@ -1,9 +1,7 @@
-pub mod EditGroups
 pub mod Words
 pub mod Named
 pub mod Parsing
 pub mod Values
 pub mod Lines
-pub mod Outcomes
 pub mod Taken
 pub mod ElfLines

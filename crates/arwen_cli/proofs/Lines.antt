@@ -7,7 +7,8 @@ use Rattle.clap.specs.Walk.{Names, Text, idle, nothing_held, subcommand_met, val
 use Rattle.clap.specs.Simple.{App, built, names_of}
 use Rattle.clap.specs.Faults.{step_fault}
 use Rattle.clap.proofs.OnLiterals.{clap_on_literals}
-use Rattle.arwen_cli.specs.Line.{MachoMeaning, add_rpath, apply, change_install_id, change_install_name, change_rpath, delete_rpath, has_option, macho_meaning, meaning_of, of_macho}
+use Rattle.arwen_commands.specs.Meaning.{MachoMeaning, add_rpath, apply, change_install_id, change_install_name, change_rpath, delete_rpath, of_macho}
+use Rattle.arwen_cli.specs.Line.{has_option, macho_meaning, meaning_of}
 use Rattle.arwen_cli.specs.Parser.{found_meaning, macho_app}
 use Rattle.arwen_cli.specs.Parser
 use Rattle.arwen_cli.proofs.Named.{IsNamed, IsTakenAt, differs, fault_of_stranger, found_at, found_by_name, meaning_by, named_fault, named_found}

@@ -2,8 +2,8 @@
 use Rattle.std.proofs.Common.{◌≡◌, ◌∷◌, [], Option, Some, None, Box, List, false, ap, ap₂, ◌∙◌, inl, inr}
 use Rattle.std.specs.Option.{option_map}
 use Rattle.std.specs.Box.{box_value}
-use Rattle.clap.specs.Walk.{Row, Text, rows_of}
-use Rattle.clap.specs.Words.{AddsSubcommand, App, HasKind, Kinds, app_of, found_of, kind_of, subcommand_rows, with_subcommand}
+use Rattle.clap.specs.Walk.{Row, Text}
+use Rattle.clap.specs.Words.{AddsSubcommand, App, HasKind, Kinds, app_of, kind_of, subcommand_rows, with_subcommand}
 use Rattle.clap.specs.declared.builder.command.Command.{Command}
 use Rattle.clap.specs.declared.error.Error.{Error}
 use Rattle.clap.specs.declared.error.kind.ErrorKind.TheVariants.{OutOfMemory}

@@ -2,19 +2,18 @@
 use Rattle.std.proofs.Common.{◌≡◌, ◌∷◌, [], ◌++◌, ◌≤◌, List, Option, Some, None, Bool, false, ℕ, length, refl, sym, ap, ap₂, ◌∙◌, subst, codes, inl, inr, ◌≢◌, arith, map, Bor}
 use Rattle.std.specs.Prelude.{slice_get}
 use Rattle.std.specs.Option.{option_map}
-use Rattle.std.specs.Str.{bytes_eq}
 use Rattle.std.proofs.lemmas.List.{length-map}
 use Rattle.std.specs.List.{fold}
 use Rattle.clap.specs.Lexer.{usize_max}
-use Rattle.clap.specs.Walk.{Held, Row, Step, Text, Walk, arg_by_index, finished, first_of, idle, nothing_held, positional, rows_after, settled, subcommand_met, to_positional, value, walked}
-use Rattle.clap.specs.Simple.{Shape, entered}
-use Rattle.clap.specs.Kinds.{Kinds, or_else, range_kinds, values_kinds}
+use Rattle.clap.specs.Walk.{Held, Row, Step, Text, Walk, arg_by_index, finished, first_of, idle, nothing_held, positional, rows_after, to_positional, value, walked}
+use Rattle.clap.specs.Simple.{Shape}
+use Rattle.clap.specs.Kinds.{or_else, range_kinds, values_kinds}
 use Rattle.clap.specs.declared.builder.value_parser.ValueParser.TheVariants as vp
 use Rattle.std.proofs.lemmas.Bool.Decides.{nat_tests}
-use Rattle.clap.specs.Faults.{check_fault, defaults_fault, entered_fault, fault_of, level_fault, settle_fault, step_fault, turn_fault, walk_fault, word_fault}
-use Rattle.clap.proofs.FaultLemmas.{stopped_fault}
+use Rattle.clap.specs.Faults.{level_fault, step_fault, turn_fault, walk_fault, word_fault}
 use Rattle.clap.proofs.OnLiterals.{clap_on_literals}
-use Rattle.arwen_cli.specs.Line.{MachoMeaning, Meaning, add_rpath, apply, change_install_id, change_install_name, change_rpath, delete_rpath, has_option, macho_meaning, meaning_of, of_macho, of_many, of_three, of_two}
+use Rattle.arwen_commands.specs.Meaning.{MachoMeaning, Meaning, add_rpath, apply, change_install_id, change_install_name, change_rpath, delete_rpath, of_macho}
+use Rattle.arwen_cli.specs.Line.{has_option, macho_meaning, meaning_of, of_many, of_three, of_two}
 use Rattle.arwen_cli.specs.Parser.{found_meaning, from_three, from_two, macho_app, path_in}
 use Rattle.arwen_cli.specs.Parser
 use Rattle.arwen_cli.proofs.Words.{IsValue, at, end_fault, no_words, one_word, value_at_positional}

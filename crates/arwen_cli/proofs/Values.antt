@@ -5,7 +5,8 @@ use Rattle.clap.specs.Walk.{Held, Text, Walk, all_of, arg_by_index, finished, fi
 use Rattle.clap.specs.Simple.{Shape, built_leaf}
 use Rattle.clap.specs.Faults.{step_fault, walk_fault}
 use Rattle.clap.proofs.OnLiterals.{clap_on_literals}
-use Rattle.arwen_cli.specs.Line.{MachoMeaning, has_option, of_many, of_three, of_two}
+use Rattle.arwen_commands.specs.Meaning.{MachoMeaning}
+use Rattle.arwen_cli.specs.Line.{has_option, of_many, of_three, of_two}
 use Rattle.arwen_cli.specs.Parser.{add_app, apply_app, change_app, delete_app, from_many, from_three, from_two, install_id_app, install_name_app, path_in}
 use Rattle.arwen_cli.proofs.Words.{IsValue, at, no_fault_after, no_fault_here, walked_idle, walked_positional}
 

@@ -9,11 +9,11 @@ use Rattle.clap.specs.declared.builder.command.Command.{Command}
 use Rattle.clap.specs.declared.builder.command.Command.TheViews.{out-Command}
 use Rattle.clap.specs.declared.builder.action.ArgAction.TheVariants.{Append}
 use Rattle.clap.specs.Lexer.{usize_max}
-use Rattle.arwen_cli.specs.Edits.{Text}
-use Rattle.arwen_cli.specs.Line.{ElfMeaning, MachoMeaning, add_rpath, apply, change_install_id}
-use Rattle.arwen_cli.specs.Line.{change_install_name, change_rpath, delete_rpath, print_exec_stack}
-use Rattle.arwen_cli.specs.Line.{print_interpreter, print_needed, print_os_abi, print_rpath}
-use Rattle.arwen_cli.specs.Line.{print_soname}
+use Rattle.arwen_commands.specs.Edits.{Text}
+use Rattle.arwen_commands.specs.Meaning.{ElfMeaning, MachoMeaning, add_rpath, apply, change_install_id}
+use Rattle.arwen_commands.specs.Meaning.{change_install_name, change_rpath, delete_rpath, print_exec_stack}
+use Rattle.arwen_commands.specs.Meaning.{print_interpreter, print_needed, print_os_abi, print_rpath}
+use Rattle.arwen_commands.specs.Meaning.{print_soname}
 
 -- ---- the commands
 

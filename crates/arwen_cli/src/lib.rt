@@ -1,5 +1,4 @@
-//! The command line of the program `arwen`: what a line means, what it does to the bytes of a
-//! Mach-O file, what it prints of an ELF file, and the files themselves.
+//! The command line of the program `arwen`: what a line means, and the commands that do it.
 #![tactic(auto)]
 
 pub mod cli;

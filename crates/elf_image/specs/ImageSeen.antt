@@ -14,6 +14,7 @@ use Rattle.elf_image.specs.Records.{SegmentHeader}
 use Rattle.elf_image.specs.Versions.{VersionDefinition, VersionName, VersionNeeds}
 use Rattle.elf_image.specs.Views.{NamedSymbol}
 
+-- the numbers of a program header
 abbrev pub segment_kept : Segment → SegmentHeader
 segment_kept p = p.numbers
 

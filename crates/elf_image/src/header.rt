@@ -3,11 +3,15 @@
 pub struct Header {
     /// The operating system whose extensions the file uses.
     pub os_abi: u8,
+    /// Which version of those extensions, 0 where they have none.
     pub abi_version: u8,
+    /// What kind of file it is: `ET_EXEC` a program, `ET_DYN` one that may be loaded anywhere, or a library.
     pub e_type: u16,
+    /// The machine that its code is for.
     pub e_machine: u16,
     /// The address at which the program starts.
     pub e_entry: u64,
+    /// Flags of that machine.
     pub e_flags: u32,
     /// Where the program header table starts.
     pub e_phoff: u64,

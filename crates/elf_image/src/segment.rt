@@ -1,4 +1,5 @@
 ghost use Rattle.std.specs.Prelude.{◌≡◌};
+ghost use Rattle.elf_image.specs.ImageSeen.{segment_kept};
 
 use crate::records::SegmentHeader;
 use std::marker::PhantomData;
@@ -13,56 +14,56 @@ pub struct Segment<'data> {
 impl Segment<'_> {
     /// What the segment is for, as `PT_LOAD`.
     pub fn p_type(&self) -> u32
-        ensures { result ≡ self.now.numbers.p_type }
+        ensures { result ≡ (segment_kept self.now).p_type }
     {
         self.numbers.p_type
     }
 
     /// Whether it may be read (4), written (2) and run (1).
     pub fn p_flags(&self) -> u32
-        ensures { result ≡ self.now.numbers.p_flags }
+        ensures { result ≡ (segment_kept self.now).p_flags }
     {
         self.numbers.p_flags
     }
 
     /// Where it stands in the file.
     pub fn p_offset(&self) -> u64
-        ensures { result ≡ self.now.numbers.p_offset }
+        ensures { result ≡ (segment_kept self.now).p_offset }
     {
         self.numbers.p_offset
     }
 
     /// Where it stands in memory.
     pub fn p_vaddr(&self) -> u64
-        ensures { result ≡ self.now.numbers.p_vaddr }
+        ensures { result ≡ (segment_kept self.now).p_vaddr }
     {
         self.numbers.p_vaddr
     }
 
     /// Where it stands in memory that isn't virtual.
     pub fn p_paddr(&self) -> u64
-        ensures { result ≡ self.now.numbers.p_paddr }
+        ensures { result ≡ (segment_kept self.now).p_paddr }
     {
         self.numbers.p_paddr
     }
 
     /// How many bytes it has in the file.
     pub fn p_filesz(&self) -> u64
-        ensures { result ≡ self.now.numbers.p_filesz }
+        ensures { result ≡ (segment_kept self.now).p_filesz }
     {
         self.numbers.p_filesz
     }
 
     /// How many bytes it takes in memory.
     pub fn p_memsz(&self) -> u64
-        ensures { result ≡ self.now.numbers.p_memsz }
+        ensures { result ≡ (segment_kept self.now).p_memsz }
     {
         self.numbers.p_memsz
     }
 
     /// What its address and its offset are congruent by, 0 or 1 for anything.
     pub fn p_align(&self) -> u64
-        ensures { result ≡ self.now.numbers.p_align }
+        ensures { result ≡ (segment_kept self.now).p_align }
     {
         self.numbers.p_align
     }

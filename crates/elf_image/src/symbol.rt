@@ -36,6 +36,7 @@ impl VersionId {
 /// A symbol (gABI, Symbol Table).
 #[derive(Debug, Drop)]
 pub struct Symbol<'data> {
+    /// Its name, empty for none.
     pub name: ByteString<'data>,
     /// Binding in the upper four bits, type in the lower.
     pub st_info: u8,

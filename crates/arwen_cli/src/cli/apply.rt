@@ -1,36 +1,17 @@
 //! `apply`.
-ghost use Rattle.std.specs.Prelude.{◌≡◌, false, IfErr, IfOk, codes, option_map};
+ghost use Rattle.std.specs.Prelude.{◌≡◌, false, IfOk, codes, option_map};
 ghost use Rattle.clap.specs.Words.{app_of, found_of, rows_of};
-ghost use Rattle.arwen_cli.specs.Engine.{IsDone, MayFail};
-ghost use Rattle.arwen_cli.specs.Line.{macho_shown};
+ghost use Rattle.arwen_commands.specs.Meaning.{macho_shown};
 ghost use Rattle.arwen_cli.specs.Parser.{apply_app, found_meaning, has_globals};
 
-use crate::cli::engine::patch_file;
+use crate::cli::MachoCommand;
 use crate::cli::line::{text_of, texts_of, value, values};
-use crate::cli::{ArwenError, MachoCommand};
+pub use arwen_commands::apply::{Args, execute};
 use clap::ArgMatches;
 use std::alloc::{AllocError, Global};
-use std::rt::Files;
 
 /// The command's name.
 pub(crate) const NAME: &str = "apply";
-
-/// Several edits, all or none.
-#[derive(Debug, Drop)]
-pub struct Args {
-    /// Path to the file to change.
-    pub path_to_binary: String,
-    /// The words of the edits, with a word `+` between two edits.
-    pub edits: Vec<String>,
-}
-
-/// Edits the file.
-pub fn execute<R: Files + AllocGlobal>(rt: &R, args: Args) -> Result<(), ArwenError>
-    ensures ok { IfOk result (λ _. IsDone (macho_shown (MachoCommand.Apply args))) }
-    ensures err { IfErr result (λ e. MayFail (macho_shown (MachoCommand.Apply args)) e) }
-{
-    patch_file(rt, &MachoCommand::Apply(args))
-}
 
 /// The command, as a part of a line.
 pub(crate) fn line<'a>(alloc: Global) -> Result<clap::Command<'a>, AllocError>

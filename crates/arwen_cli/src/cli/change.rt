@@ -1,38 +1,17 @@
 //! `change-rpath`.
-ghost use Rattle.std.specs.Prelude.{◌≡◌, false, IfErr, IfOk, codes, option_map};
+ghost use Rattle.std.specs.Prelude.{◌≡◌, false, IfOk, codes, option_map};
 ghost use Rattle.clap.specs.Words.{app_of, found_of, rows_of};
-ghost use Rattle.arwen_cli.specs.Engine.{IsDone, MayFail};
-ghost use Rattle.arwen_cli.specs.Line.{macho_shown};
+ghost use Rattle.arwen_commands.specs.Meaning.{macho_shown};
 ghost use Rattle.arwen_cli.specs.Parser.{change_app, found_meaning, has_globals};
 
-use crate::cli::engine::patch_file;
+use crate::cli::MachoCommand;
 use crate::cli::line::{text_of, value};
-use crate::cli::{ArwenError, MachoCommand};
+pub use arwen_commands::change::{Args, execute};
 use clap::ArgMatches;
 use std::alloc::{AllocError, Global};
-use std::rt::Files;
 
 /// The command's name.
 pub(crate) const NAME: &str = "change-rpath";
-
-/// Put a run path in the place of another.
-#[derive(Debug, Drop)]
-pub struct Args {
-    /// Run path to replace.
-    pub old_rpath: String,
-    /// Run path to put in its place.
-    pub new_rpath: String,
-    /// Path to the file to change.
-    pub path_to_binary: String,
-}
-
-/// Edits the file.
-pub fn execute<R: Files + AllocGlobal>(rt: &R, args: Args) -> Result<(), ArwenError>
-    ensures ok { IfOk result (λ _. IsDone (macho_shown (MachoCommand.ChangeRpath args))) }
-    ensures err { IfErr result (λ e. MayFail (macho_shown (MachoCommand.ChangeRpath args)) e) }
-{
-    patch_file(rt, &MachoCommand::ChangeRpath(args))
-}
 
 /// The command, as a part of a line.
 pub(crate) fn line<'a>(alloc: Global) -> Result<clap::Command<'a>, AllocError>

@@ -2,9 +2,9 @@
 ghost use Rattle.std.specs.Prelude.{◌≡◌, [], Some, false, IfOk, IfErr, map, option_map, string_bytes};
 ghost use Rattle.std.specs.Prelude.{unwrap_or};
 ghost use Rattle.clap.specs.Words.{all_of, app_of, first_of, found_of, kind_of, rows_of, rule_of};
-ghost use Rattle.arwen_cli.specs.Fault.{IsOfLine, status_of};
-ghost use Rattle.arwen_cli.specs.Line.{MachoMeaning, Meaning, has_option, macho_shown, meaning_of};
-ghost use Rattle.arwen_cli.specs.Line.{shown};
+ghost use Rattle.arwen_commands.specs.Fault.{IsOfLine, status_of};
+ghost use Rattle.arwen_commands.specs.Meaning.{MachoMeaning, Meaning, macho_shown, shown};
+ghost use Rattle.arwen_cli.specs.Line.{has_option, meaning_of};
 ghost use Rattle.arwen_cli.specs.Parser.{IsTaken, found_meaning, macho_app, top_app, value_rule};
 ghost use Rattle.arwen_cli.specs.Parser.{values_rule};
 

@@ -1,8 +1,8 @@
 //! What the words of a line mean that begins with `elf`.
 ghost use Rattle.std.specs.Prelude.{◌≡◌, false, IfOk, IfErr, map, option_map};
 ghost use Rattle.clap.specs.Words.{app_of, found_of, rows_of};
-ghost use Rattle.arwen_cli.specs.Fault.{IsOfLine};
-ghost use Rattle.arwen_cli.specs.Line.{ElfMeaning, elf_shown};
+ghost use Rattle.arwen_commands.specs.Fault.{IsOfLine};
+ghost use Rattle.arwen_commands.specs.Meaning.{ElfMeaning, elf_shown};
 ghost use Rattle.arwen_cli.specs.Parser.{IsElfTaken, elf_app, found_elf, has_globals, print_app};
 
 use crate::cli::elf::{

@@ -4,7 +4,8 @@ use Rattle.std.specs.Prelude.{slice_get}
 use Rattle.std.proofs.lemmas.Result.{err_from_is_err_and}
 use Rattle.clap.specs.Lexer.{usize_max}
 use Rattle.clap.specs.Walk.{Text}
-use Rattle.arwen_cli.specs.Line.{Meaning, meaning_of}
+use Rattle.arwen_commands.specs.Meaning.{Meaning}
+use Rattle.arwen_cli.specs.Line.{meaning_of}
 use Rattle.arwen_cli.proofs.ElfLines as elf
 use Rattle.arwen_cli.proofs.Lines.{line_means, texts}
 use Rattle.arwen_cli.proofs.Taken.{line_passes, other_line}

@@ -6,7 +6,7 @@ use Rattle.std.proofs.lemmas.Result.{err_from_is_err_and}
 use Rattle.clap.specs.Walk.{Row, Text, rows_of}
 use Rattle.clap.specs.Words.{App, fault_of, found_of, is_simple, is_simple_and_free, subcommand_of}
 use Rattle.clap.proofs.OnLiterals.{clap_on_literals}
-use Rattle.arwen_cli.specs.Line.{elf_shown}
+use Rattle.arwen_commands.specs.Meaning.{elf_shown}
 use Rattle.arwen_cli.specs.Parser.{found_elf, elf_app}
 use Rattle.arwen_cli.proofs.Parsing.{by_memory, by_parts}
 use Rattle.arwen_cli.proofs.cli.elf.line.parse_elf.Goals as goal

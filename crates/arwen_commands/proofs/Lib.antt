@@ -1,0 +1,2 @@
+pub mod EditGroups
+pub mod Outcomes

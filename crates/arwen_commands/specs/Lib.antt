@@ -1,0 +1,5 @@
+pub mod Edits
+pub mod Engine
+pub mod Fault
+pub mod Meaning
+pub mod Prints

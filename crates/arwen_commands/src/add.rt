@@ -1,0 +1,26 @@
+//! `add-rpath`.
+ghost use Rattle.std.specs.Prelude.{IfErr, IfOk};
+ghost use Rattle.arwen_commands.specs.Engine.{IsDone, MayFail};
+ghost use Rattle.arwen_commands.specs.Meaning.{macho_shown};
+
+use crate::command::MachoCommand;
+use crate::engine::patch_file;
+use crate::error::ArwenError;
+use std::rt::Files;
+
+/// Add a run path.
+#[derive(Debug, Drop)]
+pub struct Args {
+    /// Run path to add.
+    pub new_rpath: String,
+    /// Path to the file to change.
+    pub path_to_binary: String,
+}
+
+/// Edits the file.
+pub fn execute<R: Files + AllocGlobal>(rt: &R, args: Args) -> Result<(), ArwenError>
+    ensures ok { IfOk result (λ _. IsDone (macho_shown (MachoCommand.AddRpath args))) }
+    ensures err { IfErr result (λ e. MayFail (macho_shown (MachoCommand.AddRpath args)) e) }
+{
+    patch_file(rt, &MachoCommand::AddRpath(args))
+}

@@ -1,0 +1,26 @@
+//! `apply`.
+ghost use Rattle.std.specs.Prelude.{IfErr, IfOk};
+ghost use Rattle.arwen_commands.specs.Engine.{IsDone, MayFail};
+ghost use Rattle.arwen_commands.specs.Meaning.{macho_shown};
+
+use crate::command::MachoCommand;
+use crate::engine::patch_file;
+use crate::error::ArwenError;
+use std::rt::Files;
+
+/// Several edits, all or none.
+#[derive(Debug, Drop)]
+pub struct Args {
+    /// Path to the file to change.
+    pub path_to_binary: String,
+    /// The words of the edits, with a word `+` between two edits.
+    pub edits: Vec<String>,
+}
+
+/// Edits the file.
+pub fn execute<R: Files + AllocGlobal>(rt: &R, args: Args) -> Result<(), ArwenError>
+    ensures ok { IfOk result (λ _. IsDone (macho_shown (MachoCommand.Apply args))) }
+    ensures err { IfErr result (λ e. MayFail (macho_shown (MachoCommand.Apply args)) e) }
+{
+    patch_file(rt, &MachoCommand::Apply(args))
+}

@@ -1,0 +1,26 @@
+//! `delete-rpath`.
+ghost use Rattle.std.specs.Prelude.{IfErr, IfOk};
+ghost use Rattle.arwen_commands.specs.Engine.{IsDone, MayFail};
+ghost use Rattle.arwen_commands.specs.Meaning.{macho_shown};
+
+use crate::command::MachoCommand;
+use crate::engine::patch_file;
+use crate::error::ArwenError;
+use std::rt::Files;
+
+/// Remove a run path.
+#[derive(Debug, Drop)]
+pub struct Args {
+    /// Run path to remove.
+    pub rpath_to_remove: String,
+    /// Path to the file to change.
+    pub path_to_binary: String,
+}
+
+/// Edits the file.
+pub fn execute<R: Files + AllocGlobal>(rt: &R, args: Args) -> Result<(), ArwenError>
+    ensures ok { IfOk result (λ _. IsDone (macho_shown (MachoCommand.DeleteRpath args))) }
+    ensures err { IfErr result (λ e. MayFail (macho_shown (MachoCommand.DeleteRpath args)) e) }
+{
+    patch_file(rt, &MachoCommand::DeleteRpath(args))
+}

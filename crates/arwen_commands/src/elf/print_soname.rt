@@ -1,0 +1,23 @@
+//! `print-soname`.
+ghost use Rattle.std.specs.Prelude.{IfErr, IfOk};
+ghost use Rattle.arwen_commands.specs.Prints.{PrintMayFail, SomeAccepted};
+
+use crate::command::ElfCommand;
+use crate::elf::print_file;
+use crate::error::ArwenError;
+use std::rt::Files;
+
+/// Print the library's own name.
+#[derive(Debug, Drop)]
+pub struct Args {
+    /// Path to the file to read.
+    pub path_to_binary: String,
+}
+
+/// Prints to the standard output.
+pub fn execute<R: Files + Print + AllocGlobal>(rt: &R, args: Args) -> Result<(), ArwenError>
+    ensures ok { IfOk result (λ _. SomeAccepted) }
+    ensures err { IfErr result (λ e. PrintMayFail e) }
+{
+    print_file(rt, &ElfCommand::PrintSoname(args))
+}

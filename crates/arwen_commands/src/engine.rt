@@ -1,0 +1,147 @@
+//! New bytes of old ones.
+ghost use Rattle.std.specs.Prelude.{◌≡◌, ◌∷◌, [], Ok, IfOk, IfErr, OnErr, map, string_bytes};
+ghost use Rattle.arwen_macho.specs.Batch.{calls_of};
+ghost use Rattle.arwen_commands.specs.Engine.{AreAsked, IsDone, MayFail, Outcome, Tells, TellsAsked, Writes};
+ghost use Rattle.arwen_commands.specs.Engine.{asked, outcome, refused_answer};
+ghost use Rattle.arwen_commands.specs.Meaning.{macho_shown};
+ghost use Rattle.arwen_commands.specs.declared.error.ArwenError.TheVariants.{Memory};
+
+use crate::command::MachoCommand;
+use crate::edits::parse_macho_edits;
+use crate::error::ArwenError;
+use crate::file::{read_file, write_file};
+use crate::{add, apply, change, delete, install_id, install_name};
+use arwen_macho::macho::{Front, MachoBatchError, MachoContainer, MachoEdit, lay_fronts};
+use std::alloc::{AllocError, Global};
+use std::rt::Files;
+
+/// The bytes of a file after a command. Of `apply` the words are read before the bytes are looked at.
+pub fn run_macho(alloc: Global, bytes: &[u8], command: &MachoCommand) -> Result<Vec<u8>, ArwenError>
+    ensures ok { IfOk result (λ new. outcome (macho_shown command.now) bytes.now ≡ Outcome.bytes new.items) }
+    ensures err { IfErr result (λ e. Tells (outcome (macho_shown command.now) bytes.now) e) }
+{
+    let fronts = fronts_of(alloc, bytes, command)?;
+    let mut new = Vec::from_slice(alloc, bytes)?;
+    lay_fronts(&mut new, fronts);
+    Ok(new)
+}
+
+/// The same in the bytes' place. A refused command leaves them as they were.
+fn run_in_place(alloc: Global, bytes: &mut [u8], command: &MachoCommand) -> Result<(), ArwenError>
+    ensures ok { IfOk result (λ _. outcome (macho_shown command.now) bytes.old ≡ Outcome.bytes bytes.new) }
+    ensures err { IfErr result (λ e. Tells (outcome (macho_shown command.now) bytes.old) e) }
+    ensures kept { OnErr result (bytes.new ≡ bytes.old) }
+{
+    let fronts = fronts_of(alloc, bytes, command)?;
+    lay_fronts(bytes, fronts);
+    Ok(())
+}
+
+/// What a command writes over the bytes of a file. Its edits are read before the bytes are looked at.
+fn fronts_of(alloc: Global, bytes: &[u8], command: &MachoCommand) -> Result<Vec<Front>, ArwenError>
+    ensures ok { IfOk result (λ fronts. Writes (outcome (macho_shown command.now) bytes.now) bytes.now fronts.items) }
+    ensures err { IfErr result (λ e. Tells (outcome (macho_shown command.now) bytes.now) e) }
+{
+    let edits = edits_asked(alloc, command)?;
+    let macho = MachoContainer::parse(alloc, bytes)?;
+    match macho.fronts(alloc, &edits) {
+        Ok(fronts) => Ok(fronts),
+        Err(error) => Err(refusal(command, error)),
+    }
+}
+
+/// A refused edit as it is answered to a command. Of several it is told which one is refused.
+fn refusal(command: &MachoCommand, error: MachoBatchError) -> ArwenError
+    ensures { result ≡ refused_answer (asked (macho_shown command.now)) error }
+{
+    match command {
+        MachoCommand::Apply(_) => ArwenError::from(error),
+        _ => ArwenError::from(error.fault),
+    }
+}
+
+/// The edits that a command asks for.
+fn edits_asked(alloc: Global, command: &MachoCommand) -> Result<Vec<MachoEdit>, ArwenError>
+    ensures ok { IfOk result (λ edits. AreAsked (asked (macho_shown command.now)) (calls_of edits.items)) }
+    ensures err { IfErr result (λ e. TellsAsked (asked (macho_shown command.now)) e) }
+{
+    match command {
+        MachoCommand::DeleteRpath(args) => {
+            let old = String::from_str(alloc, args.rpath_to_remove.as_str())?;
+            alone(alloc, MachoEdit::RemoveRpath(old))
+        }
+        MachoCommand::ChangeRpath(args) => {
+            let old = String::from_str(alloc, args.old_rpath.as_str())?;
+            let new = String::from_str(alloc, args.new_rpath.as_str())?;
+            alone(alloc, MachoEdit::ChangeRpath(old, new))
+        }
+        MachoCommand::AddRpath(args) => {
+            let new = String::from_str(alloc, args.new_rpath.as_str())?;
+            alone(alloc, MachoEdit::AddRpath(new))
+        }
+        MachoCommand::ChangeInstallName(args) => {
+            let old = String::from_str(alloc, args.old_install_name.as_str())?;
+            let new = String::from_str(alloc, args.new_install_name.as_str())?;
+            alone(alloc, MachoEdit::ChangeInstallName(old, new))
+        }
+        MachoCommand::ChangeInstallId(args) => {
+            let new = String::from_str(alloc, args.new_install_id.as_str())?;
+            alone(alloc, MachoEdit::ChangeInstallId(new))
+        }
+        MachoCommand::Apply(args) => {
+            let words = words_of(alloc, args.edits.as_slice())?;
+            Ok(parse_macho_edits(alloc, words.as_slice())?)
+        }
+    }
+}
+
+/// One edit as a list.
+fn alone(alloc: Global, edit: MachoEdit) -> Result<Vec<MachoEdit>, ArwenError>
+    ensures ok { IfOk result (λ edits. edits.items ≡ edit ∷ []) }
+    ensures err { IfErr result (λ e. e ≡ Memory) }
+{
+    let mut edits = Vec::new(alloc);
+    edits.push(edit)?;
+    Ok(edits)
+}
+
+/// The same words, lent.
+fn words_of<'a>(alloc: Global, words: &'a [String]) -> Result<Vec<&'a str>, AllocError>
+    ensures { IfOk result (λ texts. map (λ text. text.now) texts.items ≡ map string_bytes words.now) }
+{
+    let mut texts = Vec::with_capacity(alloc, words.len())?;
+    for word in words {
+        texts.push(word.as_str())?;
+    }
+    Ok(texts)
+}
+
+/// Edits a file in its place.
+pub(crate) fn patch_file<R: Files + AllocGlobal>(
+    rt: &R,
+    command: &MachoCommand,
+) -> Result<(), ArwenError>
+    ensures ok { IfOk result (λ _. IsDone (macho_shown command.now)) }
+    ensures err { IfErr result (λ e. MayFail (macho_shown command.now) e) }
+{
+    let path = command.path_to_binary();
+    let mut bytes = read_file(rt, path)?;
+    run_in_place(rt.alloc(), &mut bytes, command)?;
+    write_file(rt, path, bytes.as_slice())
+}
+
+/// Edits a Mach-O file in its place. The file is written only after all its new bytes exist, so a
+/// refused edit leaves it as it was.
+pub fn macho_execute<R: Files + AllocGlobal>(rt: &R, macho: MachoCommand) -> Result<(), ArwenError>
+    ensures ok { IfOk result (λ _. IsDone (macho_shown macho)) }
+    ensures err { IfErr result (λ e. MayFail (macho_shown macho) e) }
+{
+    match macho {
+        MachoCommand::DeleteRpath(args) => delete::execute(rt, args),
+        MachoCommand::ChangeRpath(args) => change::execute(rt, args),
+        MachoCommand::AddRpath(args) => add::execute(rt, args),
+        MachoCommand::ChangeInstallName(args) => install_name::execute(rt, args),
+        MachoCommand::ChangeInstallId(args) => install_id::execute(rt, args),
+        MachoCommand::Apply(args) => apply::execute(rt, args),
+    }
+}

@@ -1,0 +1,26 @@
+//! `change-install-id`.
+ghost use Rattle.std.specs.Prelude.{IfErr, IfOk};
+ghost use Rattle.arwen_commands.specs.Engine.{IsDone, MayFail};
+ghost use Rattle.arwen_commands.specs.Meaning.{macho_shown};
+
+use crate::command::MachoCommand;
+use crate::engine::patch_file;
+use crate::error::ArwenError;
+use std::rt::Files;
+
+/// Change the install id of a shared library.
+#[derive(Debug, Drop)]
+pub struct Args {
+    /// New install id.
+    pub new_install_id: String,
+    /// Path to the file to change.
+    pub path_to_binary: String,
+}
+
+/// Edits the file.
+pub fn execute<R: Files + AllocGlobal>(rt: &R, args: Args) -> Result<(), ArwenError>
+    ensures ok { IfOk result (λ _. IsDone (macho_shown (MachoCommand.ChangeInstallId args))) }
+    ensures err { IfErr result (λ e. MayFail (macho_shown (MachoCommand.ChangeInstallId args)) e) }
+{
+    patch_file(rt, &MachoCommand::ChangeInstallId(args))
+}

@@ -1,0 +1,22 @@
+//! The commands of the program `arwen`: what each asks for, what it does to the bytes of a Mach-O file or
+//! prints of an ELF file, the files themselves, and the faults.
+#![tactic(auto)]
+
+pub mod add;
+pub mod apply;
+pub mod change;
+mod command;
+pub mod delete;
+mod edits;
+pub mod elf;
+mod engine;
+mod error;
+mod file;
+pub mod install_id;
+pub mod install_name;
+
+pub use command::{Command, ElfCommand, MachoCommand};
+pub use edits::{EditFault, EditKind, EditsError, parse_macho_edits};
+pub use engine::{macho_execute, run_macho};
+pub use error::{ArwenError, FaultLine};
+pub use file::{MOST_BYTES, read_bytes};
