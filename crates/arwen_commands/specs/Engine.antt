@@ -26,7 +26,7 @@ use Rattle.arwen_commands.specs.Meaning.{MachoMeaning}
 use Rattle.arwen_commands.specs.Meaning.MachoMeaning.{add_rpath as line_add, apply, change_install_id as line_id}
 use Rattle.arwen_commands.specs.Meaning.MachoMeaning.{change_install_name as line_name, change_rpath as line_change, delete_rpath}
 
--- what a line asks for: one edit, or those that words name
+-- what is asked for: one edit, or those that words name
 pub data Asked : Type 0 where
   one : Call → Asked
   several : Result (List Call) EditFault → Asked
@@ -66,7 +66,7 @@ outcome_of (one call) file = edited_file refused (call ∷ []) file (container_f
 outcome_of (several (Ok calls)) file = edited_file refused_batch calls file (container_found file)
 outcome_of (several (Err wrong)) file = no_edits wrong
 
--- what a line makes of a file's bytes
+-- what a command makes of a file's bytes
 abbrev pub outcome : MachoMeaning → List ℕ → Outcome
 outcome meaning file = outcome_of (asked meaning) file
 

@@ -8,7 +8,7 @@ use Rattle.arwen_commands.specs.declared.command.ElfCommand.TheVariants as elf
 use Rattle.arwen_commands.specs.declared.command.MachoCommand.{MachoCommand}
 use Rattle.arwen_commands.specs.declared.command.MachoCommand.TheVariants as macho
 
--- what a line asks of a Mach-O file, with its texts as bytes; the file's path comes last, but for
+-- what is asked of a Mach-O file, with its texts as bytes; the file's path comes last, but for
 -- `apply`
 pub data MachoMeaning : Type 0 where
   delete_rpath : Text → Text → MachoMeaning
@@ -18,7 +18,7 @@ pub data MachoMeaning : Type 0 where
   change_install_id : Text → Text → MachoMeaning
   apply : Text → List Text → MachoMeaning
 
--- what a line asks of an ELF file, with the file's path
+-- what is asked of an ELF file, with the file's path
 pub data ElfMeaning : Type 0 where
   print_rpath : Text → ElfMeaning
   print_needed : Text → ElfMeaning
@@ -27,7 +27,7 @@ pub data ElfMeaning : Type 0 where
   print_os_abi : Text → ElfMeaning
   print_exec_stack : Text → ElfMeaning
 
--- what a line asks for
+-- what is asked for
 pub data Meaning : Type 0 where
   of_macho : MachoMeaning → Meaning
   of_elf : ElfMeaning → Meaning

@@ -1,10 +1,10 @@
-//! What a line asks for, with its values.
+//! What is asked for, with its values.
 use crate::elf::{
     print_execstack, print_interpreter, print_needed, print_os_abi, print_rpath, print_soname,
 };
 use crate::{add, apply, change, delete, install_id, install_name};
 
-/// What a line asks for.
+/// What is asked for.
 #[derive(Debug, Drop)]
 pub enum Command {
     /// Something of a Mach-O file.
@@ -13,7 +13,7 @@ pub enum Command {
     Elf(ElfCommand),
 }
 
-/// What a line asks of a Mach-O file.
+/// What is asked of a Mach-O file.
 #[derive(Debug, Drop)]
 pub enum MachoCommand {
     /// Remove a run path.
@@ -49,7 +49,7 @@ impl MachoCommand {
     }
 }
 
-/// What a line asks of an ELF file.
+/// What is asked of an ELF file.
 #[derive(Debug, Drop)]
 pub enum ElfCommand {
     /// Print the run path.
