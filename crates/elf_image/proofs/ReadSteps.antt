@@ -1,14 +1,15 @@
 -- The reader goes through the read rules in stages: which stage's fault is the answer.
 use Rattle.std.proofs.Common.{◌≡◌, ℕ, List, [], ◌∷◌, Bool, true, false, Option, Some, None, Result, Ok, Err, refl, sym, ap, ◌∙◌}
 use Rattle.std.specs.Prelude.{is_some}
-use Rattle.elf_image.specs.declared.fault.ElfFault.{ElfFault}
-use Rattle.elf_image.specs.declared.fault.ElfFault.TheVariants as faults
-use Rattle.elf_image.specs.declared.fault.ElfFault.TheVariants.{BadText}
-use Rattle.elf_image.specs.File.{Parts}
-use Rattle.elf_image.specs.Image.{Image, image_in, image_of}
-use Rattle.elf_image.specs.Read.{Refuses, last_rules, link_rules, parts_read}
-use Rattle.elf_image.specs.Rules.{◌>>=◌, accepted_parts, checked, do_texts_end, placement_rules, rule, there_or}
-use Rattle.elf_image.proofs.ImageShows.{accepted_by_parts, texts_there}
+use Rattle.elf_format.specs.declared.fault.ElfFault.{ElfFault}
+use Rattle.elf_format.specs.declared.fault.ElfFault.TheVariants as faults
+use Rattle.elf_format.specs.declared.fault.ElfFault.TheVariants.{BadText}
+use Rattle.elf_format.specs.File.{Parts}
+use Rattle.elf_format.specs.Image.{Image, image_in, image_of}
+use Rattle.elf_format.specs.Stages.{last_rules, link_rules, parts_read}
+use Rattle.elf_rules.specs.Read.{Refuses}
+use Rattle.elf_format.specs.Rules.{◌>>=◌, accepted_parts, checked, do_texts_end, placement_rules, rule, there_or}
+use Rattle.elf_format.proofs.ImageShows.{accepted_by_parts, texts_there}
 
 -- a refusal without want of memory is the answer
 pub refused_is : {A : Type 0} → (e : ElfFault) (r : Result A ElfFault) → Refuses e r → (e ≡ faults.Memory → ⊥) → r ≡ Err e

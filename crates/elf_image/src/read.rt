@@ -1,30 +1,19 @@
 //! The reader: the read rules in their order, each in time in proportion to what it looks at.
 ghost use Rattle.std.specs.Prelude.{◌≡◌, ◌≢◌, Ok, Err, MatchResult, All, map, IfOk};
-ghost use Rattle.elf_image.specs.Image.{header_kept, image_in, image_of, interpreter_read};
+ghost use Rattle.elf_format.specs.Image.{header_kept, image_in, image_of, interpreter_read};
 ghost use Rattle.elf_image.specs.ImageSeen.{segment_kept};
-ghost use Rattle.elf_image.specs.Plain.{Gives, borrowed};
-ghost use Rattle.elf_image.specs.Read.{Passes, Reads, last_rules, parts_seen};
-ghost use Rattle.elf_image.specs.Rules.{checked, data_of, raw_entries as entries_of, there_or};
-ghost use Rattle.elf_image.specs.declared.fault.ElfFault.TheVariants.{BadText};
-ghost use Rattle.elf_image.specs.LinkSteps.{IsChecked};
+ghost use Rattle.elf_format.specs.Answers.{Gives, borrowed};
+ghost use Rattle.elf_format.specs.Stages.{last_rules};
+ghost use Rattle.elf_rules.specs.Read.{Passes, Reads, parts_seen};
+ghost use Rattle.elf_format.specs.Rules.{checked, data_of, raw_entries as entries_of, there_or};
+ghost use Rattle.elf_format.specs.declared.fault.ElfFault.TheVariants.{BadText};
+ghost use Rattle.elf_rules.specs.LinkSteps.{IsChecked};
 ghost use Rattle.elf_image.specs.WalkSteps.{AreDefinitions, AreNeeds};
 
-pub(crate) mod dynamic;
-pub(crate) mod headers;
-pub(crate) mod kind;
-pub(crate) mod linked;
-pub(crate) mod placement;
 pub(crate) mod texts;
 pub(crate) mod versions;
 
 use crate::builder::{Builder, counted};
-use crate::fault::ElfFault;
-use crate::header::Header;
-use crate::plain::ViewFault;
-use crate::read::dynamic::{check_links, raw_entries};
-use crate::read::headers::{Headers, read_headers};
-use crate::read::linked::{Checked, are_tables_linked, check_relocations, kind_of};
-use crate::read::placement::{check_placement, header_table_loaded};
 use crate::read::texts::entries::entries;
 use crate::read::texts::interpreter;
 use crate::read::texts::sections::sections;
@@ -33,10 +22,17 @@ use crate::read::texts::versions::{definitions, needs};
 use crate::read::versions::{
     DefinitionWalk, NeedWalk, are_versions_right, walk_definitions, walk_needs,
 };
-use crate::records::{EntryNumbers, FileHeader, SegmentHeader};
-use crate::section::SectionData;
 use crate::segment::Segment;
 use crate::version::Versions;
+use elf_format::fault::ElfFault;
+use elf_format::header::Header;
+use elf_format::records::{EntryNumbers, FileHeader, SegmentHeader};
+use elf_format::section_data::SectionData;
+use elf_format::view_fault::ViewFault;
+use elf_rules::dynamic::{check_links, raw_entries};
+use elf_rules::headers::{Headers, read_headers};
+use elf_rules::linked::{Checked, are_tables_linked, check_relocations, kind_of};
+use elf_rules::placement::{check_placement, header_table_loaded};
 use patch_bytes::ByteString;
 use std::alloc::{AllocError, Global};
 use std::marker::PhantomData;
@@ -92,7 +88,7 @@ fn kinds(
 }
 
 // The file's image, absent where a text isn't there.
-#[tactic(auto, unfolding(crate::specs::Image::image_in))]
+#[tactic(auto, unfolding(elf_format::specs::Image::image_in))]
 fn image<'data>(
     alloc: Global,
     parts: &Headers<'data>,
@@ -144,7 +140,7 @@ fn interpreter_kept<'data>(parts: &Headers<'data>) -> Option<ByteString<'data>>
 }
 
 // The rules on versions and on where the program header table stands.
-#[tactic(auto, unfolding(crate::specs::Rules::checked))]
+#[tactic(auto, unfolding(elf_format::specs::Rules::checked))]
 fn check_last(
     alloc: Global,
     parts: &Headers<'_>,

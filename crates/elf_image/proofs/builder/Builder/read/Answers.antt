@@ -1,9 +1,10 @@
 -- Each stage's refusal is the answer, and the image where none refuses.
 use Rattle.std.proofs.lemmas.Result.{err_from_is_err_and}
-use Rattle.elf_image.specs.declared.fault.ElfFault.TheVariants.{BadText}
-use Rattle.elf_image.specs.Image.{image_in}
-use Rattle.elf_image.specs.Read.{last_rules, link_rules, parts_read, parts_seen}
-use Rattle.elf_image.specs.Rules.{checked, placement_rules, there_or}
+use Rattle.elf_format.specs.declared.fault.ElfFault.TheVariants.{BadText}
+use Rattle.elf_format.specs.Image.{image_in}
+use Rattle.elf_format.specs.Stages.{last_rules, link_rules, parts_read}
+use Rattle.elf_rules.specs.Read.{parts_seen}
+use Rattle.elf_format.specs.Rules.{checked, placement_rules, there_or}
 use Rattle.elf_image.proofs.ReadSteps.{all_read, last_refused, links_refused, open_refused, placement_refused, refused_is, texts_refused}
 use Rattle.elf_image.proofs.builder.Builder.read.Goals as goal
 
