@@ -1,3 +1,4 @@
+pub mod ImageSteps
 pub mod ReadSteps
 pub mod WalkSteps
 pub mod VersionSteps

@@ -16,5 +16,6 @@ pub mod ImageSeen
 pub mod BuilderSeen
 pub mod DynamicTag
 pub mod Machine
+pub mod ImageSteps
 pub mod TextSteps
 pub mod WalkSteps
