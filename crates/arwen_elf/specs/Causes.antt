@@ -1,8 +1,8 @@
 -- Which error stands for which fault. Want of memory is its own kind in each type.
 use Rattle.std.specs.Prelude.{◌≡◌, Err, Result}
 use Rattle.elf_image.specs.Image.{Image}
-use Rattle.elf_image.specs.declared.fault.ElfFault.{ElfFault}
-use Rattle.elf_image.specs.declared.fault.ElfFault.TheVariants.{Memory as fault_memory}
+use Rattle.elf_format.specs.declared.fault.ElfFault.{ElfFault}
+use Rattle.elf_format.specs.declared.fault.ElfFault.TheVariants.{Memory as fault_memory}
 use Rattle.arwen_elf.specs.declared.elf.rewriter.error.ElfError.{ElfError}
 use Rattle.arwen_elf.specs.declared.elf.rewriter.error.ElfError.TheVariants.{Io, Memory, Parse}
 

@@ -1,6 +1,6 @@
 -- Default page sizes, by machine.
 use Rattle.std.specs.Prelude.{ℕ, [], ◌∷◌, if◌then◌else◌}
-use Rattle.elf_image.specs.declared.constants.TheConstants.{EM_MIPS}
+use Rattle.elf_format.specs.declared.constants.TheConstants.{EM_MIPS}
 use Rattle.elf_image.specs.Options.{is_one_of}
 use Rattle.arwen_elf.specs.declared.elf.rewriter.machines.TheConstants.{EM_AARCH64, EM_ALPHA, EM_IA_64, EM_LOONGARCH, EM_PPC, EM_PPC64, EM_SPARC, EM_SPARCV9, EM_TILEGX}
 

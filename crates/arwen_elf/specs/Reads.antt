@@ -1,6 +1,6 @@
 -- What is read from a view: run path, needed libraries, name, interpreter, ABI byte and stack flags.
 use Rattle.std.specs.Prelude.{ℕ, List, [], ◌∷◌, Option, Some, None, if◌then◌else◌, unwrap_or}
-use Rattle.elf_image.specs.declared.constants.TheConstants.{DT_NEEDED, DT_RPATH, DT_RUNPATH, DT_SONAME}
+use Rattle.elf_format.specs.declared.constants.TheConstants.{DT_NEEDED, DT_RPATH, DT_RUNPATH, DT_SONAME}
 use Rattle.elf_image.specs.Dynamic.{Auto, Entry, Integer, Text}
 use Rattle.elf_image.specs.Options.{first_there, is_one_of}
 use Rattle.elf_image.specs.Views.{View}

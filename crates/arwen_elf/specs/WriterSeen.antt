@@ -3,7 +3,7 @@ use Rattle.std.specs.Prelude.{ℕ, ◌≡◌, List, [], ◌∷◌, Some, map}
 use Rattle.std.specs.Slice.Iter.{iter_rest}
 use Rattle.elf_image.specs.Image.{Image, shown}
 use Rattle.elf_image.specs.ImageSeen.{entry_kept}
-use Rattle.elf_image.specs.declared.constants.TheConstants.{DT_NEEDED}
+use Rattle.elf_format.specs.declared.constants.TheConstants.{DT_NEEDED}
 use Rattle.elf_image.specs.Views.{dynamic_symbol_count, loader_view, section_view}
 use Rattle.arwen_elf.specs.declared.elf.rewriter.writer.Needed.{Needed}
 use Rattle.arwen_elf.specs.declared.elf.rewriter.writer.Writer.TheInside as writer

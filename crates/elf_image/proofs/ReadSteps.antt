@@ -1,14 +1,17 @@
 -- The reader goes through the read rules in stages: which stage's fault is the answer.
-use Rattle.std.proofs.Common.{◌≡◌, ℕ, List, [], ◌∷◌, Bool, true, false, Option, Some, None, Result, Ok, Err, refl, sym, ap, ◌∙◌}
-use Rattle.std.specs.Prelude.{is_some}
-use Rattle.elf_image.specs.declared.fault.ElfFault.{ElfFault}
-use Rattle.elf_image.specs.declared.fault.ElfFault.TheVariants as faults
-use Rattle.elf_image.specs.declared.fault.ElfFault.TheVariants.{BadText}
-use Rattle.elf_image.specs.File.{Parts}
-use Rattle.elf_image.specs.Image.{Image, image_in, image_of}
-use Rattle.elf_image.specs.Read.{Refuses, last_rules, link_rules, parts_read}
-use Rattle.elf_image.specs.Rules.{◌>>=◌, accepted_parts, checked, do_texts_end, placement_rules, rule, there_or}
-use Rattle.elf_image.proofs.ImageShows.{accepted_by_parts, texts_there}
+use Rattle.std.proofs.Common.{◌≡◌, ℕ, List, [], ◌∷◌, Bool, true, false, Option, Some, None, Result, Ok, Err, refl, sym, ap, ◌∙◌, inl, inr}
+use Rattle.std.specs.Prelude.{MatchResult, is_some}
+use Rattle.elf_format.specs.declared.fault.ElfFault.{ElfFault}
+use Rattle.elf_format.specs.declared.fault.ElfFault.TheVariants as faults
+use Rattle.elf_format.specs.declared.fault.ElfFault.TheVariants.{BadText}
+use Rattle.elf_format.specs.File.{Parts}
+use Rattle.elf_format.specs.Image.{Image, image_in, image_of}
+use Rattle.elf_format.specs.Stages.{last_rules, link_rules, parts_read}
+use Rattle.elf_rules.specs.Read.{Refuses}
+use Rattle.elf_format.specs.Rules.{◌>>=◌, accepted_parts, checked, do_texts_end, placement_rules, rule, there_or}
+use Rattle.elf_image.specs.ImageSteps.{TextsRead, image_by_groups}
+use Rattle.elf_image.proofs.ImageSteps.{image_in-groups}
+use Rattle.elf_format.proofs.ImageShows.{accepted_by_parts, texts_there}
 
 -- a refusal without want of memory is the answer
 pub refused_is : {A : Type 0} → (e : ElfFault) (r : Result A ElfFault) → Refuses e r → (e ≡ faults.Memory → ⊥) → r ≡ Err e
@@ -109,3 +112,13 @@ module _ (file : List ℕ) (p : Parts) (there : parts_read file ≡ Ok p) where
         pub all_read : checked last_rules p ≡ Ok p → image_of file ≡ Ok image
         unfolding answer last
         all_read h = answers file (Ok p) (from_last ∙ h) ∙ read
+
+      groups : there_or BadText (image_in p) ≡ there_or BadText (image_by_groups p)
+      groups = ap (there_or BadText) (image_in-groups p)
+
+      pub texts_answer : (r : Result Image ElfFault) → TextsRead p r → MatchResult r (λ b. image_of file ≡ Ok b) (λ e. (e ≡ faults.Memory → ⊥) → image_of file ≡ Err e)
+      texts_answer (Ok image) h = all_read image (groups ∙ h.0) h.1
+      texts_answer (Err e) h = elim h [
+        | inl refused ↦ λ other. texts_refused e (groups ∙ refused_is e (there_or BadText (image_by_groups p)) refused other)
+        | inr late ↦ λ other. last_refused late.0 (groups ∙ late.1) e (refused_is e (checked last_rules p) late.2 other)
+      ]

@@ -4,23 +4,26 @@ use Rattle.std.specs.Prelude.{option_map}
 use Rattle.std.specs.List.{slice_get}
 use Rattle.std.proofs.lemmas.List.{append-nil, drop-drop}
 use Rattle.patch_bytes.specs.Memory.{◌>>=◌, Memory, text_at}
-use Rattle.elf_image.specs.declared.constants.TheConstants.{SHT_GNU_VERSYM}
-use Rattle.elf_image.specs.declared.plain.fault.ViewFault.{ViewFault}
-use Rattle.elf_image.specs.declared.plain.fault.ViewFault.TheVariants as faults
-use Rattle.elf_image.specs.declared.section.SectionData.{SectionData}
-use Rattle.elf_image.specs.declared.symbol.VersionId.{VersionId}
-use Rattle.elf_image.specs.Dynamic.{Entry, shown_entry}
-use Rattle.elf_image.specs.File.{Parts, linked_section, section_bytes, section_of_type}
-use Rattle.elf_image.specs.Form.{Form, records}
-use Rattle.elf_image.specs.Image.{definitions_read, dynamic_symbols_read, entries_read, needs_read, section_read, static_symbols, versions_read}
-use Rattle.elf_image.specs.Options.{each, list_at}
-use Rattle.elf_image.specs.Plain.{Fails}
-use Rattle.elf_image.specs.Records.{SectionHeader, SymbolNumbers, symbol_numbers, symbol_size, symbols_in}
-use Rattle.elf_image.specs.Rules.{data_of, definition_steps, file_of, linked_texts, need_steps, raw_entries, texts_of}
+use Rattle.elf_format.specs.declared.constants.TheConstants.{SHT_GNU_VERSYM}
+use Rattle.elf_format.specs.declared.view_fault.ViewFault.{ViewFault}
+use Rattle.elf_format.specs.declared.view_fault.ViewFault.TheVariants as faults
+use Rattle.elf_format.specs.declared.section_data.SectionData.{SectionData}
+use Rattle.elf_format.specs.declared.version_id.VersionId.{VersionId}
+use Rattle.elf_format.specs.Dynamic.{Entry, shown_entry}
+use Rattle.elf_format.specs.File.{Parts, linked_section, section_bytes, section_of_type}
+use Rattle.elf_format.specs.declared.form.Form.{Form}
+use Rattle.elf_format.specs.Form.{records}
+use Rattle.elf_format.specs.Image.{definitions_read, dynamic_symbols_read, entries_read, needs_read, section_read, static_symbols, versions_read}
+use Rattle.elf_format.specs.Options.{each, list_at}
+use Rattle.elf_format.specs.Answers.{Fails}
+use Rattle.elf_format.specs.declared.records.SectionHeader.{SectionHeader}
+use Rattle.elf_format.specs.declared.records.SymbolNumbers.{SymbolNumbers}
+use Rattle.elf_format.specs.Records.{symbol_numbers, symbol_size, symbols_in}
+use Rattle.elf_format.specs.Rules.{data_of, definition_steps, file_of, linked_texts, need_steps, raw_entries, texts_of}
 use Rattle.elf_image.specs.TextSteps.{kept_as, named_section, named_symbol, symbols_from, symbols_shown, version_at, versions_in}
-use Rattle.elf_image.specs.Versions.{DefinitionNumbers, NeedNumbers, shown_definition, shown_need, values_of, version_id}
-use Rattle.elf_image.specs.Views.{NamedSymbol, named_symbols, names_of}
-use Rattle.elf_image.proofs.PlainSteps.{with_front, with_front-cons}
+use Rattle.elf_format.specs.Versions.{DefinitionNumbers, NeedNumbers, shown_definition, shown_need, values_of, version_id}
+use Rattle.elf_format.specs.Views.{NamedSymbol, named_symbols, names_of}
+use Rattle.elf_format.proofs.ReadingSteps.{with_front, with_front-cons}
 
 -- ## Sections
 

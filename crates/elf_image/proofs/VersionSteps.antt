@@ -10,17 +10,19 @@ use Rattle.patch_bytes.specs.declared.number.ByteOrder2.{ByteOrder2}
 use Rattle.patch_bytes.specs.declared.number.ByteOrder2.TheVariants.{Big, Little}
 use Rattle.patch_bytes.specs.declared.number.Wide.{Wide}
 use Rattle.patch_bytes.specs.declared.number.Wide.TheVariants.{W32, W64}
-use Rattle.elf_image.specs.declared.constants.TheConstants.{SHT_DYNSYM, SHT_GNU_VERDEF, SHT_GNU_VERNEED, VER_NDX_FIRST}
+use Rattle.elf_format.specs.declared.constants.TheConstants.{SHT_DYNSYM, SHT_GNU_VERDEF, SHT_GNU_VERNEED, VER_NDX_FIRST}
 use Rattle.elf_image.specs.declared.read.versions.DefinitionWalk.{DefinitionWalk}
 use Rattle.elf_image.specs.declared.read.versions.NeedWalk.{NeedWalk}
-use Rattle.elf_image.specs.declared.symbol.VersionId.{VersionId}
-use Rattle.elf_image.specs.Form.{Form, records}
-use Rattle.elf_image.specs.Options.{is_one_of, is_some_and, list_at}
-use Rattle.elf_image.specs.File.{Parts, section_bytes, section_of_type}
-use Rattle.elf_image.specs.PlainViews.{raw_definition, raw_needs}
-use Rattle.elf_image.specs.Records.{SectionHeader, symbol_size}
-use Rattle.elf_image.specs.Rules.{definition_steps, known_versions, need_steps, version_symbols_agree}
-use Rattle.elf_image.specs.Versions.{DefinitionNumbers, NeedNumbers, values_of, version_id}
+use Rattle.elf_format.specs.declared.version_id.VersionId.{VersionId}
+use Rattle.elf_format.specs.declared.form.Form.{Form}
+use Rattle.elf_format.specs.Form.{records}
+use Rattle.elf_format.specs.Options.{is_one_of, is_some_and, list_at}
+use Rattle.elf_format.specs.File.{Parts, section_bytes, section_of_type}
+use Rattle.elf_format.specs.Seen.{raw_definition, raw_needs}
+use Rattle.elf_format.specs.declared.records.SectionHeader.{SectionHeader}
+use Rattle.elf_format.specs.Records.{symbol_size}
+use Rattle.elf_format.specs.Rules.{definition_steps, known_versions, need_steps, version_symbols_agree}
+use Rattle.elf_format.specs.Versions.{DefinitionNumbers, NeedNumbers, values_of, version_id}
 use Rattle.elf_image.specs.WalkSteps.{AreDefinitions, AreMarked, AreNeeds, marked}
 
 -- ## Marks

@@ -5,14 +5,16 @@ use Rattle.std.specs.List.{list_all}
 use Rattle.std.proofs.lemmas.List.{append-nil, append_assoc}
 use Rattle.std.proofs.lemmas.Bool.{eq-eqb, ne_eqb}
 use Rattle.patch_bytes.specs.Memory.{◌>>=◌, Memory, bytes_at, memory_of}
-use Rattle.elf_image.specs.declared.plain.fault.ViewFault.{ViewFault}
-use Rattle.elf_image.specs.declared.plain.fault.ViewFault.TheVariants as faults
-use Rattle.elf_image.specs.Form.{Form, fixed_field}
-use Rattle.elf_image.specs.Plain.{Gives, whole_step}
-use Rattle.elf_image.specs.Versions.{DefinitionNumbers, NeedNameNumbers, NeedNumbers, Step, definition_at, definition_name_at, need_at, need_name_at, is_whole_walk, values_of, walked}
+use Rattle.elf_format.specs.declared.view_fault.ViewFault.{ViewFault}
+use Rattle.elf_format.specs.declared.view_fault.ViewFault.TheVariants as faults
+use Rattle.elf_format.specs.declared.form.Form.{Form}
+use Rattle.elf_format.specs.Form.{fixed_field}
+use Rattle.elf_format.specs.Answers.{Gives, whole_step}
+use Rattle.elf_format.specs.declared.records.NeedNameNumbers.{NeedNameNumbers}
+use Rattle.elf_format.specs.Versions.{DefinitionNumbers, NeedNumbers, Step, definition_at, definition_name_at, need_at, need_name_at, is_whole_walk, values_of, walked}
 use Rattle.elf_image.specs.WalkSteps.{IsFound, IsWalk}
-use Rattle.elf_image.proofs.ChainSteps.{definition_name-past, eqb-suc, need_name-past}
-use Rattle.elf_image.proofs.TableSteps.{bytes_at-past}
+use Rattle.elf_format.proofs.ChainSteps.{definition_name-past, eqb-suc, need_name-past}
+use Rattle.elf_format.proofs.TableSteps.{bytes_at-past}
 
 -- ## What is found
 

@@ -2,7 +2,7 @@
 use Rattle.std.specs.Prelude.{map}
 use Rattle.std.specs.Option.{option_map}
 use Rattle.elf_image.specs.declared.builder.Builder.TheInside.{Inside}
-use Rattle.elf_image.specs.Image.{Image}
+use Rattle.elf_format.specs.Image.{Image}
 use Rattle.elf_image.specs.ImageSeen.{definition_kept, entry_kept, needs_kept, section_kept, segment_kept, symbol_kept}
 
 abbrev pub image_kept : Inside → Image

@@ -8,11 +8,11 @@ use Rattle.elf_image.specs.declared.symbol.Symbol.{Symbol}
 use Rattle.elf_image.specs.declared.version.VersionDef.{VersionDef}
 use Rattle.elf_image.specs.declared.version.VersionNeed.{VersionNeed}
 use Rattle.elf_image.specs.declared.version.VersionNeedName.{VersionNeedName}
-use Rattle.elf_image.specs.Dynamic.{Auto, Entry, Integer, Text}
-use Rattle.elf_image.specs.Image.{ImageSection}
-use Rattle.elf_image.specs.Records.{SegmentHeader}
-use Rattle.elf_image.specs.Versions.{VersionDefinition, VersionName, VersionNeeds}
-use Rattle.elf_image.specs.Views.{NamedSymbol}
+use Rattle.elf_format.specs.Dynamic.{Auto, Entry, Integer, Text}
+use Rattle.elf_format.specs.Image.{ImageSection}
+use Rattle.elf_format.specs.declared.records.SegmentHeader.{SegmentHeader}
+use Rattle.elf_format.specs.Versions.{VersionDefinition, VersionName, VersionNeeds}
+use Rattle.elf_format.specs.Views.{NamedSymbol}
 
 -- the numbers of a program header
 abbrev pub segment_kept : Segment → SegmentHeader

@@ -2,14 +2,17 @@
 use Rattle.std.specs.Prelude.{ℕ, zero, suc, ◌+◌, ◌*◌, List, [], ◌∷◌, take, drop, length, replicate, Option, Some, None}
 use Rattle.patch_bytes.specs.Memory.{◌>>=◌, Memory, text_at}
 use Rattle.patch_bytes.specs.Number.{field}
-use Rattle.elf_image.specs.declared.section.SectionData.{SectionData}
-use Rattle.elf_image.specs.declared.symbol.VersionId.{VersionId}
-use Rattle.elf_image.specs.File.{section_bytes}
-use Rattle.elf_image.specs.Form.{Form, records}
-use Rattle.elf_image.specs.Image.{ImageSection}
-use Rattle.elf_image.specs.Records.{SectionHeader, SymbolNumbers, symbol_numbers, symbol_size, symbols_in}
-use Rattle.elf_image.specs.Versions.{version_id}
-use Rattle.elf_image.specs.Views.{NamedSymbol, named_symbols, names_of}
+use Rattle.elf_format.specs.declared.section_data.SectionData.{SectionData}
+use Rattle.elf_format.specs.declared.version_id.VersionId.{VersionId}
+use Rattle.elf_format.specs.File.{section_bytes}
+use Rattle.elf_format.specs.declared.form.Form.{Form}
+use Rattle.elf_format.specs.Form.{records}
+use Rattle.elf_format.specs.Image.{ImageSection}
+use Rattle.elf_format.specs.declared.records.SectionHeader.{SectionHeader}
+use Rattle.elf_format.specs.declared.records.SymbolNumbers.{SymbolNumbers}
+use Rattle.elf_format.specs.Records.{symbol_numbers, symbol_size, symbols_in}
+use Rattle.elf_format.specs.Versions.{version_id}
+use Rattle.elf_format.specs.Views.{NamedSymbol, named_symbols, names_of}
 
 -- a section of a file with its name, its kind and its bytes
 unfoldable pub named_section : List ℕ → Memory → SectionHeader → SectionData → Option ImageSection

@@ -1,18 +1,18 @@
 -- What the walks of version records answer, and the marks of known versions.
 use Rattle.std.specs.Prelude.{ℕ, ◌≡◌, ◌<◌, ◌^◌, List, [], ◌∷◌, map, length, Bool, true, false, Option, Some, None, Result, Ok, Err, alloc_error, slice_index_or, slice_set}
 use Rattle.std.specs.declared.alloc.AllocError.{AllocError}
-use Rattle.elf_image.specs.declared.constants.TheConstants.{SHT_GNU_VERDEF, SHT_GNU_VERNEED}
-use Rattle.elf_image.specs.declared.plain.fault.ViewFault.{ViewFault}
-use Rattle.elf_image.specs.declared.plain.fault.ViewFault.TheVariants as faults
+use Rattle.elf_format.specs.declared.constants.TheConstants.{SHT_GNU_VERDEF, SHT_GNU_VERNEED}
+use Rattle.elf_format.specs.declared.view_fault.ViewFault.{ViewFault}
+use Rattle.elf_format.specs.declared.view_fault.ViewFault.TheVariants as faults
 use Rattle.elf_image.specs.declared.read.versions.DefinitionWalk.{DefinitionWalk}
 use Rattle.elf_image.specs.declared.read.versions.NeedWalk.{NeedWalk}
 use Rattle.elf_image.specs.declared.read.versions.definitions.DefinitionRecord.{DefinitionRecord}
 use Rattle.elf_image.specs.declared.read.versions.needs.NeedRecord.{NeedRecord}
-use Rattle.elf_image.specs.File.{Parts, section_of_type}
-use Rattle.elf_image.specs.Options.{is_none_or, is_one_of, list_at}
-use Rattle.elf_image.specs.PlainViews.{raw_definition, raw_needs}
-use Rattle.elf_image.specs.Rules.{definition_steps, need_steps}
-use Rattle.elf_image.specs.Versions.{DefinitionNumbers, NeedNumbers, Step, is_whole_walk, values_of, walked}
+use Rattle.elf_format.specs.File.{Parts, section_of_type}
+use Rattle.elf_format.specs.Options.{is_none_or, is_one_of, list_at}
+use Rattle.elf_format.specs.Seen.{raw_definition, raw_needs}
+use Rattle.elf_format.specs.Rules.{definition_steps, need_steps}
+use Rattle.elf_format.specs.Versions.{DefinitionNumbers, NeedNumbers, Step, is_whole_walk, values_of, walked}
 
 -- what was read, or none where it isn't there, unless memory ran out
 abbrev pub IsFound : {X : Type 0} → Result X ViewFault → Result (Option X) AllocError → Type 0

@@ -1,15 +1,15 @@
 ghost use Rattle.std.specs.Prelude.{◌≡◌, ◌<◌, length, map, slice_index, IfOk, option_map};
-ghost use Rattle.elf_image.specs.Image.{counted as numbers_below};
+ghost use Rattle.elf_format.specs.Image.{counted as numbers_below};
 ghost use Rattle.elf_image.specs.ImageSeen.{definition_kept, entry_kept, needs_kept, section_kept, segment_kept, symbol_kept};
-ghost use Rattle.elf_image.specs.Plain.{borrowed};
+ghost use Rattle.elf_format.specs.Answers.{borrowed};
 
 use crate::dynamic::Dynamic;
-use crate::form::Form;
-use crate::header::Header;
 use crate::section::Section;
 use crate::segment::Segment;
 use crate::symbol::Symbol;
 use crate::version::Versions;
+use elf_format::form::Form;
+use elf_format::header::Header;
 use patch_bytes::{ByteOrder2, ByteString, Wide};
 use std::alloc::{AllocError, Global};
 use std::marker::Model;
@@ -37,7 +37,7 @@ pub struct Builder<'data> {
 }
 
 impl<'data> Model for Builder<'data> {
-    ghost use Rattle.elf_image.specs.Image.{Image};
+    ghost use Rattle.elf_format.specs.Image.{Image};
 
     ghost Value = { Image };
 
@@ -176,7 +176,7 @@ impl<'data> Builder<'data> {
 }
 
 // The numbers from 0 on, as many as that.
-#[tactic(auto, unfolding(crate::specs::Image::counted))]
+#[tactic(auto, unfolding(elf_format::specs::Image::counted))]
 pub(crate) fn counted(alloc: Global, count: usize) -> Result<Vec<usize>, AllocError>
     ensures { IfOk result (λ v. v.items ≡ numbers_below count) }
 {

@@ -1,30 +1,21 @@
 //! The reader: the read rules in their order, each in time in proportion to what it looks at.
-ghost use Rattle.std.specs.Prelude.{◌≡◌, ◌≢◌, Ok, Err, MatchResult, All, map, IfOk};
-ghost use Rattle.elf_image.specs.Image.{header_kept, image_in, image_of, interpreter_read};
+ghost use Rattle.std.specs.Prelude.{◌≡◌, ◌≢◌, Ok, Err, MatchResult, All, length, map, IfOk};
+ghost use Rattle.elf_format.specs.Image.{counted as numbers_below, header_kept, image_of, interpreter_read};
+ghost use Rattle.elf_image.specs.ImageSteps.{LinksRead, TextsRead, image_by_groups, image_with, listed_in, listed_kept, named_in, named_kept};
 ghost use Rattle.elf_image.specs.ImageSeen.{segment_kept};
-ghost use Rattle.elf_image.specs.Plain.{Gives, borrowed};
-ghost use Rattle.elf_image.specs.Read.{Passes, Reads, last_rules, parts_seen};
-ghost use Rattle.elf_image.specs.Rules.{checked, data_of, raw_entries as entries_of, there_or};
-ghost use Rattle.elf_image.specs.declared.fault.ElfFault.TheVariants.{BadText};
-ghost use Rattle.elf_image.specs.LinkSteps.{IsChecked};
+ghost use Rattle.elf_format.specs.Answers.{Gives, borrowed};
+ghost use Rattle.elf_format.specs.Stages.{last_rules};
+ghost use Rattle.elf_rules.specs.Read.{Passes, Reads, parts_seen};
+ghost use Rattle.elf_format.specs.Rules.{checked, data_of, raw_entries as entries_of, there_or};
+ghost use Rattle.elf_format.specs.declared.fault.ElfFault.TheVariants.{BadText};
+ghost use Rattle.elf_rules.specs.LinkSteps.{IsChecked};
 ghost use Rattle.elf_image.specs.WalkSteps.{AreDefinitions, AreNeeds};
 
-pub(crate) mod dynamic;
-pub(crate) mod headers;
-pub(crate) mod kind;
-pub(crate) mod linked;
-pub(crate) mod placement;
 pub(crate) mod texts;
 pub(crate) mod versions;
 
 use crate::builder::{Builder, counted};
-use crate::fault::ElfFault;
-use crate::header::Header;
-use crate::plain::ViewFault;
-use crate::read::dynamic::{check_links, raw_entries};
-use crate::read::headers::{Headers, read_headers};
-use crate::read::linked::{Checked, are_tables_linked, check_relocations, kind_of};
-use crate::read::placement::{check_placement, header_table_loaded};
+use crate::dynamic::Dynamic;
 use crate::read::texts::entries::entries;
 use crate::read::texts::interpreter;
 use crate::read::texts::sections::sections;
@@ -33,10 +24,19 @@ use crate::read::texts::versions::{definitions, needs};
 use crate::read::versions::{
     DefinitionWalk, NeedWalk, are_versions_right, walk_definitions, walk_needs,
 };
-use crate::records::{EntryNumbers, FileHeader, SegmentHeader};
-use crate::section::SectionData;
+use crate::section::Section;
 use crate::segment::Segment;
+use crate::symbol::Symbol;
 use crate::version::Versions;
+use elf_format::fault::ElfFault;
+use elf_format::header::Header;
+use elf_format::records::{EntryNumbers, FileHeader, SegmentHeader};
+use elf_format::section_data::SectionData;
+use elf_format::view_fault::ViewFault;
+use elf_rules::dynamic::{check_links, raw_entries};
+use elf_rules::headers::{Headers, read_headers};
+use elf_rules::linked::{Checked, are_tables_linked, check_relocations, kind_of};
+use elf_rules::placement::{check_placement, header_table_loaded};
 use patch_bytes::ByteString;
 use std::alloc::{AllocError, Global};
 use std::marker::PhantomData;
@@ -91,8 +91,122 @@ fn kinds(
     Ok(made)
 }
 
+// The parts of an image that have names: sections and symbols.
+#[derive(Drop)]
+pub(crate) struct Named<'data> {
+    sections: Vec<Section<'data>>,
+    symbols: Vec<Symbol<'data>>,
+    dynamic_symbols: Vec<Symbol<'data>>,
+}
+
+// The dynamic list of an image, and its versions.
+#[derive(Drop)]
+pub(crate) struct Listed<'data> {
+    dynamic: Option<Vec<Dynamic<'data>>>,
+    versions: Versions<'data>,
+}
+
+// The numbers at read of sections and symbols.
+#[derive(Drop)]
+struct Numbers {
+    sections: Vec<usize>,
+    symbols: Vec<usize>,
+    dynamic_symbols: Vec<usize>,
+}
+
+// The sections and symbols, absent where a name isn't there.
+#[tactic(auto, unfolding(crate::specs::ImageSteps::named_in))]
+fn named_parts<'data>(
+    alloc: Global,
+    parts: &Headers<'data>,
+    raw: &[EntryNumbers],
+    kinds: &[SectionData],
+) -> Result<Named<'data>, ViewFault>
+    requires kinds { kinds.now ≡ map (data_of (parts_seen parts.now)) parts.now.sections.items }
+    requires raw { raw.now ≡ entries_of (parts_seen parts.now) }
+    ensures { Gives named_kept result (named_in (parts_seen parts.now)) }
+{
+    let sections = sections(alloc, parts, kinds)?;
+    let symbols = static_symbols(alloc, parts)?;
+    let dynamic_symbols = dynamic_symbols(alloc, parts, raw)?;
+    Ok(Named {
+        sections,
+        symbols,
+        dynamic_symbols,
+    })
+}
+
+// The dynamic list and the versions, absent where a text isn't there.
+#[tactic(auto, unfolding(crate::specs::ImageSteps::listed_in))]
+fn listed_parts<'data>(
+    alloc: Global,
+    parts: &Headers<'data>,
+    raw: &[EntryNumbers],
+    defined: &DefinitionWalk,
+    needed: &NeedWalk,
+) -> Result<Listed<'data>, ViewFault>
+    requires raw { raw.now ≡ entries_of (parts_seen parts.now) }
+    requires defined { AreDefinitions (parts_seen parts.now) defined.now }
+    requires needed { AreNeeds (parts_seen parts.now) needed.now }
+    ensures { Gives listed_kept result (listed_in (parts_seen parts.now)) }
+{
+    let dynamic = entries(alloc, parts, raw)?;
+    let definitions = definitions(alloc, parts, raw, &defined.values)?;
+    let needs = needs(alloc, parts, raw, &needed.values)?;
+    Ok(Listed {
+        dynamic,
+        versions: Versions { definitions, needs },
+    })
+}
+
+// The numbers of what was read.
+fn numbers_at_read(alloc: Global, named: &Named<'_>) -> Result<Numbers, AllocError>
+    ensures sections { IfOk result (λ n. n.sections.items ≡ numbers_below (length named.now.sections.items)) }
+    ensures symbols { IfOk result (λ n. n.symbols.items ≡ numbers_below (length named.now.symbols.items)) }
+    ensures dynamic { IfOk result (λ n. n.dynamic_symbols.items ≡ numbers_below (length named.now.dynamic_symbols.items)) }
+{
+    Ok(Numbers {
+        sections: counted(alloc, named.sections.len())?,
+        symbols: counted(alloc, named.symbols.len())?,
+        dynamic_symbols: counted(alloc, named.dynamic_symbols.len())?,
+    })
+}
+
+// The image that has these parts.
+fn builder<'data>(
+    parts: &Headers<'data>,
+    segments: Vec<Segment<'data>>,
+    named: Named<'data>,
+    listed: Listed<'data>,
+    numbers: Numbers,
+) -> Builder<'data>
+    requires segments { map segment_kept segments.items ≡ parts.now.segments.items }
+    requires sections { numbers.sections.items ≡ numbers_below (length named.sections.items) }
+    requires symbols { numbers.symbols.items ≡ numbers_below (length named.symbols.items) }
+    requires dynamic { numbers.dynamic_symbols.items ≡ numbers_below (length named.dynamic_symbols.items) }
+    ensures { result ≡ image_with (parts_seen parts.now) (named_kept named.entry) (listed_kept listed.entry) }
+{
+    Builder {
+        source: parts.file,
+        changed: false,
+        form: parts.form,
+        header: header(parts.header),
+        segments,
+        sections: named.sections,
+        symbols: named.symbols,
+        dynamic_symbols: named.dynamic_symbols,
+        versions: listed.versions,
+        dynamic: listed.dynamic,
+        interpreter: interpreter_kept(parts),
+        section_numbers: numbers.sections,
+        symbol_numbers: numbers.symbols,
+        dynamic_symbol_numbers: numbers.dynamic_symbols,
+        page_size: None,
+    }
+}
+
 // The file's image, absent where a text isn't there.
-#[tactic(auto, unfolding(crate::specs::Image::image_in))]
+#[tactic(auto, unfolding(crate::specs::ImageSteps::image_by_groups))]
 fn image<'data>(
     alloc: Global,
     parts: &Headers<'data>,
@@ -105,35 +219,13 @@ fn image<'data>(
     requires raw { raw.now ≡ entries_of (parts_seen parts.now) }
     requires defined { AreDefinitions (parts_seen parts.now) defined.now }
     requires needed { AreNeeds (parts_seen parts.now) needed.now }
-    ensures { Gives (λ b. b) result (image_in (parts_seen parts.now)) }
+    ensures { Gives (λ b. b) result (image_by_groups (parts_seen parts.now)) }
 {
-    let sections = sections(alloc, parts, kinds)?;
-    let symbols = static_symbols(alloc, parts)?;
-    let dynamic_symbols = dynamic_symbols(alloc, parts, raw)?;
-    let dynamic = entries(alloc, parts, raw)?;
-    let definitions = definitions(alloc, parts, raw, &defined.values)?;
-    let needs = needs(alloc, parts, raw, &needed.values)?;
+    let named = named_parts(alloc, parts, raw, kinds)?;
+    let listed = listed_parts(alloc, parts, raw, defined, needed)?;
+    let numbers = numbers_at_read(alloc, &named)?;
     let segments = segments(alloc, &parts.segments)?;
-    let section_numbers = counted(alloc, sections.len())?;
-    let symbol_numbers = counted(alloc, symbols.len())?;
-    let dynamic_symbol_numbers = counted(alloc, dynamic_symbols.len())?;
-    Ok(Builder {
-        source: parts.file,
-        changed: false,
-        form: parts.form,
-        header: header(parts.header),
-        segments,
-        sections,
-        symbols,
-        dynamic_symbols,
-        versions: Versions { definitions, needs },
-        dynamic,
-        interpreter: interpreter_kept(parts),
-        section_numbers,
-        symbol_numbers,
-        dynamic_symbol_numbers,
-        page_size: None,
-    })
+    Ok(builder(parts, segments, named, listed, numbers))
 }
 
 // The interpreter's bytes.
@@ -144,7 +236,7 @@ fn interpreter_kept<'data>(parts: &Headers<'data>) -> Option<ByteString<'data>>
 }
 
 // The rules on versions and on where the program header table stands.
-#[tactic(auto, unfolding(crate::specs::Rules::checked))]
+#[tactic(auto, unfolding(elf_format::specs::Rules::checked))]
 fn check_last(
     alloc: Global,
     parts: &Headers<'_>,
@@ -177,13 +269,45 @@ fn image_or_fault<'data>(
     requires raw { raw.now ≡ entries_of (parts_seen parts.now) }
     requires defined { AreDefinitions (parts_seen parts.now) defined.now }
     requires needed { AreNeeds (parts_seen parts.now) needed.now }
-    ensures { Reads (λ b. b) result (there_or BadText (image_in (parts_seen parts.now))) }
+    ensures { Reads (λ b. b) result (there_or BadText (image_by_groups (parts_seen parts.now))) }
 {
     match image(alloc, parts, raw, kinds, defined, needed) {
         Ok(image) => Ok(image),
         Err(ViewFault::Absent) => Err(ElfFault::BadText),
         Err(ViewFault::Memory) => Err(ElfFault::Memory),
     }
+}
+
+// What the bytes of each section are, where the rules on links hold; else the first fault.
+fn linked_kinds(
+    alloc: Global,
+    parts: &Headers<'_>,
+    raw: &[EntryNumbers],
+) -> Result<Vec<SectionData>, ElfFault>
+    requires { raw.now ≡ entries_of (parts_seen parts.now) }
+    ensures { LinksRead (parts_seen parts.now) result }
+{
+    let checked = check_relocations(alloc, parts)?;
+    check_links(are_tables_linked(parts, &checked), parts, raw)?;
+    Ok(kinds(alloc, parts, &checked)?)
+}
+
+// The file's image, where its texts are there and the last rules hold.
+fn image_and_last<'data>(
+    alloc: Global,
+    parts: &Headers<'data>,
+    raw: &[EntryNumbers],
+    kinds: &[SectionData],
+) -> Result<Builder<'data>, ElfFault>
+    requires kinds { kinds.now ≡ map (data_of (parts_seen parts.now)) parts.now.sections.items }
+    requires raw { raw.now ≡ entries_of (parts_seen parts.now) }
+    ensures { TextsRead (parts_seen parts.now) result }
+{
+    let defined = walk_definitions(alloc, parts)?;
+    let needed = walk_needs(alloc, parts)?;
+    let image = image_or_fault(alloc, parts, raw, kinds, &defined, &needed)?;
+    check_last(alloc, parts, &defined, &needed)?;
+    Ok(image)
 }
 
 impl<'data> Builder<'data> {
@@ -197,13 +321,7 @@ impl<'data> Builder<'data> {
         let parts = read_headers(alloc, bytes)?;
         check_placement(alloc, &parts)?;
         let raw = raw_entries(alloc, &parts)?;
-        let checked = check_relocations(alloc, &parts)?;
-        check_links(are_tables_linked(&parts, &checked), &parts, &raw)?;
-        let kinds = kinds(alloc, &parts, &checked)?;
-        let defined = walk_definitions(alloc, &parts)?;
-        let needed = walk_needs(alloc, &parts)?;
-        let image = image_or_fault(alloc, &parts, &raw, &kinds, &defined, &needed)?;
-        check_last(alloc, &parts, &defined, &needed)?;
-        Ok(image)
+        let kinds = linked_kinds(alloc, &parts, &raw)?;
+        image_and_last(alloc, &parts, &raw, &kinds)
     }
 }

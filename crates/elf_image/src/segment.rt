@@ -1,7 +1,7 @@
 ghost use Rattle.std.specs.Prelude.{◌≡◌};
 ghost use Rattle.elf_image.specs.ImageSeen.{segment_kept};
 
-use crate::records::SegmentHeader;
+use elf_format::records::SegmentHeader;
 use std::marker::PhantomData;
 
 /// A program header of a file (gABI, Program Header). Offsets, addresses and sizes are in bytes.

@@ -1,7 +1,7 @@
 ghost use Rattle.std.specs.Prelude.{◌≡◌, Ok, IfErr, IfOk, OnOk, MatchResult, map, option_map, unwrap_or, string_bytes};
 ghost use Rattle.std.specs.Io.KnownBytes.{Appends};
 ghost use Rattle.elf_image.specs.Image.{image_of, shown};
-ghost use Rattle.elf_image.specs.Plain.{borrowed};
+ghost use Rattle.elf_image.specs.Answers.{borrowed};
 ghost use Rattle.arwen_elf.specs.Causes.{FailsPrint, FailsWrite, RefusesRead};
 ghost use Rattle.arwen_elf.specs.PageSizes.{page_size_of};
 ghost use Rattle.arwen_elf.specs.Prints.{before_nul as bytes_before_nul, cut_at_colons as parts_between_colons, directories_shown, line_if, line_of, printed_exec_stack, printed_interpreter, printed_needed, printed_os_abi, printed_runpath, printed_soname};

@@ -1,17 +1,16 @@
 //! The parts of an image that have texts; each is absent exactly where one of its texts isn't there.
 ghost use Rattle.std.specs.Prelude.{◌≡◌, ◌≤◌, length, option_map};
 ghost use Rattle.patch_bytes.specs.Memory.{memory_of};
-ghost use Rattle.elf_image.specs.Image.{interpreter_read};
-ghost use Rattle.elf_image.specs.Plain.{borrowed};
-ghost use Rattle.elf_image.specs.Read.{parts_seen};
-ghost use Rattle.elf_image.specs.Rules.{linked_texts, raw_entries};
-ghost use Rattle.elf_image.specs.Views.{first_by_tag};
+ghost use Rattle.elf_format.specs.Image.{interpreter_read};
+ghost use Rattle.elf_format.specs.Answers.{borrowed};
+ghost use Rattle.elf_rules.specs.Read.{parts_seen};
+ghost use Rattle.elf_format.specs.Rules.{linked_texts, raw_entries};
+ghost use Rattle.elf_format.specs.Views.{first_by_tag};
 
-use crate::constants::DT_STRSZ;
-use crate::plain::lookups::{bytes_of, linked_section, value_of_tag};
-use crate::plain::whole_view;
-use crate::read::headers::Headers;
-use crate::records::{EntryNumbers, SectionHeader};
+use elf_format::constants::DT_STRSZ;
+use elf_format::lookups::{self, bytes_of, linked_section, value_of_tag};
+use elf_format::records::{EntryNumbers, SectionHeader};
+use elf_rules::headers::Headers;
 
 pub(crate) mod entries;
 pub(crate) mod sections;
@@ -47,5 +46,5 @@ pub(crate) fn dynamic_texts<'data>(
 pub(crate) fn interpreter<'data>(parts: &Headers<'data>) -> Option<&'data [u8]>
     ensures { option_map borrowed result ≡ interpreter_read (parts_seen parts.now) }
 {
-    whole_view::interpreter(parts.file, &parts.segments, &parts.sections)
+    lookups::interpreter(parts.file, &parts.segments, &parts.sections)
 }

@@ -1,13 +1,13 @@
 ghost use Rattle.std.specs.Prelude.{IfOk};
-ghost use Rattle.elf_image.specs.Read.{parts_seen};
+ghost use Rattle.elf_rules.specs.Read.{parts_seen};
 ghost use Rattle.elf_image.specs.WalkSteps.{AreDefinitions, AreNeeds};
 
-use crate::constants::{SHT_GNU_VERDEF, SHT_GNU_VERNEED};
-use crate::plain::lookups::{section_bytes, section_of_type};
-use crate::plain::view::{RawDefinition, RawNeeds};
-use crate::read::headers::Headers;
 use crate::read::versions::definitions::walk_definition_records;
 use crate::read::versions::needs::walk_need_records;
+use elf_format::constants::{SHT_GNU_VERDEF, SHT_GNU_VERNEED};
+use elf_format::lookups::{section_bytes, section_of_type};
+use elf_format::versions::{RawDefinition, RawNeeds};
+use elf_rules::headers::Headers;
 use std::alloc::{AllocError, Global};
 
 mod definitions;
@@ -19,14 +19,14 @@ mod rule;
 pub(crate) use crate::read::versions::rule::are_versions_right;
 
 /// The defined versions as far as their records can be walked, and whether all are there.
-#[derive(Debug, Drop)]
+#[derive(Drop)]
 pub(crate) struct DefinitionWalk {
     pub values: Vec<RawDefinition>,
     pub is_whole: bool,
 }
 
 /// The needed versions, library by library, as far as their records can be walked, and whether all are there.
-#[derive(Debug, Drop)]
+#[derive(Drop)]
 pub(crate) struct NeedWalk {
     pub values: Vec<RawNeeds>,
     pub is_whole: bool,

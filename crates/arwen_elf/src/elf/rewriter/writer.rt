@@ -1,7 +1,7 @@
 ghost use Rattle.std.specs.Prelude.{◌≡◌, ◌∷◌, [], Ok, IfOk, MatchResult, map, option_map, unwrap_or};
 ghost use Rattle.elf_image.specs.Image.{image_of, shown};
 ghost use Rattle.elf_image.specs.ImageSeen.{entry_kept};
-ghost use Rattle.elf_image.specs.Plain.{borrowed};
+ghost use Rattle.elf_image.specs.Answers.{borrowed};
 ghost use Rattle.arwen_elf.specs.Causes.{RefusesRead};
 ghost use Rattle.arwen_elf.specs.PageSizes.{page_size_of};
 ghost use Rattle.arwen_elf.specs.Reads.{entries_shown, text_if, first_of, needed_shown, runpath_shown, searched_shown, soname_shown, texts_tagged};

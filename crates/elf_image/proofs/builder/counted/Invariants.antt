@@ -1,5 +1,5 @@
 use Rattle.std.proofs.Common.{◌≡◌}
-use Rattle.elf_image.specs.Image.{counted}
+use Rattle.elf_format.specs.Image.{counted}
 use Rattle.elf_image.proofs.builder.counted.Given as goal
 
 abbrev pub invariant-loop-i : goal.invariant-loop-i

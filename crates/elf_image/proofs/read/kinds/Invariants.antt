@@ -1,6 +1,6 @@
 use Rattle.std.proofs.Common.{◌≡◌, take, map}
-use Rattle.elf_image.specs.Read.{parts_seen}
-use Rattle.elf_image.specs.Rules.{data_of}
+use Rattle.elf_rules.specs.Read.{parts_seen}
+use Rattle.elf_format.specs.Rules.{data_of}
 use Rattle.elf_image.proofs.read.kinds.Given as goal
 
 abbrev pub invariant-loop-section : goal.invariant-loop-section

@@ -1,20 +1,21 @@
 ghost use Rattle.std.specs.Prelude.{◌≡◌, ◌≤◌, length, map};
 ghost use Rattle.std.specs.List.{slice_get};
 ghost use Rattle.patch_bytes.specs.Memory.{memory_of};
-ghost use Rattle.elf_image.specs.Image.{section_read};
+ghost use Rattle.elf_format.specs.Image.{section_read};
 ghost use Rattle.elf_image.specs.ImageSeen.{section_kept};
-ghost use Rattle.elf_image.specs.Options.{each};
-ghost use Rattle.elf_image.specs.Plain.{Gives};
-ghost use Rattle.elf_image.specs.Read.{parts_seen};
-ghost use Rattle.elf_image.specs.Rules.{data_of, texts_of};
+ghost use Rattle.elf_format.specs.Options.{each};
+ghost use Rattle.elf_format.specs.Answers.{Gives};
+ghost use Rattle.elf_rules.specs.Read.{parts_seen};
+ghost use Rattle.elf_format.specs.Rules.{data_of, texts_of};
 ghost use Rattle.elf_image.specs.TextSteps.{named_section};
 
-use crate::plain::fault::ViewFault;
-use crate::plain::lookups::{bytes_of, section_bytes};
-use crate::plain::texts::text;
-use crate::read::headers::Headers;
-use crate::records::SectionHeader;
-use crate::section::{Section, SectionData};
+use crate::section::Section;
+use elf_format::lookups::{bytes_of, section_bytes};
+use elf_format::records::SectionHeader;
+use elf_format::section_data::SectionData;
+use elf_format::texts::text;
+use elf_format::view_fault::ViewFault;
+use elf_rules::headers::Headers;
 use patch_bytes::ByteString;
 use std::alloc::Global;
 

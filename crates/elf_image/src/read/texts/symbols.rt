@@ -1,25 +1,25 @@
 ghost use Rattle.std.specs.Prelude.{◌≡◌, ◌≤◌, ◌<◌, ◌*◌, ◌^◌, length, map, option_map};
 ghost use Rattle.patch_bytes.specs.Memory.{memory_of};
-ghost use Rattle.elf_image.specs.declared.constants.TheConstants.{SHT_DYNSYM as DYNSYM, SHT_GNU_VERSYM as VERSYMS, SHT_SYMTAB as SYMTAB};
-ghost use Rattle.elf_image.specs.File.{section_bytes as bytes_of_section, section_of_type as first_section};
-ghost use Rattle.elf_image.specs.Image.{dynamic_symbols_read, static_symbols as static_ones};
+ghost use Rattle.elf_format.specs.declared.constants.TheConstants.{SHT_DYNSYM as DYNSYM, SHT_GNU_VERSYM as VERSYMS, SHT_SYMTAB as SYMTAB};
+ghost use Rattle.elf_format.specs.File.{section_bytes as bytes_of_section, section_of_type as first_section};
+ghost use Rattle.elf_format.specs.Image.{dynamic_symbols_read, static_symbols as static_ones};
 ghost use Rattle.elf_image.specs.ImageSeen.{symbol_kept};
-ghost use Rattle.elf_image.specs.Plain.{Gives, borrowed};
-ghost use Rattle.elf_image.specs.Read.{parts_seen};
-ghost use Rattle.elf_image.specs.Rules.{raw_entries};
+ghost use Rattle.elf_format.specs.Answers.{Gives, borrowed};
+ghost use Rattle.elf_rules.specs.Read.{parts_seen};
+ghost use Rattle.elf_format.specs.Rules.{raw_entries};
 ghost use Rattle.elf_image.specs.TextSteps.{named_symbol, symbols_shown, version_at};
 
-use crate::constants::{SHT_DYNSYM, SHT_GNU_VERSYM, SHT_SYMTAB};
-use crate::form::Form;
-use crate::plain::fault::ViewFault;
-use crate::plain::lookups::{bytes_of, linked_section, section_bytes, section_of_type};
-use crate::plain::numbers::{part, read_symbol_numbers, read_version_id};
-use crate::plain::symbols::symbol_bytes;
-use crate::plain::texts::text;
-use crate::read::headers::Headers;
 use crate::read::texts::dynamic_texts;
-use crate::records::{EntryNumbers, SymbolNumbers};
-use crate::symbol::{Symbol, VersionId};
+use crate::symbol::Symbol;
+use elf_format::constants::{SHT_DYNSYM, SHT_GNU_VERSYM, SHT_SYMTAB};
+use elf_format::form::Form;
+use elf_format::lookups::{bytes_of, linked_section, section_bytes, section_of_type};
+use elf_format::numbers::{part, read_symbol_numbers, read_version_id};
+use elf_format::records::{EntryNumbers, SymbolNumbers};
+use elf_format::texts::text;
+use elf_format::version_id::VersionId;
+use elf_format::view_fault::ViewFault;
+use elf_rules::headers::Headers;
 use patch_bytes::ByteString;
 use std::alloc::Global;
 
@@ -67,7 +67,7 @@ fn symbols<'data>(
     requires { length texts.now ≤ room }
     ensures { Gives (λ v. map symbol_kept v.items) result (symbols_shown form room (memory_of texts.now) bytes.now (option_map borrowed versions.entry)) }
 {
-    let size = symbol_bytes(form);
+    let size = form.symbol_size();
     let count = bytes.len() / size;
     let mut made = Vec::new(alloc);
     let mut rest = bytes;

@@ -1,25 +1,25 @@
 ghost use Rattle.std.specs.Prelude.{◌≡◌, ◌≤◌, length, map};
 ghost use Rattle.patch_bytes.specs.Memory.{memory_of, text_at};
-ghost use Rattle.elf_image.specs.declared.constants.TheConstants.{SHT_GNU_VERDEF as VERDEFS, SHT_GNU_VERNEED as VERNEEDS};
-ghost use Rattle.elf_image.specs.File.{section_of_type as first_section};
-ghost use Rattle.elf_image.specs.Image.{definitions_read, needs_read};
+ghost use Rattle.elf_format.specs.declared.constants.TheConstants.{SHT_GNU_VERDEF as VERDEFS, SHT_GNU_VERNEED as VERNEEDS};
+ghost use Rattle.elf_format.specs.File.{section_of_type as first_section};
+ghost use Rattle.elf_format.specs.Image.{definitions_read, needs_read};
 ghost use Rattle.elf_image.specs.ImageSeen.{definition_kept, name_kept, needs_kept};
-ghost use Rattle.elf_image.specs.Options.{each, list_at};
-ghost use Rattle.elf_image.specs.Plain.{Gives};
-ghost use Rattle.elf_image.specs.PlainViews.{raw_definition, raw_needs};
-ghost use Rattle.elf_image.specs.Read.{parts_seen};
-ghost use Rattle.elf_image.specs.Rules.{definition_steps, need_steps, raw_entries};
-ghost use Rattle.elf_image.specs.Versions.{shown_definition, shown_need, shown_need_name, values_of};
+ghost use Rattle.elf_format.specs.Options.{each, list_at};
+ghost use Rattle.elf_format.specs.Answers.{Gives};
+ghost use Rattle.elf_format.specs.Seen.{raw_definition, raw_needs};
+ghost use Rattle.elf_rules.specs.Read.{parts_seen};
+ghost use Rattle.elf_format.specs.Rules.{definition_steps, need_steps, raw_entries};
+ghost use Rattle.elf_format.specs.Versions.{shown_definition, shown_need, shown_need_name, values_of};
 
-use crate::constants::{SHT_GNU_VERDEF, SHT_GNU_VERNEED};
-use crate::plain::fault::ViewFault;
-use crate::plain::lookups::section_of_type;
-use crate::plain::texts::text;
-use crate::plain::view::{RawDefinition, RawNeeds};
-use crate::read::headers::Headers;
 use crate::read::texts::dynamic_texts;
-use crate::records::{EntryNumbers, NeedNameNumbers};
 use crate::version::{VersionDef, VersionNeed, VersionNeedName};
+use elf_format::constants::{SHT_GNU_VERDEF, SHT_GNU_VERNEED};
+use elf_format::lookups::section_of_type;
+use elf_format::records::{EntryNumbers, NeedNameNumbers};
+use elf_format::texts::text;
+use elf_format::versions::{RawDefinition, RawNeeds};
+use elf_format::view_fault::ViewFault;
+use elf_rules::headers::Headers;
 use patch_bytes::ByteString;
 use std::alloc::Global;
 
@@ -42,7 +42,7 @@ fn kept_texts<'data>(
 }
 
 // A defined version with its names.
-#[tactic(auto, unfolding(crate::specs::Versions::shown_definition))]
+#[tactic(auto, unfolding(elf_format::specs::Versions::shown_definition))]
 fn definition<'data>(
     alloc: Global,
     room: usize,
@@ -79,7 +79,7 @@ fn kept_definitions<'data>(
 }
 
 // A needed version with its name.
-#[tactic(auto, unfolding(crate::specs::Versions::shown_need_name))]
+#[tactic(auto, unfolding(elf_format::specs::Versions::shown_need_name))]
 fn need_name<'data>(
     room: usize,
     texts: &'data [u8],
@@ -115,7 +115,7 @@ fn need_names<'data>(
 }
 
 // The versions needed of one library, with its name.
-#[tactic(auto, unfolding(crate::specs::Versions::shown_need))]
+#[tactic(auto, unfolding(elf_format::specs::Versions::shown_need))]
 fn need<'data>(
     alloc: Global,
     room: usize,

@@ -1,27 +1,26 @@
 ghost use Rattle.std.specs.Prelude.{◌≡◌, ◌+◌, map, option_map, IfOk};
 ghost use Rattle.patch_bytes.specs.Memory.{memory_of};
-ghost use Rattle.elf_image.specs.PlainViews.{raw_definition};
-ghost use Rattle.elf_image.specs.Versions.{definition_at, definition_name_at};
+ghost use Rattle.elf_format.specs.Seen.{raw_definition};
+ghost use Rattle.elf_format.specs.Versions.{definition_at, definition_name_at};
 ghost use Rattle.elf_image.specs.WalkSteps.{IsWalk, definition_step};
 
-use crate::form::Form;
-use crate::plain::numbers::{half_at, word_at};
-use crate::plain::tables::range;
-use crate::plain::versions::{behind, read_definition_name, step_on};
-use crate::plain::view::RawDefinition;
 use crate::read::versions::DefinitionWalk;
 use crate::read::versions::found::found;
+use elf_format::form::Form;
+use elf_format::numbers::{half_at, word_at};
+use elf_format::tables::range;
+use elf_format::versions::{RawDefinition, behind, read_definition_name, step_on};
 use std::alloc::{AllocError, Global};
 
 /// The names of a defined version as far as they can be walked, and whether all are there.
-#[derive(Debug, Drop)]
+#[derive(Drop)]
 struct DefinitionNames {
     pub values: Vec<u32>,
     pub is_whole: bool,
 }
 
 /// A defined version, whether all its names are there, and how far behind the next one stands.
-#[derive(Debug, Drop)]
+#[derive(Drop)]
 pub(crate) struct DefinitionRecord {
     pub value: RawDefinition,
     pub is_whole: bool,

@@ -1,6 +1,6 @@
 ghost use Rattle.elf_image.specs.WalkSteps.{IsFound};
 
-use crate::plain::fault::ViewFault;
+use elf_format::view_fault::ViewFault;
 use std::alloc::AllocError;
 
 // What was read, or none where it isn't there.

@@ -2,8 +2,8 @@ ghost use Rattle.std.specs.Prelude.{◌≡◌, ◌^◌, ◌++◌, length, map, I
 ghost use Rattle.std.specs.List.{flat_map};
 ghost use Rattle.elf_image.specs.WalkSteps.{AreMarked, AreUnmarked, marked};
 
-use crate::plain::view::{RawDefinition, RawNeeds};
-use crate::records::NeedNameNumbers;
+use elf_format::records::NeedNameNumbers;
+use elf_format::versions::{RawDefinition, RawNeeds};
 use std::alloc::{AllocError, Global};
 
 // How many numbers an index has.

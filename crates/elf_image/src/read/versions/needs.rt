@@ -1,28 +1,27 @@
 ghost use Rattle.std.specs.Prelude.{◌≡◌, ◌+◌, map, option_map, IfOk};
 ghost use Rattle.patch_bytes.specs.Memory.{memory_of};
-ghost use Rattle.elf_image.specs.PlainViews.{raw_needs};
-ghost use Rattle.elf_image.specs.Versions.{need_at, need_name_at};
+ghost use Rattle.elf_format.specs.Seen.{raw_needs};
+ghost use Rattle.elf_format.specs.Versions.{need_at, need_name_at};
 ghost use Rattle.elf_image.specs.WalkSteps.{IsWalk, need_step};
 
-use crate::form::Form;
-use crate::plain::numbers::{half_at, word_at};
-use crate::plain::tables::range;
-use crate::plain::versions::{behind, read_need_name, step_on};
-use crate::plain::view::RawNeeds;
 use crate::read::versions::NeedWalk;
 use crate::read::versions::found::found;
-use crate::records::NeedNameNumbers;
+use elf_format::form::Form;
+use elf_format::numbers::{half_at, word_at};
+use elf_format::records::NeedNameNumbers;
+use elf_format::tables::range;
+use elf_format::versions::{RawNeeds, behind, read_need_name, step_on};
 use std::alloc::{AllocError, Global};
 
 /// The versions needed of one library as far as they can be walked, and whether all are there.
-#[derive(Debug, Drop)]
+#[derive(Drop)]
 struct NeedNames {
     pub values: Vec<NeedNameNumbers>,
     pub is_whole: bool,
 }
 
 /// The versions needed of one library, whether all are there, and how far behind the next library stands.
-#[derive(Debug, Drop)]
+#[derive(Drop)]
 pub(crate) struct NeedRecord {
     pub value: RawNeeds,
     pub is_whole: bool,

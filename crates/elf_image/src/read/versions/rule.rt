@@ -1,25 +1,24 @@
 ghost use Rattle.std.specs.Prelude.{◌≡◌, ◌^◌, ◌||◌, ◌==◌, ◌∷◌, [], IfOk, false, length, nat_lt, not, slice_index_or};
 ghost use Rattle.std.specs.List.{list_all};
-ghost use Rattle.elf_image.specs.declared.constants.TheConstants.{SHT_DYNAMIC as DYNAMIC, SHT_DYNSYM as DYNSYM, SHT_GNU_VERDEF as VERDEF, SHT_GNU_VERNEED as VERNEED, SHT_NULL as NULL, VER_NDX_FIRST as FIRST};
-ghost use Rattle.elf_image.specs.Form.{records};
-ghost use Rattle.elf_image.specs.Options.{is_one_of};
-ghost use Rattle.elf_image.specs.Read.{parts_seen};
-ghost use Rattle.elf_image.specs.Rules.{are_dynamic_strings_own as strings_own, are_versions_right as versions_right, dynamic_strings_user as strings_user, version_symbols_agree as symbols_agree};
-ghost use Rattle.elf_image.specs.Versions.{version_id};
+ghost use Rattle.elf_format.specs.declared.constants.TheConstants.{SHT_DYNAMIC as DYNAMIC, SHT_DYNSYM as DYNSYM, SHT_GNU_VERDEF as VERDEF, SHT_GNU_VERNEED as VERNEED, SHT_NULL as NULL, VER_NDX_FIRST as FIRST};
+ghost use Rattle.elf_format.specs.Form.{records};
+ghost use Rattle.elf_format.specs.Options.{is_one_of};
+ghost use Rattle.elf_rules.specs.Read.{parts_seen};
+ghost use Rattle.elf_format.specs.Rules.{are_dynamic_strings_own as strings_own, are_versions_right as versions_right, dynamic_strings_user as strings_user, version_symbols_agree as symbols_agree};
+ghost use Rattle.elf_format.specs.Versions.{version_id};
 ghost use Rattle.elf_image.specs.WalkSteps.{AreDefinitions, AreNeeds};
 
-use crate::constants::{
+use crate::read::versions::known::mark_known;
+use crate::read::versions::{DefinitionWalk, NeedWalk};
+use elf_format::constants::{
     SHT_DYNAMIC, SHT_DYNSYM, SHT_GNU_VERDEF, SHT_GNU_VERNEED, SHT_GNU_VERSYM, SHT_NULL,
     VER_NDX_FIRST,
 };
-use crate::form::Form;
-use crate::plain::lookups::{section_bytes, section_of_type};
-use crate::plain::numbers::{part, read_version_id};
-use crate::plain::symbols::symbol_bytes;
-use crate::read::headers::Headers;
-use crate::read::versions::known::mark_known;
-use crate::read::versions::{DefinitionWalk, NeedWalk};
-use crate::records::SectionHeader;
+use elf_format::form::Form;
+use elf_format::lookups::{section_bytes, section_of_type};
+use elf_format::numbers::{part, read_version_id};
+use elf_format::records::SectionHeader;
+use elf_rules::headers::Headers;
 use std::alloc::{AllocError, Global};
 
 // Whether each of so many version symbols is below VER_NDX_FIRST or has a mark. Those past the end of the
@@ -58,7 +57,7 @@ fn version_symbols_agree(
         return Ok(false);
     };
     let count = section.sh_size / 2;
-    if count != symbols.sh_size / symbol_bytes(parts.form) as u64 {
+    if count != symbols.sh_size / parts.form.symbol_size() as u64 {
         return Ok(false);
     }
     let marks = mark_known(alloc, &definitions.values, &needs.values)?;

@@ -1,13 +1,13 @@
 -- The bytes of the linked section, cut where DT_STRSZ says.
 use Rattle.std.proofs.Common.{List, ap, ◌∙◌}
 use Rattle.patch_bytes.specs.Memory.{memory_of}
-use Rattle.elf_image.specs.declared.constants.TheConstants.{DT_STRSZ}
-use Rattle.elf_image.specs.Dynamic.{value_of_tag}
-use Rattle.elf_image.specs.File.{linked_section}
-use Rattle.elf_image.specs.Read.{parts_seen}
-use Rattle.elf_image.specs.Records.{SectionHeader}
-use Rattle.elf_image.specs.Rules.{raw_entries}
-use Rattle.elf_image.specs.Views.{first_by_tag, section_memory}
+use Rattle.elf_format.specs.declared.constants.TheConstants.{DT_STRSZ}
+use Rattle.elf_format.specs.Dynamic.{value_of_tag}
+use Rattle.elf_format.specs.File.{linked_section}
+use Rattle.elf_rules.specs.Read.{parts_seen}
+use Rattle.elf_format.specs.declared.records.SectionHeader.{SectionHeader}
+use Rattle.elf_format.specs.Rules.{raw_entries}
+use Rattle.elf_format.specs.Views.{first_by_tag, section_memory}
 use Rattle.elf_image.proofs.read.texts.dynamic_texts.Goals as goal
 
 pub returns-clause-value : goal.returns-clause-value

@@ -1,7 +1,7 @@
 -- No entry so far has such a text, and the one that is looked at has one or not.
 use Rattle.std.proofs.Common.{map, sym}
 use Rattle.elf_image.specs.ImageSeen.{entry_kept}
-use Rattle.elf_image.specs.Plain.{borrowed}
+use Rattle.elf_image.specs.Answers.{borrowed}
 use Rattle.arwen_elf.specs.Reads.{texts_tagged}
 use Rattle.arwen_elf.proofs.ReadSteps.{first_found, goes_past, none_found}
 use Rattle.arwen_elf.proofs.elf.rewriter.writer.first_text.Goals as goal

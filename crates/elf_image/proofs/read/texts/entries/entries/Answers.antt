@@ -2,15 +2,16 @@
 use Rattle.std.proofs.Common.{List, Option, length, map, sym, ap, subst, ◌∙◌}
 use Rattle.std.proofs.lemmas.Result.{err_from_is_err_and}
 use Rattle.patch_bytes.specs.Memory.{memory_of}
-use Rattle.elf_image.specs.declared.constants.TheConstants.{SHT_DYNAMIC}
-use Rattle.elf_image.specs.Dynamic.{shown_entry}
-use Rattle.elf_image.specs.File.{Parts, section_of_type}
+use Rattle.elf_format.specs.declared.constants.TheConstants.{SHT_DYNAMIC}
+use Rattle.elf_format.specs.Dynamic.{shown_entry}
+use Rattle.elf_format.specs.File.{Parts, section_of_type}
 use Rattle.elf_image.specs.ImageSeen.{entry_kept}
-use Rattle.elf_image.specs.Options.{each}
-use Rattle.elf_image.specs.Plain.{Fails}
-use Rattle.elf_image.specs.Read.{parts_seen}
-use Rattle.elf_image.specs.Records.{EntryNumbers, SectionHeader}
-use Rattle.elf_image.specs.Rules.{file_of}
+use Rattle.elf_format.specs.Options.{each}
+use Rattle.elf_format.specs.Answers.{Fails}
+use Rattle.elf_rules.specs.Read.{parts_seen}
+use Rattle.elf_format.specs.declared.records.EntryNumbers.{EntryNumbers}
+use Rattle.elf_format.specs.declared.records.SectionHeader.{SectionHeader}
+use Rattle.elf_format.specs.Rules.{file_of}
 use Rattle.elf_image.proofs.TextSteps.{entries_fail, entries_none, entries_some, none_found}
 use Rattle.elf_image.proofs.read.texts.entries.entries.Goals as goal
 

@@ -3,13 +3,13 @@ use Rattle.std.proofs.Common.{◌≡◌, ◌++◌, ◌∷◌, [], map, Option, a
 use Rattle.std.proofs.lemmas.List.{map_push}
 use Rattle.std.proofs.lemmas.Result.{err_from_is_err_and}
 use Rattle.patch_bytes.specs.Memory.{memory_of}
-use Rattle.elf_image.specs.Options.{each}
-use Rattle.elf_image.specs.Dynamic.{Entry, shown_entry}
-use Rattle.elf_image.specs.Records.{EntryNumbers}
+use Rattle.elf_format.specs.Options.{each}
+use Rattle.elf_format.specs.Dynamic.{Entry, shown_entry}
+use Rattle.elf_format.specs.declared.records.EntryNumbers.{EntryNumbers}
 use Rattle.elf_image.specs.ImageSeen.{entry_kept}
-use Rattle.elf_image.specs.PlainViews.{entry_seen}
-use Rattle.elf_image.proofs.PlainSteps.{no_entry}
-use Rattle.elf_image.proofs.PlainSteps.{each_done, each_ends, each_goes}
+use Rattle.elf_format.specs.Seen.{entry_seen}
+use Rattle.elf_format.proofs.ReadingSteps.{no_entry}
+use Rattle.elf_format.proofs.ReadingSteps.{each_done, each_ends, each_goes}
 use Rattle.elf_image.proofs.read.texts.entries.kept_entries.Goals as goal
 
 pub returns-in_err-one : goal.returns-in_err-one

@@ -4,18 +4,18 @@ use Rattle.std.specs.List.{slice_get}
 use Rattle.std.proofs.lemmas.List.{get_or-map, map_push}
 use Rattle.std.proofs.lemmas.Result.{err_from_is_err_and}
 use Rattle.patch_bytes.specs.Memory.{memory_of}
-use Rattle.elf_image.specs.declared.section.SectionData.{SectionData}
-use Rattle.elf_image.specs.declared.section.SectionData.TheVariants.{Opaque}
-use Rattle.elf_image.specs.File.{Parts}
-use Rattle.elf_image.specs.Image.{section_read}
+use Rattle.elf_format.specs.declared.section_data.SectionData.{SectionData}
+use Rattle.elf_format.specs.declared.section_data.SectionData.TheVariants.{Opaque}
+use Rattle.elf_format.specs.File.{Parts}
+use Rattle.elf_format.specs.Image.{section_read}
 use Rattle.elf_image.specs.ImageSeen.{section_kept}
-use Rattle.elf_image.specs.Options.{each}
-use Rattle.elf_image.specs.Plain.{Fails}
-use Rattle.elf_image.specs.Read.{parts_seen}
-use Rattle.elf_image.specs.Records.{SectionHeader}
-use Rattle.elf_image.specs.Rules.{data_of, file_of, texts_of}
+use Rattle.elf_format.specs.Options.{each}
+use Rattle.elf_format.specs.Answers.{Fails}
+use Rattle.elf_rules.specs.Read.{parts_seen}
+use Rattle.elf_format.specs.declared.records.SectionHeader.{SectionHeader}
+use Rattle.elf_format.specs.Rules.{data_of, file_of, texts_of}
 use Rattle.elf_image.specs.TextSteps.{named_section}
-use Rattle.elf_image.proofs.PlainSteps.{each_done, each_ends, each_goes}
+use Rattle.elf_format.proofs.ReadingSteps.{each_done, each_ends, each_goes}
 use Rattle.elf_image.proofs.TextSteps.{no_section, section_named}
 use Rattle.elf_image.proofs.read.texts.sections.sections.Goals as goal
 

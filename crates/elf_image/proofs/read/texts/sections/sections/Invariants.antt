@@ -1,9 +1,9 @@
 use Rattle.std.proofs.Common.{◌≡◌, drop, map}
-use Rattle.elf_image.specs.Image.{section_read}
+use Rattle.elf_format.specs.Image.{section_read}
 use Rattle.elf_image.specs.ImageSeen.{section_kept}
-use Rattle.elf_image.specs.Options.{each}
-use Rattle.elf_image.specs.Read.{parts_seen}
-use Rattle.elf_image.proofs.PlainSteps.{with_front}
+use Rattle.elf_format.specs.Options.{each}
+use Rattle.elf_rules.specs.Read.{parts_seen}
+use Rattle.elf_format.proofs.ReadingSteps.{with_front}
 use Rattle.elf_image.proofs.read.texts.sections.sections.Given as goal
 
 -- what was made so far, and what the rest gives

@@ -2,13 +2,13 @@
 use Rattle.std.proofs.Common.{List, Option, Some, map, sym, ap, subst, ◌∙◌}
 use Rattle.std.specs.Prelude.{option_map}
 use Rattle.patch_bytes.specs.Memory.{memory_of}
-use Rattle.elf_image.specs.declared.constants.TheConstants.{SHT_DYNSYM}
-use Rattle.elf_image.specs.File.{Parts, section_of_type}
+use Rattle.elf_format.specs.declared.constants.TheConstants.{SHT_DYNSYM}
+use Rattle.elf_format.specs.File.{Parts, section_of_type}
 use Rattle.elf_image.specs.ImageSeen.{symbol_kept}
-use Rattle.elf_image.specs.Plain.{Gives, borrowed}
-use Rattle.elf_image.specs.Read.{parts_seen}
-use Rattle.elf_image.specs.Records.{SectionHeader}
-use Rattle.elf_image.specs.Views.{NamedSymbol}
+use Rattle.elf_format.specs.Answers.{Gives, borrowed}
+use Rattle.elf_rules.specs.Read.{parts_seen}
+use Rattle.elf_format.specs.declared.records.SectionHeader.{SectionHeader}
+use Rattle.elf_format.specs.Views.{NamedSymbol}
 use Rattle.elf_image.proofs.TextSteps.{dynamic_none, dynamic_some, none_found}
 use Rattle.elf_image.proofs.read.texts.symbols.dynamic_symbols.Goals as goal
 

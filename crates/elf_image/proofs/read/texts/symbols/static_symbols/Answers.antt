@@ -1,14 +1,14 @@
 -- The symbols of the one section of static symbols.
 use Rattle.std.proofs.Common.{List, Option, Some, map, sym, ap, subst, ◌∙◌}
 use Rattle.patch_bytes.specs.Memory.{memory_of}
-use Rattle.elf_image.specs.declared.constants.TheConstants.{SHT_SYMTAB}
-use Rattle.elf_image.specs.File.{Parts, linked_section, section_of_type}
+use Rattle.elf_format.specs.declared.constants.TheConstants.{SHT_SYMTAB}
+use Rattle.elf_format.specs.File.{Parts, linked_section, section_of_type}
 use Rattle.elf_image.specs.ImageSeen.{symbol_kept}
-use Rattle.elf_image.specs.Plain.{Gives}
-use Rattle.elf_image.specs.Read.{parts_seen}
-use Rattle.elf_image.specs.Records.{SectionHeader}
-use Rattle.elf_image.specs.Rules.{texts_of}
-use Rattle.elf_image.specs.Views.{NamedSymbol}
+use Rattle.elf_format.specs.Answers.{Gives}
+use Rattle.elf_rules.specs.Read.{parts_seen}
+use Rattle.elf_format.specs.declared.records.SectionHeader.{SectionHeader}
+use Rattle.elf_format.specs.Rules.{texts_of}
+use Rattle.elf_format.specs.Views.{NamedSymbol}
 use Rattle.elf_image.proofs.TextSteps.{none_found, static_none, static_some}
 use Rattle.elf_image.proofs.read.texts.symbols.static_symbols.Goals as goal
 

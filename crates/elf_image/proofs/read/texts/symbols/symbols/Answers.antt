@@ -4,14 +4,15 @@ use Rattle.std.specs.Prelude.{option_map}
 use Rattle.std.proofs.lemmas.List.{length-drop, map_push}
 use Rattle.std.proofs.lemmas.Result.{err_from_is_err_and}
 use Rattle.patch_bytes.specs.Memory.{Memory, memory_of}
-use Rattle.elf_image.specs.declared.symbol.VersionId.{VersionId}
-use Rattle.elf_image.specs.Form.{Form}
+use Rattle.elf_format.specs.declared.version_id.VersionId.{VersionId}
+use Rattle.elf_format.specs.declared.form.Form.{Form}
 use Rattle.elf_image.specs.ImageSeen.{symbol_kept}
-use Rattle.elf_image.specs.Plain.{Fails, borrowed}
-use Rattle.elf_image.specs.Records.{SymbolNumbers, symbol_numbers, symbol_size}
+use Rattle.elf_format.specs.Answers.{Fails, borrowed}
+use Rattle.elf_format.specs.declared.records.SymbolNumbers.{SymbolNumbers}
+use Rattle.elf_format.specs.Records.{symbol_numbers, symbol_size}
 use Rattle.elf_image.specs.TextSteps.{named_symbol, symbols_from, symbols_shown, version_at}
-use Rattle.elf_image.proofs.PlainSteps.{with_front}
-use Rattle.elf_image.proofs.TableSteps.{rest_left}
+use Rattle.elf_format.proofs.ReadingSteps.{with_front}
+use Rattle.elf_format.proofs.TableSteps.{rest_left}
 use Rattle.elf_image.proofs.TextSteps.{symbols_done, symbols_end, symbols_goes, symbols_shown-from}
 use Rattle.elf_image.proofs.read.texts.symbols.symbols.Goals as goal
 
@@ -34,31 +35,31 @@ returns-in_err-one c =
     let form : Form = c.args.form in
     let texts : Memory = memory_of c.args.texts.now in
     let versions : Option (List ℕ) = option_map borrowed c.args.versions in
-    let size : ℕ = c.symbol_bytes-size.result in
+    let size : ℕ = c.symbol_size-size.result in
     let here = first_of_rest form c.args.room texts versions size c.loop-i.i c.loop-i.rest.now c.split_at.result.0.now c.read_symbol_numbers-numbers.result c.version.result
-    c.symbol_bytes-size.ensures c.split_at.ensures.front c.read_symbol_numbers-numbers.ensures c.version.ensures in
+    c.symbol_size-size.ensures.value c.split_at.ensures.front c.read_symbol_numbers-numbers.ensures c.version.ensures in
     rw (e.1, e.2) (symbols_end form c.args.room texts versions c.in_err-one.field-0.0 (map symbol_kept c.loop-i.made.items) (length c.args.bytes.now / size) c.loop-i.i c.loop-i.rest.now
     (symbols_shown form c.args.room texts c.args.bytes.now versions) c.loop-i-test.true (subst (Fails c.in_err-one.field-0.0) here c.in_err-one.ensures)
-    (c.loop-i.invariant.made ∙ all_shown form c.args.room texts versions size c.args.bytes.now c.symbol_bytes-size.ensures))
+    (c.loop-i.invariant.made ∙ all_shown form c.args.room texts versions size c.args.bytes.now c.symbol_size-size.ensures.value))
 
 pub loop-i-preserved : goal.loop-i-preserved
 loop-i-preserved c =
     let form : Form = c.args.form in
     let texts : Memory = memory_of c.args.texts.now in
     let versions : Option (List ℕ) = option_map borrowed c.args.versions in
-    let size : ℕ = c.symbol_bytes-size.result in
+    let size : ℕ = c.symbol_size-size.result in
     let rest : List ℕ = c.loop-i.rest.now in
     let count : ℕ = length c.args.bytes.now / size in
     let left : ℕ = count - (c.loop-i.i + 1) in
     let here = first_of_rest form c.args.room texts versions size c.loop-i.i rest c.split_at.result.0.now c.read_symbol_numbers-numbers.result c.version.result
-    c.symbol_bytes-size.ensures c.split_at.ensures.front c.read_symbol_numbers-numbers.ensures c.version.ensures in
+    c.symbol_size-size.ensures.value c.split_at.ensures.front c.read_symbol_numbers-numbers.ensures c.version.ensures in
     let pushed : map symbol_kept c.push.new.self.items ≡ map symbol_kept c.loop-i.made.items ++ symbol_kept c.in_ok-one.one ∷ [] = ap (map symbol_kept) c.in_ok-push.ensures.items ∙ map_push symbol_kept c.loop-i.made.items c.in_ok-one.one in
     let room : left * size ≤ length rest - size = rest_left count c.loop-i.i size (length rest) c.loop-i-test.true c.loop-i.invariant.room in
     record {
       room = subst (λ b. left * size ≤ length b) (sym c.split_at.ensures.back) (subst (λ n. left * size ≤ n) (sym (length-drop size rest)) room);
       made = ap (λ m. with_front m (symbols_from form c.args.room texts versions left (c.loop-i.i + 1) c.split_at.result.1.now)) pushed
           ∙ ap (λ b. with_front (map symbol_kept c.loop-i.made.items ++ symbol_kept c.in_ok-one.one ∷ []) (symbols_from form c.args.room texts versions left (c.loop-i.i + 1) b))
-          (c.split_at.ensures.back ∙ ap (λ n. drop n rest) c.symbol_bytes-size.ensures)
+          (c.split_at.ensures.back ∙ ap (λ n. drop n rest) c.symbol_size-size.ensures.value)
           ∙ symbols_goes form c.args.room texts versions (map symbol_kept c.loop-i.made.items) count c.loop-i.i rest (symbol_kept c.in_ok-one.one) (symbols_from form c.args.room texts versions count 0 c.args.bytes.now)
           c.loop-i-test.true (sym here ∙ c.in_ok-one.ensures) c.loop-i.invariant.made;
     }
@@ -68,7 +69,7 @@ returns c =
     let form : Form = c.args.form in
     let texts : Memory = memory_of c.args.texts.now in
     let versions : Option (List ℕ) = option_map borrowed c.args.versions in
-    let size : ℕ = c.symbol_bytes-size.result in
+    let size : ℕ = c.symbol_size-size.result in
     symbols_done form c.args.room texts versions (map symbol_kept c.loop-i.made.items) (length c.args.bytes.now / size) c.loop-i.i c.loop-i.rest.now
     (symbols_shown form c.args.room texts c.args.bytes.now versions) c.loop-i-test.false
-    (c.loop-i.invariant.made ∙ all_shown form c.args.room texts versions size c.args.bytes.now c.symbol_bytes-size.ensures)
+    (c.loop-i.invariant.made ∙ all_shown form c.args.room texts versions size c.args.bytes.now c.symbol_size-size.ensures.value)

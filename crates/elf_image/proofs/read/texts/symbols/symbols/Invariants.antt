@@ -2,9 +2,9 @@ use Rattle.std.proofs.Common.{◌≡◌, ◌≤◌, ◌-◌, ◌*◌, length, ma
 use Rattle.std.specs.Prelude.{option_map}
 use Rattle.patch_bytes.specs.Memory.{memory_of}
 use Rattle.elf_image.specs.ImageSeen.{symbol_kept}
-use Rattle.elf_image.specs.Plain.{borrowed}
+use Rattle.elf_format.specs.Answers.{borrowed}
 use Rattle.elf_image.specs.TextSteps.{symbols_from}
-use Rattle.elf_image.proofs.PlainSteps.{with_front}
+use Rattle.elf_format.proofs.ReadingSteps.{with_front}
 use Rattle.elf_image.proofs.read.texts.symbols.symbols.Given as goal
 
 -- the symbols so far, and those of the rest

@@ -1,14 +1,14 @@
 -- The versions that the one section defines.
 use Rattle.std.proofs.Common.{List, Option, Some, map, sym, ap, subst, ◌∙◌}
 use Rattle.patch_bytes.specs.Memory.{memory_of}
-use Rattle.elf_image.specs.declared.constants.TheConstants.{SHT_GNU_VERDEF}
-use Rattle.elf_image.specs.File.{Parts, section_of_type}
+use Rattle.elf_format.specs.declared.constants.TheConstants.{SHT_GNU_VERDEF}
+use Rattle.elf_format.specs.File.{Parts, section_of_type}
 use Rattle.elf_image.specs.ImageSeen.{definition_kept}
-use Rattle.elf_image.specs.Plain.{Gives}
-use Rattle.elf_image.specs.PlainViews.{raw_definition}
-use Rattle.elf_image.specs.Read.{parts_seen}
-use Rattle.elf_image.specs.Records.{SectionHeader}
-use Rattle.elf_image.specs.Versions.{VersionDefinition}
+use Rattle.elf_format.specs.Answers.{Gives}
+use Rattle.elf_format.specs.Seen.{raw_definition}
+use Rattle.elf_rules.specs.Read.{parts_seen}
+use Rattle.elf_format.specs.declared.records.SectionHeader.{SectionHeader}
+use Rattle.elf_format.specs.Versions.{VersionDefinition}
 use Rattle.elf_image.proofs.TextSteps.{definitions_none, definitions_some, none_found}
 use Rattle.elf_image.proofs.read.texts.versions.definitions.Goals as goal
 

@@ -3,13 +3,13 @@ use Rattle.std.proofs.Common.{◌≡◌, ◌<◌, ◌≤◌, ◌++◌, ◌∷◌
 use Rattle.std.proofs.lemmas.List.{get_or-map, length-map, map_push}
 use Rattle.std.proofs.lemmas.Result.{err_from_is_err_and}
 use Rattle.patch_bytes.specs.Memory.{memory_of}
-use Rattle.elf_image.specs.declared.plain.view.RawDefinition.{RawDefinition}
-use Rattle.elf_image.specs.Options.{each}
-use Rattle.elf_image.specs.Plain.{Fails}
+use Rattle.elf_format.specs.declared.versions.RawDefinition.{RawDefinition}
+use Rattle.elf_format.specs.Options.{each}
+use Rattle.elf_format.specs.Answers.{Fails}
 use Rattle.elf_image.specs.ImageSeen.{definition_kept}
-use Rattle.elf_image.specs.PlainViews.{raw_definition}
-use Rattle.elf_image.specs.Versions.{DefinitionNumbers, VersionDefinition, shown_definition}
-use Rattle.elf_image.proofs.PlainSteps.{each_done, each_ends, each_goes}
+use Rattle.elf_format.specs.Seen.{raw_definition}
+use Rattle.elf_format.specs.Versions.{DefinitionNumbers, VersionDefinition, shown_definition}
+use Rattle.elf_format.proofs.ReadingSteps.{each_done, each_ends, each_goes}
 use Rattle.elf_image.proofs.read.texts.versions.kept_definitions.Goals as goal
 
 -- the element that the loop looks at

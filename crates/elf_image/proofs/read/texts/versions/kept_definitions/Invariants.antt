@@ -1,10 +1,10 @@
 use Rattle.std.proofs.Common.{◌≡◌, drop, map}
 use Rattle.patch_bytes.specs.Memory.{memory_of}
-use Rattle.elf_image.specs.Options.{each}
+use Rattle.elf_format.specs.Options.{each}
 use Rattle.elf_image.specs.ImageSeen.{definition_kept}
-use Rattle.elf_image.specs.PlainViews.{raw_definition}
-use Rattle.elf_image.specs.Versions.{shown_definition}
-use Rattle.elf_image.proofs.PlainSteps.{with_front}
+use Rattle.elf_format.specs.Seen.{raw_definition}
+use Rattle.elf_format.specs.Versions.{shown_definition}
+use Rattle.elf_format.proofs.ReadingSteps.{with_front}
 use Rattle.elf_image.proofs.read.texts.versions.kept_definitions.Given as goal
 
 -- what was made so far, and what the rest gives

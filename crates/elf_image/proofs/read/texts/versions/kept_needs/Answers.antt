@@ -3,13 +3,13 @@ use Rattle.std.proofs.Common.{◌≡◌, ◌<◌, ◌≤◌, ◌++◌, ◌∷◌
 use Rattle.std.proofs.lemmas.List.{get_or-map, length-map, map_push}
 use Rattle.std.proofs.lemmas.Result.{err_from_is_err_and}
 use Rattle.patch_bytes.specs.Memory.{memory_of}
-use Rattle.elf_image.specs.declared.plain.view.RawNeeds.{RawNeeds}
-use Rattle.elf_image.specs.Options.{each}
-use Rattle.elf_image.specs.Plain.{Fails}
+use Rattle.elf_format.specs.declared.versions.RawNeeds.{RawNeeds}
+use Rattle.elf_format.specs.Options.{each}
+use Rattle.elf_format.specs.Answers.{Fails}
 use Rattle.elf_image.specs.ImageSeen.{needs_kept}
-use Rattle.elf_image.specs.PlainViews.{raw_needs}
-use Rattle.elf_image.specs.Versions.{NeedNumbers, VersionNeeds, shown_need}
-use Rattle.elf_image.proofs.PlainSteps.{each_done, each_ends, each_goes}
+use Rattle.elf_format.specs.Seen.{raw_needs}
+use Rattle.elf_format.specs.Versions.{NeedNumbers, VersionNeeds, shown_need}
+use Rattle.elf_format.proofs.ReadingSteps.{each_done, each_ends, each_goes}
 use Rattle.elf_image.proofs.read.texts.versions.kept_needs.Goals as goal
 
 -- the element that the loop looks at

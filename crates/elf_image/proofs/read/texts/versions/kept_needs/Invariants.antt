@@ -1,10 +1,10 @@
 use Rattle.std.proofs.Common.{◌≡◌, drop, map}
 use Rattle.patch_bytes.specs.Memory.{memory_of}
-use Rattle.elf_image.specs.Options.{each}
+use Rattle.elf_format.specs.Options.{each}
 use Rattle.elf_image.specs.ImageSeen.{needs_kept}
-use Rattle.elf_image.specs.PlainViews.{raw_needs}
-use Rattle.elf_image.specs.Versions.{shown_need}
-use Rattle.elf_image.proofs.PlainSteps.{with_front}
+use Rattle.elf_format.specs.Seen.{raw_needs}
+use Rattle.elf_format.specs.Versions.{shown_need}
+use Rattle.elf_format.proofs.ReadingSteps.{with_front}
 use Rattle.elf_image.proofs.read.texts.versions.kept_needs.Given as goal
 
 -- what was made so far, and what the rest gives

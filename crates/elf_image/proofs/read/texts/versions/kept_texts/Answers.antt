@@ -2,8 +2,8 @@
 use Rattle.std.proofs.Common.{◌≡◌, ◌++◌, ◌∷◌, [], ℕ, List, Option, ap, ◌∙◌}
 use Rattle.std.proofs.lemmas.Result.{err_from_is_err_and}
 use Rattle.patch_bytes.specs.Memory.{memory_of, text_at}
-use Rattle.elf_image.specs.Options.{each}
-use Rattle.elf_image.proofs.PlainSteps.{each_done, each_ends, each_goes}
+use Rattle.elf_format.specs.Options.{each}
+use Rattle.elf_format.proofs.ReadingSteps.{each_done, each_ends, each_goes}
 use Rattle.elf_image.proofs.read.texts.versions.kept_texts.Goals as goal
 
 pub returns-in_err-one : goal.returns-in_err-one

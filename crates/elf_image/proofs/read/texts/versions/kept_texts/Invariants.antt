@@ -1,7 +1,7 @@
 use Rattle.std.proofs.Common.{◌≡◌, drop}
 use Rattle.patch_bytes.specs.Memory.{memory_of, text_at}
-use Rattle.elf_image.specs.Options.{each}
-use Rattle.elf_image.proofs.PlainSteps.{with_front}
+use Rattle.elf_format.specs.Options.{each}
+use Rattle.elf_format.proofs.ReadingSteps.{with_front}
 use Rattle.elf_image.proofs.read.texts.versions.kept_texts.Given as goal
 
 -- what was made so far, and what the rest gives

@@ -3,11 +3,12 @@ use Rattle.std.proofs.Common.{◌≡◌, ◌++◌, ◌∷◌, [], map, Option}
 use Rattle.std.proofs.lemmas.List.{map_push}
 use Rattle.std.proofs.lemmas.Result.{err_from_is_err_and}
 use Rattle.patch_bytes.specs.Memory.{memory_of}
-use Rattle.elf_image.specs.Options.{each}
-use Rattle.elf_image.specs.Versions.{NeedNameNumbers, VersionName, shown_need_name}
+use Rattle.elf_format.specs.Options.{each}
+use Rattle.elf_format.specs.declared.records.NeedNameNumbers.{NeedNameNumbers}
+use Rattle.elf_format.specs.Versions.{VersionName, shown_need_name}
 use Rattle.elf_image.specs.ImageSeen.{name_kept}
-use Rattle.elf_image.proofs.PlainSteps.{no_name}
-use Rattle.elf_image.proofs.PlainSteps.{each_done, each_ends, each_goes}
+use Rattle.elf_format.proofs.ReadingSteps.{no_name}
+use Rattle.elf_format.proofs.ReadingSteps.{each_done, each_ends, each_goes}
 use Rattle.elf_image.proofs.read.texts.versions.need_names.Goals as goal
 
 pub returns-in_err-one : goal.returns-in_err-one

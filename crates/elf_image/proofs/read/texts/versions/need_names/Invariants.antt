@@ -1,9 +1,9 @@
 use Rattle.std.proofs.Common.{◌≡◌, drop, map}
 use Rattle.patch_bytes.specs.Memory.{memory_of}
-use Rattle.elf_image.specs.Options.{each}
-use Rattle.elf_image.specs.Versions.{shown_need_name}
+use Rattle.elf_format.specs.Options.{each}
+use Rattle.elf_format.specs.Versions.{shown_need_name}
 use Rattle.elf_image.specs.ImageSeen.{name_kept}
-use Rattle.elf_image.proofs.PlainSteps.{with_front}
+use Rattle.elf_format.proofs.ReadingSteps.{with_front}
 use Rattle.elf_image.proofs.read.texts.versions.need_names.Given as goal
 
 -- what was made so far, and what the rest gives

@@ -1,7 +1,7 @@
 -- A record is there where its bytes are, with its names as far as they can be walked.
 use Rattle.std.proofs.Common.{sym}
 use Rattle.patch_bytes.specs.Memory.{bytes_at, memory_of}
-use Rattle.elf_image.specs.Plain.{borrowed}
+use Rattle.elf_format.specs.Answers.{borrowed}
 use Rattle.elf_image.proofs.WalkSteps.{definition_missing, definition_there, found_none, found_there}
 use Rattle.elf_image.proofs.read.versions.definitions.read_record.Goals as goal
 

@@ -3,11 +3,11 @@ use Rattle.std.proofs.Common.{◌≡◌, ◌⊎◌, ◌<◌, ◌+◌, ◌-◌, �
 use Rattle.std.specs.Prelude.{option_map}
 use Rattle.std.proofs.lemmas.List.{map_push}
 use Rattle.patch_bytes.specs.Memory.{memory_of}
-use Rattle.elf_image.specs.Form.{Form}
-use Rattle.elf_image.specs.PlainViews.{raw_definition}
-use Rattle.elf_image.specs.Versions.{DefinitionNumbers, Step, definition_at}
+use Rattle.elf_format.specs.declared.form.Form.{Form}
+use Rattle.elf_format.specs.Seen.{raw_definition}
+use Rattle.elf_format.specs.Versions.{DefinitionNumbers, Step, definition_at}
 use Rattle.elf_image.specs.WalkSteps.{IsWalk, definition_step}
-use Rattle.elf_image.proofs.ChainSteps.{more_left, next_of}
+use Rattle.elf_format.proofs.ChainSteps.{more_left, next_of}
 use Rattle.elf_image.proofs.WalkSteps.{WalkLeft, definition-behind, walk_breaks, walk_done, walk_ends, walk_goes, walk_starts, walk_stops}
 use Rattle.elf_image.proofs.read.versions.definitions.walk_definition_records.Goals as goal
 

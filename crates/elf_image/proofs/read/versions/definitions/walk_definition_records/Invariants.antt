@@ -1,7 +1,7 @@
 use Rattle.std.proofs.Common.{◌-◌, map}
 use Rattle.patch_bytes.specs.Memory.{memory_of}
-use Rattle.elf_image.specs.PlainViews.{raw_definition}
-use Rattle.elf_image.specs.Versions.{definition_at}
+use Rattle.elf_format.specs.Seen.{raw_definition}
+use Rattle.elf_format.specs.Versions.{definition_at}
 use Rattle.elf_image.proofs.WalkSteps.{WalkLeft}
 use Rattle.elf_image.proofs.read.versions.definitions.walk_definition_records.Given as goal
 

@@ -1,11 +1,11 @@
 -- One name after another, up to one that isn't there or has no next.
 use Rattle.std.proofs.Common.{◌≡◌, ◌⊎◌, ◌<◌, ◌+◌, ◌-◌, ℕ, true, false, List, Option, None, inl, inr, length, refl, sym, ◌∙◌, subst}
 use Rattle.patch_bytes.specs.Memory.{memory_of}
-use Rattle.elf_image.specs.Form.{Form}
-use Rattle.elf_image.specs.Plain.{step_seen, whole_step}
-use Rattle.elf_image.specs.Versions.{Step, definition_name_at}
+use Rattle.elf_format.specs.declared.form.Form.{Form}
+use Rattle.elf_format.specs.Answers.{step_seen, whole_step}
+use Rattle.elf_format.specs.Versions.{Step, definition_name_at}
 use Rattle.elf_image.specs.WalkSteps.{IsWalk}
-use Rattle.elf_image.proofs.ChainSteps.{more_left, next_of}
+use Rattle.elf_format.proofs.ChainSteps.{more_left, next_of}
 use Rattle.elf_image.proofs.WalkSteps.{WalkLeft, definition_name-behind, definition_name-whole, found_none, found_there, walk_done, walk_ends, walk_goes, walk_starts, walk_stops}
 use Rattle.elf_image.proofs.read.versions.definitions.walk_names.Goals as goal
 

@@ -1,6 +1,6 @@
 use Rattle.std.proofs.Common.{◌-◌}
 use Rattle.patch_bytes.specs.Memory.{memory_of}
-use Rattle.elf_image.specs.Versions.{definition_name_at}
+use Rattle.elf_format.specs.Versions.{definition_name_at}
 use Rattle.elf_image.proofs.WalkSteps.{WalkLeft}
 use Rattle.elf_image.proofs.read.versions.definitions.walk_names.Given as goal
 

@@ -1,7 +1,7 @@
 -- Past the end of the bytes there is no name.
 use Rattle.std.proofs.Common.{◌+◌, ℕ, List, Option, eqb, refl, sym, subst}
 use Rattle.patch_bytes.specs.Memory.{memory_of}
-use Rattle.elf_image.specs.Versions.{Step, definition_name_at}
+use Rattle.elf_format.specs.Versions.{Step, definition_name_at}
 use Rattle.elf_image.specs.WalkSteps.{IsWalk}
 use Rattle.elf_image.proofs.WalkSteps.{definition_name-behind, walk_nowhere}
 use Rattle.elf_image.proofs.read.versions.definitions.walk_names_behind.Goals as goal

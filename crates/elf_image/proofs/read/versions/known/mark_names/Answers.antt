@@ -1,7 +1,7 @@
 -- One mark after another.
 use Rattle.std.proofs.Common.{get_or, map, refl}
 use Rattle.elf_image.specs.WalkSteps.{marked}
-use Rattle.elf_image.proofs.PlainSteps.{no_name}
+use Rattle.elf_format.proofs.ReadingSteps.{no_name}
 use Rattle.elf_image.proofs.VersionSteps.{mark_done, mark_goes}
 use Rattle.elf_image.proofs.read.versions.known.mark_names.Goals as goal
 

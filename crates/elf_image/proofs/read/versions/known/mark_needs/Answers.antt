@@ -1,7 +1,7 @@
 -- The marks of one library after another.
 use Rattle.std.proofs.Common.{◌+◌, ℕ, List, drop, map, ap, ◌∙◌}
 use Rattle.std.specs.List.{flat_map}
-use Rattle.elf_image.specs.declared.plain.view.RawNeeds.{RawNeeds}
+use Rattle.elf_format.specs.declared.versions.RawNeeds.{RawNeeds}
 use Rattle.elf_image.specs.WalkSteps.{marked}
 use Rattle.elf_image.proofs.VersionSteps.{marks_done, marks_go}
 use Rattle.elf_image.proofs.read.versions.known.mark_needs.Goals as goal

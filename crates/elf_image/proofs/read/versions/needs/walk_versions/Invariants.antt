@@ -1,6 +1,6 @@
 use Rattle.std.proofs.Common.{◌-◌}
 use Rattle.patch_bytes.specs.Memory.{memory_of}
-use Rattle.elf_image.specs.Versions.{need_name_at}
+use Rattle.elf_format.specs.Versions.{need_name_at}
 use Rattle.elf_image.proofs.WalkSteps.{WalkLeft}
 use Rattle.elf_image.proofs.read.versions.needs.walk_versions.Given as goal
 

@@ -1,7 +1,8 @@
 -- Past the end of the bytes there is no name.
 use Rattle.std.proofs.Common.{◌+◌, ℕ, List, Option, eqb, refl, sym, subst}
 use Rattle.patch_bytes.specs.Memory.{memory_of}
-use Rattle.elf_image.specs.Versions.{NeedNameNumbers, Step, need_name_at}
+use Rattle.elf_format.specs.declared.records.NeedNameNumbers.{NeedNameNumbers}
+use Rattle.elf_format.specs.Versions.{Step, need_name_at}
 use Rattle.elf_image.specs.WalkSteps.{IsWalk}
 use Rattle.elf_image.proofs.WalkSteps.{need_name-behind, walk_nowhere}
 use Rattle.elf_image.proofs.read.versions.needs.walk_versions_behind.Goals as goal

@@ -3,9 +3,9 @@ use Rattle.std.proofs.Common.{◌≡◌, ◌+◌, ◌-◌, ℕ, List, Bool, true
 use Rattle.std.specs.List.{list_all}
 use Rattle.std.proofs.lemmas.List.{length-drop, take_all}
 use Rattle.std.proofs.lemmas.Bool.{eqb-true}
-use Rattle.elf_image.specs.declared.symbol.VersionId.{VersionId}
-use Rattle.elf_image.specs.Form.{records}
-use Rattle.elf_image.specs.Versions.{version_id}
+use Rattle.elf_format.specs.declared.version_id.VersionId.{VersionId}
+use Rattle.elf_format.specs.Form.{records}
+use Rattle.elf_format.specs.Versions.{version_id}
 use Rattle.elf_image.proofs.VersionSteps.{all_done, all_empty, all_go, all_start, all_stop, is_marked, is_marked-low, is_marked-mark, is_marked-none, no_bytes}
 use Rattle.elf_image.proofs.read.versions.rule.are_marked.Goals as goal
 use Rattle.elf_image.proofs.read.versions.rule.are_marked.Goals.{else-id-ge-VER_NDX_FIRST-via-then-id-ge-VER_NDX_FIRST+else-not-marks-id, else-id-ge-VER_NDX_FIRST-via-else-id-ge-VER_NDX_FIRST}

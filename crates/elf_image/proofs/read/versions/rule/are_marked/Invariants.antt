@@ -1,7 +1,7 @@
 use Rattle.std.proofs.Common.{◌≡◌, ◌-◌}
 use Rattle.std.specs.List.{list_all}
-use Rattle.elf_image.specs.Form.{records}
-use Rattle.elf_image.specs.Versions.{version_id}
+use Rattle.elf_format.specs.Form.{records}
+use Rattle.elf_format.specs.Versions.{version_id}
 use Rattle.elf_image.proofs.VersionSteps.{is_marked}
 use Rattle.elf_image.proofs.read.versions.rule.are_marked.Given as goal
 

@@ -6,8 +6,8 @@ use denote.Ref.{Bor}
 use Rattle.std.specs.List.{find}
 use Rattle.std.proofs.lemmas.Iterator.{YieldsList-from_slice}
 use Rattle.std.proofs.lemmas.Iterator.Search.{find_from_yields_List}
-use Rattle.elf_image.specs.declared.constants.TheConstants.{PT_GNU_STACK}
-use Rattle.elf_image.specs.declared.records.SegmentHeader.{SegmentHeader}
+use Rattle.elf_format.specs.declared.constants.TheConstants.{PT_GNU_STACK}
+use Rattle.elf_format.specs.declared.records.SegmentHeader.{SegmentHeader}
 use Rattle.elf_image.specs.declared.segment.Segment.{Segment}
 use Rattle.elf_image.specs.File.{segment_of_type}
 use Rattle.elf_image.specs.ImageSeen.{segment_kept}

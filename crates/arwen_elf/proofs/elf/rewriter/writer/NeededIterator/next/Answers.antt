@@ -2,8 +2,8 @@
 use Rattle.std.proofs.Common.{◌∷◌, [], length, sym, ap, ◌∙◌, arith}
 use Rattle.std.proofs.lemmas.List.{nil_from_length}
 use Rattle.std.specs.Slice.Iter.{iter_rest}
-use Rattle.elf_image.specs.Plain.{borrowed}
-use Rattle.elf_image.specs.declared.constants.TheConstants.{DT_NEEDED}
+use Rattle.elf_image.specs.Answers.{borrowed}
+use Rattle.elf_format.specs.declared.constants.TheConstants.{DT_NEEDED}
 use Rattle.arwen_elf.proofs.ReadSteps.{left_found, left_missed, left_none}
 use Rattle.arwen_elf.proofs.elf.rewriter.writer.NeededIterator.next.Goals as goal
 

@@ -1,5 +1,5 @@
 -- An image that is read shows both views of its file.
-use Rattle.elf_image.proofs.ImageShows.{images_show}
+use Rattle.elf_format.proofs.ImageShows.{images_show}
 use Rattle.arwen_elf.proofs.elf.rewriter.writer.Writer.read.Goals as goal
 
 pub returns-clause-shows : goal.returns-clause-shows

@@ -1,0 +1,15 @@
+pub mod Agreement
+pub mod Placed
+pub mod Accepted
+pub mod ViewsAgree
+pub mod Meaning
+pub mod NumberSteps
+pub mod ReadingSteps
+pub mod TableSteps
+pub mod EntrySteps
+pub mod ChainSteps
+pub mod ImageTexts
+pub mod ImageTables
+pub mod ImageShows
+pub mod ReadNumbers
+pub mod SectionViewSteps

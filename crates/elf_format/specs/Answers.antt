@@ -1,0 +1,44 @@
+-- What readers of records answer: what the definitions say, seen through the types of the readers.
+use Rattle.std.specs.Prelude.{ℕ, zero, suc, ◌≡◌, ◌+◌, ◌<◌, ◌⊎◌, ◌||◌, ◌==◌, if◌then◌else◌, not, Bool, true, false, List, [], ◌∷◌, length, Option, Some, None, Result, Ok, Err}
+use Rattle.std.specs.Borrow.{Bor}
+use Rattle.patch_bytes.specs.Memory.{◌>>=◌}
+use Rattle.elf_format.specs.Versions.{Step}
+use Rattle.elf_format.specs.declared.view_fault.ViewFault.{ViewFault}
+use Rattle.elf_format.specs.declared.view_fault.ViewFault.TheVariants as faults
+
+-- a fault says that nothing is shown, unless memory ran out
+abbrev pub Fails : {Y : Type 0} → ViewFault → Option Y → Type 0
+Fails faults.Absent shown = shown ≡ None
+Fails faults.Memory shown = Unit {0}
+
+-- an answer, seen by view, is what is shown
+abbrev pub Gives : {X Y : Type 0} → (X → Y) → Result X ViewFault → Option Y → Type 0
+Gives view (Ok x) shown = shown ≡ Some (view x)
+Gives view (Err e) shown = Fails e shown
+
+-- the bytes that a slice lends
+abbrev pub borrowed : Bor (List ℕ) → List ℕ
+borrowed bytes = bytes.now
+
+-- the step of a walk, if it is whole
+abbrev pub whole_step : {A : Type 0} → Option (Step A) → Option (Step A)
+whole_step o = o >>= (λ s. if s.is_whole then Some s else None)
+
+-- the values of a chain, record by record
+unfoldable pub chain : {A : Type 0} → (ℕ → Option (Step A)) → ℕ → ℕ → Option (List A)
+chain read zero a = Some []
+chain read (suc n) a = whole_step (read a) >>= (λ s. elim (n == 0 || not (s.next == 0)) [ true ↦ chain read n (a + s.next) >>= (λ xs. Some (s.value ∷ xs)) | _ ↦ None ])
+
+-- a value and how far behind the next record stands, as a whole step
+abbrev pub step_seen : {X A : Type 0} → (X → A) → X × ℕ → Step A
+step_seen view x = record { value = view x.0; is_whole = true; next = x.1 }
+
+-- the place of what stands behind another place, where that isn't past the end of the bytes
+abbrev pub StandsBehind : List ℕ → ℕ → ℕ → Result ℕ ViewFault → Type 0
+StandsBehind bytes place distance (Ok p) = p ≡ place + distance
+StandsBehind bytes place distance (Err e) = (e ≡ faults.Absent) × (length bytes < place + distance)
+
+-- the place of the next record, or for the last any
+abbrev pub StepsOn : List ℕ → ℕ → ℕ → Bool → Result ℕ ViewFault → Type 0
+StepsOn bytes place next is_last (Ok p) = (is_last ≡ true) ⊎ ((next ≡ 0 → ⊥) × (p ≡ place + next))
+StepsOn bytes place next is_last (Err e) = (e ≡ faults.Absent) × (is_last ≡ false) × ((next ≡ 0) ⊎ (length bytes < place + next))

@@ -1,0 +1,17 @@
+pub mod Form
+pub mod Records
+pub mod Ranges
+pub mod Options
+pub mod File
+pub mod Placement
+pub mod Dynamic
+pub mod Versions
+pub mod Views
+pub mod Rules
+pub mod Facts
+pub mod Hashes
+pub mod Image
+pub mod ReadNumbers
+pub mod Answers
+pub mod Stages
+pub mod Seen

@@ -1,0 +1,22 @@
+ghost use Rattle.std.specs.Prelude.{◌≤◌, length};
+ghost use Rattle.patch_bytes.specs.Memory.{memory_of, text_at};
+ghost use Rattle.elf_format.specs.Answers.{Gives, borrowed};
+
+use crate::view_fault::ViewFault;
+
+/// The text from a place on, up to its NUL.
+pub fn text(room: usize, bytes: &[u8], place: u64) -> Result<&[u8], ViewFault>
+    requires { length bytes.now ≤ room }
+    ensures { Gives borrowed result (text_at room (memory_of bytes.now) place) }
+{
+    if place >= bytes.len() as u64 {
+        return Err(ViewFault::Absent);
+    }
+    let rest = &bytes[place as usize..];
+    for (i, byte) in rest.iter().enumerate() {
+        if *byte == 0 {
+            return Ok(&rest[..i]);
+        }
+    }
+    Err(ViewFault::Absent)
+}

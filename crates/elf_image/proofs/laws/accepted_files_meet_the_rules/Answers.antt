@@ -1,6 +1,0 @@
--- The law is the lemma of that name.
-use Rattle.elf_image.proofs.Accepted.{accepted_files_meet_the_rules}
-use Rattle.elf_image.proofs.laws.accepted_files_meet_the_rules.Goals as goal
-
-pub returns : goal.returns
-returns c = accepted_files_meet_the_rules

@@ -1,8 +1,0 @@
-use Rattle.std.proofs.Common.{◌≡◌, drop}
-use Rattle.std.specs.Prelude.{find}
-use Rattle.elf_image.specs.PlainViews.{is_interpreter}
-use Rattle.elf_image.proofs.plain.lookups.interpreter_section.Given as goal
-
--- none so far passes the test
-abbrev pub invariant-loop-s : goal.invariant-loop-s
-invariant-loop-s l = find (is_interpreter l.segment) (drop l.s-index l.sections) ≡ find (is_interpreter l.segment) l.sections

@@ -1,0 +1,90 @@
+-- The image of a file in groups of its parts, and what the last stages of reading answer.
+use Rattle.std.specs.Prelude.{◌≡◌, ◌⊎◌, List, map, length, false, Option, Some, None, Result, Ok, Err, option_map}
+use Rattle.std.specs.Global.{Vec}
+use Rattle.patch_bytes.specs.Memory.{◌>>=◌}
+use Rattle.elf_format.specs.declared.constants.TheConstants.{SHT_DYNAMIC, SHT_DYNSYM, SHT_GNU_VERDEF, SHT_GNU_VERNEED, SHT_SYMTAB}
+use Rattle.elf_format.specs.declared.fault.ElfFault.{ElfFault}
+use Rattle.elf_format.specs.declared.fault.ElfFault.TheVariants.{BadText}
+use Rattle.elf_format.specs.declared.section_data.SectionData.{SectionData}
+use Rattle.elf_format.specs.Dynamic.{Entry}
+use Rattle.elf_format.specs.File.{Parts, section_of_type}
+use Rattle.elf_format.specs.Image.{Image, ImageSection, counted, definitions_read, dynamic_symbols_read, entries_read, header_kept, interpreter_read, needs_read, section_read, static_symbols}
+use Rattle.elf_format.specs.Options.{each}
+use Rattle.elf_format.specs.Rules.{checked, data_of, file_of, there_or}
+use Rattle.elf_format.specs.Stages.{last_rules, link_rules}
+use Rattle.elf_format.specs.Versions.{VersionDefinition, VersionNeeds}
+use Rattle.elf_format.specs.Views.{NamedSymbol}
+use Rattle.elf_rules.specs.Read.{Refuses}
+use Rattle.elf_image.specs.declared.read.Listed.{Listed}
+use Rattle.elf_image.specs.declared.read.Named.{Named}
+use Rattle.elf_image.specs.ImageSeen.{definition_kept, entry_kept, needs_kept, section_kept, symbol_kept}
+
+-- the sections and symbols of an image
+pub record NamedParts : Type 0 where
+  pub sections : List ImageSection
+  pub symbols : List NamedSymbol
+  pub dynamic_symbols : List NamedSymbol
+
+unfoldable pub named_in : Parts → Option NamedParts
+named_in p = do
+  sections ← each (section_read p) p.sections
+  symbols ← static_symbols p (section_of_type SHT_SYMTAB p.sections)
+  dynamic_symbols ← dynamic_symbols_read p (section_of_type SHT_DYNSYM p.sections)
+  Some (record { sections = sections; symbols = symbols; dynamic_symbols = dynamic_symbols })
+
+abbrev pub named_kept : Named → NamedParts
+named_kept n = record { sections = map section_kept n.sections.items; symbols = map symbol_kept n.symbols.items; dynamic_symbols = map symbol_kept n.dynamic_symbols.items }
+
+-- its dynamic list and versions
+pub record ListedParts : Type 0 where
+  pub entries : Option (List Entry)
+  pub definitions : List VersionDefinition
+  pub needs : List VersionNeeds
+
+unfoldable pub listed_in : Parts → Option ListedParts
+listed_in p = do
+  entries ← entries_read p (section_of_type SHT_DYNAMIC p.sections)
+  definitions ← definitions_read p (section_of_type SHT_GNU_VERDEF p.sections)
+  needs ← needs_read p (section_of_type SHT_GNU_VERNEED p.sections)
+  Some (record { entries = entries; definitions = definitions; needs = needs })
+
+abbrev pub listed_kept : Listed → ListedParts
+listed_kept l = record { entries = option_map (λ list. map entry_kept list.items) l.dynamic; definitions = map definition_kept l.versions.definitions.items; needs = map needs_kept l.versions.needs.items }
+
+-- the image that has these parts
+abbrev pub image_with : Parts → NamedParts → ListedParts → Image
+image_with p n l = record {
+  source = file_of p;
+  changed = false;
+  form = p.opened.form;
+  header = header_kept p.opened.header;
+  segments = p.segments;
+  sections = n.sections;
+  symbols = n.symbols;
+  dynamic_symbols = n.dynamic_symbols;
+  definitions = l.definitions;
+  needs = l.needs;
+  entries = l.entries;
+  interpreter = interpreter_read p;
+  section_numbers = counted (length n.sections);
+  symbol_numbers = counted (length n.symbols);
+  dynamic_symbol_numbers = counted (length n.dynamic_symbols);
+  page_size = None;
+}
+
+-- the image, group by group
+unfoldable pub image_by_groups : Parts → Option Image
+image_by_groups p = do
+  named ← named_in p
+  listed ← listed_in p
+  Some (image_with p named listed)
+
+-- the rules on links hold and each section's kind is told, or the first fault
+abbrev pub LinksRead : Parts → Result (Vec SectionData) ElfFault → Type 0
+LinksRead p (Ok kinds) = (checked link_rules p ≡ Ok p) × (kinds.items ≡ map (data_of p) p.sections)
+LinksRead p (Err e) = Refuses e (checked link_rules p)
+
+-- the image, and that the last rules hold; or that a text isn't there, or the first fault of those rules
+abbrev pub TextsRead : Parts → Result Image ElfFault → Type 0
+TextsRead p (Ok image) = (there_or BadText (image_by_groups p) ≡ Ok image) × (checked last_rules p ≡ Ok p)
+TextsRead p (Err e) = Refuses e (there_or BadText (image_by_groups p)) ⊎ ((image : Image) × (there_or BadText (image_by_groups p) ≡ Ok image) × Refuses e (checked last_rules p))

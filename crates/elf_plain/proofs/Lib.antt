@@ -1,0 +1,6 @@
+pub mod Computing
+pub mod SourceSteps
+pub mod JoinSteps
+pub mod SymbolSteps
+pub mod LoadedSteps
+pub mod ViewSteps

@@ -1,0 +1,17 @@
+pub use Rattle.elf_format.specs.Form
+pub use Rattle.elf_format.specs.Records
+pub use Rattle.elf_format.specs.Options
+pub use Rattle.elf_format.specs.File
+pub use Rattle.elf_format.specs.Placement
+pub use Rattle.elf_format.specs.Dynamic
+pub use Rattle.elf_format.specs.Versions
+pub use Rattle.elf_format.specs.Views
+pub use Rattle.elf_format.specs.Rules
+pub use Rattle.elf_format.specs.Answers
+pub use Rattle.elf_format.specs.Seen
+pub mod PlainViews
+pub mod Vectors
+pub mod Rows
+pub mod RuleRows
+pub mod EdgeRows
+pub mod LinkedLibrary

@@ -1,0 +1,163 @@
+ghost use Rattle.std.specs.Prelude.{◌≡◌, ◌&&◌, map, option_map};
+ghost use Rattle.elf_format.specs.declared.constants.TheConstants.{DT_SYMTAB as SYMTAB, DT_VERDEF as VERDEF, DT_VERDEFNUM as VERDEFNUM, DT_VERNEED as VERNEED, DT_VERNEEDNUM as VERNEEDNUM, DT_VERSYM as VERSYM};
+ghost use Rattle.elf_format.specs.Dynamic.{has_tag as tag_is_there};
+ghost use Rattle.elf_format.specs.Options.{where_asked};
+ghost use Rattle.elf_format.specs.Answers.{Gives};
+ghost use Rattle.elf_format.specs.Seen.{flags_of_stack};
+ghost use Rattle.elf_plain.specs.PlainViews.{definition_seen, needs_seen, outline_seen, source_seen, symbol_seen, table_seen, tables_seen, view_seen};
+ghost use Rattle.elf_format.specs.Views.{defined_versions, dynamic_symbols, needed_versions, view_of};
+
+use crate::chains::{read_definitions, read_needs};
+use crate::entries::view_entries;
+use crate::names::{show_definitions, show_needs};
+use crate::source::{TableSource, TableSources};
+use crate::symbols::show_symbols;
+use crate::view::{Outline, ShownDefinition, ShownNeeds, ShownSymbol, ShownView};
+use elf_format::constants::{
+    DT_SYMTAB, DT_VERDEF, DT_VERDEFNUM, DT_VERNEED, DT_VERNEEDNUM, DT_VERSYM, PT_GNU_STACK,
+};
+use elf_format::form::Form;
+use elf_format::lookups::{has_tag, segment_of_type};
+use elf_format::records::{EntryNumbers, SegmentHeader};
+use elf_format::view_fault::ViewFault;
+use std::alloc::Global;
+
+// The flags of the first PT_GNU_STACK.
+pub(crate) fn stack_flags(segments: &[SegmentHeader]) -> Option<u32>
+    ensures { result ≡ flags_of_stack segments.now }
+{
+    let segment = segment_of_type(segments, PT_GNU_STACK)?;
+    Some(segment.p_flags)
+}
+
+// The view of a file without a dynamic list.
+pub(crate) fn bare_view(outline: Outline<'_>) -> ShownView<'_>
+    ensures { view_seen result ≡ outline_seen outline.entry }
+{
+    ShownView {
+        os_abi: outline.os_abi,
+        stack_flags: outline.stack_flags,
+        interpreter: outline.interpreter,
+        entries: None,
+        symbols: None,
+        definitions: None,
+        needs: None,
+    }
+}
+
+// The defined versions of a table.
+#[tactic(auto, unfolding(elf_format::specs::Views::defined_versions))]
+fn definitions_of(
+    alloc: Global,
+    form: Form,
+    room: usize,
+    table: &TableSource<'_>,
+) -> Result<Vec<ShownDefinition>, ViewFault>
+    ensures { Gives (λ v. map definition_seen v.items) result (defined_versions form room (table_seen table.now)) }
+{
+    let raw = read_definitions(alloc, form, &table.bytes, table.count)?;
+    show_definitions(alloc, room, &table.texts, &raw)
+}
+
+// The needed versions of a table.
+#[tactic(auto, unfolding(elf_format::specs::Views::needed_versions))]
+fn needs_of(
+    alloc: Global,
+    form: Form,
+    room: usize,
+    table: &TableSource<'_>,
+) -> Result<Vec<ShownNeeds>, ViewFault>
+    ensures { Gives (λ v. map needs_seen v.items) result (needed_versions form room (table_seen table.now)) }
+{
+    let raw = read_needs(alloc, form, &table.bytes, table.count)?;
+    show_needs(alloc, room, &table.texts, &raw)
+}
+
+// The dynamic symbols, where the list names their table.
+fn asked_symbols(
+    alloc: Global,
+    form: Form,
+    room: usize,
+    raw: &[EntryNumbers],
+    tables: &TableSources<'_>,
+) -> Result<Option<Vec<ShownSymbol>>, ViewFault>
+    ensures { Gives (λ o. option_map (λ v. map symbol_seen v.items) o) result (where_asked (tag_is_there SYMTAB raw.now) (dynamic_symbols form room (tag_is_there VERSYM raw.now) (table_seen tables.now.symbols) (source_seen tables.now.versions))) }
+{
+    if !has_tag(raw, DT_SYMTAB) {
+        return Ok(None);
+    }
+    let with_versions = has_tag(raw, DT_VERSYM);
+    let shown = show_symbols(
+        alloc,
+        form,
+        room,
+        with_versions,
+        &tables.symbols,
+        &tables.versions,
+    )?;
+    Ok(Some(shown))
+}
+
+// The defined versions, where the list names and counts them.
+fn asked_definitions(
+    alloc: Global,
+    form: Form,
+    room: usize,
+    raw: &[EntryNumbers],
+    table: &TableSource<'_>,
+) -> Result<Option<Vec<ShownDefinition>>, ViewFault>
+    ensures { Gives (λ o. option_map (λ v. map definition_seen v.items) o) result (where_asked (tag_is_there VERDEF raw.now && tag_is_there VERDEFNUM raw.now) (defined_versions form room (table_seen table.now))) }
+{
+    let named = has_tag(raw, DT_VERDEF);
+    let counted = has_tag(raw, DT_VERDEFNUM);
+    if !(named && counted) {
+        return Ok(None);
+    }
+    let shown = definitions_of(alloc, form, room, table)?;
+    Ok(Some(shown))
+}
+
+// The needed versions, where the list names and counts them.
+fn asked_needs(
+    alloc: Global,
+    form: Form,
+    room: usize,
+    raw: &[EntryNumbers],
+    table: &TableSource<'_>,
+) -> Result<Option<Vec<ShownNeeds>>, ViewFault>
+    ensures { Gives (λ o. option_map (λ v. map needs_seen v.items) o) result (where_asked (tag_is_there VERNEED raw.now && tag_is_there VERNEEDNUM raw.now) (needed_versions form room (table_seen table.now))) }
+{
+    let named = has_tag(raw, DT_VERNEED);
+    let counted = has_tag(raw, DT_VERNEEDNUM);
+    if !(named && counted) {
+        return Ok(None);
+    }
+    let shown = needs_of(alloc, form, room, table)?;
+    Ok(Some(shown))
+}
+
+// The view by its dynamic entries and the tables that they name.
+pub(crate) fn show_tables<'a>(
+    alloc: Global,
+    form: Form,
+    room: usize,
+    outline: Outline<'a>,
+    raw: &[EntryNumbers],
+    tables: &TableSources<'_>,
+) -> Result<ShownView<'a>, ViewFault>
+    ensures { Gives view_seen result (view_of form room (outline_seen outline.entry) raw.now (tables_seen tables.now)) }
+{
+    let entries = view_entries(alloc, room, &tables.entry_texts, raw)?;
+    let symbols = asked_symbols(alloc, form, room, raw, tables)?;
+    let definitions = asked_definitions(alloc, form, room, raw, &tables.definitions)?;
+    let needs = asked_needs(alloc, form, room, raw, &tables.needs)?;
+    Ok(ShownView {
+        os_abi: outline.os_abi,
+        stack_flags: outline.stack_flags,
+        interpreter: outline.interpreter,
+        entries: Some(entries),
+        symbols,
+        definitions,
+        needs,
+    })
+}

@@ -1,0 +1,25 @@
+-- One range after the other.
+use Rattle.std.proofs.Common.{◌∙◌, Bool, List, ap, sym}
+use Rattle.std.specs.Prelude.{◌&&◌, filter}
+use Rattle.std.specs.List.{list_all}
+use Rattle.std.proofs.lemmas.Bool.{and_left}
+use Rattle.elf_format.specs.Placement.{file_range, is_stored}
+use Rattle.elf_format.specs.Ranges.{apart}
+use Rattle.elf_format.specs.declared.records.SectionHeader.{SectionHeader}
+use Rattle.elf_rules.proofs.PlacementSteps.{clear_of_each}
+use Rattle.elf_rules.proofs.placement.clear_of_headers.Goals as goal
+
+pub returns-then-clear_of_sections : goal.returns-then-clear_of_sections
+returns-then-clear_of_sections c =
+    let stored : List SectionHeader = filter is_stored c.args.sections.now in
+    let second : Bool = list_all (λ s. apart c.args.table (file_range s)) stored in
+    c.clear_of_sections-then-clear_of_sections.ensures ∙ sym (ap (λ t. t && second) (sym c.clear_of_sections.ensures ∙ c.if-clear_of_sections.true))
+    ∙ sym (clear_of_each (λ r q. apart r q) c.args.header c.args.table stored)
+
+pub returns-else-clear_of_sections : goal.returns-else-clear_of_sections
+returns-else-clear_of_sections c =
+    let stored : List SectionHeader = filter is_stored c.args.sections.now in
+    let first : Bool = list_all (λ s. apart c.args.header (file_range s)) stored in
+    let second : Bool = list_all (λ s. apart c.args.table (file_range s)) stored in
+    c.if-clear_of_sections.false ∙ sym (and_left first second (sym c.clear_of_sections.ensures ∙ c.if-clear_of_sections.false))
+    ∙ sym (clear_of_each (λ r q. apart r q) c.args.header c.args.table stored)

@@ -1,0 +1,10 @@
+use Rattle.std.proofs.Common.{◌∙◌, ap}
+use Rattle.std.specs.List.{list_all}
+use Rattle.elf_rules.specs.PlacementSteps.{is_clear_if_uninitialized}
+use Rattle.elf_rules.proofs.PlacementClear.{clear_if_uninitialized}
+use Rattle.elf_rules.proofs.placement.uninitialized_clear.Goals as goal
+
+pub returns : goal.returns
+returns c =
+    c.are_clear.ensures ∙ ap (λ ends. list_all (is_clear_if_uninitialized ends) c.args.sections.now) c.deref.ensures.value
+    ∙ clear_if_uninitialized c.args.segments.now c.in_ok-ends.ends.items c.args.sections.now c.in_ok-ends.ensures
