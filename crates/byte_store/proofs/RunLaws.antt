@@ -2,12 +2,12 @@
 use Rattle.std.proofs.Common.{◌≡◌, ◌≤◌, ◌<◌, ◌+◌, ◌-◌, ◌^◌, ℕ, List, [], ◌∷◌, ◌++◌, length, take, drop, map, get_or, replicate, refl, sym, ap, ◌∙◌, subst, arith, Option, Some, Result, Ok, Err, All}
 use Rattle.std.proofs.lemmas.List.Elements.{All-take}
 use Rattle.std.proofs.lemmas.List.{append-nil, append_assoc, get_or-map, length-append, length-map, length-take-le, take-append-drop, take_all, take_at, take_more, drop_more}
-use Rattle.byte_store.specs.Known.{Becomes, HasLength, Puts, PutsFirst, Stays, WritesAt, put_at, resized}
-use Rattle.byte_store.specs.Laid.{Lays, LaysFirst, LaysOf, LiesIn, Patch, changed, first_bytes, laid, patch_of, patches_of, total}
+use Rattle.byte_store.specs.Known.{Becomes, HasLength, KeepsKnown, Puts, PutsFirst, Stays, WritesAt, put_at, resized}
+use Rattle.byte_store.specs.Laid.{Lays, LaysAndCuts, LaysFirst, LaysOf, LiesIn, Patch, changed, first_bytes, laid, patch_of, patches_of, total}
 use Rattle.byte_store.specs.Fault.{BecomesLaid, BecomesLonger, BecomesTorn, IsLeft}
 use Rattle.byte_store.specs.declared.pieces.Piece.{Piece}
-use Rattle.byte_store.specs.declared.writing.WriteError.{WriteError}
-use Rattle.byte_store.specs.declared.writing.WriteError.TheVariants.{Longer, Torn, Unchanged}
+use Rattle.byte_store.specs.declared.writing.Left.{Left}
+use Rattle.byte_store.specs.declared.writing.Left.TheVariants.{Longer, Old, Torn}
 use Rattle.byte_store.proofs.PutLaws.{put_at-behind, put_at-more, put_at-nil, reaches}
 use Rattle.byte_store.proofs.LaidLaws.{first_all, first_none, first_some, laid-append, length-laid}
 
@@ -16,13 +16,13 @@ pub none_taken : {E : Type 0} (at : ℕ) (part : List ℕ) (r : Result ℕ E) (o
 none_taken {E} at part r old mid new is kept wrote bytes known inside =
     let P : Result ℕ E → Type 0 = λ r. WritesAt at part r mid new in
     let puts : Puts at [] mid new = subst P is wrote in
-    puts bytes (kept bytes known) inside
+    puts bytes (kept ∙ known) inside
 
 pub failed : (at : ℕ) (old mid new : Option (List ℕ)) → Stays old mid → Stays mid new → Puts at [] old new
-failed at old mid new kept last bytes known inside = last bytes (kept bytes known) ∙ ap Some (sym (put_at-nil at bytes))
+failed at old mid new kept last bytes known inside = last ∙ kept ∙ known ∙ ap Some (sym (put_at-nil at bytes))
 
 pub stopped : (at : ℕ) (old new : Option (List ℕ)) → Stays old new → Puts at [] old new
-stopped at old new kept bytes known inside = kept bytes known ∙ ap Some (sym (put_at-nil at bytes))
+stopped at old new kept bytes known inside = kept ∙ known ∙ ap Some (sym (put_at-nil at bytes))
 
 -- a part in steps
 pub more_put : (at done n : ℕ) (part rest : List ℕ) (old mid new : Option (List ℕ)) → rest ≡ drop done part → done ≤ length part → Puts at (take done part) old mid → Puts (at + done) (take n rest) mid new → Puts at (take (done + n) part) old new
@@ -60,7 +60,7 @@ resized-append at bytes part is =
     ∙ append-nil (take at (bytes ++ part))
     ∙ take_at bytes part at is
 
-pub undone : (at : ℕ) (growth : List ℕ) (old mid new : Option (List ℕ)) → HasLength old at → PutsFirst at growth old mid → Becomes (resized at) mid new → Stays old new
+pub undone : (at : ℕ) (growth : List ℕ) (old mid new : Option (List ℕ)) → HasLength old at → PutsFirst at growth old mid → Becomes (resized at) mid new → KeepsKnown old new
 undone at growth old mid new long first cuts bytes known =
     let is : length bytes ≡ at = long bytes known in
     cuts (bytes ++ take first.0 growth) (grown at (take first.0 growth) old mid long first.2 bytes known)
@@ -70,7 +70,7 @@ pub longer : (at : ℕ) (growth : List ℕ) (old mid new : Option (List ℕ)) �
 longer at growth old mid new long first kept = (
   first.0,
   λ bytes known.
-      kept (bytes ++ take first.0 growth) (grown at (take first.0 growth) old mid long first.2 bytes known),
+      kept ∙ (grown at (take first.0 growth) old mid long first.2 bytes known),
 )
 
 -- a piece of a list
@@ -132,50 +132,52 @@ laid_within patches these len old new long inside lays bytes known = lays bytes 
 pub torn_within : (patches : List Patch) (len : ℕ) (old new : Option (List ℕ)) → HasLength old len → All (LiesIn len) patches → LaysFirst patches old new → BecomesLaid patches old new
 torn_within patches len old new long inside first = (first.0, laid_within patches (first_bytes first.0 patches) len old new long inside first.1)
 
+-- pieces, and a cut
+module _ (len most : ℕ) (patches : List Patch) (old mid : Option (List ℕ)) (inside : All (LiesIn len) patches) (lays : Lays patches old mid) where
+  all_lie : (bytes : List ℕ) → length bytes ≡ len → All (LiesIn (length bytes)) patches
+  all_lie bytes long = let P : ℕ → Type 0 = λ n. All (LiesIn n) patches in subst P (sym long) inside
+
+  pub laid_whole : len ≤ most → LaysAndCuts len patches most old mid
+  laid_whole all bytes known long =
+      let same : length (laid patches bytes) ≡ length bytes = length-laid patches bytes (all_lie bytes long) in
+      lays bytes known (all_lie bytes long) ∙ ap Some (sym (take_all most (laid patches bytes) (omega arith)))
+
+  pub laid_and_cut : (new : Option (List ℕ)) → most < len → Becomes (resized most) mid new → LaysAndCuts len patches most old new
+  laid_and_cut new less cuts bytes known long =
+      let same : length (laid patches bytes) ≡ length bytes = length-laid patches bytes (all_lie bytes long) in
+      let none : most - length (laid patches bytes) ≡ 0 = omega arith in
+      cuts (laid patches bytes) (lays bytes known (all_lie bytes long))
+      ∙ ap Some (ap (λ (k : ℕ). take most (laid patches bytes) ++ replicate k 0) none ∙ append-nil (take most (laid patches bytes)))
+
+pub laid_uncut : (patches : List Patch) (old mid new : Option (List ℕ)) → Lays patches old mid → Stays mid new → LaysFirst patches old new
+laid_uncut patches old mid new lays kept = (
+  total patches,
+  λ bytes known inside.
+      kept ∙ lays bytes known inside ∙ ap Some (sym (first_all patches bytes)),
+)
+
 -- a whole run
-module _ (at len : ℕ) (growth : List ℕ) (patches : List Patch) (old mid : Option (List ℕ)) (long : HasLength old at) (inside : All (LiesIn (at + length growth)) patches) (grows : Becomes (λ bytes. bytes ++ growth) old mid) where
+module _ (at len : ℕ) (growth : List ℕ) (patches : List Patch) (old mid new : Option (List ℕ)) (long : HasLength old at) (grows : Becomes (λ bytes. bytes ++ growth) old mid) where
   longer_length : (bytes : List ℕ) → old ≡ Some bytes → length (bytes ++ growth) ≡ at + length growth
   longer_length bytes known = length-append bytes growth ∙ ap (λ (n : ℕ). n + length growth) (long bytes known)
 
-  all_lie : (bytes : List ℕ) → old ≡ Some bytes → All (LiesIn (length (bytes ++ growth))) patches
-  all_lie bytes known = let P : ℕ → Type 0 = λ n. All (LiesIn n) patches in subst P (sym (longer_length bytes known)) inside
+  pub changed_grown : LaysAndCuts (at + length growth) patches len mid new → Becomes (changed growth patches len) old new
+  changed_grown lays bytes known = lays (bytes ++ growth) (grows bytes known) (longer_length bytes known)
 
-  laid_length : (bytes : List ℕ) → old ≡ Some bytes → length (laid patches (bytes ++ growth)) ≡ at + length growth
-  laid_length bytes known = length-laid patches (bytes ++ growth) (all_lie bytes known) ∙ longer_length bytes known
-
-  pub laid_grown : (these : List Patch) (new : Option (List ℕ)) → LaysOf patches these mid new → Becomes (λ bytes. laid these (bytes ++ growth)) old new
-  laid_grown these new lays bytes known = lays (bytes ++ growth) (grows bytes known) (all_lie bytes known)
-
-  pub torn_grown : (new : Option (List ℕ)) → LaysFirst patches mid new → BecomesTorn growth patches old new
-  torn_grown new first = (first.0, laid_grown (first_bytes first.0 patches) new first.1)
-
-  pub torn_at_end : (last new : Option (List ℕ)) → Lays patches mid last → Stays last new → BecomesTorn growth patches old new
-  torn_at_end last new lays kept = (
-    total patches,
+  pub torn_grown : All (LiesIn (at + length growth)) patches → LaysFirst patches mid new → BecomesTorn growth patches old new
+  torn_grown inside first = (
+    first.0,
     λ bytes known.
-        kept (laid patches (bytes ++ growth)) (laid_grown patches last lays bytes known)
-        ∙ ap Some (sym (first_all patches (bytes ++ growth))),
+        let P : ℕ → Type 0 = λ n. All (LiesIn n) patches in
+        first.1 (bytes ++ growth) (grows bytes known) (subst P (sym (longer_length bytes known)) inside),
   )
 
-  pub changed_whole : (new : Option (List ℕ)) → at + length growth ≤ len → Lays patches mid new → Becomes (changed growth patches len) old new
-  changed_whole new all lays bytes known =
-      let is : length (laid patches (bytes ++ growth)) ≡ at + length growth = laid_length bytes known in
-      laid_grown patches new lays bytes known
-      ∙ ap Some (sym (take_all len (laid patches (bytes ++ growth)) (omega arith)))
-
-  pub changed_cut : (last new : Option (List ℕ)) → len ≤ at + length growth → Lays patches mid last → Becomes (resized len) last new → Becomes (changed growth patches len) old new
-  changed_cut last new less lays cuts bytes known =
-      let is : length (laid patches (bytes ++ growth)) ≡ at + length growth = laid_length bytes known in
-      let none : len - length (laid patches (bytes ++ growth)) ≡ 0 = omega arith in
-      cuts (laid patches (bytes ++ growth)) (laid_grown patches last lays bytes known)
-      ∙ ap Some (ap (λ (k : ℕ). take len (laid patches (bytes ++ growth)) ++ replicate k 0) none ∙ append-nil (take len (laid patches (bytes ++ growth))))
-
 -- a growth that failed leaves no piece
-pub growth_left : (e : WriteError) (growth : List ℕ) (patches : List Patch) (old new : Option (List ℕ)) → IsLeft e growth [] old new → IsLeft e growth patches old new
-growth_left (Unchanged e) growth patches old new left = left
-growth_left (Longer e) growth patches old new left = left
-growth_left (Torn e) growth patches old new left = (
+pub growth_left : (left : Left) (growth : List ℕ) (patches : List Patch) (old new : Option (List ℕ)) → IsLeft left growth [] old new → IsLeft left growth patches old new
+growth_left Old growth patches old new is = is
+growth_left Longer growth patches old new is = is
+growth_left Torn growth patches old new is = (
   0,
   λ bytes known.
-      left.1 bytes known ∙ ap Some (sym (first_none patches 0 (bytes ++ growth) refl)),
+      is.1 bytes known ∙ ap Some (sym (first_none patches 0 (bytes ++ growth) refl)),
 )

@@ -1,10 +1,10 @@
 -- What a run of writes that failed leaves.
 use Rattle.std.specs.Prelude.{ℕ, ◌≡◌, ◌+◌, ◌≤◌, List, [], ◌++◌, Option, length, take}
-use Rattle.byte_store.specs.Known.{Becomes, Stays}
+use Rattle.byte_store.specs.Known.{Becomes, KeepsKnown}
 use Rattle.byte_store.specs.Laid.{Patch, first_bytes, laid}
 use Rattle.byte_store.specs.declared.writing.Changes.{Changes}
-use Rattle.byte_store.specs.declared.writing.WriteError.{WriteError}
-use Rattle.byte_store.specs.declared.writing.WriteError.TheVariants.{Longer, Torn, Unchanged}
+use Rattle.byte_store.specs.declared.writing.Left.{Left}
+use Rattle.byte_store.specs.declared.writing.Left.TheVariants.{Longer, Old, Torn}
 
 -- known bytes get the first bytes of patches laid over them
 abbrev pub BecomesLaid : List Patch → Option (List ℕ) → Option (List ℕ) → Type 0
@@ -19,11 +19,11 @@ abbrev pub BecomesTorn : List ℕ → List Patch → Option (List ℕ) → Optio
 BecomesTorn growth patches old new = (n : ℕ)
     × Becomes (λ bytes. laid (first_bytes n patches) (bytes ++ growth)) old new
 
--- what an error tells of the bytes
-abbrev pub IsLeft : WriteError → List ℕ → List Patch → Option (List ℕ) → Option (List ℕ) → Type 0
-IsLeft (Unchanged e) growth patches old new = Stays old new
-IsLeft (Longer e) growth patches old new = BecomesLonger growth old new
-IsLeft (Torn e) growth patches old new = BecomesTorn growth patches old new
+-- what a failed run left
+abbrev pub IsLeft : Left → List ℕ → List Patch → Option (List ℕ) → Option (List ℕ) → Type 0
+IsLeft Old growth patches old new = KeepsKnown old new
+IsLeft Longer growth patches old new = BecomesLonger growth old new
+IsLeft Torn growth patches old new = BecomesTorn growth patches old new
 
 -- changes that change nothing
 pub record IsIdle (changes : Changes) : Type 0 where

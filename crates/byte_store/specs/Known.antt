@@ -5,9 +5,13 @@ use Rattle.std.specs.Prelude.{ℕ, ◌≡◌, ◌+◌, ◌-◌, ◌<◌, ◌≤�
 abbrev pub Becomes : (List ℕ → List ℕ) → Option (List ℕ) → Option (List ℕ) → Type 0
 Becomes f old new = (bytes : List ℕ) → old ≡ Some bytes → new ≡ Some (f bytes)
 
--- known bytes stay as they were
+-- known bytes are as they were
+abbrev pub KeepsKnown : Option (List ℕ) → Option (List ℕ) → Type 0
+KeepsKnown old new = Becomes (λ bytes. bytes) old new
+
+-- bytes stay as they were, known or not
 abbrev pub Stays : Option (List ℕ) → Option (List ℕ) → Type 0
-Stays old new = Becomes (λ bytes. bytes) old new
+Stays old new = new ≡ old
 
 -- where the bytes are known, there are so many
 abbrev pub HasLength : Option (List ℕ) → ℕ → Type 0

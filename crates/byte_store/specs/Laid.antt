@@ -54,3 +54,8 @@ Lays patches old new = LaysOf patches patches old new
 -- some first bytes of them
 abbrev pub LaysFirst : List Patch → Option (List ℕ) → Option (List ℕ) → Type 0
 LaysFirst patches old new = (n : ℕ) × LaysOf patches (first_bytes n patches) old new
+
+-- known bytes of this length get patches laid over them and are cut to another
+abbrev pub LaysAndCuts : ℕ → List Patch → ℕ → Option (List ℕ) → Option (List ℕ) → Type 0
+LaysAndCuts len patches most old new = (bytes : List ℕ) → old ≡ Some bytes → length bytes ≡ len
+    → new ≡ Some (take most (laid patches bytes))

@@ -14,4 +14,4 @@ pub use crate::memory::MemoryStore;
 pub use crate::pieces::Piece;
 pub use crate::reading::{ReadError, load_up_to, load_whole, read_up_to, read_whole};
 pub use crate::stores::Store;
-pub use crate::writing::{Changes, WriteError, write_changes, write_pieces};
+pub use crate::writing::{Changes, Left, WriteError, write_changes, write_pieces};

@@ -2,7 +2,7 @@
 ghost use Rattle.std.specs.Prelude.{◌≡◌, ◌++◌, ◌+◌, ◌<◌, ◌≤◌, ℕ, List, IfOk, IsTrue, OnErr, OnOk, drop, length, replicate, take, vec_len};
 ghost use Rattle.std.specs.Io.{ReadsAtMost};
 ghost use Rattle.std.specs.Io.KnownBytes.{Consumes, IsAtEnd, Keeps};
-ghost use Rattle.byte_store.specs.Known.{EndsWithin, IsAll, IsFirst, KeepsFront, ReadsInto, Stays};
+ghost use Rattle.byte_store.specs.Known.{EndsWithin, HasLength, IsAll, IsFirst, KeepsFront, ReadsInto, Stays};
 
 use crate::stores::Store;
 use std::alloc::{AllocError, Global};
@@ -25,12 +25,20 @@ pub enum ReadError {
 }
 
 impl From<AllocError> for ReadError {
+    ghost use Rattle.byte_store.specs.declared.reading.ReadError.TheVariants.{Memory};
+
+    ghost from_gives = { λ _ error. error ≡ Memory };
+
     fn from(_error: AllocError) -> ReadError {
         ReadError::Memory
     }
 }
 
 impl From<io::Error> for ReadError {
+    ghost use Rattle.byte_store.specs.declared.reading.ReadError.TheVariants.{Io};
+
+    ghost from_gives = { λ cause error. error ≡ Io cause };
+
     fn from(error: io::Error) -> ReadError {
         ReadError::Io(error)
     }
@@ -94,26 +102,24 @@ pub fn read_whole<F: Read>(
 /// The bytes of a store, or the first `most` where it has more.
 pub fn load_up_to<S: Store>(alloc: Global, store: &mut S, most: usize) -> Result<Vec<u8>, ReadError>
     ensures read { IfOk result (λ bytes. IsFirst most (S.contents store.old) bytes.items) }
+    ensures whole { IfOk result (λ bytes.
+        vec_len bytes < most → IsAll (S.contents store.old) bytes.items) }
+    ensures length { IfOk result (λ bytes.
+        vec_len bytes < most → HasLength (S.contents store.new) (vec_len bytes)) }
     ensures bound { IfOk result (λ bytes. vec_len bytes ≤ most) }
     ensures kept { Stays (S.contents store.old) (S.contents store.new) }
 {
     let expected = store.length()?;
-    let mut bytes = room_for(alloc, expected, most)?;
-    for _ in 0..MOST_READS {
-        if bytes.len() >= most {
-            return Ok(bytes);
-        }
-        if load_once(store, &mut bytes, most)? {
-            return Ok(bytes);
-        }
-    }
-    Err(ReadError::Io(endless()))
+    let room = room_for(alloc, expected, most)?;
+    let bytes = load_into(store, room, most)?;
+    Ok(bytes)
 }
 
 /// The bytes of a store. More than `most` are a fault.
 pub fn load_whole<S: Store>(alloc: Global, store: &mut S, most: usize) -> Result<Vec<u8>, ReadError>
     requires { most < usize.MAX }
     ensures read { IfOk result (λ bytes. IsAll (S.contents store.old) bytes.items) }
+    ensures length { IfOk result (λ bytes. HasLength (S.contents store.new) (vec_len bytes)) }
     ensures bound { IfOk result (λ bytes. vec_len bytes ≤ most) }
     ensures kept { Stays (S.contents store.old) (S.contents store.new) }
 {
@@ -183,6 +189,24 @@ fn read_behind<F: Read>(reader: &mut F, buffer: &mut [u8], at: usize) -> io::Res
     ensures end { IfOk result (λ n. n ≡ 0 → IsAtEnd (F.remaining reader.new)) }
 {
     reader.read(&mut buffer[at..])
+}
+
+/// The same in an empty buffer.
+fn load_into<S: Store>(store: &mut S, mut bytes: Vec<u8>, most: usize) -> Result<Vec<u8>, ReadError>
+    requires { vec_len bytes ≡ 0 }
+    ensures read { IfOk result (λ bytes. IsFirst most (S.contents store.old) bytes.items) }
+    ensures bound { IfOk result (λ bytes. vec_len bytes ≤ most) }
+    ensures kept { Stays (S.contents store.old) (S.contents store.new) }
+{
+    for _ in 0..MOST_READS {
+        if bytes.len() >= most {
+            return Ok(bytes);
+        }
+        if load_once(store, &mut bytes, most)? {
+            return Ok(bytes);
+        }
+    }
+    Err(ReadError::Io(endless()))
 }
 
 /// Reads a store once, from as many bytes on as are there, and puts what came behind them. Says whether

@@ -23,7 +23,8 @@ pub trait Store {
     fn read_at(&mut self, offset: u64, buffer: &mut [u8]) -> io::Result<usize>
         ensures bound { ReadsAtMost result buffer.new }
         ensures bytes { ReadsFrom offset result (contents self.old) buffer.new }
-        ensures kept { Stays (contents self.old) (contents self.new) };
+        ensures kept { Stays (contents self.old) (contents self.new) }
+        ensures open { is_writable self.new ≡ is_writable self.old };
 
     /// Opens the store for writing too, without creating or cutting it.
     fn open_for_writing(&mut self) -> io::Result<()>

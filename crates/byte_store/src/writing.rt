@@ -1,7 +1,7 @@
 //! Runs of writes: what lies behind the old end, the pieces, and a shorter length last.
 ghost use Rattle.std.specs.Prelude.{◌≡◌, ◌+◌, ◌++◌, ◌<◌, ◌≤◌, ◌^◌, [], All, IfErr, IfOk, IsOk, IsTrue, OnErr, OnOk, length, take};
 ghost use Rattle.byte_store.specs.Known.{Becomes, HasLength, Puts, PutsFirst};
-ghost use Rattle.byte_store.specs.Laid.{Lays, LaysFirst, LiesIn, changed, laid, patches_of};
+ghost use Rattle.byte_store.specs.Laid.{Lays, LaysAndCuts, LaysFirst, LiesIn, changed, laid, patches_of};
 ghost use Rattle.byte_store.specs.Fault.{BecomesLaid, IsLeft, IsIdle};
 
 use crate::pieces::Piece;
@@ -24,25 +24,31 @@ pub struct Changes<'a> {
     pub new_length: u64,
 }
 
+/// What a run of writes that failed left in a store.
+#[derive(Clone, Copy, Debug)]
+pub enum Left {
+    /// The bytes that it had.
+    Old,
+    /// The bytes that it had, and behind them the first ones of what was to come there: the old length
+    /// could not be set again.
+    Longer,
+    /// What was to come behind the bytes that it had, and the first bytes of the pieces, in order.
+    Torn,
+}
+
 /// Why a run of writes failed, and what it left.
 #[derive(Debug, Drop)]
-pub enum WriteError {
-    /// The store has the bytes that it had.
-    Unchanged(io::Error),
-    /// Bytes behind the old end were written in part, and the old length could not be set again: the
-    /// store has the bytes that it had, and some behind them.
-    Longer(io::Error),
-    /// The first bytes of the pieces were written, in order, and the others were not.
-    Torn(io::Error),
+pub struct WriteError {
+    /// What the store has.
+    pub left: Left,
+    /// The error of the call that failed.
+    pub error: io::Error,
 }
 
 impl fmt::Display for WriteError {
     fn fmt<W: fmt::Write>(&self, f: &mut fmt::Formatter<W>) -> fmt::Result {
-        match self {
-            WriteError::Unchanged(error) => write!(f, "{error}"),
-            WriteError::Longer(error) => write!(f, "{error}"),
-            WriteError::Torn(error) => write!(f, "{error}"),
-        }
+        let error = &self.error;
+        write!(f, "{error}")
     }
 }
 
@@ -60,19 +66,39 @@ pub fn write_changes<S: Store>(store: &mut S, changes: &Changes<'_>) -> Result<(
     ensures ok { OnOk result (Becomes
         (changed changes.now.growth.now (patches_of changes.now.pieces.now) changes.now.new_length)
         (S.contents store.old) (S.contents store.new)) }
-    ensures err { IfErr result (λ e. IsLeft e changes.now.growth.now (patches_of changes.now.pieces.now)
+    ensures err { IfErr result (λ e. IsLeft e.left changes.now.growth.now (patches_of changes.now.pieces.now)
         (S.contents store.old) (S.contents store.new)) }
     ensures idle { IsIdle changes.now → IsOk result × (store.new ≡ store.old) }
 {
     grow(store, changes.old_length, changes.growth)?;
     let length = changes.old_length + changes.growth.len() as u64;
-    if let Err(error) = lay(store, changes.pieces) {
-        return Err(WriteError::Torn(error));
+    match lay_and_cut(store, length, changes.pieces, changes.new_length) {
+        Ok(()) => Ok(()),
+        Err(error) => Err(WriteError {
+            left: Left::Torn,
+            error,
+        }),
     }
-    if changes.new_length < length {
-        if let Err(error) = store.set_length(changes.new_length) {
-            return Err(WriteError::Torn(error));
-        }
+}
+
+/// Writes pieces, and then cuts the store where it has more bytes than it is to have.
+fn lay_and_cut<S: Store>(
+    store: &mut S,
+    len: u64,
+    pieces: &[Piece<'_>],
+    new_length: u64,
+) -> io::Result<()>
+    requires open { IsTrue (S.is_writable store.old) }
+    requires inside { All (LiesIn len) (patches_of pieces.now) }
+    ensures ok { OnOk result (LaysAndCuts len (patches_of pieces.now) new_length
+        (S.contents store.old) (S.contents store.new)) }
+    ensures err { OnErr result
+        (LaysFirst (patches_of pieces.now) (S.contents store.old) (S.contents store.new)) }
+    ensures idle { length pieces.now ≡ 0 → len ≤ new_length → IsOk result × (store.new ≡ store.old) }
+{
+    lay(store, pieces)?;
+    if new_length < len {
+        store.set_length(new_length)?;
     }
     Ok(())
 }
@@ -116,15 +142,21 @@ fn grow<S: Store>(store: &mut S, old_length: u64, growth: &[u8]) -> Result<(), W
     requires fits { old_length + length growth.now < 2 ^ 64 }
     ensures ok { OnOk result (Becomes (λ bytes. bytes ++ growth.now)
         (S.contents store.old) (S.contents store.new)) }
-    ensures err { IfErr result (λ e. IsLeft e growth.now [] (S.contents store.old) (S.contents store.new)) }
+    ensures err { IfErr result (λ e. IsLeft e.left growth.now [] (S.contents store.old) (S.contents store.new)) }
     ensures idle { length growth.now ≡ 0 → IsOk result × (store.new ≡ store.old) }
     ensures open { OnOk result (S.is_writable store.new ≡ S.is_writable store.old) }
 {
     match put_all(store, old_length, growth) {
         Ok(()) => Ok(()),
         Err(error) => match store.set_length(old_length) {
-            Ok(()) => Err(WriteError::Unchanged(error)),
-            Err(_) => Err(WriteError::Longer(error)),
+            Ok(()) => Err(WriteError {
+                left: Left::Old,
+                error,
+            }),
+            Err(_) => Err(WriteError {
+                left: Left::Longer,
+                error,
+            }),
         },
     }
 }

@@ -1,6 +1,6 @@
 use Rattle.std.proofs.Common.{◌≤◌, vec_len}
 use Rattle.byte_store.specs.Known.{IsFront, Stays}
-use Rattle.byte_store.proofs.reading.load_up_to.Given as goal
+use Rattle.byte_store.proofs.reading.load_into.Given as goal
 
 abbrev pub invariant-loop : goal.invariant-loop
 invariant-loop g l = record {
