@@ -12,7 +12,7 @@ use std::{fmt, io};
 const MOST_TRIES: u32 = 1001;
 
 /// What a run of writes does to a store.
-#[derive(Clone, Copy, Debug)]
+#[derive(Clone, Copy)]
 pub struct Changes<'a> {
     /// How long the store is.
     pub old_length: u64,
