@@ -1,12 +1,12 @@
 -- Patches over bytes: length, order, positions, and their first bytes alone.
-use Rattle.std.proofs.Common.{◌≡◌, ◌≤◌, ◌<◌, ◌+◌, ◌-◌, ℕ, inl, inr, List, [], ◌∷◌, ◌++◌, length, take, drop, get_or, refl, sym, ap, ◌∙◌, subst, arith, Some, All}
+use Rattle.std.proofs.Common.{◌≡◌, ◌≤◌, ◌+◌, ◌-◌, ℕ, inl, inr, List, [], ◌∷◌, ◌++◌, length, take, get_or, refl, sym, ap, ◌∙◌, subst, arith, Some, All}
 use Rattle.std.specs.List.{slice_get}
-use Rattle.std.proofs.lemmas.List.{drop_at, length-append, take_all, take_at}
+use Rattle.std.proofs.lemmas.List.{drop_at, take_all, take_at}
 use Rattle.std.proofs.lemmas.List.Elements.{All-drop, All-head, All-tail, All-take}
 use Rattle.std.proofs.lemmas.Option.{slice_get-get_or, slice_get_past}
 use Rattle.std.proofs.lemmas.Bool.{cases_lt}
 use Rattle.byte_store.specs.Known.{put_at}
-use Rattle.byte_store.specs.Laid.{LiesIn, Patch, cut, first_bytes, laid, total}
+use Rattle.byte_store.specs.Laid.{LiesIn, Patch, first_bytes, laid, total}
 use Rattle.byte_store.specs.Laws.{IsOutside, LaidHoldsInside, LaidKeepsLength, LaidKeepsOutside}
 use Rattle.byte_store.proofs.PutLaws.{get_or-put_at, get_or-put_at_inside, length-put_at, put_at-nil}
 

@@ -1,5 +1,5 @@
 -- Reading bytes one part after another.
-use Rattle.std.proofs.Common.{◌≡◌, ◌≤◌, ◌<◌, ◌+◌, ◌-◌, ℕ, List, ◌++◌, length, take, drop, refl, sym, ap, ◌∙◌, arith, Option, Some, Result}
+use Rattle.std.proofs.Common.{◌≡◌, ◌≤◌, ◌<◌, ◌+◌, ℕ, List, ◌++◌, length, take, drop, sym, ap, ◌∙◌, arith, Option}
 use Rattle.std.proofs.lemmas.List.{length-take, length-take-le, take_all, take_at}
 use Rattle.byte_store.specs.Known.{EndsWithin, HasLength, IsAll, IsFirst, IsFront, KeepsFront, ReadsInto, Stays}
 use Rattle.byte_store.proofs.PutLaws.{take_sum}

@@ -1,5 +1,5 @@
 -- Bytes with a part over them.
-use Rattle.std.proofs.Common.{◌≡◌, ◌≤◌, ◌<◌, ◌+◌, ◌-◌, ℕ, ◌⊎◌, inl, inr, List, [], ◌++◌, length, take, drop, get_or, refl, sym, ap, ◌∙◌, subst, arith, add-zero}
+use Rattle.std.proofs.Common.{◌≡◌, ◌≤◌, ◌<◌, ◌+◌, ◌-◌, ℕ, ◌⊎◌, inl, inr, List, [], ◌++◌, length, take, drop, get_or, sym, ap, ◌∙◌, subst, arith, add-zero}
 use Rattle.std.proofs.lemmas.List.{append-nil, append_assoc, drop-drop, drop-take, drop_all, drop_at, get_or-append-add, get_or-drop, get_or-take, get_or_append_left, length-append, length-drop, length-take, length-take-le, take-append-drop, take-append-le, take-take, take_all, take_at}
 use Rattle.byte_store.specs.Known.{put_at}
 

@@ -1,7 +1,7 @@
 -- Runs of writes.
-use Rattle.std.proofs.Common.{◌≡◌, ◌≤◌, ◌<◌, ◌+◌, ◌-◌, ◌^◌, ℕ, List, [], ◌∷◌, ◌++◌, length, take, drop, map, get_or, replicate, refl, sym, ap, ◌∙◌, subst, arith, Option, Some, Result, Ok, Err, All}
+use Rattle.std.proofs.Common.{◌≡◌, ◌≤◌, ◌<◌, ◌+◌, ◌-◌, ℕ, List, [], ◌∷◌, ◌++◌, length, take, drop, get_or, replicate, refl, sym, ap, ◌∙◌, subst, arith, Option, Some, Result, Ok, All}
 use Rattle.std.proofs.lemmas.List.Elements.{All-take}
-use Rattle.std.proofs.lemmas.List.{append-nil, append_assoc, get_or-map, length-append, length-map, length-take-le, take-append-drop, take_all, take_at, take_more, drop_more}
+use Rattle.std.proofs.lemmas.List.{append-nil, get_or-map, length-append, length-map, length-take-le, take-append-drop, take_all, take_at, take_more, drop_more}
 use Rattle.byte_store.specs.Known.{Becomes, HasLength, KeepsKnown, Puts, PutsFirst, Stays, WritesAt, put_at, resized}
 use Rattle.byte_store.specs.Laid.{Lays, LaysAndCuts, LaysFirst, LaysOf, LiesIn, Patch, changed, first_bytes, laid, patch_of, patches_of, total}
 use Rattle.byte_store.specs.Fault.{BecomesLaid, BecomesLonger, BecomesTorn, IsLeft}

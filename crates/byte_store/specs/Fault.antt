@@ -1,5 +1,5 @@
 -- What a run of writes that failed leaves.
-use Rattle.std.specs.Prelude.{ℕ, ◌≡◌, ◌+◌, ◌≤◌, List, [], ◌++◌, Option, length, take}
+use Rattle.std.specs.Prelude.{ℕ, ◌≡◌, ◌≤◌, List, ◌++◌, Option, length, take}
 use Rattle.byte_store.specs.Known.{Becomes, KeepsKnown}
 use Rattle.byte_store.specs.Laid.{Patch, first_bytes, laid}
 use Rattle.byte_store.specs.declared.writing.Changes.{Changes}

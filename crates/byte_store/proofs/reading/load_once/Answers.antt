@@ -1,4 +1,4 @@
-use Rattle.std.proofs.Common.{◌≡◌, ◌+◌, ◌∙◌, ap, arith, take, length, sym}
+use Rattle.std.proofs.Common.{◌≡◌, ◌+◌, ◌∙◌, ap, arith, take, length}
 use Rattle.byte_store.proofs.LoadLaws.{front_more, lent_back}
 use Rattle.byte_store.proofs.reading.load_once.Goals as goal
 

@@ -1,5 +1,5 @@
 use Rattle.std.proofs.Common.{arith}
-use Rattle.byte_store.proofs.LoadLaws.{all_length, whole_first}
+use Rattle.byte_store.proofs.LoadLaws.{whole_first}
 use Rattle.byte_store.proofs.reading.load_whole.Goals as goal
 
 pub returns-clause-read : goal.returns-clause-read

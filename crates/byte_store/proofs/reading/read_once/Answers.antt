@@ -1,4 +1,4 @@
-use Rattle.std.proofs.Common.{◌≡◌, ◌+◌, ◌∙◌, ap, arith, take, drop, length, sym}
+use Rattle.std.proofs.Common.{◌≡◌, ◌+◌, ◌∙◌, ap, arith, take, drop, length}
 use Rattle.byte_store.proofs.LoadLaws.{filled_up, lent_back}
 use Rattle.byte_store.proofs.reading.read_once.Goals as goal
 
