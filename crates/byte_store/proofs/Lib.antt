@@ -1,0 +1,4 @@
+pub mod PutLaws
+pub mod LaidLaws
+pub mod LoadLaws
+pub mod RunLaws

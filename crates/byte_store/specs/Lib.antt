@@ -1,0 +1,4 @@
+pub mod Known
+pub mod Laid
+pub mod Laws
+pub mod Fault

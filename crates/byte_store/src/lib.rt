@@ -1,0 +1,17 @@
+//! Stores of bytes that are read whole, and in which only what changes is written.
+#![tactic(auto)]
+
+pub mod file;
+pub mod laws;
+pub mod memory;
+pub mod pieces;
+pub mod reading;
+pub mod stores;
+pub mod writing;
+
+pub use crate::file::FileStore;
+pub use crate::memory::MemoryStore;
+pub use crate::pieces::Piece;
+pub use crate::reading::{ReadError, load_up_to, load_whole, read_up_to, read_whole};
+pub use crate::stores::Store;
+pub use crate::writing::{Changes, Left, WriteError, write_changes, write_pieces};

@@ -1,0 +1,107 @@
+//! A store in memory.
+ghost use Rattle.std.specs.Prelude.{◌≡◌, ◌+◌, ◌<◌, ◌≤◌, false, Some, IfOk, OnErr, drop, length, take, vec_len};
+ghost use Rattle.std.specs.Io.{WritesAtMost};
+ghost use Rattle.byte_store.specs.Known.{put_at};
+
+use crate::stores::Store;
+use std::io;
+
+/// A store whose bytes are in memory.
+#[derive(Debug, Drop)]
+pub struct MemoryStore {
+    /// Its bytes.
+    pub bytes: Vec<u8>,
+    /// Whether it has been opened for writing.
+    pub is_open: bool,
+}
+
+impl MemoryStore {
+    /// A store of these bytes, opened for reading.
+    pub fn new(bytes: Vec<u8>) -> MemoryStore
+        ensures bytes { result.bytes ≡ bytes }
+        ensures open { result.is_open ≡ false }
+    {
+        MemoryStore {
+            bytes,
+            is_open: false,
+        }
+    }
+}
+
+impl Store for MemoryStore {
+    ghost contents = { λ store. Some store.bytes.items };
+
+    ghost is_writable = { λ store. store.is_open };
+
+    fn length(&self) -> io::Result<u64> {
+        Ok(self.bytes.len() as u64)
+    }
+
+    fn read_at(&mut self, offset: u64, buffer: &mut [u8]) -> io::Result<usize> {
+        Ok(copy_from(self.bytes.as_slice(), offset, buffer))
+    }
+
+    fn open_for_writing(&mut self) -> io::Result<()> {
+        self.is_open = true;
+        Ok(())
+    }
+
+    fn write_at(&mut self, offset: u64, bytes: &[u8]) -> io::Result<usize> {
+        put(&mut self.bytes, offset, bytes)
+    }
+
+    fn set_length(&mut self, length: u64) -> io::Result<()> {
+        self.bytes.resize(length as usize, 0)?;
+        Ok(())
+    }
+}
+
+/// Copies bytes from an offset on to the front of a buffer, as far as there are any and it has room.
+fn copy_from(bytes: &[u8], offset: u64, buffer: &mut [u8]) -> usize
+    ensures bound { result ≤ length buffer.new }
+    ensures copied { take result buffer.new ≡ take result (drop offset bytes.now) }
+    ensures end { result ≡ 0 → 0 < length buffer.new → length bytes.now ≤ offset }
+{
+    let rest = rest_of(bytes, offset);
+    let count = rest.len().min(buffer.len());
+    buffer[..count].copy_from_slice(&rest[..count]);
+    count
+}
+
+/// The bytes from an offset on.
+fn rest_of(bytes: &[u8], offset: u64) -> &[u8]
+    ensures { result.now ≡ drop offset bytes.now }
+{
+    let begin = bytes.len().min(offset as usize);
+    &bytes[begin..]
+}
+
+/// Writes bytes from an offset on: over those that are there, or behind the last. Between the two it
+/// takes fewer than there are.
+fn put(bytes: &mut Vec<u8>, offset: u64, part: &[u8]) -> io::Result<usize>
+    ensures bound { WritesAtMost result part.now }
+    ensures bytes { IfOk result (λ n. offset ≤ vec_len bytes.old
+        → bytes.new.items ≡ put_at offset (take n part.now) bytes.old.items) }
+    ensures err { OnErr result (bytes.new.items ≡ bytes.old.items) }
+{
+    let begin = offset as usize;
+    if begin > bytes.len() {
+        let message = "a write begins behind the end";
+        return Err(io::Error::new(io::ErrorKind::InvalidInput, message));
+    }
+    if begin == bytes.len() {
+        bytes.extend_from_slice(part)?;
+        return Ok(part.len());
+    }
+    let count = part.len().min(bytes.len() - begin);
+    put_within(bytes.as_mut_slice(), begin, &part[..count]);
+    Ok(count)
+}
+
+/// Writes a part over the bytes from a position on.
+fn put_within(bytes: &mut [u8], at: usize, part: &[u8])
+    requires { at + length part.now ≤ length bytes.old }
+    ensures { bytes.new ≡ put_at at part.now bytes.old }
+{
+    bytes[at..at + part.len()].copy_from_slice(part);
+}

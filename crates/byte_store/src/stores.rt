@@ -1,0 +1,46 @@
+//! What can be read and written at offsets.
+ghost use Rattle.std.specs.Prelude.{◌≡◌, ℕ, Bool, List, Option, None, IfOk, IsTrue, OnErr, OnOk};
+ghost use Rattle.std.specs.Io.{ReadsAtMost, WritesAtMost};
+ghost use Rattle.byte_store.specs.Known.{HasLength, ReadsFrom, Resizes, Stays, WritesAt};
+
+use std::io;
+
+/// A thing with a length that holds bytes at offsets: a file, or bytes in memory. It is opened for
+/// reading at first. An error of any call changes no byte.
+pub trait Store {
+    // The bytes, where they are known.
+    ghost contents: { Self → Option (List ℕ) } = { λ _. None };
+
+    // It has been opened for writing.
+    ghost is_writable: { Self → Bool };
+
+    /// How many bytes it has. Devices and pipes answer 0.
+    fn length(&self) -> io::Result<u64>
+        ensures { IfOk result (λ n. HasLength (contents self.now) n) };
+
+    /// Puts bytes from an offset on at the front of a buffer, and answers how many: 0 only at the end,
+    /// or where the buffer has no room.
+    fn read_at(&mut self, offset: u64, buffer: &mut [u8]) -> io::Result<usize>
+        ensures bound { ReadsAtMost result buffer.new }
+        ensures bytes { ReadsFrom offset result (contents self.old) buffer.new }
+        ensures kept { Stays (contents self.old) (contents self.new) }
+        ensures open { is_writable self.new ≡ is_writable self.old };
+
+    /// Opens the store for writing too, without creating or cutting it.
+    fn open_for_writing(&mut self) -> io::Result<()>
+        ensures open { OnOk result (IsTrue (is_writable self.new)) }
+        ensures kept { Stays (contents self.old) (contents self.new) };
+
+    /// Writes bytes from an offset on, and answers how many it took.
+    fn write_at(&mut self, offset: u64, bytes: &[u8]) -> io::Result<usize>
+        requires { IsTrue (is_writable self.old) }
+        ensures bound { WritesAtMost result bytes.now }
+        ensures bytes { WritesAt offset bytes.now result (contents self.old) (contents self.new) }
+        ensures open { is_writable self.new ≡ is_writable self.old };
+
+    /// Cuts the store to a length, or puts zeros behind it up to there.
+    fn set_length(&mut self, length: u64) -> io::Result<()>
+        requires { IsTrue (is_writable self.old) }
+        ensures bytes { Resizes length result (contents self.old) (contents self.new) }
+        ensures open { is_writable self.new ≡ is_writable self.old };
+}

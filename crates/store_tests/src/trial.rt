@@ -1,0 +1,74 @@
+//! A store in memory whose calls fail on purpose.
+use byte_store::{MemoryStore, Store};
+use std::io;
+
+/// What goes wrong. Calls are those of `write_at`, counted from 0; 99 is never reached.
+#[derive(Clone, Copy)]
+pub struct Plan {
+    /// This write fails.
+    pub fails_at: usize,
+    /// A write takes so many bytes at most.
+    pub takes: usize,
+    /// So many interruptions come before each write.
+    pub interruptions: usize,
+    /// Setting the length fails.
+    pub keeps_length: bool,
+}
+
+/// A store in memory that follows a plan, and counts its writes.
+#[derive(Drop)]
+pub struct TrialStore {
+    pub inner: MemoryStore,
+    pub plan: Plan,
+    pub writes: usize,
+    pub interrupted: usize,
+}
+
+impl TrialStore {
+    pub fn new(bytes: Vec<u8>, plan: Plan) -> TrialStore {
+        TrialStore {
+            inner: MemoryStore::new(bytes),
+            plan,
+            writes: 0,
+            interrupted: 0,
+        }
+    }
+}
+
+impl Store for TrialStore {
+    ghost is_writable = { λ store. store.inner.is_open };
+
+    fn length(&self) -> io::Result<u64> {
+        self.inner.length()
+    }
+
+    fn read_at(&mut self, offset: u64, buffer: &mut [u8]) -> io::Result<usize> {
+        self.inner.read_at(offset, buffer)
+    }
+
+    fn open_for_writing(&mut self) -> io::Result<()> {
+        self.inner.open_for_writing()
+    }
+
+    fn write_at(&mut self, offset: u64, bytes: &[u8]) -> io::Result<usize> {
+        if self.interrupted < self.plan.interruptions {
+            self.interrupted = self.interrupted.saturating_add(1);
+            return Err(io::Error::from(io::ErrorKind::Interrupted));
+        }
+        self.interrupted = 0;
+        let call = self.writes;
+        self.writes = call.saturating_add(1);
+        if call == self.plan.fails_at {
+            return Err(io::Error::from(io::ErrorKind::StorageFull));
+        }
+        let count = bytes.len().min(self.plan.takes);
+        self.inner.write_at(offset, &bytes[..count])
+    }
+
+    fn set_length(&mut self, length: u64) -> io::Result<()> {
+        if self.plan.keeps_length {
+            return Err(io::Error::from(io::ErrorKind::StorageFull));
+        }
+        self.inner.set_length(length)
+    }
+}
