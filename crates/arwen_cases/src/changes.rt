@@ -19,7 +19,8 @@ pub(crate) fn print_changes(
     }
 }
 
-fn print_rows(rt: &HostRuntime, before: &[u8], after: &[u8]) -> io::Result<()> {
+/// Prints a length, and each row of 16 bytes that is not as before.
+pub(crate) fn print_rows(rt: &HostRuntime, before: &[u8], after: &[u8]) -> io::Result<()> {
     let length = after.len();
     if before == after {
         return println!(rt; "{length} bytes, as before");

@@ -6,10 +6,13 @@
 //! - `> WORD WORD ..` does what these words of a command line ask. Printed are its own prints, the status, the
 //!   first line of the fault, the length of `file`, and each row of 16 bytes in which it changed.
 //! - `? WORD WORD ..` only reads the words, and prints the command that they mean, or the status and the fault.
+//! - `! WORD WORD ..` does it to the bytes of `file` alone. Printed are the rows that an edit would change, or what
+//!   stands on a page of 8 bytes after a print.
 //!
 //! Spaces stand between words, and `''` is the empty word. Nothing comes of other lines.
 #![tactic(auto)]
 
+mod calls;
 mod changes;
 
 use arwen_cli::cli::{ArwenError, Command, execute, parse_line};
@@ -36,6 +39,7 @@ fn step(rt: &HostRuntime, line: &str) -> io::Result<()> {
         ("=", name) => copy(rt, name),
         (">", words) => run(rt, words),
         ("?", words) => read(rt, words),
+        ("!", words) => call(rt, words),
         _ => Ok(()),
     }
 }
@@ -108,7 +112,7 @@ fn done(
 }
 
 /// Prints the status after a fault, and its first line.
-fn tell(rt: &HostRuntime, error: &ArwenError) -> io::Result<()> {
+pub(crate) fn tell(rt: &HostRuntime, error: &ArwenError) -> io::Result<()> {
     let status = error.status();
     match error {
         ArwenError::Line { text, .. } => {
@@ -127,6 +131,17 @@ fn read(rt: &HostRuntime, words: &str) -> io::Result<()> {
     let words = words_of(rt, words)?;
     match command_of(rt, words.as_slice()) {
         Ok(command) => println!(rt; "{command:?}"),
+        Err(error) => tell(rt, &error),
+    }
+}
+
+/// Does what the words of a line ask to the bytes of the file alone.
+fn call(rt: &HostRuntime, words: &str) -> io::Result<()> {
+    let bytes = content(rt, FILE)?.unwrap_or(Vec::new(rt.alloc()));
+    let words = words_of(rt, words)?;
+    match command_of(rt, words.as_slice()) {
+        Ok(Command::Macho(command)) => calls::edit(rt, bytes.as_slice(), &command),
+        Ok(Command::Elf(command)) => calls::print(rt, bytes.as_slice(), &command),
         Err(error) => tell(rt, &error),
     }
 }

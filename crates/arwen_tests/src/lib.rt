@@ -1,9 +1,7 @@
-//! Tests of the commands that need a reader or a writer of their own, or faults that no file has. What lines
-//! mean, what commands do to files and what is printed is shown by the cases of `arwen_cases`.
+//! Tests of the commands that need a reader of their own, or faults that no file has. What lines mean, what
+//! commands do to files and what is printed is shown by the cases of `arwen_cases`.
 #![tactic(auto)]
 
-#[cfg(test)]
-mod calls;
 #[cfg(test)]
 mod faults;
 #[cfg(test)]
