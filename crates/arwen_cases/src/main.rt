@@ -88,27 +88,29 @@ fn run(rt: &HostRuntime, words: &str) -> io::Result<()> {
 /// Does what the words of a line ask, and prints the status and the fault.
 fn answer(rt: &HostRuntime, words: &str, before: &Option<Vec<u8>>) -> io::Result<()> {
     let words = words_of(rt, words)?;
-    match done(rt, words.as_slice(), before)? {
+    match done(rt, words.as_slice(), before) {
         Ok(()) => println!(rt; "status 0"),
         Err(error) => tell(rt, &error),
     }
 }
 
-/// Does what words ask, once more where memory was refused: that leaves the file as it was.
-fn done(
-    rt: &HostRuntime,
-    words: &[&str],
-    before: &Option<Vec<u8>>,
-) -> io::Result<Result<(), ArwenError>> {
+/// Does what words ask, once more where memory was refused.
+fn done(rt: &HostRuntime, words: &[&str], before: &Option<Vec<u8>>) -> Result<(), ArwenError> {
     match execute(rt, words) {
         Err(ArwenError::Memory) => {
-            if content(rt, FILE)? != *before {
-                println!(rt; "refused memory, and changed the file")?;
-            }
-            Ok(execute(rt, words))
+            check_file(rt, before)?;
+            execute(rt, words)
         }
-        answer => Ok(answer),
+        answer => answer,
     }
+}
+
+/// Says so where a command that was refused memory did not leave the file as it was.
+fn check_file(rt: &HostRuntime, before: &Option<Vec<u8>>) -> io::Result<()> {
+    if content(rt, FILE)? != *before {
+        println!(rt; "refused memory, and changed the file")?;
+    }
+    Ok(())
 }
 
 /// Prints the status after a fault, and its first line.
