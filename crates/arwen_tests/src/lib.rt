@@ -1,8 +1,8 @@
-//! Tests of the command line: what lines mean, what commands do to files and what is printed. They stand above
-//! all other libraries, so that no proof waits for them.
+//! Tests of the commands that need a reader of their own, or faults that no file has. What lines mean, what
+//! commands do to files and what is printed is shown by the cases of `arwen_cases`.
 #![tactic(auto)]
 
 #[cfg(test)]
-mod cli;
+mod faults;
 #[cfg(test)]
-mod elf_cli;
+mod reading;

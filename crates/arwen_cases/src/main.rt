@@ -1,0 +1,157 @@
+//! Runs the command line on the cases of the file `cases`, and prints what came of each.
+//!
+//! Each line of that file is printed again, and below it what came of it:
+//!
+//! - `= NAME` makes the file `file` a copy of the file NAME, and `= none` takes it away.
+//! - `> WORD WORD ..` does what these words of a command line ask. Printed are its own prints, the status, the
+//!   first line of the fault, the length of `file`, and each row of 16 bytes in which it changed.
+//! - `? WORD WORD ..` only reads the words, and prints the command that they mean, or the status and the fault.
+//! - `! WORD WORD ..` does it to the bytes of `file` alone. Printed are the rows that an edit would change, or what
+//!   stands on a page of 8 bytes after a print.
+//!
+//! Spaces stand between words, and `''` is the empty word. Nothing comes of other lines.
+#![tactic(auto)]
+
+mod calls;
+mod changes;
+
+use arwen_cli::cli::{ArwenError, Command, execute, parse_line};
+use changes::print_changes;
+use std::alloc::{AllocError, Global};
+use std::{fs, io};
+
+/// The file that commands are run on.
+const FILE: &str = "file";
+
+fn main(rt: HostRuntime) -> io::Result<()> {
+    let cases = content(&rt, "cases")?.unwrap_or(Vec::new(rt.alloc()));
+    let cases = std::str::from_utf8(cases.as_slice()).unwrap_or("");
+    for line in cases.lines() {
+        step(&rt, line)?;
+    }
+    Ok(())
+}
+
+/// Prints a line of the cases, and what comes of it.
+fn step(rt: &HostRuntime, line: &str) -> io::Result<()> {
+    println!(rt; "{line}")?;
+    match line.split_once(' ').unwrap_or((line, "")) {
+        ("=", name) => copy(rt, name),
+        (">", words) => run(rt, words),
+        ("?", words) => read(rt, words),
+        ("!", words) => call(rt, words),
+        _ => Ok(()),
+    }
+}
+
+/// The bytes of a file, or `None` where there is no such file. Read again where memory was refused.
+fn content(rt: &HostRuntime, path: &str) -> io::Result<Option<Vec<u8>>> {
+    match fs::read(rt, path) {
+        Ok(bytes) => Ok(Some(bytes)),
+        Err(error) if error.kind() == io::ErrorKind::NotFound => Ok(None),
+        Err(_) => Ok(Some(fs::read(rt, path)?)),
+    }
+}
+
+/// Makes the file a copy of another, or takes it away where there is no other.
+fn copy(rt: &HostRuntime, name: &str) -> io::Result<()> {
+    match content(rt, name)? {
+        Some(bytes) => fs::write(rt, FILE, bytes.as_slice()),
+        None => fs::remove_file(rt, FILE),
+    }
+}
+
+/// The words of a line.
+fn split_words<'a>(alloc: Global, words: &'a str) -> Result<Vec<&'a str>, AllocError> {
+    words
+        .split(' ')
+        .filter(|word| !word.is_empty())
+        .map(|word| if word == "''" { "" } else { word })
+        .collect(alloc)
+}
+
+/// The words of a line, looked for again where memory was refused.
+fn words_of<'a>(rt: &HostRuntime, words: &'a str) -> Result<Vec<&'a str>, AllocError> {
+    match split_words(rt.alloc(), words) {
+        Err(_) => split_words(rt.alloc(), words),
+        words => words,
+    }
+}
+
+/// Does what the words of a line ask, and prints what came of it and of the file.
+fn run(rt: &HostRuntime, words: &str) -> io::Result<()> {
+    let before = content(rt, FILE)?;
+    answer(rt, words, &before)?;
+    print_changes(rt, &before, &content(rt, FILE)?)
+}
+
+/// Does what the words of a line ask, and prints the status and the fault.
+fn answer(rt: &HostRuntime, words: &str, before: &Option<Vec<u8>>) -> io::Result<()> {
+    let words = words_of(rt, words)?;
+    match done(rt, words.as_slice(), before) {
+        Ok(()) => println!(rt; "status 0"),
+        Err(error) => tell(rt, &error),
+    }
+}
+
+/// Does what words ask, once more where memory was refused.
+fn done(rt: &HostRuntime, words: &[&str], before: &Option<Vec<u8>>) -> Result<(), ArwenError> {
+    match execute(rt, words) {
+        Err(ArwenError::Memory) => {
+            check_file(rt, before)?;
+            execute(rt, words)
+        }
+        answer => answer,
+    }
+}
+
+/// Says so where a command that was refused memory did not leave the file as it was.
+fn check_file(rt: &HostRuntime, before: &Option<Vec<u8>>) -> io::Result<()> {
+    if content(rt, FILE)? != *before {
+        println!(rt; "refused memory, and changed the file")?;
+    }
+    Ok(())
+}
+
+/// Prints the status after a fault, and its first line.
+pub(crate) fn tell(rt: &HostRuntime, error: &ArwenError) -> io::Result<()> {
+    let status = error.status();
+    match error {
+        ArwenError::Line { text, .. } => {
+            let first = text.as_str().lines().next().unwrap_or("");
+            println!(rt; "status {status}: {first}")
+        }
+        _ => {
+            let line = error.line();
+            println!(rt; "status {status}: {line}")
+        }
+    }
+}
+
+/// Prints the command that the words of a line mean.
+fn read(rt: &HostRuntime, words: &str) -> io::Result<()> {
+    let words = words_of(rt, words)?;
+    match command_of(rt, words.as_slice()) {
+        Ok(command) => println!(rt; "{command:?}"),
+        Err(error) => tell(rt, &error),
+    }
+}
+
+/// Does what the words of a line ask to the bytes of the file alone.
+fn call(rt: &HostRuntime, words: &str) -> io::Result<()> {
+    let bytes = content(rt, FILE)?.unwrap_or(Vec::new(rt.alloc()));
+    let words = words_of(rt, words)?;
+    match command_of(rt, words.as_slice()) {
+        Ok(Command::Macho(command)) => calls::edit(rt, bytes.as_slice(), &command),
+        Ok(Command::Elf(command)) => calls::print(rt, bytes.as_slice(), &command),
+        Err(error) => tell(rt, &error),
+    }
+}
+
+/// The command that words mean, read again where memory was refused.
+fn command_of(rt: &HostRuntime, words: &[&str]) -> Result<Command, ArwenError> {
+    match parse_line(rt.alloc(), words) {
+        Err(ArwenError::Memory) => parse_line(rt.alloc(), words),
+        answer => answer,
+    }
+}
