@@ -25,7 +25,7 @@ pub enum ShownEntry<'a> {
     Text(u64, &'a [u8]),
 }
 
-/// Whether a tag's value says where a text stands.
+/// Whether a tag's value says where a text stands (gABI, Dynamic Section).
 pub fn is_text_tag(tag: u64) -> bool
     ensures { result ≡ is_one_of text_tags tag }
 {
@@ -44,7 +44,7 @@ pub fn is_text_tag(tag: u64) -> bool
     .any(|x| *x == tag)
 }
 
-/// Whether a tag's value follows from a table.
+/// Whether a tag's value follows from a table: its address, its size or its count (gABI, Dynamic Section).
 pub fn is_table_tag(tag: u64) -> bool
     ensures { result ≡ is_one_of table_tags tag }
 {
@@ -65,7 +65,7 @@ pub fn is_table_tag(tag: u64) -> bool
     .any(|x| *x == tag)
 }
 
-/// An entry with its text.
+/// An entry with its text; `Absent` where the text doesn't end. Takes no memory.
 #[tactic(auto, unfolding(crate::specs::Dynamic::shown_entry))]
 pub fn show_entry<'a>(
     room: usize,

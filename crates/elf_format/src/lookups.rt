@@ -66,7 +66,7 @@ pub fn linked_section(sections: &[SectionHeader], section: SectionHeader) -> Opt
     sections.get(section.sh_link as usize).copied()
 }
 
-/// The first value of a tag.
+/// The value of the first dynamic entry with a tag (gABI, Dynamic Section, `d_tag`).
 pub fn value_of_tag(entries: &[EntryNumbers], tag: u64) -> Option<u64>
     ensures { result ≡ first_value tag entries.now }
 {
@@ -78,14 +78,15 @@ pub fn value_of_tag(entries: &[EntryNumbers], tag: u64) -> Option<u64>
     None
 }
 
-/// Whether an entry has a tag.
+/// Whether some dynamic entry has a tag.
 pub fn has_tag(entries: &[EntryNumbers], tag: u64) -> bool
     ensures { result ≡ tag_is_there tag entries.now }
 {
     value_of_tag(entries, tag).is_some()
 }
 
-/// The bytes of the file that a section header names.
+/// The bytes of the file that a section header names, as far as they are there (gABI, Sections, `sh_offset` and
+/// `sh_size`).
 #[tactic(auto, unfolding(crate::specs::File::section_bytes))]
 pub fn section_bytes(file: &[u8], section: SectionHeader) -> &[u8]
     ensures value { result.now ≡ bytes_of_section file.now section }
@@ -98,7 +99,7 @@ pub fn section_bytes(file: &[u8], section: SectionHeader) -> &[u8]
     }
 }
 
-/// The bytes of a section, or none without one.
+/// The bytes of the file that a section header names, or none without one.
 pub fn bytes_of(file: &[u8], section: Option<SectionHeader>) -> &[u8]
     ensures value { memory_of result.now ≡ section_memory file.now section }
     ensures short { length result.now ≤ length file.now }
@@ -109,7 +110,7 @@ pub fn bytes_of(file: &[u8], section: Option<SectionHeader>) -> &[u8]
     }
 }
 
-/// The bytes of the interpreter's section.
+/// The bytes of the section where the interpreter's segment stands (gABI, Program Interpreter).
 pub fn interpreter<'a>(
     file: &'a [u8],
     segments: &[SegmentHeader],

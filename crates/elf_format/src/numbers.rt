@@ -34,7 +34,7 @@ fn high_first(bytes: &[u8]) -> u64
     number
 }
 
-/// The bytes of a field, as far as they are there.
+/// The bytes of a field at a position, as far as they are there. Takes no memory.
 pub fn part(bytes: &[u8], position: usize, width: usize) -> &[u8]
     ensures { result.now ≡ field width position bytes.now }
 {
@@ -61,7 +61,8 @@ fn number_in(order: ByteOrder2, bytes: &[u8], place: (usize, usize)) -> u64
     }
 }
 
-/// The number in a field that has one place in 32-bit files and another in 64-bit files.
+/// The number in a field that has one place in 32-bit files and another in 64-bit files, each as its position
+/// and its width in bytes; 0 past the end.
 pub fn long(form: Form, bytes: &[u8], narrow: (usize, usize), wide: (usize, usize)) -> u64
     requires narrow { narrow.1 ≤ 8 }
     requires wide { wide.1 ≤ 8 }
@@ -83,7 +84,7 @@ fn word(form: Form, bytes: &[u8], narrow: usize, wide: usize) -> u32
     }
 }
 
-/// The number in a field of two bytes that has one place in 32-bit files and another in 64-bit files.
+/// The number in a field of two bytes that has one position in 32-bit files and another in 64-bit files.
 pub fn half(form: Form, bytes: &[u8], narrow: usize, wide: usize) -> u16
     ensures { result ≡ field_of form (narrow, 2) (wide, 2) bytes.now }
 {
@@ -102,14 +103,14 @@ fn single(form: Form, bytes: &[u8], narrow: usize, wide: usize) -> u8
     }
 }
 
-/// The number in a field of four or of two bytes that has one place in files of both classes.
+/// The number in a field of four bytes that has one position in files of both classes.
 pub fn word_at(form: Form, bytes: &[u8], position: usize) -> u32
     ensures { result ≡ field_of form (position, 4) (position, 4) bytes.now }
 {
     word(form, bytes, position, position)
 }
 
-/// The number in a field of two bytes that has one place in files of both classes.
+/// The number in a field of two bytes that has one position in files of both classes.
 pub fn half_at(form: Form, bytes: &[u8], position: usize) -> u16
     ensures { result ≡ field_of form (position, 2) (position, 2) bytes.now }
 {

@@ -51,14 +51,15 @@ fn byte(file: &[u8], position: usize) -> u8
     }
 }
 
-/// Whether the first four bytes are those of an ELF file.
+/// Whether the first four bytes are those of an ELF file (gABI, ELF Identification, `EI_MAG0` to `EI_MAG3`).
 pub fn has_magic(file: &[u8]) -> bool
     ensures { result ≡ begins_as_elf file.now }
 {
     file.starts_with(&[0x7f, 0x45, 0x4c, 0x46])
 }
 
-/// The class and the byte order.
+/// The class and the byte order (gABI, ELF Identification, `EI_CLASS` and `EI_DATA`), where they and the version
+/// are known.
 pub fn form(file: &[u8]) -> Option<Form>
     ensures { result ≡ form_of file.now }
 {
@@ -71,7 +72,7 @@ pub fn form(file: &[u8]) -> Option<Form>
     }
 }
 
-/// The bytes of a range of the file, where it lies in it.
+/// The bytes of a range of the file, where it lies in it; else `Absent`.
 pub fn file_part(file: &[u8], offset: u64, size: u64) -> Result<&[u8], ViewFault>
     ensures { Gives borrowed result (bytes_in file.now offset size) }
 {
@@ -102,7 +103,7 @@ fn file_table(file: &[u8], offset: u64, count: u64, size: u64) -> Result<&[u8], 
     Ok(&file[offset as usize..(offset + all) as usize])
 }
 
-/// The identification and the file header.
+/// How the file is spelled, and the file header (gABI, ELF Header); `Absent` where they aren't there.
 #[tactic(auto, unfolding(crate::specs::File::opened_of))]
 pub fn open(file: &[u8]) -> Result<(Form, FileHeader), ViewFault>
     ensures { Gives (opened_seen file.now) result (opened_of file.now) }
@@ -114,7 +115,8 @@ pub fn open(file: &[u8]) -> Result<(Form, FileHeader), ViewFault>
     Ok((form, read_file_header(form, bytes)))
 }
 
-/// The program headers.
+/// The program headers (gABI, Program Header); `Absent` where the table doesn't lie in the file, `Memory` where
+/// there isn't enough memory.
 #[tactic(auto, unfolding(crate::specs::File::segments_of))]
 pub fn segments(
     alloc: Global,
@@ -129,7 +131,8 @@ pub fn segments(
     Ok(read_segments(alloc, form, size, header.e_phnum as usize, bytes)?)
 }
 
-/// The section headers.
+/// The section headers (gABI, Sections); `Absent` where the table doesn't lie in the file, `Memory` where there
+/// isn't enough memory.
 #[tactic(auto, unfolding(crate::specs::File::sections_of))]
 pub fn sections(
     alloc: Global,

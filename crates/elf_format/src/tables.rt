@@ -16,7 +16,7 @@ use crate::version_id::VersionId;
 use crate::view_fault::ViewFault;
 use std::alloc::{AllocError, Global};
 
-/// The bytes of a range, where they are all there.
+/// The bytes of a range, where they are all there; else `Absent`. An empty range is there.
 pub fn range(bytes: &[u8], place: u64, size: u64) -> Result<&[u8], ViewFault>
     ensures { Gives borrowed result (bytes_at size (memory_of bytes.now) place) }
 {
@@ -30,7 +30,7 @@ pub fn range(bytes: &[u8], place: u64, size: u64) -> Result<&[u8], ViewFault>
     Ok(&bytes[place as usize..(place + size) as usize])
 }
 
-/// The segments whose records stand end to end.
+/// The segments whose records, of one size, stand end to end (gABI, Program Header).
 pub fn read_segments(
     alloc: Global,
     form: Form,
@@ -51,7 +51,7 @@ pub fn read_segments(
     Ok(made)
 }
 
-/// The sections whose records stand end to end.
+/// The sections whose records, of one size, stand end to end (gABI, Sections).
 pub fn read_sections(
     alloc: Global,
     form: Form,
@@ -72,7 +72,7 @@ pub fn read_sections(
     Ok(made)
 }
 
-/// The symbols whose records stand end to end.
+/// The symbols whose records, of one size, stand end to end (gABI, Symbol Table).
 pub fn read_symbols(
     alloc: Global,
     form: Form,
@@ -93,7 +93,7 @@ pub fn read_symbols(
     Ok(made)
 }
 
-/// The versions whose records stand end to end.
+/// The versions whose records, of one size, stand end to end (GNU symbol versioning, `.gnu.version`).
 pub fn read_versions(
     alloc: Global,
     form: Form,
@@ -114,7 +114,8 @@ pub fn read_versions(
     Ok(made)
 }
 
-/// The dynamic entries before the first DT_NULL, which is one of the first `room` entries.
+/// The dynamic entries before the first `DT_NULL`, which is one of the first `room` entries (gABI, Dynamic
+/// Section); `Absent` without it, `Memory` where there isn't enough memory.
 pub fn read_entries(
     alloc: Global,
     form: Form,

@@ -4,7 +4,7 @@ ghost use Rattle.elf_format.specs.Answers.{Gives, borrowed};
 
 use crate::view_fault::ViewFault;
 
-/// The text from a place on, up to its NUL.
+/// The text from a place on, up to its NUL (gABI, String Table); `Absent` without it. Takes no memory.
 pub fn text(room: usize, bytes: &[u8], place: u64) -> Result<&[u8], ViewFault>
     requires { length bytes.now ≤ room }
     ensures { Gives borrowed result (text_at room (memory_of bytes.now) place) }

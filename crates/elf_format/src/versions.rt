@@ -28,7 +28,7 @@ pub struct RawNeeds {
     pub versions: Vec<NeedNameNumbers>,
 }
 
-/// The place of what stands some bytes behind another place.
+/// The place of what stands some bytes behind another place; `Absent` past the end of the bytes.
 pub fn behind(bytes: &[u8], place: u64, distance: u64) -> Result<u64, ViewFault>
     ensures { StandsBehind bytes.now place distance result }
 {
@@ -42,7 +42,8 @@ pub fn behind(bytes: &[u8], place: u64, distance: u64) -> Result<u64, ViewFault>
     Ok(place + distance)
 }
 
-/// The place of the next record, where there is one more.
+/// The place of the next record, where there is one more (GNU symbol versioning); `Absent` where that is none or
+/// past the end of the bytes.
 pub fn step_on(bytes: &[u8], place: u64, next: u64, is_last: bool) -> Result<u64, ViewFault>
     ensures { StepsOn bytes.now place next is_last result }
 {
@@ -62,7 +63,8 @@ pub fn step_on(bytes: &[u8], place: u64, next: u64, is_last: bool) -> Result<u64
     Ok(place + next)
 }
 
-/// The name of a defined version at a place, by where its text stands, and how far behind the next one stands.
+/// The name of a defined version at a place, by where its text stands, and how far behind the next one stands
+/// (GNU symbol versioning, `Elfxx_Verdaux`); `Absent` where the record isn't there.
 #[tactic(auto, unfolding(crate::specs::Versions::definition_name_at))]
 pub fn read_definition_name(form: Form, bytes: &[u8], place: u64) -> Result<(u32, u32), ViewFault>
     ensures { Gives (step_seen (λ n. n)) result (whole_step (definition_name_at form (memory_of bytes.now) place)) }
@@ -71,7 +73,8 @@ pub fn read_definition_name(form: Form, bytes: &[u8], place: u64) -> Result<(u32
     Ok((word_at(form, record, 0), word_at(form, record, 4)))
 }
 
-/// A needed version at a place, its name by where it stands, and how far behind the next one stands.
+/// A needed version at a place, its name by where it stands, and how far behind the next one stands (GNU symbol
+/// versioning, `Elfxx_Vernaux`); `Absent` where the record isn't there.
 #[tactic(auto, unfolding(crate::specs::Versions::need_name_at))]
 pub fn read_need_name(
     form: Form,

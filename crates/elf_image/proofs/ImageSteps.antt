@@ -1,5 +1,5 @@
 -- The parts of an image, read one by one, are those that are read in groups.
-use Rattle.std.proofs.Common.{◌≡◌, length, refl, ap, ◌∙◌, Option, Some, None}
+use Rattle.std.proofs.Common.{◌≡◌, refl, ◌∙◌, Option, Some, None}
 use Rattle.patch_bytes.specs.Memory.{◌>>=◌}
 use Rattle.elf_format.specs.declared.constants.TheConstants.{SHT_DYNAMIC, SHT_DYNSYM, SHT_GNU_VERDEF, SHT_GNU_VERNEED, SHT_SYMTAB}
 use Rattle.elf_format.specs.File.{Parts, section_of_type}

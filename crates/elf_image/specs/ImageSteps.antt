@@ -17,6 +17,7 @@ use Rattle.elf_format.specs.Views.{NamedSymbol}
 use Rattle.elf_rules.specs.Read.{Refuses}
 use Rattle.elf_image.specs.declared.read.Listed.{Listed}
 use Rattle.elf_image.specs.declared.read.Named.{Named}
+use Rattle.elf_image.specs.declared.read.Numbers.{Numbers}
 use Rattle.elf_image.specs.ImageSeen.{definition_kept, entry_kept, needs_kept, section_kept, symbol_kept}
 
 -- the sections and symbols of an image
@@ -71,6 +72,16 @@ image_with p n l = record {
   dynamic_symbol_numbers = counted (length n.dynamic_symbols);
   page_size = None;
 }
+
+-- the same for parts as they are kept
+abbrev pub image_built : Parts → Named → Listed → Image
+image_built p n l = image_with p (named_kept n) (listed_kept l)
+
+-- the numbers at read of sections and symbols: those from 0 on
+pub record AreNumbered (named : Named) (numbers : Numbers) : Type 0 where
+  pub sections : numbers.sections.items ≡ counted (length named.sections.items)
+  pub symbols : numbers.symbols.items ≡ counted (length named.symbols.items)
+  pub dynamic_symbols : numbers.dynamic_symbols.items ≡ counted (length named.dynamic_symbols.items)
 
 -- the image, group by group
 unfoldable pub image_by_groups : Parts → Option Image

@@ -1,7 +1,7 @@
 //! The reader: the read rules in their order, each in time in proportion to what it looks at.
-ghost use Rattle.std.specs.Prelude.{◌≡◌, ◌≢◌, Ok, Err, MatchResult, All, length, map, IfOk};
-ghost use Rattle.elf_format.specs.Image.{counted as numbers_below, header_kept, image_of, interpreter_read};
-ghost use Rattle.elf_image.specs.ImageSteps.{LinksRead, TextsRead, image_by_groups, image_with, listed_in, listed_kept, named_in, named_kept};
+ghost use Rattle.std.specs.Prelude.{◌≡◌, ◌≢◌, Ok, Err, MatchResult, All, map, IfOk};
+ghost use Rattle.elf_format.specs.Image.{header_kept, image_of, interpreter_read};
+ghost use Rattle.elf_image.specs.ImageSteps.{AreNumbered, LinksRead, TextsRead, image_built, image_by_groups, listed_in, listed_kept, named_in, named_kept};
 ghost use Rattle.elf_image.specs.ImageSeen.{segment_kept};
 ghost use Rattle.elf_format.specs.Answers.{Gives, borrowed};
 ghost use Rattle.elf_format.specs.Stages.{last_rules};
@@ -108,7 +108,7 @@ pub(crate) struct Listed<'data> {
 
 // The numbers at read of sections and symbols.
 #[derive(Drop)]
-struct Numbers {
+pub(crate) struct Numbers {
     sections: Vec<usize>,
     symbols: Vec<usize>,
     dynamic_symbols: Vec<usize>,
@@ -161,9 +161,7 @@ fn listed_parts<'data>(
 
 // The numbers of what was read.
 fn numbers_at_read(alloc: Global, named: &Named<'_>) -> Result<Numbers, AllocError>
-    ensures sections { IfOk result (λ n. n.sections.items ≡ numbers_below (length named.now.sections.items)) }
-    ensures symbols { IfOk result (λ n. n.symbols.items ≡ numbers_below (length named.now.symbols.items)) }
-    ensures dynamic { IfOk result (λ n. n.dynamic_symbols.items ≡ numbers_below (length named.now.dynamic_symbols.items)) }
+    ensures { IfOk result (AreNumbered named.now) }
 {
     Ok(Numbers {
         sections: counted(alloc, named.sections.len())?,
@@ -181,10 +179,8 @@ fn builder<'data>(
     numbers: Numbers,
 ) -> Builder<'data>
     requires segments { map segment_kept segments.items ≡ parts.now.segments.items }
-    requires sections { numbers.sections.items ≡ numbers_below (length named.sections.items) }
-    requires symbols { numbers.symbols.items ≡ numbers_below (length named.symbols.items) }
-    requires dynamic { numbers.dynamic_symbols.items ≡ numbers_below (length named.dynamic_symbols.items) }
-    ensures { result ≡ image_with (parts_seen parts.now) (named_kept named.entry) (listed_kept listed.entry) }
+    requires numbered { AreNumbered named numbers }
+    ensures { result ≡ image_built (parts_seen parts.now) named.entry listed.entry }
 {
     Builder {
         source: parts.file,

@@ -24,7 +24,7 @@ use elf_format::tables::read_entries;
 use elf_format::view_fault::ViewFault;
 use std::alloc::{AllocError, Global};
 
-/// The dynamic entries before DT_NULL, or none where no dynamic section has a DT_NULL.
+/// The dynamic entries before `DT_NULL`, or none where no dynamic section has a `DT_NULL` (gABI, Dynamic Section).
 pub fn raw_entries(alloc: Global, parts: &Headers<'_>) -> Result<Vec<EntryNumbers>, AllocError>
     ensures { IfOk result (λ v. v.items ≡ entries_of (parts_seen parts.now)) }
 {

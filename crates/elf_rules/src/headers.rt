@@ -15,13 +15,18 @@ use elf_format::records::{FileHeader, SectionHeader, SegmentHeader};
 use elf_format::view_fault::ViewFault;
 use std::alloc::Global;
 
-/// A file with its header and its two header tables.
+/// A file with its header and its two header tables (gABI, ELF Header).
 #[derive(Drop)]
 pub struct Headers<'data> {
+    /// The file's bytes.
     pub file: &'data [u8],
+    /// How its numbers are spelled.
     pub form: Form,
+    /// The file header.
     pub header: FileHeader,
+    /// The program headers.
     pub segments: Vec<SegmentHeader>,
+    /// The section headers.
     pub sections: Vec<SectionHeader>,
 }
 
@@ -83,7 +88,8 @@ fn read_tables(
     Ok((segments, sections))
 }
 
-/// A file with its header tables, or the fault of the first rule that it breaks before they are there.
+/// A file with its header tables, or the fault of the first rule that it breaks before they are there; `Memory`
+/// where there isn't enough memory.
 pub fn read_headers<'data>(alloc: Global, file: &'data [u8]) -> Result<Headers<'data>, ElfFault>
     ensures { Reads parts_seen result (parts_read file.entry.now) }
 {

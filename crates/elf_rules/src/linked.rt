@@ -22,7 +22,8 @@ use elf_format::section_data::SectionData;
 use patch_bytes::Wide;
 use std::alloc::{AllocError, Global};
 
-/// Whether what comes once comes once, and tables are linked to tables of the right kinds.
+/// Whether what comes once comes once, and tables are linked to tables of the right kinds (gABI, Sections,
+/// `sh_link` and `sh_info`).
 pub fn are_tables_linked(parts: &Headers<'_>, checked: &[Checked]) -> bool
     requires { All (IsChecked parts.now.form parts.now.file.now) checked.now }
     ensures { result ≡ all_tables_linked (parts_seen parts.now) }
@@ -240,14 +241,18 @@ fn good_count(form: Form, kind: u32, bytes: &[u8], limit: u64) -> usize
 /// A section of relocations, and how many symbols there are that they may name: none without a table.
 #[derive(Clone, Copy)]
 pub struct Relocated {
+    /// The section.
     pub section: SectionHeader,
+    /// How many symbols there are.
     pub limit: u64,
 }
 
 /// Whether the relocations of a section name symbols that they may, or symbol 0.
 #[derive(Clone, Copy)]
 pub struct Checked {
+    /// The section, with how many symbols there are.
     pub of: Relocated,
+    /// Whether they do.
     pub fits: bool,
 }
 
@@ -459,7 +464,7 @@ fn infos_are_sections(parts: &Headers<'_>) -> bool
         .all(|s| s.sh_info < parts.header.e_shnum as u32)
 }
 
-/// What the bytes of a section are.
+/// What the bytes of a section are (gABI, Sections, `sh_type`; relocations that are kept as they are, are opaque).
 pub fn kind_of(parts: &Headers<'_>, checked: &[Checked], section: SectionHeader) -> SectionData
     requires { All (IsChecked parts.now.form parts.now.file.now) checked.now }
     ensures { result ≡ data_of (parts_seen parts.now) section }

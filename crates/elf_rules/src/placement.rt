@@ -83,7 +83,8 @@ fn has_header_table(segments: &[SegmentHeader]) -> bool
     segments.iter().any(|p| p.p_type == PT_PHDR)
 }
 
-/// Whether the program header table lies in a loaded segment, where a segment says where it is.
+/// Whether the program header table lies in a loaded segment, where a segment says where it is (gABI, Program
+/// Header, `PT_PHDR`).
 pub fn header_table_loaded(parts: &Headers<'_>) -> bool
     ensures { result ≡ is_table_loaded (segment_table_range (parts_seen parts.now)) parts.now.segments.items }
 {
@@ -376,7 +377,8 @@ pub(crate) fn uninitialized_clear(
     Ok(are_clear(&ends, sections))
 }
 
-/// Checks the rules on placement, or answers the fault of the first one that is broken.
+/// Checks the rules on where segments and sections stand, or answers the fault of the first one that is broken;
+/// `Memory` where there isn't enough memory.
 #[tactic(auto, unfolding(elf_format::specs::Rules::checked))]
 pub fn check_placement(alloc: Global, parts: &Headers<'_>) -> Result<(), ElfFault>
     ensures { Passes (parts_seen parts.now) result (checked placement_rules (parts_seen parts.now)) }
