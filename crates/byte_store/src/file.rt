@@ -1,5 +1,5 @@
 //! A store over a file.
-ghost use Rattle.std.specs.Prelude.{is_some};
+ghost use Rattle.std.specs.Prelude.{◌≡◌, false, IfOk, is_some};
 
 use crate::stores::Store;
 use std::fs::{OpenFile, OpenOptions};
@@ -20,7 +20,9 @@ pub struct FileStore<'a, R: Files> {
 
 impl<'a, R: Files> FileStore<'a, R> {
     /// Opens a file for reading.
-    pub fn open(files: &'a R, path: &'a str) -> io::Result<FileStore<'a, R>> {
+    pub fn open(files: &'a R, path: &'a str) -> io::Result<FileStore<'a, R>>
+        ensures { IfOk result (λ store. ⟦<FileStore<'a, R> as Store>⟧.is_writable store ≡ false) }
+    {
         let reader = fs::open(files, path)?;
         Ok(FileStore {
             files,

@@ -1,12 +1,12 @@
 //! Readers and stores, read whole into the buffer that is kept.
 ghost use Rattle.std.specs.Prelude.{◌≡◌, ◌++◌, ◌+◌, ◌<◌, ◌≤◌, ℕ, List, IfOk, IsTrue, OnErr, OnOk, drop, length, replicate, take, vec_len};
-ghost use Rattle.std.specs.Io.{ReadsAtMost};
+ghost use Rattle.std.specs.IoError.{error_kind};
 ghost use Rattle.std.specs.Io.KnownBytes.{Consumes, IsAtEnd, Keeps};
 ghost use Rattle.byte_store.specs.Known.{EndsWithin, HasLength, IsAll, IsFirst, KeepsFront, ReadsInto, Stays};
 
 use crate::stores::Store;
 use std::alloc::{AllocError, Global};
-use std::io::Read;
+use std::io::{ErrorKind, Read};
 use std::{fmt, io};
 
 /// The most reads that a whole may take.
@@ -170,7 +170,7 @@ fn read_once<F: Read>(reader: &mut F, bytes: &mut Vec<u8>, most: usize) -> Resul
             bytes.truncate(filled + count);
             Ok(count == 0)
         }
-        Err(error) if error.kind() == io::ErrorKind::Interrupted => {
+        Err(error) if error.kind() == ErrorKind::Interrupted => {
             bytes.truncate(filled);
             Ok(false)
         }
@@ -227,7 +227,7 @@ fn load_once<S: Store>(store: &mut S, bytes: &mut Vec<u8>, most: usize) -> Resul
             bytes.truncate(filled + count);
             Ok(count == 0)
         }
-        Err(error) if error.kind() == io::ErrorKind::Interrupted => {
+        Err(error) if error.kind() == ErrorKind::Interrupted => {
             bytes.truncate(filled);
             Ok(false)
         }
@@ -247,11 +247,15 @@ fn load_behind<S: Store>(store: &mut S, buffer: &mut [u8], at: usize) -> io::Res
 }
 
 /// A reader that did not end.
-fn endless() -> io::Error {
-    io::Error::new(io::ErrorKind::Other, "the file did not end")
+fn endless() -> io::Error
+    ensures { error_kind result ≡ ErrorKind.Other }
+{
+    io::Error::new(ErrorKind::Other, "the file did not end")
 }
 
 /// More bytes than were to be read.
-fn too_long() -> io::Error {
-    io::Error::new(io::ErrorKind::FileTooLarge, "the file is too long")
+fn too_long() -> io::Error
+    ensures { error_kind result ≡ ErrorKind.FileTooLarge }
+{
+    io::Error::new(ErrorKind::FileTooLarge, "the file is too long")
 }

@@ -1,7 +1,7 @@
 //! Runs of writes, each of whose calls fails in turn.
 ghost use Rattle.std.specs.Prelude.{◌≡◌, ◌+◌, ◌≤◌, length};
 
-use crate::trial::{Plan, TrialStore};
+use crate::trial::{Plan, TrialStore, copy};
 use byte_store::{
     Changes, Left, MemoryStore, Piece, Store, WriteError, write_changes, write_pieces,
 };
@@ -58,7 +58,7 @@ fn follow(
     requires room { length growth.now ≤ 9 }
     requires end { new_length ≤ 6 + length growth.now }
 {
-    let bytes = Vec::from_slice(alloc, b"abcdef")?;
+    let bytes = copy(alloc, b"abcdef")?;
     let mut store = TrialStore::new(bytes, row.plan);
     store.open_for_writing()?;
     let pieces = [
@@ -120,7 +120,7 @@ fn shorter_length_comes_last(rt: HostRuntime) -> Result<(), Fail> {
 
 #[test]
 fn nothing_to_write_writes_nothing(rt: HostRuntime) -> Result<(), Fail> {
-    let bytes = Vec::from_slice(rt.alloc(), b"abc")?;
+    let bytes = copy(rt.alloc(), b"abc")?;
     let mut store = TrialStore::new(bytes, planned(0, 9, 0, true));
     store.open_for_writing()?;
     let changes = Changes {
@@ -137,7 +137,7 @@ fn nothing_to_write_writes_nothing(rt: HostRuntime) -> Result<(), Fail> {
 
 #[test]
 fn pieces_in_memory(rt: HostRuntime) -> Result<(), Fail> {
-    let mut store = MemoryStore::new(Vec::from_slice(rt.alloc(), b"abcdef")?);
+    let mut store = MemoryStore::new(copy(rt.alloc(), b"abcdef")?);
     store.open_for_writing()?;
     let pieces = [Piece {
         offset: 2,

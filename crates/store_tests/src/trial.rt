@@ -1,6 +1,19 @@
 //! A store in memory whose calls fail on purpose.
+ghost use Rattle.std.specs.Prelude.{◌≡◌, IfOk};
+
 use byte_store::{MemoryStore, Store};
+use std::alloc::{AllocError, Global};
 use std::io;
+
+/// A copy of bytes, made once more where memory was refused.
+pub fn copy(alloc: Global, bytes: &[u8]) -> Result<Vec<u8>, AllocError>
+    ensures { IfOk result (λ copied. copied.items ≡ bytes.now) }
+{
+    match Vec::from_slice(alloc, bytes) {
+        Err(_) => Vec::from_slice(alloc, bytes),
+        copied => copied,
+    }
+}
 
 /// What goes wrong. Calls are those of `write_at`, counted from 0; 99 is never reached.
 #[derive(Clone, Copy)]
