@@ -1,5 +1,5 @@
 -- What a name and the words behind it mean is what its command asks for with its values.
-use Rattle.std.proofs.Common.{◌≡◌, ◌≢◌, ◌∷◌, [], ◌≤◌, List, Option, Some, None, Bool, Bor, true, false, length, map, arith, inl, inr, refl, sym, ap, ◌∙◌, subst, codes}
+use Rattle.std.proofs.Common.{◌≡◌, ◌≢◌, ◌∷◌, [], ◌≤◌, List, Option, Some, None, Bor, true, false, length, map, arith, inl, inr, refl, sym, ap, ◌∙◌, subst, codes}
 use Rattle.std.specs.Prelude.{option_and_then, option_map, slice_get}
 use Rattle.std.proofs.lemmas.List.{length-map}
 use Rattle.clap.specs.Lexer.{usize_max}
@@ -7,7 +7,7 @@ use Rattle.arwen_commands.proofs.RowLemmas.{meant_with-named, named-map}
 use Rattle.arwen_commands.specs.Meaning.{ElfMeaning, MachoMeaning, Meaning, elf_lines, macho_lines, of_elf, of_macho}
 use Rattle.arwen_commands.specs.Rows.{Given, Line, Named, Text, asked_by_words, asked_with, given_by, kind_of, line_named, meant_by, meant_with, named, named_of}
 use Rattle.arwen_cli.specs.Line.{has_option, meaning_of}
-use Rattle.arwen_cli.specs.Parser.{IsTaken, MeansBy, has_no_help, is_table}
+use Rattle.arwen_cli.specs.Parser.{IsTaken, MeansBy, is_table}
 use Rattle.arwen_cli.proofs.Named.{differs}
 use Rattle.arwen_cli.proofs.Table.{NamesValues, line_passes, line_taken}
 use Rattle.arwen_cli.proofs.Values.{first_value}

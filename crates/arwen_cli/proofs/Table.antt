@@ -1,25 +1,24 @@
 -- The parser that is told a table of commands takes a line where its words name one of them, with its values.
-use Rattle.std.proofs.Common.{◌≡◌, ◌≢◌, ◌∷◌, [], ◌++◌, ◌⊎◌, ◌&&◌, ◌||◌, ◌≤◌, inl, inr, List, Option, Some, None, Bool, cond, true, false, ℕ, length, map, not, refl, sym, ap, ap₂, ◌∙◌, subst, codes, find, append-nil}
+use Rattle.std.proofs.Common.{◌≡◌, ◌∷◌, [], ◌++◌, ◌⊎◌, ◌&&◌, ◌||◌, ◌≤◌, inl, inr, List, Option, Some, None, Bool, cond, true, false, length, map, not, refl, sym, ap, ap₂, ◌∙◌, codes, find, append-nil}
 use Rattle.std.specs.Prelude.{option_and_then, option_map}
-use Rattle.std.specs.List.{list_all, list_any}
+use Rattle.std.specs.List.{list_all}
 use Rattle.std.specs.Option.{option_map_or}
 use Rattle.std.specs.Str.{bytes_eq}
 use Rattle.std.proofs.lemmas.List.{map_push}
 use Rattle.std.proofs.lemmas.Slice.Eq.{bytes_eq-Decides}
 use Rattle.clap.specs.Lexer.{usize_max}
-use Rattle.clap.specs.Walk.{Held, Names, Row, Step, Text, answers_to, idle, nothing_held, rows_after, subcommand, subcommand_met, subcommand_or_other, value, walk_from, word_met}
+use Rattle.clap.specs.Walk.{Held, Row, Step, Text, answers_to, idle, nothing_held, rows_after, subcommand, subcommand_met, subcommand_or_other, value, word_met}
 use Rattle.clap.specs.Simple.{App, Shape, built, built_leaf, entered, help_shape, has_simple_rules, inherited, is_ready, is_ready_leaf, is_simple_leaf, label_of, marked_built, names_of, rows_at, with_leaf_noted, with_subcommand}
 use Rattle.clap.specs.Words.{is_simple_and_free}
-use Rattle.clap.specs.Kinds.{Kinds, or_else}
-use Rattle.clap.specs.Faults.{entered_fault, has_free_rules, level_fault, other_fault, step_fault, turn_fault, walk_fault}
+use Rattle.clap.specs.Kinds.{or_else}
+use Rattle.clap.specs.Faults.{has_free_rules, level_fault, other_fault, step_fault, turn_fault}
 use Rattle.clap.proofs.OnLiterals.{clap_on_literals}
 use Rattle.arwen_commands.specs.Rows.{Given, Kind, Named, given_by, named, path_alone, path_and_words, text_and_path, texts_and_path}
 use Rattle.arwen_cli.specs.Line.{has_option}
 use Rattle.arwen_cli.specs.Parser.{found_by, found_values, has_no_help, is_table, leaf_app, leaf_of, line_app, top_app}
-use Rattle.arwen_cli.specs.Parser
 use Rattle.arwen_cli.proofs.Named.{IsNamed, IsTakenAt, differs, fault_of_stranger, found_at, found_by_name, meaning_by, named_fault, named_found, named_taken, rest_fault}
-use Rattle.arwen_cli.proofs.Values.{TakesGiven, first_value, found_given, leaf, takes_given}
-use Rattle.arwen_cli.proofs.Words.{IsValue, at, no_first}
+use Rattle.arwen_cli.proofs.Values.{first_value, found_given, leaf, takes_given}
+use Rattle.arwen_cli.proofs.Words.{at, no_first}
 
 -- ---- a table with one more command
 

@@ -3,7 +3,7 @@ use Rattle.std.proofs.Common.{◌≡◌, ◌≢◌, ◌∷◌, [], ◌++◌, ◌
 use Rattle.std.proofs.lemmas.Bool.Decides.{nat_tests}
 use Rattle.std.specs.List.{fold}
 use Rattle.clap.specs.Lexer.{usize_max}
-use Rattle.clap.specs.Walk.{Held, Step, Text, Walk, all_of, arg_by_index, finished, first_of, idle, nothing_held, positional, rows_after, to_positional, value, walked}
+use Rattle.clap.specs.Walk.{Held, Step, Text, Walk, arg_by_index, finished, first_of, idle, nothing_held, positional, rows_after, to_positional, value, walked}
 use Rattle.clap.specs.Simple.{Shape, built_leaf}
 use Rattle.clap.specs.Kinds.{or_else, range_kinds, values_kinds}
 use Rattle.clap.specs.Faults.{level_fault, step_fault, turn_fault, walk_fault, word_fault}
@@ -11,8 +11,8 @@ use Rattle.clap.specs.declared.builder.value_parser.ValueParser.TheVariants as v
 use Rattle.clap.proofs.OnLiterals.{clap_on_literals}
 use Rattle.arwen_commands.specs.Rows.{Given, Kind, given_by, path, path_alone, path_and_words, text, text_and_path, texts, texts_and_path, words as words_given}
 use Rattle.arwen_cli.specs.Line.{has_option}
-use Rattle.arwen_cli.specs.Parser.{first_id, found_values, leaf_app, path_id, second_id, with_path, with_text, with_texts, with_words, words_id}
-use Rattle.arwen_cli.proofs.Words.{IsValue, at, end_fault, no_fault_after, no_fault_here, no_first, no_words, one_word, value_at_positional, walked_idle, walked_positional}
+use Rattle.arwen_cli.specs.Parser.{first_id, found_values, leaf_app, path_id, second_id, with_text, with_texts, words_id}
+use Rattle.arwen_cli.proofs.Words.{IsValue, at, end_fault, no_fault_after, no_fault_here, no_words, one_word, value_at_positional, walked_idle, walked_positional}
 
 -- a command with its values, as the parser builds it
 abbrev pub leaf : Text → Kind → Shape

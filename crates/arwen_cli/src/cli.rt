@@ -8,9 +8,9 @@ mod parser;
 pub use arwen_commands::elf::{Probe, run_elf};
 pub use arwen_commands::{
     ArwenError, Command, EditFault, EditKind, EditsError, ElfCommand, FaultLine, MOST_BYTES,
-    MachoCommand, macho_execute, parse_macho_edits, read_bytes, run_macho,
+    MachoCommand, add, apply, change, delete, elf, install_id, install_name, macho_execute,
+    parse_macho_edits, read_bytes, run_macho,
 };
-pub use arwen_commands::{add, apply, change, delete, elf, install_id, install_name};
 pub use line::parse_line;
 use std::rt::Files;
 

@@ -4,7 +4,7 @@ use Rattle.std.specs.List.{onto_first, slice_split}
 use Rattle.std.proofs.lemmas.List.{drop_all, drop_more, length_push, map_push}
 use Rattle.arwen_macho.specs.Batch.{call_made, calls_of}
 use Rattle.arwen_macho.specs.Call.{Call}
-use Rattle.arwen_commands.specs.Edits.{TellsFault, TellsWrong, behind, edits_from, edits_of, fault_at, group_edit, is_plus, then_edits}
+use Rattle.arwen_commands.specs.Edits.{TellsFault, TellsWrong, behind, edits_from, edits_of, group_edit, is_plus, then_edits}
 use Rattle.arwen_commands.specs.Rows.{Text}
 use Rattle.arwen_macho.specs.declared.batch.MachoEdit.{MachoEdit}
 use Rattle.arwen_commands.specs.declared.edits.EditFault.{EditFault}

@@ -1,5 +1,5 @@
 -- A name finds the same command in each form of the table, and a group of words its edit.
-use Rattle.std.proofs.Common.{◌≡◌, ◌∷◌, [], List, Option, Some, None, Result, Ok, Err, Bool, cond, true, false, map, ℕ, Bor, refl, sym, ap, ◌∙◌, subst}
+use Rattle.std.proofs.Common.{◌≡◌, ◌∷◌, [], List, Option, Some, None, Result, Err, Bool, cond, true, false, map, ℕ, refl, sym, ap, ◌∙◌, subst}
 use Rattle.std.specs.Prelude.{option_and_then, option_map}
 use Rattle.std.specs.Str.{bytes_eq}
 use Rattle.arwen_macho.specs.Call.{Call}

@@ -1,12 +1,12 @@
 //! What is asked for, with its values.
 ghost use Rattle.std.specs.Prelude.{◌≡◌, IfOk, string_bytes};
 
-use arwen_macho::macho::MachoEdit;
 use crate::elf::{
     print_execstack, print_interpreter, print_needed, print_os_abi, print_rpath, print_soname,
 };
 use crate::rows::Values;
 use crate::{add, apply, change, delete, install_id, install_name};
+use arwen_macho::macho::MachoEdit;
 use std::alloc::{AllocError, Global};
 
 /// What is asked for.
@@ -134,8 +134,11 @@ impl MachoCommand {
                 Ok(Some(MachoEdit::AddRpath(new)))
             }
             MachoCommand::ChangeInstallName(args) => {
-                let (old, new) =
-                    both_copied(alloc, &args.old_install_name, &args.new_install_name)?;
+                let (old, new) = both_copied(
+                    alloc,
+                    &args.old_install_name,
+                    &args.new_install_name,
+                )?;
                 Ok(Some(MachoEdit::ChangeInstallName(old, new)))
             }
             MachoCommand::ChangeInstallId(args) => {

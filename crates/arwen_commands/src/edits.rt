@@ -62,10 +62,16 @@ impl fmt::Display for EditFault {
                 write!(f, "group {group}: {kind}: its first word names no edit")
             }
             EditKind::WrongWords if word > takes => {
-                write!(f, "group {group}: {kind}: word {word} is too many, the edit takes {takes}")
+                write!(
+                    f,
+                    "group {group}: {kind}: word {word} is too many, the edit takes {takes}"
+                )
             }
             EditKind::WrongWords => {
-                write!(f, "group {group}: {kind}: word {word} is missing, the edit takes {takes}")
+                write!(
+                    f,
+                    "group {group}: {kind}: word {word} is missing, the edit takes {takes}"
+                )
             }
             _ => write!(f, "group {group}: {kind}: word {word}"),
         }

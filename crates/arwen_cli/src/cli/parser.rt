@@ -276,11 +276,7 @@ fn read_words(alloc: Global, matches: &ArgMatches<'_>) -> Result<Option<Values>,
 }
 
 /// The text of a value, where it is there.
-fn text_of(
-    alloc: Global,
-    matches: &ArgMatches<'_>,
-    id: &str,
-) -> Result<Option<String>, AllocError>
+fn text_of(alloc: Global, matches: &ArgMatches<'_>, id: &str) -> Result<Option<String>, AllocError>
     ensures { IfOk result (λ text. option_map string_bytes text
         ≡ first_of id.now (rows_of (found_of matches.now))) }
 {
@@ -291,11 +287,7 @@ fn text_of(
 }
 
 /// The texts of a value that may be given any number of times.
-fn texts_of(
-    alloc: Global,
-    matches: &ArgMatches<'_>,
-    id: &str,
-) -> Result<Vec<String>, AllocError>
+fn texts_of(alloc: Global, matches: &ArgMatches<'_>, id: &str) -> Result<Vec<String>, AllocError>
     ensures { IfOk result (λ texts.
         unwrap_or (all_of id.now (rows_of (found_of matches.now))) []
         ≡ map string_bytes texts.items) }

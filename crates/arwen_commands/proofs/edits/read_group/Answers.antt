@@ -1,9 +1,9 @@
 -- A group's first word finds the row of its edit, whose values the words behind it are.
 use Rattle.std.proofs.Common.{◌≡◌, ◌∷◌, [], List, Bor, arith, length, map, refl, sym, ap, ◌∙◌}
 use Rattle.std.specs.Prelude.{option_map}
-use Rattle.arwen_commands.specs.Edits.{given_edit, group_edit, no_edit, no_words, other_words}
+use Rattle.arwen_commands.specs.Edits.{group_edit, no_edit, no_words, other_words}
 use Rattle.arwen_commands.specs.Meaning.{macho_shown}
-use Rattle.arwen_commands.specs.Rows.{Text, kind_shown, row_shown}
+use Rattle.arwen_commands.specs.Rows.{Text, row_shown}
 use Rattle.arwen_commands.proofs.RowLemmas.{fault_told, known_edit, no_edits, row_line, unknown}
 use Rattle.arwen_commands.proofs.edits.read_group.Goals as goal
 

@@ -1,5 +1,5 @@
 -- The parser's clauses, at the commands that it was told.
-use Rattle.std.proofs.Common.{◌≡◌, [], List, Option, Some, None, Bor, map, true, refl, sym, ap, ◌∙◌}
+use Rattle.std.proofs.Common.{◌≡◌, List, Option, Some, None, Bor, map, refl, sym, ap, ◌∙◌}
 use Rattle.std.specs.Prelude.{option_and_then}
 use Rattle.std.specs.Option.{option_map}
 use Rattle.std.proofs.lemmas.Result.{err_from_is_err_and}
