@@ -1,19 +1,23 @@
--- What the parser of lines is told of a line that begins with `macho` or `elf`, and what is made of
--- what it finds.
-use Rattle.std.specs.Prelude.{◌≡◌, Bool, List, [], Option, Some, None, codes, true, if◌then◌else◌}
+-- What the parser of lines is told of a first word's commands, and what is made of what it finds.
+use Rattle.std.specs.Prelude.{◌≡◌, Bool, true, false, List, [], ◌∷◌, Option, Some, None, codes, map, not}
 use Rattle.std.specs.Prelude.{option_and_then, option_map, unwrap_or}
+use Rattle.std.specs.List.{list_all}
 use Rattle.std.specs.Str.{bytes_eq}
-use Rattle.clap.specs.Words.{App, Row, Rule, all_of, fault_of, first_of, new_app, new_rule}
-use Rattle.clap.specs.Words.{subcommand_of, with_rule, with_subcommand}
+use Rattle.clap.specs.Words.{App, Row, Rule, Shape, all_of, fault_of, first_of, new_app, new_rule}
+use Rattle.clap.specs.Words.{is_simple_and_free, subcommand_of, subcommand_rows_of, with_rule}
 use Rattle.clap.specs.declared.builder.command.Command.{Command}
 use Rattle.clap.specs.declared.builder.command.Command.TheViews.{out-Command}
 use Rattle.clap.specs.declared.builder.action.ArgAction.TheVariants.{Append}
+use Rattle.clap.specs.declared.parser.matches.ArgMatches.{ArgMatches}
 use Rattle.clap.specs.Lexer.{usize_max}
-use Rattle.arwen_commands.specs.Edits.{Text}
-use Rattle.arwen_commands.specs.Meaning.{ElfMeaning, MachoMeaning, add_rpath, apply, change_install_id}
-use Rattle.arwen_commands.specs.Meaning.{change_install_name, change_rpath, delete_rpath, print_exec_stack}
-use Rattle.arwen_commands.specs.Meaning.{print_interpreter, print_needed, print_os_abi, print_rpath}
-use Rattle.arwen_commands.specs.Meaning.{print_soname}
+use Rattle.arwen_commands.specs.Rows.{Given, Kind, Line, Named, Text, meant_with, named, named_of, path}
+use Rattle.arwen_commands.specs.Rows.{path_alone, path_and_words, text, text_and_path, texts}
+use Rattle.arwen_commands.specs.Rows.{texts_and_path, words}
+use Rattle.arwen_commands.specs.Rows.{given_shown}
+use Rattle.arwen_commands.specs.declared.rows.Values.{Values}
+use Rattle.std.specs.Borrow.{Bor}
+use Rattle.arwen_commands.specs.declared.error.ArwenError.{ArwenError}
+use Rattle.arwen_commands.specs.declared.error.ArwenError.TheVariants.{Memory}
 
 -- ---- the commands
 
@@ -21,46 +25,44 @@ use Rattle.arwen_commands.specs.Meaning.{print_soname}
 abbrev pub has_globals : Command → Bool
 has_globals c = (out-Command c).has_globals
 
--- a value that must be there
+-- a value that must be there; help calls it by a name of its own
 abbrev pub value_rule : Text → Rule
-value_rule id = record (new_rule id) { required = true }
+value_rule id = record (new_rule id) { value_names = 1; required = true }
 
 -- any number of values
 abbrev pub values_rule : Text → Rule
 values_rule id = record (new_rule id) {
   action = Some Append;
   range = Some (record { start_inclusive = 0; end_inclusive = usize_max });
+  value_names = 1;
 }
 
-abbrev pub two_values : Text → Text → App
-two_values name value =
-    with_rule (with_rule (new_app name) (value_rule value)) (value_rule (codes "path_to_binary"))
+-- the values by their places
+abbrev pub path_id : Text
+path_id = codes "path"
 
-abbrev pub three_values : Text → Text → Text → App
-three_values name old new =
-    with_rule (with_rule (with_rule (new_app name) (value_rule old)) (value_rule new))
-    (value_rule (codes "path_to_binary"))
+abbrev pub first_id : Text
+first_id = codes "first"
 
-abbrev pub delete_app : App
-delete_app = two_values (codes "delete-rpath") (codes "rpath_to_remove")
+abbrev pub second_id : Text
+second_id = codes "second"
 
-abbrev pub change_app : App
-change_app = three_values (codes "change-rpath") (codes "old_rpath") (codes "new_rpath")
+abbrev pub words_id : Text
+words_id = codes "words"
 
-abbrev pub add_app : App
-add_app = two_values (codes "add-rpath") (codes "new_rpath")
+-- a command with such values
+abbrev pub leaf_app : Text → Kind → App
+leaf_app name path_alone = with_rule (new_app name) (value_rule path_id)
+leaf_app name text_and_path =
+    with_rule (with_rule (new_app name) (value_rule first_id)) (value_rule path_id)
+leaf_app name texts_and_path =
+    with_rule (with_rule (with_rule (new_app name) (value_rule first_id)) (value_rule second_id))
+    (value_rule path_id)
+leaf_app name path_and_words =
+    with_rule (with_rule (new_app name) (value_rule path_id)) (values_rule words_id)
 
-abbrev pub install_name_app : App
-install_name_app = three_values (codes "change-install-name") (codes "old_install_name")
-    (codes "new_install_name")
-
-abbrev pub install_id_app : App
-install_id_app = two_values (codes "change-install-id") (codes "new_install_id")
-
-abbrev pub apply_app : App
-apply_app = with_rule
-    (with_rule (new_app (codes "apply")) (value_rule (codes "path_to_binary")))
-    (values_rule (codes "edits"))
+abbrev pub leaf_of : Named → Shape
+leaf_of row = (leaf_app row.name row.kind).top
 
 -- a command that asks for a subcommand, and shows its help where no word is given
 abbrev pub top_app : Text → App
@@ -71,86 +73,90 @@ top_app name = record (new_app name) {
   };
 }
 
-abbrev pub macho_app : App
-macho_app = with_subcommand
-    (with_subcommand
-    (with_subcommand
-    (with_subcommand
-    (with_subcommand
-    (with_subcommand (top_app (codes "macho")) delete_app.top) change_app.top) add_app.top) install_name_app.top)
-    install_id_app.top) apply_app.top
-
--- a command that prints something of the file at a path
-abbrev pub print_app : Text → App
-print_app name = with_rule (new_app name) (value_rule (codes "path_to_binary"))
-
-abbrev pub elf_app : App
-elf_app = with_subcommand
-    (with_subcommand
-    (with_subcommand
-    (with_subcommand
-    (with_subcommand
-    (with_subcommand (top_app (codes "elf")) (print_app (codes "print-rpath")).top)
-    (print_app (codes "print-needed")).top) (print_app (codes "print-soname")).top)
-    (print_app (codes "print-interpreter")).top) (print_app (codes "print-os-abi")).top)
-    (print_app (codes "print-exec-stack")).top
+-- the same with commands
+abbrev pub line_app : Text → List Named → App
+line_app name [] = top_app name
+line_app name (row ∷ rows) = record (top_app name) {
+  top = record (top_app name).top { is_leaf = false };
+  subs = map leaf_of (row ∷ rows);
+}
 
 -- ---- what is made of the values that were found
 
-abbrev pub from_two : (Text → Text → MachoMeaning) → Option Text → Option Text → Option MachoMeaning
-from_two meaning (Some value) (Some path) = Some (meaning value path)
-from_two meaning _ _ = None
+abbrev pub with_path : Option Text → Option Given
+with_path = option_map path
 
-abbrev pub from_three : (Text → Text → Text → MachoMeaning) → Option Text → Option Text → Option Text
-    → Option MachoMeaning
-from_three meaning (Some old) (Some new) (Some path) = Some (meaning old new path)
-from_three meaning _ _ _ = None
+abbrev pub with_text : Option Text → Option Text → Option Given
+with_text (Some value) (Some file) = Some (text value file)
+with_text _ _ = None
 
-abbrev pub from_many : (Text → List Text → MachoMeaning) → Option Text → Option (List Text)
-    → Option MachoMeaning
-from_many meaning (Some path) words = Some (meaning path (unwrap_or words []))
-from_many meaning None words = None
+abbrev pub with_texts : Option Text → Option Text → Option Text → Option Given
+with_texts (Some first) (Some second) (Some file) = Some (texts first second file)
+with_texts _ _ _ = None
 
--- the value that must be there
-abbrev pub path_in : List Row → Option Text
-path_in = first_of (codes "path_to_binary")
+abbrev pub with_words : Option Text → Option (List Text) → Option Given
+with_words (Some file) list = Some (words file (unwrap_or list []))
+with_words None list = None
 
--- the meaning of a command's name, with the values that were found
-abbrev pub found_meaning : Text → List Row → Option MachoMeaning
-found_meaning name rows =
-    if bytes_eq name (codes "delete-rpath")
-    then from_two delete_rpath (first_of (codes "rpath_to_remove") rows) (path_in rows)
-    else (if bytes_eq name (codes "change-rpath")
-    then from_three change_rpath (first_of (codes "old_rpath") rows)
-    (first_of (codes "new_rpath") rows) (path_in rows)
-    else (if bytes_eq name (codes "add-rpath")
-    then from_two add_rpath (first_of (codes "new_rpath") rows) (path_in rows)
-    else (if bytes_eq name (codes "change-install-name")
-    then from_three change_install_name (first_of (codes "old_install_name") rows)
-    (first_of (codes "new_install_name") rows) (path_in rows)
-    else (if bytes_eq name (codes "change-install-id")
-    then from_two change_install_id (first_of (codes "new_install_id") rows) (path_in rows)
-    else (if bytes_eq name (codes "apply")
-    then from_many apply (path_in rows) (all_of (codes "edits") rows)
-    else None)))))
+abbrev pub found_values : Kind → List Row → Option Given
+found_values path_alone rows = with_path (first_of path_id rows)
+found_values text_and_path rows = with_text (first_of first_id rows) (first_of path_id rows)
+found_values texts_and_path rows =
+    with_texts (first_of first_id rows) (first_of second_id rows) (first_of path_id rows)
+found_values path_and_words rows = with_words (first_of path_id rows) (all_of words_id rows)
 
-abbrev pub found_elf : Text → List Row → Option ElfMeaning
-found_elf name rows =
-    if bytes_eq name (codes "print-rpath") then option_map print_rpath (path_in rows)
-    else (if bytes_eq name (codes "print-needed") then option_map print_needed (path_in rows)
-    else (if bytes_eq name (codes "print-soname") then option_map print_soname (path_in rows)
-    else (if bytes_eq name (codes "print-interpreter") then option_map print_interpreter (path_in rows)
-    else (if bytes_eq name (codes "print-os-abi") then option_map print_os_abi (path_in rows)
-    else (if bytes_eq name (codes "print-exec-stack") then option_map print_exec_stack (path_in rows)
-    else None)))))
+-- the command of a name that the parser found, with its values
+abbrev pub found_by : List Named → Text → List Row → Option (Text × Given)
+found_by table name rows = option_and_then (λ row. option_map (λ given. (row.name, given))
+    (found_values row.kind rows)) (named table name)
 
--- the parser takes the words, and this is made of what it finds
-abbrev pub IsTakenBy : {M : Type 0} → App → (Text → List Row → Option M) → List Text → M → Type 0
-IsTakenBy app found words meaning = (fault_of app words ≡ [])
-    × (option_and_then (λ p. found p.0 p.1) (subcommand_of app words) ≡ Some meaning)
+-- the parser takes the words, and finds this command with these values
+abbrev pub IsTaken : Text → List Named → List Text → Text × Given → Type 0
+IsTaken first table list taken = (fault_of (line_app first table) list ≡ [])
+    × (option_and_then (λ p. found_by table p.0 p.1) (subcommand_of (line_app first table) list)
+    ≡ Some taken)
 
-abbrev pub IsTaken : List Text → MachoMeaning → Type 0
-IsTaken = IsTakenBy macho_app found_meaning
+-- no command is named as the parser's own, which prints help
+abbrev pub has_no_help : List Named → Bool
+has_no_help rows = list_all (λ row. not (bytes_eq (codes "help") row.name)) rows
 
-abbrev pub IsElfTaken : List Text → ElfMeaning → Type 0
-IsElfTaken = IsTakenBy elf_app found_elf
+-- a table of commands: at least one, and none of that name
+abbrev pub is_table : List Named → Bool
+is_table [] = false
+is_table (row ∷ rows) = has_no_help (row ∷ rows)
+
+-- ---- the commands of a table with their meaning
+
+-- the parser takes the words, and the values that it finds ask for this
+abbrev pub MeansBy : {M : Type 0} → Text → List (Line M) → List Text → M → Type 0
+MeansBy first lines list meaning = (taken : Text × Given)
+    × IsTaken first (map named_of lines) list taken
+    × (meant_with lines taken.0 taken.1 ≡ Some meaning)
+
+-- where the words mean a command, the error is want of memory
+abbrev pub MayRefuse : {M : Type 0} → Text → List (Line M) → List Text → ArwenError → Type 0
+MayRefuse {M} first lines list error = (meaning : M) → MeansBy first lines list meaning
+    → error ≡ Memory
+
+-- ---- a parse that is told a command
+
+-- it takes the words, and finds the command that they name
+abbrev pub Matches : App → List Text → ArgMatches → Type 0
+Matches app list found = is_simple_and_free app ≡ true
+    → (fault_of app list ≡ []) × (subcommand_rows_of found ≡ subcommand_of app list)
+
+-- where it takes the words, the error is want of memory
+abbrev pub RefusesNone : App → List Text → ArwenError → Type 0
+RefusesNone app list error = is_simple_and_free app ≡ true → fault_of app list ≡ []
+    → error ≡ Memory
+
+-- ---- what a parse by a table gives
+
+-- a name with values
+abbrev pub taken_shown : Bor Text × Values → Text × Given
+taken_shown taken = (taken.0.now, given_shown taken.1)
+
+-- where the parser takes the words and finds a command with its values, the error is want of memory
+abbrev pub MayRefuseValues : Text → List Named → List Text → ArwenError → Type 0
+MayRefuseValues first table list error = (taken : Text × Given) → IsTaken first table list taken
+    → error ≡ Memory

@@ -2,19 +2,14 @@
 ghost use Rattle.std.specs.Prelude.{◌≡◌, false, IfErr, IfOk, map};
 ghost use Rattle.arwen_cli.specs.Line.{CanBeDone, LineMayFail, has_option, meaning_of};
 
-pub mod add;
-pub mod apply;
-pub mod change;
-pub mod delete;
-pub mod elf;
-pub mod install_id;
-pub mod install_name;
 mod line;
+mod parser;
 
 pub use arwen_commands::elf::{Probe, run_elf};
 pub use arwen_commands::{
     ArwenError, Command, EditFault, EditKind, EditsError, ElfCommand, FaultLine, MOST_BYTES,
-    MachoCommand, macho_execute, parse_macho_edits, read_bytes, run_macho,
+    MachoCommand, add, apply, change, delete, elf, install_id, install_name, macho_execute,
+    parse_macho_edits, read_bytes, run_macho,
 };
 pub use line::parse_line;
 use std::rt::Files;

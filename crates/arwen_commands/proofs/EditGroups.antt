@@ -4,7 +4,8 @@ use Rattle.std.specs.List.{onto_first, slice_split}
 use Rattle.std.proofs.lemmas.List.{drop_all, drop_more, length_push, map_push}
 use Rattle.arwen_macho.specs.Batch.{call_made, calls_of}
 use Rattle.arwen_macho.specs.Call.{Call}
-use Rattle.arwen_commands.specs.Edits.{TellsFault, TellsKind, Text, behind, edits_from, edits_of, group_edit, is_plus, then_edits}
+use Rattle.arwen_commands.specs.Edits.{TellsFault, TellsWrong, behind, edits_from, edits_of, group_edit, is_plus, then_edits}
+use Rattle.arwen_commands.specs.Rows.{Text}
 use Rattle.arwen_macho.specs.declared.batch.MachoEdit.{MachoEdit}
 use Rattle.arwen_commands.specs.declared.edits.EditFault.{EditFault}
 use Rattle.arwen_commands.specs.declared.edits.EditsError.{EditsError}
@@ -71,11 +72,10 @@ module _ (words : List (Bor Text)) (i : ℕ) (group : List (Bor Text)) (inside :
       sym (in_front-behind done edit (from_place words (i + 1))) ∙ ap (λ r. in_front done (then_edits i r (from_place words (i + 1)))) (sym is)
       ∙ ap (in_front done) (sym from_place-step) ∙ before
 
-  pub fault_read : (done : List Call) (e : EditsError) → TellsKind i (group_edit (texts group)) e → IsReadTo words i done → TellsFault (edits_of (texts words)) e
+  pub fault_read : (done : List Call) (e : EditsError) → TellsWrong i (group_edit (texts group)) e → IsReadTo words i done → TellsFault (edits_of (texts words)) e
   fault_read done Memory h before = tt
   fault_read done (Fault fault) h before =
-      let same : ◌≡◌ {A = EditFault} (record { group = i; kind = fault.kind }) fault = λ j. record { group = sym h.0 j; kind = fault.kind } in
-      sym before ∙ ap (in_front done) from_place-step ∙ ap (λ r. in_front done (then_edits i r (from_place words (i + 1)))) h.1 ∙ ap Err same
+      sym before ∙ ap (in_front done) from_place-step ∙ ap (λ r. in_front done (then_edits i r (from_place words (i + 1)))) h.1 ∙ ap Err (sym h.2)
 
 pub all_read : (words : List (Bor Text)) (i : ℕ) (done : List Call) → length (groups_of words) ≤ i → IsReadTo words i done → edits_of (texts words) ≡ Ok done
 unfolding edits_from

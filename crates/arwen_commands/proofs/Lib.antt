@@ -1,2 +1,3 @@
 pub mod EditGroups
 pub mod Outcomes
+pub mod RowLemmas

@@ -1,47 +1,72 @@
 -- What the words of several edits on one line mean.
-use Rattle.std.specs.Prelude.{◌≡◌, ◌+◌, ℕ, Bool, List, [], ◌∷◌, Result, Ok, Err, codes}
-use Rattle.std.specs.Prelude.{if◌then◌else◌}
+use Rattle.std.specs.Prelude.{◌≡◌, ◌+◌, ℕ, Bool, List, [], ◌∷◌, Option, Some, None, Result, Ok, Err}
+use Rattle.std.specs.Prelude.{codes, if◌then◌else◌, length, min, option_and_then}
 use Rattle.std.specs.List.{slice_split}
 use Rattle.std.specs.Str.{bytes_eq}
 use Rattle.arwen_macho.specs.Call.{Call}
-use Rattle.arwen_macho.specs.Call.Call.{add_rpath, change_install_id, change_install_name}
-use Rattle.arwen_macho.specs.Call.Call.{change_rpath, remove_rpath}
+use Rattle.arwen_commands.specs.Meaning.{MachoMeaning, apply, edit, macho_lines}
+use Rattle.arwen_commands.specs.Rows.{Kind, Line, Text, asked_with, count_of, given_without_path}
+use Rattle.arwen_commands.specs.Rows.{kind_of, line_named}
 use Rattle.arwen_commands.specs.declared.edits.EditFault.{EditFault}
 use Rattle.arwen_commands.specs.declared.edits.EditKind.{EditKind}
 use Rattle.arwen_commands.specs.declared.edits.EditKind.TheVariants.{Empty, UnknownEdit, WrongWords}
 use Rattle.arwen_commands.specs.declared.edits.EditsError.{EditsError}
 use Rattle.arwen_commands.specs.declared.edits.EditsError.TheVariants.{Fault, Memory}
 
--- the bytes of a word
-abbrev pub Text : Type 0
-Text = List ℕ
-
 -- ---- one group of words
 
--- an edit of one text, whose words are that text
-abbrev pub with_one : (Text → Call) → List Text → Result Call EditKind
-with_one edit (word ∷ []) = Ok (edit word)
-with_one edit _ = Err WrongWords
+-- what is wrong with a group: the kind, at which of its words, counted from 0, and how many words its
+-- edit takes behind its name
+pub record Wrong : Type 0 where
+  pub kind : EditKind
+  pub word : ℕ
+  pub takes : ℕ
 
--- an edit of two texts, whose words are these texts
-abbrev pub with_two : (Text → Text → Call) → List Text → Result Call EditKind
-with_two edit (first ∷ second ∷ []) = Ok (edit first second)
-with_two edit _ = Err WrongWords
+abbrev pub no_words : Wrong
+no_words = record { kind = Empty; word = 0; takes = 0 }
 
--- the edit of a name and the words behind it
-abbrev pub named_edit : Text → List Text → Result Call EditKind
-named_edit name words =
-    if bytes_eq name (codes "add-rpath") then with_one add_rpath words
-    else (if bytes_eq name (codes "change-rpath") then with_two change_rpath words
-    else (if bytes_eq name (codes "delete-rpath") then with_one remove_rpath words
-    else (if bytes_eq name (codes "change-install-id") then with_one change_install_id words
-    else (if bytes_eq name (codes "change-install-name") then with_two change_install_name words
-    else Err UnknownEdit))))
+abbrev pub no_edit : Wrong
+no_edit = record { kind = UnknownEdit; word = 0; takes = 0 }
 
--- the edit that a group of words names
-abbrev pub group_edit : List Text → Result Call EditKind
-group_edit [] = Err Empty
-group_edit (name ∷ words) = named_edit name words
+-- the first word that is missing or too many
+abbrev pub other_words : Kind → List Text → Wrong
+other_words kind words = record {
+  kind = WrongWords;
+  word = min (length words) (count_of kind) + 1;
+  takes = count_of kind;
+}
+
+-- the edit that a command asks for; `apply` asks for several
+abbrev pub edit_asked : MachoMeaning → Option Call
+edit_asked (edit call path) = Some call
+edit_asked (apply path words) = None
+
+-- the edit of a command that asks for one
+abbrev pub one_edit : Option Call → Result Call Wrong
+one_edit (Some call) = Ok call
+one_edit None = Err no_edit
+
+-- the edit of a command that is known or not, with its words but for the path
+abbrev pub given_edit : Kind → List Text → Option MachoMeaning → Result Call Wrong
+given_edit kind words (Some meaning) = one_edit (edit_asked meaning)
+given_edit kind words None = Err (other_words kind words)
+
+-- what a command asks for with these words, where its path is empty
+abbrev pub asked_without_path : Line MachoMeaning → List Text → Option MachoMeaning
+asked_without_path line words = option_and_then (asked_with line.asks)
+    (given_without_path (kind_of line.asks) words)
+
+abbrev pub line_edit : Option (Line MachoMeaning) → List Text → Result Call Wrong
+line_edit None words = Err no_edit
+line_edit (Some line) words =
+    if line.is_edit then given_edit (kind_of line.asks) words (asked_without_path line words)
+    else Err no_edit
+
+-- the edit that a group of words names: its first word names a command, and the words behind it are the
+-- command's, without the path
+abbrev pub group_edit : List Text → Result Call Wrong
+group_edit [] = Err no_words
+group_edit (name ∷ words) = line_edit (line_named macho_lines name) words
 
 -- ---- all groups
 
@@ -51,14 +76,19 @@ is_plus word = bytes_eq word (codes "+")
 
 -- the edits behind one more edit
 abbrev pub behind : Call → Result (List Call) EditFault → Result (List Call) EditFault
-behind edit (Ok edits) = Ok (edit ∷ edits)
-behind edit (Err fault) = Err fault
+behind call (Ok edits) = Ok (call ∷ edits)
+behind call (Err fault) = Err fault
+
+-- the fault of the group of this number
+abbrev pub fault_at : ℕ → Wrong → EditFault
+fault_at group wrong =
+    record { group = group; kind = wrong.kind; word = wrong.word; takes = wrong.takes }
 
 -- the first fault counts, and `group` is the number of the first group
-abbrev pub then_edits : ℕ → Result Call EditKind → Result (List Call) EditFault
+abbrev pub then_edits : ℕ → Result Call Wrong → Result (List Call) EditFault
     → Result (List Call) EditFault
-then_edits group (Ok edit) rest = behind edit rest
-then_edits group (Err kind) rest = Err (record { group = group; kind = kind })
+then_edits group (Ok call) rest = behind call rest
+then_edits group (Err wrong) rest = Err (fault_at group wrong)
 
 -- the edits of groups in order, of which the first has this number
 unfoldable pub edits_from : ℕ → List (List Text) → Result (List Call) EditFault
@@ -78,6 +108,7 @@ TellsFault meant (Fault fault) = meant ≡ Err fault
 TellsFault meant Memory = Unit {0}
 
 -- the error is the fault that the words of this group have, or want of memory
-abbrev pub TellsKind : ℕ → Result Call EditKind → EditsError → Type 0
-TellsKind group meant (Fault fault) = (fault.group ≡ group) × (meant ≡ Err fault.kind)
-TellsKind group meant Memory = Unit {0}
+abbrev pub TellsWrong : ℕ → Result Call Wrong → EditsError → Type 0
+TellsWrong group meant (Fault fault) = (wrong : Wrong) × (meant ≡ Err wrong)
+    × (fault ≡ fault_at group wrong)
+TellsWrong group meant Memory = Unit {0}

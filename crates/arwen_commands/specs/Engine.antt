@@ -6,8 +6,6 @@ use Rattle.arwen_macho.specs.declared.error.MachoError.TheVariants.{Parsing, Uni
 use Rattle.arwen_macho.specs.declared.front.Front.{Front}
 use Rattle.arwen_macho.specs.declared.macho.MachoType.{MachoType}
 use Rattle.arwen_macho.specs.Call.{Call}
-use Rattle.arwen_macho.specs.Call.Call.{add_rpath, change_install_id, change_install_name}
-use Rattle.arwen_macho.specs.Call.Call.{change_rpath, remove_rpath}
 use Rattle.arwen_macho.specs.Container.{container_bytes, container_step, first_container}
 use Rattle.arwen_macho.specs.Found.{Found, container_found}
 use Rattle.arwen_macho.specs.Found.Found.{archive, fault}
@@ -15,16 +13,11 @@ use Rattle.arwen_macho.specs.Fronts.{LiesIn, fronts_on}
 use Rattle.arwen_macho.specs.Refused.{cause_of}
 use Rattle.arwen_macho.specs.State.{Refusal}
 use Rattle.arwen_commands.specs.declared.edits.EditFault.{EditFault}
-use Rattle.arwen_commands.specs.declared.edits.EditsError.{EditsError}
-use Rattle.arwen_commands.specs.declared.edits.EditsError.TheVariants.{Fault}
-use Rattle.arwen_commands.specs.declared.edits.EditsError.TheVariants as edits
 use Rattle.arwen_commands.specs.declared.error.ArwenError.{ArwenError}
 use Rattle.arwen_commands.specs.declared.error.ArwenError.TheVariants.{Edits, Elf, Io, Line, Macho, MachoBatch, Memory}
 use Rattle.arwen_commands.specs.Edits.{edits_of}
 use Rattle.arwen_commands.specs.Fault.{answer_to, answer_to_batch}
-use Rattle.arwen_commands.specs.Meaning.{MachoMeaning}
-use Rattle.arwen_commands.specs.Meaning.MachoMeaning.{add_rpath as line_add, apply, change_install_id as line_id}
-use Rattle.arwen_commands.specs.Meaning.MachoMeaning.{change_install_name as line_name, change_rpath as line_change, delete_rpath}
+use Rattle.arwen_commands.specs.Meaning.{MachoMeaning, apply, edit}
 
 -- what is asked for: one edit, or those that words name
 pub data Asked : Type 0 where
@@ -32,11 +25,7 @@ pub data Asked : Type 0 where
   several : Result (List Call) EditFault → Asked
 
 abbrev pub asked : MachoMeaning → Asked
-asked (delete_rpath old path) = one (remove_rpath old)
-asked (line_change old new path) = one (change_rpath old new)
-asked (line_add new path) = one (add_rpath new)
-asked (line_name old new path) = one (change_install_name old new)
-asked (line_id new path) = one (change_install_id new)
+asked (edit call path) = one call
 asked (apply path words) = several (edits_of words)
 
 -- what comes of it: new bytes, or what is found wrong first
@@ -96,15 +85,11 @@ abbrev pub TellsBatch : Outcome → MachoBatchError → Type 0
 TellsBatch (refused_batch refusal) e = (e.index ≡ refusal.index) × (cause_of e.fault ≡ Some refusal.cause)
 TellsBatch _ e = ⊥
 
-abbrev pub TellsWords : Outcome → EditsError → Type 0
-TellsWords outcome (Fault wrong) = outcome ≡ no_edits wrong
-TellsWords outcome edits.Memory = ⊥
-
 abbrev pub Tells : Outcome → ArwenError → Type 0
 Tells outcome Memory = ⊤
 Tells outcome (Macho e) = TellsMacho outcome e
 Tells outcome (MachoBatch e) = TellsBatch outcome e
-Tells outcome (Edits e) = TellsWords outcome e
+Tells outcome (Edits wrong) = outcome ≡ no_edits wrong
 Tells outcome (Elf e) = ⊥
 Tells outcome (Io e) = ⊥
 Tells outcome (Line text status) = ⊥

@@ -50,7 +50,7 @@ answer_to_batch batch = answer_by_fault batch batch.fault
 -- the program's answer for words that were not read as edits
 abbrev pub answer_to_words : EditsError → ArwenError
 answer_to_words edits.Memory = Memory
-answer_to_words (edits.Fault fault) = Edits (edits.Fault fault)
+answer_to_words (edits.Fault fault) = Edits fault
 
 -- the fault that a line of text tells
 abbrev pub fault_told : FaultLine → ArwenError

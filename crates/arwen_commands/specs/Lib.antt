@@ -3,3 +3,4 @@ pub mod Engine
 pub mod Fault
 pub mod Meaning
 pub mod Prints
+pub mod Rows

@@ -1,8 +1,13 @@
 //! What is asked for, with its values.
+ghost use Rattle.std.specs.Prelude.{◌≡◌, IfOk, string_bytes};
+
 use crate::elf::{
     print_execstack, print_interpreter, print_needed, print_os_abi, print_rpath, print_soname,
 };
+use crate::rows::Values;
 use crate::{add, apply, change, delete, install_id, install_name};
+use arwen_macho::macho::MachoEdit;
+use std::alloc::{AllocError, Global};
 
 /// What is asked for.
 #[derive(Debug, Drop)]
@@ -31,8 +36,118 @@ pub enum MachoCommand {
 }
 
 impl MachoCommand {
-    ghost use Rattle.std.specs.Prelude.{◌≡◌};
-    ghost use Rattle.arwen_commands.specs.Meaning.{file_of, macho_shown};
+    ghost use Rattle.std.specs.Prelude.{◌≡◌, ◌∷◌, IfOk, map, option_map, string_bytes};
+    ghost use Rattle.arwen_macho.specs.Batch.{call_made};
+    ghost use Rattle.arwen_commands.specs.Edits.{edit_asked};
+    ghost use Rattle.arwen_commands.specs.Meaning.{file_of, macho_lines, macho_shown};
+    ghost use Rattle.arwen_commands.specs.Rows.{given_shown, meant_with, text, texts, words as words_given};
+
+    /// The command of a name with its values; `None` where no command of that name takes such values.
+    pub fn with_values(name: &str, values: Values) -> Option<MachoCommand>
+        ensures { option_map macho_shown result
+            ≡ meant_with macho_lines name.now (given_shown values) }
+    {
+        match values {
+            Values::Path(_) => None,
+            Values::Text(value, path) => MachoCommand::with_text(name, value, path),
+            Values::Texts(old, new, path) => MachoCommand::with_texts(name, old, new, path),
+            Values::Words(path, words) => MachoCommand::with_words(name, path, words),
+        }
+    }
+
+    /// The command of a name that takes a text and the path.
+    fn with_text(name: &str, value: String, path_to_binary: String) -> Option<MachoCommand>
+        ensures { option_map macho_shown result ≡ meant_with macho_lines name.now
+            (text (string_bytes value) (string_bytes path_to_binary)) }
+    {
+        match name {
+            delete::NAME => Some(MachoCommand::DeleteRpath(delete::Args {
+                rpath_to_remove: value,
+                path_to_binary,
+            })),
+            add::NAME => Some(MachoCommand::AddRpath(add::Args {
+                new_rpath: value,
+                path_to_binary,
+            })),
+            install_id::NAME => Some(MachoCommand::ChangeInstallId(install_id::Args {
+                new_install_id: value,
+                path_to_binary,
+            })),
+            _ => None,
+        }
+    }
+
+    /// The command of a name that takes two texts and the path.
+    fn with_texts(
+        name: &str,
+        old: String,
+        new: String,
+        path_to_binary: String,
+    ) -> Option<MachoCommand>
+        ensures { option_map macho_shown result ≡ meant_with macho_lines name.now
+            (texts (string_bytes old) (string_bytes new) (string_bytes path_to_binary)) }
+    {
+        match name {
+            change::NAME => Some(MachoCommand::ChangeRpath(change::Args {
+                old_rpath: old,
+                new_rpath: new,
+                path_to_binary,
+            })),
+            install_name::NAME => Some(MachoCommand::ChangeInstallName(install_name::Args {
+                old_install_name: old,
+                new_install_name: new,
+                path_to_binary,
+            })),
+            _ => None,
+        }
+    }
+
+    /// The command of a name that takes the path and any number of words.
+    fn with_words(name: &str, path_to_binary: String, words: Vec<String>) -> Option<MachoCommand>
+        ensures { option_map macho_shown result ≡ meant_with macho_lines name.now
+            (words_given (string_bytes path_to_binary) (map string_bytes words.items)) }
+    {
+        match name {
+            apply::NAME => Some(MachoCommand::Apply(apply::Args {
+                path_to_binary,
+                edits: words,
+            })),
+            _ => None,
+        }
+    }
+
+    /// The edit that the command asks for; `None` for `apply`, which asks for several.
+    pub(crate) fn edit(&self, alloc: Global) -> Result<Option<MachoEdit>, AllocError>
+        ensures { IfOk result (λ edit. option_map call_made edit ≡ edit_asked (macho_shown self.now)) }
+    {
+        match self {
+            MachoCommand::DeleteRpath(args) => {
+                let old = copied(alloc, &args.rpath_to_remove)?;
+                Ok(Some(MachoEdit::RemoveRpath(old)))
+            }
+            MachoCommand::ChangeRpath(args) => {
+                let (old, new) = both_copied(alloc, &args.old_rpath, &args.new_rpath)?;
+                Ok(Some(MachoEdit::ChangeRpath(old, new)))
+            }
+            MachoCommand::AddRpath(args) => {
+                let new = copied(alloc, &args.new_rpath)?;
+                Ok(Some(MachoEdit::AddRpath(new)))
+            }
+            MachoCommand::ChangeInstallName(args) => {
+                let (old, new) = both_copied(
+                    alloc,
+                    &args.old_install_name,
+                    &args.new_install_name,
+                )?;
+                Ok(Some(MachoEdit::ChangeInstallName(old, new)))
+            }
+            MachoCommand::ChangeInstallId(args) => {
+                let new = copied(alloc, &args.new_install_id)?;
+                Ok(Some(MachoEdit::ChangeInstallId(new)))
+            }
+            MachoCommand::Apply(_) => Ok(None),
+        }
+    }
 
     /// The file that is edited.
     pub fn path_to_binary(&self) -> &str
@@ -67,8 +182,39 @@ pub enum ElfCommand {
 }
 
 impl ElfCommand {
-    ghost use Rattle.std.specs.Prelude.{◌≡◌};
-    ghost use Rattle.arwen_commands.specs.Meaning.{elf_file_of, elf_shown};
+    ghost use Rattle.std.specs.Prelude.{◌≡◌, option_map, string_bytes};
+    ghost use Rattle.arwen_commands.specs.Meaning.{elf_file_of, elf_lines, elf_shown};
+    ghost use Rattle.arwen_commands.specs.Rows.{given_shown, meant_with, path};
+
+    /// The command of a name with its values; `None` where no command of that name takes such values.
+    pub fn with_values(name: &str, values: Values) -> Option<ElfCommand>
+        ensures { option_map elf_shown result ≡ meant_with elf_lines name.now (given_shown values) }
+    {
+        match values {
+            Values::Path(file) => ElfCommand::with_path(name, file),
+            _ => None,
+        }
+    }
+
+    /// The command of a name that takes the path alone.
+    fn with_path(name: &str, path_to_binary: String) -> Option<ElfCommand>
+        ensures { option_map elf_shown result
+            ≡ meant_with elf_lines name.now (path (string_bytes path_to_binary)) }
+    {
+        Some(match name {
+            print_rpath::NAME => ElfCommand::PrintRpath(print_rpath::Args { path_to_binary }),
+            print_needed::NAME => ElfCommand::PrintNeeded(print_needed::Args { path_to_binary }),
+            print_soname::NAME => ElfCommand::PrintSoname(print_soname::Args { path_to_binary }),
+            print_interpreter::NAME => {
+                ElfCommand::PrintInterpreter(print_interpreter::Args { path_to_binary })
+            }
+            print_os_abi::NAME => ElfCommand::PrintOsAbi(print_os_abi::Args { path_to_binary }),
+            print_execstack::NAME => {
+                ElfCommand::PrintExecStack(print_execstack::Args { path_to_binary })
+            }
+            _ => return None,
+        })
+    }
 
     /// The file that is read.
     pub fn path_to_binary(&self) -> &str
@@ -83,4 +229,25 @@ impl ElfCommand {
             ElfCommand::PrintExecStack(args) => args.path_to_binary.as_str(),
         }
     }
+}
+
+/// The same text.
+fn copied(alloc: Global, text: &String) -> Result<String, AllocError>
+    ensures { IfOk result (λ copy. string_bytes copy ≡ string_bytes text.now) }
+{
+    String::from_str(alloc, text.as_str())
+}
+
+/// The same two texts.
+fn both_copied(
+    alloc: Global,
+    first: &String,
+    second: &String,
+) -> Result<(String, String), AllocError>
+    ensures { IfOk result (λ copies. (string_bytes copies.0 ≡ string_bytes first.now)
+        × (string_bytes copies.1 ≡ string_bytes second.now)) }
+{
+    let first = copied(alloc, first)?;
+    let second = copied(alloc, second)?;
+    Ok((first, second))
 }

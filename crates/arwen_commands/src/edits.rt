@@ -1,13 +1,19 @@
 //! The words of several edits on one line.
-ghost use Rattle.std.specs.Prelude.{◌≡◌, ◌∷◌, [], Ok, IfOk, IfErr, map, string_bytes};
+ghost use Rattle.std.specs.Prelude.{◌≡◌, ◌∷◌, [], Ok, IfOk, IfErr, map, option_and_then, option_map};
+ghost use Rattle.std.specs.Prelude.{string_bytes};
 ghost use Rattle.arwen_macho.specs.Batch.{call_made, calls_of};
-ghost use Rattle.arwen_macho.specs.Call.{Call};
-ghost use Rattle.arwen_commands.specs.Edits.{TellsFault, TellsKind, Text, edits_of};
-ghost use Rattle.arwen_commands.specs.Edits.{group_edit, with_one, with_two};
+ghost use Rattle.arwen_commands.specs.Edits.{TellsFault, TellsWrong, edit_asked, edits_of, fault_at};
+ghost use Rattle.arwen_commands.specs.Edits.{group_edit, one_edit, other_words as wrong_words};
+ghost use Rattle.arwen_commands.specs.Meaning.{macho_lines, macho_shown};
+ghost use Rattle.arwen_commands.specs.Rows.{given_shown, given_without_path, kind_shown, meant_with};
 ghost use Rattle.arwen_commands.specs.declared.edits.EditsError.TheVariants.{Memory};
 
+use crate::command::MachoCommand;
+use crate::rows::{Form, Values, find_row};
+use crate::tables::macho_table;
 use arwen_macho::macho::MachoEdit;
 use std::alloc::{AllocError, AllocFailed, Global};
+use std::fmt;
 use thiserror::Error;
 
 /// What is wrong with a group of words.
@@ -31,13 +37,45 @@ pub enum EditKind {
 }
 
 /// The first faulty group of an edit list, and what is wrong with it.
-#[derive(Clone, Copy, Debug, PartialEq, Eq, Error)]
-#[error("EditFault")]
+#[derive(Clone, Copy, Debug, PartialEq, Eq)]
 pub struct EditFault {
     /// The group, counted from 0.
     pub group: usize,
     /// What is wrong with it.
     pub kind: EditKind,
+    /// The word of the group that is wrong, counted from 0: the edit's name, or the first word that is
+    /// missing or too many.
+    pub word: usize,
+    /// How many words the edit takes behind its name; 0 where no edit is named.
+    pub takes: usize,
+}
+
+impl fmt::Display for EditFault {
+    fn fmt<W: fmt::Write>(&self, f: &mut fmt::Formatter<W>) -> fmt::Result {
+        let group = self.group;
+        let kind = self.kind;
+        let word = self.word;
+        let takes = self.takes;
+        match kind {
+            EditKind::Empty => write!(f, "group {group}: {kind}: no edit stands there"),
+            EditKind::UnknownEdit => {
+                write!(f, "group {group}: {kind}: its first word names no edit")
+            }
+            EditKind::WrongWords if word > takes => {
+                write!(
+                    f,
+                    "group {group}: {kind}: word {word} is too many, the edit takes {takes}"
+                )
+            }
+            EditKind::WrongWords => {
+                write!(
+                    f,
+                    "group {group}: {kind}: word {word} is missing, the edit takes {takes}"
+                )
+            }
+            _ => write!(f, "group {group}: {kind}: word {word}"),
+        }
+    }
 }
 
 /// Why words were not read as edits.
@@ -86,61 +124,113 @@ pub fn parse_macho_edits(alloc: Global, words: &[&str]) -> Result<Vec<MachoEdit>
 fn read_group(alloc: Global, group: usize, words: &[&str]) -> Result<MachoEdit, EditsError>
     ensures ok { IfOk result (λ edit.
         group_edit (map (λ w. w.now) words.now) ≡ Ok (call_made edit)) }
-    ensures err { IfErr result (TellsKind group (group_edit (map (λ w. w.now) words.now))) }
+    ensures err { IfErr result (TellsWrong group (group_edit (map (λ w. w.now) words.now))) }
 {
     let Some((name, words)) = words.split_first() else {
-        let kind = EditKind::Empty;
-        return Err(EditsError::Fault(EditFault { group, kind }));
+        return Err(no_edit(group, EditKind::Empty));
     };
-    match *name {
-        "add-rpath" => Ok(MachoEdit::AddRpath(one_word(alloc, group, words)?)),
-        "change-rpath" => {
-            let (old, new) = two_words(alloc, group, words)?;
-            Ok(MachoEdit::ChangeRpath(old, new))
-        }
-        "delete-rpath" => Ok(MachoEdit::RemoveRpath(one_word(alloc, group, words)?)),
-        "change-install-id" => Ok(MachoEdit::ChangeInstallId(one_word(alloc, group, words)?)),
-        "change-install-name" => {
-            let (old, new) = two_words(alloc, group, words)?;
-            Ok(MachoEdit::ChangeInstallName(old, new))
-        }
-        _ => {
-            let kind = EditKind::UnknownEdit;
-            Err(EditsError::Fault(EditFault { group, kind }))
-        }
+    let Some(row) = find_row(macho_table(), name) else {
+        return Err(no_edit(group, EditKind::UnknownEdit));
+    };
+    if !row.is_edit {
+        return Err(no_edit(group, EditKind::UnknownEdit));
+    }
+    match command_without_path(alloc, name, &row.form, words)? {
+        Some(command) => edit_of(alloc, group, &command),
+        None => Err(other_words(group, &row.form, words)),
     }
 }
 
-/// The text of a group's one word.
-fn one_word(alloc: Global, group: usize, words: &[&str]) -> Result<String, EditsError>
-    ensures ok { IfOk result (λ text. map (λ w. w.now) words.now ≡ string_bytes text ∷ []) }
-    ensures err { IfErr result (λ e. (edit : Text → Call)
-        → TellsKind group (with_one edit (map (λ w. w.now) words.now)) e) }
+/// The fault of a group whose first word is no edit.
+fn no_edit(group: usize, kind: EditKind) -> EditsError
+    ensures { result ≡ EditsError.Fault (record { group = group; kind = kind; word = 0; takes = 0 }) }
 {
-    match words {
-        [word] => Ok(String::from_str(alloc, word)?),
-        _ => {
-            let kind = EditKind::WrongWords;
-            Err(EditsError::Fault(EditFault { group, kind }))
-        }
+    EditsError::Fault(EditFault {
+        group,
+        kind,
+        word: 0,
+        takes: 0,
+    })
+}
+
+/// The fault of a group with another number of words than its edit takes.
+fn other_words(group: usize, form: &Form, words: &[&str]) -> EditsError
+    ensures { result ≡ EditsError.Fault (fault_at group
+        (wrong_words (kind_shown form.now) (map (λ w. w.now) words.now))) }
+{
+    let takes = form.word_count();
+    EditsError::Fault(EditFault {
+        group,
+        kind: EditKind::WrongWords,
+        word: words.len().min(takes) + 1,
+        takes,
+    })
+}
+
+/// The command of a name with the words of a group, and with an empty path; `None` where there are too
+/// many words or too few.
+fn command_without_path(
+    alloc: Global,
+    name: &str,
+    form: &Form,
+    words: &[&str],
+) -> Result<Option<MachoCommand>, AllocError>
+    ensures { IfOk result (λ command. option_map macho_shown command
+        ≡ option_and_then (meant_with macho_lines name.now)
+        (given_without_path (kind_shown form.now) (map (λ w. w.now) words.now))) }
+{
+    match values_without_path(alloc, form, words)? {
+        Some(values) => Ok(MachoCommand::with_values(name, values)),
+        None => Ok(None),
     }
 }
 
-/// The texts of a group's two words.
-fn two_words(alloc: Global, group: usize, words: &[&str]) -> Result<(String, String), EditsError>
-    ensures ok { IfOk result (λ texts. map (λ w. w.now) words.now
-        ≡ string_bytes texts.0 ∷ string_bytes texts.1 ∷ []) }
-    ensures err { IfErr result (λ e. (edit : Text → Text → Call)
-        → TellsKind group (with_two edit (map (λ w. w.now) words.now)) e) }
+/// The values that the words of a group are, with an empty path.
+fn values_without_path(
+    alloc: Global,
+    form: &Form,
+    words: &[&str],
+) -> Result<Option<Values>, AllocError>
+    ensures { IfOk result (λ values. option_map given_shown values
+        ≡ given_without_path (kind_shown form.now) (map (λ w. w.now) words.now)) }
 {
-    match words {
-        [first, second] => {
+    let path = String::new(alloc);
+    match (form, words) {
+        (Form::Path, []) => Ok(Some(Values::Path(path))),
+        (Form::Text(_), [word]) => {
+            let value = String::from_str(alloc, word)?;
+            Ok(Some(Values::Text(value, path)))
+        }
+        (Form::Texts(..), [first, second]) => {
             let first = String::from_str(alloc, first)?;
-            Ok((first, String::from_str(alloc, second)?))
+            let second = String::from_str(alloc, second)?;
+            Ok(Some(Values::Texts(first, second, path)))
         }
-        _ => {
-            let kind = EditKind::WrongWords;
-            Err(EditsError::Fault(EditFault { group, kind }))
-        }
+        (Form::Words(_), words) => Ok(Some(Values::Words(path, copies(alloc, words)?))),
+        _ => Ok(None),
     }
+}
+
+/// The edit that a command asks for, as that of a group.
+fn edit_of(alloc: Global, group: usize, command: &MachoCommand) -> Result<MachoEdit, EditsError>
+    ensures ok { IfOk result (λ edit.
+        one_edit (edit_asked (macho_shown command.now)) ≡ Ok (call_made edit)) }
+    ensures err { IfErr result (TellsWrong group (one_edit (edit_asked (macho_shown command.now)))) }
+{
+    match command.edit(alloc)? {
+        Some(edit) => Ok(edit),
+        None => Err(no_edit(group, EditKind::UnknownEdit)),
+    }
+}
+
+/// The same words, owned.
+pub fn copies(alloc: Global, words: &[&str]) -> Result<Vec<String>, AllocError>
+    ensures { IfOk result (λ copies.
+        map string_bytes copies.items ≡ map (λ word. word.now) words.now) }
+{
+    let mut copies = Vec::with_capacity(alloc, words.len())?;
+    for word in words {
+        copies.push(String::from_str(alloc, word)?)?;
+    }
+    Ok(copies)
 }

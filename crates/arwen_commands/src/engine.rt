@@ -65,33 +65,13 @@ fn edits_asked(alloc: Global, command: &MachoCommand) -> Result<Vec<MachoEdit>, 
     ensures ok { IfOk result (λ edits. AreAsked (asked (macho_shown command.now)) (calls_of edits.items)) }
     ensures err { IfErr result (λ e. TellsAsked (asked (macho_shown command.now)) e) }
 {
-    match command {
-        MachoCommand::DeleteRpath(args) => {
-            let old = String::from_str(alloc, args.rpath_to_remove.as_str())?;
-            alone(alloc, MachoEdit::RemoveRpath(old))
-        }
-        MachoCommand::ChangeRpath(args) => {
-            let old = String::from_str(alloc, args.old_rpath.as_str())?;
-            let new = String::from_str(alloc, args.new_rpath.as_str())?;
-            alone(alloc, MachoEdit::ChangeRpath(old, new))
-        }
-        MachoCommand::AddRpath(args) => {
-            let new = String::from_str(alloc, args.new_rpath.as_str())?;
-            alone(alloc, MachoEdit::AddRpath(new))
-        }
-        MachoCommand::ChangeInstallName(args) => {
-            let old = String::from_str(alloc, args.old_install_name.as_str())?;
-            let new = String::from_str(alloc, args.new_install_name.as_str())?;
-            alone(alloc, MachoEdit::ChangeInstallName(old, new))
-        }
-        MachoCommand::ChangeInstallId(args) => {
-            let new = String::from_str(alloc, args.new_install_id.as_str())?;
-            alone(alloc, MachoEdit::ChangeInstallId(new))
-        }
-        MachoCommand::Apply(args) => {
-            let words = words_of(alloc, args.edits.as_slice())?;
-            Ok(parse_macho_edits(alloc, words.as_slice())?)
-        }
+    if let MachoCommand::Apply(args) = command {
+        let words = words_of(alloc, args.edits.as_slice())?;
+        return Ok(parse_macho_edits(alloc, words.as_slice())?);
+    }
+    match command.edit(alloc)? {
+        Some(edit) => alone(alloc, edit),
+        None => Ok(Vec::new(alloc)),
     }
 }
 

@@ -4,7 +4,7 @@ ghost use Rattle.arwen_commands.specs.Fault.{answer_to, answer_to_batch, answer_
 ghost use Rattle.arwen_commands.specs.Fault.{fault_told, status_of};
 ghost use Rattle.arwen_commands.specs.declared.error.ArwenError.TheVariants.{Io, Memory};
 
-use crate::edits::EditsError;
+use crate::edits::{EditFault, EditsError};
 use arwen_elf::elf::ElfError;
 use arwen_macho::macho::{MachoBatchError, MachoError};
 use std::alloc::{AllocError, AllocFailed};
@@ -36,7 +36,7 @@ pub enum ArwenError {
     Memory,
     /// The words of `apply` are no list of edits.
     #[error("invalid edit list")]
-    Edits(EditsError),
+    Edits(EditFault),
     /// One of several edits of a Mach-O file was refused.
     #[error("Mach-O batch refused")]
     MachoBatch(MachoBatchError),
@@ -104,7 +104,7 @@ impl From<EditsError> for ArwenError {
     fn from(error: EditsError) -> ArwenError {
         match error {
             EditsError::Memory => ArwenError::Memory,
-            EditsError::Fault(fault) => ArwenError::Edits(EditsError::Fault(fault)),
+            EditsError::Fault(fault) => ArwenError::Edits(fault),
         }
     }
 }
@@ -136,7 +136,8 @@ impl<T: Drop> From<AllocFailed<T>> for ArwenError {
 /// A fault with its causes, from the outermost on. It ends at a text that already holds the next.
 #[derive(Clone, Copy, Debug)]
 pub struct FaultLine<'a> {
-    error: &'a ArwenError,
+    /// The fault.
+    pub error: &'a ArwenError,
 }
 
 impl fmt::Display for FaultLine<'_> {
@@ -154,12 +155,7 @@ impl fmt::Display for FaultLine<'_> {
             ArwenError::Io(fault) => write!(f, "{outer}: {fault}"),
             ArwenError::Line { text, .. } => write!(f, "{text}"),
             ArwenError::Memory => write!(f, "{outer}"),
-            ArwenError::Edits(EditsError::Fault(fault)) => {
-                let group = fault.group;
-                let kind = fault.kind;
-                write!(f, "{outer}: group {group}: {kind}")
-            }
-            ArwenError::Edits(EditsError::Memory) => write!(f, "{outer}: out of memory"),
+            ArwenError::Edits(fault) => write!(f, "{outer}: {fault}"),
             ArwenError::MachoBatch(batch) => {
                 let index = batch.index;
                 let causes = MachoCauses {

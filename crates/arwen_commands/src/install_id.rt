@@ -8,6 +8,9 @@ use crate::engine::patch_file;
 use crate::error::ArwenError;
 use std::rt::Files;
 
+/// The word that names the command.
+pub const NAME: &str = "change-install-id";
+
 /// Change the install id of a shared library.
 #[derive(Debug, Drop)]
 pub struct Args {

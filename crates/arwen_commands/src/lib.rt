@@ -14,9 +14,13 @@ mod error;
 mod file;
 pub mod install_id;
 pub mod install_name;
+mod rows;
+mod tables;
 
 pub use command::{Command, ElfCommand, MachoCommand};
-pub use edits::{EditFault, EditKind, EditsError, parse_macho_edits};
+pub use edits::{EditFault, EditKind, EditsError, copies, parse_macho_edits};
 pub use engine::{macho_execute, run_macho};
 pub use error::{ArwenError, FaultLine};
 pub use file::{MOST_BYTES, read_bytes};
+pub use rows::{Form, Row, Value, Values, find_row};
+pub use tables::{elf_table, macho_table};

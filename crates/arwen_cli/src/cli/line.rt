@@ -1,20 +1,18 @@
 //! What the words of a line mean.
-ghost use Rattle.std.specs.Prelude.{◌≡◌, [], Some, false, IfOk, IfErr, map, option_map, string_bytes};
-ghost use Rattle.std.specs.Prelude.{unwrap_or};
-ghost use Rattle.clap.specs.Words.{all_of, app_of, first_of, found_of, kind_of, rows_of, rule_of};
+ghost use Rattle.std.specs.Prelude.{◌≡◌, Some, codes, false, IfErr, IfOk, map};
 ghost use Rattle.arwen_commands.specs.Fault.{IsOfLine, status_of};
-ghost use Rattle.arwen_commands.specs.Meaning.{MachoMeaning, Meaning, macho_shown, shown};
+ghost use Rattle.arwen_commands.specs.Meaning.{Meaning, elf_lines, elf_shown, macho_lines};
+ghost use Rattle.arwen_commands.specs.Meaning.{macho_shown, shown};
 ghost use Rattle.arwen_cli.specs.Line.{has_option, meaning_of};
-ghost use Rattle.arwen_cli.specs.Parser.{IsTaken, found_meaning, macho_app, top_app, value_rule};
-ghost use Rattle.arwen_cli.specs.Parser.{values_rule};
+ghost use Rattle.arwen_cli.specs.Parser.{MayRefuse, MeansBy};
 
-use crate::cli::elf::line::parse_elf;
-use crate::cli::{
-    ArwenError, Command, MachoCommand, add, apply, change, delete, install_id, install_name,
-};
-use clap::error::ErrorKind;
-use clap::{Arg, ArgAction, ArgMatches, Error};
+use crate::cli::parser::{First, parse_values};
+use crate::cli::{ArwenError, Command, ElfCommand, MachoCommand};
+use arwen_commands::{elf_table, macho_table};
 use std::alloc::{AllocError, Global};
+
+/// The program's name and its version, as `--version` prints them.
+const VERSION: &str = "arwen 0.0.5\n";
 
 /// What the program says where no command is named.
 const USAGE: &str = "Patches finished Mach-O files, and prints what ELF files say.
@@ -22,13 +20,28 @@ const USAGE: &str = "Patches finished Mach-O files, and prints what ELF files sa
 Usage: arwen <COMMAND>
 
 Commands:
-  macho  Edit a Mach-O file (`arwen macho --help` lists the edits)
-  elf    Print what an ELF file says (`arwen elf --help` lists the commands)
-  help   Print this text
+  macho  Edit a Mach-O file (`arwen help macho` lists the edits)
+  elf    Print what an ELF file says (`arwen help elf` lists the commands)
+  help   Print this text, or the help of the command behind it
 
 Options:
-  -h, --help  Print this text
+  -h, --help     Print this text
+  -V, --version  Print the version
 ";
+
+/// The first word of the commands for Mach-O files.
+const MACHO: First = First {
+    word: "macho",
+    shown_as: "arwen macho",
+    about: "Edit a Mach-O file",
+};
+
+/// The first word of the commands for ELF files.
+const ELF: First = First {
+    word: "elf",
+    shown_as: "arwen elf",
+    about: "Print what an ELF file says",
+};
 
 /// The command that a line's words mean, those behind the program's name. A line that asks for help,
 /// and one that is wrong, is answered by `ArwenError::Line` with the text to print.
@@ -46,9 +59,51 @@ pub fn parse_line(alloc: Global, words: &[&str]) -> Result<Command, ArwenError>
     match *first {
         "macho" => Ok(Command::Macho(parse_macho(alloc, words)?)),
         "elf" => Ok(Command::Elf(parse_elf(alloc, words)?)),
-        "help" | "-h" | "--help" => Err(usage(alloc, 0)?),
-        _ => Err(usage(alloc, 2)?),
+        word => Err(other_line(alloc, word, words)?),
     }
+}
+
+/// The answer to a line that names no command by its first word.
+fn other_line(alloc: Global, first: &str, words: &[&str]) -> Result<ArwenError, AllocError>
+    ensures { IfOk result (λ fault. IsOfLine fault) }
+{
+    match first {
+        "help" => help(alloc, words.get(1)),
+        "-h" | "--help" => usage(alloc, 0),
+        "-V" | "--version" => line_of(alloc, VERSION, 0),
+        _ => unknown_word(alloc, first),
+    }
+}
+
+/// The help that a line asks for by `help`, with the word behind it.
+fn help(alloc: Global, topic: Option<&&str>) -> Result<ArwenError, AllocError>
+    ensures { IfOk result (λ fault. IsOfLine fault) }
+{
+    match topic {
+        Some(word) if *word == "macho" => help_of(alloc, parse_macho(alloc, &["macho", "--help"])),
+        Some(word) if *word == "elf" => help_of(alloc, parse_elf(alloc, &["elf", "--help"])),
+        Some(word) => unknown_word(alloc, word),
+        None => usage(alloc, 0),
+    }
+}
+
+/// The help that a parse answered.
+fn help_of<T: Drop>(alloc: Global, answer: Result<T, ArwenError>) -> Result<ArwenError, AllocError>
+    requires { IfErr answer (λ error. IsOfLine error) }
+    ensures { IfOk result (λ fault. IsOfLine fault) }
+{
+    match answer {
+        Ok(_) => usage(alloc, 0),
+        Err(fault) => Ok(fault),
+    }
+}
+
+/// The answer to a word that is no first word of a line.
+fn unknown_word(alloc: Global, word: &str) -> Result<ArwenError, AllocError>
+    ensures { IfOk result (λ fault. IsOfLine fault) }
+{
+    let text = format!(in alloc; "error: unrecognized command '{word}'\n\n{USAGE}")?;
+    Ok(ArwenError::Line { text, status: 2 })
 }
 
 /// The usage text, as the fault of a line.
@@ -56,153 +111,44 @@ pub(crate) fn usage(alloc: Global, status: u8) -> Result<ArwenError, AllocError>
     ensures status { IfOk result (λ fault. status_of fault ≡ status) }
     ensures kind { IfOk result (λ fault. IsOfLine fault) }
 {
-    let text = String::from_str(alloc, USAGE)?;
+    line_of(alloc, USAGE, status)
+}
+
+/// A text, as the fault of a line.
+fn line_of(alloc: Global, text: &str, status: u8) -> Result<ArwenError, AllocError>
+    ensures status { IfOk result (λ fault. status_of fault ≡ status) }
+    ensures kind { IfOk result (λ fault. IsOfLine fault) }
+{
+    let text = String::from_str(alloc, text)?;
     Ok(ArwenError::Line { text, status })
 }
 
 /// The command of a line whose first word is `macho`.
 fn parse_macho(alloc: Global, words: &[&str]) -> Result<MachoCommand, ArwenError>
-    ensures taken { IfOk result (λ command.
-        IsTaken (map (λ w. w.now) words.now) (macho_shown command)) }
-    ensures refused { IfErr result (λ error. (meaning : MachoMeaning)
-        → IsTaken (map (λ w. w.now) words.now) meaning → error ≡ ArwenError.Memory) }
+    ensures means { IfOk result (λ command. MeansBy (codes "macho") macho_lines
+        (map (λ w. w.now) words.now) (macho_shown command)) }
+    ensures refused { IfErr result (MayRefuse (codes "macho") macho_lines
+        (map (λ w. w.now) words.now)) }
     ensures err { IfErr result (λ error. IsOfLine error) }
 {
-    let matches = match macho_line(alloc)?.try_get_matches_from(words) {
-        Ok(matches) => matches,
-        Err(error) => return Err(line_fault(alloc, &error)?),
-    };
-    let Some((name, values)) = matches.subcommand() else {
-        return Err(usage(alloc, 2)?);
-    };
-    match read_command(alloc, name, values)? {
+    let (name, values) = parse_values(alloc, MACHO, macho_table(), words)?;
+    match MachoCommand::with_values(name, values) {
         Some(command) => Ok(command),
         None => Err(usage(alloc, 2)?),
     }
 }
 
-/// What clap has to say of a line.
-pub(crate) fn line_fault(alloc: Global, error: &Error) -> Result<ArwenError, AllocError>
-    ensures memory { IfOk result (λ fault. kind_of error.now ≡ ErrorKind.OutOfMemory
-        → fault ≡ ArwenError.Memory) }
-    ensures kind { IfOk result (λ fault. IsOfLine fault) }
+/// The command of a line whose first word is `elf`.
+fn parse_elf(alloc: Global, words: &[&str]) -> Result<ElfCommand, ArwenError>
+    ensures means { IfOk result (λ command. MeansBy (codes "elf") elf_lines
+        (map (λ w. w.now) words.now) (elf_shown command)) }
+    ensures refused { IfErr result (MayRefuse (codes "elf") elf_lines
+        (map (λ w. w.now) words.now)) }
+    ensures err { IfErr result (λ error. IsOfLine error) }
 {
-    if error.kind() == ErrorKind::OutOfMemory {
-        return Ok(ArwenError::Memory);
+    let (name, values) = parse_values(alloc, ELF, elf_table(), words)?;
+    match ElfCommand::with_values(name, values) {
+        Some(command) => Ok(command),
+        None => Err(usage(alloc, 2)?),
     }
-    let text = error.to_string(alloc)?;
-    let status = if error.use_stderr() { 2 } else { 0 };
-    Ok(ArwenError::Line { text, status })
-}
-
-/// The lines that begin with `macho`.
-fn macho_line<'a>(alloc: Global) -> Result<clap::Command<'a>, AllocError>
-    ensures { IfOk result (λ line. app_of line ≡ macho_app) }
-{
-    top_line(alloc, "macho", "arwen macho", "Edit a Mach-O file")?
-        .subcommand(delete::line(alloc)?)?
-        .subcommand(change::line(alloc)?)?
-        .subcommand(add::line(alloc)?)?
-        .subcommand(install_name::line(alloc)?)?
-        .subcommand(install_id::line(alloc)?)?
-        .subcommand(apply::line(alloc)?)
-}
-
-/// The lines that begin with a word, without their commands.
-pub(crate) fn top_line<'a>(
-    alloc: Global,
-    name: &'a str,
-    shown_as: &'a str,
-    about: &'a str,
-) -> Result<clap::Command<'a>, AllocError>
-    ensures { IfOk result (λ line. app_of line ≡ top_app name.entry.now) }
-{
-    let line = clap::Command::new(alloc, name).bin_name(shown_as)?;
-    Ok(
-        line.about(about)
-            .subcommand_required(true)
-            .arg_required_else_help(true),
-    )
-}
-
-/// The command of a name, where its values are all there.
-fn read_command(
-    alloc: Global,
-    name: &str,
-    values: &ArgMatches<'_>,
-) -> Result<Option<MachoCommand>, AllocError>
-    ensures { IfOk result (λ command. option_map macho_shown command
-        ≡ found_meaning name.now (rows_of (found_of values.now))) }
-{
-    match name {
-        delete::NAME => delete::read(alloc, values),
-        change::NAME => change::read(alloc, values),
-        add::NAME => add::read(alloc, values),
-        install_name::NAME => install_name::read(alloc, values),
-        install_id::NAME => install_id::read(alloc, values),
-        apply::NAME => apply::read(alloc, values),
-        _ => Ok(None),
-    }
-}
-
-/// A value that a line must have.
-pub(crate) fn value<'a>(alloc: Global, id: &'a str, help: &'a str) -> Arg<'a>
-    ensures rule { rule_of result ≡ value_rule id.entry.now }
-    ensures local { result.global ≡ false }
-{
-    Arg::new(alloc, id).required(true).help(help)
-}
-
-/// A value that may be given any number of times.
-pub(crate) fn values<'a>(alloc: Global, id: &'a str, help: &'a str) -> Arg<'a>
-    ensures rule { rule_of result ≡ values_rule id.entry.now }
-    ensures local { result.global ≡ false }
-{
-    Arg::new(alloc, id)
-        .action(ArgAction::Append)
-        .num_args(0..)
-        .help(help)
-}
-
-/// The text of a value, where it is there.
-pub(crate) fn text_of(
-    alloc: Global,
-    matches: &ArgMatches<'_>,
-    id: &str,
-) -> Result<Option<String>, AllocError>
-    ensures { IfOk result (λ text. option_map string_bytes text
-        ≡ first_of id.now (rows_of (found_of matches.now))) }
-{
-    match matches.get_str(id) {
-        Some(text) => Ok(Some(String::from_str(alloc, text)?)),
-        None => Ok(None),
-    }
-}
-
-/// The texts of a value that may be given any number of times.
-pub(crate) fn texts_of(
-    alloc: Global,
-    matches: &ArgMatches<'_>,
-    id: &str,
-) -> Result<Vec<String>, AllocError>
-    ensures { IfOk result (λ texts.
-        unwrap_or (all_of id.now (rows_of (found_of matches.now))) []
-        ≡ map string_bytes texts.items) }
-{
-    match matches.get_strs(id) {
-        Some(texts) => copies(alloc, texts),
-        None => Ok(Vec::new(alloc)),
-    }
-}
-
-/// The same texts, owned.
-fn copies(alloc: Global, texts: &[&str]) -> Result<Vec<String>, AllocError>
-    ensures { IfOk result (λ copies.
-        map string_bytes copies.items ≡ map (λ text. text.now) texts.now) }
-{
-    let mut copies = Vec::new(alloc);
-    for text in texts {
-        copies.push(String::from_str(alloc, text)?)?;
-    }
-    Ok(copies)
 }

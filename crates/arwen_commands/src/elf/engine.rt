@@ -1,12 +1,14 @@
 //! What is printed of a file's bytes.
 ghost use Rattle.std.specs.Prelude.{◌≡◌, None, IfOk, IfErr};
-ghost use Rattle.elf_image.specs.Image.{image_of};
+ghost use Rattle.std.specs.Io.KnownBytes.{Appends};
+ghost use Rattle.arwen_elf.specs.Causes.{FailsPrint};
+ghost use Rattle.elf_image.specs.Image.{image_of, shown};
 ghost use Rattle.arwen_commands.specs.Meaning.{elf_shown};
-ghost use Rattle.arwen_commands.specs.Prints.{Prints, TellsElf};
+ghost use Rattle.arwen_commands.specs.Prints.{Prints, TellsElf, printed};
 
 use crate::command::ElfCommand;
 use crate::error::ArwenError;
-use arwen_elf::elf::ElfContainer;
+use arwen_elf::elf::{ElfContainer, ElfError};
 use std::alloc::Global;
 use std::io::Write;
 
@@ -34,13 +36,27 @@ pub fn run_elf<P: Probe, W: Write>(
     ensures unasked { probe.new ≡ probe.old }
 {
     let elf = ElfContainer::parse(alloc, bytes)?;
-    match command {
-        ElfCommand::PrintRpath(_) => elf.print_runpath(alloc, out)?,
-        ElfCommand::PrintNeeded(_) => elf.print_needed(alloc, out)?,
-        ElfCommand::PrintSoname(_) => elf.print_soname(alloc, out)?,
-        ElfCommand::PrintInterpreter(_) => elf.print_interpreter(alloc, out)?,
-        ElfCommand::PrintOsAbi(_) => elf.print_os_abi(alloc, out)?,
-        ElfCommand::PrintExecStack(_) => elf.print_exec_stack(out)?,
-    }
+    print_asked(alloc, &elf, command, out)?;
     Ok(None)
+}
+
+/// Prints what a command asks of a file.
+fn print_asked<W: Write>(
+    alloc: Global,
+    elf: &ElfContainer<'_>,
+    command: &ElfCommand,
+    out: &mut W,
+) -> Result<(), ElfError>
+    ensures printed { IfOk result (λ _. Appends (W.contents out.old) (W.contents out.new)
+        (printed (elf_shown command.now) (shown elf.now.inner))) }
+    ensures err { IfErr result (λ e. FailsPrint out.old out.new e) }
+{
+    match command {
+        ElfCommand::PrintRpath(_) => elf.print_runpath(alloc, out),
+        ElfCommand::PrintNeeded(_) => elf.print_needed(alloc, out),
+        ElfCommand::PrintSoname(_) => elf.print_soname(alloc, out),
+        ElfCommand::PrintInterpreter(_) => elf.print_interpreter(alloc, out),
+        ElfCommand::PrintOsAbi(_) => elf.print_os_abi(alloc, out),
+        ElfCommand::PrintExecStack(_) => elf.print_exec_stack(out),
+    }
 }

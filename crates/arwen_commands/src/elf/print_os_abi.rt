@@ -7,6 +7,9 @@ use crate::elf::print_file;
 use crate::error::ArwenError;
 use std::rt::Files;
 
+/// The word that names the command.
+pub const NAME: &str = "print-os-abi";
+
 /// Print the ABI byte.
 #[derive(Debug, Drop)]
 pub struct Args {

@@ -5,7 +5,7 @@ use Rattle.std.proofs.lemmas.Result.{err_from_is_err_and}
 use Rattle.std.proofs.lemmas.Iterator.Consumers.{YieldsList-end, YieldsList-turn}
 use Rattle.std.proofs.lemmas.Iterator.Splits.{YieldsList-from_slice_split}
 use Rattle.arwen_macho.specs.Batch.{call_made, calls_of}
-use Rattle.arwen_commands.specs.Edits.{TellsKind, group_edit}
+use Rattle.arwen_commands.specs.Edits.{TellsWrong, group_edit}
 use Rattle.arwen_macho.specs.declared.batch.MachoEdit.{MachoEdit}
 use Rattle.arwen_commands.proofs.EditGroups.{IsReadTo, all_read, fault_read, groups_of, is_plus_word, none_read, one_read, pushed, texts}
 use Rattle.arwen_commands.proofs.edits.parse_macho_edits.Goals as goal
@@ -28,7 +28,7 @@ returns-in_err-edit-clause-err c =
     let inside : length items < length (groups_of c.args.words.now) = omega (arith, turn.0, state.counted) in
     let at = turn.1 ∙ ap (λ (i : ℕ). get_or (groups_of c.args.words.now) i group) (sym state.counted) in
     let number = c.len.ensures ∙ c.loop-group.edits.ok.0 in
-    let told = subst (λ (i : ℕ). TellsKind i (group_edit (texts group)) c.in_err-edit.field-0.0) number c.in_err-edit.ensures.err in
+    let told = subst (λ (i : ℕ). TellsWrong i (group_edit (texts group)) c.in_err-edit.field-0.0) number c.in_err-edit.ensures.err in
     rw (p.1, p.2) (fault_read c.args.words.now (length items) group inside at (calls_of items) c.in_err-edit.field-0.0 told state.read)
 
 pub loop-group-preserved : goal.loop-group-preserved

@@ -1,55 +1,40 @@
--- A name that is known picks the edit, so the fault of the words behind it is the group's.
-use Rattle.std.proofs.Common.{◌≡◌, ◌∷◌, List, map, ℕ, Bor, sym, ap, ◌∙◌, subst}
-use Rattle.std.proofs.lemmas.Result.{err_from_is_err_and}
-use Rattle.arwen_macho.specs.Call.Call.{add_rpath, change_install_id, change_install_name, change_rpath, remove_rpath}
-use Rattle.arwen_commands.specs.Edits.{TellsKind, Text, group_edit, named_edit}
-use Rattle.arwen_commands.specs.declared.edits.EditsError.{EditsError}
+-- A group's first word finds the row of its edit, whose values the words behind it are.
+use Rattle.std.proofs.Common.{◌≡◌, ◌∷◌, [], List, Bor, arith, length, map, refl, sym, ap, ◌∙◌}
+use Rattle.std.specs.Prelude.{option_map}
+use Rattle.arwen_commands.specs.Edits.{group_edit, no_edit, no_words, other_words}
+use Rattle.arwen_commands.specs.Meaning.{macho_shown}
+use Rattle.arwen_commands.specs.Rows.{Text, row_shown}
+use Rattle.arwen_commands.proofs.RowLemmas.{fault_told, known_edit, no_edits, row_line, unknown}
 use Rattle.arwen_commands.proofs.edits.read_group.Goals as goal
 
 abbrev texts : List (Bor Text) → List Text
 texts = map (λ w. w.now)
 
-told : (words : List (Bor Text)) (name : Bor Text) (rest : List (Bor Text)) (known : Text) (group : ℕ) (e : EditsError) → words ≡ name ∷ rest → name.now ≡ known
-    → TellsKind group (named_edit known (texts rest)) e → TellsKind group (group_edit (texts words)) e
-told words name rest known group e parts named h =
-    let same : group_edit (texts words) ≡ named_edit known (texts rest) =
-    ap (λ ws. group_edit (texts ws)) parts ∙ ap (λ (n : Text). named_edit n (texts rest)) named in
-    subst (λ r. TellsKind group r e) (sym same) h
+is_empty : (words : List (Bor Text)) → length words ≡ 0 → words ≡ []
+is_empty [] e = refl
+is_empty (word ∷ words) e = absurd (omega arith)
 
-pub returns-in_err-one_word-in-text-clause-err : goal.returns-in_err-one_word-in-text-clause-err
-returns-in_err-one_word-in-text-clause-err c =
-    let p = err_from_is_err_and c.from_residual.result c.from_residual.ensures.1 in
-    let h = c.in_err-one_word-in-text.ensures in
-    rw (p.1, p.2) (told _ _ _ _ _ _ c.in-Some.ensures.cases.0 c.in-text.is (h.err add_rpath))
+pub returns-in_default-clause-err : goal.returns-in_default-clause-err
+returns-in_default-clause-err c =
+    fault_told c.args.group _ no_words _ (ap (λ (ws : List (Bor Text)). group_edit (texts ws)) (is_empty _ c.in_default.ensures.cases)) c.no_edit.ensures
 
-pub returns-in_err-old-in-text-2-clause-err : goal.returns-in_err-old-in-text-2-clause-err
-returns-in_err-old-in-text-2-clause-err c =
-    let step = c.from_residual-in_err-old-in-text-2 in
-    let p = err_from_is_err_and step.result step.ensures.1 in
-    let h = c.in_err-old-in-text-2.ensures in
-    rw (p.1, p.2) (told _ _ _ _ _ _ c.in-Some.ensures.cases.0 c.in-text-2.is (h.err change_rpath))
+pub returns-in_default-find_row-clause-err : goal.returns-in_default-find_row-clause-err
+returns-in_default-find_row-clause-err c =
+    let parts = ap (λ (ws : List (Bor Text)). group_edit (texts ws)) c.in-Some.ensures.cases.0 in
+    let none = row_line c.macho_table.result.now c.in-Some.name.now.now _ c.macho_table.ensures c.in_default-find_row.ensures in
+    fault_told c.args.group _ no_edit _ (parts ∙ unknown _ _ none) c.no_edit-in_default-find_row.ensures
 
-pub returns-in_err-one_word-in-text-3-clause-err :
-    goal.returns-in_err-one_word-in-text-3-clause-err
-returns-in_err-one_word-in-text-3-clause-err c =
-    let step = c.from_residual-in_err-one_word-in-text-3 in
-    let p = err_from_is_err_and step.result step.ensures.1 in
-    let h = c.in_err-one_word-in-text-3.ensures in
-    rw (p.1, p.2) (told _ _ _ _ _ _ c.in-Some.ensures.cases.0 c.in-text-3.is (h.err remove_rpath))
+pub returns-then-not-row-clause-err : goal.returns-then-not-row-clause-err
+returns-then-not-row-clause-err c =
+    let parts = ap (λ (ws : List (Bor Text)). group_edit (texts ws)) c.in-Some.ensures.cases.0 in
+    let found = row_line c.macho_table.result.now c.in-Some.name.now.now _ c.macho_table.ensures c.in-Some-find_row.ensures in
+    fault_told c.args.group _ no_edit _ (parts ∙ no_edits _ _ _ found c.if-not-row.true) c.no_edit-then-not-row.ensures
 
-pub returns-in_err-one_word-in-text-4-clause-err :
-    goal.returns-in_err-one_word-in-text-4-clause-err
-returns-in_err-one_word-in-text-4-clause-err c =
-    let step = c.from_residual-in_err-one_word-in-text-4 in
-    let p = err_from_is_err_and step.result step.ensures.1 in
-    let h = c.in_err-one_word-in-text-4.ensures in
-    rw (p.1, p.2)
-    (told _ _ _ _ _ _ c.in-Some.ensures.cases.0 c.in-text-4.is (h.err change_install_id))
-
-pub returns-in_err-old-in-text-5-clause-err : goal.returns-in_err-old-in-text-5-clause-err
-returns-in_err-old-in-text-5-clause-err c =
-    let step = c.from_residual-in_err-old-in-text-5 in
-    let p = err_from_is_err_and step.result step.ensures.1 in
-    let h = c.in_err-old-in-text-5.ensures in
-    rw (p.1, p.2)
-    (told _ _ _ _ _ _ c.in-Some.ensures.cases.0 c.in-text-5.is (h.err change_install_name))
+pub returns-in-None-clause-err : goal.returns-in-None-clause-err
+returns-in-None-clause-err c =
+    let parts = ap (λ (ws : List (Bor Text)). group_edit (texts ws)) c.in-Some.ensures.cases.0 in
+    let found = row_line c.macho_table.result.now c.in-Some.name.now.now _ c.macho_table.ensures c.in-Some-find_row.ensures in
+    let asked = sym (ap (option_map macho_shown) c.in-None.is) ∙ c.in_ok-command.ensures in
+    let row = row_shown c.in-Some-find_row.row.now in
+    let words = texts c.in-Some.words.now in
+    fault_told c.args.group _ (other_words row.kind words) _ (parts ∙ known_edit c.in-Some.name.now.now row words _ found c.if-not-row.false asked) c.other_words.ensures

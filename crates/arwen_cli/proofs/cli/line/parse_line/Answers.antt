@@ -6,9 +6,7 @@ use Rattle.clap.specs.Lexer.{usize_max}
 use Rattle.clap.specs.Walk.{Text}
 use Rattle.arwen_commands.specs.Meaning.{Meaning}
 use Rattle.arwen_cli.specs.Line.{meaning_of}
-use Rattle.arwen_cli.proofs.ElfLines as elf
-use Rattle.arwen_cli.proofs.Lines.{line_means, texts}
-use Rattle.arwen_cli.proofs.Taken.{line_passes, other_line}
+use Rattle.arwen_cli.proofs.Meanings.{elf_means, elf_passes, macho_means, macho_passes, other_line, texts}
 use Rattle.arwen_cli.proofs.cli.line.parse_line.Goals as goal
 
 -- a line with another first word means nothing
@@ -27,32 +25,30 @@ returns-in_err-parse_macho-in-macho-clause-refused c =
     let p = err_from_is_err_and step.result step.ensures.1 in
     let fits : length c.args.words.now ≤ usize_max = search rules in
     rw p.1 (λ plain meaning meant.
-    let taken = line_passes c.args.words.now c.in-Some.first.now meaning c.in-Some.ensures.value c.in-macho.is fits plain meant in
+    let taken = macho_passes c.args.words.now c.in-Some.first.now c.in-Some.ensures.value plain meaning c.in-macho.is fits meant in
     p.2 ∙ c.in_err-parse_macho-in-macho.ensures.refused taken.0 taken.1)
+
+pub returns-in_ok-parse_macho-in-macho-clause-means :
+    goal.returns-in_ok-parse_macho-in-macho-clause-means
+returns-in_ok-parse_macho-in-macho-clause-means c plain =
+    macho_means c.args.words.now c.in-Some.first.now c.in-Some.ensures.value plain _ c.in-macho.is c.in_ok-parse_macho-in-macho.ensures.means
 
 pub returns-in_err-parse_elf-in-elf-clause-refused :
     goal.returns-in_err-parse_elf-in-elf-clause-refused
 returns-in_err-parse_elf-in-elf-clause-refused c =
     let step = c.from_residual-in_err-parse_elf-in-elf in
     let p = err_from_is_err_and step.result step.ensures.1 in
+    let fits : length c.args.words.now ≤ usize_max = search rules in
     rw p.1 (λ plain meaning meant.
-    let taken = elf.line_passes c.args.words.now c.in-Some.first.now meaning c.in-Some.ensures.value c.in-elf.is plain meant in
+    let taken = elf_passes c.args.words.now c.in-Some.first.now c.in-Some.ensures.value plain meaning c.in-elf.is fits meant in
     p.2 ∙ c.in_err-parse_elf-in-elf.ensures.refused taken.0 taken.1)
 
-pub returns-in_ok-parse_macho-in-macho-clause-means :
-    goal.returns-in_ok-parse_macho-in-macho-clause-means
-returns-in_ok-parse_macho-in-macho-clause-means c plain =
-    line_means c.args.words.now c.in-Some.first.now _ c.in-Some.ensures.value c.in-macho.is c.in_ok-parse_macho-in-macho.ensures.taken plain
-
-pub returns-in_ok-parse_elf-in-elf-clause-means : goal.returns-in_ok-parse_elf-in-elf-clause-means
+pub returns-in_ok-parse_elf-in-elf-clause-means :
+    goal.returns-in_ok-parse_elf-in-elf-clause-means
 returns-in_ok-parse_elf-in-elf-clause-means c plain =
-    elf.line_means c.args.words.now c.in-Some.first.now _ c.in-Some.ensures.value c.in-elf.is c.in_ok-parse_elf-in-elf.ensures.taken plain
+    elf_means c.args.words.now c.in-Some.first.now c.in-Some.ensures.value plain _ c.in-elf.is c.in_ok-parse_elf-in-elf.ensures.means
 
-pub returns-in_ok-usage-in_default-first-clause-refused :
-    goal.returns-in_ok-usage-in_default-first-clause-refused
-returns-in_ok-usage-in_default-first-clause-refused c plain meaning meant =
+pub returns-in_ok-other_line-in_default-first-clause-refused :
+    goal.returns-in_ok-other_line-in_default-first-clause-refused
+returns-in_ok-other_line-in_default-first-clause-refused c plain meaning meant =
     absurd (other_first c.args.words.now c.in-Some.first.now meaning c.in-Some.ensures.value c.in_default-first.not-macho c.in_default-first.not-elf meant)
-
-pub returns-in_ok-usage-in-help-clause-refused : goal.returns-in_ok-usage-in-help-clause-refused
-returns-in_ok-usage-in-help-clause-refused c plain meaning meant =
-    absurd (other_first c.args.words.now c.in-Some.first.now meaning c.in-Some.ensures.value c.in-help.not-macho c.in-help.not-elf meant)

@@ -1,0 +1,25 @@
+-- The values that are found ask for the command of their name.
+use Rattle.std.proofs.Common.{List, Bor, codes, map, sym, ap, ◌∙◌, subst}
+use Rattle.std.specs.Option.{option_map}
+use Rattle.std.proofs.lemmas.Result.{err_from_is_err_and}
+use Rattle.arwen_commands.specs.Meaning.{elf_shown}
+use Rattle.arwen_commands.specs.Rows.{Named, Text, given_shown}
+use Rattle.arwen_cli.specs.Parser.{IsTaken}
+use Rattle.arwen_cli.proofs.cli.line.parse_elf.Goals as goal
+
+abbrev texts : List (Bor Text) → List Text
+texts = map (λ w. w.now)
+
+pub returns-in_err-name-clause-refused : goal.returns-in_err-name-clause-refused
+returns-in_err-name-clause-refused c =
+    let p = err_from_is_err_and c.from_residual.result c.from_residual.ensures.1 in
+    rw p.1 (λ meaning by.
+    let taken = subst (λ (t : List Named). IsTaken (codes "elf") t (texts c.args.words.now) by.0) (sym c.elf_table.ensures) by.1 in
+    p.2 ∙ c.in_err-name.ensures.refused by.0 taken)
+
+pub returns-in-Some-clause-means : goal.returns-in-Some-clause-means
+returns-in-Some-clause-means c =
+    let name = c.in_ok-name.name.now in
+    let given = given_shown c.in_ok-name.values in
+    let taken = subst (λ (t : List Named). IsTaken (codes "elf") t (texts c.args.words.now) (name, given)) c.elf_table.ensures c.in_ok-name.ensures.taken in
+    ((name, given), taken, sym c.with_values.ensures ∙ ap (option_map elf_shown) c.in-Some.is)

@@ -1,0 +1,299 @@
+//! The parser of lines, told its commands by a table.
+ghost use Rattle.std.specs.Prelude.{◌≡◌, ◌<◌, [], false, IfOk, IfErr, length, map, option_map, string_bytes, true};
+ghost use Rattle.std.specs.Prelude.{unwrap_or};
+ghost use Rattle.clap.specs.Words.{all_of, app_of, first_of, found_of, kind_of, new_app, rows_of};
+ghost use Rattle.clap.specs.Words.{rule_of};
+ghost use Rattle.arwen_commands.specs.Fault.{IsOfLine};
+ghost use Rattle.arwen_commands.specs.Rows.{given_shown, kind_shown, row_shown};
+ghost use Rattle.arwen_cli.specs.Parser.{IsTaken, Matches, RefusesNone, MayRefuseValues, first_id, found_by};
+ghost use Rattle.arwen_cli.specs.Parser.{found_values, has_globals, is_table, leaf_app, line_app, path_id, second_id};
+ghost use Rattle.arwen_cli.specs.Parser.{taken_shown, top_app, value_rule, values_rule, with_path};
+ghost use Rattle.arwen_cli.specs.Parser.{with_text, with_texts, with_words, words_id};
+
+use crate::cli::ArwenError;
+use crate::cli::line::usage;
+use arwen_commands::{Form, Row, Value, Values, copies, find_row};
+use clap::error::ErrorKind;
+use clap::{Arg, ArgAction, ArgMatches, Error};
+use std::alloc::{AllocError, Global};
+
+/// A first word of lines.
+#[derive(Clone, Copy)]
+pub(crate) struct First {
+    /// The word.
+    pub(crate) word: &'static str,
+    /// The program's name with the word, as help shows it.
+    pub(crate) shown_as: &'static str,
+    /// What the commands of the word are for.
+    pub(crate) about: &'static str,
+}
+
+/// What the parser calls the path.
+const PATH: &str = "path";
+
+/// What the parser calls the first of one or two texts.
+const FIRST: &str = "first";
+
+/// What the parser calls the second of two texts.
+const SECOND: &str = "second";
+
+/// What the parser calls any number of words.
+const WORDS: &str = "words";
+
+/// The path, as help shows it.
+const FILE: Value = Value {
+    name: "FILE",
+    help: "Path to the file",
+};
+
+/// The name and the values of the command that a line's words name, of which the first is `first`.
+pub(crate) fn parse_values(
+    alloc: Global,
+    first: First,
+    rows: &'static [Row],
+    words: &[&str],
+) -> Result<(&'static str, Values), ArwenError>
+    requires { is_table (map row_shown rows.now) ≡ true }
+    ensures taken { IfOk result (λ taken. IsTaken first.word.now (map row_shown rows.entry.now)
+        (map (λ w. w.now) words.now) (taken_shown taken)) }
+    ensures refused { IfErr result (MayRefuseValues first.word.now (map row_shown rows.entry.now)
+        (map (λ w. w.now) words.now)) }
+    ensures err { IfErr result (λ error. IsOfLine error) }
+{
+    let line = table_line(alloc, first, rows)?;
+    let matches = matches_of(alloc, line, words)?;
+    let Some((name, found)) = matches.subcommand() else {
+        return Err(usage(alloc, 2)?);
+    };
+    match read_row(alloc, rows, name, found)? {
+        Some(taken) => Ok(taken),
+        None => Err(usage(alloc, 2)?),
+    }
+}
+
+/// What the parser finds in words, or what it has to say of them.
+fn matches_of<'a>(
+    alloc: Global,
+    line: clap::Command<'a>,
+    words: &'a [&'a str],
+) -> Result<ArgMatches<'a>, ArwenError>
+    ensures taken { IfOk result (Matches (app_of line.entry) (map (λ w. w.now) words.entry.now)) }
+    ensures refused { IfErr result (RefusesNone (app_of line.entry)
+        (map (λ w. w.now) words.entry.now)) }
+    ensures err { IfErr result (λ error. IsOfLine error) }
+{
+    match line.try_get_matches_from(words) {
+        Ok(matches) => Ok(matches),
+        Err(error) => Err(line_fault(alloc, &error)?),
+    }
+}
+
+/// What the parser has to say of a line.
+fn line_fault(alloc: Global, error: &Error) -> Result<ArwenError, AllocError>
+    ensures memory { IfOk result (λ fault. kind_of error.now ≡ ErrorKind.OutOfMemory
+        → fault ≡ ArwenError.Memory) }
+    ensures kind { IfOk result (λ fault. IsOfLine fault) }
+{
+    if error.kind() == ErrorKind::OutOfMemory {
+        return Ok(ArwenError::Memory);
+    }
+    let text = error.to_string(alloc)?;
+    let status = if error.use_stderr() { 2 } else { 0 };
+    Ok(ArwenError::Line { text, status })
+}
+
+/// The lines of a first word, with the commands of a table.
+fn table_line<'a>(
+    alloc: Global,
+    first: First,
+    rows: &'a [Row],
+) -> Result<clap::Command<'a>, AllocError>
+    ensures { IfOk result (λ line.
+        app_of line ≡ line_app first.word.now (map row_shown rows.entry.now)) }
+{
+    let mut line = top_line(alloc, first)?;
+    for row in rows {
+        line = line.subcommand(row_line(alloc, row)?)?;
+    }
+    Ok(line)
+}
+
+/// The lines of a first word, without their commands.
+fn top_line<'a>(alloc: Global, first: First) -> Result<clap::Command<'a>, AllocError>
+    ensures { IfOk result (λ line. app_of line ≡ top_app first.word.now) }
+{
+    let line = clap::Command::new(alloc, first.word).bin_name(first.shown_as)?;
+    Ok(
+        line.about(first.about)
+            .subcommand_required(true)
+            .arg_required_else_help(true),
+    )
+}
+
+/// A command, as a part of a line.
+fn row_line<'a>(alloc: Global, row: &'a Row) -> Result<clap::Command<'a>, AllocError>
+    ensures app { IfOk result (λ line.
+        app_of line ≡ leaf_app row.entry.now.name.now (kind_shown row.entry.now.form)) }
+    ensures local { IfOk result (λ line. has_globals line ≡ false) }
+{
+    let line = named_line(alloc, row);
+    let path = value(alloc, PATH, &FILE);
+    match &row.form {
+        Form::Path => line.arg(path),
+        Form::Text(first) => line.arg(value(alloc, FIRST, first))?.arg(path),
+        Form::Texts(first, second) => line
+            .arg(value(alloc, FIRST, first))?
+            .arg(value(alloc, SECOND, second))?
+            .arg(path),
+        Form::Words(words) => line.arg(path)?.arg(values(alloc, WORDS, words)),
+    }
+}
+
+/// A command with its name and its help alone.
+fn named_line<'a>(alloc: Global, row: &'a Row) -> clap::Command<'a>
+    ensures app { app_of result ≡ new_app row.entry.now.name.now }
+    ensures local { has_globals result ≡ false }
+{
+    let line = clap::Command::new(alloc, row.name).about(row.about);
+    if row.more.is_empty() {
+        line
+    } else {
+        line.after_help(row.more)
+    }
+}
+
+/// A value that a line must have.
+fn value<'a>(alloc: Global, id: &'a str, value: &'a Value) -> Arg<'a>
+    ensures rule { rule_of result ≡ value_rule id.entry.now }
+    ensures local { result.global ≡ false }
+{
+    Arg::new(alloc, id)
+        .required(true)
+        .value_name(value.name)
+        .help(value.help)
+}
+
+/// A value that may be given any number of times.
+fn values<'a>(alloc: Global, id: &'a str, value: &'a Value) -> Arg<'a>
+    ensures rule { rule_of result ≡ values_rule id.entry.now }
+    ensures local { result.global ≡ false }
+{
+    Arg::new(alloc, id)
+        .action(ArgAction::Append)
+        .num_args(0..)
+        .value_name(value.name)
+        .help(value.help)
+}
+
+/// The name and the values of the command that was found, where they are all there.
+fn read_row(
+    alloc: Global,
+    rows: &'static [Row],
+    name: &str,
+    matches: &ArgMatches<'_>,
+) -> Result<Option<(&'static str, Values)>, AllocError>
+    ensures { IfOk result (λ taken. option_map taken_shown taken
+        ≡ found_by (map row_shown rows.entry.now) name.now (rows_of (found_of matches.now))) }
+{
+    let Some(row) = find_row(rows, name) else {
+        return Ok(None);
+    };
+    match read_values(alloc, &row.form, matches)? {
+        Some(values) => Ok(Some((row.name, values))),
+        None => Ok(None),
+    }
+}
+
+/// The values of a command that was found, where they are all there.
+fn read_values(
+    alloc: Global,
+    form: &Form,
+    matches: &ArgMatches<'_>,
+) -> Result<Option<Values>, AllocError>
+    ensures { IfOk result (λ values. option_map given_shown values
+        ≡ found_values (kind_shown form.now) (rows_of (found_of matches.now))) }
+{
+    match form {
+        Form::Path => read_path(alloc, matches),
+        Form::Text(_) => read_text(alloc, matches),
+        Form::Texts(..) => read_texts(alloc, matches),
+        Form::Words(_) => read_words(alloc, matches),
+    }
+}
+
+/// The path alone.
+fn read_path(alloc: Global, matches: &ArgMatches<'_>) -> Result<Option<Values>, AllocError>
+    ensures { IfOk result (λ values. option_map given_shown values
+        ≡ with_path (first_of path_id (rows_of (found_of matches.now)))) }
+{
+    Ok(match text_of(alloc, matches, PATH)? {
+        Some(path) => Some(Values::Path(path)),
+        None => None,
+    })
+}
+
+/// A text and the path.
+fn read_text(alloc: Global, matches: &ArgMatches<'_>) -> Result<Option<Values>, AllocError>
+    ensures { IfOk result (λ values. option_map given_shown values
+        ≡ with_text (first_of first_id (rows_of (found_of matches.now)))
+        (first_of path_id (rows_of (found_of matches.now)))) }
+{
+    let value = text_of(alloc, matches, FIRST)?;
+    let path = text_of(alloc, matches, PATH)?;
+    Ok(match (value, path) {
+        (Some(value), Some(path)) => Some(Values::Text(value, path)),
+        _ => None,
+    })
+}
+
+/// Two texts and the path.
+fn read_texts(alloc: Global, matches: &ArgMatches<'_>) -> Result<Option<Values>, AllocError>
+    ensures { IfOk result (λ values. option_map given_shown values
+        ≡ with_texts (first_of first_id (rows_of (found_of matches.now)))
+        (first_of second_id (rows_of (found_of matches.now)))
+        (first_of path_id (rows_of (found_of matches.now)))) }
+{
+    let first = text_of(alloc, matches, FIRST)?;
+    let second = text_of(alloc, matches, SECOND)?;
+    let path = text_of(alloc, matches, PATH)?;
+    Ok(match (first, second, path) {
+        (Some(first), Some(second), Some(path)) => Some(Values::Texts(first, second, path)),
+        _ => None,
+    })
+}
+
+/// The path and any number of words.
+fn read_words(alloc: Global, matches: &ArgMatches<'_>) -> Result<Option<Values>, AllocError>
+    ensures { IfOk result (λ values. option_map given_shown values
+        ≡ with_words (first_of path_id (rows_of (found_of matches.now)))
+        (all_of words_id (rows_of (found_of matches.now)))) }
+{
+    let words = texts_of(alloc, matches, WORDS)?;
+    Ok(match text_of(alloc, matches, PATH)? {
+        Some(path) => Some(Values::Words(path, words)),
+        None => None,
+    })
+}
+
+/// The text of a value, where it is there.
+fn text_of(alloc: Global, matches: &ArgMatches<'_>, id: &str) -> Result<Option<String>, AllocError>
+    ensures { IfOk result (λ text. option_map string_bytes text
+        ≡ first_of id.now (rows_of (found_of matches.now))) }
+{
+    match matches.get_str(id) {
+        Some(text) => Ok(Some(String::from_str(alloc, text)?)),
+        None => Ok(None),
+    }
+}
+
+/// The texts of a value that may be given any number of times.
+fn texts_of(alloc: Global, matches: &ArgMatches<'_>, id: &str) -> Result<Vec<String>, AllocError>
+    ensures { IfOk result (λ texts.
+        unwrap_or (all_of id.now (rows_of (found_of matches.now))) []
+        ≡ map string_bytes texts.items) }
+{
+    match matches.get_strs(id) {
+        Some(texts) => copies(alloc, texts),
+        None => Ok(Vec::new(alloc)),
+    }
+}

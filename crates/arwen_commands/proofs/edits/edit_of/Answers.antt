@@ -1,0 +1,12 @@
+-- A command that asks for no edit names none.
+use Rattle.std.proofs.Common.{sym, ap, ◌∙◌}
+use Rattle.std.specs.Prelude.{option_map}
+use Rattle.arwen_macho.specs.Batch.{call_made}
+use Rattle.arwen_commands.specs.Edits.{no_edit, one_edit}
+use Rattle.arwen_commands.proofs.RowLemmas.{fault_told}
+use Rattle.arwen_commands.proofs.edits.edit_of.Goals as goal
+
+pub returns-in-None-clause-err : goal.returns-in-None-clause-err
+returns-in-None-clause-err c =
+    let none = sym (ap (option_map call_made) c.in-None.is) ∙ c.in_ok-edit.ensures in
+    fault_told c.args.group _ no_edit _ (ap one_edit (sym none)) c.no_edit.ensures
