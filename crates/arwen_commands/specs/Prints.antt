@@ -7,7 +7,7 @@ use Rattle.arwen_elf.specs.declared.elf.rewriter.error.ElfError.{ElfError}
 use Rattle.arwen_elf.specs.declared.elf.rewriter.error.ElfError.TheVariants as elf
 use Rattle.elf_image.specs.Image.{Image, image_of, shown}
 use Rattle.elf_image.specs.Views.{View}
-use Rattle.elf_image.specs.declared.fault.ElfFault.{ElfFault}
+use Rattle.elf_format.specs.declared.fault.ElfFault.{ElfFault}
 use Rattle.arwen_commands.specs.declared.error.ArwenError.{ArwenError}
 use Rattle.arwen_commands.specs.declared.error.ArwenError.TheVariants.{Elf, Io, Memory}
 use Rattle.arwen_commands.specs.Meaning.{ElfMeaning, print_exec_stack, print_interpreter, print_needed}

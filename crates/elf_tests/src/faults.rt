@@ -1,6 +1,6 @@
 //! What faults print.
 use elf_image::ElfFault;
-use elf_image::plain::ViewFault;
+use elf_plain::ViewFault;
 use std::test::Fail;
 
 #[test]

@@ -2,8 +2,8 @@
 
 use crate::samples::{LINKED, SMALL, TWIN, VERSIONED};
 use elf_image::VersionId;
-use elf_image::plain::view::{EntryView, ShownSymbol, ShownView};
-use elf_image::plain::{ViewFault, loader_view, section_view};
+use elf_plain::view::{EntryView, ShownSymbol, ShownView};
+use elf_plain::{ViewFault, loader_view, section_view};
 use std::alloc::AllocError;
 use std::test::Fail;
 

@@ -314,7 +314,7 @@ fn are_dynamic_symbols_numbered(image: &Builder<'_>) -> bool
 }
 
 #[test]
-#[tactic(auto, using(elf_image::proofs::ReadNumbers::sections_numbered))]
+#[tactic(auto, using(elf_format::proofs::ReadNumbers::sections_numbered))]
 fn numbers_of_sections(rt: HostRuntime) -> Result<(), Fail> {
     let image = read(&rt, VERSIONED)?;
     assert!(rt; are_sections_numbered(&image));
@@ -322,7 +322,7 @@ fn numbers_of_sections(rt: HostRuntime) -> Result<(), Fail> {
 }
 
 #[test]
-#[tactic(auto, using(elf_image::proofs::ReadNumbers::symbols_numbered))]
+#[tactic(auto, using(elf_format::proofs::ReadNumbers::symbols_numbered))]
 fn numbers_of_symbols(rt: HostRuntime) -> Result<(), Fail> {
     let image = read(&rt, VERSIONED)?;
     assert!(rt; are_symbols_numbered(&image));
@@ -330,7 +330,7 @@ fn numbers_of_symbols(rt: HostRuntime) -> Result<(), Fail> {
 }
 
 #[test]
-#[tactic(auto, using(elf_image::proofs::ReadNumbers::dynamic_symbols_numbered))]
+#[tactic(auto, using(elf_format::proofs::ReadNumbers::dynamic_symbols_numbered))]
 fn numbers_of_dynamic_symbols(rt: HostRuntime) -> Result<(), Fail> {
     let image = read(&rt, VERSIONED)?;
     assert!(rt; are_dynamic_symbols_numbered(&image));

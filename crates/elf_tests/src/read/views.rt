@@ -4,10 +4,10 @@ use crate::samples::{LINKED, SMALL, TWIN, VERSIONED};
 use elf_image::constants::{
     DT_SYMTAB, DT_VERDEF, DT_VERDEFNUM, DT_VERNEED, DT_VERNEEDNUM, DT_VERSYM, PT_GNU_STACK,
 };
-use elf_image::plain::view::{
+use elf_plain::view::{
     EntryView, ShownDefinition, ShownName, ShownNeeds, ShownSymbol, ShownView,
 };
-use elf_image::plain::{ViewFault, section_view};
+use elf_plain::{ViewFault, section_view};
 use elf_image::{Builder, Dynamic, Segment, Symbol, VersionDef, VersionNeed, VersionNeedName};
 use patch_bytes::ByteString;
 use std::alloc::{AllocError, Global};
