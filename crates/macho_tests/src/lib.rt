@@ -3,6 +3,8 @@
 #![tactic(auto)]
 
 #[cfg(test)]
+mod containers;
+#[cfg(test)]
 mod edits;
 #[cfg(test)]
 mod fat;
@@ -12,3 +14,5 @@ mod fat_table;
 mod image;
 #[cfg(test)]
 mod store;
+#[cfg(test)]
+mod support;
