@@ -7,8 +7,12 @@ mod elf;
 #[cfg(test)]
 mod faults;
 #[cfg(test)]
+mod listing;
+#[cfg(test)]
 mod plain;
 #[cfg(test)]
 mod read;
 #[cfg(test)]
 mod samples;
+#[cfg(test)]
+mod support;

@@ -225,8 +225,7 @@ fn push_lines(lines: &mut Vec<u8>, texts: &[&[u8]]) -> Result<(), AllocError> {
 }
 
 // A file's own name, its run paths and the names of the libraries that it loads, a line each.
-fn texts_in(alloc: Global, sample: &Sample) -> Result<Vec<u8>, MachFault> {
-    let file = MachO::parse(alloc, sample.front(200))?;
+fn texts_of(alloc: Global, file: &MachO<'_>) -> Result<Vec<u8>, AllocError> {
     let mut lines = Vec::new(alloc);
     if let Some(name) = file.id() {
         push_line(&mut lines, name)?;
@@ -234,6 +233,11 @@ fn texts_in(alloc: Global, sample: &Sample) -> Result<Vec<u8>, MachFault> {
     push_lines(&mut lines, &file.rpaths(alloc)?)?;
     push_lines(&mut lines, &file.libs(alloc)?)?;
     Ok(lines)
+}
+
+fn texts_in(alloc: Global, sample: &Sample) -> Result<Vec<u8>, MachFault> {
+    let file = MachO::parse(alloc, sample.front(200))?;
+    Ok(texts_of(alloc, &file)?)
 }
 
 #[test]
@@ -248,6 +252,27 @@ fn reads_texts(rt: HostRuntime) {
             &b"a.dylib\n/x\nbb.dylib\n".as_slice(),
         );
     }
+}
+
+// The same of a file that owns its bytes.
+fn owned_texts(alloc: Global, bytes: &[u8]) -> Result<Vec<u8>, MachFault> {
+    let bytes = Vec::from_slice(alloc, bytes)?;
+    let file = MachO::parse_owned(alloc, bytes)?;
+    Ok(texts_of(alloc, &file)?)
+}
+
+#[test]
+fn reads_texts_of_owned_bytes(rt: HostRuntime) {
+    let mut sample = Sample::new(Wide::W64, ByteOrder2::Little, 1, 32);
+    sample.words(&[LC_RPATH, 32, 12]);
+    sample.text(b"/usr/local/lib");
+    let found = again(&rt, || owned_texts(rt.alloc(), sample.front(64))).expect(&rt, "a file");
+    same(
+        &rt,
+        "texts",
+        &found.as_slice(),
+        &b"/usr/local/lib\n".as_slice(),
+    );
 }
 
 // The lengths of a file's commands, and their bytes joined.
