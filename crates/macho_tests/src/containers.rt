@@ -4,7 +4,7 @@ mod batches;
 mod rows;
 
 use crate::fat::joined;
-use crate::support::{Runtime, again, copied, put, same, text_of, wants_memory};
+use crate::support::{Runtime, copied, put, same, text_of, wants_memory};
 use arwen_macho::macho::{
     FatMachoContainer, MachO, MachoBatchError, MachoContainer, MachoEdit, MachoError, MachoType,
     SingleMachO,
@@ -198,7 +198,7 @@ fn parsed_lists(alloc: Global, bytes: &[u8]) -> Result<String, MachoError> {
 
 // The same, asked for again where there was no memory.
 pub(crate) fn found_lists(rt: &impl Runtime, bytes: &[u8]) -> String {
-    again(rt, || parsed_lists(rt.alloc(), bytes)).expect(rt, "a file")
+    again!(rt; parsed_lists(rt.alloc(), bytes)).expect(rt, "a file")
 }
 
 // An edit that owns its texts.
@@ -242,7 +242,7 @@ fn called<'a, T: Container<'a>>(
     file: &mut T,
     edits: &[Edit<'_>],
 ) -> Result<(), MachoBatchError> {
-    let batch = again(rt, || all_owned(rt.alloc(), edits)).expect(rt, "memory");
+    let batch = again!(rt; all_owned(rt.alloc(), edits)).expect(rt, "memory");
     let before = look(rt, file);
     let answer = call(rt.alloc(), file, edits, &batch);
     if !wants_memory(&answer) {
@@ -306,7 +306,7 @@ fn handed_out<'a, T: Container<'a>>(
         Ok(handed) => handed,
         Err(_) => {
             assert!(rt; !is_edited, "no memory for bytes that are there");
-            again(rt, || handed::<T>(rt.alloc(), bytes)).expect(rt, "bytes")
+            again!(rt; handed::<T>(rt.alloc(), bytes)).expect(rt, "bytes")
         }
     }
 }
@@ -318,7 +318,7 @@ pub(crate) fn walk<'a, T: Container<'a>, R: Runtime>(
     starts: &[usize],
     steps: &[Step<'_>],
 ) {
-    let mut file = again(rt, || T::parse(rt.alloc(), bytes)).expect(rt, "a file");
+    let mut file = again!(rt; T::parse(rt.alloc(), bytes)).expect(rt, "a file");
     let mut want = copied(rt, bytes);
     let mut is_edited = false;
     for step in steps {
@@ -345,12 +345,12 @@ const SECOND: u32 = 400;
 
 // Takes steps in a thin file, and in a fat file that holds it twice.
 fn walks(rt: &impl Runtime, sample: &Sample<'_>, steps: &[Step<'_>]) {
-    let thin = again(rt, || laid(rt.alloc(), sample)).expect(rt, "memory");
+    let thin = again!(rt; laid(rt.alloc(), sample)).expect(rt, "memory");
     walk::<SingleMachO<'_>, _>(rt, &thin, &[0], steps);
     walk::<MachoContainer<'_>, _>(rt, &thin, &[0], steps);
     let slices = [(FIRST, thin.as_slice()), (SECOND, thin.as_slice())];
     let starts = [FIRST as usize, SECOND as usize];
-    let fat = again(rt, || joined(rt.alloc(), &slices)).expect(rt, "memory");
+    let fat = again!(rt; joined(rt.alloc(), &slices)).expect(rt, "memory");
     walk::<FatMachoContainer<'_>, _>(rt, &fat, &starts, steps);
     walk::<MachoContainer<'_>, _>(rt, &fat, &starts, steps);
 }

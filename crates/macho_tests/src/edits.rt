@@ -2,7 +2,7 @@
 ghost use Rattle.std.specs.Prelude.{◌≡◌, IfOk};
 ghost use Rattle.macho_image.specs.Form.{header_of};
 
-use crate::support::{Runtime, again, copied, prints, same};
+use crate::support::{Runtime, copied, prints, same};
 use arwen_macho::commands::{
     CommandBuilderError, DlibCommandBuilder, NulInside, RpathCommandBuilder,
 };
@@ -66,7 +66,7 @@ fn rounds_sizes(rt: HostRuntime) {
 // Compares a built run path's command, whose size and bytes are these.
 fn expect_rpath(rt: &impl Runtime, ctx: Ctx, text: &str, cmdsize: u32, bytes: &[u8]) {
     let builder = RpathCommandBuilder::new(text, ctx);
-    let built = again(rt, || builder.build(rt.alloc())).expect(rt, "a command");
+    let built = again!(rt; builder.build(rt.alloc())).expect(rt, "a command");
     let command = RpathCommand {
         cmd: 0x8000_001c,
         cmdsize,
@@ -119,7 +119,7 @@ fn builds_rpath_commands(rt: HostRuntime) {
 // Compares a built command of a library, whose size and bytes are these.
 fn expect_library(rt: &impl Runtime, ctx: Ctx, cmdsize: u32, bytes: &[u8]) {
     let builder = DlibCommandBuilder::new("libx.dylib", OLD, ctx);
-    let built = again(rt, || builder.build(rt.alloc())).expect(rt, "a command");
+    let built = again!(rt; builder.build(rt.alloc())).expect(rt, "a command");
     let dylib = Dylib {
         name: 24,
         ..OLD.dylib
@@ -155,7 +155,7 @@ fn builds_library_commands(rt: HostRuntime) {
 #[test]
 fn refuses_nul_in_path(rt: HostRuntime) {
     let builder = RpathCommandBuilder::new("a\0b", WIDE_LITTLE);
-    let refused = again(&rt, || builder.build(rt.alloc())).err();
+    let refused = again!(&rt; builder.build(rt.alloc())).err();
     let nul = CommandBuilderError::CStrError(NulInside { position: 1 });
     same(&rt, "a path with a NUL", &refused, &Some(nul));
 }
@@ -163,7 +163,7 @@ fn refuses_nul_in_path(rt: HostRuntime) {
 #[test]
 fn refuses_nul_in_name(rt: HostRuntime) {
     let builder = DlibCommandBuilder::new("a\0b\0", OLD, NARROW_BIG);
-    let refused = again(&rt, || builder.build(rt.alloc())).err();
+    let refused = again!(&rt; builder.build(rt.alloc())).err();
     let nul = CommandBuilderError::CStrError(NulInside { position: 1 });
     same(&rt, "a name with NULs", &refused, &Some(nul));
 }
@@ -210,7 +210,7 @@ fn prints_file_errors(rt: HostRuntime) {
 }
 
 fn string(rt: &impl Runtime, text: &str) -> String {
-    again(rt, || String::from_str(rt.alloc(), text)).expect(rt, "memory")
+    again!(rt; String::from_str(rt.alloc(), text)).expect(rt, "memory")
 }
 
 #[test]
@@ -310,7 +310,7 @@ fn expect_opened(rt: &impl Runtime, header: HeaderContainer, buffer: &[u8], file
         rt,
         "header",
         &Ok(header),
-        &again(rt, || header_in(rt.alloc(), file)),
+        &again!(rt; header_in(rt.alloc(), file)),
     );
 }
 
@@ -405,7 +405,7 @@ fn finds_commands(rt: HostRuntime) {
         same(
             &rt,
             "commands",
-            &again(&rt, || found(rt.alloc(), index)),
+            &again!(&rt; found(rt.alloc(), index)),
             &Ok(want),
         );
     }
@@ -422,7 +422,7 @@ fn fits_up_to_the_end(rt: HostRuntime) {
         same(
             &rt,
             "fits",
-            &again(&rt, || fits_at(rt.alloc(), end)),
+            &again!(&rt; fits_at(rt.alloc(), end)),
             &Ok(want),
         );
     }

@@ -1,7 +1,7 @@
 //! Fat files: their slices are edited as one.
 
 use crate::containers::{Edit, Step, walk};
-use crate::support::{Runtime, again, put, same, shows};
+use crate::support::{Runtime, put, same, shows};
 use arwen_macho::macho::{
     FatMachoContainer, MachoBatchError, MachoContainer, MachoEdit, MachoError, lay_fronts,
 };
@@ -60,7 +60,7 @@ pub(crate) fn joined(alloc: Global, slices: &[(u32, &[u8])]) -> Result<Vec<u8>, 
 
 // Takes steps in a fat file of slices, by the calls of both containers. Places are those in the whole file.
 fn walks(rt: &impl Runtime, slices: &[(u32, &[u8])], steps: &[Step<'_>]) {
-    let file = again(rt, || joined(rt.alloc(), slices)).expect(rt, "memory");
+    let file = again!(rt; joined(rt.alloc(), slices)).expect(rt, "memory");
     walk::<FatMachoContainer<'_>, _>(rt, &file, &[0], steps);
     walk::<MachoContainer<'_>, _>(rt, &file, &[0], steps);
 }
@@ -178,8 +178,8 @@ fn places(alloc: Global, bytes: &[u8]) -> Result<Vec<(u32, u32)>, MachoError> {
 
 #[test]
 fn shows_records(rt: HostRuntime) {
-    let file = again(&rt, || joined(rt.alloc(), &THREE)).expect(&rt, "memory");
-    let found = again(&rt, || places(rt.alloc(), &file)).expect(&rt, "a file");
+    let file = again!(&rt; joined(rt.alloc(), &THREE)).expect(&rt, "memory");
+    let found = again!(&rt; places(rt.alloc(), &file)).expect(&rt, "a file");
     let want = [(80, 128), (216, 128), (400, 44)];
     same(&rt, "places", &found.as_slice(), &want.as_slice());
 }
@@ -204,8 +204,8 @@ fn front_places(alloc: Global, bytes: &[u8]) -> Result<Vec<(usize, usize)>, Mach
 
 #[test]
 fn writes_fronts_alone(rt: HostRuntime) {
-    let file = again(&rt, || joined(rt.alloc(), &THREE)).expect(&rt, "memory");
-    let found = again(&rt, || front_places(rt.alloc(), &file)).expect(&rt, "fronts");
+    let file = again!(&rt; joined(rt.alloc(), &THREE)).expect(&rt, "memory");
+    let found = again!(&rt; front_places(rt.alloc(), &file)).expect(&rt, "fronts");
     let want = [(80, 112), (216, 128), (400, 44)];
     same(&rt, "fronts", &found.as_slice(), &want.as_slice());
 }
@@ -224,8 +224,8 @@ fn with_fronts(alloc: Global, bytes: &[u8]) -> Result<Vec<u8>, MachoBatchError> 
 
 #[test]
 fn lays_fronts(rt: HostRuntime) {
-    let file = again(&rt, || joined(rt.alloc(), &THREE)).expect(&rt, "memory");
-    let found = again(&rt, || with_fronts(rt.alloc(), &file)).expect(&rt, "fronts");
+    let file = again!(&rt; joined(rt.alloc(), &THREE)).expect(&rt, "memory");
+    let found = again!(&rt; with_fronts(rt.alloc(), &file)).expect(&rt, "fronts");
     let mut want = file;
     for (place, part) in EMPTY_PATHS {
         put(&mut want, *place, part);
@@ -235,7 +235,7 @@ fn lays_fronts(rt: HostRuntime) {
 
 #[test]
 fn lays_the_front_of_a_thin_file(rt: HostRuntime) {
-    let found = again(&rt, || with_fronts(rt.alloc(), NARROW)).expect(&rt, "fronts");
+    let found = again!(&rt; with_fronts(rt.alloc(), NARROW)).expect(&rt, "fronts");
     let want = b"\xfe\xed\xfa\xce\0\0\0\x07\0\0\0\x03\0\0\0\x06\0\0\0\x01\0\0\0\x10\0\0\0\x85\
 \x80\0\0\x1c\0\0\0\x10\0\0\0\x0c\0\0\0\0";
     same(&rt, "bytes", &found.as_slice(), &want.as_slice());
@@ -260,7 +260,7 @@ fn checks_slices_in_order(rt: HostRuntime) {
         (b"\xca\xfe\xba\xbe\0\0\0\0", PLAIN, "Err(Parsing(BadMagic))"),
     ];
     for (first, second, want) in rows {
-        let answer = again(&rt, || answer_of(rt.alloc(), first, second));
+        let answer = again!(&rt; answer_of(rt.alloc(), first, second));
         shows(&rt, &answer, want);
     }
 }

@@ -1,7 +1,7 @@
 //! Tables of fat files: which are accepted, and what they show.
 
 use crate::fat::push_number;
-use crate::support::{Runtime, again, put, same};
+use crate::support::{Runtime, put, same};
 use macho_image::fat::{FatArch, fat_archs, is_fat};
 use macho_image::format::MachFault;
 use std::alloc::{AllocError, Global};
@@ -60,7 +60,7 @@ fn are(archs: &[FatArch], places: &[(u32, u32)]) -> bool {
 
 // The check that a file fails; where it passes all, it shows these slices.
 fn fault_of(rt: &impl Runtime, bytes: &[u8], places: &[(u32, u32)]) -> Option<MachFault> {
-    match again(rt, || fat_archs(rt.alloc(), bytes)) {
+    match again!(rt; fat_archs(rt.alloc(), bytes)) {
         Ok(archs) => {
             assert!(rt; are(&archs, places), "other slices");
             None
@@ -73,7 +73,7 @@ fn fault_of(rt: &impl Runtime, bytes: &[u8], places: &[(u32, u32)]) -> Option<Ma
 fn expect(rt: &impl Runtime, rows: &[&[(u32, u32)]], want: Option<MachFault>) {
     for places in rows {
         let count = u32::try_from(places.len()).unwrap_or(0);
-        let file = again(rt, || file_with(rt.alloc(), 8192, count, places)).expect(rt, "memory");
+        let file = again!(rt; file_with(rt.alloc(), 8192, count, places)).expect(rt, "memory");
         same(rt, "a table's fault", &fault_of(rt, &file, places), &want);
     }
 }
@@ -144,7 +144,7 @@ fn refuses_other_fronts(rt: HostRuntime) {
 #[test]
 fn refuses_tables_past_the_end(rt: HostRuntime) {
     for nfat_arch in [2, 0x0ccc_cccd, u32::MAX] {
-        let file = again(&rt, || file_with(rt.alloc(), 47, nfat_arch, &[(28, 1)]));
+        let file = again!(&rt; file_with(rt.alloc(), 47, nfat_arch, &[(28, 1)]));
         let file = file.expect(&rt, "memory");
         for length in [8, 47] {
             let fault = fault_of(&rt, file.get(..length).unwrap_or_default(), &[]);
@@ -194,7 +194,7 @@ fn reads_long_tables(rt: HostRuntime) {
         same(
             &rt,
             "a long table",
-            &again(&rt, || long_answer(rt.alloc(), middle)),
+            &again!(&rt; long_answer(rt.alloc(), middle)),
             &want,
         );
     }

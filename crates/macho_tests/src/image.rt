@@ -1,6 +1,6 @@
 //! The reader: headers, commands, texts, where content begins, and which files are refused.
 
-use crate::support::{Runtime, again, prints, same};
+use crate::support::{Runtime, prints, same};
 use macho_image::command::{
     LC_ID_DYLIB, LC_LOAD_WEAK_DYLIB, LC_RPATH, LC_SEGMENT, LC_SEGMENT_64, LC_SYMTAB,
 };
@@ -154,7 +154,7 @@ fn reads_header(rt: HostRuntime) {
         same(
             &rt,
             "header",
-            &again(&rt, || header_in(rt.alloc(), &sample)),
+            &again!(&rt; header_in(rt.alloc(), &sample)),
             &Ok(want),
         );
     }
@@ -170,7 +170,7 @@ fn measures_in(alloc: Global, sample: &Sample) -> Result<(Ctx, usize, usize), Ma
 fn reads_form(rt: HostRuntime) {
     for form in FORMS {
         let sample = library(form);
-        let found = again(&rt, || measures_in(rt.alloc(), &sample));
+        let found = again!(&rt; measures_in(rt.alloc(), &sample));
         same(&rt, "form", &found, &Ok((form, 200, 200)));
     }
 }
@@ -206,7 +206,7 @@ fn reads_commands(rt: HostRuntime) {
             Wide::W32 => NARROW_COMMANDS,
             Wide::W64 => WIDE_COMMANDS,
         };
-        let found = again(&rt, || commands_in(rt.alloc(), &sample)).expect(&rt, "a file");
+        let found = again!(&rt; commands_in(rt.alloc(), &sample)).expect(&rt, "a file");
         same(&rt, "commands", &found.as_str(), &want);
     }
 }
@@ -244,7 +244,7 @@ fn texts_in(alloc: Global, sample: &Sample) -> Result<Vec<u8>, MachFault> {
 fn reads_texts(rt: HostRuntime) {
     for form in FORMS {
         let sample = library(form);
-        let found = again(&rt, || texts_in(rt.alloc(), &sample)).expect(&rt, "a file");
+        let found = again!(&rt; texts_in(rt.alloc(), &sample)).expect(&rt, "a file");
         same(
             &rt,
             "texts",
@@ -266,7 +266,7 @@ fn reads_texts_of_owned_bytes(rt: HostRuntime) {
     let mut sample = Sample::new(Wide::W64, ByteOrder2::Little, 1, 32);
     sample.words(&[LC_RPATH, 32, 12]);
     sample.text(b"/usr/local/lib");
-    let found = again(&rt, || owned_texts(rt.alloc(), sample.front(64))).expect(&rt, "a file");
+    let found = again!(&rt; owned_texts(rt.alloc(), sample.front(64))).expect(&rt, "a file");
     same(
         &rt,
         "texts",
@@ -295,7 +295,7 @@ fn lends_commands(rt: HostRuntime) {
             Wide::W32 => 28,
             Wide::W64 => 32,
         };
-        let found = again(&rt, || area_in(rt.alloc(), &sample)).expect(&rt, "a file");
+        let found = again!(&rt; area_in(rt.alloc(), &sample)).expect(&rt, "a file");
         same(
             &rt,
             "lengths",
@@ -321,7 +321,7 @@ fn handed_out(alloc: Global, bytes: &[u8]) -> Result<Vec<u8>, MachFault> {
 fn hands_out_bytes(rt: HostRuntime) {
     for form in FORMS {
         let sample = library(form);
-        let found = again(&rt, || handed_out(rt.alloc(), sample.front(200))).expect(&rt, "bytes");
+        let found = again!(&rt; handed_out(rt.alloc(), sample.front(200))).expect(&rt, "bytes");
         same(&rt, "bytes", &found.as_slice(), &sample.front(200));
     }
 }
@@ -331,7 +331,7 @@ fn expect_fault(rt: &impl Runtime, what: &str, bytes: &[u8], want: Option<MachFa
     same(
         rt,
         what,
-        &again(rt, || MachO::parse(rt.alloc(), bytes)).err(),
+        &again!(rt; MachO::parse(rt.alloc(), bytes)).err(),
         &want,
     );
 }
@@ -436,7 +436,7 @@ fn refuses_sections(rt: HostRuntime) {
 fn reads_empty_path(rt: HostRuntime) {
     let mut sample = Sample::new(Wide::W64, ByteOrder2::Little, 1, 16);
     sample.words(&[LC_RPATH, 16, 16, 0x6161_6161]);
-    let found = again(&rt, || texts_in(rt.alloc(), &sample)).expect(&rt, "a file");
+    let found = again!(&rt; texts_in(rt.alloc(), &sample)).expect(&rt, "a file");
     same(&rt, "texts", &found.as_slice(), &b"\n".as_slice());
 }
 
@@ -477,9 +477,7 @@ fn finds_first_content(rt: HostRuntime) {
     ];
     for form in FORMS {
         for (segment, symbols, strings, first) in rows {
-            let found = again(&rt, || {
-                first_content(rt.alloc(), form, segment, symbols, strings)
-            });
+            let found = again!(&rt; first_content(rt.alloc(), form, segment, symbols, strings));
             same(&rt, "first content", &found, &Ok(first));
         }
     }

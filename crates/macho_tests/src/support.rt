@@ -55,18 +55,8 @@ pub(crate) fn wants_memory<T, E: Refusal>(answer: &Result<T, E>) -> bool {
     }
 }
 
-// What a call answers. One that was refused memory is made once more, and is then not refused it again.
-pub(crate) fn again<T: Drop, E: Refusal, F: Fn() -> Result<T, E>>(
-    rt: &impl Abort,
-    call: F,
-) -> Result<T, E>
-    requires { F.IsAlwaysCallable call }
-{
-    let answer = call();
-    if !wants_memory(&answer) {
-        return answer;
-    }
-    let answer = call();
+// The answer of a call that is made once more, which is not refused memory again.
+pub(crate) fn granted<T, E: Refusal>(rt: &impl Abort, answer: Result<T, E>) -> Result<T, E> {
     assert!(rt; !wants_memory(&answer), "refused memory twice");
     answer
 }
@@ -78,12 +68,12 @@ pub(crate) fn same<T: PartialEq + fmt::Debug>(rt: &impl Abort, what: &str, found
 
 // A copy of bytes.
 pub(crate) fn copied(rt: &impl Runtime, bytes: &[u8]) -> Vec<u8> {
-    again(rt, || Vec::from_slice(rt.alloc(), bytes)).expect(rt, "memory")
+    again!(rt; Vec::from_slice(rt.alloc(), bytes)).expect(rt, "memory")
 }
 
 // What `Debug` prints of a value.
 pub(crate) fn text_of<T: fmt::Debug>(rt: &impl Runtime, value: &T) -> String {
-    again(rt, || format!(in rt.alloc(); "{value:?}")).expect(rt, "memory")
+    again!(rt; format!(in rt.alloc(); "{value:?}")).expect(rt, "memory")
 }
 
 // Compares what `Debug` prints of a value with a text.
@@ -93,7 +83,7 @@ pub(crate) fn shows<T: fmt::Debug>(rt: &impl Runtime, value: &T, text: &str) {
 
 // Compares what `Display` prints of a value with a text.
 pub(crate) fn prints<T: fmt::Display>(rt: &impl Runtime, value: &T, text: &str) {
-    let printed = again(rt, || format!(in rt.alloc(); "{value}")).expect(rt, "memory");
+    let printed = again!(rt; format!(in rt.alloc(); "{value}")).expect(rt, "memory");
     same(rt, "printed", &printed.as_str(), &text);
 }
 

@@ -1,7 +1,7 @@
 //! Batch after batch in one call.
 
 use super::{Edit, all_owned, found_lists, lists_of};
-use crate::support::{Runtime, again, copied, same, shows, wants_memory};
+use crate::support::{Runtime, copied, same, shows, wants_memory};
 use arwen_macho::macho::{MachoBatchError, MachoContainer, MachoEdit};
 use std::alloc::{AllocError, Global};
 
@@ -62,7 +62,7 @@ fn refused(answers: &[Result<(), MachoBatchError>]) -> Option<usize> {
 
 // What batches answer in the file without commands, and the bytes that they leave.
 fn applied(rt: &impl Runtime, batches: &[Vec<MachoEdit>]) -> (Answers, Vec<u8>) {
-    let mut file = again(rt, || MachoContainer::parse(rt.alloc(), EMPTY)).expect(rt, "a file");
+    let mut file = again!(rt; MachoContainer::parse(rt.alloc(), EMPTY)).expect(rt, "a file");
     let answers = answers_of(rt, &mut file, batches);
     same(
         rt,
@@ -75,7 +75,7 @@ fn applied(rt: &impl Runtime, batches: &[Vec<MachoEdit>]) -> (Answers, Vec<u8>) 
 
 // The same. A batch that was refused memory changed nothing, and then all are made once more.
 fn applied_whole(rt: &impl Runtime) -> (Answers, Vec<u8>) {
-    let mut all = again(rt, || batches(rt.alloc())).expect(rt, "memory");
+    let mut all = again!(rt; batches(rt.alloc())).expect(rt, "memory");
     let first = applied(rt, &all);
     let Some(place) = refused(&first.0) else {
         return first;
@@ -89,7 +89,7 @@ fn applied_whole(rt: &impl Runtime) -> (Answers, Vec<u8>) {
         &first.1,
         &applied(rt, &all).1,
     );
-    let all = again(rt, || batches(rt.alloc())).expect(rt, "memory");
+    let all = again!(rt; batches(rt.alloc())).expect(rt, "memory");
     applied(rt, &all)
 }
 
