@@ -6,7 +6,7 @@ mod reads;
 mod refusals;
 
 use crate::samples::SMALL;
-use crate::support::{Runtime, again};
+use crate::support::Runtime;
 use arwen_elf::elf::{ElfContainer, Writer};
 
 // A library that needs `libc.so.6` and has the run path `/a`: 64 bits, low byte first. Of its dynamic entries, which
@@ -31,9 +31,9 @@ const PROGRAM: &[u8] = b"\
 
 // Reads a file.
 fn read<'a>(rt: &impl Runtime, bytes: &'a [u8]) -> Writer<'a> {
-    again(rt, || Writer::read(rt.alloc(), bytes)).expect(rt, "an image")
+    again!(rt; Writer::read(rt.alloc(), bytes)).expect(rt, "an image")
 }
 
 fn parsed<'a>(rt: &impl Runtime, bytes: &'a [u8]) -> ElfContainer<'a> {
-    again(rt, || ElfContainer::parse(rt.alloc(), bytes)).expect(rt, "a file")
+    again!(rt; ElfContainer::parse(rt.alloc(), bytes)).expect(rt, "a file")
 }

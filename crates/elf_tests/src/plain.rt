@@ -2,7 +2,7 @@
 
 use crate::listing::{Part, lines};
 use crate::samples::{LINKED, SMALL, TWIN, VERSIONED};
-use crate::support::{Runtime, again, changed, same, same_text};
+use crate::support::{Runtime, changed, same, same_text};
 use elf_image::plain::{ViewFault, loader_view, section_view};
 use std::alloc::Global;
 
@@ -19,7 +19,7 @@ fn loaded(alloc: Global, file: &[u8], count: u64, part: Part) -> Result<String, 
 }
 
 fn expect_shown(rt: &impl Runtime, file: &[u8], part: Part, want: &str) {
-    let found = again(rt, || shown(rt.alloc(), file, part)).expect(rt, "a view");
+    let found = again!(rt; shown(rt.alloc(), file, part)).expect(rt, "a view");
     same_text(rt, "what is shown", &found, want);
 }
 
@@ -97,7 +97,7 @@ fn is_same_to_a_loader(alloc: Global, file: &[u8], count: u64) -> Result<bool, V
 #[test]
 fn same_to_a_loader(rt: HostRuntime) {
     for (file, count) in [(SMALL, 0), (TWIN, 0), (VERSIONED, 3), (LINKED, 7)] {
-        let found = again(&rt, || is_same_to_a_loader(rt.alloc(), file, count));
+        let found = again!(&rt; is_same_to_a_loader(rt.alloc(), file, count));
         same(&rt, "a loader's view", &found, &Ok(true));
     }
 }
@@ -109,7 +109,7 @@ fn expect_loaded(
     part: Part,
     want: Result<&str, ViewFault>,
 ) {
-    let found = again(rt, || loaded(rt.alloc(), file, count, part));
+    let found = again!(rt; loaded(rt.alloc(), file, count, part));
     let found = match &found {
         Ok(lines) => Ok(lines.as_str()),
         Err(fault) => Err(*fault),
@@ -152,7 +152,7 @@ fn text_past_what_is_loaded(rt: HostRuntime) {
 
 #[test]
 fn nothing_is_shown(rt: HostRuntime) {
-    let found = again(&rt, || shown(rt.alloc(), b"\x7fELF", Part::Outline)).err();
+    let found = again!(&rt; shown(rt.alloc(), b"\x7fELF", Part::Outline)).err();
     same(&rt, "no view", &found, &Some(ViewFault::Absent));
 }
 

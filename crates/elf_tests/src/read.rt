@@ -7,7 +7,7 @@ ghost use Rattle.elf_image.specs.Image.{image_of};
 
 use crate::listing::text;
 use crate::samples::{SMALL, TWIN, VERSIONED};
-use crate::support::{Runtime, again, same, same_text};
+use crate::support::{Runtime, same, same_text};
 use elf_image::{
     Builder, Dynamic, ElfFault, Header, Section, SectionData, Segment, Symbol, VersionId,
     machine_of,
@@ -126,7 +126,7 @@ fn kinds_of(alloc: Global, sections: &[Section<'_>]) -> Result<Vec<SectionData>,
 #[test]
 fn kinds_of_sections(rt: HostRuntime) {
     let image = versioned(&rt);
-    let found = again(&rt, || kinds_of(rt.alloc(), image.sections())).expect(&rt, "memory");
+    let found = again!(&rt; kinds_of(rt.alloc(), image.sections())).expect(&rt, "memory");
     same(&rt, "kinds", &found.as_slice(), &KINDS.as_slice());
 }
 
@@ -205,7 +205,7 @@ fn symbol_lines(alloc: Global, symbols: &[Symbol<'_>]) -> Result<String, AllocEr
 #[test]
 fn symbols(rt: HostRuntime) {
     let image = versioned(&rt);
-    let found = again(&rt, || symbol_lines(rt.alloc(), image.symbols())).expect(&rt, "memory");
+    let found = again!(&rt; symbol_lines(rt.alloc(), image.symbols())).expect(&rt, "memory");
     same_text(
         &rt,
         "symbols",
@@ -217,7 +217,7 @@ fn symbols(rt: HostRuntime) {
 #[test]
 fn dynamic_symbols(rt: HostRuntime) {
     let image = versioned(&rt);
-    let found = again(&rt, || symbol_lines(rt.alloc(), image.dynamic_symbols()));
+    let found = again!(&rt; symbol_lines(rt.alloc(), image.dynamic_symbols()));
     let want = " 0 0 0 0 0 Some(VersionId { index: 0, hidden: false })\n\
         g 18 0 0 0 0 Some(VersionId { index: 3, hidden: false })\n\
         f 18 0 11 16 4 Some(VersionId { index: 2, hidden: true })\n";
@@ -249,7 +249,7 @@ fn definition_lines(alloc: Global, image: &Builder<'_>) -> Result<String, AllocE
 #[test]
 fn definitions(rt: HostRuntime) {
     let image = versioned(&rt);
-    let found = again(&rt, || definition_lines(rt.alloc(), &image)).expect(&rt, "memory");
+    let found = again!(&rt; definition_lines(rt.alloc(), &image)).expect(&rt, "memory");
     same_text(&rt, "definitions", &found, "1 1 me.so\n2 0 V2 V1\n");
 }
 
@@ -271,7 +271,7 @@ fn need_lines(alloc: Global, image: &Builder<'_>) -> Result<String, AllocError> 
 #[test]
 fn needs(rt: HostRuntime) {
     let image = versioned(&rt);
-    let found = again(&rt, || need_lines(rt.alloc(), &image)).expect(&rt, "memory");
+    let found = again!(&rt; need_lines(rt.alloc(), &image)).expect(&rt, "memory");
     same_text(&rt, "needs", &found, "libc.so 3 0 L1\n");
 }
 
@@ -302,7 +302,7 @@ fn entry_lines(alloc: Global, list: Option<&[Dynamic<'_>]>) -> Result<String, Al
 #[test]
 fn dynamic_data(rt: HostRuntime) {
     let image = versioned(&rt);
-    let found = again(&rt, || entry_lines(rt.alloc(), image.dynamic_data()));
+    let found = again!(&rt; entry_lines(rt.alloc(), image.dynamic_data()));
     let want =
         "1 libc.so\n14 me.so\n29 /a\n5\n6\n10\n11\n21 = 0\n4\n1879047925\n1879048176\n1879048188\n\
         1879048189\n1879048190\n1879048191\n";

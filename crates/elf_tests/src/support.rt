@@ -49,18 +49,8 @@ pub(crate) fn wants_memory<T, E: Refusal>(answer: &Result<T, E>) -> bool {
     }
 }
 
-// What a call answers. One that was refused memory is made once more, and is then not refused it again.
-pub(crate) fn again<T: Drop, E: Refusal, F: Fn() -> Result<T, E>>(
-    rt: &impl Abort,
-    call: F,
-) -> Result<T, E>
-    requires { F.IsAlwaysCallable call }
-{
-    let answer = call();
-    if !wants_memory(&answer) {
-        return answer;
-    }
-    let answer = call();
+// The answer of a call that is made once more, which is not refused memory again.
+pub(crate) fn granted<T, E: Refusal>(rt: &impl Abort, answer: Result<T, E>) -> Result<T, E> {
     assert!(rt; !wants_memory(&answer), "refused memory twice");
     answer
 }
@@ -77,13 +67,13 @@ pub(crate) fn same_text(rt: &impl Abort, what: &str, found: &str, want: &str) {
 
 // Compares what `Display` prints of a value with a text.
 pub(crate) fn prints<T: fmt::Display>(rt: &impl Runtime, value: &T, text: &str) {
-    let printed = again(rt, || format!(in rt.alloc(); "{value}")).expect(rt, "memory");
+    let printed = again!(rt; format!(in rt.alloc(); "{value}")).expect(rt, "memory");
     same_text(rt, "printed", &printed, text);
 }
 
 // Compares what `Debug` prints of a value with a text.
 pub(crate) fn shows<T: fmt::Debug>(rt: &impl Runtime, value: &T, text: &str) {
-    let shown = again(rt, || format!(in rt.alloc(); "{value:?}")).expect(rt, "memory");
+    let shown = again!(rt; format!(in rt.alloc(); "{value:?}")).expect(rt, "memory");
     same_text(rt, "shown", &shown, text);
 }
 
@@ -109,5 +99,5 @@ pub(crate) fn changed_once(
 
 // The same, asked for again where there was no memory.
 pub(crate) fn changed(rt: &impl Runtime, file: &[u8], changes: &[(usize, &[u8])]) -> Vec<u8> {
-    again(rt, || changed_once(rt.alloc(), file, changes)).expect(rt, "memory")
+    again!(rt; changed_once(rt.alloc(), file, changes)).expect(rt, "memory")
 }

@@ -1,6 +1,6 @@
 //! The texts of errors, and what becomes which error.
 
-use crate::support::{Runtime, again, prints, same, shows};
+use crate::support::{Runtime, prints, same, shows};
 use arwen_elf::elf::{ElfError, ModifyCause, ProbeAnswer};
 use elf_image::ElfFault;
 use patch_bytes::ByteString;
@@ -8,7 +8,7 @@ use std::alloc::{AllocError, AllocFailed};
 use std::io;
 
 fn string(rt: &impl Runtime, text: &str) -> String {
-    again(rt, || String::from_str(rt.alloc(), text)).expect(rt, "memory")
+    again!(rt; String::from_str(rt.alloc(), text)).expect(rt, "memory")
 }
 
 #[test]
@@ -109,7 +109,7 @@ fn probe_answers(rt: HostRuntime) {
         &answer.directory.as_slice(),
         &b"/a".as_slice(),
     );
-    let shown = again(&rt, || format!(in rt.alloc(); "{answer:?}")).expect(&rt, "memory");
+    let shown = again!(&rt; format!(in rt.alloc(); "{answer:?}")).expect(&rt, "memory");
     same(
         &rt,
         "text",

@@ -1,7 +1,7 @@
 //! What is printed.
 
 use super::{LIBRARY, PROGRAM, parsed};
-use crate::support::{Runtime, again, changed, same, wants_memory};
+use crate::support::{Runtime, changed, same, wants_memory};
 use arwen_elf::elf::{ElfContainer, ElfError};
 use std::alloc::Global;
 use std::io::{Cursor, Write};
@@ -166,6 +166,6 @@ fn fails_for_writer(alloc: Global, file: &ElfContainer<'_>) -> Result<bool, ElfE
 #[test]
 fn tells_a_writer_that_fails(rt: HostRuntime) {
     let file = parsed(&rt, LIBRARY);
-    let fails = again(&rt, || fails_for_writer(rt.alloc(), &file)).expect(&rt, "an answer");
+    let fails = again!(&rt; fails_for_writer(rt.alloc(), &file)).expect(&rt, "an answer");
     same(&rt, "fails", &fails, &true);
 }

@@ -1,7 +1,7 @@
 //! What is read of a file.
 
 use super::{LIBRARY, PROGRAM, parsed, read};
-use crate::support::{Runtime, again, changed, same, same_text};
+use crate::support::{Runtime, changed, same, same_text};
 use arwen_elf::elf::{BuilderExt, ElfContainer, ElfError, Writer};
 use std::alloc::Global;
 
@@ -123,7 +123,7 @@ fn directories(alloc: Global, bytes: &[u8]) -> Result<String, ElfError> {
 // Compares them, of the library with other bytes at some places.
 fn expect_directories(rt: &impl Runtime, changes: &[(usize, &[u8])], want: &str) {
     let bytes = changed(rt, LIBRARY, changes);
-    let found = again(rt, || directories(rt.alloc(), &bytes)).expect(rt, "a file");
+    let found = again!(rt; directories(rt.alloc(), &bytes)).expect(rt, "a file");
     same_text(rt, "directories", &found, want);
 }
 

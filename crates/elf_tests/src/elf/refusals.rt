@@ -1,7 +1,7 @@
 //! Which files are refused, and for what.
 
 use super::LIBRARY;
-use crate::support::{Runtime, again, changed, same};
+use crate::support::{Runtime, changed, same};
 use arwen_elf::elf::{ElfError, Writer};
 use elf_image::ElfFault;
 use std::alloc::{AllocError, Global};
@@ -17,7 +17,7 @@ fn fault(alloc: Global, bytes: &[u8]) -> Result<Option<ElfFault>, ElfError> {
 
 // Compares the read rule that a file breaks.
 fn expect_fault(rt: &impl Runtime, what: &str, bytes: &[u8], want: Option<ElfFault>) {
-    let found = again(rt, || fault(rt.alloc(), bytes)).expect(rt, "a fault");
+    let found = again!(rt; fault(rt.alloc(), bytes)).expect(rt, "a fault");
     same(rt, what, &found, &want);
 }
 
@@ -83,7 +83,7 @@ fn refuses_segments_that_share_a_byte(rt: HostRuntime) {
         (b"\x00\x10", ElfFault::Disagree(7)),
     ];
     for (place, want) in rows {
-        let file = again(&rt, || two_loaded(rt.alloc(), place)).expect(&rt, "memory");
+        let file = again!(&rt; two_loaded(rt.alloc(), place)).expect(&rt, "memory");
         expect_fault(&rt, "two segments", &file, Some(want));
     }
 }

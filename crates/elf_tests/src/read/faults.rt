@@ -1,11 +1,11 @@
 //! Small changes in a small library, and the faults that they give.
 use crate::samples::{LINKED, SMALL};
-use crate::support::{Runtime, again, changed, same};
+use crate::support::{Runtime, changed, same};
 use elf_image::{Builder, ElfFault};
 
 // Compares the fault of a file, which is none where it is read.
 fn expect_fault(rt: &impl Runtime, what: &str, file: &[u8], want: Option<ElfFault>) {
-    let found = again(rt, || Builder::read(rt.alloc(), file)).err();
+    let found = again!(rt; Builder::read(rt.alloc(), file)).err();
     same(rt, what, &found, &want);
 }
 

@@ -1,6 +1,6 @@
 //! The reader beside the plain reader: both show the same.
 use crate::samples::{LINKED, SMALL, TWIN, VERSIONED};
-use crate::support::{again, same};
+use crate::support::same;
 use elf_image::constants::{
     DT_SYMTAB, DT_VERDEF, DT_VERDEFNUM, DT_VERNEED, DT_VERNEEDNUM, DT_VERSYM, PT_GNU_STACK,
 };
@@ -150,7 +150,7 @@ fn is_shown(alloc: Global, file: &[u8], view: &ShownView<'_>) -> Result<bool, El
 #[test]
 fn same_views(rt: HostRuntime) {
     for file in [SMALL, TWIN, VERSIONED, LINKED] {
-        let found = again(&rt, || is_same(rt.alloc(), file));
+        let found = again!(&rt; is_same(rt.alloc(), file));
         same(&rt, "views", &found, &Ok(true));
     }
 }
