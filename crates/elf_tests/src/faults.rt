@@ -1,10 +1,10 @@
 //! What faults print.
+use crate::support::prints;
 use elf_image::ElfFault;
 use elf_plain::ViewFault;
-use std::test::Fail;
 
 #[test]
-fn names_of_faults(rt: HostRuntime) -> Result<(), Fail> {
+fn names_of_faults(rt: HostRuntime) {
     let rows = [
         (ElfFault::BadMagic, "BadMagic"),
         (ElfFault::Truncated, "Truncated"),
@@ -15,24 +15,13 @@ fn names_of_faults(rt: HostRuntime) -> Result<(), Fail> {
         (ElfFault::Memory, "Memory"),
     ];
     for (fault, name) in rows {
-        let text = match format!(in rt.alloc(); "{fault}") {
-            Ok(text) => text,
-            Err(_) => format!(in rt.alloc(); "{fault}")?,
-        };
-        assert_eq!(rt; text.as_str(), name);
+        prints(&rt, &fault, name);
     }
-    Ok(())
 }
 
 #[test]
-fn names_of_view_faults(rt: HostRuntime) -> Result<(), Fail> {
-    let rows = [(ViewFault::Absent, "Absent"), (ViewFault::Memory, "Memory")];
-    for (fault, name) in rows {
-        let text = match format!(in rt.alloc(); "{fault}") {
-            Ok(text) => text,
-            Err(_) => format!(in rt.alloc(); "{fault}")?,
-        };
-        assert_eq!(rt; text.as_str(), name);
+fn names_of_view_faults(rt: HostRuntime) {
+    for (fault, name) in [(ViewFault::Absent, "Absent"), (ViewFault::Memory, "Memory")] {
+        prints(&rt, &fault, name);
     }
-    Ok(())
 }

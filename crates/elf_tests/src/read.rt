@@ -5,16 +5,19 @@ mod views;
 ghost use Rattle.std.specs.Prelude.{◌≡◌, length, IfOk};
 ghost use Rattle.elf_image.specs.Image.{image_of};
 
+use crate::listing::text;
 use crate::samples::{SMALL, TWIN, VERSIONED};
+use crate::support::{Runtime, same, same_text};
 use elf_image::{
     Builder, Dynamic, ElfFault, Header, Section, SectionData, Segment, Symbol, VersionId,
     machine_of,
 };
 use patch_bytes::{ByteOrder2, Wide};
+use std::alloc::{AllocError, Global};
 use std::test::Fail;
 
 // A call that was refused memory is made once more.
-pub(crate) fn read<'a>(rt: &HostRuntime, file: &'a [u8]) -> Result<Builder<'a>, ElfFault>
+pub(crate) fn read<'a>(rt: &impl Runtime, file: &'a [u8]) -> Result<Builder<'a>, ElfFault>
     ensures { IfOk result (λ image. image_of file.entry.now ≡ Ok image) }
 {
     match Builder::read(rt.alloc(), file) {
@@ -23,12 +26,28 @@ pub(crate) fn read<'a>(rt: &HostRuntime, file: &'a [u8]) -> Result<Builder<'a>, 
     }
 }
 
+// The image of a library with an interpreter, symbols and versions.
+fn versioned(rt: &impl Runtime) -> Builder<'static> {
+    read(rt, VERSIONED).expect(rt, "an image")
+}
+
 #[test]
-fn form_and_header(rt: HostRuntime) -> Result<(), Fail> {
-    let image = read(&rt, VERSIONED)?;
-    assert_eq!(rt; image.class(), Wide::W32);
-    assert_eq!(rt; image.order(), ByteOrder2::Big);
-    let header = Header {
+fn form(rt: HostRuntime) {
+    let rows = [
+        (SMALL, (Wide::W64, ByteOrder2::Little)),
+        (TWIN, (Wide::W32, ByteOrder2::Big)),
+        (VERSIONED, (Wide::W32, ByteOrder2::Big)),
+    ];
+    for (file, want) in rows {
+        let image = read(&rt, file).expect(&rt, "an image");
+        same(&rt, "form", &(image.class(), image.order()), &want);
+    }
+}
+
+#[test]
+fn header(rt: HostRuntime) {
+    let image = versioned(&rt);
+    let want = Header {
         os_abi: 0,
         abi_version: 0,
         e_type: 3,
@@ -39,19 +58,15 @@ fn form_and_header(rt: HostRuntime) -> Result<(), Fail> {
         e_shoff: 880,
         e_shstrndx: 18,
     };
-    assert_eq!(rt; *image.header(), header);
-    Ok(())
+    same(&rt, "header", image.header(), &want);
 }
 
 #[test]
-fn as_it_was_read(rt: HostRuntime) -> Result<(), Fail> {
-    let image = read(&rt, SMALL)?;
-    assert_eq!(rt; image.class(), Wide::W64);
-    assert_eq!(rt; image.order(), ByteOrder2::Little);
-    assert!(rt; !image.changed());
-    assert_eq!(rt; image.page_size(), None);
-    assert_eq!(rt; image.source(), SMALL);
-    Ok(())
+fn as_it_was_read(rt: HostRuntime) {
+    let image = read(&rt, SMALL).expect(&rt, "an image");
+    same(&rt, "changed", &image.changed(), &false);
+    same(&rt, "page size", &image.page_size(), &None);
+    same(&rt, "source", &image.source(), &SMALL);
 }
 
 // The numbers of a program header.
@@ -69,51 +84,50 @@ fn numbers(segment: &Segment<'_>) -> [u64; 8] {
 }
 
 #[test]
-fn segments(rt: HostRuntime) -> Result<(), Fail> {
-    let image = read(&rt, VERSIONED)?;
-    assert_eq!(rt; image.segments().len(), 7);
-    let load = image.segments().get(3).ok_or("a segment")?;
-    assert_eq!(rt;
-        numbers(load),
-        [1, 6, 0x220, 0x11220, 0x11220, 0x88, 0xa8, 0x1000]
-    );
-    Ok(())
+fn segments(rt: HostRuntime) {
+    let image = versioned(&rt);
+    let found = image.segments().get(3).map(numbers);
+    let want = [1, 6, 0x220, 0x11220, 0x11220, 0x88, 0xa8, 0x1000];
+    same(&rt, "the fourth", &found, &Some(want));
+    same(&rt, "how many", &image.segments().len(), &7);
 }
 
-// What the bytes of a section are.
-fn kind_at(sections: &[Section<'_>], i: usize) -> Option<SectionData> {
-    Some(sections.get(i)?.kind)
+// What the bytes of each section are.
+const KINDS: [SectionData; 19] = [
+    SectionData::Opaque,
+    SectionData::Opaque,
+    SectionData::Note,
+    SectionData::Hash,
+    SectionData::GnuHash,
+    SectionData::DynamicSymbols,
+    SectionData::Strings,
+    SectionData::GnuVersym,
+    SectionData::GnuVerdef,
+    SectionData::GnuVerneed,
+    SectionData::Relocation,
+    SectionData::Opaque,
+    SectionData::Dynamic,
+    SectionData::Uninitialized,
+    SectionData::Uninitialized,
+    SectionData::Opaque,
+    SectionData::Symbols,
+    SectionData::Strings,
+    SectionData::Strings,
+];
+
+fn kinds_of(alloc: Global, sections: &[Section<'_>]) -> Result<Vec<SectionData>, AllocError> {
+    let mut kinds = Vec::new(alloc);
+    for section in sections {
+        kinds.push(section.kind)?;
+    }
+    Ok(kinds)
 }
 
 #[test]
-fn kinds_of_sections(rt: HostRuntime) -> Result<(), Fail> {
-    let kinds = [
-        SectionData::Opaque,
-        SectionData::Opaque,
-        SectionData::Note,
-        SectionData::Hash,
-        SectionData::GnuHash,
-        SectionData::DynamicSymbols,
-        SectionData::Strings,
-        SectionData::GnuVersym,
-        SectionData::GnuVerdef,
-        SectionData::GnuVerneed,
-        SectionData::Relocation,
-        SectionData::Opaque,
-        SectionData::Dynamic,
-        SectionData::Uninitialized,
-        SectionData::Uninitialized,
-        SectionData::Opaque,
-        SectionData::Symbols,
-        SectionData::Strings,
-        SectionData::Strings,
-    ];
-    let image = read(&rt, VERSIONED)?;
-    assert_eq!(rt; image.sections().len(), kinds.len());
-    for (i, kind) in kinds.iter().enumerate() {
-        assert_eq!(rt; kind_at(image.sections(), i), Some(*kind));
-    }
-    Ok(())
+fn kinds_of_sections(rt: HostRuntime) {
+    let image = versioned(&rt);
+    let found = again!(&rt; kinds_of(rt.alloc(), image.sections())).expect(&rt, "memory");
+    same(&rt, "kinds", &found.as_slice(), &KINDS.as_slice());
 }
 
 // The numbers of a section header.
@@ -132,149 +146,191 @@ fn section_numbers(section: &Section<'_>) -> [u64; 9] {
 }
 
 #[test]
-fn sections(rt: HostRuntime) -> Result<(), Fail> {
-    let image = read(&rt, VERSIONED)?;
-    let relocations = image.sections().get(10).ok_or("a section")?;
-    assert_eq!(rt; relocations.name.as_slice(), b".rel.dyn".as_slice());
-    assert_eq!(rt;
-        section_numbers(relocations),
-        [9, 2, 0x1020c, 0x20c, 8, 5, 0, 4, 8]
+fn sections(rt: HostRuntime) {
+    let image = versioned(&rt);
+    let found = image.sections().get(10).map(section_numbers);
+    let want = [9, 2, 0x1020c, 0x20c, 8, 5, 0, 4, 8];
+    same(&rt, "relocations", &found, &Some(want));
+    let found = image.sections().get(14).map(section_numbers);
+    let want = [8, 3, 0x112a8, 0x2a8, 32, 0, 0, 8, 0];
+    same(&rt, "zeros", &found, &Some(want));
+}
+
+// The content of a section.
+fn content<'b>(image: &'b Builder<'_>, i: usize) -> Option<&'b [u8]> {
+    Some(image.sections().get(i)?.content)
+}
+
+#[test]
+fn contents_of_sections(rt: HostRuntime) {
+    let image = versioned(&rt);
+    same(
+        &rt,
+        "relocations",
+        &content(&image, 10),
+        &VERSIONED.get(0x20c..0x214),
     );
-    assert_eq!(rt; relocations.content, &VERSIONED[0x20c..0x214]);
-    let zeros = image.sections().get(14).ok_or("a section")?;
-    assert_eq!(rt; zeros.sh_size, 32);
-    assert!(rt; zeros.content.is_empty());
-    Ok(())
-}
-
-// The numbers of a symbol.
-fn symbol_numbers(symbol: &Symbol<'_>) -> [u64; 5] {
-    [
-        symbol.st_info as u64,
-        symbol.st_other as u64,
-        symbol.st_shndx as u64,
-        symbol.st_value,
-        symbol.st_size,
-    ]
+    same(&rt, "zeros", &content(&image, 14), &Some(b"".as_slice()));
 }
 
 #[test]
-fn symbols(rt: HostRuntime) -> Result<(), Fail> {
-    let image = read(&rt, VERSIONED)?;
-    assert_eq!(rt; image.symbols().len(), 2);
-    let symbol = image.symbols().get(1).ok_or("a symbol")?;
-    assert_eq!(rt; symbol.name.as_slice(), b"ff".as_slice());
-    assert_eq!(rt; symbol_numbers(symbol), [2, 0, 11, 16, 4]);
-    assert_eq!(rt; symbol.version, None);
-    Ok(())
-}
-
-#[test]
-fn dynamic_symbols(rt: HostRuntime) -> Result<(), Fail> {
-    let image = read(&rt, VERSIONED)?;
-    assert_eq!(rt; image.dynamic_symbols().len(), 3);
-    let symbol = image.dynamic_symbols().get(2).ok_or("a symbol")?;
-    assert_eq!(rt; symbol.name.as_slice(), b"f".as_slice());
-    assert_eq!(rt; symbol_numbers(symbol), [0x12, 0, 11, 16, 4]);
-    let version = VersionId {
-        index: 2,
-        hidden: true,
-    };
-    assert_eq!(rt; symbol.version, Some(version));
-    Ok(())
-}
-
-// The version of a dynamic symbol.
-fn version_at(symbols: &[Symbol<'_>], i: usize) -> Option<VersionId> {
-    symbols.get(i)?.version
-}
-
-#[test]
-fn versions_of_symbols(rt: HostRuntime) -> Result<(), Fail> {
-    let image = read(&rt, VERSIONED)?;
-    assert_eq!(rt;
-        version_at(image.dynamic_symbols(), 0),
-        Some(VersionId::local())
+fn name_of_a_section(rt: HostRuntime) {
+    let image = versioned(&rt);
+    let section = image.sections().get(10).expect(&rt, "a section");
+    same(
+        &rt,
+        "name",
+        &section.name.as_slice(),
+        &b".rel.dyn".as_slice(),
     );
-    assert!(rt; version_at(image.dynamic_symbols(), 1) != Some(VersionId::global()));
-    Ok(())
 }
 
-#[test]
-fn definitions(rt: HostRuntime) -> Result<(), Fail> {
-    let image = read(&rt, VERSIONED)?;
-    assert_eq!(rt; image.versions().definitions.len(), 2);
-    let definition = image.versions().definitions.get(1).ok_or("a version")?;
-    assert_eq!(rt; (definition.index, definition.flags), (2, 0));
-    assert_eq!(rt; definition.names.len(), 2);
-    let name = definition.names.get(1).ok_or("a name")?;
-    assert_eq!(rt; name.as_slice(), b"V1".as_slice());
-    Ok(())
+// A symbol's name, numbers and version, as text.
+fn symbol_line(alloc: Global, symbol: &Symbol<'_>) -> Result<String, AllocError> {
+    let name = text(alloc, symbol.name.as_slice())?;
+    let (info, other, section) = (symbol.st_info, symbol.st_other, symbol.st_shndx);
+    let (value, size, version) = (symbol.st_value, symbol.st_size, symbol.version);
+    format!(in alloc; "{name} {info} {other} {section} {value} {size} {version:?}\n")
 }
 
-#[test]
-fn needs(rt: HostRuntime) -> Result<(), Fail> {
-    let image = read(&rt, VERSIONED)?;
-    assert_eq!(rt; image.versions().needs.len(), 1);
-    let need = image.versions().needs.get(0).ok_or("a library")?;
-    assert_eq!(rt; need.file.as_slice(), b"libc.so".as_slice());
-    let version = need.versions.get(0).ok_or("a version")?;
-    assert_eq!(rt; (version.index, version.flags), (3, 0));
-    assert_eq!(rt; version.name.as_slice(), b"L1".as_slice());
-    Ok(())
-}
-
-#[test]
-fn dynamic_data(rt: HostRuntime) -> Result<(), Fail> {
-    let tags = [
-        1, 14, 29, 5, 6, 10, 11, 21, 4, 0x6ffffef5, 0x6ffffff0, 0x6ffffffc, 0x6ffffffd, 0x6ffffffe,
-        0x6fffffff,
-    ];
-    let image = read(&rt, VERSIONED)?;
-    let list = image.dynamic_data().ok_or("a list")?;
-    assert_eq!(rt; list.len(), 15);
-    for (entry, tag) in list.iter().zip(tags) {
-        assert_eq!(rt; entry.tag(), tag);
+fn symbol_lines(alloc: Global, symbols: &[Symbol<'_>]) -> Result<String, AllocError> {
+    let mut lines = String::new(alloc);
+    for symbol in symbols {
+        lines.push_str(&symbol_line(alloc, symbol)?)?;
     }
-    Ok(())
+    Ok(lines)
 }
 
-// The text of an entry, and its number.
-fn text_of<'a>(entry: &'a Dynamic<'_>) -> Option<&'a [u8]> {
+// What `readelf -sV` prints of them.
+#[test]
+fn symbols(rt: HostRuntime) {
+    let image = versioned(&rt);
+    let found = again!(&rt; symbol_lines(rt.alloc(), image.symbols())).expect(&rt, "memory");
+    same_text(
+        &rt,
+        "symbols",
+        &found,
+        " 0 0 0 0 0 None\nff 2 0 11 16 4 None\n",
+    );
+}
+
+#[test]
+fn dynamic_symbols(rt: HostRuntime) {
+    let image = versioned(&rt);
+    let found = again!(&rt; symbol_lines(rt.alloc(), image.dynamic_symbols()));
+    let want = " 0 0 0 0 0 Some(VersionId { index: 0, hidden: false })\n\
+        g 18 0 0 0 0 Some(VersionId { index: 3, hidden: false })\n\
+        f 18 0 11 16 4 Some(VersionId { index: 2, hidden: true })\n";
+    same_text(&rt, "symbols", &found.expect(&rt, "memory"), want);
+}
+
+#[test]
+fn versions_of_no_name(rt: HostRuntime) {
+    let (local, global) = (VersionId::local(), VersionId::global());
+    same(&rt, "local", &(local.index, local.hidden), &(0, false));
+    same(&rt, "global", &(global.index, global.hidden), &(1, false));
+}
+
+// The defined versions, a line each: index, flags, names.
+fn definition_lines(alloc: Global, image: &Builder<'_>) -> Result<String, AllocError> {
+    let mut lines = String::new(alloc);
+    for definition in &image.versions().definitions {
+        let (index, flags) = (definition.index, definition.flags);
+        lines.push_str(&format!(in alloc; "{index} {flags}")?)?;
+        for name in &definition.names {
+            lines.push(' ')?;
+            lines.push_str(&text(alloc, name.as_slice())?)?;
+        }
+        lines.push('\n')?;
+    }
+    Ok(lines)
+}
+
+#[test]
+fn definitions(rt: HostRuntime) {
+    let image = versioned(&rt);
+    let found = again!(&rt; definition_lines(rt.alloc(), &image)).expect(&rt, "memory");
+    same_text(&rt, "definitions", &found, "1 1 me.so\n2 0 V2 V1\n");
+}
+
+// The needed versions, a line each: library, index, flags, name.
+fn need_lines(alloc: Global, image: &Builder<'_>) -> Result<String, AllocError> {
+    let mut lines = String::new(alloc);
+    for need in &image.versions().needs {
+        for version in &need.versions {
+            lines.push_str(&text(alloc, need.file.as_slice())?)?;
+            let (index, flags) = (version.index, version.flags);
+            lines.push_str(&format!(in alloc; " {index} {flags} ")?)?;
+            lines.push_str(&text(alloc, version.name.as_slice())?)?;
+            lines.push('\n')?;
+        }
+    }
+    Ok(lines)
+}
+
+#[test]
+fn needs(rt: HostRuntime) {
+    let image = versioned(&rt);
+    let found = again!(&rt; need_lines(rt.alloc(), &image)).expect(&rt, "memory");
+    same_text(&rt, "needs", &found, "libc.so 3 0 L1\n");
+}
+
+// An entry's tag, and its number or text.
+fn entry_line(alloc: Global, entry: &Dynamic<'_>) -> Result<String, AllocError> {
+    let tag = entry.tag();
     match entry {
-        Dynamic::Text { val, .. } => Some(val.as_slice()),
-        _ => None,
+        Dynamic::Auto { .. } => format!(in alloc; "{tag}\n"),
+        Dynamic::Integer { val, .. } => format!(in alloc; "{tag} = {val}\n"),
+        Dynamic::Text { val, .. } => text_line(alloc, tag, val.as_slice()),
     }
 }
 
+fn text_line(alloc: Global, tag: u64, bytes: &[u8]) -> Result<String, AllocError> {
+    let text = text(alloc, bytes)?;
+    format!(in alloc; "{tag} {text}\n")
+}
+
+fn entry_lines(alloc: Global, list: Option<&[Dynamic<'_>]>) -> Result<String, AllocError> {
+    let mut lines = String::new(alloc);
+    for entry in list.unwrap_or_default() {
+        lines.push_str(&entry_line(alloc, entry)?)?;
+    }
+    Ok(lines)
+}
+
+// What `readelf -d` prints of it.
 #[test]
-fn dynamic_text(rt: HostRuntime) -> Result<(), Fail> {
-    let image = read(&rt, VERSIONED)?;
-    let list = image.dynamic_data().ok_or("a list")?;
-    let name = list.get(1).ok_or("an entry")?;
-    assert_eq!(rt; text_of(name).ok_or("a text")?, b"me.so".as_slice());
-    let debug = list.get(7).ok_or("an entry")?;
-    assert!(rt; matches!(debug, Dynamic::Integer { val: 0, .. }));
-    Ok(())
+fn dynamic_data(rt: HostRuntime) {
+    let image = versioned(&rt);
+    let found = again!(&rt; entry_lines(rt.alloc(), image.dynamic_data()));
+    let want =
+        "1 libc.so\n14 me.so\n29 /a\n5\n6\n10\n11\n21 = 0\n4\n1879047925\n1879048176\n1879048188\n\
+        1879048189\n1879048190\n1879048191\n";
+    same_text(&rt, "entries", &found.expect(&rt, "memory"), want);
 }
 
 #[test]
-fn interpreter(rt: HostRuntime) -> Result<(), Fail> {
-    let image = read(&rt, VERSIONED)?;
-    let name = image.interp_data().ok_or("an interpreter")?;
-    assert_eq!(rt; name, b"/ld\0".as_slice());
-    Ok(())
+fn interpreter(rt: HostRuntime) {
+    let image = versioned(&rt);
+    same(
+        &rt,
+        "interpreter",
+        &image.interp_data(),
+        &Some(b"/ld\0".as_slice()),
+    );
 }
 
 #[test]
-fn without_lists(rt: HostRuntime) -> Result<(), Fail> {
-    let image = read(&rt, SMALL)?;
-    assert!(rt; image.interp_data().is_none());
-    assert!(rt; image.symbols().is_empty());
-    assert!(rt; image.dynamic_symbols().is_empty());
-    assert!(rt; image.versions().definitions.is_empty());
-    assert!(rt; image.versions().needs.is_empty());
-    Ok(())
+fn without_lists(rt: HostRuntime) {
+    let image = read(&rt, SMALL).expect(&rt, "an image");
+    let counts = [
+        image.symbols().len(),
+        image.dynamic_symbols().len(),
+        image.versions().definitions.len(),
+        image.versions().needs.len(),
+    ];
+    same(&rt, "counts", &counts, &[0; 4]);
+    same(&rt, "interpreter", &image.interp_data(), &None);
 }
 
 // Whether each section has its position as its number.
@@ -339,9 +395,14 @@ fn numbers_of_dynamic_symbols(rt: HostRuntime) -> Result<(), Fail> {
 
 #[test]
 fn machines(rt: HostRuntime) {
-    assert_eq!(rt; machine_of(SMALL), Some(62));
-    assert_eq!(rt; machine_of(TWIN), Some(62));
-    assert_eq!(rt; machine_of(&TWIN[..20]), Some(62));
-    assert_eq!(rt; machine_of(&TWIN[..19]), None);
-    assert_eq!(rt; machine_of(&TWIN[4..]), None);
+    let rows = [
+        (SMALL, Some(62)),
+        (TWIN, Some(62)),
+        (&TWIN[..20], Some(62)),
+        (&TWIN[..19], None),
+        (&TWIN[4..], None),
+    ];
+    for (file, want) in rows {
+        same(&rt, "machine", &machine_of(file), &want);
+    }
 }

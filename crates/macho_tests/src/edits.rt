@@ -1,12 +1,14 @@
+//! What an edit is made of: built commands, changes of a list of commands in its bytes, and the texts of refusals.
 ghost use Rattle.std.specs.Prelude.{◌≡◌, IfOk};
 ghost use Rattle.macho_image.specs.Form.{header_of};
 
+use crate::support::{Runtime, copied, prints, same};
 use arwen_macho::commands::{
     CommandBuilderError, DlibCommandBuilder, NulInside, RpathCommandBuilder,
 };
-use arwen_macho::macho::MachoError;
+use arwen_macho::macho::{MachoBatchError, MachoError};
 use arwen_macho::patcher::{
-    HeaderContainer, find_dylib_command, find_dylib_id, find_rpath_command, insert_command,
+    HeaderContainer, find_dylib_command, find_dylib_id, find_rpath_command, fits, insert_command,
     remove_load_command,
 };
 use arwen_macho::utils::{align_to_arch, padding_size};
@@ -14,8 +16,7 @@ use macho_image::{
     CommandVariant, Ctx, Dylib, DylibCommand, LoadCommand, MachFault, MachO, RpathCommand,
 };
 use patch_bytes::{ByteOrder2, Wide};
-use std::alloc::{AllocError, AllocFailed};
-use std::fmt;
+use std::alloc::{AllocError, AllocFailed, Global};
 use std::test::Fail;
 
 const NARROW_LITTLE: Ctx = Ctx {
@@ -50,125 +51,91 @@ const OLD: DylibCommand = DylibCommand {
     },
 };
 
-// A call that was refused memory is made once more.
-fn rpath(
-    rt: &HostRuntime,
-    text: &str,
-    ctx: Ctx,
-) -> Result<(RpathCommand, Vec<u8>), CommandBuilderError> {
-    let builder = RpathCommandBuilder::new(text, ctx);
-    match builder.build(rt.alloc()) {
-        Err(CommandBuilderError::Memory) => builder.build(rt.alloc()),
-        answer => answer,
-    }
-}
-
-fn library(
-    rt: &HostRuntime,
-    name: &str,
-    ctx: Ctx,
-) -> Result<(DylibCommand, Vec<u8>), CommandBuilderError> {
-    let builder = DlibCommandBuilder::new(name, OLD, ctx);
-    match builder.build(rt.alloc()) {
-        Err(CommandBuilderError::Memory) => builder.build(rt.alloc()),
-        answer => answer,
-    }
-}
-
-fn copied(rt: &HostRuntime, bytes: &[u8]) -> Result<Vec<u8>, AllocError>
-    ensures { IfOk result (λ copy. copy.items ≡ bytes.now) }
-{
-    match Vec::from_slice(rt.alloc(), bytes) {
-        Err(_) => Vec::from_slice(rt.alloc(), bytes),
-        answer => answer,
-    }
-}
-
-fn parse<'a>(rt: &HostRuntime, bytes: &'a [u8]) -> Result<MachO<'a>, MachFault> {
-    match MachO::parse(rt.alloc(), bytes) {
-        Err(MachFault::Memory) => MachO::parse(rt.alloc(), bytes),
-        answer => answer,
-    }
-}
-
-fn shown<E: fmt::Display>(rt: &HostRuntime, error: &E) -> Result<String, AllocError> {
-    match format!(in rt.alloc(); "{error}") {
-        Err(_) => format!(in rt.alloc(); "{error}"),
-        answer => answer,
-    }
-}
-
-fn string(rt: &HostRuntime, text: &str) -> Result<String, AllocError> {
-    match String::from_str(rt.alloc(), text) {
-        Err(_) => String::from_str(rt.alloc(), text),
-        answer => answer,
-    }
-}
-
 #[test]
 fn rounds_sizes(rt: HostRuntime) {
     for (size, padded, aligned) in [(0, 0, 0), (5, 8, 8), (8, 8, 8), (12, 12, 16)] {
-        assert_eq!(rt; padding_size(size), padded);
-        assert_eq!(rt; align_to_arch(size, WIDE_BIG), aligned);
-        assert_eq!(rt; align_to_arch(size, NARROW_BIG), padded);
+        let found = [
+            padding_size(size),
+            align_to_arch(size, WIDE_BIG),
+            align_to_arch(size, NARROW_BIG),
+        ];
+        same(&rt, "sizes", &found, &[padded, aligned, padded]);
     }
 }
 
+// Compares a built run path's command, whose size and bytes are these.
+fn expect_rpath(rt: &impl Runtime, ctx: Ctx, text: &str, cmdsize: u32, bytes: &[u8]) {
+    let builder = RpathCommandBuilder::new(text, ctx);
+    let built = again!(rt; builder.build(rt.alloc())).expect(rt, "a command");
+    let command = RpathCommand {
+        cmd: 0x8000_001c,
+        cmdsize,
+        path: 12,
+    };
+    same(rt, "command", &built.0, &command);
+    same(rt, "bytes", &built.1.as_slice(), &bytes);
+}
+
 #[test]
-fn builds_rpath_commands(rt: HostRuntime) -> Result<(), Fail> {
-    let texts: [(Ctx, &str, u32, &[u8]); 4] = [
+fn builds_rpath_commands(rt: HostRuntime) {
+    let path = "/usr/local/lib";
+    let rows: [(Ctx, &str, u32, &[u8]); 5] = [
         (
             WIDE_LITTLE,
-            "/usr/local/lib",
+            path,
             32,
             b"\x1c\0\0\x80\x20\0\0\0\x0c\0\0\0/usr/local/lib\0\0\0\0\0\0",
         ),
         (
             WIDE_BIG,
-            "/usr/local/lib",
+            path,
             32,
             b"\x80\0\0\x1c\0\0\0\x20\0\0\0\x0c/usr/local/lib\0\0\0\0\0\0",
         ),
         (
             NARROW_LITTLE,
-            "/usr/local/lib",
+            path,
             28,
             b"\x1c\0\0\x80\x1c\0\0\0\x0c\0\0\0/usr/local/lib\0\0",
         ),
         (
             NARROW_BIG,
-            "/usr/local/lib",
+            path,
             28,
             b"\x80\0\0\x1c\0\0\0\x1c\0\0\0\x0c/usr/local/lib\0\0",
         ),
+        (
+            WIDE_LITTLE,
+            "",
+            16,
+            b"\x1c\0\0\x80\x10\0\0\0\x0c\0\0\0\0\0\0\0",
+        ),
     ];
-    for (ctx, text, cmdsize, bytes) in texts {
-        let command = RpathCommand {
-            cmd: 0x8000_001c,
-            cmdsize,
-            path: 12,
-        };
-        let built = rpath(&rt, text, ctx)?;
-        assert_eq!(rt; built.0, command);
-        assert_eq!(rt; built.1.as_slice(), bytes);
+    for (ctx, text, cmdsize, bytes) in rows {
+        expect_rpath(&rt, ctx, text, cmdsize, bytes);
     }
-    Ok(())
+}
+
+// Compares a built command of a library, whose size and bytes are these.
+fn expect_library(rt: &impl Runtime, ctx: Ctx, cmdsize: u32, bytes: &[u8]) {
+    let builder = DlibCommandBuilder::new("libx.dylib", OLD, ctx);
+    let built = again!(rt; builder.build(rt.alloc())).expect(rt, "a command");
+    let dylib = Dylib {
+        name: 24,
+        ..OLD.dylib
+    };
+    let command = DylibCommand {
+        cmd: 0x8000_001f,
+        cmdsize,
+        dylib,
+    };
+    same(rt, "command", &built.0, &command);
+    same(rt, "bytes", &built.1.as_slice(), &bytes);
 }
 
 #[test]
-fn builds_empty_rpath_command(rt: HostRuntime) -> Result<(), Fail> {
-    let built = rpath(&rt, "", WIDE_LITTLE)?;
-    assert_eq!(rt; built.0.cmdsize, 16);
-    assert_eq!(rt;
-        built.1.as_slice(),
-        b"\x1c\0\0\x80\x10\0\0\0\x0c\0\0\0\0\0\0\0".as_slice()
-    );
-    Ok(())
-}
-
-#[test]
-fn builds_library_commands(rt: HostRuntime) -> Result<(), Fail> {
-    let texts: [(Ctx, u32, &[u8]); 2] = [
+fn builds_library_commands(rt: HostRuntime) {
+    let rows: [(Ctx, u32, &[u8]); 2] = [
         (
             WIDE_LITTLE,
             40,
@@ -180,51 +147,50 @@ fn builds_library_commands(rt: HostRuntime) -> Result<(), Fail> {
             b"\x80\0\0\x1f\0\0\0\x24\0\0\0\x18\x01\x02\x03\x04\0\x01\x02\x03\0\x01\0\0libx.dylib\0\0",
         ),
     ];
-    for (ctx, cmdsize, bytes) in texts {
-        let command = DylibCommand {
-            cmd: 0x8000_001f,
-            cmdsize,
-            dylib: Dylib {
-                name: 24,
-                timestamp: 0x0102_0304,
-                current_version: 0x0001_0203,
-                compatibility_version: 0x0001_0000,
-            },
-        };
-        let built = library(&rt, "libx.dylib", ctx)?;
-        assert_eq!(rt; built.0, command);
-        assert_eq!(rt; built.1.as_slice(), bytes);
+    for (ctx, cmdsize, bytes) in rows {
+        expect_library(&rt, ctx, cmdsize, bytes);
     }
-    Ok(())
 }
 
 #[test]
-fn refuses_nul(rt: HostRuntime) {
+fn refuses_nul_in_path(rt: HostRuntime) {
+    let builder = RpathCommandBuilder::new("a\0b", WIDE_LITTLE);
+    let refused = again!(&rt; builder.build(rt.alloc())).err();
     let nul = CommandBuilderError::CStrError(NulInside { position: 1 });
-    assert_eq!(rt; rpath(&rt, "a\0b", WIDE_LITTLE).err(), Some(nul));
-    assert_eq!(rt; library(&rt, "a\0b\0", NARROW_BIG).err(), Some(nul));
+    same(&rt, "a path with a NUL", &refused, &Some(nul));
 }
 
 #[test]
-fn prints_builder_errors(rt: HostRuntime) -> Result<(), Fail> {
-    let nul = NulInside { position: 1 };
-    let errors: [(CommandBuilderError, &str); 2] = [
-        (nul.into(), "error when creating a CStr: NUL at 1"),
+fn refuses_nul_in_name(rt: HostRuntime) {
+    let builder = DlibCommandBuilder::new("a\0b\0", OLD, NARROW_BIG);
+    let refused = again!(&rt; builder.build(rt.alloc())).err();
+    let nul = CommandBuilderError::CStrError(NulInside { position: 1 });
+    same(&rt, "a name with NULs", &refused, &Some(nul));
+}
+
+#[test]
+fn prints_builder_errors(rt: HostRuntime) {
+    let rows: [(CommandBuilderError, &str); 4] = [
+        (
+            NulInside { position: 1 }.into(),
+            "error when creating a CStr: NUL at 1",
+        ),
         (
             CommandBuilderError::ScrollError,
             "error when writing rpath command as bytes: command too long",
         ),
+        (AllocError.into(), "out of memory"),
+        (AllocFailed { value: 1u8 }.into(), "out of memory"),
     ];
-    for (error, text) in errors {
-        assert_eq!(rt; shown(&rt, &error)?.as_str(), text);
+    for (error, text) in rows {
+        prints(&rt, &error, text);
     }
-    Ok(())
 }
 
 #[test]
-fn prints_file_errors(rt: HostRuntime) -> Result<(), Fail> {
+fn prints_file_errors(rt: HostRuntime) {
     let nul = NulInside { position: 1 };
-    let errors: [(MachoError, &str); 3] = [
+    let rows: [(MachoError, &str); 3] = [
         (
             MachFault::Truncated.into(),
             "error while parsing Mach-O file",
@@ -238,21 +204,24 @@ fn prints_file_errors(rt: HostRuntime) -> Result<(), Fail> {
             "error when creating a new command: error when creating a CStr: NUL at 1",
         ),
     ];
-    for (error, text) in errors {
-        assert_eq!(rt; shown(&rt, &error)?.as_str(), text);
+    for (error, text) in rows {
+        prints(&rt, &error, text);
     }
-    Ok(())
+}
+
+fn string(rt: &impl Runtime, text: &str) -> String {
+    again!(rt; String::from_str(rt.alloc(), text)).expect(rt, "memory")
 }
 
 #[test]
-fn prints_edit_errors(rt: HostRuntime) -> Result<(), Fail> {
-    let errors: [(MachoError, &str); 4] = [
+fn prints_edit_errors(rt: HostRuntime) {
+    let rows: [(MachoError, &str); 4] = [
         (
-            MachoError::RpathMissing(string(&rt, "/a")?),
+            MachoError::RpathMissing(string(&rt, "/a")),
             "requested rpath is missing: /a",
         ),
         (
-            MachoError::DylibNameMissing(string(&rt, "b.dylib")?),
+            MachoError::DylibNameMissing(string(&rt, "b.dylib")),
             "requested dylib name is missing: b.dylib",
         ),
         (
@@ -267,28 +236,31 @@ fn prints_edit_errors(rt: HostRuntime) -> Result<(), Fail> {
             "no room: 96 > 64",
         ),
     ];
-    for (error, text) in errors {
-        assert_eq!(rt; shown(&rt, &error)?.as_str(), text);
+    for (error, text) in rows {
+        prints(&rt, &error, text);
     }
-    Ok(())
 }
 
 #[test]
-fn prints_want_of_memory(rt: HostRuntime) -> Result<(), Fail> {
-    let builder: [CommandBuilderError; 2] = [AllocError.into(), AllocFailed { value: 1u8 }.into()];
-    for error in builder {
-        assert_eq!(rt; shown(&rt, &error)?.as_str(), "out of memory");
-    }
-    let edit: [MachoError; 4] = [
+fn turns_want_of_memory_into_its_own(rt: HostRuntime) {
+    let rows: [MachoError; 4] = [
         CommandBuilderError::Memory.into(),
         MachFault::Memory.into(),
         AllocError.into(),
         AllocFailed { value: 1u8 }.into(),
     ];
-    for error in edit {
-        assert_eq!(rt; shown(&rt, &error)?.as_str(), "out of memory");
+    for error in rows {
+        prints(&rt, &error, "out of memory");
     }
-    Ok(())
+}
+
+#[test]
+fn turns_want_of_memory_into_that_of_a_batch(rt: HostRuntime) {
+    let rows: [MachoBatchError; 2] = [AllocError.into(), AllocFailed { value: 1u8 }.into()];
+    for error in rows {
+        prints(&rt, &error.fault, "out of memory");
+        prints(&rt, &error, "MachoBatchError");
+    }
 }
 
 // A library with its own name and a library that it loads, zeros behind its commands, and content at
@@ -308,34 +280,78 @@ const WITH_RPATH: &[u8; 128] =
 \0\0\0\0\0\0\0\0content!";
 
 // A file's header, and its bytes to be changed.
-fn opened(rt: &HostRuntime, bytes: &[u8]) -> Result<(HeaderContainer, Vec<u8>), Fail>
+fn opened_once(alloc: Global, bytes: &[u8]) -> Result<(HeaderContainer, Vec<u8>), MachFault>
     ensures { IfOk result (λ opened. opened.0.inner ≡ header_of opened.0.ctx opened.1.items) }
 {
-    let file = parse(rt, bytes)?;
-    let buffer = copied(rt, file.bytes())?;
+    let file = MachO::parse(alloc, bytes)?;
+    let buffer = Vec::from_slice(alloc, file.bytes())?;
     Ok((HeaderContainer::new(*file.header(), file.ctx()), buffer))
 }
 
-#[test]
+// The same, asked for again where there was no memory.
+fn opened(rt: &impl Runtime, bytes: &[u8]) -> Result<(HeaderContainer, Vec<u8>), MachFault>
+    ensures { IfOk result (λ opened. opened.0.inner ≡ header_of opened.0.ctx opened.1.items) }
+{
+    match opened_once(rt.alloc(), bytes) {
+        Err(MachFault::Memory) => opened_once(rt.alloc(), bytes),
+        answer => answer,
+    }
+}
+
+// The header that a file shows.
+fn header_in(alloc: Global, bytes: &[u8]) -> Result<HeaderContainer, MachFault> {
+    Ok(opened_once(alloc, bytes)?.0)
+}
+
+// Compares bytes and a header with those of a file.
+fn expect_opened(rt: &impl Runtime, header: HeaderContainer, buffer: &[u8], file: &[u8]) {
+    same(rt, "bytes", &buffer, &file);
+    same(
+        rt,
+        "header",
+        &Ok(header),
+        &again!(rt; header_in(rt.alloc(), file)),
+    );
+}
+
+// Puts a command of 16 bytes in at 64.
 #[tactic(auto, using(arwen_macho::proofs::PatchLemmas::held_ncmds, arwen_macho::proofs::PatchLemmas::held_sizeofcmds))]
-fn inserts_command(rt: HostRuntime) -> Result<(), Fail> {
-    let (mut header, mut buffer) = opened(&rt, FILE)?;
-    let command = rpath(&rt, "/a", header.ctx)?.1;
-    assert_eq!(rt; command.len(), 16);
-    assert_eq!(rt; header.size(), 32);
-    assert_eq!(rt; header.inner.ncmds, 2);
-    assert_eq!(rt; header.inner.sizeofcmds, 64);
-    assert_eq!(rt; buffer.len(), 128);
-    insert_command(rt.alloc(), &mut buffer, &mut header, 64, 16, command)?;
-    assert_eq!(rt; buffer.as_slice(), WITH_RPATH.as_slice());
-    assert_eq!(rt; header, opened(&rt, WITH_RPATH)?.0);
-    Ok(())
+fn insert_at_64(
+    rt: &HostRuntime,
+    header: &mut HeaderContainer,
+    buffer: &mut Vec<u8>,
+    command: Vec<u8>,
+) -> Result<(), MachoError>
+    requires { header.old.inner ≡ header_of header.old.ctx buffer.old.items }
+{
+    let held = header.inner;
+    if command.len() != 16 || buffer.len() != 128 || held.sizeofcmds != 64 {
+        return Err(MachoError::DylibIdMissing);
+    }
+    if header.size() != 32 || held.ncmds != 2 {
+        return Err(MachoError::DylibIdMissing);
+    }
+    insert_command(rt.alloc(), buffer, header, 64, 16, command)
 }
 
 #[test]
+fn inserts_command(rt: HostRuntime) -> Result<(), Fail> {
+    let command = copied(&rt, b"\x1c\0\0\x80\x10\0\0\0\x0c\0\0\0/a\0\0");
+    let (mut header, mut buffer) = opened(&rt, FILE)?;
+    insert_at_64(&rt, &mut header, &mut buffer, command)?;
+    expect_opened(&rt, header, &buffer, WITH_RPATH);
+    Ok(())
+}
+
+// Takes the command of 16 bytes out that is at 64.
 #[tactic(auto, using(arwen_macho::proofs::PatchLemmas::held_ncmds, arwen_macho::proofs::PatchLemmas::held_sizeofcmds))]
-fn removes_command(rt: HostRuntime) -> Result<(), Fail> {
-    let (mut header, mut buffer) = opened(&rt, WITH_RPATH)?;
+fn remove_at_64(
+    rt: &HostRuntime,
+    header: &mut HeaderContainer,
+    buffer: &mut Vec<u8>,
+) -> Result<(), MachoError>
+    requires { header.old.inner ≡ header_of header.old.ctx buffer.old.items }
+{
     let command = LoadCommand {
         offset: 64,
         command: CommandVariant::Rpath(RpathCommand {
@@ -344,31 +360,70 @@ fn removes_command(rt: HostRuntime) -> Result<(), Fail> {
             path: 12,
         }),
     };
-    assert_eq!(rt; header.size(), 32);
-    assert_eq!(rt; header.inner.ncmds, 3);
-    assert_eq!(rt; header.inner.sizeofcmds, 80);
-    assert_eq!(rt; buffer.len(), 128);
-    remove_load_command(rt.alloc(), &mut buffer, &mut header, &command)?;
-    assert_eq!(rt; buffer.as_slice(), FILE.as_slice());
-    assert_eq!(rt; header, opened(&rt, FILE)?.0);
-    Ok(())
+    let held = header.inner;
+    if buffer.len() != 128 || held.sizeofcmds != 80 {
+        return Err(MachoError::DylibIdMissing);
+    }
+    if header.size() != 32 || held.ncmds != 3 {
+        return Err(MachoError::DylibIdMissing);
+    }
+    remove_load_command(rt.alloc(), buffer, header, &command)
 }
 
 #[test]
-fn finds_commands(rt: HostRuntime) -> Result<(), Fail> {
-    let file = parse(&rt, WITH_RPATH)?;
-    let commands = file.load_commands();
-    let path = find_rpath_command(commands, 0).ok_or("no rpath")?;
-    let loaded = find_dylib_command(commands, 0).ok_or("no library")?;
-    let name = find_dylib_id(commands).ok_or("no name")?;
-    assert_eq!(rt; path.0.offset, 64);
-    assert_eq!(rt; path.1.path, 12);
-    assert_eq!(rt; loaded.0.offset, 80);
-    assert_eq!(rt; loaded.1.dylib.timestamp, 2);
-    assert_eq!(rt; name.0.offset, 32);
-    assert_eq!(rt; name.1.dylib.current_version, 0x0001_0203);
-    assert_eq!(rt; find_rpath_command(commands, 1).is_none(), true);
-    assert_eq!(rt; find_dylib_command(commands, 1).is_none(), true);
-    assert_eq!(rt; find_dylib_id(&commands[1..]).is_none(), true);
+fn removes_command(rt: HostRuntime) -> Result<(), Fail> {
+    let (mut header, mut buffer) = opened(&rt, WITH_RPATH)?;
+    remove_at_64(&rt, &mut header, &mut buffer)?;
+    expect_opened(&rt, header, &buffer, FILE);
     Ok(())
+}
+
+// Where the commands are that are found with this number in a list, and what of their fields.
+fn found_in(commands: &[LoadCommand], index: usize) -> [Option<(usize, u32)>; 3] {
+    let path = find_rpath_command(commands, index);
+    let loaded = find_dylib_command(commands, index);
+    let name = find_dylib_id(&commands[index.min(commands.len())..]);
+    [
+        path.map(|(command, fields)| (command.offset, fields.path)),
+        loaded.map(|(command, fields)| (command.offset, fields.dylib.timestamp)),
+        name.map(|(command, fields)| (command.offset, fields.dylib.current_version)),
+    ]
+}
+
+// The same for a file.
+fn found(alloc: Global, index: usize) -> Result<[Option<(usize, u32)>; 3], MachFault> {
+    Ok(found_in(MachO::parse(alloc, WITH_RPATH)?.load_commands(), index))
+}
+
+#[test]
+fn finds_commands(rt: HostRuntime) {
+    let rows = [
+        (0, [Some((64, 12)), Some((80, 2)), Some((32, 0x0001_0203))]),
+        (1, [None, None, None]),
+    ];
+    for (index, want) in rows {
+        same(
+            &rt,
+            "commands",
+            &again!(&rt; found(rt.alloc(), index)),
+            &Ok(want),
+        );
+    }
+}
+
+// Whether commands of a file may end there.
+fn fits_at(alloc: Global, end: usize) -> Result<bool, MachFault> {
+    Ok(fits(&MachO::parse(alloc, FILE)?, end))
+}
+
+#[test]
+fn fits_up_to_the_end(rt: HostRuntime) {
+    for (end, want) in [(0, true), (96, true), (128, true), (129, false)] {
+        same(
+            &rt,
+            "fits",
+            &again!(&rt; fits_at(rt.alloc(), end)),
+            &Ok(want),
+        );
+    }
 }

@@ -1,9 +1,11 @@
+//! Fat files: their slices are edited as one.
+
+use crate::containers::{Edit, Step, walk};
+use crate::support::{Runtime, put, same, shows};
 use arwen_macho::macho::{
-    FatMachoContainer, Front, MachoBatchError, MachoEdit, MachoError, SingleMachO,
+    FatMachoContainer, MachoBatchError, MachoContainer, MachoEdit, MachoError, lay_fronts,
 };
-use macho_image::MachFault;
-use std::alloc::AllocError;
-use std::test::Fail;
+use std::alloc::{AllocError, Global};
 
 // A library with its own name and a library that it loads, and zeros behind its commands.
 const PLAIN: &[u8; 128] =
@@ -32,318 +34,233 @@ fn size32(size: usize) -> u32 {
     u32::try_from(size).unwrap_or(0)
 }
 
-fn push_number(file: &mut Vec<u8>, number: u32) -> Result<(), AllocError> {
+pub(crate) fn push_number(file: &mut Vec<u8>, number: u32) -> Result<(), AllocError> {
     file.extend_from_slice(&number.to_be_bytes())
 }
 
-// A fat file of slices at these offsets, each behind the one before it.
-fn joined(rt: &HostRuntime, slices: &[(u32, &[u8])]) -> Result<Vec<u8>, AllocError> {
-    let mut file = Vec::new(rt.alloc());
+// A fat file of slices at these offsets, each behind the one before it, and a byte behind the last.
+pub(crate) fn joined(alloc: Global, slices: &[(u32, &[u8])]) -> Result<Vec<u8>, AllocError> {
+    let mut file = Vec::new(alloc);
     push_number(&mut file, 0xcafe_babe)?;
     push_number(&mut file, size32(slices.len()))?;
     for (offset, bytes) in slices {
-        push_number(&mut file, 0x0100_0007)?;
-        push_number(&mut file, 3)?;
-        push_number(&mut file, *offset)?;
-        push_number(&mut file, size32(bytes.len()))?;
-        push_number(&mut file, 12)?;
+        for number in [0x0100_0007, 3, *offset, size32(bytes.len()), 12] {
+            push_number(&mut file, number)?;
+        }
     }
     for (offset, bytes) in slices {
         for _i in file.len()..*offset as usize {
-            file.extend_from_slice(&[PAD])?;
+            file.push(PAD)?;
         }
         file.extend_from_slice(bytes)?;
     }
-    file.extend_from_slice(&[PAD])?;
+    file.push(PAD)?;
     Ok(file)
 }
 
-// The same, asked for again where there was no memory.
-fn fat_file(rt: &HostRuntime, slices: &[(u32, &[u8])]) -> Result<Vec<u8>, AllocError> {
-    match joined(rt, slices) {
-        Err(_) => joined(rt, slices),
-        answer => answer,
+// Takes steps in a fat file of slices, by the calls of both containers. Places are those in the whole file.
+fn walks(rt: &impl Runtime, slices: &[(u32, &[u8])], steps: &[Step<'_>]) {
+    let file = again!(rt; joined(rt.alloc(), slices)).expect(rt, "memory");
+    walk::<FatMachoContainer<'_>, _>(rt, &file, &[0], steps);
+    walk::<MachoContainer<'_>, _>(rt, &file, &[0], steps);
+}
+
+// Slices of three forms.
+const THREE: [(u32, &[u8]); 3] = [(80, PLAIN), (216, WITH_RPATH), (400, NARROW)];
+
+// What a run path of no text adds to each of them.
+const EMPTY_PATHS: &[(usize, &[u8])] = &[
+    (96, b"\x03\0\0\0\x50"),
+    (176, b"\x1c\0\0\x80\x10\0\0\0\x0c\0\0\0\0\0\0\0"),
+    (232, b"\x04\0\0\0\x60"),
+    (328, b"\x1c\0\0\x80\x10\0\0\0\x0c\0\0\0\0\0\0\0"),
+    (416, b"\0\0\0\x01\0\0\0\x10"),
+    (428, b"\x80\0\0\x1c\0\0\0\x10\0\0\0\x0c\0\0\0\0"),
+];
+
+const EDIT_THREE: [Step<'static>; 2] = [
+    Step {
+        edits: &[Edit::Add("")],
+        answer: "Ok(())",
+        changes: EMPTY_PATHS,
+    },
+    Step {
+        edits: &[Edit::Remove("")],
+        answer: "Ok(())",
+        changes: &[
+            (96, b"\x02\0\0\0\x40"),
+            (176, &[0; 16]),
+            (232, b"\x03\0\0\0\x50"),
+            (328, &[0; 16]),
+            (416, &[0; 8]),
+            (428, &[0; 16]),
+        ],
+    },
+];
+
+#[test]
+fn edits_all_slices(rt: HostRuntime) {
+    walks(&rt, &THREE, &EDIT_THREE);
+}
+
+const EDIT_NONE: [Step<'static>; 2] = [
+    Step {
+        edits: &[Edit::Add("/a")],
+        answer: "Ok(())",
+        changes: &[],
+    },
+    Step {
+        edits: &[Edit::Remove("/b")],
+        answer: "Ok(())",
+        changes: &[],
+    },
+];
+
+#[test]
+fn edits_no_slices(rt: HostRuntime) {
+    walks(&rt, &[], &EDIT_NONE);
+}
+
+const NO_ROOM_IN_ONE: [Step<'static>; 1] = [Step {
+    edits: &[Edit::Add("/a/b/c")],
+    answer: "NoRoom { needed: 48, available: 44 }",
+    changes: &[],
+}];
+
+// A slice with room on either side of one without it.
+const ROOM_BEHIND: [(u32, &[u8]); 2] = [(64, NARROW), (128, PLAIN)];
+
+const ROOM_BEFORE: [(u32, &[u8]); 2] = [(64, PLAIN), (200, NARROW)];
+
+#[test]
+fn refuses_for_one_slice(rt: HostRuntime) {
+    walks(&rt, &ROOM_BEHIND, &NO_ROOM_IN_ONE);
+    walks(&rt, &ROOM_BEFORE, &NO_ROOM_IN_ONE);
+}
+
+const MISSING_IN_ONE: [Step<'static>; 3] = [
+    Step {
+        edits: &[Edit::Remove("/a")],
+        answer: "RpathMissing(\"/a\")",
+        changes: &[],
+    },
+    Step {
+        edits: &[Edit::Add("/b"), Edit::Remove("/a")],
+        answer: "Err(MachoBatchError { index: 1, fault: RpathMissing(\"/a\") })",
+        changes: &[],
+    },
+    Step {
+        edits: &[Edit::Add("/b"), Edit::Remove("/b")],
+        answer: "Ok(())",
+        changes: &[],
+    },
+];
+
+// A slice with a run path on either side of one without it.
+const PATH_BEFORE: [(u32, &[u8]); 2] = [(64, WITH_RPATH), (192, PLAIN)];
+
+const PATH_BEHIND: [(u32, &[u8]); 2] = [(64, PLAIN), (200, WITH_RPATH)];
+
+#[test]
+fn refuses_what_one_slice_lacks(rt: HostRuntime) {
+    walks(&rt, &PATH_BEFORE, &MISSING_IN_ONE);
+    walks(&rt, &PATH_BEHIND, &MISSING_IN_ONE);
+}
+
+// Where the slices of a fat file are, as its records tell.
+fn places(alloc: Global, bytes: &[u8]) -> Result<Vec<(u32, u32)>, MachoError> {
+    let mut places = Vec::new(alloc);
+    for slice in FatMachoContainer::parse(alloc, bytes)?.archs() {
+        places.push((slice.arch().offset, slice.arch().size))?;
     }
-}
-
-fn parse<'a>(rt: &HostRuntime, bytes: &'a [u8]) -> Result<FatMachoContainer<'a>, MachoError> {
-    match FatMachoContainer::parse(rt.alloc(), bytes) {
-        Err(MachoError::Memory) => FatMachoContainer::parse(rt.alloc(), bytes),
-        answer => answer,
-    }
-}
-
-fn thin<'a>(rt: &HostRuntime, bytes: &'a [u8]) -> Result<SingleMachO<'a>, MachoError> {
-    match SingleMachO::parse(rt.alloc(), bytes) {
-        Err(MachoError::Memory) => SingleMachO::parse(rt.alloc(), bytes),
-        answer => answer,
-    }
-}
-
-fn thin_rpath(rt: &HostRuntime, file: &mut SingleMachO<'_>, text: &str) -> Result<(), MachoError> {
-    match file.add_rpath(rt.alloc(), text) {
-        Err(MachoError::Memory) => file.add_rpath(rt.alloc(), text),
-        answer => answer,
-    }
-}
-
-fn copied(rt: &HostRuntime, bytes: &[u8]) -> Result<Vec<u8>, AllocError> {
-    match Vec::from_slice(rt.alloc(), bytes) {
-        Err(_) => Vec::from_slice(rt.alloc(), bytes),
-        answer => answer,
-    }
-}
-
-fn string(rt: &HostRuntime, text: &str) -> Result<String, AllocError> {
-    match String::from_str(rt.alloc(), text) {
-        Err(_) => String::from_str(rt.alloc(), text),
-        answer => answer,
-    }
-}
-
-// Adds a run path. Want of memory changes nothing, and the call is made once more.
-fn add_rpath(
-    rt: &HostRuntime,
-    fat: &mut FatMachoContainer<'_>,
-    text: &str,
-) -> Result<(), MachoError> {
-    let before = copied(rt, fat.bytes())?;
-    match fat.add_rpath(rt.alloc(), text) {
-        Err(MachoError::Memory) if fat.bytes() == before.as_slice() => {
-            fat.add_rpath(rt.alloc(), text)
-        }
-        answer => answer,
-    }
-}
-
-fn remove_rpath(
-    rt: &HostRuntime,
-    fat: &mut FatMachoContainer<'_>,
-    text: &str,
-) -> Result<(), MachoError> {
-    let before = copied(rt, fat.bytes())?;
-    match fat.remove_rpath(rt.alloc(), text) {
-        Err(MachoError::Memory) if fat.bytes() == before.as_slice() => {
-            fat.remove_rpath(rt.alloc(), text)
-        }
-        answer => answer,
-    }
-}
-
-fn apply(
-    rt: &HostRuntime,
-    fat: &mut FatMachoContainer<'_>,
-    edits: &[MachoEdit],
-) -> Result<(), MachoBatchError> {
-    match fat.apply(rt.alloc(), edits) {
-        Err(
-            MachoBatchError {
-                index: _,
-                fault: MachoError::Memory,
-            },
-        ) => fat.apply(rt.alloc(), edits),
-        answer => answer,
-    }
-}
-
-fn fronts(
-    rt: &HostRuntime,
-    fat: &FatMachoContainer<'_>,
-    edits: &[MachoEdit],
-) -> Result<Vec<Front>, MachoBatchError> {
-    match fat.fronts(rt.alloc(), edits) {
-        Err(
-            MachoBatchError {
-                index: _,
-                fault: MachoError::Memory,
-            },
-        ) => fat.fronts(rt.alloc(), edits),
-        answer => answer,
-    }
-}
-
-// How many run paths the slices have together.
-fn rpath_count(rt: &HostRuntime, fat: &FatMachoContainer<'_>) -> Result<usize, Fail> {
-    let mut count = 0usize;
-    for slice in fat.archs() {
-        let paths = match slice.inner().inner().rpaths(rt.alloc()) {
-            Err(_) => slice.inner().inner().rpaths(rt.alloc())?,
-            Ok(paths) => paths,
-        };
-        count = count.saturating_add(paths.len());
-    }
-    Ok(count)
-}
-
-// A thin file with a run path of no text more.
-fn with_empty_rpath(rt: &HostRuntime, bytes: &[u8]) -> Result<Vec<u8>, MachoError> {
-    let mut file = thin(rt, bytes)?;
-    thin_rpath(rt, &mut file, "")?;
-    Ok(copied(rt, file.bytes())?)
-}
-
-// Three slices with bytes between them.
-fn three(
-    rt: &HostRuntime,
-    first: &[u8],
-    second: &[u8],
-    third: &[u8],
-) -> Result<Vec<u8>, AllocError> {
-    fat_file(rt, &[(80, first), (216, second), (400, third)])
-}
-
-fn edited_three(rt: &HostRuntime) -> Result<Vec<u8>, MachoError> {
-    let first = with_empty_rpath(rt, PLAIN)?;
-    let second = with_empty_rpath(rt, WITH_RPATH)?;
-    let third = with_empty_rpath(rt, NARROW)?;
-    Ok(three(rt, &first, &second, &third)?)
+    Ok(places)
 }
 
 #[test]
-fn edits_all_slices(rt: HostRuntime) -> Result<(), Fail> {
-    let file = three(&rt, PLAIN, WITH_RPATH, NARROW)?;
-    let edited = edited_three(&rt)?;
-    let mut fat = parse(&rt, &file)?;
-    assert_eq!(rt; fat.bytes(), file.as_slice());
-    add_rpath(&rt, &mut fat, "")?;
-    assert_eq!(rt; fat.bytes(), edited.as_slice());
-    Ok(())
+fn shows_records(rt: HostRuntime) {
+    let file = again!(&rt; joined(rt.alloc(), &THREE)).expect(&rt, "memory");
+    let found = again!(&rt; places(rt.alloc(), &file)).expect(&rt, "a file");
+    let want = [(80, 128), (216, 128), (400, 44)];
+    same(&rt, "places", &found.as_slice(), &want.as_slice());
 }
 
-#[test]
-fn writes_fronts_alone(rt: HostRuntime) -> Result<(), Fail> {
-    let file = three(&rt, PLAIN, WITH_RPATH, NARROW)?;
-    let edited = edited_three(&rt)?;
-    let fat = parse(&rt, &file)?;
-    let edits = [MachoEdit::AddRpath(string(&rt, "")?)];
-    let fronts = fronts(&rt, &fat, &edits)?;
-    let mut places = [(80, 112), (216, 128), (400, 44)].iter();
-    for front in fronts.as_slice() {
-        assert_eq!(rt; Some(&(front.offset, front.bytes.len())), places.next());
-        let there = edited.get(front.offset..).unwrap_or_default();
-        assert!(rt; there.starts_with(&front.bytes));
+// One edit that adds a run path of no text.
+fn empty_path(alloc: Global) -> Result<[MachoEdit; 1], AllocError> {
+    Ok([MachoEdit::AddRpath(String::new(alloc))])
+}
+
+// Where the fronts stand that this edit writes, and how long they are.
+fn front_places(alloc: Global, bytes: &[u8]) -> Result<Vec<(usize, usize)>, MachoBatchError> {
+    let file = FatMachoContainer::parse(alloc, bytes).map_err(|fault| MachoBatchError {
+        index: 0,
+        fault,
+    })?;
+    let mut places = Vec::new(alloc);
+    for front in &file.fronts(alloc, &empty_path(alloc)?)? {
+        places.push((front.offset, front.bytes.len()))?;
     }
-    assert_eq!(rt; places.next(), None);
-    assert_eq!(rt; fat.bytes(), file.as_slice());
-    Ok(())
+    Ok(places)
 }
 
 #[test]
-fn shows_edited_lists(rt: HostRuntime) -> Result<(), Fail> {
-    let edited = edited_three(&rt)?;
-    let mut fat = parse(&rt, &edited)?;
-    assert_eq!(rt; rpath_count(&rt, &fat)?, 4);
-    remove_rpath(&rt, &mut fat, "")?;
-    assert_eq!(rt; rpath_count(&rt, &fat)?, 1);
-    Ok(())
+fn writes_fronts_alone(rt: HostRuntime) {
+    let file = again!(&rt; joined(rt.alloc(), &THREE)).expect(&rt, "memory");
+    let found = again!(&rt; front_places(rt.alloc(), &file)).expect(&rt, "fronts");
+    let want = [(80, 112), (216, 128), (400, 44)];
+    same(&rt, "fronts", &found.as_slice(), &want.as_slice());
+}
+
+// The bytes with these fronts over them.
+fn with_fronts(alloc: Global, bytes: &[u8]) -> Result<Vec<u8>, MachoBatchError> {
+    let file = MachoContainer::parse(alloc, bytes).map_err(|fault| MachoBatchError {
+        index: 0,
+        fault,
+    })?;
+    let mut copy = Vec::from_slice(alloc, file.bytes())?;
+    let fronts = file.fronts(alloc, &empty_path(alloc)?)?;
+    lay_fronts(&mut copy, fronts);
+    Ok(copy)
 }
 
 #[test]
-fn edits_no_slices(rt: HostRuntime) -> Result<(), Fail> {
-    let file = fat_file(&rt, &[])?;
-    let mut fat = parse(&rt, &file)?;
-    add_rpath(&rt, &mut fat, "/a")?;
-    remove_rpath(&rt, &mut fat, "/b")?;
-    assert_eq!(rt; fat.bytes(), file.as_slice());
-    assert_eq!(rt; fat.archs().len(), 0);
-    Ok(())
-}
-
-// Whether a run path is refused in a narrow slice, and all bytes stay.
-fn has_no_room(rt: &HostRuntime, file: &[u8]) -> Result<bool, MachoError> {
-    let mut fat = parse(rt, file)?;
-    let answer = add_rpath(rt, &mut fat, "/a/b/c");
-    let refused = matches!(
-        answer,
-        Err(MachoError::NoRoom {
-            needed: 48,
-            available: 44
-        })
-    );
-    Ok(refused && fat.bytes() == file)
+fn lays_fronts(rt: HostRuntime) {
+    let file = again!(&rt; joined(rt.alloc(), &THREE)).expect(&rt, "memory");
+    let found = again!(&rt; with_fronts(rt.alloc(), &file)).expect(&rt, "fronts");
+    let mut want = file;
+    for (place, part) in EMPTY_PATHS {
+        put(&mut want, *place, part);
+    }
+    same(&rt, "bytes", &found, &want);
 }
 
 #[test]
-fn refuses_for_one_slice(rt: HostRuntime) -> Result<(), Fail> {
-    let first = fat_file(&rt, &[(64, NARROW), (128, PLAIN)])?;
-    assert!(rt; has_no_room(&rt, &first)?);
-    let last = fat_file(&rt, &[(64, PLAIN), (200, NARROW)])?;
-    assert!(rt; has_no_room(&rt, &last)?);
-    Ok(())
+fn lays_the_front_of_a_thin_file(rt: HostRuntime) {
+    let found = again!(&rt; with_fronts(rt.alloc(), NARROW)).expect(&rt, "fronts");
+    let want = b"\xfe\xed\xfa\xce\0\0\0\x07\0\0\0\x03\0\0\0\x06\0\0\0\x01\0\0\0\x10\0\0\0\x85\
+\x80\0\0\x1c\0\0\0\x10\0\0\0\x0c\0\0\0\0";
+    same(&rt, "bytes", &found.as_slice(), &want.as_slice());
 }
 
-#[test]
-fn refuses_missing_rpath(rt: HostRuntime) -> Result<(), Fail> {
-    let file = fat_file(&rt, &[(64, WITH_RPATH), (192, PLAIN)])?;
-    let mut fat = parse(&rt, &file)?;
-    let answer = remove_rpath(&rt, &mut fat, "/a");
-    assert!(rt; matches!(answer, Err(MachoError::RpathMissing(_))));
-    assert_eq!(rt; fat.bytes(), file.as_slice());
-    Ok(())
-}
-
-#[test]
-fn applies_batch(rt: HostRuntime) -> Result<(), Fail> {
-    let file = fat_file(&rt, &[(64, PLAIN), (200, WITH_RPATH)])?;
-    let edits = [
-        MachoEdit::AddRpath(string(&rt, "/b")?),
-        MachoEdit::RemoveRpath(string(&rt, "/b")?),
-    ];
-    let mut fat = parse(&rt, &file)?;
-    apply(&rt, &mut fat, &edits)?;
-    assert_eq!(rt; rpath_count(&rt, &fat)?, 1);
-    Ok(())
-}
-
-#[test]
-fn refuses_batch(rt: HostRuntime) -> Result<(), Fail> {
-    let file = fat_file(&rt, &[(64, PLAIN), (200, WITH_RPATH)])?;
-    let edits = [
-        MachoEdit::AddRpath(string(&rt, "/b")?),
-        MachoEdit::RemoveRpath(string(&rt, "/a")?),
-    ];
-    let mut fat = parse(&rt, &file)?;
-    let answer = apply(&rt, &mut fat, &edits);
-    assert!(rt;
-        matches!(
-            answer,
-            Err(MachoBatchError {
-                index: 1,
-                fault: MachoError::RpathMissing(_)
-            })
-        )
-    );
-    assert_eq!(rt; fat.bytes(), file.as_slice());
-    Ok(())
-}
-
-// The fault of two slices, the second one at the first one's end; none for an archive.
-fn fault_of(rt: &HostRuntime, first: &[u8], second: &[u8]) -> Result<Option<MachFault>, Fail> {
+// Whether a file of two slices is accepted, the second at the first one's end.
+fn answer_of(alloc: Global, first: &[u8], second: &[u8]) -> Result<(), MachoError> {
     let end = size32(first.len()).saturating_add(64);
-    let file = fat_file(rt, &[(64, first), (end, second)])?;
-    match parse(rt, &file) {
-        Err(MachoError::Parsing(found)) => Ok(Some(found)),
-        Err(MachoError::UnixArchive) => Ok(None),
-        _ => Err("another answer".into()),
-    }
+    let file = joined(alloc, &[(64, first), (end, second)])?;
+    FatMachoContainer::parse(alloc, &file)?;
+    Ok(())
 }
 
 #[test]
-fn checks_slices_in_order(rt: HostRuntime) -> Result<(), Fail> {
+fn checks_slices_in_order(rt: HostRuntime) {
     let archive = b"!<arch>\nmembers";
-    let files: [(&[u8], &[u8], Option<MachFault>); 5] = [
-        (PLAIN, archive, None),
-        (archive, b"", None),
-        (b"!<arch>!", archive, Some(MachFault::BadMagic)),
-        (PLAIN, b"", Some(MachFault::Truncated)),
-        (
-            b"\xca\xfe\xba\xbe\0\0\0\0",
-            PLAIN,
-            Some(MachFault::BadMagic),
-        ),
+    let rows: [(&[u8], &[u8], &str); 5] = [
+        (PLAIN, archive, "Err(UnixArchive)"),
+        (archive, b"", "Err(UnixArchive)"),
+        (b"!<arch>!", archive, "Err(Parsing(BadMagic))"),
+        (PLAIN, b"", "Err(Parsing(Truncated))"),
+        (b"\xca\xfe\xba\xbe\0\0\0\0", PLAIN, "Err(Parsing(BadMagic))"),
     ];
-    for (first, second, fault) in files {
-        assert_eq!(rt; fault_of(&rt, first, second)?, fault);
+    for (first, second, want) in rows {
+        let answer = again!(&rt; answer_of(rt.alloc(), first, second));
+        shows(&rt, &answer, want);
     }
-    Ok(())
 }

@@ -1,11 +1,13 @@
-use macho_image::fat::{FAT_MAGIC, FatArch, fat_archs, is_fat};
+//! Tables of fat files: which are accepted, and what they show.
+
+use crate::fat::push_number;
+use crate::support::{Runtime, put, same};
+use macho_image::fat::{FatArch, fat_archs, is_fat};
 use macho_image::format::MachFault;
-use patch_bytes::{ByteOrder2, write_u32_at};
-use std::alloc::AllocError;
-use std::test::Fail;
+use std::alloc::{AllocError, Global};
 
 // A slice for an arm64 processor.
-fn slice(offset: u32, size: u32) -> FatArch {
+fn slice((offset, size): (u32, u32)) -> FatArch {
     FatArch {
         cputype: 0x0100_000c,
         cpusubtype: 0x8000_0002,
@@ -15,168 +17,185 @@ fn slice(offset: u32, size: u32) -> FatArch {
     }
 }
 
-// Writes a header that tells so many slices, and records behind it.
-fn write_table(bytes: &mut [u8], nfat_arch: u32, archs: &[FatArch]) -> Result<(), Fail> {
-    write_u32_at(bytes, 0, FAT_MAGIC, ByteOrder2::Big)?;
-    write_u32_at(bytes, 4, nfat_arch, ByteOrder2::Big)?;
-    let mut rest = &mut bytes[8..];
-    for arch in archs {
-        write_u32_at(rest, 0, arch.cputype, ByteOrder2::Big)?;
-        write_u32_at(rest, 4, arch.cpusubtype, ByteOrder2::Big)?;
-        write_u32_at(rest, 8, arch.offset, ByteOrder2::Big)?;
-        write_u32_at(rest, 12, arch.size, ByteOrder2::Big)?;
-        write_u32_at(rest, 16, arch.align, ByteOrder2::Big)?;
-        rest = &mut rest[20..];
+// A header that tells so many slices, and records behind it.
+fn table(alloc: Global, nfat_arch: u32, places: &[(u32, u32)]) -> Result<Vec<u8>, AllocError> {
+    let mut file = Vec::new(alloc);
+    push_number(&mut file, 0xcafe_babe)?;
+    push_number(&mut file, nfat_arch)?;
+    for place in places {
+        let arch = slice(*place);
+        for number in [
+            arch.cputype,
+            arch.cpusubtype,
+            arch.offset,
+            arch.size,
+            arch.align,
+        ] {
+            push_number(&mut file, number)?;
+        }
     }
-    Ok(())
+    Ok(file)
 }
 
-// The slices of a file, asked for again where there was no memory.
-fn slices_of(rt: &HostRuntime, bytes: &[u8]) -> Result<Vec<FatArch>, MachFault> {
-    match fat_archs(rt.alloc(), bytes) {
-        Err(MachFault::Memory) => fat_archs(rt.alloc(), bytes),
-        told => told,
+// A file of this length that begins with a table.
+fn file_with(
+    alloc: Global,
+    length: usize,
+    nfat_arch: u32,
+    places: &[(u32, u32)],
+) -> Result<Vec<u8>, AllocError> {
+    let mut file = vec![in alloc; 0; length]?;
+    put(&mut file, 0, table(alloc, nfat_arch, places)?.as_slice());
+    Ok(file)
+}
+
+// Whether slices are these.
+fn are(archs: &[FatArch], places: &[(u32, u32)]) -> bool {
+    archs.len() == places.len()
+        && archs
+            .iter()
+            .zip(places)
+            .all(|(arch, place)| *arch == slice(*place))
+}
+
+// The check that a file fails; where it passes all, it shows these slices.
+fn fault_of(rt: &impl Runtime, bytes: &[u8], places: &[(u32, u32)]) -> Option<MachFault> {
+    match again!(rt; fat_archs(rt.alloc(), bytes)) {
+        Ok(archs) => {
+            assert!(rt; are(&archs, places), "other slices");
+            None
+        }
+        Err(fault) => Some(fault),
     }
 }
 
-// The check that a file fails.
-fn fault_of(rt: &HostRuntime, bytes: &[u8]) -> Option<MachFault> {
-    slices_of(rt, bytes).err()
-}
-
-// Whether a file of 8192 bytes with this table is accepted, and shows it.
-fn is_accepted(rt: &HostRuntime, archs: &[FatArch]) -> Result<bool, Fail> {
-    let mut bytes = [0; 8192];
-    write_table(&mut bytes, u32::try_from(archs.len())?, archs)?;
-    let told = slices_of(rt, &bytes)?;
-    Ok(told.as_slice() == archs)
-}
-
-// The check that a file of 8192 bytes with this table fails.
-fn fault(rt: &HostRuntime, archs: &[FatArch]) -> Result<Option<MachFault>, Fail> {
-    let mut bytes = [0; 8192];
-    write_table(&mut bytes, u32::try_from(archs.len())?, archs)?;
-    Ok(fault_of(rt, &bytes))
+// Looks at files of 8192 bytes with tables.
+fn expect(rt: &impl Runtime, rows: &[&[(u32, u32)]], want: Option<MachFault>) {
+    for places in rows {
+        let count = u32::try_from(places.len()).unwrap_or(0);
+        let file = again!(rt; file_with(rt.alloc(), 8192, count, places)).expect(rt, "memory");
+        same(rt, "a table's fault", &fault_of(rt, &file, places), &want);
+    }
 }
 
 #[test]
-fn reads_tables(rt: HostRuntime) -> Result<(), Fail> {
-    assert!(rt; is_accepted(&rt, &[])?);
-    assert!(rt; is_accepted(&rt, &[slice(28, 8164)])?);
-    assert!(rt; is_accepted(&rt, &[slice(4096, 64), slice(4160, 64)])?);
-    assert!(rt; is_accepted(&rt, &[slice(8191, 1), slice(4160, 64), slice(4096, 64)])?);
-    Ok(())
+fn reads_tables(rt: HostRuntime) {
+    let rows: [&[(u32, u32)]; 6] = [
+        &[],
+        &[(28, 8164)],
+        &[(4096, 64), (4160, 64)],
+        &[(8191, 1), (4160, 64), (4096, 64)],
+        // Empty slices share no byte.
+        &[(4096, 64), (4100, 0), (4100, 0)],
+        &[(8192, 0), (4096, 0), (4096, 9)],
+    ];
+    expect(&rt, &rows, None);
 }
 
 #[test]
-fn refuses_shared_bytes(rt: HostRuntime) -> Result<(), Fail> {
-    let overlap = Some(MachFault::SlicesOverlap);
-    assert_eq!(rt; fault(&rt, &[slice(4096, 64), slice(4159, 64)])?, overlap);
-    assert_eq!(rt; fault(&rt, &[slice(4159, 64), slice(4096, 64)])?, overlap);
-    assert_eq!(rt;
-        fault(&rt, &[slice(4096, 64), slice(5000, 9), slice(4096, 64)])?,
-        overlap
-    );
-    assert_eq!(rt;
-        fault(&rt, &[slice(6000, 1), slice(4096, 2048), slice(7000, 9)])?,
-        overlap
-    );
-    Ok(())
+fn refuses_shared_bytes(rt: HostRuntime) {
+    let rows: [&[(u32, u32)]; 5] = [
+        &[(4096, 64), (4159, 64)],
+        &[(4159, 64), (4096, 64)],
+        &[(4096, 64), (5000, 9), (4096, 64)],
+        &[(6000, 1), (4096, 2048), (7000, 9)],
+        &[(4096, 64), (4100, 0), (4101, 9)],
+    ];
+    expect(&rt, &rows, Some(MachFault::SlicesOverlap));
 }
 
 #[test]
-fn empty_slices_share_no_byte(rt: HostRuntime) -> Result<(), Fail> {
-    assert!(rt; is_accepted(&rt, &[slice(4096, 64), slice(4100, 0), slice(4100, 0)])?);
-    assert!(rt; is_accepted(&rt, &[slice(8192, 0), slice(4096, 0), slice(4096, 9)])?);
-    let overlap = fault(&rt, &[slice(4096, 64), slice(4100, 0), slice(4101, 9)])?;
-    assert_eq!(rt; overlap, Some(MachFault::SlicesOverlap));
-    assert_eq!(rt; fault(&rt, &[slice(27, 0)])?, Some(MachFault::SliceOutside));
-    assert_eq!(rt;
-        fault(&rt, &[slice(8193, 0)])?,
-        Some(MachFault::SliceOutside)
-    );
-    Ok(())
+fn refuses_slices_outside(rt: HostRuntime) {
+    let rows: [&[(u32, u32)]; 9] = [
+        &[(27, 0)],
+        &[(8193, 0)],
+        &[(27, 1)],
+        &[(47, 1), (4096, 1)],
+        &[(8191, 2)],
+        &[(u32::MAX, u32::MAX)],
+        &[(u32::MAX, 2)],
+        &[(u32::MAX - 99, 200)],
+        &[(4096, 64), (4159, 64), (8191, 2)],
+    ];
+    expect(&rt, &rows, Some(MachFault::SliceOutside));
 }
 
 #[test]
-fn refuses_slices_outside(rt: HostRuntime) -> Result<(), Fail> {
-    let outside = Some(MachFault::SliceOutside);
-    assert_eq!(rt; fault(&rt, &[slice(27, 1)])?, outside);
-    assert_eq!(rt; fault(&rt, &[slice(47, 1), slice(4096, 1)])?, outside);
-    assert_eq!(rt; fault(&rt, &[slice(8191, 2)])?, outside);
-    assert_eq!(rt; fault(&rt, &[slice(u32::MAX, u32::MAX)])?, outside);
-    assert_eq!(rt; fault(&rt, &[slice(u32::MAX, 2)])?, outside);
-    assert_eq!(rt; fault(&rt, &[slice(u32::MAX - 99, 200)])?, outside);
-    assert_eq!(rt;
-        fault(&rt, &[slice(4096, 64), slice(4159, 64), slice(8191, 2)])?,
-        outside
-    );
-    Ok(())
+fn refuses_other_fronts(rt: HostRuntime) {
+    let rows: [(&[u8], MachFault); 7] = [
+        (b"", MachFault::Truncated),
+        (b"\xca\xfe\xba", MachFault::Truncated),
+        (b"\xca\xfe\xba\xbe\0\0\0", MachFault::Truncated),
+        (b"\xca\xfe\xba\xbe\0\0\0\x01", MachFault::Truncated),
+        (b"\xcf\xfa\xed\xfe", MachFault::BadMagic),
+        (b"\xbe\xba\xfe\xca\0\0\0\0", MachFault::BadMagic),
+        (b"\xca\xfe\xba\xbf\0\0\0\0", MachFault::BadMagic),
+    ];
+    for (bytes, fault) in rows {
+        same(
+            &rt,
+            "a front's fault",
+            &fault_of(&rt, bytes, &[]),
+            &Some(fault),
+        );
+    }
 }
 
 #[test]
-fn refuses_short_files(rt: HostRuntime) -> Result<(), Fail> {
-    let truncated = Some(MachFault::Truncated);
-    assert_eq!(rt; fault_of(&rt, &[]), truncated);
-    assert_eq!(rt; fault_of(&rt, &[0xca, 0xfe, 0xba]), truncated);
-    assert_eq!(rt;
-        fault_of(&rt, &[0xca, 0xfe, 0xba, 0xbe, 0, 0, 0]),
-        truncated
-    );
-    assert_eq!(rt;
-        fault_of(&rt, &[0xca, 0xfe, 0xba, 0xbe, 0, 0, 0, 1]),
-        truncated
-    );
+fn refuses_tables_past_the_end(rt: HostRuntime) {
     for nfat_arch in [2, 0x0ccc_cccd, u32::MAX] {
-        let mut bytes = [0; 47];
-        write_table(&mut bytes, nfat_arch, &[slice(28, 1)])?;
-        assert_eq!(rt; fault_of(&rt, &bytes), truncated, "at {nfat_arch}");
-        assert_eq!(rt; fault_of(&rt, &bytes[..8]), truncated, "at {nfat_arch}");
-    }
-    Ok(())
-}
-
-#[test]
-fn refuses_other_magics(rt: HostRuntime) {
-    assert_eq!(rt;
-        fault_of(&rt, &[0xcf, 0xfa, 0xed, 0xfe]),
-        Some(MachFault::BadMagic)
-    );
-    assert_eq!(rt;
-        fault_of(&rt, &[0xbe, 0xba, 0xfe, 0xca, 0, 0, 0, 0]),
-        Some(MachFault::BadMagic)
-    );
-    assert_eq!(rt;
-        fault_of(&rt, &[0xca, 0xfe, 0xba, 0xbf, 0, 0, 0, 0]),
-        Some(MachFault::BadMagic)
-    );
-    assert!(rt; is_fat(&[0xca, 0xfe, 0xba, 0xbe]));
-    assert!(rt; !is_fat(&[0xbe, 0xba, 0xfe, 0xca]));
-    assert!(rt; !is_fat(&[0xca, 0xfe, 0xba]));
-}
-
-// So many zeros, asked for again where there was no memory.
-fn zeros(rt: &HostRuntime, count: usize) -> Result<Vec<u8>, AllocError> {
-    match vec![in rt.alloc(); 0; count] {
-        Err(_) => vec![in rt.alloc(); 0; count],
-        made => made,
+        let file = again!(&rt; file_with(rt.alloc(), 47, nfat_arch, &[(28, 1)]));
+        let file = file.expect(&rt, "memory");
+        for length in [8, 47] {
+            let fault = fault_of(&rt, file.get(..length).unwrap_or_default(), &[]);
+            same(&rt, "a table's fault", &fault, &Some(MachFault::Truncated));
+        }
     }
 }
 
 #[test]
-fn reads_long_tables(rt: HostRuntime) -> Result<(), Fail> {
-    // The slices of 9 bytes stand backwards and end to end behind the table.
-    let mut bytes = zeros(&rt, 3_000_000)?;
-    write_u32_at(&mut bytes, 0, FAT_MAGIC, ByteOrder2::Big)?;
-    write_u32_at(&mut bytes, 4, 100_000, ByteOrder2::Big)?;
-    let mut offset = 2_900_000;
-    for i in 0..100_000 {
-        write_u32_at(&mut bytes, 8 + 20 * i + 8, offset, ByteOrder2::Big)?;
-        write_u32_at(&mut bytes, 8 + 20 * i + 12, 9, ByteOrder2::Big)?;
-        offset = offset.saturating_sub(9);
+fn knows_fat_files(rt: HostRuntime) {
+    let rows: [(&[u8], bool); 3] = [
+        (b"\xca\xfe\xba\xbe", true),
+        (b"\xbe\xba\xfe\xca", false),
+        (b"\xca\xfe\xba", false),
+    ];
+    for (bytes, want) in rows {
+        same(&rt, "is_fat", &is_fat(bytes), &want);
     }
-    assert_eq!(rt; slices_of(&rt, &bytes)?.len(), 100_000);
-    write_u32_at(&mut bytes, 8 + 20 * 50_000 + 12, 10, ByteOrder2::Big)?;
-    assert_eq!(rt; fault_of(&rt, &bytes), Some(MachFault::SlicesOverlap));
-    Ok(())
+}
+
+// A table of 100,000 slices of 9 bytes, which stand backwards and end to end behind it, and one of this size.
+fn long_table(alloc: Global, middle: u32) -> Result<Vec<u8>, AllocError> {
+    let mut file = Vec::new(alloc);
+    file.extend_from_slice(b"\xca\xfe\xba\xbe\0\x01\x86\xa0")?;
+    for i in 0..100_000u32 {
+        let size = if i == 50_000 { middle } else { 9 };
+        for number in [0, 0, 2_900_000 - 9 * i, size, 0] {
+            push_number(&mut file, number)?;
+        }
+    }
+    for _i in 0..1000 {
+        file.extend_from_slice(&[0; 1000])?;
+    }
+    Ok(file)
+}
+
+// What a table of so many slices with this size in the middle answers.
+fn long_answer(alloc: Global, middle: u32) -> Result<usize, MachFault> {
+    let file = long_table(alloc, middle)?;
+    Ok(fat_archs(alloc, &file)?.len())
+}
+
+#[test]
+fn reads_long_tables(rt: HostRuntime) {
+    let rows = [(9, Ok(100_000)), (10, Err(MachFault::SlicesOverlap))];
+    for (middle, want) in rows {
+        same(
+            &rt,
+            "a long table",
+            &again!(&rt; long_answer(rt.alloc(), middle)),
+            &want,
+        );
+    }
 }

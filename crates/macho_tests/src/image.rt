@@ -1,14 +1,13 @@
+//! The reader: headers, commands, texts, where content begins, and which files are refused.
+
+use crate::support::{Runtime, prints, same};
 use macho_image::command::{
     LC_ID_DYLIB, LC_LOAD_WEAK_DYLIB, LC_RPATH, LC_SEGMENT, LC_SEGMENT_64, LC_SYMTAB,
 };
 use macho_image::format::{MH_MAGIC, MH_MAGIC_64};
-use macho_image::{
-    CommandVariant, Ctx, Dylib, DylibCommand, Header, LoadCommand, LoadCommandHeader, MachFault,
-    MachO, RpathCommand,
-};
-use patch_bytes::{ByteOrder2, ByteString, Wide, write_u32_at};
-use std::alloc::AllocError;
-use std::test::Fail;
+use macho_image::{Ctx, Header, MachFault, MachO};
+use patch_bytes::{ByteOrder2, Wide, write_u32_at};
+use std::alloc::{AllocError, Global};
 
 // `LC_UUID`, a kind that is kept as it is.
 const LC_UUID: u32 = 0x1b;
@@ -97,51 +96,6 @@ impl Sample {
     }
 }
 
-// A call that was refused memory is made once more.
-fn parse<'a>(rt: &HostRuntime, bytes: &'a [u8]) -> Result<MachO<'a>, MachFault> {
-    match MachO::parse(rt.alloc(), bytes) {
-        Err(MachFault::Memory) => MachO::parse(rt.alloc(), bytes),
-        answer => answer,
-    }
-}
-
-fn fault(rt: &HostRuntime, bytes: &[u8]) -> Option<MachFault> {
-    parse(rt, bytes).err()
-}
-
-fn owned<'a>(rt: &HostRuntime, bytes: &[u8]) -> Result<MachO<'a>, MachFault> {
-    match owned_once(rt, bytes) {
-        Err(MachFault::Memory) => owned_once(rt, bytes),
-        answer => answer,
-    }
-}
-
-fn owned_once<'a>(rt: &HostRuntime, bytes: &[u8]) -> Result<MachO<'a>, MachFault> {
-    let bytes = Vec::from_slice(rt.alloc(), bytes)?;
-    MachO::parse_owned(rt.alloc(), bytes)
-}
-
-fn rpaths<'m>(rt: &HostRuntime, file: &'m MachO<'_>) -> Result<Vec<&'m [u8]>, AllocError> {
-    match file.rpaths(rt.alloc()) {
-        Err(_) => file.rpaths(rt.alloc()),
-        answer => answer,
-    }
-}
-
-fn libs<'m>(rt: &HostRuntime, file: &'m MachO<'_>) -> Result<Vec<&'m [u8]>, AllocError> {
-    match file.libs(rt.alloc()) {
-        Err(_) => file.libs(rt.alloc()),
-        answer => answer,
-    }
-}
-
-fn commands<'m>(rt: &HostRuntime, file: &'m MachO<'_>) -> Result<Vec<ByteString<'m>>, AllocError> {
-    match file.commands(rt.alloc()) {
-        Err(_) => file.commands(rt.alloc()),
-        answer => answer,
-    }
-}
-
 const FORMS: [Ctx; 4] = [
     Ctx {
         container: Wide::W32,
@@ -174,20 +128,19 @@ fn library(form: Ctx) -> Sample {
     sample
 }
 
+// The header that the file shows.
+fn header_in(alloc: Global, sample: &Sample) -> Result<Header, MachFault> {
+    Ok(*MachO::parse(alloc, sample.front(200))?.header())
+}
+
 #[test]
-fn reads_header(rt: HostRuntime) -> Result<(), Fail> {
+fn reads_header(rt: HostRuntime) {
     for form in FORMS {
-        let sample = library(form);
-        let file = parse(&rt, sample.front(200))?;
-        let magic = match form.container {
-            Wide::W32 => 0xfeed_face,
-            Wide::W64 => 0xfeed_facf,
+        let (magic, reserved) = match form.container {
+            Wide::W32 => (0xfeed_face, 0),
+            Wide::W64 => (0xfeed_facf, 9),
         };
-        let reserved = match form.container {
-            Wide::W32 => 0,
-            Wide::W64 => 9,
-        };
-        let header = Header {
+        let want = Header {
             magic,
             cputype: 7,
             cpusubtype: 3,
@@ -197,147 +150,269 @@ fn reads_header(rt: HostRuntime) -> Result<(), Fail> {
             flags: 0x85,
             reserved,
         };
-        assert_eq!(rt; file.ctx(), form);
-        assert_eq!(rt; *file.header(), header);
-        assert_eq!(rt; file.bytes().len(), 200);
-        assert_eq!(rt; file.first_content(), 200);
+        let sample = library(form);
+        same(
+            &rt,
+            "header",
+            &again!(&rt; header_in(rt.alloc(), &sample)),
+            &Ok(want),
+        );
+    }
+}
+
+// The form of a file, its length, and where its content begins.
+fn measures_in(alloc: Global, sample: &Sample) -> Result<(Ctx, usize, usize), MachFault> {
+    let file = MachO::parse(alloc, sample.front(200))?;
+    Ok((file.ctx(), file.bytes().len(), file.first_content()))
+}
+
+#[test]
+fn reads_form(rt: HostRuntime) {
+    for form in FORMS {
+        let sample = library(form);
+        let found = again!(&rt; measures_in(rt.alloc(), &sample));
+        same(&rt, "form", &found, &Ok((form, 200, 200)));
+    }
+}
+
+// The text of the commands that the file shows, which it owns.
+fn commands_in(alloc: Global, sample: &Sample) -> Result<String, MachFault> {
+    let bytes = Vec::from_slice(alloc, sample.front(200))?;
+    let file = MachO::parse_owned(alloc, bytes)?;
+    Ok(format!(in alloc; "{:?}", file.load_commands())?)
+}
+
+const NARROW_COMMANDS: &str = "[\
+LoadCommand { offset: 28, command: IdDylib(DylibCommand { cmd: 13, cmdsize: 32, dylib: Dylib { \
+name: 24, timestamp: 1, current_version: 66051, compatibility_version: 65536 } }) }, \
+LoadCommand { offset: 60, command: Rpath(RpathCommand { cmd: 2147483676, cmdsize: 16, path: 12 }) }, \
+LoadCommand { offset: 76, command: LoadWeakDylib(DylibCommand { cmd: 2147483672, cmdsize: 32, \
+dylib: Dylib { name: 24, timestamp: 2, current_version: 131072, compatibility_version: 65536 } }) }, \
+LoadCommand { offset: 108, command: Other(LoadCommandHeader { cmd: 27, cmdsize: 24 }) }]";
+
+const WIDE_COMMANDS: &str = "[\
+LoadCommand { offset: 32, command: IdDylib(DylibCommand { cmd: 13, cmdsize: 32, dylib: Dylib { \
+name: 24, timestamp: 1, current_version: 66051, compatibility_version: 65536 } }) }, \
+LoadCommand { offset: 64, command: Rpath(RpathCommand { cmd: 2147483676, cmdsize: 16, path: 12 }) }, \
+LoadCommand { offset: 80, command: LoadWeakDylib(DylibCommand { cmd: 2147483672, cmdsize: 32, \
+dylib: Dylib { name: 24, timestamp: 2, current_version: 131072, compatibility_version: 65536 } }) }, \
+LoadCommand { offset: 112, command: Other(LoadCommandHeader { cmd: 27, cmdsize: 24 }) }]";
+
+#[test]
+fn reads_commands(rt: HostRuntime) {
+    for form in FORMS {
+        let sample = library(form);
+        let want = match form.container {
+            Wide::W32 => NARROW_COMMANDS,
+            Wide::W64 => WIDE_COMMANDS,
+        };
+        let found = again!(&rt; commands_in(rt.alloc(), &sample)).expect(&rt, "a file");
+        same(&rt, "commands", &found.as_str(), &want);
+    }
+}
+
+// Texts, each with a line feed behind it.
+fn push_line(lines: &mut Vec<u8>, text: &[u8]) -> Result<(), AllocError> {
+    lines.extend_from_slice(text)?;
+    Ok(lines.push(b'\n')?)
+}
+
+fn push_lines(lines: &mut Vec<u8>, texts: &[&[u8]]) -> Result<(), AllocError> {
+    for text in texts {
+        push_line(lines, text)?;
     }
     Ok(())
 }
 
-// The name of that file, whose command begins here.
-fn own_name(offset: usize) -> LoadCommand {
-    LoadCommand {
-        offset,
-        command: CommandVariant::IdDylib(DylibCommand {
-            cmd: 0xd,
-            cmdsize: 32,
-            dylib: Dylib {
-                name: 24,
-                timestamp: 1,
-                current_version: 0x1_0203,
-                compatibility_version: 0x1_0000,
-            },
-        }),
+// A file's own name, its run paths and the names of the libraries that it loads, a line each.
+fn texts_of(alloc: Global, file: &MachO<'_>) -> Result<Vec<u8>, AllocError> {
+    let mut lines = Vec::new(alloc);
+    if let Some(name) = file.id() {
+        push_line(&mut lines, name)?;
     }
+    push_lines(&mut lines, &file.rpaths(alloc)?)?;
+    push_lines(&mut lines, &file.libs(alloc)?)?;
+    Ok(lines)
+}
+
+fn texts_in(alloc: Global, sample: &Sample) -> Result<Vec<u8>, MachFault> {
+    let file = MachO::parse(alloc, sample.front(200))?;
+    Ok(texts_of(alloc, &file)?)
 }
 
 #[test]
-fn reads_commands(rt: HostRuntime) -> Result<(), Fail> {
+fn reads_texts(rt: HostRuntime) {
     for form in FORMS {
         let sample = library(form);
-        let file = owned(&rt, sample.front(200))?;
+        let found = again!(&rt; texts_in(rt.alloc(), &sample)).expect(&rt, "a file");
+        same(
+            &rt,
+            "texts",
+            &found.as_slice(),
+            &b"a.dylib\n/x\nbb.dylib\n".as_slice(),
+        );
+    }
+}
+
+// The same of a file that owns its bytes.
+fn owned_texts(alloc: Global, bytes: &[u8]) -> Result<Vec<u8>, MachFault> {
+    let bytes = Vec::from_slice(alloc, bytes)?;
+    let file = MachO::parse_owned(alloc, bytes)?;
+    Ok(texts_of(alloc, &file)?)
+}
+
+#[test]
+fn reads_texts_of_owned_bytes(rt: HostRuntime) {
+    let mut sample = Sample::new(Wide::W64, ByteOrder2::Little, 1, 32);
+    sample.words(&[LC_RPATH, 32, 12]);
+    sample.text(b"/usr/local/lib");
+    let found = again!(&rt; owned_texts(rt.alloc(), sample.front(64))).expect(&rt, "a file");
+    same(
+        &rt,
+        "texts",
+        &found.as_slice(),
+        &b"/usr/local/lib\n".as_slice(),
+    );
+}
+
+// The lengths of a file's commands, and their bytes joined.
+fn area_in(alloc: Global, sample: &Sample) -> Result<(Vec<usize>, Vec<u8>), MachFault> {
+    let file = MachO::parse(alloc, sample.front(200))?;
+    let mut lengths = Vec::new(alloc);
+    let mut area = Vec::new(alloc);
+    for command in &file.commands(alloc)? {
+        lengths.push(command.as_slice().len())?;
+        area.extend_from_slice(command.as_slice())?;
+    }
+    Ok((lengths, area))
+}
+
+#[test]
+fn lends_commands(rt: HostRuntime) {
+    for form in FORMS {
+        let sample = library(form);
         let start = match form.container {
             Wide::W32 => 28,
             Wide::W64 => 32,
         };
-        let path = LoadCommand {
-            offset: start + 32,
-            command: CommandVariant::Rpath(RpathCommand {
-                cmd: 0x8000_001c,
-                cmdsize: 16,
-                path: 12,
-            }),
-        };
-        let other = LoadCommand {
-            offset: start + 80,
-            command: CommandVariant::Other(LoadCommandHeader {
-                cmd: 0x1b,
-                cmdsize: 24,
-            }),
-        };
-        let found = file.load_commands();
-        assert_eq!(rt; found.len(), 4);
-        assert_eq!(rt; found[0], own_name(start));
-        assert_eq!(rt; found[1], path);
-        assert_eq!(rt; found[2].offset, start + 48);
-        assert_eq!(rt; found[2].command.cmdsize(), 32);
-        assert_eq!(rt; found[3], other);
+        let found = again!(&rt; area_in(rt.alloc(), &sample)).expect(&rt, "a file");
+        same(
+            &rt,
+            "lengths",
+            &found.0.as_slice(),
+            &[32, 16, 32, 24].as_slice(),
+        );
+        same(
+            &rt,
+            "bytes",
+            &found.1.as_slice(),
+            &&sample.bytes[start..start + 104],
+        );
     }
-    Ok(())
+}
+
+// The bytes that a file hands out which was not edited: lent ones, and its own.
+fn handed_out(alloc: Global, bytes: &[u8]) -> Result<Vec<u8>, MachFault> {
+    let lent = MachO::parse(alloc, bytes)?.into_bytes(alloc)?;
+    Ok(MachO::parse_owned(alloc, lent)?.into_bytes(alloc)?)
 }
 
 #[test]
-fn reads_texts(rt: HostRuntime) -> Result<(), Fail> {
+fn hands_out_bytes(rt: HostRuntime) {
     for form in FORMS {
         let sample = library(form);
-        let file = parse(&rt, sample.front(200))?;
-        let paths = rpaths(&rt, &file)?;
-        let names = libs(&rt, &file)?;
-        let all = commands(&rt, &file)?;
-        assert_eq!(rt; file.id().ok_or("no name")?, b"a.dylib".as_slice());
-        assert_eq!(rt; paths.len(), 1);
-        assert_eq!(rt; paths[0], b"/x".as_slice());
-        assert_eq!(rt; names.len(), 1);
-        assert_eq!(rt; names[0], b"bb.dylib".as_slice());
-        assert_eq!(rt; all.len(), 4);
-        assert_eq!(rt; all[1].as_slice().len(), 16);
-        assert_eq!(rt; all[1].as_slice()[15], b'?');
+        let found = again!(&rt; handed_out(rt.alloc(), sample.front(200))).expect(&rt, "bytes");
+        same(&rt, "bytes", &found.as_slice(), &sample.front(200));
     }
-    Ok(())
+}
+
+// Compares the check that a file fails.
+fn expect_fault(rt: &impl Runtime, what: &str, bytes: &[u8], want: Option<MachFault>) {
+    same(
+        rt,
+        what,
+        &again!(rt; MachO::parse(rt.alloc(), bytes)).err(),
+        &want,
+    );
 }
 
 #[test]
 fn refuses_headers(rt: HostRuntime) {
-    let little = Sample::new(Wide::W64, ByteOrder2::Little, 0, 0);
-    let narrow = Sample::new(Wide::W32, ByteOrder2::Big, 0, 0);
-    let past = Sample::new(Wide::W64, ByteOrder2::Little, 0, 1);
-    let far = Sample::new(Wide::W64, ByteOrder2::Little, 0, 0xffff_ffe0);
-    assert_eq!(rt; fault(&rt, b""), Some(MachFault::Truncated));
-    assert_eq!(rt; fault(&rt, little.front(3)), Some(MachFault::Truncated));
-    assert_eq!(rt; fault(&rt, b"\x7fELF"), Some(MachFault::BadMagic));
-    assert_eq!(rt;
-        fault(&rt, &[0xca, 0xfe, 0xba, 0xbe]),
-        Some(MachFault::BadMagic)
-    );
-    assert_eq!(rt; fault(&rt, little.front(31)), Some(MachFault::Truncated));
-    assert_eq!(rt; fault(&rt, narrow.front(27)), Some(MachFault::Truncated));
-    assert_eq!(rt; fault(&rt, past.front(32)), Some(MachFault::Truncated));
-    assert_eq!(rt; fault(&rt, far.front(640)), Some(MachFault::Truncated));
-    assert_eq!(rt; fault(&rt, little.front(32)), None);
-    assert_eq!(rt; fault(&rt, narrow.front(28)), None);
-}
-
-// What a 64-bit file with these words for its commands answers.
-fn fault_of(rt: &HostRuntime, ncmds: u32, sizeofcmds: u32, words: &[u32]) -> Option<MachFault> {
-    let mut sample = Sample::new(Wide::W64, ByteOrder2::Little, ncmds, sizeofcmds);
-    sample.words(words);
-    fault(rt, sample.front(640))
+    let little = (Wide::W64, ByteOrder2::Little);
+    let narrow = (Wide::W32, ByteOrder2::Big);
+    let truncated = Some(MachFault::Truncated);
+    let rows = [
+        ("no header", little, 0, 3, truncated),
+        ("a part of it", little, 0, 31, truncated),
+        ("a part of a narrow one", narrow, 0, 27, truncated),
+        ("commands past the end", little, 1, 32, truncated),
+        ("far past the end", little, 0xffff_ffe0, 640, truncated),
+        ("a header", little, 0, 32, None),
+        ("a narrow header", narrow, 0, 28, None),
+    ];
+    for (what, (container, order), sizeofcmds, length, want) in rows {
+        let sample = Sample::new(container, order, 0, sizeofcmds);
+        expect_fault(&rt, what, sample.front(length), want);
+    }
 }
 
 #[test]
-fn refuses_sizes(rt: HostRuntime) {
+fn refuses_other_magics(rt: HostRuntime) {
+    let rows: [(&[u8], MachFault); 3] = [
+        (b"", MachFault::Truncated),
+        (b"\x7fELF", MachFault::BadMagic),
+        (b"\xca\xfe\xba\xbe", MachFault::BadMagic),
+    ];
+    for (bytes, fault) in rows {
+        expect_fault(&rt, "other bytes", bytes, Some(fault));
+    }
+}
+
+#[test]
+fn refuses_commands(rt: HostRuntime) {
     let bad_size = Some(MachFault::BadCommandSize);
-    assert_eq!(rt;
-        fault_of(&rt, 1, 7, &[LC_UUID, 8]),
-        bad_size,
-        "no room for a command"
-    );
-    assert_eq!(rt;
-        fault_of(&rt, 1, 8, &[LC_UUID, 7]),
-        bad_size,
-        "less than a command"
-    );
-    assert_eq!(rt;
-        fault_of(&rt, 1, 8, &[LC_UUID, 0xffff_fff8]),
-        bad_size,
-        "past the area"
-    );
-    assert_eq!(rt;
-        fault_of(&rt, 1, 8, &[LC_RPATH, 8]),
-        bad_size,
-        "a kind's fixed part"
-    );
-    assert_eq!(rt;
-        fault_of(&rt, 2, 8, &[LC_UUID, 8]),
-        bad_size,
-        "one command too few"
-    );
-    assert_eq!(rt;
-        fault_of(&rt, 1, 16, &[LC_UUID, 8]),
-        Some(MachFault::CountsDisagree)
-    );
-    assert_eq!(rt; fault_of(&rt, 1, 8, &[LC_UUID, 8]), None);
+    let bad_name = Some(MachFault::BadNameOffset);
+    let rows: [(&str, u32, u32, &[u32], Option<MachFault>); 10] = [
+        ("no room for a command", 1, 7, &[LC_UUID, 8], bad_size),
+        ("less than a command", 1, 8, &[LC_UUID, 7], bad_size),
+        ("past the area", 1, 8, &[LC_UUID, 0xffff_fff8], bad_size),
+        ("a kind's fixed part", 1, 8, &[LC_RPATH, 8], bad_size),
+        ("one command too few", 2, 8, &[LC_UUID, 8], bad_size),
+        (
+            "counts",
+            1,
+            16,
+            &[LC_UUID, 8],
+            Some(MachFault::CountsDisagree),
+        ),
+        ("all right", 1, 8, &[LC_UUID, 8], None),
+        (
+            "a path past its command",
+            1,
+            16,
+            &[LC_RPATH, 16, 17, 0],
+            bad_name,
+        ),
+        (
+            "path before size",
+            2,
+            24,
+            &[LC_RPATH, 16, 17, 0, LC_UUID, 7],
+            bad_name,
+        ),
+        (
+            "a name past its command",
+            1,
+            24,
+            &[LC_ID_DYLIB, 24, 25, 0, 0, 0],
+            bad_name,
+        ),
+    ];
+    for (what, ncmds, sizeofcmds, words, want) in rows {
+        let mut sample = Sample::new(Wide::W64, ByteOrder2::Little, ncmds, sizeofcmds);
+        sample.words(words);
+        expect_fault(&rt, what, sample.front(640), want);
+    }
 }
 
 #[test]
@@ -351,38 +426,24 @@ fn refuses_sections(rt: HostRuntime) {
     ] {
         let mut sample = Sample::new(container, ByteOrder2::Little, 1, size);
         sample.segment(size, 0, 0, nsects);
-        assert_eq!(rt;
-            fault(&rt, sample.front(640)),
-            Some(MachFault::BadCommandSize)
-        );
+        let bad_size = Some(MachFault::BadCommandSize);
+        expect_fault(&rt, "sections", sample.front(640), bad_size);
     }
 }
 
+// A run path at its command's end is the empty text.
 #[test]
-fn refuses_names(rt: HostRuntime) -> Result<(), Fail> {
-    let bad_name = Some(MachFault::BadNameOffset);
-    assert_eq!(rt; fault_of(&rt, 1, 16, &[LC_RPATH, 16, 17, 0]), bad_name);
-    assert_eq!(rt;
-        fault_of(&rt, 2, 24, &[LC_RPATH, 16, 17, 0, LC_UUID, 7]),
-        bad_name
-    );
-    assert_eq!(rt;
-        fault_of(&rt, 1, 24, &[LC_ID_DYLIB, 24, 25, 0, 0, 0]),
-        bad_name
-    );
+fn reads_empty_path(rt: HostRuntime) {
     let mut sample = Sample::new(Wide::W64, ByteOrder2::Little, 1, 16);
     sample.words(&[LC_RPATH, 16, 16, 0x6161_6161]);
-    let file = parse(&rt, sample.front(48))?;
-    let paths = rpaths(&rt, &file)?;
-    assert_eq!(rt; paths.len(), 1);
-    assert_eq!(rt; paths[0], b"".as_slice());
-    Ok(())
+    let found = again!(&rt; texts_in(rt.alloc(), &sample)).expect(&rt, "a file");
+    same(&rt, "texts", &found.as_slice(), &b"\n".as_slice());
 }
 
 // Where the content of a file begins whose segment, symbols and strings have these offsets and sizes: of
 // its sections only one has bytes in the file, at 600.
 fn first_content(
-    rt: &HostRuntime,
+    alloc: Global,
     form: Ctx,
     segment: (u32, u32),
     symbols: (u32, u32),
@@ -400,37 +461,30 @@ fn first_content(
     sample.section(16, 4, 0xc);
     sample.section(16, 4, 0x8000_0012);
     sample.section(0, 4, 0);
-    let file = parse(rt, sample.front(640))?;
+    let file = MachO::parse(alloc, sample.front(640))?;
     Ok(file.first_content())
 }
 
 #[test]
-fn finds_first_content(rt: HostRuntime) -> Result<(), Fail> {
+fn finds_first_content(rt: HostRuntime) {
+    let rows = [
+        ((0, 640), (0, 0), (0, 0), 600),
+        ((590, 8), (0, 0), (0, 0), 590),
+        ((590, 0), (0, 0), (0, 0), 600),
+        ((0, 640), (592, 1), (0, 9), 592),
+        ((0, 640), (592, 0), (594, 9), 594),
+        ((0, 640), (0, 3), (594, 0), 600),
+    ];
     for form in FORMS {
-        for (segment, symbols, strings, first) in [
-            ((0, 640), (0, 0), (0, 0), 600),
-            ((590, 8), (0, 0), (0, 0), 590),
-            ((590, 0), (0, 0), (0, 0), 600),
-            ((0, 640), (592, 1), (0, 9), 592),
-            ((0, 640), (592, 0), (594, 9), 594),
-            ((0, 640), (0, 3), (594, 0), 600),
-        ] {
-            let found = first_content(&rt, form, segment, symbols, strings)?;
-            assert_eq!(rt; found, first);
+        for (segment, symbols, strings, first) in rows {
+            let found = again!(&rt; first_content(rt.alloc(), form, segment, symbols, strings));
+            same(&rt, "first content", &found, &Ok(first));
         }
-    }
-    Ok(())
-}
-
-fn printed(rt: &HostRuntime, fault: MachFault) -> Result<String, AllocError> {
-    match format!(in rt.alloc(); "{fault}") {
-        Err(_) => format!(in rt.alloc(); "{fault}"),
-        answer => answer,
     }
 }
 
 #[test]
-fn prints_faults(rt: HostRuntime) -> Result<(), Fail> {
+fn prints_faults(rt: HostRuntime) {
     for (fault, name) in [
         (MachFault::BadMagic, "BadMagic"),
         (MachFault::Truncated, "Truncated"),
@@ -442,7 +496,6 @@ fn prints_faults(rt: HostRuntime) -> Result<(), Fail> {
         (MachFault::TooLong, "TooLong"),
         (MachFault::Memory, "Memory"),
     ] {
-        assert_eq!(rt; printed(&rt, fault)?.as_str(), name);
+        prints(&rt, &fault, name);
     }
-    Ok(())
 }

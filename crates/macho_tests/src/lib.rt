@@ -2,6 +2,21 @@
 //! proof of what they test does not wait for them.
 #![tactic(auto)]
 
+// What a call answers. One that was refused memory is made once more, and is then not refused it again.
+#[cfg(test)]
+macro_rules! again {
+    ($rt:expr; $call:expr) => {{
+        let answer = $call;
+        if crate::support::wants_memory(&answer) {
+            crate::support::granted($rt, $call)
+        } else {
+            answer
+        }
+    }};
+}
+
+#[cfg(test)]
+mod containers;
 #[cfg(test)]
 mod edits;
 #[cfg(test)]
@@ -12,3 +27,5 @@ mod fat_table;
 mod image;
 #[cfg(test)]
 mod store;
+#[cfg(test)]
+mod support;

@@ -3,6 +3,7 @@ ghost use Rattle.macho_image.specs.Checks.{area_fault};
 ghost use Rattle.macho_image.specs.Form.{ctx_of, header_size};
 ghost use Rattle.macho_image.specs.Prepared.{IsMadeFor};
 
+use crate::support::same;
 use macho_image::command::{LC_RPATH, LC_SYMTAB};
 use macho_image::format::{MH_MAGIC, MH_MAGIC_64, MachFault};
 use macho_image::{Ctx, MachO, Prepared, header_size, read_commands};
@@ -104,19 +105,33 @@ struct Shown<'a> {
     first_content: usize,
 }
 
+// Where the commands begin that a file shows, up to two.
+fn offsets(file: &MachO<'_>) -> [usize; 2] {
+    let mut offsets = [0; 2];
+    for (offset, command) in offsets.iter_mut().zip(file.load_commands()) {
+        *offset = command.offset;
+    }
+    offsets
+}
+
 fn expect_file(rt: &impl Abort, file: &MachO<'_>, shown: &Shown<'_>) {
     let expected = file_of(file.ctx(), shown.counts, shown.body);
-    assert_eq!(rt; file.bytes(), expected.as_slice());
-    assert_eq!(rt;
-        [file.header().ncmds, file.header().sizeofcmds],
-        shown.counts
+    same(rt, "bytes", &file.bytes(), &expected.as_slice());
+    expect_lists(rt, file, shown);
+}
+
+fn expect_lists(rt: &impl Abort, file: &MachO<'_>, shown: &Shown<'_>) {
+    let counts = [file.header().ncmds, file.header().sizeofcmds];
+    same(rt, "counts", &counts, &shown.counts);
+    let [ncmds, _] = shown.counts;
+    let places = [file.load_commands().len(), file.first_content()];
+    same(
+        rt,
+        "places",
+        &places,
+        &[ncmds as usize, shown.first_content],
     );
-    let commands = file.load_commands();
-    assert_eq!(rt; commands.len(), shown.counts[0] as usize);
-    for (command, offset) in commands.iter().zip(&shown.offsets) {
-        assert_eq!(rt; command.offset, *offset);
-    }
-    assert_eq!(rt; file.first_content(), shown.first_content);
+    same(rt, "offsets", &offsets(file), &shown.offsets);
 }
 
 // A call that was refused memory is made once more.
@@ -207,9 +222,20 @@ fn store_area(
     let front = told_front(alloc, file, count, area, high)?;
     let prepared = prepared(rt, alloc, file, shown, count, area)?;
     file.store(prepared, high);
-    assert_eq!(rt; front.len(), high);
-    assert!(rt; file.bytes().starts_with(&front));
+    same(
+        rt,
+        "front",
+        &Some(front.as_slice()),
+        &file.bytes().get(..high),
+    );
     Ok(())
+}
+
+// The bytes of a file that was edited are handed out without memory.
+fn expect_handed_out(rt: &impl Abort, alloc: Global, file: MachO<'_>, shown: &Shown<'_>) {
+    let expected = file_of(file.ctx(), shown.counts, shown.body);
+    let handed = file.into_bytes(alloc).expect(rt, "bytes");
+    same(rt, "handed out", &handed.as_slice(), &expected.as_slice());
 }
 
 // Stores two commands in place of one, and then none over the copy that is there.
@@ -246,6 +272,7 @@ fn expect_stores(rt: &impl Abort, alloc: Global, ctx: Ctx, start: u8) -> Result<
         first_content: end,
     };
     expect_file(rt, &file, &shorter);
+    expect_handed_out(rt, alloc, file, &shorter);
     Ok(())
 }
 

@@ -1,35 +1,18 @@
 //! The texts of errors, and what becomes which error.
 
+use crate::support::{Runtime, prints, same, shows};
 use arwen_elf::elf::{ElfError, ModifyCause, ProbeAnswer};
 use elf_image::ElfFault;
 use patch_bytes::ByteString;
 use std::alloc::{AllocError, AllocFailed};
-use std::test::Fail;
-use std::{fmt, io};
+use std::io;
 
-fn shown<E: fmt::Display>(rt: &HostRuntime, error: &E) -> Result<String, AllocError> {
-    match format!(in rt.alloc(); "{error}") {
-        Err(_) => format!(in rt.alloc(); "{error}"),
-        answer => answer,
-    }
-}
-
-fn debug<E: fmt::Debug>(rt: &HostRuntime, value: &E) -> Result<String, AllocError> {
-    match format!(in rt.alloc(); "{value:?}") {
-        Err(_) => format!(in rt.alloc(); "{value:?}"),
-        answer => answer,
-    }
-}
-
-fn string(rt: &HostRuntime, text: &str) -> Result<String, AllocError> {
-    match String::from_str(rt.alloc(), text) {
-        Err(_) => String::from_str(rt.alloc(), text),
-        answer => answer,
-    }
+fn string(rt: &impl Runtime, text: &str) -> String {
+    again!(rt; String::from_str(rt.alloc(), text)).expect(rt, "memory")
 }
 
 #[test]
-fn texts_of_errors(rt: HostRuntime) -> Result<(), Fail> {
+fn texts_of_errors(rt: HostRuntime) {
     let rows: [(ElfError, &str); 9] = [
         (
             io::Error::from(io::ErrorKind::NotFound).into(),
@@ -57,13 +40,12 @@ fn texts_of_errors(rt: HostRuntime) -> Result<(), Fail> {
         (AllocFailed { value: 1u8 }.into(), "out of memory"),
     ];
     for (error, text) in rows {
-        assert_eq!(rt; shown(&rt, &error)?.as_str(), text);
+        prints(&rt, &error, text);
     }
-    Ok(())
 }
 
 #[test]
-fn texts_of_causes(rt: HostRuntime) -> Result<(), Fail> {
+fn texts_of_causes(rt: HostRuntime) {
     let rows = [
         (
             ModifyCause::NoDynamic("set runpath"),
@@ -73,10 +55,7 @@ fn texts_of_causes(rt: HostRuntime) -> Result<(), Fail> {
             ModifyCause::NoInterp,
             "No interp section found; can't set interpreter",
         ),
-        (
-            ModifyCause::UnknownAbi(string(&rt, "ns")?),
-            "Unknown ABI ns",
-        ),
+        (ModifyCause::UnknownAbi(string(&rt, "ns")), "Unknown ABI ns"),
         (
             ModifyCause::BadPageSize(1000),
             "Page size must be a power of 2 and >= 1024, got 1000",
@@ -85,13 +64,12 @@ fn texts_of_causes(rt: HostRuntime) -> Result<(), Fail> {
         (ModifyCause::Overlap, "Overlapping immovable sections"),
     ];
     for (cause, text) in rows {
-        assert_eq!(rt; shown(&rt, &cause)?.as_str(), text);
+        prints(&rt, &cause, text);
     }
-    Ok(())
 }
 
 #[test]
-fn texts_of_further_causes(rt: HostRuntime) -> Result<(), Fail> {
+fn texts_of_further_causes(rt: HostRuntime) {
     let rows = [
         (ModifyCause::NulInText, "NUL in a text"),
         (ModifyCause::MipsImage, "MIPS images can't be modified"),
@@ -107,26 +85,35 @@ fn texts_of_further_causes(rt: HostRuntime) -> Result<(), Fail> {
         (ModifyCause::TooManyHeaders, "Too many program headers"),
     ];
     for (cause, text) in rows {
-        assert_eq!(rt; shown(&rt, &cause)?.as_str(), text);
+        prints(&rt, &cause, text);
     }
-    Ok(())
 }
 
 #[test]
-fn debug_texts(rt: HostRuntime) -> Result<(), Fail> {
+fn debug_texts(rt: HostRuntime) {
     let fault: ElfError = ElfFault::Disagree(4).into();
-    assert_eq!(rt; debug(&rt, &fault)?.as_str(), "Parse(Disagree(4))");
+    shows(&rt, &fault, "Parse(Disagree(4))");
+}
+
+#[test]
+fn probe_answers(rt: HostRuntime) {
     let answer = ProbeAnswer {
         directory: ByteString::borrowed(b"/a"),
         needed: ByteString::borrowed(b"b"),
         machine: Some(62),
     };
-    assert_eq!(rt; answer.machine, Some(62));
-    assert_eq!(rt; answer.directory.as_slice(), b"/a".as_slice());
-    assert!(rt;
-        debug(&rt, &answer)?
-            .as_str()
-            .starts_with("ProbeAnswer { directory: ")
+    same(&rt, "machine", &answer.machine, &Some(62));
+    same(
+        &rt,
+        "directory",
+        &answer.directory.as_slice(),
+        &b"/a".as_slice(),
     );
-    Ok(())
+    let shown = again!(&rt; format!(in rt.alloc(); "{answer:?}")).expect(&rt, "memory");
+    same(
+        &rt,
+        "text",
+        &shown.as_str().starts_with("ProbeAnswer { directory: "),
+        &true,
+    );
 }

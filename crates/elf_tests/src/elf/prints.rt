@@ -1,9 +1,10 @@
 //! What is printed.
 
-use super::{LIBRARY, PROGRAM, changed, parsed};
+use super::{LIBRARY, PROGRAM, parsed};
+use crate::support::{Runtime, changed, same, wants_memory};
 use arwen_elf::elf::{ElfContainer, ElfError};
+use std::alloc::Global;
 use std::io::{Cursor, Write};
-use std::test::Fail;
 
 // The prints.
 #[derive(Clone, Copy, Debug)]
@@ -17,131 +18,154 @@ enum What {
 }
 
 fn print<W: Write>(
-    rt: &HostRuntime,
+    alloc: Global,
     file: &ElfContainer<'_>,
     what: What,
     out: &mut W,
 ) -> Result<(), ElfError> {
     match what {
-        What::Runpath => file.print_runpath(rt.alloc(), out),
-        What::Soname => file.print_soname(rt.alloc(), out),
-        What::Needed => file.print_needed(rt.alloc(), out),
-        What::Interpreter => file.print_interpreter(rt.alloc(), out),
-        What::OsAbi => file.print_os_abi(rt.alloc(), out),
+        What::Runpath => file.print_runpath(alloc, out),
+        What::Soname => file.print_soname(alloc, out),
+        What::Needed => file.print_needed(alloc, out),
+        What::Interpreter => file.print_interpreter(alloc, out),
+        What::OsAbi => file.print_os_abi(alloc, out),
         What::ExecStack => file.print_exec_stack(out),
     }
 }
 
 // Prints, once more where there was no memory, which leaves the page as it was.
 fn print_to(
-    rt: &HostRuntime,
+    rt: &impl Runtime,
     file: &ElfContainer<'_>,
     what: What,
     page: &mut Cursor<[u8; 32]>,
 ) -> Result<(), ElfError> {
-    match print(rt, file, what, page) {
-        Err(ElfError::Memory) if page.position() == 0 && page.get_ref()[0] == 0 => {
-            print(rt, file, what, page)
-        }
-        answer => answer,
+    let answer = print(rt.alloc(), file, what, page);
+    if !wants_memory(&answer) {
+        return answer;
     }
+    same(rt, "a page after a refusal", page.get_ref(), &[0; 32]);
+    same(rt, "its position", &page.position(), &0);
+    print(rt.alloc(), file, what, page)
 }
 
-// Whether a file's print is this text.
-fn prints(rt: &HostRuntime, bytes: &[u8], what: What, want: &[u8]) -> Result<bool, ElfError> {
-    let file = parsed(rt, bytes)?;
+// Compares a file's print.
+fn expect_print(rt: &impl Runtime, bytes: &[u8], what: What, want: &[u8]) {
+    let file = parsed(rt, bytes);
     let mut page = Cursor::new([0; 32]);
-    print_to(rt, &file, what, &mut page)?;
-    Ok(page.position() == want.len() as u64 && page.get_ref().starts_with(want))
+    print_to(rt, &file, what, &mut page).expect(rt, "a print");
+    let length = want.len();
+    same(rt, "length", &page.position(), &(length as u64));
+    same(rt, "print", &page.get_ref().get(..length), &Some(want));
 }
+
+const PRINTS: [(&[u8], What, &[u8]); 12] = [
+    (LIBRARY, What::Runpath, b"/a\n"),
+    (LIBRARY, What::Needed, b"libc.so.6\n"),
+    (LIBRARY, What::OsAbi, b"0\n"),
+    (LIBRARY, What::Soname, b""),
+    (LIBRARY, What::Interpreter, b""),
+    (LIBRARY, What::ExecStack, b""),
+    (PROGRAM, What::Runpath, b""),
+    (PROGRAM, What::Needed, b""),
+    (PROGRAM, What::OsAbi, b"6\n"),
+    (PROGRAM, What::Soname, b""),
+    (PROGRAM, What::Interpreter, b"/ld\n"),
+    (PROGRAM, What::ExecStack, b"X\n"),
+];
 
 #[test]
-fn prints_a_library(rt: HostRuntime) -> Result<(), Fail> {
-    let rows: [(What, &[u8]); 6] = [
-        (What::Runpath, b"/a\n"),
-        (What::Needed, b"libc.so.6\n"),
-        (What::OsAbi, b"0\n"),
-        (What::Soname, b""),
-        (What::Interpreter, b""),
-        (What::ExecStack, b""),
-    ];
-    for (what, want) in rows {
-        assert!(rt; prints(&rt, LIBRARY, what, want)?, "{what:?}");
+fn prints_files(rt: HostRuntime) {
+    for (file, what, want) in PRINTS {
+        expect_print(&rt, file, what, want);
     }
-    Ok(())
 }
 
-#[test]
-fn prints_a_program(rt: HostRuntime) -> Result<(), Fail> {
-    let rows: [(What, &[u8]); 6] = [
-        (What::Runpath, b""),
-        (What::Needed, b""),
-        (What::OsAbi, b"6\n"),
-        (What::Soname, b""),
-        (What::Interpreter, b"/ld\n"),
-        (What::ExecStack, b"X\n"),
-    ];
-    for (what, want) in rows {
-        assert!(rt; prints(&rt, PROGRAM, what, want)?, "{what:?}");
-    }
-    Ok(())
-}
-
-// Whether the library with these bytes prints this text.
-fn changed_prints(
-    rt: &HostRuntime,
-    changes: &[(usize, u8)],
+// A file with other bytes at some places, and a print of it.
+#[derive(Clone, Copy)]
+struct Changed<'e> {
+    file: &'e [u8],
+    changes: &'e [(usize, &'e [u8])],
     what: What,
-    want: &[u8],
-) -> Result<bool, ElfError> {
-    let file = changed(rt, LIBRARY, changes)?;
-    prints(rt, &file, what, want)
+    print: &'e [u8],
 }
 
+const CHANGED: [Changed<'static>; 8] = [
+    // The tag of the run path is that of the library's own name, and that of a needed library.
+    Changed {
+        file: LIBRARY,
+        changes: &[(256, &[14])],
+        what: What::Soname,
+        print: b"/a\n",
+    },
+    Changed {
+        file: LIBRARY,
+        changes: &[(256, &[1])],
+        what: What::Needed,
+        print: b"libc.so.6\n/a\n",
+    },
+    Changed {
+        file: LIBRARY,
+        changes: &[(256, &[1]), (264, &[1])],
+        what: What::Needed,
+        print: b"libc.so.6\nlibc.so.6\n",
+    },
+    // The first entry with a run path has DT_RPATH.
+    Changed {
+        file: LIBRARY,
+        changes: &[(240, &[15])],
+        what: What::Runpath,
+        print: b"libc.so.6\n",
+    },
+    Changed {
+        file: LIBRARY,
+        changes: &[(264, &[0])],
+        what: What::Runpath,
+        print: b"\n",
+    },
+    // Bytes that are no text.
+    Changed {
+        file: LIBRARY,
+        changes: &[(188, &[0xff])],
+        what: What::Runpath,
+        print: b"/\xef\xbf\xbd\n",
+    },
+    // A stack that may not be run, and an interpreter without its NUL.
+    Changed {
+        file: PROGRAM,
+        changes: &[(143, &[6])],
+        what: What::ExecStack,
+        print: b"-\n",
+    },
+    Changed {
+        file: PROGRAM,
+        changes: &[(151, b"!")],
+        what: What::Interpreter,
+        print: b"/ld!\n",
+    },
+];
+
 #[test]
-fn prints_other_texts(rt: HostRuntime) -> Result<(), Fail> {
-    let rows: [(What, &[(usize, u8)], &[u8]); 6] = [
-        // The tag of the run path is that of the library's own name, and that of a needed library.
-        (What::Soname, &[(256, 14)], b"/a\n"),
-        (What::Needed, &[(256, 1)], b"libc.so.6\n/a\n"),
-        (
-            What::Needed,
-            &[(256, 1), (264, 1)],
-            b"libc.so.6\nlibc.so.6\n",
-        ),
-        // The first entry with a run path has DT_RPATH.
-        (What::Runpath, &[(240, 15)], b"libc.so.6\n"),
-        (What::Runpath, &[(264, 0)], b"\n"),
-        (What::Runpath, &[(188, 0xff)], b"/\xef\xbf\xbd\n"),
-    ];
-    for (what, changes, want) in rows {
-        assert!(rt; changed_prints(&rt, changes, what, want)?, "{what:?}");
+fn prints_changed_files(rt: HostRuntime) {
+    for row in CHANGED {
+        let file = changed(&rt, row.file, row.changes);
+        expect_print(&rt, &file, row.what, row.print);
     }
-    Ok(())
 }
 
-#[test]
-fn prints_a_stack_that_is_not_run(rt: HostRuntime) -> Result<(), Fail> {
-    let file = changed(&rt, PROGRAM, &[(143, 6)])?;
-    assert!(rt; prints(&rt, &file, What::ExecStack, b"-\n")?);
-    Ok(())
-}
-
-#[test]
-fn prints_an_interpreter_without_nul(rt: HostRuntime) -> Result<(), Fail> {
-    let file = changed(&rt, PROGRAM, &[(151, b'!')])?;
-    assert!(rt; prints(&rt, &file, What::Interpreter, b"/ld!\n")?);
-    Ok(())
-}
-
-#[test]
-fn tells_a_writer_that_fails(rt: HostRuntime) -> Result<(), Fail> {
-    let file = parsed(&rt, LIBRARY)?;
+// Whether the print of a needed library fails for its writer.
+fn fails_for_writer(alloc: Global, file: &ElfContainer<'_>) -> Result<bool, ElfError> {
     let mut page = Cursor::new([0u8; 3]);
-    let answer = match print(&rt, &file, What::Needed, &mut page) {
-        Err(ElfError::Memory) => print(&rt, &file, What::Needed, &mut page),
-        answer => answer,
-    };
-    assert!(rt; matches!(answer, Err(ElfError::Io(_))));
-    Ok(())
+    match print(alloc, file, What::Needed, &mut page) {
+        Err(ElfError::Io(_)) => Ok(true),
+        Err(error) => Err(error),
+        Ok(()) => Ok(false),
+    }
+}
+
+#[test]
+fn tells_a_writer_that_fails(rt: HostRuntime) {
+    let file = parsed(&rt, LIBRARY);
+    let fails = again!(&rt; fails_for_writer(rt.alloc(), &file)).expect(&rt, "an answer");
+    same(&rt, "fails", &fails, &true);
 }

@@ -1,18 +1,28 @@
 //! Which files are refused, and for what.
 
-use super::{LIBRARY, changed, fault};
+use super::LIBRARY;
+use crate::support::{Runtime, changed, same};
+use arwen_elf::elf::{ElfError, Writer};
 use elf_image::ElfFault;
-use std::alloc::AllocError;
-use std::test::Fail;
+use std::alloc::{AllocError, Global};
 
-// The read rule that the library breaks with these bytes.
-fn fault_with(rt: &HostRuntime, changes: &[(usize, u8)]) -> Result<Option<ElfFault>, AllocError> {
-    let file = changed(rt, LIBRARY, changes)?;
-    Ok(fault(rt, &file))
+// The read rule that a file breaks.
+fn fault(alloc: Global, bytes: &[u8]) -> Result<Option<ElfFault>, ElfError> {
+    match Writer::read(alloc, bytes) {
+        Ok(_) => Ok(None),
+        Err(ElfError::Parse(fault)) => Ok(Some(fault)),
+        Err(error) => Err(error),
+    }
+}
+
+// Compares the read rule that a file breaks.
+fn expect_fault(rt: &impl Runtime, what: &str, bytes: &[u8], want: Option<ElfFault>) {
+    let found = again!(rt; fault(rt.alloc(), bytes)).expect(rt, "a fault");
+    same(rt, what, &found, &want);
 }
 
 #[test]
-fn refuses_one_change(rt: HostRuntime) -> Result<(), Fail> {
+fn refuses_one_change(rt: HostRuntime) {
     let rows = [
         ("class", (4, 3), ElfFault::Unsupported),
         ("magic", (0, 0), ElfFault::BadMagic),
@@ -26,51 +36,54 @@ fn refuses_one_change(rt: HostRuntime) -> Result<(), Fail> {
         ("less of DT_STRSZ", (296, 13), ElfFault::BadText),
         ("place of DT_RUNPATH", (264, 14), ElfFault::BadText),
     ];
-    for (what, change, want) in rows {
-        assert_eq!(rt; fault_with(&rt, &[change])?, Some(want), "{what}");
+    for (what, (place, byte), want) in rows {
+        let file = changed(&rt, LIBRARY, &[(place, &[byte])]);
+        expect_fault(&rt, what, &file, Some(want));
     }
-    Ok(())
 }
 
 #[test]
-fn accepts_the_library(rt: HostRuntime) -> Result<(), Fail> {
-    assert_eq!(rt; fault_with(&rt, &[])?, None);
-    super::read(&rt, LIBRARY)?;
-    Ok(())
+fn accepts_the_library(rt: HostRuntime) {
+    expect_fault(&rt, "the library", LIBRARY, None);
 }
 
 #[test]
 fn refuses_what_is_cut(rt: HostRuntime) {
     for length in 0..LIBRARY.len() {
-        assert_eq!(rt;
-            fault(&rt, &LIBRARY[..length]),
+        expect_fault(
+            &rt,
+            "a front",
+            &LIBRARY[..length],
             Some(ElfFault::Truncated),
-            "{length}"
         );
     }
 }
 
 // The library with two segments that are loaded, from 0 to 0x1000 and from a place of these two bytes on.
-fn two_loaded(rt: &HostRuntime, low: u8, high: u8) -> Result<Option<ElfFault>, AllocError> {
-    let second = [(120, 1), (128, low), (129, high), (136, 0), (138, 2)];
-    let mut file = changed(rt, LIBRARY, &[(96, 0), (97, 0x10), (104, 0), (105, 0x10)])?;
-    file = changed(rt, &file, &second)?;
-    for _i in file.len()..0x1100 {
-        pushed(&mut file)?;
+fn two_loaded(alloc: Global, place: &[u8]) -> Result<Vec<u8>, AllocError> {
+    let mut file = vec![in alloc; 0; 0x1100]?;
+    for (byte, new) in file.iter_mut().zip(LIBRARY) {
+        *byte = *new;
     }
-    Ok(fault(rt, &file))
-}
-
-fn pushed(file: &mut Vec<u8>) -> Result<(), AllocError> {
-    match file.push(0) {
-        Err(_) => Ok(file.push(0)?),
-        Ok(()) => Ok(()),
-    }
+    let changes: [(usize, &[u8]); 6] = [
+        (96, b"\0\x10"),
+        (104, b"\0\x10"),
+        (120, b"\x01"),
+        (128, place),
+        (136, b"\0"),
+        (138, b"\x02"),
+    ];
+    crate::support::changed_once(alloc, &file, &changes)
 }
 
 #[test]
-fn refuses_segments_that_share_a_byte(rt: HostRuntime) -> Result<(), Fail> {
-    assert_eq!(rt; two_loaded(&rt, 0xff, 0x0f)?, Some(ElfFault::Disagree(3)));
-    assert_eq!(rt; two_loaded(&rt, 0x00, 0x10)?, Some(ElfFault::Disagree(7)));
-    Ok(())
+fn refuses_segments_that_share_a_byte(rt: HostRuntime) {
+    let rows = [
+        (b"\xff\x0f", ElfFault::Disagree(3)),
+        (b"\x00\x10", ElfFault::Disagree(7)),
+    ];
+    for (place, want) in rows {
+        let file = again!(&rt; two_loaded(rt.alloc(), place)).expect(&rt, "memory");
+        expect_fault(&rt, "two segments", &file, Some(want));
+    }
 }

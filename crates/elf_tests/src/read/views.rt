@@ -1,6 +1,6 @@
 //! The reader beside the plain reader: both show the same.
-use crate::read::read;
 use crate::samples::{LINKED, SMALL, TWIN, VERSIONED};
+use crate::support::same;
 use elf_image::constants::{
     DT_SYMTAB, DT_VERDEF, DT_VERDEFNUM, DT_VERNEED, DT_VERNEEDNUM, DT_VERSYM, PT_GNU_STACK,
 };
@@ -8,10 +8,11 @@ use elf_plain::view::{
     EntryView, ShownDefinition, ShownName, ShownNeeds, ShownSymbol, ShownView,
 };
 use elf_plain::{ViewFault, section_view};
-use elf_image::{Builder, Dynamic, Segment, Symbol, VersionDef, VersionNeed, VersionNeedName};
+use elf_image::{
+    Builder, Dynamic, ElfFault, Segment, Symbol, VersionDef, VersionNeed, VersionNeedName,
+};
 use patch_bytes::ByteString;
 use std::alloc::{AllocError, Global};
-use std::test::Fail;
 
 // The flags of the first PT_GNU_STACK.
 fn stack_flags(segments: &[Segment<'_>]) -> Option<u32> {
@@ -131,28 +132,25 @@ fn shown_once<'a>(alloc: Global, image: &'a Builder<'_>) -> Result<ShownView<'a>
     Ok(view)
 }
 
-// Calls that were refused memory are made once more.
-fn shown<'a>(rt: &HostRuntime, image: &'a Builder<'_>) -> Result<ShownView<'a>, AllocError> {
-    match shown_once(rt.alloc(), image) {
-        Err(_) => shown_once(rt.alloc(), image),
-        answer => answer,
-    }
+// Whether an image shows what the plain reader shows.
+fn is_same(alloc: Global, file: &[u8]) -> Result<bool, ElfFault> {
+    let image = Builder::read(alloc, file)?;
+    let view = shown_once(alloc, &image)?;
+    is_shown(alloc, file, &view)
 }
 
-fn plainly_shown<'a>(rt: &HostRuntime, file: &'a [u8]) -> Result<ShownView<'a>, ViewFault> {
-    match section_view(rt.alloc(), file) {
-        Err(ViewFault::Memory) => section_view(rt.alloc(), file),
-        answer => answer,
+fn is_shown(alloc: Global, file: &[u8], view: &ShownView<'_>) -> Result<bool, ElfFault> {
+    match section_view(alloc, file) {
+        Ok(plain) => Ok(plain == *view),
+        Err(ViewFault::Memory) => Err(ElfFault::Memory),
+        Err(ViewFault::Absent) => Ok(false),
     }
 }
 
 #[test]
-fn same_views(rt: HostRuntime) -> Result<(), Fail> {
+fn same_views(rt: HostRuntime) {
     for file in [SMALL, TWIN, VERSIONED, LINKED] {
-        let image = read(&rt, file)?;
-        let view = shown(&rt, &image)?;
-        let plain = plainly_shown(&rt, file)?;
-        assert!(rt; view == plain);
+        let found = again!(&rt; is_same(rt.alloc(), file));
+        same(&rt, "views", &found, &Ok(true));
     }
-    Ok(())
 }

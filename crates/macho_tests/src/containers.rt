@@ -1,0 +1,356 @@
+//! Edits of files, call by call, in each kind of container: what each call answers, and the bytes that it leaves.
+
+mod batches;
+mod rows;
+
+use crate::fat::joined;
+use crate::support::{Runtime, copied, put, same, text_of, wants_memory};
+use arwen_macho::macho::{
+    FatMachoContainer, MachO, MachoBatchError, MachoContainer, MachoEdit, MachoError, MachoType,
+    SingleMachO,
+};
+use std::alloc::{AllocError, Global};
+
+// An edit with its texts.
+#[derive(Clone, Copy)]
+pub(crate) enum Edit<'e> {
+    Add(&'e str),
+    Change(&'e str, &'e str),
+    Remove(&'e str),
+    Id(&'e str),
+    Name(&'e str, &'e str),
+}
+
+// Edits that are made in one call (one by its own method, others by `apply`), what the call answers, and the bytes
+// that it changes, at their places.
+#[derive(Clone, Copy)]
+pub(crate) struct Step<'e> {
+    pub(crate) edits: &'e [Edit<'e>],
+    pub(crate) answer: &'e str,
+    pub(crate) changes: &'e [(usize, &'e [u8])],
+}
+
+// A thin file: its length, and bytes at their places among zeros.
+#[derive(Clone, Copy)]
+struct Sample<'e> {
+    length: usize,
+    parts: &'e [(usize, &'e [u8])],
+}
+
+// A container of a file under edits.
+pub(crate) trait Container<'a>: Sized + Drop {
+    fn parse(alloc: Global, bytes: &'a [u8]) -> Result<Self, MachoError>;
+
+    fn bytes(&self) -> &[u8];
+
+    // The lists and the counts of each thin file in it.
+    fn lists(&self, alloc: Global) -> Result<String, AllocError>;
+
+    fn edit(&mut self, alloc: Global, edit: Edit<'_>) -> Result<(), MachoError>;
+
+    fn apply(&mut self, alloc: Global, edits: &[MachoEdit]) -> Result<(), MachoBatchError>;
+
+    fn into_bytes(self, alloc: Global) -> Result<Vec<u8>, AllocError>;
+}
+
+// The list and the counts of a file.
+fn listed(alloc: Global, file: &MachO<'_>) -> Result<String, AllocError> {
+    let (header, commands, first) = (file.header(), file.load_commands(), file.first_content());
+    format!(in alloc; "{header:?} {commands:?} {first}\n")
+}
+
+impl<'a> Container<'a> for SingleMachO<'a> {
+    fn parse(alloc: Global, bytes: &'a [u8]) -> Result<Self, MachoError> {
+        SingleMachO::parse(alloc, bytes)
+    }
+
+    fn bytes(&self) -> &[u8] {
+        self.bytes()
+    }
+
+    fn lists(&self, alloc: Global) -> Result<String, AllocError> {
+        listed(alloc, self.inner())
+    }
+
+    fn edit(&mut self, alloc: Global, edit: Edit<'_>) -> Result<(), MachoError> {
+        match edit {
+            Edit::Add(new) => self.add_rpath(alloc, new),
+            Edit::Change(old, new) => self.change_rpath(alloc, old, new),
+            Edit::Remove(old) => self.remove_rpath(alloc, old),
+            Edit::Id(new) => self.change_install_id(alloc, new),
+            Edit::Name(old, new) => self.change_install_name(alloc, old, new),
+        }
+    }
+
+    fn apply(&mut self, alloc: Global, edits: &[MachoEdit]) -> Result<(), MachoBatchError> {
+        self.apply(alloc, edits)
+    }
+
+    fn into_bytes(self, alloc: Global) -> Result<Vec<u8>, AllocError> {
+        self.into_bytes(alloc)
+    }
+}
+
+impl<'a> Container<'a> for FatMachoContainer<'a> {
+    fn parse(alloc: Global, bytes: &'a [u8]) -> Result<Self, MachoError> {
+        FatMachoContainer::parse(alloc, bytes)
+    }
+
+    fn bytes(&self) -> &[u8] {
+        self.bytes()
+    }
+
+    fn lists(&self, alloc: Global) -> Result<String, AllocError> {
+        let mut lists = String::new(alloc);
+        for slice in self.archs() {
+            lists.push_str(listed(alloc, slice.inner().inner())?.as_str())?;
+        }
+        Ok(lists)
+    }
+
+    fn edit(&mut self, alloc: Global, edit: Edit<'_>) -> Result<(), MachoError> {
+        match edit {
+            Edit::Add(new) => self.add_rpath(alloc, new),
+            Edit::Change(old, new) => self.change_rpath(alloc, old, new),
+            Edit::Remove(old) => self.remove_rpath(alloc, old),
+            Edit::Id(new) => self.change_install_id(alloc, new),
+            Edit::Name(old, new) => self.change_install_name(alloc, old, new),
+        }
+    }
+
+    fn apply(&mut self, alloc: Global, edits: &[MachoEdit]) -> Result<(), MachoBatchError> {
+        self.apply(alloc, edits)
+    }
+
+    fn into_bytes(self, alloc: Global) -> Result<Vec<u8>, AllocError> {
+        self.into_bytes(alloc)
+    }
+}
+
+impl<'a> Container<'a> for MachoContainer<'a> {
+    fn parse(alloc: Global, bytes: &'a [u8]) -> Result<Self, MachoError> {
+        MachoContainer::parse(alloc, bytes)
+    }
+
+    fn bytes(&self) -> &[u8] {
+        self.bytes()
+    }
+
+    fn lists(&self, alloc: Global) -> Result<String, AllocError> {
+        match self.inner() {
+            MachoType::SingleArch(single) => single.lists(alloc),
+            MachoType::Fat(fat) => fat.lists(alloc),
+        }
+    }
+
+    fn edit(&mut self, alloc: Global, edit: Edit<'_>) -> Result<(), MachoError> {
+        match edit {
+            Edit::Add(new) => self.add_rpath(alloc, new),
+            Edit::Change(old, new) => self.change_rpath(alloc, old, new),
+            Edit::Remove(old) => self.remove_rpath(alloc, old),
+            Edit::Id(new) => self.change_install_id(alloc, new),
+            Edit::Name(old, new) => self.change_install_name(alloc, old, new),
+        }
+    }
+
+    fn apply(&mut self, alloc: Global, edits: &[MachoEdit]) -> Result<(), MachoBatchError> {
+        self.apply(alloc, edits)
+    }
+
+    fn into_bytes(self, alloc: Global) -> Result<Vec<u8>, AllocError> {
+        self.into_bytes(alloc)
+    }
+}
+
+// What is seen of a container: its bytes, and its lists and counts.
+#[derive(Drop)]
+struct Seen {
+    bytes: Vec<u8>,
+    lists: String,
+}
+
+fn lists_of<'a, T: Container<'a>>(rt: &impl Runtime, file: &T) -> String {
+    match file.lists(rt.alloc()) {
+        Err(_) => file.lists(rt.alloc()).expect(rt, "memory"),
+        Ok(lists) => lists,
+    }
+}
+
+fn look<'a, T: Container<'a>>(rt: &impl Runtime, file: &T) -> Seen {
+    Seen {
+        bytes: copied(rt, file.bytes()),
+        lists: lists_of(rt, file),
+    }
+}
+
+// Compares what is seen of a container.
+fn stays<'a, T: Container<'a>>(rt: &impl Runtime, file: &T, want: &Seen) {
+    let found = look(rt, file);
+    same(rt, "bytes", &found.bytes, &want.bytes);
+    same(rt, "lists", &found.lists, &want.lists);
+}
+
+// The lists and counts that a parse of bytes finds.
+fn parsed_lists(alloc: Global, bytes: &[u8]) -> Result<String, MachoError> {
+    let file = MachoContainer::parse(alloc, bytes)?;
+    Ok(file.lists(alloc)?)
+}
+
+// The same, asked for again where there was no memory.
+pub(crate) fn found_lists(rt: &impl Runtime, bytes: &[u8]) -> String {
+    again!(rt; parsed_lists(rt.alloc(), bytes)).expect(rt, "a file")
+}
+
+// An edit that owns its texts.
+fn owned(alloc: Global, edit: Edit<'_>) -> Result<MachoEdit, AllocError> {
+    let text = |text: &str| String::from_str(alloc, text);
+    Ok(match edit {
+        Edit::Add(new) => MachoEdit::AddRpath(text(new)?),
+        Edit::Change(old, new) => MachoEdit::ChangeRpath(text(old)?, text(new)?),
+        Edit::Remove(old) => MachoEdit::RemoveRpath(text(old)?),
+        Edit::Id(new) => MachoEdit::ChangeInstallId(text(new)?),
+        Edit::Name(old, new) => MachoEdit::ChangeInstallName(text(old)?, text(new)?),
+    })
+}
+
+fn all_owned(alloc: Global, edits: &[Edit<'_>]) -> Result<Vec<MachoEdit>, AllocError> {
+    let mut batch = Vec::new(alloc);
+    for edit in edits {
+        batch.push(owned(alloc, *edit)?)?;
+    }
+    Ok(batch)
+}
+
+// One edit by its own method, others by `apply`.
+fn call<'a, T: Container<'a>>(
+    alloc: Global,
+    file: &mut T,
+    edits: &[Edit<'_>],
+    batch: &[MachoEdit],
+) -> Result<(), MachoBatchError> {
+    match edits {
+        [edit] => file
+            .edit(alloc, *edit)
+            .map_err(|fault| MachoBatchError { index: 0, fault }),
+        _ => file.apply(alloc, batch),
+    }
+}
+
+// The call once more where it was refused memory, which leaves all that is seen as it was.
+fn called<'a, T: Container<'a>>(
+    rt: &impl Runtime,
+    file: &mut T,
+    edits: &[Edit<'_>],
+) -> Result<(), MachoBatchError> {
+    let batch = again!(rt; all_owned(rt.alloc(), edits)).expect(rt, "memory");
+    let before = look(rt, file);
+    let answer = call(rt.alloc(), file, edits, &batch);
+    if !wants_memory(&answer) {
+        return answer;
+    }
+    stays(rt, file, &before);
+    let answer = call(rt.alloc(), file, edits, &batch);
+    assert!(rt; !wants_memory(&answer), "refused memory twice");
+    answer
+}
+
+// An answer's text: the fault alone of a refused single edit.
+fn told(rt: &impl Runtime, edits: &[Edit<'_>], answer: &Result<(), MachoBatchError>) -> String {
+    match (edits, answer) {
+        ([_], Err(refused)) => text_of(rt, &refused.fault),
+        _ => text_of(rt, answer),
+    }
+}
+
+// Takes a step in a file with thin files at these places, and compares its answer and all bytes.
+fn taken<'a, T: Container<'a>>(
+    rt: &impl Runtime,
+    file: &mut T,
+    starts: &[usize],
+    step: &Step<'_>,
+    want: &mut Vec<u8>,
+) {
+    let answer = called(rt, file, step.edits);
+    for start in starts {
+        for (place, part) in step.changes {
+            put(want, start.saturating_add(*place), part);
+        }
+    }
+    same(
+        rt,
+        "answer",
+        &told(rt, step.edits, &answer).as_str(),
+        &step.answer,
+    );
+    same(rt, step.answer, &file.bytes(), &want.as_slice());
+    same(
+        rt,
+        step.answer,
+        &lists_of(rt, file),
+        &found_lists(rt, file.bytes()),
+    );
+}
+
+fn handed<'a, T: Container<'a>>(alloc: Global, bytes: &'a [u8]) -> Result<Vec<u8>, MachoError> {
+    Ok(T::parse(alloc, bytes)?.into_bytes(alloc)?)
+}
+
+// The bytes that a container hands out: without memory where they were edited.
+fn handed_out<'a, T: Container<'a>>(
+    rt: &impl Runtime,
+    file: T,
+    bytes: &'a [u8],
+    is_edited: bool,
+) -> Vec<u8> {
+    match file.into_bytes(rt.alloc()) {
+        Ok(handed) => handed,
+        Err(_) => {
+            assert!(rt; !is_edited, "no memory for bytes that are there");
+            again!(rt; handed::<T>(rt.alloc(), bytes)).expect(rt, "bytes")
+        }
+    }
+}
+
+// Takes steps in a file with thin files at these places.
+pub(crate) fn walk<'a, T: Container<'a>, R: Runtime>(
+    rt: &R,
+    bytes: &'a [u8],
+    starts: &[usize],
+    steps: &[Step<'_>],
+) {
+    let mut file = again!(rt; T::parse(rt.alloc(), bytes)).expect(rt, "a file");
+    let mut want = copied(rt, bytes);
+    let mut is_edited = false;
+    for step in steps {
+        taken(rt, &mut file, starts, step, &mut want);
+        is_edited = is_edited || (step.answer == "Ok(())" && !step.edits.is_empty());
+    }
+    let handed = handed_out(rt, file, bytes, is_edited);
+    same(rt, "handed out", &handed, &want);
+}
+
+// The bytes of a sample.
+fn laid(alloc: Global, sample: &Sample<'_>) -> Result<Vec<u8>, AllocError> {
+    let mut bytes = vec![in alloc; 0; sample.length]?;
+    for (place, part) in sample.parts {
+        put(&mut bytes, *place, part);
+    }
+    Ok(bytes)
+}
+
+// Where the two slices of a fat file begin that holds a thin file twice.
+const FIRST: u32 = 64;
+
+const SECOND: u32 = 400;
+
+// Takes steps in a thin file, and in a fat file that holds it twice.
+fn walks(rt: &impl Runtime, sample: &Sample<'_>, steps: &[Step<'_>]) {
+    let thin = again!(rt; laid(rt.alloc(), sample)).expect(rt, "memory");
+    walk::<SingleMachO<'_>, _>(rt, &thin, &[0], steps);
+    walk::<MachoContainer<'_>, _>(rt, &thin, &[0], steps);
+    let slices = [(FIRST, thin.as_slice()), (SECOND, thin.as_slice())];
+    let starts = [FIRST as usize, SECOND as usize];
+    let fat = again!(rt; joined(rt.alloc(), &slices)).expect(rt, "memory");
+    walk::<FatMachoContainer<'_>, _>(rt, &fat, &starts, steps);
+    walk::<MachoContainer<'_>, _>(rt, &fat, &starts, steps);
+}
