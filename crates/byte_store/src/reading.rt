@@ -6,6 +6,7 @@ ghost use Rattle.byte_store.specs.Known.{EndsWithin, HasLength, IsAll, IsFirst, 
 
 use crate::stores::Store;
 use std::alloc::{AllocError, Global};
+use std::error::Error;
 use std::io::{ErrorKind, Read};
 use std::{fmt, io};
 
@@ -52,6 +53,8 @@ impl fmt::Display for ReadError {
         }
     }
 }
+
+impl Error for ReadError {}
 
 /// The bytes that a reader has, or the first `most` where it has more. About `expected` are expected:
 /// where there are no more, they are read into one block of memory, and never copied.

@@ -6,6 +6,7 @@ ghost use Rattle.byte_store.specs.Fault.{BecomesLaid, IsLeft, IsIdle};
 
 use crate::pieces::Piece;
 use crate::stores::Store;
+use std::error::Error;
 use std::{fmt, io};
 
 /// How often a write is made, as long as it is interrupted: once, and 1,000 times again.
@@ -51,6 +52,8 @@ impl fmt::Display for WriteError {
         write!(f, "{error}")
     }
 }
+
+impl Error for WriteError {}
 
 /// Makes changes to a store that is open for writing: first what lies behind its old end, then the
 /// pieces, a shorter length last. Takes no memory. Where the growth can't be written, the old length is
