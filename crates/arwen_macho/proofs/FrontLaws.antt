@@ -13,8 +13,7 @@ use Rattle.arwen_macho.specs.State.{laid}
 use Rattle.arwen_macho.specs.Whole.{IsState}
 use Rattle.arwen_macho.proofs.ChangeLaws.{change_bytes, change_inside, change_room, changed_is}
 use Rattle.arwen_macho.proofs.StateLaws.{laid_shows}
-use Rattle.arwen_macho.specs.FatSlice.{IsReadyIn, changed_macho, changed_machos, front_of, fronts_over, slice_held}
-use Rattle.arwen_macho.specs.declared.fat.FatMacho.{FatMacho}
+use Rattle.arwen_macho.specs.FatSlice.{HeldSlice, IsReadyIn, changed_macho, changed_machos, front_of, fronts_over, slice_held}
 use Rattle.arwen_macho.proofs.PutLaws.{length-put_at, put_at-put_at, put_front}
 use Rattle.arwen_macho.proofs.SliceLaws.{ApartFrom, AreLaid, Lies, head-laid_over, length-laid_over, put-laid_over}
 
@@ -32,12 +31,12 @@ same_length held change is of =
     (laid_shows (changed held change).state (changed_is held change is of)).long ∙ sym (laid_shows held.state is).long
 
 -- changed slices lie as they did
-pub apart_changed : (a : FatArch) (slices : List FatMacho) (changes : List Change) → ApartFrom a (map slice_held slices) → ApartFrom a (map slice_held (changed_machos slices changes))
+pub apart_changed : (a : FatArch) (slices : List HeldSlice) (changes : List Change) → ApartFrom a (map slice_held slices) → ApartFrom a (map slice_held (changed_machos slices changes))
 apart_changed a [] changes apart = tt
 apart_changed a (m ∷ slices) [] apart = apart
 apart_changed a (m ∷ slices) (change ∷ changes) apart = (apart.0, apart_changed a slices changes apart.1)
 
-pub laid_changed : (len : ℕ) (slices : List FatMacho) (changes : List Change) → AllZip (IsReadyIn len) slices changes → AreLaid len (map slice_held slices) → AreLaid len (map slice_held (changed_machos slices changes))
+pub laid_changed : (len : ℕ) (slices : List HeldSlice) (changes : List Change) → AllZip (IsReadyIn len) slices changes → AreLaid len (map slice_held slices) → AreLaid len (map slice_held (changed_machos slices changes))
 laid_changed len [] [] ready lie = tt
 laid_changed len [] (change ∷ changes) ready lie = tt
 laid_changed len (m ∷ slices) [] ready lie = lie
@@ -46,7 +45,7 @@ laid_changed len (m ∷ slices) (change ∷ changes) ready lie =
     record { inside = lie.0.inside; long = same_length m.inner change ready.0.is_state ready.0.of ∙ lie.0.long } in
     (here, (apart_changed m.arch slices changes lie.1.0, laid_changed len slices changes ready.1 lie.1.1))
 
-pub fronts_laid : (len : ℕ) (slices : List FatMacho) (changes : List Change) (base : List ℕ) → length base ≡ len → AllZip (IsReadyIn len) slices changes → AreLaid len (map slice_held slices) → fronts_over slices changes (laid_over (map slice_held slices) base) ≡ laid_over (map slice_held (changed_machos slices changes)) base
+pub fronts_laid : (len : ℕ) (slices : List HeldSlice) (changes : List Change) (base : List ℕ) → length base ≡ len → AllZip (IsReadyIn len) slices changes → AreLaid len (map slice_held slices) → fronts_over slices changes (laid_over (map slice_held slices) base) ≡ laid_over (map slice_held (changed_machos slices changes)) base
 fronts_laid len [] [] base long ready lie = refl
 fronts_laid len [] (change ∷ changes) base long ready lie = refl
 fronts_laid len (m ∷ slices) [] base long ready lie = absurd ready

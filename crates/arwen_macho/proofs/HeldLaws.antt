@@ -67,25 +67,6 @@ pub available_is : (s : Inside) → IsHeld s → max (commands_end (ctx_of s.inn
 available_is s is =
     ap (λ (bytes : List ℕ). max (commands_end (ctx_of bytes) bytes) (first_content_of bytes)) is.bytes ∙ available_shown (held_of s).state is.is_state
 
--- the parsed file is that of the state
-pub image_is : (s : Inside) → IsHeld s → s.inner ≡ image_held (held_of s)
-image_is s is = ap (λ (bytes : List ℕ). record { bytes = bytes; is_edited = s.inner.is_edited }) is.bytes
-
--- a list of so many bytes fits the file where it ends in time
-pub fits_inside : (s : Inside) (commands : List (List ℕ)) → IsHeld s → end_of (ctx_of (held_of s).state.old) commands ≤ available (held_of s).state → header_size (ctx_of s.inner.bytes).container + length (concat commands) ≤ length s.inner.bytes
-fits_inside s commands is room =
-    let shows = laid_shows (held_of s).state is.is_state in
-    let wide : header_size (ctx_of s.inner.bytes).container ≡ header_size (ctx_of s.source.now).container = ap (λ (bytes : List ℕ). header_size (ctx_of bytes).container) is.bytes ∙ ap (λ (c : Ctx). header_size c.container) shows.form in
-    let long : length s.inner.bytes ≡ length s.source.now = ap length is.bytes ∙ shows.long in
-    let most = available-le (held_of s).state is.is_state in
-    omega arith
-
--- and the area has no fault in the form that the file shows
-pub area_fits : (s : Inside) (commands : List (List ℕ)) → IsHeld s → Keeps (ctx_of (held_of s).state.old).le (held_of s).state.list commands → area_fault (ctx_of s.inner.bytes).le (length commands) (concat commands) ≡ None
-area_fits s commands is keeps =
-    let form : ctx_of s.inner.bytes ≡ ctx_of s.source.now = ap ctx_of is.bytes ∙ (laid_shows (held_of s).state is.is_state).form in
-    ap (λ (ctx : Ctx). area_fault ctx.le (length commands) (concat commands)) form ∙ kept_fault (ctx_of s.source.now) (held_of s).state.list commands keeps
-
 -- a list that the test lets pass ends in time
 pub ends_inside : (s : Inside) (ctx : Ctx) (header size : ℕ) (commands : List (List ℕ)) → IsHeld s → ctx ≡ ctx_of s.inner.bytes → header ≡ header_size ctx.container → size ≡ length (concat commands) → true ≡ nat_le (header + size) (max (commands_end (ctx_of s.inner.bytes) s.inner.bytes) (first_content_of s.inner.bytes)) → end_of (ctx_of (held_of s).state.old) commands ≤ available (held_of s).state
 ends_inside s ctx header size commands is form header_is size_is passes =

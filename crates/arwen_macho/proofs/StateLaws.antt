@@ -204,9 +204,6 @@ step-refused calls s refusal made = rw made refl
 pub edited_by-one : (ctx : Ctx) (call : Call) (list new : List (List ℕ)) → edited ctx call list ≡ Ok new → edited_by ctx 0 (call ∷ []) list ≡ Ok new
 edited_by-one ctx call list new made = rw made refl
 
-pub edited_by-one_refused : (ctx : Ctx) (call : Call) (list : List (List ℕ)) (cause : Cause) → edited ctx call list ≡ Err cause → edited_by ctx 0 (call ∷ []) list ≡ Err (record { index = 0; cause = cause })
-edited_by-one_refused ctx call list cause made = rw made refl
-
 -- no edits change nothing
 pub step-nil : (s : State) → IsState s → step [] s ≡ Ok s
 step-nil s is =
@@ -217,7 +214,3 @@ step-nil s is =
 -- an accepted edit goes on with what it left
 pub edited_by-more : (ctx : Ctx) (done : ℕ) (call : Call) (calls : List Call) (list next : List (List ℕ)) → edited ctx call list ≡ Ok next → edited_by ctx done (call ∷ calls) list ≡ edited_by ctx (done + 1) calls next
 edited_by-more ctx done call calls list next made = rw made refl
-
--- a refused edit ends the batch
-pub edited_by-stop : (ctx : Ctx) (done : ℕ) (call : Call) (calls : List Call) (list : List (List ℕ)) (cause : Cause) → edited ctx call list ≡ Err cause → edited_by ctx done (call ∷ calls) list ≡ Err (record { index = done; cause = cause })
-edited_by-stop ctx done call calls list cause made = rw made refl

@@ -1,15 +1,15 @@
 -- A batch of edits that was decided, and waits to be carried out.
-use Rattle.std.specs.Prelude.{ℕ, ◌≡◌, ◌≤◌, ◌<◌, max, true, List, Option, Some, None, ⊤}
+use Rattle.std.specs.Prelude.{ℕ, ◌≡◌, ◌≤◌, ◌<◌, max, true, List, Ok, Option, Some, None, ⊤}
 use Rattle.std.specs.List.{concat}
 use Rattle.macho_image.specs.Commands.{cut}
 use Rattle.macho_image.specs.Form.{ctx_of}
 use Rattle.macho_image.specs.Prepared.{IsMadeFor, copy_for}
 use Rattle.arwen_macho.specs.declared.change.Change.{Change}
 use Rattle.arwen_macho.specs.declared.change.Fit.{Fit}
-use Rattle.arwen_macho.specs.Call.{Cause}
+use Rattle.arwen_macho.specs.Call.{Call, Cause}
 use Rattle.arwen_macho.specs.Call.Cause.{no_room}
 use Rattle.arwen_macho.specs.Held.{Held, image_held}
-use Rattle.arwen_macho.specs.State.{State, available, end_of, laid}
+use Rattle.arwen_macho.specs.State.{State, available, end_of, laid, step}
 use Rattle.arwen_macho.specs.Whole.{Keeps}
 
 -- the list of load commands that a change brings
@@ -37,6 +37,11 @@ changed held change = record {
   state = record { old = held.state.old; list = list_of held change; high = change.high };
   is_edited = true;
 }
+
+-- a change of this file that does what these calls do
+pub record IsStepOf (calls : List Call) (held : Held) (change : Change) : Type 0 where
+  pub of : IsChangeOf held change
+  pub steps : step calls held.state ≡ Ok (changed held change).state
 
 -- an error of a change is want of memory, or want of room for this list
 abbrev pub RefusesRoom : State → List (List ℕ) → Option Cause → Type 0

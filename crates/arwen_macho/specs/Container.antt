@@ -7,13 +7,12 @@ use Rattle.arwen_macho.specs.declared.batch.MachoEdit.{MachoEdit}
 use Rattle.arwen_macho.specs.declared.error.MachoError.{MachoError}
 use Rattle.arwen_macho.specs.declared.macho.MachoType.{MachoType}
 use Rattle.arwen_macho.specs.declared.macho.MachoType.TheVariants.{Fat, SingleArch}
-use Rattle.arwen_macho.specs.Batch.{RefusesAt, calls_of, is_edited_by}
+use Rattle.arwen_macho.specs.Batch.{RefusedAt, calls_of}
 use Rattle.arwen_macho.specs.Call.{Call}
 use Rattle.arwen_macho.specs.FatHeld.{first_fat_held}
 use Rattle.arwen_macho.specs.FatState.{FatState, fat_laid, fat_step}
 use Rattle.arwen_macho.specs.Found.{begins_fat}
-use Rattle.arwen_macho.specs.Held.{RefusesStep, first_held}
-use Rattle.arwen_macho.specs.Refused.{cause_of}
+use Rattle.arwen_macho.specs.Held.{RefusedBy, first_held, is_edited_by}
 use Rattle.arwen_macho.specs.State.{Refusal, State, laid, step}
 
 -- a file as it was parsed
@@ -24,6 +23,11 @@ first_container old = if begins_fat old then Fat (first_fat_held old) else Singl
 abbrev pub container_bytes : MachoType → List ℕ
 container_bytes (SingleArch held) = laid held.state
 container_bytes (Fat held) = fat_laid held.state
+
+-- whether the bytes of a file are a copy that was edited
+abbrev pub is_edited_file : MachoType → Bool
+is_edited_file (SingleArch held) = held.is_edited
+is_edited_file (Fat held) = held.is_edited
 
 -- what a batch makes of a file: all of its edits, or none and why
 abbrev pub as_thin : Bool → Result State Refusal → Result MachoType Refusal
@@ -38,27 +42,29 @@ unfoldable pub container_step : List Call → MachoType → Result MachoType Ref
 container_step calls (SingleArch held) = as_thin (is_edited_by calls held.is_edited) (step calls held.state)
 container_step calls (Fat held) = as_fat (is_edited_by calls held.is_edited) (fat_step calls held.state)
 
--- an answer to one edit, and what it leaves
-abbrev pub TakesOnce : Call → MachoType → MachoType → Result (Unit {0}) MachoError → Type 0
-TakesOnce call old new answer =
-    MatchResult answer (λ _. container_step (call ∷ []) old ≡ Ok new)
-    (λ e. (new ≡ old) × RefusesStep (cause_of e) (container_step (call ∷ []) old))
+-- an answer to a batch, and what it leaves: what the step gives; or what was there, and an error that
+-- tells of the refused step what `tells` says
+abbrev pub Takes : {E : Type 0} → (E → Result MachoType Refusal → Type 0) → List Call → MachoType → MachoType → Result (Unit {0}) E → Type 0
+Takes tells calls old new answer =
+    MatchResult answer (λ _. container_step calls old ≡ Ok new) (λ e. (new ≡ old) × tells e (container_step calls old))
 
--- an answer to a batch
+-- to one edit, which is a batch of one, and to a batch
+abbrev pub TakesOnce : Call → MachoType → MachoType → Result (Unit {0}) MachoError → Type 0
+TakesOnce call old new answer = Takes RefusedBy (call ∷ []) old new answer
+
+abbrev pub TakesBatch : List Call → MachoType → MachoType → Result (Unit {0}) MachoBatchError → Type 0
+TakesBatch calls old new answer = Takes RefusedAt calls old new answer
+
+-- an answer to a batch, apart from what it leaves
 abbrev pub AnswersBatch : List Call → MachoType → Result (Unit {0}) MachoBatchError → Type 0
 AnswersBatch calls old answer =
-    MatchResult answer (λ _. IsOk (container_step calls old)) (λ e. RefusesAt e.index (cause_of e.fault) (container_step calls old))
+    MatchResult answer (λ _. IsOk (container_step calls old)) (λ e. RefusedAt e (container_step calls old))
 
 -- what a batch leaves by its answer: an accepted batch its step, any other what was there
 abbrev pub left_by : MachoType → Result MachoType Refusal → Result (Unit {0}) MachoBatchError → MachoType
 left_by old (Ok new) (Ok tt') = new
 left_by old (Ok new) (Err e) = old
 left_by old (Err refusal) answer = old
-
--- an answer to a batch, and what it leaves
-abbrev pub TakesBatch : List Call → MachoType → MachoType → Result (Unit {0}) MachoBatchError → Type 0
-TakesBatch calls old new answer =
-    AnswersBatch calls old answer × (new ≡ left_by old (container_step calls old) answer)
 
 -- what a list of batches leaves by their answers, and that each answer is the one of its batch upon what
 -- those before it left

@@ -1,5 +1,5 @@
 -- Which call an edit with lent or owned texts makes, and what the answer of an edit of a list says.
-use Rattle.std.specs.Prelude.{ℕ, ◌≡◌, List, Result, Ok, MatchResult}
+use Rattle.std.specs.Prelude.{ℕ, ◌≡◌, All, List, map, Result, Ok, MatchResult}
 use Rattle.macho_image.specs.declared.format.Ctx.{Ctx}
 use Rattle.arwen_macho.specs.declared.draft.Edit.{Edit}
 use Rattle.arwen_macho.specs.declared.draft.Edit.TheVariants.{AddRpath, ChangeInstallId, ChangeInstallName, ChangeRpath, RemoveRpath}
@@ -8,6 +8,7 @@ use Rattle.arwen_macho.specs.Call.{Call}
 use Rattle.arwen_macho.specs.Call.Call.{add_rpath, change_install_id, change_install_name, change_rpath, remove_rpath}
 use Rattle.arwen_macho.specs.Edited.{edited}
 use Rattle.arwen_macho.specs.Refused.{Refuses, cause_of}
+use Rattle.arwen_macho.specs.Whole.{TextsAreBytes}
 
 abbrev pub call_of : Edit → Call
 call_of (AddRpath new) = add_rpath new.now
@@ -15,6 +16,14 @@ call_of (ChangeRpath old new) = change_rpath old.now new.now
 call_of (RemoveRpath old) = remove_rpath old.now
 call_of (ChangeInstallId new) = change_install_id new.now
 call_of (ChangeInstallName old new) = change_install_name old.now new.now
+
+-- the calls that edits with lent texts make
+abbrev pub calls_lent : List Edit → List Call
+calls_lent edits = map call_of edits
+
+-- their new texts are bytes
+abbrev pub AreTexts : List Edit → Type 0
+AreTexts edits = All TextsAreBytes (calls_lent edits)
 
 -- an answer to a call on a list, and the list that it leaves: the edited one, or the cause that the
 -- definition gives, memory apart

@@ -1,13 +1,15 @@
 -- What edits write over a file's bytes.
 use Rattle.std.specs.Prelude.{ℕ, ◌≡◌, ◌+◌, ◌≤◌, List, [], ◌∷◌, length, take, All, Result, Ok}
+use Rattle.std.specs.declared.alloc.Global.{Global}
+use Rattle.std.specs.declared.vec.Vec.{Vec}
 use Rattle.arwen_macho.specs.declared.change.Change.{Change}
-use Rattle.arwen_macho.specs.declared.fat.FatMacho.{FatMacho}
 use Rattle.arwen_macho.specs.declared.front.Front.{Front}
 use Rattle.arwen_macho.specs.Call.{Call}
-use Rattle.arwen_macho.specs.Change.{IsChangeOf, changed}
+use Rattle.arwen_macho.specs.Change.{IsStepOf, changed}
+use Rattle.arwen_macho.specs.FatSlice.{HeldSlice}
 use Rattle.arwen_macho.specs.FatState.{put_at}
 use Rattle.arwen_macho.specs.Held.{Held}
-use Rattle.arwen_macho.specs.State.{Refusal, laid, step}
+use Rattle.arwen_macho.specs.State.{Refusal, laid}
 
 -- bytes with fronts over them, the first one last
 abbrev pub fronts_on : List Front → List ℕ → List ℕ
@@ -25,14 +27,17 @@ pub record LeadOn {S : Type 0} (bytes_of : S → List ℕ) (old : S) (answer : R
   pub inside : All (LiesIn (length (bytes_of old))) fronts
   pub after : fronts_on fronts (bytes_of old) ≡ bytes_of new
 
+-- the same of fronts in a `Vec`
+abbrev pub Leads : {S : Type 0} → (S → List ℕ) → S → Result S Refusal → Vec Front Global → Type 0
+Leads bytes_of old answer fronts = LeadOn bytes_of old answer fronts.items
+
 -- the front of a thin file that stands at this offset, after a change that does what these calls do
 pub record IsFrontAt (calls : List Call) (held : Held) (at : ℕ) (front : Front) : Type 0 where
   pub change : Change
-  pub of : IsChangeOf held change
-  pub steps : step calls held.state ≡ Ok (changed held change).state
+  pub of : IsStepOf calls held change
   pub offset : front.offset ≡ at
   pub bytes : front.bytes.items ≡ take change.high (laid (changed held change).state)
 
 -- that of a slice
-abbrev pub IsFrontOf : List Call → FatMacho → Front → Type 0
+abbrev pub IsFrontOf : List Call → HeldSlice → Front → Type 0
 IsFrontOf calls m front = IsFrontAt calls m.inner m.arch.offset front

@@ -24,9 +24,23 @@ abbrev pub RefusesStep : {X : Type 0} → Option Cause → Result X Refusal → 
 RefusesStep None answer = ⊤
 RefusesStep (Some cause) answer = IsErrAnd answer (λ refusal. refusal.cause ≡ cause)
 
--- an answer to one edit, and what it leaves: the step, in a copy of the bytes; or what was there
-abbrev pub StepsOnce : Call → Held → Held → Result (Unit {0}) MachoError → Type 0
-StepsOnce call old new answer =
+-- an error of one edit is want of memory, or tells the cause of its refusal
+abbrev pub RefusedBy : {X : Type 0} → MachoError → Result X Refusal → Type 0
+RefusedBy e answer = RefusesStep (cause_of e) answer
+
+-- whether the bytes are an edited copy after an accepted batch: a batch of no edits copies nothing
+abbrev pub is_edited_by : List Call → Bool → Bool
+is_edited_by [] was = was
+is_edited_by (call ∷ calls) was = true
+
+-- an answer to a batch, and what it leaves: the step, in a copy of the bytes unless nothing is edited; or
+-- what was there, and an error that tells of the refused step what `tells` says
+abbrev pub Steps : {E : Type 0} → (E → Result State Refusal → Type 0) → List Call → Held → Held → Result (Unit {0}) E → Type 0
+Steps tells calls old new answer =
     MatchResult answer
-    (λ _. (step (call ∷ []) old.state ≡ Ok new.state) × (new.is_edited ≡ true))
-    (λ e. (new ≡ old) × RefusesStep (cause_of e) (step (call ∷ []) old.state))
+    (λ _. (step calls old.state ≡ Ok new.state) × (new.is_edited ≡ is_edited_by calls old.is_edited))
+    (λ e. (new ≡ old) × tells e (step calls old.state))
+
+-- an answer to one edit, which is a batch of one
+abbrev pub StepsOnce : Call → Held → Held → Result (Unit {0}) MachoError → Type 0
+StepsOnce call old new answer = Steps RefusedBy (call ∷ []) old new answer

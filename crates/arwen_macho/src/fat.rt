@@ -1,20 +1,18 @@
-ghost use Rattle.std.specs.Prelude.{◌≡◌, ◌∷◌, [], ◌+◌, ◌≤◌, All, IfOk, IfErr, MatchResult, None, Ok, Some, length, map, take};
+ghost use Rattle.std.specs.Prelude.{◌≡◌, ◌∷◌, [], ◌+◌, ◌≤◌, All, IfOk, IfErr, IsOk, MatchResult, None, Ok, Some, length, map, take, true};
 ghost use Rattle.std.specs.List.{AllZip};
 ghost use Rattle.std.specs.Str.{bytes_eq};
 ghost use Rattle.patch_bytes.specs.ByteString.{bytes_shown};
 ghost use Rattle.macho_image.specs.Fat.{archs_of, slice_of, table_fault};
-ghost use Rattle.arwen_macho.specs.Batch.{RefusesAt, calls_of};
+ghost use Rattle.arwen_macho.specs.Batch.{RefusedAt, calls_of};
 ghost use Rattle.arwen_macho.specs.Call.Call.{add_rpath, change_install_id, change_install_name, change_rpath, remove_rpath};
-ghost use Rattle.arwen_macho.specs.Edit.{call_of};
-ghost use Rattle.arwen_macho.specs.FatSlice.{IsReadyIn, IsStepOf, changed_macho, changed_machos, first_macho, front_of, fronts_over, slice_held};
-ghost use Rattle.arwen_macho.specs.FatState.{put_at, step_slices};
+ghost use Rattle.arwen_macho.specs.Edit.{AreTexts, call_of, calls_lent};
+ghost use Rattle.arwen_macho.specs.FatSlice.{IsReadyIn, IsStepIn, changed_macho, changed_machos, first_macho, front_of, fronts_over, slice_held, step_held};
+ghost use Rattle.arwen_macho.specs.FatState.{put_at};
 ghost use Rattle.arwen_macho.specs.Found.{ARCHIVE, Finds, found_fault, slice_found, slices_found};
 ghost use Rattle.arwen_macho.specs.Fronts.{IsFrontOf};
-ghost use Rattle.arwen_macho.specs.Held.{RefusesStep};
-ghost use Rattle.arwen_macho.specs.Refused.{cause_of};
 ghost use Rattle.arwen_macho.specs.Whole.{TextsAreBytes};
 
-use crate::batch::{MachoBatchError, MachoEdit};
+use crate::batch::{MachoBatchError, MachoEdit, lend_all};
 use crate::change::Change;
 use crate::draft::Edit;
 use crate::error::MachoError;
@@ -29,6 +27,14 @@ use std::marker::Model;
 pub struct FatMacho<'a> {
     inner: SingleMachO<'a>,
     arch: FatArch,
+}
+
+impl<'a> Model for FatMacho<'a> {
+    ghost use Rattle.arwen_macho.specs.FatSlice.{HeldSlice};
+
+    ghost Value = { HeldSlice };
+
+    ghost view = { λ m. record { arch = m.arch; inner = m.inner } };
 }
 
 impl<'a> FatMacho<'a> {
@@ -98,49 +104,33 @@ fn parse_slices<'a>(
     Ok(slices)
 }
 
-// What one edit asks of each slice, decided in their order.
-fn changes_once(
-    alloc: Global,
-    slices: &[FatMacho<'_>],
-    edit: Edit<'_>,
-) -> Result<Vec<Change>, MachoError>
-    requires { TextsAreBytes (call_of edit) }
-    ensures ok { IfOk result (λ changes. AllZip (IsStepOf (call_of edit.entry ∷ [])) slices.now changes.items) }
-    ensures err { IfErr result (λ e. RefusesStep (cause_of e) (step_slices (call_of edit.entry ∷ []) (map slice_held slices.now))) }
-{
-    let mut changes = Vec::with_capacity(alloc, slices.len())?;
-    for slice in slices {
-        let change = slice.inner.change_by(alloc, edit)?;
-        changes.push(change)?;
-    }
-    Ok(changes)
-}
-
-// What a batch of edits asks of each slice, decided in their order.
+// What edits ask of each slice, decided in their order.
 fn changes_all(
     alloc: Global,
     slices: &[FatMacho<'_>],
-    edits: &[MachoEdit],
+    edits: &[Edit<'_>],
 ) -> Result<Vec<Change>, MachoBatchError>
-    ensures ok { IfOk result (λ changes. AllZip (IsStepOf (calls_of edits.now)) slices.now changes.items) }
-    ensures err { IfErr result (λ e. RefusesAt e.index (cause_of e.fault) (step_slices (calls_of edits.now) (map slice_held slices.now))) }
+    requires { AreTexts edits.now }
+    ensures ok { IfOk result (λ changes. AllZip (IsStepIn (calls_lent edits.now)) slices.now changes.items) }
+    ensures err { IfErr result (λ e. RefusedAt e (step_held (calls_lent edits.now) slices.now)) }
 {
     let mut changes = Vec::with_capacity(alloc, slices.len())?;
     for slice in slices {
-        let change = slice.inner.change_by_all(alloc, edits)?;
+        let change = slice.inner.change_by(alloc, edits)?;
         changes.push(change)?;
     }
     Ok(changes)
 }
 
-// The front of each slice that a batch of edits asks for, decided in their order.
+// The front of each slice that edits ask for, decided in their order.
 fn fronts_all(
     alloc: Global,
     slices: &[FatMacho<'_>],
-    edits: &[MachoEdit],
+    edits: &[Edit<'_>],
 ) -> Result<Vec<Front>, MachoBatchError>
-    ensures ok { IfOk result (λ fronts. AllZip (IsFrontOf (calls_of edits.now)) slices.now fronts.items) }
-    ensures err { IfErr result (λ e. RefusesAt e.index (cause_of e.fault) (step_slices (calls_of edits.now) (map slice_held slices.now))) }
+    requires { AreTexts edits.now }
+    ensures ok { IfOk result (λ fronts. AllZip (IsFrontOf (calls_lent edits.now)) slices.now fronts.items) }
+    ensures err { IfErr result (λ e. RefusedAt e (step_held (calls_lent edits.now) slices.now)) }
 {
     let mut fronts = Vec::with_capacity(alloc, slices.len())?;
     for slice in slices {
@@ -211,12 +201,12 @@ impl<'a> Model for FatMachoContainer<'a> {
 }
 
 impl<'a> FatMachoContainer<'a> {
-    ghost use Rattle.arwen_macho.specs.FatChange.{AreChangesOf, fat_changed};
+    ghost use Rattle.arwen_macho.specs.FatChange.{AreChangesOf, AreStepOf, fat_changed};
     ghost use Rattle.arwen_macho.specs.FatHeld.{FatStepsBatch, FatStepsOnce, first_fat_held};
     ghost use Rattle.arwen_macho.specs.FatShown.{FatShows};
     ghost use Rattle.arwen_macho.specs.FatState.{fat_laid, fat_step};
     ghost use Rattle.arwen_macho.specs.Found.{fat_found};
-    ghost use Rattle.arwen_macho.specs.Fronts.{LeadOn};
+    ghost use Rattle.arwen_macho.specs.Fronts.{Leads};
 
     /// Parses a fat file. It is refused by the first check that fails: those of the table, then those of
     /// each slice in the table's order, among them that it is no Unix archive; or where there is no memory.
@@ -250,23 +240,11 @@ impl<'a> FatMachoContainer<'a> {
         self.archs.as_slice()
     }
 
-    // What one edit asks of the slices.
-    fn changes_by(&self, alloc: Global, edit: Edit<'_>) -> Result<Vec<Change>, MachoError>
-        requires { TextsAreBytes (call_of edit) }
-        ensures ok { IfOk result (λ changes. AreChangesOf self.now changes.items × (fat_step (call_of edit.entry ∷ []) self.now.state ≡ Ok (fat_changed self.now changes.items).state)) }
-        ensures err { IfErr result (λ e. RefusesStep (cause_of e) (fat_step (call_of edit.entry ∷ []) self.now.state)) }
-    {
-        changes_once(alloc, &self.archs, edit)
-    }
-
-    // What a batch of edits asks of the slices.
-    fn changes_by_all(
-        &self,
-        alloc: Global,
-        edits: &[MachoEdit],
-    ) -> Result<Vec<Change>, MachoBatchError>
-        ensures ok { IfOk result (λ changes. AreChangesOf self.now changes.items × (fat_step (calls_of edits.now) self.now.state ≡ Ok (fat_changed self.now changes.items).state)) }
-        ensures err { IfErr result (λ e. RefusesAt e.index (cause_of e.fault) (fat_step (calls_of edits.now) self.now.state)) }
+    // What edits ask of the slices.
+    fn changes_by(&self, alloc: Global, edits: &[Edit<'_>]) -> Result<Vec<Change>, MachoBatchError>
+        requires { AreTexts edits.now }
+        ensures ok { IfOk result (λ changes. AreStepOf (calls_lent edits.now) self.now changes.items) }
+        ensures err { IfErr result (λ e. RefusedAt e (fat_step (calls_lent edits.now) self.now.state)) }
     {
         changes_all(alloc, &self.archs, edits)
     }
@@ -274,8 +252,18 @@ impl<'a> FatMachoContainer<'a> {
     /// What `apply` would write over the file's bytes: the front of each slice, in their order. It is refused
     /// where `apply` is, and nothing changes.
     pub fn fronts(&self, alloc: Global, edits: &[MachoEdit]) -> Result<Vec<Front>, MachoBatchError>
-        ensures ok { IfOk result (λ fronts. LeadOn fat_laid self.now.state (fat_step (calls_of edits.now) self.now.state) fronts.items) }
-        ensures err { IfErr result (λ e. RefusesAt e.index (cause_of e.fault) (fat_step (calls_of edits.now) self.now.state)) }
+        ensures ok { IfOk result (λ fronts. Leads fat_laid self.now.state (fat_step (calls_of edits.now) self.now.state) fronts) }
+        ensures err { IfErr result (λ e. RefusedAt e (fat_step (calls_of edits.now) self.now.state)) }
+    {
+        let lent = lend_all(alloc, edits)?;
+        self.fronts_by(alloc, lent.as_slice())
+    }
+
+    // The same of edits with lent texts.
+    fn fronts_by(&self, alloc: Global, edits: &[Edit<'_>]) -> Result<Vec<Front>, MachoBatchError>
+        requires { AreTexts edits.now }
+        ensures ok { IfOk result (λ fronts. Leads fat_laid self.now.state (fat_step (calls_lent edits.now) self.now.state) fronts) }
+        ensures err { IfErr result (λ e. RefusedAt e (fat_step (calls_lent edits.now) self.now.state)) }
     {
         fronts_all(alloc, &self.archs, edits)
     }
@@ -291,14 +279,30 @@ impl<'a> FatMachoContainer<'a> {
         Ok(())
     }
 
-    // One edit of every slice, or none of it.
-    pub(crate) fn edit(&mut self, alloc: Global, edit: Edit<'_>) -> Result<(), MachoError>
+    // Several edits of every slice, all of them or none.
+    pub(crate) fn apply_lent(
+        &mut self,
+        alloc: Global,
+        edits: &[Edit<'_>],
+    ) -> Result<(), MachoBatchError>
+        requires some { 1 ≤ length edits.now }
+        requires texts { AreTexts edits.now }
+        ensures { FatStepsBatch (calls_lent edits.now) self.old self.new result }
+    {
+        let changes = self.changes_by(alloc, edits)?;
+        self.commit(alloc, changes)?;
+        Ok(())
+    }
+
+    // One edit of every slice: a batch of one.
+    fn edit(&mut self, alloc: Global, edit: Edit<'_>) -> Result<(), MachoError>
         requires { TextsAreBytes (call_of edit) }
         ensures { FatStepsOnce (call_of edit.entry) self.old self.new result }
     {
-        let changes = self.changes_by(alloc, edit)?;
-        self.commit(alloc, changes)?;
-        Ok(())
+        match self.apply_lent(alloc, &[edit]) {
+            Ok(()) => Ok(()),
+            Err(refused) => Err(refused.fault),
+        }
     }
 
     /// Appends an rpath command with this text to every slice.
@@ -343,23 +347,26 @@ impl<'a> FatMachoContainer<'a> {
     }
 
     /// Makes several edits in every slice, each upon what the one before it left: all of them in all
-    /// slices, or none. The first slice that refuses decides the error. No edits are accepted and change
-    /// nothing.
+    /// slices, or none. The first slice that refuses decides the error. No edits are accepted without memory,
+    /// and change nothing.
     pub fn apply(&mut self, alloc: Global, edits: &[MachoEdit]) -> Result<(), MachoBatchError>
-        ensures { FatStepsBatch (calls_of edits.now) self.old self.new result }
+        ensures steps { FatStepsBatch (calls_of edits.now) self.old self.new result }
+        ensures none { edits.now ≡ [] → IsOk result }
     {
         if edits.is_empty() {
-            let _held = self.edited.is_some();
+            // From a read of the fields on it is known what holds of them.
+            let _read = self.edited.is_some();
             return Ok(());
         }
-        let changes = self.changes_by_all(alloc, edits)?;
-        self.commit(alloc, changes)?;
-        Ok(())
+        let lent = lend_all(alloc, edits)?;
+        self.apply_lent(alloc, lent.as_slice())
     }
 
-    /// The bytes as edited: the copy that was edited, or a new one of the bytes that were read.
+    /// The bytes as edited, handed out: without a copy where they were edited, else copied. The only error is
+    /// that there is no memory.
     pub fn into_bytes(self, alloc: Global) -> Result<Vec<u8>, AllocError>
-        ensures { IfOk result (λ bytes. bytes.items ≡ fat_laid self.entry.state) }
+        ensures bytes { IfOk result (λ bytes. bytes.items ≡ fat_laid self.entry.state) }
+        ensures owned { self.entry.is_edited ≡ true → IsOk result }
     {
         let FatMachoContainer {
             source,

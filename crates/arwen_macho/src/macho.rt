@@ -5,10 +5,10 @@ ghost use Rattle.macho_image.specs.Commands.{first_content_of};
 ghost use Rattle.macho_image.specs.Form.{commands_end, ctx_of};
 ghost use Rattle.arwen_macho.specs.Call.Call.{add_rpath, change_install_id, change_install_name, change_rpath, remove_rpath};
 
-use crate::batch::edit_all;
 pub use crate::batch::{MachoBatchError, MachoEdit};
+use crate::batch::{edit_all, lend_all};
 use crate::change::{Change, Fit};
-use crate::draft::{Edit, edit_commands};
+use crate::draft::Edit;
 pub use crate::error::MachoError;
 pub use crate::fat::{FatMacho, FatMachoContainer};
 pub use crate::front::{Front, lay_fronts};
@@ -51,12 +51,12 @@ fn joined(alloc: Global, commands: &[ByteString<'_>]) -> Result<Vec<u8>, AllocEr
 }
 
 impl<'a> SingleMachO<'a> {
-    ghost use Rattle.arwen_macho.specs.Batch.{RefusesAt, StepsBatch, calls_of};
-    ghost use Rattle.arwen_macho.specs.Change.{IsChangeOf, RefusesRoom, change_with, changed, list_of};
-    ghost use Rattle.arwen_macho.specs.Edit.{call_of};
+    ghost use Rattle.arwen_macho.specs.Batch.{RefusedAt, StepsBatch, calls_of};
+    ghost use Rattle.arwen_macho.specs.Change.{IsChangeOf, IsStepOf, RefusesRoom, change_with, changed, list_of};
+    ghost use Rattle.arwen_macho.specs.Edit.{AreTexts, call_of, calls_lent};
     ghost use Rattle.arwen_macho.specs.Found.{Finds, found_fault};
-    ghost use Rattle.arwen_macho.specs.Fronts.{IsFrontAt, LeadOn};
-    ghost use Rattle.arwen_macho.specs.Held.{RefusesStep, StepsOnce, first_held, image_held};
+    ghost use Rattle.arwen_macho.specs.Fronts.{IsFrontAt, Leads};
+    ghost use Rattle.arwen_macho.specs.Held.{StepsOnce, first_held, image_held};
     ghost use Rattle.arwen_macho.specs.Refused.{cause_of};
     ghost use Rattle.arwen_macho.specs.Shown.{Shows};
     ghost use Rattle.arwen_macho.specs.State.{laid, step};
@@ -157,35 +157,91 @@ impl<'a> SingleMachO<'a> {
         self.high = high;
     }
 
-    // The list that one edit leaves, decided upon a draft of it.
-    fn fit_by(&self, alloc: Global, edit: Edit<'_>) -> Result<Fit, MachoError>
-        requires { TextsAreBytes (call_of edit) }
-        ensures ok { IfOk result (λ fit. IsChangeOf self.now (change_with self.now fit) × (step (call_of edit.entry ∷ []) self.now.state ≡ Ok (changed self.now (change_with self.now fit)).state)) }
-        ensures err { IfErr result (λ e. RefusesStep (cause_of e) (step (call_of edit.entry ∷ []) self.now.state)) }
+    // The list that edits leave, decided upon a draft of it.
+    fn fit_by(&self, alloc: Global, edits: &[Edit<'_>]) -> Result<Fit, MachoBatchError>
+        requires { AreTexts edits.now }
+        ensures ok { IfOk result (λ fit. IsStepOf (calls_lent edits.now) self.now (change_with self.now fit)) }
+        ensures err { IfErr result (λ e. RefusedAt e (step (calls_lent edits.now) self.now.state)) }
     {
         let mut commands = self.inner.commands(alloc)?;
-        edit_commands(alloc, self.inner.ctx(), &mut commands, edit)?;
-        self.fit_for(alloc, commands.as_slice())
+        edit_all(alloc, self.inner.ctx(), &mut commands, edits)?;
+        match self.fit_for(alloc, commands.as_slice()) {
+            Ok(fit) => Ok(fit),
+            Err(fault) => Err(MachoBatchError {
+                index: edits.len(),
+                fault,
+            }),
+        }
     }
 
-    // What one edit asks for.
-    pub(crate) fn change_by(&self, alloc: Global, edit: Edit<'_>) -> Result<Change, MachoError>
-        requires { TextsAreBytes (call_of edit) }
-        ensures ok { IfOk result (λ change. IsChangeOf self.now change × (step (call_of edit.entry ∷ []) self.now.state ≡ Ok (changed self.now change).state)) }
-        ensures err { IfErr result (λ e. RefusesStep (cause_of e) (step (call_of edit.entry ∷ []) self.now.state)) }
+    // What edits ask for.
+    pub(crate) fn change_by(
+        &self,
+        alloc: Global,
+        edits: &[Edit<'_>],
+    ) -> Result<Change, MachoBatchError>
+        requires { AreTexts edits.now }
+        ensures ok { IfOk result (IsStepOf (calls_lent edits.now) self.now) }
+        ensures err { IfErr result (λ e. RefusedAt e (step (calls_lent edits.now) self.now.state)) }
     {
-        let fit = self.fit_by(alloc, edit)?;
+        let fit = self.fit_by(alloc, edits)?;
         Ok(self.change_with(alloc, fit)?)
     }
 
-    // One edit, or none of it.
-    pub(crate) fn edit(&mut self, alloc: Global, edit: Edit<'_>) -> Result<(), MachoError>
+    // The front of the file that edits ask for, where the file begins at an offset of another.
+    pub(crate) fn front_at(
+        &self,
+        alloc: Global,
+        offset: usize,
+        edits: &[Edit<'_>],
+    ) -> Result<Front, MachoBatchError>
+        requires { AreTexts edits.now }
+        ensures ok { IfOk result (IsFrontAt (calls_lent edits.now) self.now offset) }
+        ensures err { IfErr result (λ e. RefusedAt e (step (calls_lent edits.now) self.now.state)) }
+    {
+        let fit = self.fit_by(alloc, edits)?;
+        let bytes = self.front_with(alloc, &fit)?;
+        Ok(Front { offset, bytes })
+    }
+
+    // What a batch of edits writes over the file's bytes.
+    fn fronts(&self, alloc: Global, edits: &[MachoEdit]) -> Result<Vec<Front>, MachoBatchError>
+        ensures ok { IfOk result (λ fronts. Leads laid self.now.state (step (calls_of edits.now) self.now.state) fronts) }
+        ensures err { IfErr result (λ e. RefusedAt e (step (calls_of edits.now) self.now.state)) }
+    {
+        // From a read of the fields on it is known what holds of them.
+        let _read = self.high;
+        let lent = lend_all(alloc, edits)?;
+        let front = self.front_at(alloc, 0, lent.as_slice())?;
+        let mut fronts = Vec::new(alloc);
+        fronts.push(front)?;
+        Ok(fronts)
+    }
+
+    // Several edits, all of them or none.
+    pub(crate) fn apply_lent(
+        &mut self,
+        alloc: Global,
+        edits: &[Edit<'_>],
+    ) -> Result<(), MachoBatchError>
+        requires some { 1 ≤ length edits.now }
+        requires texts { AreTexts edits.now }
+        ensures { StepsBatch (calls_lent edits.now) self.old self.new result }
+    {
+        let change = self.change_by(alloc, edits)?;
+        self.commit(change);
+        Ok(())
+    }
+
+    // One edit: a batch of one.
+    fn edit(&mut self, alloc: Global, edit: Edit<'_>) -> Result<(), MachoError>
         requires { TextsAreBytes (call_of edit) }
         ensures { StepsOnce (call_of edit.entry) self.old self.new result }
     {
-        let change = self.change_by(alloc, edit)?;
-        self.commit(change);
-        Ok(())
+        match self.apply_lent(alloc, &[edit]) {
+            Ok(()) => Ok(()),
+            Err(refused) => Err(refused.fault),
+        }
     }
 
     /// Appends an rpath command with this text.
@@ -229,86 +285,19 @@ impl<'a> SingleMachO<'a> {
         self.edit(alloc, Edit::ChangeInstallName(old, new))
     }
 
-    // The list that a batch of edits leaves, decided upon a draft of it.
-    pub(crate) fn fit_by_all(
-        &self,
-        alloc: Global,
-        edits: &[MachoEdit],
-    ) -> Result<Fit, MachoBatchError>
-        ensures ok { IfOk result (λ fit. IsChangeOf self.now (change_with self.now fit) × (step (calls_of edits.now) self.now.state ≡ Ok (changed self.now (change_with self.now fit)).state)) }
-        ensures err { IfErr result (λ e. RefusesAt e.index (cause_of e.fault) (step (calls_of edits.now) self.now.state)) }
-    {
-        let mut commands = match self.inner.commands(alloc) {
-            Ok(commands) => commands,
-            Err(_) => {
-                return Err(MachoBatchError {
-                    index: 0,
-                    fault: MachoError::Memory,
-                });
-            }
-        };
-        edit_all(alloc, self.inner.ctx(), &mut commands, edits)?;
-        match self.fit_for(alloc, commands.as_slice()) {
-            Ok(fit) => Ok(fit),
-            Err(fault) => Err(MachoBatchError {
-                index: edits.len(),
-                fault,
-            }),
-        }
-    }
-
-    // What a batch of edits asks for.
-    pub(crate) fn change_by_all(
-        &self,
-        alloc: Global,
-        edits: &[MachoEdit],
-    ) -> Result<Change, MachoBatchError>
-        ensures ok { IfOk result (λ change. IsChangeOf self.now change × (step (calls_of edits.now) self.now.state ≡ Ok (changed self.now change).state)) }
-        ensures err { IfErr result (λ e. RefusesAt e.index (cause_of e.fault) (step (calls_of edits.now) self.now.state)) }
-    {
-        let fit = self.fit_by_all(alloc, edits)?;
-        Ok(self.change_with(alloc, fit)?)
-    }
-
-    // The front of the file that a batch of edits asks for, where the file begins at an offset of another.
-    pub(crate) fn front_at(
-        &self,
-        alloc: Global,
-        offset: usize,
-        edits: &[MachoEdit],
-    ) -> Result<Front, MachoBatchError>
-        ensures ok { IfOk result (λ front. IsFrontAt (calls_of edits.now) self.now offset front) }
-        ensures err { IfErr result (λ e. RefusesAt e.index (cause_of e.fault) (step (calls_of edits.now) self.now.state)) }
-    {
-        let fit = self.fit_by_all(alloc, edits)?;
-        let bytes = self.front_with(alloc, &fit)?;
-        Ok(Front { offset, bytes })
-    }
-
-    // What a batch of edits writes over the file's bytes.
-    fn fronts(&self, alloc: Global, edits: &[MachoEdit]) -> Result<Vec<Front>, MachoBatchError>
-        ensures ok { IfOk result (λ fronts. LeadOn laid self.now.state (step (calls_of edits.now) self.now.state) fronts.items) }
-        ensures err { IfErr result (λ e. RefusesAt e.index (cause_of e.fault) (step (calls_of edits.now) self.now.state)) }
-    {
-        let _held = self.high;
-        let front = self.front_at(alloc, 0, edits)?;
-        let mut fronts = Vec::new(alloc);
-        fronts.push(front)?;
-        Ok(fronts)
-    }
-
     /// Makes several edits, each upon what the one before it left: all of them, or none. Whether there is
-    /// room is decided by the last list alone. No edits are accepted and change nothing.
+    /// room is decided by the last list alone. No edits are accepted without memory, and change nothing.
     pub fn apply(&mut self, alloc: Global, edits: &[MachoEdit]) -> Result<(), MachoBatchError>
-        ensures { StepsBatch (calls_of edits.now) self.old self.new result }
+        ensures steps { StepsBatch (calls_of edits.now) self.old self.new result }
+        ensures none { edits.now ≡ [] → IsOk result }
     {
         if edits.is_empty() {
-            let _held = self.high;
+            // From a read of the fields on it is known what holds of them.
+            let _read = self.high;
             return Ok(());
         }
-        let change = self.change_by_all(alloc, edits)?;
-        self.commit(change);
-        Ok(())
+        let lent = lend_all(alloc, edits)?;
+        self.apply_lent(alloc, lent.as_slice())
     }
 }
 
@@ -336,13 +325,12 @@ impl<'a> Model for MachoContainer<'a> {
 }
 
 impl<'a> MachoContainer<'a> {
-    ghost use Rattle.arwen_macho.specs.Batch.{RefusesAt, calls_of};
-    ghost use Rattle.arwen_macho.specs.Container.{AnswersAll, TakesBatch, TakesOnce, all_calls, container_bytes, container_step, first_container, left_by_all};
+    ghost use Rattle.arwen_macho.specs.Batch.{RefusedAt, calls_of};
+    ghost use Rattle.arwen_macho.specs.Container.{AnswersAll, TakesBatch, TakesOnce, all_calls, container_bytes, container_step, first_container, is_edited_file, left_by_all};
     ghost use Rattle.arwen_macho.specs.ContainerShown.{ShowsFile};
-    ghost use Rattle.arwen_macho.specs.Edit.{call_of};
+    ghost use Rattle.arwen_macho.specs.Edit.{AreTexts, call_of, calls_lent};
     ghost use Rattle.arwen_macho.specs.Found.{Finds, container_found};
-    ghost use Rattle.arwen_macho.specs.Refused.{cause_of};
-    ghost use Rattle.arwen_macho.specs.Fronts.{LeadOn};
+    ghost use Rattle.arwen_macho.specs.Fronts.{Leads};
     ghost use Rattle.arwen_macho.specs.Whole.{TextsAreBytes};
 
     /// Parses a file, which is fat where it begins with the magic of fat files. It is refused by the first
@@ -374,7 +362,8 @@ impl<'a> MachoContainer<'a> {
     /// The file's bytes as edited, handed out: without a copy where they were edited, else copied. The
     /// only error is that there is no memory.
     pub fn into_bytes(self, alloc: Global) -> Result<Vec<u8>, AllocError>
-        ensures { IfOk result (λ bytes. bytes.items ≡ container_bytes self.entry) }
+        ensures bytes { IfOk result (λ bytes. bytes.items ≡ container_bytes self.entry) }
+        ensures owned { is_edited_file self.entry ≡ true → IsOk result }
     {
         let MachoContainer { inner } = self;
         match inner {
@@ -390,14 +379,26 @@ impl<'a> MachoContainer<'a> {
         &self.inner
     }
 
-    // One edit, or none of it.
+    // Several edits, all of them or none.
+    fn apply_lent(&mut self, alloc: Global, edits: &[Edit<'_>]) -> Result<(), MachoBatchError>
+        requires some { 1 ≤ length edits.now }
+        requires texts { AreTexts edits.now }
+        ensures { TakesBatch (calls_lent edits.now) self.old self.new result }
+    {
+        match &mut self.inner {
+            MachoType::SingleArch(single) => single.apply_lent(alloc, edits),
+            MachoType::Fat(fat) => fat.apply_lent(alloc, edits),
+        }
+    }
+
+    // One edit: a batch of one.
     fn edit(&mut self, alloc: Global, edit: Edit<'_>) -> Result<(), MachoError>
         requires { TextsAreBytes (call_of edit) }
         ensures { TakesOnce (call_of edit.entry) self.old self.new result }
     {
-        match &mut self.inner {
-            MachoType::SingleArch(single) => single.edit(alloc, edit),
-            MachoType::Fat(fat) => fat.edit(alloc, edit),
+        match self.apply_lent(alloc, &[edit]) {
+            Ok(()) => Ok(()),
+            Err(refused) => Err(refused.fault),
         }
     }
 
@@ -442,9 +443,11 @@ impl<'a> MachoContainer<'a> {
         self.edit(alloc, Edit::ChangeInstallName(old, new))
     }
 
-    /// Makes several edits, each upon what the one before it left: all of them, or none.
+    /// Makes several edits, each upon what the one before it left: all of them, or none. No edits are
+    /// accepted without memory, and change nothing.
     pub fn apply(&mut self, alloc: Global, edits: &[MachoEdit]) -> Result<(), MachoBatchError>
-        ensures { TakesBatch (calls_of edits.now) self.old self.new result }
+        ensures takes { TakesBatch (calls_of edits.now) self.old self.new result }
+        ensures none { edits.now ≡ [] → IsOk result }
     {
         match &mut self.inner {
             MachoType::SingleArch(single) => single.apply(alloc, edits),
@@ -455,8 +458,8 @@ impl<'a> MachoContainer<'a> {
     /// What `apply` would write over the file's bytes: the front of each thin file in it, without what
     /// lies behind. It is refused where `apply` is, and the file stays as it is.
     pub fn fronts(&self, alloc: Global, edits: &[MachoEdit]) -> Result<Vec<Front>, MachoBatchError>
-        ensures ok { IfOk result (λ fronts. LeadOn container_bytes self.now (container_step (calls_of edits.now) self.now) fronts.items) }
-        ensures err { IfErr result (λ e. RefusesAt e.index (cause_of e.fault) (container_step (calls_of edits.now) self.now)) }
+        ensures ok { IfOk result (λ fronts. Leads container_bytes self.now (container_step (calls_of edits.now) self.now) fronts) }
+        ensures err { IfErr result (λ e. RefusedAt e (container_step (calls_of edits.now) self.now)) }
     {
         match &self.inner {
             MachoType::SingleArch(single) => single.fronts(alloc, edits),

@@ -1,7 +1,10 @@
 use Rattle.std.proofs.Common.{◌∷◌, [], ◌++◌, List, ap, sym, ◌∙◌, subst}
+use Rattle.arwen_macho.specs.declared.draft.Edit.{Edit}
 use Rattle.arwen_macho.specs.declared.front.Front.{Front}
 use Rattle.arwen_macho.specs.Batch.{calls_of}
-use Rattle.arwen_macho.specs.Fronts.{LeadOn}
+use Rattle.arwen_macho.specs.Call.{Call}
+use Rattle.arwen_macho.specs.Edit.{calls_lent}
+use Rattle.arwen_macho.specs.Fronts.{IsFrontAt, LeadOn}
 use Rattle.arwen_macho.specs.Held.{Held}
 use Rattle.arwen_macho.specs.State.{laid, step}
 use Rattle.arwen_macho.specs.Whole.{IsState}
@@ -13,5 +16,8 @@ returns-clause-ok c =
     let calls = calls_of c.args.edits.now in
     let State : Held → Type 0 = λ h. IsState h.state in
     let is = subst State c.self.view_is c.self.invariant.is_state in
+    let At : List Call → Type 0 = λ l. IsFrontAt l c.args.self.now 0 c.in_ok-front.front in
+    let Lent : List Edit → Type 0 = λ l. IsFrontAt (calls_lent l) c.args.self.now 0 c.in_ok-front.front in
     let Lead : List Front → Type 0 = λ l. LeadOn laid c.args.self.now.state (step calls c.args.self.now.state) l in
-    subst Lead (sym (c.in_ok-push.ensures.items ∙ ap (λ (l : List Front). l ++ c.in_ok-front.front ∷ []) c.new-fronts.ensures.items)) (lead_thin calls c.args.self.now c.in_ok-front.front is c.in_ok-front.ensures.ok)
+    let of = subst At c.in_ok-lent.ensures.calls (subst Lent c.as_slice.ensures.value c.in_ok-front.ensures.ok) in
+    subst Lead (sym (c.in_ok-push.ensures.items ∙ ap (λ (l : List Front). l ++ c.in_ok-front.front ∷ []) c.new-fronts.ensures.items)) (lead_thin calls c.args.self.now c.in_ok-front.front is of)
