@@ -9,9 +9,7 @@ use Rattle.macho_image.specs.Commands.{commands_of, cut, first_content_of}
 use Rattle.macho_image.specs.Form.{commands_end, ctx_of, header_size, sizeofcmds_of}
 use Rattle.macho_image.specs.Image.{with_area}
 use Rattle.macho_image.specs.Prepared.{IsMadeFor}
-use Rattle.macho_image.proofs.AreaLaws.{area_fault-concat, cut-concat}
-use Rattle.macho_image.proofs.CutLaws.{length-cut}
-use Rattle.macho_image.proofs.FileLaws.{found}
+use Rattle.macho_image.proofs.ForCallers.{area_fault-concat, cut-concat, found, length-cut}
 use Rattle.arwen_macho.specs.declared.change.Change.{Change}
 use Rattle.arwen_macho.specs.Change.{IsChangeOf, changed, list_of}
 use Rattle.arwen_macho.specs.Held.{Held, image_held}

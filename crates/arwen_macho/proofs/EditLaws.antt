@@ -14,7 +14,7 @@ use Rattle.patch_bytes.specs.Bytes.{AreBytes}
 use Rattle.macho_image.specs.declared.command.TheConstants.{LC_ID_DYLIB, LC_RPATH}
 use Rattle.macho_image.specs.declared.format.Ctx.{Ctx}
 use Rattle.macho_image.specs.Command.{cmd_of, contents_of, dylib_of, is_dylib_kind, is_load_kind, text_of}
-use Rattle.macho_image.proofs.ContentLaws.{contents_of-text}
+use Rattle.macho_image.proofs.ForCallers.{contents_of-text}
 use Rattle.arwen_macho.specs.Built.{dylib_built, rpath_built}
 use Rattle.arwen_macho.specs.Call.{Call, Cause}
 use Rattle.arwen_macho.specs.Call.Call.{add_rpath, change_install_id, change_install_name, change_rpath, remove_rpath}

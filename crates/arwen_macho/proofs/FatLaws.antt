@@ -12,8 +12,7 @@ use Rattle.macho_image.specs.declared.format.MachFault.{MachFault}
 use Rattle.macho_image.specs.Checks.{file_fault}
 use Rattle.macho_image.specs.Fat.{AreSlices, archs_of, nfat_arch_of, share_byte, slice_of, table_end, table_fault}
 use Rattle.macho_image.specs.Form.{ctx_of, form_of}
-use Rattle.macho_image.proofs.FileLaws.{form_of-same, found, header_size-least}
-use Rattle.macho_image.proofs.FormLaws.{file_passes}
+use Rattle.macho_image.proofs.ForCallers.{file_passes, form_of-same, found, header_size-least, table_passes}
 use Rattle.arwen_macho.specs.FatHeld.{IsSlice}
 use Rattle.arwen_macho.specs.FatState.{FatState, Slice, fat_laid, laid_over}
 use Rattle.arwen_macho.specs.Found.{ARCHIVE, Found, fat_found, found_fault, found_first, slice_found, slices_found}
@@ -24,7 +23,6 @@ use Rattle.arwen_macho.proofs.StateLaws.{laid_shows}
 use Rattle.arwen_macho.specs.FatHeld.{IsFatState}
 use Rattle.arwen_macho.specs.FatShown.{FatShows, IsOutside}
 use Rattle.arwen_macho.proofs.SliceLaws.{ApartFrom, AreBehind, AreLaid, AreShown, Lies, OutsideAll, apart_from_share, get_or-laid_over, length-laid_over, shown-laid_over, take-laid_over}
-use Rattle.macho_image.proofs.FatLaws.{table_passes}
 use Rattle.arwen_macho.proofs.TableLaws.{SameTable, archs_same, table_same}
 
 -- a slice in the file, with as many bytes as the table says, and with some

@@ -26,7 +26,7 @@ use Rattle.arwen_macho.specs.FatHeld.{IsFatState}
 use Rattle.arwen_macho.specs.FatSlice.{HeldSlice, IsReadyIn, IsStepIn, changed_macho, changed_machos, slice_held}
 use Rattle.arwen_macho.proofs.FatLaws.{accepted_parts, none_first, slice_accepted}
 use Rattle.arwen_macho.proofs.SliceLaws.{AreLaid}
-use Rattle.macho_image.proofs.FatLaws.{table_passes}
+use Rattle.macho_image.proofs.ForCallers.{table_passes}
 
 -- one more at the end of both lists
 pub AllZip_push : {A B : Type 0} (R : A → B → Type 0) (xs : List A) (ys : List B) (x : A) (y : B) → AllZip R xs ys → R x y → AllZip R (xs ++ x ∷ []) (ys ++ y ∷ [])

@@ -1,10 +1,11 @@
 -- The fronts of changed slices, written over a fat file's bytes, give the bytes of the changed file.
 use Rattle.std.proofs.Common.{◌≡◌, ◌≤◌, ℕ, List, [], ◌∷◌, length, take, drop, map, refl, sym, ap, ◌∙◌, arith}
 use Rattle.std.specs.List.{AllZip}
+use Rattle.macho_image.specs.Stored.{Fits}
 use Rattle.macho_image.specs.declared.fat.FatArch.{FatArch}
 use Rattle.macho_image.specs.Fat.{slice_of}
 use Rattle.macho_image.specs.Form.{ctx_of}
-use Rattle.macho_image.proofs.StoredParts.{Fits, drop-with_area_high}
+use Rattle.macho_image.proofs.ForCallers.{drop-with_area_high}
 use Rattle.arwen_macho.specs.declared.change.Change.{Change}
 use Rattle.arwen_macho.specs.Change.{IsChangeOf, changed}
 use Rattle.arwen_macho.specs.FatState.{Slice, laid_over, put_at}

@@ -8,11 +8,12 @@ use Rattle.std.proofs.lemmas.List.{append-nil, append_assoc, append_cancel_left,
 use Rattle.std.proofs.lemmas.List.Elements.{All-head, All-tail}
 use Rattle.std.proofs.lemmas.List.Folds.{concat-append}
 use Rattle.std.proofs.lemmas.Slice.Eq.{bytes_eq-Decides}
+use Rattle.macho_image.specs.Stored.{Fits, header_with}
 use Rattle.macho_image.specs.declared.command.TheConstants.{LC_RPATH}
 use Rattle.macho_image.specs.declared.format.Ctx.{Ctx}
 use Rattle.macho_image.specs.Command.{cmd_of, text_of}
 use Rattle.macho_image.specs.Form.{ctx_of}
-use Rattle.macho_image.proofs.StoredParts.{Fits, header_with, length-header_with, with_area-parts}
+use Rattle.macho_image.proofs.ForCallers.{length-header_with, with_area-parts}
 use Rattle.arwen_macho.specs.Built.{built_size, rpath_built}
 use Rattle.arwen_macho.specs.Call.{Cause}
 use Rattle.arwen_macho.specs.Call.Call.{add_rpath, remove_rpath}

@@ -4,13 +4,12 @@ use Rattle.std.proofs.lemmas.List.{append_assoc, drop-append-le, drop-drop, drop
 use Rattle.patch_bytes.specs.declared.number.ByteOrder2.{ByteOrder2}
 use Rattle.patch_bytes.specs.Number.{bytes_of, with_number}
 use Rattle.patch_bytes.proofs.NumberLaws.{length-bytes_of}
+use Rattle.macho_image.specs.Stored.{Fits}
 use Rattle.macho_image.specs.declared.format.Ctx.{Ctx}
 use Rattle.macho_image.specs.declared.format.Header.{Header}
 use Rattle.macho_image.specs.Form.{area_of, commands_end, header_of, header_size, ncmds_of, sizeofcmds_of}
 use Rattle.macho_image.specs.Image.{with_area}
-use Rattle.macho_image.proofs.FileLaws.{header_size-least, length-area_of}
-use Rattle.macho_image.proofs.StoredParts.{Fits}
-use Rattle.macho_image.proofs.StoreLaws.{header_of-with_area}
+use Rattle.macho_image.proofs.ForCallers.{header_of-with_area, header_size-least, length-area_of}
 use Rattle.arwen_macho.specs.Patched.{InsertsAt, RemovesAt, inserted, removed}
 use borrow.Rule.Slice.PartMut.{put_mid}
 

@@ -9,9 +9,7 @@ use Rattle.macho_image.specs.declared.fat.TheConstants.{FAT_MAGIC}
 use Rattle.macho_image.specs.Checks.{file_fault}
 use Rattle.macho_image.specs.Fat.{has_fat_magic}
 use Rattle.macho_image.specs.Form.{ctx_of, form_of}
-use Rattle.macho_image.proofs.FatLaws.{table_passes}
-use Rattle.macho_image.proofs.FileLaws.{form_of-same}
-use Rattle.macho_image.proofs.FormLaws.{file_passes}
+use Rattle.macho_image.proofs.ForCallers.{file_passes, form_of-same, number_at-with_area_front, table_passes}
 use Rattle.arwen_macho.specs.declared.macho.MachoType.TheVariants.{Fat, SingleArch}
 use Rattle.arwen_macho.specs.ContainerShown.{ShowsFile}
 use Rattle.arwen_macho.specs.FatHeld.{FatHeld}
@@ -21,7 +19,6 @@ use Rattle.arwen_macho.specs.Held.{Held}
 use Rattle.arwen_macho.specs.Shown.{Shows}
 use Rattle.arwen_macho.specs.State.{State, laid}
 use Rattle.arwen_macho.specs.Whole.{IsState}
-use Rattle.macho_image.proofs.StoredParts.{number_at-with_area_front}
 use Rattle.std.specs.List.{concat}
 use Rattle.arwen_macho.proofs.FatLaws.{accepted_parts}
 

@@ -7,16 +7,14 @@ use Rattle.std.proofs.lemmas.Bool.{le-leb, leb-true}
 use Rattle.patch_bytes.specs.declared.number.ByteOrder2.{ByteOrder2}
 use Rattle.patch_bytes.specs.Bytes.{AreBytes}
 use Rattle.patch_bytes.proofs.NumberLaws.{AreBytes-drop, AreBytes-take}
+use Rattle.macho_image.specs.Stored.{Fits, IsStored}
 use Rattle.macho_image.specs.declared.format.Ctx.{Ctx}
 use Rattle.macho_image.specs.Checks.{file_fault}
 use Rattle.macho_image.specs.Command.{IsCommand, contents_of}
 use Rattle.macho_image.specs.Commands.{commands_of, first_content_of, least}
 use Rattle.macho_image.specs.Form.{area_of, ctx_of, header_size, sizeofcmds_of}
 use Rattle.macho_image.specs.Image.{with_area}
-use Rattle.macho_image.proofs.AreaLaws.{area_fault-concat, cut-concat}
-use Rattle.macho_image.proofs.FileLaws.{concat-commands_of, found}
-use Rattle.macho_image.proofs.StoredParts.{Fits, length-with_area}
-use Rattle.macho_image.proofs.StoreLaws.{IsStored, commands_of-with_area, ctx_of-with_area, file_fault-with_area, first_content_of-with_area, with_area-same, with_area-with_area}
+use Rattle.macho_image.proofs.ForCallers.{area_fault-concat, commands_of-with_area, concat-commands_of, ctx_of-with_area, cut-concat, file_fault-with_area, first_content_of-with_area, found, length-with_area, with_area-same, with_area-with_area}
 use Rattle.arwen_macho.specs.Call.{Call, Cause}
 use Rattle.arwen_macho.specs.Call.Cause.{no_room}
 use Rattle.arwen_macho.specs.Edited.{edited}

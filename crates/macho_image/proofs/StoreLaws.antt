@@ -9,6 +9,7 @@ use Rattle.patch_bytes.specs.declared.number.Wide.TheVariants.{W32, W64}
 use Rattle.patch_bytes.specs.Bytes.{AreBytes}
 use Rattle.patch_bytes.specs.Number.{bytes_of, field, number_at}
 use Rattle.patch_bytes.proofs.NumberLaws.{AreBytes-append, AreBytes-bytes_of, AreBytes-drop, AreBytes-take, bytes_of-number_at}
+use Rattle.macho_image.specs.Stored.{Fits, IsStored, fields_behind}
 use Rattle.macho_image.specs.declared.format.Ctx.{Ctx}
 use Rattle.macho_image.specs.Checks.{area_fault, file_fault}
 use Rattle.macho_image.specs.Command.{contents_of}
@@ -19,15 +20,7 @@ use Rattle.macho_image.specs.Image.{with_area}
 use Rattle.macho_image.proofs.CutLaws.{concat-cut, cut_are_commands, length-cut}
 use Rattle.macho_image.proofs.FileLaws.{form_of-same, header_size-least, length-area_of, only}
 use Rattle.macho_image.proofs.FormLaws.{file_passes}
-use Rattle.macho_image.proofs.StoredParts.{Fits, drop-with_area_high, fields_behind, fields_behind-with_area, length-with_area, ncmds-with_area, number_at-with_area_fields, number_at-with_area_front, sizeofcmds-with_area, take-with_area_area, take-with_area_front}
-
--- what it takes to store an area of commands over an accepted file
-pub record IsStored (old : List ℕ) (count : ℕ) (area : List ℕ) (high : ℕ) : Type 0 where
-  pub accepted : file_fault old ≡ None
-  pub commands : area_fault (ctx_of old).le count area ≡ None
-  pub counted : count < 2 ^ 32
-  pub room : header_size (ctx_of old).container + length area ≤ high
-  pub inside : high ≤ length old
+use Rattle.macho_image.proofs.StoredParts.{drop-with_area_high, fields_behind-with_area, length-with_area, ncmds-with_area, number_at-with_area_fields, number_at-with_area_front, sizeofcmds-with_area, take-with_area_area, take-with_area_front}
 
 fits : (old : List ℕ) (count : ℕ) (area : List ℕ) (high : ℕ) → IsStored old count area high → Fits (ctx_of old) old area high
 fits old count area high is = record { room = is.room; inside = is.inside }
@@ -140,24 +133,3 @@ with_area-same ctx old bytes room =
     let at20 : field 4 20 old ++ drop 24 old ≡ drop 20 old = take-drop-split 4 20 old in
     let at16 : field 4 16 old ++ drop 20 old ≡ drop 16 old = take-drop-split 4 16 old in
     rw (zeros, long, counts, sizes, areas, fields, at20, at16) (take-append-drop 16 old)
-
--- bytes stay bytes
-AreBytes-replicate : (n : ℕ) → AreBytes (replicate n 0)
-AreBytes-replicate n = record { each = each_of n }
-  where
-    each_of : (n i : ℕ) → get_or (replicate n 0) i 0 < 256
-    each_of zero i = omega arith
-    each_of (suc n) zero = omega arith
-    each_of (suc n) (suc i) = each_of n i
-
-pub AreBytes-with_area : (ctx : Ctx) (old : List ℕ) (count : ℕ) (area : List ℕ) (high : ℕ) → AreBytes old → AreBytes area → AreBytes (with_area ctx old count area high)
-unfolding with_area
-AreBytes-with_area ctx old count area high olds areas =
-    let zeros : List ℕ = replicate (high - (header_size ctx.container + length area)) 0 in
-    let back : AreBytes (zeros ++ drop high old) = AreBytes-append zeros (drop high old) (AreBytes-replicate (high - (header_size ctx.container + length area))) (AreBytes-drop high old olds) in
-    let behind : AreBytes (area ++ (zeros ++ drop high old)) = AreBytes-append area (zeros ++ drop high old) areas back in
-    let fields : AreBytes (fields_behind ctx old) = AreBytes-take (header_size ctx.container - 24) (drop 24 old) (AreBytes-drop 24 old olds) in
-    let at24 = AreBytes-append (fields_behind ctx old) (area ++ (zeros ++ drop high old)) fields behind in
-    let at20 = AreBytes-append (bytes_of ctx.le 4 (length area)) _ (AreBytes-bytes_of ctx.le 4 (length area)) at24 in
-    let at16 = AreBytes-append (bytes_of ctx.le 4 count) _ (AreBytes-bytes_of ctx.le 4 count) at20 in
-    AreBytes-append (take 16 old) _ (AreBytes-take 16 old olds) at16

@@ -1,5 +1,5 @@
 -- The load commands of a file, as a list of byte strings, and what they show together.
-use Rattle.std.specs.Prelude.{ℕ, ◌+◌, ◌==◌, zero, suc, min, List, [], ◌∷◌, length, take, drop, map, filter, Option, Some, None}
+use Rattle.std.specs.Prelude.{ℕ, ◌+◌, ◌==◌, ◌≡◌, ◌≤◌, ◌<◌, ◌⊎◌, zero, suc, min, All, List, [], ◌∷◌, length, slice_index, take, drop, map, filter, Option, Some, None}
 use Rattle.std.specs.List.{flat_map}
 use Rattle.patch_bytes.specs.declared.number.ByteOrder2.{ByteOrder2}
 use Rattle.macho_image.specs.declared.command.LoadCommand.{LoadCommand}
@@ -60,3 +60,19 @@ least n (x ∷ xs) = least (min n x) xs
 -- the commands name
 unfoldable pub first_content_of : List ℕ → ℕ
 first_content_of bytes = least (length bytes) (flat_map (contents_of (ctx_of bytes).le) (commands_of bytes))
+
+-- all offsets of content that a file's commands name
+abbrev pub named_contents : List ℕ → List ℕ
+named_contents bytes = flat_map (contents_of (ctx_of bytes).le) (commands_of bytes)
+
+-- a number that stands in a list
+pub record IsOneOf (n : ℕ) (xs : List ℕ) : Type 0 where
+  pub index : ℕ
+  pub within : index < length xs
+  pub is : slice_index xs index ≡ n
+
+-- the least of a number and those of a list: at most each of them, and one of them
+pub record IsLeastOf (n bound : ℕ) (xs : List ℕ) : Type 0 where
+  pub most : n ≤ bound
+  pub each : All (λ x. n ≤ x) xs
+  pub one : (n ≡ bound) ⊎ IsOneOf n xs
