@@ -19,6 +19,8 @@ pub mod Edit
 pub mod Edited
 pub mod FatChange
 pub mod FatHeld
+pub mod FatLaws
+pub mod FileLaws
 pub mod FatHeldBy
 pub mod FatShown
 pub mod FatSlice
