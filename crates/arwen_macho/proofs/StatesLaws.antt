@@ -1,5 +1,5 @@
 -- What a batch makes of a state that edits can lead to is one again, and its bytes show it.
-use Rattle.std.proofs.Common.{◌≡◌, ◌≤◌, ℕ, Bool, true, false, if◌then◌else◌, nat_le, List, [], ◌∷◌, length, map, max, None, Result, Ok, Err, ap, sym, refl, ◌∙◌, subst, inl, inr}
+use Rattle.std.proofs.Common.{◌≡◌, ◌≤◌, ℕ, Bool, true, false, if◌then◌else◌, nat_le, List, [], ◌∷◌, length, map, max, None, Result, Ok, Err, IfOk, OnOk, ap, sym, refl, ◌∙◌, subst, inl, inr}
 use Rattle.std.specs.List.{All}
 use Rattle.std.proofs.lemmas.Bool.{cases_Bool, leb-true}
 use Rattle.std.proofs.lemmas.List.Elements.{All-cons, All-head, All-nil, All-tail}
@@ -50,6 +50,13 @@ step_is calls s t is texts e =
     fitted_is (length calls) s t (edited_by (ctx_of s.old) 0 calls s.list) is
     (λ list made. edited_by_keeps (ctx_of s.old) 0 calls s.list list texts is.whole made) e
 
+pub step_thin : (calls : List Call) (s : State) → IsState s → All TextsAreBytes calls → IfOk (step calls s) IsState
+step_thin calls s is texts = go (step calls s) refl
+  where
+    go : (answer : Result State Refusal) → step calls s ≡ answer → IfOk answer IsState
+    go (Err refusal) e = tt
+    go (Ok t) e = (step_is calls s t is texts e).0
+
 -- the next states of slices
 abbrev Nexts : List ℕ → List Slice → List Slice → Type 0
 Nexts old slices next = All (IsSlice old) next × (map (λ s. s.arch) next ≡ map (λ s. s.arch) slices)
@@ -93,6 +100,13 @@ fat_step_is calls s t is texts e =
     let next = slices_are s.old calls s.slices t.slices is.slices texts made.0 in
     let P : List ℕ → Type 0 = λ old. IsFatState (record { old = old; slices = t.slices }) in
     subst P (sym made.1) (record { accepted = is.accepted; archs = next.1 ∙ is.archs; slices = next.0 })
+
+pub step_fat : (calls : List Call) (s : FatState) → IsFatState s → All TextsAreBytes calls → IfOk (fat_step calls s) IsFatState
+step_fat calls s is texts = go (fat_step calls s) refl
+  where
+    go : (answer : Result FatState Refusal) → fat_step calls s ≡ answer → IfOk answer IsFatState
+    go (Err refusal) e = tt
+    go (Ok t) e = fat_step_is calls s t is texts e
 
 -- of a file of either shape
 thin_made : (flag : Bool) (answer : Result State Refusal) (new : MachoType) → as_thin flag answer ≡ Ok new → (t : State) × (answer ≡ Ok t) × (new ≡ SingleArch (record { state = t; is_edited = flag }))
@@ -142,3 +156,28 @@ shows_step calls old is texts = go (container_step calls old) refl
     go : (answer : Result MachoType Refusal) → container_step calls old ≡ answer → StepShows answer
     go (Err refusal) e = tt
     go (Ok new) e = file_bytes_show new (step_is_state calls old new is texts e)
+
+thin_step_shows : (flag : Bool) (answer : Result State Refusal) → IfOk answer IsState → StepShows (as_thin flag answer)
+thin_step_shows flag (Err refusal) is = tt
+thin_step_shows flag (Ok t) is = file_bytes_show (SingleArch (record { state = t; is_edited = flag })) is
+
+fat_step_shows : (flag : Bool) (answer : Result FatState Refusal) → IfOk answer IsFatState → StepShows (as_fat flag answer)
+fat_step_shows flag (Err refusal) is = tt
+fat_step_shows flag (Ok t) is = file_bytes_show (Fat (record { state = t; is_edited = flag })) is
+
+pub thin_shows_step : (calls : List Call) (held : Held) → IfOk (step calls held.state) IsState → StepShows (container_step calls (SingleArch held))
+unfolding container_step
+thin_shows_step calls held is = thin_step_shows (is_edited_by calls held.is_edited) (step calls held.state) is
+
+pub fat_shows_step : (calls : List Call) (held : FatHeld) → IfOk (fat_step calls held.state) IsFatState → StepShows (container_step calls (Fat held))
+unfolding container_step
+fat_shows_step calls held is = fat_step_shows (is_edited_by calls held.is_edited) (fat_step calls held.state) is
+
+-- a fact beside an accepted answer
+pub on_ok : {X E : Type 0} (answer : Result X E) (P : Type 0) → P → OnOk answer P
+on_ok (Ok x) P is = is
+on_ok (Err e) P is = tt
+
+pub on_ok-weaker : {X E : Type 0} (answer : Result X E) (P Q : Type 0) → (P → Q) → OnOk answer P → OnOk answer Q
+on_ok-weaker (Ok x) P Q weaker is = weaker is
+on_ok-weaker (Err e) P Q weaker is = tt

@@ -8,7 +8,7 @@ use Rattle.arwen_macho.specs.Call.{Call, Cause}
 use Rattle.arwen_macho.specs.Call.Call.{add_rpath, change_install_id, change_install_name, change_rpath, remove_rpath}
 use Rattle.arwen_macho.specs.Held.{Held, Steps}
 use Rattle.arwen_macho.specs.Refused.{cause_of}
-use Rattle.arwen_macho.specs.State.{Refusal, edited_by}
+use Rattle.arwen_macho.specs.State.{Refusal, edited_by, step}
 
 abbrev pub call_made : MachoEdit → Call
 call_made (AddRpath new) = add_rpath (string_bytes new)
@@ -29,6 +29,10 @@ RefusesAt index (Some cause) answer = answer ≡ Err (record { index = index; ca
 -- an error of a batch is want of memory, or tells the refusal at its index
 abbrev pub RefusedAt : {X : Type 0} → MachoBatchError → Result X Refusal → Type 0
 RefusedAt e answer = RefusesAt e.index (cause_of e.fault) answer
+
+-- an error tells the refusal that a batch meets in a thin file
+abbrev pub ThinRefuses : List Call → Held → MachoBatchError → Type 0
+ThinRefuses calls held e = RefusedAt e (step calls held.state)
 
 -- an answer to calls on a list, and the list that they leave
 abbrev pub EditsAll : Ctx → List Call → List (List ℕ) → List (List ℕ) → Result (Unit {0}) MachoBatchError → Type 0

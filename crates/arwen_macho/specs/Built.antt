@@ -1,6 +1,6 @@
 -- A built load command: its fixed part, the text, and zeros up to a size that suits the file
 -- (loader.h, `rpath_command` and `dylib_command`).
-use Rattle.std.specs.Prelude.{ℕ, ◌+◌, ◌-◌, ◌^◌, ◌==◌, nat_lt, List, [], ◌∷◌, ◌++◌, length, replicate, position, Option, Some, None, Result, Ok, Err, if◌then◌else◌}
+use Rattle.std.specs.Prelude.{ℕ, ◌+◌, ◌*◌, ◌-◌, ◌^◌, ◌==◌, nat_lt, List, [], ◌∷◌, ◌++◌, length, replicate, position, Option, Some, None, Result, Ok, Err, if◌then◌else◌}
 use Rattle.std.specs.Int.{next_multiple_of}
 use Rattle.patch_bytes.specs.declared.number.ByteOrder2.{ByteOrder2}
 use Rattle.patch_bytes.specs.declared.number.Wide.{Wide}
@@ -24,6 +24,10 @@ built_size wide fixed text = next_multiple_of (fixed + next_multiple_of (length 
 -- the text behind a fixed part of so many bytes, and zeros up to the size
 abbrev pub padded_text : ℕ → ℕ → List ℕ → List ℕ
 padded_text size fixed text = text ++ replicate (size - (fixed + length text)) 0
+
+-- fields, the text behind them, and zeros up to the size
+abbrev pub padded_command : ByteOrder2 → List ℕ → ℕ → List ℕ → List ℕ
+padded_command order numbers size text = fields order numbers ++ padded_text size (4 * length numbers) text
 
 -- the rpath command with this text
 unfoldable pub built_rpath : Ctx → List ℕ → List ℕ

@@ -1,5 +1,5 @@
 -- A batch of edits that was decided, and waits to be carried out.
-use Rattle.std.specs.Prelude.{ℕ, ◌≡◌, ◌≤◌, ◌<◌, max, true, List, Ok, Option, Some, None, ⊤}
+use Rattle.std.specs.Prelude.{ℕ, ◌≡◌, ◌≤◌, ◌<◌, max, take, true, List, Ok, Option, Some, None, ⊤}
 use Rattle.std.specs.List.{concat}
 use Rattle.macho_image.specs.Commands.{cut}
 use Rattle.macho_image.specs.Form.{ctx_of}
@@ -38,10 +38,22 @@ changed held change = record {
   is_edited = true;
 }
 
+-- a list that fits, and is this one
+abbrev pub IsFitFor : Held → List (List ℕ) → Fit → Type 0
+IsFitFor held commands fit = IsChangeOf held (change_with held fit) × (list_of held (change_with held fit) ≡ commands)
+
+-- the front of the file with a list that fits: behind it the bytes stay
+abbrev pub front_fit : Held → Fit → List ℕ
+front_fit held fit = take fit.high (laid (changed held (change_with held fit)).state)
+
 -- a change of this file that does what these calls do
 pub record IsStepOf (calls : List Call) (held : Held) (change : Change) : Type 0 where
   pub of : IsChangeOf held change
   pub steps : step calls held.state ≡ Ok (changed held change).state
+
+-- a list that fits and is what these calls make
+abbrev pub IsStepFit : List Call → Held → Fit → Type 0
+IsStepFit calls held fit = IsStepOf calls held (change_with held fit)
 
 -- an error of a change is want of memory, or want of room for this list
 abbrev pub RefusesRoom : State → List (List ℕ) → Option Cause → Type 0

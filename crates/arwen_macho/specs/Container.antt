@@ -42,6 +42,10 @@ unfoldable pub container_step : List Call → MachoType → Result MachoType Ref
 container_step calls (SingleArch held) = as_thin (is_edited_by calls held.is_edited) (step calls held.state)
 container_step calls (Fat held) = as_fat (is_edited_by calls held.is_edited) (fat_step calls held.state)
 
+-- an error tells the refusal that a batch meets in a file
+abbrev pub FileRefuses : List Call → MachoType → MachoBatchError → Type 0
+FileRefuses calls file e = RefusedAt e (container_step calls file)
+
 -- an answer to a batch, and what it leaves: what the step gives; or what was there, and an error that
 -- tells of the refused step what `tells` says
 abbrev pub Takes : {E : Type 0} → (E → Result MachoType Refusal → Type 0) → List Call → MachoType → MachoType → Result (Unit {0}) E → Type 0
@@ -79,6 +83,13 @@ AnswersAll [] (answer ∷ answers) file = ⊥
 AnswersAll (calls ∷ batches) [] file = ⊥
 AnswersAll (calls ∷ batches) (answer ∷ answers) file =
     AnswersBatch calls file answer × AnswersAll batches answers (left_by file (container_step calls file) answer)
+
+-- the same of answers in a `Vec`, and what they leave
+abbrev pub AnswersEach : List (List Call) → MachoType → Vec (Result (Unit {0}) MachoBatchError) Global → Type 0
+AnswersEach batches old answers = AnswersAll batches answers.items old
+
+abbrev pub LeavesEach : List (List Call) → MachoType → MachoType → Vec (Result (Unit {0}) MachoBatchError) Global → Type 0
+LeavesEach batches old new answers = new ≡ left_by_all batches answers.items old
 
 -- the calls of a list of batches
 abbrev pub all_calls : List (Vec MachoEdit Global) → List (List Call)

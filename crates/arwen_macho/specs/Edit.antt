@@ -1,10 +1,12 @@
 -- Which call an edit with lent or owned texts makes, and what the answer of an edit of a list says.
 use Rattle.std.specs.Prelude.{ℕ, ◌≡◌, All, List, map, Result, Ok, MatchResult}
+use Rattle.std.specs.declared.alloc.Global.{Global}
+use Rattle.std.specs.declared.vec.Vec.{Vec}
 use Rattle.macho_image.specs.declared.format.Ctx.{Ctx}
 use Rattle.arwen_macho.specs.declared.draft.Edit.{Edit}
 use Rattle.arwen_macho.specs.declared.draft.Edit.TheVariants.{AddRpath, ChangeInstallId, ChangeInstallName, ChangeRpath, RemoveRpath}
 use Rattle.arwen_macho.specs.declared.error.MachoError.{MachoError}
-use Rattle.arwen_macho.specs.Call.{Call}
+use Rattle.arwen_macho.specs.Call.{Call, Cause}
 use Rattle.arwen_macho.specs.Call.Call.{add_rpath, change_install_id, change_install_name, change_rpath, remove_rpath}
 use Rattle.arwen_macho.specs.Edited.{edited}
 use Rattle.arwen_macho.specs.Refused.{Refuses, cause_of}
@@ -24,6 +26,10 @@ calls_lent edits = map call_of edits
 -- their new texts are bytes
 abbrev pub AreTexts : List Edit → Type 0
 AreTexts edits = All TextsAreBytes (calls_lent edits)
+
+-- a built command, or why there is none, memory apart
+abbrev pub GivesBuilt : Result (List ℕ) Cause → Result (Vec ℕ Global) MachoError → Type 0
+GivesBuilt built answer = MatchResult answer (λ made. built ≡ Ok made.items) (λ e. Refuses (cause_of e) built)
 
 -- an answer to a call on a list, and the list that it leaves: the edited one, or the cause that the
 -- definition gives, memory apart

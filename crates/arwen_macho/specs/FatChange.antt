@@ -1,6 +1,8 @@
 -- Changes of all slices of a fat file, which were decided and wait to be carried out.
 use Rattle.std.specs.Prelude.{◌≡◌, Bool, true, List, [], ◌∷◌, Ok}
 use Rattle.std.specs.List.{AllZip}
+use Rattle.std.specs.declared.alloc.Global.{Global}
+use Rattle.std.specs.declared.vec.Vec.{Vec}
 use Rattle.arwen_macho.specs.declared.change.Change.{Change}
 use Rattle.arwen_macho.specs.Call.{Call}
 use Rattle.arwen_macho.specs.Change.{IsChangeOf, changed}
@@ -36,3 +38,7 @@ fat_changed held changes = record {
 pub record AreStepOf (calls : List Call) (held : FatHeld) (changes : List Change) : Type 0 where
   pub of : AreChangesOf held changes
   pub steps : fat_step calls held.state ≡ Ok (fat_changed held changes).state
+
+-- the same of changes in a `Vec`
+abbrev pub StepsOf : List Call → FatHeld → Vec Change Global → Type 0
+StepsOf calls held changes = AreStepOf calls held changes.items

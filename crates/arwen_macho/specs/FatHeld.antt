@@ -31,6 +31,10 @@ pub record IsFatState (s : FatState) : Type 0 where
   pub archs : map (λ s. s.arch) s.slices ≡ archs_of s.old
   pub slices : All (IsSlice s.old) s.slices
 
+-- an error tells the refusal that a batch meets in a fat file
+abbrev pub FatRefuses : List Call → FatHeld → MachoBatchError → Type 0
+FatRefuses calls held e = RefusedAt e (fat_step calls held.state)
+
 -- an answer to a batch, and what it leaves: as `Steps` says of a thin file
 abbrev pub FatSteps : {E : Type 0} → (E → Result FatState Refusal → Type 0) → List Call → FatHeld → FatHeld → Result (Unit {0}) E → Type 0
 FatSteps tells calls old new answer =

@@ -1,8 +1,13 @@
 -- The slices that a container of a fat file holds, and what changes of them make.
 use Rattle.std.specs.Prelude.{ℕ, ◌+◌, ◌≤◌, List, [], ◌∷◌, length, take, map, Result}
+use Rattle.std.specs.List.{AllZip}
+use Rattle.std.specs.declared.alloc.Global.{Global}
+use Rattle.std.specs.declared.vec.Vec.{Vec}
 use Rattle.macho_image.specs.declared.fat.FatArch.{FatArch}
 use Rattle.macho_image.specs.Fat.{slice_of}
+use Rattle.arwen_macho.specs.declared.batch.MachoBatchError.{MachoBatchError}
 use Rattle.arwen_macho.specs.declared.change.Change.{Change}
+use Rattle.arwen_macho.specs.Batch.{RefusedAt}
 use Rattle.arwen_macho.specs.Call.{Call}
 use Rattle.arwen_macho.specs.Change.{IsChangeOf, IsStepOf, changed}
 use Rattle.arwen_macho.specs.FatState.{Slice, put_at, step_slices}
@@ -30,6 +35,14 @@ first_macho old arch = record { inner = first_held (slice_of old arch); arch = a
 -- a change of a slice that does what these calls do
 abbrev pub IsStepIn : List Call → HeldSlice → Change → Type 0
 IsStepIn calls m change = IsStepOf calls m.inner change
+
+-- those of the slices of a fat file
+abbrev pub AreStepsIn : List Call → List HeldSlice → Vec Change Global → Type 0
+AreStepsIn calls slices changes = AllZip (IsStepIn calls) slices changes.items
+
+-- an error tells the refusal that a batch meets in the slices
+abbrev pub SlicesRefuse : List Call → List HeldSlice → MachoBatchError → Type 0
+SlicesRefuse calls slices e = RefusedAt e (step_held calls slices)
 
 -- a change that can be carried out on a slice, and on a copy of the file with so many bytes
 pub record IsReadyIn (len : ℕ) (m : HeldSlice) (change : Change) : Type 0 where

@@ -11,6 +11,7 @@ pub use Rattle.macho_image.specs.Image
 pub use Rattle.macho_image.specs.Prepared
 pub mod Batch
 pub mod Built
+pub mod Builds
 pub mod Call
 pub mod Change
 pub mod Converted

@@ -52,6 +52,10 @@ abbrev pub edited_by : Ctx → ℕ → List Call → List (List ℕ) → Result 
 edited_by ctx done [] list = Ok list
 edited_by ctx done (call ∷ calls) list = then_on (answered done (edited ctx call list)) (λ next. edited_by ctx (done + 1) calls next)
 
+-- the greatest offset where the commands of these bytes may end: where they do, or where content begins
+abbrev pub available_in : List ℕ → ℕ
+available_in bytes = max (commands_end (ctx_of bytes) bytes) (first_content_of bytes)
+
 -- the greatest offset where the commands of a state may end
 abbrev pub available : State → ℕ
 available s = max (end_of (ctx_of s.old) s.list) (first_content_of s.old)

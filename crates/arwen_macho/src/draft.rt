@@ -1,11 +1,11 @@
-ghost use Rattle.std.specs.Prelude.{◌≡◌, ◌+◌, ◌≤◌, ◌<◌, length, [], position, slice_index_or, slice_set, vec_len, IfSome, MatchResult, Ok};
+ghost use Rattle.std.specs.Prelude.{◌≡◌, ◌+◌, ◌≤◌, ◌<◌, length, [], position, slice_index_or, slice_set, vec_len, IfSome};
 ghost use Rattle.arwen_macho.specs.Built.{dylib_built, rpath_built};
 ghost use Rattle.arwen_macho.specs.Call.Call.{add_rpath, change_install_id, change_install_name, change_rpath, remove_rpath};
 ghost use Rattle.macho_image.specs.Command.{dylib_of};
 ghost use Rattle.arwen_macho.specs.Call.Cause.{name_missing, rpath_missing};
-ghost use Rattle.arwen_macho.specs.Edit.{Edits, call_of};
+ghost use Rattle.arwen_macho.specs.Edit.{Edits, GivesBuilt, call_of};
 ghost use Rattle.arwen_macho.specs.Edited.{is_id, is_library_named, is_rpath_named};
-ghost use Rattle.arwen_macho.specs.Refused.{Refuses, cause_of};
+ghost use Rattle.arwen_macho.specs.Refused.{cause_of};
 
 use crate::commands::{DlibCommandBuilder, RpathCommandBuilder};
 use crate::error::MachoError;
@@ -118,7 +118,7 @@ fn missing_library(alloc: Global, text: &str) -> MachoError
 
 // The rpath command with this text.
 fn built_rpath(alloc: Global, ctx: Ctx, text: &str) -> Result<Vec<u8>, MachoError>
-    ensures { MatchResult result (λ built. rpath_built ctx text.now ≡ Ok built.items) (λ e. Refuses (cause_of e) (rpath_built ctx text.now)) }
+    ensures { GivesBuilt (rpath_built ctx text.now) result }
 {
     let (_, built) = RpathCommandBuilder::new(text, ctx).build(alloc)?;
     Ok(built)
@@ -131,7 +131,7 @@ fn built_dylib(
     text: &str,
     old: DylibCommand,
 ) -> Result<Vec<u8>, MachoError>
-    ensures { MatchResult result (λ built. dylib_built ctx text.now old ≡ Ok built.items) (λ e. Refuses (cause_of e) (dylib_built ctx text.now old)) }
+    ensures { GivesBuilt (dylib_built ctx text.now old) result }
 {
     let (_, built) = DlibCommandBuilder::new(text, old, ctx).build(alloc)?;
     Ok(built)

@@ -1,15 +1,15 @@
-ghost use Rattle.std.specs.Prelude.{◌≡◌, ◌∷◌, [], ◌+◌, ◌≤◌, All, IfOk, IfErr, IsOk, MatchResult, None, Ok, Some, length, map, take, true};
+ghost use Rattle.std.specs.Prelude.{◌≡◌, ◌∷◌, [], ◌+◌, ◌≤◌, All, IfOk, IfErr, IsOk, MatchResult, None, OnOk, length, map, take, true};
 ghost use Rattle.std.specs.List.{AllZip};
 ghost use Rattle.std.specs.Str.{bytes_eq};
 ghost use Rattle.patch_bytes.specs.ByteString.{bytes_shown};
 ghost use Rattle.macho_image.specs.Fat.{archs_of, slice_of, table_fault};
-ghost use Rattle.arwen_macho.specs.Batch.{RefusedAt, calls_of};
+ghost use Rattle.arwen_macho.specs.Batch.{calls_of};
 ghost use Rattle.arwen_macho.specs.Call.Call.{add_rpath, change_install_id, change_install_name, change_rpath, remove_rpath};
 ghost use Rattle.arwen_macho.specs.Edit.{AreTexts, call_of, calls_lent};
-ghost use Rattle.arwen_macho.specs.FatSlice.{IsReadyIn, IsStepIn, changed_macho, changed_machos, first_macho, front_of, fronts_over, slice_held, step_held};
+ghost use Rattle.arwen_macho.specs.FatSlice.{AreStepsIn, IsReadyIn, SlicesRefuse, changed_macho, changed_machos, first_macho, front_of, fronts_over, slice_held};
 ghost use Rattle.arwen_macho.specs.FatState.{put_at};
 ghost use Rattle.arwen_macho.specs.Found.{ARCHIVE, Finds, found_fault, slice_found, slices_found};
-ghost use Rattle.arwen_macho.specs.Fronts.{IsFrontOf};
+ghost use Rattle.arwen_macho.specs.Fronts.{AreFrontsOf};
 ghost use Rattle.arwen_macho.specs.Whole.{TextsAreBytes};
 
 use crate::batch::{MachoBatchError, MachoEdit, lend_all};
@@ -55,7 +55,9 @@ impl<'a> FatMacho<'a> {
 
 // The records of a fat file's table, or the first of its checks that fails.
 fn read_table(alloc: Global, bytes: &[u8]) -> Result<Vec<FatArch>, MachoError>
-    ensures { MatchResult result (λ archs. (table_fault bytes.now ≡ None) × (archs.items ≡ archs_of bytes.now)) (λ e. Finds e (found_fault (table_fault bytes.now))) }
+    ensures { MatchResult result
+        (λ archs. (table_fault bytes.now ≡ None) × (archs.items ≡ archs_of bytes.now))
+        (λ e. Finds e (found_fault (table_fault bytes.now))) }
 {
     let archs = fat_archs(alloc, bytes)?;
     Ok(archs)
@@ -76,7 +78,10 @@ fn parse_slice<'a>(
     arch: FatArch,
 ) -> Result<FatMacho<'a>, MachoError>
     requires { arch.offset + arch.size ≤ length bytes.now }
-    ensures { MatchResult result (λ m. (slice_found (slice_of bytes.entry.now arch) ≡ None) × (m ≡ first_macho bytes.entry.now arch)) (λ e. Finds e (slice_found (slice_of bytes.entry.now arch))) }
+    ensures { MatchResult result
+        (λ m. (slice_found (slice_of bytes.entry.now arch) ≡ None)
+        × (m ≡ first_macho bytes.entry.now arch))
+        (λ e. Finds e (slice_found (slice_of bytes.entry.now arch))) }
 {
     let start = arch.offset as usize;
     let slice = &bytes[start..start + arch.size as usize];
@@ -94,7 +99,10 @@ fn parse_slices<'a>(
     archs: &[FatArch],
 ) -> Result<Vec<FatMacho<'a>>, MachoError>
     requires { All (λ arch. arch.offset + arch.size ≤ length bytes.now) archs.now }
-    ensures { MatchResult result (λ slices. (slices_found (map (slice_of bytes.entry.now) archs.now) ≡ None) × (slices.items ≡ map (first_macho bytes.entry.now) archs.now)) (λ e. Finds e (slices_found (map (slice_of bytes.entry.now) archs.now))) }
+    ensures { MatchResult result
+        (λ slices. (slices_found (map (slice_of bytes.entry.now) archs.now) ≡ None)
+        × (slices.items ≡ map (first_macho bytes.entry.now) archs.now))
+        (λ e. Finds e (slices_found (map (slice_of bytes.entry.now) archs.now))) }
 {
     let mut slices = Vec::new(alloc);
     for arch in archs {
@@ -111,8 +119,8 @@ fn changes_all(
     edits: &[Edit<'_>],
 ) -> Result<Vec<Change>, MachoBatchError>
     requires { AreTexts edits.now }
-    ensures ok { IfOk result (λ changes. AllZip (IsStepIn (calls_lent edits.now)) slices.now changes.items) }
-    ensures err { IfErr result (λ e. RefusedAt e (step_held (calls_lent edits.now) slices.now)) }
+    ensures ok { IfOk result (AreStepsIn (calls_lent edits.now) slices.now) }
+    ensures err { IfErr result (SlicesRefuse (calls_lent edits.now) slices.now) }
 {
     let mut changes = Vec::with_capacity(alloc, slices.len())?;
     for slice in slices {
@@ -129,8 +137,8 @@ fn fronts_all(
     edits: &[Edit<'_>],
 ) -> Result<Vec<Front>, MachoBatchError>
     requires { AreTexts edits.now }
-    ensures ok { IfOk result (λ fronts. AllZip (IsFrontOf (calls_lent edits.now)) slices.now fronts.items) }
-    ensures err { IfErr result (λ e. RefusedAt e (step_held (calls_lent edits.now) slices.now)) }
+    ensures ok { IfOk result (AreFrontsOf (calls_lent edits.now) slices.now) }
+    ensures err { IfErr result (SlicesRefuse (calls_lent edits.now) slices.now) }
 {
     let mut fronts = Vec::with_capacity(alloc, slices.len())?;
     for slice in slices {
@@ -170,7 +178,8 @@ fn commit_all(slices: &mut [FatMacho<'_>], mut changes: Vec<Change>, copy: &mut 
 
 // The copy of the file, or a new one. A new one is refused where there is no memory.
 fn copy_of(alloc: Global, source: &[u8], edited: Option<Vec<u8>>) -> Result<Vec<u8>, AllocError>
-    ensures { MatchResult result (λ copy. copy.items ≡ bytes_shown source.now edited) (λ _. edited ≡ None) }
+    ensures { MatchResult result
+        (λ copy. copy.items ≡ bytes_shown source.now edited) (λ _. edited ≡ None) }
 {
     match edited {
         Some(copy) => Ok(copy),
@@ -201,17 +210,19 @@ impl<'a> Model for FatMachoContainer<'a> {
 }
 
 impl<'a> FatMachoContainer<'a> {
-    ghost use Rattle.arwen_macho.specs.FatChange.{AreChangesOf, AreStepOf, fat_changed};
-    ghost use Rattle.arwen_macho.specs.FatHeld.{FatStepsBatch, FatStepsOnce, first_fat_held};
+    ghost use Rattle.arwen_macho.specs.FatChange.{AreChangesOf, StepsOf, fat_changed};
+    ghost use Rattle.arwen_macho.specs.FatHeld.{FatRefuses, FatStepsBatch, FatStepsOnce, first_fat_held};
     ghost use Rattle.arwen_macho.specs.FatShown.{FatShows};
-    ghost use Rattle.arwen_macho.specs.FatState.{fat_laid, fat_step};
+    ghost use Rattle.arwen_macho.specs.FatState.{fat_laid};
     ghost use Rattle.arwen_macho.specs.Found.{fat_found};
-    ghost use Rattle.arwen_macho.specs.Fronts.{Leads};
+    ghost use Rattle.arwen_macho.specs.Fronts.{LeadFat, StepIsFat};
 
     /// Parses a fat file. It is refused by the first check that fails: those of the table, then those of
     /// each slice in the table's order, among them that it is no Unix archive; or where there is no memory.
     pub fn parse(alloc: Global, bytes: &'a [u8]) -> Result<FatMachoContainer<'a>, MachoError>
-        ensures { MatchResult result (λ fat. (fat_found bytes.entry.now ≡ None) × (fat ≡ first_fat_held bytes.entry.now)) (λ e. Finds e (fat_found bytes.entry.now)) }
+        ensures { MatchResult result
+            (λ fat. (fat_found bytes.entry.now ≡ None) × (fat ≡ first_fat_held bytes.entry.now))
+            (λ e. Finds e (fat_found bytes.entry.now)) }
     {
         let table = read_table(alloc, bytes)?;
         let archs = parse_slices(alloc, bytes, &table)?;
@@ -243,8 +254,8 @@ impl<'a> FatMachoContainer<'a> {
     // What edits ask of the slices.
     fn changes_by(&self, alloc: Global, edits: &[Edit<'_>]) -> Result<Vec<Change>, MachoBatchError>
         requires { AreTexts edits.now }
-        ensures ok { IfOk result (λ changes. AreStepOf (calls_lent edits.now) self.now changes.items) }
-        ensures err { IfErr result (λ e. RefusedAt e (fat_step (calls_lent edits.now) self.now.state)) }
+        ensures ok { IfOk result (StepsOf (calls_lent edits.now) self.now) }
+        ensures err { IfErr result (FatRefuses (calls_lent edits.now) self.now) }
     {
         changes_all(alloc, &self.archs, edits)
     }
@@ -252,8 +263,9 @@ impl<'a> FatMachoContainer<'a> {
     /// What `apply` would write over the file's bytes: the front of each slice, in their order. It is refused
     /// where `apply` is, and nothing changes.
     pub fn fronts(&self, alloc: Global, edits: &[MachoEdit]) -> Result<Vec<Front>, MachoBatchError>
-        ensures ok { IfOk result (λ fronts. Leads fat_laid self.now.state (fat_step (calls_of edits.now) self.now.state) fronts) }
-        ensures err { IfErr result (λ e. RefusedAt e (fat_step (calls_of edits.now) self.now.state)) }
+        ensures ok { IfOk result (LeadFat (calls_of edits.now) self.now) }
+        ensures state { OnOk result (StepIsFat (calls_of edits.now) self.now) }
+        ensures err { IfErr result (FatRefuses (calls_of edits.now) self.now) }
     {
         let lent = lend_all(alloc, edits)?;
         self.fronts_by(alloc, lent.as_slice())
@@ -262,8 +274,9 @@ impl<'a> FatMachoContainer<'a> {
     // The same of edits with lent texts.
     fn fronts_by(&self, alloc: Global, edits: &[Edit<'_>]) -> Result<Vec<Front>, MachoBatchError>
         requires { AreTexts edits.now }
-        ensures ok { IfOk result (λ fronts. Leads fat_laid self.now.state (fat_step (calls_lent edits.now) self.now.state) fronts) }
-        ensures err { IfErr result (λ e. RefusedAt e (fat_step (calls_lent edits.now) self.now.state)) }
+        ensures ok { IfOk result (LeadFat (calls_lent edits.now) self.now) }
+        ensures state { OnOk result (StepIsFat (calls_lent edits.now) self.now) }
+        ensures err { IfErr result (FatRefuses (calls_lent edits.now) self.now) }
     {
         fronts_all(alloc, &self.archs, edits)
     }
@@ -271,7 +284,8 @@ impl<'a> FatMachoContainer<'a> {
     // Carries out a change of each slice, in the copy of the file. There may be no memory for the copy.
     fn commit(&mut self, alloc: Global, changes: Vec<Change>) -> Result<(), AllocError>
         requires { AreChangesOf self.old changes.items }
-        ensures { MatchResult result (λ _. self.new ≡ fat_changed self.old changes.items) (λ _. self.new ≡ self.old) }
+        ensures { MatchResult result
+            (λ _. self.new ≡ fat_changed self.old changes.items) (λ _. self.new ≡ self.old) }
     {
         let mut copy = copy_of(alloc, self.source, self.edited.take())?;
         commit_all(&mut self.archs, changes, &mut copy);

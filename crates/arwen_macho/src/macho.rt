@@ -1,4 +1,4 @@
-ghost use Rattle.std.specs.Prelude.{◌≡◌, ◌+◌, ◌≤◌, ◌∷◌, [], max, nat_le, length, take, true, None, Ok, IsOk, IfOk, IfErr, OnErr, MatchResult};
+ghost use Rattle.std.specs.Prelude.{◌≡◌, ◌+◌, ◌≤◌, ◌∷◌, [], nat_le, length, true, None, IsOk, IfOk, IfErr, OnErr, OnOk, MatchResult};
 ghost use Rattle.std.specs.List.{concat};
 ghost use Rattle.macho_image.specs.Checks.{file_fault};
 ghost use Rattle.macho_image.specs.Commands.{first_content_of};
@@ -51,20 +51,22 @@ fn joined(alloc: Global, commands: &[ByteString<'_>]) -> Result<Vec<u8>, AllocEr
 }
 
 impl<'a> SingleMachO<'a> {
-    ghost use Rattle.arwen_macho.specs.Batch.{RefusedAt, StepsBatch, calls_of};
-    ghost use Rattle.arwen_macho.specs.Change.{IsChangeOf, IsStepOf, RefusesRoom, change_with, changed, list_of};
+    ghost use Rattle.arwen_macho.specs.Batch.{StepsBatch, ThinRefuses, calls_of};
+    ghost use Rattle.arwen_macho.specs.Change.{IsChangeOf, IsFitFor, IsStepFit, IsStepOf, RefusesRoom, change_with, changed, front_fit};
     ghost use Rattle.arwen_macho.specs.Edit.{AreTexts, call_of, calls_lent};
     ghost use Rattle.arwen_macho.specs.Found.{Finds, found_fault};
-    ghost use Rattle.arwen_macho.specs.Fronts.{IsFrontAt, Leads};
+    ghost use Rattle.arwen_macho.specs.Fronts.{IsFrontAt, LeadThin, StepIsThin};
     ghost use Rattle.arwen_macho.specs.Held.{StepsOnce, first_held, image_held};
     ghost use Rattle.arwen_macho.specs.Refused.{cause_of};
     ghost use Rattle.arwen_macho.specs.Shown.{Shows};
-    ghost use Rattle.arwen_macho.specs.State.{laid, step};
+    ghost use Rattle.arwen_macho.specs.State.{laid};
     ghost use Rattle.arwen_macho.specs.Whole.{IsState, Keeps, TextsAreBytes};
 
     /// Parses a thin file. It is refused by the first check that fails, or where there is no memory.
     pub fn parse(alloc: Global, bytes: &'a [u8]) -> Result<SingleMachO<'a>, MachoError>
-        ensures { MatchResult result (λ macho. (file_fault bytes.entry.now ≡ None) × (macho ≡ first_held bytes.entry.now)) (λ e. Finds e (found_fault (file_fault bytes.entry.now))) }
+        ensures { MatchResult result
+            (λ macho. (file_fault bytes.entry.now ≡ None) × (macho ≡ first_held bytes.entry.now))
+            (λ e. Finds e (found_fault (file_fault bytes.entry.now))) }
     {
         let inner = MachO::parse(alloc, bytes)?;
         let high = commands_end(&inner);
@@ -111,7 +113,7 @@ impl<'a> SingleMachO<'a> {
     // Another list of load commands, if there is room for it.
     fn fit_for(&self, alloc: Global, commands: &[ByteString<'_>]) -> Result<Fit, MachoError>
         requires { Keeps (ctx_of self.now.state.old).le self.now.state.list commands.now }
-        ensures ok { IfOk result (λ fit. IsChangeOf self.now (change_with self.now fit) × (list_of self.now (change_with self.now fit) ≡ commands.now)) }
+        ensures ok { IfOk result (IsFitFor self.now commands.now) }
         ensures err { IfErr result (λ e. RefusesRoom self.now.state commands.now (cause_of e)) }
     {
         let area = joined(alloc, commands)?;
@@ -142,7 +144,7 @@ impl<'a> SingleMachO<'a> {
     // The bytes that differ where a list that fits is brought in: the file's front with it.
     pub(crate) fn front_with(&self, alloc: Global, fit: &Fit) -> Result<Vec<u8>, AllocError>
         requires { IsChangeOf self.now (change_with self.now fit.now) }
-        ensures { IfOk result (λ front. front.items ≡ take fit.now.high (laid (changed self.now (change_with self.now fit.now)).state)) }
+        ensures { IfOk result (λ front. front.items ≡ front_fit self.now fit.now) }
     {
         self.inner.front_with(alloc, fit.count, &fit.area, fit.high)
     }
@@ -160,8 +162,8 @@ impl<'a> SingleMachO<'a> {
     // The list that edits leave, decided upon a draft of it.
     fn fit_by(&self, alloc: Global, edits: &[Edit<'_>]) -> Result<Fit, MachoBatchError>
         requires { AreTexts edits.now }
-        ensures ok { IfOk result (λ fit. IsStepOf (calls_lent edits.now) self.now (change_with self.now fit)) }
-        ensures err { IfErr result (λ e. RefusedAt e (step (calls_lent edits.now) self.now.state)) }
+        ensures ok { IfOk result (IsStepFit (calls_lent edits.now) self.now) }
+        ensures err { IfErr result (ThinRefuses (calls_lent edits.now) self.now) }
     {
         let mut commands = self.inner.commands(alloc)?;
         edit_all(alloc, self.inner.ctx(), &mut commands, edits)?;
@@ -182,7 +184,7 @@ impl<'a> SingleMachO<'a> {
     ) -> Result<Change, MachoBatchError>
         requires { AreTexts edits.now }
         ensures ok { IfOk result (IsStepOf (calls_lent edits.now) self.now) }
-        ensures err { IfErr result (λ e. RefusedAt e (step (calls_lent edits.now) self.now.state)) }
+        ensures err { IfErr result (ThinRefuses (calls_lent edits.now) self.now) }
     {
         let fit = self.fit_by(alloc, edits)?;
         Ok(self.change_with(alloc, fit)?)
@@ -197,7 +199,7 @@ impl<'a> SingleMachO<'a> {
     ) -> Result<Front, MachoBatchError>
         requires { AreTexts edits.now }
         ensures ok { IfOk result (IsFrontAt (calls_lent edits.now) self.now offset) }
-        ensures err { IfErr result (λ e. RefusedAt e (step (calls_lent edits.now) self.now.state)) }
+        ensures err { IfErr result (ThinRefuses (calls_lent edits.now) self.now) }
     {
         let fit = self.fit_by(alloc, edits)?;
         let bytes = self.front_with(alloc, &fit)?;
@@ -206,8 +208,9 @@ impl<'a> SingleMachO<'a> {
 
     // What a batch of edits writes over the file's bytes.
     fn fronts(&self, alloc: Global, edits: &[MachoEdit]) -> Result<Vec<Front>, MachoBatchError>
-        ensures ok { IfOk result (λ fronts. Leads laid self.now.state (step (calls_of edits.now) self.now.state) fronts) }
-        ensures err { IfErr result (λ e. RefusedAt e (step (calls_of edits.now) self.now.state)) }
+        ensures ok { IfOk result (LeadThin (calls_of edits.now) self.now) }
+        ensures state { OnOk result (StepIsThin (calls_of edits.now) self.now) }
+        ensures err { IfErr result (ThinRefuses (calls_of edits.now) self.now) }
     {
         // From a read of the fields on it is known what holds of them.
         let _read = self.high;
@@ -325,24 +328,26 @@ impl<'a> Model for MachoContainer<'a> {
 }
 
 impl<'a> MachoContainer<'a> {
-    ghost use Rattle.arwen_macho.specs.Batch.{RefusedAt, calls_of};
-    ghost use Rattle.arwen_macho.specs.Container.{AnswersAll, TakesBatch, TakesOnce, all_calls, container_bytes, container_step, first_container, is_edited_file, left_by_all};
-    ghost use Rattle.arwen_macho.specs.ContainerShown.{ShowsFile};
+    ghost use Rattle.arwen_macho.specs.Batch.{calls_of};
+    ghost use Rattle.arwen_macho.specs.Container.{AnswersEach, FileRefuses, LeavesEach, TakesBatch, TakesOnce, all_calls, container_bytes, container_step, first_container, is_edited_file};
+    ghost use Rattle.arwen_macho.specs.ContainerShown.{ShowsFile, StepShows};
     ghost use Rattle.arwen_macho.specs.Edit.{AreTexts, call_of, calls_lent};
     ghost use Rattle.arwen_macho.specs.Found.{Finds, container_found};
-    ghost use Rattle.arwen_macho.specs.Fronts.{Leads};
+    ghost use Rattle.arwen_macho.specs.Fronts.{LeadFile};
     ghost use Rattle.arwen_macho.specs.Whole.{TextsAreBytes};
 
     /// Parses a file, which is fat where it begins with the magic of fat files. It is refused by the first
     /// check that fails, or where there is no memory.
     #[tactic(auto, unfolding(crate::specs::Found::container_found))]
-    pub fn parse(alloc: Global, bytes_of_file: &'a [u8]) -> Result<MachoContainer<'a>, MachoError>
-        ensures { MatchResult result (λ file. (container_found bytes_of_file.entry.now ≡ None) × (file ≡ first_container bytes_of_file.entry.now)) (λ e. Finds e (container_found bytes_of_file.entry.now)) }
+    pub fn parse(alloc: Global, bytes: &'a [u8]) -> Result<MachoContainer<'a>, MachoError>
+        ensures { MatchResult result
+            (λ file. (container_found bytes.entry.now ≡ None) × (file ≡ first_container bytes.entry.now))
+            (λ e. Finds e (container_found bytes.entry.now)) }
     {
-        let inner = if is_fat(bytes_of_file) {
-            MachoType::Fat(FatMachoContainer::parse(alloc, bytes_of_file)?)
+        let inner = if is_fat(bytes) {
+            MachoType::Fat(FatMachoContainer::parse(alloc, bytes)?)
         } else {
-            MachoType::SingleArch(SingleMachO::parse(alloc, bytes_of_file)?)
+            MachoType::SingleArch(SingleMachO::parse(alloc, bytes)?)
         };
         Ok(MachoContainer { inner })
     }
@@ -456,10 +461,12 @@ impl<'a> MachoContainer<'a> {
     }
 
     /// What `apply` would write over the file's bytes: the front of each thin file in it, without what
-    /// lies behind. It is refused where `apply` is, and the file stays as it is.
+    /// lies behind. With them over it the file is accepted by a parse, and shows the edited load commands.
+    /// It is refused where `apply` is, and the file stays as it is.
     pub fn fronts(&self, alloc: Global, edits: &[MachoEdit]) -> Result<Vec<Front>, MachoBatchError>
-        ensures ok { IfOk result (λ fronts. Leads container_bytes self.now (container_step (calls_of edits.now) self.now) fronts) }
-        ensures err { IfErr result (λ e. RefusedAt e (container_step (calls_of edits.now) self.now)) }
+        ensures ok { IfOk result (LeadFile (calls_of edits.now) self.now) }
+        ensures shows { OnOk result (StepShows (container_step (calls_of edits.now) self.now)) }
+        ensures err { IfErr result (FileRefuses (calls_of edits.now) self.now) }
     {
         match &self.inner {
             MachoType::SingleArch(single) => single.fronts(alloc, edits),
@@ -474,8 +481,8 @@ impl<'a> MachoContainer<'a> {
         alloc: Global,
         batches: &[Vec<MachoEdit>],
     ) -> Result<Vec<Result<(), MachoBatchError>>, AllocError>
-        ensures answers { IfOk result (λ answers. AnswersAll (all_calls batches.now) answers.items self.old) }
-        ensures left { IfOk result (λ answers. self.new ≡ left_by_all (all_calls batches.now) answers.items self.old) }
+        ensures answers { IfOk result (AnswersEach (all_calls batches.now) self.old) }
+        ensures left { IfOk result (LeavesEach (all_calls batches.now) self.old self.new) }
         ensures err { OnErr result (self.new ≡ self.old) }
     {
         let mut answers = Vec::with_capacity(alloc, batches.len())?;

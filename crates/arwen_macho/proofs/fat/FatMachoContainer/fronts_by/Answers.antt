@@ -10,10 +10,11 @@ use Rattle.arwen_macho.specs.FatHeld.{FatHeld}
 use Rattle.arwen_macho.specs.FatHeldBy.{fat_held_of}
 use Rattle.arwen_macho.specs.FatSlice.{HeldSlice, slice_held}
 use Rattle.arwen_macho.specs.FatState.{fat_laid, fat_step, step_slices}
-use Rattle.arwen_macho.specs.Fronts.{IsFrontOf, LeadOn}
+use Rattle.arwen_macho.specs.Fronts.{IsFrontOf, LeadOn, StepIsFat}
 use Rattle.arwen_macho.specs.Refused.{cause_of}
 use Rattle.arwen_macho.proofs.FatStepLaws.{fat_batch_refused}
 use Rattle.arwen_macho.proofs.LeadLaws.{lead_fat}
+use Rattle.arwen_macho.proofs.StatesLaws.{on_ok, step_fat}
 use Rattle.arwen_macho.proofs.fat.FatMachoContainer.fronts_by.Goals as goal
 
 pub returns-clause-ok : goal.returns-clause-ok
@@ -41,3 +42,10 @@ returns-clause-err c =
     let Held : FatHeld → Type 0 = λ h. RefusesAt e.index (cause_of e.fault) (fat_step calls h.state) in
     subst Held c.self.view_is (fat_batch_refused calls (fat_held_of s).state e.index (cause_of e.fault) (subst Slices c.deref.ensures.value refuses)))
     c.fronts_all.ensures.err
+
+pub returns-clause-state : goal.returns-clause-state
+returns-clause-state c =
+    let calls : List Call = calls_lent c.args.edits.now in
+    let State : FatHeld → Type 0 = λ h. StepIsFat calls h in
+    let is = subst State c.self.view_is (step_fat calls (fat_held_of c.self.inside).state c.self.invariant.is_state c.requires) in
+    on_ok c.fronts_all.result (StepIsFat calls c.args.self.now) is
