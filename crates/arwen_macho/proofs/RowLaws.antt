@@ -4,12 +4,15 @@ use Rattle.patch_bytes.specs.Number.{number_at}
 use Rattle.macho_image.specs.Checks.{command_fault, fields_fault, file_fault, form_fault}
 use Rattle.macho_image.specs.Commands.{commands_of, first_content_of, rpaths_of}
 use Rattle.macho_image.specs.Command.{contents_of, least_size, symtab_content, text_of}
+use Rattle.macho_image.specs.Fat.{archs_of}
 use Rattle.macho_image.specs.Form.{ctx_of, form_of}
 use Rattle.macho_image.specs.Image.{with_area}
 use Rattle.arwen_macho.specs.Built.{built_dylib, built_rpath, built_size, dylib_built, rpath_built}
 use Rattle.arwen_macho.specs.Edited.{edited, is_id, is_library_named, is_rpath_named}
 use Rattle.arwen_macho.specs.Rows as rows
 use Rattle.arwen_macho.specs.State.{first_state, fitted, laid, step}
+use Rattle.arwen_macho.specs.Container.{container_step}
+use Rattle.arwen_macho.specs.FatState.{fat_laid, fat_step, first_fat_state}
 
 pub builds_wide_little : rows.BuildsWideLittle
 unfolding rpath_built built_rpath built_size
@@ -64,8 +67,8 @@ unfolding step fitted laid first_state with_area edited rpath_built built_rpath 
 adds_no_second = refl
 
 pub keeps_refused : rows.KeepsRefused
-unfolding step fitted laid first_state with_area edited rpath_built built_rpath built_size is_rpath_named text_of number_at commands_of first_content_of contents_of ctx_of form_of
-keeps_refused = refl
+unfolding step fitted laid first_state with_area edited rpath_built built_rpath built_size is_rpath_named text_of number_at commands_of first_content_of contents_of ctx_of form_of container_step
+keeps_refused = ((refl, (refl, tt)), refl)
 
 pub adds_then_removes : rows.AddsThenRemoves
 unfolding step fitted laid first_state with_area edited rpath_built built_rpath built_size is_rpath_named text_of number_at commands_of first_content_of contents_of ctx_of form_of
@@ -80,8 +83,8 @@ unfolding step fitted laid first_state with_area edited rpath_built built_rpath 
 keeps_pad = refl
 
 pub clears_pad : rows.ClearsPad
-unfolding step fitted laid first_state with_area edited rpath_built built_rpath built_size is_rpath_named text_of number_at commands_of first_content_of contents_of ctx_of form_of
-clears_pad = refl
+unfolding step fitted laid first_state with_area edited rpath_built built_rpath built_size is_rpath_named text_of number_at commands_of first_content_of contents_of ctx_of form_of container_step
+clears_pad = ((refl, (refl, tt)), refl)
 
 pub refuses_second : rows.RefusesSecond
 unfolding step fitted laid first_state with_area edited rpath_built built_rpath built_size is_rpath_named text_of number_at commands_of first_content_of contents_of ctx_of form_of
@@ -194,3 +197,15 @@ adds_nothing_among_commands = refl
 pub keeps_among_commands : rows.KeepsAmongCommands
 unfolding step fitted laid first_state with_area edited rpath_built built_rpath built_size is_rpath_named text_of number_at commands_of first_content_of contents_of ctx_of form_of symtab_content
 keeps_among_commands = refl
+
+pub adds_in_both : rows.AddsInBoth
+unfolding step fitted laid first_state with_area edited rpath_built built_rpath built_size is_rpath_named text_of number_at commands_of first_content_of contents_of ctx_of form_of container_step first_fat_state archs_of fat_step fat_laid
+adds_in_both = ((refl, (refl, tt)), refl)
+
+pub adds_in_none : rows.AddsInNone
+unfolding step fitted laid first_state with_area edited rpath_built built_rpath built_size is_rpath_named text_of number_at commands_of first_content_of contents_of ctx_of form_of container_step first_fat_state archs_of fat_step fat_laid
+adds_in_none = ((refl, tt), refl)
+
+pub gives_back_in_both : rows.GivesBackInBoth
+unfolding step fitted laid first_state with_area edited rpath_built built_rpath built_size is_rpath_named text_of number_at commands_of first_content_of contents_of ctx_of form_of container_step first_fat_state archs_of fat_step fat_laid
+gives_back_in_both = ((refl, (refl, tt)), refl)

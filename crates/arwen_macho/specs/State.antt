@@ -1,5 +1,5 @@
 -- A thin file under edits: the bytes as read, its list of commands, and how far commands ever reached;
--- and what a list of batches of edits makes of it.
+-- and what a batch of edits makes of it.
 use Rattle.std.specs.Prelude.{ℕ, ◌+◌, max, nat_le, List, [], ◌∷◌, length, Result, Ok, Err, if◌then◌else◌}
 use Rattle.std.specs.List.{concat}
 use Rattle.macho_image.specs.declared.format.Ctx.{Ctx}
@@ -71,12 +71,3 @@ fitted count s (Ok list) =
 -- what a batch of edits makes of a state: all of them, or none and why
 unfoldable pub step : List Call → State → Result State Refusal
 step calls s = fitted (length calls) s (edited_by (ctx_of s.old) 0 calls s.list)
-
--- what a list of batches leaves: a refused batch leaves the state as it was
-abbrev pub kept : State → Result State Refusal → State
-kept s (Ok next) = next
-kept s (Err refusal) = s
-
-abbrev pub run : List (List Call) → State → State
-run [] s = s
-run (calls ∷ batches) s = run batches (kept s (step calls s))
