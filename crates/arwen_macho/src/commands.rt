@@ -5,17 +5,16 @@ ghost use Rattle.arwen_macho.specs.Built.{fields, nul_position, padded_command};
 ghost use Rattle.arwen_macho.specs.declared.commands.CommandBuilderError.TheVariants.{CStrError, Memory};
 
 use crate::utils::{align_to_arch, padding_size};
-use macho_image::command::LC_RPATH;
+use macho_image::command::{DYLIB_COMMAND_SIZE, LC_RPATH, RPATH_COMMAND_SIZE};
 use macho_image::{Ctx, Dylib, DylibCommand, RpathCommand};
 use patch_bytes::ByteOrder2;
 use std::alloc::{AllocError, AllocFailed, Global};
 use thiserror::Error;
 
-// How many bytes stand before the text of an rpath command.
-const RPATH_FIXED: u32 = 12;
+// How many bytes stand before the text of an rpath command, and before the name of a library command.
+const RPATH_FIXED: u32 = RPATH_COMMAND_SIZE as u32;
 
-// How many bytes stand before the name of a library command.
-const DYLIB_FIXED: u32 = 24;
+const DYLIB_FIXED: u32 = DYLIB_COMMAND_SIZE as u32;
 
 /// A text that holds a NUL, which would end it before its end.
 #[derive(Clone, Copy, Debug, PartialEq, Eq, Error)]

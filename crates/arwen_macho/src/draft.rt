@@ -9,7 +9,7 @@ ghost use Rattle.arwen_macho.specs.Refused.{cause_of};
 
 use crate::commands::{DlibCommandBuilder, RpathCommandBuilder};
 use crate::error::MachoError;
-use macho_image::command::{LC_ID_DYLIB, LC_RPATH};
+use macho_image::command::{DYLIB_COMMAND_SIZE, LC_ID_DYLIB, LC_RPATH, RPATH_COMMAND_SIZE};
 use macho_image::field::{dylib_of, number32};
 use macho_image::kind::is_load_kind;
 use macho_image::text::command_text;
@@ -37,7 +37,7 @@ pub enum Edit<'t> {
 fn names_rpath(order: ByteOrder2, text: &str, command: &[u8]) -> bool
     ensures { result ≡ is_rpath_named order text.now command.now }
 {
-    command.len() >= 12
+    command.len() >= RPATH_COMMAND_SIZE
         && number32(command, 0, order) == LC_RPATH
         && command_text(order, command) == text.as_bytes()
 }
@@ -47,7 +47,7 @@ fn names_rpath(order: ByteOrder2, text: &str, command: &[u8]) -> bool
 fn names_itself(order: ByteOrder2, command: &[u8]) -> bool
     ensures { result ≡ is_id order command.now }
 {
-    command.len() >= 24 && number32(command, 0, order) == LC_ID_DYLIB
+    command.len() >= DYLIB_COMMAND_SIZE && number32(command, 0, order) == LC_ID_DYLIB
 }
 
 // Whether a command loads the library of this name.
@@ -55,7 +55,7 @@ fn names_itself(order: ByteOrder2, command: &[u8]) -> bool
 fn names_library(order: ByteOrder2, text: &str, command: &[u8]) -> bool
     ensures { result ≡ is_library_named order text.now command.now }
 {
-    command.len() >= 24
+    command.len() >= DYLIB_COMMAND_SIZE
         && is_load_kind(number32(command, 0, order))
         && command_text(order, command) == text.as_bytes()
 }

@@ -13,9 +13,13 @@ pub use crate::error::MachoError;
 pub use crate::fat::{FatMacho, FatMachoContainer};
 pub use crate::front::{Front, lay_fronts};
 use crate::room::{available, commands_end, fits};
-pub use macho_image::{Ctx, MachFault, MachO};
+pub use macho_image::{
+    CommandVariant, Ctx, Dylib, DylibCommand, FatArch, Header, LoadCommand, LoadCommandHeader,
+    MachFault, MachO, RpathCommand,
+};
 use macho_image::{header_size, is_fat};
 use patch_bytes::ByteString;
+pub use patch_bytes::{ByteOrder2, Wide};
 use std::alloc::{AllocError, Global};
 use std::marker::Model;
 

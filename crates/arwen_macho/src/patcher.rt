@@ -6,15 +6,12 @@ ghost use Rattle.arwen_macho.specs.Patched.{InsertsAt, RemovesAt, bytes_with, by
 
 use crate::error::MachoError;
 pub use crate::room::fits;
-use macho_image::{CommandVariant, Ctx, DylibCommand, Header, LoadCommand, RpathCommand};
-use patch_bytes::{ByteOrder2, Wide, write_u32_at};
+use macho_image::format::{NCMDS_AT, SIZEOFCMDS_AT};
+use macho_image::{
+    CommandVariant, Ctx, DylibCommand, Header, LoadCommand, RpathCommand, header_size,
+};
+use patch_bytes::{ByteOrder2, write_u32_at};
 use std::alloc::Global;
-
-// Where the number of load commands stands in the header (loader.h, `mach_header`).
-const NCMDS_AT: usize = 16;
-
-// Where the bytes of all load commands together are told.
-const SIZEOFCMDS_AT: usize = 20;
 
 /// A file's header and form.
 #[derive(Clone, Copy, Debug, PartialEq, Eq)]
@@ -37,10 +34,7 @@ impl HeaderContainer {
     pub fn size(&self) -> usize
         ensures { result ≡ header_size self.now.ctx.container }
     {
-        match self.ctx.container {
-            Wide::W32 => 28,
-            Wide::W64 => 32,
-        }
+        header_size(self.ctx.container)
     }
 }
 

@@ -1,6 +1,7 @@
 -- The load commands of a file, as a list of byte strings, and what they show together.
 use Rattle.std.specs.Prelude.{ℕ, ◌+◌, ◌==◌, ◌≡◌, ◌≤◌, ◌<◌, ◌⊎◌, zero, suc, min, All, List, [], ◌∷◌, length, slice_index, take, drop, map, filter, Option, Some, None}
 use Rattle.std.specs.List.{flat_map}
+use Rattle.macho_image.specs.declared.format.Ctx.{Ctx}
 use Rattle.patch_bytes.specs.declared.number.ByteOrder2.{ByteOrder2}
 use Rattle.macho_image.specs.declared.command.LoadCommand.{LoadCommand}
 use Rattle.macho_image.specs.declared.command.TheConstants.{LC_ID_DYLIB, LC_RPATH}
@@ -12,9 +13,13 @@ abbrev pub cut : ByteOrder2 → ℕ → List ℕ → List (List ℕ)
 cut order zero area = []
 cut order (suc n) area = take (cmdsize_of order area) area ∷ cut order n (drop (cmdsize_of order area) area)
 
+-- the commands that a file of this form says that it has
+abbrev pub listed : Ctx → List ℕ → List (List ℕ)
+listed ctx bytes = cut ctx.le (ncmds_of ctx bytes) (area_of ctx bytes)
+
 -- the load commands of a file: ncmds of them, from the header's end on
 unfoldable pub commands_of : List ℕ → List (List ℕ)
-commands_of bytes = cut (ctx_of bytes).le (ncmds_of (ctx_of bytes) bytes) (area_of (ctx_of bytes) bytes)
+commands_of bytes = listed (ctx_of bytes) bytes
 
 -- the commands with their fields, the first of them at this offset
 abbrev pub located : ByteOrder2 → ℕ → List (List ℕ) → List LoadCommand
@@ -56,10 +61,14 @@ abbrev pub least : ℕ → List ℕ → ℕ
 least n [] = n
 least n (x ∷ xs) = least (min n x) xs
 
+-- the least of a bound and of all offsets of content that commands name
+abbrev pub least_content : ByteOrder2 → ℕ → List (List ℕ) → ℕ
+least_content order bound commands = least bound (flat_map (contents_of order) commands)
+
 -- where content begins at the earliest: the least of the length and of all offsets of content that
 -- the commands name
 unfoldable pub first_content_of : List ℕ → ℕ
-first_content_of bytes = least (length bytes) (flat_map (contents_of (ctx_of bytes).le) (commands_of bytes))
+first_content_of bytes = least_content (ctx_of bytes).le (length bytes) (commands_of bytes)
 
 -- all offsets of content that a file's commands name
 abbrev pub named_contents : List ℕ → List ℕ

@@ -83,7 +83,7 @@ pub record AreSlices (len end : ℕ) (archs : List FatArch) : Type 0 where
 
 -- the record with this place in the table stands behind the header and the records before it
 abbrev pub AreRecordsOf : List ℕ → List FatArch → Type 0
-AreRecordsOf bytes archs = (i : ℕ) (d : FatArch) → i < length archs → get_or archs i d ≡ arch_of (drop (8 + 20 * i) bytes)
+AreRecordsOf bytes archs = (i : ℕ) (d : FatArch) → i < length archs → get_or archs i d ≡ arch_of (drop (table_end i) bytes)
 
 -- the bytes are a fat file with these slices, apart from how its table is cut and checked: behind the magic
 -- stand as many records as the header says, and the slices lie behind them, apart from each other

@@ -31,7 +31,8 @@ pub(crate) struct SegmentLayout {
     offset: usize,
     flags: usize,
     ghost short: { (fixed < 128) × (section < 128) },
-    ghost fields: { (fileoff + word_size word ≤ fixed) × (filesize + word_size word ≤ fixed) × (nsects + 4 ≤ fixed) },
+    ghost file_fields: { (fileoff + word_size word ≤ fixed) × (filesize + word_size word ≤ fixed) },
+    ghost count_field: { nsects + 4 ≤ fixed },
     ghost section_fields: { (size + word_size word ≤ section) × (offset + 4 ≤ section) × (flags + 4 ≤ section) },
 }
 
@@ -104,7 +105,8 @@ impl SegmentLayout {
     #[tactic(auto, using(crate::proofs::ContentLaws::contents), unfolding(crate::specs::Command::segment_content))]
     pub(crate) fn lower_by_segment(self, order: ByteOrder2, command: &[u8], so_far: usize) -> usize
         requires fixed { self.fixed ≤ length command.now }
-        requires sections { self.fixed + self.section * nsects_of (form_of_layout self) order command.now ≤ length command.now }
+        requires sections { self.fixed + self.section * nsects_of (form_of_layout self) order command.now
+            ≤ length command.now }
         ensures { result ≡ least so_far (segment_content (form_of_layout self) order command.now) }
     {
         let fileoff = word(command, self.fileoff, self.word, order);
@@ -123,7 +125,8 @@ impl SegmentLayout {
         so_far: usize,
     ) -> usize
         requires { self.section * count ≤ length sections.now }
-        ensures { result ≡ least so_far (sections_content (form_of_layout self) order count sections.now) }
+        ensures { result
+            ≡ least so_far (sections_content (form_of_layout self) order count sections.now) }
     {
         let mut first = so_far;
         let mut rest = sections;
