@@ -6,7 +6,7 @@ use Rattle.patch_bytes.specs.declared.number.ByteOrder2.{ByteOrder2}
 use Rattle.patch_bytes.specs.declared.number.Wide.{Wide}
 use Rattle.patch_bytes.specs.Number.{bytes_of, word_size}
 use Rattle.macho_image.specs.declared.command.DylibCommand.{DylibCommand}
-use Rattle.macho_image.specs.declared.command.TheConstants.{LC_RPATH}
+use Rattle.macho_image.specs.declared.command.TheConstants.{DYLIB_COMMAND_SIZE, LC_RPATH, RPATH_COMMAND_SIZE}
 use Rattle.macho_image.specs.declared.format.Ctx.{Ctx}
 use Rattle.arwen_macho.specs.Call.{Cause}
 use Rattle.arwen_macho.specs.Call.Cause.{nul_inside, too_long}
@@ -32,13 +32,13 @@ padded_command order numbers size text = fields order numbers ++ padded_text siz
 -- the rpath command with this text
 unfoldable pub built_rpath : Ctx → List ℕ → List ℕ
 built_rpath ctx text =
-    fields ctx.le (LC_RPATH ∷ built_size ctx.container 12 text ∷ 12 ∷ []) ++ padded_text (built_size ctx.container 12 text) 12 text
+    fields ctx.le (LC_RPATH ∷ built_size ctx.container RPATH_COMMAND_SIZE text ∷ RPATH_COMMAND_SIZE ∷ []) ++ padded_text (built_size ctx.container RPATH_COMMAND_SIZE text) RPATH_COMMAND_SIZE text
 
 -- the library command with this text, and with the kind and the numbers of an old one
 unfoldable pub built_dylib : Ctx → List ℕ → DylibCommand → List ℕ
 built_dylib ctx text old =
-    fields ctx.le (old.cmd ∷ built_size ctx.container 24 text ∷ 24 ∷ old.dylib.timestamp ∷ old.dylib.current_version ∷ old.dylib.compatibility_version ∷ [])
-    ++ padded_text (built_size ctx.container 24 text) 24 text
+    fields ctx.le (old.cmd ∷ built_size ctx.container DYLIB_COMMAND_SIZE text ∷ DYLIB_COMMAND_SIZE ∷ old.dylib.timestamp ∷ old.dylib.current_version ∷ old.dylib.compatibility_version ∷ [])
+    ++ padded_text (built_size ctx.container DYLIB_COMMAND_SIZE text) DYLIB_COMMAND_SIZE text
 
 -- a command of this size with this text, or why there is none: the text's first NUL, else a size that
 -- does not fit 32 bits
@@ -54,7 +54,7 @@ abbrev pub nul_position : List ℕ → Option ℕ
 nul_position text = position (λ b. b == 0) text
 
 unfoldable pub rpath_built : Ctx → List ℕ → Result (List ℕ) Cause
-rpath_built ctx text = unless_nul (nul_position text) (sized (built_size ctx.container 12 text) (built_rpath ctx text))
+rpath_built ctx text = unless_nul (nul_position text) (sized (built_size ctx.container RPATH_COMMAND_SIZE text) (built_rpath ctx text))
 
 unfoldable pub dylib_built : Ctx → List ℕ → DylibCommand → Result (List ℕ) Cause
-dylib_built ctx text old = unless_nul (nul_position text) (sized (built_size ctx.container 24 text) (built_dylib ctx text old))
+dylib_built ctx text old = unless_nul (nul_position text) (sized (built_size ctx.container DYLIB_COMMAND_SIZE text) (built_dylib ctx text old))

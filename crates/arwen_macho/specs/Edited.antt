@@ -2,7 +2,7 @@
 use Rattle.std.specs.Prelude.{ℕ, ◌==◌, ◌&&◌, Bool, nat_le, List, [], ◌∷◌, ◌++◌, position, remove, get_or, length, slice_set, Option, Some, None, Result, Ok, Err}
 use Rattle.std.specs.Str.{bytes_eq}
 use Rattle.patch_bytes.specs.declared.number.ByteOrder2.{ByteOrder2}
-use Rattle.macho_image.specs.declared.command.TheConstants.{LC_ID_DYLIB, LC_RPATH}
+use Rattle.macho_image.specs.declared.command.TheConstants.{DYLIB_COMMAND_SIZE, LC_ID_DYLIB, LC_RPATH, RPATH_COMMAND_SIZE}
 use Rattle.macho_image.specs.declared.format.Ctx.{Ctx}
 use Rattle.macho_image.specs.Command.{cmd_of, dylib_of, is_load_kind, text_of}
 use Rattle.arwen_macho.specs.Built.{dylib_built, rpath_built}
@@ -13,13 +13,13 @@ use Rattle.arwen_macho.specs.Call.Cause.{id_missing, name_missing, rpath_missing
 -- an rpath command with this text; a command that holds the library's own name; a command of the five
 -- kinds that load a library, with this text. Each has its fixed part. Texts are compared byte by byte.
 unfoldable pub is_rpath_named : ByteOrder2 → List ℕ → List ℕ → Bool
-is_rpath_named order text c = nat_le 12 (length c) && (cmd_of order c == LC_RPATH && bytes_eq (text_of order c) text)
+is_rpath_named order text c = nat_le RPATH_COMMAND_SIZE (length c) && (cmd_of order c == LC_RPATH && bytes_eq (text_of order c) text)
 
 unfoldable pub is_id : ByteOrder2 → List ℕ → Bool
-is_id order c = nat_le 24 (length c) && cmd_of order c == LC_ID_DYLIB
+is_id order c = nat_le DYLIB_COMMAND_SIZE (length c) && cmd_of order c == LC_ID_DYLIB
 
 unfoldable pub is_library_named : ByteOrder2 → List ℕ → List ℕ → Bool
-is_library_named order text c = nat_le 24 (length c) && (is_load_kind (cmd_of order c) && bytes_eq (text_of order c) text)
+is_library_named order text c = nat_le DYLIB_COMMAND_SIZE (length c) && (is_load_kind (cmd_of order c) && bytes_eq (text_of order c) text)
 
 -- the list with a built command behind it
 abbrev pub appended : Result (List ℕ) Cause → List (List ℕ) → Result (List (List ℕ)) Cause

@@ -11,6 +11,7 @@ use Rattle.macho_image.specs.declared.command.DylibCommand.{DylibCommand}
 use Rattle.macho_image.specs.declared.command.LoadCommand.{LoadCommand}
 use Rattle.macho_image.specs.declared.command.RpathCommand.{RpathCommand}
 use Rattle.macho_image.specs.declared.format.Ctx.{Ctx}
+use Rattle.macho_image.specs.declared.format.TheConstants.{NCMDS_AT, SIZEOFCMDS_AT}
 use Rattle.macho_image.specs.Command.{variant_size}
 use Rattle.macho_image.specs.Form.{area_of, commands_end, header_of, header_size, ncmds_of}
 use Rattle.macho_image.specs.Image.{with_area}
@@ -57,7 +58,7 @@ header_shown header bytes = record header { inner = header_of header.ctx bytes }
 
 -- bytes with both counts of the header written
 abbrev pub counts_written : ByteOrder2 → ℕ → ℕ → List ℕ → List ℕ
-counts_written order ncmds sizeofcmds bytes = with_number order 4 20 sizeofcmds (with_number order 4 16 ncmds bytes)
+counts_written order ncmds sizeofcmds bytes = with_number order 4 SIZEOFCMDS_AT sizeofcmds (with_number order 4 NCMDS_AT ncmds bytes)
 
 -- where a command is taken out: it lies among the commands
 pub record RemovesAt (ctx : Ctx) (bytes : List ℕ) (at size : ℕ) : Type 0 where

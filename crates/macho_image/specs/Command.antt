@@ -7,7 +7,7 @@ use Rattle.macho_image.specs.declared.command.CommandVariant.TheVariants.{Rpath,
 use Rattle.macho_image.specs.declared.command.DylibCommand.{DylibCommand}
 use Rattle.macho_image.specs.declared.command.LoadCommandHeader.{LoadCommandHeader}
 use Rattle.macho_image.specs.declared.command.RpathCommand.{RpathCommand}
-use Rattle.macho_image.specs.declared.command.TheConstants.{LC_SEGMENT, LC_SYMTAB, LC_LOAD_DYLIB, LC_ID_DYLIB, LC_SEGMENT_64, LC_LAZY_LOAD_DYLIB, LC_LOAD_WEAK_DYLIB, LC_RPATH, LC_REEXPORT_DYLIB, LC_LOAD_UPWARD_DYLIB}
+use Rattle.macho_image.specs.declared.command.TheConstants.{DYLIB_COMMAND_SIZE, LOAD_COMMAND_SIZE, RPATH_COMMAND_SIZE, SYMTAB_COMMAND_SIZE, LC_SEGMENT, LC_SYMTAB, LC_LOAD_DYLIB, LC_ID_DYLIB, LC_SEGMENT_64, LC_LAZY_LOAD_DYLIB, LC_LOAD_WEAK_DYLIB, LC_RPATH, LC_REEXPORT_DYLIB, LC_LOAD_UPWARD_DYLIB}
 
 -- the size that a command's variant holds
 abbrev pub variant_size : CommandVariant → ℕ
@@ -89,12 +89,12 @@ segment_size f order c = if nat_lt (length c) f.fixed then f.fixed else f.fixed 
 -- the least size of a command of its kind
 unfoldable pub least_size : ByteOrder2 → List ℕ → ℕ
 least_size order c =
-    if cmd_of order c == LC_RPATH then 12
-    else (if is_dylib_kind (cmd_of order c) then 24
-    else (if cmd_of order c == LC_SYMTAB then 24
+    if cmd_of order c == LC_RPATH then RPATH_COMMAND_SIZE
+    else (if is_dylib_kind (cmd_of order c) then DYLIB_COMMAND_SIZE
+    else (if cmd_of order c == LC_SYMTAB then SYMTAB_COMMAND_SIZE
     else (if cmd_of order c == LC_SEGMENT then segment_size narrow order c
     else (if cmd_of order c == LC_SEGMENT_64 then segment_size wide order c
-    else 8))))
+    else LOAD_COMMAND_SIZE))))
 
 -- what it is to be a load command: it says its own length, has the fixed part of its kind with its
 -- sections, and where it holds a text, this begins inside it or at its end
