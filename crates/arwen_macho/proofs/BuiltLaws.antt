@@ -15,7 +15,7 @@ use Rattle.macho_image.specs.declared.command.TheConstants.{LC_RPATH}
 use Rattle.macho_image.specs.declared.format.Ctx.{Ctx}
 use Rattle.macho_image.specs.Command.{IsCommand, before_nul, cmd_of, cmdsize_of, contents_of, dylib_of, is_dylib_kind, is_text_kind, least_size, rpath_of, text_of, text_offset}
 use Rattle.macho_image.proofs.ForCallers.{HoldsNoNul-from_position, before_nul-zeros, contents_of-text}
-use Rattle.arwen_macho.specs.Built.{built_dylib, built_rpath, built_size, dylib_built, fields, nul_position, padded_text, rpath_built, sized, unless_nul}
+use Rattle.arwen_macho.specs.Built.{built_dylib, built_rpath, built_size, dylib_built, fields, nul_position, padded_text, rpath_built, sized_command, unless_nul}
 
 -- the four numbers that a library command keeps from an old one fit their fields
 pub record AreWords (old : DylibCommand) : Type 0 where
@@ -216,7 +216,7 @@ AreWords-dylib_of order c h size =
     }
 
 -- where a build gives a command
-unless_nul-ok : (nul : Option ℕ) (size : ℕ) (command c : List ℕ) → unless_nul nul (sized size command) ≡ Ok c → (c ≡ command) × (nul ≡ None) × (size < 2 ^ 32)
+unless_nul-ok : (nul : Option ℕ) (size : ℕ) (command c : List ℕ) → unless_nul nul (sized_command size command) ≡ Ok c → (c ≡ command) × (nul ≡ None) × (size < 2 ^ 32)
 unless_nul-ok (Some i) size command c built = cc
 unless_nul-ok None size command c built =
     elim (cases_Bool (nat_lt (2 ^ 32 - 1) size)) [

@@ -9,9 +9,9 @@ use Rattle.arwen_macho.specs.Call.{Call}
 use Rattle.arwen_macho.specs.Call.Call.{add_rpath, remove_rpath}
 use Rattle.arwen_macho.specs.FatHeld.{IsFatState, IsSlice}
 use Rattle.arwen_macho.specs.FatLaws.{FatGivesBack, FatRemoveGivesBack, FatShorterFits, GiveBack, IsShortened, PadsAreZeros, Shortens}
-use Rattle.arwen_macho.specs.FatState.{FatState, Slice, fat_laid, fat_step, joined_step, laid_over, put_at, step_slices}
-use Rattle.arwen_macho.specs.Laws.{GivesBack, LacksRpath, pad_taken, taken}
-use Rattle.arwen_macho.specs.State.{Refusal, State, laid, step}
+use Rattle.arwen_macho.specs.FatState.{FatState, Slice, fat_laid_bytes, fat_step, joined_step, bytes_laid_over, put_at, step_slices}
+use Rattle.arwen_macho.specs.Laws.{GivesBack, LacksRpath, pad_taken, taken_size}
+use Rattle.arwen_macho.specs.State.{Refusal, State, laid_bytes, step}
 use Rattle.arwen_macho.specs.Whole.{TextsAreBytes}
 use Rattle.arwen_macho.proofs.FatLaws.{fat_laid_shows}
 use Rattle.arwen_macho.proofs.FatStepLaws.{fat_step_ok}
@@ -62,33 +62,33 @@ removed_from old text (s ∷ slices) added are lacks e =
         })
 
 -- slices whose bytes are the same, in bytes that are the same
-pads_from : (bytes : List ℕ) (slices added removed : List Slice) → GiveBack slices added removed → All (λ s. slice_of bytes s.arch ≡ laid s.state) slices → All (λ s. slice_of bytes s.arch ≡ laid s.state) removed → PadsAreZeros slices added
+pads_from : (bytes : List ℕ) (slices added removed : List Slice) → GiveBack slices added removed → All (λ s. slice_of bytes s.arch ≡ laid_bytes s.state) slices → All (λ s. slice_of bytes s.arch ≡ laid_bytes s.state) removed → PadsAreZeros slices added
 pads_from bytes [] [] [] back shown after = tt
 pads_from bytes [] [] (r ∷ removed) back shown after = absurd back
 pads_from bytes [] (a ∷ added) removed back shown after = absurd back
 pads_from bytes (s ∷ slices) [] removed back shown after = absurd back
 pads_from bytes (s ∷ slices) (a ∷ added) [] back shown after = absurd back
 pads_from bytes (s ∷ slices) (a ∷ added) (r ∷ removed) back shown after =
-    let Is : Slice → Type 0 = λ s. slice_of bytes s.arch ≡ laid s.state in
-    let was : slice_of bytes s.arch ≡ laid s.state = All-head Is s slices shown in
-    let now : slice_of bytes r.arch ≡ laid r.state = All-head Is r removed after in
-    let same : laid r.state ≡ laid s.state = sym now ∙ ap (slice_of bytes) back.0 ∙ was in
+    let Is : Slice → Type 0 = λ s. slice_of bytes s.arch ≡ laid_bytes s.state in
+    let was : slice_of bytes s.arch ≡ laid_bytes s.state = All-head Is s slices shown in
+    let now : slice_of bytes r.arch ≡ laid_bytes r.state = All-head Is r removed after in
+    let same : laid_bytes r.state ≡ laid_bytes s.state = sym now ∙ ap (slice_of bytes) back.0 ∙ was in
     (back.1.0.bytes.0 same, pads_from bytes slices added removed back.1.1 (All-tail Is s slices shown) (All-tail Is r removed after))
 
-over_same : (slices added removed : List Slice) (bytes : List ℕ) → GiveBack slices added removed → PadsAreZeros slices added → laid_over removed bytes ≡ laid_over slices bytes
+over_same : (slices added removed : List Slice) (bytes : List ℕ) → GiveBack slices added removed → PadsAreZeros slices added → bytes_laid_over removed bytes ≡ bytes_laid_over slices bytes
 over_same [] [] [] bytes back zeros = refl
 over_same [] [] (r ∷ removed) bytes back zeros = absurd back
 over_same [] (a ∷ added) removed bytes back zeros = absurd back
 over_same (s ∷ slices) [] removed bytes back zeros = absurd back
 over_same (s ∷ slices) (a ∷ added) [] bytes back zeros = absurd back
 over_same (s ∷ slices) (a ∷ added) (r ∷ removed) bytes back zeros =
-    let same : laid r.state ≡ laid s.state = back.1.0.bytes.1 zeros.0 in
-    ap (λ (arch : FatArch). laid_over removed (put_at arch.offset (laid r.state) bytes)) back.0
-    ∙ ap (λ (part : List ℕ). laid_over removed (put_at s.arch.offset part bytes)) same
-    ∙ over_same slices added removed (put_at s.arch.offset (laid s.state) bytes) back.1.1 zeros.1
+    let same : laid_bytes r.state ≡ laid_bytes s.state = back.1.0.bytes.1 zeros.0 in
+    ap (λ (arch : FatArch). bytes_laid_over removed (put_at arch.offset (laid_bytes r.state) bytes)) back.0
+    ∙ ap (λ (part : List ℕ). bytes_laid_over removed (put_at s.arch.offset part bytes)) same
+    ∙ over_same slices added removed (put_at s.arch.offset (laid_bytes s.state) bytes) back.1.1 zeros.1
 
-back_to : (old : List ℕ) (slices added removed : List Slice) → GiveBack slices added removed → PadsAreZeros slices added → fat_laid (record { old = old; slices = removed }) ≡ fat_laid (record { old = old; slices = slices })
-unfolding fat_laid
+back_to : (old : List ℕ) (slices added removed : List Slice) → GiveBack slices added removed → PadsAreZeros slices added → fat_laid_bytes (record { old = old; slices = removed }) ≡ fat_laid_bytes (record { old = old; slices = slices })
+unfolding fat_laid_bytes
 back_to old slices added removed back zeros = over_same slices added removed old back zeros
 
 pub fat_remove_gives_back : FatRemoveGivesBack
@@ -101,13 +101,13 @@ fat_remove_gives_back s added text is bytes lack e =
     let last_is : IsFatState last = fat_step_is (remove_rpath text ∷ []) added last first_is (All-cons TextsAreBytes (remove_rpath text) [] tt (All-nil TextsAreBytes)) steps in
     let was = (fat_laid_shows s is).slices in
     let now = (fat_laid_shows last last_is).slices in
-    let forth : fat_laid last ≡ fat_laid s → PadsAreZeros s.slices added.slices =
-    λ (same : fat_laid last ≡ fat_laid s).
-    let P : List ℕ → Type 0 = λ b. All (λ s. slice_of b s.arch ≡ laid s.state) r.removed in
-    pads_from (fat_laid s) s.slices added.slices r.removed r.back was (subst P same now) in
-    let back : PadsAreZeros s.slices added.slices → fat_laid last ≡ fat_laid s =
+    let forth : fat_laid_bytes last ≡ fat_laid_bytes s → PadsAreZeros s.slices added.slices =
+    λ (same : fat_laid_bytes last ≡ fat_laid_bytes s).
+    let P : List ℕ → Type 0 = λ b. All (λ s. slice_of b s.arch ≡ laid_bytes s.state) r.removed in
+    pads_from (fat_laid_bytes s) s.slices added.slices r.removed r.back was (subst P same now) in
+    let back : PadsAreZeros s.slices added.slices → fat_laid_bytes last ≡ fat_laid_bytes s =
     λ (zeros : PadsAreZeros s.slices added.slices).
-    ap (λ (old : List ℕ). fat_laid (record { old = old; slices = r.removed })) made.1 ∙ back_to s.old s.slices added.slices r.removed r.back zeros in
+    ap (λ (old : List ℕ). fat_laid_bytes (record { old = old; slices = r.removed })) made.1 ∙ back_to s.old s.slices added.slices r.removed r.back zeros in
     let Back : Result FatState Refusal → Type 0 = λ answer. IsOkAnd answer (FatGivesBack s added) in
     subst Back (sym steps) (record { slices = r.back; bytes = (forth, back) })
 

@@ -14,7 +14,7 @@ use Rattle.arwen_macho.specs.FatChange.{AreChangesOf, AreStepOf, changed_slices,
 use Rattle.arwen_macho.specs.FatHeld.{FatHeld, IsFatState, first_fat_held}
 use Rattle.arwen_macho.specs.FatHeldBy.{IsFatHeld, fat_held_of}
 use Rattle.arwen_macho.specs.FatSlice.{HeldSlice, IsReadyIn, IsStepIn, changed_machos, first_macho, fronts_over, slice_held}
-use Rattle.arwen_macho.specs.FatState.{FatState, Slice, fat_laid, fat_step, first_fat_state, first_slice}
+use Rattle.arwen_macho.specs.FatState.{FatState, Slice, fat_laid_bytes, fat_step, first_fat_state, first_slice}
 use Rattle.arwen_macho.specs.Found.{fat_found}
 use Rattle.arwen_macho.proofs.FatLaws.{fat_laid_shows, lie_of}
 use Rattle.arwen_macho.proofs.FatStepLaws.{changed_shown, changes_ready, changes_shown, copies_changed, fat_changed_is, fat_step_ok, first_fat_is, first_fat_laid, step_all}
@@ -41,8 +41,8 @@ pub shown_long : (s : Inside) → IsFatHeld s → length (bytes_shown s.source.n
 shown_long s is = ap length is.bytes ∙ (fat_laid_shows (fat_held_of s).state is.is_state).long
 
 -- the fronts over the bytes of a state
-pub fronts_over_laid : (old : List ℕ) (slices : List HeldSlice) (changes : List Change) → IsFatState (record { old = old; slices = map slice_held slices }) → AllZip (IsReadyIn (length old)) slices changes → fronts_over slices changes (fat_laid (record { old = old; slices = map slice_held slices })) ≡ fat_laid (record { old = old; slices = map slice_held (changed_machos slices changes) })
-unfolding fat_laid
+pub fronts_over_laid : (old : List ℕ) (slices : List HeldSlice) (changes : List Change) → IsFatState (record { old = old; slices = map slice_held slices }) → AllZip (IsReadyIn (length old)) slices changes → fronts_over slices changes (fat_laid_bytes (record { old = old; slices = map slice_held slices })) ≡ fat_laid_bytes (record { old = old; slices = map slice_held (changed_machos slices changes) })
+unfolding fat_laid_bytes
 fronts_over_laid old slices changes is ready =
     fronts_laid (length old) slices changes old refl ready (lie_of (record { old = old; slices = map slice_held slices }) is)
 
@@ -59,7 +59,7 @@ committed s new changes copy is of source archs edited written =
     ap (λ (b : List ℕ). record { state = record { old = b; slices = map slice_held new.archs.items }; is_edited = is_some new.edited }) source
     ∙ ap (λ (l : List HeldSlice). record { state = record { old = old; slices = map slice_held l }; is_edited = is_some new.edited }) archs
     ∙ ap (λ (e : Option (Vec ℕ Global)). record { state = record { old = old; slices = map slice_held next }; is_edited = is_some e }) edited in
-    let bytes : bytes_shown new.source.now new.edited ≡ fat_laid held.state =
+    let bytes : bytes_shown new.source.now new.edited ≡ fat_laid_bytes held.state =
     ap (bytes_shown new.source.now) edited
     ∙ written
     ∙ ap (fronts_over slices changes) is.bytes
@@ -70,7 +70,7 @@ committed s new changes copy is of source archs edited written =
       same ∙ ap (λ (l : List Slice). record { state = record { old = old; slices = l }; is_edited = true }) (changed_shown slices changes),
       record {
         is_state = subst State (sym same) is_next;
-        bytes = bytes ∙ ap (λ (h : FatHeld). fat_laid h.state) (sym same);
+        bytes = bytes ∙ ap (λ (h : FatHeld). fat_laid_bytes h.state) (sym same);
         copies = subst Copies (sym archs) (subst Mark (sym (ap is_some edited)) (copies_changed (length old) slices changes ready));
       },
     )
@@ -103,7 +103,7 @@ first_fat_fields s accepted are archs edited =
       same,
       record {
         is_state = subst State (sym same) (first_fat_is old accepted are);
-        bytes = ap (bytes_shown old) edited ∙ sym (first_fat_laid old accepted are) ∙ ap (λ (h : FatHeld). fat_laid h.state) (sym same);
+        bytes = ap (bytes_shown old) edited ∙ sym (first_fat_laid old accepted are) ∙ ap (λ (h : FatHeld). fat_laid_bytes h.state) (sym same);
         copies = subst Copies (sym archs) (subst Mark (sym (ap is_some edited)) (first_copies old (archs_of old)));
       },
     )

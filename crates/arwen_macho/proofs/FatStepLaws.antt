@@ -13,11 +13,11 @@ use Rattle.arwen_macho.specs.declared.error.MachoError.{MachoError}
 use Rattle.arwen_macho.specs.declared.error.MachoError.TheVariants.{CommandBuilderError, DylibIdMissing, DylibNameMissing, Memory, NoRoom, Parsing, RpathMissing, UnixArchive}
 use Rattle.arwen_macho.specs.Batch.{RefusesAt}
 use Rattle.arwen_macho.specs.Call.{Call, Cause}
-use Rattle.arwen_macho.specs.Change.{IsChangeOf, changed}
+use Rattle.arwen_macho.specs.Change.{IsChangeOf, changed_file}
 use Rattle.arwen_macho.specs.FatHeld.{IsSlice}
-use Rattle.arwen_macho.specs.FatState.{FatState, Slice, fat_laid, fat_step, first_fat_state, first_slice, joined_step, laid_over, put_at, step_slices, with_slices}
+use Rattle.arwen_macho.specs.FatState.{FatState, Slice, fat_laid_bytes, fat_step, first_fat_state, first_slice, joined_step, bytes_laid_over, put_at, step_slices, with_slices}
 use Rattle.arwen_macho.specs.Found.{Finds, Found, fat_found, found_fault, found_first, slice_found, slices_found}
-use Rattle.arwen_macho.specs.State.{Refusal, State, first_state, laid, step}
+use Rattle.arwen_macho.specs.State.{Refusal, State, first_state, laid_bytes, step}
 use Rattle.arwen_macho.specs.Whole.{IsState}
 use Rattle.arwen_macho.proofs.ChangeLaws.{changed_is}
 use Rattle.arwen_macho.proofs.StateLaws.{first_is, first_laid, laid_shows}
@@ -42,7 +42,7 @@ step_all calls [] (change ∷ changes) steps = absurd steps
 step_all calls (m ∷ slices) [] steps = absurd steps
 step_all calls (m ∷ slices) (change ∷ changes) steps =
     ap (λ (r : Result State Refusal). joined_step (slice_held m) r (step_slices calls (map slice_held slices))) steps.0.steps
-    ∙ ap (joined_step (slice_held m) (Ok (changed m.inner change).state)) (step_all calls slices changes steps.1)
+    ∙ ap (joined_step (slice_held m) (Ok (changed_file m.inner change).state)) (step_all calls slices changes steps.1)
 
 -- a slice that refuses behind slices that don't refuses the step
 refused_here : (s : Slice) (Q : Refusal → Type 0) (answer : Result State Refusal) (rest : Result (List Slice) Refusal) → IsErrAnd answer Q → IsErrAnd (joined_step s answer rest) Q
@@ -60,7 +60,7 @@ refused_at calls Q (n ∷ front) [] m rest steps refuses = absurd steps
 refused_at calls Q (n ∷ front) (change ∷ changes) m rest steps refuses =
     let P : Result State Refusal → Type 0 = λ r. IsErrAnd (joined_step (slice_held n) r (step_slices calls (map slice_held (front ++ m ∷ rest)))) Q in
     subst P (sym steps.0.steps)
-    (refused_behind (slice_held n) (changed n.inner change).state Q (step_slices calls (map slice_held (front ++ m ∷ rest))) (refused_at calls Q front changes m rest steps.1 refuses))
+    (refused_behind (slice_held n) (changed_file n.inner change).state Q (step_slices calls (map slice_held (front ++ m ∷ rest))) (refused_at calls Q front changes m rest steps.1 refuses))
 
 is_err_and : {X : Type 0} (answer : Result X Refusal) (refusal : Refusal) → answer ≡ Err refusal → IsErrAnd answer (λ r. r ≡ refusal)
 is_err_and (Ok x) refusal e = absurd (cc)
@@ -118,8 +118,8 @@ changes_ready old len is_edited (m ∷ slices) (change ∷ changes) copies are l
     let same : m.inner.is_edited ≡ is_edited = All-head (λ (m : HeldSlice). m.inner.is_edited ≡ is_edited) m slices copies in
     let P : Bool → Type 0 = λ e. IsChangeOf (record { state = m.inner.state; is_edited = e }) change in
     let inside = lie.0.inside in
-    let sized : length (laid m.inner.state) ≡ m.arch.size = lie.0.long in
-    let long : length (laid m.inner.state) ≡ length m.inner.state.old = (laid_shows m.inner.state is.is_state).long in (
+    let sized : length (laid_bytes m.inner.state) ≡ m.arch.size = lie.0.long in
+    let long : length (laid_bytes m.inner.state) ≡ length m.inner.state.old = (laid_shows m.inner.state is.is_state).long in (
       record { of = subst P (sym same) of.0; is_state = is.is_state; inside = omega arith },
       changes_ready old len is_edited slices changes (All-tail (λ (m : HeldSlice). m.inner.is_edited ≡ is_edited) m slices copies) (All-tail (IsSlice old) (slice_held m) rest are) lie.1.1 of.1,
     )
@@ -173,15 +173,15 @@ slice_bytes : (old : List ℕ) (a : FatArch) → AreBytes old → AreBytes (slic
 slice_bytes old a bytes = AreBytes-take a.size (drop a.offset old) (AreBytes-drop a.offset old bytes)
 
 -- the slices of a file as it is read are its bytes
-first_over : (old : List ℕ) (archs : List FatArch) → AreBytes old → All (λ a. a.offset + a.size ≤ length old) archs → slices_found (map (slice_of old) archs) ≡ None → laid_over (map (first_slice old) archs) old ≡ old
+first_over : (old : List ℕ) (archs : List FatArch) → AreBytes old → All (λ a. a.offset + a.size ≤ length old) archs → slices_found (map (slice_of old) archs) ≡ None → bytes_laid_over (map (first_slice old) archs) old ≡ old
 first_over old [] bytes inside none = refl
 first_over old (a ∷ archs) bytes inside none =
     let parts = none_first (slice_found (slice_of old a)) (slices_found (map (slice_of old) archs)) none in
     let accepted : file_fault (slice_of old a) ≡ None = slice_accepted (slice_of old a) parts.0 in
-    let own : laid (first_state (slice_of old a)) ≡ slice_of old a = first_laid (slice_of old a) accepted (slice_bytes old a bytes) in
+    let own : laid_bytes (first_state (slice_of old a)) ≡ slice_of old a = first_laid (slice_of old a) accepted (slice_bytes old a bytes) in
     let room = All-head (λ (a : FatArch). a.offset + a.size ≤ length old) a archs inside in
-    let same : put_at a.offset (laid (first_state (slice_of old a))) old ≡ old = ap (λ (part : List ℕ). put_at a.offset part old) own ∙ put_at-same a.offset a.size old room in
-    ap (laid_over (map (first_slice old) archs)) same
+    let same : put_at a.offset (laid_bytes (first_state (slice_of old a))) old ≡ old = ap (λ (part : List ℕ). put_at a.offset part old) own ∙ put_at-same a.offset a.size old room in
+    ap (bytes_laid_over (map (first_slice old) archs)) same
     ∙ first_over old archs bytes (All-tail (λ (a : FatArch). a.offset + a.size ≤ length old) a archs inside) parts.1
 
 first_archs : (old : List ℕ) (archs : List FatArch) → map (λ s. s.arch) (map (first_slice old) archs) ≡ archs
@@ -207,8 +207,8 @@ first_fat_is old accepted bytes = record {
   slices = first_slices old (archs_of old) bytes (accepted_parts old accepted).1;
 }
 
-pub first_fat_laid : (old : List ℕ) → fat_found old ≡ None → AreBytes old → fat_laid (first_fat_state old) ≡ old
-unfolding first_fat_state fat_laid
+pub first_fat_laid : (old : List ℕ) → fat_found old ≡ None → AreBytes old → fat_laid_bytes (first_fat_state old) ≡ old
+unfolding first_fat_state fat_laid_bytes
 first_fat_laid old accepted bytes =
     let parts = accepted_parts old accepted in
     first_over old (archs_of old) bytes (table_passes old parts.0).3.inside parts.1

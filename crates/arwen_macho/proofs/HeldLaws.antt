@@ -10,11 +10,11 @@ use Rattle.macho_image.specs.Image.{Image, with_area}
 use Rattle.patch_bytes.specs.Bytes.{AreBytes}
 use Rattle.arwen_macho.specs.declared.change.Change.{Change}
 use Rattle.arwen_macho.specs.declared.macho.SingleMachO.TheInside.{Inside}
-use Rattle.arwen_macho.specs.Change.{IsChangeOf, changed}
+use Rattle.arwen_macho.specs.Change.{IsChangeOf, changed_file}
 use Rattle.arwen_macho.specs.Held.{Held, first_held, image_held}
 use Rattle.arwen_macho.specs.HeldBy.{IsHeld, held_of}
-use Rattle.arwen_macho.specs.State.{available, end_of, first_state, laid}
-use Rattle.arwen_macho.specs.Whole.{IsState, Keeps}
+use Rattle.arwen_macho.specs.State.{available, end_of, first_state, laid_bytes}
+use Rattle.arwen_macho.specs.Whole.{IsState, KeepsContents}
 use Rattle.arwen_macho.proofs.ChangeLaws.{available_shown, change_bytes, changed_held, changed_is, kept_fault}
 use Rattle.arwen_macho.proofs.StateLaws.{available-le, first_is, first_laid, laid_shows}
 
@@ -23,25 +23,25 @@ abbrev pub with_image : Inside → Image → ℕ → Inside
 with_image s image high = record s { inner = image; high = high }
 
 -- what is true of fields that show a state with these bytes
-is_held : (s : Inside) (held : Held) → held_of s ≡ held → IsState held.state → s.inner.bytes ≡ laid held.state → IsHeld s
+is_held : (s : Inside) (held : Held) → held_of s ≡ held → IsState held.state → s.inner.bytes ≡ laid_bytes held.state → IsHeld s
 is_held s held same is bytes =
     let P : Held → Type 0 = λ h. IsState h.state in
     record {
       is_state = subst P (sym same) is;
-      bytes = bytes ∙ ap (λ (h : Held). laid h.state) (sym same);
+      bytes = bytes ∙ ap (λ (h : Held). laid_bytes h.state) (sym same);
     }
 
 -- after a change is stored, the fields show the changed file
-pub changed_fields : (s : Inside) (change : Change) (new : Image) → IsHeld s → IsChangeOf (held_of s) change → new ≡ record { bytes = with_area (ctx_of s.inner.bytes) s.inner.bytes change.prepared.count change.prepared.area change.high; is_edited = true } → (held_of (with_image s new change.high) ≡ changed (held_of s) change) × IsHeld (with_image s new change.high)
+pub changed_fields : (s : Inside) (change : Change) (new : Image) → IsHeld s → IsChangeOf (held_of s) change → new ≡ record { bytes = with_area (ctx_of s.inner.bytes) s.inner.bytes change.prepared.count change.prepared.area change.high; is_edited = true } → (held_of (with_image s new change.high) ≡ changed_file (held_of s) change) × IsHeld (with_image s new change.high)
 changed_fields s change new is of stored =
-    let over : with_area (ctx_of s.inner.bytes) s.inner.bytes change.prepared.count change.prepared.area change.high ≡ laid (changed (held_of s) change).state =
+    let over : with_area (ctx_of s.inner.bytes) s.inner.bytes change.prepared.count change.prepared.area change.high ≡ laid_bytes (changed_file (held_of s) change).state =
     ap (λ (bytes : List ℕ). with_area (ctx_of bytes) bytes change.prepared.count change.prepared.area change.high) is.bytes ∙ change_bytes (held_of s) change is.is_state of in
-    let bytes : new.bytes ≡ laid (changed (held_of s) change).state = ap (λ (i : Image). i.bytes) stored ∙ over in
+    let bytes : new.bytes ≡ laid_bytes (changed_file (held_of s) change).state = ap (λ (i : Image). i.bytes) stored ∙ over in
     let edited : new.is_edited ≡ true = ap (λ (i : Image). i.is_edited) stored in
-    let same : held_of (with_image s new change.high) ≡ changed (held_of s) change =
+    let same : held_of (with_image s new change.high) ≡ changed_file (held_of s) change =
     ap (λ (e : Bool). record { state = record { old = s.source.now; list = commands_of new.bytes; high = change.high }; is_edited = e }) edited
     ∙ changed_held (held_of s) change new.bytes is.is_state of bytes in
-    (same, is_held (with_image s new change.high) (changed (held_of s) change) same (changed_is (held_of s) change is.is_state of) bytes)
+    (same, is_held (with_image s new change.high) (changed_file (held_of s) change) same (changed_is (held_of s) change is.is_state of) bytes)
 
 -- a file as it is parsed
 pub first_fields : (s : Inside) → file_fault s.source.now ≡ None → AreBytes s.source.now → s.inner ≡ record { bytes = s.source.now; is_edited = false } → s.high ≡ commands_end (ctx_of s.source.now) s.source.now → (held_of s ≡ first_held s.source.now) × IsHeld s

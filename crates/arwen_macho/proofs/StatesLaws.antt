@@ -13,12 +13,12 @@ use Rattle.arwen_macho.specs.Call.{Call}
 use Rattle.arwen_macho.specs.Container.{as_fat, as_thin, container_step, first_container}
 use Rattle.arwen_macho.specs.ContainerShown.{IsFileState, StepShows}
 use Rattle.arwen_macho.specs.FatHeld.{FatHeld, IsFatState, IsSlice, first_fat_held}
-use Rattle.arwen_macho.specs.FatState.{FatState, Slice, fat_laid, fat_step, joined_step, step_slices, with_slices}
+use Rattle.arwen_macho.specs.FatState.{FatState, Slice, fat_laid_bytes, fat_step, joined_step, step_slices, with_slices}
 use Rattle.arwen_macho.specs.FileLaws.{FatBytesShow, FileBytesShow, FreshHasItsBytes, FreshIsState, StepIsState, ThinBytesShow}
 use Rattle.arwen_macho.specs.Found.{begins_fat, container_found, fat_found, found_fault}
 use Rattle.arwen_macho.specs.Held.{Held, first_held, is_edited_by}
-use Rattle.arwen_macho.specs.State.{Refusal, State, available, edited_by, end_of, fitted, laid, step}
-use Rattle.arwen_macho.specs.Whole.{IsState, Keeps, TextsAreBytes}
+use Rattle.arwen_macho.specs.State.{Refusal, State, available, edited_by, end_of, fitted_state, laid_bytes, step}
+use Rattle.arwen_macho.specs.Whole.{IsState, KeepsContents, TextsAreBytes}
 use Rattle.arwen_macho.proofs.FatLaws.{fat_laid_shows, none_fault}
 use Rattle.arwen_macho.proofs.FatStepLaws.{first_fat_is}
 use Rattle.arwen_macho.proofs.LeadLaws.{first_bytes}
@@ -29,8 +29,8 @@ use Rattle.arwen_macho.proofs.StateLaws.{edited_by_keeps, first_is, laid_shows, 
 abbrev Next : State → State → Type 0
 Next s t = IsState t × (t.old ≡ s.old)
 
-fitted_is : (count : ℕ) (s t : State) (made : Result (List (List ℕ)) Refusal) → IsState s → ((list : List (List ℕ)) → made ≡ Ok list → Keeps (ctx_of s.old).le s.list list) → fitted count s made ≡ Ok t → Next s t
-unfolding fitted
+fitted_is : (count : ℕ) (s t : State) (made : Result (List (List ℕ)) Refusal) → IsState s → ((list : List (List ℕ)) → made ≡ Ok list → KeepsContents (ctx_of s.old).le s.list list) → fitted_state count s made ≡ Ok t → Next s t
+unfolding fitted_state
 fitted_is count s t (Err refusal) is keeps e = absurd (cc)
 fitted_is count s t (Ok list) is keeps e =
     elim (cases_Bool (nat_le (end_of (ctx_of s.old) list) (available s))) [
@@ -135,8 +135,8 @@ pub fat_bytes_show : FatBytesShow
 fat_bytes_show s is = fat_laid_shows s is
 
 pub file_bytes_show : FileBytesShow
-file_bytes_show (SingleArch held) is = thin_shows held (laid held.state) is refl (laid_shows held.state is)
-file_bytes_show (Fat held) is = fat_shows held (fat_laid held.state) (fat_laid_shows held.state is)
+file_bytes_show (SingleArch held) is = thin_shows held (laid_bytes held.state) is refl (laid_shows held.state is)
+file_bytes_show (Fat held) is = fat_shows held (fat_laid_bytes held.state) (fat_laid_shows held.state is)
 
 pub fresh_has_its_bytes : FreshHasItsBytes
 fresh_has_its_bytes old are found = first_bytes old are found

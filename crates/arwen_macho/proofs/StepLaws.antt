@@ -8,14 +8,14 @@ use Rattle.arwen_macho.specs.declared.change.Change.{Change}
 use Rattle.arwen_macho.specs.declared.macho.SingleMachO.TheInside.{Inside}
 use Rattle.arwen_macho.specs.Batch.{RefusesAt}
 use Rattle.arwen_macho.specs.Call.{Call, Cause}
-use Rattle.arwen_macho.specs.Change.{IsChangeOf, RefusesRoom, changed, list_of}
+use Rattle.arwen_macho.specs.Change.{IsChangeOf, RefusesRoom, changed_file, list_of}
 use Rattle.arwen_macho.specs.Held.{Held, RefusesStep, is_edited_by}
 use Rattle.arwen_macho.specs.HeldBy.{IsHeld, held_of}
 use Rattle.arwen_macho.specs.State.{Refusal, State, edited_by, step}
 use Rattle.arwen_macho.proofs.StateLaws.{laid_shows, step-fits, step-no_room, step-refused}
 
 -- a change of the drafted list is the step
-pub step_changed : (calls : List Call) (held : Held) (change : Change) (commands : List (List ℕ)) → edited_by (ctx_of held.state.old) 0 calls held.state.list ≡ Ok commands → IsChangeOf held change → list_of held change ≡ commands → step calls held.state ≡ Ok (changed held change).state
+pub step_changed : (calls : List Call) (held : Held) (change : Change) (commands : List (List ℕ)) → edited_by (ctx_of held.state.old) 0 calls held.state.list ≡ Ok commands → IsChangeOf held change → list_of held change ≡ commands → step calls held.state ≡ Ok (changed_file held change).state
 step_changed calls held change commands drafted of list =
     let made : edited_by (ctx_of held.state.old) 0 calls held.state.list ≡ Ok (list_of held change) = drafted ∙ ap (λ (l : List (List ℕ)). Ok l) (sym list) in
     step-fits calls held.state (list_of held change) made of.room

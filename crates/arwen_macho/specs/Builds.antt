@@ -9,7 +9,7 @@ use Rattle.macho_image.specs.declared.command.RpathCommand.{RpathCommand}
 use Rattle.macho_image.specs.declared.format.Ctx.{Ctx}
 use Rattle.macho_image.specs.Command.{dylib_of, rpath_of}
 use Rattle.arwen_macho.specs.declared.commands.CommandBuilderError.{CommandBuilderError as BuilderError}
-use Rattle.arwen_macho.specs.Built.{built_size, dylib_built, nul_position, rpath_built, sized, unless_nul}
+use Rattle.arwen_macho.specs.Built.{built_size, dylib_built, nul_position, rpath_built, sized_command, unless_nul}
 use Rattle.arwen_macho.specs.Refused.{Refuses, builder_cause}
 
 -- the size of a command with a fixed part of so many bytes and this text, of which it can be built; or why
@@ -17,8 +17,8 @@ use Rattle.arwen_macho.specs.Refused.{Refuses, builder_cause}
 abbrev pub SizesCommand : Wide → ℕ → List ℕ → Result ℕ BuilderError → Type 0
 SizesCommand wide fixed text answer =
     MatchResult answer
-    (λ size. (size ≡ built_size wide fixed text) × ((c : List ℕ) → unless_nul (nul_position text) (sized size c) ≡ Ok c))
-    (λ e. (c : List ℕ) → Refuses (builder_cause e) (unless_nul (nul_position text) (sized (built_size wide fixed text) c)))
+    (λ size. (size ≡ built_size wide fixed text) × ((c : List ℕ) → unless_nul (nul_position text) (sized_command size c) ≡ Ok c))
+    (λ e. (c : List ℕ) → Refuses (builder_cause e) (unless_nul (nul_position text) (sized_command (built_size wide fixed text) c)))
 
 abbrev pub BuildsRpath : Ctx → List ℕ → Result (RpathCommand × Vec ℕ Global) BuilderError → Type 0
 BuildsRpath ctx text answer =

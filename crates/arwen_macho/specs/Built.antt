@@ -42,8 +42,8 @@ built_dylib ctx text old =
 
 -- a command of this size with this text, or why there is none: the text's first NUL, else a size that
 -- does not fit 32 bits
-abbrev pub sized : ℕ → List ℕ → Result (List ℕ) Cause
-sized size command = if nat_lt (2 ^ 32 - 1) size then Err too_long else Ok command
+abbrev pub sized_command : ℕ → List ℕ → Result (List ℕ) Cause
+sized_command size command = if nat_lt (2 ^ 32 - 1) size then Err too_long else Ok command
 
 abbrev pub unless_nul : Option ℕ → Result (List ℕ) Cause → Result (List ℕ) Cause
 unless_nul (Some i) built = Err (nul_inside i)
@@ -54,7 +54,7 @@ abbrev pub nul_position : List ℕ → Option ℕ
 nul_position text = position (λ b. b == 0) text
 
 unfoldable pub rpath_built : Ctx → List ℕ → Result (List ℕ) Cause
-rpath_built ctx text = unless_nul (nul_position text) (sized (built_size ctx.container RPATH_COMMAND_SIZE text) (built_rpath ctx text))
+rpath_built ctx text = unless_nul (nul_position text) (sized_command (built_size ctx.container RPATH_COMMAND_SIZE text) (built_rpath ctx text))
 
 unfoldable pub dylib_built : Ctx → List ℕ → DylibCommand → Result (List ℕ) Cause
-dylib_built ctx text old = unless_nul (nul_position text) (sized (built_size ctx.container DYLIB_COMMAND_SIZE text) (built_dylib ctx text old))
+dylib_built ctx text old = unless_nul (nul_position text) (sized_command (built_size ctx.container DYLIB_COMMAND_SIZE text) (built_dylib ctx text old))

@@ -10,10 +10,10 @@ use Rattle.arwen_macho.specs.declared.macho.MachoType.TheVariants.{Fat, SingleAr
 use Rattle.arwen_macho.specs.Batch.{RefusedAt, calls_of}
 use Rattle.arwen_macho.specs.Call.{Call}
 use Rattle.arwen_macho.specs.FatHeld.{first_fat_held}
-use Rattle.arwen_macho.specs.FatState.{FatState, fat_laid, fat_step}
+use Rattle.arwen_macho.specs.FatState.{FatState, fat_laid_bytes, fat_step}
 use Rattle.arwen_macho.specs.Found.{begins_fat}
 use Rattle.arwen_macho.specs.Held.{RefusedBy, first_held, is_edited_by}
-use Rattle.arwen_macho.specs.State.{Refusal, State, laid, step}
+use Rattle.arwen_macho.specs.State.{Refusal, State, laid_bytes, step}
 
 -- a file as it was parsed
 abbrev pub first_container : List ℕ → MachoType
@@ -21,8 +21,8 @@ first_container old = if begins_fat old then Fat (first_fat_held old) else Singl
 
 -- the bytes of a file under edits
 abbrev pub container_bytes : MachoType → List ℕ
-container_bytes (SingleArch held) = laid held.state
-container_bytes (Fat held) = fat_laid held.state
+container_bytes (SingleArch held) = laid_bytes held.state
+container_bytes (Fat held) = fat_laid_bytes held.state
 
 -- whether the bytes of a file are a copy that was edited
 abbrev pub is_edited_file : MachoType → Bool

@@ -8,7 +8,7 @@ use Rattle.arwen_macho.specs.declared.draft.Edit.TheVariants.{AddRpath, ChangeIn
 use Rattle.arwen_macho.specs.declared.error.MachoError.{MachoError}
 use Rattle.arwen_macho.specs.Call.{Call, Cause}
 use Rattle.arwen_macho.specs.Call.Call.{add_rpath, change_install_id, change_install_name, change_rpath, remove_rpath}
-use Rattle.arwen_macho.specs.Edited.{edited}
+use Rattle.arwen_macho.specs.Edited.{edited_list}
 use Rattle.arwen_macho.specs.Refused.{Refuses, cause_of}
 use Rattle.arwen_macho.specs.Whole.{TextsAreBytes}
 
@@ -35,4 +35,4 @@ GivesBuilt built answer = MatchResult answer (λ made. built ≡ Ok made.items) 
 -- definition gives, memory apart
 abbrev pub Edits : Ctx → Call → List (List ℕ) → List (List ℕ) → Result (Unit {0}) MachoError → Type 0
 Edits ctx call old new answer =
-    MatchResult answer (λ _. edited ctx call old ≡ Ok new) (λ e. Refuses (cause_of e) (edited ctx call old))
+    MatchResult answer (λ _. edited_list ctx call old ≡ Ok new) (λ e. Refuses (cause_of e) (edited_list ctx call old))

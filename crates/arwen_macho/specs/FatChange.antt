@@ -5,7 +5,7 @@ use Rattle.std.specs.declared.alloc.Global.{Global}
 use Rattle.std.specs.declared.vec.Vec.{Vec}
 use Rattle.arwen_macho.specs.declared.change.Change.{Change}
 use Rattle.arwen_macho.specs.Call.{Call}
-use Rattle.arwen_macho.specs.Change.{IsChangeOf, changed}
+use Rattle.arwen_macho.specs.Change.{IsChangeOf, changed_file}
 use Rattle.arwen_macho.specs.FatHeld.{FatHeld}
 use Rattle.arwen_macho.specs.FatState.{Slice, fat_step}
 use Rattle.arwen_macho.specs.Held.{Held}
@@ -20,7 +20,7 @@ AreChangesOf held changes = AllZip (λ s change. IsChangeOf (held_slice held.is_
 
 -- slices with their changes carried out
 abbrev pub changed_slice : Slice → Change → Slice
-changed_slice s change = record { arch = s.arch; state = (changed (held_slice true s) change).state }
+changed_slice s change = record { arch = s.arch; state = (changed_file (held_slice true s) change).state }
 
 abbrev pub changed_slices : List Slice → List Change → List Slice
 changed_slices [] changes = []

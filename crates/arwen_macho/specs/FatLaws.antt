@@ -5,8 +5,8 @@ use Rattle.patch_bytes.specs.Bytes.{AreBytes}
 use Rattle.arwen_macho.specs.Call.{Call}
 use Rattle.arwen_macho.specs.Call.Call.{add_rpath, remove_rpath}
 use Rattle.arwen_macho.specs.FatHeld.{IsFatState}
-use Rattle.arwen_macho.specs.FatState.{FatState, Slice, fat_laid, fat_step}
-use Rattle.arwen_macho.specs.Laws.{ChangesAt, GivesBack, LacksRpath, pad_taken, taken}
+use Rattle.arwen_macho.specs.FatState.{FatState, Slice, fat_laid_bytes, fat_step}
+use Rattle.arwen_macho.specs.Laws.{ChangesAt, GivesBack, LacksRpath, pad_taken, taken_size}
 use Rattle.macho_image.specs.Form.{ctx_of}
 use Rattle.arwen_macho.specs.State.{State, step}
 
@@ -24,13 +24,13 @@ GiveBack _ _ _ = ⊥
 -- in each slice the bytes that the new list took were zeros
 abbrev pub PadsAreZeros : List Slice → List Slice → Type 0
 PadsAreZeros slices added =
-    AllZip (λ s a. pad_taken s.state a.state.list ≡ replicate (taken s.state a.state.list) 0) slices added
+    AllZip (λ s a. pad_taken s.state a.state.list ≡ replicate (taken_size s.state a.state.list) 0) slices added
 
 -- each slice's list is as it was; and so are the bytes of the file, exactly if the bytes that were taken
 -- meanwhile were zeros in each slice
 pub record FatGivesBack (s added removed : FatState) : Type 0 where
   pub slices : GiveBack s.slices added.slices removed.slices
-  pub bytes : (fat_laid removed ≡ fat_laid s) ↔ PadsAreZeros s.slices added.slices
+  pub bytes : (fat_laid_bytes removed ≡ fat_laid_bytes s) ↔ PadsAreZeros s.slices added.slices
 
 -- an rpath that no slice had is added in one call, and removed in another
 abbrev pub FatRemoveGivesBack : Type 0

@@ -9,10 +9,10 @@ use Rattle.arwen_macho.specs.declared.batch.MachoBatchError.{MachoBatchError}
 use Rattle.arwen_macho.specs.declared.change.Change.{Change}
 use Rattle.arwen_macho.specs.Batch.{RefusedAt}
 use Rattle.arwen_macho.specs.Call.{Call}
-use Rattle.arwen_macho.specs.Change.{IsChangeOf, IsStepOf, changed}
+use Rattle.arwen_macho.specs.Change.{IsChangeOf, IsStepOf, changed_file}
 use Rattle.arwen_macho.specs.FatState.{Slice, put_at, step_slices}
 use Rattle.arwen_macho.specs.Held.{Held, first_held}
-use Rattle.arwen_macho.specs.State.{Refusal, laid}
+use Rattle.arwen_macho.specs.State.{Refusal, laid_bytes}
 use Rattle.arwen_macho.specs.Whole.{IsState}
 
 -- a slice under edits: its record in the table, and its file
@@ -52,10 +52,10 @@ pub record IsReadyIn (len : ℕ) (m : HeldSlice) (change : Change) : Type 0 wher
 
 -- a slice with a change carried out, and the front of its bytes, behind which they are the old ones
 abbrev pub changed_macho : HeldSlice → Change → HeldSlice
-changed_macho m change = record { inner = changed m.inner change; arch = m.arch }
+changed_macho m change = record { inner = changed_file m.inner change; arch = m.arch }
 
 abbrev pub front_of : HeldSlice → Change → List ℕ
-front_of m change = take change.high (laid (changed m.inner change).state)
+front_of m change = take change.high (laid_bytes (changed_file m.inner change).state)
 
 -- slices with their changes carried out, and bytes with the front of each in its place
 abbrev pub changed_machos : List HeldSlice → List Change → List HeldSlice

@@ -7,10 +7,10 @@ use Rattle.arwen_macho.specs.Container.{container_bytes, container_step, first_c
 use Rattle.arwen_macho.specs.ContainerShown.{IsFileState, ShowsFile}
 use Rattle.arwen_macho.specs.FatHeld.{IsFatState}
 use Rattle.arwen_macho.specs.FatShown.{FatShows}
-use Rattle.arwen_macho.specs.FatState.{FatState, fat_laid}
+use Rattle.arwen_macho.specs.FatState.{FatState, fat_laid_bytes}
 use Rattle.arwen_macho.specs.Found.{container_found}
 use Rattle.arwen_macho.specs.Shown.{Shows}
-use Rattle.arwen_macho.specs.State.{State, laid}
+use Rattle.arwen_macho.specs.State.{State, laid_bytes}
 use Rattle.arwen_macho.specs.Whole.{IsState, TextsAreBytes}
 
 -- a file as it was parsed has the bytes that were read, in a state that edits can lead to
@@ -28,10 +28,10 @@ StepIsState =
 
 -- the bytes of a state are accepted, and show it: of a thin file, of a fat one, of either
 abbrev pub ThinBytesShow : Type 0
-ThinBytesShow = (s : State) → IsState s → Shows s (laid s)
+ThinBytesShow = (s : State) → IsState s → Shows s (laid_bytes s)
 
 abbrev pub FatBytesShow : Type 0
-FatBytesShow = (s : FatState) → IsFatState s → FatShows s (fat_laid s)
+FatBytesShow = (s : FatState) → IsFatState s → FatShows s (fat_laid_bytes s)
 
 abbrev pub FileBytesShow : Type 0
 FileBytesShow = (file : MachoType) → IsFileState file → ShowsFile file (container_bytes file)

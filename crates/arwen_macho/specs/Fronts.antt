@@ -7,13 +7,13 @@ use Rattle.arwen_macho.specs.declared.change.Change.{Change}
 use Rattle.arwen_macho.specs.declared.front.Front.{Front}
 use Rattle.arwen_macho.specs.declared.macho.MachoType.{MachoType}
 use Rattle.arwen_macho.specs.Call.{Call}
-use Rattle.arwen_macho.specs.Change.{IsStepOf, changed}
+use Rattle.arwen_macho.specs.Change.{IsStepOf, changed_file}
 use Rattle.arwen_macho.specs.Container.{container_bytes, container_step}
 use Rattle.arwen_macho.specs.FatHeld.{FatHeld, IsFatState}
 use Rattle.arwen_macho.specs.FatSlice.{HeldSlice}
-use Rattle.arwen_macho.specs.FatState.{fat_laid, fat_step, put_at}
+use Rattle.arwen_macho.specs.FatState.{fat_laid_bytes, fat_step, put_at}
 use Rattle.arwen_macho.specs.Held.{Held}
-use Rattle.arwen_macho.specs.State.{Refusal, laid, step}
+use Rattle.arwen_macho.specs.State.{Refusal, laid_bytes, step}
 use Rattle.arwen_macho.specs.Whole.{IsState}
 
 -- bytes with fronts over them, the first one last
@@ -34,10 +34,10 @@ pub record LeadOn {S : Type 0} (bytes_of : S → List ℕ) (old : S) (answer : R
 
 -- fronts that lead a thin file, a fat file or a file of either shape on to what these calls make of it
 abbrev pub LeadThin : List Call → Held → Vec Front Global → Type 0
-LeadThin calls held fronts = LeadOn laid held.state (step calls held.state) fronts.items
+LeadThin calls held fronts = LeadOn laid_bytes held.state (step calls held.state) fronts.items
 
 abbrev pub LeadFat : List Call → FatHeld → Vec Front Global → Type 0
-LeadFat calls held fronts = LeadOn fat_laid held.state (fat_step calls held.state) fronts.items
+LeadFat calls held fronts = LeadOn fat_laid_bytes held.state (fat_step calls held.state) fronts.items
 
 abbrev pub LeadFile : List Call → MachoType → Vec Front Global → Type 0
 LeadFile calls file fronts = LeadOn container_bytes file (container_step calls file) fronts.items
@@ -54,7 +54,7 @@ pub record IsFrontAt (calls : List Call) (held : Held) (at : ℕ) (front : Front
   pub change : Change
   pub of : IsStepOf calls held change
   pub offset : front.offset ≡ at
-  pub bytes : front.bytes.items ≡ take change.high (laid (changed held change).state)
+  pub bytes : front.bytes.items ≡ take change.high (laid_bytes (changed_file held change).state)
 
 -- that of a slice
 abbrev pub IsFrontOf : List Call → HeldSlice → Front → Type 0

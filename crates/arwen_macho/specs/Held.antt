@@ -4,7 +4,7 @@ use Rattle.macho_image.specs.Image.{Image}
 use Rattle.arwen_macho.specs.declared.error.MachoError.{MachoError}
 use Rattle.arwen_macho.specs.Call.{Call, Cause}
 use Rattle.arwen_macho.specs.Refused.{cause_of}
-use Rattle.arwen_macho.specs.State.{Refusal, State, first_state, laid, step}
+use Rattle.arwen_macho.specs.State.{Refusal, State, first_state, laid_bytes, step}
 
 -- the state, and whether its bytes are a copy that was edited
 pub record Held : Type 0 where
@@ -13,7 +13,7 @@ pub record Held : Type 0 where
 
 -- the parsed file in it
 abbrev pub image_held : Held → Image
-image_held held = record { bytes = laid held.state; is_edited = held.is_edited }
+image_held held = record { bytes = laid_bytes held.state; is_edited = held.is_edited }
 
 -- a file as it was parsed
 abbrev pub first_held : List ℕ → Held

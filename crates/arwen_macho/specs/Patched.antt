@@ -18,8 +18,8 @@ use Rattle.macho_image.specs.Image.{with_area}
 
 -- the bytes with a command put in at this offset: the commands behind it stand behind the new one, and
 -- one command more is counted
-unfoldable pub inserted : Ctx → List ℕ → ℕ → List ℕ → List ℕ
-inserted ctx buffer offset command =
+unfoldable pub inserted_command : Ctx → List ℕ → ℕ → List ℕ → List ℕ
+inserted_command ctx buffer offset command =
     with_area ctx buffer (ncmds_of ctx buffer + 1)
     (take (offset - header_size ctx.container) (area_of ctx buffer) ++ (command ++ drop (offset - header_size ctx.container) (area_of ctx buffer)))
     (commands_end ctx buffer + length command)
@@ -37,8 +37,8 @@ pub record InsertsAt (ctx : Ctx) (bytes : List ℕ) (at size : ℕ) : Type 0 whe
 
 -- the bytes with the command of this offset and this size taken out: the commands behind it close up,
 -- zeros stand behind them, and one command less is counted
-unfoldable pub removed : Ctx → List ℕ → ℕ → ℕ → List ℕ
-removed ctx buffer offset size =
+unfoldable pub removed_bytes : Ctx → List ℕ → ℕ → ℕ → List ℕ
+removed_bytes ctx buffer offset size =
     with_area ctx buffer (ncmds_of ctx buffer - 1)
     (take (offset - header_size ctx.container) (area_of ctx buffer) ++ drop (offset - header_size ctx.container + size) (area_of ctx buffer))
     (commands_end ctx buffer)
@@ -50,15 +50,15 @@ bytes_without bytes offset size end =
 
 -- the bytes with this load command taken out
 abbrev pub removed_command : Ctx → List ℕ → LoadCommand → List ℕ
-removed_command ctx buffer c = removed ctx buffer c.offset (variant_size c.command)
+removed_command ctx buffer c = removed_bytes ctx buffer c.offset (variant_size c.command)
 
 -- the header that these bytes show
 abbrev pub header_shown : HeaderContainer → List ℕ → HeaderContainer
 header_shown header bytes = record header { inner = header_of header.ctx bytes }
 
 -- bytes with both counts of the header written
-abbrev pub counts_written : ByteOrder2 → ℕ → ℕ → List ℕ → List ℕ
-counts_written order ncmds sizeofcmds bytes = with_number order 4 SIZEOFCMDS_AT sizeofcmds (with_number order 4 NCMDS_AT ncmds bytes)
+abbrev pub bytes_with_counts : ByteOrder2 → ℕ → ℕ → List ℕ → List ℕ
+bytes_with_counts order ncmds sizeofcmds bytes = with_number order 4 SIZEOFCMDS_AT sizeofcmds (with_number order 4 NCMDS_AT ncmds bytes)
 
 -- where a command is taken out: it lies among the commands
 pub record RemovesAt (ctx : Ctx) (bytes : List ℕ) (at size : ℕ) : Type 0 where

@@ -16,8 +16,8 @@ use Rattle.arwen_macho.specs.Call.{Call, Cause}
 use Rattle.arwen_macho.specs.Call.Call.{add_rpath, change_install_id, change_install_name, change_rpath, remove_rpath}
 use Rattle.arwen_macho.specs.Call.Cause.{name_missing, no_room, nul_inside, rpath_missing}
 use Rattle.arwen_macho.specs.Container.{AnswersAll, container_bytes, first_container, left_by_all}
-use Rattle.arwen_macho.specs.Edited.{edited}
-use Rattle.arwen_macho.specs.State.{State, first_state, laid, step}
+use Rattle.arwen_macho.specs.Edited.{edited_list}
+use Rattle.arwen_macho.specs.State.{State, first_state, laid_bytes, step}
 
 -- the four forms of a header
 abbrev pub narrow_little : Ctx
@@ -154,7 +154,7 @@ ADDED = after_batch (add_rpath LOCAL ∷ []) READ
 
 -- where the step is accepted, these are the bytes
 abbrev pub StepsTo : List Call → State → List ℕ → Type 0
-StepsTo calls s bytes = IsOkAnd (step calls s) (λ next. laid next ≡ bytes)
+StepsTo calls s bytes = IsOkAnd (step calls s) (λ next. laid_bytes next ≡ bytes)
 
 -- where it is refused, why
 abbrev pub StepRefused : List Call → State → ℕ → Cause → Type 0
@@ -165,7 +165,7 @@ AddsFirst = StepsTo (add_rpath LOCAL ∷ []) READ (file_with (1 ∷ 0 ∷ 0 ∷ 
 
 -- what the bytes then show to whoever reads them
 abbrev pub ShowsFirst : Type 0
-ShowsFirst = IsAccepted wide_little (laid ADDED) × (rpaths_of (laid ADDED) ≡ LOCAL ∷ [])
+ShowsFirst = IsAccepted wide_little (laid_bytes ADDED) × (rpaths_of (laid_bytes ADDED) ≡ LOCAL ∷ [])
 
 abbrev pub AddsNoSecond : Type 0
 AddsNoSecond = StepRefused (add_rpath LOCAL ∷ []) ADDED 1 (no_room 96 64)
@@ -261,49 +261,49 @@ RefusesMissingFirst = StepRefused (change_rpath ABSENT BROKEN ∷ []) ADDED 0 (r
 
 -- what is added stands behind the others
 abbrev pub AddsBehind : Type 0
-AddsBehind = edited wide_little (add_rpath PATH_A) (built_rpath wide_little PATH_B ∷ []) ≡ Ok (built_rpath wide_little PATH_B ∷ built_rpath wide_little PATH_A ∷ [])
+AddsBehind = edited_list wide_little (add_rpath PATH_A) (built_rpath wide_little PATH_B ∷ []) ≡ Ok (built_rpath wide_little PATH_B ∷ built_rpath wide_little PATH_A ∷ [])
 
 -- the first of two equal ones is meant
 abbrev pub TWICE_A : List (List ℕ)
 TWICE_A = built_rpath wide_little PATH_A ∷ built_rpath wide_little PATH_B ∷ built_rpath wide_little PATH_A ∷ []
 
 abbrev pub RemovesFirst : Type 0
-RemovesFirst = edited wide_little (remove_rpath PATH_A) TWICE_A ≡ Ok (built_rpath wide_little PATH_B ∷ built_rpath wide_little PATH_A ∷ [])
+RemovesFirst = edited_list wide_little (remove_rpath PATH_A) TWICE_A ≡ Ok (built_rpath wide_little PATH_B ∷ built_rpath wide_little PATH_A ∷ [])
 
 abbrev pub ChangesFirst : Type 0
-ChangesFirst = edited wide_little (change_rpath PATH_A LOCAL) TWICE_A ≡ Ok (built_rpath wide_little LOCAL ∷ built_rpath wide_little PATH_B ∷ built_rpath wide_little PATH_A ∷ [])
+ChangesFirst = edited_list wide_little (change_rpath PATH_A LOCAL) TWICE_A ≡ Ok (built_rpath wide_little LOCAL ∷ built_rpath wide_little PATH_B ∷ built_rpath wide_little PATH_A ∷ [])
 
 -- the library's own name is none of those that are loaded
 abbrev pub OWN_NAME : List (List ℕ)
 OWN_NAME = built_dylib wide_little NAME OWN ∷ []
 
 abbrev pub RefusesOwnName : Type 0
-RefusesOwnName = edited wide_little (change_install_name NAME PATH_A) OWN_NAME ≡ Err (name_missing NAME)
+RefusesOwnName = edited_list wide_little (change_install_name NAME PATH_A) OWN_NAME ≡ Err (name_missing NAME)
 
 abbrev pub ChangesOwnName : Type 0
-ChangesOwnName = edited wide_little (change_install_id PATH_A) OWN_NAME ≡ Ok (built_dylib wide_little PATH_A OWN ∷ [])
+ChangesOwnName = edited_list wide_little (change_install_id PATH_A) OWN_NAME ≡ Ok (built_dylib wide_little PATH_A OWN ∷ [])
 
 -- texts are compared whole, and byte by byte: a beginning is another text, and so is what a byte that is
 -- no character is shown as
 abbrev pub RefusesBeginning : Type 0
-RefusesBeginning = edited wide_little (remove_rpath PATH_A) (built_rpath wide_little (codes "/ab") ∷ []) ≡ Err (rpath_missing PATH_A)
+RefusesBeginning = edited_list wide_little (remove_rpath PATH_A) (built_rpath wide_little (codes "/ab") ∷ []) ≡ Err (rpath_missing PATH_A)
 
 abbrev pub RefusesLonger : Type 0
-RefusesLonger = edited wide_little (remove_rpath (codes "/ab")) (built_rpath wide_little PATH_A ∷ []) ≡ Err (rpath_missing (codes "/ab"))
+RefusesLonger = edited_list wide_little (remove_rpath (codes "/ab")) (built_rpath wide_little PATH_A ∷ []) ≡ Err (rpath_missing (codes "/ab"))
 
 abbrev pub RefusesShownAs : Type 0
 RefusesShownAs =
-    edited wide_little (remove_rpath (0xef ∷ 0xbf ∷ 0xbd ∷ [])) (built_rpath wide_little (0xff ∷ []) ∷ []) ≡ Err (rpath_missing (0xef ∷ 0xbf ∷ 0xbd ∷ []))
+    edited_list wide_little (remove_rpath (0xef ∷ 0xbf ∷ 0xbd ∷ [])) (built_rpath wide_little (0xff ∷ []) ∷ []) ≡ Err (rpath_missing (0xef ∷ 0xbf ∷ 0xbd ∷ []))
 
 -- a library that is loaded twice, in two ways, and one with two names of its own
 abbrev pub ChangesFirstLibrary : Type 0
 ChangesFirstLibrary =
-    edited wide_big (change_install_name NAME PATH_A) (built_dylib wide_big NAME OWN ∷ built_dylib wide_big NAME WEAK ∷ built_dylib wide_big NAME LIBRARY ∷ [])
+    edited_list wide_big (change_install_name NAME PATH_A) (built_dylib wide_big NAME OWN ∷ built_dylib wide_big NAME WEAK ∷ built_dylib wide_big NAME LIBRARY ∷ [])
     ≡ Ok (built_dylib wide_big NAME OWN ∷ built_dylib wide_big PATH_A WEAK ∷ built_dylib wide_big NAME LIBRARY ∷ [])
 
 abbrev pub ChangesFirstId : Type 0
 ChangesFirstId =
-    edited narrow_little (change_install_id PATH_A) (built_dylib narrow_little NAME LIBRARY ∷ built_dylib narrow_little NAME OWN ∷ built_dylib narrow_little PATH_B OWN ∷ [])
+    edited_list narrow_little (change_install_id PATH_A) (built_dylib narrow_little NAME LIBRARY ∷ built_dylib narrow_little NAME OWN ∷ built_dylib narrow_little PATH_B OWN ∷ [])
     ≡ Ok (built_dylib narrow_little NAME LIBRARY ∷ built_dylib narrow_little PATH_A OWN ∷ built_dylib narrow_little PATH_B OWN ∷ [])
 
 -- a file of 80 bytes with one command, of 24: a symbol table, of one symbol, at this offset

@@ -213,7 +213,7 @@ impl<'a> FatMachoContainer<'a> {
     ghost use Rattle.arwen_macho.specs.FatChange.{AreChangesOf, StepsOf, fat_changed};
     ghost use Rattle.arwen_macho.specs.FatHeld.{FatRefuses, FatStepsBatch, FatStepsOnce, first_fat_held};
     ghost use Rattle.arwen_macho.specs.FatShown.{FatShows};
-    ghost use Rattle.arwen_macho.specs.FatState.{fat_laid};
+    ghost use Rattle.arwen_macho.specs.FatState.{fat_laid_bytes};
     ghost use Rattle.arwen_macho.specs.Found.{fat_found};
     ghost use Rattle.arwen_macho.specs.Fronts.{LeadFat, StepIsFat};
 
@@ -235,7 +235,7 @@ impl<'a> FatMachoContainer<'a> {
 
     /// The bytes as edited: those that were read until the first accepted edit. Takes no memory.
     pub fn bytes(&self) -> &[u8]
-        ensures bytes { result.now ≡ fat_laid self.now.state }
+        ensures bytes { result.now ≡ fat_laid_bytes self.now.state }
         ensures shows { FatShows self.now.state result.now }
     {
         match &self.edited {
@@ -379,7 +379,7 @@ impl<'a> FatMachoContainer<'a> {
     /// The bytes as edited, handed out: without a copy where they were edited, else copied. The only error is
     /// that there is no memory.
     pub fn into_bytes(self, alloc: Global) -> Result<Vec<u8>, AllocError>
-        ensures bytes { IfOk result (λ bytes. bytes.items ≡ fat_laid self.entry.state) }
+        ensures bytes { IfOk result (λ bytes. bytes.items ≡ fat_laid_bytes self.entry.state) }
         ensures owned { self.entry.is_edited ≡ true → IsOk result }
     {
         let FatMachoContainer {

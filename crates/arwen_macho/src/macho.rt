@@ -56,15 +56,15 @@ fn joined(alloc: Global, commands: &[ByteString<'_>]) -> Result<Vec<u8>, AllocEr
 
 impl<'a> SingleMachO<'a> {
     ghost use Rattle.arwen_macho.specs.Batch.{StepsBatch, ThinRefuses, calls_of};
-    ghost use Rattle.arwen_macho.specs.Change.{IsChangeOf, IsFitFor, IsStepFit, IsStepOf, RefusesRoom, change_with, changed, front_fit};
+    ghost use Rattle.arwen_macho.specs.Change.{IsChangeOf, IsFitFor, IsStepFit, IsStepOf, RefusesRoom, change_with, changed_file, front_fit};
     ghost use Rattle.arwen_macho.specs.Edit.{AreTexts, call_of, calls_lent};
     ghost use Rattle.arwen_macho.specs.Found.{Finds, found_fault};
     ghost use Rattle.arwen_macho.specs.Fronts.{IsFrontAt, LeadThin, StepIsThin};
     ghost use Rattle.arwen_macho.specs.Held.{StepsOnce, first_held, image_held};
     ghost use Rattle.arwen_macho.specs.Refused.{cause_of};
     ghost use Rattle.arwen_macho.specs.Shown.{Shows};
-    ghost use Rattle.arwen_macho.specs.State.{laid};
-    ghost use Rattle.arwen_macho.specs.Whole.{IsState, Keeps, TextsAreBytes};
+    ghost use Rattle.arwen_macho.specs.State.{laid_bytes};
+    ghost use Rattle.arwen_macho.specs.Whole.{IsState, KeepsContents, TextsAreBytes};
 
     /// Parses a thin file. It is refused by the first check that fails, or where there is no memory.
     pub fn parse(alloc: Global, bytes: &'a [u8]) -> Result<SingleMachO<'a>, MachoError>
@@ -83,7 +83,7 @@ impl<'a> SingleMachO<'a> {
 
     /// The bytes as edited: those that were read until the first accepted edit. Takes no memory.
     pub fn bytes(&self) -> &[u8]
-        ensures bytes { result.now ≡ laid self.now.state }
+        ensures bytes { result.now ≡ laid_bytes self.now.state }
         ensures shows { Shows self.now.state result.now }
         ensures state { IsState self.now.state }
     {
@@ -107,7 +107,7 @@ impl<'a> SingleMachO<'a> {
     /// The bytes as edited, handed out: without a copy where they were edited, else copied. The only
     /// error is that there is no memory.
     pub fn into_bytes(self, alloc: Global) -> Result<Vec<u8>, AllocError>
-        ensures bytes { IfOk result (λ bytes. bytes.items ≡ laid self.entry.state) }
+        ensures bytes { IfOk result (λ bytes. bytes.items ≡ laid_bytes self.entry.state) }
         ensures owned { self.entry.is_edited ≡ true → IsOk result }
     {
         let SingleMachO { inner, .. } = self;
@@ -116,7 +116,7 @@ impl<'a> SingleMachO<'a> {
 
     // Another list of load commands, if there is room for it.
     fn fit_for(&self, alloc: Global, commands: &[ByteString<'_>]) -> Result<Fit, MachoError>
-        requires { Keeps (ctx_of self.now.state.old).le self.now.state.list commands.now }
+        requires { KeepsContents (ctx_of self.now.state.old).le self.now.state.list commands.now }
         ensures ok { IfOk result (IsFitFor self.now commands.now) }
         ensures err { IfErr result (λ e. RefusesRoom self.now.state commands.now (cause_of e)) }
     {
@@ -156,7 +156,7 @@ impl<'a> SingleMachO<'a> {
     // Carries out a change. Takes no memory.
     pub(crate) fn commit(&mut self, change: Change)
         requires { IsChangeOf self.old change }
-        ensures { self.new ≡ changed self.old change }
+        ensures { self.new ≡ changed_file self.old change }
     {
         let Change { prepared, high } = change;
         self.inner.store(prepared, high);

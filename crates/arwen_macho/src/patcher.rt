@@ -2,7 +2,7 @@ ghost use Rattle.std.specs.Prelude.{◌≡◌, ◌+◌, ◌^◌, ◌≤◌, ◌<
 ghost use Rattle.std.specs.Option.{option_map};
 ghost use Rattle.macho_image.specs.Command.{variant_size};
 ghost use Rattle.macho_image.specs.Form.{commands_end, header_of, header_size, ncmds_of, sizeofcmds_of};
-ghost use Rattle.arwen_macho.specs.Patched.{InsertsAt, RemovesAt, bytes_with, bytes_without, counts_written, header_shown, id_in, ids_in, inserted, load_dylib_in, load_dylibs_in, removed, removed_command, rpath_in, rpaths_in};
+ghost use Rattle.arwen_macho.specs.Patched.{InsertsAt, RemovesAt, bytes_with, bytes_without, bytes_with_counts, header_shown, id_in, ids_in, inserted_command, load_dylib_in, load_dylibs_in, removed_bytes, removed_command, rpath_in, rpaths_in};
 
 use crate::error::MachoError;
 pub use crate::room::fits;
@@ -63,7 +63,7 @@ fn remove_bytes(bytes: &mut [u8], offset: usize, size: usize, end: usize)
 // Writes the two counts of a header.
 fn write_counts(bytes: &mut [u8], order: ByteOrder2, ncmds: u32, sizeofcmds: u32)
     requires { 24 ≤ length bytes.old }
-    ensures { bytes.new ≡ counts_written order ncmds sizeofcmds bytes.old }
+    ensures { bytes.new ≡ bytes_with_counts order ncmds sizeofcmds bytes.old }
 {
     write_u32_at(bytes, NCMDS_AT, ncmds, order).unwrap();
     write_u32_at(bytes, SIZEOFCMDS_AT, sizeofcmds, order).unwrap();
@@ -82,7 +82,7 @@ fn insert_in(
     requires place { InsertsAt header.old.ctx bytes.old offset (length command.now) }
     requires count { ncmds_of header.old.ctx bytes.old + 1 < 2 ^ 32 }
     requires size { sizeofcmds_of header.old.ctx bytes.old + length command.now < 2 ^ 32 }
-    ensures bytes { bytes.new ≡ inserted header.old.ctx bytes.old offset command.now }
+    ensures bytes { bytes.new ≡ inserted_command header.old.ctx bytes.old offset command.now }
     ensures header { header.new ≡ header_shown header.old bytes.new }
 {
     let held = header.inner;
@@ -114,7 +114,7 @@ pub fn insert_command(
     requires count { ncmds_of header.old.ctx buffer.old.items + 1 < 2 ^ 32 }
     requires size { sizeofcmds_of header.old.ctx buffer.old.items + new_cmd_size < 2 ^ 32 }
     ensures ok { IsOk result }
-    ensures bytes { buffer.new.items ≡ inserted header.old.ctx buffer.old.items offset load_data.items }
+    ensures bytes { buffer.new.items ≡ inserted_command header.old.ctx buffer.old.items offset load_data.items }
     ensures header { header.new ≡ header_shown header.old buffer.new.items }
 {
     insert_in(buffer, header, offset, new_cmd_size, &load_data);
@@ -126,7 +126,7 @@ fn remove_in(bytes: &mut [u8], header: &mut HeaderContainer, offset: usize, size
     requires held { header.old.inner ≡ header_of header.old.ctx bytes.old }
     requires place { RemovesAt header.old.ctx bytes.old offset size }
     requires some { 1 ≤ ncmds_of header.old.ctx bytes.old }
-    ensures bytes { bytes.new ≡ removed header.old.ctx bytes.old offset size }
+    ensures bytes { bytes.new ≡ removed_bytes header.old.ctx bytes.old offset size }
     ensures header { header.new ≡ header_shown header.old bytes.new }
 {
     let held = header.inner;

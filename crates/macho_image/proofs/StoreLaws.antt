@@ -13,7 +13,7 @@ use Rattle.macho_image.specs.Stored.{Fits, IsStored, fields_behind}
 use Rattle.macho_image.specs.declared.format.Ctx.{Ctx}
 use Rattle.macho_image.specs.Checks.{area_fault, file_fault}
 use Rattle.macho_image.specs.Command.{contents_of}
-use Rattle.macho_image.specs.Commands.{commands_of, cut, first_content_of, least, load_commands_of, located}
+use Rattle.macho_image.specs.Commands.{commands_of, cut_commands, first_content_of, least, load_commands_of, located_commands}
 use Rattle.macho_image.specs.File.{IsFile}
 use Rattle.macho_image.specs.Form.{area_of, commands_end, ctx_of, form_of, header_of, header_size, ncmds_of, reserved_of, sizeofcmds_of}
 use Rattle.macho_image.specs.Image.{with_area}
@@ -43,13 +43,13 @@ short_area old count area high is =
     omega arith
 
 -- the file with the area is a file of the old form with the commands that are cut from the area
-pub IsFile-with_area : (old : List ℕ) (count : ℕ) (area : List ℕ) (high : ℕ) → IsStored old count area high → IsFile (with_area (ctx_of old) old count area high) (ctx_of old) (cut (ctx_of old).le count area)
+pub IsFile-with_area : (old : List ℕ) (count : ℕ) (area : List ℕ) (high : ℕ) → IsStored old count area high → IsFile (with_area (ctx_of old) old count area high) (ctx_of old) (cut_commands (ctx_of old).le count area)
 IsFile-with_area old count area high is =
     let ctx : Ctx = ctx_of old in
     let passes = file_passes old is.accepted in
     let fit : Fits ctx old area high = fits old count area high is in
     let long : length (with_area ctx old count area high) ≡ length old = length-with_area ctx old count area high fit in
-    let whole : concat (cut ctx.le count area) ≡ area = concat-cut ctx.le count area is.commands in
+    let whole : concat (cut_commands ctx.le count area) ≡ area = concat-cut ctx.le count area is.commands in
     let room : header_size ctx.container + length area ≤ length old = let a : header_size ctx.container + length area ≤ high = is.room in let b : high ≤ length old = is.inside in omega arith in
     record {
       short = rw long passes.0;
@@ -64,18 +64,18 @@ IsFile-with_area old count area high is =
 -- what the file with the area shows
 pub file_fault-with_area : (old : List ℕ) (count : ℕ) (area : List ℕ) (high : ℕ) → IsStored old count area high → file_fault (with_area (ctx_of old) old count area high) ≡ None
 file_fault-with_area old count area high is =
-    (only (with_area (ctx_of old) old count area high) (ctx_of old) (cut (ctx_of old).le count area) (IsFile-with_area old count area high is)).0
+    (only (with_area (ctx_of old) old count area high) (ctx_of old) (cut_commands (ctx_of old).le count area) (IsFile-with_area old count area high is)).0
 
-pub commands_of-with_area : (old : List ℕ) (count : ℕ) (area : List ℕ) (high : ℕ) → IsStored old count area high → commands_of (with_area (ctx_of old) old count area high) ≡ cut (ctx_of old).le count area
+pub commands_of-with_area : (old : List ℕ) (count : ℕ) (area : List ℕ) (high : ℕ) → IsStored old count area high → commands_of (with_area (ctx_of old) old count area high) ≡ cut_commands (ctx_of old).le count area
 commands_of-with_area old count area high is =
-    (only (with_area (ctx_of old) old count area high) (ctx_of old) (cut (ctx_of old).le count area) (IsFile-with_area old count area high is)).2
+    (only (with_area (ctx_of old) old count area high) (ctx_of old) (cut_commands (ctx_of old).le count area) (IsFile-with_area old count area high is)).2
 
-pub load_commands_of-with_area : (old : List ℕ) (count : ℕ) (area : List ℕ) (high : ℕ) → IsStored old count area high → load_commands_of (with_area (ctx_of old) old count area high) ≡ located (ctx_of old).le (header_size (ctx_of old).container) (cut (ctx_of old).le count area)
+pub load_commands_of-with_area : (old : List ℕ) (count : ℕ) (area : List ℕ) (high : ℕ) → IsStored old count area high → load_commands_of (with_area (ctx_of old) old count area high) ≡ located_commands (ctx_of old).le (header_size (ctx_of old).container) (cut_commands (ctx_of old).le count area)
 unfolding load_commands_of
 load_commands_of-with_area old count area high is =
     rw (ctx_of-with_area (ctx_of old) old count area high (fits old count area high is), commands_of-with_area old count area high is) refl
 
-pub first_content_of-with_area : (old : List ℕ) (count : ℕ) (area : List ℕ) (high : ℕ) → IsStored old count area high → first_content_of (with_area (ctx_of old) old count area high) ≡ least (length old) (flat_map (contents_of (ctx_of old).le) (cut (ctx_of old).le count area))
+pub first_content_of-with_area : (old : List ℕ) (count : ℕ) (area : List ℕ) (high : ℕ) → IsStored old count area high → first_content_of (with_area (ctx_of old) old count area high) ≡ least (length old) (flat_map (contents_of (ctx_of old).le) (cut_commands (ctx_of old).le count area))
 unfolding first_content_of
 first_content_of-with_area old count area high is =
     rw (ctx_of-with_area (ctx_of old) old count area high (fits old count area high is), commands_of-with_area old count area high is, length-with_area (ctx_of old) old count area high (fits old count area high is)) refl

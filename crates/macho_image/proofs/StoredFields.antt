@@ -11,7 +11,7 @@ use Rattle.macho_image.specs.declared.image.MachO.TheInside.{Inside}
 use Rattle.macho_image.specs.declared.image.store.Prepared.TheInside.{Inside as PreparedInside}
 use Rattle.macho_image.specs.Checks.{area_fault}
 use Rattle.macho_image.specs.Command.{contents_of}
-use Rattle.macho_image.specs.Commands.{cut, least, located}
+use Rattle.macho_image.specs.Commands.{cut_commands, least, located_commands}
 use Rattle.macho_image.specs.Form.{ctx_of, header_of, header_size}
 use Rattle.macho_image.specs.Image.{with_area}
 use Rattle.macho_image.specs.Parsed.{IsParsed, image_of}
@@ -61,8 +61,8 @@ IsParsed-stored old new made high parsed ready stores =
     let laid : (image_of new).bytes ≡ with_area ctx bytes made.count area high = rw form at stores.bytes in
     let same : ctx_of (with_area ctx bytes made.count area high) ≡ ctx = ctx_of-with_area ctx bytes made.count area high fit in
     let fields : header_of ctx (with_area ctx bytes made.count area high) ≡ record (header_of ctx bytes) { ncmds = made.count; sizeofcmds = length area } = header_of-with_area ctx bytes made.count area high fit ready.counted (omega arith) in
-    let listed : made.commands.items ≡ located ctx.le (header_size ctx.container) (cut ctx.le made.count area) = rw form at ready.commands in
-    let contents : List ℕ = flat_map (contents_of ctx.le) (cut ctx.le made.count area) in
+    let listed : made.commands.items ≡ located_commands ctx.le (header_size ctx.container) (cut_commands ctx.le made.count area) = rw form at ready.commands in
+    let contents : List ℕ = flat_map (contents_of ctx.le) (cut_commands ctx.le made.count area) in
     let found : made.first_content ≡ least (2 ^ 64 - 1) contents = rw form at ready.first in
     let limit : min (length bytes) (2 ^ 64 - 1) ≡ length bytes = omega arith in
     let read : old.header ≡ header_of ctx bytes = parsed.fields ∙ ap (λ (x : Ctx). header_of x bytes) kept in

@@ -9,26 +9,26 @@ use Rattle.macho_image.specs.Command.{cmd_of, cmdsize_of, contents_of, is_load_k
 use Rattle.macho_image.specs.Form.{area_of, ctx_of, header_size, ncmds_of}
 
 -- the first n commands of an area, each as long as it says itself
-abbrev pub cut : ByteOrder2 → ℕ → List ℕ → List (List ℕ)
-cut order zero area = []
-cut order (suc n) area = take (cmdsize_of order area) area ∷ cut order n (drop (cmdsize_of order area) area)
+abbrev pub cut_commands : ByteOrder2 → ℕ → List ℕ → List (List ℕ)
+cut_commands order zero area = []
+cut_commands order (suc n) area = take (cmdsize_of order area) area ∷ cut_commands order n (drop (cmdsize_of order area) area)
 
 -- the commands that a file of this form says that it has
-abbrev pub listed : Ctx → List ℕ → List (List ℕ)
-listed ctx bytes = cut ctx.le (ncmds_of ctx bytes) (area_of ctx bytes)
+abbrev pub listed_commands : Ctx → List ℕ → List (List ℕ)
+listed_commands ctx bytes = cut_commands ctx.le (ncmds_of ctx bytes) (area_of ctx bytes)
 
 -- the load commands of a file: ncmds of them, from the header's end on
 unfoldable pub commands_of : List ℕ → List (List ℕ)
-commands_of bytes = listed (ctx_of bytes) bytes
+commands_of bytes = listed_commands (ctx_of bytes) bytes
 
 -- the commands with their fields, the first of them at this offset
-abbrev pub located : ByteOrder2 → ℕ → List (List ℕ) → List LoadCommand
-located order at [] = []
-located order at (c ∷ cs) = record { offset = at; command = variant_of order c } ∷ located order (at + length c) cs
+abbrev pub located_commands : ByteOrder2 → ℕ → List (List ℕ) → List LoadCommand
+located_commands order at [] = []
+located_commands order at (c ∷ cs) = record { offset = at; command = variant_of order c } ∷ located_commands order (at + length c) cs
 
 -- the load commands of a file with their fields
 unfoldable pub load_commands_of : List ℕ → List LoadCommand
-load_commands_of bytes = located (ctx_of bytes).le (header_size (ctx_of bytes).container) (commands_of bytes)
+load_commands_of bytes = located_commands (ctx_of bytes).le (header_size (ctx_of bytes).container) (commands_of bytes)
 
 -- the rpath commands, those that load a library, and those that hold the library's own name
 abbrev pub rpath_commands : ByteOrder2 → List (List ℕ) → List (List ℕ)

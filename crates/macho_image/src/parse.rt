@@ -1,6 +1,6 @@
 ghost use Rattle.std.specs.Prelude.{◌≡◌, ◌≢◌, ◌+◌, ◌<◌, ◌≤◌, ◌^◌, length, MatchResult, Option, Some, None};
 ghost use Rattle.macho_image.specs.Checks.{area_fault, file_fault, form_fault};
-ghost use Rattle.macho_image.specs.Commands.{cut, first_content_of, least_content, listed, load_commands_of, located};
+ghost use Rattle.macho_image.specs.Commands.{cut_commands, first_content_of, least_content, listed_commands, load_commands_of, located_commands};
 ghost use Rattle.macho_image.specs.Form.{ctx_of, form_of, header_of, header_size};
 
 use crate::command::LoadCommand;
@@ -82,8 +82,8 @@ fn read_form(alloc: Global, ctx: Ctx, bytes: &[u8]) -> Result<Parts, MachFault>
         (λ found. (form_fault ctx bytes.now ≡ None)
         × (found.ctx ≡ ctx)
         × (found.header ≡ header_of ctx bytes.now)
-        × (found.commands.items ≡ located ctx.le (header_size ctx.container) (listed ctx bytes.now))
-        × (found.first_content ≡ least_content ctx.le (length bytes.now) (listed ctx bytes.now)))
+        × (found.commands.items ≡ located_commands ctx.le (header_size ctx.container) (listed_commands ctx bytes.now))
+        × (found.first_content ≡ least_content ctx.le (length bytes.now) (listed_commands ctx bytes.now)))
         (λ e. e ≢ MachFault.Memory → form_fault ctx bytes.now ≡ Some e) }
 {
     let start = header_size(ctx.container);
@@ -148,8 +148,8 @@ pub fn read_commands(
     requires { start + length area.now < 2 ^ 64 }
     ensures { MatchResult result
         (λ found. (area_fault order count area.now ≡ None)
-        × (found.commands.items ≡ located order start (cut order count area.now))
-        × (found.first_content ≡ least_content order limit (cut order count area.now)))
+        × (found.commands.items ≡ located_commands order start (cut_commands order count area.now))
+        × (found.first_content ≡ least_content order limit (cut_commands order count area.now)))
         (λ e. e ≢ MachFault.Memory → area_fault order count area.now ≡ Some e) }
 {
     let mut commands = Vec::new(alloc);

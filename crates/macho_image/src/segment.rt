@@ -1,6 +1,6 @@
 ghost use Rattle.std.specs.Prelude.{◌≡◌, ◌+◌, ◌*◌, ◌≤◌, ◌<◌, ◌^◌, length};
 ghost use Rattle.patch_bytes.specs.Number.{word_size};
-ghost use Rattle.macho_image.specs.Command.{counted, is_zerofill, nsects_of, section_content, sections_content, segment_content, segment_size};
+ghost use Rattle.macho_image.specs.Command.{counted_content, is_zerofill, nsects_of, section_content, sections_content, segment_content, segment_size};
 ghost use Rattle.macho_image.specs.Commands.{least};
 
 use crate::field::{number32, word};
@@ -65,7 +65,7 @@ pub(crate) const WIDE: SegmentLayout = SegmentLayout {
 /// The lesser of a position and the offset of content, which counts unless it is 0 or nothing stands
 /// there.
 pub(crate) fn lower(so_far: usize, offset: u64, size: u64) -> usize
-    ensures { result ≡ least so_far (counted offset size) }
+    ensures { result ≡ least so_far (counted_content offset size) }
 {
     if offset > 0 && size > 0 {
         so_far.min(offset as usize)

@@ -9,7 +9,7 @@ use Rattle.arwen_macho.specs.Call.{Call}
 use Rattle.arwen_macho.specs.FatHeld.{FatHeld}
 use Rattle.arwen_macho.specs.FatHeldBy.{fat_held_of}
 use Rattle.arwen_macho.specs.FatSlice.{HeldSlice, slice_held}
-use Rattle.arwen_macho.specs.FatState.{fat_laid, fat_step, step_slices}
+use Rattle.arwen_macho.specs.FatState.{fat_laid_bytes, fat_step, step_slices}
 use Rattle.arwen_macho.specs.Fronts.{IsFrontOf, LeadOn, StepIsFat}
 use Rattle.arwen_macho.specs.Refused.{cause_of}
 use Rattle.arwen_macho.proofs.FatStepLaws.{fat_batch_refused}
@@ -22,11 +22,11 @@ returns-clause-ok c =
     let calls : List Call = calls_lent c.args.edits.now in
     let s = c.self.inside in
     let Before : Vec Front Global → Type 0 = λ v. AllZip (IsFrontOf calls) c.deref.result.now v.items in
-    let After : Vec Front Global → Type 0 = λ v. LeadOn fat_laid c.args.self.now.state (fat_step calls c.args.self.now.state) v.items in
+    let After : Vec Front Global → Type 0 = λ v. LeadOn fat_laid_bytes c.args.self.now.state (fat_step calls c.args.self.now.state) v.items in
     IfOk-weaker c.fronts_all.result Before After
     (λ v fronts.
     let Slices : List HeldSlice → Type 0 = λ l. AllZip (IsFrontOf calls) l v.items in
-    let Held : FatHeld → Type 0 = λ h. LeadOn fat_laid h.state (fat_step calls h.state) v.items in
+    let Held : FatHeld → Type 0 = λ h. LeadOn fat_laid_bytes h.state (fat_step calls h.state) v.items in
     subst Held c.self.view_is (lead_fat calls s v.items c.self.invariant (subst Slices c.deref.ensures.value fronts)))
     c.fronts_all.ensures.ok
 

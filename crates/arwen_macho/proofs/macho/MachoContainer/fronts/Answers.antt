@@ -7,10 +7,10 @@ use Rattle.arwen_macho.specs.Batch.{RefusesAt, calls_of}
 use Rattle.arwen_macho.specs.Call.{Call}
 use Rattle.arwen_macho.specs.Container.{container_bytes, container_step}
 use Rattle.arwen_macho.specs.ContainerShown.{StepShows}
-use Rattle.arwen_macho.specs.FatState.{fat_laid, fat_step}
+use Rattle.arwen_macho.specs.FatState.{fat_laid_bytes, fat_step}
 use Rattle.arwen_macho.specs.Fronts.{LeadOn, StepIsFat, StepIsThin}
 use Rattle.arwen_macho.specs.Refused.{cause_of}
-use Rattle.arwen_macho.specs.State.{laid, step}
+use Rattle.arwen_macho.specs.State.{laid_bytes, step}
 use Rattle.arwen_macho.proofs.ContainerLaws.{refused_fat, refused_thin}
 use Rattle.arwen_macho.proofs.LeadLaws.{lead_on_fat, lead_on_thin}
 use Rattle.arwen_macho.proofs.StatesLaws.{fat_shows_step, on_ok-weaker, thin_shows_step}
@@ -27,7 +27,7 @@ pub returns-in-SingleArch-clause-ok : goal.returns-in-SingleArch-clause-ok
 returns-in-SingleArch-clause-ok c =
     let calls : List Call = calls_of c.args.edits.now in
     let held = c.in-SingleArch.single in
-    IfOk-weaker c.fronts.result (λ v. LeadOn laid held.state (step calls held.state) v.items) (Leads calls c.args.self.now)
+    IfOk-weaker c.fronts.result (λ v. LeadOn laid_bytes held.state (step calls held.state) v.items) (Leads calls c.args.self.now)
     (λ v lead. subst (λ (file : MachoType). Leads calls file v) (sym c.in-SingleArch.is ∙ c.self.view_is) (lead_on_thin calls held v.items lead))
     c.fronts.ensures.ok
 
@@ -43,7 +43,7 @@ pub returns-in-Fat-clause-ok : goal.returns-in-Fat-clause-ok
 returns-in-Fat-clause-ok c =
     let calls : List Call = calls_of c.args.edits.now in
     let held = c.in-Fat.fat in
-    IfOk-weaker c.fronts-in-Fat.result (λ v. LeadOn fat_laid held.state (fat_step calls held.state) v.items) (Leads calls c.args.self.now)
+    IfOk-weaker c.fronts-in-Fat.result (λ v. LeadOn fat_laid_bytes held.state (fat_step calls held.state) v.items) (Leads calls c.args.self.now)
     (λ v lead. subst (λ (file : MachoType). Leads calls file v) (sym c.in-Fat.is ∙ c.self.view_is) (lead_on_fat calls held v.items lead))
     c.fronts-in-Fat.ensures.ok
 

@@ -9,7 +9,7 @@ use Rattle.arwen_macho.specs.Held.{Held}
 use Rattle.arwen_macho.specs.HeldBy.{held_of}
 use Rattle.arwen_macho.specs.Refused.{cause_of}
 use Rattle.arwen_macho.specs.State.{Refusal, edited_by, step}
-use Rattle.arwen_macho.specs.Whole.{Keeps}
+use Rattle.arwen_macho.specs.Whole.{KeepsContents}
 use Rattle.arwen_macho.proofs.StateLaws.{edited_by_keeps}
 use Rattle.arwen_macho.proofs.StepLaws.{edited_by_is, step_changed, step_refused_batch, step_unfit}
 use Rattle.arwen_macho.proofs.macho.SingleMachO.fit_by.Goals as goal
@@ -21,8 +21,8 @@ fit_for-requires c =
     let same = edited_by_is s c.ctx.result c.in_ok-commands.commands.items calls c.self.invariant c.ctx.ensures.form c.in_ok-commands.ensures in
     let made = sym same ∙ c.in_ok-edit_all.ensures in
     let keeps = edited_by_keeps (ctx_of s.source.now) 0 calls (held_of s).state.list c.edit_all.new.commands.items c.requires c.self.invariant.is_state.whole made in
-    let Kept : Held → Type 0 = λ h. Keeps (ctx_of h.state.old).le h.state.list c.as_slice.result.now in
-    let Items : List (List ℕ) → Type 0 = λ l. Keeps (ctx_of s.source.now).le (held_of s).state.list l in
+    let Kept : Held → Type 0 = λ h. KeepsContents (ctx_of h.state.old).le h.state.list c.as_slice.result.now in
+    let Items : List (List ℕ) → Type 0 = λ l. KeepsContents (ctx_of s.source.now).le (held_of s).state.list l in
     subst Kept c.self.view_is (subst Items (sym c.as_slice.ensures.value) keeps)
 
 pub returns-in_err-edit_all-clause-err : goal.returns-in_err-edit_all-clause-err
