@@ -167,7 +167,8 @@ fn replace_rpath(
     old: &str,
     new: &str,
 ) -> Result<(), MachoError>
-    ensures { Edits ctx (change_rpath old.now new.now) commands.old.items commands.new.items result }
+    ensures { Edits ctx (change_rpath old.now new.now)
+        commands.old.items commands.new.items result }
 {
     let Some(place) = rpath_place(ctx.le, commands.as_slice(), old) else {
         return Err(missing_rpath(alloc, old));
@@ -219,7 +220,8 @@ fn replace_library(
     old: &str,
     new: &str,
 ) -> Result<(), MachoError>
-    ensures { Edits ctx (change_install_name old.now new.now) commands.old.items commands.new.items result }
+    ensures { Edits ctx (change_install_name old.now new.now)
+        commands.old.items commands.new.items result }
 {
     let Some(place) = library_place(ctx.le, commands.as_slice(), old) else {
         return Err(missing_library(alloc, old));

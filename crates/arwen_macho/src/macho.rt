@@ -345,7 +345,8 @@ impl<'a> MachoContainer<'a> {
     #[tactic(auto, unfolding(crate::specs::Found::container_found))]
     pub fn parse(alloc: Global, bytes: &'a [u8]) -> Result<MachoContainer<'a>, MachoError>
         ensures { MatchResult result
-            (λ file. (container_found bytes.entry.now ≡ None) × (file ≡ first_container bytes.entry.now))
+            (λ file. (container_found bytes.entry.now ≡ None)
+            × (file ≡ first_container bytes.entry.now))
             (λ e. Finds e (container_found bytes.entry.now)) }
     {
         let inner = if is_fat(bytes) {

@@ -110,11 +110,13 @@ pub fn insert_command(
     requires from { header_size header.old.ctx.container ≤ offset }
     requires to { offset ≤ commands_end header.old.ctx buffer.old.items }
     requires sized { vec_len load_data ≡ new_cmd_size }
-    requires room { commands_end header.old.ctx buffer.old.items + new_cmd_size ≤ length buffer.old.items }
+    requires room { commands_end header.old.ctx buffer.old.items + new_cmd_size
+        ≤ length buffer.old.items }
     requires count { ncmds_of header.old.ctx buffer.old.items + 1 < 2 ^ 32 }
     requires size { sizeofcmds_of header.old.ctx buffer.old.items + new_cmd_size < 2 ^ 32 }
     ensures ok { IsOk result }
-    ensures bytes { buffer.new.items ≡ inserted_command header.old.ctx buffer.old.items offset load_data.items }
+    ensures bytes { buffer.new.items
+        ≡ inserted_command header.old.ctx buffer.old.items offset load_data.items }
     ensures header { header.new ≡ header_shown header.old buffer.new.items }
 {
     insert_in(buffer, header, offset, new_cmd_size, &load_data);
@@ -155,7 +157,8 @@ pub fn remove_load_command(
     requires room { commands_end header.old.ctx buffer.old.items ≤ length buffer.old.items }
     requires some { 1 ≤ ncmds_of header.old.ctx buffer.old.items }
     ensures ok { IsOk result }
-    ensures bytes { buffer.new.items ≡ removed_command header.old.ctx buffer.old.items load_command.now }
+    ensures bytes { buffer.new.items
+        ≡ removed_command header.old.ctx buffer.old.items load_command.now }
     ensures header { header.new ≡ header_shown header.old buffer.new.items }
 {
     remove_in(
@@ -224,7 +227,8 @@ pub fn find_dylib_command(
 
 /// The first command that holds the library's own name, and its fields. Takes no memory.
 pub fn find_dylib_id(commands: &[LoadCommand]) -> Option<(&LoadCommand, &DylibCommand)>
-    ensures { option_map (λ found. (found.0.now, found.1.now)) result ≡ slice_get (ids_in commands.now) 0 }
+    ensures { option_map (λ found. (found.0.now, found.1.now)) result
+        ≡ slice_get (ids_in commands.now) 0 }
 {
     for command in commands {
         if let CommandVariant::IdDylib(dylib) = &command.command {

@@ -145,7 +145,8 @@ impl<'a> MachO<'a> {
     /// The run paths, in the order of their commands, or an error where there is no memory for the list.
     #[tactic(auto, using(crate::proofs::CommandLaws::least_sizes), unfolding(crate::specs::Commands::rpaths_of))]
     pub fn rpaths(&self, alloc: Global) -> Result<Vec<&[u8]>, AllocError>
-        ensures { IfOk result (λ paths. map (λ path. path.now) paths.items ≡ rpaths_of self.now.bytes) }
+        ensures { IfOk result
+            (λ paths. map (λ path. path.now) paths.items ≡ rpaths_of self.now.bytes) }
     {
         let order = self.ctx().le;
         let mut paths = Vec::new(alloc);
@@ -162,7 +163,8 @@ impl<'a> MachO<'a> {
     /// error where there is no memory for the list.
     #[tactic(auto, using(crate::proofs::CommandLaws::least_sizes), unfolding(crate::specs::Commands::libs_of))]
     pub fn libs(&self, alloc: Global) -> Result<Vec<&[u8]>, AllocError>
-        ensures { IfOk result (λ names. map (λ name. name.now) names.items ≡ libs_of self.now.bytes) }
+        ensures { IfOk result
+            (λ names. map (λ name. name.now) names.items ≡ libs_of self.now.bytes) }
     {
         let order = self.ctx().le;
         let mut names = Vec::new(alloc);

@@ -82,8 +82,10 @@ fn read_form(alloc: Global, ctx: Ctx, bytes: &[u8]) -> Result<Parts, MachFault>
         (λ found. (form_fault ctx bytes.now ≡ None)
         × (found.ctx ≡ ctx)
         × (found.header ≡ header_of ctx bytes.now)
-        × (found.commands.items ≡ located_commands ctx.le (header_size ctx.container) (listed_commands ctx bytes.now))
-        × (found.first_content ≡ least_content ctx.le (length bytes.now) (listed_commands ctx bytes.now)))
+        × (found.commands.items
+        ≡ located_commands ctx.le (header_size ctx.container) (listed_commands ctx bytes.now))
+        × (found.first_content
+        ≡ least_content ctx.le (length bytes.now) (listed_commands ctx bytes.now)))
         (λ e. e ≢ MachFault.Memory → form_fault ctx bytes.now ≡ Some e) }
 {
     let start = header_size(ctx.container);

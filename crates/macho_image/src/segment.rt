@@ -33,7 +33,8 @@ pub(crate) struct SegmentLayout {
     ghost short: { (fixed < 128) × (section < 128) },
     ghost file_fields: { (fileoff + word_size word ≤ fixed) × (filesize + word_size word ≤ fixed) },
     ghost count_field: { nsects + 4 ≤ fixed },
-    ghost section_fields: { (size + word_size word ≤ section) × (offset + 4 ≤ section) × (flags + 4 ≤ section) },
+    ghost size_field: { size + word_size word ≤ section },
+    ghost section_fields: { (offset + 4 ≤ section) × (flags + 4 ≤ section) },
 }
 
 /// `segment_command` and `section` of loader.h.
@@ -105,7 +106,8 @@ impl SegmentLayout {
     #[tactic(auto, using(crate::proofs::ContentLaws::contents), unfolding(crate::specs::Command::segment_content))]
     pub(crate) fn lower_by_segment(self, order: ByteOrder2, command: &[u8], so_far: usize) -> usize
         requires fixed { self.fixed ≤ length command.now }
-        requires sections { self.fixed + self.section * nsects_of (form_of_layout self) order command.now
+        requires sections { self.fixed
+            + self.section * nsects_of (form_of_layout self) order command.now
             ≤ length command.now }
         ensures { result ≡ least so_far (segment_content (form_of_layout self) order command.now) }
     {
