@@ -14,7 +14,7 @@ use Rattle.macho_image.specs.declared.command.DylibCommand.{DylibCommand}
 use Rattle.macho_image.specs.declared.command.TheConstants.{LC_RPATH}
 use Rattle.macho_image.specs.declared.format.Ctx.{Ctx}
 use Rattle.macho_image.specs.Command.{dylib_of, rpath_of}
-use Rattle.arwen_macho.specs.Built.{built_dylib, built_rpath, built_size, dylib_built, fields, nul_position, padded_text, rpath_built, sized, unless_nul}
+use Rattle.arwen_macho.specs.Built.{built_dylib, built_rpath, built_size, dylib_built, fields, nul_position, padded_text, rpath_built, sized_command, unless_nul}
 use Rattle.arwen_macho.proofs.BuiltLaws.{AreWords, dylib_built-at_ok, dylib_of-built_dylib, length-fields, rpath_built-at_ok, rpath_of-built_rpath}
 use Rattle.arwen_macho.specs.Call.Cause.{too_long}
 
@@ -52,15 +52,15 @@ size_is wide fixed text a b padded whole =
     next_word (fixed + a) wide b whole ∙ ap (λ (n : ℕ). next_multiple_of (fixed + n) (word_size wide)) (next_is (length text + 1) 4 a (omega arith) padded)
 
 -- where a build is refused, and where not
-pub refused_long : (text : List ℕ) (size : ℕ) (c : List ℕ) → nul_position text ≡ None → 2 ^ 32 ≤ size → unless_nul (nul_position text) (sized size c) ≡ Err too_long
+pub refused_long : (text : List ℕ) (size : ℕ) (c : List ℕ) → nul_position text ≡ None → 2 ^ 32 ≤ size → unless_nul (nul_position text) (sized_command size c) ≡ Err too_long
 refused_long text size c none long =
     let over : nat_lt (2 ^ 32 - 1) size ≡ true = lt-ltb (2 ^ 32 - 1) size (omega arith) in
-    ap (λ nul. unless_nul nul (sized size c)) none ∙ rw over refl
+    ap (λ nul. unless_nul nul (sized_command size c)) none ∙ rw over refl
 
-pub not_refused : (text : List ℕ) (size : ℕ) (c : List ℕ) → nul_position text ≡ None → size < 2 ^ 32 → unless_nul (nul_position text) (sized size c) ≡ Ok c
+pub not_refused : (text : List ℕ) (size : ℕ) (c : List ℕ) → nul_position text ≡ None → size < 2 ^ 32 → unless_nul (nul_position text) (sized_command size c) ≡ Ok c
 not_refused text size c none fits =
     let below : nat_lt (2 ^ 32 - 1) size ≡ false = le-ltb (2 ^ 32 - 1) size (omega arith) in
-    ap (λ nul. unless_nul nul (sized size c)) none ∙ rw below refl
+    ap (λ nul. unless_nul nul (sized_command size c)) none ∙ rw below refl
 
 -- one more field behind those that were appended
 pub fields_more : (order : ByteOrder2) (items was now numbers : List ℕ) (i : ℕ) → i < length numbers → was ≡ items ++ fields order (take i numbers) → now ≡ was ++ bytes_of order 4 (get_or numbers i 0) → now ≡ items ++ fields order (take (i + 1) numbers)
@@ -100,18 +100,18 @@ with_name size old =
     }
 
 -- a build that isn't refused
-pub rpath_made : (ctx : Ctx) (text items : List ℕ) (cmdsize : ℕ) → cmdsize ≡ built_size ctx.container 12 text → ((c : List ℕ) → unless_nul (nul_position text) (sized cmdsize c) ≡ Ok c) → items ≡ fields ctx.le (LC_RPATH ∷ cmdsize ∷ 12 ∷ []) ++ padded_text cmdsize 12 text → (rpath_built ctx text ≡ Ok items) × (record { cmd = LC_RPATH; cmdsize = cmdsize; path = 12 } ≡ rpath_of ctx.le items)
+pub rpath_made : (ctx : Ctx) (text items : List ℕ) (cmdsize : ℕ) → cmdsize ≡ built_size ctx.container 12 text → ((c : List ℕ) → unless_nul (nul_position text) (sized_command cmdsize c) ≡ Ok c) → items ≡ fields ctx.le (LC_RPATH ∷ cmdsize ∷ 12 ∷ []) ++ padded_text cmdsize 12 text → (rpath_built ctx text ≡ Ok items) × (record { cmd = LC_RPATH; cmdsize = cmdsize; path = 12 } ≡ rpath_of ctx.le items)
 unfolding rpath_built built_rpath
 rpath_made ctx text items cmdsize size built made =
     let same : items ≡ built_rpath ctx text = rw size at made in
-    let whole : rpath_built ctx text ≡ Ok items = ap (λ n. unless_nul (nul_position text) (sized n (built_rpath ctx text))) (sym size) ∙ ap (λ c. unless_nul (nul_position text) (sized cmdsize c)) (sym same) ∙ built items in
+    let whole : rpath_built ctx text ≡ Ok items = ap (λ n. unless_nul (nul_position text) (sized_command n (built_rpath ctx text))) (sym size) ∙ ap (λ c. unless_nul (nul_position text) (sized_command cmdsize c)) (sym same) ∙ built items in
     let fits : built_size ctx.container 12 text < 2 ^ 32 = (rpath_built-at_ok ctx text items whole).2 in
     (whole, ap (λ n. record { cmd = LC_RPATH; cmdsize = n; path = 12 }) size ∙ sym (rpath_of-built_rpath ctx text fits) ∙ ap (rpath_of ctx.le) (sym same))
 
-pub dylib_made : (ctx : Ctx) (text items : List ℕ) (old : DylibCommand) (cmdsize : ℕ) → AreWords old → cmdsize ≡ built_size ctx.container 24 text → ((c : List ℕ) → unless_nul (nul_position text) (sized cmdsize c) ≡ Ok c) → items ≡ fields ctx.le (old.cmd ∷ cmdsize ∷ 24 ∷ old.dylib.timestamp ∷ old.dylib.current_version ∷ old.dylib.compatibility_version ∷ []) ++ padded_text cmdsize 24 text → (dylib_built ctx text old ≡ Ok items) × (with_name cmdsize old ≡ dylib_of ctx.le items)
+pub dylib_made : (ctx : Ctx) (text items : List ℕ) (old : DylibCommand) (cmdsize : ℕ) → AreWords old → cmdsize ≡ built_size ctx.container 24 text → ((c : List ℕ) → unless_nul (nul_position text) (sized_command cmdsize c) ≡ Ok c) → items ≡ fields ctx.le (old.cmd ∷ cmdsize ∷ 24 ∷ old.dylib.timestamp ∷ old.dylib.current_version ∷ old.dylib.compatibility_version ∷ []) ++ padded_text cmdsize 24 text → (dylib_built ctx text old ≡ Ok items) × (with_name cmdsize old ≡ dylib_of ctx.le items)
 unfolding dylib_built built_dylib
 dylib_made ctx text items old cmdsize words size built made =
     let same : items ≡ built_dylib ctx text old = rw size at made in
-    let whole : dylib_built ctx text old ≡ Ok items = ap (λ n. unless_nul (nul_position text) (sized n (built_dylib ctx text old))) (sym size) ∙ ap (λ c. unless_nul (nul_position text) (sized cmdsize c)) (sym same) ∙ built items in
+    let whole : dylib_built ctx text old ≡ Ok items = ap (λ n. unless_nul (nul_position text) (sized_command n (built_dylib ctx text old))) (sym size) ∙ ap (λ c. unless_nul (nul_position text) (sized_command cmdsize c)) (sym same) ∙ built items in
     let fits : built_size ctx.container 24 text < 2 ^ 32 = (dylib_built-at_ok ctx text old items whole).2 in
     (whole, ap (λ n. with_name n old) size ∙ sym (dylib_of-built_dylib ctx text old words fits) ∙ ap (dylib_of ctx.le) (sym same))

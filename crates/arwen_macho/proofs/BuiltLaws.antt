@@ -14,9 +14,8 @@ use Rattle.macho_image.specs.declared.command.DylibCommand.{DylibCommand}
 use Rattle.macho_image.specs.declared.command.TheConstants.{LC_RPATH}
 use Rattle.macho_image.specs.declared.format.Ctx.{Ctx}
 use Rattle.macho_image.specs.Command.{IsCommand, before_nul, cmd_of, cmdsize_of, contents_of, dylib_of, is_dylib_kind, is_text_kind, least_size, rpath_of, text_of, text_offset}
-use Rattle.macho_image.proofs.ContentLaws.{contents_of-text}
-use Rattle.macho_image.proofs.TextLaws.{HoldsNoNul-from_position, before_nul-zeros}
-use Rattle.arwen_macho.specs.Built.{built_dylib, built_rpath, built_size, dylib_built, fields, nul_position, padded_text, rpath_built, sized, unless_nul}
+use Rattle.macho_image.proofs.ForCallers.{HoldsNoNul-from_position, before_nul-zeros, contents_of-text}
+use Rattle.arwen_macho.specs.Built.{built_dylib, built_rpath, built_size, dylib_built, fields, nul_position, padded_text, rpath_built, sized_command, unless_nul}
 
 -- the four numbers that a library command keeps from an old one fit their fields
 pub record AreWords (old : DylibCommand) : Type 0 where
@@ -217,7 +216,7 @@ AreWords-dylib_of order c h size =
     }
 
 -- where a build gives a command
-unless_nul-ok : (nul : Option ℕ) (size : ℕ) (command c : List ℕ) → unless_nul nul (sized size command) ≡ Ok c → (c ≡ command) × (nul ≡ None) × (size < 2 ^ 32)
+unless_nul-ok : (nul : Option ℕ) (size : ℕ) (command c : List ℕ) → unless_nul nul (sized_command size command) ≡ Ok c → (c ≡ command) × (nul ≡ None) × (size < 2 ^ 32)
 unless_nul-ok (Some i) size command c built = cc
 unless_nul-ok None size command c built =
     elim (cases_Bool (nat_lt (2 ^ 32 - 1) size)) [
@@ -274,15 +273,6 @@ HoldsText-dylib_built ctx text old c words kind built =
       kind = cmd_of-built_dylib ctx text old words;
       shown = text_of-built_dylib ctx text old is.1;
       no_content = contents_of-built_dylib ctx text old words kind;
-    })
-
-pub KeepsNumbers-dylib_built : (ctx : Ctx) (text : List ℕ) (old : DylibCommand) (c : List ℕ) → AreWords old → dylib_built ctx text old ≡ Ok c → KeepsNumbers ctx.le old c
-KeepsNumbers-dylib_built ctx text old c words built =
-    let P : List ℕ → Type 0 = λ d. KeepsNumbers ctx.le old d in
-    subst P (sym (dylib_built-at_ok ctx text old c built).0) (record {
-      timestamp = dylib_number ctx text old 3 (omega arith) words.timestamp;
-      current_version = dylib_number ctx text old 4 (omega arith) words.current_version;
-      compatibility_version = dylib_number ctx text old 5 (omega arith) words.compatibility_version;
     })
 
 pub AreBytes-dylib_built : (ctx : Ctx) (text : List ℕ) (old : DylibCommand) (c : List ℕ) → AreBytes text → dylib_built ctx text old ≡ Ok c → AreBytes c

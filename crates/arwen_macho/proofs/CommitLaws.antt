@@ -3,8 +3,7 @@ use Rattle.std.proofs.Common.{◌≡◌, ◌<◌, ◌+◌, ℕ, zero, suc, List,
 use Rattle.std.specs.List.{AllZip}
 use Rattle.std.proofs.lemmas.List.{append-nil, append_assoc, drop_all, drop_more, get_or-take, get_or_append_left, get_or_push, length-take, length-take-le, length_push, set_at, take-append-drop, take-take, take_all, take_at, take_more}
 use Rattle.arwen_macho.specs.declared.change.Change.{Change}
-use Rattle.arwen_macho.specs.declared.fat.FatMacho.{FatMacho}
-use Rattle.arwen_macho.specs.FatSlice.{IsReadyIn, changed_macho, changed_machos, front_of, fronts_over}
+use Rattle.arwen_macho.specs.FatSlice.{HeldSlice, IsReadyIn, changed_macho, changed_machos, front_of, fronts_over}
 use Rattle.arwen_macho.specs.FatState.{put_at}
 use Rattle.arwen_macho.proofs.FatStepLaws.{AllZip_push}
 
@@ -35,12 +34,12 @@ drop-zip R (suc n) (x ∷ xs) [] all = absurd all
 drop-zip R (suc n) (x ∷ xs) (y ∷ ys) all = drop-zip R n xs ys all.1
 
 -- these changes are left, the first ones of all; those behind them are carried out
-pub record Carried (slices : List FatMacho) (changes : List Change) (copy : List ℕ) (left : List Change) (slices_now : List FatMacho) (copy_now : List ℕ) : Type 0 where
+pub record Carried (slices : List HeldSlice) (changes : List Change) (copy : List ℕ) (left : List Change) (slices_now : List HeldSlice) (copy_now : List ℕ) : Type 0 where
   pub left_is : left ≡ take (length left) changes
   pub slices_are : slices_now ≡ take (length left) slices ++ changed_machos (drop (length left) slices) (drop (length left) changes)
   pub copy_is : copy_now ≡ fronts_over (drop (length left) slices) (drop (length left) changes) copy
 
-pub none_carried : (len : ℕ) (slices : List FatMacho) (changes : List Change) (copy : List ℕ) → AllZip (IsReadyIn len) slices changes → Carried slices changes copy changes slices copy
+pub none_carried : (len : ℕ) (slices : List HeldSlice) (changes : List Change) (copy : List ℕ) → AllZip (IsReadyIn len) slices changes → Carried slices changes copy changes slices copy
 none_carried len slices changes copy ready =
     let n : ℕ = length changes in
     let long : length slices ≡ n = length-zip (IsReadyIn len) slices changes ready in
@@ -48,20 +47,17 @@ none_carried len slices changes copy ready =
     let left : drop n changes ≡ [] = drop_all n changes (omega arith) in
     record {
       left_is = sym (take_all n changes (omega arith));
-      slices_are = sym (ap (λ (l : List FatMacho). take n slices ++ changed_machos l (drop n changes)) none ∙ append-nil (take n slices) ∙ take_all n slices (omega arith));
-      copy_is = sym (ap (λ (l : List FatMacho). fronts_over l (drop n changes) copy) none);
+      slices_are = sym (ap (λ (l : List HeldSlice). take n slices ++ changed_machos l (drop n changes)) none ∙ append-nil (take n slices) ∙ take_all n slices (omega arith));
+      copy_is = sym (ap (λ (l : List HeldSlice). fronts_over l (drop n changes) copy) none);
     }
 
-pub all_carried : (slices : List FatMacho) (changes : List Change) (copy : List ℕ) (slices_now : List FatMacho) (copy_now : List ℕ) → Carried slices changes copy [] slices_now copy_now → (slices_now ≡ changed_machos slices changes) × (copy_now ≡ fronts_over slices changes copy)
-all_carried slices changes copy slices_now copy_now carried = (carried.slices_are, carried.copy_is)
-
 -- the last change that is left, and its slice
-pub record LastIs (slices : List FatMacho) (changes : List Change) (left : List Change) (change : Change) : Type 0 where
+pub record LastIs (slices : List HeldSlice) (changes : List Change) (left : List Change) (change : Change) : Type 0 where
   pub left_is : left ≡ take (length left) changes
   pub next : drop (length left) changes ≡ change ∷ drop (length left + 1) changes
   pub some : length left < length slices
 
-pub last_is : (len : ℕ) (slices : List FatMacho) (changes before left : List Change) (change : Change) → AllZip (IsReadyIn len) slices changes → before ≡ take (length before) changes → before ≡ left ++ change ∷ [] → LastIs slices changes left change
+pub last_is : (len : ℕ) (slices : List HeldSlice) (changes before left : List Change) (change : Change) → AllZip (IsReadyIn len) slices changes → before ≡ take (length before) changes → before ≡ left ++ change ∷ [] → LastIs slices changes left change
 last_is len slices changes before left change ready was pushed =
     let k : ℕ = length left in
     let long : length slices ≡ length changes = length-zip (IsReadyIn len) slices changes ready in
@@ -79,33 +75,33 @@ last_is len slices changes before left change ready was pushed =
     }
 
 -- the slices at the last change that is left
-slice_next : (slices : List FatMacho) (changes before left : List Change) (change : Change) (slices_now : List FatMacho) (m : FatMacho) → length before ≡ length left + 1 → LastIs slices changes left change → slices_now ≡ take (length before) slices ++ changed_machos (drop (length before) slices) (drop (length before) changes) → m ≡ get_or slices_now (length left) m → m ≡ get_or slices (length left) m
+slice_next : (slices : List HeldSlice) (changes before left : List Change) (change : Change) (slices_now : List HeldSlice) (m : HeldSlice) → length before ≡ length left + 1 → LastIs slices changes left change → slices_now ≡ take (length before) slices ++ changed_machos (drop (length before) slices) (drop (length before) changes) → m ≡ get_or slices_now (length left) m → m ≡ get_or slices (length left) m
 slice_next slices changes before left change slices_now m one last now is =
     let k : ℕ = length left in
     let some = last.some in
-    let done : List FatMacho = changed_machos (drop (length before) slices) (drop (length before) changes) in
+    let done : List HeldSlice = changed_machos (drop (length before) slices) (drop (length before) changes) in
     let long : length (take (length before) slices) ≡ length before = length-take-le (length before) slices (omega arith) in
     is
-    ∙ ap (λ (l : List FatMacho). get_or l k m) now
+    ∙ ap (λ (l : List HeldSlice). get_or l k m) now
     ∙ get_or_append_left (take (length before) slices) done m k (omega arith)
     ∙ get_or-take (length before) slices k m (omega arith)
 
-next_slice : (slices : List FatMacho) (k : ℕ) (m : FatMacho) → k < length slices → m ≡ get_or slices k m → drop k slices ≡ m ∷ drop (k + 1) slices
-next_slice slices k m some is = drop_more slices k m some ∙ ap (λ (x : FatMacho). x ∷ drop (k + 1) slices) (sym is)
+next_slice : (slices : List HeldSlice) (k : ℕ) (m : HeldSlice) → k < length slices → m ≡ get_or slices k m → drop k slices ≡ m ∷ drop (k + 1) slices
+next_slice slices k m some is = drop_more slices k m some ∙ ap (λ (x : HeldSlice). x ∷ drop (k + 1) slices) (sym is)
 
 -- the last change that is left is ready
-pub last_ready : (len : ℕ) (slices : List FatMacho) (changes : List Change) (copy : List ℕ) (before left : List Change) (change : Change) (slices_now : List FatMacho) (copy_now : List ℕ) (m : FatMacho) → AllZip (IsReadyIn len) slices changes → Carried slices changes copy before slices_now copy_now → before ≡ left ++ change ∷ [] → m ≡ get_or slices_now (length left) m → IsReadyIn len m change
+pub last_ready : (len : ℕ) (slices : List HeldSlice) (changes : List Change) (copy : List ℕ) (before left : List Change) (change : Change) (slices_now : List HeldSlice) (copy_now : List ℕ) (m : HeldSlice) → AllZip (IsReadyIn len) slices changes → Carried slices changes copy before slices_now copy_now → before ≡ left ++ change ∷ [] → m ≡ get_or slices_now (length left) m → IsReadyIn len m change
 last_ready len slices changes copy before left change slices_now copy_now m ready carried pushed is =
     let k : ℕ = length left in
     let last = last_is len slices changes before left change ready carried.left_is pushed in
     let one : length before ≡ k + 1 = ap length pushed ∙ length_push left change in
     let here = slice_next slices changes before left change slices_now m one last carried.slices_are is in
-    let P : List FatMacho → Type 0 = λ l. AllZip (IsReadyIn len) l (drop k changes) in
+    let P : List HeldSlice → Type 0 = λ l. AllZip (IsReadyIn len) l (drop k changes) in
     let Q : List Change → Type 0 = λ l. AllZip (IsReadyIn len) (m ∷ drop (k + 1) slices) l in
     (subst Q last.next (subst P (next_slice slices k m last.some here) (drop-zip (IsReadyIn len) k slices changes ready))).0
 
 -- and is carried out
-pub one_carried : (len : ℕ) (slices : List FatMacho) (changes : List Change) (copy : List ℕ) (before left : List Change) (change : Change) (slices_now : List FatMacho) (copy_now : List ℕ) (m : FatMacho) → AllZip (IsReadyIn len) slices changes → Carried slices changes copy before slices_now copy_now → before ≡ left ++ change ∷ [] → m ≡ get_or slices_now (length left) m → Carried slices changes copy left (set slices_now (length left) (changed_macho m change)) (put_at m.arch.offset (front_of m change) copy_now)
+pub one_carried : (len : ℕ) (slices : List HeldSlice) (changes : List Change) (copy : List ℕ) (before left : List Change) (change : Change) (slices_now : List HeldSlice) (copy_now : List ℕ) (m : HeldSlice) → AllZip (IsReadyIn len) slices changes → Carried slices changes copy before slices_now copy_now → before ≡ left ++ change ∷ [] → m ≡ get_or slices_now (length left) m → Carried slices changes copy left (set slices_now (length left) (changed_macho m change)) (put_at m.arch.offset (front_of m change) copy_now)
 one_carried len slices changes copy before left change slices_now copy_now m ready carried pushed is =
     let k : ℕ = length left in
     let last = last_is len slices changes before left change ready carried.left_is pushed in
@@ -113,26 +109,26 @@ one_carried len slices changes copy before left change slices_now copy_now m rea
     let one : length before ≡ k + 1 = ap length pushed ∙ length_push left change in
     let here = slice_next slices changes before left change slices_now m one last carried.slices_are is in
     let next : drop k slices ≡ m ∷ drop (k + 1) slices = next_slice slices k m last.some here in
-    let new : FatMacho = changed_macho m change in
-    let done : List FatMacho = changed_machos (drop (k + 1) slices) (drop (k + 1) changes) in
-    let front : List FatMacho = take k slices in
+    let new : HeldSlice = changed_macho m change in
+    let done : List HeldSlice = changed_machos (drop (k + 1) slices) (drop (k + 1) changes) in
+    let front : List HeldSlice = take k slices in
     let was : slices_now ≡ front ++ m ∷ done =
     carried.slices_are
     ∙ ap (λ (n : ℕ). take n slices ++ changed_machos (drop n slices) (drop n changes)) one
-    ∙ ap (λ (l : List FatMacho). l ++ done) (take_more slices k m last.some ∙ ap (λ (x : FatMacho). front ++ x ∷ []) (sym here))
+    ∙ ap (λ (l : List HeldSlice). l ++ done) (take_more slices k m last.some ∙ ap (λ (x : HeldSlice). front ++ x ∷ []) (sym here))
     ∙ append_assoc front (m ∷ []) done in
     let then_slices : changed_machos (drop k slices) (drop k changes) ≡ new ∷ done =
-    ap (λ (l : List FatMacho). changed_machos l (drop k changes)) next
+    ap (λ (l : List HeldSlice). changed_machos l (drop k changes)) next
     ∙ ap (changed_machos (m ∷ drop (k + 1) slices)) last.next in
     let then_copy : fronts_over (drop k slices) (drop k changes) copy ≡ put_at m.arch.offset (front_of m change) (fronts_over (drop (k + 1) slices) (drop (k + 1) changes) copy) =
-    ap (λ (l : List FatMacho). fronts_over l (drop k changes) copy) next
+    ap (λ (l : List HeldSlice). fronts_over l (drop k changes) copy) next
     ∙ ap (λ (l : List Change). fronts_over (m ∷ drop (k + 1) slices) l copy) last.next in
     record {
       left_is = last.left_is;
       slices_are =
-          ap (λ (l : List FatMacho). set l k new) was
+          ap (λ (l : List HeldSlice). set l k new) was
           ∙ set_at front m done new k (length-take-le k slices (omega arith))
-          ∙ ap (λ (l : List FatMacho). front ++ l) (sym then_slices);
+          ∙ ap (λ (l : List HeldSlice). front ++ l) (sym then_slices);
       copy_is =
           ap (put_at m.arch.offset (front_of m change)) (carried.copy_is ∙ ap (λ (n : ℕ). fronts_over (drop n slices) (drop n changes) copy) one)
           ∙ sym then_copy;

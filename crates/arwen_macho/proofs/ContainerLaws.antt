@@ -1,44 +1,16 @@
 -- What the container of either shape takes over from the shape that it holds.
 use Rattle.std.proofs.Common.{◌≡◌, ℕ, Bool, true, List, [], ◌∷◌, ◌++◌, Option, Some, None, Result, Ok, Err, IsOk, ap, sym, refl, ◌∙◌, subst}
 use Rattle.arwen_macho.specs.declared.batch.MachoBatchError.{MachoBatchError}
-use Rattle.arwen_macho.specs.declared.error.MachoError.{MachoError}
 use Rattle.arwen_macho.specs.declared.macho.MachoType.{MachoType}
 use Rattle.arwen_macho.specs.declared.macho.MachoType.TheVariants.{Fat, SingleArch}
-use Rattle.arwen_macho.specs.Batch.{RefusesAt, StepsBatch, is_edited_by}
+use Rattle.arwen_macho.specs.Batch.{RefusesAt, StepsBatch}
 use Rattle.arwen_macho.specs.Call.{Call, Cause}
-use Rattle.arwen_macho.specs.Container.{AnswersAll, AnswersBatch, TakesBatch, TakesOnce, as_fat, as_thin, container_step, left_by, left_by_all}
-use Rattle.arwen_macho.specs.FatHeld.{FatHeld, FatStepsBatch, FatStepsOnce}
+use Rattle.arwen_macho.specs.Container.{AnswersAll, AnswersBatch, TakesBatch, as_fat, as_thin, container_step, left_by, left_by_all}
+use Rattle.arwen_macho.specs.FatHeld.{FatHeld, FatStepsBatch}
 use Rattle.arwen_macho.specs.FatState.{FatState, fat_step}
-use Rattle.arwen_macho.specs.Held.{Held, RefusesStep, StepsOnce}
+use Rattle.arwen_macho.specs.Held.{Held, is_edited_by}
 use Rattle.arwen_macho.specs.Refused.{cause_of}
 use Rattle.arwen_macho.specs.State.{Refusal, State, step}
-
--- a refusal of the shape's step is one of the container's
-refuses_thin : (found : Option Cause) (flag : Bool) (answer : Result State Refusal) → RefusesStep found answer → RefusesStep found (as_thin flag answer)
-refuses_thin None flag answer refuses = tt
-refuses_thin (Some cause) flag (Ok state) refuses = refuses
-refuses_thin (Some cause) flag (Err refusal) refuses = refuses
-
-refuses_fat : (found : Option Cause) (flag : Bool) (answer : Result FatState Refusal) → RefusesStep found answer → RefusesStep found (as_fat flag answer)
-refuses_fat None flag answer refuses = tt
-refuses_fat (Some cause) flag (Ok state) refuses = refuses
-refuses_fat (Some cause) flag (Err refusal) refuses = refuses
-
--- a thin file takes one edit
-pub takes_thin : (call : Call) (old new : Held) (answer : Result (Unit {0}) MachoError) → StepsOnce call old new answer → TakesOnce call (SingleArch old) (SingleArch new) answer
-unfolding container_step
-takes_thin call old new (Ok done) steps =
-    ap (as_thin true) steps.0 ∙ ap (λ (flag : Bool). Ok (SingleArch (record { state = new.state; is_edited = flag }))) (sym steps.1)
-takes_thin call old new (Err e) steps =
-    (ap (λ (held : Held). SingleArch held) steps.0, refuses_thin (cause_of e) true (step (call ∷ []) old.state) steps.1)
-
--- a fat file takes one edit
-pub takes_fat : (call : Call) (old new : FatHeld) (answer : Result (Unit {0}) MachoError) → FatStepsOnce call old new answer → TakesOnce call (Fat old) (Fat new) answer
-unfolding container_step
-takes_fat call old new (Ok done) steps =
-    ap (as_fat true) steps.0 ∙ ap (λ (flag : Bool). Ok (Fat (record { state = new.state; is_edited = flag }))) (sym steps.1)
-takes_fat call old new (Err e) steps =
-    (ap (λ (held : FatHeld). Fat held) steps.0, refuses_fat (cause_of e) true (fat_step (call ∷ []) old.state) steps.1)
 
 -- a refusal at an index
 refuses_thin_at : (index : ℕ) (found : Option Cause) (flag : Bool) (answer : Result State Refusal) → RefusesAt index found answer → RefusesAt index found (as_thin flag answer)
@@ -57,38 +29,33 @@ pub refused_fat : (calls : List Call) (held : FatHeld) (index : ℕ) (found : Op
 unfolding container_step
 refused_fat calls held index found refuses = refuses_fat_at index found (is_edited_by calls held.is_edited) (fat_step calls held.state) refuses
 
+-- a thin file takes a batch
+pub takes_thin : (calls : List Call) (old new : Held) (answer : Result (Unit {0}) MachoBatchError) → StepsBatch calls old new answer → TakesBatch calls (SingleArch old) (SingleArch new) answer
+unfolding container_step
+takes_thin calls old new (Ok done) steps =
+    ap (as_thin (is_edited_by calls old.is_edited)) steps.0 ∙ ap (λ (flag : Bool). Ok (SingleArch (record { state = new.state; is_edited = flag }))) (sym steps.1)
+takes_thin calls old new (Err e) steps =
+    (ap (λ (held : Held). SingleArch held) steps.0, refuses_thin_at e.index (cause_of e.fault) (is_edited_by calls old.is_edited) (step calls old.state) steps.1)
+
+-- a fat file takes a batch
+pub takes_fat : (calls : List Call) (old new : FatHeld) (answer : Result (Unit {0}) MachoBatchError) → FatStepsBatch calls old new answer → TakesBatch calls (Fat old) (Fat new) answer
+unfolding container_step
+takes_fat calls old new (Ok done) steps =
+    ap (as_fat (is_edited_by calls old.is_edited)) steps.0 ∙ ap (λ (flag : Bool). Ok (Fat (record { state = new.state; is_edited = flag }))) (sym steps.1)
+takes_fat calls old new (Err e) steps =
+    (ap (λ (held : FatHeld). Fat held) steps.0, refuses_fat_at e.index (cause_of e.fault) (is_edited_by calls old.is_edited) (fat_step calls old.state) steps.1)
+
 -- what a refused batch leaves
 left_refused : (old : MachoType) (answer : Result MachoType Refusal) (e : MachoBatchError) → left_by old answer (Err e) ≡ old
 left_refused old (Ok new) e = refl
 left_refused old (Err refusal) e = refl
 
--- a container that was given its step takes the batch
-accepted : (calls : List Call) (old new : MachoType) (done : Unit {0}) → container_step calls old ≡ Ok new → TakesBatch calls old new (Ok done)
-accepted calls old new done steps =
+-- a batch that was taken is answered, and leaves what its answer says
+pub taken_is : (calls : List Call) (old new : MachoType) (answer : Result (Unit {0}) MachoBatchError) → TakesBatch calls old new answer → AnswersBatch calls old answer × (new ≡ left_by old (container_step calls old) answer)
+taken_is calls old new (Ok done) taken =
     let Answered : Result MachoType Refusal → Type 0 = λ r. IsOk r × (new ≡ left_by old r (Ok done)) in
-    subst Answered (sym steps) (refl, refl)
-
--- a thin file takes a batch
-pub takes_thin_batch : (calls : List Call) (old new : Held) (answer : Result (Unit {0}) MachoBatchError) → StepsBatch calls old new answer → TakesBatch calls (SingleArch old) (SingleArch new) answer
-unfolding container_step
-takes_thin_batch calls old new (Ok done) steps =
-    accepted calls (SingleArch old) (SingleArch new) done
-    (ap (as_thin (is_edited_by calls old.is_edited)) steps.0 ∙ ap (λ (flag : Bool). Ok (SingleArch (record { state = new.state; is_edited = flag }))) (sym steps.1))
-takes_thin_batch calls old new (Err e) steps = (
-  refuses_thin_at e.index (cause_of e.fault) (is_edited_by calls old.is_edited) (step calls old.state) steps.1,
-  ap (λ (held : Held). SingleArch held) steps.0 ∙ sym (left_refused (SingleArch old) (container_step calls (SingleArch old)) e),
-)
-
--- a fat file takes a batch
-pub takes_fat_batch : (calls : List Call) (old new : FatHeld) (answer : Result (Unit {0}) MachoBatchError) → FatStepsBatch calls old new answer → TakesBatch calls (Fat old) (Fat new) answer
-unfolding container_step
-takes_fat_batch calls old new (Ok done) steps =
-    accepted calls (Fat old) (Fat new) done
-    (ap (as_fat (is_edited_by calls old.is_edited)) steps.0 ∙ ap (λ (flag : Bool). Ok (Fat (record { state = new.state; is_edited = flag }))) (sym steps.1))
-takes_fat_batch calls old new (Err e) steps = (
-  refuses_fat_at e.index (cause_of e.fault) (is_edited_by calls old.is_edited) (fat_step calls old.state) steps.1,
-  ap (λ (held : FatHeld). Fat held) steps.0 ∙ sym (left_refused (Fat old) (container_step calls (Fat old)) e),
-)
+    subst Answered (sym taken) (refl, refl)
+taken_is calls old new (Err e) taken = (taken.1, taken.0 ∙ sym (left_refused old (container_step calls old) e))
 
 -- one more batch, and its answer
 pub answers_more : (batches : List (List Call)) (answers : List (Result (Unit {0}) MachoBatchError)) (calls : List Call) (answer : Result (Unit {0}) MachoBatchError) (old : MachoType) → AnswersAll batches answers old → AnswersBatch calls (left_by_all batches answers old) answer → AnswersAll (batches ++ (calls ∷ [])) (answers ++ (answer ∷ [])) old

@@ -14,13 +14,13 @@ use Rattle.patch_bytes.specs.Bytes.{AreBytes}
 use Rattle.macho_image.specs.declared.command.TheConstants.{LC_ID_DYLIB, LC_RPATH}
 use Rattle.macho_image.specs.declared.format.Ctx.{Ctx}
 use Rattle.macho_image.specs.Command.{cmd_of, contents_of, dylib_of, is_dylib_kind, is_load_kind, text_of}
-use Rattle.macho_image.proofs.ContentLaws.{contents_of-text}
+use Rattle.macho_image.proofs.ForCallers.{contents_of-text}
 use Rattle.arwen_macho.specs.Built.{dylib_built, rpath_built}
 use Rattle.arwen_macho.specs.Call.{Call, Cause}
 use Rattle.arwen_macho.specs.Call.Call.{add_rpath, change_install_id, change_install_name, change_rpath, remove_rpath}
 use Rattle.arwen_macho.specs.Call.Cause.{id_missing, name_missing, rpath_missing}
-use Rattle.arwen_macho.specs.Edited.{appended, edited, is_id, is_library_named, is_rpath_named, placed, rebuilt, without}
-use Rattle.arwen_macho.specs.Whole.{IsWhole, Keeps, TextsAreBytes}
+use Rattle.arwen_macho.specs.Edited.{list_with_last, edited_list, is_id, is_library_named, is_rpath_named, list_with_at, list_rebuilt_at, list_without_at}
+use Rattle.arwen_macho.specs.Whole.{IsWhole, KeepsContents, TextsAreBytes}
 use Rattle.arwen_macho.proofs.BuiltLaws.{AreBytes-dylib_built, AreBytes-rpath_built, AreWords-dylib_of, HoldsText-dylib_built, HoldsText-rpath_built}
 
 -- what a new command brings into a list: it is whole, and names no content
@@ -45,51 +45,51 @@ contents_without order xs i h none =
     sym (contents_around order (take i xs) (drop (i + 1) xs) (get_or xs i []) none) ∙ ap (flat_map (contents_of order)) (around xs i h)
 
 -- the list with a plain command behind it
-appended_keeps : (order : ByteOrder2) (built : Result (List ℕ) Cause) (old new : List (List ℕ)) → ((c : List ℕ) → built ≡ Ok c → IsPlain order c) → All (IsWhole order) old → appended built old ≡ Ok new → Keeps order old new
+appended_keeps : (order : ByteOrder2) (built : Result (List ℕ) Cause) (old new : List (List ℕ)) → ((c : List ℕ) → built ≡ Ok c → IsPlain order c) → All (IsWhole order) old → list_with_last built old ≡ Ok new → KeepsContents order old new
 appended_keeps order (Err cause) old new plain whole e = absurd (cc)
 appended_keeps order (Ok c) old new plain whole e =
     let same : old ++ (c ∷ []) ≡ new = cc in
     let is = plain c refl in
-    let kept : Keeps order old (old ++ (c ∷ [])) = record {
+    let kept : KeepsContents order old (old ++ (c ∷ [])) = record {
       whole = All-push (IsWhole order) old c whole is.whole;
       contents = contents_around order old [] c is.no_content ∙ ap (flat_map (contents_of order)) (append-nil old);
     } in
-    let P : List (List ℕ) → Type 0 = Keeps order old in
+    let P : List (List ℕ) → Type 0 = KeepsContents order old in
     subst P same kept
 
 -- the list with a plain command in the place of one that names no content
-placed_keeps : (order : ByteOrder2) (i : ℕ) (built : Result (List ℕ) Cause) (old new : List (List ℕ)) → i < length old → contents_of order (get_or old i []) ≡ [] → ((c : List ℕ) → built ≡ Ok c → IsPlain order c) → All (IsWhole order) old → placed i built old ≡ Ok new → Keeps order old new
+placed_keeps : (order : ByteOrder2) (i : ℕ) (built : Result (List ℕ) Cause) (old new : List (List ℕ)) → i < length old → contents_of order (get_or old i []) ≡ [] → ((c : List ℕ) → built ≡ Ok c → IsPlain order c) → All (IsWhole order) old → list_with_at i built old ≡ Ok new → KeepsContents order old new
 placed_keeps order i (Err cause) old new inside none plain whole e = absurd (cc)
 placed_keeps order i (Ok c) old new inside none plain whole e =
     let same : set old i c ≡ new = cc in
     let is = plain c refl in
     let parts : set old i c ≡ take i old ++ (c ∷ drop (i + 1) old) = rw add-one (set_split old i c inside) in
-    let kept : Keeps order old (set old i c) = record {
+    let kept : KeepsContents order old (set old i c) = record {
       whole = All-set (IsWhole order) old i c is.whole whole;
       contents = ap (flat_map (contents_of order)) parts ∙ contents_around order (take i old) (drop (i + 1) old) c is.no_content ∙ contents_without order old i inside none;
     } in
-    let P : List (List ℕ) → Type 0 = Keeps order old in
+    let P : List (List ℕ) → Type 0 = KeepsContents order old in
     subst P same kept
 
 -- the list with the command at the place found built anew
-rebuilt_keeps : (order : ByteOrder2) (place : Option ℕ) (missing : Cause) (build : List ℕ → Result (List ℕ) Cause) (old new : List (List ℕ)) → ((i : ℕ) → place ≡ Some i → (i < length old) × (contents_of order (get_or old i []) ≡ []) × ((c : List ℕ) → build (get_or old i []) ≡ Ok c → IsPlain order c)) → All (IsWhole order) old → rebuilt place missing build old ≡ Ok new → Keeps order old new
+rebuilt_keeps : (order : ByteOrder2) (place : Option ℕ) (missing : Cause) (build : List ℕ → Result (List ℕ) Cause) (old new : List (List ℕ)) → ((i : ℕ) → place ≡ Some i → (i < length old) × (contents_of order (get_or old i []) ≡ []) × ((c : List ℕ) → build (get_or old i []) ≡ Ok c → IsPlain order c)) → All (IsWhole order) old → list_rebuilt_at place missing build old ≡ Ok new → KeepsContents order old new
 rebuilt_keeps order None missing build old new at whole e = absurd (cc)
 rebuilt_keeps order (Some i) missing build old new at whole e =
     let found = at i refl in
     placed_keeps order i (build (get_or old i [])) old new found.0 found.1 found.2 whole e
 
 -- the list without the command at the place found
-without_keeps : (order : ByteOrder2) (place : Option ℕ) (missing : Cause) (old new : List (List ℕ)) → ((i : ℕ) → place ≡ Some i → (i < length old) × (contents_of order (get_or old i []) ≡ [])) → All (IsWhole order) old → without place missing old ≡ Ok new → Keeps order old new
+without_keeps : (order : ByteOrder2) (place : Option ℕ) (missing : Cause) (old new : List (List ℕ)) → ((i : ℕ) → place ≡ Some i → (i < length old) × (contents_of order (get_or old i []) ≡ [])) → All (IsWhole order) old → list_without_at place missing old ≡ Ok new → KeepsContents order old new
 without_keeps order None missing old new at whole e = absurd (cc)
 without_keeps order (Some i) missing old new at whole e =
     let found = at i refl in
     let same : remove old i ≡ new = cc in
     let parts : remove old i ≡ take i old ++ drop (i + 1) old = rw add-one refl in
-    let kept : Keeps order old (remove old i) = record {
+    let kept : KeepsContents order old (remove old i) = record {
       whole = All-append (IsWhole order) (take i old) (drop (suc i) old) (All-take (IsWhole order) i old whole) (All-drop (IsWhole order) (suc i) old whole);
       contents = ap (flat_map (contents_of order)) parts ∙ contents_without order old i found.0 found.1;
     } in
-    let P : List (List ℕ) → Type 0 = Keeps order old in
+    let P : List (List ℕ) → Type 0 = KeepsContents order old in
     subst P same kept
 
 -- what the tests of commands tell: the kind, and that the fixed part is there
@@ -143,8 +143,8 @@ library_place ctx test new old i tells bytes whole e =
     (found.0, contents_of-text ctx.le (get_or old i []) (or_right (cmd_of ctx.le (get_or old i []) == LC_RPATH) (is_dylib_kind (cmd_of ctx.le (get_or old i []))) is.1), λ c built. plain_dylib ctx new (get_or old i []) c bytes command.bytes is.0 is.1 built)
 
 -- an edit keeps that the commands are commands, that they are bytes, and the contents that they name
-pub edited_keeps : (ctx : Ctx) (call : Call) (old new : List (List ℕ)) → TextsAreBytes call → All (IsWhole ctx.le) old → edited ctx call old ≡ Ok new → Keeps ctx.le old new
-unfolding edited
+pub edited_keeps : (ctx : Ctx) (call : Call) (old new : List (List ℕ)) → TextsAreBytes call → All (IsWhole ctx.le) old → edited_list ctx call old ≡ Ok new → KeepsContents ctx.le old new
+unfolding edited_list
 edited_keeps ctx (add_rpath text) old new bytes whole e =
     appended_keeps ctx.le (rpath_built ctx text) old new (λ c. plain_rpath ctx text c bytes) whole e
 edited_keeps ctx (change_rpath from text) old new bytes whole e =

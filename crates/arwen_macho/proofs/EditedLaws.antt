@@ -8,45 +8,45 @@ use Rattle.arwen_macho.specs.Built.{dylib_built, rpath_built}
 use Rattle.arwen_macho.specs.Call.{Cause}
 use Rattle.arwen_macho.specs.Call.Call.{add_rpath, change_install_id, change_install_name, change_rpath, remove_rpath}
 use Rattle.arwen_macho.specs.Call.Cause.{id_missing, name_missing, rpath_missing}
-use Rattle.arwen_macho.specs.Edited.{appended, edited, is_id, is_library_named, is_rpath_named, placed, rebuilt, without}
+use Rattle.arwen_macho.specs.Edited.{list_with_last, edited_list, is_id, is_library_named, is_rpath_named, list_with_at, list_rebuilt_at, list_without_at}
 use Rattle.arwen_macho.specs.Refused.{Refuses}
 use Rattle.arwen_macho.proofs.EditLaws.{id_found, library_found}
 
-pub add_rpath-edited : (ctx : Ctx) (new : List ℕ) (list : List (List ℕ)) → edited ctx (add_rpath new) list ≡ appended (rpath_built ctx new) list
-unfolding edited
+pub add_rpath-edited : (ctx : Ctx) (new : List ℕ) (list : List (List ℕ)) → edited_list ctx (add_rpath new) list ≡ list_with_last (rpath_built ctx new) list
+unfolding edited_list
 add_rpath-edited ctx new list = refl
 
-pub change_rpath-none : (ctx : Ctx) (old new : List ℕ) (list : List (List ℕ)) → position (is_rpath_named ctx.le old) list ≡ None → edited ctx (change_rpath old new) list ≡ Err (rpath_missing old)
-unfolding edited
-change_rpath-none ctx old new list e = ap (λ (o : Option ℕ). rebuilt o (rpath_missing old) (λ c. rpath_built ctx new) list) e
+pub change_rpath-none : (ctx : Ctx) (old new : List ℕ) (list : List (List ℕ)) → position (is_rpath_named ctx.le old) list ≡ None → edited_list ctx (change_rpath old new) list ≡ Err (rpath_missing old)
+unfolding edited_list
+change_rpath-none ctx old new list e = ap (λ (o : Option ℕ). list_rebuilt_at o (rpath_missing old) (λ c. rpath_built ctx new) list) e
 
-pub change_rpath-some : (ctx : Ctx) (old new : List ℕ) (list : List (List ℕ)) (i : ℕ) → position (is_rpath_named ctx.le old) list ≡ Some i → edited ctx (change_rpath old new) list ≡ placed i (rpath_built ctx new) list
-unfolding edited
-change_rpath-some ctx old new list i e = ap (λ (o : Option ℕ). rebuilt o (rpath_missing old) (λ c. rpath_built ctx new) list) e
+pub change_rpath-some : (ctx : Ctx) (old new : List ℕ) (list : List (List ℕ)) (i : ℕ) → position (is_rpath_named ctx.le old) list ≡ Some i → edited_list ctx (change_rpath old new) list ≡ list_with_at i (rpath_built ctx new) list
+unfolding edited_list
+change_rpath-some ctx old new list i e = ap (λ (o : Option ℕ). list_rebuilt_at o (rpath_missing old) (λ c. rpath_built ctx new) list) e
 
-pub remove_rpath-none : (ctx : Ctx) (old : List ℕ) (list : List (List ℕ)) → position (is_rpath_named ctx.le old) list ≡ None → edited ctx (remove_rpath old) list ≡ Err (rpath_missing old)
-unfolding edited
-remove_rpath-none ctx old list e = ap (λ (o : Option ℕ). without o (rpath_missing old) list) e
+pub remove_rpath-none : (ctx : Ctx) (old : List ℕ) (list : List (List ℕ)) → position (is_rpath_named ctx.le old) list ≡ None → edited_list ctx (remove_rpath old) list ≡ Err (rpath_missing old)
+unfolding edited_list
+remove_rpath-none ctx old list e = ap (λ (o : Option ℕ). list_without_at o (rpath_missing old) list) e
 
-pub remove_rpath-some : (ctx : Ctx) (old : List ℕ) (list : List (List ℕ)) (i : ℕ) → position (is_rpath_named ctx.le old) list ≡ Some i → edited ctx (remove_rpath old) list ≡ Ok (remove list i)
-unfolding edited
-remove_rpath-some ctx old list i e = ap (λ (o : Option ℕ). without o (rpath_missing old) list) e
+pub remove_rpath-some : (ctx : Ctx) (old : List ℕ) (list : List (List ℕ)) (i : ℕ) → position (is_rpath_named ctx.le old) list ≡ Some i → edited_list ctx (remove_rpath old) list ≡ Ok (remove list i)
+unfolding edited_list
+remove_rpath-some ctx old list i e = ap (λ (o : Option ℕ). list_without_at o (rpath_missing old) list) e
 
-pub change_install_id-none : (ctx : Ctx) (new : List ℕ) (list : List (List ℕ)) → position (is_id ctx.le) list ≡ None → edited ctx (change_install_id new) list ≡ Err id_missing
-unfolding edited
-change_install_id-none ctx new list e = ap (λ (o : Option ℕ). rebuilt o id_missing (λ c. dylib_built ctx new (dylib_of ctx.le c)) list) e
+pub change_install_id-none : (ctx : Ctx) (new : List ℕ) (list : List (List ℕ)) → position (is_id ctx.le) list ≡ None → edited_list ctx (change_install_id new) list ≡ Err id_missing
+unfolding edited_list
+change_install_id-none ctx new list e = ap (λ (o : Option ℕ). list_rebuilt_at o id_missing (λ c. dylib_built ctx new (dylib_of ctx.le c)) list) e
 
-pub change_install_id-some : (ctx : Ctx) (new : List ℕ) (list : List (List ℕ)) (i : ℕ) → position (is_id ctx.le) list ≡ Some i → edited ctx (change_install_id new) list ≡ placed i (dylib_built ctx new (dylib_of ctx.le (get_or list i []))) list
-unfolding edited
-change_install_id-some ctx new list i e = ap (λ (o : Option ℕ). rebuilt o id_missing (λ c. dylib_built ctx new (dylib_of ctx.le c)) list) e
+pub change_install_id-some : (ctx : Ctx) (new : List ℕ) (list : List (List ℕ)) (i : ℕ) → position (is_id ctx.le) list ≡ Some i → edited_list ctx (change_install_id new) list ≡ list_with_at i (dylib_built ctx new (dylib_of ctx.le (get_or list i []))) list
+unfolding edited_list
+change_install_id-some ctx new list i e = ap (λ (o : Option ℕ). list_rebuilt_at o id_missing (λ c. dylib_built ctx new (dylib_of ctx.le c)) list) e
 
-pub change_install_name-none : (ctx : Ctx) (old new : List ℕ) (list : List (List ℕ)) → position (is_library_named ctx.le old) list ≡ None → edited ctx (change_install_name old new) list ≡ Err (name_missing old)
-unfolding edited
-change_install_name-none ctx old new list e = ap (λ (o : Option ℕ). rebuilt o (name_missing old) (λ c. dylib_built ctx new (dylib_of ctx.le c)) list) e
+pub change_install_name-none : (ctx : Ctx) (old new : List ℕ) (list : List (List ℕ)) → position (is_library_named ctx.le old) list ≡ None → edited_list ctx (change_install_name old new) list ≡ Err (name_missing old)
+unfolding edited_list
+change_install_name-none ctx old new list e = ap (λ (o : Option ℕ). list_rebuilt_at o (name_missing old) (λ c. dylib_built ctx new (dylib_of ctx.le c)) list) e
 
-pub change_install_name-some : (ctx : Ctx) (old new : List ℕ) (list : List (List ℕ)) (i : ℕ) → position (is_library_named ctx.le old) list ≡ Some i → edited ctx (change_install_name old new) list ≡ placed i (dylib_built ctx new (dylib_of ctx.le (get_or list i []))) list
-unfolding edited
-change_install_name-some ctx old new list i e = ap (λ (o : Option ℕ). rebuilt o (name_missing old) (λ c. dylib_built ctx new (dylib_of ctx.le c)) list) e
+pub change_install_name-some : (ctx : Ctx) (old new : List ℕ) (list : List (List ℕ)) (i : ℕ) → position (is_library_named ctx.le old) list ≡ Some i → edited_list ctx (change_install_name old new) list ≡ list_with_at i (dylib_built ctx new (dylib_of ctx.le (get_or list i []))) list
+unfolding edited_list
+change_install_name-some ctx old new list i e = ap (λ (o : Option ℕ). list_rebuilt_at o (name_missing old) (λ c. dylib_built ctx new (dylib_of ctx.le c)) list) e
 
 -- the places of library commands that were found hold their fixed part
 pub id_place : (ctx : Ctx) (list : List (List ℕ)) (i : ℕ) → position (is_id ctx.le) list ≡ Some i → (i < length list) × (24 ≤ length (get_or list i []))
@@ -60,13 +60,13 @@ library_place ctx text list i e =
     (found.0, (library_found ctx.le text (get_or list i []) found.1).0)
 
 -- a refused build refuses the edit
-pub appended-Refuses : (cause : Option Cause) (built : Result (List ℕ) Cause) (list : List (List ℕ)) → Refuses cause built → Refuses cause (appended built list)
+pub appended-Refuses : (cause : Option Cause) (built : Result (List ℕ) Cause) (list : List (List ℕ)) → Refuses cause built → Refuses cause (list_with_last built list)
 appended-Refuses None built list refuses = tt
-appended-Refuses (Some cause) built list refuses = ap (λ (r : Result (List ℕ) Cause). appended r list) refuses
+appended-Refuses (Some cause) built list refuses = ap (λ (r : Result (List ℕ) Cause). list_with_last r list) refuses
 
-pub placed-Refuses : (cause : Option Cause) (i : ℕ) (built : Result (List ℕ) Cause) (list : List (List ℕ)) → Refuses cause built → Refuses cause (placed i built list)
+pub placed-Refuses : (cause : Option Cause) (i : ℕ) (built : Result (List ℕ) Cause) (list : List (List ℕ)) → Refuses cause built → Refuses cause (list_with_at i built list)
 placed-Refuses None i built list refuses = tt
-placed-Refuses (Some cause) i built list refuses = ap (λ (r : Result (List ℕ) Cause). placed i r list) refuses
+placed-Refuses (Some cause) i built list refuses = ap (λ (r : Result (List ℕ) Cause). list_with_at i r list) refuses
 
 -- an error that names this cause, or none, refuses by it
 pub known-Refuses : (found : Option Cause) (cause : Cause) → IfSome found (λ c. c ≡ cause) → Refuses {X = List (List ℕ)} found (Err cause)

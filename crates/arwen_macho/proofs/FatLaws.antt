@@ -12,19 +12,17 @@ use Rattle.macho_image.specs.declared.format.MachFault.{MachFault}
 use Rattle.macho_image.specs.Checks.{file_fault}
 use Rattle.macho_image.specs.Fat.{AreSlices, archs_of, nfat_arch_of, share_byte, slice_of, table_end, table_fault}
 use Rattle.macho_image.specs.Form.{ctx_of, form_of}
-use Rattle.macho_image.proofs.FileLaws.{form_of-same, found, header_size-least}
-use Rattle.macho_image.proofs.FormLaws.{file_passes}
+use Rattle.macho_image.proofs.ForCallers.{file_passes, form_of-same, found, header_size-least, table_passes}
 use Rattle.arwen_macho.specs.FatHeld.{IsSlice}
-use Rattle.arwen_macho.specs.FatState.{FatState, Slice, fat_laid, laid_over}
+use Rattle.arwen_macho.specs.FatState.{FatState, Slice, fat_laid_bytes, bytes_laid_over}
 use Rattle.arwen_macho.specs.Found.{ARCHIVE, Found, fat_found, found_fault, found_first, slice_found, slices_found}
 use Rattle.arwen_macho.specs.Found.Found.{archive}
 use Rattle.arwen_macho.specs.Shown.{Shows}
-use Rattle.arwen_macho.specs.State.{laid}
+use Rattle.arwen_macho.specs.State.{laid_bytes}
 use Rattle.arwen_macho.proofs.StateLaws.{laid_shows}
 use Rattle.arwen_macho.specs.FatHeld.{IsFatState}
 use Rattle.arwen_macho.specs.FatShown.{FatShows, IsOutside}
 use Rattle.arwen_macho.proofs.SliceLaws.{ApartFrom, AreBehind, AreLaid, AreShown, Lies, OutsideAll, apart_from_share, get_or-laid_over, length-laid_over, shown-laid_over, take-laid_over}
-use Rattle.macho_image.proofs.FatLaws.{table_passes}
 use Rattle.arwen_macho.proofs.TableLaws.{SameTable, archs_same, table_same}
 
 -- a slice in the file, with as many bytes as the table says, and with some
@@ -130,15 +128,15 @@ shown_found old bytes [] are shown = refl
 shown_found old bytes (s ∷ slices) are shown =
     let is = All-head (IsSlice old) s slices are in
     let here : slice_found (slice_of bytes s.arch) ≡ None =
-    ap slice_found shown.0 ∙ accepted_slice (laid s.state) (laid_shows s.state is.is_state).accepted in
+    ap slice_found shown.0 ∙ accepted_slice (laid_bytes s.state) (laid_shows s.state is.is_state).accepted in
     ap (λ (f : Option Found). found_first f (slices_found (map (slice_of bytes) (map (λ s. s.arch) slices)))) here
     ∙ shown_found old bytes slices (All-tail (IsSlice old) s slices are) shown.1
 
 -- from facts by recursion to facts of each
-all_shown : (bytes : List ℕ) (slices : List Slice) → AreShown bytes slices → All (λ s. slice_of bytes s.arch ≡ laid s.state) slices
-all_shown bytes [] shown = All-nil (λ (s : Slice). slice_of bytes s.arch ≡ laid s.state)
+all_shown : (bytes : List ℕ) (slices : List Slice) → AreShown bytes slices → All (λ s. slice_of bytes s.arch ≡ laid_bytes s.state) slices
+all_shown bytes [] shown = All-nil (λ (s : Slice). slice_of bytes s.arch ≡ laid_bytes s.state)
 all_shown bytes (s ∷ slices) shown =
-    All-cons (λ (s : Slice). slice_of bytes s.arch ≡ laid s.state) s slices shown.0 (all_shown bytes slices shown.1)
+    All-cons (λ (s : Slice). slice_of bytes s.arch ≡ laid_bytes s.state) s slices shown.0 (all_shown bytes slices shown.1)
 
 all_shows : (old bytes : List ℕ) (slices : List Slice) → All (IsSlice old) slices → AreShown bytes slices → All (λ s. Shows s.state (slice_of bytes s.arch)) slices
 all_shows old bytes [] are shown = All-nil (λ (s : Slice). Shows s.state (slice_of bytes s.arch))
@@ -162,7 +160,7 @@ table_of s is =
 pub lie_of : (s : FatState) → IsFatState s → AreLaid (length s.old) s.slices
 lie_of s is = laid_slices s.old (table_end (nfat_arch_of s.old)) s.slices is.slices (table_of s is)
 
-same_table : (s : FatState) → IsFatState s → SameTable s.old (laid_over s.slices s.old)
+same_table : (s : FatState) → IsFatState s → SameTable s.old (bytes_laid_over s.slices s.old)
 same_table s is =
     let end : ℕ = table_end (nfat_arch_of s.old) in
     let lie = lie_of s is in
@@ -171,10 +169,10 @@ same_table s is =
       front = take-laid_over end (length s.old) s.slices s.old refl (behind_slices (length s.old) end s.slices (table_of s is)) lie;
     }
 
-pub fat_laid_shows : (s : FatState) → IsFatState s → FatShows s (fat_laid s)
-unfolding fat_laid
+pub fat_laid_shows : (s : FatState) → IsFatState s → FatShows s (fat_laid_bytes s)
+unfolding fat_laid_bytes
 fat_laid_shows s is =
-    let bytes : List ℕ = laid_over s.slices s.old in
+    let bytes : List ℕ = bytes_laid_over s.slices s.old in
     let lie = lie_of s is in
     let same = same_table s is in
     let shown = shown-laid_over (length s.old) s.slices s.old refl lie in

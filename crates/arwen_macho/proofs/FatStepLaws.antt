@@ -13,22 +13,20 @@ use Rattle.arwen_macho.specs.declared.error.MachoError.{MachoError}
 use Rattle.arwen_macho.specs.declared.error.MachoError.TheVariants.{CommandBuilderError, DylibIdMissing, DylibNameMissing, Memory, NoRoom, Parsing, RpathMissing, UnixArchive}
 use Rattle.arwen_macho.specs.Batch.{RefusesAt}
 use Rattle.arwen_macho.specs.Call.{Call, Cause}
-use Rattle.arwen_macho.specs.Change.{IsChangeOf, changed}
+use Rattle.arwen_macho.specs.Change.{IsChangeOf, changed_file}
 use Rattle.arwen_macho.specs.FatHeld.{IsSlice}
-use Rattle.arwen_macho.specs.FatState.{FatState, Slice, fat_laid, fat_step, first_fat_state, first_slice, joined_step, laid_over, put_at, step_slices, with_slices}
+use Rattle.arwen_macho.specs.FatState.{FatState, Slice, fat_laid_bytes, fat_step, first_fat_state, first_slice, joined_step, bytes_laid_over, put_at, step_slices, with_slices}
 use Rattle.arwen_macho.specs.Found.{Finds, Found, fat_found, found_fault, found_first, slice_found, slices_found}
-use Rattle.arwen_macho.specs.Held.{RefusesStep}
-use Rattle.arwen_macho.specs.State.{Refusal, State, first_state, laid, step}
+use Rattle.arwen_macho.specs.State.{Refusal, State, first_state, laid_bytes, step}
 use Rattle.arwen_macho.specs.Whole.{IsState}
 use Rattle.arwen_macho.proofs.ChangeLaws.{changed_is}
 use Rattle.arwen_macho.proofs.StateLaws.{first_is, first_laid, laid_shows}
 use Rattle.arwen_macho.specs.FatChange.{changed_slice, changed_slices, held_slice}
 use Rattle.arwen_macho.specs.FatHeld.{IsFatState}
-use Rattle.arwen_macho.specs.FatSlice.{IsReadyIn, IsStepOf, changed_macho, changed_machos, slice_held}
-use Rattle.arwen_macho.specs.declared.fat.FatMacho.{FatMacho}
+use Rattle.arwen_macho.specs.FatSlice.{HeldSlice, IsReadyIn, IsStepIn, changed_macho, changed_machos, slice_held}
 use Rattle.arwen_macho.proofs.FatLaws.{accepted_parts, none_first, slice_accepted}
 use Rattle.arwen_macho.proofs.SliceLaws.{AreLaid}
-use Rattle.macho_image.proofs.FatLaws.{table_passes}
+use Rattle.macho_image.proofs.ForCallers.{table_passes}
 
 -- one more at the end of both lists
 pub AllZip_push : {A B : Type 0} (R : A → B → Type 0) (xs : List A) (ys : List B) (x : A) (y : B) → AllZip R xs ys → R x y → AllZip R (xs ++ x ∷ []) (ys ++ y ∷ [])
@@ -38,13 +36,13 @@ AllZip_push R (a ∷ xs) [] x y all here = absurd all
 AllZip_push R (a ∷ xs) (b ∷ ys) x y all here = (all.0, AllZip_push R xs ys x y all.1 here)
 
 -- changes that do what the calls do are the step of the slices
-pub step_all : (calls : List Call) (slices : List FatMacho) (changes : List Change) → AllZip (IsStepOf calls) slices changes → step_slices calls (map slice_held slices) ≡ Ok (map slice_held (changed_machos slices changes))
+pub step_all : (calls : List Call) (slices : List HeldSlice) (changes : List Change) → AllZip (IsStepIn calls) slices changes → step_slices calls (map slice_held slices) ≡ Ok (map slice_held (changed_machos slices changes))
 step_all calls [] [] steps = refl
 step_all calls [] (change ∷ changes) steps = absurd steps
 step_all calls (m ∷ slices) [] steps = absurd steps
 step_all calls (m ∷ slices) (change ∷ changes) steps =
     ap (λ (r : Result State Refusal). joined_step (slice_held m) r (step_slices calls (map slice_held slices))) steps.0.steps
-    ∙ ap (joined_step (slice_held m) (Ok (changed m.inner change).state)) (step_all calls slices changes steps.1)
+    ∙ ap (joined_step (slice_held m) (Ok (changed_file m.inner change).state)) (step_all calls slices changes steps.1)
 
 -- a slice that refuses behind slices that don't refuses the step
 refused_here : (s : Slice) (Q : Refusal → Type 0) (answer : Result State Refusal) (rest : Result (List Slice) Refusal) → IsErrAnd answer Q → IsErrAnd (joined_step s answer rest) Q
@@ -55,19 +53,14 @@ refused_behind : (s : Slice) (state : State) (Q : Refusal → Type 0) (rest : Re
 refused_behind s state Q (Ok slices) refuses = absurd refuses
 refused_behind s state Q (Err refusal) refuses = refuses
 
-refused_at : (calls : List Call) (Q : Refusal → Type 0) (front : List FatMacho) (changes : List Change) (m : FatMacho) (rest : List FatMacho) → AllZip (IsStepOf calls) front changes → IsErrAnd (step calls m.inner.state) Q → IsErrAnd (step_slices calls (map slice_held (front ++ m ∷ rest))) Q
+refused_at : (calls : List Call) (Q : Refusal → Type 0) (front : List HeldSlice) (changes : List Change) (m : HeldSlice) (rest : List HeldSlice) → AllZip (IsStepIn calls) front changes → IsErrAnd (step calls m.inner.state) Q → IsErrAnd (step_slices calls (map slice_held (front ++ m ∷ rest))) Q
 refused_at calls Q [] changes m rest steps refuses =
     refused_here (slice_held m) Q (step calls m.inner.state) (step_slices calls (map slice_held rest)) refuses
 refused_at calls Q (n ∷ front) [] m rest steps refuses = absurd steps
 refused_at calls Q (n ∷ front) (change ∷ changes) m rest steps refuses =
     let P : Result State Refusal → Type 0 = λ r. IsErrAnd (joined_step (slice_held n) r (step_slices calls (map slice_held (front ++ m ∷ rest)))) Q in
     subst P (sym steps.0.steps)
-    (refused_behind (slice_held n) (changed n.inner change).state Q (step_slices calls (map slice_held (front ++ m ∷ rest))) (refused_at calls Q front changes m rest steps.1 refuses))
-
-pub refuses_once : (calls : List Call) (found : Option Cause) (front : List FatMacho) (changes : List Change) (m : FatMacho) (rest : List FatMacho) → AllZip (IsStepOf calls) front changes → RefusesStep found (step calls m.inner.state) → RefusesStep found (step_slices calls (map slice_held (front ++ m ∷ rest)))
-refuses_once calls None front changes m rest steps refuses = tt
-refuses_once calls (Some cause) front changes m rest steps refuses =
-    refused_at calls (λ refusal. refusal.cause ≡ cause) front changes m rest steps refuses
+    (refused_behind (slice_held n) (changed_file n.inner change).state Q (step_slices calls (map slice_held (front ++ m ∷ rest))) (refused_at calls Q front changes m rest steps.1 refuses))
 
 is_err_and : {X : Type 0} (answer : Result X Refusal) (refusal : Refusal) → answer ≡ Err refusal → IsErrAnd answer (λ r. r ≡ refusal)
 is_err_and (Ok x) refusal e = absurd (cc)
@@ -77,7 +70,7 @@ err_is : {X : Type 0} (answer : Result X Refusal) (refusal : Refusal) → IsErrA
 err_is (Ok x) refusal is = absurd is
 err_is (Err r) refusal is = ap (λ (r : Refusal). Err r) is
 
-pub refuses_batch : (calls : List Call) (index : ℕ) (found : Option Cause) (front : List FatMacho) (changes : List Change) (m : FatMacho) (rest : List FatMacho) → AllZip (IsStepOf calls) front changes → RefusesAt index found (step calls m.inner.state) → RefusesAt index found (step_slices calls (map slice_held (front ++ m ∷ rest)))
+pub refuses_batch : (calls : List Call) (index : ℕ) (found : Option Cause) (front : List HeldSlice) (changes : List Change) (m : HeldSlice) (rest : List HeldSlice) → AllZip (IsStepIn calls) front changes → RefusesAt index found (step calls m.inner.state) → RefusesAt index found (step_slices calls (map slice_held (front ++ m ∷ rest)))
 refuses_batch calls index None front changes m rest steps refuses = tt
 refuses_batch calls index (Some cause) front changes m rest steps refuses =
     let refusal : Refusal = record { index = index; cause = cause } in
@@ -88,15 +81,6 @@ refuses_batch calls index (Some cause) front changes m rest steps refuses =
 pub fat_step_ok : (calls : List Call) (s : FatState) (slices : List Slice) → step_slices calls s.slices ≡ Ok slices → fat_step calls s ≡ Ok (record { old = s.old; slices = slices })
 unfolding fat_step
 fat_step_ok calls s slices steps = ap (with_slices s.old) steps
-
-with_refused : (old : List ℕ) (found : Option Cause) (answer : Result (List Slice) Refusal) → RefusesStep found answer → RefusesStep found (with_slices old answer)
-with_refused old None answer refuses = tt
-with_refused old (Some cause) (Ok slices) refuses = absurd refuses
-with_refused old (Some cause) (Err refusal) refuses = refuses
-
-pub fat_step_refused : (calls : List Call) (s : FatState) (found : Option Cause) → RefusesStep found (step_slices calls s.slices) → RefusesStep found (fat_step calls s)
-unfolding fat_step
-fat_step_refused calls s found refuses = with_refused s.old found (step_slices calls s.slices) refuses
 
 pub fat_batch_refused : (calls : List Call) (s : FatState) (index : ℕ) (found : Option Cause) → RefusesAt index found (step_slices calls s.slices) → RefusesAt index found (fat_step calls s)
 unfolding fat_step
@@ -115,50 +99,50 @@ pub fat_step-nil : (s : FatState) → ((s : State) → IsState s → step [] s �
 fat_step-nil s none is = fat_step_ok [] s s.slices (steps-nil s.old s.slices none is.slices)
 
 -- the changes as callers see them, and as the fields hold them
-pub changes_shown : (calls : List Call) (is_edited : Bool) (slices : List FatMacho) (changes : List Change) → All (λ m. m.inner.is_edited ≡ is_edited) slices → AllZip (IsStepOf calls) slices changes → AllZip (λ s change. IsChangeOf (held_slice is_edited s) change) (map slice_held slices) changes
+pub changes_shown : (calls : List Call) (is_edited : Bool) (slices : List HeldSlice) (changes : List Change) → All (λ m. m.inner.is_edited ≡ is_edited) slices → AllZip (IsStepIn calls) slices changes → AllZip (λ s change. IsChangeOf (held_slice is_edited s) change) (map slice_held slices) changes
 changes_shown calls is_edited [] [] copies steps = tt
 changes_shown calls is_edited [] (change ∷ changes) copies steps = absurd steps
 changes_shown calls is_edited (m ∷ slices) [] copies steps = absurd steps
 changes_shown calls is_edited (m ∷ slices) (change ∷ changes) copies steps =
-    let here : m.inner.is_edited ≡ is_edited = All-head (λ (m : FatMacho). m.inner.is_edited ≡ is_edited) m slices copies in
+    let here : m.inner.is_edited ≡ is_edited = All-head (λ (m : HeldSlice). m.inner.is_edited ≡ is_edited) m slices copies in
     let P : Bool → Type 0 = λ e. IsChangeOf (record { state = m.inner.state; is_edited = e }) change in
-    (subst P here steps.0.of, changes_shown calls is_edited slices changes (All-tail (λ (m : FatMacho). m.inner.is_edited ≡ is_edited) m slices copies) steps.1)
+    (subst P here steps.0.of, changes_shown calls is_edited slices changes (All-tail (λ (m : HeldSlice). m.inner.is_edited ≡ is_edited) m slices copies) steps.1)
 
-pub changes_ready : (old : List ℕ) (len : ℕ) (is_edited : Bool) (slices : List FatMacho) (changes : List Change) → All (λ m. m.inner.is_edited ≡ is_edited) slices → All (IsSlice old) (map slice_held slices) → AreLaid len (map slice_held slices) → AllZip (λ s change. IsChangeOf (held_slice is_edited s) change) (map slice_held slices) changes → AllZip (IsReadyIn len) slices changes
+pub changes_ready : (old : List ℕ) (len : ℕ) (is_edited : Bool) (slices : List HeldSlice) (changes : List Change) → All (λ m. m.inner.is_edited ≡ is_edited) slices → All (IsSlice old) (map slice_held slices) → AreLaid len (map slice_held slices) → AllZip (λ s change. IsChangeOf (held_slice is_edited s) change) (map slice_held slices) changes → AllZip (IsReadyIn len) slices changes
 changes_ready old len is_edited [] [] copies are lie of = tt
 changes_ready old len is_edited [] (change ∷ changes) copies are lie of = absurd of
 changes_ready old len is_edited (m ∷ slices) [] copies are lie of = absurd of
 changes_ready old len is_edited (m ∷ slices) (change ∷ changes) copies are lie of =
     let rest : List Slice = map slice_held slices in
     let is : IsSlice old (slice_held m) = All-head (IsSlice old) (slice_held m) rest are in
-    let same : m.inner.is_edited ≡ is_edited = All-head (λ (m : FatMacho). m.inner.is_edited ≡ is_edited) m slices copies in
+    let same : m.inner.is_edited ≡ is_edited = All-head (λ (m : HeldSlice). m.inner.is_edited ≡ is_edited) m slices copies in
     let P : Bool → Type 0 = λ e. IsChangeOf (record { state = m.inner.state; is_edited = e }) change in
     let inside = lie.0.inside in
-    let sized : length (laid m.inner.state) ≡ m.arch.size = lie.0.long in
-    let long : length (laid m.inner.state) ≡ length m.inner.state.old = (laid_shows m.inner.state is.is_state).long in (
+    let sized : length (laid_bytes m.inner.state) ≡ m.arch.size = lie.0.long in
+    let long : length (laid_bytes m.inner.state) ≡ length m.inner.state.old = (laid_shows m.inner.state is.is_state).long in (
       record { of = subst P (sym same) of.0; is_state = is.is_state; inside = omega arith },
-      changes_ready old len is_edited slices changes (All-tail (λ (m : FatMacho). m.inner.is_edited ≡ is_edited) m slices copies) (All-tail (IsSlice old) (slice_held m) rest are) lie.1.1 of.1,
+      changes_ready old len is_edited slices changes (All-tail (λ (m : HeldSlice). m.inner.is_edited ≡ is_edited) m slices copies) (All-tail (IsSlice old) (slice_held m) rest are) lie.1.1 of.1,
     )
 
-pub changed_shown : (slices : List FatMacho) (changes : List Change) → map slice_held (changed_machos slices changes) ≡ changed_slices (map slice_held slices) changes
+pub changed_shown : (slices : List HeldSlice) (changes : List Change) → map slice_held (changed_machos slices changes) ≡ changed_slices (map slice_held slices) changes
 changed_shown [] changes = refl
 changed_shown (m ∷ slices) [] = refl
 changed_shown (m ∷ slices) (change ∷ changes) = ap (λ (rest : List Slice). changed_slice (slice_held m) change ∷ rest) (changed_shown slices changes)
 
 -- after all changes every slice's bytes are a copy
-pub copies_changed : (len : ℕ) (slices : List FatMacho) (changes : List Change) → AllZip (IsReadyIn len) slices changes → All (λ m. m.inner.is_edited ≡ true) (changed_machos slices changes)
-copies_changed len [] changes ready = All-nil (λ (m : FatMacho). m.inner.is_edited ≡ true)
+pub copies_changed : (len : ℕ) (slices : List HeldSlice) (changes : List Change) → AllZip (IsReadyIn len) slices changes → All (λ m. m.inner.is_edited ≡ true) (changed_machos slices changes)
+copies_changed len [] changes ready = All-nil (λ (m : HeldSlice). m.inner.is_edited ≡ true)
 copies_changed len (m ∷ slices) [] ready = absurd ready
 copies_changed len (m ∷ slices) (change ∷ changes) ready =
-    All-cons (λ (m : FatMacho). m.inner.is_edited ≡ true) (changed_macho m change) (changed_machos slices changes) refl (copies_changed len slices changes ready.1)
+    All-cons (λ (m : HeldSlice). m.inner.is_edited ≡ true) (changed_macho m change) (changed_machos slices changes) refl (copies_changed len slices changes ready.1)
 
 -- the state with its changes carried out
-archs_changed : (slices : List FatMacho) (changes : List Change) → map (λ s. s.arch) (map slice_held (changed_machos slices changes)) ≡ map (λ s. s.arch) (map slice_held slices)
+archs_changed : (slices : List HeldSlice) (changes : List Change) → map (λ s. s.arch) (map slice_held (changed_machos slices changes)) ≡ map (λ s. s.arch) (map slice_held slices)
 archs_changed [] changes = refl
 archs_changed (m ∷ slices) [] = refl
 archs_changed (m ∷ slices) (change ∷ changes) = ap (λ (archs : List FatArch). m.arch ∷ archs) (archs_changed slices changes)
 
-slices_changed : (old : List ℕ) (len : ℕ) (slices : List FatMacho) (changes : List Change) → All (IsSlice old) (map slice_held slices) → AllZip (IsReadyIn len) slices changes → All (IsSlice old) (map slice_held (changed_machos slices changes))
+slices_changed : (old : List ℕ) (len : ℕ) (slices : List HeldSlice) (changes : List Change) → All (IsSlice old) (map slice_held slices) → AllZip (IsReadyIn len) slices changes → All (IsSlice old) (map slice_held (changed_machos slices changes))
 slices_changed old len [] changes are ready = All-nil (IsSlice old)
 slices_changed old len (m ∷ slices) [] are ready = are
 slices_changed old len (m ∷ slices) (change ∷ changes) are ready =
@@ -168,7 +152,7 @@ slices_changed old len (m ∷ slices) (change ∷ changes) are ready =
     (record { from = is.from; is_state = changed_is m.inner change is.is_state ready.0.of })
     (slices_changed old len slices changes (All-tail (IsSlice old) (slice_held m) rest are) ready.1)
 
-pub fat_changed_is : (old : List ℕ) (len : ℕ) (slices : List FatMacho) (changes : List Change) → IsFatState (record { old = old; slices = map slice_held slices }) → AllZip (IsReadyIn len) slices changes → IsFatState (record { old = old; slices = map slice_held (changed_machos slices changes) })
+pub fat_changed_is : (old : List ℕ) (len : ℕ) (slices : List HeldSlice) (changes : List Change) → IsFatState (record { old = old; slices = map slice_held slices }) → AllZip (IsReadyIn len) slices changes → IsFatState (record { old = old; slices = map slice_held (changed_machos slices changes) })
 fat_changed_is old len slices changes is ready = record {
   accepted = is.accepted;
   archs = archs_changed slices changes ∙ is.archs;
@@ -189,15 +173,15 @@ slice_bytes : (old : List ℕ) (a : FatArch) → AreBytes old → AreBytes (slic
 slice_bytes old a bytes = AreBytes-take a.size (drop a.offset old) (AreBytes-drop a.offset old bytes)
 
 -- the slices of a file as it is read are its bytes
-first_over : (old : List ℕ) (archs : List FatArch) → AreBytes old → All (λ a. a.offset + a.size ≤ length old) archs → slices_found (map (slice_of old) archs) ≡ None → laid_over (map (first_slice old) archs) old ≡ old
+first_over : (old : List ℕ) (archs : List FatArch) → AreBytes old → All (λ a. a.offset + a.size ≤ length old) archs → slices_found (map (slice_of old) archs) ≡ None → bytes_laid_over (map (first_slice old) archs) old ≡ old
 first_over old [] bytes inside none = refl
 first_over old (a ∷ archs) bytes inside none =
     let parts = none_first (slice_found (slice_of old a)) (slices_found (map (slice_of old) archs)) none in
     let accepted : file_fault (slice_of old a) ≡ None = slice_accepted (slice_of old a) parts.0 in
-    let own : laid (first_state (slice_of old a)) ≡ slice_of old a = first_laid (slice_of old a) accepted (slice_bytes old a bytes) in
+    let own : laid_bytes (first_state (slice_of old a)) ≡ slice_of old a = first_laid (slice_of old a) accepted (slice_bytes old a bytes) in
     let room = All-head (λ (a : FatArch). a.offset + a.size ≤ length old) a archs inside in
-    let same : put_at a.offset (laid (first_state (slice_of old a))) old ≡ old = ap (λ (part : List ℕ). put_at a.offset part old) own ∙ put_at-same a.offset a.size old room in
-    ap (laid_over (map (first_slice old) archs)) same
+    let same : put_at a.offset (laid_bytes (first_state (slice_of old a))) old ≡ old = ap (λ (part : List ℕ). put_at a.offset part old) own ∙ put_at-same a.offset a.size old room in
+    ap (bytes_laid_over (map (first_slice old) archs)) same
     ∙ first_over old archs bytes (All-tail (λ (a : FatArch). a.offset + a.size ≤ length old) a archs inside) parts.1
 
 first_archs : (old : List ℕ) (archs : List FatArch) → map (λ s. s.arch) (map (first_slice old) archs) ≡ archs
@@ -223,8 +207,8 @@ first_fat_is old accepted bytes = record {
   slices = first_slices old (archs_of old) bytes (accepted_parts old accepted).1;
 }
 
-pub first_fat_laid : (old : List ℕ) → fat_found old ≡ None → AreBytes old → fat_laid (first_fat_state old) ≡ old
-unfolding first_fat_state fat_laid
+pub first_fat_laid : (old : List ℕ) → fat_found old ≡ None → AreBytes old → fat_laid_bytes (first_fat_state old) ≡ old
+unfolding first_fat_state fat_laid_bytes
 first_fat_laid old accepted bytes =
     let parts = accepted_parts old accepted in
     first_over old (archs_of old) bytes (table_passes old parts.0).3.inside parts.1

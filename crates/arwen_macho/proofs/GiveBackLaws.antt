@@ -8,17 +8,18 @@ use Rattle.std.proofs.lemmas.List.{append-nil, append_assoc, append_cancel_left,
 use Rattle.std.proofs.lemmas.List.Elements.{All-head, All-tail}
 use Rattle.std.proofs.lemmas.List.Folds.{concat-append}
 use Rattle.std.proofs.lemmas.Slice.Eq.{bytes_eq-Decides}
+use Rattle.macho_image.specs.Stored.{Fits, header_with}
 use Rattle.macho_image.specs.declared.command.TheConstants.{LC_RPATH}
 use Rattle.macho_image.specs.declared.format.Ctx.{Ctx}
 use Rattle.macho_image.specs.Command.{cmd_of, text_of}
 use Rattle.macho_image.specs.Form.{ctx_of}
-use Rattle.macho_image.proofs.StoredParts.{Fits, header_with, length-header_with, with_area-parts}
+use Rattle.macho_image.proofs.ForCallers.{length-header_with, with_area-parts}
 use Rattle.arwen_macho.specs.Built.{built_size, rpath_built}
 use Rattle.arwen_macho.specs.Call.{Cause}
 use Rattle.arwen_macho.specs.Call.Call.{add_rpath, remove_rpath}
-use Rattle.arwen_macho.specs.Edited.{appended, edited, is_rpath_named}
-use Rattle.arwen_macho.specs.Laws.{BatchGivesBack, GivesBack, LacksRpath, RemoveGivesBack, pad_taken, taken}
-use Rattle.arwen_macho.specs.State.{Refusal, State, answered, available, edited_by, end_of, fitted, laid, step, then_on}
+use Rattle.arwen_macho.specs.Edited.{list_with_last, edited_list, is_rpath_named}
+use Rattle.arwen_macho.specs.Laws.{BatchGivesBack, GivesBack, LacksRpath, RemoveGivesBack, pad_taken, taken_size}
+use Rattle.arwen_macho.specs.State.{Refusal, State, answer_at, available, edited_by, end_of, fitted_state, laid_bytes, step, then_on}
 use Rattle.arwen_macho.specs.Whole.{IsState}
 use Rattle.arwen_macho.proofs.BuiltLaws.{HoldsText-rpath_built, built_size-above, length-built_rpath, rpath_built-at_ok}
 use Rattle.arwen_macho.proofs.StateLaws.{edited_by-more, edited_by-one, step-fits}
@@ -105,12 +106,12 @@ is_named ctx text c built =
     rw (long, kind, same) refl
 
 -- the two edits of the list
-add_edits : (ctx : Ctx) (text c : List ℕ) (list : List (List ℕ)) → rpath_built ctx text ≡ Ok c → edited ctx (add_rpath text) list ≡ Ok (list ++ c ∷ [])
-unfolding edited
+add_edits : (ctx : Ctx) (text c : List ℕ) (list : List (List ℕ)) → rpath_built ctx text ≡ Ok c → edited_list ctx (add_rpath text) list ≡ Ok (list ++ c ∷ [])
+unfolding edited_list
 add_edits ctx text c list built = rw built refl
 
-remove_edits : (ctx : Ctx) (text c : List ℕ) (list : List (List ℕ)) → All (λ c. is_rpath_named ctx.le text c ≡ false) list → rpath_built ctx text ≡ Ok c → edited ctx (remove_rpath text) (list ++ c ∷ []) ≡ Ok list
-unfolding edited
+remove_edits : (ctx : Ctx) (text c : List ℕ) (list : List (List ℕ)) → All (λ c. is_rpath_named ctx.le text c ≡ false) list → rpath_built ctx text ≡ Ok c → edited_list ctx (remove_rpath text) (list ++ c ∷ []) ≡ Ok list
+unfolding edited_list
 remove_edits ctx text c list lacks built =
     let place : position (is_rpath_named ctx.le text) (list ++ c ∷ []) ≡ Some (length list) = position_last (is_rpath_named ctx.le text) list c lacks (is_named ctx text c built) in
     rw place (ap (λ (l : List (List ℕ)). Ok l) (remove_last list c))
@@ -129,8 +130,8 @@ abbrev with_command : State → List ℕ → State
 with_command s c = record { old = s.old; list = s.list ++ c ∷ []; high = max s.high (end_of (ctx_of s.old) (s.list ++ c ∷ [])) }
 
 -- what an accepted addition says
-added_from : (s added : State) (built : Result (List ℕ) Cause) → fitted 1 s (then_on (answered 0 (appended built s.list)) (λ next. Ok next)) ≡ Ok added → (c : List ℕ) × (built ≡ Ok c) × (added ≡ with_command s c)
-unfolding fitted
+added_from : (s added : State) (built : Result (List ℕ) Cause) → fitted_state 1 s (then_on (answer_at 0 (list_with_last built s.list)) (λ next. Ok next)) ≡ Ok added → (c : List ℕ) × (built ≡ Ok c) × (added ≡ with_command s c)
+unfolding fitted_state
 added_from s added (Err cause) e = absurd (cc)
 added_from s added (Ok c) e =
     elim (cases_Bool (nat_le (end_of (ctx_of s.old) (s.list ++ c ∷ [])) (available s))) [
@@ -139,15 +140,15 @@ added_from s added (Ok c) e =
     ]
 
 added_by : (s added : State) (text : List ℕ) → step (add_rpath text ∷ []) s ≡ Ok added → (c : List ℕ) × (rpath_built (ctx_of s.old) text ≡ Ok c) × (added ≡ with_command s c)
-unfolding step edited
+unfolding step edited_list
 added_by s added text e = added_from s added (rpath_built (ctx_of s.old) text) e
 
 -- a state's bytes up to the commands' end, and those behind it
 abbrev front_of : State → List ℕ
 front_of s = header_with (ctx_of s.old) s.old (length s.list) (length (concat s.list)) ++ concat s.list
 
-laid_parts : (s : State) → laid s ≡ front_of s ++ (replicate (s.high - end_of (ctx_of s.old) s.list) 0 ++ drop s.high s.old)
-unfolding laid
+laid_parts : (s : State) → laid_bytes s ≡ front_of s ++ (replicate (s.high - end_of (ctx_of s.old) s.list) 0 ++ drop s.high s.old)
+unfolding laid_bytes
 laid_parts s =
     with_area-parts (ctx_of s.old) s.old (length s.list) (concat s.list) s.high
     ∙ sym (append_assoc (header_with (ctx_of s.old) s.old (length s.list) (length (concat s.list))) (concat s.list) (replicate (s.high - end_of (ctx_of s.old) s.list) 0 ++ drop s.high s.old))
@@ -173,11 +174,11 @@ removes s text c is lacks built =
     (edited_by-one (ctx_of s.old) (remove_rpath text) (s.list ++ c ∷ []) s.list (remove_edits (ctx_of s.old) text c s.list lacks built))
     (omega arith)
 
-bytes_back : (s : State) (c : List ℕ) → IsState s → (laid (left_by s c) ≡ laid s) ↔ (pad_taken s (s.list ++ c ∷ []) ≡ replicate (taken s (s.list ++ c ∷ [])) 0)
+bytes_back : (s : State) (c : List ℕ) → IsState s → (laid_bytes (left_by s c) ≡ laid_bytes s) ↔ (pad_taken s (s.list ++ c ∷ []) ≡ replicate (taken_size s (s.list ++ c ∷ [])) 0)
 bytes_back s c is =
     let less = longer (ctx_of s.old) s.list c in
     rw (laid_parts (left_by s c), laid_parts s)
-    (further (front_of s) s.old (end_of (ctx_of s.old) s.list) s.high (left_by s c).high (taken s (s.list ++ c ∷ [])) (length-front s is) is.low (omega arith))
+    (further (front_of s) s.old (end_of (ctx_of s.old) s.list) s.high (left_by s c).high (taken_size s (s.list ++ c ∷ [])) (length-front s is) is.low (omega arith))
 
 pub remove_gives_back : RemoveGivesBack
 remove_gives_back s added text is lacks e =

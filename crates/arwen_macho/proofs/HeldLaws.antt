@@ -10,11 +10,11 @@ use Rattle.macho_image.specs.Image.{Image, with_area}
 use Rattle.patch_bytes.specs.Bytes.{AreBytes}
 use Rattle.arwen_macho.specs.declared.change.Change.{Change}
 use Rattle.arwen_macho.specs.declared.macho.SingleMachO.TheInside.{Inside}
-use Rattle.arwen_macho.specs.Change.{IsChangeOf, changed}
+use Rattle.arwen_macho.specs.Change.{IsChangeOf, changed_file}
 use Rattle.arwen_macho.specs.Held.{Held, first_held, image_held}
 use Rattle.arwen_macho.specs.HeldBy.{IsHeld, held_of}
-use Rattle.arwen_macho.specs.State.{available, end_of, first_state, laid}
-use Rattle.arwen_macho.specs.Whole.{IsState, Keeps}
+use Rattle.arwen_macho.specs.State.{available, end_of, first_state, laid_bytes}
+use Rattle.arwen_macho.specs.Whole.{IsState, KeepsContents}
 use Rattle.arwen_macho.proofs.ChangeLaws.{available_shown, change_bytes, changed_held, changed_is, kept_fault}
 use Rattle.arwen_macho.proofs.StateLaws.{available-le, first_is, first_laid, laid_shows}
 
@@ -23,25 +23,25 @@ abbrev pub with_image : Inside → Image → ℕ → Inside
 with_image s image high = record s { inner = image; high = high }
 
 -- what is true of fields that show a state with these bytes
-is_held : (s : Inside) (held : Held) → held_of s ≡ held → IsState held.state → s.inner.bytes ≡ laid held.state → IsHeld s
+is_held : (s : Inside) (held : Held) → held_of s ≡ held → IsState held.state → s.inner.bytes ≡ laid_bytes held.state → IsHeld s
 is_held s held same is bytes =
     let P : Held → Type 0 = λ h. IsState h.state in
     record {
       is_state = subst P (sym same) is;
-      bytes = bytes ∙ ap (λ (h : Held). laid h.state) (sym same);
+      bytes = bytes ∙ ap (λ (h : Held). laid_bytes h.state) (sym same);
     }
 
 -- after a change is stored, the fields show the changed file
-pub changed_fields : (s : Inside) (change : Change) (new : Image) → IsHeld s → IsChangeOf (held_of s) change → new ≡ record { bytes = with_area (ctx_of s.inner.bytes) s.inner.bytes change.prepared.count change.prepared.area change.high; is_edited = true } → (held_of (with_image s new change.high) ≡ changed (held_of s) change) × IsHeld (with_image s new change.high)
+pub changed_fields : (s : Inside) (change : Change) (new : Image) → IsHeld s → IsChangeOf (held_of s) change → new ≡ record { bytes = with_area (ctx_of s.inner.bytes) s.inner.bytes change.prepared.count change.prepared.area change.high; is_edited = true } → (held_of (with_image s new change.high) ≡ changed_file (held_of s) change) × IsHeld (with_image s new change.high)
 changed_fields s change new is of stored =
-    let over : with_area (ctx_of s.inner.bytes) s.inner.bytes change.prepared.count change.prepared.area change.high ≡ laid (changed (held_of s) change).state =
+    let over : with_area (ctx_of s.inner.bytes) s.inner.bytes change.prepared.count change.prepared.area change.high ≡ laid_bytes (changed_file (held_of s) change).state =
     ap (λ (bytes : List ℕ). with_area (ctx_of bytes) bytes change.prepared.count change.prepared.area change.high) is.bytes ∙ change_bytes (held_of s) change is.is_state of in
-    let bytes : new.bytes ≡ laid (changed (held_of s) change).state = ap (λ (i : Image). i.bytes) stored ∙ over in
+    let bytes : new.bytes ≡ laid_bytes (changed_file (held_of s) change).state = ap (λ (i : Image). i.bytes) stored ∙ over in
     let edited : new.is_edited ≡ true = ap (λ (i : Image). i.is_edited) stored in
-    let same : held_of (with_image s new change.high) ≡ changed (held_of s) change =
+    let same : held_of (with_image s new change.high) ≡ changed_file (held_of s) change =
     ap (λ (e : Bool). record { state = record { old = s.source.now; list = commands_of new.bytes; high = change.high }; is_edited = e }) edited
     ∙ changed_held (held_of s) change new.bytes is.is_state of bytes in
-    (same, is_held (with_image s new change.high) (changed (held_of s) change) same (changed_is (held_of s) change is.is_state of) bytes)
+    (same, is_held (with_image s new change.high) (changed_file (held_of s) change) same (changed_is (held_of s) change is.is_state of) bytes)
 
 -- a file as it is parsed
 pub first_fields : (s : Inside) → file_fault s.source.now ≡ None → AreBytes s.source.now → s.inner ≡ record { bytes = s.source.now; is_edited = false } → s.high ≡ commands_end (ctx_of s.source.now) s.source.now → (held_of s ≡ first_held s.source.now) × IsHeld s
@@ -66,25 +66,6 @@ end_is s ctx header size commands is form header_is size_is =
 pub available_is : (s : Inside) → IsHeld s → max (commands_end (ctx_of s.inner.bytes) s.inner.bytes) (first_content_of s.inner.bytes) ≡ available (held_of s).state
 available_is s is =
     ap (λ (bytes : List ℕ). max (commands_end (ctx_of bytes) bytes) (first_content_of bytes)) is.bytes ∙ available_shown (held_of s).state is.is_state
-
--- the parsed file is that of the state
-pub image_is : (s : Inside) → IsHeld s → s.inner ≡ image_held (held_of s)
-image_is s is = ap (λ (bytes : List ℕ). record { bytes = bytes; is_edited = s.inner.is_edited }) is.bytes
-
--- a list of so many bytes fits the file where it ends in time
-pub fits_inside : (s : Inside) (commands : List (List ℕ)) → IsHeld s → end_of (ctx_of (held_of s).state.old) commands ≤ available (held_of s).state → header_size (ctx_of s.inner.bytes).container + length (concat commands) ≤ length s.inner.bytes
-fits_inside s commands is room =
-    let shows = laid_shows (held_of s).state is.is_state in
-    let wide : header_size (ctx_of s.inner.bytes).container ≡ header_size (ctx_of s.source.now).container = ap (λ (bytes : List ℕ). header_size (ctx_of bytes).container) is.bytes ∙ ap (λ (c : Ctx). header_size c.container) shows.form in
-    let long : length s.inner.bytes ≡ length s.source.now = ap length is.bytes ∙ shows.long in
-    let most = available-le (held_of s).state is.is_state in
-    omega arith
-
--- and the area has no fault in the form that the file shows
-pub area_fits : (s : Inside) (commands : List (List ℕ)) → IsHeld s → Keeps (ctx_of (held_of s).state.old).le (held_of s).state.list commands → area_fault (ctx_of s.inner.bytes).le (length commands) (concat commands) ≡ None
-area_fits s commands is keeps =
-    let form : ctx_of s.inner.bytes ≡ ctx_of s.source.now = ap ctx_of is.bytes ∙ (laid_shows (held_of s).state is.is_state).form in
-    ap (λ (ctx : Ctx). area_fault ctx.le (length commands) (concat commands)) form ∙ kept_fault (ctx_of s.source.now) (held_of s).state.list commands keeps
 
 -- a list that the test lets pass ends in time
 pub ends_inside : (s : Inside) (ctx : Ctx) (header size : ℕ) (commands : List (List ℕ)) → IsHeld s → ctx ≡ ctx_of s.inner.bytes → header ≡ header_size ctx.container → size ≡ length (concat commands) → true ≡ nat_le (header + size) (max (commands_end (ctx_of s.inner.bytes) s.inner.bytes) (first_content_of s.inner.bytes)) → end_of (ctx_of (held_of s).state.old) commands ≤ available (held_of s).state

@@ -19,5 +19,8 @@ pub mod RowLaws
 pub mod ShorterLaws
 pub mod StateLaws
 pub mod StepLaws
+pub mod StatesLaws
+pub mod FatGiveBackLaws
+pub mod ForCallers
 pub mod TableLaws
 pub mod ShapeLaws

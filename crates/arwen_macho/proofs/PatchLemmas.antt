@@ -4,14 +4,13 @@ use Rattle.std.proofs.lemmas.List.{append_assoc, drop-append-le, drop-drop, drop
 use Rattle.patch_bytes.specs.declared.number.ByteOrder2.{ByteOrder2}
 use Rattle.patch_bytes.specs.Number.{bytes_of, with_number}
 use Rattle.patch_bytes.proofs.NumberLaws.{length-bytes_of}
+use Rattle.macho_image.specs.Stored.{Fits}
 use Rattle.macho_image.specs.declared.format.Ctx.{Ctx}
 use Rattle.macho_image.specs.declared.format.Header.{Header}
 use Rattle.macho_image.specs.Form.{area_of, commands_end, header_of, header_size, ncmds_of, sizeofcmds_of}
 use Rattle.macho_image.specs.Image.{with_area}
-use Rattle.macho_image.proofs.FileLaws.{header_size-least, length-area_of}
-use Rattle.macho_image.proofs.StoredParts.{Fits}
-use Rattle.macho_image.proofs.StoreLaws.{header_of-with_area}
-use Rattle.arwen_macho.specs.Patched.{InsertsAt, RemovesAt, inserted, removed}
+use Rattle.macho_image.proofs.ForCallers.{header_of-with_area, header_size-least, length-area_of}
+use Rattle.arwen_macho.specs.Patched.{InsertsAt, RemovesAt, inserted_command, removed_bytes}
 use borrow.Rule.Slice.PartMut.{put_mid}
 
 -- a list in three parts, the second of which is taken over
@@ -134,8 +133,8 @@ area_back ctx bytes at from to =
     ∙ ap (take (commands_end ctx bytes - at)) (drop-drop (at - h) h bytes ∙ ap (λ (n : ℕ). drop n bytes) back)
 
 -- what the shifted bytes are once the counts are written
-pub inserted-made : (ctx : Ctx) (bytes command : List ℕ) (at count size : ℕ) → InsertsAt ctx bytes at (length command) → count ≡ ncmds_of ctx bytes + 1 → size ≡ sizeofcmds_of ctx bytes + length command → with_number ctx.le 4 20 size (with_number ctx.le 4 16 count (take at bytes ++ (command ++ (take (commands_end ctx bytes - at) (drop at bytes) ++ drop (commands_end ctx bytes + length command) bytes)))) ≡ inserted ctx bytes at command
-unfolding inserted
+pub inserted-made : (ctx : Ctx) (bytes command : List ℕ) (at count size : ℕ) → InsertsAt ctx bytes at (length command) → count ≡ ncmds_of ctx bytes + 1 → size ≡ sizeofcmds_of ctx bytes + length command → with_number ctx.le 4 20 size (with_number ctx.le 4 16 count (take at bytes ++ (command ++ (take (commands_end ctx bytes - at) (drop at bytes) ++ drop (commands_end ctx bytes + length command) bytes)))) ≡ inserted_command ctx bytes at command
+unfolding inserted_command
 inserted-made ctx bytes command at count size is counted sized =
     let h : ℕ = header_size ctx.container in
     let end : ℕ = commands_end ctx bytes in
@@ -154,8 +153,8 @@ inserted-made ctx bytes command at count size is counted sized =
     ∙ ap (λ (n : ℕ). with_area ctx bytes n (area_with ctx bytes at command) (end + length command)) counted
 
 -- and the header with them
-pub header_of-inserted : (ctx : Ctx) (bytes command : List ℕ) (at : ℕ) → InsertsAt ctx bytes at (length command) → ncmds_of ctx bytes + 1 < 2 ^ 32 → sizeofcmds_of ctx bytes + length command < 2 ^ 32 → header_of ctx (inserted ctx bytes at command) ≡ record (header_of ctx bytes) { ncmds = ncmds_of ctx bytes + 1; sizeofcmds = sizeofcmds_of ctx bytes + length command }
-unfolding inserted
+pub header_of-inserted : (ctx : Ctx) (bytes command : List ℕ) (at : ℕ) → InsertsAt ctx bytes at (length command) → ncmds_of ctx bytes + 1 < 2 ^ 32 → sizeofcmds_of ctx bytes + length command < 2 ^ 32 → header_of ctx (inserted_command ctx bytes at command) ≡ record (header_of ctx bytes) { ncmds = ncmds_of ctx bytes + 1; sizeofcmds = sizeofcmds_of ctx bytes + length command }
+unfolding inserted_command
 header_of-inserted ctx bytes command at is count size =
     let area : length (area_with ctx bytes at command) ≡ sizeofcmds_of ctx bytes + length command = length-area_with ctx bytes command at is in
     let fit : Fits ctx bytes (area_with ctx bytes at command) (commands_end ctx bytes + length command) = record { room = omega arith; inside = is.room } in
@@ -173,8 +172,8 @@ length-area_without ctx bytes at gone is =
     let whole : length (area_of ctx bytes) ≡ sizeofcmds_of ctx bytes = length-area_of ctx bytes (omega (arith, is.room)) in
     omega (arith, is.from, is.to, length-append (take (at - h) (area_of ctx bytes)) (drop (at - h + gone) (area_of ctx bytes)), length-take-le (at - h) (area_of ctx bytes) (omega (arith, is.to)), length-drop (at - h + gone) (area_of ctx bytes))
 
-pub removed-made : (ctx : Ctx) (bytes : List ℕ) (at gone count size : ℕ) → RemovesAt ctx bytes at gone → count ≡ ncmds_of ctx bytes - 1 → size ≡ sizeofcmds_of ctx bytes - gone → with_number ctx.le 4 20 size (with_number ctx.le 4 16 count (take at bytes ++ (take (commands_end ctx bytes - (at + gone)) (drop (at + gone) bytes) ++ (replicate gone 0 ++ drop (commands_end ctx bytes) bytes)))) ≡ removed ctx bytes at gone
-unfolding removed
+pub removed-made : (ctx : Ctx) (bytes : List ℕ) (at gone count size : ℕ) → RemovesAt ctx bytes at gone → count ≡ ncmds_of ctx bytes - 1 → size ≡ sizeofcmds_of ctx bytes - gone → with_number ctx.le 4 20 size (with_number ctx.le 4 16 count (take at bytes ++ (take (commands_end ctx bytes - (at + gone)) (drop (at + gone) bytes) ++ (replicate gone 0 ++ drop (commands_end ctx bytes) bytes)))) ≡ removed_bytes ctx bytes at gone
+unfolding removed_bytes
 removed-made ctx bytes at gone count size is counted sized =
     let h : ℕ = header_size ctx.container in
     let end : ℕ = commands_end ctx bytes in
@@ -193,8 +192,8 @@ removed-made ctx bytes at gone count size is counted sized =
     laid_over ctx bytes (take at bytes ++ behind) (area_without ctx bytes at gone) count size end (omega (arith, length-append (take at bytes) behind)) same (shown ∙ sym wanted) (sized ∙ sym area)
     ∙ ap (λ (n : ℕ). with_area ctx bytes n (area_without ctx bytes at gone) end) counted
 
-pub header_of-removed : (ctx : Ctx) (bytes : List ℕ) (at gone : ℕ) → RemovesAt ctx bytes at gone → ncmds_of ctx bytes < 2 ^ 32 → sizeofcmds_of ctx bytes < 2 ^ 32 → header_of ctx (removed ctx bytes at gone) ≡ record (header_of ctx bytes) { ncmds = ncmds_of ctx bytes - 1; sizeofcmds = sizeofcmds_of ctx bytes - gone }
-unfolding removed
+pub header_of-removed : (ctx : Ctx) (bytes : List ℕ) (at gone : ℕ) → RemovesAt ctx bytes at gone → ncmds_of ctx bytes < 2 ^ 32 → sizeofcmds_of ctx bytes < 2 ^ 32 → header_of ctx (removed_bytes ctx bytes at gone) ≡ record (header_of ctx bytes) { ncmds = ncmds_of ctx bytes - 1; sizeofcmds = sizeofcmds_of ctx bytes - gone }
+unfolding removed_bytes
 header_of-removed ctx bytes at gone is count size =
     let area : length (area_without ctx bytes at gone) ≡ sizeofcmds_of ctx bytes - gone = length-area_without ctx bytes at gone is in
     let fit : Fits ctx bytes (area_without ctx bytes at gone) (commands_end ctx bytes) = record { room = omega (arith, is.to); inside = is.room } in
@@ -211,27 +210,27 @@ unfolding header_of
 held_sizeofcmds ctx bytes header e = ap (λ (h : Header). h.sizeofcmds) e
 
 -- the bytes after the steps of an insertion, and of a removal
-pub insert_done : (ctx : Ctx) (bytes command shifted new : List ℕ) (at end count size : ℕ) → InsertsAt ctx bytes at (length command) → end ≡ commands_end ctx bytes → count ≡ ncmds_of ctx bytes + 1 → size ≡ sizeofcmds_of ctx bytes + length command → shifted ≡ take at bytes ++ (command ++ (take (end - at) (drop at bytes) ++ drop (end + length command) bytes)) → new ≡ with_number ctx.le 4 20 size (with_number ctx.le 4 16 count shifted) → new ≡ inserted ctx bytes at command
+pub insert_done : (ctx : Ctx) (bytes command shifted new : List ℕ) (at end count size : ℕ) → InsertsAt ctx bytes at (length command) → end ≡ commands_end ctx bytes → count ≡ ncmds_of ctx bytes + 1 → size ≡ sizeofcmds_of ctx bytes + length command → shifted ≡ take at bytes ++ (command ++ (take (end - at) (drop at bytes) ++ drop (end + length command) bytes)) → new ≡ with_number ctx.le 4 20 size (with_number ctx.le 4 16 count shifted) → new ≡ inserted_command ctx bytes at command
 insert_done ctx bytes command shifted new at end count size is ends counted sized shift written =
     let Q : ℕ → Type 0 = λ n. shifted ≡ take at bytes ++ (command ++ (take (n - at) (drop at bytes) ++ drop (n + length command) bytes)) in
     written ∙ ap (λ (r : List ℕ). with_number ctx.le 4 20 size (with_number ctx.le 4 16 count r)) (subst Q ends shift)
     ∙ inserted-made ctx bytes command at count size is counted sized
 
-pub remove_done : (ctx : Ctx) (bytes shifted new : List ℕ) (at gone end count size : ℕ) → RemovesAt ctx bytes at gone → end ≡ commands_end ctx bytes → count ≡ ncmds_of ctx bytes - 1 → size ≡ sizeofcmds_of ctx bytes - gone → shifted ≡ take at bytes ++ (take (end - (at + gone)) (drop (at + gone) bytes) ++ (replicate gone 0 ++ drop end bytes)) → new ≡ with_number ctx.le 4 20 size (with_number ctx.le 4 16 count shifted) → new ≡ removed ctx bytes at gone
+pub remove_done : (ctx : Ctx) (bytes shifted new : List ℕ) (at gone end count size : ℕ) → RemovesAt ctx bytes at gone → end ≡ commands_end ctx bytes → count ≡ ncmds_of ctx bytes - 1 → size ≡ sizeofcmds_of ctx bytes - gone → shifted ≡ take at bytes ++ (take (end - (at + gone)) (drop (at + gone) bytes) ++ (replicate gone 0 ++ drop end bytes)) → new ≡ with_number ctx.le 4 20 size (with_number ctx.le 4 16 count shifted) → new ≡ removed_bytes ctx bytes at gone
 remove_done ctx bytes shifted new at gone end count size is ends counted sized shift written =
     let Q : ℕ → Type 0 = λ n. shifted ≡ take at bytes ++ (take (n - (at + gone)) (drop (at + gone) bytes) ++ (replicate gone 0 ++ drop n bytes)) in
     written ∙ ap (λ (r : List ℕ). with_number ctx.le 4 20 size (with_number ctx.le 4 16 count r)) (subst Q ends shift)
     ∙ removed-made ctx bytes at gone count size is counted sized
 
 -- the header after an insertion, and after a removal
-pub insert_header : (ctx : Ctx) (bytes command : List ℕ) (at : ℕ) (header : Header) (count size : ℕ) → InsertsAt ctx bytes at (length command) → header ≡ header_of ctx bytes → count ≡ ncmds_of ctx bytes + 1 → size ≡ sizeofcmds_of ctx bytes + length command → count < 2 ^ 32 → size < 2 ^ 32 → record header { ncmds = count; sizeofcmds = size } ≡ header_of ctx (inserted ctx bytes at command)
+pub insert_header : (ctx : Ctx) (bytes command : List ℕ) (at : ℕ) (header : Header) (count size : ℕ) → InsertsAt ctx bytes at (length command) → header ≡ header_of ctx bytes → count ≡ ncmds_of ctx bytes + 1 → size ≡ sizeofcmds_of ctx bytes + length command → count < 2 ^ 32 → size < 2 ^ 32 → record header { ncmds = count; sizeofcmds = size } ≡ header_of ctx (inserted_command ctx bytes at command)
 insert_header ctx bytes command at header count size is held counted sized small short =
     ap (λ (h : Header). record h { ncmds = count; sizeofcmds = size }) held
     ∙ ap (λ (n : ℕ). record (header_of ctx bytes) { ncmds = n; sizeofcmds = size }) counted
     ∙ ap (λ (n : ℕ). record (header_of ctx bytes) { ncmds = ncmds_of ctx bytes + 1; sizeofcmds = n }) sized
     ∙ sym (header_of-inserted ctx bytes command at is (omega arith) (omega arith))
 
-pub remove_header : (ctx : Ctx) (bytes : List ℕ) (at gone : ℕ) (header : Header) (count size : ℕ) → RemovesAt ctx bytes at gone → header ≡ header_of ctx bytes → header.ncmds < 2 ^ 32 → header.sizeofcmds < 2 ^ 32 → count ≡ ncmds_of ctx bytes - 1 → size ≡ sizeofcmds_of ctx bytes - gone → record header { ncmds = count; sizeofcmds = size } ≡ header_of ctx (removed ctx bytes at gone)
+pub remove_header : (ctx : Ctx) (bytes : List ℕ) (at gone : ℕ) (header : Header) (count size : ℕ) → RemovesAt ctx bytes at gone → header ≡ header_of ctx bytes → header.ncmds < 2 ^ 32 → header.sizeofcmds < 2 ^ 32 → count ≡ ncmds_of ctx bytes - 1 → size ≡ sizeofcmds_of ctx bytes - gone → record header { ncmds = count; sizeofcmds = size } ≡ header_of ctx (removed_bytes ctx bytes at gone)
 remove_header ctx bytes at gone header count size is held small short counted sized =
     ap (λ (h : Header). record h { ncmds = count; sizeofcmds = size }) held
     ∙ ap (λ (n : ℕ). record (header_of ctx bytes) { ncmds = n; sizeofcmds = size }) counted

@@ -9,9 +9,7 @@ use Rattle.macho_image.specs.declared.fat.TheConstants.{FAT_MAGIC}
 use Rattle.macho_image.specs.Checks.{file_fault}
 use Rattle.macho_image.specs.Fat.{has_fat_magic}
 use Rattle.macho_image.specs.Form.{ctx_of, form_of}
-use Rattle.macho_image.proofs.FatLaws.{table_passes}
-use Rattle.macho_image.proofs.FileLaws.{form_of-same}
-use Rattle.macho_image.proofs.FormLaws.{file_passes}
+use Rattle.macho_image.proofs.ForCallers.{file_passes, form_of-same, number_at-with_area_front, table_passes}
 use Rattle.arwen_macho.specs.declared.macho.MachoType.TheVariants.{Fat, SingleArch}
 use Rattle.arwen_macho.specs.ContainerShown.{ShowsFile}
 use Rattle.arwen_macho.specs.FatHeld.{FatHeld}
@@ -19,9 +17,8 @@ use Rattle.arwen_macho.specs.FatShown.{FatShows}
 use Rattle.arwen_macho.specs.Found.{begins_fat, container_found, fat_found}
 use Rattle.arwen_macho.specs.Held.{Held}
 use Rattle.arwen_macho.specs.Shown.{Shows}
-use Rattle.arwen_macho.specs.State.{State, laid}
+use Rattle.arwen_macho.specs.State.{State, laid_bytes}
 use Rattle.arwen_macho.specs.Whole.{IsState}
-use Rattle.macho_image.proofs.StoredParts.{number_at-with_area_front}
 use Rattle.std.specs.List.{concat}
 use Rattle.arwen_macho.proofs.FatLaws.{accepted_parts}
 
@@ -58,17 +55,17 @@ fat_begins bytes passes =
     let long : nat_le 4 (length bytes) ≡ true = le-leb 4 (length bytes) (omega (arith, table.2)) in
     rw (long, table.1) refl
 
-magic-laid : (s : State) → IsState s → number_at Big 4 0 (laid s) ≡ number_at Big 4 0 s.old
-unfolding laid
+magic-laid : (s : State) → IsState s → number_at Big 4 0 (laid_bytes s) ≡ number_at Big 4 0 s.old
+unfolding laid_bytes
 magic-laid s is = number_at-with_area_front Big 4 0 (ctx_of s.old) s.old (length s.list) (concat s.list) s.high record { room = is.low; inside = is.inside } (omega arith)
 
 -- the bytes of a state begin as those that were read
-begins_fat-laid : (s : State) (bytes : List ℕ) → IsState s → bytes ≡ laid s → Shows s bytes → begins_fat bytes ≡ begins_fat s.old
+begins_fat-laid : (s : State) (bytes : List ℕ) → IsState s → bytes ≡ laid_bytes s → Shows s bytes → begins_fat bytes ≡ begins_fat s.old
 begins_fat-laid s bytes is same shows =
     let magic : number_at Big 4 0 bytes ≡ number_at Big 4 0 s.old = ap (number_at Big 4 0) same ∙ magic-laid s is in
     rw (shows.long, magic) refl
 
-pub thin_shows : (held : Held) (bytes : List ℕ) → IsState held.state → bytes ≡ laid held.state → Shows held.state bytes → ShowsFile (SingleArch held) bytes
+pub thin_shows : (held : Held) (bytes : List ℕ) → IsState held.state → bytes ≡ laid_bytes held.state → Shows held.state bytes → ShowsFile (SingleArch held) bytes
 unfolding container_found
 thin_shows held bytes is same shows =
     let begins = begins_fat-laid held.state bytes is same shows ∙ thin_begins held.state.old is.bytes is.accepted in

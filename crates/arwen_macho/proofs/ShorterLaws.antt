@@ -10,9 +10,9 @@ use Rattle.arwen_macho.specs.Built.{dylib_built, rpath_built}
 use Rattle.arwen_macho.specs.Call.{Call, Cause}
 use Rattle.arwen_macho.specs.Call.Call.{add_rpath, change_install_id, change_install_name, change_rpath, remove_rpath}
 use Rattle.arwen_macho.specs.Call.Cause.{no_room}
-use Rattle.arwen_macho.specs.Edited.{edited, is_id, is_library_named, is_rpath_named}
+use Rattle.arwen_macho.specs.Edited.{edited_list, is_id, is_library_named, is_rpath_named}
 use Rattle.arwen_macho.specs.Laws.{ChangesAt, LastDecides, MiddleMayOverflow, ShorterFits}
-use Rattle.arwen_macho.specs.State.{Refusal, State, answered, available, edited_by, end_of, step, then_on}
+use Rattle.arwen_macho.specs.State.{Refusal, State, answer_at, available, edited_by, end_of, step, then_on}
 use Rattle.arwen_macho.proofs.StateLaws.{edited_by-one, step-fits, step-no_room}
 
 -- a shorter command in the place of another makes a list no longer
@@ -24,8 +24,8 @@ length-concat-set (x ∷ list) (suc i) c less =
     omega (arith, length-append x (concat (set list i c)), length-append x (concat list))
 
 -- what such a call makes of the list
-changes : (ctx : Ctx) (call : Call) (list : List (List ℕ)) (i : ℕ) (c : List ℕ) → ChangesAt ctx call list i c → edited ctx call list ≡ Ok (set list i c)
-unfolding edited
+changes : (ctx : Ctx) (call : Call) (list : List (List ℕ)) (i : ℕ) (c : List ℕ) → ChangesAt ctx call list i c → edited_list ctx call list ≡ Ok (set list i c)
+unfolding edited_list
 changes ctx (add_rpath new) list i c at = absurd at
 changes ctx (change_rpath old new) list i c at =
     let place : position (is_rpath_named ctx.le old) list ≡ Some i = at.0 in
@@ -77,11 +77,11 @@ edited_by-append ctx done [] more list =
     rw same refl
 edited_by-append ctx done (call ∷ calls) more list =
     let same : done + length (call ∷ calls) ≡ (done + 1) + length calls = omega arith in
-    rw same (after (edited ctx call list) (λ next. edited_by-append ctx (done + 1) calls more next))
+    rw same (after (edited_list ctx call list) (λ next. edited_by-append ctx (done + 1) calls more next))
   where
     after : (answer : Result (List (List ℕ)) Cause)
         → ((next : List (List ℕ)) → edited_by ctx (done + 1) (calls ++ more) next ≡ then_on (edited_by ctx (done + 1) calls next) (λ next. edited_by ctx ((done + 1) + length calls) more next))
-        → then_on (answered done answer) (λ next. edited_by ctx (done + 1) (calls ++ more) next) ≡ then_on (then_on (answered done answer) (λ next. edited_by ctx (done + 1) calls next)) (λ next. edited_by ctx ((done + 1) + length calls) more next)
+        → then_on (answer_at done answer) (λ next. edited_by ctx (done + 1) (calls ++ more) next) ≡ then_on (then_on (answer_at done answer) (λ next. edited_by ctx (done + 1) calls next)) (λ next. edited_by ctx ((done + 1) + length calls) more next)
     after (Err cause) rest = refl
     after (Ok next) rest = rest next
 

@@ -7,22 +7,20 @@ use Rattle.std.proofs.lemmas.Bool.{le-leb, leb-true}
 use Rattle.patch_bytes.specs.declared.number.ByteOrder2.{ByteOrder2}
 use Rattle.patch_bytes.specs.Bytes.{AreBytes}
 use Rattle.patch_bytes.proofs.NumberLaws.{AreBytes-drop, AreBytes-take}
+use Rattle.macho_image.specs.Stored.{Fits, IsStored}
 use Rattle.macho_image.specs.declared.format.Ctx.{Ctx}
 use Rattle.macho_image.specs.Checks.{file_fault}
 use Rattle.macho_image.specs.Command.{IsCommand, contents_of}
 use Rattle.macho_image.specs.Commands.{commands_of, first_content_of, least}
 use Rattle.macho_image.specs.Form.{area_of, ctx_of, header_size, sizeofcmds_of}
 use Rattle.macho_image.specs.Image.{with_area}
-use Rattle.macho_image.proofs.AreaLaws.{area_fault-concat, cut-concat}
-use Rattle.macho_image.proofs.FileLaws.{concat-commands_of, found}
-use Rattle.macho_image.proofs.StoredParts.{Fits, length-with_area}
-use Rattle.macho_image.proofs.StoreLaws.{IsStored, commands_of-with_area, ctx_of-with_area, file_fault-with_area, first_content_of-with_area, with_area-same, with_area-with_area}
+use Rattle.macho_image.proofs.ForCallers.{area_fault-concat, commands_of-with_area, concat-commands_of, ctx_of-with_area, cut-concat, file_fault-with_area, first_content_of-with_area, found, length-with_area, with_area-same, with_area-with_area}
 use Rattle.arwen_macho.specs.Call.{Call, Cause}
 use Rattle.arwen_macho.specs.Call.Cause.{no_room}
-use Rattle.arwen_macho.specs.Edited.{edited}
-use Rattle.arwen_macho.specs.State.{Refusal, State, answered, available, edited_by, end_of, first_state, fitted, laid, step, then_on}
+use Rattle.arwen_macho.specs.Edited.{edited_list}
+use Rattle.arwen_macho.specs.State.{Refusal, State, answer_at, available, edited_by, end_of, first_state, fitted_state, laid_bytes, step, then_on}
 use Rattle.arwen_macho.specs.Shown.{Shows}
-use Rattle.arwen_macho.specs.Whole.{IsState, IsWhole, Keeps, TextsAreBytes}
+use Rattle.arwen_macho.specs.Whole.{IsState, IsWhole, KeepsContents, TextsAreBytes}
 use Rattle.arwen_macho.proofs.EditLaws.{edited_keeps}
 
 -- the least of a number and others is at most that number
@@ -72,8 +70,8 @@ first_content_of-laid : (s : State) → IsState s → least (length s.old) (flat
 unfolding first_content_of
 first_content_of-laid s is = ap (least (length s.old)) is.contents
 
-pub laid_shows : (s : State) → IsState s → Shows s (laid s)
-unfolding laid
+pub laid_shows : (s : State) → IsState s → Shows s (laid_bytes s)
+unfolding laid_bytes
 laid_shows s is =
     let over = stored s is in
     let cut_is = cut-concat (ctx_of s.old).le s.list (are_commands s is) in
@@ -88,8 +86,8 @@ laid_shows s is =
     }
 
 -- another list that is stored over the bytes of a state, as far as commands ever reached
-pub relaid : (s : State) (list : List (List ℕ)) (high : ℕ) → IsState s → s.high ≤ high → with_area (ctx_of s.old) (laid s) (length list) (concat list) high ≡ laid (record { old = s.old; list = list; high = high })
-unfolding laid
+pub relaid : (s : State) (list : List (List ℕ)) (high : ℕ) → IsState s → s.high ≤ high → with_area (ctx_of s.old) (laid_bytes s) (length list) (concat list) high ≡ laid_bytes (record { old = s.old; list = list; high = high })
+unfolding laid_bytes
 relaid s list high is further = with_area-with_area (ctx_of s.old) s.old (length s.list) (concat s.list) s.high (length list) (concat list) high (fits s is) further
 
 -- commands that are bytes together are bytes
@@ -123,8 +121,8 @@ first_is old accepted bytes =
       contents = refl;
     }
 
-pub first_laid : (old : List ℕ) → file_fault old ≡ None → AreBytes old → laid (first_state old) ≡ old
-unfolding first_state laid
+pub first_laid : (old : List ℕ) → file_fault old ≡ None → AreBytes old → laid_bytes (first_state old) ≡ old
+unfolding first_state laid_bytes
 first_laid old accepted bytes =
     let file = found old accepted in
     let size = file.size in
@@ -132,20 +130,20 @@ first_laid old accepted bytes =
     rw (← file.count, concat-commands_of old accepted) (with_area-same (ctx_of old) old bytes (omega arith))
 
 -- a list of edits keeps what each edit keeps
-pub edited_by_keeps : (ctx : Ctx) (done : ℕ) (calls : List Call) (old new : List (List ℕ)) → All TextsAreBytes calls → All (IsWhole ctx.le) old → edited_by ctx done calls old ≡ Ok new → Keeps ctx.le old new
+pub edited_by_keeps : (ctx : Ctx) (done : ℕ) (calls : List Call) (old new : List (List ℕ)) → All TextsAreBytes calls → All (IsWhole ctx.le) old → edited_by ctx done calls old ≡ Ok new → KeepsContents ctx.le old new
 edited_by_keeps ctx done [] old new texts whole e =
     let same : old ≡ new = cc in
-    let kept : Keeps ctx.le old old = record { whole = whole; contents = refl } in
-    let P : List (List ℕ) → Type 0 = Keeps ctx.le old in
+    let kept : KeepsContents ctx.le old old = record { whole = whole; contents = refl } in
+    let P : List (List ℕ) → Type 0 = KeepsContents ctx.le old in
     subst P same kept
 edited_by_keeps ctx done (call ∷ calls) old new texts whole e =
-    after ctx done calls old new (edited ctx call old) (λ next was. edited_keeps ctx call old next (All-head TextsAreBytes call calls texts) whole was)
+    after ctx done calls old new (edited_list ctx call old) (λ next was. edited_keeps ctx call old next (All-head TextsAreBytes call calls texts) whole was)
     (λ next kept was. edited_by_keeps ctx (done + 1) calls next new (All-tail TextsAreBytes call calls texts) kept was) e
   where
     after : (ctx : Ctx) (done : ℕ) (calls : List Call) (old new : List (List ℕ)) (answer : Result (List (List ℕ)) Cause)
-        → ((next : List (List ℕ)) → answer ≡ Ok next → Keeps ctx.le old next)
-        → ((next : List (List ℕ)) → All (IsWhole ctx.le) next → edited_by ctx (done + 1) calls next ≡ Ok new → Keeps ctx.le next new)
-        → then_on (answered done answer) (λ next. edited_by ctx (done + 1) calls next) ≡ Ok new → Keeps ctx.le old new
+        → ((next : List (List ℕ)) → answer ≡ Ok next → KeepsContents ctx.le old next)
+        → ((next : List (List ℕ)) → All (IsWhole ctx.le) next → edited_by ctx (done + 1) calls next ≡ Ok new → KeepsContents ctx.le next new)
+        → then_on (answer_at done answer) (λ next. edited_by ctx (done + 1) calls next) ≡ Ok new → KeepsContents ctx.le old new
     after ctx done calls old new (Err cause) here rest e = absurd (cc)
     after ctx done calls old new (Ok next) here rest e =
         let first = here next refl in
@@ -161,7 +159,7 @@ available-le s is =
     omega arith
 
 -- a list that keeps what a state has, and that ends where it may, makes a state
-pub next_is : (s : State) (list : List (List ℕ)) → IsState s → Keeps (ctx_of s.old).le s.list list → end_of (ctx_of s.old) list ≤ available s → IsState (record { old = s.old; list = list; high = max s.high (end_of (ctx_of s.old) list) })
+pub next_is : (s : State) (list : List (List ℕ)) → IsState s → KeepsContents (ctx_of s.old).le s.list list → end_of (ctx_of s.old) list ≤ available s → IsState (record { old = s.old; list = list; high = max s.high (end_of (ctx_of s.old) list) })
 next_is s list is keeps room =
     let most = available-le s is in
     let inside = is.inside in
@@ -176,7 +174,7 @@ next_is s list is keeps room =
 
 -- a batch whose last list ends where it may is accepted
 pub step-fits : (calls : List Call) (s : State) (list : List (List ℕ)) → edited_by (ctx_of s.old) 0 calls s.list ≡ Ok list → end_of (ctx_of s.old) list ≤ available s → step calls s ≡ Ok (record { old = s.old; list = list; high = max s.high (end_of (ctx_of s.old) list) })
-unfolding step fitted
+unfolding step fitted_state
 step-fits calls s list made room =
     let yes : nat_le (end_of (ctx_of s.old) list) (available s) ≡ true = le-leb (end_of (ctx_of s.old) list) (available s) room in
     rw (made, yes) refl
@@ -190,22 +188,19 @@ not_le a b past = is_false (nat_le a b) (λ e. let below : a ≤ b = leb-true a 
 
 -- a batch whose last list ends past it is refused
 pub step-no_room : (calls : List Call) (s : State) (list : List (List ℕ)) → edited_by (ctx_of s.old) 0 calls s.list ≡ Ok list → available s < end_of (ctx_of s.old) list → step calls s ≡ Err (record { index = length calls; cause = no_room (end_of (ctx_of s.old) list) (available s) })
-unfolding step fitted
+unfolding step fitted_state
 step-no_room calls s list made past =
     let no : nat_le (end_of (ctx_of s.old) list) (available s) ≡ false = not_le (end_of (ctx_of s.old) list) (available s) past in
     rw (made, no) refl
 
 -- a batch with a refused edit is refused
 pub step-refused : (calls : List Call) (s : State) (refusal : Refusal) → edited_by (ctx_of s.old) 0 calls s.list ≡ Err refusal → step calls s ≡ Err refusal
-unfolding step fitted
+unfolding step fitted_state
 step-refused calls s refusal made = rw made refl
 
 -- a single edit is a batch of one
-pub edited_by-one : (ctx : Ctx) (call : Call) (list new : List (List ℕ)) → edited ctx call list ≡ Ok new → edited_by ctx 0 (call ∷ []) list ≡ Ok new
+pub edited_by-one : (ctx : Ctx) (call : Call) (list new : List (List ℕ)) → edited_list ctx call list ≡ Ok new → edited_by ctx 0 (call ∷ []) list ≡ Ok new
 edited_by-one ctx call list new made = rw made refl
-
-pub edited_by-one_refused : (ctx : Ctx) (call : Call) (list : List (List ℕ)) (cause : Cause) → edited ctx call list ≡ Err cause → edited_by ctx 0 (call ∷ []) list ≡ Err (record { index = 0; cause = cause })
-edited_by-one_refused ctx call list cause made = rw made refl
 
 -- no edits change nothing
 pub step-nil : (s : State) → IsState s → step [] s ≡ Ok s
@@ -215,9 +210,5 @@ step-nil s is =
     step-fits [] s s.list refl (omega arith) ∙ ap (λ (n : ℕ). Ok (record { old = s.old; list = s.list; high = n })) same
 
 -- an accepted edit goes on with what it left
-pub edited_by-more : (ctx : Ctx) (done : ℕ) (call : Call) (calls : List Call) (list next : List (List ℕ)) → edited ctx call list ≡ Ok next → edited_by ctx done (call ∷ calls) list ≡ edited_by ctx (done + 1) calls next
+pub edited_by-more : (ctx : Ctx) (done : ℕ) (call : Call) (calls : List Call) (list next : List (List ℕ)) → edited_list ctx call list ≡ Ok next → edited_by ctx done (call ∷ calls) list ≡ edited_by ctx (done + 1) calls next
 edited_by-more ctx done call calls list next made = rw made refl
-
--- a refused edit ends the batch
-pub edited_by-stop : (ctx : Ctx) (done : ℕ) (call : Call) (calls : List Call) (list : List (List ℕ)) (cause : Cause) → edited ctx call list ≡ Err cause → edited_by ctx done (call ∷ calls) list ≡ Err (record { index = done; cause = cause })
-edited_by-stop ctx done call calls list cause made = rw made refl

@@ -1,6 +1,6 @@
 -- A batch that was drafted upon a file's list, and the change or the refusal that it leads to, are the
 -- step of the file's state.
-use Rattle.std.proofs.Common.{◌≡◌, ℕ, List, [], ◌∷◌, length, Option, Some, None, Result, Ok, Err, IsErrAnd, ap, sym, refl, ◌∙◌, subst}
+use Rattle.std.proofs.Common.{◌≡◌, ◌≤◌, ℕ, Bool, true, List, [], ◌∷◌, length, Option, Some, None, Result, Ok, Err, IsErrAnd, ap, sym, refl, ◌∙◌, subst, arith}
 use Rattle.macho_image.specs.declared.format.Ctx.{Ctx}
 use Rattle.macho_image.specs.Commands.{commands_of}
 use Rattle.macho_image.specs.Form.{ctx_of}
@@ -8,16 +8,14 @@ use Rattle.arwen_macho.specs.declared.change.Change.{Change}
 use Rattle.arwen_macho.specs.declared.macho.SingleMachO.TheInside.{Inside}
 use Rattle.arwen_macho.specs.Batch.{RefusesAt}
 use Rattle.arwen_macho.specs.Call.{Call, Cause}
-use Rattle.arwen_macho.specs.Change.{IsChangeOf, RefusesRoom, changed, list_of}
-use Rattle.arwen_macho.specs.Edited.{edited}
-use Rattle.arwen_macho.specs.Held.{Held, RefusesStep}
+use Rattle.arwen_macho.specs.Change.{IsChangeOf, RefusesRoom, changed_file, list_of}
+use Rattle.arwen_macho.specs.Held.{Held, RefusesStep, is_edited_by}
 use Rattle.arwen_macho.specs.HeldBy.{IsHeld, held_of}
-use Rattle.arwen_macho.specs.Refused.{Refuses}
 use Rattle.arwen_macho.specs.State.{Refusal, State, edited_by, step}
-use Rattle.arwen_macho.proofs.StateLaws.{edited_by-one_refused, laid_shows, step-fits, step-no_room, step-refused}
+use Rattle.arwen_macho.proofs.StateLaws.{laid_shows, step-fits, step-no_room, step-refused}
 
 -- a change of the drafted list is the step
-pub step_changed : (calls : List Call) (held : Held) (change : Change) (commands : List (List ℕ)) → edited_by (ctx_of held.state.old) 0 calls held.state.list ≡ Ok commands → IsChangeOf held change → list_of held change ≡ commands → step calls held.state ≡ Ok (changed held change).state
+pub step_changed : (calls : List Call) (held : Held) (change : Change) (commands : List (List ℕ)) → edited_by (ctx_of held.state.old) 0 calls held.state.list ≡ Ok commands → IsChangeOf held change → list_of held change ≡ commands → step calls held.state ≡ Ok (changed_file held change).state
 step_changed calls held change commands drafted of list =
     let made : edited_by (ctx_of held.state.old) 0 calls held.state.list ≡ Ok (list_of held change) = drafted ∙ ap (λ (l : List (List ℕ)). Ok l) (sym list) in
     step-fits calls held.state (list_of held change) made of.room
@@ -30,26 +28,20 @@ step_unfit calls s commands (Some cause) drafted refuses =
     step-no_room calls s commands drafted refuses.0 ∙ ap (λ (c : Cause). Err (record { index = length calls; cause = c })) (sym refuses.1)
 
 -- a refusal at an index is one of its cause
-pub refuses_step : (index : ℕ) (found : Option Cause) (answer : Result State Refusal) → RefusesAt index found answer → RefusesStep found answer
+pub refuses_step : {X : Type 0} (index : ℕ) (found : Option Cause) (answer : Result X Refusal) → RefusesAt index found answer → RefusesStep found answer
 refuses_step index None answer refuses = tt
-refuses_step index (Some cause) answer refuses =
-    let P : Result State Refusal → Type 0 = λ r. IsErrAnd r (λ refusal. refusal.cause ≡ cause) in
+refuses_step {X} index (Some cause) answer refuses =
+    let P : Result X Refusal → Type 0 = λ r. IsErrAnd r (λ refusal. refusal.cause ≡ cause) in
     subst P (sym refuses) refl
 
--- a refused edit refuses the step at its index
-pub step_refused_edit : (call : Call) (s : State) (found : Option Cause) → Refuses found (edited (ctx_of s.old) call s.list) → RefusesAt 0 found (step (call ∷ []) s)
-step_refused_edit call s None refuses = tt
-step_refused_edit call s (Some cause) refuses =
-    step-refused (call ∷ []) s (record { index = 0; cause = cause }) (edited_by-one_refused (ctx_of s.old) call s.list cause refuses)
+-- a batch of some edits leaves a copy
+pub edited_by_some : (calls : List Call) (was : Bool) → 1 ≤ length calls → is_edited_by calls was ≡ true
+edited_by_some [] was some = absurd (omega arith)
+edited_by_some (call ∷ calls) was some = refl
 
 -- the form of the bytes as read, by the file as it is now
 pub form_is : (s : Inside) (ctx : Ctx) → IsHeld s → ctx ≡ ctx_of s.inner.bytes → ctx ≡ ctx_of (held_of s).state.old
 form_is s ctx is form = form ∙ ap ctx_of is.bytes ∙ (laid_shows (held_of s).state is.is_state).form
-
--- an answer upon the file's commands is one upon the state's list
-pub edited_is : (s : Inside) (ctx : Ctx) (items : List (List ℕ)) (call : Call) → IsHeld s → ctx ≡ ctx_of s.inner.bytes → items ≡ commands_of s.inner.bytes → edited ctx call items ≡ edited (ctx_of (held_of s).state.old) call (held_of s).state.list
-edited_is s ctx items call is form list =
-    ap (λ (c : Ctx). edited c call items) (form_is s ctx is form) ∙ ap (edited (ctx_of s.source.now) call) list
 
 -- what a batch makes of the file's commands is what it makes of the state's list
 pub edited_by_is : (s : Inside) (ctx : Ctx) (items : List (List ℕ)) (calls : List Call) → IsHeld s → ctx ≡ ctx_of s.inner.bytes → items ≡ commands_of s.inner.bytes → edited_by ctx 0 calls items ≡ edited_by (ctx_of (held_of s).state.old) 0 calls (held_of s).state.list

@@ -1,13 +1,14 @@
 -- Batches of edits: which calls they make, and what the answer to one says.
-use Rattle.std.specs.Prelude.{ℕ, ◌≡◌, Bool, true, List, [], ◌∷◌, map, Option, Some, None, Result, Ok, Err, MatchResult, ⊤, string_bytes}
+use Rattle.std.specs.Prelude.{ℕ, ◌≡◌, List, map, Option, Some, None, Result, Ok, Err, MatchResult, ⊤, string_bytes}
+use Rattle.macho_image.specs.declared.format.Ctx.{Ctx}
 use Rattle.arwen_macho.specs.declared.batch.MachoBatchError.{MachoBatchError}
 use Rattle.arwen_macho.specs.declared.batch.MachoEdit.{MachoEdit}
 use Rattle.arwen_macho.specs.declared.batch.MachoEdit.TheVariants.{AddRpath, ChangeInstallId, ChangeInstallName, ChangeRpath, RemoveRpath}
 use Rattle.arwen_macho.specs.Call.{Call, Cause}
 use Rattle.arwen_macho.specs.Call.Call.{add_rpath, change_install_id, change_install_name, change_rpath, remove_rpath}
-use Rattle.arwen_macho.specs.Held.{Held}
+use Rattle.arwen_macho.specs.Held.{Held, Steps}
 use Rattle.arwen_macho.specs.Refused.{cause_of}
-use Rattle.arwen_macho.specs.State.{Refusal, step}
+use Rattle.arwen_macho.specs.State.{Refusal, edited_by, step}
 
 abbrev pub call_made : MachoEdit → Call
 call_made (AddRpath new) = add_rpath (string_bytes new)
@@ -25,14 +26,19 @@ abbrev pub RefusesAt : {X : Type 0} → ℕ → Option Cause → Result X Refusa
 RefusesAt index None answer = ⊤
 RefusesAt index (Some cause) answer = answer ≡ Err (record { index = index; cause = cause })
 
--- whether the bytes are an edited copy after an accepted batch: a batch of no edits copies nothing
-abbrev pub is_edited_by : List Call → Bool → Bool
-is_edited_by [] was = was
-is_edited_by (call ∷ calls) was = true
+-- an error of a batch is want of memory, or tells the refusal at its index
+abbrev pub RefusedAt : {X : Type 0} → MachoBatchError → Result X Refusal → Type 0
+RefusedAt e answer = RefusesAt e.index (cause_of e.fault) answer
 
--- an answer to a batch, and what it leaves: the step; or what was there
+-- an error tells the refusal that a batch meets in a thin file
+abbrev pub ThinRefuses : List Call → Held → MachoBatchError → Type 0
+ThinRefuses calls held e = RefusedAt e (step calls held.state)
+
+-- an answer to calls on a list, and the list that they leave
+abbrev pub EditsAll : Ctx → List Call → List (List ℕ) → List (List ℕ) → Result (Unit {0}) MachoBatchError → Type 0
+EditsAll ctx calls old new answer =
+    MatchResult answer (λ _. edited_by ctx 0 calls old ≡ Ok new) (λ e. RefusedAt e (edited_by ctx 0 calls old))
+
+-- an answer to a batch of a thin file, and what it leaves
 abbrev pub StepsBatch : List Call → Held → Held → Result (Unit {0}) MachoBatchError → Type 0
-StepsBatch calls old new answer =
-    MatchResult answer
-    (λ _. (step calls old.state ≡ Ok new.state) × (new.is_edited ≡ is_edited_by calls old.is_edited))
-    (λ e. (new ≡ old) × RefusesAt e.index (cause_of e.fault) (step calls old.state))
+StepsBatch calls old new answer = Steps RefusedAt calls old new answer

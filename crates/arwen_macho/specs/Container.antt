@@ -7,14 +7,13 @@ use Rattle.arwen_macho.specs.declared.batch.MachoEdit.{MachoEdit}
 use Rattle.arwen_macho.specs.declared.error.MachoError.{MachoError}
 use Rattle.arwen_macho.specs.declared.macho.MachoType.{MachoType}
 use Rattle.arwen_macho.specs.declared.macho.MachoType.TheVariants.{Fat, SingleArch}
-use Rattle.arwen_macho.specs.Batch.{RefusesAt, calls_of, is_edited_by}
+use Rattle.arwen_macho.specs.Batch.{RefusedAt, calls_of}
 use Rattle.arwen_macho.specs.Call.{Call}
 use Rattle.arwen_macho.specs.FatHeld.{first_fat_held}
-use Rattle.arwen_macho.specs.FatState.{FatState, fat_laid, fat_step}
+use Rattle.arwen_macho.specs.FatState.{FatState, fat_laid_bytes, fat_step}
 use Rattle.arwen_macho.specs.Found.{begins_fat}
-use Rattle.arwen_macho.specs.Held.{RefusesStep, first_held}
-use Rattle.arwen_macho.specs.Refused.{cause_of}
-use Rattle.arwen_macho.specs.State.{Refusal, State, laid, step}
+use Rattle.arwen_macho.specs.Held.{RefusedBy, first_held, is_edited_by}
+use Rattle.arwen_macho.specs.State.{Refusal, State, laid_bytes, step}
 
 -- a file as it was parsed
 abbrev pub first_container : List ℕ → MachoType
@@ -22,8 +21,13 @@ first_container old = if begins_fat old then Fat (first_fat_held old) else Singl
 
 -- the bytes of a file under edits
 abbrev pub container_bytes : MachoType → List ℕ
-container_bytes (SingleArch held) = laid held.state
-container_bytes (Fat held) = fat_laid held.state
+container_bytes (SingleArch held) = laid_bytes held.state
+container_bytes (Fat held) = fat_laid_bytes held.state
+
+-- whether the bytes of a file are a copy that was edited
+abbrev pub is_edited_file : MachoType → Bool
+is_edited_file (SingleArch held) = held.is_edited
+is_edited_file (Fat held) = held.is_edited
 
 -- what a batch makes of a file: all of its edits, or none and why
 abbrev pub as_thin : Bool → Result State Refusal → Result MachoType Refusal
@@ -38,27 +42,33 @@ unfoldable pub container_step : List Call → MachoType → Result MachoType Ref
 container_step calls (SingleArch held) = as_thin (is_edited_by calls held.is_edited) (step calls held.state)
 container_step calls (Fat held) = as_fat (is_edited_by calls held.is_edited) (fat_step calls held.state)
 
--- an answer to one edit, and what it leaves
-abbrev pub TakesOnce : Call → MachoType → MachoType → Result (Unit {0}) MachoError → Type 0
-TakesOnce call old new answer =
-    MatchResult answer (λ _. container_step (call ∷ []) old ≡ Ok new)
-    (λ e. (new ≡ old) × RefusesStep (cause_of e) (container_step (call ∷ []) old))
+-- an error tells the refusal that a batch meets in a file
+abbrev pub FileRefuses : List Call → MachoType → MachoBatchError → Type 0
+FileRefuses calls file e = RefusedAt e (container_step calls file)
 
--- an answer to a batch
+-- an answer to a batch, and what it leaves: what the step gives; or what was there, and an error that
+-- tells of the refused step what `tells` says
+abbrev pub Takes : {E : Type 0} → (E → Result MachoType Refusal → Type 0) → List Call → MachoType → MachoType → Result (Unit {0}) E → Type 0
+Takes tells calls old new answer =
+    MatchResult answer (λ _. container_step calls old ≡ Ok new) (λ e. (new ≡ old) × tells e (container_step calls old))
+
+-- to one edit, which is a batch of one, and to a batch
+abbrev pub TakesOnce : Call → MachoType → MachoType → Result (Unit {0}) MachoError → Type 0
+TakesOnce call old new answer = Takes RefusedBy (call ∷ []) old new answer
+
+abbrev pub TakesBatch : List Call → MachoType → MachoType → Result (Unit {0}) MachoBatchError → Type 0
+TakesBatch calls old new answer = Takes RefusedAt calls old new answer
+
+-- an answer to a batch, apart from what it leaves
 abbrev pub AnswersBatch : List Call → MachoType → Result (Unit {0}) MachoBatchError → Type 0
 AnswersBatch calls old answer =
-    MatchResult answer (λ _. IsOk (container_step calls old)) (λ e. RefusesAt e.index (cause_of e.fault) (container_step calls old))
+    MatchResult answer (λ _. IsOk (container_step calls old)) (λ e. RefusedAt e (container_step calls old))
 
 -- what a batch leaves by its answer: an accepted batch its step, any other what was there
 abbrev pub left_by : MachoType → Result MachoType Refusal → Result (Unit {0}) MachoBatchError → MachoType
 left_by old (Ok new) (Ok tt') = new
 left_by old (Ok new) (Err e) = old
 left_by old (Err refusal) answer = old
-
--- an answer to a batch, and what it leaves
-abbrev pub TakesBatch : List Call → MachoType → MachoType → Result (Unit {0}) MachoBatchError → Type 0
-TakesBatch calls old new answer =
-    AnswersBatch calls old answer × (new ≡ left_by old (container_step calls old) answer)
 
 -- what a list of batches leaves by their answers, and that each answer is the one of its batch upon what
 -- those before it left
@@ -73,6 +83,13 @@ AnswersAll [] (answer ∷ answers) file = ⊥
 AnswersAll (calls ∷ batches) [] file = ⊥
 AnswersAll (calls ∷ batches) (answer ∷ answers) file =
     AnswersBatch calls file answer × AnswersAll batches answers (left_by file (container_step calls file) answer)
+
+-- the same of answers in a `Vec`, and what they leave
+abbrev pub AnswersEach : List (List Call) → MachoType → Vec (Result (Unit {0}) MachoBatchError) Global → Type 0
+AnswersEach batches old answers = AnswersAll batches answers.items old
+
+abbrev pub LeavesEach : List (List Call) → MachoType → MachoType → Vec (Result (Unit {0}) MachoBatchError) Global → Type 0
+LeavesEach batches old new answers = new ≡ left_by_all batches answers.items old
 
 -- the calls of a list of batches
 abbrev pub all_calls : List (Vec MachoEdit Global) → List (List Call)

@@ -1,10 +1,13 @@
 -- Changes of all slices of a fat file, which were decided and wait to be carried out.
-use Rattle.std.specs.Prelude.{Bool, true, List, [], ◌∷◌}
+use Rattle.std.specs.Prelude.{◌≡◌, Bool, true, List, [], ◌∷◌, Ok}
 use Rattle.std.specs.List.{AllZip}
+use Rattle.std.specs.declared.alloc.Global.{Global}
+use Rattle.std.specs.declared.vec.Vec.{Vec}
 use Rattle.arwen_macho.specs.declared.change.Change.{Change}
-use Rattle.arwen_macho.specs.Change.{IsChangeOf, changed}
+use Rattle.arwen_macho.specs.Call.{Call}
+use Rattle.arwen_macho.specs.Change.{IsChangeOf, changed_file}
 use Rattle.arwen_macho.specs.FatHeld.{FatHeld}
-use Rattle.arwen_macho.specs.FatState.{Slice}
+use Rattle.arwen_macho.specs.FatState.{Slice, fat_step}
 use Rattle.arwen_macho.specs.Held.{Held}
 
 -- a slice's file, as its container holds it: a copy that was edited, or not
@@ -17,7 +20,7 @@ AreChangesOf held changes = AllZip (λ s change. IsChangeOf (held_slice held.is_
 
 -- slices with their changes carried out
 abbrev pub changed_slice : Slice → Change → Slice
-changed_slice s change = record { arch = s.arch; state = (changed (held_slice true s) change).state }
+changed_slice s change = record { arch = s.arch; state = (changed_file (held_slice true s) change).state }
 
 abbrev pub changed_slices : List Slice → List Change → List Slice
 changed_slices [] changes = []
@@ -30,3 +33,12 @@ fat_changed held changes = record {
   state = record { old = held.state.old; slices = changed_slices held.state.slices changes };
   is_edited = true;
 }
+
+-- changes of all slices that do what these calls do
+pub record AreStepOf (calls : List Call) (held : FatHeld) (changes : List Change) : Type 0 where
+  pub of : AreChangesOf held changes
+  pub steps : fat_step calls held.state ≡ Ok (fat_changed held changes).state
+
+-- the same of changes in a `Vec`
+abbrev pub StepsOf : List Call → FatHeld → Vec Change Global → Type 0
+StepsOf calls held changes = AreStepOf calls held changes.items

@@ -1,14 +1,14 @@
 -- What a container holds of a fat file, and what holds of every such state.
-use Rattle.std.specs.Prelude.{ℕ, ◌≡◌, ◌∷◌, [], Bool, true, false, List, map, All, None, Result, Ok, MatchResult}
+use Rattle.std.specs.Prelude.{ℕ, ◌≡◌, ◌∷◌, [], Bool, false, List, map, All, None, Result, Ok, MatchResult}
 use Rattle.macho_image.specs.Fat.{archs_of, slice_of}
 use Rattle.arwen_macho.specs.declared.batch.MachoBatchError.{MachoBatchError}
 use Rattle.arwen_macho.specs.declared.error.MachoError.{MachoError}
-use Rattle.arwen_macho.specs.Batch.{RefusesAt, is_edited_by}
+use Rattle.arwen_macho.specs.Batch.{RefusedAt}
 use Rattle.arwen_macho.specs.Call.{Call}
 use Rattle.arwen_macho.specs.FatState.{FatState, Slice, fat_step, first_fat_state}
 use Rattle.arwen_macho.specs.Found.{fat_found}
-use Rattle.arwen_macho.specs.Held.{RefusesStep}
-use Rattle.arwen_macho.specs.Refused.{cause_of}
+use Rattle.arwen_macho.specs.Held.{RefusedBy, is_edited_by}
+use Rattle.arwen_macho.specs.State.{Refusal}
 use Rattle.arwen_macho.specs.Whole.{IsState}
 
 -- the state, and whether its bytes are a copy that was edited
@@ -31,15 +31,20 @@ pub record IsFatState (s : FatState) : Type 0 where
   pub archs : map (λ s. s.arch) s.slices ≡ archs_of s.old
   pub slices : All (IsSlice s.old) s.slices
 
--- an answer to one edit or to a batch of a fat file, and what it leaves
-abbrev pub FatStepsOnce : Call → FatHeld → FatHeld → Result (Unit {0}) MachoError → Type 0
-FatStepsOnce call old new answer =
-    MatchResult answer
-    (λ _. (fat_step (call ∷ []) old.state ≡ Ok new.state) × (new.is_edited ≡ true))
-    (λ e. (new ≡ old) × RefusesStep (cause_of e) (fat_step (call ∷ []) old.state))
+-- an error tells the refusal that a batch meets in a fat file
+abbrev pub FatRefuses : List Call → FatHeld → MachoBatchError → Type 0
+FatRefuses calls held e = RefusedAt e (fat_step calls held.state)
 
-abbrev pub FatStepsBatch : List Call → FatHeld → FatHeld → Result (Unit {0}) MachoBatchError → Type 0
-FatStepsBatch calls old new answer =
+-- an answer to a batch, and what it leaves: as `Steps` says of a thin file
+abbrev pub FatSteps : {E : Type 0} → (E → Result FatState Refusal → Type 0) → List Call → FatHeld → FatHeld → Result (Unit {0}) E → Type 0
+FatSteps tells calls old new answer =
     MatchResult answer
     (λ _. (fat_step calls old.state ≡ Ok new.state) × (new.is_edited ≡ is_edited_by calls old.is_edited))
-    (λ e. (new ≡ old) × RefusesAt e.index (cause_of e.fault) (fat_step calls old.state))
+    (λ e. (new ≡ old) × tells e (fat_step calls old.state))
+
+-- to one edit, which is a batch of one, and to a batch
+abbrev pub FatStepsOnce : Call → FatHeld → FatHeld → Result (Unit {0}) MachoError → Type 0
+FatStepsOnce call old new answer = FatSteps RefusedBy (call ∷ []) old new answer
+
+abbrev pub FatStepsBatch : List Call → FatHeld → FatHeld → Result (Unit {0}) MachoBatchError → Type 0
+FatStepsBatch calls old new answer = FatSteps RefusedAt calls old new answer

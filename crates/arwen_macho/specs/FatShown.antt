@@ -5,7 +5,7 @@ use Rattle.macho_image.specs.Fat.{archs_of, slice_of}
 use Rattle.arwen_macho.specs.FatState.{FatState}
 use Rattle.arwen_macho.specs.Found.{fat_found}
 use Rattle.arwen_macho.specs.Shown.{Shows}
-use Rattle.arwen_macho.specs.State.{laid}
+use Rattle.arwen_macho.specs.State.{laid_bytes}
 
 -- a position at which no byte of a slice lies
 abbrev pub IsOutside : ℕ → FatArch → Type 0
@@ -17,6 +17,6 @@ pub record FatShows (s : FatState) (bytes : List ℕ) : Type 0 where
   pub accepted : fat_found bytes ≡ None
   pub long : length bytes ≡ length s.old
   pub archs : archs_of bytes ≡ archs_of s.old
-  pub slices : All (λ slice. slice_of bytes slice.arch ≡ laid slice.state) s.slices
+  pub slices : All (λ slice. slice_of bytes slice.arch ≡ laid_bytes slice.state) s.slices
   pub shown : All (λ slice. Shows slice.state (slice_of bytes slice.arch)) s.slices
   pub outside : (p : ℕ) → All (λ slice. IsOutside p slice.arch) s.slices → slice_index bytes p ≡ slice_index s.old p

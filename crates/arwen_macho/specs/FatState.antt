@@ -3,7 +3,7 @@ use Rattle.std.specs.Prelude.{ℕ, ◌+◌, List, [], ◌∷◌, ◌++◌, lengt
 use Rattle.macho_image.specs.declared.fat.FatArch.{FatArch}
 use Rattle.macho_image.specs.Fat.{archs_of, slice_of}
 use Rattle.arwen_macho.specs.Call.{Call}
-use Rattle.arwen_macho.specs.State.{Refusal, State, first_state, laid, step}
+use Rattle.arwen_macho.specs.State.{Refusal, State, first_state, laid_bytes, step}
 
 -- a slice: its record in the table, and its state
 pub record Slice : Type 0 where
@@ -44,10 +44,10 @@ abbrev pub put_at : ℕ → List ℕ → List ℕ → List ℕ
 put_at at part bytes = take at bytes ++ (part ++ drop (at + length part) bytes)
 
 -- bytes with the bytes of each slice at its offset
-abbrev pub laid_over : List Slice → List ℕ → List ℕ
-laid_over [] bytes = bytes
-laid_over (s ∷ slices) bytes = laid_over slices (put_at s.arch.offset (laid s.state) bytes)
+abbrev pub bytes_laid_over : List Slice → List ℕ → List ℕ
+bytes_laid_over [] bytes = bytes
+bytes_laid_over (s ∷ slices) bytes = bytes_laid_over slices (put_at s.arch.offset (laid_bytes s.state) bytes)
 
 -- the bytes of a fat file: those that were read, with the bytes of each slice in its place
-unfoldable pub fat_laid : FatState → List ℕ
-fat_laid s = laid_over s.slices s.old
+unfoldable pub fat_laid_bytes : FatState → List ℕ
+fat_laid_bytes s = bytes_laid_over s.slices s.old

@@ -1,13 +1,20 @@
 -- What edits write over a file's bytes.
-use Rattle.std.specs.Prelude.{ℕ, ◌≡◌, ◌+◌, ◌≤◌, List, [], ◌∷◌, length, take, All, Result, Ok}
+use Rattle.std.specs.Prelude.{ℕ, ◌≡◌, ◌+◌, ◌≤◌, List, [], ◌∷◌, length, take, All, Result, Ok, IfOk}
+use Rattle.std.specs.List.{AllZip}
+use Rattle.std.specs.declared.alloc.Global.{Global}
+use Rattle.std.specs.declared.vec.Vec.{Vec}
 use Rattle.arwen_macho.specs.declared.change.Change.{Change}
-use Rattle.arwen_macho.specs.declared.fat.FatMacho.{FatMacho}
 use Rattle.arwen_macho.specs.declared.front.Front.{Front}
+use Rattle.arwen_macho.specs.declared.macho.MachoType.{MachoType}
 use Rattle.arwen_macho.specs.Call.{Call}
-use Rattle.arwen_macho.specs.Change.{IsChangeOf, changed}
-use Rattle.arwen_macho.specs.FatState.{put_at}
+use Rattle.arwen_macho.specs.Change.{IsStepOf, changed_file}
+use Rattle.arwen_macho.specs.Container.{container_bytes, container_step}
+use Rattle.arwen_macho.specs.FatHeld.{FatHeld, IsFatState}
+use Rattle.arwen_macho.specs.FatSlice.{HeldSlice}
+use Rattle.arwen_macho.specs.FatState.{fat_laid_bytes, fat_step, put_at}
 use Rattle.arwen_macho.specs.Held.{Held}
-use Rattle.arwen_macho.specs.State.{Refusal, laid, step}
+use Rattle.arwen_macho.specs.State.{Refusal, laid_bytes, step}
+use Rattle.arwen_macho.specs.Whole.{IsState}
 
 -- bytes with fronts over them, the first one last
 abbrev pub fronts_on : List Front → List ℕ → List ℕ
@@ -25,14 +32,34 @@ pub record LeadOn {S : Type 0} (bytes_of : S → List ℕ) (old : S) (answer : R
   pub inside : All (LiesIn (length (bytes_of old))) fronts
   pub after : fronts_on fronts (bytes_of old) ≡ bytes_of new
 
+-- fronts that lead a thin file, a fat file or a file of either shape on to what these calls make of it
+abbrev pub LeadThin : List Call → Held → Vec Front Global → Type 0
+LeadThin calls held fronts = LeadOn laid_bytes held.state (step calls held.state) fronts.items
+
+abbrev pub LeadFat : List Call → FatHeld → Vec Front Global → Type 0
+LeadFat calls held fronts = LeadOn fat_laid_bytes held.state (fat_step calls held.state) fronts.items
+
+abbrev pub LeadFile : List Call → MachoType → Vec Front Global → Type 0
+LeadFile calls file fronts = LeadOn container_bytes file (container_step calls file) fronts.items
+
+-- what these calls make of a thin file or of a fat one is a state that edits can lead to
+abbrev pub StepIsThin : List Call → Held → Type 0
+StepIsThin calls held = IfOk (step calls held.state) IsState
+
+abbrev pub StepIsFat : List Call → FatHeld → Type 0
+StepIsFat calls held = IfOk (fat_step calls held.state) IsFatState
+
 -- the front of a thin file that stands at this offset, after a change that does what these calls do
 pub record IsFrontAt (calls : List Call) (held : Held) (at : ℕ) (front : Front) : Type 0 where
   pub change : Change
-  pub of : IsChangeOf held change
-  pub steps : step calls held.state ≡ Ok (changed held change).state
+  pub of : IsStepOf calls held change
   pub offset : front.offset ≡ at
-  pub bytes : front.bytes.items ≡ take change.high (laid (changed held change).state)
+  pub bytes : front.bytes.items ≡ take change.high (laid_bytes (changed_file held change).state)
 
 -- that of a slice
-abbrev pub IsFrontOf : List Call → FatMacho → Front → Type 0
+abbrev pub IsFrontOf : List Call → HeldSlice → Front → Type 0
 IsFrontOf calls m front = IsFrontAt calls m.inner m.arch.offset front
+
+-- those of the slices of a fat file
+abbrev pub AreFrontsOf : List Call → List HeldSlice → Vec Front Global → Type 0
+AreFrontsOf calls slices fronts = AllZip (IsFrontOf calls) slices fronts.items

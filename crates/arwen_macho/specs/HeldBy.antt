@@ -3,7 +3,7 @@ use Rattle.std.specs.Prelude.{◌≡◌}
 use Rattle.macho_image.specs.Commands.{commands_of}
 use Rattle.arwen_macho.specs.declared.macho.SingleMachO.TheInside.{Inside}
 use Rattle.arwen_macho.specs.Held.{Held}
-use Rattle.arwen_macho.specs.State.{laid}
+use Rattle.arwen_macho.specs.State.{laid_bytes}
 use Rattle.arwen_macho.specs.Whole.{IsState}
 
 -- the bytes as read, the commands of the bytes now, and the furthest end
@@ -16,4 +16,4 @@ held_of s = record {
 -- the bytes now are those of the state
 pub record IsHeld (s : Inside) : Type 0 where
   pub is_state : IsState (held_of s).state
-  pub bytes : s.inner.bytes ≡ laid (held_of s).state
+  pub bytes : s.inner.bytes ≡ laid_bytes (held_of s).state

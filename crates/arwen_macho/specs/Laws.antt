@@ -8,7 +8,7 @@ use Rattle.arwen_macho.specs.Call.{Call}
 use Rattle.arwen_macho.specs.Call.Call.{add_rpath, change_install_id, change_install_name, change_rpath, remove_rpath}
 use Rattle.arwen_macho.specs.Call.Cause.{no_room}
 use Rattle.arwen_macho.specs.Edited.{is_id, is_library_named, is_rpath_named}
-use Rattle.arwen_macho.specs.State.{State, available, edited_by, end_of, laid, step}
+use Rattle.arwen_macho.specs.State.{State, available, edited_by, end_of, laid_bytes, step}
 use Rattle.arwen_macho.specs.Whole.{IsState}
 
 -- no rpath command of the list has this text
@@ -16,17 +16,17 @@ abbrev pub LacksRpath : State → List ℕ → Type 0
 LacksRpath s text = All (λ c. is_rpath_named (ctx_of s.old).le text c ≡ false) s.list
 
 -- how many bytes a list takes of the pad behind another one's commands, and these bytes
-abbrev pub taken : State → List (List ℕ) → ℕ
-taken s list = end_of (ctx_of s.old) list - end_of (ctx_of s.old) s.list
+abbrev pub taken_size : State → List (List ℕ) → ℕ
+taken_size s list = end_of (ctx_of s.old) list - end_of (ctx_of s.old) s.list
 
 abbrev pub pad_taken : State → List (List ℕ) → List ℕ
-pad_taken s list = take (taken s list) (drop (end_of (ctx_of s.old) s.list) (laid s))
+pad_taken s list = take (taken_size s list) (drop (end_of (ctx_of s.old) s.list) (laid_bytes s))
 
 -- what is left where something was added to a state and removed again: the list is as it was, and so are
 -- the bytes, exactly if those that the list took meanwhile were zeros
 pub record GivesBack (s added removed : State) : Type 0 where
   pub list : removed.list ≡ s.list
-  pub bytes : (laid removed ≡ laid s) ↔ (pad_taken s added.list ≡ replicate (taken s added.list) 0)
+  pub bytes : (laid_bytes removed ≡ laid_bytes s) ↔ (pad_taken s added.list ≡ replicate (taken_size s added.list) 0)
 
 -- an rpath that was not there is added in one call, and removed in another
 abbrev pub RemoveGivesBack : Type 0

@@ -11,6 +11,7 @@ pub use Rattle.macho_image.specs.Image
 pub use Rattle.macho_image.specs.Prepared
 pub mod Batch
 pub mod Built
+pub mod Builds
 pub mod Call
 pub mod Change
 pub mod Converted
@@ -19,6 +20,8 @@ pub mod Edit
 pub mod Edited
 pub mod FatChange
 pub mod FatHeld
+pub mod FatLaws
+pub mod FileLaws
 pub mod FatHeldBy
 pub mod FatShown
 pub mod FatSlice

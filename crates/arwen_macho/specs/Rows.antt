@@ -1,5 +1,6 @@
 -- Built commands and small files under edits, byte by byte.
-use Rattle.std.specs.Prelude.{ℕ, ◌≡◌, List, [], ◌∷◌, ◌++◌, length, replicate, codes, None, Ok, Err, IsOkAnd}
+use Rattle.std.specs.Prelude.{ℕ, ◌≡◌, ◌+◌, List, [], ◌∷◌, ◌++◌, length, replicate, codes, None, Result, Ok, Err, IsOkAnd}
+use Rattle.std.specs.Result.{result_unwrap_or}
 use Rattle.patch_bytes.specs.declared.number.ByteOrder2.TheVariants.{Little, Big}
 use Rattle.patch_bytes.specs.declared.number.Wide.TheVariants.{W32, W64}
 use Rattle.macho_image.specs.declared.command.DylibCommand.{DylibCommand}
@@ -8,12 +9,15 @@ use Rattle.macho_image.specs.declared.format.Ctx.{Ctx}
 use Rattle.macho_image.specs.Checks.{file_fault}
 use Rattle.macho_image.specs.Commands.{first_content_of, rpaths_of}
 use Rattle.macho_image.specs.Form.{ctx_of, form}
+use Rattle.arwen_macho.specs.declared.batch.MachoBatchError.{MachoBatchError}
+use Rattle.arwen_macho.specs.declared.error.MachoError.TheVariants.{NoRoom}
 use Rattle.arwen_macho.specs.Built.{built_dylib, built_rpath, dylib_built, rpath_built}
 use Rattle.arwen_macho.specs.Call.{Call, Cause}
 use Rattle.arwen_macho.specs.Call.Call.{add_rpath, change_install_id, change_install_name, change_rpath, remove_rpath}
 use Rattle.arwen_macho.specs.Call.Cause.{name_missing, no_room, nul_inside, rpath_missing}
-use Rattle.arwen_macho.specs.Edited.{edited}
-use Rattle.arwen_macho.specs.State.{State, first_state, laid, run, step}
+use Rattle.arwen_macho.specs.Container.{AnswersAll, container_bytes, first_container, left_by_all}
+use Rattle.arwen_macho.specs.Edited.{edited_list}
+use Rattle.arwen_macho.specs.State.{State, first_state, laid_bytes, step}
 
 -- the four forms of a header
 abbrev pub narrow_little : Ctx
@@ -137,16 +141,20 @@ IsAccepted ctx bytes = (file_fault bytes ≡ None) × (ctx_of bytes ≡ ctx)
 abbrev pub AcceptsWideLittle : Type 0
 AcceptsWideLittle = IsAccepted wide_little (empty_file (zeros 32))
 
+-- the state after a batch, or as it was where that is refused
+abbrev pub after_batch : List Call → State → State
+after_batch calls s = result_unwrap_or (step calls s) s
+
 -- the file that is read, and what one addition makes of it
 abbrev pub READ : State
 READ = first_state (empty_file (zeros 32))
 
 abbrev pub ADDED : State
-ADDED = run ((add_rpath LOCAL ∷ []) ∷ []) READ
+ADDED = after_batch (add_rpath LOCAL ∷ []) READ
 
 -- where the step is accepted, these are the bytes
 abbrev pub StepsTo : List Call → State → List ℕ → Type 0
-StepsTo calls s bytes = IsOkAnd (step calls s) (λ next. laid next ≡ bytes)
+StepsTo calls s bytes = IsOkAnd (step calls s) (λ next. laid_bytes next ≡ bytes)
 
 -- where it is refused, why
 abbrev pub StepRefused : List Call → State → ℕ → Cause → Type 0
@@ -157,14 +165,29 @@ AddsFirst = StepsTo (add_rpath LOCAL ∷ []) READ (file_with (1 ∷ 0 ∷ 0 ∷ 
 
 -- what the bytes then show to whoever reads them
 abbrev pub ShowsFirst : Type 0
-ShowsFirst = IsAccepted wide_little (laid ADDED) × (rpaths_of (laid ADDED) ≡ LOCAL ∷ [])
+ShowsFirst = IsAccepted wide_little (laid_bytes ADDED) × (rpaths_of (laid_bytes ADDED) ≡ LOCAL ∷ [])
 
 abbrev pub AddsNoSecond : Type 0
 AddsNoSecond = StepRefused (add_rpath LOCAL ∷ []) ADDED 1 (no_room 96 64)
 
--- a refused batch leaves the state as it was
+-- an accepted batch, and one that is refused for want of room behind so many edits
+abbrev pub ACCEPTED : Result (Unit {0}) MachoBatchError
+ACCEPTED = Ok tt
+
+abbrev pub refused_for_room : ℕ → ℕ → ℕ → Result (Unit {0}) MachoBatchError
+refused_for_room index needed available = Err (record { index = index; fault = NoRoom needed available })
+
+-- batch after batch on a file: they are answered so, and leave these bytes
+abbrev pub BatchesLeave : List ℕ → List (List Call) → List (Result (Unit {0}) MachoBatchError) → List ℕ → Type 0
+BatchesLeave old batches answers bytes =
+    AnswersAll batches answers (first_container old)
+    × (container_bytes (left_by_all batches answers (first_container old)) ≡ bytes)
+
+-- a refused batch leaves the file as it was
 abbrev pub KeepsRefused : Type 0
-KeepsRefused = run ((add_rpath LOCAL ∷ []) ∷ (add_rpath LOCAL ∷ []) ∷ []) READ ≡ ADDED
+KeepsRefused =
+    BatchesLeave (empty_file (zeros 32)) ((add_rpath LOCAL ∷ []) ∷ (add_rpath LOCAL ∷ []) ∷ []) (ACCEPTED ∷ refused_for_room 1 96 64 ∷ [])
+    (file_with (1 ∷ 0 ∷ 0 ∷ 0 ∷ 0x20 ∷ 0 ∷ 0 ∷ 0 ∷ []) LOCAL_WIDE_LITTLE)
 
 -- a batch whose first edit alone has no room
 abbrev pub AddsThenRemoves : Type 0
@@ -181,7 +204,9 @@ abbrev pub KeepsPad : Type 0
 KeepsPad = StepsTo (add_rpath PATH_A ∷ remove_rpath PATH_A ∷ []) FULL (empty_file (replicate 32 0xaa))
 
 abbrev pub ClearsPad : Type 0
-ClearsPad = laid (run ((add_rpath PATH_A ∷ []) ∷ (remove_rpath PATH_A ∷ []) ∷ []) FULL) ≡ empty_file (zeros 16 ++ replicate 16 0xaa)
+ClearsPad =
+    BatchesLeave (empty_file (replicate 32 0xaa)) ((add_rpath PATH_A ∷ []) ∷ (remove_rpath PATH_A ∷ []) ∷ []) (ACCEPTED ∷ ACCEPTED ∷ [])
+    (empty_file (zeros 16 ++ replicate 16 0xaa))
 
 -- the number of the refused edit
 abbrev pub RefusesSecond : Type 0
@@ -198,7 +223,7 @@ abbrev pub AddsWideBig : Type 0
 AddsWideBig = StepsTo (add_rpath LOCAL ∷ []) READ_WIDE_BIG ((0xfe ∷ 0xed ∷ 0xfa ∷ 0xcf ∷ zeros 12) ++ (0 ∷ 0 ∷ 0 ∷ 1 ∷ 0 ∷ 0 ∷ 0 ∷ 0x20 ∷ zeros 8) ++ LOCAL_WIDE_BIG)
 
 abbrev pub AddsNoSecondWideBig : Type 0
-AddsNoSecondWideBig = StepRefused (add_rpath LOCAL ∷ []) (run ((add_rpath LOCAL ∷ []) ∷ []) READ_WIDE_BIG) 1 (no_room 96 64)
+AddsNoSecondWideBig = StepRefused (add_rpath LOCAL ∷ []) (after_batch (add_rpath LOCAL ∷ []) READ_WIDE_BIG) 1 (no_room 96 64)
 
 abbrev pub READ_NARROW_LITTLE : State
 READ_NARROW_LITTLE = first_state ((0xce ∷ 0xfa ∷ 0xed ∷ 0xfe ∷ zeros 24) ++ zeros 28)
@@ -210,7 +235,7 @@ abbrev pub AddsNarrowLittle : Type 0
 AddsNarrowLittle = StepsTo (add_rpath LOCAL ∷ []) READ_NARROW_LITTLE ((0xce ∷ 0xfa ∷ 0xed ∷ 0xfe ∷ zeros 12) ++ (1 ∷ 0 ∷ 0 ∷ 0 ∷ 0x1c ∷ 0 ∷ 0 ∷ 0 ∷ zeros 4) ++ LOCAL_NARROW_LITTLE)
 
 abbrev pub AddsNoSecondNarrowLittle : Type 0
-AddsNoSecondNarrowLittle = StepRefused (add_rpath LOCAL ∷ []) (run ((add_rpath LOCAL ∷ []) ∷ []) READ_NARROW_LITTLE) 1 (no_room 84 56)
+AddsNoSecondNarrowLittle = StepRefused (add_rpath LOCAL ∷ []) (after_batch (add_rpath LOCAL ∷ []) READ_NARROW_LITTLE) 1 (no_room 84 56)
 
 abbrev pub READ_NARROW_BIG : State
 READ_NARROW_BIG = first_state ((0xfe ∷ 0xed ∷ 0xfa ∷ 0xce ∷ zeros 24) ++ zeros 28)
@@ -222,7 +247,7 @@ abbrev pub AddsNarrowBig : Type 0
 AddsNarrowBig = StepsTo (add_rpath LOCAL ∷ []) READ_NARROW_BIG ((0xfe ∷ 0xed ∷ 0xfa ∷ 0xce ∷ zeros 12) ++ (0 ∷ 0 ∷ 0 ∷ 1 ∷ 0 ∷ 0 ∷ 0 ∷ 0x1c ∷ zeros 4) ++ LOCAL_NARROW_BIG)
 
 abbrev pub AddsNoSecondNarrowBig : Type 0
-AddsNoSecondNarrowBig = StepRefused (add_rpath LOCAL ∷ []) (run ((add_rpath LOCAL ∷ []) ∷ []) READ_NARROW_BIG) 1 (no_room 84 56)
+AddsNoSecondNarrowBig = StepRefused (add_rpath LOCAL ∷ []) (after_batch (add_rpath LOCAL ∷ []) READ_NARROW_BIG) 1 (no_room 84 56)
 
 -- the name is looked for before the new text is
 abbrev pub RefusesNul : Type 0
@@ -236,49 +261,49 @@ RefusesMissingFirst = StepRefused (change_rpath ABSENT BROKEN ∷ []) ADDED 0 (r
 
 -- what is added stands behind the others
 abbrev pub AddsBehind : Type 0
-AddsBehind = edited wide_little (add_rpath PATH_A) (built_rpath wide_little PATH_B ∷ []) ≡ Ok (built_rpath wide_little PATH_B ∷ built_rpath wide_little PATH_A ∷ [])
+AddsBehind = edited_list wide_little (add_rpath PATH_A) (built_rpath wide_little PATH_B ∷ []) ≡ Ok (built_rpath wide_little PATH_B ∷ built_rpath wide_little PATH_A ∷ [])
 
 -- the first of two equal ones is meant
 abbrev pub TWICE_A : List (List ℕ)
 TWICE_A = built_rpath wide_little PATH_A ∷ built_rpath wide_little PATH_B ∷ built_rpath wide_little PATH_A ∷ []
 
 abbrev pub RemovesFirst : Type 0
-RemovesFirst = edited wide_little (remove_rpath PATH_A) TWICE_A ≡ Ok (built_rpath wide_little PATH_B ∷ built_rpath wide_little PATH_A ∷ [])
+RemovesFirst = edited_list wide_little (remove_rpath PATH_A) TWICE_A ≡ Ok (built_rpath wide_little PATH_B ∷ built_rpath wide_little PATH_A ∷ [])
 
 abbrev pub ChangesFirst : Type 0
-ChangesFirst = edited wide_little (change_rpath PATH_A LOCAL) TWICE_A ≡ Ok (built_rpath wide_little LOCAL ∷ built_rpath wide_little PATH_B ∷ built_rpath wide_little PATH_A ∷ [])
+ChangesFirst = edited_list wide_little (change_rpath PATH_A LOCAL) TWICE_A ≡ Ok (built_rpath wide_little LOCAL ∷ built_rpath wide_little PATH_B ∷ built_rpath wide_little PATH_A ∷ [])
 
 -- the library's own name is none of those that are loaded
 abbrev pub OWN_NAME : List (List ℕ)
 OWN_NAME = built_dylib wide_little NAME OWN ∷ []
 
 abbrev pub RefusesOwnName : Type 0
-RefusesOwnName = edited wide_little (change_install_name NAME PATH_A) OWN_NAME ≡ Err (name_missing NAME)
+RefusesOwnName = edited_list wide_little (change_install_name NAME PATH_A) OWN_NAME ≡ Err (name_missing NAME)
 
 abbrev pub ChangesOwnName : Type 0
-ChangesOwnName = edited wide_little (change_install_id PATH_A) OWN_NAME ≡ Ok (built_dylib wide_little PATH_A OWN ∷ [])
+ChangesOwnName = edited_list wide_little (change_install_id PATH_A) OWN_NAME ≡ Ok (built_dylib wide_little PATH_A OWN ∷ [])
 
 -- texts are compared whole, and byte by byte: a beginning is another text, and so is what a byte that is
 -- no character is shown as
 abbrev pub RefusesBeginning : Type 0
-RefusesBeginning = edited wide_little (remove_rpath PATH_A) (built_rpath wide_little (codes "/ab") ∷ []) ≡ Err (rpath_missing PATH_A)
+RefusesBeginning = edited_list wide_little (remove_rpath PATH_A) (built_rpath wide_little (codes "/ab") ∷ []) ≡ Err (rpath_missing PATH_A)
 
 abbrev pub RefusesLonger : Type 0
-RefusesLonger = edited wide_little (remove_rpath (codes "/ab")) (built_rpath wide_little PATH_A ∷ []) ≡ Err (rpath_missing (codes "/ab"))
+RefusesLonger = edited_list wide_little (remove_rpath (codes "/ab")) (built_rpath wide_little PATH_A ∷ []) ≡ Err (rpath_missing (codes "/ab"))
 
 abbrev pub RefusesShownAs : Type 0
 RefusesShownAs =
-    edited wide_little (remove_rpath (0xef ∷ 0xbf ∷ 0xbd ∷ [])) (built_rpath wide_little (0xff ∷ []) ∷ []) ≡ Err (rpath_missing (0xef ∷ 0xbf ∷ 0xbd ∷ []))
+    edited_list wide_little (remove_rpath (0xef ∷ 0xbf ∷ 0xbd ∷ [])) (built_rpath wide_little (0xff ∷ []) ∷ []) ≡ Err (rpath_missing (0xef ∷ 0xbf ∷ 0xbd ∷ []))
 
 -- a library that is loaded twice, in two ways, and one with two names of its own
 abbrev pub ChangesFirstLibrary : Type 0
 ChangesFirstLibrary =
-    edited wide_big (change_install_name NAME PATH_A) (built_dylib wide_big NAME OWN ∷ built_dylib wide_big NAME WEAK ∷ built_dylib wide_big NAME LIBRARY ∷ [])
+    edited_list wide_big (change_install_name NAME PATH_A) (built_dylib wide_big NAME OWN ∷ built_dylib wide_big NAME WEAK ∷ built_dylib wide_big NAME LIBRARY ∷ [])
     ≡ Ok (built_dylib wide_big NAME OWN ∷ built_dylib wide_big PATH_A WEAK ∷ built_dylib wide_big NAME LIBRARY ∷ [])
 
 abbrev pub ChangesFirstId : Type 0
 ChangesFirstId =
-    edited narrow_little (change_install_id PATH_A) (built_dylib narrow_little NAME LIBRARY ∷ built_dylib narrow_little NAME OWN ∷ built_dylib narrow_little PATH_B OWN ∷ [])
+    edited_list narrow_little (change_install_id PATH_A) (built_dylib narrow_little NAME LIBRARY ∷ built_dylib narrow_little NAME OWN ∷ built_dylib narrow_little PATH_B OWN ∷ [])
     ≡ Ok (built_dylib narrow_little NAME LIBRARY ∷ built_dylib narrow_little PATH_A OWN ∷ built_dylib narrow_little PATH_B OWN ∷ [])
 
 -- a file of 80 bytes with one command, of 24: a symbol table, of one symbol, at this offset
@@ -301,3 +326,33 @@ AddsNothingAmongCommands = StepRefused (add_rpath PATH_A ∷ []) (file_with_symb
 
 abbrev pub KeepsAmongCommands : Type 0
 KeepsAmongCommands = StepsTo (add_rpath PATH_A ∷ remove_rpath PATH_A ∷ []) (file_with_symbols 40) (file_with_symbols 40).old
+
+-- a fat file with two slices behind its table of 48 bytes, one behind the other
+abbrev pub fat_file : List ℕ → List ℕ → List ℕ
+fat_file first second =
+    (0xca ∷ 0xfe ∷ 0xba ∷ 0xbe ∷ 0 ∷ 0 ∷ 0 ∷ 2 ∷ [])
+    ++ (zeros 11 ++ 48 ∷ 0 ∷ 0 ∷ 0 ∷ length first ∷ zeros 4)
+    ++ (zeros 11 ++ (48 + length first) ∷ 0 ∷ 0 ∷ 0 ∷ length second ∷ zeros 4)
+    ++ first ++ second
+
+-- a file of 32 bits, big, without load commands, and with so many zeros behind its header
+abbrev pub narrow_file : ℕ → List ℕ
+narrow_file n = (0xfe ∷ 0xed ∷ 0xfa ∷ 0xce ∷ zeros 24) ++ zeros n
+
+-- an rpath is added in both slices; then the first one has no room for another, and both stay
+abbrev pub AddsInBoth : Type 0
+AddsInBoth =
+    BatchesLeave (fat_file (empty_file (zeros 32)) (narrow_file 36)) ((add_rpath LOCAL ∷ []) ∷ (add_rpath LOCAL ∷ []) ∷ []) (ACCEPTED ∷ refused_for_room 1 96 64 ∷ [])
+    (fat_file (file_with (1 ∷ 0 ∷ 0 ∷ 0 ∷ 0x20 ∷ 0 ∷ 0 ∷ 0 ∷ []) LOCAL_WIDE_LITTLE) ((0xfe ∷ 0xed ∷ 0xfa ∷ 0xce ∷ zeros 12) ++ (0 ∷ 0 ∷ 0 ∷ 1 ∷ 0 ∷ 0 ∷ 0 ∷ 0x1c ∷ zeros 4) ++ LOCAL_NARROW_BIG ++ zeros 8))
+
+-- where the second slice has no room, the first one stays too
+abbrev pub AddsInNone : Type 0
+AddsInNone =
+    BatchesLeave (fat_file (empty_file (zeros 32)) (narrow_file 0)) ((add_rpath PATH_A ∷ []) ∷ []) (refused_for_room 1 44 28 ∷ [])
+    (fat_file (empty_file (zeros 32)) (narrow_file 0))
+
+-- an rpath that is added in both slices and removed in the next batch leaves the file as it was
+abbrev pub GivesBackInBoth : Type 0
+GivesBackInBoth =
+    BatchesLeave (fat_file (empty_file (zeros 32)) (narrow_file 36)) ((add_rpath LOCAL ∷ []) ∷ (remove_rpath LOCAL ∷ []) ∷ []) (ACCEPTED ∷ ACCEPTED ∷ [])
+    (fat_file (empty_file (zeros 32)) (narrow_file 36))

@@ -18,7 +18,7 @@ pub record IsWhole (order : ByteOrder2) (c : List ℕ) : Type 0 where
   pub bytes : AreBytes c
 
 -- a list made of another one: each command is whole, and the contents that they name are the same
-pub record Keeps (order : ByteOrder2) (old new : List (List ℕ)) : Type 0 where
+pub record KeepsContents (order : ByteOrder2) (old new : List (List ℕ)) : Type 0 where
   pub whole : All (IsWhole order) new
   pub contents : flat_map (contents_of order) new ≡ flat_map (contents_of order) old
 

@@ -1,10 +1,8 @@
-ghost use Rattle.std.specs.Prelude.{◌≡◌, All, MatchResult, Ok, OnOk, string_bytes};
+ghost use Rattle.std.specs.Prelude.{◌≡◌, IfOk, string_bytes};
 ghost use Rattle.patch_bytes.specs.Bytes.{AreBytes};
 ghost use Rattle.arwen_macho.specs.declared.error.MachoError.TheVariants.{Memory};
-ghost use Rattle.arwen_macho.specs.Batch.{RefusesAt, call_made, calls_of};
-ghost use Rattle.arwen_macho.specs.Edit.{call_of};
-ghost use Rattle.arwen_macho.specs.Refused.{cause_of};
-ghost use Rattle.arwen_macho.specs.State.{edited_by};
+ghost use Rattle.arwen_macho.specs.Batch.{EditsAll, call_made, calls_of};
+ghost use Rattle.arwen_macho.specs.Edit.{AreTexts, call_of, calls_lent};
 ghost use Rattle.arwen_macho.specs.Whole.{TextsAreBytes};
 
 use crate::draft::{Edit, edit_commands};
@@ -94,19 +92,30 @@ impl MachoEdit {
     }
 }
 
+/// The same edits with lent texts.
+pub(crate) fn lend_all(alloc: Global, edits: &[MachoEdit]) -> Result<Vec<Edit<'_>>, AllocError>
+    ensures calls { IfOk result (λ lent. calls_lent lent.items ≡ calls_of edits.now) }
+    ensures texts { IfOk result (λ lent. AreTexts lent.items) }
+{
+    let mut lent = Vec::with_capacity(alloc, edits.len())?;
+    for edit in edits {
+        lent.push(edit.lend())?;
+    }
+    Ok(lent)
+}
+
 /// Edits a list of load commands, each edit upon what the one before it left. After an error the list
 /// tells nothing.
 pub(crate) fn edit_all(
     alloc: Global,
     ctx: Ctx,
     commands: &mut Vec<ByteString<'_>>,
-    edits: &[MachoEdit],
+    edits: &[Edit<'_>],
 ) -> Result<(), MachoBatchError>
-    ensures edits { MatchResult result (λ _. edited_by ctx 0 (calls_of edits.now) commands.old.items ≡ Ok commands.new.items) (λ e. RefusesAt e.index (cause_of e.fault) (edited_by ctx 0 (calls_of edits.now) commands.old.items)) }
-    ensures texts { OnOk result (All TextsAreBytes (calls_of edits.now)) }
+    ensures { EditsAll ctx (calls_lent edits.now) commands.old.items commands.new.items result }
 {
     for (index, edit) in edits.iter().enumerate() {
-        if let Err(fault) = edit_commands(alloc, ctx, commands, edit.lend()) {
+        if let Err(fault) = edit_commands(alloc, ctx, commands, *edit) {
             return Err(MachoBatchError { index, fault });
         }
     }

@@ -1,22 +1,20 @@
-ghost use Rattle.std.specs.Prelude.{◌≡◌, ℕ, ◌+◌, ◌*◌, ◌≤◌, List, ◌++◌, length, replicate, Ok, IfOk, MatchResult, OnOk};
+ghost use Rattle.std.specs.Prelude.{◌≡◌, ◌+◌, ◌*◌, ◌≤◌, ◌++◌, length, replicate, IfOk, OnOk};
 ghost use Rattle.patch_bytes.specs.Number.{bytes_of};
-ghost use Rattle.macho_image.specs.Command.{dylib_of, rpath_of};
-ghost use Rattle.arwen_macho.specs.Built.{built_size, dylib_built, fields, nul_position, padded_text, rpath_built, sized, unless_nul};
-ghost use Rattle.arwen_macho.specs.Refused.{Refuses, builder_cause};
+ghost use Rattle.arwen_macho.specs.Builds.{BuildsDylib, BuildsRpath, SizesCommand};
+ghost use Rattle.arwen_macho.specs.Built.{fields, nul_position, padded_command};
 ghost use Rattle.arwen_macho.specs.declared.commands.CommandBuilderError.TheVariants.{CStrError, Memory};
 
 use crate::utils::{align_to_arch, padding_size};
-use macho_image::command::LC_RPATH;
+use macho_image::command::{DYLIB_COMMAND_SIZE, LC_RPATH, RPATH_COMMAND_SIZE};
 use macho_image::{Ctx, Dylib, DylibCommand, RpathCommand};
 use patch_bytes::ByteOrder2;
 use std::alloc::{AllocError, AllocFailed, Global};
 use thiserror::Error;
 
-// How many bytes stand before the text of an rpath command.
-const RPATH_FIXED: u32 = 12;
+// How many bytes stand before the text of an rpath command, and before the name of a library command.
+const RPATH_FIXED: u32 = RPATH_COMMAND_SIZE as u32;
 
-// How many bytes stand before the name of a library command.
-const DYLIB_FIXED: u32 = 24;
+const DYLIB_FIXED: u32 = DYLIB_COMMAND_SIZE as u32;
 
 /// A text that holds a NUL, which would end it before its end.
 #[derive(Clone, Copy, Debug, PartialEq, Eq, Error)]
@@ -74,7 +72,7 @@ fn nul_in(text: &[u8]) -> Option<usize>
 // The size of a command with a fixed part of so many bytes and this text, where it can be built.
 fn command_size(text: &[u8], fixed: u32, ctx: Ctx) -> Result<u32, CommandBuilderError>
     requires { fixed ≤ 24 }
-    ensures { MatchResult result (λ size. (size ≡ built_size ctx.container fixed text.now) × ((c : List ℕ) → unless_nul (nul_position text.now) (sized size c) ≡ Ok c)) (λ e. (c : List ℕ) → Refuses (builder_cause e) (unless_nul (nul_position text.now) (sized (built_size ctx.container fixed text.now) c))) }
+    ensures { SizesCommand ctx.container fixed text.now result }
 {
     if let Some(position) = nul_in(text) {
         return Err(CommandBuilderError::from(NulInside { position }));
@@ -128,7 +126,7 @@ fn command_bytes(
     size: usize,
 ) -> Result<Vec<u8>, AllocError>
     requires { 4 * length numbers.now + length text.now ≤ size }
-    ensures { IfOk result (λ bytes. bytes.items ≡ fields order numbers.now ++ padded_text size (4 * length numbers.now) text.now) }
+    ensures { IfOk result (λ bytes. bytes.items ≡ padded_command order numbers.now size text.now) }
 {
     let mut bytes = Vec::with_capacity(alloc, size)?;
     push_fields(&mut bytes, order, numbers)?;
@@ -162,7 +160,7 @@ impl<'a> RpathCommandBuilder<'a> {
     /// (`ScrollError`); then where there is no memory (`Memory`).
     #[tactic(auto, unfolding(crate::specs::Built::rpath_built))]
     pub fn build(&self, alloc: Global) -> Result<(RpathCommand, Vec<u8>), CommandBuilderError>
-        ensures { MatchResult result (λ built. (rpath_built self.now.ctx self.now.raw_str.now ≡ Ok built.1.items) × (built.0 ≡ rpath_of self.now.ctx.le built.1.items)) (λ e. Refuses (builder_cause e) (rpath_built self.now.ctx self.now.raw_str.now)) }
+        ensures { BuildsRpath self.now.ctx self.now.raw_str.now result }
     {
         let text = self.raw_str.as_bytes();
         let cmdsize = command_size(text, RPATH_FIXED, self.ctx)?;
@@ -209,7 +207,7 @@ impl<'a> DlibCommandBuilder<'a> {
     /// (`ScrollError`); then where there is no memory (`Memory`).
     #[tactic(auto, unfolding(crate::specs::Built::dylib_built))]
     pub fn build(&self, alloc: Global) -> Result<(DylibCommand, Vec<u8>), CommandBuilderError>
-        ensures { MatchResult result (λ built. (dylib_built self.now.ctx self.now.dlib_name.now self.now.dlib ≡ Ok built.1.items) × (built.0 ≡ dylib_of self.now.ctx.le built.1.items)) (λ e. Refuses (builder_cause e) (dylib_built self.now.ctx self.now.dlib_name.now self.now.dlib)) }
+        ensures { BuildsDylib self.now.ctx self.now.dlib_name.now self.now.dlib result }
     {
         let text = self.dlib_name.as_bytes();
         let cmdsize = command_size(text, DYLIB_FIXED, self.ctx)?;

@@ -1,15 +1,15 @@
-ghost use Rattle.std.specs.Prelude.{◌≡◌, ◌+◌, ◌≤◌, ◌<◌, length, [], position, slice_index_or, slice_set, vec_len, IfSome, MatchResult, Ok};
+ghost use Rattle.std.specs.Prelude.{◌≡◌, ◌+◌, ◌≤◌, ◌<◌, length, [], position, slice_index_or, slice_set, vec_len, IfSome};
 ghost use Rattle.arwen_macho.specs.Built.{dylib_built, rpath_built};
 ghost use Rattle.arwen_macho.specs.Call.Call.{add_rpath, change_install_id, change_install_name, change_rpath, remove_rpath};
 ghost use Rattle.macho_image.specs.Command.{dylib_of};
 ghost use Rattle.arwen_macho.specs.Call.Cause.{name_missing, rpath_missing};
-ghost use Rattle.arwen_macho.specs.Edit.{Edits, call_of};
+ghost use Rattle.arwen_macho.specs.Edit.{Edits, GivesBuilt, call_of};
 ghost use Rattle.arwen_macho.specs.Edited.{is_id, is_library_named, is_rpath_named};
-ghost use Rattle.arwen_macho.specs.Refused.{Refuses, cause_of};
+ghost use Rattle.arwen_macho.specs.Refused.{cause_of};
 
 use crate::commands::{DlibCommandBuilder, RpathCommandBuilder};
 use crate::error::MachoError;
-use macho_image::command::{LC_ID_DYLIB, LC_RPATH};
+use macho_image::command::{DYLIB_COMMAND_SIZE, LC_ID_DYLIB, LC_RPATH, RPATH_COMMAND_SIZE};
 use macho_image::field::{dylib_of, number32};
 use macho_image::kind::is_load_kind;
 use macho_image::text::command_text;
@@ -37,7 +37,7 @@ pub enum Edit<'t> {
 fn names_rpath(order: ByteOrder2, text: &str, command: &[u8]) -> bool
     ensures { result ≡ is_rpath_named order text.now command.now }
 {
-    command.len() >= 12
+    command.len() >= RPATH_COMMAND_SIZE
         && number32(command, 0, order) == LC_RPATH
         && command_text(order, command) == text.as_bytes()
 }
@@ -47,7 +47,7 @@ fn names_rpath(order: ByteOrder2, text: &str, command: &[u8]) -> bool
 fn names_itself(order: ByteOrder2, command: &[u8]) -> bool
     ensures { result ≡ is_id order command.now }
 {
-    command.len() >= 24 && number32(command, 0, order) == LC_ID_DYLIB
+    command.len() >= DYLIB_COMMAND_SIZE && number32(command, 0, order) == LC_ID_DYLIB
 }
 
 // Whether a command loads the library of this name.
@@ -55,7 +55,7 @@ fn names_itself(order: ByteOrder2, command: &[u8]) -> bool
 fn names_library(order: ByteOrder2, text: &str, command: &[u8]) -> bool
     ensures { result ≡ is_library_named order text.now command.now }
 {
-    command.len() >= 24
+    command.len() >= DYLIB_COMMAND_SIZE
         && is_load_kind(number32(command, 0, order))
         && command_text(order, command) == text.as_bytes()
 }
@@ -118,7 +118,7 @@ fn missing_library(alloc: Global, text: &str) -> MachoError
 
 // The rpath command with this text.
 fn built_rpath(alloc: Global, ctx: Ctx, text: &str) -> Result<Vec<u8>, MachoError>
-    ensures { MatchResult result (λ built. rpath_built ctx text.now ≡ Ok built.items) (λ e. Refuses (cause_of e) (rpath_built ctx text.now)) }
+    ensures { GivesBuilt (rpath_built ctx text.now) result }
 {
     let (_, built) = RpathCommandBuilder::new(text, ctx).build(alloc)?;
     Ok(built)
@@ -131,7 +131,7 @@ fn built_dylib(
     text: &str,
     old: DylibCommand,
 ) -> Result<Vec<u8>, MachoError>
-    ensures { MatchResult result (λ built. dylib_built ctx text.now old ≡ Ok built.items) (λ e. Refuses (cause_of e) (dylib_built ctx text.now old)) }
+    ensures { GivesBuilt (dylib_built ctx text.now old) result }
 {
     let (_, built) = DlibCommandBuilder::new(text, old, ctx).build(alloc)?;
     Ok(built)
@@ -167,7 +167,8 @@ fn replace_rpath(
     old: &str,
     new: &str,
 ) -> Result<(), MachoError>
-    ensures { Edits ctx (change_rpath old.now new.now) commands.old.items commands.new.items result }
+    ensures { Edits ctx (change_rpath old.now new.now)
+        commands.old.items commands.new.items result }
 {
     let Some(place) = rpath_place(ctx.le, commands.as_slice(), old) else {
         return Err(missing_rpath(alloc, old));
@@ -219,7 +220,8 @@ fn replace_library(
     old: &str,
     new: &str,
 ) -> Result<(), MachoError>
-    ensures { Edits ctx (change_install_name old.now new.now) commands.old.items commands.new.items result }
+    ensures { Edits ctx (change_install_name old.now new.now)
+        commands.old.items commands.new.items result }
 {
     let Some(place) = library_place(ctx.le, commands.as_slice(), old) else {
         return Err(missing_library(alloc, old));

@@ -1,20 +1,18 @@
-ghost use Rattle.std.specs.Prelude.{◌≡◌, ◌∷◌, [], ◌+◌, ◌≤◌, All, IfOk, IfErr, MatchResult, None, Ok, Some, length, map, take};
+ghost use Rattle.std.specs.Prelude.{◌≡◌, ◌∷◌, [], ◌+◌, ◌≤◌, All, IfOk, IfErr, IsOk, MatchResult, None, OnOk, length, map, take, true};
 ghost use Rattle.std.specs.List.{AllZip};
 ghost use Rattle.std.specs.Str.{bytes_eq};
 ghost use Rattle.patch_bytes.specs.ByteString.{bytes_shown};
 ghost use Rattle.macho_image.specs.Fat.{archs_of, slice_of, table_fault};
-ghost use Rattle.arwen_macho.specs.Batch.{RefusesAt, calls_of};
+ghost use Rattle.arwen_macho.specs.Batch.{calls_of};
 ghost use Rattle.arwen_macho.specs.Call.Call.{add_rpath, change_install_id, change_install_name, change_rpath, remove_rpath};
-ghost use Rattle.arwen_macho.specs.Edit.{call_of};
-ghost use Rattle.arwen_macho.specs.FatSlice.{IsReadyIn, IsStepOf, changed_macho, changed_machos, first_macho, front_of, fronts_over, slice_held};
-ghost use Rattle.arwen_macho.specs.FatState.{put_at, step_slices};
+ghost use Rattle.arwen_macho.specs.Edit.{AreTexts, call_of, calls_lent};
+ghost use Rattle.arwen_macho.specs.FatSlice.{AreStepsIn, IsReadyIn, SlicesRefuse, changed_macho, changed_machos, first_macho, front_of, fronts_over, slice_held};
+ghost use Rattle.arwen_macho.specs.FatState.{put_at};
 ghost use Rattle.arwen_macho.specs.Found.{ARCHIVE, Finds, found_fault, slice_found, slices_found};
-ghost use Rattle.arwen_macho.specs.Fronts.{IsFrontOf};
-ghost use Rattle.arwen_macho.specs.Held.{RefusesStep};
-ghost use Rattle.arwen_macho.specs.Refused.{cause_of};
+ghost use Rattle.arwen_macho.specs.Fronts.{AreFrontsOf};
 ghost use Rattle.arwen_macho.specs.Whole.{TextsAreBytes};
 
-use crate::batch::{MachoBatchError, MachoEdit};
+use crate::batch::{MachoBatchError, MachoEdit, lend_all};
 use crate::change::Change;
 use crate::draft::Edit;
 use crate::error::MachoError;
@@ -29,6 +27,14 @@ use std::marker::Model;
 pub struct FatMacho<'a> {
     inner: SingleMachO<'a>,
     arch: FatArch,
+}
+
+impl<'a> Model for FatMacho<'a> {
+    ghost use Rattle.arwen_macho.specs.FatSlice.{HeldSlice};
+
+    ghost Value = { HeldSlice };
+
+    ghost view = { λ m. record { arch = m.arch; inner = m.inner } };
 }
 
 impl<'a> FatMacho<'a> {
@@ -49,7 +55,9 @@ impl<'a> FatMacho<'a> {
 
 // The records of a fat file's table, or the first of its checks that fails.
 fn read_table(alloc: Global, bytes: &[u8]) -> Result<Vec<FatArch>, MachoError>
-    ensures { MatchResult result (λ archs. (table_fault bytes.now ≡ None) × (archs.items ≡ archs_of bytes.now)) (λ e. Finds e (found_fault (table_fault bytes.now))) }
+    ensures { MatchResult result
+        (λ archs. (table_fault bytes.now ≡ None) × (archs.items ≡ archs_of bytes.now))
+        (λ e. Finds e (found_fault (table_fault bytes.now))) }
 {
     let archs = fat_archs(alloc, bytes)?;
     Ok(archs)
@@ -70,7 +78,10 @@ fn parse_slice<'a>(
     arch: FatArch,
 ) -> Result<FatMacho<'a>, MachoError>
     requires { arch.offset + arch.size ≤ length bytes.now }
-    ensures { MatchResult result (λ m. (slice_found (slice_of bytes.entry.now arch) ≡ None) × (m ≡ first_macho bytes.entry.now arch)) (λ e. Finds e (slice_found (slice_of bytes.entry.now arch))) }
+    ensures { MatchResult result
+        (λ m. (slice_found (slice_of bytes.entry.now arch) ≡ None)
+        × (m ≡ first_macho bytes.entry.now arch))
+        (λ e. Finds e (slice_found (slice_of bytes.entry.now arch))) }
 {
     let start = arch.offset as usize;
     let slice = &bytes[start..start + arch.size as usize];
@@ -88,7 +99,10 @@ fn parse_slices<'a>(
     archs: &[FatArch],
 ) -> Result<Vec<FatMacho<'a>>, MachoError>
     requires { All (λ arch. arch.offset + arch.size ≤ length bytes.now) archs.now }
-    ensures { MatchResult result (λ slices. (slices_found (map (slice_of bytes.entry.now) archs.now) ≡ None) × (slices.items ≡ map (first_macho bytes.entry.now) archs.now)) (λ e. Finds e (slices_found (map (slice_of bytes.entry.now) archs.now))) }
+    ensures { MatchResult result
+        (λ slices. (slices_found (map (slice_of bytes.entry.now) archs.now) ≡ None)
+        × (slices.items ≡ map (first_macho bytes.entry.now) archs.now))
+        (λ e. Finds e (slices_found (map (slice_of bytes.entry.now) archs.now))) }
 {
     let mut slices = Vec::new(alloc);
     for arch in archs {
@@ -98,49 +112,33 @@ fn parse_slices<'a>(
     Ok(slices)
 }
 
-// What one edit asks of each slice, decided in their order.
-fn changes_once(
-    alloc: Global,
-    slices: &[FatMacho<'_>],
-    edit: Edit<'_>,
-) -> Result<Vec<Change>, MachoError>
-    requires { TextsAreBytes (call_of edit) }
-    ensures ok { IfOk result (λ changes. AllZip (IsStepOf (call_of edit.entry ∷ [])) slices.now changes.items) }
-    ensures err { IfErr result (λ e. RefusesStep (cause_of e) (step_slices (call_of edit.entry ∷ []) (map slice_held slices.now))) }
-{
-    let mut changes = Vec::with_capacity(alloc, slices.len())?;
-    for slice in slices {
-        let change = slice.inner.change_by(alloc, edit)?;
-        changes.push(change)?;
-    }
-    Ok(changes)
-}
-
-// What a batch of edits asks of each slice, decided in their order.
+// What edits ask of each slice, decided in their order.
 fn changes_all(
     alloc: Global,
     slices: &[FatMacho<'_>],
-    edits: &[MachoEdit],
+    edits: &[Edit<'_>],
 ) -> Result<Vec<Change>, MachoBatchError>
-    ensures ok { IfOk result (λ changes. AllZip (IsStepOf (calls_of edits.now)) slices.now changes.items) }
-    ensures err { IfErr result (λ e. RefusesAt e.index (cause_of e.fault) (step_slices (calls_of edits.now) (map slice_held slices.now))) }
+    requires { AreTexts edits.now }
+    ensures ok { IfOk result (AreStepsIn (calls_lent edits.now) slices.now) }
+    ensures err { IfErr result (SlicesRefuse (calls_lent edits.now) slices.now) }
 {
     let mut changes = Vec::with_capacity(alloc, slices.len())?;
     for slice in slices {
-        let change = slice.inner.change_by_all(alloc, edits)?;
+        let change = slice.inner.change_by(alloc, edits)?;
         changes.push(change)?;
     }
     Ok(changes)
 }
 
-// The front of each slice that a batch of edits asks for, decided in their order.
+// The front of each slice that edits ask for, decided in their order.
 fn fronts_all(
     alloc: Global,
     slices: &[FatMacho<'_>],
-    edits: &[MachoEdit],
+    edits: &[Edit<'_>],
 ) -> Result<Vec<Front>, MachoBatchError>
-    ensures ok { IfOk result (λ fronts. AllZip (IsFrontOf (calls_of edits.now)) slices.now fronts.items) }
-    ensures err { IfErr result (λ e. RefusesAt e.index (cause_of e.fault) (step_slices (calls_of edits.now) (map slice_held slices.now))) }
+    requires { AreTexts edits.now }
+    ensures ok { IfOk result (AreFrontsOf (calls_lent edits.now) slices.now) }
+    ensures err { IfErr result (SlicesRefuse (calls_lent edits.now) slices.now) }
 {
     let mut fronts = Vec::with_capacity(alloc, slices.len())?;
     for slice in slices {
@@ -180,7 +178,8 @@ fn commit_all(slices: &mut [FatMacho<'_>], mut changes: Vec<Change>, copy: &mut 
 
 // The copy of the file, or a new one. A new one is refused where there is no memory.
 fn copy_of(alloc: Global, source: &[u8], edited: Option<Vec<u8>>) -> Result<Vec<u8>, AllocError>
-    ensures { MatchResult result (λ copy. copy.items ≡ bytes_shown source.now edited) (λ _. edited ≡ None) }
+    ensures { MatchResult result
+        (λ copy. copy.items ≡ bytes_shown source.now edited) (λ _. edited ≡ None) }
 {
     match edited {
         Some(copy) => Ok(copy),
@@ -211,17 +210,19 @@ impl<'a> Model for FatMachoContainer<'a> {
 }
 
 impl<'a> FatMachoContainer<'a> {
-    ghost use Rattle.arwen_macho.specs.FatChange.{AreChangesOf, fat_changed};
-    ghost use Rattle.arwen_macho.specs.FatHeld.{FatStepsBatch, FatStepsOnce, first_fat_held};
+    ghost use Rattle.arwen_macho.specs.FatChange.{AreChangesOf, StepsOf, fat_changed};
+    ghost use Rattle.arwen_macho.specs.FatHeld.{FatRefuses, FatStepsBatch, FatStepsOnce, first_fat_held};
     ghost use Rattle.arwen_macho.specs.FatShown.{FatShows};
-    ghost use Rattle.arwen_macho.specs.FatState.{fat_laid, fat_step};
+    ghost use Rattle.arwen_macho.specs.FatState.{fat_laid_bytes};
     ghost use Rattle.arwen_macho.specs.Found.{fat_found};
-    ghost use Rattle.arwen_macho.specs.Fronts.{LeadOn};
+    ghost use Rattle.arwen_macho.specs.Fronts.{LeadFat, StepIsFat};
 
     /// Parses a fat file. It is refused by the first check that fails: those of the table, then those of
     /// each slice in the table's order, among them that it is no Unix archive; or where there is no memory.
     pub fn parse(alloc: Global, bytes: &'a [u8]) -> Result<FatMachoContainer<'a>, MachoError>
-        ensures { MatchResult result (λ fat. (fat_found bytes.entry.now ≡ None) × (fat ≡ first_fat_held bytes.entry.now)) (λ e. Finds e (fat_found bytes.entry.now)) }
+        ensures { MatchResult result
+            (λ fat. (fat_found bytes.entry.now ≡ None) × (fat ≡ first_fat_held bytes.entry.now))
+            (λ e. Finds e (fat_found bytes.entry.now)) }
     {
         let table = read_table(alloc, bytes)?;
         let archs = parse_slices(alloc, bytes, &table)?;
@@ -234,7 +235,7 @@ impl<'a> FatMachoContainer<'a> {
 
     /// The bytes as edited: those that were read until the first accepted edit. Takes no memory.
     pub fn bytes(&self) -> &[u8]
-        ensures bytes { result.now ≡ fat_laid self.now.state }
+        ensures bytes { result.now ≡ fat_laid_bytes self.now.state }
         ensures shows { FatShows self.now.state result.now }
     {
         match &self.edited {
@@ -250,23 +251,11 @@ impl<'a> FatMachoContainer<'a> {
         self.archs.as_slice()
     }
 
-    // What one edit asks of the slices.
-    fn changes_by(&self, alloc: Global, edit: Edit<'_>) -> Result<Vec<Change>, MachoError>
-        requires { TextsAreBytes (call_of edit) }
-        ensures ok { IfOk result (λ changes. AreChangesOf self.now changes.items × (fat_step (call_of edit.entry ∷ []) self.now.state ≡ Ok (fat_changed self.now changes.items).state)) }
-        ensures err { IfErr result (λ e. RefusesStep (cause_of e) (fat_step (call_of edit.entry ∷ []) self.now.state)) }
-    {
-        changes_once(alloc, &self.archs, edit)
-    }
-
-    // What a batch of edits asks of the slices.
-    fn changes_by_all(
-        &self,
-        alloc: Global,
-        edits: &[MachoEdit],
-    ) -> Result<Vec<Change>, MachoBatchError>
-        ensures ok { IfOk result (λ changes. AreChangesOf self.now changes.items × (fat_step (calls_of edits.now) self.now.state ≡ Ok (fat_changed self.now changes.items).state)) }
-        ensures err { IfErr result (λ e. RefusesAt e.index (cause_of e.fault) (fat_step (calls_of edits.now) self.now.state)) }
+    // What edits ask of the slices.
+    fn changes_by(&self, alloc: Global, edits: &[Edit<'_>]) -> Result<Vec<Change>, MachoBatchError>
+        requires { AreTexts edits.now }
+        ensures ok { IfOk result (StepsOf (calls_lent edits.now) self.now) }
+        ensures err { IfErr result (FatRefuses (calls_lent edits.now) self.now) }
     {
         changes_all(alloc, &self.archs, edits)
     }
@@ -274,8 +263,20 @@ impl<'a> FatMachoContainer<'a> {
     /// What `apply` would write over the file's bytes: the front of each slice, in their order. It is refused
     /// where `apply` is, and nothing changes.
     pub fn fronts(&self, alloc: Global, edits: &[MachoEdit]) -> Result<Vec<Front>, MachoBatchError>
-        ensures ok { IfOk result (λ fronts. LeadOn fat_laid self.now.state (fat_step (calls_of edits.now) self.now.state) fronts.items) }
-        ensures err { IfErr result (λ e. RefusesAt e.index (cause_of e.fault) (fat_step (calls_of edits.now) self.now.state)) }
+        ensures ok { IfOk result (LeadFat (calls_of edits.now) self.now) }
+        ensures state { OnOk result (StepIsFat (calls_of edits.now) self.now) }
+        ensures err { IfErr result (FatRefuses (calls_of edits.now) self.now) }
+    {
+        let lent = lend_all(alloc, edits)?;
+        self.fronts_by(alloc, lent.as_slice())
+    }
+
+    // The same of edits with lent texts.
+    fn fronts_by(&self, alloc: Global, edits: &[Edit<'_>]) -> Result<Vec<Front>, MachoBatchError>
+        requires { AreTexts edits.now }
+        ensures ok { IfOk result (LeadFat (calls_lent edits.now) self.now) }
+        ensures state { OnOk result (StepIsFat (calls_lent edits.now) self.now) }
+        ensures err { IfErr result (FatRefuses (calls_lent edits.now) self.now) }
     {
         fronts_all(alloc, &self.archs, edits)
     }
@@ -283,7 +284,8 @@ impl<'a> FatMachoContainer<'a> {
     // Carries out a change of each slice, in the copy of the file. There may be no memory for the copy.
     fn commit(&mut self, alloc: Global, changes: Vec<Change>) -> Result<(), AllocError>
         requires { AreChangesOf self.old changes.items }
-        ensures { MatchResult result (λ _. self.new ≡ fat_changed self.old changes.items) (λ _. self.new ≡ self.old) }
+        ensures { MatchResult result
+            (λ _. self.new ≡ fat_changed self.old changes.items) (λ _. self.new ≡ self.old) }
     {
         let mut copy = copy_of(alloc, self.source, self.edited.take())?;
         commit_all(&mut self.archs, changes, &mut copy);
@@ -291,14 +293,30 @@ impl<'a> FatMachoContainer<'a> {
         Ok(())
     }
 
-    // One edit of every slice, or none of it.
-    pub(crate) fn edit(&mut self, alloc: Global, edit: Edit<'_>) -> Result<(), MachoError>
+    // Several edits of every slice, all of them or none.
+    pub(crate) fn apply_lent(
+        &mut self,
+        alloc: Global,
+        edits: &[Edit<'_>],
+    ) -> Result<(), MachoBatchError>
+        requires some { 1 ≤ length edits.now }
+        requires texts { AreTexts edits.now }
+        ensures { FatStepsBatch (calls_lent edits.now) self.old self.new result }
+    {
+        let changes = self.changes_by(alloc, edits)?;
+        self.commit(alloc, changes)?;
+        Ok(())
+    }
+
+    // One edit of every slice: a batch of one.
+    fn edit(&mut self, alloc: Global, edit: Edit<'_>) -> Result<(), MachoError>
         requires { TextsAreBytes (call_of edit) }
         ensures { FatStepsOnce (call_of edit.entry) self.old self.new result }
     {
-        let changes = self.changes_by(alloc, edit)?;
-        self.commit(alloc, changes)?;
-        Ok(())
+        match self.apply_lent(alloc, &[edit]) {
+            Ok(()) => Ok(()),
+            Err(refused) => Err(refused.fault),
+        }
     }
 
     /// Appends an rpath command with this text to every slice.
@@ -343,23 +361,26 @@ impl<'a> FatMachoContainer<'a> {
     }
 
     /// Makes several edits in every slice, each upon what the one before it left: all of them in all
-    /// slices, or none. The first slice that refuses decides the error. No edits are accepted and change
-    /// nothing.
+    /// slices, or none. The first slice that refuses decides the error. No edits are accepted without memory,
+    /// and change nothing.
     pub fn apply(&mut self, alloc: Global, edits: &[MachoEdit]) -> Result<(), MachoBatchError>
-        ensures { FatStepsBatch (calls_of edits.now) self.old self.new result }
+        ensures steps { FatStepsBatch (calls_of edits.now) self.old self.new result }
+        ensures none { edits.now ≡ [] → IsOk result }
     {
         if edits.is_empty() {
-            let _held = self.edited.is_some();
+            // From a read of the fields on it is known what holds of them.
+            let _read = self.edited.is_some();
             return Ok(());
         }
-        let changes = self.changes_by_all(alloc, edits)?;
-        self.commit(alloc, changes)?;
-        Ok(())
+        let lent = lend_all(alloc, edits)?;
+        self.apply_lent(alloc, lent.as_slice())
     }
 
-    /// The bytes as edited: the copy that was edited, or a new one of the bytes that were read.
+    /// The bytes as edited, handed out: without a copy where they were edited, else copied. The only error is
+    /// that there is no memory.
     pub fn into_bytes(self, alloc: Global) -> Result<Vec<u8>, AllocError>
-        ensures { IfOk result (λ bytes. bytes.items ≡ fat_laid self.entry.state) }
+        ensures bytes { IfOk result (λ bytes. bytes.items ≡ fat_laid_bytes self.entry.state) }
+        ensures owned { self.entry.is_edited ≡ true → IsOk result }
     {
         let FatMachoContainer {
             source,

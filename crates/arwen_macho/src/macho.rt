@@ -1,21 +1,25 @@
-ghost use Rattle.std.specs.Prelude.{◌≡◌, ◌+◌, ◌≤◌, ◌∷◌, [], max, nat_le, length, take, true, None, Ok, IsOk, IfOk, IfErr, OnErr, MatchResult};
+ghost use Rattle.std.specs.Prelude.{◌≡◌, ◌+◌, ◌≤◌, ◌∷◌, [], nat_le, length, true, None, IsOk, IfOk, IfErr, OnErr, OnOk, MatchResult};
 ghost use Rattle.std.specs.List.{concat};
 ghost use Rattle.macho_image.specs.Checks.{file_fault};
 ghost use Rattle.macho_image.specs.Commands.{first_content_of};
 ghost use Rattle.macho_image.specs.Form.{commands_end, ctx_of};
 ghost use Rattle.arwen_macho.specs.Call.Call.{add_rpath, change_install_id, change_install_name, change_rpath, remove_rpath};
 
-use crate::batch::edit_all;
 pub use crate::batch::{MachoBatchError, MachoEdit};
+use crate::batch::{edit_all, lend_all};
 use crate::change::{Change, Fit};
-use crate::draft::{Edit, edit_commands};
+use crate::draft::Edit;
 pub use crate::error::MachoError;
 pub use crate::fat::{FatMacho, FatMachoContainer};
 pub use crate::front::{Front, lay_fronts};
 use crate::room::{available, commands_end, fits};
-pub use macho_image::{Ctx, MachFault, MachO};
+pub use macho_image::{
+    CommandVariant, Ctx, Dylib, DylibCommand, FatArch, Header, LoadCommand, LoadCommandHeader,
+    MachFault, MachO, RpathCommand,
+};
 use macho_image::{header_size, is_fat};
 use patch_bytes::ByteString;
+pub use patch_bytes::{ByteOrder2, Wide};
 use std::alloc::{AllocError, Global};
 use std::marker::Model;
 
@@ -51,20 +55,22 @@ fn joined(alloc: Global, commands: &[ByteString<'_>]) -> Result<Vec<u8>, AllocEr
 }
 
 impl<'a> SingleMachO<'a> {
-    ghost use Rattle.arwen_macho.specs.Batch.{RefusesAt, StepsBatch, calls_of};
-    ghost use Rattle.arwen_macho.specs.Change.{IsChangeOf, RefusesRoom, change_with, changed, list_of};
-    ghost use Rattle.arwen_macho.specs.Edit.{call_of};
+    ghost use Rattle.arwen_macho.specs.Batch.{StepsBatch, ThinRefuses, calls_of};
+    ghost use Rattle.arwen_macho.specs.Change.{IsChangeOf, IsFitFor, IsStepFit, IsStepOf, RefusesRoom, change_with, changed_file, front_fit};
+    ghost use Rattle.arwen_macho.specs.Edit.{AreTexts, call_of, calls_lent};
     ghost use Rattle.arwen_macho.specs.Found.{Finds, found_fault};
-    ghost use Rattle.arwen_macho.specs.Fronts.{IsFrontAt, LeadOn};
-    ghost use Rattle.arwen_macho.specs.Held.{RefusesStep, StepsOnce, first_held, image_held};
+    ghost use Rattle.arwen_macho.specs.Fronts.{IsFrontAt, LeadThin, StepIsThin};
+    ghost use Rattle.arwen_macho.specs.Held.{StepsOnce, first_held, image_held};
     ghost use Rattle.arwen_macho.specs.Refused.{cause_of};
     ghost use Rattle.arwen_macho.specs.Shown.{Shows};
-    ghost use Rattle.arwen_macho.specs.State.{laid, step};
-    ghost use Rattle.arwen_macho.specs.Whole.{IsState, Keeps, TextsAreBytes};
+    ghost use Rattle.arwen_macho.specs.State.{laid_bytes};
+    ghost use Rattle.arwen_macho.specs.Whole.{IsState, KeepsContents, TextsAreBytes};
 
     /// Parses a thin file. It is refused by the first check that fails, or where there is no memory.
     pub fn parse(alloc: Global, bytes: &'a [u8]) -> Result<SingleMachO<'a>, MachoError>
-        ensures { MatchResult result (λ macho. (file_fault bytes.entry.now ≡ None) × (macho ≡ first_held bytes.entry.now)) (λ e. Finds e (found_fault (file_fault bytes.entry.now))) }
+        ensures { MatchResult result
+            (λ macho. (file_fault bytes.entry.now ≡ None) × (macho ≡ first_held bytes.entry.now))
+            (λ e. Finds e (found_fault (file_fault bytes.entry.now))) }
     {
         let inner = MachO::parse(alloc, bytes)?;
         let high = commands_end(&inner);
@@ -77,7 +83,7 @@ impl<'a> SingleMachO<'a> {
 
     /// The bytes as edited: those that were read until the first accepted edit. Takes no memory.
     pub fn bytes(&self) -> &[u8]
-        ensures bytes { result.now ≡ laid self.now.state }
+        ensures bytes { result.now ≡ laid_bytes self.now.state }
         ensures shows { Shows self.now.state result.now }
         ensures state { IsState self.now.state }
     {
@@ -101,7 +107,7 @@ impl<'a> SingleMachO<'a> {
     /// The bytes as edited, handed out: without a copy where they were edited, else copied. The only
     /// error is that there is no memory.
     pub fn into_bytes(self, alloc: Global) -> Result<Vec<u8>, AllocError>
-        ensures bytes { IfOk result (λ bytes. bytes.items ≡ laid self.entry.state) }
+        ensures bytes { IfOk result (λ bytes. bytes.items ≡ laid_bytes self.entry.state) }
         ensures owned { self.entry.is_edited ≡ true → IsOk result }
     {
         let SingleMachO { inner, .. } = self;
@@ -110,8 +116,8 @@ impl<'a> SingleMachO<'a> {
 
     // Another list of load commands, if there is room for it.
     fn fit_for(&self, alloc: Global, commands: &[ByteString<'_>]) -> Result<Fit, MachoError>
-        requires { Keeps (ctx_of self.now.state.old).le self.now.state.list commands.now }
-        ensures ok { IfOk result (λ fit. IsChangeOf self.now (change_with self.now fit) × (list_of self.now (change_with self.now fit) ≡ commands.now)) }
+        requires { KeepsContents (ctx_of self.now.state.old).le self.now.state.list commands.now }
+        ensures ok { IfOk result (IsFitFor self.now commands.now) }
         ensures err { IfErr result (λ e. RefusesRoom self.now.state commands.now (cause_of e)) }
     {
         let area = joined(alloc, commands)?;
@@ -142,7 +148,7 @@ impl<'a> SingleMachO<'a> {
     // The bytes that differ where a list that fits is brought in: the file's front with it.
     pub(crate) fn front_with(&self, alloc: Global, fit: &Fit) -> Result<Vec<u8>, AllocError>
         requires { IsChangeOf self.now (change_with self.now fit.now) }
-        ensures { IfOk result (λ front. front.items ≡ take fit.now.high (laid (changed self.now (change_with self.now fit.now)).state)) }
+        ensures { IfOk result (λ front. front.items ≡ front_fit self.now fit.now) }
     {
         self.inner.front_with(alloc, fit.count, &fit.area, fit.high)
     }
@@ -150,42 +156,99 @@ impl<'a> SingleMachO<'a> {
     // Carries out a change. Takes no memory.
     pub(crate) fn commit(&mut self, change: Change)
         requires { IsChangeOf self.old change }
-        ensures { self.new ≡ changed self.old change }
+        ensures { self.new ≡ changed_file self.old change }
     {
         let Change { prepared, high } = change;
         self.inner.store(prepared, high);
         self.high = high;
     }
 
-    // The list that one edit leaves, decided upon a draft of it.
-    fn fit_by(&self, alloc: Global, edit: Edit<'_>) -> Result<Fit, MachoError>
-        requires { TextsAreBytes (call_of edit) }
-        ensures ok { IfOk result (λ fit. IsChangeOf self.now (change_with self.now fit) × (step (call_of edit.entry ∷ []) self.now.state ≡ Ok (changed self.now (change_with self.now fit)).state)) }
-        ensures err { IfErr result (λ e. RefusesStep (cause_of e) (step (call_of edit.entry ∷ []) self.now.state)) }
+    // The list that edits leave, decided upon a draft of it.
+    fn fit_by(&self, alloc: Global, edits: &[Edit<'_>]) -> Result<Fit, MachoBatchError>
+        requires { AreTexts edits.now }
+        ensures ok { IfOk result (IsStepFit (calls_lent edits.now) self.now) }
+        ensures err { IfErr result (ThinRefuses (calls_lent edits.now) self.now) }
     {
         let mut commands = self.inner.commands(alloc)?;
-        edit_commands(alloc, self.inner.ctx(), &mut commands, edit)?;
-        self.fit_for(alloc, commands.as_slice())
+        edit_all(alloc, self.inner.ctx(), &mut commands, edits)?;
+        match self.fit_for(alloc, commands.as_slice()) {
+            Ok(fit) => Ok(fit),
+            Err(fault) => Err(MachoBatchError {
+                index: edits.len(),
+                fault,
+            }),
+        }
     }
 
-    // What one edit asks for.
-    pub(crate) fn change_by(&self, alloc: Global, edit: Edit<'_>) -> Result<Change, MachoError>
-        requires { TextsAreBytes (call_of edit) }
-        ensures ok { IfOk result (λ change. IsChangeOf self.now change × (step (call_of edit.entry ∷ []) self.now.state ≡ Ok (changed self.now change).state)) }
-        ensures err { IfErr result (λ e. RefusesStep (cause_of e) (step (call_of edit.entry ∷ []) self.now.state)) }
+    // What edits ask for.
+    pub(crate) fn change_by(
+        &self,
+        alloc: Global,
+        edits: &[Edit<'_>],
+    ) -> Result<Change, MachoBatchError>
+        requires { AreTexts edits.now }
+        ensures ok { IfOk result (IsStepOf (calls_lent edits.now) self.now) }
+        ensures err { IfErr result (ThinRefuses (calls_lent edits.now) self.now) }
     {
-        let fit = self.fit_by(alloc, edit)?;
+        let fit = self.fit_by(alloc, edits)?;
         Ok(self.change_with(alloc, fit)?)
     }
 
-    // One edit, or none of it.
-    pub(crate) fn edit(&mut self, alloc: Global, edit: Edit<'_>) -> Result<(), MachoError>
+    // The front of the file that edits ask for, where the file begins at an offset of another.
+    pub(crate) fn front_at(
+        &self,
+        alloc: Global,
+        offset: usize,
+        edits: &[Edit<'_>],
+    ) -> Result<Front, MachoBatchError>
+        requires { AreTexts edits.now }
+        ensures ok { IfOk result (IsFrontAt (calls_lent edits.now) self.now offset) }
+        ensures err { IfErr result (ThinRefuses (calls_lent edits.now) self.now) }
+    {
+        let fit = self.fit_by(alloc, edits)?;
+        let bytes = self.front_with(alloc, &fit)?;
+        Ok(Front { offset, bytes })
+    }
+
+    // What a batch of edits writes over the file's bytes.
+    fn fronts(&self, alloc: Global, edits: &[MachoEdit]) -> Result<Vec<Front>, MachoBatchError>
+        ensures ok { IfOk result (LeadThin (calls_of edits.now) self.now) }
+        ensures state { OnOk result (StepIsThin (calls_of edits.now) self.now) }
+        ensures err { IfErr result (ThinRefuses (calls_of edits.now) self.now) }
+    {
+        // From a read of the fields on it is known what holds of them.
+        let _read = self.high;
+        let lent = lend_all(alloc, edits)?;
+        let front = self.front_at(alloc, 0, lent.as_slice())?;
+        let mut fronts = Vec::new(alloc);
+        fronts.push(front)?;
+        Ok(fronts)
+    }
+
+    // Several edits, all of them or none.
+    pub(crate) fn apply_lent(
+        &mut self,
+        alloc: Global,
+        edits: &[Edit<'_>],
+    ) -> Result<(), MachoBatchError>
+        requires some { 1 ≤ length edits.now }
+        requires texts { AreTexts edits.now }
+        ensures { StepsBatch (calls_lent edits.now) self.old self.new result }
+    {
+        let change = self.change_by(alloc, edits)?;
+        self.commit(change);
+        Ok(())
+    }
+
+    // One edit: a batch of one.
+    fn edit(&mut self, alloc: Global, edit: Edit<'_>) -> Result<(), MachoError>
         requires { TextsAreBytes (call_of edit) }
         ensures { StepsOnce (call_of edit.entry) self.old self.new result }
     {
-        let change = self.change_by(alloc, edit)?;
-        self.commit(change);
-        Ok(())
+        match self.apply_lent(alloc, &[edit]) {
+            Ok(()) => Ok(()),
+            Err(refused) => Err(refused.fault),
+        }
     }
 
     /// Appends an rpath command with this text.
@@ -229,86 +292,19 @@ impl<'a> SingleMachO<'a> {
         self.edit(alloc, Edit::ChangeInstallName(old, new))
     }
 
-    // The list that a batch of edits leaves, decided upon a draft of it.
-    pub(crate) fn fit_by_all(
-        &self,
-        alloc: Global,
-        edits: &[MachoEdit],
-    ) -> Result<Fit, MachoBatchError>
-        ensures ok { IfOk result (λ fit. IsChangeOf self.now (change_with self.now fit) × (step (calls_of edits.now) self.now.state ≡ Ok (changed self.now (change_with self.now fit)).state)) }
-        ensures err { IfErr result (λ e. RefusesAt e.index (cause_of e.fault) (step (calls_of edits.now) self.now.state)) }
-    {
-        let mut commands = match self.inner.commands(alloc) {
-            Ok(commands) => commands,
-            Err(_) => {
-                return Err(MachoBatchError {
-                    index: 0,
-                    fault: MachoError::Memory,
-                });
-            }
-        };
-        edit_all(alloc, self.inner.ctx(), &mut commands, edits)?;
-        match self.fit_for(alloc, commands.as_slice()) {
-            Ok(fit) => Ok(fit),
-            Err(fault) => Err(MachoBatchError {
-                index: edits.len(),
-                fault,
-            }),
-        }
-    }
-
-    // What a batch of edits asks for.
-    pub(crate) fn change_by_all(
-        &self,
-        alloc: Global,
-        edits: &[MachoEdit],
-    ) -> Result<Change, MachoBatchError>
-        ensures ok { IfOk result (λ change. IsChangeOf self.now change × (step (calls_of edits.now) self.now.state ≡ Ok (changed self.now change).state)) }
-        ensures err { IfErr result (λ e. RefusesAt e.index (cause_of e.fault) (step (calls_of edits.now) self.now.state)) }
-    {
-        let fit = self.fit_by_all(alloc, edits)?;
-        Ok(self.change_with(alloc, fit)?)
-    }
-
-    // The front of the file that a batch of edits asks for, where the file begins at an offset of another.
-    pub(crate) fn front_at(
-        &self,
-        alloc: Global,
-        offset: usize,
-        edits: &[MachoEdit],
-    ) -> Result<Front, MachoBatchError>
-        ensures ok { IfOk result (λ front. IsFrontAt (calls_of edits.now) self.now offset front) }
-        ensures err { IfErr result (λ e. RefusesAt e.index (cause_of e.fault) (step (calls_of edits.now) self.now.state)) }
-    {
-        let fit = self.fit_by_all(alloc, edits)?;
-        let bytes = self.front_with(alloc, &fit)?;
-        Ok(Front { offset, bytes })
-    }
-
-    // What a batch of edits writes over the file's bytes.
-    fn fronts(&self, alloc: Global, edits: &[MachoEdit]) -> Result<Vec<Front>, MachoBatchError>
-        ensures ok { IfOk result (λ fronts. LeadOn laid self.now.state (step (calls_of edits.now) self.now.state) fronts.items) }
-        ensures err { IfErr result (λ e. RefusesAt e.index (cause_of e.fault) (step (calls_of edits.now) self.now.state)) }
-    {
-        let _held = self.high;
-        let front = self.front_at(alloc, 0, edits)?;
-        let mut fronts = Vec::new(alloc);
-        fronts.push(front)?;
-        Ok(fronts)
-    }
-
     /// Makes several edits, each upon what the one before it left: all of them, or none. Whether there is
-    /// room is decided by the last list alone. No edits are accepted and change nothing.
+    /// room is decided by the last list alone. No edits are accepted without memory, and change nothing.
     pub fn apply(&mut self, alloc: Global, edits: &[MachoEdit]) -> Result<(), MachoBatchError>
-        ensures { StepsBatch (calls_of edits.now) self.old self.new result }
+        ensures steps { StepsBatch (calls_of edits.now) self.old self.new result }
+        ensures none { edits.now ≡ [] → IsOk result }
     {
         if edits.is_empty() {
-            let _held = self.high;
+            // From a read of the fields on it is known what holds of them.
+            let _read = self.high;
             return Ok(());
         }
-        let change = self.change_by_all(alloc, edits)?;
-        self.commit(change);
-        Ok(())
+        let lent = lend_all(alloc, edits)?;
+        self.apply_lent(alloc, lent.as_slice())
     }
 }
 
@@ -336,25 +332,27 @@ impl<'a> Model for MachoContainer<'a> {
 }
 
 impl<'a> MachoContainer<'a> {
-    ghost use Rattle.arwen_macho.specs.Batch.{RefusesAt, calls_of};
-    ghost use Rattle.arwen_macho.specs.Container.{AnswersAll, TakesBatch, TakesOnce, all_calls, container_bytes, container_step, first_container, left_by_all};
-    ghost use Rattle.arwen_macho.specs.ContainerShown.{ShowsFile};
-    ghost use Rattle.arwen_macho.specs.Edit.{call_of};
+    ghost use Rattle.arwen_macho.specs.Batch.{calls_of};
+    ghost use Rattle.arwen_macho.specs.Container.{AnswersEach, FileRefuses, LeavesEach, TakesBatch, TakesOnce, all_calls, container_bytes, container_step, first_container, is_edited_file};
+    ghost use Rattle.arwen_macho.specs.ContainerShown.{ShowsFile, StepShows};
+    ghost use Rattle.arwen_macho.specs.Edit.{AreTexts, call_of, calls_lent};
     ghost use Rattle.arwen_macho.specs.Found.{Finds, container_found};
-    ghost use Rattle.arwen_macho.specs.Refused.{cause_of};
-    ghost use Rattle.arwen_macho.specs.Fronts.{LeadOn};
+    ghost use Rattle.arwen_macho.specs.Fronts.{LeadFile};
     ghost use Rattle.arwen_macho.specs.Whole.{TextsAreBytes};
 
     /// Parses a file, which is fat where it begins with the magic of fat files. It is refused by the first
     /// check that fails, or where there is no memory.
     #[tactic(auto, unfolding(crate::specs::Found::container_found))]
-    pub fn parse(alloc: Global, bytes_of_file: &'a [u8]) -> Result<MachoContainer<'a>, MachoError>
-        ensures { MatchResult result (λ file. (container_found bytes_of_file.entry.now ≡ None) × (file ≡ first_container bytes_of_file.entry.now)) (λ e. Finds e (container_found bytes_of_file.entry.now)) }
+    pub fn parse(alloc: Global, bytes: &'a [u8]) -> Result<MachoContainer<'a>, MachoError>
+        ensures { MatchResult result
+            (λ file. (container_found bytes.entry.now ≡ None)
+            × (file ≡ first_container bytes.entry.now))
+            (λ e. Finds e (container_found bytes.entry.now)) }
     {
-        let inner = if is_fat(bytes_of_file) {
-            MachoType::Fat(FatMachoContainer::parse(alloc, bytes_of_file)?)
+        let inner = if is_fat(bytes) {
+            MachoType::Fat(FatMachoContainer::parse(alloc, bytes)?)
         } else {
-            MachoType::SingleArch(SingleMachO::parse(alloc, bytes_of_file)?)
+            MachoType::SingleArch(SingleMachO::parse(alloc, bytes)?)
         };
         Ok(MachoContainer { inner })
     }
@@ -374,7 +372,8 @@ impl<'a> MachoContainer<'a> {
     /// The file's bytes as edited, handed out: without a copy where they were edited, else copied. The
     /// only error is that there is no memory.
     pub fn into_bytes(self, alloc: Global) -> Result<Vec<u8>, AllocError>
-        ensures { IfOk result (λ bytes. bytes.items ≡ container_bytes self.entry) }
+        ensures bytes { IfOk result (λ bytes. bytes.items ≡ container_bytes self.entry) }
+        ensures owned { is_edited_file self.entry ≡ true → IsOk result }
     {
         let MachoContainer { inner } = self;
         match inner {
@@ -390,14 +389,26 @@ impl<'a> MachoContainer<'a> {
         &self.inner
     }
 
-    // One edit, or none of it.
+    // Several edits, all of them or none.
+    fn apply_lent(&mut self, alloc: Global, edits: &[Edit<'_>]) -> Result<(), MachoBatchError>
+        requires some { 1 ≤ length edits.now }
+        requires texts { AreTexts edits.now }
+        ensures { TakesBatch (calls_lent edits.now) self.old self.new result }
+    {
+        match &mut self.inner {
+            MachoType::SingleArch(single) => single.apply_lent(alloc, edits),
+            MachoType::Fat(fat) => fat.apply_lent(alloc, edits),
+        }
+    }
+
+    // One edit: a batch of one.
     fn edit(&mut self, alloc: Global, edit: Edit<'_>) -> Result<(), MachoError>
         requires { TextsAreBytes (call_of edit) }
         ensures { TakesOnce (call_of edit.entry) self.old self.new result }
     {
-        match &mut self.inner {
-            MachoType::SingleArch(single) => single.edit(alloc, edit),
-            MachoType::Fat(fat) => fat.edit(alloc, edit),
+        match self.apply_lent(alloc, &[edit]) {
+            Ok(()) => Ok(()),
+            Err(refused) => Err(refused.fault),
         }
     }
 
@@ -442,9 +453,11 @@ impl<'a> MachoContainer<'a> {
         self.edit(alloc, Edit::ChangeInstallName(old, new))
     }
 
-    /// Makes several edits, each upon what the one before it left: all of them, or none.
+    /// Makes several edits, each upon what the one before it left: all of them, or none. No edits are
+    /// accepted without memory, and change nothing.
     pub fn apply(&mut self, alloc: Global, edits: &[MachoEdit]) -> Result<(), MachoBatchError>
-        ensures { TakesBatch (calls_of edits.now) self.old self.new result }
+        ensures takes { TakesBatch (calls_of edits.now) self.old self.new result }
+        ensures none { edits.now ≡ [] → IsOk result }
     {
         match &mut self.inner {
             MachoType::SingleArch(single) => single.apply(alloc, edits),
@@ -453,10 +466,12 @@ impl<'a> MachoContainer<'a> {
     }
 
     /// What `apply` would write over the file's bytes: the front of each thin file in it, without what
-    /// lies behind. It is refused where `apply` is, and the file stays as it is.
+    /// lies behind. With them over it the file is accepted by a parse, and shows the edited load commands.
+    /// It is refused where `apply` is, and the file stays as it is.
     pub fn fronts(&self, alloc: Global, edits: &[MachoEdit]) -> Result<Vec<Front>, MachoBatchError>
-        ensures ok { IfOk result (λ fronts. LeadOn container_bytes self.now (container_step (calls_of edits.now) self.now) fronts.items) }
-        ensures err { IfErr result (λ e. RefusesAt e.index (cause_of e.fault) (container_step (calls_of edits.now) self.now)) }
+        ensures ok { IfOk result (LeadFile (calls_of edits.now) self.now) }
+        ensures shows { OnOk result (StepShows (container_step (calls_of edits.now) self.now)) }
+        ensures err { IfErr result (FileRefuses (calls_of edits.now) self.now) }
     {
         match &self.inner {
             MachoType::SingleArch(single) => single.fronts(alloc, edits),
@@ -471,8 +486,8 @@ impl<'a> MachoContainer<'a> {
         alloc: Global,
         batches: &[Vec<MachoEdit>],
     ) -> Result<Vec<Result<(), MachoBatchError>>, AllocError>
-        ensures answers { IfOk result (λ answers. AnswersAll (all_calls batches.now) answers.items self.old) }
-        ensures left { IfOk result (λ answers. self.new ≡ left_by_all (all_calls batches.now) answers.items self.old) }
+        ensures answers { IfOk result (AnswersEach (all_calls batches.now) self.old) }
+        ensures left { IfOk result (LeavesEach (all_calls batches.now) self.old self.new) }
         ensures err { OnErr result (self.new ≡ self.old) }
     {
         let mut answers = Vec::with_capacity(alloc, batches.len())?;

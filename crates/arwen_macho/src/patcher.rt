@@ -1,21 +1,17 @@
-ghost use Rattle.std.specs.Prelude.{◌≡◌, ◌+◌, ◌-◌, ◌^◌, ◌≤◌, ◌<◌, ◌++◌, length, take, drop, replicate, IsOk, slice_get, vec_len};
+ghost use Rattle.std.specs.Prelude.{◌≡◌, ◌+◌, ◌^◌, ◌≤◌, ◌<◌, length, IsOk, slice_get, vec_len};
 ghost use Rattle.std.specs.Option.{option_map};
-ghost use Rattle.patch_bytes.specs.Number.{with_number};
 ghost use Rattle.macho_image.specs.Command.{variant_size};
 ghost use Rattle.macho_image.specs.Form.{commands_end, header_of, header_size, ncmds_of, sizeofcmds_of};
-ghost use Rattle.arwen_macho.specs.Patched.{InsertsAt, RemovesAt, id_in, ids_in, inserted, load_dylib_in, load_dylibs_in, removed, rpath_in, rpaths_in};
+ghost use Rattle.arwen_macho.specs.Patched.{InsertsAt, RemovesAt, bytes_with, bytes_without, bytes_with_counts, header_shown, id_in, ids_in, inserted_command, load_dylib_in, load_dylibs_in, removed_bytes, removed_command, rpath_in, rpaths_in};
 
 use crate::error::MachoError;
 pub use crate::room::fits;
-use macho_image::{CommandVariant, Ctx, DylibCommand, Header, LoadCommand, RpathCommand};
-use patch_bytes::{ByteOrder2, Wide, write_u32_at};
+use macho_image::format::{NCMDS_AT, SIZEOFCMDS_AT};
+use macho_image::{
+    CommandVariant, Ctx, DylibCommand, Header, LoadCommand, RpathCommand, header_size,
+};
+use patch_bytes::{ByteOrder2, write_u32_at};
 use std::alloc::Global;
-
-// Where the number of load commands stands in the header (loader.h, `mach_header`).
-const NCMDS_AT: usize = 16;
-
-// Where the bytes of all load commands together are told.
-const SIZEOFCMDS_AT: usize = 20;
 
 /// A file's header and form.
 #[derive(Clone, Copy, Debug, PartialEq, Eq)]
@@ -38,10 +34,7 @@ impl HeaderContainer {
     pub fn size(&self) -> usize
         ensures { result ≡ header_size self.now.ctx.container }
     {
-        match self.ctx.container {
-            Wide::W32 => 28,
-            Wide::W64 => 32,
-        }
+        header_size(self.ctx.container)
     }
 }
 
@@ -49,7 +42,7 @@ impl HeaderContainer {
 fn insert_bytes(bytes: &mut [u8], offset: usize, end: usize, command: &[u8])
     requires order { offset ≤ end }
     requires room { end + length command.now ≤ length bytes.old }
-    ensures { bytes.new ≡ take offset bytes.old ++ (command.now ++ (take (end - offset) (drop offset bytes.old) ++ drop (end + length command.now) bytes.old)) }
+    ensures { bytes.new ≡ bytes_with bytes.old offset end command.now }
 {
     let size = command.len();
     bytes[offset..end + size].rotate_right(size);
@@ -61,7 +54,7 @@ fn insert_bytes(bytes: &mut [u8], offset: usize, end: usize, command: &[u8])
 fn remove_bytes(bytes: &mut [u8], offset: usize, size: usize, end: usize)
     requires order { offset + size ≤ end }
     requires room { end ≤ length bytes.old }
-    ensures { bytes.new ≡ take offset bytes.old ++ (take (end - (offset + size)) (drop (offset + size) bytes.old) ++ (replicate size 0 ++ drop end bytes.old)) }
+    ensures { bytes.new ≡ bytes_without bytes.old offset size end }
 {
     bytes[offset..end].rotate_left(size);
     bytes[end - size..end].fill(0);
@@ -70,7 +63,7 @@ fn remove_bytes(bytes: &mut [u8], offset: usize, size: usize, end: usize)
 // Writes the two counts of a header.
 fn write_counts(bytes: &mut [u8], order: ByteOrder2, ncmds: u32, sizeofcmds: u32)
     requires { 24 ≤ length bytes.old }
-    ensures { bytes.new ≡ with_number order 4 20 sizeofcmds (with_number order 4 16 ncmds bytes.old) }
+    ensures { bytes.new ≡ bytes_with_counts order ncmds sizeofcmds bytes.old }
 {
     write_u32_at(bytes, NCMDS_AT, ncmds, order).unwrap();
     write_u32_at(bytes, SIZEOFCMDS_AT, sizeofcmds, order).unwrap();
@@ -89,8 +82,8 @@ fn insert_in(
     requires place { InsertsAt header.old.ctx bytes.old offset (length command.now) }
     requires count { ncmds_of header.old.ctx bytes.old + 1 < 2 ^ 32 }
     requires size { sizeofcmds_of header.old.ctx bytes.old + length command.now < 2 ^ 32 }
-    ensures bytes { bytes.new ≡ inserted header.old.ctx bytes.old offset command.now }
-    ensures header { header.new ≡ record header.old { inner = header_of header.old.ctx (inserted header.old.ctx bytes.old offset command.now) } }
+    ensures bytes { bytes.new ≡ inserted_command header.old.ctx bytes.old offset command.now }
+    ensures header { header.new ≡ header_shown header.old bytes.new }
 {
     let held = header.inner;
     let end = header.size() + held.sizeofcmds as usize;
@@ -117,12 +110,14 @@ pub fn insert_command(
     requires from { header_size header.old.ctx.container ≤ offset }
     requires to { offset ≤ commands_end header.old.ctx buffer.old.items }
     requires sized { vec_len load_data ≡ new_cmd_size }
-    requires room { commands_end header.old.ctx buffer.old.items + new_cmd_size ≤ length buffer.old.items }
+    requires room { commands_end header.old.ctx buffer.old.items + new_cmd_size
+        ≤ length buffer.old.items }
     requires count { ncmds_of header.old.ctx buffer.old.items + 1 < 2 ^ 32 }
     requires size { sizeofcmds_of header.old.ctx buffer.old.items + new_cmd_size < 2 ^ 32 }
     ensures ok { IsOk result }
-    ensures bytes { buffer.new.items ≡ inserted header.old.ctx buffer.old.items offset load_data.items }
-    ensures header { header.new ≡ record header.old { inner = header_of header.old.ctx buffer.new.items } }
+    ensures bytes { buffer.new.items
+        ≡ inserted_command header.old.ctx buffer.old.items offset load_data.items }
+    ensures header { header.new ≡ header_shown header.old buffer.new.items }
 {
     insert_in(buffer, header, offset, new_cmd_size, &load_data);
     Ok(())
@@ -133,8 +128,8 @@ fn remove_in(bytes: &mut [u8], header: &mut HeaderContainer, offset: usize, size
     requires held { header.old.inner ≡ header_of header.old.ctx bytes.old }
     requires place { RemovesAt header.old.ctx bytes.old offset size }
     requires some { 1 ≤ ncmds_of header.old.ctx bytes.old }
-    ensures bytes { bytes.new ≡ removed header.old.ctx bytes.old offset size }
-    ensures header { header.new ≡ record header.old { inner = header_of header.old.ctx (removed header.old.ctx bytes.old offset size) } }
+    ensures bytes { bytes.new ≡ removed_bytes header.old.ctx bytes.old offset size }
+    ensures header { header.new ≡ header_shown header.old bytes.new }
 {
     let held = header.inner;
     let end = header.size() + held.sizeofcmds as usize;
@@ -157,12 +152,14 @@ pub fn remove_load_command(
 ) -> Result<(), MachoError>
     requires held { header.old.inner ≡ header_of header.old.ctx buffer.old.items }
     requires from { header_size header.old.ctx.container ≤ load_command.now.offset }
-    requires to { load_command.now.offset + variant_size load_command.now.command ≤ commands_end header.old.ctx buffer.old.items }
+    requires to { load_command.now.offset + variant_size load_command.now.command
+        ≤ commands_end header.old.ctx buffer.old.items }
     requires room { commands_end header.old.ctx buffer.old.items ≤ length buffer.old.items }
     requires some { 1 ≤ ncmds_of header.old.ctx buffer.old.items }
     ensures ok { IsOk result }
-    ensures bytes { buffer.new.items ≡ removed header.old.ctx buffer.old.items load_command.now.offset (variant_size load_command.now.command) }
-    ensures header { header.new ≡ record header.old { inner = header_of header.old.ctx buffer.new.items } }
+    ensures bytes { buffer.new.items
+        ≡ removed_command header.old.ctx buffer.old.items load_command.now }
+    ensures header { header.new ≡ header_shown header.old buffer.new.items }
 {
     remove_in(
         buffer,
@@ -178,7 +175,8 @@ pub fn find_rpath_command(
     commands: &[LoadCommand],
     index: usize,
 ) -> Option<(&LoadCommand, &RpathCommand)>
-    ensures { option_map (λ found. (found.0.now, found.1.now)) result ≡ slice_get (rpaths_in commands.now) index }
+    ensures { option_map (λ found. (found.0.now, found.1.now)) result
+        ≡ slice_get (rpaths_in commands.now) index }
 {
     let mut left = index;
     for command in commands {
@@ -212,7 +210,8 @@ pub fn find_dylib_command(
     commands: &[LoadCommand],
     index: usize,
 ) -> Option<(&LoadCommand, &DylibCommand)>
-    ensures { option_map (λ found. (found.0.now, found.1.now)) result ≡ slice_get (load_dylibs_in commands.now) index }
+    ensures { option_map (λ found. (found.0.now, found.1.now)) result
+        ≡ slice_get (load_dylibs_in commands.now) index }
 {
     let mut left = index;
     for command in commands {
@@ -228,7 +227,8 @@ pub fn find_dylib_command(
 
 /// The first command that holds the library's own name, and its fields. Takes no memory.
 pub fn find_dylib_id(commands: &[LoadCommand]) -> Option<(&LoadCommand, &DylibCommand)>
-    ensures { option_map (λ found. (found.0.now, found.1.now)) result ≡ slice_get (ids_in commands.now) 0 }
+    ensures { option_map (λ found. (found.0.now, found.1.now)) result
+        ≡ slice_get (ids_in commands.now) 0 }
 {
     for command in commands {
         if let CommandVariant::IdDylib(dylib) = &command.command {

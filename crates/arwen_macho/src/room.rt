@@ -1,6 +1,6 @@
-ghost use Rattle.std.specs.Prelude.{◌≡◌, max, nat_le};
-ghost use Rattle.macho_image.specs.Commands.{first_content_of};
+ghost use Rattle.std.specs.Prelude.{◌≡◌, nat_le};
 ghost use Rattle.macho_image.specs.Form.{commands_end, ctx_of};
+ghost use Rattle.arwen_macho.specs.State.{available_in};
 
 use macho_image::{MachO, header_size};
 
@@ -15,7 +15,7 @@ pub(crate) fn commands_end(macho: &MachO<'_>) -> usize
 /// The greatest offset where a file's load commands may end: where they end now, or where its content
 /// begins.
 pub(crate) fn available(macho: &MachO<'_>) -> usize
-    ensures { result ≡ max (commands_end (ctx_of macho.now.bytes) macho.now.bytes) (first_content_of macho.now.bytes) }
+    ensures { result ≡ available_in macho.now.bytes }
 {
     commands_end(macho).max(macho.first_content())
 }
@@ -23,7 +23,7 @@ pub(crate) fn available(macho: &MachO<'_>) -> usize
 /// Whether load commands may end at this offset of the file: no later than they do now, or no later than
 /// its content begins. Takes no memory.
 pub fn fits(macho: &MachO<'_>, new_end: usize) -> bool
-    ensures { result ≡ nat_le new_end (max (commands_end (ctx_of macho.now.bytes) macho.now.bytes) (first_content_of macho.now.bytes)) }
+    ensures { result ≡ nat_le new_end (available_in macho.now.bytes) }
 {
     new_end <= available(macho)
 }

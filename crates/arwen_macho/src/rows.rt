@@ -1,6 +1,6 @@
 //! Small files and commands, byte by byte, by the definitions that the edits keep. Each row is a clause
 //! of a function that does nothing.
-ghost use Rattle.arwen_macho.specs.Rows.{AcceptsNarrowBig, AcceptsNarrowLittle, AcceptsSymbols, AcceptsWideBig, AcceptsWideLittle, AddsBehind, AddsFirst, AddsNarrowBig, AddsNarrowLittle, AddsNoFurther, AddsNoSecond, AddsNoSecondNarrowBig, AddsNoSecondNarrowLittle, AddsNoSecondWideBig, AddsNoThird, AddsNothingAmongCommands, AddsThenRemoves, AddsUpToContent, AddsWideBig, BuildsEmpty, BuildsEmptyNarrow, BuildsFour, BuildsName, BuildsNameNarrow, BuildsNarrowBig, BuildsNarrowLittle, BuildsWideBig, BuildsWideLittle, ChangesFirst, ChangesFirstId, ChangesFirstLibrary, ChangesOwnName, ClearsPad, KeepsAmongCommands, KeepsPad, KeepsRefused, RefusesBeginning, RefusesLonger, RefusesMissing, RefusesMissingFirst, RefusesNul, RefusesOwnName, RefusesSecond, RefusesShownAs, RemovesFirst, ShowsFirst};
+ghost use Rattle.arwen_macho.specs.Rows.{AcceptsNarrowBig, AcceptsNarrowLittle, AcceptsSymbols, AcceptsWideBig, AcceptsWideLittle, AddsBehind, AddsFirst, AddsInBoth, AddsInNone, AddsNarrowBig, AddsNarrowLittle, AddsNoFurther, AddsNoSecond, AddsNoSecondNarrowBig, AddsNoSecondNarrowLittle, AddsNoSecondWideBig, AddsNoThird, AddsNothingAmongCommands, AddsThenRemoves, AddsUpToContent, AddsWideBig, BuildsEmpty, BuildsEmptyNarrow, BuildsFour, BuildsName, BuildsNameNarrow, BuildsNarrowBig, BuildsNarrowLittle, BuildsWideBig, BuildsWideLittle, ChangesFirst, ChangesFirstId, ChangesFirstLibrary, ChangesOwnName, ClearsPad, GivesBackInBoth, KeepsAmongCommands, KeepsPad, KeepsRefused, RefusesBeginning, RefusesLonger, RefusesMissing, RefusesMissingFirst, RefusesNul, RefusesOwnName, RefusesSecond, RefusesShownAs, RemovesFirst, ShowsFirst};
 
 /// The commands that are built, in each form of a header. Behind the text there is a NUL, behind the empty
 /// one too.
@@ -102,4 +102,13 @@ pub fn room_ends_at_first_content()
     ensures adds_no_further { AddsNoFurther }
     ensures adds_nothing_among_commands { AddsNothingAmongCommands }
     ensures keeps_among_commands { KeepsAmongCommands }
+{}
+
+/// A fat file with two slices: an rpath is added in both or in none, and what is removed again in the next
+/// batch leaves the file as it was.
+#[tactic(auto, using(crate::proofs::RowLaws::adds_in_both, crate::proofs::RowLaws::adds_in_none, crate::proofs::RowLaws::gives_back_in_both))]
+pub fn slices_are_edited_together()
+    ensures adds_in_both { AddsInBoth }
+    ensures adds_in_none { AddsInNone }
+    ensures gives_back_in_both { GivesBackInBoth }
 {}

@@ -1,8 +1,6 @@
 //! Views as text: a line for each thing that is shown, its numbers in decimal.
 
-use elf_plain::view::{
-    EntryView, ShownDefinition, ShownName, ShownNeeds, ShownSymbol, ShownView,
-};
+use elf_plain::view::{EntryView, ShownDefinition, ShownName, ShownNeeds, ShownSymbol, ShownView};
 use std::alloc::{AllocError, Global};
 
 // The parts of a view.

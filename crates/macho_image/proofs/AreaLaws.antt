@@ -10,7 +10,7 @@ use Rattle.macho_image.specs.declared.format.MachFault.{MachFault}
 use Rattle.macho_image.specs.declared.format.MachFault.TheVariants.{BadCommandSize, BadNameOffset}
 use Rattle.macho_image.specs.Checks.{area_fault, command_fault, fields_fault}
 use Rattle.macho_image.specs.Command.{IsCommand, cmd_of, cmdsize_of, is_text_kind, least_size, text_offset}
-use Rattle.macho_image.specs.Commands.{cut}
+use Rattle.macho_image.specs.Commands.{cut_commands}
 
 -- a check that passes, before checks that pass
 pub passes_check : (test : Bool) (fault : MachFault) (next : Option MachFault) → test ≡ false → next ≡ None → (if test then Some fault else next) ≡ None
@@ -62,12 +62,12 @@ area_fault-concat order (c ∷ cs) all =
     rw (passes, size, left) (area_fault-concat order cs (All-tail (IsCommand order) c cs all))
 
 -- and are cut where they were joined
-pub cut-concat : (order : ByteOrder2) (cs : List (List ℕ)) → All (IsCommand order) cs → cut order (length cs) (concat cs) ≡ cs
+pub cut-concat : (order : ByteOrder2) (cs : List (List ℕ)) → All (IsCommand order) cs → cut_commands order (length cs) (concat cs) ≡ cs
 cut-concat order [] all = refl
 cut-concat order (c ∷ cs) all =
     let is : IsCommand order c = All-head (IsCommand order) c cs all in
     let size : cmdsize_of order (c ++ concat cs) ≡ length c = cmdsize_of-append order c (concat cs) is in
     let own : take (length c) (c ++ concat cs) ≡ c = take_at c (concat cs) (length c) refl in
     let left : drop (length c) (c ++ concat cs) ≡ concat cs = drop_at c (concat cs) (length c) refl in
-    let rest : cut order (length cs) (concat cs) ≡ cs = cut-concat order cs (All-tail (IsCommand order) c cs all) in
+    let rest : cut_commands order (length cs) (concat cs) ≡ cs = cut-concat order cs (All-tail (IsCommand order) c cs all) in
     rw (size, own, left, rest) refl

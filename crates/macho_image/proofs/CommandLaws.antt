@@ -9,7 +9,7 @@ use Rattle.macho_image.specs.declared.command.TheConstants.{LC_RPATH, LC_SEGMENT
 use Rattle.macho_image.specs.declared.format.MachFault.{MachFault}
 use Rattle.macho_image.specs.declared.format.MachFault.TheVariants.{BadCommandSize, BadNameOffset}
 use Rattle.macho_image.specs.Checks.{command_fault, fields_fault}
-use Rattle.macho_image.specs.Command.{IsCommand, SegmentForm, cmd_of, cmdsize_of, is_dylib_kind, is_text_kind, least_size, narrow, nsects_of, segment_size, text_offset, wide}
+use Rattle.macho_image.specs.Command.{IsCommand, SegmentForm, cmd_of, cmdsize_of, is_dylib_kind, is_text_kind, least_size, narrow_form, nsects_of, segment_size, text_offset, wide_form}
 
 pub least_size-rpath : (order : ByteOrder2) (c : List ℕ) → cmd_of order c ≡ LC_RPATH → least_size order c ≡ 12
 unfolding least_size
@@ -19,11 +19,11 @@ pub least_size-symtab : (order : ByteOrder2) (c : List ℕ) → cmd_of order c �
 unfolding least_size
 least_size-symtab order c is = rw is refl
 
-pub least_size-narrow : (order : ByteOrder2) (c : List ℕ) → cmd_of order c ≡ LC_SEGMENT → least_size order c ≡ segment_size narrow order c
+pub least_size-narrow : (order : ByteOrder2) (c : List ℕ) → cmd_of order c ≡ LC_SEGMENT → least_size order c ≡ segment_size narrow_form order c
 unfolding least_size
 least_size-narrow order c is = rw is refl
 
-pub least_size-wide : (order : ByteOrder2) (c : List ℕ) → cmd_of order c ≡ LC_SEGMENT_64 → least_size order c ≡ segment_size wide order c
+pub least_size-wide : (order : ByteOrder2) (c : List ℕ) → cmd_of order c ≡ LC_SEGMENT_64 → least_size order c ≡ segment_size wide_form order c
 unfolding least_size
 least_size-wide order c is = rw is refl
 
@@ -42,15 +42,15 @@ pub has_sections : (f : SegmentForm) (order : ByteOrder2) (c : List ℕ) → seg
 unfolding segment_size
 has_sections f order c room = grind (arith, nat_tests)
 
-pub has_narrow_sections : (order : ByteOrder2) (c : List ℕ) → IsCommand order c → cmd_of order c ≡ LC_SEGMENT → (56 ≤ length c) × (56 + 68 * nsects_of narrow order c ≤ length c)
+pub has_narrow_sections : (order : ByteOrder2) (c : List ℕ) → IsCommand order c → cmd_of order c ≡ LC_SEGMENT → (56 ≤ length c) × (56 + 68 * nsects_of narrow_form order c ≤ length c)
 has_narrow_sections order c is kind =
     let P : ℕ → Type 0 = λ n. n ≤ length c in
-    has_sections narrow order c (subst P (least_size-narrow order c kind) is.has_fixed_part)
+    has_sections narrow_form order c (subst P (least_size-narrow order c kind) is.has_fixed_part)
 
-pub has_wide_sections : (order : ByteOrder2) (c : List ℕ) → IsCommand order c → cmd_of order c ≡ LC_SEGMENT_64 → (72 ≤ length c) × (72 + 80 * nsects_of wide order c ≤ length c)
+pub has_wide_sections : (order : ByteOrder2) (c : List ℕ) → IsCommand order c → cmd_of order c ≡ LC_SEGMENT_64 → (72 ≤ length c) × (72 + 80 * nsects_of wide_form order c ≤ length c)
 has_wide_sections order c is kind =
     let P : ℕ → Type 0 = λ n. n ≤ length c in
-    has_sections wide order c (subst P (least_size-wide order c kind) is.has_fixed_part)
+    has_sections wide_form order c (subst P (least_size-wide order c kind) is.has_fixed_part)
 
 -- a check that is passed: its test is false, and the checks behind it are passed
 pub passes : (b : Bool) (fault : MachFault) (next : Option MachFault) → cond b (Some fault) next ≡ None → (b ≡ false) × (next ≡ None)

@@ -8,7 +8,7 @@ use Rattle.macho_image.specs.declared.command.LoadCommand.{LoadCommand}
 use Rattle.macho_image.specs.declared.format.MachFault.{MachFault}
 use Rattle.macho_image.specs.Checks.{area_fault, command_fault, or_else}
 use Rattle.macho_image.specs.Command.{IsCommand, cmdsize_of, variant_of}
-use Rattle.macho_image.specs.Commands.{cut, located}
+use Rattle.macho_image.specs.Commands.{cut_commands, located_commands}
 use Rattle.macho_image.proofs.CommandLaws.{is_command}
 
 -- two checks that are passed
@@ -17,12 +17,12 @@ both_pass (Some fault) next pass = cc
 both_pass None next pass = (refl, pass)
 
 -- as many commands as were asked for
-pub length-cut : (order : ByteOrder2) (n : ℕ) (area : List ℕ) → length (cut order n area) ≡ n
+pub length-cut : (order : ByteOrder2) (n : ℕ) (area : List ℕ) → length (cut_commands order n area) ≡ n
 length-cut order zero area = refl
 length-cut order (suc n) area = ap suc (length-cut order n (drop (cmdsize_of order area) area))
 
 -- they fill the area
-pub concat-cut : (order : ByteOrder2) (n : ℕ) (area : List ℕ) → area_fault order n area ≡ None → concat (cut order n area) ≡ area
+pub concat-cut : (order : ByteOrder2) (n : ℕ) (area : List ℕ) → area_fault order n area ≡ None → concat (cut_commands order n area) ≡ area
 concat-cut order zero [] pass = refl
 concat-cut order zero (b ∷ rest) pass = cc
 concat-cut order (suc n) area pass =
@@ -31,12 +31,12 @@ concat-cut order (suc n) area pass =
     ap (λ xs. take k area ++ xs) (concat-cut order n (drop k area) later.1) ∙ take-append-drop k area
 
 -- and each is a command
-pub cut_are_commands : (order : ByteOrder2) (n : ℕ) (area : List ℕ) → area_fault order n area ≡ None → All (IsCommand order) (cut order n area)
+pub cut_are_commands : (order : ByteOrder2) (n : ℕ) (area : List ℕ) → area_fault order n area ≡ None → All (IsCommand order) (cut_commands order n area)
 cut_are_commands order zero area pass = All-nil (IsCommand order)
 cut_are_commands order (suc n) area pass =
     let k = cmdsize_of order area in
     let later = both_pass (command_fault order area) (area_fault order n (drop k area)) pass in
-    All-cons (IsCommand order) (take k area) (cut order n (drop k area)) (is_command order area later.0) (cut_are_commands order n (drop k area) later.1)
+    All-cons (IsCommand order) (take k area) (cut_commands order n (drop k area)) (is_command order area later.0) (cut_are_commands order n (drop k area) later.1)
 
 -- a piece stands behind the pieces before it
 pub piece_end : (cs : List (List ℕ)) (i : ℕ) → i < length cs → length (concat (take i cs)) + length (get_or cs i []) ≤ length (concat cs)
@@ -59,11 +59,11 @@ piece_is (c ∷ cs) (suc i) within =
     rw moved later
 
 -- the commands with their fields
-pub length-located : (order : ByteOrder2) (at : ℕ) (cs : List (List ℕ)) → length (located order at cs) ≡ length cs
+pub length-located : (order : ByteOrder2) (at : ℕ) (cs : List (List ℕ)) → length (located_commands order at cs) ≡ length cs
 length-located order at [] = refl
 length-located order at (c ∷ cs) = ap suc (length-located order (at + length c) cs)
 
-pub get_or-located : (order : ByteOrder2) (at : ℕ) (cs : List (List ℕ)) (i : ℕ) (d : LoadCommand) → i < length cs → get_or (located order at cs) i d ≡ record { offset = at + length (concat (take i cs)); command = variant_of order (get_or cs i []) }
+pub get_or-located : (order : ByteOrder2) (at : ℕ) (cs : List (List ℕ)) (i : ℕ) (d : LoadCommand) → i < length cs → get_or (located_commands order at cs) i d ≡ record { offset = at + length (concat (take i cs)); command = variant_of order (get_or cs i []) }
 get_or-located order at [] i d within = absurd (omega arith)
 get_or-located order at (c ∷ cs) zero d within = let e : at + 0 ≡ at = omega arith in rw e refl
 get_or-located order at (c ∷ cs) (suc i) d within =

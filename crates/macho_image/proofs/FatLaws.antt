@@ -1,12 +1,12 @@
 -- What a table of slices that passes is, and how it shows whether two slices share a byte: the same for any
 -- order of them and without the empty ones, and between neighbours where they are sorted.
-use Rattle.std.proofs.Common.{◌≡◌, ◌≢◌, ◌≤◌, ◌<◌, ℕ, zero, suc, ◌+◌, ◌-◌, ◌^◌, Bool, true, false, ◌&&◌, ◌||◌, not, cond, nat_lt, eqb, List, [], ◌∷◌, length, drop, get_or, Option, Some, None, refl, sym, ap, ◌∙◌, subst, inl, inr, Decides, arith, if◌then◌else◌}
+use Rattle.std.proofs.Common.{◌≡◌, ◌≢◌, ◌≤◌, ◌<◌, ℕ, zero, suc, ◌+◌, ◌*◌, ◌-◌, ◌^◌, Bool, true, false, ◌&&◌, ◌||◌, not, cond, nat_lt, eqb, List, [], ◌∷◌, length, drop, get_or, Option, Some, None, refl, sym, ap, ◌∙◌, subst, inl, inr, Decides, arith, if◌then◌else◌}
 use Rattle.std.specs.List as holes
 use Rattle.std.specs.List.{All, Any, filter, list_any}
 use Rattle.std.specs.List.Sorted.{IsNonDecreasingBy, IsPermutation}
 use Rattle.std.proofs.lemmas.Bool.{and_from, and_parts, both_ways, cases_Bool, cases_eq, cases_lt, cond-false, cond-true, eq-eqb, false_from_ne_true, le-ltb, lt-ltb, ltb-false, ltb-true, ne_eqb, not-false, not_from_true, or_cases, or_from, or_left, or_parts, or_right}
 use Rattle.std.proofs.lemmas.Bool.Decides.{nat_tests}
-use Rattle.std.proofs.lemmas.List.{get_or_default, length-drop, length-take-le}
+use Rattle.std.proofs.lemmas.List.{drop-drop, get_or_default, length-drop, length-take-le, same_lists}
 use Rattle.std.proofs.lemmas.List.Elements.{All-tail}
 use Rattle.std.proofs.lemmas.List.Edits.{length-swap, swapped_from_swap}
 use Rattle.std.proofs.lemmas.List.Folds.{Any-from_list_any, list_any_at, list_any_none}
@@ -15,7 +15,7 @@ use Rattle.std.proofs.lemmas.Map.Views.{any-filter_same}
 use Rattle.macho_image.specs.declared.fat.FatArch.{FatArch}
 use Rattle.macho_image.specs.declared.format.MachFault.{MachFault}
 use Rattle.macho_image.specs.declared.format.MachFault.TheVariants.{BadMagic, SliceOutside, SlicesOverlap, TooLong, Truncated}
-use Rattle.macho_image.specs.Fat.{AreSlices, archs_of, has_fat_magic, is_outside, nfat_arch_of, share_byte, slice_of, slices_fault, some_share, table, table_end, table_fault}
+use Rattle.macho_image.specs.Fat.{AreRecordsOf, AreSlices, IsFatFile, arch_of, archs_of, has_fat_magic, is_outside, nfat_arch_of, share_byte, slice_of, slices_fault, some_share, table, table_end, table_fault}
 use Rattle.macho_image.proofs.AreaLaws.{passes_check}
 use Rattle.macho_image.proofs.CommandLaws.{passes}
 
@@ -113,9 +113,6 @@ some_share-from_shared (a ∷ rest) h =
           some_share-at (a ∷ rest) h.second h.first a (omega (arith, h.apart)) h.first_within
           (share_byte-turned (get_or (a ∷ rest) h.first a) (get_or (a ∷ rest) h.second a) (h.shared a))
     ]
-
-pub some_share-decides : (archs : List FatArch) → Decides (some_share archs) (SharedByte archs)
-some_share-decides archs = (shared_from_some_share archs, some_share-from_shared archs)
 
 -- where the element at k stands after the elements at i and j took each other's place
 place_after : ℕ → ℕ → ℕ → ℕ
@@ -217,9 +214,6 @@ some_share-from_neighbours : (archs : List FatArch) → SharedByNeighbours archs
 some_share-from_neighbours [] h = absurd (omega (arith, h.within))
 some_share-from_neighbours (a ∷ rest) h = some_share-at (a ∷ rest) h.first (suc h.first) a (omega arith) h.within (h.shared a)
 
-pub neighbours-decide : (archs : List FatArch) → IsNonDecreasingBy (λ b. b.offset) archs → All (λ b. 0 < b.size) archs → Decides (some_share archs) (SharedByNeighbours archs)
-neighbours-decide archs up filled = (neighbours_from_some_share archs up filled, some_share-from_neighbours archs)
-
 -- what the checks of the slices show
 pub slices_pass : (len : ℕ) (archs : List FatArch) → slices_fault len archs ≡ None → AreSlices len (table_end (length archs)) archs
 unfolding slices_fault
@@ -275,9 +269,45 @@ table_fault-none bytes short fat room are =
     (passes_check (nat_lt n 8) Truncated _ (le-ltb n 8 (omega arith))
     (passes_check (nat_lt n end) Truncated (slices_fault n (archs_of bytes)) (le-ltb n end room) slices))))
 
+-- the records of a table, each by its place
+get_or-table : (n : ℕ) (rest : List ℕ) (i : ℕ) (d : FatArch) → i < n → get_or (table n rest) i d ≡ arch_of (drop (20 * i) rest)
+get_or-table zero rest i d within = absurd (omega arith)
+get_or-table (suc n) rest zero d within = refl
+get_or-table (suc n) rest (suc i) d within =
+    let next : 20 + 20 * i ≡ 20 * suc i = omega arith in
+    get_or-table n (drop 20 rest) i d (omega arith) ∙ ap arch_of (drop-drop (20 * i) 20 rest ∙ ap (λ (k : ℕ). drop k rest) next)
+
+-- a table of records that stand one behind the other
+pub archs_of-places : (bytes : List ℕ) → AreRecordsOf bytes (archs_of bytes)
+unfolding archs_of
+archs_of-places bytes = λ i d within.
+    let count = length-table (nfat_arch_of bytes) (drop 8 bytes) in
+    get_or-table (nfat_arch_of bytes) (drop 8 bytes) i d (omega arith) ∙ ap arch_of (drop-drop (20 * i) 8 bytes)
+
+pub archs_of-only : (bytes : List ℕ) (archs : List FatArch) → nfat_arch_of bytes ≡ length archs → AreRecordsOf bytes archs → archs_of bytes ≡ archs
+archs_of-only bytes archs count places =
+    let long = length-archs_of bytes in
+    same_lists (archs_of bytes) archs (omega arith) (λ i d within. archs_of-places bytes i d within ∙ sym (places i d (omega arith)))
+
+-- an accepted fat file is a fat file with the slices that its table tells
+pub fat_found : (bytes : List ℕ) → table_fault bytes ≡ None → IsFatFile bytes (archs_of bytes)
+fat_found bytes pass =
+    let is = table_passes bytes pass in
+    let long : length (archs_of bytes) ≡ nfat_arch_of bytes = length-archs_of bytes in
+    let P : ℕ → Type 0 = λ n. (table_end n ≤ length bytes) × AreSlices (length bytes) (table_end n) (archs_of bytes) in
+    let sized = subst P (sym long) (is.2, is.3) in
+    record { short = is.0; magic = is.1; count = sym long; room = sized.0; records = archs_of-places bytes; slices = sized.1 }
+
+-- a fat file is accepted, and shows its slices
+pub fat_only : (bytes : List ℕ) (archs : List FatArch) → IsFatFile bytes archs → (table_fault bytes ≡ None) × (archs_of bytes ≡ archs)
+fat_only bytes archs is =
+    let same : archs_of bytes ≡ archs = archs_of-only bytes archs is.count is.records in
+    let P : ℕ → Type 0 = λ n. table_end n ≤ length bytes in
+    let S : ℕ → Type 0 = λ n. AreSlices (length bytes) (table_end n) archs in
+    let A : List FatArch → Type 0 = λ l. AreSlices (length bytes) (table_end (nfat_arch_of bytes)) l in
+    let slices = subst A (sym same) (subst S (sym is.count) is.slices) in
+    (table_fault-none bytes is.short is.magic (subst P (sym is.count) is.room) slices, same)
+
 -- a slice of an accepted file is as long as its table says
 pub length-slice_of : (bytes : List ℕ) (a : FatArch) → a.offset + a.size ≤ length bytes → length (slice_of bytes a) ≡ a.size
 length-slice_of bytes a inside = length-take-le a.size (drop a.offset bytes) (omega (arith, length-drop a.offset bytes))
-
-pub lengths-slice_of : (bytes : List ℕ) → table_fault bytes ≡ None → All (λ a. length (slice_of bytes a) ≡ a.size) (archs_of bytes)
-lengths-slice_of bytes pass = λ k d within. length-slice_of bytes (get_or (archs_of bytes) k d) ((table_passes bytes pass).3.inside k d within)

@@ -11,7 +11,7 @@ use Rattle.patch_bytes.specs.Number.{number_at}
 use Rattle.macho_image.specs.declared.format.Ctx.{Ctx}
 use Rattle.macho_image.specs.declared.format.MachFault.TheVariants.{TooLong, Truncated}
 use Rattle.macho_image.specs.Checks.{area_fault, file_fault, form_fault, magic_fault}
-use Rattle.macho_image.specs.Commands.{commands_of, cut}
+use Rattle.macho_image.specs.Commands.{commands_of, cut_commands}
 use Rattle.macho_image.specs.File.{IsFile}
 use Rattle.macho_image.specs.Form.{area_of, commands_end, ctx_of, form_of, header_size, ncmds_of, sizeofcmds_of}
 use Rattle.macho_image.proofs.AreaLaws.{area_fault-concat, cut-concat, passes_check}
@@ -61,7 +61,7 @@ found bytes e =
     let ctx : Ctx = ctx_of bytes in
     let passed = file_passes bytes e in
     let form = form_passes ctx bytes passed.2 in
-    let whole : concat (cut ctx.le (ncmds_of ctx bytes) (area_of ctx bytes)) ≡ area_of ctx bytes = concat-cut ctx.le (ncmds_of ctx bytes) (area_of ctx bytes) form.2 in
+    let whole : concat (cut_commands ctx.le (ncmds_of ctx bytes) (area_of ctx bytes)) ≡ area_of ctx bytes = concat-cut ctx.le (ncmds_of ctx bytes) (area_of ctx bytes) form.2 in
     let long : length (area_of ctx bytes) ≡ sizeofcmds_of ctx bytes = length-area_of ctx bytes form.1 in
     record {
       short = passed.0;

@@ -5,11 +5,12 @@ use Rattle.std.proofs.lemmas.Slice.{drop-put_mid, take-put_mid}
 use borrow.Rule.Slice.PartMut.{put_mid}
 use Rattle.patch_bytes.specs.Number.{bytes_of, with_number}
 use Rattle.patch_bytes.proofs.NumberLaws.{length-bytes_of, length-with_number}
+use Rattle.macho_image.specs.Stored.{Fits, fields_behind, header_with}
 use Rattle.macho_image.specs.declared.format.Ctx.{Ctx}
 use Rattle.macho_image.specs.Form.{header_size}
 use Rattle.macho_image.specs.Image.{with_area}
 use Rattle.macho_image.proofs.FileLaws.{header_size-least}
-use Rattle.macho_image.proofs.StoredParts.{Fits, fields_behind, header_with, with_area-parts}
+use Rattle.macho_image.proofs.StoredParts.{with_area-parts}
 
 -- the front of two lists that goes past the first
 take-past : (n k : ℕ) (xs ys : List ℕ) → length xs ≡ n → take (n + k) (xs ++ ys) ≡ xs ++ take k ys

@@ -7,8 +7,10 @@ pub mod FatSteps
 pub mod FileLaws
 pub mod FirstLaws
 pub mod FormLaws
+pub mod ForCallers
 pub mod LaidLaws
 pub mod ListingLaws
+pub mod MeaningLaws
 pub mod PlaceLaws
 pub mod StoreLaws
 pub mod StoredFields

@@ -8,7 +8,7 @@ use Rattle.macho_image.specs.declared.command.LoadCommand.{LoadCommand}
 use Rattle.macho_image.specs.declared.format.MachFault.{MachFault}
 use Rattle.macho_image.specs.Checks.{area_fault, command_fault, or_else}
 use Rattle.macho_image.specs.Command.{cmdsize_of, contents_of, variant_of}
-use Rattle.macho_image.specs.Commands.{cut, least, located}
+use Rattle.macho_image.specs.Commands.{cut_commands, least, located_commands}
 use Rattle.macho_image.proofs.CommandLaws.{command_passes}
 use Rattle.macho_image.proofs.ContentLaws.{least-append}
 
@@ -41,20 +41,20 @@ checked_more order count i rest command all within pass is before =
     ap (area_fault order (count - (i + 1))) (rest_behind order rest command pass is) ∙ sym (ap (λ o. or_else o later) pass) ∙ step
 
 -- the commands that are left, with the next of them apart
-cut_more : (order : ByteOrder2) (count i : ℕ) (rest command : List ℕ) → i < count → command_fault order rest ≡ None → command ≡ take (cmdsize_of order rest) rest → cut order (count - i) rest ≡ command ∷ cut order (count - (i + 1)) (take (length rest - length command) (drop (length command) rest))
+cut_more : (order : ByteOrder2) (count i : ℕ) (rest command : List ℕ) → i < count → command_fault order rest ≡ None → command ≡ take (cmdsize_of order rest) rest → cut_commands order (count - i) rest ≡ command ∷ cut_commands order (count - (i + 1)) (take (length rest - length command) (drop (length command) rest))
 cut_more order count i rest command within pass is =
     let left : count - i ≡ suc (count - (i + 1)) = omega arith in
-    rw left (ap (λ c. c ∷ cut order (count - (i + 1)) (drop (cmdsize_of order rest) rest)) (sym is) ∙ ap (λ r. command ∷ cut order (count - (i + 1)) r) (sym (rest_behind order rest command pass is)))
+    rw left (ap (λ c. c ∷ cut_commands order (count - (i + 1)) (drop (cmdsize_of order rest) rest)) (sym is) ∙ ap (λ r. command ∷ cut_commands order (count - (i + 1)) r) (sym (rest_behind order rest command pass is)))
 
-pub listed_more : (order : ByteOrder2) (count i offset : ℕ) (rest command : List ℕ) (variant : CommandVariant) (made next all : List LoadCommand) → i < count → command_fault order rest ≡ None → command ≡ take (cmdsize_of order rest) rest → variant ≡ variant_of order command → next ≡ made ++ record { offset = offset; command = variant } ∷ [] → made ++ located order offset (cut order (count - i) rest) ≡ all → next ++ located order (offset + length command) (cut order (count - (i + 1)) (take (length rest - length command) (drop (length command) rest))) ≡ all
+pub listed_more : (order : ByteOrder2) (count i offset : ℕ) (rest command : List ℕ) (variant : CommandVariant) (made next all : List LoadCommand) → i < count → command_fault order rest ≡ None → command ≡ take (cmdsize_of order rest) rest → variant ≡ variant_of order command → next ≡ made ++ record { offset = offset; command = variant } ∷ [] → made ++ located_commands order offset (cut_commands order (count - i) rest) ≡ all → next ++ located_commands order (offset + length command) (cut_commands order (count - (i + 1)) (take (length rest - length command) (drop (length command) rest))) ≡ all
 listed_more order count i offset rest command variant made next all within pass is kind push before =
-    let behind = located order (offset + length command) (cut order (count - (i + 1)) (take (length rest - length command) (drop (length command) rest))) in
-    let step = ap (λ cs. made ++ located order offset cs) (sym (cut_more order count i rest command within pass is)) in
+    let behind = located_commands order (offset + length command) (cut_commands order (count - (i + 1)) (take (length rest - length command) (drop (length command) rest))) in
+    let step = ap (λ cs. made ++ located_commands order offset cs) (sym (cut_more order count i rest command within pass is)) in
     let same = ap (λ v. made ++ record { offset = offset; command = v } ∷ behind) kind in
     ap (λ xs. xs ++ behind) push ∙ append_assoc made _ behind ∙ same ∙ step ∙ before
 
-pub lowered_more : (order : ByteOrder2) (count i : ℕ) (rest command : List ℕ) (found next all : ℕ) → i < count → command_fault order rest ≡ None → command ≡ take (cmdsize_of order rest) rest → next ≡ least found (contents_of order command) → least found (flat_map (contents_of order) (cut order (count - i) rest)) ≡ all → least next (flat_map (contents_of order) (cut order (count - (i + 1)) (take (length rest - length command) (drop (length command) rest)))) ≡ all
+pub lowered_more : (order : ByteOrder2) (count i : ℕ) (rest command : List ℕ) (found next all : ℕ) → i < count → command_fault order rest ≡ None → command ≡ take (cmdsize_of order rest) rest → next ≡ least found (contents_of order command) → least found (flat_map (contents_of order) (cut_commands order (count - i) rest)) ≡ all → least next (flat_map (contents_of order) (cut_commands order (count - (i + 1)) (take (length rest - length command) (drop (length command) rest)))) ≡ all
 lowered_more order count i rest command found next all within pass is lower before =
-    let behind = flat_map (contents_of order) (cut order (count - (i + 1)) (take (length rest - length command) (drop (length command) rest))) in
+    let behind = flat_map (contents_of order) (cut_commands order (count - (i + 1)) (take (length rest - length command) (drop (length command) rest))) in
     let step = ap (λ cs. least found (flat_map (contents_of order) cs)) (sym (cut_more order count i rest command within pass is)) in
     ap (λ n. least n behind) lower ∙ sym (least-append found (contents_of order command) behind) ∙ step ∙ before

@@ -29,10 +29,6 @@ concat-commands_of bytes pass =
     let checked = form_passes (ctx_of bytes) bytes (file_passes bytes pass).2 in
     concat-cut (ctx_of bytes).le (ncmds_of (ctx_of bytes) bytes) (area_of (ctx_of bytes) bytes) checked.2
 
-pub length-commands_of : (bytes : List ℕ) → length (commands_of bytes) ≡ ncmds_of (ctx_of bytes) bytes
-unfolding commands_of
-length-commands_of bytes = length-cut (ctx_of bytes).le (ncmds_of (ctx_of bytes) bytes) (area_of (ctx_of bytes) bytes)
-
 pub length-load_commands_of : (bytes : List ℕ) → length (load_commands_of bytes) ≡ length (commands_of bytes)
 unfolding load_commands_of
 length-load_commands_of bytes = length-located (ctx_of bytes).le (header_size (ctx_of bytes).container) (commands_of bytes)

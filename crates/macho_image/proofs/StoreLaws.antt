@@ -9,25 +9,18 @@ use Rattle.patch_bytes.specs.declared.number.Wide.TheVariants.{W32, W64}
 use Rattle.patch_bytes.specs.Bytes.{AreBytes}
 use Rattle.patch_bytes.specs.Number.{bytes_of, field, number_at}
 use Rattle.patch_bytes.proofs.NumberLaws.{AreBytes-append, AreBytes-bytes_of, AreBytes-drop, AreBytes-take, bytes_of-number_at}
+use Rattle.macho_image.specs.Stored.{Fits, IsStored, fields_behind}
 use Rattle.macho_image.specs.declared.format.Ctx.{Ctx}
 use Rattle.macho_image.specs.Checks.{area_fault, file_fault}
 use Rattle.macho_image.specs.Command.{contents_of}
-use Rattle.macho_image.specs.Commands.{commands_of, cut, first_content_of, least, load_commands_of, located}
+use Rattle.macho_image.specs.Commands.{commands_of, cut_commands, first_content_of, least, load_commands_of, located_commands}
 use Rattle.macho_image.specs.File.{IsFile}
 use Rattle.macho_image.specs.Form.{area_of, commands_end, ctx_of, form_of, header_of, header_size, ncmds_of, reserved_of, sizeofcmds_of}
 use Rattle.macho_image.specs.Image.{with_area}
 use Rattle.macho_image.proofs.CutLaws.{concat-cut, cut_are_commands, length-cut}
 use Rattle.macho_image.proofs.FileLaws.{form_of-same, header_size-least, length-area_of, only}
 use Rattle.macho_image.proofs.FormLaws.{file_passes}
-use Rattle.macho_image.proofs.StoredParts.{Fits, drop-with_area_high, fields_behind, fields_behind-with_area, length-with_area, ncmds-with_area, number_at-with_area_fields, number_at-with_area_front, sizeofcmds-with_area, take-with_area_area, take-with_area_front}
-
--- what it takes to store an area of commands over an accepted file
-pub record IsStored (old : List ℕ) (count : ℕ) (area : List ℕ) (high : ℕ) : Type 0 where
-  pub accepted : file_fault old ≡ None
-  pub commands : area_fault (ctx_of old).le count area ≡ None
-  pub counted : count < 2 ^ 32
-  pub room : header_size (ctx_of old).container + length area ≤ high
-  pub inside : high ≤ length old
+use Rattle.macho_image.proofs.StoredParts.{drop-with_area_high, fields_behind-with_area, length-with_area, ncmds-with_area, number_at-with_area_fields, number_at-with_area_front, sizeofcmds-with_area, take-with_area_area, take-with_area_front}
 
 fits : (old : List ℕ) (count : ℕ) (area : List ℕ) (high : ℕ) → IsStored old count area high → Fits (ctx_of old) old area high
 fits old count area high is = record { room = is.room; inside = is.inside }
@@ -50,13 +43,13 @@ short_area old count area high is =
     omega arith
 
 -- the file with the area is a file of the old form with the commands that are cut from the area
-pub IsFile-with_area : (old : List ℕ) (count : ℕ) (area : List ℕ) (high : ℕ) → IsStored old count area high → IsFile (with_area (ctx_of old) old count area high) (ctx_of old) (cut (ctx_of old).le count area)
+pub IsFile-with_area : (old : List ℕ) (count : ℕ) (area : List ℕ) (high : ℕ) → IsStored old count area high → IsFile (with_area (ctx_of old) old count area high) (ctx_of old) (cut_commands (ctx_of old).le count area)
 IsFile-with_area old count area high is =
     let ctx : Ctx = ctx_of old in
     let passes = file_passes old is.accepted in
     let fit : Fits ctx old area high = fits old count area high is in
     let long : length (with_area ctx old count area high) ≡ length old = length-with_area ctx old count area high fit in
-    let whole : concat (cut ctx.le count area) ≡ area = concat-cut ctx.le count area is.commands in
+    let whole : concat (cut_commands ctx.le count area) ≡ area = concat-cut ctx.le count area is.commands in
     let room : header_size ctx.container + length area ≤ length old = let a : header_size ctx.container + length area ≤ high = is.room in let b : high ≤ length old = is.inside in omega arith in
     record {
       short = rw long passes.0;
@@ -71,18 +64,18 @@ IsFile-with_area old count area high is =
 -- what the file with the area shows
 pub file_fault-with_area : (old : List ℕ) (count : ℕ) (area : List ℕ) (high : ℕ) → IsStored old count area high → file_fault (with_area (ctx_of old) old count area high) ≡ None
 file_fault-with_area old count area high is =
-    (only (with_area (ctx_of old) old count area high) (ctx_of old) (cut (ctx_of old).le count area) (IsFile-with_area old count area high is)).0
+    (only (with_area (ctx_of old) old count area high) (ctx_of old) (cut_commands (ctx_of old).le count area) (IsFile-with_area old count area high is)).0
 
-pub commands_of-with_area : (old : List ℕ) (count : ℕ) (area : List ℕ) (high : ℕ) → IsStored old count area high → commands_of (with_area (ctx_of old) old count area high) ≡ cut (ctx_of old).le count area
+pub commands_of-with_area : (old : List ℕ) (count : ℕ) (area : List ℕ) (high : ℕ) → IsStored old count area high → commands_of (with_area (ctx_of old) old count area high) ≡ cut_commands (ctx_of old).le count area
 commands_of-with_area old count area high is =
-    (only (with_area (ctx_of old) old count area high) (ctx_of old) (cut (ctx_of old).le count area) (IsFile-with_area old count area high is)).2
+    (only (with_area (ctx_of old) old count area high) (ctx_of old) (cut_commands (ctx_of old).le count area) (IsFile-with_area old count area high is)).2
 
-pub load_commands_of-with_area : (old : List ℕ) (count : ℕ) (area : List ℕ) (high : ℕ) → IsStored old count area high → load_commands_of (with_area (ctx_of old) old count area high) ≡ located (ctx_of old).le (header_size (ctx_of old).container) (cut (ctx_of old).le count area)
+pub load_commands_of-with_area : (old : List ℕ) (count : ℕ) (area : List ℕ) (high : ℕ) → IsStored old count area high → load_commands_of (with_area (ctx_of old) old count area high) ≡ located_commands (ctx_of old).le (header_size (ctx_of old).container) (cut_commands (ctx_of old).le count area)
 unfolding load_commands_of
 load_commands_of-with_area old count area high is =
     rw (ctx_of-with_area (ctx_of old) old count area high (fits old count area high is), commands_of-with_area old count area high is) refl
 
-pub first_content_of-with_area : (old : List ℕ) (count : ℕ) (area : List ℕ) (high : ℕ) → IsStored old count area high → first_content_of (with_area (ctx_of old) old count area high) ≡ least (length old) (flat_map (contents_of (ctx_of old).le) (cut (ctx_of old).le count area))
+pub first_content_of-with_area : (old : List ℕ) (count : ℕ) (area : List ℕ) (high : ℕ) → IsStored old count area high → first_content_of (with_area (ctx_of old) old count area high) ≡ least (length old) (flat_map (contents_of (ctx_of old).le) (cut_commands (ctx_of old).le count area))
 unfolding first_content_of
 first_content_of-with_area old count area high is =
     rw (ctx_of-with_area (ctx_of old) old count area high (fits old count area high is), commands_of-with_area old count area high is, length-with_area (ctx_of old) old count area high (fits old count area high is)) refl
@@ -140,24 +133,3 @@ with_area-same ctx old bytes room =
     let at20 : field 4 20 old ++ drop 24 old ≡ drop 20 old = take-drop-split 4 20 old in
     let at16 : field 4 16 old ++ drop 20 old ≡ drop 16 old = take-drop-split 4 16 old in
     rw (zeros, long, counts, sizes, areas, fields, at20, at16) (take-append-drop 16 old)
-
--- bytes stay bytes
-AreBytes-replicate : (n : ℕ) → AreBytes (replicate n 0)
-AreBytes-replicate n = record { each = each_of n }
-  where
-    each_of : (n i : ℕ) → get_or (replicate n 0) i 0 < 256
-    each_of zero i = omega arith
-    each_of (suc n) zero = omega arith
-    each_of (suc n) (suc i) = each_of n i
-
-pub AreBytes-with_area : (ctx : Ctx) (old : List ℕ) (count : ℕ) (area : List ℕ) (high : ℕ) → AreBytes old → AreBytes area → AreBytes (with_area ctx old count area high)
-unfolding with_area
-AreBytes-with_area ctx old count area high olds areas =
-    let zeros : List ℕ = replicate (high - (header_size ctx.container + length area)) 0 in
-    let back : AreBytes (zeros ++ drop high old) = AreBytes-append zeros (drop high old) (AreBytes-replicate (high - (header_size ctx.container + length area))) (AreBytes-drop high old olds) in
-    let behind : AreBytes (area ++ (zeros ++ drop high old)) = AreBytes-append area (zeros ++ drop high old) areas back in
-    let fields : AreBytes (fields_behind ctx old) = AreBytes-take (header_size ctx.container - 24) (drop 24 old) (AreBytes-drop 24 old olds) in
-    let at24 = AreBytes-append (fields_behind ctx old) (area ++ (zeros ++ drop high old)) fields behind in
-    let at20 = AreBytes-append (bytes_of ctx.le 4 (length area)) _ (AreBytes-bytes_of ctx.le 4 (length area)) at24 in
-    let at16 = AreBytes-append (bytes_of ctx.le 4 count) _ (AreBytes-bytes_of ctx.le 4 count) at20 in
-    AreBytes-append (take 16 old) _ (AreBytes-take 16 old olds) at16

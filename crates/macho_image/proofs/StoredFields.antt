@@ -5,20 +5,20 @@ use Rattle.std.specs.Option.{option_map, option_or, is_some}
 use Rattle.std.specs.declared.alloc.Global.{Global}
 use Rattle.std.specs.declared.vec.Vec.{Vec}
 use Rattle.patch_bytes.specs.ByteString.{bytes_shown}
+use Rattle.macho_image.specs.Stored.{Fits, IsStored}
 use Rattle.macho_image.specs.declared.format.Ctx.{Ctx}
 use Rattle.macho_image.specs.declared.image.MachO.TheInside.{Inside}
 use Rattle.macho_image.specs.declared.image.store.Prepared.TheInside.{Inside as PreparedInside}
 use Rattle.macho_image.specs.Checks.{area_fault}
 use Rattle.macho_image.specs.Command.{contents_of}
-use Rattle.macho_image.specs.Commands.{cut, least, located}
+use Rattle.macho_image.specs.Commands.{cut_commands, least, located_commands}
 use Rattle.macho_image.specs.Form.{ctx_of, header_of, header_size}
 use Rattle.macho_image.specs.Image.{with_area}
 use Rattle.macho_image.specs.Parsed.{IsParsed, image_of}
 use Rattle.macho_image.specs.Prepared.{copy_for}
 use Rattle.macho_image.specs.Ready.{IsReady}
 use Rattle.macho_image.proofs.FormLaws.{file_passes}
-use Rattle.macho_image.proofs.StoredParts.{Fits}
-use Rattle.macho_image.proofs.StoreLaws.{IsStored, ctx_of-with_area, file_fault-with_area, first_content_of-with_area, header_of-with_area, load_commands_of-with_area}
+use Rattle.macho_image.proofs.StoreLaws.{ctx_of-with_area, file_fault-with_area, first_content_of-with_area, header_of-with_area, load_commands_of-with_area}
 
 -- the copy that was prepared or the one that was there holds the file's bytes
 pub items-copy : (source : List ℕ) (edited copy : Option (Vec ℕ Global)) (bytes : Vec ℕ Global) → option_map (λ (v : Vec ℕ Global). v.items) copy ≡ copy_for (record { bytes = bytes_shown source edited; is_edited = is_some edited }) → option_or copy edited ≡ Some bytes → bytes.items ≡ bytes_shown source edited
@@ -61,8 +61,8 @@ IsParsed-stored old new made high parsed ready stores =
     let laid : (image_of new).bytes ≡ with_area ctx bytes made.count area high = rw form at stores.bytes in
     let same : ctx_of (with_area ctx bytes made.count area high) ≡ ctx = ctx_of-with_area ctx bytes made.count area high fit in
     let fields : header_of ctx (with_area ctx bytes made.count area high) ≡ record (header_of ctx bytes) { ncmds = made.count; sizeofcmds = length area } = header_of-with_area ctx bytes made.count area high fit ready.counted (omega arith) in
-    let listed : made.commands.items ≡ located ctx.le (header_size ctx.container) (cut ctx.le made.count area) = rw form at ready.commands in
-    let contents : List ℕ = flat_map (contents_of ctx.le) (cut ctx.le made.count area) in
+    let listed : made.commands.items ≡ located_commands ctx.le (header_size ctx.container) (cut_commands ctx.le made.count area) = rw form at ready.commands in
+    let contents : List ℕ = flat_map (contents_of ctx.le) (cut_commands ctx.le made.count area) in
     let found : made.first_content ≡ least (2 ^ 64 - 1) contents = rw form at ready.first in
     let limit : min (length bytes) (2 ^ 64 - 1) ≡ length bytes = omega arith in
     let read : old.header ≡ header_of ctx bytes = parsed.fields ∙ ap (λ (x : Ctx). header_of x bytes) kept in

@@ -4,24 +4,11 @@ use Rattle.std.proofs.lemmas.List.{append-nil, append_assoc, drop_all, drop_at, 
 use Rattle.patch_bytes.specs.declared.number.ByteOrder2.{ByteOrder2}
 use Rattle.patch_bytes.specs.Number.{bytes_of, number_at}
 use Rattle.patch_bytes.proofs.NumberLaws.{length-bytes_of, number_at-append_right, number_at-bytes_of, number_at-drop, number_at-take}
+use Rattle.macho_image.specs.Stored.{Fits, fields_behind, header_with}
 use Rattle.macho_image.specs.declared.format.Ctx.{Ctx}
 use Rattle.macho_image.specs.Form.{header_size}
 use Rattle.macho_image.specs.Image.{with_area}
 use Rattle.macho_image.proofs.FileLaws.{header_size-least}
-
--- an area behind the header that ends at or before `high`, and `high` in the bytes
-pub record Fits (ctx : Ctx) (old area : List ℕ) (high : ℕ) : Type 0 where
-  pub room : header_size ctx.container + length area ≤ high
-  pub inside : high ≤ length old
-
--- the header's fields behind the two counts
-abbrev pub fields_behind : Ctx → List ℕ → List ℕ
-fields_behind ctx old = take (header_size ctx.container - 24) (drop 24 old)
-
--- the header with other counts
-abbrev pub header_with : Ctx → List ℕ → ℕ → ℕ → List ℕ
-header_with ctx old count size =
-    take 16 old ++ (bytes_of ctx.le 4 count ++ (bytes_of ctx.le 4 size ++ fields_behind ctx old))
 
 -- what stands behind the header
 abbrev pub behind_header : Ctx → List ℕ → List ℕ → ℕ → List ℕ

@@ -7,7 +7,7 @@ use Rattle.macho_image.specs.declared.command.CommandVariant.TheVariants.{Rpath,
 use Rattle.macho_image.specs.declared.command.DylibCommand.{DylibCommand}
 use Rattle.macho_image.specs.declared.command.LoadCommandHeader.{LoadCommandHeader}
 use Rattle.macho_image.specs.declared.command.RpathCommand.{RpathCommand}
-use Rattle.macho_image.specs.declared.command.TheConstants.{LC_SEGMENT, LC_SYMTAB, LC_LOAD_DYLIB, LC_ID_DYLIB, LC_SEGMENT_64, LC_LAZY_LOAD_DYLIB, LC_LOAD_WEAK_DYLIB, LC_RPATH, LC_REEXPORT_DYLIB, LC_LOAD_UPWARD_DYLIB}
+use Rattle.macho_image.specs.declared.command.TheConstants.{DYLIB_COMMAND_SIZE, LOAD_COMMAND_SIZE, RPATH_COMMAND_SIZE, SYMTAB_COMMAND_SIZE, LC_SEGMENT, LC_SYMTAB, LC_LOAD_DYLIB, LC_ID_DYLIB, LC_SEGMENT_64, LC_LAZY_LOAD_DYLIB, LC_LOAD_WEAK_DYLIB, LC_RPATH, LC_REEXPORT_DYLIB, LC_LOAD_UPWARD_DYLIB}
 
 -- the size that a command's variant holds
 abbrev pub variant_size : CommandVariant → ℕ
@@ -71,12 +71,12 @@ pub record SegmentForm : Type 0 where
   pub flags : ℕ
 
 -- `segment_command` and `section`
-abbrev pub narrow : SegmentForm
-narrow = record { fixed = 56; section = 68; word = 4; fileoff = 32; filesize = 36; nsects = 48; size = 36; offset = 40; flags = 56 }
+abbrev pub narrow_form : SegmentForm
+narrow_form = record { fixed = 56; section = 68; word = 4; fileoff = 32; filesize = 36; nsects = 48; size = 36; offset = 40; flags = 56 }
 
 -- `segment_command_64` and `section_64`
-abbrev pub wide : SegmentForm
-wide = record { fixed = 72; section = 80; word = 8; fileoff = 40; filesize = 48; nsects = 64; size = 40; offset = 48; flags = 64 }
+abbrev pub wide_form : SegmentForm
+wide_form = record { fixed = 72; section = 80; word = 8; fileoff = 40; filesize = 48; nsects = 64; size = 40; offset = 48; flags = 64 }
 
 -- how many sections a segment command says that it has
 abbrev pub nsects_of : SegmentForm → ByteOrder2 → List ℕ → ℕ
@@ -89,12 +89,12 @@ segment_size f order c = if nat_lt (length c) f.fixed then f.fixed else f.fixed 
 -- the least size of a command of its kind
 unfoldable pub least_size : ByteOrder2 → List ℕ → ℕ
 least_size order c =
-    if cmd_of order c == LC_RPATH then 12
-    else (if is_dylib_kind (cmd_of order c) then 24
-    else (if cmd_of order c == LC_SYMTAB then 24
-    else (if cmd_of order c == LC_SEGMENT then segment_size narrow order c
-    else (if cmd_of order c == LC_SEGMENT_64 then segment_size wide order c
-    else 8))))
+    if cmd_of order c == LC_RPATH then RPATH_COMMAND_SIZE
+    else (if is_dylib_kind (cmd_of order c) then DYLIB_COMMAND_SIZE
+    else (if cmd_of order c == LC_SYMTAB then SYMTAB_COMMAND_SIZE
+    else (if cmd_of order c == LC_SEGMENT then segment_size narrow_form order c
+    else (if cmd_of order c == LC_SEGMENT_64 then segment_size wide_form order c
+    else LOAD_COMMAND_SIZE))))
 
 -- what it is to be a load command: it says its own length, has the fixed part of its kind with its
 -- sections, and where it holds a text, this begins inside it or at its end
@@ -105,8 +105,8 @@ pub record IsCommand (order : ByteOrder2) (c : List ℕ) : Type 0 where
   pub has_text : IsTrue (is_text_kind (cmd_of order c)) → text_offset order c ≤ length c
 
 -- an offset that counts as content: one that isn't 0, of something that isn't empty
-abbrev pub counted : ℕ → ℕ → List ℕ
-counted offset size = if nat_lt 0 offset && nat_lt 0 size then (offset ∷ []) else []
+abbrev pub counted_content : ℕ → ℕ → List ℕ
+counted_content offset size = if nat_lt 0 offset && nat_lt 0 size then (offset ∷ []) else []
 
 -- the types of section that have no bytes in the file: zerofill, large zerofill and thread-local
 -- zerofill, in the low 8 bits of the flags
@@ -116,7 +116,7 @@ is_zerofill flags = flags % 256 == 0x1 || flags % 256 == 0xc || flags % 256 == 0
 -- the content of a section
 unfoldable pub section_content : SegmentForm → ByteOrder2 → List ℕ → List ℕ
 section_content f order s =
-    if is_zerofill (number_at order 4 f.flags s) then [] else counted (number_at order 4 f.offset s) (number_at order f.word f.size s)
+    if is_zerofill (number_at order 4 f.flags s) then [] else counted_content (number_at order 4 f.offset s) (number_at order f.word f.size s)
 
 -- the contents of n sections that stand one behind the other
 abbrev pub sections_content : SegmentForm → ByteOrder2 → ℕ → List ℕ → List ℕ
@@ -126,19 +126,19 @@ sections_content f order (suc n) rest = section_content f order rest ++ sections
 -- the content of a segment and of its sections
 unfoldable pub segment_content : SegmentForm → ByteOrder2 → List ℕ → List ℕ
 segment_content f order c =
-    counted (number_at order f.word f.fileoff c) (number_at order f.word f.filesize c)
+    counted_content (number_at order f.word f.fileoff c) (number_at order f.word f.filesize c)
     ++ sections_content f order (nsects_of f order c) (drop f.fixed c)
 
 -- where the symbol table and its strings begin
 unfoldable pub symtab_content : ByteOrder2 → List ℕ → List ℕ
 symtab_content order c =
-    counted (number_at order 4 8 c) (number_at order 4 12 c) ++ counted (number_at order 4 16 c) (number_at order 4 20 c)
+    counted_content (number_at order 4 8 c) (number_at order 4 12 c) ++ counted_content (number_at order 4 16 c) (number_at order 4 20 c)
 
 -- the offsets of content that a command names
 unfoldable pub contents_of : ByteOrder2 → List ℕ → List ℕ
 contents_of order c =
-    if cmd_of order c == LC_SEGMENT then segment_content narrow order c
-    else (if cmd_of order c == LC_SEGMENT_64 then segment_content wide order c
+    if cmd_of order c == LC_SEGMENT then segment_content narrow_form order c
+    else (if cmd_of order c == LC_SEGMENT_64 then segment_content wide_form order c
     else (if cmd_of order c == LC_SYMTAB then symtab_content order c
     else []))
 

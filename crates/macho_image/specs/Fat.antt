@@ -1,6 +1,6 @@
 -- Fat files: the table of slices, its checks in their order, and the slices (fat.h, `fat_header` and
 -- `fat_arch`; every number in big-endian order).
-use Rattle.std.specs.Prelude.{ℕ, ◌+◌, ◌*◌, ◌-◌, ◌^◌, ◌<◌, ◌≤◌, ◌≡◌, ◌==◌, ◌||◌, ◌&&◌, Bool, false, zero, suc, not, nat_lt, List, [], ◌∷◌, length, take, drop, get_or, Option, Some, None, All, if◌then◌else◌}
+use Rattle.std.specs.Prelude.{ℕ, ◌+◌, ◌*◌, ◌-◌, ◌^◌, ◌<◌, ◌≤◌, ◌≡◌, ◌==◌, ◌||◌, ◌&&◌, Bool, true, false, zero, suc, not, nat_lt, List, [], ◌∷◌, length, take, drop, get_or, Option, Some, None, All, if◌then◌else◌}
 use Rattle.std.specs.List.{list_any}
 use Rattle.patch_bytes.specs.declared.number.ByteOrder2.TheVariants.{Big}
 use Rattle.patch_bytes.specs.Number.{number_at}
@@ -80,3 +80,17 @@ pub record AreSlices (len end : ℕ) (archs : List FatArch) : Type 0 where
   pub inside : All (λ a. a.offset + a.size ≤ len) archs
   pub behind : All (λ a. end ≤ a.offset) archs
   pub apart : (i j : ℕ) (d : FatArch) → i < j → j < length archs → share_byte (get_or archs i d) (get_or archs j d) ≡ false
+
+-- the record with this place in the table stands behind the header and the records before it
+abbrev pub AreRecordsOf : List ℕ → List FatArch → Type 0
+AreRecordsOf bytes archs = (i : ℕ) (d : FatArch) → i < length archs → get_or archs i d ≡ arch_of (drop (table_end i) bytes)
+
+-- the bytes are a fat file with these slices, apart from how its table is cut and checked: behind the magic
+-- stand as many records as the header says, and the slices lie behind them, apart from each other
+pub record IsFatFile (bytes : List ℕ) (archs : List FatArch) : Type 0 where
+  pub short : length bytes < 2 ^ 32
+  pub magic : has_fat_magic bytes ≡ true
+  pub count : nfat_arch_of bytes ≡ length archs
+  pub room : table_end (length archs) ≤ length bytes
+  pub records : AreRecordsOf bytes archs
+  pub slices : AreSlices (length bytes) (table_end (length archs)) archs

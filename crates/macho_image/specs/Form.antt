@@ -8,7 +8,7 @@ use Rattle.patch_bytes.specs.declared.number.Wide.TheVariants.{W32, W64}
 use Rattle.patch_bytes.specs.Number.{number_at}
 use Rattle.macho_image.specs.declared.format.Ctx.{Ctx}
 use Rattle.macho_image.specs.declared.format.Header.{Header}
-use Rattle.macho_image.specs.declared.format.TheConstants.{MH_MAGIC, MH_MAGIC_64}
+use Rattle.macho_image.specs.declared.format.TheConstants.{MH_MAGIC, MH_MAGIC_64, NCMDS_AT, SIZEOFCMDS_AT}
 
 -- the magic of each width
 abbrev pub magic_of : Wide → ℕ
@@ -42,11 +42,11 @@ ctx_of bytes = unwrap_or (form_of bytes) (form W64 Little)
 
 -- how many load commands the header says that there are
 abbrev pub ncmds_of : Ctx → List ℕ → ℕ
-ncmds_of ctx bytes = number_at ctx.le 4 16 bytes
+ncmds_of ctx bytes = number_at ctx.le 4 NCMDS_AT bytes
 
 -- how many bytes the header says that they have
 abbrev pub sizeofcmds_of : Ctx → List ℕ → ℕ
-sizeofcmds_of ctx bytes = number_at ctx.le 4 20 bytes
+sizeofcmds_of ctx bytes = number_at ctx.le 4 SIZEOFCMDS_AT bytes
 
 -- where the load commands end, by the header
 abbrev pub commands_end : Ctx → List ℕ → ℕ

@@ -7,7 +7,9 @@ pub mod Fat
 pub mod File
 pub mod Form
 pub mod Image
+pub mod Laws
 pub mod Layout
 pub mod Parsed
 pub mod Prepared
 pub mod Ready
+pub mod Stored

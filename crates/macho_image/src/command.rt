@@ -31,6 +31,18 @@ pub const LC_REEXPORT_DYLIB: u32 = 0x8000_001f;
 /// `LC_LOAD_UPWARD_DYLIB`: a library that itself needs this one.
 pub const LC_LOAD_UPWARD_DYLIB: u32 = 0x8000_0023;
 
+/// The bytes of `load_command`, which every load command begins with.
+pub const LOAD_COMMAND_SIZE: usize = 8;
+
+/// The bytes of `rpath_command` before its text.
+pub const RPATH_COMMAND_SIZE: usize = 12;
+
+/// The bytes of `dylib_command` before its text.
+pub const DYLIB_COMMAND_SIZE: usize = 24;
+
+/// The bytes of `symtab_command`.
+pub const SYMTAB_COMMAND_SIZE: usize = 24;
+
 /// `load_command` of loader.h: what every load command begins with.
 #[derive(Clone, Copy, Debug, PartialEq, Eq)]
 pub struct LoadCommandHeader {

@@ -12,6 +12,12 @@ use std::alloc::{AllocError, Global};
 /// the table do.
 pub const FAT_MAGIC: u32 = 0xcafe_babe;
 
+// The bytes of `fat_header`, behind which the table stands.
+const HEADER_SIZE: usize = 8;
+
+// The bytes of a record of the table.
+const RECORD_SIZE: usize = 20;
+
 /// `fat_arch` of fat.h: a slice of a fat file.
 #[derive(Clone, Copy, Debug, PartialEq, Eq)]
 pub struct FatArch {
@@ -70,14 +76,14 @@ pub fn fat_archs(alloc: Global, bytes: &[u8]) -> Result<Vec<FatArch>, MachFault>
     if !is_fat(bytes) {
         return Err(MachFault::BadMagic);
     }
-    if bytes.len() < 8 {
+    if bytes.len() < HEADER_SIZE {
         return Err(MachFault::Truncated);
     }
     let count = number32(bytes, 4, ByteOrder2::Big) as usize;
     if bytes.len() < table_end(count) {
         return Err(MachFault::Truncated);
     }
-    let archs = read_table(alloc, count, &bytes[8..])?;
+    let archs = read_table(alloc, count, &bytes[HEADER_SIZE..])?;
     check_slices(alloc, bytes.len(), &archs)?;
     Ok(archs)
 }
@@ -87,7 +93,7 @@ fn table_end(count: usize) -> usize
     requires { count < 2 ^ 32 }
     ensures { result ≡ table_end count }
 {
-    8 + 20 * count
+    HEADER_SIZE + RECORD_SIZE * count
 }
 
 // The first `count` records of a table, or `Memory`.
@@ -99,7 +105,7 @@ fn read_table(alloc: Global, count: usize, bytes: &[u8]) -> Result<Vec<FatArch>,
     let mut rest = bytes;
     for _i in 0..count {
         archs.push(read_arch(rest))?;
-        rest = &rest[20..];
+        rest = &rest[RECORD_SIZE..];
     }
     Ok(archs)
 }

@@ -12,6 +12,12 @@ pub const MH_MAGIC: u32 = 0xfeed_face;
 /// The magic of a 64-bit header, `MH_MAGIC_64` of loader.h.
 pub const MH_MAGIC_64: u32 = 0xfeed_facf;
 
+/// Where the number of load commands stands in a header, `ncmds` of loader.h.
+pub const NCMDS_AT: usize = 16;
+
+/// Where the bytes of all load commands together are told, `sizeofcmds` of loader.h.
+pub const SIZEOFCMDS_AT: usize = 20;
+
 /// The width of a file's words and the order of its bytes, as its magic tells them.
 #[derive(Clone, Copy, Debug, PartialEq, Eq)]
 pub struct Ctx {

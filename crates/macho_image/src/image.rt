@@ -1,9 +1,10 @@
-ghost use Rattle.std.specs.Prelude.{◌≡◌, [], ◌≢◌, ◌<◌, ◌≤◌, ◌+◌, length, take, drop, map, slice_index_or, Option, Some, None, IfOk, IsOk, MatchResult, false, true};
+ghost use Rattle.std.specs.Prelude.{◌≡◌, [], ◌≢◌, ◌<◌, ◌≤◌, ◌+◌, length, take, drop, map, slice_index_or, Option, Some, None, IfOk, IsOk, MatchResult, true};
 ghost use Rattle.std.specs.Option.{option_map};
 ghost use Rattle.macho_image.specs.Checks.{file_fault};
 ghost use Rattle.macho_image.specs.Command.{IsCommand};
 ghost use Rattle.macho_image.specs.Commands.{commands_of, first_content_of, id_of, libs_of, load_commands_of, rpaths_of};
 ghost use Rattle.macho_image.specs.Form.{ctx_of, form_of, header_of};
+ghost use Rattle.macho_image.specs.Image.{fresh_image};
 
 mod store;
 
@@ -52,7 +53,7 @@ impl<'a> MachO<'a> {
     /// `CountsDisagree`. `Memory` only where a growth was refused.
     pub fn parse(alloc: Global, bytes: &'a [u8]) -> Result<MachO<'a>, MachFault>
         ensures { MatchResult result
-            (λ m. (file_fault bytes.entry.now ≡ None) × (m ≡ record { bytes = bytes.entry.now; is_edited = false }))
+            (λ m. (file_fault bytes.entry.now ≡ None) × (m ≡ fresh_image bytes.entry.now))
             (λ e. e ≢ MachFault.Memory → file_fault bytes.entry.now ≡ Some e) }
     {
         let parts = read_file(alloc, bytes)?;
@@ -69,7 +70,7 @@ impl<'a> MachO<'a> {
     /// The same for bytes that the file then owns; where it is refused they are dropped.
     pub fn parse_owned(alloc: Global, bytes: Vec<u8>) -> Result<MachO<'a>, MachFault>
         ensures { MatchResult result
-            (λ m. (file_fault bytes.items ≡ None) × (m ≡ record { bytes = bytes.items; is_edited = false }))
+            (λ m. (file_fault bytes.items ≡ None) × (m ≡ fresh_image bytes.items))
             (λ e. e ≢ MachFault.Memory → file_fault bytes.items ≡ Some e) }
     {
         let parts = read_file(alloc, bytes.as_slice())?;
@@ -144,7 +145,8 @@ impl<'a> MachO<'a> {
     /// The run paths, in the order of their commands, or an error where there is no memory for the list.
     #[tactic(auto, using(crate::proofs::CommandLaws::least_sizes), unfolding(crate::specs::Commands::rpaths_of))]
     pub fn rpaths(&self, alloc: Global) -> Result<Vec<&[u8]>, AllocError>
-        ensures { IfOk result (λ paths. map (λ path. path.now) paths.items ≡ rpaths_of self.now.bytes) }
+        ensures { IfOk result
+            (λ paths. map (λ path. path.now) paths.items ≡ rpaths_of self.now.bytes) }
     {
         let order = self.ctx().le;
         let mut paths = Vec::new(alloc);
@@ -161,7 +163,8 @@ impl<'a> MachO<'a> {
     /// error where there is no memory for the list.
     #[tactic(auto, using(crate::proofs::CommandLaws::least_sizes), unfolding(crate::specs::Commands::libs_of))]
     pub fn libs(&self, alloc: Global) -> Result<Vec<&[u8]>, AllocError>
-        ensures { IfOk result (λ names. map (λ name. name.now) names.items ≡ libs_of self.now.bytes) }
+        ensures { IfOk result
+            (λ names. map (λ name. name.now) names.items ≡ libs_of self.now.bytes) }
     {
         let order = self.ctx().le;
         let mut names = Vec::new(alloc);

@@ -9,6 +9,7 @@ pub mod field;
 pub mod format;
 pub mod image;
 pub mod kind;
+pub mod laws;
 mod one_command;
 mod parse;
 mod segment;

@@ -4,27 +4,16 @@ ghost use Rattle.macho_image.specs.Command.{IsCommand, cmd_of, cmdsize_of, comma
 ghost use Rattle.macho_image.specs.Commands.{least};
 
 use crate::command::{
-    CommandVariant, Dylib, DylibCommand, LC_ID_DYLIB, LC_LAZY_LOAD_DYLIB, LC_LOAD_DYLIB,
-    LC_LOAD_UPWARD_DYLIB, LC_LOAD_WEAK_DYLIB, LC_REEXPORT_DYLIB, LC_RPATH, LC_SEGMENT,
-    LC_SEGMENT_64, LC_SYMTAB, LoadCommandHeader, RpathCommand,
+    CommandVariant, DYLIB_COMMAND_SIZE, Dylib, DylibCommand, LC_ID_DYLIB, LC_LAZY_LOAD_DYLIB,
+    LC_LOAD_DYLIB, LC_LOAD_UPWARD_DYLIB, LC_LOAD_WEAK_DYLIB, LC_REEXPORT_DYLIB, LC_RPATH,
+    LC_SEGMENT, LC_SEGMENT_64, LC_SYMTAB, LOAD_COMMAND_SIZE, LoadCommandHeader, RPATH_COMMAND_SIZE,
+    RpathCommand, SYMTAB_COMMAND_SIZE,
 };
 use crate::field::{dylib_of, number32};
 use crate::format::MachFault;
 use crate::kind::{is_dylib_kind, is_text_kind};
 use crate::segment::{NARROW, WIDE, lower};
 use patch_bytes::ByteOrder2;
-
-// The bytes of what every command begins with.
-const HEADER_SIZE: usize = 8;
-
-// The bytes of the fixed part of an rpath command.
-const RPATH_SIZE: usize = 12;
-
-// The bytes of the fixed part of a library command.
-const DYLIB_SIZE: usize = 24;
-
-// The bytes of a symbol table's command.
-const SYMTAB_SIZE: usize = 24;
 
 // The least size of a command of its kind.
 #[tactic(auto, unfolding(crate::specs::Command::least_size))]
@@ -34,17 +23,17 @@ fn least_size(order: ByteOrder2, command: &[u8]) -> usize
 {
     let cmd = number32(command, 0, order);
     if cmd == LC_RPATH {
-        RPATH_SIZE
+        RPATH_COMMAND_SIZE
     } else if is_dylib_kind(cmd) {
-        DYLIB_SIZE
+        DYLIB_COMMAND_SIZE
     } else if cmd == LC_SYMTAB {
-        SYMTAB_SIZE
+        SYMTAB_COMMAND_SIZE
     } else if cmd == LC_SEGMENT {
         NARROW.least_size(order, command)
     } else if cmd == LC_SEGMENT_64 {
         WIDE.least_size(order, command)
     } else {
-        HEADER_SIZE
+        LOAD_COMMAND_SIZE
     }
 }
 
@@ -52,7 +41,9 @@ fn least_size(order: ByteOrder2, command: &[u8]) -> usize
 #[tactic(auto, using(crate::proofs::CommandLaws::least_sizes), unfolding(crate::specs::Checks::fields_fault))]
 fn check_fields(order: ByteOrder2, command: &[u8]) -> Result<(), MachFault>
     requires { 8 ≤ length command.now }
-    ensures { MatchResult result (λ _. fields_fault order command.now ≡ None) (λ e. fields_fault order command.now ≡ Some e) }
+    ensures { MatchResult result
+        (λ _. fields_fault order command.now ≡ None)
+        (λ e. fields_fault order command.now ≡ Some e) }
 {
     if command.len() < least_size(order, command) {
         return Err(MachFault::BadCommandSize);
@@ -69,14 +60,16 @@ fn check_fields(order: ByteOrder2, command: &[u8]) -> Result<(), MachFault>
 #[tactic(auto, unfolding(crate::specs::Checks::command_fault))]
 pub(crate) fn check_command(order: ByteOrder2, rest: &[u8]) -> Result<&[u8], MachFault>
     ensures { MatchResult result
-        (λ command. (command_fault order rest.now ≡ None) × (command.now ≡ take (cmdsize_of order rest.now) rest.now) × IsCommand order command.now)
+        (λ command. (command_fault order rest.now ≡ None)
+        × (command.now ≡ take (cmdsize_of order rest.now) rest.now)
+        × IsCommand order command.now)
         (λ e. command_fault order rest.now ≡ Some e) }
 {
-    if rest.len() < HEADER_SIZE {
+    if rest.len() < LOAD_COMMAND_SIZE {
         return Err(MachFault::BadCommandSize);
     }
     let cmdsize = number32(rest, 4, order) as usize;
-    if cmdsize < HEADER_SIZE || rest.len() < cmdsize {
+    if cmdsize < LOAD_COMMAND_SIZE || rest.len() < cmdsize {
         return Err(MachFault::BadCommandSize);
     }
     let command = &rest[..cmdsize];

@@ -1,13 +1,11 @@
 ghost use Rattle.std.specs.Prelude.{◌≡◌, ◌≢◌, ◌+◌, ◌<◌, ◌≤◌, ◌^◌, length, MatchResult, Option, Some, None};
-ghost use Rattle.std.specs.List.{flat_map};
 ghost use Rattle.macho_image.specs.Checks.{area_fault, file_fault, form_fault};
-ghost use Rattle.macho_image.specs.Command.{contents_of};
-ghost use Rattle.macho_image.specs.Commands.{cut, first_content_of, least, load_commands_of, located};
-ghost use Rattle.macho_image.specs.Form.{area_of, ctx_of, form_of, header_of, header_size, ncmds_of};
+ghost use Rattle.macho_image.specs.Commands.{cut_commands, first_content_of, least_content, listed_commands, load_commands_of, located_commands};
+ghost use Rattle.macho_image.specs.Form.{ctx_of, form_of, header_of, header_size};
 
 use crate::command::LoadCommand;
 use crate::field::number32;
-use crate::format::{Ctx, Header, MH_MAGIC, MH_MAGIC_64, MachFault};
+use crate::format::{Ctx, Header, MH_MAGIC, MH_MAGIC_64, MachFault, NCMDS_AT, SIZEOFCMDS_AT};
 use crate::one_command::{check_command, lower_by_command, read_variant};
 use patch_bytes::{ByteOrder2, Wide};
 use std::alloc::Global;
@@ -84,8 +82,10 @@ fn read_form(alloc: Global, ctx: Ctx, bytes: &[u8]) -> Result<Parts, MachFault>
         (λ found. (form_fault ctx bytes.now ≡ None)
         × (found.ctx ≡ ctx)
         × (found.header ≡ header_of ctx bytes.now)
-        × (found.commands.items ≡ located ctx.le (header_size ctx.container) (cut ctx.le (ncmds_of ctx bytes.now) (area_of ctx bytes.now)))
-        × (found.first_content ≡ least (length bytes.now) (flat_map (contents_of ctx.le) (cut ctx.le (ncmds_of ctx bytes.now) (area_of ctx bytes.now)))))
+        × (found.commands.items
+        ≡ located_commands ctx.le (header_size ctx.container) (listed_commands ctx bytes.now))
+        × (found.first_content
+        ≡ least_content ctx.le (length bytes.now) (listed_commands ctx bytes.now)))
         (λ e. e ≢ MachFault.Memory → form_fault ctx bytes.now ≡ Some e) }
 {
     let start = header_size(ctx.container);
@@ -118,8 +118,8 @@ fn read_header(ctx: Ctx, bytes: &[u8]) -> Header
         cputype: number32(bytes, 4, ctx.le),
         cpusubtype: number32(bytes, 8, ctx.le),
         filetype: number32(bytes, 12, ctx.le),
-        ncmds: number32(bytes, 16, ctx.le),
-        sizeofcmds: number32(bytes, 20, ctx.le),
+        ncmds: number32(bytes, NCMDS_AT, ctx.le),
+        sizeofcmds: number32(bytes, SIZEOFCMDS_AT, ctx.le),
         flags: number32(bytes, 24, ctx.le),
         reserved: match ctx.container {
             Wide::W32 => 0,
@@ -150,8 +150,8 @@ pub fn read_commands(
     requires { start + length area.now < 2 ^ 64 }
     ensures { MatchResult result
         (λ found. (area_fault order count area.now ≡ None)
-        × (found.commands.items ≡ located order start (cut order count area.now))
-        × (found.first_content ≡ least limit (flat_map (contents_of order) (cut order count area.now))))
+        × (found.commands.items ≡ located_commands order start (cut_commands order count area.now))
+        × (found.first_content ≡ least_content order limit (cut_commands order count area.now)))
         (λ e. e ≢ MachFault.Memory → area_fault order count area.now ≡ Some e) }
 {
     let mut commands = Vec::new(alloc);

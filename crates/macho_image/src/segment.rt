@@ -1,6 +1,6 @@
 ghost use Rattle.std.specs.Prelude.{◌≡◌, ◌+◌, ◌*◌, ◌≤◌, ◌<◌, ◌^◌, length};
 ghost use Rattle.patch_bytes.specs.Number.{word_size};
-ghost use Rattle.macho_image.specs.Command.{counted, is_zerofill, nsects_of, section_content, sections_content, segment_content, segment_size};
+ghost use Rattle.macho_image.specs.Command.{counted_content, is_zerofill, nsects_of, section_content, sections_content, segment_content, segment_size};
 ghost use Rattle.macho_image.specs.Commands.{least};
 
 use crate::field::{number32, word};
@@ -31,8 +31,10 @@ pub(crate) struct SegmentLayout {
     offset: usize,
     flags: usize,
     ghost short: { (fixed < 128) × (section < 128) },
-    ghost fields: { (fileoff + word_size word ≤ fixed) × (filesize + word_size word ≤ fixed) × (nsects + 4 ≤ fixed) },
-    ghost section_fields: { (size + word_size word ≤ section) × (offset + 4 ≤ section) × (flags + 4 ≤ section) },
+    ghost file_fields: { (fileoff + word_size word ≤ fixed) × (filesize + word_size word ≤ fixed) },
+    ghost count_field: { nsects + 4 ≤ fixed },
+    ghost size_field: { size + word_size word ≤ section },
+    ghost section_fields: { (offset + 4 ≤ section) × (flags + 4 ≤ section) },
 }
 
 /// `segment_command` and `section` of loader.h.
@@ -64,7 +66,7 @@ pub(crate) const WIDE: SegmentLayout = SegmentLayout {
 /// The lesser of a position and the offset of content, which counts unless it is 0 or nothing stands
 /// there.
 pub(crate) fn lower(so_far: usize, offset: u64, size: u64) -> usize
-    ensures { result ≡ least so_far (counted offset size) }
+    ensures { result ≡ least so_far (counted_content offset size) }
 {
     if offset > 0 && size > 0 {
         so_far.min(offset as usize)
@@ -104,7 +106,9 @@ impl SegmentLayout {
     #[tactic(auto, using(crate::proofs::ContentLaws::contents), unfolding(crate::specs::Command::segment_content))]
     pub(crate) fn lower_by_segment(self, order: ByteOrder2, command: &[u8], so_far: usize) -> usize
         requires fixed { self.fixed ≤ length command.now }
-        requires sections { self.fixed + self.section * nsects_of (form_of_layout self) order command.now ≤ length command.now }
+        requires sections { self.fixed
+            + self.section * nsects_of (form_of_layout self) order command.now
+            ≤ length command.now }
         ensures { result ≡ least so_far (segment_content (form_of_layout self) order command.now) }
     {
         let fileoff = word(command, self.fileoff, self.word, order);
@@ -123,7 +127,8 @@ impl SegmentLayout {
         so_far: usize,
     ) -> usize
         requires { self.section * count ≤ length sections.now }
-        ensures { result ≡ least so_far (sections_content (form_of_layout self) order count sections.now) }
+        ensures { result
+            ≡ least so_far (sections_content (form_of_layout self) order count sections.now) }
     {
         let mut first = so_far;
         let mut rest = sections;

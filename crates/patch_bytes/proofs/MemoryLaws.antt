@@ -34,12 +34,6 @@ bytes_at-keeps (suc n) f g keeps a =
     bind_agrees (f a) (g a) (λ b. bytes_at n f (a + 1) >>= (λ r. Some (b ∷ r))) (λ b. bytes_at n g (a + 1) >>= (λ r. Some (b ∷ r))) (keeps a)
     (λ b. bind_agrees (bytes_at n f (a + 1)) (bytes_at n g (a + 1)) (λ r. Some (b ∷ r)) (λ r. Some (b ∷ r)) (bytes_at-keeps n f g keeps (a + 1)) (λ r. Agrees-refl (Some (b ∷ r))))
 
--- a number
-pub number_in-keeps : (order : ByteOrder2) (n : ℕ) (f g : Memory) → Keeps f g → (a : ℕ) → Agrees (number_in order n f a) (number_in order n g a)
-unfolding number_in
-number_in-keeps order n f g keeps a =
-    bind_agrees (bytes_at n f a) (bytes_at n g a) (λ bs. Some (value_of order bs)) (λ bs. Some (value_of order bs)) (bytes_at-keeps n f g keeps a) (λ bs. Agrees-refl (Some (value_of order bs)))
-
 -- what comes behind a byte of a text
 after_byte : (room : ℕ) → Memory → ℕ → ℕ → Option (List ℕ)
 after_byte room f a byte = elim byte [ zero ↦ Some [] | suc b ↦ text_at room f (a + 1) >>= (λ rest. Some (suc b ∷ rest)) ]
@@ -72,9 +66,6 @@ bytes_at-memory_of (suc n) a xs h =
 
 pub Keeps-refl : (f : Memory) → Keeps f f
 Keeps-refl f a x h = h
-
-pub Keeps-trans : (f g h : Memory) → Keeps f g → Keeps g h → Keeps f h
-Keeps-trans f g h fg gh a x e = gh a x (fg a x e)
 
 -- the first places of a memory are its own
 pub Keeps-first_places : (n : ℕ) (f : Memory) → Keeps (first_places n f) f

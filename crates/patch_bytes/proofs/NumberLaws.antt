@@ -189,11 +189,3 @@ pub length-with_number : (order : ByteOrder2) (n pos x : ℕ) (xs : List ℕ) �
 unfolding with_number
 length-with_number order n pos x xs h =
     omega (arith, length-append (take pos xs) (bytes_of order n x ++ drop (pos + n) xs), length-append (bytes_of order n x) (drop (pos + n) xs), length-bytes_of order n x, length-drop (pos + n) xs, length-take-le pos xs (omega arith))
-
--- a written number is read back
-pub number_at-with_number : (order : ByteOrder2) (n pos x : ℕ) (xs : List ℕ) → pos + n ≤ length xs → x < 256 ^ n → number_at order n pos (with_number order n pos x xs) ≡ x
-unfolding with_number
-number_at-with_number order n pos x xs h fits =
-    let front : length (take pos xs) ≡ pos = length-take-le pos xs (omega arith) in
-    let moved : number_at order n (pos + 0) (take pos xs ++ (bytes_of order n x ++ drop (pos + n) xs)) ≡ number_at order n 0 (bytes_of order n x ++ drop (pos + n) xs) = number_at-append_right order n pos 0 (take pos xs) (bytes_of order n x ++ drop (pos + n) xs) front in
-    (rw add-zero at moved) ∙ number_at-bytes_of order n x (drop (pos + n) xs) fits

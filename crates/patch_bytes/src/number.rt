@@ -50,7 +50,9 @@ impl Error for Outside {}
 
 // The field of `width` bytes at `pos`.
 fn field_at(bytes: &[u8], pos: usize, width: usize) -> Result<&[u8], Outside>
-    ensures { MatchResult result (λ found. (pos + width ≤ length bytes.now) × (found.now ≡ field width pos bytes.now)) (λ _. length bytes.now < pos + width) }
+    ensures { MatchResult result
+        (λ found. (pos + width ≤ length bytes.now) × (found.now ≡ field width pos bytes.now))
+        (λ _. length bytes.now < pos + width) }
 {
     if pos > bytes.len() || width > bytes.len() - pos {
         return Err(Outside);

@@ -98,6 +98,8 @@ fn change_a_copy(rt: &impl Abort, alloc: Global) -> Result<(), AllocError> {
     let bytes = copy.to_mut(alloc)?;
     assert_eq!(rt; bytes.as_slice(), b"a".as_slice());
     bytes.push(98)?;
+    // Owned bytes are changed without memory, also where every further growth is refused.
+    assert!(rt; copy.to_mut(alloc).is_ok());
     assert_eq!(rt; copy.as_slice(), b"ab".as_slice());
     assert_eq!(rt; string.as_slice(), b"a".as_slice());
     let owned = ByteString::owned(Vec::from_slice(alloc, b"own")?);

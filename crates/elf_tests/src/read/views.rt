@@ -4,13 +4,11 @@ use crate::support::same;
 use elf_image::constants::{
     DT_SYMTAB, DT_VERDEF, DT_VERDEFNUM, DT_VERNEED, DT_VERNEEDNUM, DT_VERSYM, PT_GNU_STACK,
 };
-use elf_plain::view::{
-    EntryView, ShownDefinition, ShownName, ShownNeeds, ShownSymbol, ShownView,
-};
-use elf_plain::{ViewFault, section_view};
 use elf_image::{
     Builder, Dynamic, ElfFault, Segment, Symbol, VersionDef, VersionNeed, VersionNeedName,
 };
+use elf_plain::view::{EntryView, ShownDefinition, ShownName, ShownNeeds, ShownSymbol, ShownView};
+use elf_plain::{ViewFault, section_view};
 use patch_bytes::ByteString;
 use std::alloc::{AllocError, Global};
 

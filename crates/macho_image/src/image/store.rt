@@ -1,12 +1,12 @@
-ghost use Rattle.std.specs.Prelude.{◌≡◌, ◌+◌, ◌<◌, ◌≤◌, ◌^◌, IfOk, length, take, true, vec_len};
+ghost use Rattle.std.specs.Prelude.{◌≡◌, ◌+◌, ◌<◌, ◌≤◌, ◌^◌, IfOk, length, vec_len};
 ghost use Rattle.patch_bytes.specs.Number.{with_number};
 ghost use Rattle.macho_image.specs.Checks.{area_fault};
 ghost use Rattle.macho_image.specs.Form.{ctx_of, header_size};
-ghost use Rattle.macho_image.specs.Image.{with_area};
+ghost use Rattle.macho_image.specs.Image.{HasRoom, front_stored, stored_image, with_area};
 ghost use Rattle.macho_image.specs.Prepared.{IsMadeFor};
 
 use crate::command::LoadCommand;
-use crate::format::Ctx;
+use crate::format::{Ctx, NCMDS_AT, SIZEOFCMDS_AT};
 use crate::image::MachO;
 use crate::parse::{header_size, read_commands};
 use patch_bytes::{ByteOrder2, write_u32_at};
@@ -43,7 +43,7 @@ impl<'a> MachO<'a> {
     /// they are a copy already. The file stays as it is. The only error is that there is no memory.
     pub fn prepare(&self, alloc: Global, count: u32, area: Vec<u8>) -> Result<Prepared, AllocError>
         requires commands { area_fault (ctx_of self.now.bytes).le count area.items ≡ None }
-        requires room { header_size (ctx_of self.now.bytes).container + vec_len area ≤ length self.now.bytes }
+        requires room { HasRoom self.now (vec_len area) (length self.now.bytes) }
         ensures { IfOk result (IsMadeFor self.now count area.items) }
     {
         let start = header_size(self.ctx.container);
@@ -75,9 +75,9 @@ impl<'a> MachO<'a> {
         area: &[u8],
         high: usize,
     ) -> Result<Vec<u8>, AllocError>
-        requires room { header_size (ctx_of self.now.bytes).container + length area.now ≤ high }
+        requires room { HasRoom self.now (length area.now) high }
         requires inside { high ≤ length self.now.bytes }
-        ensures { IfOk result (λ front. front.items ≡ take high (with_area (ctx_of self.now.bytes) self.now.bytes count area.now high)) }
+        ensures { IfOk result (λ front. front.items ≡ front_stored self.now count area.now high) }
     {
         let mut front = Vec::from_slice(alloc, &self.bytes()[..high])?;
         lay_area(&mut front, self.ctx(), count, area, high);
@@ -88,9 +88,9 @@ impl<'a> MachO<'a> {
     /// bytes are a copy that was edited. Takes no memory.
     pub fn store(&mut self, prepared: Prepared, high: usize)
         requires made_for { IsMadeFor self.old prepared.count prepared.area prepared }
-        requires room { header_size (ctx_of self.old.bytes).container + length prepared.area ≤ high }
+        requires room { HasRoom self.old (length prepared.area) high }
         requires inside { high ≤ length self.old.bytes }
-        ensures { self.new ≡ record { bytes = with_area (ctx_of self.old.bytes) self.old.bytes prepared.count prepared.area high; is_edited = true } }
+        ensures { self.new ≡ stored_image self.old prepared.count prepared.area high }
     {
         let Some(mut bytes) = prepared.copy.or(self.edited.take()) else {
             unreachable!()
@@ -127,8 +127,8 @@ fn lay_area(bytes: &mut [u8], ctx: Ctx, count: u32, area: &[u8], high: usize)
 {
     let start = header_size(ctx.container);
     let end = start + area.len();
-    put_u32(bytes, 16, count, ctx.le);
-    put_u32(bytes, 20, area.len() as u32, ctx.le);
+    put_u32(bytes, NCMDS_AT, count, ctx.le);
+    put_u32(bytes, SIZEOFCMDS_AT, area.len() as u32, ctx.le);
     bytes[start..end].copy_from_slice(area);
     bytes[end..high].fill(0);
 }

@@ -2,7 +2,7 @@ use Rattle.std.proofs.Common.{ℕ, List, Result, Ok, sym, ap, ◌∙◌}
 use Rattle.std.proofs.lemmas.Result.{err_from_is_err_and}
 use Rattle.arwen_macho.specs.Built.{rpath_built}
 use Rattle.arwen_macho.specs.Call.{Cause}
-use Rattle.arwen_macho.specs.Edited.{appended}
+use Rattle.arwen_macho.specs.Edited.{list_with_last}
 use Rattle.arwen_macho.specs.Refused.{cause_of}
 use Rattle.arwen_macho.proofs.EditedLaws.{add_rpath-edited, appended-Refuses}
 use Rattle.arwen_macho.proofs.draft.append_rpath.Goals as goal
@@ -15,5 +15,5 @@ returns-in_err-built c =
 pub returns : goal.returns
 returns c =
     add_rpath-edited c.args.ctx c.args.new.now c.args.commands.now.items
-    ∙ ap (λ (r : Result (List ℕ) Cause). appended r c.args.commands.now.items) c.in_ok-built.ensures
+    ∙ ap (λ (r : Result (List ℕ) Cause). list_with_last r c.args.commands.now.items) c.in_ok-built.ensures
     ∙ ap (λ (xs : List (List ℕ)). Ok xs) (rw c.owned.ensures at (sym c.in_ok-push.ensures.items))

@@ -4,7 +4,7 @@ use Rattle.std.proofs.lemmas.Result.{err_from_is_err_and}
 use Rattle.macho_image.specs.Command.{dylib_of}
 use Rattle.arwen_macho.specs.Built.{dylib_built}
 use Rattle.arwen_macho.specs.Call.{Cause}
-use Rattle.arwen_macho.specs.Edited.{is_id, placed}
+use Rattle.arwen_macho.specs.Edited.{is_id, list_with_at}
 use Rattle.arwen_macho.proofs.EditedLaws.{change_install_id-none, change_install_id-some, id_place, placed-Refuses}
 use Rattle.arwen_macho.specs.Refused.{cause_of}
 use Rattle.arwen_macho.proofs.draft.replace_id.Goals as goal
@@ -33,4 +33,4 @@ returns c =
     let at : position (is_id c.args.ctx.le) c.args.commands.now.items ≡ Some c.in-Some.place = cc in
     let old : c.dylib_at-old.result ≡ dylib_of c.args.ctx.le (get_or c.args.commands.now.items c.in-Some.place []) = rw c.as_slice-2.ensures.value at c.dylib_at-old.ensures in
     change_install_id-some c.args.ctx c.args.new.now c.args.commands.now.items c.in-Some.place at
-    ∙ rw (← old) (ap (λ (r : Result (List ℕ) Cause). placed c.in-Some.place r c.args.commands.now.items) c.in_ok-built.ensures ∙ ap (λ (xs : List (List ℕ)). Ok xs) (sym c.replace.ensures))
+    ∙ rw (← old) (ap (λ (r : Result (List ℕ) Cause). list_with_at c.in-Some.place r c.args.commands.now.items) c.in_ok-built.ensures ∙ ap (λ (xs : List (List ℕ)). Ok xs) (sym c.replace.ensures))

@@ -5,7 +5,7 @@ use Rattle.macho_image.specs.Command.{dylib_of}
 use Rattle.arwen_macho.specs.Built.{dylib_built}
 use Rattle.arwen_macho.specs.Call.{Cause}
 use Rattle.arwen_macho.specs.Call.Cause.{name_missing}
-use Rattle.arwen_macho.specs.Edited.{is_library_named, placed}
+use Rattle.arwen_macho.specs.Edited.{is_library_named, list_with_at}
 use Rattle.arwen_macho.proofs.EditedLaws.{change_install_name-none, change_install_name-some, known-Refuses, library_place, placed-Refuses}
 use Rattle.arwen_macho.specs.Refused.{cause_of}
 use Rattle.arwen_macho.proofs.draft.replace_library.Goals as goal
@@ -34,4 +34,4 @@ returns c =
     let at : position (is_library_named c.args.ctx.le c.args.old.now) c.args.commands.now.items ≡ Some c.in-Some.place = cc in
     let old : c.dylib_at-old.result ≡ dylib_of c.args.ctx.le (get_or c.args.commands.now.items c.in-Some.place []) = rw c.as_slice-2.ensures.value at c.dylib_at-old.ensures in
     change_install_name-some c.args.ctx c.args.old.now c.args.new.now c.args.commands.now.items c.in-Some.place at
-    ∙ rw (← old) (ap (λ (r : Result (List ℕ) Cause). placed c.in-Some.place r c.args.commands.now.items) c.in_ok-built.ensures ∙ ap (λ (xs : List (List ℕ)). Ok xs) (sym c.replace.ensures))
+    ∙ rw (← old) (ap (λ (r : Result (List ℕ) Cause). list_with_at c.in-Some.place r c.args.commands.now.items) c.in_ok-built.ensures ∙ ap (λ (xs : List (List ℕ)). Ok xs) (sym c.replace.ensures))

@@ -3,7 +3,7 @@ use Rattle.std.specs.List.{position}
 use Rattle.std.proofs.lemmas.Result.{err_from_is_err_and}
 use Rattle.arwen_macho.specs.Call.{Cause}
 use Rattle.arwen_macho.specs.Call.Cause.{rpath_missing}
-use Rattle.arwen_macho.specs.Edited.{is_rpath_named, placed}
+use Rattle.arwen_macho.specs.Edited.{is_rpath_named, list_with_at}
 use Rattle.arwen_macho.specs.Refused.{cause_of}
 use Rattle.arwen_macho.specs.Built.{rpath_built}
 use Rattle.arwen_macho.proofs.EditedLaws.{change_rpath-none, change_rpath-some, known-Refuses, placed-Refuses}
@@ -24,5 +24,5 @@ pub returns : goal.returns
 returns c =
     let at : position (is_rpath_named c.args.ctx.le c.args.old.now) c.args.commands.now.items ≡ Some c.in-Some.place = cc in
     change_rpath-some c.args.ctx c.args.old.now c.args.new.now c.args.commands.now.items c.in-Some.place at
-    ∙ ap (λ (r : Result (List ℕ) Cause). placed c.in-Some.place r c.args.commands.now.items) c.in_ok-built.ensures
+    ∙ ap (λ (r : Result (List ℕ) Cause). list_with_at c.in-Some.place r c.args.commands.now.items) c.in_ok-built.ensures
     ∙ ap (λ (xs : List (List ℕ)). Ok xs) (sym c.replace.ensures)

@@ -1,8 +1,8 @@
 use Rattle.std.proofs.Common.{take}
 use Rattle.std.specs.List.{AllZip}
-use Rattle.arwen_macho.specs.Batch.{calls_of}
-use Rattle.arwen_macho.specs.FatSlice.{IsStepOf}
+use Rattle.arwen_macho.specs.Edit.{calls_lent}
+use Rattle.arwen_macho.specs.FatSlice.{IsStepIn}
 use Rattle.arwen_macho.proofs.fat.changes_all.Given as goal
 
 abbrev pub invariant-loop-slice : goal.invariant-loop-slice
-invariant-loop-slice l = AllZip (IsStepOf (calls_of l.edits)) (take l.slice-index l.slices) l.changes.items
+invariant-loop-slice l = AllZip (IsStepIn (calls_lent l.edits)) (take l.slice-index l.slices) l.changes.items

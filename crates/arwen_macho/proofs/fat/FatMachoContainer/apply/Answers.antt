@@ -2,16 +2,17 @@ use Rattle.std.proofs.Common.{◌≡◌, [], List, length, Ok, refl, sym, subst}
 use Rattle.std.proofs.lemmas.Bool.{eqb-true}
 use Rattle.std.proofs.lemmas.List.{nil_from_length}
 use Rattle.arwen_macho.specs.declared.batch.MachoEdit.{MachoEdit}
-use Rattle.arwen_macho.specs.Batch.{calls_of, is_edited_by}
+use Rattle.arwen_macho.specs.Batch.{calls_of}
 use Rattle.arwen_macho.specs.FatHeld.{FatHeld}
 use Rattle.arwen_macho.specs.FatHeldBy.{fat_held_of}
 use Rattle.arwen_macho.specs.FatState.{fat_step}
+use Rattle.arwen_macho.specs.Held.{is_edited_by}
 use Rattle.arwen_macho.proofs.FatStepLaws.{fat_step-nil}
 use Rattle.arwen_macho.proofs.StateLaws.{step-nil}
 use Rattle.arwen_macho.proofs.fat.FatMachoContainer.apply.Goals as goal
 
-pub returns-then-is_empty : goal.returns-then-is_empty
-returns-then-is_empty c =
+pub returns-then-is_empty-clause-steps : goal.returns-then-is_empty-clause-steps
+returns-then-is_empty-clause-steps c =
     let none : c.args.edits.now ≡ [] = nil_from_length c.args.edits.now (eqb-true (length c.args.edits.now) 0 (sym c.if-is_empty.ensures)) in
     let Nil : FatHeld → Type 0 = λ h. fat_step [] h.state ≡ Ok h.state in
     let same = subst Nil c.self.view_is (fat_step-nil (fat_held_of c.self.inside).state step-nil c.self.invariant.is_state) in

@@ -4,12 +4,11 @@ use Rattle.std.specs.Vec.{with_items}
 use Rattle.std.proofs.lemmas.List.{with_items_is}
 use Rattle.patch_bytes.specs.ByteString.{bytes_shown}
 use Rattle.arwen_macho.specs.declared.change.Change.{Change}
-use Rattle.arwen_macho.specs.declared.fat.FatMacho.{FatMacho}
 use Rattle.arwen_macho.specs.declared.fat.FatMachoContainer.TheInside.{Inside}
 use Rattle.arwen_macho.specs.FatChange.{AreChangesOf, fat_changed}
 use Rattle.arwen_macho.specs.FatHeld.{FatHeld}
 use Rattle.arwen_macho.specs.FatHeldBy.{IsFatHeld, fat_held_of}
-use Rattle.arwen_macho.specs.FatSlice.{IsReadyIn, changed_machos, fronts_over}
+use Rattle.arwen_macho.specs.FatSlice.{HeldSlice, IsReadyIn, changed_machos, fronts_over}
 use Rattle.arwen_macho.proofs.FatHeldLaws.{committed, ready_of, shown_long}
 use Rattle.arwen_macho.proofs.fat.FatMachoContainer.commit.Goals as goal
 
@@ -22,7 +21,7 @@ commit_all-requires c =
     let bytes : c.in_ok-copy.copy.items ≡ bytes_shown s.source.now s.edited = c.in_ok-copy.ensures ∙ ap (bytes_shown s.source.now) c.take.ensures.value in
     let long : length s.source.now ≡ length c.deref_mut-2.result.now = sym (ap length c.deref_mut-2.ensures.value ∙ ap length bytes ∙ shown_long s c.self.invariant) in
     let Long : ℕ → Type 0 = λ n. AllZip (IsReadyIn n) c.deref_mut.result.now changes in
-    let Slices : List FatMacho → Type 0 = λ l. AllZip (IsReadyIn (length s.source.now)) l changes in
+    let Slices : List HeldSlice → Type 0 = λ l. AllZip (IsReadyIn (length s.source.now)) l changes in
     subst Long long (subst Slices (sym c.deref_mut.ensures.value) ready)
 
 -- what the fields hold then
@@ -39,11 +38,11 @@ new_fields c =
     let archs : new.archs.items ≡ changed_machos s.archs.items changes =
     with_items_is s.archs c.commit_all.new.slices slices_long
     ∙ c.commit_all.ensures.slices
-    ∙ ap (λ (l : List FatMacho). changed_machos l changes) c.deref_mut.ensures.value in
+    ∙ ap (λ (l : List HeldSlice). changed_machos l changes) c.deref_mut.ensures.value in
     let written : copy.items ≡ fronts_over s.archs.items changes (bytes_shown s.source.now s.edited) =
     with_items_is c.in_ok-copy.copy c.commit_all.new.copy copy_long
     ∙ c.commit_all.ensures.bytes
-    ∙ ap (λ (l : List FatMacho). fronts_over l changes c.deref_mut-2.result.now) c.deref_mut.ensures.value
+    ∙ ap (λ (l : List HeldSlice). fronts_over l changes c.deref_mut-2.result.now) c.deref_mut.ensures.value
     ∙ ap (fronts_over s.archs.items changes) (c.deref_mut-2.ensures.value ∙ bytes) in
     committed s new changes copy c.self.invariant (subst Of (sym c.self.view_is) c.requires) refl archs refl written
 

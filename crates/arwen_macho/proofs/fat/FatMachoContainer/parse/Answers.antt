@@ -9,7 +9,7 @@ use Rattle.arwen_macho.specs.Found.{Finds, slices_found}
 use Rattle.arwen_macho.proofs.FatHeldLaws.{first_fat_fields}
 use Rattle.arwen_macho.proofs.FatLaws.{accepted_whole}
 use Rattle.arwen_macho.proofs.FatStepLaws.{finds_slices, finds_table}
-use Rattle.macho_image.proofs.FatLaws.{table_passes}
+use Rattle.macho_image.proofs.ForCallers.{table_passes}
 use Rattle.arwen_macho.proofs.fat.FatMachoContainer.parse.Goals as goal
 
 pub returns-in_err-table : goal.returns-in_err-table

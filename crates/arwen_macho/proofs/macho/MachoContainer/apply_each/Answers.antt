@@ -9,7 +9,7 @@ use Rattle.arwen_macho.specs.declared.macho.MachoType.{MachoType}
 use Rattle.arwen_macho.specs.Batch.{calls_of}
 use Rattle.arwen_macho.specs.Call.{Call}
 use Rattle.arwen_macho.specs.Container.{AnswersAll, AnswersBatch, TakesBatch, all_calls, container_step, left_by, left_by_all}
-use Rattle.arwen_macho.proofs.ContainerLaws.{answers_more, left_more}
+use Rattle.arwen_macho.proofs.ContainerLaws.{answers_more, left_more, taken_is}
 use Rattle.arwen_macho.proofs.macho.MachoContainer.apply_each.Goals as goal
 
 pub loop-batch-preserved : goal.loop-batch-preserved
@@ -24,7 +24,7 @@ loop-batch-preserved c =
     let next : all_calls (take (i + 1) xs) ≡ before ++ (calls ∷ []) =
     map_more (λ (b : Vec MachoEdit Global). calls_of b.items) xs i batch (omega arith) ∙ ap (λ (b : Vec MachoEdit Global). before ++ (calls_of b.items ∷ [])) (sym c.batch-item.is) in
     let Takes : List MachoEdit → Type 0 = λ edits. TakesBatch (calls_of edits) c.loop-batch.self c.apply-answer.new.self answer in
-    let taken = subst Takes c.as_slice.ensures.value c.apply-answer.ensures in
+    let taken = taken_is calls c.loop-batch.self c.apply-answer.new.self answer (subst Takes c.as_slice.ensures.value c.apply-answer.ensures.takes) in
     let here : c.loop-batch.self ≡ left_by_all before c.loop-batch.answers.items old = c.loop-batch.invariant.left in
     let Answer : MachoType → Type 0 = λ file. AnswersBatch calls file answer in
     let Left : MachoType → Type 0 = λ file. c.apply-answer.new.self ≡ left_by file (container_step calls file) answer in

@@ -6,12 +6,14 @@ use Rattle.arwen_macho.specs.declared.macho.MachoType.{MachoType}
 use Rattle.arwen_macho.specs.Batch.{RefusesAt, calls_of}
 use Rattle.arwen_macho.specs.Call.{Call}
 use Rattle.arwen_macho.specs.Container.{container_bytes, container_step}
-use Rattle.arwen_macho.specs.FatState.{fat_laid, fat_step}
-use Rattle.arwen_macho.specs.Fronts.{LeadOn}
+use Rattle.arwen_macho.specs.ContainerShown.{StepShows}
+use Rattle.arwen_macho.specs.FatState.{fat_laid_bytes, fat_step}
+use Rattle.arwen_macho.specs.Fronts.{LeadOn, StepIsFat, StepIsThin}
 use Rattle.arwen_macho.specs.Refused.{cause_of}
-use Rattle.arwen_macho.specs.State.{laid, step}
+use Rattle.arwen_macho.specs.State.{laid_bytes, step}
 use Rattle.arwen_macho.proofs.ContainerLaws.{refused_fat, refused_thin}
 use Rattle.arwen_macho.proofs.LeadLaws.{lead_on_fat, lead_on_thin}
+use Rattle.arwen_macho.proofs.StatesLaws.{fat_shows_step, on_ok-weaker, thin_shows_step}
 use Rattle.arwen_macho.proofs.macho.MachoContainer.fronts.Goals as goal
 
 -- fronts of a file, and a refusal of one
@@ -25,7 +27,7 @@ pub returns-in-SingleArch-clause-ok : goal.returns-in-SingleArch-clause-ok
 returns-in-SingleArch-clause-ok c =
     let calls : List Call = calls_of c.args.edits.now in
     let held = c.in-SingleArch.single in
-    IfOk-weaker c.fronts.result (λ v. LeadOn laid held.state (step calls held.state) v.items) (Leads calls c.args.self.now)
+    IfOk-weaker c.fronts.result (λ v. LeadOn laid_bytes held.state (step calls held.state) v.items) (Leads calls c.args.self.now)
     (λ v lead. subst (λ (file : MachoType). Leads calls file v) (sym c.in-SingleArch.is ∙ c.self.view_is) (lead_on_thin calls held v.items lead))
     c.fronts.ensures.ok
 
@@ -41,7 +43,7 @@ pub returns-in-Fat-clause-ok : goal.returns-in-Fat-clause-ok
 returns-in-Fat-clause-ok c =
     let calls : List Call = calls_of c.args.edits.now in
     let held = c.in-Fat.fat in
-    IfOk-weaker c.fronts-in-Fat.result (λ v. LeadOn fat_laid held.state (fat_step calls held.state) v.items) (Leads calls c.args.self.now)
+    IfOk-weaker c.fronts-in-Fat.result (λ v. LeadOn fat_laid_bytes held.state (fat_step calls held.state) v.items) (Leads calls c.args.self.now)
     (λ v lead. subst (λ (file : MachoType). Leads calls file v) (sym c.in-Fat.is ∙ c.self.view_is) (lead_on_fat calls held v.items lead))
     c.fronts-in-Fat.ensures.ok
 
@@ -52,3 +54,21 @@ returns-in-Fat-clause-err c =
     IfErr-weaker c.fronts-in-Fat.result (λ e. RefusesAt e.index (cause_of e.fault) (fat_step calls held.state)) (Refuses calls c.args.self.now)
     (λ e refuses. subst (λ (file : MachoType). Refuses calls file e) (sym c.in-Fat.is ∙ c.self.view_is) (refused_fat calls held e.index (cause_of e.fault) refuses))
     c.fronts-in-Fat.ensures.err
+
+pub returns-in-SingleArch-clause-shows : goal.returns-in-SingleArch-clause-shows
+returns-in-SingleArch-clause-shows c =
+    let calls : List Call = calls_of c.args.edits.now in
+    let held = c.in-SingleArch.single in
+    let Shows : MachoType → Type 0 = λ file. StepShows (container_step calls file) in
+    on_ok-weaker c.fronts.result (StepIsThin calls held) (Shows c.args.self.now)
+    (λ is. subst Shows (sym c.in-SingleArch.is ∙ c.self.view_is) (thin_shows_step calls held is))
+    c.fronts.ensures.state
+
+pub returns-in-Fat-clause-shows : goal.returns-in-Fat-clause-shows
+returns-in-Fat-clause-shows c =
+    let calls : List Call = calls_of c.args.edits.now in
+    let held = c.in-Fat.fat in
+    let Shows : MachoType → Type 0 = λ file. StepShows (container_step calls file) in
+    on_ok-weaker c.fronts-in-Fat.result (StepIsFat calls held) (Shows c.args.self.now)
+    (λ is. subst Shows (sym c.in-Fat.is ∙ c.self.view_is) (fat_shows_step calls held is))
+    c.fronts-in-Fat.ensures.state

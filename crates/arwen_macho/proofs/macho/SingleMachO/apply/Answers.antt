@@ -2,15 +2,15 @@ use Rattle.std.proofs.Common.{◌≡◌, [], List, length, Ok, refl, sym, subst}
 use Rattle.std.proofs.lemmas.Bool.{eqb-true}
 use Rattle.std.proofs.lemmas.List.{nil_from_length}
 use Rattle.arwen_macho.specs.declared.batch.MachoEdit.{MachoEdit}
-use Rattle.arwen_macho.specs.Batch.{calls_of, is_edited_by}
-use Rattle.arwen_macho.specs.Held.{Held}
+use Rattle.arwen_macho.specs.Batch.{calls_of}
+use Rattle.arwen_macho.specs.Held.{Held, is_edited_by}
 use Rattle.arwen_macho.specs.HeldBy.{held_of}
 use Rattle.arwen_macho.specs.State.{step}
 use Rattle.arwen_macho.proofs.StateLaws.{step-nil}
 use Rattle.arwen_macho.proofs.macho.SingleMachO.apply.Goals as goal
 
-pub returns-then-is_empty : goal.returns-then-is_empty
-returns-then-is_empty c =
+pub returns-then-is_empty-clause-steps : goal.returns-then-is_empty-clause-steps
+returns-then-is_empty-clause-steps c =
     let none : c.args.edits.now ≡ [] = nil_from_length c.args.edits.now (eqb-true (length c.args.edits.now) 0 (sym c.if-is_empty.ensures)) in
     let Nil : Held → Type 0 = λ h. step [] h.state ≡ Ok h.state in
     let same = subst Nil c.self.view_is (step-nil (held_of c.self.inside).state c.self.invariant.is_state) in

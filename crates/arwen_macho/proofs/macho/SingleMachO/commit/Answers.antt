@@ -1,6 +1,6 @@
 use Rattle.std.proofs.Common.{◌≤◌, ◌+◌, ℕ, List, length, ap, sym, ◌∙◌, subst}
 use Rattle.macho_image.specs.Form.{ctx_of, header_size}
-use Rattle.arwen_macho.specs.Change.{IsChangeOf, changed}
+use Rattle.arwen_macho.specs.Change.{IsChangeOf, changed_file}
 use Rattle.arwen_macho.specs.Held.{Held}
 use Rattle.arwen_macho.specs.HeldBy.{held_of}
 use Rattle.arwen_macho.proofs.ChangeLaws.{change_inside, change_room}
@@ -32,4 +32,4 @@ returns c =
     let of_change : Held → Type 0 = λ h. IsChangeOf h c.args.change in
     let of = subst of_change (sym c.self.view_is) c.requires in
     (changed_fields c.self.inside c.args.change c.store.new.self c.self.invariant of c.store.ensures).0
-    ∙ ap (λ (h : Held). changed h c.args.change) c.self.view_is
+    ∙ ap (λ (h : Held). changed_file h c.args.change) c.self.view_is

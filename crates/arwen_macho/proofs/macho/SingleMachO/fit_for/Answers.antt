@@ -11,7 +11,7 @@ use Rattle.arwen_macho.specs.Change.{IsChangeOf, RefusesRoom, change_with, list_
 use Rattle.arwen_macho.specs.Held.{Held, image_held}
 use Rattle.arwen_macho.specs.HeldBy.{held_of}
 use Rattle.arwen_macho.specs.State.{available, end_of}
-use Rattle.arwen_macho.specs.Whole.{Keeps}
+use Rattle.arwen_macho.specs.Whole.{KeepsContents}
 use Rattle.arwen_macho.proofs.ChangeLaws.{change_of, kept_count}
 use Rattle.arwen_macho.proofs.HeldLaws.{available_is, end_is, ends_inside}
 use Rattle.arwen_macho.proofs.macho.SingleMachO.fit_for.Goals as goal
@@ -32,7 +32,7 @@ overflow_cast-result c =
     let s = c.self.inside in
     let size : c.len.result ≡ length (concat c.args.commands.now) = rw (← c.in_ok-area.ensures) (omega arith) in
     let ends = ends_inside s c.ctx.result c.header_size.result c.len.result c.args.commands.now c.self.invariant c.ctx.ensures.form c.header_size.ensures size c.if-not-fits.ensures in
-    let Kept : Held → Type 0 = λ h. Keeps (ctx_of h.state.old).le h.state.list c.args.commands.now in
+    let Kept : Held → Type 0 = λ h. KeepsContents (ctx_of h.state.old).le h.state.list c.args.commands.now in
     let keeps = subst Kept (sym c.self.view_is) c.requires in
     record { fits = kept_count (held_of s).state c.args.commands.now c.self.invariant.is_state keeps ends }
 
@@ -41,7 +41,7 @@ returns c =
     let s = c.self.inside in
     let size : c.len.result ≡ length (concat c.args.commands.now) = rw (← c.in_ok-area.ensures) (omega arith) in
     let ends = ends_inside s c.ctx.result c.header_size.result c.len.result c.args.commands.now c.self.invariant c.ctx.ensures.form c.header_size.ensures size c.if-not-fits.ensures in
-    let Kept : Held → Type 0 = λ h. Keeps (ctx_of h.state.old).le h.state.list c.args.commands.now in
+    let Kept : Held → Type 0 = λ h. KeepsContents (ctx_of h.state.old).le h.state.list c.args.commands.now in
     let keeps = subst Kept (sym c.self.view_is) c.requires in
     let end = end_is s c.ctx.result c.header_size.result c.len.result c.args.commands.now c.self.invariant c.ctx.ensures.form c.header_size.ensures size in
     let high : c.max.result ≡ max s.high (end_of (ctx_of s.source.now) c.args.commands.now) = c.max.ensures ∙ ap (max s.high) end in

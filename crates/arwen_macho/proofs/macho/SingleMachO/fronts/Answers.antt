@@ -1,11 +1,16 @@
 use Rattle.std.proofs.Common.{◌∷◌, [], ◌++◌, List, ap, sym, ◌∙◌, subst}
+use Rattle.std.specs.List.{All}
+use Rattle.arwen_macho.specs.declared.draft.Edit.{Edit}
 use Rattle.arwen_macho.specs.declared.front.Front.{Front}
 use Rattle.arwen_macho.specs.Batch.{calls_of}
-use Rattle.arwen_macho.specs.Fronts.{LeadOn}
+use Rattle.arwen_macho.specs.Call.{Call}
+use Rattle.arwen_macho.specs.Edit.{calls_lent}
+use Rattle.arwen_macho.specs.Fronts.{IsFrontAt, LeadOn}
 use Rattle.arwen_macho.specs.Held.{Held}
-use Rattle.arwen_macho.specs.State.{laid, step}
-use Rattle.arwen_macho.specs.Whole.{IsState}
+use Rattle.arwen_macho.specs.State.{laid_bytes, step}
+use Rattle.arwen_macho.specs.Whole.{IsState, TextsAreBytes}
 use Rattle.arwen_macho.proofs.LeadLaws.{lead_thin}
+use Rattle.arwen_macho.proofs.StatesLaws.{step_thin}
 use Rattle.arwen_macho.proofs.macho.SingleMachO.fronts.Goals as goal
 
 pub returns-clause-ok : goal.returns-clause-ok
@@ -13,5 +18,15 @@ returns-clause-ok c =
     let calls = calls_of c.args.edits.now in
     let State : Held → Type 0 = λ h. IsState h.state in
     let is = subst State c.self.view_is c.self.invariant.is_state in
-    let Lead : List Front → Type 0 = λ l. LeadOn laid c.args.self.now.state (step calls c.args.self.now.state) l in
-    subst Lead (sym (c.in_ok-push.ensures.items ∙ ap (λ (l : List Front). l ++ c.in_ok-front.front ∷ []) c.new-fronts.ensures.items)) (lead_thin calls c.args.self.now c.in_ok-front.front is c.in_ok-front.ensures.ok)
+    let At : List Call → Type 0 = λ l. IsFrontAt l c.args.self.now 0 c.in_ok-front.front in
+    let Lent : List Edit → Type 0 = λ l. IsFrontAt (calls_lent l) c.args.self.now 0 c.in_ok-front.front in
+    let Lead : List Front → Type 0 = λ l. LeadOn laid_bytes c.args.self.now.state (step calls c.args.self.now.state) l in
+    let of = subst At c.in_ok-lent.ensures.calls (subst Lent c.as_slice.ensures.value c.in_ok-front.ensures.ok) in
+    subst Lead (sym (c.in_ok-push.ensures.items ∙ ap (λ (l : List Front). l ++ c.in_ok-front.front ∷ []) c.new-fronts.ensures.items)) (lead_thin calls c.args.self.now c.in_ok-front.front is of)
+
+pub returns-clause-state : goal.returns-clause-state
+returns-clause-state c =
+    let State : Held → Type 0 = λ h. IsState h.state in
+    let is = subst State c.self.view_is c.self.invariant.is_state in
+    let Texts : List Call → Type 0 = λ l. All TextsAreBytes l in
+    step_thin (calls_of c.args.edits.now) c.args.self.now.state is (subst Texts c.in_ok-lent.ensures.calls c.in_ok-lent.ensures.texts)

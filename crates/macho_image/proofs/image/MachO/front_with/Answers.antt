@@ -4,7 +4,8 @@ use Rattle.macho_image.specs.declared.format.Ctx.{Ctx}
 use Rattle.macho_image.specs.Form.{ctx_of}
 use Rattle.macho_image.specs.Image.{with_area}
 use Rattle.macho_image.proofs.FormLaws.{file_passes}
-use Rattle.macho_image.proofs.StoredParts.{Fits as AreaFits, take-with_area_high}
+use Rattle.macho_image.proofs.StoredParts.{take-with_area_high}
+use Rattle.macho_image.specs.Stored.{Fits as AreaFits}
 use Rattle.macho_image.proofs.image.MachO.front_with.Goals as goal
 
 pub lay_area-requires-clause-short : goal.lay_area-requires-clause-short

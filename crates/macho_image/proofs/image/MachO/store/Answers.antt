@@ -7,7 +7,7 @@ use Rattle.macho_image.specs.Parsed.{image_of}
 use Rattle.macho_image.specs.Prepared.{NewArea, copy_for}
 use Rattle.macho_image.proofs.FormLaws.{file_passes}
 use Rattle.macho_image.proofs.StoredFields.{IsParsed-stored, items-copy}
-use Rattle.macho_image.proofs.StoredParts.{Fits as AreaFits}
+use Rattle.macho_image.specs.Stored.{Fits as AreaFits}
 use Rattle.macho_image.proofs.image.MachO.store.Goals as goal
 
 pub lay_area-requires-clause-short : goal.lay_area-requires-clause-short

@@ -1,6 +1,6 @@
 use Rattle.std.proofs.Common.{◌≡◌, ◌+◌, ◌-◌, List, ℕ, length, replicate, rules, refl}
+use Rattle.macho_image.specs.Stored.{Fits}
 use Rattle.macho_image.proofs.LaidLaws.{with_area-written}
-use Rattle.macho_image.proofs.StoredParts.{Fits}
 use Rattle.macho_image.proofs.image.store.lay_area.Goals as goal
 
 pub returns : goal.returns
