@@ -7,7 +7,7 @@ use Rattle.arwen_macho.specs.Batch.{RefusesAt, calls_of}
 use Rattle.arwen_macho.specs.Container.{container_bytes, container_step}
 use Rattle.arwen_macho.specs.Fronts.{LeadOn}
 use Rattle.arwen_macho.specs.Refused.{cause_of}
-use Rattle.arwen_macho.proofs.LeadLaws.{first_bytes}
+use Rattle.arwen_macho.proofs.ForCallers.{first_bytes}
 use Rattle.arwen_commands.specs.Engine.{Asked, asked}
 use Rattle.arwen_commands.specs.Meaning.{macho_shown}
 use Rattle.arwen_commands.proofs.Outcomes.{tells_refused, writes_on}
