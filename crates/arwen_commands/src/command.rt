@@ -42,7 +42,8 @@ impl MachoCommand {
     ghost use Rattle.arwen_commands.specs.Meaning.{file_of, macho_lines, macho_shown};
     ghost use Rattle.arwen_commands.specs.Rows.{given_shown, meant_with, text, texts, words as words_given};
 
-    /// The command of a name with its values; `None` where no command of that name takes such values.
+    /// The command of a name with its values; `None` where no command of that name takes such
+    /// values.
     pub fn with_values(name: &str, values: Values) -> Option<MachoCommand>
         ensures { option_map macho_shown result
             ≡ meant_with macho_lines name.now (given_shown values) }
@@ -118,7 +119,8 @@ impl MachoCommand {
 
     /// The edit that the command asks for; `None` for `apply`, which asks for several.
     pub(crate) fn edit(&self, alloc: Global) -> Result<Option<MachoEdit>, AllocError>
-        ensures { IfOk result (λ edit. option_map call_made edit ≡ edit_asked (macho_shown self.now)) }
+        ensures { IfOk result (λ edit.
+            option_map call_made edit ≡ edit_asked (macho_shown self.now)) }
     {
         match self {
             MachoCommand::DeleteRpath(args) => {
@@ -186,7 +188,8 @@ impl ElfCommand {
     ghost use Rattle.arwen_commands.specs.Meaning.{elf_file_of, elf_lines, elf_shown};
     ghost use Rattle.arwen_commands.specs.Rows.{given_shown, meant_with, path};
 
-    /// The command of a name with its values; `None` where no command of that name takes such values.
+    /// The command of a name with its values; `None` where no command of that name takes such
+    /// values.
     pub fn with_values(name: &str, values: Values) -> Option<ElfCommand>
         ensures { option_map elf_shown result ≡ meant_with elf_lines name.now (given_shown values) }
     {

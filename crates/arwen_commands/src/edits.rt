@@ -43,8 +43,8 @@ pub struct EditFault {
     pub group: usize,
     /// What is wrong with it.
     pub kind: EditKind,
-    /// The word of the group that is wrong, counted from 0: the edit's name, or the first word that is
-    /// missing or too many.
+    /// The word of the group that is wrong, counted from 0: the edit's name, or the first word that
+    /// is missing or too many.
     pub word: usize,
     /// How many words the edit takes behind its name; 0 where no edit is named.
     pub takes: usize,
@@ -143,7 +143,8 @@ fn read_group(alloc: Global, group: usize, words: &[&str]) -> Result<MachoEdit, 
 
 /// The fault of a group whose first word is no edit.
 fn no_edit(group: usize, kind: EditKind) -> EditsError
-    ensures { result ≡ EditsError.Fault (record { group = group; kind = kind; word = 0; takes = 0 }) }
+    ensures { result ≡ EditsError.Fault
+        (record { group = group; kind = kind; word = 0; takes = 0 }) }
 {
     EditsError::Fault(EditFault {
         group,
@@ -167,8 +168,8 @@ fn other_words(group: usize, form: &Form, words: &[&str]) -> EditsError
     })
 }
 
-/// The command of a name with the words of a group, and with an empty path; `None` where there are too
-/// many words or too few.
+/// The command of a name with the words of a group, and with an empty path; `None` where there are
+/// too many words or too few.
 fn command_without_path(
     alloc: Global,
     name: &str,
@@ -215,7 +216,8 @@ fn values_without_path(
 fn edit_of(alloc: Global, group: usize, command: &MachoCommand) -> Result<MachoEdit, EditsError>
     ensures ok { IfOk result (λ edit.
         one_edit (edit_asked (macho_shown command.now)) ≡ Ok (call_made edit)) }
-    ensures err { IfErr result (TellsWrong group (one_edit (edit_asked (macho_shown command.now)))) }
+    ensures err { IfErr result (TellsWrong group
+        (one_edit (edit_asked (macho_shown command.now)))) }
 {
     match command.edit(alloc)? {
         Some(edit) => Ok(edit),

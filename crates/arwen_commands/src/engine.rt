@@ -17,7 +17,8 @@ use std::rt::Files;
 
 /// The bytes of a file after a command. Of `apply` the words are read before the bytes are looked at.
 pub fn run_macho(alloc: Global, bytes: &[u8], command: &MachoCommand) -> Result<Vec<u8>, ArwenError>
-    ensures ok { IfOk result (λ new. outcome (macho_shown command.now) bytes.now ≡ Outcome.bytes new.items) }
+    ensures ok { IfOk result (λ new.
+        outcome (macho_shown command.now) bytes.now ≡ Outcome.bytes new.items) }
     ensures err { IfErr result (λ e. Tells (outcome (macho_shown command.now) bytes.now) e) }
 {
     let fronts = fronts_of(alloc, bytes, command)?;
@@ -28,7 +29,8 @@ pub fn run_macho(alloc: Global, bytes: &[u8], command: &MachoCommand) -> Result<
 
 /// The same in the bytes' place. A refused command leaves them as they were.
 fn run_in_place(alloc: Global, bytes: &mut [u8], command: &MachoCommand) -> Result<(), ArwenError>
-    ensures ok { IfOk result (λ _. outcome (macho_shown command.now) bytes.old ≡ Outcome.bytes bytes.new) }
+    ensures ok { IfOk result (λ _.
+        outcome (macho_shown command.now) bytes.old ≡ Outcome.bytes bytes.new) }
     ensures err { IfErr result (λ e. Tells (outcome (macho_shown command.now) bytes.old) e) }
     ensures kept { OnErr result (bytes.new ≡ bytes.old) }
 {
@@ -39,7 +41,8 @@ fn run_in_place(alloc: Global, bytes: &mut [u8], command: &MachoCommand) -> Resu
 
 /// What a command writes over the bytes of a file. Its edits are read before the bytes are looked at.
 fn fronts_of(alloc: Global, bytes: &[u8], command: &MachoCommand) -> Result<Vec<Front>, ArwenError>
-    ensures ok { IfOk result (λ fronts. Writes (outcome (macho_shown command.now) bytes.now) bytes.now fronts.items) }
+    ensures ok { IfOk result (λ fronts.
+        Writes (outcome (macho_shown command.now) bytes.now) bytes.now fronts.items) }
     ensures err { IfErr result (λ e. Tells (outcome (macho_shown command.now) bytes.now) e) }
 {
     let edits = edits_asked(alloc, command)?;
@@ -62,7 +65,8 @@ fn refusal(command: &MachoCommand, error: MachoBatchError) -> ArwenError
 
 /// The edits that a command asks for.
 fn edits_asked(alloc: Global, command: &MachoCommand) -> Result<Vec<MachoEdit>, ArwenError>
-    ensures ok { IfOk result (λ edits. AreAsked (asked (macho_shown command.now)) (calls_of edits.items)) }
+    ensures ok { IfOk result (λ edits.
+        AreAsked (asked (macho_shown command.now)) (calls_of edits.items)) }
     ensures err { IfErr result (λ e. TellsAsked (asked (macho_shown command.now)) e) }
 {
     if let MachoCommand::Apply(args) = command {
@@ -87,7 +91,8 @@ fn alone(alloc: Global, edit: MachoEdit) -> Result<Vec<MachoEdit>, ArwenError>
 
 /// The same words, lent.
 fn words_of<'a>(alloc: Global, words: &'a [String]) -> Result<Vec<&'a str>, AllocError>
-    ensures { IfOk result (λ texts. map (λ text. text.now) texts.items ≡ map string_bytes words.now) }
+    ensures { IfOk result (λ texts.
+        map (λ text. text.now) texts.items ≡ map string_bytes words.now) }
 {
     let mut texts = Vec::with_capacity(alloc, words.len())?;
     for word in words {

@@ -25,7 +25,8 @@ pub struct Args {
 /// Edits the file.
 pub fn execute<R: Files + AllocGlobal>(rt: &R, args: Args) -> Result<(), ArwenError>
     ensures ok { IfOk result (λ _. IsDone (macho_shown (MachoCommand.ChangeInstallName args))) }
-    ensures err { IfErr result (λ e. MayFail (macho_shown (MachoCommand.ChangeInstallName args)) e) }
+    ensures err { IfErr result (λ e.
+        MayFail (macho_shown (MachoCommand.ChangeInstallName args)) e) }
 {
     patch_file(rt, &MachoCommand::ChangeInstallName(args))
 }

@@ -2,7 +2,7 @@
 ghost use Rattle.std.specs.Prelude.{◌≡◌, ◌<◌, [], false, IfOk, IfErr, length, map, option_map, string_bytes, true};
 ghost use Rattle.std.specs.Prelude.{unwrap_or};
 ghost use Rattle.clap.specs.Words.{all_of, app_of, first_of, found_of, kind_of, new_app, rows_of};
-ghost use Rattle.clap.specs.Words.{rule_of};
+ghost use Rattle.clap.specs.Words.{rule_of, with_rule};
 ghost use Rattle.arwen_commands.specs.Fault.{IsOfLine};
 ghost use Rattle.arwen_commands.specs.Rows.{given_shown, kind_shown, row_shown};
 ghost use Rattle.arwen_cli.specs.Parser.{IsTaken, Matches, RefusesNone, MayRefuseValues, first_id, found_by};
@@ -137,16 +137,70 @@ fn row_line<'a>(alloc: Global, row: &'a Row) -> Result<clap::Command<'a>, AllocE
     ensures local { IfOk result (λ line. has_globals line ≡ false) }
 {
     let line = named_line(alloc, row);
-    let path = value(alloc, PATH, &FILE);
     match &row.form {
-        Form::Path => line.arg(path),
-        Form::Text(first) => line.arg(value(alloc, FIRST, first))?.arg(path),
-        Form::Texts(first, second) => line
-            .arg(value(alloc, FIRST, first))?
-            .arg(value(alloc, SECOND, second))?
-            .arg(path),
-        Form::Words(words) => line.arg(path)?.arg(values(alloc, WORDS, words)),
+        Form::Path => path_line(alloc, line),
+        Form::Text(first) => text_line(alloc, line, first),
+        Form::Texts(first, second) => texts_line(alloc, line, first, second),
+        Form::Words(words) => words_line(alloc, line, words),
     }
+}
+
+/// A command with the path as a further value.
+fn path_line<'a>(alloc: Global, line: clap::Command<'a>) -> Result<clap::Command<'a>, AllocError>
+    requires { has_globals line ≡ false }
+    ensures app { IfOk result (λ new.
+        app_of new ≡ with_rule (app_of line.entry) (value_rule path_id)) }
+    ensures local { IfOk result (λ new. has_globals new ≡ false) }
+{
+    line.arg(value(alloc, PATH, &FILE))
+}
+
+/// A command with a text and the path as further values.
+fn text_line<'a>(
+    alloc: Global,
+    line: clap::Command<'a>,
+    first: &'a Value,
+) -> Result<clap::Command<'a>, AllocError>
+    requires { has_globals line ≡ false }
+    ensures app { IfOk result (λ new. app_of new ≡ with_rule
+        (with_rule (app_of line.entry) (value_rule first_id)) (value_rule path_id)) }
+    ensures local { IfOk result (λ new. has_globals new ≡ false) }
+{
+    let line = line.arg(value(alloc, FIRST, first))?;
+    path_line(alloc, line)
+}
+
+/// A command with two texts and the path as further values.
+fn texts_line<'a>(
+    alloc: Global,
+    line: clap::Command<'a>,
+    first: &'a Value,
+    second: &'a Value,
+) -> Result<clap::Command<'a>, AllocError>
+    requires { has_globals line ≡ false }
+    ensures app { IfOk result (λ new. app_of new ≡ with_rule (with_rule
+        (with_rule (app_of line.entry) (value_rule first_id)) (value_rule second_id))
+        (value_rule path_id)) }
+    ensures local { IfOk result (λ new. has_globals new ≡ false) }
+{
+    let line = line.arg(value(alloc, FIRST, first))?;
+    let line = line.arg(value(alloc, SECOND, second))?;
+    path_line(alloc, line)
+}
+
+/// A command with the path and any number of words as further values.
+fn words_line<'a>(
+    alloc: Global,
+    line: clap::Command<'a>,
+    words: &'a Value,
+) -> Result<clap::Command<'a>, AllocError>
+    requires { has_globals line ≡ false }
+    ensures app { IfOk result (λ new. app_of new ≡ with_rule
+        (with_rule (app_of line.entry) (value_rule path_id)) (values_rule words_id)) }
+    ensures local { IfOk result (λ new. has_globals new ≡ false) }
+{
+    let line = path_line(alloc, line)?;
+    line.arg(values(alloc, WORDS, words))
 }
 
 /// A command with its name and its help alone.
