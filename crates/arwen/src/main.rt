@@ -2,10 +2,8 @@
 //! Prints what a loader takes from ELF files.
 #![tactic(auto)]
 
-pub use arwen_cli::cli;
 use arwen_cli::cli::{ArwenError, execute};
-pub use arwen_elf::elf;
-pub use arwen_macho::{commands, macho, patcher, utils};
+pub use arwen_cli::{cli, commands, elf, macho, patcher, utils};
 use std::process::ExitCode;
 use std::rt::{Env, Files};
 use std::{env, io};

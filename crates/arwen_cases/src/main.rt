@@ -8,12 +8,15 @@
 //! - `? WORD WORD ..` only reads the words, and prints the command that they mean, or the status and the fault.
 //! - `! WORD WORD ..` does it to the bytes of `file` alone. Printed are the rows that an edit would change, or what
 //!   stands on a page of 8 bytes after a print.
+//! - `* RPATH ID` gives the library `file` a run path and an id, by calls of the library alone. Printed is what is
+//!   printed of words.
 //!
 //! Spaces stand between words, and `''` is the empty word. Nothing comes of other lines.
 #![tactic(auto)]
 
 mod calls;
 mod changes;
+mod library;
 
 use arwen_cli::cli::{ArwenError, Command, execute, parse_line};
 use changes::print_changes;
@@ -40,6 +43,7 @@ fn step(rt: &HostRuntime, line: &str) -> io::Result<()> {
         (">", words) => run(rt, words),
         ("?", words) => read(rt, words),
         ("!", words) => call(rt, words),
+        ("*", words) => relocate(rt, words),
         _ => Ok(()),
     }
 }
@@ -145,6 +149,33 @@ fn call(rt: &HostRuntime, words: &str) -> io::Result<()> {
         Ok(Command::Macho(command)) => calls::edit(rt, bytes.as_slice(), &command),
         Ok(Command::Elf(command)) => calls::print(rt, bytes.as_slice(), &command),
         Err(error) => tell(rt, &error),
+    }
+}
+
+/// Gives the file the run path and the id that stand in words, once more where memory was refused, and prints what came
+/// of it.
+fn relocate(rt: &HostRuntime, words: &str) -> io::Result<()> {
+    let before = content(rt, FILE)?;
+    let (rpath, id) = words.split_once(' ').unwrap_or((words, ""));
+    match relocated(rt, rpath, id, &before) {
+        Ok(()) => println!(rt; "status 0")?,
+        Err(error) => tell(rt, &error)?,
+    }
+    print_changes(rt, &before, &content(rt, FILE)?)
+}
+
+fn relocated(
+    rt: &HostRuntime,
+    rpath: &str,
+    id: &str,
+    before: &Option<Vec<u8>>,
+) -> Result<(), ArwenError> {
+    match library::relocate(rt, FILE, rpath, id) {
+        Err(ArwenError::Memory) => {
+            check_file(rt, before)?;
+            library::relocate(rt, FILE, rpath, id)
+        }
+        answer => answer,
     }
 }
 
