@@ -1,7 +1,7 @@
 //! A store in memory.
-ghost use Rattle.std.specs.Prelude.{◌≡◌, ◌+◌, ◌<◌, ◌≤◌, false, Some, IfOk, OnErr, drop, length, take, vec_len};
+ghost use Rattle.std.specs.Prelude.{◌≡◌, ◌+◌, ◌<◌, ◌≤◌, false, Some, IfOk, IsOk, IsTrue, OnErr, OnOk, drop, length, take, vec_len};
 ghost use Rattle.std.specs.Io.{WritesAtMost};
-ghost use Rattle.byte_store.specs.Known.{put_at};
+ghost use Rattle.byte_store.specs.Known.{HasLength, Stays, put_at};
 
 use crate::stores::Store;
 use std::io;
@@ -33,7 +33,10 @@ impl Store for MemoryStore {
 
     ghost is_writable = { λ store. store.is_open };
 
-    fn length(&self) -> io::Result<u64> {
+    fn length(&self) -> io::Result<u64>
+        ensures value { result ≡ Ok (vec_len self.now.bytes) }
+        ensures known { IfOk result (λ n. HasLength (Some self.now.bytes.items) n) }
+    {
         Ok(self.bytes.len() as u64)
     }
 
@@ -41,7 +44,11 @@ impl Store for MemoryStore {
         Ok(copy_from(self.bytes.as_slice(), offset, buffer))
     }
 
-    fn open_for_writing(&mut self) -> io::Result<()> {
+    fn open_for_writing(&mut self) -> io::Result<()>
+        ensures succeeds { IsOk result }
+        ensures open { OnOk result (IsTrue self.new.is_open) }
+        ensures kept { Stays (Some self.old.bytes.items) (Some self.new.bytes.items) }
+    {
         self.is_open = true;
         Ok(())
     }
