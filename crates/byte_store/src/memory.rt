@@ -1,7 +1,7 @@
 //! A store in memory.
 ghost use Rattle.std.specs.Prelude.{◌≡◌, ◌+◌, ◌<◌, ◌≤◌, false, Some, IfOk, IsOk, IsTrue, OnErr, OnOk, drop, length, take, vec_len};
-ghost use Rattle.std.specs.Io.{WritesAtMost};
-ghost use Rattle.byte_store.specs.Known.{HasLength, Stays, put_at};
+ghost use Rattle.std.specs.Io.{ReadsAtMost, WritesAtMost};
+ghost use Rattle.byte_store.specs.Known.{HasLength, ReadsFrom, Stays, WritesAt, put_at};
 
 use crate::stores::Store;
 use std::io;
@@ -40,7 +40,13 @@ impl Store for MemoryStore {
         Ok(self.bytes.len() as u64)
     }
 
-    fn read_at(&mut self, offset: u64, buffer: &mut [u8]) -> io::Result<usize> {
+    fn read_at(&mut self, offset: u64, buffer: &mut [u8]) -> io::Result<usize>
+        ensures succeeds { IsOk result }
+        ensures bound { ReadsAtMost result buffer.new }
+        ensures bytes { ReadsFrom offset result (Some self.old.bytes.items) buffer.new }
+        ensures kept { Stays (Some self.old.bytes.items) (Some self.new.bytes.items) }
+        ensures open { self.new.is_open ≡ self.old.is_open }
+    {
         Ok(copy_from(self.bytes.as_slice(), offset, buffer))
     }
 
@@ -53,7 +59,13 @@ impl Store for MemoryStore {
         Ok(())
     }
 
-    fn write_at(&mut self, offset: u64, bytes: &[u8]) -> io::Result<usize> {
+    fn write_at(&mut self, offset: u64, bytes: &[u8]) -> io::Result<usize>
+        ensures some { IfOk result (λ n. 0 < length bytes.now → 0 < n) }
+        ensures bound { WritesAtMost result bytes.now }
+        ensures bytes { WritesAt offset bytes.now result
+            (Some self.old.bytes.items) (Some self.new.bytes.items) }
+        ensures open { self.new.is_open ≡ self.old.is_open }
+    {
         put(&mut self.bytes, offset, bytes)
     }
 
@@ -87,6 +99,7 @@ fn rest_of(bytes: &[u8], offset: u64) -> &[u8]
 /// takes fewer than there are.
 fn put(bytes: &mut Vec<u8>, offset: u64, part: &[u8]) -> io::Result<usize>
     ensures bound { WritesAtMost result part.now }
+    ensures some { IfOk result (λ n. 0 < length part.now → 0 < n) }
     ensures bytes { IfOk result (λ n. offset ≤ vec_len bytes.old
         → bytes.new.items ≡ put_at offset (take n part.now) bytes.old.items) }
     ensures err { OnErr result (bytes.new.items ≡ bytes.old.items) }
