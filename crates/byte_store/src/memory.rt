@@ -1,7 +1,7 @@
 //! A store in memory.
-ghost use Rattle.std.specs.Prelude.{◌≡◌, ◌+◌, ◌<◌, ◌≤◌, false, Some, IfOk, OnErr, drop, length, take, vec_len};
-ghost use Rattle.std.specs.Io.{WritesAtMost};
-ghost use Rattle.byte_store.specs.Known.{put_at};
+ghost use Rattle.std.specs.Prelude.{◌≡◌, ◌+◌, ◌<◌, ◌≤◌, false, Some, IfOk, IsOk, IsTrue, OnErr, OnOk, drop, length, take, vec_len};
+ghost use Rattle.std.specs.Io.{ReadsAtMost, WritesAtMost};
+ghost use Rattle.byte_store.specs.Known.{HasLength, ReadsFrom, Stays, WritesAt, put_at};
 
 use crate::stores::Store;
 use std::io;
@@ -33,20 +33,39 @@ impl Store for MemoryStore {
 
     ghost is_writable = { λ store. store.is_open };
 
-    fn length(&self) -> io::Result<u64> {
+    fn length(&self) -> io::Result<u64>
+        ensures value { result ≡ Ok (vec_len self.now.bytes) }
+        ensures known { IfOk result (λ n. HasLength (Some self.now.bytes.items) n) }
+    {
         Ok(self.bytes.len() as u64)
     }
 
-    fn read_at(&mut self, offset: u64, buffer: &mut [u8]) -> io::Result<usize> {
+    fn read_at(&mut self, offset: u64, buffer: &mut [u8]) -> io::Result<usize>
+        ensures succeeds { IsOk result }
+        ensures bound { ReadsAtMost result buffer.new }
+        ensures bytes { ReadsFrom offset result (Some self.old.bytes.items) buffer.new }
+        ensures kept { Stays (Some self.old.bytes.items) (Some self.new.bytes.items) }
+        ensures open { self.new.is_open ≡ self.old.is_open }
+    {
         Ok(copy_from(self.bytes.as_slice(), offset, buffer))
     }
 
-    fn open_for_writing(&mut self) -> io::Result<()> {
+    fn open_for_writing(&mut self) -> io::Result<()>
+        ensures succeeds { IsOk result }
+        ensures open { OnOk result (IsTrue self.new.is_open) }
+        ensures kept { Stays (Some self.old.bytes.items) (Some self.new.bytes.items) }
+    {
         self.is_open = true;
         Ok(())
     }
 
-    fn write_at(&mut self, offset: u64, bytes: &[u8]) -> io::Result<usize> {
+    fn write_at(&mut self, offset: u64, bytes: &[u8]) -> io::Result<usize>
+        ensures some { IfOk result (λ n. 0 < length bytes.now → 0 < n) }
+        ensures bound { WritesAtMost result bytes.now }
+        ensures bytes { WritesAt offset bytes.now result
+            (Some self.old.bytes.items) (Some self.new.bytes.items) }
+        ensures open { self.new.is_open ≡ self.old.is_open }
+    {
         put(&mut self.bytes, offset, bytes)
     }
 
@@ -80,6 +99,7 @@ fn rest_of(bytes: &[u8], offset: u64) -> &[u8]
 /// takes fewer than there are.
 fn put(bytes: &mut Vec<u8>, offset: u64, part: &[u8]) -> io::Result<usize>
     ensures bound { WritesAtMost result part.now }
+    ensures some { IfOk result (λ n. 0 < length part.now → 0 < n) }
     ensures bytes { IfOk result (λ n. offset ≤ vec_len bytes.old
         → bytes.new.items ≡ put_at offset (take n part.now) bytes.old.items) }
     ensures err { OnErr result (bytes.new.items ≡ bytes.old.items) }

@@ -1,18 +1,27 @@
 //! A store in memory whose calls fail on purpose.
-ghost use Rattle.std.specs.Prelude.{◌≡◌, IfOk};
+ghost use Rattle.std.specs.Prelude.{◌≡◌, [], IfOk};
 
 use byte_store::{MemoryStore, Store};
 use std::alloc::{AllocError, Global};
 use std::io;
 
-/// A copy of bytes, made once more where memory was refused.
+// Room for a store that grows, asked for once more where memory was refused.
+fn room(alloc: Global) -> Result<Vec<u8>, AllocError>
+    ensures { IfOk result (λ made. made.items ≡ []) }
+{
+    match Vec::with_capacity(alloc, 64) {
+        Err(_) => Vec::with_capacity(alloc, 64),
+        made => made,
+    }
+}
+
+/// A copy of bytes, with room behind it.
 pub fn copy(alloc: Global, bytes: &[u8]) -> Result<Vec<u8>, AllocError>
     ensures { IfOk result (λ copied. copied.items ≡ bytes.now) }
 {
-    match Vec::from_slice(alloc, bytes) {
-        Err(_) => Vec::from_slice(alloc, bytes),
-        copied => copied,
-    }
+    let mut copied = room(alloc)?;
+    copied.extend_from_slice(bytes)?;
+    Ok(copied)
 }
 
 /// What goes wrong. Calls are those of `write_at`, counted from 0; 99 is never reached.
