@@ -243,12 +243,6 @@ pub record HoldsText (order : ByteOrder2) (cmd : ℕ) (text c : List ℕ) : Type
   pub shown : text_of order c ≡ text
   pub no_content : contents_of order c ≡ []
 
--- the numbers that a library command takes over from an old one
-pub record KeepsNumbers (order : ByteOrder2) (old : DylibCommand) (c : List ℕ) : Type 0 where
-  pub timestamp : number_at order 4 12 c ≡ old.dylib.timestamp
-  pub current_version : number_at order 4 16 c ≡ old.dylib.current_version
-  pub compatibility_version : number_at order 4 20 c ≡ old.dylib.compatibility_version
-
 -- the command that a build gives
 pub HoldsText-rpath_built : (ctx : Ctx) (text c : List ℕ) → rpath_built ctx text ≡ Ok c → HoldsText ctx.le LC_RPATH text c
 HoldsText-rpath_built ctx text c built =

@@ -1,5 +1,5 @@
 -- What the container of either shape takes over from the shape that it holds.
-use Rattle.std.proofs.Common.{◌≡◌, ℕ, Bool, true, List, [], ◌∷◌, ◌++◌, Option, Some, None, Result, Ok, Err, IsOk, ap, sym, refl, ◌∙◌, subst}
+use Rattle.std.proofs.Common.{◌≡◌, ℕ, Bool, List, [], ◌∷◌, ◌++◌, Option, Some, None, Result, Ok, Err, IsOk, ap, sym, refl, ◌∙◌, subst}
 use Rattle.arwen_macho.specs.declared.batch.MachoBatchError.{MachoBatchError}
 use Rattle.arwen_macho.specs.declared.macho.MachoType.{MachoType}
 use Rattle.arwen_macho.specs.declared.macho.MachoType.TheVariants.{Fat, SingleArch}

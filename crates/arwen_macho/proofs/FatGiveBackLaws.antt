@@ -1,8 +1,7 @@
 -- What is added to all slices of a fat file and removed again; and a shorter name in each.
-use Rattle.std.proofs.Common.{◌≡◌, ℕ, List, [], ◌∷◌, length, replicate, set, get_or, Result, Ok, Err, IsOkAnd, ap, sym, refl, ◌∙◌, subst}
+use Rattle.std.proofs.Common.{◌≡◌, ℕ, List, [], ◌∷◌, set, Result, Ok, Err, IsOkAnd, ap, sym, refl, ◌∙◌, subst}
 use Rattle.std.specs.List.{All, AllZip}
 use Rattle.std.proofs.lemmas.List.Elements.{All-cons, All-head, All-nil, All-tail}
-use Rattle.patch_bytes.specs.Bytes.{AreBytes}
 use Rattle.macho_image.specs.declared.fat.FatArch.{FatArch}
 use Rattle.macho_image.specs.Fat.{slice_of}
 use Rattle.arwen_macho.specs.Call.{Call}
@@ -10,7 +9,7 @@ use Rattle.arwen_macho.specs.Call.Call.{add_rpath, remove_rpath}
 use Rattle.arwen_macho.specs.FatHeld.{IsFatState, IsSlice}
 use Rattle.arwen_macho.specs.FatLaws.{FatGivesBack, FatRemoveGivesBack, FatShorterFits, GiveBack, IsShortened, PadsAreZeros, Shortens}
 use Rattle.arwen_macho.specs.FatState.{FatState, Slice, fat_laid_bytes, fat_step, joined_step, bytes_laid_over, put_at, step_slices}
-use Rattle.arwen_macho.specs.Laws.{GivesBack, LacksRpath, pad_taken, taken_size}
+use Rattle.arwen_macho.specs.Laws.{GivesBack, LacksRpath}
 use Rattle.arwen_macho.specs.State.{Refusal, State, laid_bytes, step}
 use Rattle.arwen_macho.specs.Whole.{TextsAreBytes}
 use Rattle.arwen_macho.proofs.FatLaws.{fat_laid_shows}

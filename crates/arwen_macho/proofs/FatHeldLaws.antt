@@ -14,7 +14,7 @@ use Rattle.arwen_macho.specs.FatChange.{AreChangesOf, AreStepOf, changed_slices,
 use Rattle.arwen_macho.specs.FatHeld.{FatHeld, IsFatState, first_fat_held}
 use Rattle.arwen_macho.specs.FatHeldBy.{IsFatHeld, fat_held_of}
 use Rattle.arwen_macho.specs.FatSlice.{HeldSlice, IsReadyIn, IsStepIn, changed_machos, first_macho, fronts_over, slice_held}
-use Rattle.arwen_macho.specs.FatState.{FatState, Slice, fat_laid_bytes, fat_step, first_fat_state, first_slice}
+use Rattle.arwen_macho.specs.FatState.{FatState, Slice, fat_laid_bytes, first_fat_state, first_slice}
 use Rattle.arwen_macho.specs.Found.{fat_found}
 use Rattle.arwen_macho.proofs.FatLaws.{fat_laid_shows, lie_of}
 use Rattle.arwen_macho.proofs.FatStepLaws.{changed_shown, changes_ready, changes_shown, copies_changed, fat_changed_is, fat_step_ok, first_fat_is, first_fat_laid, step_all}

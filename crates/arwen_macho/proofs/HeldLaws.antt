@@ -3,7 +3,7 @@ use Rattle.std.proofs.Common.{◌≡◌, ◌≤◌, ◌+◌, ℕ, max, nat_le, L
 use Rattle.std.specs.List.{concat}
 use Rattle.std.proofs.lemmas.Bool.{leb-true}
 use Rattle.macho_image.specs.declared.format.Ctx.{Ctx}
-use Rattle.macho_image.specs.Checks.{area_fault, file_fault}
+use Rattle.macho_image.specs.Checks.{file_fault}
 use Rattle.macho_image.specs.Commands.{commands_of, first_content_of}
 use Rattle.macho_image.specs.Form.{commands_end, ctx_of, header_size}
 use Rattle.macho_image.specs.Image.{Image, with_area}
@@ -11,12 +11,12 @@ use Rattle.patch_bytes.specs.Bytes.{AreBytes}
 use Rattle.arwen_macho.specs.declared.change.Change.{Change}
 use Rattle.arwen_macho.specs.declared.macho.SingleMachO.TheInside.{Inside}
 use Rattle.arwen_macho.specs.Change.{IsChangeOf, changed_file}
-use Rattle.arwen_macho.specs.Held.{Held, first_held, image_held}
+use Rattle.arwen_macho.specs.Held.{Held, first_held}
 use Rattle.arwen_macho.specs.HeldBy.{IsHeld, held_of}
 use Rattle.arwen_macho.specs.State.{available, end_of, first_state, laid_bytes}
-use Rattle.arwen_macho.specs.Whole.{IsState, KeepsContents}
-use Rattle.arwen_macho.proofs.ChangeLaws.{available_shown, change_bytes, changed_held, changed_is, kept_fault}
-use Rattle.arwen_macho.proofs.StateLaws.{available-le, first_is, first_laid, laid_shows}
+use Rattle.arwen_macho.specs.Whole.{IsState}
+use Rattle.arwen_macho.proofs.ChangeLaws.{available_shown, change_bytes, changed_held, changed_is}
+use Rattle.arwen_macho.proofs.StateLaws.{first_is, first_laid, laid_shows}
 
 -- the fields with another parsed file and another furthest end
 abbrev pub with_image : Inside → Image → ℕ → Inside

@@ -10,7 +10,7 @@ use Rattle.macho_image.specs.Form.{ctx_of}
 use Rattle.arwen_macho.specs.declared.macho.MachoType.{MachoType}
 use Rattle.arwen_macho.specs.declared.macho.MachoType.TheVariants.{Fat, SingleArch}
 use Rattle.arwen_macho.specs.Call.{Call}
-use Rattle.arwen_macho.specs.Container.{as_fat, as_thin, container_step, first_container}
+use Rattle.arwen_macho.specs.Container.{as_fat, as_thin, container_step}
 use Rattle.arwen_macho.specs.ContainerShown.{IsFileState, StepShows}
 use Rattle.arwen_macho.specs.FatHeld.{FatHeld, IsFatState, IsSlice, first_fat_held}
 use Rattle.arwen_macho.specs.FatState.{FatState, Slice, fat_laid_bytes, fat_step, joined_step, step_slices, with_slices}

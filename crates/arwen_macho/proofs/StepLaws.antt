@@ -1,6 +1,6 @@
 -- A batch that was drafted upon a file's list, and the change or the refusal that it leads to, are the
 -- step of the file's state.
-use Rattle.std.proofs.Common.{◌≡◌, ◌≤◌, ℕ, Bool, true, List, [], ◌∷◌, length, Option, Some, None, Result, Ok, Err, IsErrAnd, ap, sym, refl, ◌∙◌, subst, arith}
+use Rattle.std.proofs.Common.{◌≡◌, ℕ, List, length, Option, Some, None, Result, Ok, Err, IsErrAnd, ap, sym, refl, ◌∙◌, subst}
 use Rattle.macho_image.specs.declared.format.Ctx.{Ctx}
 use Rattle.macho_image.specs.Commands.{commands_of}
 use Rattle.macho_image.specs.Form.{ctx_of}
@@ -9,7 +9,7 @@ use Rattle.arwen_macho.specs.declared.macho.SingleMachO.TheInside.{Inside}
 use Rattle.arwen_macho.specs.Batch.{RefusesAt}
 use Rattle.arwen_macho.specs.Call.{Call, Cause}
 use Rattle.arwen_macho.specs.Change.{IsChangeOf, RefusesRoom, changed_file, list_of}
-use Rattle.arwen_macho.specs.Held.{Held, RefusesStep, is_edited_by}
+use Rattle.arwen_macho.specs.Held.{Held, RefusesStep}
 use Rattle.arwen_macho.specs.HeldBy.{IsHeld, held_of}
 use Rattle.arwen_macho.specs.State.{Refusal, State, edited_by, step}
 use Rattle.arwen_macho.proofs.StateLaws.{laid_shows, step-fits, step-no_room, step-refused}
@@ -33,11 +33,6 @@ refuses_step index None answer refuses = tt
 refuses_step {X} index (Some cause) answer refuses =
     let P : Result X Refusal → Type 0 = λ r. IsErrAnd r (λ refusal. refusal.cause ≡ cause) in
     subst P (sym refuses) refl
-
--- a batch of some edits leaves a copy
-pub edited_by_some : (calls : List Call) (was : Bool) → 1 ≤ length calls → is_edited_by calls was ≡ true
-edited_by_some [] was some = absurd (omega arith)
-edited_by_some (call ∷ calls) was some = refl
 
 -- the form of the bytes as read, by the file as it is now
 pub form_is : (s : Inside) (ctx : Ctx) → IsHeld s → ctx ≡ ctx_of s.inner.bytes → ctx ≡ ctx_of (held_of s).state.old

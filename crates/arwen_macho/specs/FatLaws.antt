@@ -1,5 +1,5 @@
 -- Laws of the edits of a fat file: those of a thin one, in all its slices.
-use Rattle.std.specs.Prelude.{ℕ, ◌≡◌, ◌≤◌, ◌↔◌, All, List, [], ◌∷◌, length, replicate, get_or, slice_set, IsOkAnd, Ok, ⊤}
+use Rattle.std.specs.Prelude.{ℕ, ◌≡◌, ◌≤◌, ◌↔◌, All, List, [], ◌∷◌, length, replicate, get_or, IsOkAnd, Ok, ⊤}
 use Rattle.std.specs.List.{AllZip}
 use Rattle.patch_bytes.specs.Bytes.{AreBytes}
 use Rattle.arwen_macho.specs.Call.{Call}

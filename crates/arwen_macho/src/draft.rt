@@ -18,7 +18,7 @@ use patch_bytes::{ByteOrder2, ByteString};
 use std::alloc::Global;
 
 /// One of the five edits, with texts that are lent.
-#[derive(Clone, Copy, Debug)]
+#[derive(Clone, Copy)]
 pub enum Edit<'t> {
     /// Appends an rpath command with this text.
     AddRpath(&'t str),

@@ -1,13 +1,12 @@
 -- What a table of slices that passes is, and how it shows whether two slices share a byte: the same for any
 -- order of them and without the empty ones, and between neighbours where they are sorted.
-use Rattle.std.proofs.Common.{◌≡◌, ◌≢◌, ◌≤◌, ◌<◌, ℕ, zero, suc, ◌+◌, ◌*◌, ◌-◌, ◌^◌, Bool, true, false, ◌&&◌, ◌||◌, not, cond, nat_lt, eqb, List, [], ◌∷◌, length, drop, get_or, Option, Some, None, refl, sym, ap, ◌∙◌, subst, inl, inr, Decides, arith, if◌then◌else◌}
+use Rattle.std.proofs.Common.{◌≡◌, ◌≢◌, ◌≤◌, ◌<◌, ℕ, zero, suc, ◌+◌, ◌*◌, ◌-◌, ◌^◌, Bool, true, false, ◌&&◌, ◌||◌, not, cond, nat_lt, eqb, List, [], ◌∷◌, length, drop, get_or, Option, Some, None, refl, sym, ap, ◌∙◌, subst, inl, inr, arith, if◌then◌else◌}
 use Rattle.std.specs.List as holes
-use Rattle.std.specs.List.{All, Any, filter, list_any}
+use Rattle.std.specs.List.{Any, filter, list_any}
 use Rattle.std.specs.List.Sorted.{IsNonDecreasingBy, IsPermutation}
 use Rattle.std.proofs.lemmas.Bool.{and_from, and_parts, both_ways, cases_Bool, cases_eq, cases_lt, cond-false, cond-true, eq-eqb, false_from_ne_true, le-ltb, lt-ltb, ltb-false, ltb-true, ne_eqb, not-false, not_from_true, or_cases, or_from, or_left, or_parts, or_right}
 use Rattle.std.proofs.lemmas.Bool.Decides.{nat_tests}
-use Rattle.std.proofs.lemmas.List.{drop-drop, get_or_default, length-drop, length-take-le, same_lists}
-use Rattle.std.proofs.lemmas.List.Elements.{All-tail}
+use Rattle.std.proofs.lemmas.List.{drop-drop, get_or_default, same_lists}
 use Rattle.std.proofs.lemmas.List.Edits.{length-swap, swapped_from_swap}
 use Rattle.std.proofs.lemmas.List.Folds.{Any-from_list_any, list_any_at, list_any_none}
 use Rattle.std.proofs.lemmas.List.Sorted.{IsPermutation-keeps, IsPermutation-sym}
@@ -15,7 +14,7 @@ use Rattle.std.proofs.lemmas.Map.Views.{any-filter_same}
 use Rattle.macho_image.specs.declared.fat.FatArch.{FatArch}
 use Rattle.macho_image.specs.declared.format.MachFault.{MachFault}
 use Rattle.macho_image.specs.declared.format.MachFault.TheVariants.{BadMagic, SliceOutside, SlicesOverlap, TooLong, Truncated}
-use Rattle.macho_image.specs.Fat.{AreRecordsOf, AreSlices, IsFatFile, arch_of, archs_of, has_fat_magic, is_outside, nfat_arch_of, share_byte, slice_of, slices_fault, some_share, table, table_end, table_fault}
+use Rattle.macho_image.specs.Fat.{AreRecordsOf, AreSlices, IsFatFile, arch_of, archs_of, has_fat_magic, is_outside, nfat_arch_of, share_byte, slices_fault, some_share, table, table_end, table_fault}
 use Rattle.macho_image.proofs.AreaLaws.{passes_check}
 use Rattle.macho_image.proofs.CommandLaws.{passes}
 
@@ -186,34 +185,6 @@ apart_from_first a b rest up behind =
     list_any_none (share_byte a) (b ∷ rest)
     (λ k d within. share_byte-behind a (get_or (b ∷ rest) k d) (let rises = up 0 k d (omega arith) within in omega (arith, rises)))
 
--- sorted slices that have bytes share one exactly where two neighbours do
-pub record SharedByNeighbours (archs : List FatArch) : Type 0 where
-  pub first : ℕ
-  pub within : suc first < length archs
-  pub shared : (d : FatArch) → share_byte (get_or archs first d) (get_or archs (suc first) d) ≡ true
-
-neighbours_from_some_share : (archs : List FatArch) → IsNonDecreasingBy (λ b. b.offset) archs → All (λ b. 0 < b.size) archs → some_share archs ≡ true → SharedByNeighbours archs
-neighbours_from_some_share [] up filled e = cc
-neighbours_from_some_share (a ∷ []) up filled e = cc
-neighbours_from_some_share (a ∷ b ∷ rest) up filled e =
-    elim (or_cases (list_any (share_byte a) (b ∷ rest)) (some_share (b ∷ rest)) e) [
-      | inl here ↦
-          (let found = Any-from_list_any (share_byte a) (b ∷ rest) here in
-          let t = share_byte-tells a found.1 found.4 in
-          let order : a.offset ≤ b.offset = up 0 1 a (omega arith) (omega arith) in
-          let size : 0 < b.size = filled 1 a (omega arith) in
-          let later : b.offset ≤ (get_or (b ∷ rest) found.0 found.1).offset = up 1 (suc found.0) found.1 (omega arith) (omega (arith, found.2)) in
-          let last : (get_or (b ∷ rest) found.0 found.1).offset ≡ found.1.offset = ap (λ c. c.offset) found.3 in
-          record { first = 0; within = omega arith; shared = λ d. shares_byte a b t.0 size (omega arith) (omega (arith, t.3)) })
-      | inr behind ↦
-          (let next = neighbours_from_some_share (b ∷ rest) (rises_rest a (b ∷ rest) up) (All-tail (λ c. 0 < c.size) a (b ∷ rest) filled) behind in
-          record { first = suc next.first; within = omega (arith, next.within); shared = next.shared })
-    ]
-
-some_share-from_neighbours : (archs : List FatArch) → SharedByNeighbours archs → some_share archs ≡ true
-some_share-from_neighbours [] h = absurd (omega (arith, h.within))
-some_share-from_neighbours (a ∷ rest) h = some_share-at (a ∷ rest) h.first (suc h.first) a (omega arith) h.within (h.shared a)
-
 -- what the checks of the slices show
 pub slices_pass : (len : ℕ) (archs : List FatArch) → slices_fault len archs ≡ None → AreSlices len (table_end (length archs)) archs
 unfolding slices_fault
@@ -307,7 +278,3 @@ fat_only bytes archs is =
     let A : List FatArch → Type 0 = λ l. AreSlices (length bytes) (table_end (nfat_arch_of bytes)) l in
     let slices = subst A (sym same) (subst S (sym is.count) is.slices) in
     (table_fault-none bytes is.short is.magic (subst P (sym is.count) is.room) slices, same)
-
--- a slice of an accepted file is as long as its table says
-pub length-slice_of : (bytes : List ℕ) (a : FatArch) → a.offset + a.size ≤ length bytes → length (slice_of bytes a) ≡ a.size
-length-slice_of bytes a inside = length-take-le a.size (drop a.offset bytes) (omega (arith, length-drop a.offset bytes))

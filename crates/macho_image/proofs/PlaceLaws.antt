@@ -12,7 +12,7 @@ use Rattle.macho_image.specs.Checks.{file_fault}
 use Rattle.macho_image.specs.Command.{IsCommand, cmd_of, cmdsize_of, command_header_of, dylib_of, rpath_of, variant_of, variant_size}
 use Rattle.macho_image.specs.Commands.{commands_of, load_commands_of}
 use Rattle.macho_image.specs.Form.{area_of, ctx_of, header_size, ncmds_of, sizeofcmds_of}
-use Rattle.macho_image.proofs.CutLaws.{concat-cut, cut_are_commands, get_or-located, length-cut, length-located, piece_end, piece_is}
+use Rattle.macho_image.proofs.CutLaws.{concat-cut, cut_are_commands, get_or-located, length-located, piece_end, piece_is}
 use Rattle.macho_image.proofs.FormLaws.{file_passes, form_passes}
 
 -- a part of the first m bytes

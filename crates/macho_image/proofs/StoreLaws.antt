@@ -1,17 +1,17 @@
 -- The laws of a stored area of load commands: a file with it is accepted, has the old form, and shows
 -- the commands that were cut from the area; a later area stands in place of an earlier one; and the
 -- area that a file has leaves it as it is.
-use Rattle.std.proofs.Common.{◌≡◌, ◌≤◌, ◌<◌, ◌^◌, ℕ, zero, suc, ◌+◌, ◌-◌, List, [], ◌++◌, length, take, drop, get_or, replicate, None, refl, sym, ap, ◌∙◌, subst, arith}
+use Rattle.std.proofs.Common.{◌≡◌, ◌≤◌, ◌<◌, ◌^◌, ℕ, ◌+◌, ◌-◌, List, [], ◌++◌, length, take, drop, replicate, None, refl, sym, ap, ◌∙◌, subst, arith}
 use Rattle.std.proofs.lemmas.List.{drop-drop, take-append-drop}
 use Rattle.std.specs.List.{concat, flat_map}
 use Rattle.patch_bytes.specs.declared.number.Wide.{Wide}
 use Rattle.patch_bytes.specs.declared.number.Wide.TheVariants.{W32, W64}
 use Rattle.patch_bytes.specs.Bytes.{AreBytes}
 use Rattle.patch_bytes.specs.Number.{bytes_of, field, number_at}
-use Rattle.patch_bytes.proofs.NumberLaws.{AreBytes-append, AreBytes-bytes_of, AreBytes-drop, AreBytes-take, bytes_of-number_at}
-use Rattle.macho_image.specs.Stored.{Fits, IsStored, fields_behind}
+use Rattle.patch_bytes.proofs.NumberLaws.{bytes_of-number_at}
+use Rattle.macho_image.specs.Stored.{Fits, IsStored}
 use Rattle.macho_image.specs.declared.format.Ctx.{Ctx}
-use Rattle.macho_image.specs.Checks.{area_fault, file_fault}
+use Rattle.macho_image.specs.Checks.{file_fault}
 use Rattle.macho_image.specs.Command.{contents_of}
 use Rattle.macho_image.specs.Commands.{commands_of, cut_commands, first_content_of, least, load_commands_of, located_commands}
 use Rattle.macho_image.specs.File.{IsFile}

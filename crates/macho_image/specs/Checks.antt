@@ -1,6 +1,7 @@
 -- The checks of a thin file, in their order: the first that fails.
 use Rattle.std.specs.Prelude.{ℕ, ◌-◌, ◌^◌, ◌||◌, ◌&&◌, zero, suc, nat_lt, List, [], ◌∷◌, length, take, drop, Option, Some, None, if◌then◌else◌}
 use Rattle.patch_bytes.specs.declared.number.ByteOrder2.{ByteOrder2}
+use Rattle.macho_image.specs.declared.command.TheConstants.{LOAD_COMMAND_SIZE}
 use Rattle.macho_image.specs.declared.format.Ctx.{Ctx}
 use Rattle.macho_image.specs.declared.format.MachFault.{MachFault}
 use Rattle.macho_image.specs.declared.format.MachFault.TheVariants.{BadCommandSize, BadMagic, BadNameOffset, CountsDisagree, TooLong, Truncated}
@@ -21,8 +22,8 @@ fields_fault order c =
 -- the checks of the command at the head of what is left of the area
 unfoldable pub command_fault : ByteOrder2 → List ℕ → Option MachFault
 command_fault order rest =
-    if nat_lt (length rest) 8 then Some BadCommandSize
-    else (if nat_lt (cmdsize_of order rest) 8 || nat_lt (length rest) (cmdsize_of order rest) then Some BadCommandSize
+    if nat_lt (length rest) LOAD_COMMAND_SIZE then Some BadCommandSize
+    else (if nat_lt (cmdsize_of order rest) LOAD_COMMAND_SIZE || nat_lt (length rest) (cmdsize_of order rest) then Some BadCommandSize
     else fields_fault order (take (cmdsize_of order rest) rest))
 
 -- the checks of n commands that are to fill an area

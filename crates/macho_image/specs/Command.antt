@@ -99,7 +99,7 @@ least_size order c =
 -- what it is to be a load command: it says its own length, has the fixed part of its kind with its
 -- sections, and where it holds a text, this begins inside it or at its end
 pub record IsCommand (order : ByteOrder2) (c : List ℕ) : Type 0 where
-  pub header : 8 ≤ length c
+  pub header : LOAD_COMMAND_SIZE ≤ length c
   pub says_size : cmdsize_of order c ≡ length c
   pub has_fixed_part : least_size order c ≤ length c
   pub has_text : IsTrue (is_text_kind (cmd_of order c)) → text_offset order c ≤ length c

@@ -5,7 +5,7 @@ use Rattle.std.specs.List.{list_any}
 use Rattle.patch_bytes.specs.declared.number.ByteOrder2.TheVariants.{Big}
 use Rattle.patch_bytes.specs.Number.{number_at}
 use Rattle.macho_image.specs.declared.fat.FatArch.{FatArch}
-use Rattle.macho_image.specs.declared.fat.TheConstants.{FAT_MAGIC}
+use Rattle.macho_image.specs.declared.fat.TheConstants.{FAT_ARCH_SIZE, FAT_HEADER_SIZE, FAT_MAGIC}
 use Rattle.macho_image.specs.declared.format.MachFault.{MachFault}
 use Rattle.macho_image.specs.declared.format.MachFault.TheVariants.{BadMagic, SliceOutside, SlicesOverlap, TooLong, Truncated}
 
@@ -17,9 +17,9 @@ has_fat_magic bytes = number_at Big 4 0 bytes == FAT_MAGIC
 abbrev pub nfat_arch_of : List ℕ → ℕ
 nfat_arch_of bytes = number_at Big 4 4 bytes
 
--- where a table of n slices ends: behind the header of 8 bytes, 20 bytes for each
+-- where a table of n slices ends: behind the header, with a record for each
 abbrev pub table_end : ℕ → ℕ
-table_end n = 8 + 20 * n
+table_end n = FAT_HEADER_SIZE + FAT_ARCH_SIZE * n
 
 -- the record at the head of what is left of the table
 abbrev pub arch_of : List ℕ → FatArch
@@ -34,11 +34,11 @@ arch_of rest = record {
 -- the first n records of a table
 abbrev pub table : ℕ → List ℕ → List FatArch
 table zero rest = []
-table (suc n) rest = arch_of rest ∷ table n (drop 20 rest)
+table (suc n) rest = arch_of rest ∷ table n (drop FAT_ARCH_SIZE rest)
 
 -- the slices of a fat file
 unfoldable pub archs_of : List ℕ → List FatArch
-archs_of bytes = table (nfat_arch_of bytes) (drop 8 bytes)
+archs_of bytes = table (nfat_arch_of bytes) (drop FAT_HEADER_SIZE bytes)
 
 -- a slice that ends past a file of this length, or begins before the table's end
 abbrev pub is_outside : ℕ → ℕ → FatArch → Bool
@@ -66,7 +66,7 @@ table_fault bytes =
     if nat_lt (2 ^ 32 - 1) (length bytes) then Some TooLong
     else (if nat_lt (length bytes) 4 then Some Truncated
     else (if not (has_fat_magic bytes) then Some BadMagic
-    else (if nat_lt (length bytes) 8 then Some Truncated
+    else (if nat_lt (length bytes) FAT_HEADER_SIZE then Some Truncated
     else (if nat_lt (length bytes) (table_end (nfat_arch_of bytes)) then Some Truncated
     else slices_fault (length bytes) (archs_of bytes)))))
 

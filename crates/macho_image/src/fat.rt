@@ -12,11 +12,11 @@ use std::alloc::{AllocError, Global};
 /// the table do.
 pub const FAT_MAGIC: u32 = 0xcafe_babe;
 
-// The bytes of `fat_header`, behind which the table stands.
-const HEADER_SIZE: usize = 8;
+/// The bytes of `fat_header`, behind which the table stands.
+pub const FAT_HEADER_SIZE: usize = 8;
 
-// The bytes of a record of the table.
-const RECORD_SIZE: usize = 20;
+/// The bytes of a record of the table, `fat_arch`.
+pub const FAT_ARCH_SIZE: usize = 20;
 
 /// `fat_arch` of fat.h: a slice of a fat file.
 #[derive(Clone, Copy, Debug, PartialEq, Eq)]
@@ -76,14 +76,14 @@ pub fn fat_archs(alloc: Global, bytes: &[u8]) -> Result<Vec<FatArch>, MachFault>
     if !is_fat(bytes) {
         return Err(MachFault::BadMagic);
     }
-    if bytes.len() < HEADER_SIZE {
+    if bytes.len() < FAT_HEADER_SIZE {
         return Err(MachFault::Truncated);
     }
     let count = number32(bytes, 4, ByteOrder2::Big) as usize;
     if bytes.len() < table_end(count) {
         return Err(MachFault::Truncated);
     }
-    let archs = read_table(alloc, count, &bytes[HEADER_SIZE..])?;
+    let archs = read_table(alloc, count, &bytes[FAT_HEADER_SIZE..])?;
     check_slices(alloc, bytes.len(), &archs)?;
     Ok(archs)
 }
@@ -93,26 +93,26 @@ fn table_end(count: usize) -> usize
     requires { count < 2 ^ 32 }
     ensures { result ≡ table_end count }
 {
-    HEADER_SIZE + RECORD_SIZE * count
+    FAT_HEADER_SIZE + FAT_ARCH_SIZE * count
 }
 
 // The first `count` records of a table, or `Memory`.
 fn read_table(alloc: Global, count: usize, bytes: &[u8]) -> Result<Vec<FatArch>, AllocError>
-    requires { 20 * count ≤ length bytes.now }
+    requires { FAT_ARCH_SIZE * count ≤ length bytes.now }
     ensures { IfOk result (λ archs. archs.items ≡ table count bytes.now) }
 {
     let mut archs = Vec::new(alloc);
     let mut rest = bytes;
     for _i in 0..count {
         archs.push(read_arch(rest))?;
-        rest = &rest[RECORD_SIZE..];
+        rest = &rest[FAT_ARCH_SIZE..];
     }
     Ok(archs)
 }
 
 // The record at the head of what is left of a table.
 fn read_arch(rest: &[u8]) -> FatArch
-    requires { 20 ≤ length rest.now }
+    requires { FAT_ARCH_SIZE ≤ length rest.now }
     ensures { result ≡ arch_of rest.now }
 {
     FatArch {

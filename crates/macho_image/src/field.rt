@@ -2,7 +2,7 @@ ghost use Rattle.std.specs.Prelude.{◌≡◌, ◌+◌, ◌≤◌, length};
 ghost use Rattle.patch_bytes.specs.Number.{number_at, word_size};
 ghost use Rattle.macho_image.specs.Command.{dylib_of};
 
-use crate::command::{Dylib, DylibCommand};
+use crate::command::{DYLIB_COMMAND_SIZE, Dylib, DylibCommand};
 use patch_bytes::{ByteOrder2, Wide, read_u32_at, read_word_at};
 
 /// The 32-bit number at a position where its 4 bytes lie in the bytes. Takes no memory.
@@ -24,7 +24,7 @@ pub fn word(bytes: &[u8], pos: usize, wide: Wide, order: ByteOrder2) -> u64
 /// The fields of a library command, of which the fixed part is there (loader.h, `dylib_command`). Takes no
 /// memory.
 pub fn dylib_of(order: ByteOrder2, command: &[u8]) -> DylibCommand
-    requires { 24 ≤ length command.now }
+    requires { DYLIB_COMMAND_SIZE ≤ length command.now }
     ensures { result ≡ dylib_of order command.now }
 {
     DylibCommand {

@@ -18,7 +18,7 @@ use patch_bytes::ByteOrder2;
 // The least size of a command of its kind.
 #[tactic(auto, unfolding(crate::specs::Command::least_size))]
 fn least_size(order: ByteOrder2, command: &[u8]) -> usize
-    requires { 8 ≤ length command.now }
+    requires { LOAD_COMMAND_SIZE ≤ length command.now }
     ensures { result ≡ least_size order command.now }
 {
     let cmd = number32(command, 0, order);
@@ -40,7 +40,7 @@ fn least_size(order: ByteOrder2, command: &[u8]) -> usize
 // Checks a command that has as many bytes as it says.
 #[tactic(auto, using(crate::proofs::CommandLaws::least_sizes), unfolding(crate::specs::Checks::fields_fault))]
 fn check_fields(order: ByteOrder2, command: &[u8]) -> Result<(), MachFault>
-    requires { 8 ≤ length command.now }
+    requires { LOAD_COMMAND_SIZE ≤ length command.now }
     ensures { MatchResult result
         (λ _. fields_fault order command.now ≡ None)
         (λ e. fields_fault order command.now ≡ Some e) }
@@ -79,7 +79,7 @@ pub(crate) fn check_command(order: ByteOrder2, rest: &[u8]) -> Result<&[u8], Mac
 
 // What every command begins with.
 fn read_command_header(order: ByteOrder2, command: &[u8]) -> LoadCommandHeader
-    requires { 8 ≤ length command.now }
+    requires { LOAD_COMMAND_SIZE ≤ length command.now }
     ensures { result ≡ command_header_of order command.now }
 {
     LoadCommandHeader {

@@ -1,13 +1,14 @@
 ghost use Rattle.std.specs.Prelude.{◌≡◌, ◌≤◌, ◌==◌, length, position};
 ghost use Rattle.macho_image.specs.Command.{before_nul, text_of};
 
+use crate::command::RPATH_COMMAND_SIZE;
 use crate::field::number32;
 use patch_bytes::ByteOrder2;
 
 /// The text of a load command that holds one: from its offset to the first NUL or the command's end
 /// (loader.h, `lc_str`). Takes no memory.
 pub fn command_text(order: ByteOrder2, command: &[u8]) -> &[u8]
-    requires { 12 ≤ length command.now }
+    requires { RPATH_COMMAND_SIZE ≤ length command.now }
     ensures { result.now ≡ text_of order command.now }
 {
     let offset = number32(command, 8, order) as usize;

@@ -4,9 +4,8 @@ use Rattle.std.proofs.Common.{◌≡◌, ◌≤◌, ℕ, zero, suc, ◌+◌, Lis
 use Rattle.std.specs.Prelude.{slice_get}
 use Rattle.std.proofs.lemmas.Option.{none-some, slice_get-get_or}
 use Rattle.std.proofs.lemmas.Bool.{cond_both}
-use Rattle.patch_bytes.specs.declared.number.ByteOrder2.{ByteOrder2}
-use Rattle.patch_bytes.specs.Number.{field, value_of}
-use Rattle.patch_bytes.specs.Memory.{◌>>=◌, Agrees, Keeps, Memory, bytes_at, first_places, memory_of, number_in, text_at}
+use Rattle.patch_bytes.specs.Number.{field}
+use Rattle.patch_bytes.specs.Memory.{◌>>=◌, Agrees, Keeps, Memory, bytes_at, first_places, memory_of, text_at}
 
 -- what it takes that one step after another gives a value
 pub bind_some : {A B : Type 0} → (o : Option A) (f : A → Option B) (y : B) → (o >>= f) ≡ Some y → (x : A) × (o ≡ Some x) × (f x ≡ Some y)

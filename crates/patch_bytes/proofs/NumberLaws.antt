@@ -1,7 +1,7 @@
 -- The laws of numbers that stand in lists of bytes: where they stand, what bound they have, and that
 -- the bytes of a number and the number of bytes undo each other.
 use Rattle.std.proofs.Common.{◌≡◌, ◌≤◌, ◌<◌, ℕ, zero, suc, ◌+◌, ◌*◌, ◌-◌, ◌/◌, ◌^◌, List, [], ◌∷◌, ◌++◌, length, take, drop, get_or, refl, sym, ap, ◌∙◌, subst, arith}
-use Rattle.std.proofs.Math.Nat.{add-zero, mod-lt, pow-suc, mul-le-mul_right}
+use Rattle.std.proofs.Math.Nat.{mod-lt, pow-suc, mul-le-mul_right}
 use Rattle.std.proofs.lemmas.List.{append-nil, drop-append-le, drop-drop, drop-take, drop_at, get_or-drop, length-append, length-drop, length-take-le, take-append-le, take-take, take_at}
 use Rattle.std.proofs.lemmas.Nat.{div-mul-add}
 use Rattle.std.specs.Int.{byte_at, bytes_high_first, bytes_low_first}

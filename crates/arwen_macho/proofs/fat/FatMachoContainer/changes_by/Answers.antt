@@ -1,4 +1,4 @@
-use Rattle.std.proofs.Common.{◌≡◌, List, map, Ok, Vec, Global, subst}
+use Rattle.std.proofs.Common.{List, map, Vec, Global, subst}
 use Rattle.std.specs.List.{AllZip}
 use Rattle.std.proofs.lemmas.Result.{IfErr-weaker, IfOk-weaker}
 use Rattle.arwen_macho.specs.declared.change.Change.{Change}

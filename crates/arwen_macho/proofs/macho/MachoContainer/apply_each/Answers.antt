@@ -1,6 +1,6 @@
 -- The next batch, its answer and what it leaves go behind those before it.
-use Rattle.std.proofs.Common.{◌≡◌, ◌+◌, List, [], ◌∷◌, ◌++◌, Result, take, ap, sym, ◌∙◌, subst, arith}
-use Rattle.std.proofs.lemmas.List.{map_more}
+use Rattle.std.proofs.Common.{◌≡◌, ◌+◌, List, [], ◌∷◌, ◌++◌, Result, take, ap, refl, sym, ◌∙◌, subst, arith}
+use Rattle.std.proofs.lemmas.List.{map_more, take_all}
 use Rattle.std.specs.declared.alloc.Global.{Global}
 use Rattle.std.specs.declared.vec.Vec.{Vec}
 use Rattle.arwen_macho.specs.declared.batch.MachoBatchError.{MachoBatchError}
@@ -42,3 +42,21 @@ loop-batch-preserved c =
       answers = subst Answers (sym c.push_reserved.ensures.items) (subst All (sym next) all);
       left = subst Afters (sym c.push_reserved.ensures.items) (subst After (sym next) left);
     }
+
+pub loop-batch-init : goal.loop-batch-init
+loop-batch-init c =
+    let none = c.in_ok-answers.ensures.items in
+    let All : List (Result (Unit {0}) MachoBatchError) → Type 0 = λ answers. AnswersAll [] answers c.args.self.now in
+    record { count = c.in_ok-answers.ensures.len; room = c.in_ok-answers.ensures.capacity; answers = subst All (sym none) tt; left = refl }
+
+pub returns-clause-answers : goal.returns-clause-answers
+returns-clause-answers c =
+    let xs = c.args.batches.now in
+    let Answered : List (Vec MachoEdit Global) → Type 0 = λ l. AnswersAll (all_calls l) c.loop-batch.answers.items c.args.self.now in
+    subst Answered (take_all c.loop-batch.batch-index xs (omega arith)) c.loop-batch.invariant.answers
+
+pub returns-clause-left : goal.returns-clause-left
+returns-clause-left c =
+    let xs = c.args.batches.now in
+    let Left : List (Vec MachoEdit Global) → Type 0 = λ l. c.loop-batch.self ≡ left_by_all (all_calls l) c.loop-batch.answers.items c.args.self.now in
+    subst Left (take_all c.loop-batch.batch-index xs (omega arith)) c.loop-batch.invariant.left
