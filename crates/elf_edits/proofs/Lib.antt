@@ -1,0 +1,6 @@
+pub mod Computing
+pub mod ListLaws
+pub mod EntryLaws
+pub mod TwiceLaws
+pub mod ShownLaws
+pub mod BatchLaws

@@ -1,0 +1,10 @@
+pub mod Texts
+pub mod Edit
+pub mod Shrunk
+pub mod Entries
+pub mod Abi
+pub mod Cause
+pub mod Edited
+pub mod Batch
+pub mod Laws
+pub mod Rows
