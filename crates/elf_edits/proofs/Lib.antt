@@ -4,3 +4,4 @@ pub mod EntryLaws
 pub mod TwiceLaws
 pub mod ShownLaws
 pub mod BatchLaws
+pub mod StepLaws

@@ -6,5 +6,7 @@ pub mod Abi
 pub mod Cause
 pub mod Edited
 pub mod Batch
+pub mod Called
+pub mod Steps
 pub mod Laws
 pub mod Rows

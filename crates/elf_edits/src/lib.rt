@@ -1,6 +1,12 @@
 //! Edits of what an ELF file shows: what each one means, why one is refused, and the dynamic list after it.
 #![tactic(auto)]
 
+pub mod call;
 pub mod constants;
+mod entries;
 pub mod laws;
 pub mod rows;
+pub mod shrink;
+
+pub use crate::call::{EditCall, ElfEdit};
+pub use crate::shrink::{ProbeAnswer, Reason, Removed};
