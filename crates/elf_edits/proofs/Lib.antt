@@ -5,3 +5,4 @@ pub mod TwiceLaws
 pub mod ShownLaws
 pub mod BatchLaws
 pub mod StepLaws
+pub mod CodeLaws

@@ -9,7 +9,7 @@ use Rattle.elf_edits.specs.declared.call.EditCall.TheVariants as calls
 use Rattle.elf_edits.specs.declared.call.ElfEdit.{ElfEdit}
 use Rattle.elf_edits.specs.declared.call.ElfEdit.TheVariants as edits
 use Rattle.elf_edits.specs.declared.shrink.ProbeAnswer.{ProbeAnswer}
-use Rattle.elf_edits.specs.Edit.{Answer, Edit, AddDebugEntry, AddNeeded, AddRunPath, ClearExecStack, DeleteNeeded, DeleteRunPath, NoDefaultLibrary, ReplaceNeeded, SetExecStack, SetInterpreter, SetOsAbi, SetPageSize, SetRunPath, SetSoname, ShrinkRunPath, UseRpath, UseRunpath}
+use Rattle.elf_edits.specs.Edit.{Answer, Edit, AddDebugEntry, AddNeeded, AddRunPath, ClearExecStack, DeleteNeeded, DeleteRunPath, NoDefaultLibrary, ReplaceNeeded, SetExecStack, SetInterpreter, SetOsAbi, SetPageSize, SetRunPath, SetSoname, UseRpath, UseRunpath}
 
 abbrev pub Bytes : Type 0
 Bytes = Vec ℕ Global
@@ -31,6 +31,7 @@ unfoldable pub pairs_of_map : List (Bytes × Bytes) → List (List ℕ × List �
 pairs_of_map [] = []
 pairs_of_map (pair ∷ pairs) = pairs_of_map pairs ++ pair_held pair ∷ []
 
+-- an answer of a probe
 abbrev pub answer_held : ProbeAnswer → Answer
 answer_held a = record { directory = a.directory; needed = a.needed; machine = a.machine }
 
@@ -46,7 +47,6 @@ call_meant (calls.ReplaceNeeded names) = ReplaceNeeded (pairs_of_map names.now.e
 call_meant (calls.AddNeeded names) = AddNeeded (texts_held names.now)
 call_meant (calls.SetSoname text) = SetSoname text.now
 call_meant calls.NoDefaultLibrary = NoDefaultLibrary
-call_meant (calls.ShrinkRunPath prefixes answers) = ShrinkRunPath (texts_held prefixes.now) (map answer_held answers.now)
 call_meant (calls.SetInterpreter bytes) = SetInterpreter bytes.now
 call_meant (calls.SetOsAbi name) = SetOsAbi name.now
 call_meant calls.ClearExecStack = ClearExecStack

@@ -25,7 +25,16 @@ directories_in text = slice_split (λ byte. byte == COLON) text
 abbrev pub joined : List (List ℕ) → List ℕ
 joined directories = join_with_byte COLON directories
 
+-- each text behind a colon
+abbrev pub behind_colons : List (List ℕ) → List ℕ
+behind_colons [] = []
+behind_colons (text ∷ texts) = COLON ∷ text ++ behind_colons texts
+
 -- the list has an element
 abbrev pub has_some : {A : Type 0} → List A → Bool
 has_some [] = false
 has_some (x ∷ xs) = true
+
+abbrev pub first_in : {A : Type 0} → List A → Option A
+first_in [] = None
+first_in (x ∷ xs) = Some x

@@ -1,6 +1,5 @@
 //! The edits as they are called for: with values that are lent, and with values that are owned.
 
-use crate::shrink::ProbeAnswer;
 use std::collections::{HashMap, HashSet};
 
 /// An edit of what an ELF file shows, with the values of one call. Texts are bytes without a NUL; they are compared
@@ -30,8 +29,6 @@ pub enum EditCall<'e> {
     SetSoname(&'e [u8]),
     /// Sets DF_1_NODEFLIB in every DT_FLAGS_1; without one, puts one last.
     NoDefaultLibrary,
-    /// Takes the directories out of run paths that no prefix begins, or in which no needed library was found.
-    ShrinkRunPath(&'e [Vec<u8>], &'e [ProbeAnswer<'e>]),
     /// Sets the interpreter's bytes (gABI, Program Interpreter), with a NUL behind them unless they are empty or end
     /// with one.
     SetInterpreter(&'e [u8]),

@@ -4,6 +4,8 @@
 pub mod call;
 pub mod constants;
 mod entries;
+pub mod list;
+mod texts;
 pub mod laws;
 pub mod rows;
 pub mod shrink;
