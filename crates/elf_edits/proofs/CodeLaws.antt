@@ -20,7 +20,7 @@ pub among-held : (keys : List Bytes) (text : List ℕ) → is_among (texts_held 
 among-held [] text = refl
 among-held (k ∷ keys) text = ap (λ b. bytes_eq text k.items || b) (among-held keys text)
 
-or_none : (b : Bool) → (b || false) ≡ b
+pub or_none : (b : Bool) → (b || false) ≡ b
 or_none true = refl
 or_none false = refl
 

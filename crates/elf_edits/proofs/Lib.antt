@@ -6,3 +6,4 @@ pub mod ShownLaws
 pub mod BatchLaws
 pub mod StepLaws
 pub mod CodeLaws
+pub mod ListSteps

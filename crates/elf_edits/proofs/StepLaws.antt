@@ -28,18 +28,18 @@ some_dropped : (test : Entry → Bool) (es : List Entry) → filter_map (λ e. i
 some_dropped test [] = refl
 some_dropped test (e ∷ es) = by_test (test e)
     (λ holds. ap (λ o. cons_option o (filter_map (λ e. if test e then None else Some e) es)) (cond-true (test e) None (Some e) holds) ∙ some_dropped test es
-      ∙ sym (cond-false (not (test e)) (e ∷ filter (λ x. not (test x)) es) (filter (λ x. not (test x)) es) (ap not holds)))
+    ∙ sym (cond-false (not (test e)) (e ∷ filter (λ x. not (test x)) es) (filter (λ x. not (test x)) es) (ap not holds)))
     (λ fails. ap (λ o. cons_option o (filter_map (λ e. if test e then None else Some e) es)) (cond-false (test e) None (Some e) fails) ∙ ap (λ l. e ∷ l) (some_dropped test es)
-      ∙ sym (cond-true (not (test e)) (e ∷ filter (λ x. not (test x)) es) (filter (λ x. not (test x)) es) (ap not fails)))
+    ∙ sym (cond-true (not (test e)) (e ∷ filter (λ x. not (test x)) es) (filter (λ x. not (test x)) es) (ap not fails)))
 
 -- entries that are changed, or one that is put last
 or_last : (test : Entry → Bool) (change : Entry → Entry) (added : Entry) (es : List Entry)
     → filter_map (λ e. Some (changed_if test change e)) es ++ unless_any test added es ≡ (if list_any test es then changed_where test change es else es ++ added ∷ [])
 or_last test change added es = ap (λ l. l ++ unless_any test added es) (all_changed test change es) ∙ by_test (list_any test es)
     (λ some. ap (λ (l : List Entry). changed_where test change es ++ l) (cond-true (list_any test es) [] (added ∷ []) some) ∙ append-nil (changed_where test change es)
-      ∙ sym (cond-true (list_any test es) (changed_where test change es) (es ++ added ∷ []) some))
+    ∙ sym (cond-true (list_any test es) (changed_where test change es) (es ++ added ∷ []) some))
     (λ none. ap (λ (l : List Entry). changed_where test change es ++ l) (cond-false (list_any test es) [] (added ∷ []) none) ∙ ap (λ l. l ++ added ∷ []) (changed_where_none test change es none)
-      ∙ sym (cond-false (list_any test es) (changed_where test change es) (es ++ added ∷ []) none))
+    ∙ sym (cond-false (list_any test es) (changed_where test change es) (es ++ added ∷ []) none))
 
 -- entries that stay, or one that is put last
 kept_or_last : (test : Entry → Bool) (added : Entry) (es : List Entry) → filter_map (λ e. Some e) es ++ unless_any test added es ≡ (if list_any test es then es else es ++ added ∷ [])

@@ -10,11 +10,9 @@ ghost use Rattle.elf_edits.specs.Texts.{value_of};
 
 use crate::call::EditCall;
 use crate::constants::DF_1_NODEFLIB;
-use elf_image::Dynamic;
-use elf_image::constants::{
-    DT_FLAGS_1, DT_NEEDED, DT_RPATH, DT_RUNPATH, DT_SONAME,
-};
 use crate::texts::with_added;
+use elf_image::Dynamic;
+use elf_image::constants::{DT_FLAGS_1, DT_NEEDED, DT_RPATH, DT_RUNPATH, DT_SONAME};
 use patch_bytes::ByteString;
 use std::alloc::{AllocError, Global};
 use std::collections::{HashMap, HashSet};
@@ -55,7 +53,11 @@ pub(crate) fn copied<'d>(alloc: Global, entry: &Dynamic<'d>) -> Result<Dynamic<'
 }
 
 // An entry with a text of its own.
-pub(crate) fn text_entry<'d>(alloc: Global, tag: u64, text: &[u8]) -> Result<Dynamic<'d>, AllocError>
+pub(crate) fn text_entry<'d>(
+    alloc: Global,
+    tag: u64,
+    text: &[u8],
+) -> Result<Dynamic<'d>, AllocError>
     ensures { IfOk result (λ made. entry_kept made ≡ text_of_tag tag text.now) }
 {
     let val = ByteString::owned(Vec::from_slice(alloc, text)?);
@@ -90,7 +92,11 @@ fn without_default<'d>(alloc: Global, entry: &Dynamic<'d>) -> Result<Dynamic<'d>
 }
 
 // The entry with each of some texts added to its own.
-fn with_directories_added<'d>(alloc: Global, entry: &Dynamic<'d>, texts: &[Vec<u8>]) -> Result<Dynamic<'d>, AllocError>
+fn with_directories_added<'d>(
+    alloc: Global,
+    entry: &Dynamic<'d>,
+    texts: &[Vec<u8>],
+) -> Result<Dynamic<'d>, AllocError>
     ensures { IfOk result (λ made. entry_kept made ≡ with_text_changed (with_each_added (texts_held texts.now)) (entry_kept entry.now)) }
 {
     match entry {
@@ -113,7 +119,11 @@ pub(crate) fn needs_one_of(entry: &Dynamic<'_>, names: &HashSet<Vec<u8>>) -> boo
 }
 
 // The text that a map has for a text, a copy of it.
-fn new_name<'d>(alloc: Global, names: &HashMap<Vec<u8>, Vec<u8>>, name: &ByteString<'d>) -> Result<ByteString<'d>, AllocError>
+fn new_name<'d>(
+    alloc: Global,
+    names: &HashMap<Vec<u8>, Vec<u8>>,
+    name: &ByteString<'d>,
+) -> Result<ByteString<'d>, AllocError>
     ensures { IfOk result (λ made. made ≡ unwrap_or (value_of (pairs_of_map names.now.entries) name.now) name.now) }
 {
     match names.get(name.as_slice()) {
@@ -123,7 +133,11 @@ fn new_name<'d>(alloc: Global, names: &HashMap<Vec<u8>, Vec<u8>>, name: &ByteStr
 }
 
 // The entry with the text that a map has for its own, if it has one.
-fn replaced<'d>(alloc: Global, entry: &Dynamic<'d>, names: &HashMap<Vec<u8>, Vec<u8>>) -> Result<Dynamic<'d>, AllocError>
+fn replaced<'d>(
+    alloc: Global,
+    entry: &Dynamic<'d>,
+    names: &HashMap<Vec<u8>, Vec<u8>>,
+) -> Result<Dynamic<'d>, AllocError>
     ensures { IfOk result (λ made. entry_kept made
         ≡ with_text_changed (λ name. unwrap_or (value_of (pairs_of_map names.now.entries) name) name) (entry_kept entry.now)) }
 {
@@ -156,17 +170,49 @@ pub(crate) fn is_dropped(call: &EditCall<'_>, entry: &Dynamic<'_>) -> bool
 
 // What becomes of an entry that is kept.
 #[tactic(auto, unfolding(crate::specs::Steps::changed_entry))]
-pub(crate) fn changed<'d>(alloc: Global, call: &EditCall<'_>, entry: &Dynamic<'d>) -> Result<Dynamic<'d>, AllocError>
+pub(crate) fn changed<'d>(
+    alloc: Global,
+    call: &EditCall<'_>,
+    entry: &Dynamic<'d>,
+) -> Result<Dynamic<'d>, AllocError>
     ensures { IfOk result (λ made. entry_kept made ≡ changed_entry (call_meant call.now) (entry_kept entry.now)) }
 {
     match call {
-        EditCall::SetRunPath(text) => if is_run_path(entry) { with_text(alloc, entry, text) } else { copied(alloc, entry) },
-        EditCall::AddRunPath(texts) => if is_run_path(entry) { with_directories_added(alloc, entry, texts) } else { copied(alloc, entry) },
-        EditCall::UseRunpath => if has_tag(entry, DT_RPATH) { with_tag(alloc, DT_RUNPATH, entry) } else { copied(alloc, entry) },
-        EditCall::UseRpath => if has_tag(entry, DT_RUNPATH) { with_tag(alloc, DT_RPATH, entry) } else { copied(alloc, entry) },
-        EditCall::ReplaceNeeded(names) => if has_tag(entry, DT_NEEDED) { replaced(alloc, entry, names) } else { copied(alloc, entry) },
-        EditCall::SetSoname(text) => if has_tag(entry, DT_SONAME) { with_text(alloc, entry, text) } else { copied(alloc, entry) },
-        EditCall::NoDefaultLibrary => if has_tag(entry, DT_FLAGS_1) { without_default(alloc, entry) } else { copied(alloc, entry) },
+        EditCall::SetRunPath(text) => if is_run_path(entry) {
+            with_text(alloc, entry, text)
+        } else {
+            copied(alloc, entry)
+        },
+        EditCall::AddRunPath(texts) => if is_run_path(entry) {
+            with_directories_added(alloc, entry, texts)
+        } else {
+            copied(alloc, entry)
+        },
+        EditCall::UseRunpath => if has_tag(entry, DT_RPATH) {
+            with_tag(alloc, DT_RUNPATH, entry)
+        } else {
+            copied(alloc, entry)
+        },
+        EditCall::UseRpath => if has_tag(entry, DT_RUNPATH) {
+            with_tag(alloc, DT_RPATH, entry)
+        } else {
+            copied(alloc, entry)
+        },
+        EditCall::ReplaceNeeded(names) => if has_tag(entry, DT_NEEDED) {
+            replaced(alloc, entry, names)
+        } else {
+            copied(alloc, entry)
+        },
+        EditCall::SetSoname(text) => if has_tag(entry, DT_SONAME) {
+            with_text(alloc, entry, text)
+        } else {
+            copied(alloc, entry)
+        },
+        EditCall::NoDefaultLibrary => if has_tag(entry, DT_FLAGS_1) {
+            without_default(alloc, entry)
+        } else {
+            copied(alloc, entry)
+        },
         _ => copied(alloc, entry),
     }
 }

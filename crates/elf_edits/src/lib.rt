@@ -4,11 +4,11 @@
 pub mod call;
 pub mod constants;
 mod entries;
-pub mod list;
-mod texts;
 pub mod laws;
+pub mod list;
 pub mod rows;
 pub mod shrink;
+mod texts;
 
 pub use crate::call::{EditCall, ElfEdit};
 pub use crate::shrink::{ProbeAnswer, Reason, Removed};

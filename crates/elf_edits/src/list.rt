@@ -75,7 +75,10 @@ pub(crate) fn needed_name<'e>(entry: &'e Dynamic<'_>) -> Option<&'e [u8]>
 }
 
 // The names of the libraries that are needed.
-fn needed_set<'e>(alloc: Global, entries: &'e [Dynamic<'_>]) -> Result<HashSet<&'e [u8]>, AllocError>
+fn needed_set<'e>(
+    alloc: Global,
+    entries: &'e [Dynamic<'_>],
+) -> Result<HashSet<&'e [u8]>, AllocError>
     ensures { IfOk result (λ set. (name : List ℕ) →
         list_any (λ k. bytes_eq name k.now) (keys set) ≡ is_among (needed_names (map entry_kept entries.now)) name) }
 {
@@ -89,7 +92,11 @@ fn needed_set<'e>(alloc: Global, entries: &'e [Dynamic<'_>]) -> Result<HashSet<&
 }
 
 // The entries for names that are not needed yet.
-fn added_needed<'d>(alloc: Global, names: &[Vec<u8>], entries: &[Dynamic<'_>]) -> Result<Vec<Dynamic<'d>>, AllocError>
+fn added_needed<'d>(
+    alloc: Global,
+    names: &[Vec<u8>],
+    entries: &[Dynamic<'_>],
+) -> Result<Vec<Dynamic<'d>>, AllocError>
     ensures { IfOk result (λ made. map entry_kept made.items
         ≡ map (text_of_tag DT_NEEDED) (not_needed_yet (texts_held names.now) (map entry_kept entries.now))) }
 {
@@ -104,7 +111,11 @@ fn added_needed<'d>(alloc: Global, names: &[Vec<u8>], entries: &[Dynamic<'_>]) -
 }
 
 // What is put before all entries.
-fn put_first<'d>(alloc: Global, call: &EditCall<'_>, entries: &[Dynamic<'_>]) -> Result<Vec<Dynamic<'d>>, AllocError>
+fn put_first<'d>(
+    alloc: Global,
+    call: &EditCall<'_>,
+    entries: &[Dynamic<'_>],
+) -> Result<Vec<Dynamic<'d>>, AllocError>
     ensures { IfOk result (λ made. map entry_kept made.items ≡ put_before (call_meant call.now) (map entry_kept entries.now)) }
 {
     match call {
@@ -114,15 +125,45 @@ fn put_first<'d>(alloc: Global, call: &EditCall<'_>, entries: &[Dynamic<'_>]) ->
 }
 
 // What is put behind all entries.
-fn last_entry<'d>(alloc: Global, call: &EditCall<'_>, entries: &[Dynamic<'_>]) -> Result<Option<Dynamic<'d>>, AllocError>
+fn last_entry<'d>(
+    alloc: Global,
+    call: &EditCall<'_>,
+    entries: &[Dynamic<'_>],
+) -> Result<Option<Dynamic<'d>>, AllocError>
     ensures { IfOk result (λ made. map entry_kept (option_to_list made) ≡ put_last (call_meant call.now) (map entry_kept entries.now)) }
 {
     match call {
-        EditCall::AddDebugEntry => if any_with_tag(entries, DT_DEBUG) { Ok(None) } else { Ok(Some(Dynamic::Integer { tag: DT_DEBUG, val: 0 })) },
-        EditCall::SetRunPath(text) => if any_run_path(entries) { Ok(None) } else { own_text(alloc, DT_RUNPATH, text) },
-        EditCall::AddRunPath(texts) => if any_run_path(entries) { Ok(None) } else { joined_texts(alloc, texts) },
-        EditCall::SetSoname(text) => if any_with_tag(entries, DT_SONAME) { Ok(None) } else { own_text(alloc, DT_SONAME, text) },
-        EditCall::NoDefaultLibrary => if any_with_tag(entries, DT_FLAGS_1) { Ok(None) } else { Ok(Some(Dynamic::Integer { tag: DT_FLAGS_1, val: DF_1_NODEFLIB })) },
+        EditCall::AddDebugEntry => if any_with_tag(entries, DT_DEBUG) {
+            Ok(None)
+        } else {
+            Ok(Some(Dynamic::Integer {
+                tag: DT_DEBUG,
+                val: 0,
+            }))
+        },
+        EditCall::SetRunPath(text) => if any_run_path(entries) {
+            Ok(None)
+        } else {
+            own_text(alloc, DT_RUNPATH, text)
+        },
+        EditCall::AddRunPath(texts) => if any_run_path(entries) {
+            Ok(None)
+        } else {
+            joined_texts(alloc, texts)
+        },
+        EditCall::SetSoname(text) => if any_with_tag(entries, DT_SONAME) {
+            Ok(None)
+        } else {
+            own_text(alloc, DT_SONAME, text)
+        },
+        EditCall::NoDefaultLibrary => if any_with_tag(entries, DT_FLAGS_1) {
+            Ok(None)
+        } else {
+            Ok(Some(Dynamic::Integer {
+                tag: DT_FLAGS_1,
+                val: DF_1_NODEFLIB,
+            }))
+        },
         _ => Ok(None),
     }
 }
@@ -139,12 +180,19 @@ fn joined_texts<'d>(alloc: Global, texts: &[Vec<u8>]) -> Result<Option<Dynamic<'
     ensures { IfOk result (λ made. option_map entry_kept made ≡ some (text_of_tag DT_RUNPATH (joined_by_colons (texts_held texts.now)))) }
 {
     let text = joined(alloc, texts)?;
-    Ok(Some(Dynamic::Text { tag: DT_RUNPATH, val: ByteString::owned(text) }))
+    Ok(Some(Dynamic::Text {
+        tag: DT_RUNPATH,
+        val: ByteString::owned(text),
+    }))
 }
 
 /// The dynamic list after an edit. Texts that are lent stay lent, those that the edit writes are owned. Error:
 /// `AllocError`.
-pub fn edited<'d>(alloc: Global, call: &EditCall<'_>, entries: &[Dynamic<'d>]) -> Result<Vec<Dynamic<'d>>, AllocError>
+pub fn edited<'d>(
+    alloc: Global,
+    call: &EditCall<'_>,
+    entries: &[Dynamic<'d>],
+) -> Result<Vec<Dynamic<'d>>, AllocError>
     ensures { IfOk result (λ made. (machine : ℕ) →
         map entry_kept made.items ≡ edited_entries machine (call_meant call.now) (map entry_kept entries.now)) }
 {

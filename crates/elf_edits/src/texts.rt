@@ -18,7 +18,11 @@ fn put_directories(text: &mut Vec<u8>, added: &[u8]) -> Result<(), AllocError>
 }
 
 // A run path with each of some texts added in turn.
-pub(crate) fn with_added(alloc: Global, text: &[u8], texts: &[Vec<u8>]) -> Result<Vec<u8>, AllocError>
+pub(crate) fn with_added(
+    alloc: Global,
+    text: &[u8],
+    texts: &[Vec<u8>],
+) -> Result<Vec<u8>, AllocError>
     ensures { IfOk result (λ made. made.items ≡ with_each_added (texts_held texts.now) text.now) }
 {
     let mut made = Vec::from_slice(alloc, text)?;

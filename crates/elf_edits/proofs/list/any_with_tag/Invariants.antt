@@ -4,6 +4,6 @@ use Rattle.elf_image.specs.ImageSeen.{entry_kept}
 use Rattle.elf_edits.specs.Entries.{has_tag}
 use Rattle.elf_edits.proofs.list.any_with_tag.Given as goal
 
--- no entry so far has one
+-- no entry so far has it
 abbrev pub invariant-loop-entry : goal.invariant-loop-entry
-invariant-loop-entry l = list_any has_tag (map entry_kept l.entries) ≡ list_any (has_tag l.tag) (map entry_kept (drop l.entry-index l.entries))
+invariant-loop-entry l = list_any (has_tag l.tag) (map entry_kept l.entries) ≡ list_any (has_tag l.tag) (map entry_kept (drop l.entry-index l.entries))
