@@ -1,5 +1,5 @@
 -- Steps of the code: sets, maps and texts as it holds them.
-use Rattle.std.proofs.Common.{◌≡◌, ℕ, ◌+◌, ◌<◌, ◌≤◌, Bool, true, false, cond, ◌||◌, List, [], ◌∷◌, ◌++◌, length, drop, get_or, suc, refl, sym, ap, ◌∙◌, Option, Some, None, option_map, add-one, drop-cons, arith}
+use Rattle.std.proofs.Common.{◌≡◌, ℕ, ◌+◌, ◌<◌, ◌≤◌, Bool, true, false, cond, ◌||◌, List, [], ◌∷◌, ◌++◌, length, drop, get_or, suc, refl, sym, ap, ◌∙◌, Option, Some, None, is_some, option_map, add-one, drop-cons, arith}
 use Rattle.std.specs.Prelude.{if◌then◌else◌, ◌==◌, unwrap_or}
 use Rattle.std.specs.List.{list_any}
 use Rattle.std.specs.Str.{bytes_eq}
@@ -11,7 +11,7 @@ use Rattle.elf_image.specs.Dynamic.{Entry, Text}
 use Rattle.elf_image.specs.Options.{first_there}
 use Rattle.elf_edits.specs.declared.constants.TheConstants.{COLON}
 use Rattle.elf_edits.specs.Called.{Bytes, bytes_of, pair_held, pairs_of_map, texts_held}
-use Rattle.elf_edits.specs.Entries.{has_tag, needs_one_of, with_directories, with_each_added}
+use Rattle.elf_edits.specs.Entries.{has_tag, is_replaced, needs_one_of, with_directories, with_each_added}
 use Rattle.elf_edits.specs.Texts.{behind_colons, is_among, joined, value_of}
 
 -- ## Sets
@@ -63,6 +63,16 @@ value_of-map (x ∷ pairs) text =
     ∙ ap (first_there (found_in text (pair_held x))) (value_of-map pairs text)
     ∙ found_or (bytes_eq text x.0.items) x.1.items (option_map bytes_of (lookup (λ (k : Bytes). bytes_eq text k.items) pairs))
     ∙ held_if (bytes_eq text x.0.items) x.1 (lookup (λ (k : Bytes). bytes_eq text k.items) pairs)
+
+is_some_held : (o : Option Bytes) → is_some (option_map bytes_of o) ≡ is_some o
+is_some_held None = refl
+is_some_held (Some x) = refl
+
+-- the library of an entry is a key
+pub replaced_among : (pairs : List (Bytes × Bytes)) (tag : ℕ) (text : List ℕ) → tag ≡ DT_NEEDED → is_some (lookup (λ (k : Bytes). bytes_eq text k.items) pairs) ≡ is_replaced (pairs_of_map pairs) (Text tag text)
+replaced_among pairs tag text is =
+    sym (ap (list_any (λ name. is_some (value_of (pairs_of_map pairs) name))) (cond-true (tag == DT_NEEDED) (text ∷ []) [] (eq-eqb tag DT_NEEDED is)) ∙ or_none (is_some (value_of (pairs_of_map pairs) text))
+      ∙ ap is_some (value_of-map pairs text) ∙ is_some_held (lookup (λ (k : Bytes). bytes_eq text k.items) pairs))
 
 -- the new name of one that is no key, and of one that is
 pub name_kept : (pairs : List (Bytes × Bytes)) (name : List ℕ) → None ≡ lookup (λ (k : Bytes). bytes_eq name k.items) pairs → unwrap_or (value_of (pairs_of_map pairs) name) name ≡ name

@@ -1,10 +1,10 @@
 -- Steps of the loops over entries and names, one at a time.
-use Rattle.std.proofs.Common.{◌≡◌, ℕ, ◌+◌, ◌<◌, Bool, true, false, cond, not, ◌||◌, List, [], ◌∷◌, ◌++◌, length, take, get_or, map, filter, refl, sym, ap, ◌∙◌, Option, Some, None, Bor}
+use Rattle.std.proofs.Common.{◌≡◌, ℕ, ◌+◌, ◌<◌, Bool, true, false, cond, not, ◌||◌, List, [], ◌∷◌, ◌++◌, length, take, get_or, map, filter, refl, sym, ap, ◌∙◌, Option, Some, None, Bor, arith, length-append, nat_lt}
 use Rattle.std.specs.Prelude.{if◌then◌else◌}
 use Rattle.std.specs.List.{cons_option, filter_map, flat_map, list_any}
 use Rattle.std.specs.Str.{bytes_eq}
-use Rattle.std.proofs.lemmas.Bool.{both_ways, cond-true, cond-false}
-use Rattle.std.proofs.lemmas.List.{append_assoc, append-nil, map-append, take_more}
+use Rattle.std.proofs.lemmas.Bool.{both_ways, cond-true, cond-false, le-ltb, lt-ltb}
+use Rattle.std.proofs.lemmas.List.{append_assoc, append-nil, length-map, map-append, take_more}
 use Rattle.std.proofs.lemmas.List.Concat.{flat_map-append}
 use Rattle.std.proofs.lemmas.List.Elements.{filter-append, filter_map-append}
 use Rattle.std.proofs.lemmas.List.Folds.{list_any-append}
@@ -17,7 +17,7 @@ use Rattle.elf_image.specs.ImageSeen.{entry_kept}
 use Rattle.elf_edits.specs.Called.{Bytes, texts_held}
 use Rattle.elf_edits.specs.Entries.{has_tag, needed_names, not_needed_yet, text_if}
 use Rattle.elf_edits.specs.Steps.{first_needed}
-use Rattle.elf_edits.specs.Texts.{first_in, is_among}
+use Rattle.elf_edits.specs.Texts.{first_in, has_some, is_among}
 use Rattle.elf_edits.proofs.CodeLaws.{or_none}
 use Rattle.elf_edits.proofs.ListLaws.{by_test}
 
@@ -128,3 +128,14 @@ pub put_together : (made all : List Dynamic) (last : Option Dynamic) (front midd
     → map entry_kept (all ++ option_to_list last) ≡ front ++ middle ++ behind
 put_together made all last front middle behind first rest end =
     map-append entry_kept all (option_to_list last) ∙ ap (λ l. l ++ map entry_kept (option_to_list last)) (rest ∙ ap (λ l. l ++ middle) first) ∙ ap (λ l. front ++ middle ++ l) end
+
+-- more entries than there were are there exactly where names were added
+longer_by : (names : List (List ℕ)) (es : List Entry) → nat_lt (length es) (length (map (Text DT_NEEDED) names ++ es)) ≡ has_some names
+longer_by [] es = le-ltb (length es) (length es) (omega arith)
+longer_by (name ∷ names) es = lt-ltb (length es) (length (Text DT_NEEDED name ∷ (map (Text DT_NEEDED) names ++ es))) (omega (arith, length-append (map (Text DT_NEEDED) names) es))
+
+pub longer : (names : List (List ℕ)) (es : List Entry) (old new : List Dynamic) → es ≡ map entry_kept old → map entry_kept new ≡ map (Text DT_NEEDED) (not_needed_yet names es) ++ es → nat_lt (length old) (length new) ≡ has_some (not_needed_yet names es)
+longer names es old new same made =
+    ap (λ n. nat_lt n (length new)) (sym (length-map old entry_kept) ∙ sym (ap length same))
+    ∙ ap (λ n. nat_lt (length es) n) (sym (length-map new entry_kept) ∙ ap length made)
+    ∙ longer_by (not_needed_yet names es) es

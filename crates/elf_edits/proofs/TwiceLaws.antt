@@ -1,7 +1,7 @@
 -- Edits that make twice what they make once.
-use Rattle.std.proofs.Common.{◌≡◌, ℕ, Bool, true, false, not, ◌||◌, List, [], ◌∷◌, ◌++◌, map, refl, sym, ap, subst, ◌∙◌, Option, Some, None, option_map, is_none, Result, Ok, Err, arith}
+use Rattle.std.proofs.Common.{◌≡◌, ℕ, Bool, true, false, not, ◌||◌, List, [], ◌∷◌, ◌++◌, map, refl, sym, ap, subst, ◌∙◌, Option, Some, None, option_map, is_some, Result, Ok, Err, arith}
 use Rattle.std.proofs.lemmas.Nat.Bits.{bit_at_or, same_from_bits}
-use Rattle.std.specs.Prelude.{if◌then◌else◌, ◌==◌, bit_or}
+use Rattle.std.specs.Prelude.{if◌then◌else◌, ◌==◌, bit_or, codes}
 use Rattle.std.specs.List.{list_any}
 use Rattle.std.proofs.lemmas.Bool.{both_ways, cond-true, cond-false, or_right}
 use Rattle.std.proofs.lemmas.List.{map-append}
@@ -11,8 +11,8 @@ use Rattle.elf_image.specs.Dynamic.{Auto, Entry, Integer, Text}
 use Rattle.elf_image.specs.Image.{Image, lists_tag}
 use Rattle.elf_image.specs.Options.{first_there}
 use Rattle.elf_edits.specs.declared.constants.TheConstants.{DF_1_NODEFLIB}
-use Rattle.elf_edits.specs.Cause.{MipsImage, cause, cause_if, list_missing}
-use Rattle.elf_edits.specs.Edit.{AddDebugEntry, Edit, NoDefaultLibrary, UseRpath, task_of}
+use Rattle.elf_edits.specs.Cause.{Cause, MipsImage, NoDynamic, cause, cause_if, first_cause}
+use Rattle.elf_edits.specs.Edit.{AddDebugEntry, Edit, NoDefaultLibrary, UseRpath}
 use Rattle.elf_edits.specs.Edited.{edited_image, is_list_with, step, touches}
 use Rattle.elf_edits.specs.Entries.{changed_where, edited_entries, has_tag, touches_entries, with_bits, with_tag}
 use Rattle.elf_edits.specs.Laws.{ChangesNothingAgain, IsDoneAtOnce, TwiceIsOnce}
@@ -143,10 +143,6 @@ option_twice : {A : Type 0} (f : A → A) → ((x : A) → f (f x) ≡ f x) → 
 option_twice f same None = refl
 option_twice f same (Some x) = ap Some (same x)
 
-is_none-option_map : {A : Type 0} (f : A → A) (o : Option A) → is_none (option_map f o) ≡ is_none o
-is_none-option_map f None = refl
-is_none-option_map f (Some x) = refl
-
 -- an edit of the list alone, which makes of an edited image what it is
 record IsSettled (edit : Edit) : Type 0 where
   cause_kept : (old : Image) → cause edit (edited_image edit old) ≡ cause edit old
@@ -162,10 +158,16 @@ nothing_again edit is old new h =
 image_at : Image → Bool → Option (List Entry) → Image
 image_at old changed es = record old { changed = changed; entries = es }
 
-module _ (old : Image) where
-  no_cause_of_list : (edit : Edit) (es : Option (List Entry)) → is_none es ≡ is_none old.entries → first_there (cause_if (old.header.e_machine == EM_MIPS) MipsImage) (first_there (list_missing (task_of edit) (is_none es)) None)
-      ≡ first_there (cause_if (old.header.e_machine == EM_MIPS) MipsImage) (first_there (list_missing (task_of edit) (is_none old.entries)) None)
-  no_cause_of_list edit es same = ap (λ b. first_there (cause_if (old.header.e_machine == EM_MIPS) MipsImage) (first_there (list_missing (task_of edit) b) None)) same
+-- the cause of an edit of the list alone hangs on the machine, and on whether there is a list
+is_some-option_map : {A : Type 0} (f : A → A) (o : Option A) → is_some (option_map f o) ≡ is_some o
+is_some-option_map f None = refl
+is_some-option_map f (Some x) = refl
+
+cause_of_list : ℕ → List ℕ → Bool → Option Cause
+cause_of_list m task there = first_there (cause_if (m == EM_MIPS) MipsImage) (first_there (cause_if (not there) (NoDynamic task)) None)
+
+cause_same : (m : ℕ) (task : List ℕ) (f : List Entry → List Entry) (es : Option (List Entry)) → cause_of_list m task (is_some (option_map f es)) ≡ cause_of_list m task (is_some es)
+cause_same m task f es = ap (cause_of_list m task) (is_some-option_map f es)
 
 -- none of the three touches what it made
 rpath_untouched : (m : ℕ) (es : Option (List Entry)) → is_list_with (touches_entries m UseRpath) (option_map (edited_entries m UseRpath) es) ≡ false
@@ -185,27 +187,27 @@ no_default_touched m None = refl
 no_default_touched m (Some es) = refl
 
 rpath_settled : IsSettled UseRpath
-unfolding cause edited_image image_at
+unfolding cause cause_of_list edited_image first_cause image_at
 rpath_settled = record {
-  cause_kept = λ old. no_cause_of_list old UseRpath (option_map (edited_entries old.header.e_machine UseRpath) old.entries) (is_none-option_map (edited_entries old.header.e_machine UseRpath) old.entries);
+  cause_kept = λ old. cause_same old.header.e_machine (codes "change rpath") (edited_entries old.header.e_machine UseRpath) old.entries;
   done = λ old.
       ap (image_at old ((old.changed || touches UseRpath old) || touches UseRpath (edited_image UseRpath old))) (option_twice (edited_entries old.header.e_machine UseRpath) (rpath_twice old.header.e_machine) old.entries)
       ∙ ap (λ c. image_at old c (option_map (edited_entries old.header.e_machine UseRpath) old.entries)) (or_false (old.changed || touches UseRpath old) (touches UseRpath (edited_image UseRpath old)) (rpath_untouched old.header.e_machine old.entries));
 }
 
 debug_settled : IsSettled AddDebugEntry
-unfolding cause edited_image image_at
+unfolding cause cause_of_list edited_image first_cause image_at
 debug_settled = record {
-  cause_kept = λ old. no_cause_of_list old AddDebugEntry (option_map (edited_entries old.header.e_machine AddDebugEntry) old.entries) (is_none-option_map (edited_entries old.header.e_machine AddDebugEntry) old.entries);
+  cause_kept = λ old. cause_same old.header.e_machine (codes "add debug entry") (edited_entries old.header.e_machine AddDebugEntry) old.entries;
   done = λ old.
       ap (image_at old ((old.changed || touches AddDebugEntry old) || touches AddDebugEntry (edited_image AddDebugEntry old))) (option_twice (edited_entries old.header.e_machine AddDebugEntry) (debug_twice old.header.e_machine) old.entries)
       ∙ ap (λ c. image_at old c (option_map (edited_entries old.header.e_machine AddDebugEntry) old.entries)) (or_false (old.changed || touches AddDebugEntry old) (touches AddDebugEntry (edited_image AddDebugEntry old)) (debug_untouched old.header.e_machine old.entries));
 }
 
 no_default_settled : IsSettled NoDefaultLibrary
-unfolding cause edited_image image_at
+unfolding cause cause_of_list edited_image first_cause image_at
 no_default_settled = record {
-  cause_kept = λ old. no_cause_of_list old NoDefaultLibrary (option_map (edited_entries old.header.e_machine NoDefaultLibrary) old.entries) (is_none-option_map (edited_entries old.header.e_machine NoDefaultLibrary) old.entries);
+  cause_kept = λ old. cause_same old.header.e_machine (codes "set soname") (edited_entries old.header.e_machine NoDefaultLibrary) old.entries;
   done = λ old.
       ap (image_at old ((old.changed || touches NoDefaultLibrary old) || touches NoDefaultLibrary (edited_image NoDefaultLibrary old))) (option_twice (edited_entries old.header.e_machine NoDefaultLibrary) (no_default_twice old.header.e_machine) old.entries)
       ∙ ap (λ c. image_at old c (option_map (edited_entries old.header.e_machine NoDefaultLibrary) old.entries))

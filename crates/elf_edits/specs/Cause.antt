@@ -1,12 +1,14 @@
 -- Why an edit is refused.
-use Rattle.std.specs.Prelude.{ℕ, List, length, Bool, true, false, Option, Some, None, is_none, not, ◌&&◌, ◌==◌, nat_le, if◌then◌else◌}
+use Rattle.std.specs.Prelude.{ℕ, List, length, Bool, false, Option, Some, None, is_none, is_some, not, ◌&&◌, ◌==◌, nat_le, if◌then◌else◌}
 use Rattle.std.specs.List.{list_any}
 use Rattle.std.specs.Int.{is_power_of_two}
 use Rattle.elf_image.specs.declared.constants.TheConstants.{EM_MIPS, PT_GNU_STACK}
+use Rattle.elf_image.specs.Dynamic.{Entry}
 use Rattle.elf_image.specs.File.{segment_of_type}
 use Rattle.elf_image.specs.Image.{Image}
 use Rattle.elf_image.specs.Options.{first_there}
 use Rattle.elf_edits.specs.declared.constants.TheConstants.{MOST_SEGMENTS, SMALLEST_PAGE}
+use Rattle.elf_edits.specs.declared.facts.Facts.{Facts}
 use Rattle.elf_edits.specs.Abi.{abi_number, lowered}
 use Rattle.elf_edits.specs.Edit.{Edit, AddDebugEntry, AddNeeded, AddRunPath, ClearExecStack, DeleteNeeded, DeleteRunPath, NoDefaultLibrary, ReplaceNeeded, SetExecStack, SetInterpreter, SetOsAbi, SetPageSize, SetRunPath, SetSoname, ShrinkRunPath, UseRpath, UseRunpath, task_of, texts_of}
 use Rattle.elf_edits.specs.Entries.{is_run_path}
@@ -34,16 +36,6 @@ pub data Cause : Type 0 where
 abbrev pub cause_if : Bool → Cause → Option Cause
 cause_if stands cause = if stands then Some cause else None
 
--- the dynamic section that an edit of its list needs
-abbrev pub list_missing : Option (List ℕ) → Bool → Option Cause
-list_missing None missing = None
-list_missing (Some task) missing = cause_if missing (NoDynamic task)
-
--- the interpreter that is to get other bytes
-abbrev pub interpreter_missing : Edit → Bool → Option Cause
-interpreter_missing (SetInterpreter bytes) missing = cause_if missing NoInterpreter
-interpreter_missing _ missing = None
-
 -- a power of two from the smallest page size on
 abbrev pub is_page_size : ℕ → Bool
 is_page_size size = is_power_of_two size && nat_le SMALLEST_PAGE size
@@ -52,25 +44,50 @@ is_page_size size = is_power_of_two size && nat_le SMALLEST_PAGE size
 abbrev pub has_no_room_for_stack : Image → Bool
 has_no_room_for_stack image = is_none (segment_of_type PT_GNU_STACK image.segments) && nat_le MOST_SEGMENTS (length image.segments)
 
--- an image without a run path
-abbrev pub has_no_run_path : Image → Bool
-has_no_run_path image = elim image.entries [ None ↦ true | Some es ↦ not (list_any is_run_path es) ]
+-- some entry has a run path
+abbrev pub lists_run_path : Option (List Entry) → Bool
+lists_run_path None = false
+lists_run_path (Some entries) = list_any is_run_path entries
+
+-- What of an image causes look at.
+abbrev pub facts_of : Image → Facts
+facts_of image = record {
+  machine = image.header.e_machine;
+  has_list = is_some image.entries;
+  has_run_path = lists_run_path image.entries;
+  has_interpreter = is_some image.interpreter;
+  is_full = has_no_room_for_stack image;
+}
+
+-- the dynamic section that an edit of its list needs
+abbrev pub list_missing : Option (List ℕ) → Facts → Option Cause
+list_missing None facts = None
+list_missing (Some task) facts = cause_if (not facts.has_list) (NoDynamic task)
+
+-- the interpreter that is to get other bytes
+abbrev pub interpreter_missing : Edit → Facts → Option Cause
+interpreter_missing (SetInterpreter bytes) facts = cause_if (not facts.has_interpreter) NoInterpreter
+interpreter_missing _ facts = None
 
 -- what stands against one kind of edit alone
-abbrev pub own_cause : Edit → Image → Option Cause
-own_cause (SetOsAbi name) image = cause_if (is_none (abi_number name)) (UnknownAbi (lowered name))
-own_cause (SetPageSize size) image = cause_if (not (is_page_size size)) (BadPageSize size)
-own_cause (ShrinkRunPath prefixes answers) image = cause_if (has_no_run_path image) NoRunPath
-own_cause ClearExecStack image = cause_if (has_no_room_for_stack image) TooManyHeaders
-own_cause SetExecStack image = cause_if (has_no_room_for_stack image) TooManyHeaders
-own_cause _ image = None
+abbrev pub own_cause : Edit → Facts → Option Cause
+own_cause (SetOsAbi name) facts = cause_if (is_none (abi_number name)) (UnknownAbi (lowered name))
+own_cause (SetPageSize size) facts = cause_if (not (is_page_size size)) (BadPageSize size)
+own_cause (ShrinkRunPath prefixes answers) facts = cause_if (not facts.has_run_path) NoRunPath
+own_cause ClearExecStack facts = cause_if facts.is_full TooManyHeaders
+own_cause SetExecStack facts = cause_if facts.is_full TooManyHeaders
+own_cause _ facts = None
 
--- The first cause that stands against an edit of an image: the machine, what the edit needs and isn't there, a NUL
--- in a text, and then what stands against this edit alone.
-unfoldable pub cause : Edit → Image → Option Cause
-cause edit image =
-    first_there (cause_if (image.header.e_machine == EM_MIPS) MipsImage)
-    (first_there (list_missing (task_of edit) (is_none image.entries))
-    (first_there (interpreter_missing edit (is_none image.interpreter))
+-- the first cause by these facts: the machine, what the edit needs and isn't there, a NUL in a text, and then what
+-- stands against this edit alone
+unfoldable pub first_cause : Edit → Facts → Option Cause
+first_cause edit facts =
+    first_there (cause_if (facts.machine == EM_MIPS) MipsImage)
+    (first_there (list_missing (task_of edit) facts)
+    (first_there (interpreter_missing edit facts)
     (first_there (cause_if (list_any holds_nul (texts_of edit)) NulInText)
-    (own_cause edit image))))
+    (own_cause edit facts))))
+
+-- The first cause that stands against an edit of an image.
+unfoldable pub cause : Edit → Image → Option Cause
+cause edit image = first_cause edit (facts_of image)

@@ -2,7 +2,7 @@
 ghost use Rattle.std.specs.Prelude.{◌≡◌, IfOk, unwrap_or};
 ghost use Rattle.elf_image.specs.ImageSeen.{entry_kept};
 ghost use Rattle.elf_edits.specs.Called.{call_meant, pairs_of_map, texts_held};
-ghost use Rattle.elf_edits.specs.Entries.{has_tag as has_that_tag, is_run_path as has_run_path, needs_one_of as needs_any, with_bits, with_each_added, with_tag as with_that_tag, with_text as with_that_text, with_text_changed};
+ghost use Rattle.elf_edits.specs.Entries.{has_tag as has_that_tag, is_replaced as is_replaced_by, is_run_path as has_run_path, needs_one_of as needs_any, with_bits, with_each_added, with_tag as with_that_tag, with_text as with_that_text, with_text_changed};
 ghost use Rattle.elf_edits.specs.Steps.{changed_entry, is_dropped as is_not_kept};
 ghost use Rattle.elf_image.specs.Dynamic.{Text as text_of_tag};
 ghost use Rattle.std.specs.HashSet.{keys};
@@ -114,6 +114,16 @@ pub(crate) fn needs_one_of(entry: &Dynamic<'_>, names: &HashSet<Vec<u8>>) -> boo
 {
     match entry {
         Dynamic::Text { tag, val } if *tag == DT_NEEDED => names.contains(val.as_slice()),
+        _ => false,
+    }
+}
+
+// Whether the entry needs a library that a map has.
+pub(crate) fn is_replaced(entry: &Dynamic<'_>, names: &HashMap<Vec<u8>, Vec<u8>>) -> bool
+    ensures { result ≡ is_replaced_by (pairs_of_map names.now.entries) (entry_kept entry.now) }
+{
+    match entry {
+        Dynamic::Text { tag, val } if *tag == DT_NEEDED => names.contains_key(val.as_slice()),
         _ => false,
     }
 }

@@ -1,6 +1,7 @@
 //! Edits of what an ELF file shows: what each one means, why one is refused, and the dynamic list after it.
 #![tactic(auto)]
 
+pub mod abi;
 pub mod call;
 pub mod constants;
 mod entries;
@@ -8,6 +9,7 @@ pub mod laws;
 pub mod list;
 pub mod rows;
 pub mod shrink;
+pub mod facts;
 mod texts;
 
 pub use crate::call::{EditCall, ElfEdit};

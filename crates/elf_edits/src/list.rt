@@ -6,21 +6,21 @@ ghost use Rattle.std.specs.Str.{bytes_eq};
 ghost use Rattle.elf_image.specs.Dynamic.{Text as text_of_tag};
 ghost use Rattle.elf_image.specs.ImageSeen.{entry_kept};
 ghost use Rattle.elf_image.specs.Plain.{borrowed};
-ghost use Rattle.elf_edits.specs.Called.{call_meant, texts_held};
-ghost use Rattle.elf_edits.specs.Entries.{edited_entries, has_tag as has_that_tag, is_run_path as has_run_path, needed_names, not_needed_yet};
+ghost use Rattle.elf_edits.specs.Called.{call_meant, pairs_of_map, texts_held};
+ghost use Rattle.elf_edits.specs.Entries.{edited_entries, has_tag as has_that_tag, is_run_path as has_run_path, is_replaced as is_replaced_by, needed_names, needs_one_of as needs_any, not_needed_yet, touches_entries};
 ghost use Rattle.elf_edits.specs.Steps.{entry_after, first_needed, put_before, put_behind as put_last};
 ghost use Rattle.elf_edits.specs.Texts.{is_among, joined as joined_by_colons};
 ghost use Rattle.std.specs.Option.{option_to_list};
 
 use crate::call::EditCall;
 use crate::constants::DF_1_NODEFLIB;
-use crate::entries::{changed, has_tag, is_dropped, is_run_path, text_entry};
+use crate::entries::{changed, has_tag, is_dropped, is_replaced, is_run_path, needs_one_of, text_entry};
 use crate::texts::joined;
 use elf_image::Dynamic;
-use elf_image::constants::{DT_DEBUG, DT_FLAGS_1, DT_NEEDED, DT_RUNPATH, DT_SONAME};
+use elf_image::constants::{DT_DEBUG, DT_FLAGS_1, DT_NEEDED, DT_RPATH, DT_RUNPATH, DT_SONAME};
 use patch_bytes::ByteString;
 use std::alloc::{AllocError, Global};
-use std::collections::HashSet;
+use std::collections::{HashMap, HashSet};
 
 // Whether an entry has a run path.
 pub(crate) fn any_run_path(entries: &[Dynamic<'_>]) -> bool
@@ -186,13 +186,63 @@ fn joined_texts<'d>(alloc: Global, texts: &[Vec<u8>]) -> Result<Option<Dynamic<'
     }))
 }
 
-/// The dynamic list after an edit. Texts that are lent stay lent, those that the edit writes are owned. Error:
-/// `AllocError`.
-pub fn edited<'d>(
-    alloc: Global,
-    call: &EditCall<'_>,
-    entries: &[Dynamic<'d>],
-) -> Result<Vec<Dynamic<'d>>, AllocError>
+// Whether an entry needs one of these libraries.
+fn any_needs(entries: &[Dynamic<'_>], names: &HashSet<Vec<u8>>) -> bool
+    ensures { result ≡ list_any (needs_any (texts_held (keys names.now))) (map entry_kept entries.now) }
+{
+    for entry in entries {
+        if needs_one_of(entry, names) {
+            return true;
+        }
+    }
+    false
+}
+
+// Whether an entry needs a library that a map has.
+fn any_replaced(entries: &[Dynamic<'_>], names: &HashMap<Vec<u8>, Vec<u8>>) -> bool
+    ensures { result ≡ list_any (is_replaced_by (pairs_of_map names.now.entries)) (map entry_kept entries.now) }
+{
+    for entry in entries {
+        if is_replaced(entry, names) {
+            return true;
+        }
+    }
+    false
+}
+
+// Whether an edit adds, removes or writes something, where `made` is the list after it.
+#[tactic(auto, unfolding(crate::specs::Entries::touches_entries))]
+fn touches(call: &EditCall<'_>, entries: &[Dynamic<'_>], made: &[Dynamic<'_>]) -> bool
+    requires { map entry_kept made.now ≡ edited_entries 0 (call_meant call.now) (map entry_kept entries.now) }
+    ensures { (machine : ℕ) → result ≡ touches_entries machine (call_meant call.now) (map entry_kept entries.now) }
+{
+    match call {
+        EditCall::AddDebugEntry => !any_with_tag(entries, DT_DEBUG),
+        EditCall::DeleteRunPath => any_run_path(entries),
+        EditCall::UseRunpath => any_with_tag(entries, DT_RPATH),
+        EditCall::UseRpath => any_with_tag(entries, DT_RUNPATH),
+        EditCall::DeleteNeeded(names) => any_needs(entries, names),
+        EditCall::ReplaceNeeded(names) => any_replaced(entries, names),
+        EditCall::AddNeeded(_) => entries.len() < made.len(),
+        EditCall::SetRunPath(_) => true,
+        EditCall::AddRunPath(_) => true,
+        EditCall::SetSoname(_) => true,
+        EditCall::NoDefaultLibrary => true,
+        _ => false,
+    }
+}
+
+/// A dynamic list after an edit.
+#[derive(Debug, Drop)]
+pub struct NewList<'d> {
+    /// The entries.
+    pub entries: Vec<Dynamic<'d>>,
+    /// Whether the edit added, removed or wrote something, be it what was there already.
+    pub is_touched: bool,
+}
+
+// The entries after an edit.
+fn edited_list<'d>(alloc: Global, call: &EditCall<'_>, entries: &[Dynamic<'d>]) -> Result<Vec<Dynamic<'d>>, AllocError>
     ensures { IfOk result (λ made. (machine : ℕ) →
         map entry_kept made.items ≡ edited_entries machine (call_meant call.now) (map entry_kept entries.now)) }
 {
@@ -202,4 +252,20 @@ pub fn edited<'d>(
         made.push(last)?;
     }
     Ok(made)
+}
+
+/// The dynamic list after an edit, and whether it wrote something. Texts that are lent stay lent, those that the edit
+/// writes are owned. The cost is in proportion to the list and the edit's texts. Error: `AllocError`.
+pub fn edited<'d>(alloc: Global, call: &EditCall<'_>, entries: &[Dynamic<'d>]) -> Result<NewList<'d>, AllocError>
+    ensures list { IfOk result (λ made. (machine : ℕ) →
+        map entry_kept made.entries.items ≡ edited_entries machine (call_meant call.now) (map entry_kept entries.now)) }
+    ensures touched { IfOk result (λ made. (machine : ℕ) →
+        made.is_touched ≡ touches_entries machine (call_meant call.now) (map entry_kept entries.now)) }
+{
+    let made = edited_list(alloc, call, entries)?;
+    let is_touched = touches(call, entries, made.as_slice());
+    Ok(NewList {
+        entries: made,
+        is_touched,
+    })
 }

@@ -9,8 +9,8 @@ use Rattle.elf_edits.specs.Called.{call_meant}
 use Rattle.elf_edits.specs.Steps.{entry_after, put_before, put_behind}
 use Rattle.elf_edits.proofs.ListSteps.{put_together}
 use Rattle.elf_edits.proofs.StepLaws.{by_entries}
-use Rattle.elf_edits.proofs.list.edited.Goals.{in-Some+in_ok-push, in_default}
-use Rattle.elf_edits.proofs.list.edited.Goals as goal
+use Rattle.elf_edits.proofs.list.edited_list.Goals.{in-Some+in_ok-push, in_default}
+use Rattle.elf_edits.proofs.list.edited_list.Goals as goal
 
 pub returns : goal.returns
 returns c = λ machine.
