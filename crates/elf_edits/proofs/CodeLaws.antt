@@ -34,7 +34,7 @@ there_or_none : {A : Type 0} (o : Option A) → first_there o None ≡ o
 there_or_none None = refl
 there_or_none (Some x) = refl
 
-first_of_three : {A : Type 0} (o p q : Option A) → first_there (first_there o p) q ≡ first_there o (first_there p q)
+pub first_of_three : {A : Type 0} (o p q : Option A) → first_there (first_there o p) q ≡ first_there o (first_there p q)
 first_of_three None p q = refl
 first_of_three (Some x) p q = refl
 
@@ -72,7 +72,7 @@ is_some_held (Some x) = refl
 pub replaced_among : (pairs : List (Bytes × Bytes)) (tag : ℕ) (text : List ℕ) → tag ≡ DT_NEEDED → is_some (lookup (λ (k : Bytes). bytes_eq text k.items) pairs) ≡ is_replaced (pairs_of_map pairs) (Text tag text)
 replaced_among pairs tag text is =
     sym (ap (list_any (λ name. is_some (value_of (pairs_of_map pairs) name))) (cond-true (tag == DT_NEEDED) (text ∷ []) [] (eq-eqb tag DT_NEEDED is)) ∙ or_none (is_some (value_of (pairs_of_map pairs) text))
-      ∙ ap is_some (value_of-map pairs text) ∙ is_some_held (lookup (λ (k : Bytes). bytes_eq text k.items) pairs))
+    ∙ ap is_some (value_of-map pairs text) ∙ is_some_held (lookup (λ (k : Bytes). bytes_eq text k.items) pairs))
 
 -- the new name of one that is no key, and of one that is
 pub name_kept : (pairs : List (Bytes × Bytes)) (name : List ℕ) → None ≡ lookup (λ (k : Bytes). bytes_eq name k.items) pairs → unwrap_or (value_of (pairs_of_map pairs) name) name ≡ name

@@ -7,3 +7,4 @@ pub mod BatchLaws
 pub mod StepLaws
 pub mod CodeLaws
 pub mod ListSteps
+pub mod CauseSteps

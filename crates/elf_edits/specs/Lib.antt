@@ -7,6 +7,7 @@ pub mod Cause
 pub mod Edited
 pub mod Batch
 pub mod Called
+pub mod CauseSeen
 pub mod Steps
 pub mod Laws
 pub mod Rows

@@ -1,5 +1,3 @@
-ghost use Rattle.std.specs.Prelude.{◌≡◌};
-
 /// What of an image decides whether an edit is refused.
 #[derive(Clone, Copy, Debug)]
 pub struct Facts {

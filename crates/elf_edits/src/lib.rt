@@ -3,14 +3,17 @@
 
 pub mod abi;
 pub mod call;
+pub mod cause;
 pub mod constants;
 mod entries;
+pub mod facts;
 pub mod laws;
 pub mod list;
+pub mod of_image;
 pub mod rows;
 pub mod shrink;
-pub mod facts;
 mod texts;
 
 pub use crate::call::{EditCall, ElfEdit};
+pub use crate::of_image::image_facts;
 pub use crate::shrink::{ProbeAnswer, Reason, Removed};

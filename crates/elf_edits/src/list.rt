@@ -14,7 +14,9 @@ ghost use Rattle.std.specs.Option.{option_to_list};
 
 use crate::call::EditCall;
 use crate::constants::DF_1_NODEFLIB;
-use crate::entries::{changed, has_tag, is_dropped, is_replaced, is_run_path, needs_one_of, text_entry};
+use crate::entries::{
+    changed, has_tag, is_dropped, is_replaced, is_run_path, needs_one_of, text_entry,
+};
 use crate::texts::joined;
 use elf_image::Dynamic;
 use elf_image::constants::{DT_DEBUG, DT_FLAGS_1, DT_NEEDED, DT_RPATH, DT_RUNPATH, DT_SONAME};
@@ -242,7 +244,11 @@ pub struct NewList<'d> {
 }
 
 // The entries after an edit.
-fn edited_list<'d>(alloc: Global, call: &EditCall<'_>, entries: &[Dynamic<'d>]) -> Result<Vec<Dynamic<'d>>, AllocError>
+fn edited_list<'d>(
+    alloc: Global,
+    call: &EditCall<'_>,
+    entries: &[Dynamic<'d>],
+) -> Result<Vec<Dynamic<'d>>, AllocError>
     ensures { IfOk result (λ made. (machine : ℕ) →
         map entry_kept made.items ≡ edited_entries machine (call_meant call.now) (map entry_kept entries.now)) }
 {
@@ -256,7 +262,11 @@ fn edited_list<'d>(alloc: Global, call: &EditCall<'_>, entries: &[Dynamic<'d>]) 
 
 /// The dynamic list after an edit, and whether it wrote something. Texts that are lent stay lent, those that the edit
 /// writes are owned. The cost is in proportion to the list and the edit's texts. Error: `AllocError`.
-pub fn edited<'d>(alloc: Global, call: &EditCall<'_>, entries: &[Dynamic<'d>]) -> Result<NewList<'d>, AllocError>
+pub fn edited<'d>(
+    alloc: Global,
+    call: &EditCall<'_>,
+    entries: &[Dynamic<'d>],
+) -> Result<NewList<'d>, AllocError>
     ensures list { IfOk result (λ made. (machine : ℕ) →
         map entry_kept made.entries.items ≡ edited_entries machine (call_meant call.now) (map entry_kept entries.now)) }
     ensures touched { IfOk result (λ made. (machine : ℕ) →

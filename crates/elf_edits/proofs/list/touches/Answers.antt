@@ -12,5 +12,5 @@ unfolding edited_entries touches_entries
 returns-in-AddNeeded c = λ machine.
     let es = map entry_kept c.args.entries.now in
     longer (texts_held c.in-AddNeeded.field-0.now) es c.args.entries.now c.args.made.now refl
-      (c.requires ∙ ap (λ (call : EditCall). edited_entries 0 (call_meant call) es) c.in-AddNeeded.is)
+    (c.requires ∙ ap (λ (call : EditCall). edited_entries 0 (call_meant call) es) c.in-AddNeeded.is)
     ∙ sym (ap (λ (call : EditCall). touches_entries machine (call_meant call) es) c.in-AddNeeded.is)
