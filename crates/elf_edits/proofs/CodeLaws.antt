@@ -30,7 +30,7 @@ needed_among keys tag text is =
 
 -- ## Maps
 
-there_or_none : {A : Type 0} (o : Option A) → first_there o None ≡ o
+pub there_or_none : {A : Type 0} (o : Option A) → first_there o None ≡ o
 there_or_none None = refl
 there_or_none (Some x) = refl
 

@@ -8,3 +8,5 @@ pub mod StepLaws
 pub mod CodeLaws
 pub mod ListSteps
 pub mod CauseSteps
+pub mod AnswerSteps
+pub mod ShrinkSteps

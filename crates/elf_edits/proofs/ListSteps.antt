@@ -63,7 +63,7 @@ no_text (Text tag t) h = by_test (has_tag DT_NEEDED (Text tag t))
     (λ holds. let same : None ≡ Some t = h ∙ ap first_in (cond-true (has_tag DT_NEEDED (Text tag t)) (t ∷ []) [] holds) in absurd (cc))
     (λ fails. cond-false (has_tag DT_NEEDED (Text tag t)) (t ∷ []) [] fails)
 
-other_way : (a b : List ℕ) → bytes_eq a b ≡ bytes_eq b a
+pub other_way : (a b : List ℕ) → bytes_eq a b ≡ bytes_eq b a
 other_way a b = by_test (bytes_eq a b)
     (λ holds. holds ∙ sym ((bytes_eq-Decides b a).1 (sym ((bytes_eq-Decides a b).0 holds))))
     (λ fails. by_test (bytes_eq b a) (λ back. absurd (both_ways (bytes_eq a b) fails ((bytes_eq-Decides a b).1 (sym ((bytes_eq-Decides b a).0 back))))) (λ back. fails ∙ sym back))

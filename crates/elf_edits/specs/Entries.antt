@@ -6,7 +6,7 @@ use Rattle.elf_image.specs.Dynamic.{Auto, Entry, Integer, Text}
 use Rattle.elf_image.specs.Image.{entry_tag, lists_tag}
 use Rattle.elf_edits.specs.declared.constants.TheConstants.{COLON, DF_1_NODEFLIB}
 use Rattle.elf_edits.specs.Edit.{Answer, Edit, AddDebugEntry, AddNeeded, AddRunPath, ClearExecStack, DeleteNeeded, DeleteRunPath, NoDefaultLibrary, ReplaceNeeded, SetExecStack, SetInterpreter, SetOsAbi, SetPageSize, SetRunPath, SetSoname, ShrinkRunPath, UseRpath, UseRunpath}
-use Rattle.elf_edits.specs.Shrunk.{Removal, Search, questions_of, removed_from, shrunk}
+use Rattle.elf_edits.specs.Shrunk.{Removal, Search, machine_found, questions_of, removed_from, shrunk}
 use Rattle.elf_edits.specs.Texts.{has_some, is_among, joined, value_of}
 
 -- ## Entries
@@ -120,7 +120,7 @@ without_default_directories entries =
 
 -- how directories of these entries' run paths are judged
 abbrev pub search_of : ℕ → List (List ℕ) → List Answer → List Entry → Search
-search_of machine prefixes answers entries = record { prefixes = prefixes; needed = needed_names entries; machine = machine; answers = answers }
+search_of machine prefixes answers entries = record { prefixes = prefixes; needed = needed_names entries; machine = machine; found = machine_found answers }
 
 -- every run path is shrunk; an entry whose directories all go stays, with the empty text
 abbrev pub with_run_paths_shrunk : Search → List Entry → List Entry

@@ -8,6 +8,7 @@ pub mod Edited
 pub mod Batch
 pub mod Called
 pub mod CauseSeen
+pub mod ShrunkSeen
 pub mod Steps
 pub mod Laws
 pub mod Rows

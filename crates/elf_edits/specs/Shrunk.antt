@@ -9,12 +9,12 @@ use Rattle.elf_edits.specs.Edit.{Answer}
 use Rattle.elf_edits.specs.Texts.{directories_in, joined}
 
 -- What directories are judged by: the prefixes that are allowed, none for all; the needed libraries; the machine
--- that they have to be for; and what was found.
+-- that they have to be for; and the machine that was found for a directory and a library.
 pub record Search : Type 0 where
   pub prefixes : List (List ℕ)
   pub needed : List (List ℕ)
   pub machine : ℕ
-  pub answers : List Answer
+  pub found : List ℕ → List ℕ → Option ℕ
 
 abbrev pub is_absolute : List ℕ → Bool
 is_absolute directory = starts_with nat_eq directory (SLASH ∷ [])
@@ -24,13 +24,17 @@ abbrev pub is_allowed : List (List ℕ) → List ℕ → Bool
 is_allowed [] directory = true
 is_allowed (prefix ∷ prefixes) directory = list_any (λ p. starts_with nat_eq directory p) (prefix ∷ prefixes)
 
+-- the answer is for this directory and this library
+abbrev pub is_answer_for : List ℕ → List ℕ → Answer → Bool
+is_answer_for directory name a = bytes_eq directory a.directory && bytes_eq name a.needed
+
 -- the machine that was found for a directory and a needed library; the first answer for the two counts
 abbrev pub machine_found : List Answer → List ℕ → List ℕ → Option ℕ
-machine_found answers directory name = find (λ a. bytes_eq directory a.directory && bytes_eq name a.needed) answers >>= (λ a. a.machine)
+machine_found answers directory name = find (is_answer_for directory name) answers >>= (λ a. a.machine)
 
 -- some needed library was found there for the machine
 abbrev pub is_found_in : Search → List ℕ → Bool
-is_found_in s directory = list_any (λ name. is_some_and (λ machine. machine == s.machine) (machine_found s.answers directory name)) s.needed
+is_found_in s directory = list_any (λ name. is_some_and (λ machine. machine == s.machine) (s.found directory name)) s.needed
 
 -- a directory stays where it isn't absolute, or where it is allowed and a needed library was found there
 abbrev pub stays : Search → List ℕ → Bool

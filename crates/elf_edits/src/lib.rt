@@ -11,7 +11,10 @@ pub mod laws;
 pub mod list;
 pub mod of_image;
 pub mod rows;
+mod search;
+mod searching;
 pub mod shrink;
+pub mod shrinking;
 mod texts;
 
 pub use crate::call::{EditCall, ElfEdit};
