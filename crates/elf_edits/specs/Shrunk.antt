@@ -61,6 +61,10 @@ reason_of s directory = if is_allowed s.prefixes directory then NoLibrary else P
 abbrev pub removed_from : Search → List ℕ → List Removal
 removed_from s text = filter_map (λ directory. if stays s directory then None else Some (record { directory = directory; reason = reason_of s directory })) (directories_in text)
 
--- the pairs of an absolute directory and a needed library that have to be looked for, in the order of the texts
+-- the pairs of an absolute directory and a library
+abbrev pub pairs_of : List (List ℕ) → List (List ℕ) → List (List ℕ × List ℕ)
+pairs_of needed directories = flat_map (λ directory. flat_map (λ name. (directory, name) ∷ []) needed) (filter is_absolute directories)
+
+-- those that have to be looked for, in the order of the texts
 abbrev pub questions_of : List (List ℕ) → List (List ℕ) → List (List ℕ × List ℕ)
-questions_of needed texts = flat_map (λ text. flat_map (λ directory. flat_map (λ name. (directory, name) ∷ []) needed) (filter is_absolute (directories_in text))) texts
+questions_of needed texts = flat_map (λ text. pairs_of needed (directories_in text)) texts

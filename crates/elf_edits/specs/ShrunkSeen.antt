@@ -40,3 +40,7 @@ abbrev pub text_held : Entry → List (List ℕ)
 text_held (Auto tag) = []
 text_held (Integer tag value) = []
 text_held (Text tag text) = text ∷ []
+
+-- a pair of lent texts
+abbrev pub pair_lent : Bor (List ℕ) × Bor (List ℕ) → List ℕ × List ℕ
+pair_lent pair = (pair.0.now, pair.1.now)

@@ -1,11 +1,11 @@
 //! Why an edit is refused.
-ghost use Rattle.std.specs.Prelude.{◌≡◌, ◌∷◌, [], option_map};
+ghost use Rattle.std.specs.Prelude.{◌≡◌, ◌∷◌, [], List, option_map};
 ghost use Rattle.std.specs.HashSet.{keys};
 ghost use Rattle.std.specs.List.{list_any};
 ghost use Rattle.elf_edits.specs.Called.{call_meant, texts_held};
 ghost use Rattle.elf_edits.specs.Cause.{first_cause as first_of_causes, interpreter_missing, list_missing, own_cause as cause_of_its_own};
 ghost use Rattle.elf_edits.specs.CauseSeen.{cause_meant, pair_holds_nul};
-ghost use Rattle.elf_edits.specs.Edit.{all_but_last, task_of as task_meant, texts_of};
+ghost use Rattle.elf_edits.specs.Edit.{Answer, ShrinkRunPath, all_but_last, task_of as task_meant, texts_of};
 ghost use Rattle.elf_edits.specs.Texts.{holds_nul as nul_in};
 ghost use Rattle.elf_image.specs.Options.{first_there};
 ghost use Rattle.elf_image.specs.Plain.{borrowed};
@@ -188,4 +188,24 @@ pub fn cause_of<'e>(call: &EditCall<'e>, facts: &Facts) -> Option<Cause<'e>>
         return Some(Cause::NulInText);
     }
     own_cause(call, facts)
+}
+
+/// The first cause that stands against shrinking the run path of an image with these facts, in the same order. Takes no
+/// memory.
+#[tactic(auto, unfolding(crate::specs::Cause::first_cause))]
+pub fn shrink_cause(prefixes: &[Vec<u8>], facts: &Facts) -> Option<Cause<'static>>
+    ensures { (answers : List Answer) →
+        option_map cause_meant result ≡ first_of_causes (ShrinkRunPath (texts_held prefixes.now) answers) facts.now }
+{
+    if facts.machine == EM_MIPS {
+        Some(Cause::MipsImage)
+    } else if !facts.has_list {
+        Some(Cause::NoDynamic("shrink rpath"))
+    } else if any_nul(prefixes) {
+        Some(Cause::NulInText)
+    } else if !facts.has_run_path {
+        Some(Cause::NoRunPath)
+    } else {
+        None
+    }
 }

@@ -44,7 +44,7 @@ pub(crate) fn answers_by_pair<'e>(
 }
 
 // Whether a directory begins with a slash.
-fn is_absolute(directory: &[u8]) -> bool
+pub(crate) fn is_absolute(directory: &[u8]) -> bool
     ensures { result ≡ begins_with_slash directory.now }
 {
     directory.starts_with(&[SLASH])

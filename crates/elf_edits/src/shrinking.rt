@@ -1,19 +1,22 @@
 //! The dynamic list with run paths that shrink.
-ghost use Rattle.std.specs.Prelude.{◌≡◌, ◌++◌, IfOk, OnOk, List, map};
+ghost use Rattle.std.specs.Prelude.{◌≡◌, ◌++◌, ◌∷◌, [], IfOk, OnOk, map, option_map};
 ghost use Rattle.std.specs.List.{flat_map};
 ghost use Rattle.elf_image.specs.ImageSeen.{entry_kept};
 ghost use Rattle.elf_edits.specs.Called.{answer_held, texts_held};
 ghost use Rattle.elf_edits.specs.Entries.{directories_removed, is_run_path as has_run_path, needed_names, run_paths, search_of, text_if, with_run_paths_shrunk, with_text_changed};
-ghost use Rattle.elf_edits.specs.Shrunk.{removed_from, shrunk};
-ghost use Rattle.elf_edits.specs.ShrunkSeen.{judged_by, removal_meant, text_held};
+ghost use Rattle.elf_edits.specs.Shrunk.{pairs_of, removed_from, shrunk};
+ghost use Rattle.elf_edits.specs.ShrunkSeen.{judged_by, pair_lent, removal_meant, text_held};
+ghost use Rattle.elf_edits.specs.Texts.{first_in};
+ghost use Rattle.elf_image.specs.Plain.{borrowed};
 ghost use Rattle.elf_edits.specs.Steps.{changed_if};
 
 use crate::entries::{copied, is_run_path};
 use crate::list::needed_name;
-use crate::search::{answers_by_pair, directories, shrunk_parts};
+use crate::search::{answers_by_pair, directories, is_absolute, shrunk_parts};
 use crate::searching::Searching;
 use crate::shrink::{ProbeAnswer, Removed};
 use elf_image::Dynamic;
+use elf_image::constants::{DT_RPATH, DT_RUNPATH};
 use patch_bytes::ByteString;
 use std::alloc::{AllocError, Global};
 
@@ -136,4 +139,46 @@ pub fn shrink<'d>(
     let mut removed = Vec::new(alloc);
     let entries = shrunk_entries(alloc, &s, entries, &mut removed)?;
     Ok(ShrunkList { entries, removed })
+}
+
+// Pairs of a directory and each library.
+fn put_pairs<'e>(
+    directory: &'e [u8],
+    needed: &[&'e [u8]],
+    made: &mut Vec<(&'e [u8], &'e [u8])>,
+) -> Result<(), AllocError>
+    ensures { IfOk result (λ _. map pair_lent made.new.items
+        ≡ map pair_lent made.old.items ++ flat_map (λ name. (directory.now, name) ∷ []) (map (λ name. name.now) needed.now)) }
+{
+    for name in needed {
+        made.push((directory, *name))?;
+    }
+    Ok(())
+}
+
+// Pairs of each absolute directory and each library.
+fn put_all_pairs<'e>(
+    directories: &[&'e [u8]],
+    needed: &[&'e [u8]],
+    made: &mut Vec<(&'e [u8], &'e [u8])>,
+) -> Result<(), AllocError>
+    ensures { IfOk result (λ _. map pair_lent made.new.items
+        ≡ map pair_lent made.old.items ++ pairs_of (map (λ name. name.now) needed.now) (map (λ part. part.now) directories.now)) }
+{
+    for directory in directories {
+        if is_absolute(directory) {
+            put_pairs(directory, needed, made)?;
+        }
+    }
+    Ok(())
+}
+
+// The run path of an entry, none where it has none.
+fn run_path<'e>(entry: &'e Dynamic<'_>) -> Option<&'e [u8]>
+    ensures { option_map borrowed result ≡ first_in (text_if has_run_path (entry_kept entry.now)) }
+{
+    match entry {
+        Dynamic::Text { tag, val } if *tag == DT_RPATH || *tag == DT_RUNPATH => Some(val.as_slice()),
+        _ => None,
+    }
 }
