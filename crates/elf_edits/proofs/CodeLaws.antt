@@ -38,11 +38,11 @@ pub first_of_three : {A : Type 0} (o p q : Option A) → first_there (first_ther
 first_of_three None p q = refl
 first_of_three (Some x) p q = refl
 
-found_in : List ℕ → List ℕ × List ℕ → Option (List ℕ)
+unfoldable pub found_in : List ℕ → List ℕ × List ℕ → Option (List ℕ)
 found_in text pair = if bytes_eq text pair.0 then Some pair.1 else None
 
 -- one more pair behind all
-value_of-push : (pairs : List (List ℕ × List ℕ)) (pair : List ℕ × List ℕ) (text : List ℕ) → value_of (pairs ++ pair ∷ []) text ≡ first_there (found_in text pair) (value_of pairs text)
+pub value_of-push : (pairs : List (List ℕ × List ℕ)) (pair : List ℕ × List ℕ) (text : List ℕ) → value_of (pairs ++ pair ∷ []) text ≡ first_there (found_in text pair) (value_of pairs text)
 unfolding found_in
 value_of-push [] pair text = sym (there_or_none (found_in text pair))
 value_of-push (x ∷ pairs) pair text = ap (λ o. first_there o (found_in text x)) (value_of-push pairs pair text) ∙ first_of_three (found_in text pair) (value_of pairs text) (found_in text x)

@@ -10,3 +10,4 @@ pub mod ListSteps
 pub mod CauseSteps
 pub mod AnswerSteps
 pub mod ShrinkSteps
+pub mod GatherSteps

@@ -68,7 +68,7 @@ other_way a b = by_test (bytes_eq a b)
     (λ holds. holds ∙ sym ((bytes_eq-Decides b a).1 (sym ((bytes_eq-Decides a b).0 holds))))
     (λ fails. by_test (bytes_eq b a) (λ back. absurd (both_ways (bytes_eq a b) fails ((bytes_eq-Decides a b).1 (sym ((bytes_eq-Decides b a).0 back))))) (λ back. fails ∙ sym back))
 
-true_or : (b c : Bool) → cond b true c ≡ (c || b)
+pub true_or : (b c : Bool) → cond b true c ≡ (c || b)
 true_or true true = refl
 true_or true false = refl
 true_or false true = refl

@@ -2,12 +2,14 @@
 #![tactic(auto)]
 
 pub mod abi;
+pub mod batch;
 pub mod call;
 pub mod cause;
 pub mod constants;
 mod entries;
 pub mod facts;
 pub mod laws;
+mod gathered;
 pub mod list;
 pub mod of_image;
 pub mod rows;

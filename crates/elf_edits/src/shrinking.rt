@@ -3,10 +3,10 @@ ghost use Rattle.std.specs.Prelude.{◌≡◌, ◌++◌, ◌∷◌, [], IfOk, On
 ghost use Rattle.std.specs.List.{flat_map};
 ghost use Rattle.elf_image.specs.ImageSeen.{entry_kept};
 ghost use Rattle.elf_edits.specs.Called.{answer_held, texts_held};
-ghost use Rattle.elf_edits.specs.Entries.{directories_removed, is_run_path as has_run_path, needed_names, run_paths, search_of, text_if, with_run_paths_shrunk, with_text_changed};
+ghost use Rattle.elf_edits.specs.Entries.{directories_removed, is_run_path as has_run_path, needed_names, search_of, shrink_questions as all_questions, text_if, with_run_paths_shrunk, with_text_changed};
 ghost use Rattle.elf_edits.specs.Shrunk.{pairs_of, removed_from, shrunk};
 ghost use Rattle.elf_edits.specs.ShrunkSeen.{judged_by, pair_lent, removal_meant, text_held};
-ghost use Rattle.elf_edits.specs.Texts.{first_in};
+ghost use Rattle.elf_edits.specs.Texts.{directories_in, first_in};
 ghost use Rattle.elf_image.specs.Plain.{borrowed};
 ghost use Rattle.elf_edits.specs.Steps.{changed_if};
 
@@ -181,4 +181,33 @@ fn run_path<'e>(entry: &'e Dynamic<'_>) -> Option<&'e [u8]>
         Dynamic::Text { tag, val } if *tag == DT_RPATH || *tag == DT_RUNPATH => Some(val.as_slice()),
         _ => None,
     }
+}
+
+// The pairs of a run path that have to be looked for.
+fn put_questions<'e>(
+    alloc: Global,
+    text: &'e [u8],
+    needed: &[&'e [u8]],
+    made: &mut Vec<(&'e [u8], &'e [u8])>,
+) -> Result<(), AllocError>
+    ensures { IfOk result (λ _. map pair_lent made.new.items
+        ≡ map pair_lent made.old.items ++ pairs_of (map (λ name. name.now) needed.now) (directories_in text.now)) }
+{
+    let parts = directories(alloc, text)?;
+    put_all_pairs(parts.as_slice(), needed, made)
+}
+
+/// The pairs of an absolute directory and a needed library that have to be looked for before the run paths of a list
+/// shrink, in order. Error: `AllocError`.
+pub fn shrink_questions<'e>(alloc: Global, entries: &'e [Dynamic<'_>]) -> Result<Vec<(&'e [u8], &'e [u8])>, AllocError>
+    ensures { IfOk result (λ made. map pair_lent made.items ≡ all_questions (map entry_kept entries.now)) }
+{
+    let needed = needed_list(alloc, entries)?;
+    let mut made = Vec::new(alloc);
+    for entry in entries {
+        if let Some(text) = run_path(entry) {
+            put_questions(alloc, text, needed.as_slice(), &mut made)?;
+        }
+    }
+    Ok(made)
 }
