@@ -1,8 +1,7 @@
 -- Batches and lists of batches.
-use Rattle.std.proofs.Common.{◌≡◌, ℕ, ◌+◌, suc, List, [], ◌∷◌, ◌++◌, length, refl, sym, ap, subst, ◌∙◌, Option, Some, None, Result, Ok, Err, arith, add-zero, zero-add}
+use Rattle.std.proofs.Common.{◌≡◌, ℕ, ◌+◌, List, [], ◌∷◌, ◌++◌, length, refl, sym, ap, ◌∙◌, Result, Ok, Err, arith, add-zero, zero-add}
 use Rattle.elf_image.specs.Image.{Image, shown}
-use Rattle.elf_image.specs.Views.{View}
-use Rattle.elf_edits.specs.Batch.{Refusal, answer_at, answers, left_by, left_by_all, refusal_in, run, run_from, then_on}
+use Rattle.elf_edits.specs.Batch.{answer_at, answers, left_by, left_by_all, refusal_in, run, run_from, then_on}
 use Rattle.elf_edits.specs.Cause.{Cause}
 use Rattle.elf_edits.specs.Edit.{Edit}
 use Rattle.elf_edits.specs.Edited.{edited_view, step}

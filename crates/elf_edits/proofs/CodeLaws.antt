@@ -7,11 +7,11 @@ use Rattle.std.specs.Map.{lookup}
 use Rattle.std.proofs.lemmas.Bool.{cond-true, eq-eqb, eqb-false}
 use Rattle.std.proofs.lemmas.List.{append_assoc, append-nil, drop_all}
 use Rattle.elf_image.specs.declared.constants.TheConstants.{DT_NEEDED}
-use Rattle.elf_image.specs.Dynamic.{Entry, Text}
+use Rattle.elf_image.specs.Dynamic.{Text}
 use Rattle.elf_image.specs.Options.{first_there}
 use Rattle.elf_edits.specs.declared.constants.TheConstants.{COLON}
 use Rattle.elf_edits.specs.Called.{Bytes, bytes_of, pair_held, pairs_of_map, texts_held}
-use Rattle.elf_edits.specs.Entries.{has_tag, is_replaced, needs_one_of, with_directories, with_each_added}
+use Rattle.elf_edits.specs.Entries.{is_replaced, needs_one_of, with_directories, with_each_added}
 use Rattle.elf_edits.specs.Texts.{behind_colons, is_among, joined, value_of}
 
 -- ## Sets

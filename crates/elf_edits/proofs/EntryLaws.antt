@@ -1,9 +1,9 @@
 -- What edits make of the dynamic list.
-use Rattle.std.proofs.Common.{◌≡◌, ℕ, Bool, true, false, cond, not, ◌||◌, List, [], ◌∷◌, ◌++◌, map, filter, refl, sym, ap, subst, ◌∙◌, Option, Some, None}
+use Rattle.std.proofs.Common.{◌≡◌, ℕ, Bool, true, false, not, List, [], ◌∷◌, ◌++◌, map, filter, refl, sym, ap, subst, ◌∙◌, Option, Some, None}
 use Rattle.std.specs.Prelude.{if◌then◌else◌, All, unwrap_or}
 use Rattle.std.specs.List.{list_any, filter_map, cons_option}
 use Rattle.std.specs.Str.{bytes_eq}
-use Rattle.std.proofs.lemmas.Bool.{both_ways, cond-true, cond-false, or_right, or_left}
+use Rattle.std.proofs.lemmas.Bool.{both_ways, cond-true, cond-false, or_right}
 use Rattle.std.proofs.lemmas.List.Elements.{All-push}
 use Rattle.std.proofs.lemmas.List.Folds.{list_any-append}
 use Rattle.std.proofs.lemmas.Slice.Eq.{bytes_eq-Decides}
@@ -13,10 +13,9 @@ use Rattle.elf_image.specs.Dynamic.{Auto, Entry, Integer, Text}
 use Rattle.elf_image.specs.Image.{entry_tag}
 use Rattle.elf_image.specs.Options.{first_there}
 use Rattle.elf_edits.specs.declared.constants.TheConstants.{COLON}
-use Rattle.elf_edits.specs.Edit.{DeleteNeeded, ReplaceNeeded, SetRunPath}
 use Rattle.elf_edits.specs.Entries.{changed_where, edited_entries, has_tag, is_run_path, needed_names, needs_one_of, text_if, with_text, with_text_changed, with_text_set}
 use Rattle.elf_edits.specs.Laws.{MapsAtOnce, OthersStayInOrder, RunPathsAreSet, ShrinkingTells, swap_of}
-use Rattle.elf_edits.specs.Shrunk.{Removal, Search, reason_of, removed_from, shrunk, stays}
+use Rattle.elf_edits.specs.Shrunk.{Removal, Search, reason_of, stays}
 use Rattle.elf_edits.specs.Texts.{directories_in, joined, value_of}
 use Rattle.elf_edits.proofs.ListLaws.{All-map_each, All-of_none, by_test, filter-filter, flat_map-changed, list_any-map, none_kept}
 

@@ -1,5 +1,5 @@
 -- Steps of gathering names into sets and maps, and edits by these.
-use Rattle.std.proofs.Common.{◌≡◌, ℕ, ◌+◌, ◌<◌, Bool, true, false, cond, ◌||◌, List, [], ◌∷◌, ◌++◌, length, take, get_or, map, filter, not, refl, sym, ap, subst, ◌∙◌, Option, Some, None, is_some, option_map}
+use Rattle.std.proofs.Common.{◌≡◌, ℕ, ◌+◌, ◌<◌, Bool, true, false, cond, ◌||◌, List, [], ◌∷◌, length, take, get_or, filter, not, refl, sym, ap, subst, ◌∙◌, Option, Some, None, is_some, option_map}
 use Rattle.std.specs.Prelude.{if◌then◌else◌, unwrap_or}
 use Rattle.std.specs.HashMap as hash
 use Rattle.std.specs.HashSet as bag
@@ -10,18 +10,17 @@ use Rattle.std.specs.Cmp.Lexicographic.{nat_list_eq_equiv}
 use Rattle.std.specs.Str.{bytes_eq}
 use Rattle.std.proofs.lemmas.Bool.{cond-true, cond-false}
 use Rattle.std.proofs.lemmas.List.{map-append}
-use Rattle.std.proofs.lemmas.List.Elements.{filter_agree}
 use Rattle.std.proofs.lemmas.List.Folds.{list_any-append}
 use Rattle.std.proofs.lemmas.Slice.Eq.{bytes_eq-Decides}
 use Rattle.elf_image.specs.Options.{first_there}
-use Rattle.elf_edits.specs.Called.{Bytes, bytes_of, pair_held, pairs_held, pairs_of_map, texts_held}
+use Rattle.elf_edits.specs.Called.{Bytes, bytes_of, pair_held, pairs_held, texts_held}
 use Rattle.std.proofs.Math.Path.{fun_ext}
 use Rattle.elf_image.specs.declared.constants.TheConstants.{DT_NEEDED}
 use Rattle.elf_image.specs.Dynamic.{Entry}
 use Rattle.elf_edits.specs.Edit.{DeleteNeeded, ReplaceNeeded}
 use Rattle.elf_edits.specs.Entries.{changed_where, edited_entries, has_tag, text_if, touches_entries, with_text_changed}
 use Rattle.elf_edits.specs.Texts.{is_among, value_of}
-use Rattle.elf_edits.proofs.CodeLaws.{among-held, found_in, or_none, value_of-map, value_of-push}
+use Rattle.elf_edits.proofs.CodeLaws.{found_in, or_none, value_of-push}
 use Rattle.elf_edits.proofs.ListLaws.{by_test}
 use Rattle.elf_edits.proofs.ListSteps.{one_more, other_way, true_or}
 
@@ -76,7 +75,7 @@ map_more_pair pairs i x here is old new k v name key value so_far put =
     ∙ ap (λ b. cond b (Some v.items) (value_of (pairs_held (take i pairs)) name)) (other_way k.items name ∙ ap (bytes_eq name) key)
     ∙ ap (λ l. cond (bytes_eq name x.0.items) (Some l) (value_of (pairs_held (take i pairs)) name)) value
     ∙ sym (ap (λ (l : List (Bytes × Bytes)). value_of (pairs_held l) name) (one_more pairs i x here is) ∙ ap (λ l. value_of l name) (map-append pair_held (take i pairs) (x ∷ []))
-      ∙ value_of-push (pairs_held (take i pairs)) (pair_held x) name ∙ first_or (bytes_eq name x.0.items) x.1.items (value_of (pairs_held (take i pairs)) name))
+    ∙ value_of-push (pairs_held (take i pairs)) (pair_held x) name ∙ first_or (bytes_eq name x.0.items) x.1.items (value_of (pairs_held (take i pairs)) name))
 
 -- ## Edits by sets and maps
 

@@ -1,9 +1,9 @@
 -- Edits that make twice what they make once.
-use Rattle.std.proofs.Common.{◌≡◌, ℕ, Bool, true, false, not, ◌||◌, List, [], ◌∷◌, ◌++◌, map, refl, sym, ap, subst, ◌∙◌, Option, Some, None, option_map, is_some, Result, Ok, Err, arith}
+use Rattle.std.proofs.Common.{◌≡◌, ℕ, Bool, true, false, not, ◌||◌, List, [], ◌∷◌, ◌++◌, refl, sym, ap, ◌∙◌, Option, Some, None, option_map, is_some, Ok, arith}
 use Rattle.std.proofs.lemmas.Nat.Bits.{bit_at_or, same_from_bits}
 use Rattle.std.specs.Prelude.{if◌then◌else◌, ◌==◌, bit_or, codes}
 use Rattle.std.specs.List.{list_any}
-use Rattle.std.proofs.lemmas.Bool.{both_ways, cond-true, cond-false, or_right}
+use Rattle.std.proofs.lemmas.Bool.{cond-true, cond-false, or_right}
 use Rattle.std.proofs.lemmas.List.{map-append}
 use Rattle.std.proofs.lemmas.List.Folds.{list_any-append}
 use Rattle.elf_image.specs.declared.constants.TheConstants.{DT_DEBUG, DT_FLAGS_1, DT_RPATH, DT_RUNPATH, EM_MIPS}

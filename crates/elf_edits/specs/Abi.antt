@@ -1,5 +1,5 @@
 -- Names of ABIs (gABI, ELF Identification, EI_OSABI), and an interpreter's bytes.
-use Rattle.std.specs.Prelude.{ℕ, List, [], ◌∷◌, ◌++◌, find, length, nat_eq, ◌||◌, ◌==◌, if◌then◌else◌, Option, Some, None, codes}
+use Rattle.std.specs.Prelude.{ℕ, List, [], ◌∷◌, ◌++◌, find, length, nat_eq, ◌||◌, ◌==◌, if◌then◌else◌, Option, Some, codes}
 use Rattle.std.specs.List.{ends_with}
 use Rattle.std.specs.Str.{bytes_eq, str_to_ascii_lowercase}
 use Rattle.patch_bytes.specs.Memory.{◌>>=◌}

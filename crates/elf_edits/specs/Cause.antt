@@ -10,7 +10,7 @@ use Rattle.elf_image.specs.Options.{first_there}
 use Rattle.elf_edits.specs.declared.constants.TheConstants.{MOST_SEGMENTS, SMALLEST_PAGE}
 use Rattle.elf_edits.specs.declared.facts.Facts.{Facts}
 use Rattle.elf_edits.specs.Abi.{abi_number, lowered}
-use Rattle.elf_edits.specs.Edit.{Edit, AddDebugEntry, AddNeeded, AddRunPath, ClearExecStack, DeleteNeeded, DeleteRunPath, NoDefaultLibrary, ReplaceNeeded, SetExecStack, SetInterpreter, SetOsAbi, SetPageSize, SetRunPath, SetSoname, ShrinkRunPath, UseRpath, UseRunpath, task_of, texts_of}
+use Rattle.elf_edits.specs.Edit.{Edit, ClearExecStack, SetExecStack, SetInterpreter, SetOsAbi, SetPageSize, ShrinkRunPath, task_of, texts_of}
 use Rattle.elf_edits.specs.Entries.{is_run_path}
 use Rattle.elf_edits.specs.Texts.{holds_nul}
 

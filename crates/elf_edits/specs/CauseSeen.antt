@@ -1,6 +1,5 @@
 -- Causes as the code tells them.
-use Rattle.std.specs.Prelude.{ℕ, List, [], ◌∷◌, Bool, Option, ◌||◌}
-use Rattle.std.specs.List.{list_any}
+use Rattle.std.specs.Prelude.{Bool, ◌||◌}
 use Rattle.elf_edits.specs.declared.cause.Cause.{Cause as CauseTold}
 use Rattle.elf_edits.specs.declared.cause.Cause.TheVariants as told
 use Rattle.elf_edits.specs.Abi.{lowered}

@@ -1,5 +1,5 @@
 -- What an edit makes of a view and of an image.
-use Rattle.std.specs.Prelude.{ℕ, List, [], ◌∷◌, ◌++◌, map, Bool, true, false, ◌||◌, Option, Some, None, is_some, unwrap_or, Result, Ok, Err, ◌==◌, ◌-◌, if◌then◌else◌, bit_and, bit_or}
+use Rattle.std.specs.Prelude.{ℕ, List, [], ◌∷◌, map, Bool, true, false, ◌||◌, Option, Some, None, unwrap_or, Result, Ok, Err, ◌==◌, ◌-◌, if◌then◌else◌, bit_and, bit_or}
 use Rattle.std.specs.Option.{option_map}
 use Rattle.elf_image.specs.declared.constants.TheConstants.{PF_X, PT_GNU_STACK, PT_LOAD}
 use Rattle.elf_image.specs.Dynamic.{Entry}
@@ -9,7 +9,7 @@ use Rattle.elf_image.specs.Views.{View}
 use Rattle.elf_edits.specs.declared.constants.TheConstants.{STACK_ALIGN, STACK_FLAGS}
 use Rattle.elf_edits.specs.Abi.{abi_number, with_nul}
 use Rattle.elf_edits.specs.Cause.{Cause, cause}
-use Rattle.elf_edits.specs.Edit.{Edit, AddDebugEntry, AddNeeded, AddRunPath, ClearExecStack, DeleteNeeded, DeleteRunPath, NoDefaultLibrary, ReplaceNeeded, SetExecStack, SetInterpreter, SetOsAbi, SetPageSize, SetRunPath, SetSoname, ShrinkRunPath, UseRpath, UseRunpath}
+use Rattle.elf_edits.specs.Edit.{Edit, ClearExecStack, SetExecStack, SetInterpreter, SetOsAbi, SetPageSize, ShrinkRunPath}
 use Rattle.elf_edits.specs.Entries.{directories_removed, edited_entries, search_of, touches_entries}
 use Rattle.elf_edits.specs.Shrunk.{Removal}
 

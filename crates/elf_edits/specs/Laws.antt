@@ -1,11 +1,10 @@
 -- What holds of all edits.
-use Rattle.std.specs.Prelude.{ℕ, ◌≡◌, ◌≢◌, ◌↔◌, ◌+◌, List, [], ◌∷◌, ◌++◌, All, length, map, filter, Bool, true, false, not, ◌||◌, Option, Some, None, unwrap_or, Result, Ok, Err, if◌then◌else◌}
+use Rattle.std.specs.Prelude.{ℕ, ◌≡◌, List, [], ◌∷◌, ◌++◌, All, length, map, filter, true, false, not, ◌||◌, Some, None, unwrap_or, Ok, Err}
 use Rattle.std.specs.List.{list_any}
-use Rattle.std.specs.Str.{bytes_eq}
 use Rattle.elf_image.specs.Dynamic.{Entry, Text}
 use Rattle.elf_image.specs.Image.{Image, entry_tag, shown}
 use Rattle.elf_image.specs.Views.{View}
-use Rattle.elf_edits.specs.Batch.{Refusal, answer_at, answers, left_by, left_by_all, refusal_in, run, run_from, then_on}
+use Rattle.elf_edits.specs.Batch.{Refusal, answer_at, answers, left_by, left_by_all, run, run_from, then_on}
 use Rattle.elf_edits.specs.Cause.{Cause, cause}
 use Rattle.elf_edits.specs.Edit.{Edit, AddDebugEntry, DeleteNeeded, NoDefaultLibrary, ReplaceNeeded, SetRunPath, UseRpath}
 use Rattle.elf_edits.specs.Edited.{edited_view, step, touches}

@@ -1,5 +1,5 @@
 -- Small lists and images, and what the edits make of them. Each row is computed.
-use Rattle.std.specs.Prelude.{ℕ, ◌≡◌, List, [], ◌∷◌, ◌++◌, length, Bool, true, false, Option, Some, None, Result, Ok, Err, codes, replicate}
+use Rattle.std.specs.Prelude.{ℕ, ◌≡◌, List, [], ◌∷◌, ◌++◌, true, false, Option, Some, None, Ok, Err, codes, replicate}
 use Rattle.patch_bytes.specs.declared.number.ByteOrder2.TheVariants.{Little}
 use Rattle.patch_bytes.specs.declared.number.Wide.TheVariants.{W64}
 use Rattle.elf_image.specs.declared.constants.TheConstants.{EM_MIPS}
@@ -7,8 +7,8 @@ use Rattle.elf_image.specs.declared.records.SegmentHeader.{SegmentHeader}
 use Rattle.elf_image.specs.Dynamic.{Auto, Entry, Integer, Text}
 use Rattle.elf_image.specs.Image.{Image}
 use Rattle.elf_edits.specs.Abi.{abi_number, with_nul}
-use Rattle.elf_edits.specs.Batch.{Refusal, answers, left_by_all, run}
-use Rattle.elf_edits.specs.Cause.{BadPageSize, Cause, MipsImage, NoDynamic, NoInterpreter, NoRunPath, NulInText, TooManyHeaders, UnknownAbi, cause}
+use Rattle.elf_edits.specs.Batch.{answers, left_by_all, run}
+use Rattle.elf_edits.specs.Cause.{BadPageSize, MipsImage, NoDynamic, NoInterpreter, NoRunPath, NulInText, TooManyHeaders, UnknownAbi, cause}
 use Rattle.elf_edits.specs.Edit.{Answer, Edit, AddDebugEntry, AddNeeded, AddRunPath, ClearExecStack, DeleteNeeded, DeleteRunPath, NoDefaultLibrary, ReplaceNeeded, SetExecStack, SetInterpreter, SetOsAbi, SetPageSize, SetRunPath, SetSoname, ShrinkRunPath, UseRpath, UseRunpath}
 use Rattle.elf_edits.specs.Edited.{added_stack, removed_by, step}
 use Rattle.elf_edits.specs.Entries.{edited_entries, shrink_questions}

@@ -1,5 +1,5 @@
 -- A run path without the directories in which no needed library is found.
-use Rattle.std.specs.Prelude.{ℕ, List, [], ◌∷◌, filter, find, Bool, true, false, not, ◌&&◌, ◌||◌, Option, Some, None, is_none, nat_eq, ◌==◌, if◌then◌else◌}
+use Rattle.std.specs.Prelude.{ℕ, List, [], ◌∷◌, filter, find, Bool, true, not, ◌&&◌, ◌||◌, Option, Some, None, nat_eq, ◌==◌, if◌then◌else◌}
 use Rattle.std.specs.List.{filter_map, flat_map, list_any, starts_with}
 use Rattle.std.specs.Str.{bytes_eq}
 use Rattle.patch_bytes.specs.Memory.{◌>>=◌}

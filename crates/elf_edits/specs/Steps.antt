@@ -5,7 +5,6 @@ use Rattle.std.specs.Prelude.{ℕ, List, [], ◌∷◌, ◌++◌, map, Bool, fal
 use Rattle.std.specs.List.{filter_map, list_any}
 use Rattle.elf_image.specs.declared.constants.TheConstants.{DT_DEBUG, DT_FLAGS_1, DT_NEEDED, DT_RPATH, DT_RUNPATH, DT_SONAME}
 use Rattle.elf_image.specs.Dynamic.{Entry, Integer, Text}
-use Rattle.elf_image.specs.Image.{lists_tag}
 use Rattle.elf_edits.specs.declared.constants.TheConstants.{DF_1_NODEFLIB}
 use Rattle.elf_edits.specs.Edit.{Edit, AddDebugEntry, AddNeeded, AddRunPath, ClearExecStack, DeleteNeeded, DeleteRunPath, NoDefaultLibrary, ReplaceNeeded, SetExecStack, SetInterpreter, SetOsAbi, SetPageSize, SetRunPath, SetSoname, ShrinkRunPath, UseRpath, UseRunpath}
 use Rattle.elf_edits.specs.Entries.{has_tag, is_run_path, needs_one_of, not_needed_yet, text_if, with_bits, with_each_added, with_tag, with_text, with_text_changed}

@@ -46,7 +46,7 @@ fn holds_nul(text: &[u8]) -> bool
 }
 
 // Whether one of some texts does.
-fn any_nul(texts: &[Vec<u8>]) -> bool
+pub(crate) fn any_nul(texts: &[Vec<u8>]) -> bool
     ensures { result ≡ list_any nul_in (texts_held texts.now) }
 {
     for text in texts {

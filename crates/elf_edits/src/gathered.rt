@@ -23,7 +23,10 @@ pub(crate) fn set_of(alloc: Global, names: &[Vec<u8>]) -> Result<HashSet<Vec<u8>
 }
 
 // The map of some pairs; of a repeated name the last counts.
-pub(crate) fn map_of(alloc: Global, pairs: &[(Vec<u8>, Vec<u8>)]) -> Result<HashMap<Vec<u8>, Vec<u8>>, AllocError>
+pub(crate) fn map_of(
+    alloc: Global,
+    pairs: &[(Vec<u8>, Vec<u8>)],
+) -> Result<HashMap<Vec<u8>, Vec<u8>>, AllocError>
     ensures { IfOk result (λ made. (name : List ℕ) → option_map bytes_of (lookup (λ k. bytes_eq name (bytes_of k)) made.entries) ≡ value_of (pairs_held pairs.now) name) }
 {
     let mut made = HashMap::new(alloc);

@@ -178,7 +178,9 @@ fn run_path<'e>(entry: &'e Dynamic<'_>) -> Option<&'e [u8]>
     ensures { option_map borrowed result ≡ first_in (text_if has_run_path (entry_kept entry.now)) }
 {
     match entry {
-        Dynamic::Text { tag, val } if *tag == DT_RPATH || *tag == DT_RUNPATH => Some(val.as_slice()),
+        Dynamic::Text { tag, val } if *tag == DT_RPATH || *tag == DT_RUNPATH => Some(
+            val.as_slice(),
+        ),
         _ => None,
     }
 }
@@ -199,7 +201,10 @@ fn put_questions<'e>(
 
 /// The pairs of an absolute directory and a needed library that have to be looked for before the run paths of a list
 /// shrink, in order. Error: `AllocError`.
-pub fn shrink_questions<'e>(alloc: Global, entries: &'e [Dynamic<'_>]) -> Result<Vec<(&'e [u8], &'e [u8])>, AllocError>
+pub fn shrink_questions<'e>(
+    alloc: Global,
+    entries: &'e [Dynamic<'_>],
+) -> Result<Vec<(&'e [u8], &'e [u8])>, AllocError>
     ensures { IfOk result (λ made. map pair_lent made.items ≡ all_questions (map entry_kept entries.now)) }
 {
     let needed = needed_list(alloc, entries)?;

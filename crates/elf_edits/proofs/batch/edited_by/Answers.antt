@@ -12,12 +12,12 @@ pub returns-in-AddRpath-clause-list : goal.returns-in-AddRpath-clause-list
 returns-in-AddRpath-clause-list c =
     let es = map entry_kept c.args.entries.now in
     IfOk-weaker c.edited-in-AddRpath.result _ _ (λ made h machine. h machine
-      ∙ ap (λ (l : List Bytes). edited_entries machine (AddRunPath (texts_held l)) es) c.from_ref.ensures.value
-      ∙ sym (ap (λ (e : ElfEdit). edited_entries machine (edit_meant e) es) c.in-AddRpath.is)) c.edited-in-AddRpath.ensures.list
+    ∙ ap (λ (l : List Bytes). edited_entries machine (AddRunPath (texts_held l)) es) c.from_ref.ensures.value
+    ∙ sym (ap (λ (e : ElfEdit). edited_entries machine (edit_meant e) es) c.in-AddRpath.is)) c.edited-in-AddRpath.ensures.list
 
 pub returns-in-AddRpath-clause-touched : goal.returns-in-AddRpath-clause-touched
 returns-in-AddRpath-clause-touched c =
     let es = map entry_kept c.args.entries.now in
     IfOk-weaker c.edited-in-AddRpath.result _ _ (λ made h machine. h machine
-      ∙ ap (λ (l : List Bytes). touches_entries machine (AddRunPath (texts_held l)) es) c.from_ref.ensures.value
-      ∙ sym (ap (λ (e : ElfEdit). touches_entries machine (edit_meant e) es) c.in-AddRpath.is)) c.edited-in-AddRpath.ensures.touched
+    ∙ ap (λ (l : List Bytes). touches_entries machine (AddRunPath (texts_held l)) es) c.from_ref.ensures.value
+    ∙ sym (ap (λ (e : ElfEdit). touches_entries machine (edit_meant e) es) c.in-AddRpath.is)) c.edited-in-AddRpath.ensures.touched

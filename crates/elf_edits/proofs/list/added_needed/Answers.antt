@@ -1,5 +1,5 @@
 -- A name gets an entry, or is needed already.
-use Rattle.std.proofs.Common.{◌≡◌, ◌∙◌, ap, map, sym, true, false}
+use Rattle.std.proofs.Common.{◌≡◌, ◌∙◌, ap, map, sym}
 use Rattle.std.specs.HashSet.{keys}
 use Rattle.elf_image.specs.declared.constants.TheConstants.{DT_NEEDED}
 use Rattle.elf_image.specs.Dynamic.{Text}

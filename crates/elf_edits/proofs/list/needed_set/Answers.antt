@@ -1,5 +1,5 @@
 -- A library is put into the set, or the entry needs none.
-use Rattle.std.proofs.Common.{◌≡◌, ◌∙◌, ap, sym}
+use Rattle.std.proofs.Common.{◌∙◌, ap}
 use Rattle.std.specs.HashSet.{keys}
 use Rattle.elf_edits.proofs.ListSteps.{set_has, set_kept, set_more}
 use Rattle.elf_edits.proofs.list.needed_set.Goals.{in-Some+in_ok-insert, in_default}

@@ -1,8 +1,6 @@
 -- An entry is put behind the others, or left out.
-use Rattle.std.proofs.Common.{◌≡◌, ◌∙◌, ap, map, sym, Option, Some, None}
+use Rattle.std.proofs.Common.{◌≡◌, ◌∙◌, ap, map, sym, Some, None}
 use Rattle.std.proofs.lemmas.Bool.{cond-true, cond-false}
-use Rattle.elf_image.specs.declared.dynamic.Dynamic.{Dynamic}
-use Rattle.elf_image.specs.Dynamic.{Entry}
 use Rattle.elf_image.specs.ImageSeen.{entry_kept}
 use Rattle.elf_edits.specs.Called.{call_meant}
 use Rattle.elf_edits.specs.Steps.{changed_entry, entry_after, is_dropped}

@@ -1,5 +1,5 @@
 -- Names were added where the list is longer.
-use Rattle.std.proofs.Common.{◌≡◌, ◌∙◌, ap, map, refl, sym}
+use Rattle.std.proofs.Common.{◌∙◌, ap, map, refl, sym}
 use Rattle.elf_image.specs.ImageSeen.{entry_kept}
 use Rattle.elf_edits.specs.declared.call.EditCall.{EditCall}
 use Rattle.elf_edits.specs.Called.{call_meant, texts_held}

@@ -1,5 +1,5 @@
 -- An answer is put into the map, or one for its pair is there.
-use Rattle.std.proofs.Common.{◌≡◌, ◌∙◌, ap, map, sym, take}
+use Rattle.std.proofs.Common.{◌∙◌, ap, map, sym, take}
 use Rattle.std.specs.Map.{lookup}
 use Rattle.elf_edits.specs.Called.{answer_held}
 use Rattle.elf_edits.specs.ShrunkSeen.{is_pair}
