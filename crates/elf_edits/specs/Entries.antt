@@ -66,7 +66,7 @@ with_text_set test added text entries =
     if list_any test entries then changed_where test (with_text text) entries
     else entries ++ Text added text ∷ []
 
--- a run path with one more directory list: alone where the old one is empty, else behind a colon
+-- a run path with a text added: that alone where the run path is empty, else behind a colon
 abbrev pub with_directories : List ℕ → List ℕ → List ℕ
 with_directories [] added = added
 with_directories (byte ∷ rest) added = (byte ∷ rest) ++ COLON ∷ added

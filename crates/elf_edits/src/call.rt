@@ -4,7 +4,7 @@ use std::collections::{HashMap, HashSet};
 
 /// An edit of what an ELF file shows, with the values of one call. Texts are bytes without a NUL; they are compared
 /// whole.
-#[derive(Debug, Drop)]
+#[derive(Drop)]
 pub enum EditCall<'e> {
     /// Puts an entry DT_DEBUG last, unless one is there (gABI, Dynamic Section).
     AddDebugEntry,

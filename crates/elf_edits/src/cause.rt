@@ -18,7 +18,7 @@ use elf_image::constants::EM_MIPS;
 use std::collections::{HashMap, HashSet};
 
 /// Why an edit of an ELF file is refused.
-#[derive(Debug, Drop)]
+#[derive(Drop)]
 pub enum Cause<'e> {
     /// Files for MIPS are read alone.
     MipsImage,

@@ -1,5 +1,5 @@
 /// What of an image decides whether an edit is refused.
-#[derive(Clone, Copy, Debug)]
+#[derive(Clone, Copy)]
 pub struct Facts {
     /// The machine (gABI, ELF Header, `e_machine`).
     pub machine: u16,

@@ -235,7 +235,7 @@ fn touches(call: &EditCall<'_>, entries: &[Dynamic<'_>], made: &[Dynamic<'_>]) -
 }
 
 /// A dynamic list after an edit.
-#[derive(Debug, Drop)]
+#[derive(Drop)]
 pub struct NewList<'d> {
     /// The entries.
     pub entries: Vec<Dynamic<'d>>,

@@ -2,54 +2,30 @@
 //! computed.
 ghost use Rattle.elf_edits.specs.Rows.{AbiRows, BatchRows, InterpreterRows, MarkRows, NeededRows, OtherEntryRows, PageRows, RefusalRows, RunPathRows, ShrinkRows, StackRows};
 
-/// Run paths that are added, set, dropped and renamed.
-pub fn run_path_rows()
-    ensures { RunPathRows }
+/// Run paths, needed libraries and the other entries.
+pub fn list_rows()
+    ensures run_paths { RunPathRows }
+    ensures needed { NeededRows }
+    ensures others { OtherEntryRows }
 {}
 
-/// Needed libraries that are added, dropped and replaced.
-pub fn needed_rows()
-    ensures { NeededRows }
+/// Names of ABIs, interpreters, the stack, page sizes.
+pub fn value_rows()
+    ensures abi { AbiRows }
+    ensures interpreter { InterpreterRows }
+    ensures stack { StackRows }
+    ensures pages { PageRows }
 {}
 
-/// The library's name, the flag of default directories, the entry for a debugger.
-pub fn other_entry_rows()
-    ensures { OtherEntryRows }
+/// Causes, and which one comes first; which edits mark an image as changed.
+pub fn refusal_rows()
+    ensures causes { RefusalRows }
+    ensures marks { MarkRows }
 {}
 
 /// Run paths that shrink, with the directories that go, and what has to be looked for.
 pub fn shrink_rows()
     ensures { ShrinkRows }
-{}
-
-/// Names of ABIs.
-pub fn abi_rows()
-    ensures { AbiRows }
-{}
-
-/// Interpreters.
-pub fn interpreter_rows()
-    ensures { InterpreterRows }
-{}
-
-/// Whether the stack may be run.
-pub fn stack_rows()
-    ensures { StackRows }
-{}
-
-/// Page sizes.
-pub fn page_rows()
-    ensures { PageRows }
-{}
-
-/// Causes, and which one comes first.
-pub fn refusal_rows()
-    ensures { RefusalRows }
-{}
-
-/// Which edits mark an image as changed.
-pub fn mark_rows()
-    ensures { MarkRows }
 {}
 
 /// Batches, and lists of batches.

@@ -104,7 +104,7 @@ fn needed_list<'e>(alloc: Global, entries: &'e [Dynamic<'_>]) -> Result<Vec<&'e 
 }
 
 /// A dynamic list whose run paths shrank.
-#[derive(Debug, Drop)]
+#[derive(Drop)]
 pub struct ShrunkList<'d> {
     /// The entries.
     pub entries: Vec<Dynamic<'d>>,
