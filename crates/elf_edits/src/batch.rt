@@ -26,9 +26,12 @@ fn without_names<'d>(
     entries: &[Dynamic<'d>],
 ) -> Result<NewList<'d>, AllocError>
     ensures list { IfOk result (λ made. (machine : ℕ) →
-        map entry_kept made.entries.items ≡ edited_entries machine (delete_needed (texts_held names.now)) (map entry_kept entries.now)) }
+        map entry_kept made.entries.items
+        ≡ edited_entries machine (delete_needed (texts_held names.now))
+        (map entry_kept entries.now)) }
     ensures touched { IfOk result (λ made. (machine : ℕ) →
-        made.is_touched ≡ touches_entries machine (delete_needed (texts_held names.now)) (map entry_kept entries.now)) }
+        made.is_touched ≡ touches_entries machine (delete_needed (texts_held names.now))
+        (map entry_kept entries.now)) }
 {
     let set = set_of(alloc, names)?;
     edited(alloc, &EditCall::DeleteNeeded(&set), entries)
@@ -41,9 +44,12 @@ fn with_names<'d>(
     entries: &[Dynamic<'d>],
 ) -> Result<NewList<'d>, AllocError>
     ensures list { IfOk result (λ made. (machine : ℕ) →
-        map entry_kept made.entries.items ≡ edited_entries machine (replace_needed (pairs_held pairs.now)) (map entry_kept entries.now)) }
+        map entry_kept made.entries.items
+        ≡ edited_entries machine (replace_needed (pairs_held pairs.now))
+        (map entry_kept entries.now)) }
     ensures touched { IfOk result (λ made. (machine : ℕ) →
-        made.is_touched ≡ touches_entries machine (replace_needed (pairs_held pairs.now)) (map entry_kept entries.now)) }
+        made.is_touched ≡ touches_entries machine (replace_needed (pairs_held pairs.now))
+        (map entry_kept entries.now)) }
 {
     let names = map_of(alloc, pairs)?;
     edited(alloc, &EditCall::ReplaceNeeded(&names), entries)
@@ -57,9 +63,11 @@ pub fn edited_by<'d>(
     entries: &[Dynamic<'d>],
 ) -> Result<NewList<'d>, AllocError>
     ensures list { IfOk result (λ made. (machine : ℕ) →
-        map entry_kept made.entries.items ≡ edited_entries machine (edit_meant edit.now) (map entry_kept entries.now)) }
+        map entry_kept made.entries.items
+        ≡ edited_entries machine (edit_meant edit.now) (map entry_kept entries.now)) }
     ensures touched { IfOk result (λ made. (machine : ℕ) →
-        made.is_touched ≡ touches_entries machine (edit_meant edit.now) (map entry_kept entries.now)) }
+        made.is_touched ≡ touches_entries machine (edit_meant edit.now)
+        (map entry_kept entries.now)) }
 {
     match edit {
         ElfEdit::AddDebugTag => edited(alloc, &EditCall::AddDebugEntry, entries),
@@ -90,7 +98,8 @@ pub fn edited_by<'d>(
 
 // Whether one of some pairs holds a NUL.
 fn any_nul_in_pairs(pairs: &[(Vec<u8>, Vec<u8>)]) -> bool
-    ensures { result ≡ list_any holds_nul (flat_map (λ pair. pair.0 ∷ pair.1 ∷ []) (pairs_held pairs.now)) }
+    ensures { result ≡ list_any holds_nul (flat_map (λ pair. pair.0 ∷ pair.1 ∷ [])
+        (pairs_held pairs.now)) }
 {
     for (old, new) in pairs {
         if old.contains(&0) || new.contains(&0) {
@@ -103,7 +112,8 @@ fn any_nul_in_pairs(pairs: &[(Vec<u8>, Vec<u8>)]) -> bool
 // The first cause against dropping needed libraries.
 #[tactic(auto, unfolding(crate::specs::Cause::first_cause))]
 fn removal_cause(names: &[Vec<u8>], facts: &Facts) -> Option<Cause<'static>>
-    ensures { option_map cause_meant result ≡ first_cause (delete_needed (texts_held names.now)) facts.now }
+    ensures { option_map cause_meant result
+        ≡ first_cause (delete_needed (texts_held names.now)) facts.now }
 {
     if facts.machine == EM_MIPS {
         Some(Cause::MipsImage)
@@ -119,7 +129,8 @@ fn removal_cause(names: &[Vec<u8>], facts: &Facts) -> Option<Cause<'static>>
 // The first cause against replacing needed libraries.
 #[tactic(auto, unfolding(crate::specs::Cause::first_cause))]
 fn replacement_cause(pairs: &[(Vec<u8>, Vec<u8>)], facts: &Facts) -> Option<Cause<'static>>
-    ensures { option_map cause_meant result ≡ first_cause (replace_needed (pairs_held pairs.now)) facts.now }
+    ensures { option_map cause_meant result
+        ≡ first_cause (replace_needed (pairs_held pairs.now)) facts.now }
 {
     if facts.machine == EM_MIPS {
         Some(Cause::MipsImage)

@@ -157,7 +157,9 @@ fn own_cause<'e>(call: &EditCall<'e>, facts: &Facts) -> Option<Cause<'e>>
 
 // What an edit needs and isn't there: the dynamic section, or the interpreter.
 fn missing<'e>(call: &EditCall<'e>, facts: &Facts) -> Option<Cause<'e>>
-    ensures { option_map cause_meant result ≡ first_there (list_missing (task_meant (call_meant call.now)) facts.now) (interpreter_missing (call_meant call.now) facts.now) }
+    ensures { option_map cause_meant result
+        ≡ first_there (list_missing (task_meant (call_meant call.now)) facts.now)
+        (interpreter_missing (call_meant call.now) facts.now) }
 {
     if let EditCall::SetInterpreter(_) = call {
         return if facts.has_interpreter {
@@ -195,7 +197,8 @@ pub fn cause_of<'e>(call: &EditCall<'e>, facts: &Facts) -> Option<Cause<'e>>
 #[tactic(auto, unfolding(crate::specs::Cause::first_cause))]
 pub fn shrink_cause(prefixes: &[Vec<u8>], facts: &Facts) -> Option<Cause<'static>>
     ensures { (answers : List Answer) →
-        option_map cause_meant result ≡ first_of_causes (ShrinkRunPath (texts_held prefixes.now) answers) facts.now }
+        option_map cause_meant result
+        ≡ first_of_causes (ShrinkRunPath (texts_held prefixes.now) answers) facts.now }
 {
     if facts.machine == EM_MIPS {
         Some(Cause::MipsImage)

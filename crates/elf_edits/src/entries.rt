@@ -80,7 +80,8 @@ fn with_tag<'d>(alloc: Global, tag: u64, entry: &Dynamic<'d>) -> Result<Dynamic<
 
 // The entry with DF_1_NODEFLIB in its number.
 fn without_default<'d>(alloc: Global, entry: &Dynamic<'d>) -> Result<Dynamic<'d>, AllocError>
-    ensures { IfOk result (λ made. entry_kept made ≡ with_bits DF_1_NODEFLIB (entry_kept entry.now)) }
+    ensures { IfOk result (λ made. entry_kept made
+        ≡ with_bits DF_1_NODEFLIB (entry_kept entry.now)) }
 {
     match entry {
         Dynamic::Integer { tag, val } => Ok(Dynamic::Integer {
@@ -97,7 +98,8 @@ fn with_directories_added<'d>(
     entry: &Dynamic<'d>,
     texts: &[Vec<u8>],
 ) -> Result<Dynamic<'d>, AllocError>
-    ensures { IfOk result (λ made. entry_kept made ≡ with_text_changed (with_each_added (texts_held texts.now)) (entry_kept entry.now)) }
+    ensures { IfOk result (λ made. entry_kept made
+        ≡ with_text_changed (with_each_added (texts_held texts.now)) (entry_kept entry.now)) }
 {
     match entry {
         Dynamic::Text { tag, val } => {
@@ -134,7 +136,8 @@ fn new_name<'d>(
     names: &HashMap<Vec<u8>, Vec<u8>>,
     name: &ByteString<'d>,
 ) -> Result<ByteString<'d>, AllocError>
-    ensures { IfOk result (λ made. made ≡ unwrap_or (value_of (pairs_of_map names.now.entries) name.now) name.now) }
+    ensures { IfOk result (λ made. made
+        ≡ unwrap_or (value_of (pairs_of_map names.now.entries) name.now) name.now) }
 {
     match names.get(name.as_slice()) {
         None => name.try_clone(alloc),
@@ -149,7 +152,8 @@ fn replaced<'d>(
     names: &HashMap<Vec<u8>, Vec<u8>>,
 ) -> Result<Dynamic<'d>, AllocError>
     ensures { IfOk result (λ made. entry_kept made
-        ≡ with_text_changed (λ name. unwrap_or (value_of (pairs_of_map names.now.entries) name) name) (entry_kept entry.now)) }
+        ≡ with_text_changed (λ name. unwrap_or (value_of
+        (pairs_of_map names.now.entries) name) name) (entry_kept entry.now)) }
 {
     match entry {
         Dynamic::Text { tag, val } => {
@@ -162,7 +166,8 @@ fn replaced<'d>(
 
 // The entry with another text.
 fn with_text<'d>(alloc: Global, entry: &Dynamic<'d>, text: &[u8]) -> Result<Dynamic<'d>, AllocError>
-    ensures { IfOk result (λ made. entry_kept made ≡ with_that_text text.now (entry_kept entry.now)) }
+    ensures { IfOk result (λ made. entry_kept made
+        ≡ with_that_text text.now (entry_kept entry.now)) }
 {
     text_entry(alloc, entry.tag(), text)
 }
@@ -185,7 +190,8 @@ pub(crate) fn changed<'d>(
     call: &EditCall<'_>,
     entry: &Dynamic<'d>,
 ) -> Result<Dynamic<'d>, AllocError>
-    ensures { IfOk result (λ made. entry_kept made ≡ changed_entry (call_meant call.now) (entry_kept entry.now)) }
+    ensures { IfOk result (λ made. entry_kept made
+        ≡ changed_entry (call_meant call.now) (entry_kept entry.now)) }
 {
     match call {
         EditCall::SetRunPath(text) => if is_run_path(entry) {

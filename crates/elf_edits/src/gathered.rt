@@ -13,7 +13,8 @@ use std::collections::{HashMap, HashSet};
 
 // The set of some names.
 pub(crate) fn set_of(alloc: Global, names: &[Vec<u8>]) -> Result<HashSet<Vec<u8>>, AllocError>
-    ensures { IfOk result (λ set. (name : List ℕ) → list_any (λ k. bytes_eq name (bytes_of k)) (keys set) ≡ is_among (texts_held names.now) name) }
+    ensures { IfOk result (λ set. (name : List ℕ) → list_any (λ k. bytes_eq name (bytes_of k))
+        (keys set) ≡ is_among (texts_held names.now) name) }
 {
     let mut set = HashSet::new(alloc);
     for name in names {
@@ -27,7 +28,8 @@ pub(crate) fn map_of(
     alloc: Global,
     pairs: &[(Vec<u8>, Vec<u8>)],
 ) -> Result<HashMap<Vec<u8>, Vec<u8>>, AllocError>
-    ensures { IfOk result (λ made. (name : List ℕ) → option_map bytes_of (lookup (λ k. bytes_eq name (bytes_of k)) made.entries) ≡ value_of (pairs_held pairs.now) name) }
+    ensures { IfOk result (λ made. (name : List ℕ) → option_map bytes_of (lookup
+        (λ k. bytes_eq name (bytes_of k)) made.entries) ≡ value_of (pairs_held pairs.now) name) }
 {
     let mut made = HashMap::new(alloc);
     for (old, new) in pairs {

@@ -56,7 +56,8 @@ fn put_entries<'d>(
     made: &mut Vec<Dynamic<'d>>,
 ) -> Result<(), AllocError>
     ensures { IfOk result (λ _. map entry_kept made.new.items
-        ≡ map entry_kept made.old.items ++ filter_map (entry_after (call_meant call.now)) (map entry_kept entries.now)) }
+        ≡ map entry_kept made.old.items
+        ++ filter_map (entry_after (call_meant call.now)) (map entry_kept entries.now)) }
 {
     for entry in entries {
         if !is_dropped(call, entry) {
@@ -82,7 +83,8 @@ fn needed_set<'e>(
     entries: &'e [Dynamic<'_>],
 ) -> Result<HashSet<&'e [u8]>, AllocError>
     ensures { IfOk result (λ set. (name : List ℕ) →
-        list_any (λ k. bytes_eq name k.now) (keys set) ≡ is_among (needed_names (map entry_kept entries.now)) name) }
+        list_any (λ k. bytes_eq name k.now) (keys set)
+        ≡ is_among (needed_names (map entry_kept entries.now)) name) }
 {
     let mut set = HashSet::new(alloc);
     for entry in entries {
@@ -100,7 +102,8 @@ fn added_needed<'d>(
     entries: &[Dynamic<'_>],
 ) -> Result<Vec<Dynamic<'d>>, AllocError>
     ensures { IfOk result (λ made. map entry_kept made.items
-        ≡ map (text_of_tag DT_NEEDED) (not_needed_yet (texts_held names.now) (map entry_kept entries.now))) }
+        ≡ map (text_of_tag DT_NEEDED) (not_needed_yet (texts_held names.now)
+        (map entry_kept entries.now))) }
 {
     let set = needed_set(alloc, entries)?;
     let mut made = Vec::new(alloc);
@@ -118,7 +121,8 @@ fn put_first<'d>(
     call: &EditCall<'_>,
     entries: &[Dynamic<'_>],
 ) -> Result<Vec<Dynamic<'d>>, AllocError>
-    ensures { IfOk result (λ made. map entry_kept made.items ≡ put_before (call_meant call.now) (map entry_kept entries.now)) }
+    ensures { IfOk result (λ made. map entry_kept made.items
+        ≡ put_before (call_meant call.now) (map entry_kept entries.now)) }
 {
     match call {
         EditCall::AddNeeded(names) => added_needed(alloc, names, entries),
@@ -132,7 +136,8 @@ fn last_entry<'d>(
     call: &EditCall<'_>,
     entries: &[Dynamic<'_>],
 ) -> Result<Option<Dynamic<'d>>, AllocError>
-    ensures { IfOk result (λ made. map entry_kept (option_to_list made) ≡ put_last (call_meant call.now) (map entry_kept entries.now)) }
+    ensures { IfOk result (λ made. map entry_kept (option_to_list made)
+        ≡ put_last (call_meant call.now) (map entry_kept entries.now)) }
 {
     match call {
         EditCall::AddDebugEntry => if any_with_tag(entries, DT_DEBUG) {
@@ -179,7 +184,8 @@ fn own_text<'d>(alloc: Global, tag: u64, text: &[u8]) -> Result<Option<Dynamic<'
 
 // A run path of texts.
 fn joined_texts<'d>(alloc: Global, texts: &[Vec<u8>]) -> Result<Option<Dynamic<'d>>, AllocError>
-    ensures { IfOk result (λ made. option_map entry_kept made ≡ some (text_of_tag DT_RUNPATH (joined_by_colons (texts_held texts.now)))) }
+    ensures { IfOk result (λ made. option_map entry_kept made
+        ≡ some (text_of_tag DT_RUNPATH (joined_by_colons (texts_held texts.now)))) }
 {
     let text = joined(alloc, texts)?;
     Ok(Some(Dynamic::Text {
@@ -190,7 +196,8 @@ fn joined_texts<'d>(alloc: Global, texts: &[Vec<u8>]) -> Result<Option<Dynamic<'
 
 // Whether an entry needs one of these libraries.
 fn any_needs(entries: &[Dynamic<'_>], names: &HashSet<Vec<u8>>) -> bool
-    ensures { result ≡ list_any (needs_any (texts_held (keys names.now))) (map entry_kept entries.now) }
+    ensures { result ≡ list_any (needs_any (texts_held (keys names.now)))
+        (map entry_kept entries.now) }
 {
     for entry in entries {
         if needs_one_of(entry, names) {
@@ -202,7 +209,8 @@ fn any_needs(entries: &[Dynamic<'_>], names: &HashSet<Vec<u8>>) -> bool
 
 // Whether an entry needs a library that a map has.
 fn any_replaced(entries: &[Dynamic<'_>], names: &HashMap<Vec<u8>, Vec<u8>>) -> bool
-    ensures { result ≡ list_any (is_replaced_by (pairs_of_map names.now.entries)) (map entry_kept entries.now) }
+    ensures { result ≡ list_any (is_replaced_by (pairs_of_map names.now.entries))
+        (map entry_kept entries.now) }
 {
     for entry in entries {
         if is_replaced(entry, names) {
@@ -215,8 +223,10 @@ fn any_replaced(entries: &[Dynamic<'_>], names: &HashMap<Vec<u8>, Vec<u8>>) -> b
 // Whether an edit adds, removes or writes something, where `made` is the list after it.
 #[tactic(auto, unfolding(crate::specs::Entries::touches_entries))]
 fn touches(call: &EditCall<'_>, entries: &[Dynamic<'_>], made: &[Dynamic<'_>]) -> bool
-    requires { map entry_kept made.now ≡ edited_entries 0 (call_meant call.now) (map entry_kept entries.now) }
-    ensures { (machine : ℕ) → result ≡ touches_entries machine (call_meant call.now) (map entry_kept entries.now) }
+    requires { map entry_kept made.now
+        ≡ edited_entries 0 (call_meant call.now) (map entry_kept entries.now) }
+    ensures { (machine : ℕ) → result
+        ≡ touches_entries machine (call_meant call.now) (map entry_kept entries.now) }
 {
     match call {
         EditCall::AddDebugEntry => !any_with_tag(entries, DT_DEBUG),
@@ -250,7 +260,8 @@ fn edited_list<'d>(
     entries: &[Dynamic<'d>],
 ) -> Result<Vec<Dynamic<'d>>, AllocError>
     ensures { IfOk result (λ made. (machine : ℕ) →
-        map entry_kept made.items ≡ edited_entries machine (call_meant call.now) (map entry_kept entries.now)) }
+        map entry_kept made.items
+        ≡ edited_entries machine (call_meant call.now) (map entry_kept entries.now)) }
 {
     let mut made = put_first(alloc, call, entries)?;
     put_entries(alloc, call, entries, &mut made)?;
@@ -268,9 +279,11 @@ pub fn edited<'d>(
     entries: &[Dynamic<'d>],
 ) -> Result<NewList<'d>, AllocError>
     ensures list { IfOk result (λ made. (machine : ℕ) →
-        map entry_kept made.entries.items ≡ edited_entries machine (call_meant call.now) (map entry_kept entries.now)) }
+        map entry_kept made.entries.items
+        ≡ edited_entries machine (call_meant call.now) (map entry_kept entries.now)) }
     ensures touched { IfOk result (λ made. (machine : ℕ) →
-        made.is_touched ≡ touches_entries machine (call_meant call.now) (map entry_kept entries.now)) }
+        made.is_touched ≡ touches_entries machine (call_meant call.now)
+        (map entry_kept entries.now)) }
 {
     let made = edited_list(alloc, call, entries)?;
     let is_touched = touches(call, entries, made.as_slice());

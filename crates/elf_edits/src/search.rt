@@ -31,7 +31,8 @@ pub(crate) fn answers_by_pair<'e>(
     answers: &'e [ProbeAnswer<'_>],
 ) -> Result<HashMap<(&'e [u8], &'e [u8]), Option<u16>>, AllocError>
     ensures { IfOk result (λ found. (directory name : List ℕ) →
-        machine_in found.entries directory name ≡ machine_found (map answer_held answers.now) directory name) }
+        machine_in found.entries directory name
+        ≡ machine_found (map answer_held answers.now) directory name) }
 {
     let mut found = HashMap::new(alloc);
     for answer in answers {
@@ -52,7 +53,8 @@ pub(crate) fn is_absolute(directory: &[u8]) -> bool
 
 // Whether some prefix begins it.
 fn begins_with_one(prefixes: &[Vec<u8>], directory: &[u8]) -> bool
-    ensures { result ≡ list_any (λ p. starts_with nat_eq directory.now p) (texts_held prefixes.now) }
+    ensures { result ≡ list_any (λ p. starts_with nat_eq directory.now p)
+        (texts_held prefixes.now) }
 {
     for prefix in prefixes {
         if directory.starts_with(prefix.as_slice()) {
@@ -71,7 +73,8 @@ fn is_allowed(prefixes: &[Vec<u8>], directory: &[u8]) -> bool
 
 // Whether a library was found in a directory for the machine.
 fn is_there(s: &Searching<'_>, directory: &[u8], name: &[u8]) -> bool
-    ensures { result ≡ is_some_and (λ m. m == s.now.machine) (machine_in s.now.found.entries directory.now name.now) }
+    ensures { result ≡ is_some_and (λ m. m == s.now.machine)
+        (machine_in s.now.found.entries directory.now name.now) }
 {
     match s.found.get(&(directory, name)) {
         Some(Some(machine)) => *machine == s.machine,
@@ -117,7 +120,12 @@ fn note_removal(
     removed: &mut Vec<Removed>,
 ) -> Result<(), AllocError>
     ensures { IfOk result (λ _. map removal_meant removed.new.items
-        ≡ map removal_meant removed.old.items ++ record { directory = directory.now; reason = why (judged_by s.now) directory.now } ∷ []) }
+        ≡ map removal_meant removed.old.items
+        ++ record {
+          directory = directory.now;
+          reason = why
+              (judged_by s.now) directory.now;
+        } ∷ []) }
 {
     let reason = reason_of(s, directory);
     let directory = Vec::from_slice(alloc, directory)?;
@@ -127,7 +135,8 @@ fn note_removal(
 
 // Puts a directory behind those that stay, with a colon between.
 fn put_part(made: &mut Vec<u8>, is_first: bool, part: &[u8]) -> Result<(), AllocError>
-    ensures { IfOk result (λ _. made.new.items ≡ (if is_first then made.old.items ++ part.now else made.old.items ++ COLON ∷ part.now)) }
+    ensures { IfOk result (λ _. made.new.items
+        ≡ (if is_first then made.old.items ++ part.now else made.old.items ++ COLON ∷ part.now)) }
 {
     if !is_first {
         made.push(COLON)?;
@@ -142,9 +151,11 @@ pub(crate) fn shrunk_parts(
     parts: &[&[u8]],
     removed: &mut Vec<Removed>,
 ) -> Result<Vec<u8>, AllocError>
-    ensures text { IfOk result (λ made. made.items ≡ joined (filter (may_stay (judged_by s.now)) (map (λ part. part.now) parts.now))) }
+    ensures text { IfOk result (λ made. made.items
+        ≡ joined (filter (may_stay (judged_by s.now)) (map (λ part. part.now) parts.now))) }
     ensures gone { OnOk result (map removal_meant removed.new.items
-        ≡ map removal_meant removed.old.items ++ filter_map (going (judged_by s.now)) (map (λ part. part.now) parts.now)) }
+        ≡ map removal_meant removed.old.items
+        ++ filter_map (going (judged_by s.now)) (map (λ part. part.now) parts.now)) }
 {
     let mut made = Vec::new(alloc);
     let mut is_first = true;

@@ -28,7 +28,8 @@ fn shrunk_text(
     removed: &mut Vec<Removed>,
 ) -> Result<Vec<u8>, AllocError>
     ensures text { IfOk result (λ made. made.items ≡ shrunk (judged_by s.now) text.now) }
-    ensures gone { OnOk result (map removal_meant removed.new.items ≡ map removal_meant removed.old.items ++ removed_from (judged_by s.now) text.now) }
+    ensures gone { OnOk result (map removal_meant removed.new.items
+        ≡ map removal_meant removed.old.items ++ removed_from (judged_by s.now) text.now) }
 {
     let parts = directories(alloc, text)?;
     shrunk_parts(alloc, s, parts.as_slice(), removed)
@@ -41,9 +42,11 @@ fn shrunk_text_entry<'d>(
     entry: &Dynamic<'d>,
     removed: &mut Vec<Removed>,
 ) -> Result<Dynamic<'d>, AllocError>
-    ensures entry { IfOk result (λ made. entry_kept made ≡ with_text_changed (shrunk (judged_by s.now)) (entry_kept entry.now)) }
+    ensures entry { IfOk result (λ made. entry_kept made
+        ≡ with_text_changed (shrunk (judged_by s.now)) (entry_kept entry.now)) }
     ensures gone { OnOk result (map removal_meant removed.new.items
-        ≡ map removal_meant removed.old.items ++ flat_map (removed_from (judged_by s.now)) (text_held (entry_kept entry.now))) }
+        ≡ map removal_meant removed.old.items
+        ++ flat_map (removed_from (judged_by s.now)) (text_held (entry_kept entry.now))) }
 {
     match entry {
         Dynamic::Text { tag, val } => {
@@ -61,9 +64,13 @@ fn shrunk_entry<'d>(
     entry: &Dynamic<'d>,
     removed: &mut Vec<Removed>,
 ) -> Result<Dynamic<'d>, AllocError>
-    ensures entry { IfOk result (λ made. entry_kept made ≡ changed_if has_run_path (with_text_changed (shrunk (judged_by s.now))) (entry_kept entry.now)) }
+    ensures entry { IfOk result (λ made. entry_kept made
+        ≡ changed_if has_run_path (with_text_changed (shrunk (judged_by s.now)))
+        (entry_kept entry.now)) }
     ensures gone { OnOk result (map removal_meant removed.new.items
-        ≡ map removal_meant removed.old.items ++ flat_map (removed_from (judged_by s.now)) (text_if has_run_path (entry_kept entry.now))) }
+        ≡ map removal_meant removed.old.items
+        ++ flat_map (removed_from (judged_by s.now)) (text_if has_run_path
+        (entry_kept entry.now))) }
 {
     if is_run_path(entry) {
         shrunk_text_entry(alloc, s, entry, removed)
@@ -79,9 +86,11 @@ fn shrunk_entries<'d>(
     entries: &[Dynamic<'d>],
     removed: &mut Vec<Removed>,
 ) -> Result<Vec<Dynamic<'d>>, AllocError>
-    ensures entries { IfOk result (λ made. map entry_kept made.items ≡ with_run_paths_shrunk (judged_by s.now) (map entry_kept entries.now)) }
+    ensures entries { IfOk result (λ made. map entry_kept made.items
+        ≡ with_run_paths_shrunk (judged_by s.now) (map entry_kept entries.now)) }
     ensures gone { OnOk result (map removal_meant removed.new.items
-        ≡ map removal_meant removed.old.items ++ directories_removed (judged_by s.now) (map entry_kept entries.now)) }
+        ≡ map removal_meant removed.old.items
+        ++ directories_removed (judged_by s.now) (map entry_kept entries.now)) }
 {
     let mut made = Vec::new(alloc);
     for entry in entries {
@@ -92,7 +101,8 @@ fn shrunk_entries<'d>(
 
 // The names of needed libraries, in order.
 fn needed_list<'e>(alloc: Global, entries: &'e [Dynamic<'_>]) -> Result<Vec<&'e [u8]>, AllocError>
-    ensures { IfOk result (λ names. map (λ name. name.now) names.items ≡ needed_names (map entry_kept entries.now)) }
+    ensures { IfOk result (λ names. map (λ name. name.now) names.items
+        ≡ needed_names (map entry_kept entries.now)) }
 {
     let mut names = Vec::new(alloc);
     for entry in entries {
@@ -124,9 +134,11 @@ pub fn shrink<'d>(
     entries: &[Dynamic<'d>],
 ) -> Result<ShrunkList<'d>, AllocError>
     ensures list { IfOk result (λ made. let es = map entry_kept entries.now in map entry_kept made.entries.items
-        ≡ with_run_paths_shrunk (search_of machine (texts_held prefixes.now) (map answer_held answers.now) es) es) }
+        ≡ with_run_paths_shrunk (search_of machine (texts_held prefixes.now)
+        (map answer_held answers.now) es) es) }
     ensures gone { IfOk result (λ made. let es = map entry_kept entries.now in map removal_meant made.removed.items
-        ≡ directories_removed (search_of machine (texts_held prefixes.now) (map answer_held answers.now) es) es) }
+        ≡ directories_removed (search_of machine (texts_held prefixes.now)
+        (map answer_held answers.now) es) es) }
 {
     let needed = needed_list(alloc, entries)?;
     let found = answers_by_pair(alloc, answers)?;
@@ -148,7 +160,8 @@ fn put_pairs<'e>(
     made: &mut Vec<(&'e [u8], &'e [u8])>,
 ) -> Result<(), AllocError>
     ensures { IfOk result (λ _. map pair_lent made.new.items
-        ≡ map pair_lent made.old.items ++ flat_map (λ name. (directory.now, name) ∷ []) (map (λ name. name.now) needed.now)) }
+        ≡ map pair_lent made.old.items
+        ++ flat_map (λ name. (directory.now, name) ∷ []) (map (λ name. name.now) needed.now)) }
 {
     for name in needed {
         made.push((directory, *name))?;
@@ -163,7 +176,8 @@ fn put_all_pairs<'e>(
     made: &mut Vec<(&'e [u8], &'e [u8])>,
 ) -> Result<(), AllocError>
     ensures { IfOk result (λ _. map pair_lent made.new.items
-        ≡ map pair_lent made.old.items ++ pairs_of (map (λ name. name.now) needed.now) (map (λ part. part.now) directories.now)) }
+        ≡ map pair_lent made.old.items
+        ++ pairs_of (map (λ name. name.now) needed.now) (map (λ part. part.now) directories.now)) }
 {
     for directory in directories {
         if is_absolute(directory) {
@@ -193,7 +207,8 @@ fn put_questions<'e>(
     made: &mut Vec<(&'e [u8], &'e [u8])>,
 ) -> Result<(), AllocError>
     ensures { IfOk result (λ _. map pair_lent made.new.items
-        ≡ map pair_lent made.old.items ++ pairs_of (map (λ name. name.now) needed.now) (directories_in text.now)) }
+        ≡ map pair_lent made.old.items
+        ++ pairs_of (map (λ name. name.now) needed.now) (directories_in text.now)) }
 {
     let parts = directories(alloc, text)?;
     put_all_pairs(parts.as_slice(), needed, made)
@@ -205,7 +220,8 @@ pub fn shrink_questions<'e>(
     alloc: Global,
     entries: &'e [Dynamic<'_>],
 ) -> Result<Vec<(&'e [u8], &'e [u8])>, AllocError>
-    ensures { IfOk result (λ made. map pair_lent made.items ≡ all_questions (map entry_kept entries.now)) }
+    ensures { IfOk result (λ made. map pair_lent made.items
+        ≡ all_questions (map entry_kept entries.now)) }
 {
     let needed = needed_list(alloc, entries)?;
     let mut made = Vec::new(alloc);

@@ -34,7 +34,8 @@ pub(crate) fn with_added(
 
 // Puts each text behind a colon.
 fn put_behind(made: &mut Vec<u8>, texts: &[Vec<u8>]) -> Result<(), AllocError>
-    ensures { IfOk result (λ _. made.new.items ≡ made.old.items ++ behind_colons (texts_held texts.now)) }
+    ensures { IfOk result (λ _. made.new.items
+        ≡ made.old.items ++ behind_colons (texts_held texts.now)) }
 {
     for text in texts {
         made.push(COLON)?;
