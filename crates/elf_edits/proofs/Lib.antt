@@ -1,0 +1,13 @@
+pub mod Computing
+pub mod ListLaws
+pub mod EntryLaws
+pub mod TwiceLaws
+pub mod ShownLaws
+pub mod BatchLaws
+pub mod StepLaws
+pub mod CodeLaws
+pub mod ListSteps
+pub mod CauseSteps
+pub mod AnswerSteps
+pub mod ShrinkSteps
+pub mod GatherSteps

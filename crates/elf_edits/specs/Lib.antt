@@ -1,0 +1,14 @@
+pub mod Texts
+pub mod Edit
+pub mod Shrunk
+pub mod Entries
+pub mod Abi
+pub mod Cause
+pub mod Edited
+pub mod Batch
+pub mod Called
+pub mod CauseSeen
+pub mod ShrunkSeen
+pub mod Steps
+pub mod Laws
+pub mod Rows

@@ -1,0 +1,34 @@
+//! Small lists and images, and what the edits make of them. The functions do nothing: the contract of each is
+//! computed.
+ghost use Rattle.elf_edits.specs.Rows.{AbiRows, BatchRows, InterpreterRows, MarkRows, NeededRows, OtherEntryRows, PageRows, RefusalRows, RunPathRows, ShrinkRows, StackRows};
+
+/// Run paths, needed libraries and the other entries.
+pub fn list_rows()
+    ensures run_paths { RunPathRows }
+    ensures needed { NeededRows }
+    ensures others { OtherEntryRows }
+{}
+
+/// Names of ABIs, interpreters, the stack, page sizes.
+pub fn value_rows()
+    ensures abi { AbiRows }
+    ensures interpreter { InterpreterRows }
+    ensures stack { StackRows }
+    ensures pages { PageRows }
+{}
+
+/// Causes, and which one comes first; which edits mark an image as changed.
+pub fn refusal_rows()
+    ensures causes { RefusalRows }
+    ensures marks { MarkRows }
+{}
+
+/// Run paths that shrink, with the directories that go, and what has to be looked for.
+pub fn shrink_rows()
+    ensures { ShrinkRows }
+{}
+
+/// Batches, and lists of batches.
+pub fn batch_rows()
+    ensures { BatchRows }
+{}
