@@ -5,11 +5,11 @@ ghost use Rattle.arwen_cli.specs.Line.{CanBeDone, LineMayFail, has_option, meani
 mod line;
 mod parser;
 
-pub use arwen_commands::elf::{Probe, run_elf};
+pub use arwen_commands::elf::{Probe, print_store, run_elf};
 pub use arwen_commands::{
     ArwenError, Command, EditFault, EditKind, EditsError, ElfCommand, FaultLine, MOST_BYTES,
     MachoCommand, add, apply, change, delete, elf, install_id, install_name, macho_execute,
-    parse_macho_edits, read_bytes, run_macho,
+    parse_macho_edits, patch_store, read_bytes, run_macho,
 };
 pub use line::parse_line;
 use std::rt::Files;

@@ -1,3 +1,4 @@
 pub mod EditGroups
 pub mod Outcomes
 pub mod RowLemmas
+pub mod StoreLaws

@@ -5,6 +5,8 @@ use Rattle.arwen_elf.specs.declared.elf.rewriter.error.ElfError.TheVariants as e
 use Rattle.arwen_macho.specs.declared.error.MachoError.{MachoError}
 use Rattle.arwen_macho.specs.declared.error.MachoError.TheVariants as macho
 use Rattle.arwen_macho.specs.declared.batch.MachoBatchError.{MachoBatchError}
+use Rattle.byte_store.specs.declared.reading.ReadError.{ReadError}
+use Rattle.byte_store.specs.declared.reading.ReadError.TheVariants as read
 use Rattle.arwen_commands.specs.declared.edits.EditsError.{EditsError}
 use Rattle.arwen_commands.specs.declared.edits.EditsError.TheVariants as edits
 use Rattle.arwen_commands.specs.declared.error.ArwenError.{ArwenError}
@@ -51,6 +53,11 @@ answer_to_batch batch = answer_by_fault batch batch.fault
 abbrev pub answer_to_words : EditsError → ArwenError
 answer_to_words edits.Memory = Memory
 answer_to_words (edits.Fault fault) = Edits fault
+
+-- the program's answer for bytes that were not read
+abbrev pub answer_to_read : ReadError → ArwenError
+answer_to_read read.Memory = Memory
+answer_to_read (read.Io e) = Io e
 
 -- the fault that a line of text tells
 abbrev pub fault_told : FaultLine → ArwenError

@@ -4,3 +4,4 @@ pub mod Fault
 pub mod Meaning
 pub mod Prints
 pub mod Rows
+pub mod Stores

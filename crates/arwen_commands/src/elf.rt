@@ -1,6 +1,9 @@
 //! The commands for ELF files.
-ghost use Rattle.std.specs.Prelude.{IfErr, IfOk};
+ghost use Rattle.std.specs.Prelude.{◌<◌, IfErr, IfOk, OnOk};
+ghost use Rattle.byte_store.specs.Known.{Stays};
+ghost use Rattle.arwen_commands.specs.Meaning.{elf_shown};
 ghost use Rattle.arwen_commands.specs.Prints.{PrintMayFail, SomeAccepted};
+ghost use Rattle.arwen_commands.specs.Stores.{PrintsStored, TellsStored};
 
 mod engine;
 pub mod print_execstack;
@@ -12,9 +15,12 @@ pub mod print_soname;
 
 use crate::command::ElfCommand;
 use crate::error::ArwenError;
-use crate::file::read_file;
+use crate::file::MOST_BYTES;
+use byte_store::{FileStore, Store, load_whole};
 pub use engine::{Probe, run_elf};
+use std::alloc::Global;
 use std::io;
+use std::io::Write;
 use std::rt::Files;
 
 /// Does what is asked of an ELF file. What is printed goes to the standard output.
@@ -42,6 +48,35 @@ impl Probe for NoLibraries {
     }
 }
 
+/// Prints what a command asks of the bytes of a store, which are read whole: at most 4 GiB, or as many
+/// as the store says that it has, where these are more. A store that goes on behind that is a fault.
+pub fn print_store<S: Store, W: Write>(
+    alloc: Global,
+    store: &mut S,
+    command: &ElfCommand,
+    out: &mut W,
+) -> Result<(), ArwenError>
+    ensures accepted { IfOk result (λ _. SomeAccepted) }
+    ensures printed { OnOk result (PrintsStored (elf_shown command.now) (S.contents store.old)
+        (W.contents out.old) (W.contents out.new)) }
+    ensures err { IfErr result (λ e. PrintMayFail e) }
+    ensures tells { IfErr result (λ e. TellsStored (S.contents store.old) out.old out.new e) }
+    ensures kept { Stays (S.contents store.old) (S.contents store.new) }
+{
+    let most = most_of(store.length()?);
+    let bytes = load_whole(alloc, store, most)?;
+    run_elf(alloc, bytes.as_slice(), command, &mut NoLibraries, out)?;
+    Ok(())
+}
+
+/// How many bytes are read of a store that says it has so many.
+fn most_of(told: u64) -> usize
+    ensures { result < usize.MAX }
+{
+    let told = usize::try_from(told).unwrap_or(usize::MAX);
+    told.max(MOST_BYTES).min(usize::MAX - 1)
+}
+
 /// Prints what a command asks of a file, which is only read.
 pub(crate) fn print_file<R: Files + Print + AllocGlobal>(
     rt: &R,
@@ -50,7 +85,9 @@ pub(crate) fn print_file<R: Files + Print + AllocGlobal>(
     ensures ok { IfOk result (λ _. SomeAccepted) }
     ensures err { IfErr result (λ e. PrintMayFail e) }
 {
-    let bytes = read_file(rt, command.path_to_binary())?;
+    let mut store = FileStore::open(rt, command.path_to_binary())?;
+    let most = most_of(store.length()?);
+    let bytes = load_whole(rt.alloc(), &mut store, most)?;
     let mut out = io::writer(rt);
     run_elf(
         rt.alloc(),

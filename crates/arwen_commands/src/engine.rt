@@ -1,17 +1,20 @@
 //! New bytes of old ones.
-ghost use Rattle.std.specs.Prelude.{◌≡◌, ◌∷◌, [], Ok, IfOk, IfErr, OnErr, map, string_bytes};
+ghost use Rattle.std.specs.Prelude.{◌≡◌, ◌∷◌, [], Ok, IfOk, IfErr, OnOk, map, string_bytes};
 ghost use Rattle.arwen_macho.specs.Batch.{calls_of};
 ghost use Rattle.arwen_commands.specs.Engine.{AreAsked, IsDone, MayFail, Outcome, Tells, TellsAsked, Writes};
 ghost use Rattle.arwen_commands.specs.Engine.{asked, outcome, refused_answer};
 ghost use Rattle.arwen_commands.specs.Meaning.{macho_shown};
+ghost use Rattle.arwen_commands.specs.Stores.{FailsPatch, Patched};
 ghost use Rattle.arwen_commands.specs.declared.error.ArwenError.TheVariants.{Memory};
 
+use crate::changes::{changes_of, write_changes_of};
 use crate::command::MachoCommand;
 use crate::edits::parse_macho_edits;
 use crate::error::ArwenError;
-use crate::file::{read_file, write_file};
+use crate::file::MOST_BYTES;
 use crate::{add, apply, change, delete, install_id, install_name};
 use arwen_macho::macho::{Front, MachoBatchError, MachoContainer, MachoEdit, lay_fronts};
+use byte_store::{FileStore, Store, load_up_to};
 use std::alloc::{AllocError, Global};
 use std::rt::Files;
 
@@ -25,18 +28,6 @@ pub fn run_macho(alloc: Global, bytes: &[u8], command: &MachoCommand) -> Result<
     let mut new = Vec::from_slice(alloc, bytes)?;
     lay_fronts(&mut new, fronts);
     Ok(new)
-}
-
-/// The same in the bytes' place. A refused command leaves them as they were.
-fn run_in_place(alloc: Global, bytes: &mut [u8], command: &MachoCommand) -> Result<(), ArwenError>
-    ensures ok { IfOk result (λ _.
-        outcome (macho_shown command.now) bytes.old ≡ Outcome.bytes bytes.new) }
-    ensures err { IfErr result (λ e. Tells (outcome (macho_shown command.now) bytes.old) e) }
-    ensures kept { OnErr result (bytes.new ≡ bytes.old) }
-{
-    let fronts = fronts_of(alloc, bytes, command)?;
-    lay_fronts(bytes, fronts);
-    Ok(())
 }
 
 /// What a command writes over the bytes of a file. Its edits are read before the bytes are looked at.
@@ -101,6 +92,29 @@ fn words_of<'a>(alloc: Global, words: &'a [String]) -> Result<Vec<&'a str>, Allo
     Ok(texts)
 }
 
+/// Edits the bytes of a store in their place. Its first `MOST_BYTES` are read; bytes that change are
+/// written, after all that may be refused or wants memory, and nothing is cut. An edit that changes no
+/// byte does not open the store for writing. A refusal, and an error of a read, leave the bytes as they
+/// were; a write that fails leaves the first of the bytes that were to be written, in order.
+pub fn patch_store<S: Store>(
+    alloc: Global,
+    store: &mut S,
+    command: &MachoCommand,
+) -> Result<(), ArwenError>
+    ensures done { IfOk result (λ _. IsDone (macho_shown command.now)) }
+    ensures patched { OnOk result
+        (Patched (macho_shown command.now) (S.contents store.old) (S.contents store.new)) }
+    ensures err { IfErr result (λ e. MayFail (macho_shown command.now) e) }
+    ensures left { IfErr result (λ e.
+        FailsPatch (macho_shown command.now) (S.contents store.old) (S.contents store.new) e) }
+{
+    let mut bytes = load_up_to(alloc, store, MOST_BYTES)?;
+    let fronts = fronts_of(alloc, bytes.as_slice(), command)?;
+    let pieces = changes_of(alloc, &mut bytes, fronts.as_slice())?;
+    write_changes_of(store, bytes.len() as u64, pieces.as_slice())?;
+    Ok(())
+}
+
 /// Edits a file in its place.
 pub(crate) fn patch_file<R: Files + AllocGlobal>(
     rt: &R,
@@ -109,14 +123,29 @@ pub(crate) fn patch_file<R: Files + AllocGlobal>(
     ensures ok { IfOk result (λ _. IsDone (macho_shown command.now)) }
     ensures err { IfErr result (λ e. MayFail (macho_shown command.now) e) }
 {
-    let path = command.path_to_binary();
-    let mut bytes = read_file(rt, path)?;
-    run_in_place(rt.alloc(), &mut bytes, command)?;
-    write_file(rt, path, bytes.as_slice())
+    let store = FileStore::open(rt, command.path_to_binary())?;
+    patch_opened(rt.alloc(), store, command)
 }
 
-/// Edits a Mach-O file in its place. The file is written only after all its new bytes exist, so a
-/// refused edit leaves it as it was.
+/// Edits a file that was opened, by the steps of `patch_store`. A call of that one has no generated proof
+/// at a store with lifetimes, since its error names another.
+fn patch_opened<R: Files>(
+    alloc: Global,
+    mut store: FileStore<'_, R>,
+    command: &MachoCommand,
+) -> Result<(), ArwenError>
+    ensures ok { IfOk result (λ _. IsDone (macho_shown command.now)) }
+    ensures err { IfErr result (λ e. MayFail (macho_shown command.now) e) }
+{
+    let mut bytes = load_up_to(alloc, &mut store, MOST_BYTES)?;
+    let fronts = fronts_of(alloc, bytes.as_slice(), command)?;
+    let pieces = changes_of(alloc, &mut bytes, fronts.as_slice())?;
+    write_changes_of(&mut store, bytes.len() as u64, pieces.as_slice())?;
+    Ok(())
+}
+
+/// Edits a Mach-O file in its place. Only bytes that change are written, and only after all of them
+/// exist, so a refused edit leaves the file as it was.
 pub fn macho_execute<R: Files + AllocGlobal>(rt: &R, macho: MachoCommand) -> Result<(), ArwenError>
     ensures ok { IfOk result (λ _. IsDone (macho_shown macho)) }
     ensures err { IfErr result (λ e. MayFail (macho_shown macho) e) }

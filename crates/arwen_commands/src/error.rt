@@ -1,12 +1,13 @@
 //! What the program answers when it does not do what was asked.
 ghost use Rattle.std.specs.Prelude.{◌≡◌};
-ghost use Rattle.arwen_commands.specs.Fault.{answer_to, answer_to_batch, answer_to_elf, answer_to_words};
+ghost use Rattle.arwen_commands.specs.Fault.{answer_to, answer_to_batch, answer_to_elf, answer_to_read, answer_to_words};
 ghost use Rattle.arwen_commands.specs.Fault.{fault_told, status_of};
 ghost use Rattle.arwen_commands.specs.declared.error.ArwenError.TheVariants.{Io, Memory};
 
 use crate::edits::{EditFault, EditsError};
 use arwen_elf::elf::ElfError;
 use arwen_macho::macho::{MachoBatchError, MachoError};
+use byte_store::ReadError;
 use std::alloc::{AllocError, AllocFailed};
 use std::{fmt, io};
 use thiserror::Error;
@@ -105,6 +106,17 @@ impl From<EditsError> for ArwenError {
         match error {
             EditsError::Memory => ArwenError::Memory,
             EditsError::Fault(fault) => ArwenError::Edits(fault),
+        }
+    }
+}
+
+impl From<ReadError> for ArwenError {
+    ghost from_gives = { λ e answer. answer ≡ answer_to_read e };
+
+    fn from(error: ReadError) -> ArwenError {
+        match error {
+            ReadError::Memory => ArwenError::Memory,
+            ReadError::Io(error) => ArwenError::Io(error),
         }
     }
 }

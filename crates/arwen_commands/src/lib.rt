@@ -5,6 +5,7 @@
 pub mod add;
 pub mod apply;
 pub mod change;
+mod changes;
 mod command;
 pub mod delete;
 mod edits;
@@ -19,7 +20,7 @@ mod tables;
 
 pub use command::{Command, ElfCommand, MachoCommand};
 pub use edits::{EditFault, EditKind, EditsError, copies, parse_macho_edits};
-pub use engine::{macho_execute, run_macho};
+pub use engine::{macho_execute, patch_store, run_macho};
 pub use error::{ArwenError, FaultLine};
 pub use file::{MOST_BYTES, read_bytes};
 pub use rows::{Form, Row, Value, Values, find_row};

@@ -1,0 +1,61 @@
+-- What a command makes of the bytes of a store, and prints of them, where they are known.
+use Rattle.std.specs.Prelude.{ℕ, ◌≡◌, ◌⊎◌, List, length, All, Option, Some, ⊤}
+use Rattle.arwen_macho.specs.declared.front.Front.{Front}
+use Rattle.arwen_macho.specs.Fronts.{fronts_on}
+use Rattle.byte_store.specs.declared.pieces.Piece.{Piece}
+use Rattle.byte_store.specs.Known.{Stays}
+use Rattle.byte_store.specs.Laid.{LiesIn, Patch, first_bytes, laid, patches_of}
+use Rattle.elf_image.specs.Image.{image_of}
+use Rattle.arwen_commands.specs.declared.error.ArwenError.{ArwenError}
+use Rattle.arwen_commands.specs.declared.error.ArwenError.TheVariants.{Edits, Elf, Io, Line, Macho, MachoBatch, Memory}
+use Rattle.arwen_commands.specs.Engine.{Tells, outcome}
+use Rattle.arwen_commands.specs.Engine.Outcome.{bytes}
+use Rattle.arwen_commands.specs.Meaning.{ElfMeaning, MachoMeaning}
+use Rattle.arwen_commands.specs.Prints.{Prints, TellsElfFault}
+
+-- known bytes become those that a command makes of them
+abbrev pub Patched : MachoMeaning → Option (List ℕ) → Option (List ℕ) → Type 0
+Patched meaning old new = (file : List ℕ) → old ≡ Some file
+    → (made : List ℕ) × (outcome meaning file ≡ bytes made) × (new ≡ Some made)
+
+-- known bytes get first bytes of patches laid over them, in order; all of these make what the command makes
+abbrev pub Torn : MachoMeaning → Option (List ℕ) → Option (List ℕ) → Type 0
+Torn meaning old new = (file : List ℕ) → old ≡ Some file
+    → (patches : List Patch) × (outcome meaning file ≡ bytes (laid patches file))
+    × ((n : ℕ) × (new ≡ Some (laid (first_bytes n patches) file)))
+
+-- a refusal leaves the bytes, and tells the outcome
+abbrev pub RefusesPatch : MachoMeaning → Option (List ℕ) → Option (List ℕ) → ArwenError → Type 0
+RefusesPatch meaning old new e =
+    Stays old new × ((file : List ℕ) → old ≡ Some file → Tells (outcome meaning file) e)
+
+-- what an error leaves and tells: only a write that failed changes bytes, where the command was accepted
+abbrev pub FailsPatch : MachoMeaning → Option (List ℕ) → Option (List ℕ) → ArwenError → Type 0
+FailsPatch meaning old new (Io e) = Stays old new ⊎ Torn meaning old new
+FailsPatch meaning old new e = RefusesPatch meaning old new e
+
+-- pieces that lie in a file's bytes, and make of them what fronts make
+pub record ArePiecesOf (file : List ℕ) (fronts : List Front) (pieces : List Piece) : Type 0 where
+  pub inside : All (LiesIn (length file)) (patches_of pieces)
+  pub same : laid (patches_of pieces) file ≡ fronts_on fronts file
+
+-- where the old pieces lead to bytes, the new ones lead on to others
+abbrev pub LaysOn : List Piece → List Piece → List ℕ → List ℕ → Type 0
+LaysOn old new before after =
+    (file : List ℕ) → laid (patches_of old) file ≡ before → laid (patches_of new) file ≡ after
+
+-- where the old pieces lie in so many bytes, the new ones do
+abbrev pub LiesOn : ℕ → List Piece → List Piece → Type 0
+LiesOn len old new = All (LiesIn len) (patches_of old) → All (LiesIn len) (patches_of new)
+
+-- what a command prints of known bytes
+abbrev pub PrintsStored : ElfMeaning → Option (List ℕ) → Option (List ℕ) → Option (List ℕ) → Type 0
+PrintsStored meaning known old new =
+    (file : List ℕ) → known ≡ Some file → Prints meaning (image_of file) old new
+
+-- what an error tells of known bytes; only a writer that fails may have got something
+abbrev pub TellsStored : {W : Type 0} → Option (List ℕ) → W → W → ArwenError → Type 0
+TellsStored known old new Memory = new ≡ old
+TellsStored known old new (Io e) = new ≡ old
+TellsStored known old new (Elf e) = (file : List ℕ) → known ≡ Some file → TellsElfFault (image_of file) old new e
+TellsStored known old new _ = ⊥
