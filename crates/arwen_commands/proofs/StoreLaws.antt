@@ -1,6 +1,5 @@
 -- Of a file that is too long its first bytes tell as much as the whole; and pieces that are made of fronts.
-use Rattle.std.proofs.Common.{◌≡◌, ◌≤◌, ◌<◌, ◌+◌, ◌-◌, ◌^◌, ◌⊎◌, inl, inr, if◌then◌else◌, ℕ, Bool, true, false, List, [], ◌∷◌, ◌++◌, length, take, drop, map, Option, Some, None, Ok, Err, get_or, refl, sym, ap, ◌∙◌, subst, arith}
-use Rattle.std.specs.List.{All}
+use Rattle.std.proofs.Common.{◌≡◌, ◌≤◌, ◌<◌, ◌+◌, ◌-◌, ◌^◌, ◌⊎◌, inl, inr, if◌then◌else◌, ℕ, Bool, true, false, List, [], ◌∷◌, ◌++◌, length, take, drop, Option, Some, Ok, Err, get_or, refl, sym, ap, ◌∙◌, subst, arith}
 use Rattle.std.specs.Str.{bytes_eq}
 use Rattle.std.proofs.lemmas.Slice.Eq.{bytes_eq-Decides}
 use Rattle.byte_store.specs.declared.pieces.Piece.{Piece}
@@ -16,13 +15,13 @@ use Rattle.arwen_commands.specs.declared.error.ArwenError.TheVariants.{Edits, El
 use Rattle.std.proofs.lemmas.Bool.{cases_lt, cond-true, lt-ltb}
 use Rattle.std.proofs.lemmas.List.{drop-drop, drop_more, length-drop, length-take-le, take_all, take-append-drop}
 use Rattle.macho_image.specs.Checks.{file_fault}
-use Rattle.macho_image.specs.Fat.{archs_of, slice_of, table_fault}
+use Rattle.macho_image.specs.Fat.{table_fault}
 use Rattle.macho_image.specs.declared.format.MachFault.TheVariants.{TooLong}
-use Rattle.arwen_macho.specs.Found.{Found, begins_fat, container_found, fat_found, found_fault, found_first, slices_found}
+use Rattle.arwen_macho.specs.Found.{begins_fat, container_found, fat_found, found_fault}
 use Rattle.arwen_macho.specs.Found.Found.{fault}
 use Rattle.arwen_commands.specs.Engine.{Asked, Outcome, Tells, Writes, asked, edited_file, outcome, outcome_of}
 use Rattle.arwen_commands.specs.Engine.Asked.{one, several}
-use Rattle.arwen_commands.specs.Engine.Outcome.{bytes, no_edits, no_file, refused, refused_batch}
+use Rattle.arwen_commands.specs.Engine.Outcome.{bytes, no_file, refused, refused_batch}
 
 long_table : (file : List ℕ) → 2 ^ 32 ≤ length file → table_fault file ≡ Some TooLong
 unfolding table_fault

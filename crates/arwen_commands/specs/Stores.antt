@@ -1,5 +1,5 @@
 -- What a command makes of the bytes of a store, and prints of them, where they are known.
-use Rattle.std.specs.Prelude.{ℕ, ◌≡◌, ◌⊎◌, List, length, All, Option, Some, ⊤}
+use Rattle.std.specs.Prelude.{ℕ, ◌≡◌, ◌⊎◌, List, length, All, Option, Some}
 use Rattle.arwen_macho.specs.declared.front.Front.{Front}
 use Rattle.arwen_macho.specs.Fronts.{fronts_on}
 use Rattle.byte_store.specs.declared.pieces.Piece.{Piece}
@@ -7,7 +7,7 @@ use Rattle.byte_store.specs.Known.{Stays}
 use Rattle.byte_store.specs.Laid.{LiesIn, Patch, first_bytes, laid, patches_of}
 use Rattle.elf_image.specs.Image.{image_of}
 use Rattle.arwen_commands.specs.declared.error.ArwenError.{ArwenError}
-use Rattle.arwen_commands.specs.declared.error.ArwenError.TheVariants.{Edits, Elf, Io, Line, Macho, MachoBatch, Memory}
+use Rattle.arwen_commands.specs.declared.error.ArwenError.TheVariants.{Elf, Io, Memory}
 use Rattle.arwen_commands.specs.Engine.{Tells, outcome}
 use Rattle.arwen_commands.specs.Engine.Outcome.{bytes}
 use Rattle.arwen_commands.specs.Meaning.{ElfMeaning, MachoMeaning}

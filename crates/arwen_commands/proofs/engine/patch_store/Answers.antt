@@ -1,8 +1,7 @@
-use Rattle.std.proofs.Common.{◌≡◌, ◌∙◌, ap, arith, length, List, subst, sym, ℕ}
+use Rattle.std.proofs.Common.{◌≡◌, ◌∙◌, ap, arith, length, List, sym, ℕ}
 use Rattle.std.proofs.lemmas.Result.{err_from_is_err_and}
-use Rattle.arwen_commands.specs.Engine.{Tells, Writes, asked, outcome}
+use Rattle.arwen_commands.specs.Engine.{Writes, asked, outcome}
 use Rattle.arwen_commands.specs.Meaning.{macho_shown}
-use Rattle.arwen_commands.specs.Stores.{ArePiecesOf}
 use Rattle.arwen_commands.proofs.StoreLaws.{patched_store, read_whole, refused_store, torn_store}
 use Rattle.arwen_commands.proofs.engine.patch_store.Goals as goal
 
