@@ -1,7 +1,8 @@
 //! New bytes of old ones.
 ghost use Rattle.std.specs.Prelude.{◌≡◌, ◌∷◌, [], Ok, IfOk, IfErr, OnOk, map, string_bytes};
 ghost use Rattle.arwen_macho.specs.Batch.{calls_of};
-ghost use Rattle.arwen_commands.specs.Engine.{AreAsked, IsDone, MayFail, Outcome, Tells, TellsAsked, Writes};
+ghost use Rattle.arwen_commands.specs.Engine.{AreAsked, IsDone, MayFail, Outcome, ShowsEdited};
+ghost use Rattle.arwen_commands.specs.Engine.{Tells, TellsAsked, Writes};
 ghost use Rattle.arwen_commands.specs.Engine.{asked, outcome, refused_answer};
 ghost use Rattle.arwen_commands.specs.Meaning.{macho_shown};
 ghost use Rattle.arwen_commands.specs.Stores.{FailsPatch, Patched};
@@ -18,10 +19,13 @@ use byte_store::{FileStore, Store, load_up_to};
 use std::alloc::{AllocError, Global};
 use std::rt::Files;
 
-/// The bytes of a file after a command. Of `apply` the words are read before the bytes are looked at.
+/// The bytes of a file after a command: a parse accepts them again, and finds the edited load commands. Of
+/// `apply` the words are read before the bytes are looked at.
 pub fn run_macho(alloc: Global, bytes: &[u8], command: &MachoCommand) -> Result<Vec<u8>, ArwenError>
     ensures ok { IfOk result (λ new.
         outcome (macho_shown command.now) bytes.now ≡ Outcome.bytes new.items) }
+    ensures shows { IfOk result (λ new.
+        ShowsEdited (asked (macho_shown command.now)) bytes.now new.items) }
     ensures err { IfErr result (λ e. Tells (outcome (macho_shown command.now) bytes.now) e) }
 {
     let fronts = fronts_of(alloc, bytes, command)?;
@@ -33,7 +37,7 @@ pub fn run_macho(alloc: Global, bytes: &[u8], command: &MachoCommand) -> Result<
 /// What a command writes over the bytes of a file. Its edits are read before the bytes are looked at.
 fn fronts_of(alloc: Global, bytes: &[u8], command: &MachoCommand) -> Result<Vec<Front>, ArwenError>
     ensures ok { IfOk result (λ fronts.
-        Writes (outcome (macho_shown command.now) bytes.now) bytes.now fronts.items) }
+        Writes (macho_shown command.now) bytes.now fronts.items) }
     ensures err { IfErr result (λ e. Tells (outcome (macho_shown command.now) bytes.now) e) }
 {
     let edits = edits_asked(alloc, command)?;
