@@ -127,25 +127,8 @@ pub(crate) fn patch_file<R: Files + AllocGlobal>(
     ensures ok { IfOk result (λ _. IsDone (macho_shown command.now)) }
     ensures err { IfErr result (λ e. MayFail (macho_shown command.now) e) }
 {
-    let store = FileStore::open(rt, command.path_to_binary())?;
-    patch_opened(rt.alloc(), store, command)
-}
-
-/// Edits a file that was opened, by the steps of `patch_store`. A call of that one has no generated proof
-/// at a store with lifetimes, since its error names another.
-fn patch_opened<R: Files>(
-    alloc: Global,
-    mut store: FileStore<'_, R>,
-    command: &MachoCommand,
-) -> Result<(), ArwenError>
-    ensures ok { IfOk result (λ _. IsDone (macho_shown command.now)) }
-    ensures err { IfErr result (λ e. MayFail (macho_shown command.now) e) }
-{
-    let mut bytes = load_up_to(alloc, &mut store, MOST_BYTES)?;
-    let fronts = fronts_of(alloc, bytes.as_slice(), command)?;
-    let pieces = changes_of(alloc, &mut bytes, fronts.as_slice())?;
-    write_changes_of(&mut store, bytes.len() as u64, pieces.as_slice())?;
-    Ok(())
+    let mut store = FileStore::open(rt, command.path_to_binary())?;
+    patch_store(rt.alloc(), &mut store, command)
 }
 
 /// Edits a Mach-O file in its place. Only bytes that change are written, and only after all of them
