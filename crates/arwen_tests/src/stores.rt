@@ -86,43 +86,51 @@ fn command(alloc: Global) -> Result<MachoCommand, AllocError> {
 
 // Adds the run path to a store. Where memory is refused its bytes are the old ones, and it is tried again.
 fn patched(
-    rt: &HostRuntime,
+    rt: &impl Abort,
+    alloc: Global,
     store: &mut Failing,
     command: &MachoCommand,
     old: &[u8],
 ) -> Result<(), ArwenError> {
-    let answer = patch_store(rt.alloc(), store, command);
+    let answer = patch_store(alloc, store, command);
     if let Err(ArwenError::Memory) = &answer {
         assert_eq!(rt; store.inner.bytes.as_slice(), old);
-        return patch_store(rt.alloc(), store, command);
+        return patch_store(alloc, store, command);
     }
     answer
 }
 
 // What is left of a file of which both slices are edited, where so many writes succeed. The last slice is
 // written first.
-fn expect_left(rt: &HostRuntime, writes: usize, first: &[u8], second: &[u8]) -> Result<(), Fail> {
-    let command = command(rt.alloc())?;
-    let old = file(rt.alloc(), PLAIN, PLAIN)?;
+fn expect_left(
+    rt: &impl Abort,
+    alloc: Global,
+    writes: usize,
+    first: &[u8],
+    second: &[u8],
+) -> Result<(), Fail> {
+    let command = command(alloc)?;
+    let old = file(alloc, PLAIN, PLAIN)?;
     let mut store = Failing {
-        inner: MemoryStore::new(file(rt.alloc(), PLAIN, PLAIN)?),
+        inner: MemoryStore::new(file(alloc, PLAIN, PLAIN)?),
         writes,
     };
-    let answer = patched(rt, &mut store, &command, old.as_slice());
+    let answer = patched(rt, alloc, &mut store, &command, old.as_slice());
     let is_right = match answer {
         Ok(()) => writes >= 2,
         Err(ArwenError::Io(_)) => writes < 2,
         Err(_) => false,
     };
     assert!(rt; is_right, "{writes}");
-    let left = file(rt.alloc(), first, second)?;
+    let left = file(alloc, first, second)?;
     assert_eq!(rt; store.inner.bytes.as_slice(), left.as_slice(), "{writes}");
     Ok(())
 }
 
 #[test]
 fn leaves_what_was_written(rt: HostRuntime) -> Result<(), Fail> {
-    expect_left(&rt, 0, PLAIN, PLAIN)?;
-    expect_left(&rt, 1, PLAIN, WITH_RPATH)?;
-    expect_left(&rt, 2, WITH_RPATH, WITH_RPATH)
+    let alloc = rt.alloc();
+    expect_left(&rt, alloc, 0, PLAIN, PLAIN)?;
+    expect_left(&rt, alloc, 1, PLAIN, WITH_RPATH)?;
+    expect_left(&rt, alloc, 2, WITH_RPATH, WITH_RPATH)
 }
