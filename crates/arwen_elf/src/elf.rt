@@ -4,4 +4,6 @@ pub mod container;
 pub mod rewriter;
 
 pub use crate::elf::container::ElfContainer;
-pub use crate::elf::rewriter::{BuilderExt, ElfError, ModifyCause, Needed, ProbeAnswer, Writer};
+pub use crate::elf::rewriter::{
+    BuilderExt, ElfError, ModifyCause, Needed, ProbeAnswer, Task, Writer,
+};

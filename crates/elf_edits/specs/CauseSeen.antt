@@ -1,16 +1,32 @@
 -- Causes as the code tells them.
-use Rattle.std.specs.Prelude.{Bool, ◌||◌}
+use Rattle.std.specs.Prelude.{ℕ, List, Bool, ◌||◌, codes}
 use Rattle.elf_edits.specs.declared.cause.Cause.{Cause as CauseTold}
 use Rattle.elf_edits.specs.declared.cause.Cause.TheVariants as told
+use Rattle.elf_edits.specs.declared.task.Task.{Task}
+use Rattle.elf_edits.specs.declared.task.Task.TheVariants as tasks
 use Rattle.elf_edits.specs.Abi.{lowered}
 use Rattle.elf_edits.specs.Called.{Bytes}
 use Rattle.elf_edits.specs.Cause.{BadPageSize, Cause, MipsImage, NoDynamic, NoInterpreter, NoRunPath, NulInText, TooManyHeaders, UnknownAbi}
 use Rattle.elf_edits.specs.Texts.{holds_nul}
 
+-- the words for a task
+abbrev pub words_of : Task → List ℕ
+words_of tasks.AddDebugEntry = codes "add debug entry"
+words_of tasks.DeleteRunPath = codes "delete runpath"
+words_of tasks.SetRunPath = codes "set runpath"
+words_of tasks.AddRunPath = codes "add runpath"
+words_of tasks.UseRunpath = codes "change runpath"
+words_of tasks.UseRpath = codes "change rpath"
+words_of tasks.DeleteNeeded = codes "delete needed library"
+words_of tasks.ReplaceNeeded = codes "replace needed library"
+words_of tasks.AddNeeded = codes "add needed library"
+words_of tasks.SetSoname = codes "set soname"
+words_of tasks.ShrinkRunPath = codes "shrink rpath"
+
 -- a name that is told is meant with its ASCII letters lowered
 abbrev pub cause_meant : CauseTold → Cause
 cause_meant told.MipsImage = MipsImage
-cause_meant (told.NoDynamic task) = NoDynamic task.now
+cause_meant (told.NoDynamic task) = NoDynamic (words_of task)
 cause_meant told.NoInterpreter = NoInterpreter
 cause_meant told.NulInText = NulInText
 cause_meant (told.UnknownAbi name) = UnknownAbi (lowered name.now)

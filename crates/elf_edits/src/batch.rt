@@ -14,6 +14,7 @@ use crate::cause::{Cause, any_nul, cause_of};
 use crate::facts::Facts;
 use crate::gathered::{map_of, set_of};
 use crate::list::{NewList, edited};
+use crate::task::Task;
 use elf_image::Dynamic;
 use elf_image::constants::EM_MIPS;
 use std::alloc::{AllocError, Global};
@@ -118,7 +119,7 @@ fn removal_cause(names: &[Vec<u8>], facts: &Facts) -> Option<Cause<'static>>
     if facts.machine == EM_MIPS {
         Some(Cause::MipsImage)
     } else if !facts.has_list {
-        Some(Cause::NoDynamic("delete needed library"))
+        Some(Cause::NoDynamic(Task::DeleteNeeded))
     } else if any_nul(names) {
         Some(Cause::NulInText)
     } else {
@@ -135,7 +136,7 @@ fn replacement_cause(pairs: &[(Vec<u8>, Vec<u8>)], facts: &Facts) -> Option<Caus
     if facts.machine == EM_MIPS {
         Some(Cause::MipsImage)
     } else if !facts.has_list {
-        Some(Cause::NoDynamic("replace needed library"))
+        Some(Cause::NoDynamic(Task::ReplaceNeeded))
     } else if any_nul_in_pairs(pairs) {
         Some(Cause::NulInText)
     } else {

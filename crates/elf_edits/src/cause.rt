@@ -4,16 +4,16 @@ ghost use Rattle.std.specs.HashSet.{keys};
 ghost use Rattle.std.specs.List.{list_any};
 ghost use Rattle.elf_edits.specs.Called.{call_meant, texts_held};
 ghost use Rattle.elf_edits.specs.Cause.{first_cause as first_of_causes, interpreter_missing, list_missing, own_cause as cause_of_its_own};
-ghost use Rattle.elf_edits.specs.CauseSeen.{cause_meant, pair_holds_nul};
+ghost use Rattle.elf_edits.specs.CauseSeen.{cause_meant, pair_holds_nul, words_of};
 ghost use Rattle.elf_edits.specs.Edit.{Answer, ShrinkRunPath, all_but_last, task_of as task_meant, texts_of};
 ghost use Rattle.elf_edits.specs.Texts.{holds_nul as nul_in};
 ghost use Rattle.elf_image.specs.Options.{first_there};
-ghost use Rattle.elf_image.specs.Answers.{borrowed};
 
 use crate::abi::abi_number;
 use crate::call::EditCall;
 use crate::constants::SMALLEST_PAGE;
 use crate::facts::Facts;
+use crate::task::Task;
 use elf_image::constants::EM_MIPS;
 use std::collections::{HashMap, HashSet};
 
@@ -23,7 +23,7 @@ pub enum Cause<'e> {
     /// Files for MIPS are read alone.
     MipsImage,
     /// The file has no dynamic section; what was to be done.
-    NoDynamic(&'static str),
+    NoDynamic(Task),
     /// The file has no interpreter.
     NoInterpreter,
     /// A text that was handed in has a NUL in it.
@@ -107,21 +107,21 @@ fn any_nul_in_call(call: &EditCall<'_>) -> bool
 }
 
 // What an edit of the dynamic list does, none for another edit.
-fn task_of(call: &EditCall<'_>) -> Option<&'static str>
-    ensures { option_map borrowed result ≡ task_meant (call_meant call.now) }
+fn task_of(call: &EditCall<'_>) -> Option<Task>
+    ensures { option_map words_of result ≡ task_meant (call_meant call.now) }
 {
     match call {
-        EditCall::AddDebugEntry => Some("add debug entry"),
-        EditCall::DeleteRunPath => Some("delete runpath"),
-        EditCall::SetRunPath(_) => Some("set runpath"),
-        EditCall::AddRunPath(_) => Some("add runpath"),
-        EditCall::UseRunpath => Some("change runpath"),
-        EditCall::UseRpath => Some("change rpath"),
-        EditCall::DeleteNeeded(_) => Some("delete needed library"),
-        EditCall::ReplaceNeeded(_) => Some("replace needed library"),
-        EditCall::AddNeeded(_) => Some("add needed library"),
-        EditCall::SetSoname(_) => Some("set soname"),
-        EditCall::NoDefaultLibrary => Some("set soname"),
+        EditCall::AddDebugEntry => Some(Task::AddDebugEntry),
+        EditCall::DeleteRunPath => Some(Task::DeleteRunPath),
+        EditCall::SetRunPath(_) => Some(Task::SetRunPath),
+        EditCall::AddRunPath(_) => Some(Task::AddRunPath),
+        EditCall::UseRunpath => Some(Task::UseRunpath),
+        EditCall::UseRpath => Some(Task::UseRpath),
+        EditCall::DeleteNeeded(_) => Some(Task::DeleteNeeded),
+        EditCall::ReplaceNeeded(_) => Some(Task::ReplaceNeeded),
+        EditCall::AddNeeded(_) => Some(Task::AddNeeded),
+        EditCall::SetSoname(_) => Some(Task::SetSoname),
+        EditCall::NoDefaultLibrary => Some(Task::SetSoname),
         _ => None,
     }
 }
@@ -203,7 +203,7 @@ pub fn shrink_cause(prefixes: &[Vec<u8>], facts: &Facts) -> Option<Cause<'static
     if facts.machine == EM_MIPS {
         Some(Cause::MipsImage)
     } else if !facts.has_list {
-        Some(Cause::NoDynamic("shrink rpath"))
+        Some(Cause::NoDynamic(Task::ShrinkRunPath))
     } else if any_nul(prefixes) {
         Some(Cause::NulInText)
     } else if !facts.has_run_path {

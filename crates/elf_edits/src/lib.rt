@@ -17,6 +17,7 @@ mod search;
 mod searching;
 pub mod shrink;
 pub mod shrinking;
+pub mod task;
 mod texts;
 
 pub use crate::batch::{cause_of_edit, edited_by};
@@ -27,3 +28,4 @@ pub use crate::list::{NewList, edited};
 pub use crate::of_image::image_facts;
 pub use crate::shrink::{ProbeAnswer, Reason, Removed};
 pub use crate::shrinking::{ShrunkList, shrink_questions};
+pub use crate::task::Task;

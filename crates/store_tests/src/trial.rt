@@ -1,5 +1,5 @@
 //! A store in memory whose calls fail on purpose.
-ghost use Rattle.std.specs.Prelude.{◌≡◌, [], IfOk};
+ghost use Rattle.std.specs.Prelude.{◌≡◌, [], IfOk, false};
 
 use byte_store::{MemoryStore, Store};
 use std::alloc::{AllocError, Global};
@@ -47,7 +47,13 @@ pub struct TrialStore {
 }
 
 impl TrialStore {
-    pub fn new(bytes: Vec<u8>, plan: Plan) -> TrialStore {
+    /// A store of these bytes, opened for reading, that has written nothing yet.
+    pub fn new(bytes: Vec<u8>, plan: Plan) -> TrialStore
+        ensures bytes { result.inner.bytes ≡ bytes }
+        ensures open { result.inner.is_open ≡ false }
+        ensures plan { result.plan ≡ plan }
+        ensures fresh { (result.writes ≡ 0) × (result.interrupted ≡ 0) }
+    {
         TrialStore {
             inner: MemoryStore::new(bytes),
             plan,

@@ -7,4 +7,5 @@ pub mod writer;
 
 pub use crate::elf::rewriter::error::{ElfError, ModifyCause, Result};
 pub use crate::elf::rewriter::ext::BuilderExt;
-pub use crate::elf::rewriter::writer::{Needed, ProbeAnswer, Writer};
+pub use crate::elf::rewriter::writer::{Needed, Writer};
+pub use elf_edits::{ProbeAnswer, Task};

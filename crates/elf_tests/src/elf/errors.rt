@@ -1,7 +1,7 @@
 //! The texts of errors, and what becomes which error.
 
 use crate::support::{Runtime, prints, same, shows};
-use arwen_elf::elf::{ElfError, ModifyCause, ProbeAnswer};
+use arwen_elf::elf::{ElfError, ModifyCause, ProbeAnswer, Task};
 use elf_image::ElfFault;
 use patch_bytes::ByteString;
 use std::alloc::{AllocError, AllocFailed};
@@ -48,7 +48,7 @@ fn texts_of_errors(rt: HostRuntime) {
 fn texts_of_causes(rt: HostRuntime) {
     let rows = [
         (
-            ModifyCause::NoDynamic("set runpath"),
+            ModifyCause::NoDynamic(Task::SetRunPath),
             "No dynamic section found; can't set runpath",
         ),
         (

@@ -2,6 +2,7 @@ ghost use Rattle.std.specs.Prelude.{◌≡◌};
 ghost use Rattle.arwen_elf.specs.Causes.{of_fault};
 ghost use Rattle.arwen_elf.specs.declared.elf.rewriter.error.ElfError.TheVariants.{Io, Memory};
 
+use elf_edits::Task;
 use elf_image::ElfFault;
 use std::alloc::{AllocError, AllocFailed};
 use std::io;
@@ -12,7 +13,7 @@ use thiserror::Error;
 pub enum ModifyCause {
     /// The file has no dynamic section; what was to be done.
     #[error("No dynamic section found; can't {0}")]
-    NoDynamic(&'static str),
+    NoDynamic(Task),
     /// The file has no interpreter.
     #[error("No interp section found; can't set interpreter")]
     NoInterp,

@@ -14,21 +14,9 @@ use crate::elf::rewriter::machines::{
 };
 use elf_image::constants::{DT_NEEDED, DT_RPATH, DT_RUNPATH, DT_SONAME, EM_MIPS};
 use elf_image::{Builder, Dynamic, Header};
-use patch_bytes::ByteString;
 use std::alloc::Global;
 use std::marker::Model;
 use std::slice::Iter;
-
-/// What was found for a directory of a run path and a needed library: the machine of the file of that name.
-#[derive(Debug, Drop)]
-pub struct ProbeAnswer<'a> {
-    /// The directory, as the run path has it.
-    pub directory: ByteString<'a>,
-    /// The library's name, as the dynamic list has it.
-    pub needed: ByteString<'a>,
-    /// The file's machine; `None` where there is no such file, or where it is no ELF file.
-    pub machine: Option<u16>,
-}
 
 /// An ELF file whose image is read, and later edited and written.
 #[derive(Debug, Drop)]
