@@ -26,4 +26,18 @@ impl Dynamic<'_> {
             Dynamic::Text { tag, .. } => *tag,
         }
     }
+
+    ghost use Rattle.elf_image.specs.DynamicList.{with_tag};
+    ghost use Rattle.elf_image.specs.ImageSeen.{entry_kept};
+
+    // Gives the entry another tag.
+    pub(crate) fn set_tag(&mut self, new: u64)
+        ensures { entry_kept self.new ≡ with_tag new (entry_kept self.old) }
+    {
+        match self {
+            Dynamic::Auto { tag } => *tag = new,
+            Dynamic::Integer { tag, .. } => *tag = new,
+            Dynamic::Text { tag, .. } => *tag = new,
+        }
+    }
 }

@@ -4,6 +4,12 @@ ghost use Rattle.elf_image.specs.ImageSeen.{segment_kept};
 use elf_format::records::SegmentHeader;
 use std::marker::PhantomData;
 
+/// The flags of an added PT_GNU_STACK (GNU extension): read, write and run.
+pub const STACK_FLAGS: u32 = 7;
+
+/// The alignment of an added PT_GNU_STACK.
+pub const STACK_ALIGN: u64 = 16;
+
 /// A program header of a file (gABI, Program Header). Offsets, addresses and sizes are in bytes.
 #[derive(Clone, Copy, Debug)]
 pub struct Segment<'data> {

@@ -1,0 +1,251 @@
+//! The changes of an image, one part at a time.
+ghost use Rattle.std.specs.Prelude.{◌≡◌, ◌==◌, All, IfOk, IsSome, IsTrue, map, not, option_map, position, None as none, Some as some, true};
+ghost use Rattle.std.specs.List.{remove};
+ghost use Rattle.elf_format.specs.declared.constants.TheConstants.{PT_GNU_STACK as STACK};
+ghost use Rattle.elf_image.specs.DynamicList.{IsListed, KeepsTables, all_but_last, can_delete, can_retag, can_follow, holds_nul, is_free_tag, retagged, with_tag_at, without_tag};
+ghost use Rattle.elf_image.specs.File.{segment_of_type};
+ghost use Rattle.elf_image.specs.ImageSeen.{entry_kept, segment_kept};
+ghost use Rattle.elf_image.specs.Segments.{added_stack as added_header, with_load_align, with_stack_flags};
+ghost use Rattle.elf_image.specs.declared.segment.TheConstants.{STACK_FLAGS as ADDED_FLAGS};
+
+use crate::builder::Builder;
+use crate::dynamic::Dynamic;
+use crate::segment::{STACK_ALIGN, STACK_FLAGS, Segment};
+use elf_format::constants::{PT_GNU_STACK, PT_LOAD};
+use elf_format::records::SegmentHeader;
+use patch_bytes::ByteString;
+use std::alloc::{AllocError, Global};
+use std::marker::PhantomData;
+
+impl<'data> Builder<'data> {
+    ghost use Rattle.std.specs.Borrow.{sem};
+    ghost use Rattle.elf_image.specs.Lending.{LendsAddedFlags, LendsStackFlags};
+
+    /// Puts another dynamic list in place of the one that is there (gABI, Dynamic Section). The caller sees that
+    /// it names the same tables in the same order, and that each entry may stand before the DT_NULL. Takes no
+    /// memory.
+    pub fn set_dynamic(&mut self, list: Vec<Dynamic<'data>>)
+        requires tables { KeepsTables self.old.entries (map entry_kept list.items) }
+        requires entries { All IsListed (map entry_kept list.items) }
+        ensures { self.new ≡ record self.old { changed = true; entries = some (map entry_kept list.entry.items) } }
+    {
+        self.dynamic = Some(list);
+        self.changed = true;
+    }
+
+    /// Deletes the entry of the dynamic list at a position, which is of no table (gABI, Dynamic Section). Takes no
+    /// memory.
+    pub fn delete_dynamic(&mut self, index: usize)
+        requires { IsTrue (can_delete self.old.entries index) }
+        ensures { self.new ≡ record self.old {
+            changed = true;
+            entries = option_map (λ list. remove list index) self.old.entries;
+        } }
+    {
+        if let Some(list) = &mut self.dynamic {
+            list.remove(index);
+        }
+        self.changed = true;
+    }
+
+    /// Deletes every entry of the dynamic list with this tag, which is of no table. Takes no memory.
+    pub fn delete_dynamic_tag(&mut self, tag: u64)
+        requires { IsTrue (is_free_tag tag) }
+        ensures { self.new ≡ record self.old {
+            changed = true;
+            entries = option_map (without_tag tag) self.old.entries;
+        } }
+    {
+        if let Some(list) = &mut self.dynamic {
+            list.retain(|entry| entry.tag() != tag);
+        }
+        self.changed = true;
+    }
+
+    /// Gives the entry of the dynamic list at a position another tag, whose value is of the same kind. Takes no
+    /// memory.
+    pub fn retag(&mut self, index: usize, tag: u64)
+        requires { IsTrue (can_retag self.old.entries index tag) }
+        ensures { self.new ≡ record self.old {
+            changed = true;
+            entries = option_map (with_tag_at index tag) self.old.entries;
+        } }
+    {
+        if let Some(list) = &mut self.dynamic {
+            list[index].set_tag(tag);
+        }
+        self.changed = true;
+    }
+
+    /// Gives every entry of the dynamic list with the one tag the other tag, whose value is of the same kind.
+    /// Takes no memory.
+    pub fn retag_all(&mut self, old: u64, new: u64)
+        requires { IsTrue (can_follow new old) }
+        ensures { self.new ≡ record self.old {
+            changed = true;
+            entries = option_map (retagged old new) self.old.entries;
+        } }
+    {
+        if let Some(list) = &mut self.dynamic {
+            retag_entries(list, old, new);
+        }
+        self.changed = true;
+    }
+
+    /// Puts other bytes in place of the interpreter's (gABI, Program Interpreter), in which a NUL stands last or
+    /// nowhere. Takes no memory.
+    pub fn set_interp(&mut self, bytes: ByteString<'data>)
+        requires there { IsSome self.old.interpreter }
+        requires nul { IsTrue (not (holds_nul (all_but_last bytes))) }
+        ensures { self.new ≡ record self.old { changed = true; interpreter = some bytes.entry } }
+    {
+        self.interpreter = Some(bytes);
+        self.changed = true;
+    }
+
+    /// Sets the byte that tells the ABI (gABI, ELF Identification, `EI_OSABI`). Takes no memory.
+    pub fn set_os_abi(&mut self, byte: u8)
+        ensures { self.new ≡ record self.old {
+            changed = true;
+            header = record self.old.header { os_abi = byte };
+        } }
+    {
+        self.header.os_abi = byte;
+        self.changed = true;
+    }
+
+    /// Sets the page size, in bytes: each PT_LOAD gets it as its alignment (gABI, Program Header). Takes no memory.
+    pub fn set_load_align(&mut self, size: u32)
+        ensures { self.new ≡ record self.old {
+            changed = true;
+            segments = with_load_align size self.old.segments;
+            page_size = some size;
+        } }
+    {
+        align_loads(&mut self.segments, u64::from(size));
+        self.page_size = Some(size);
+        self.changed = true;
+    }
+
+    /// The first PT_GNU_STACK, whose flags say whether the stack may be run (GNU extension). Takes no memory.
+    pub fn stack(&self) -> Option<&Segment<'data>>
+        ensures { option_map (λ p. segment_kept p.now) result ≡ segment_of_type STACK self.now.segments }
+    {
+        self.segments
+            .iter()
+            .find(|segment| segment.p_type() == PT_GNU_STACK)
+    }
+
+    /// Sets the flags of the first PT_GNU_STACK, which is there. Takes no memory.
+    pub fn set_stack_flags(&mut self, flags: u32)
+        requires { IsSome (segment_of_type STACK self.old.segments) }
+        ensures { self.new ≡ record self.old {
+            changed = true;
+            segments = with_stack_flags flags self.old.segments;
+        } }
+    {
+        if let Some(at) = stack_position(&self.segments) {
+            flag_stack(&mut self.segments, at, flags);
+        }
+        self.changed = true;
+    }
+
+    /// Lends the flags of the first PT_GNU_STACK; the image counts as changed where it lends them. Takes no
+    /// memory.
+    pub fn stack_mut(&mut self) -> Option<&mut u32>
+        ensures* lends { sem 𝓛 (LendsStackFlags self.entry result) }
+        ensures value { option_map (λ flags. flags.now) result
+            ≡ option_map (λ p. p.p_flags) (segment_of_type STACK self.old.segments) }
+    {
+        if self.stack().is_none() {
+            return None;
+        }
+        self.changed = true;
+        stack_flags(&mut self.segments)
+    }
+
+    /// Puts a PT_GNU_STACK behind all program headers, which have none (GNU extension): it says that the stack is
+    /// read, written and run, and stands nowhere. Lends its flags. Error: `AllocError`, and nothing has changed.
+    pub fn add_stack(&mut self, _alloc: Global) -> Result<&mut u32, AllocError>
+        requires { segment_of_type STACK self.old.segments ≡ none }
+        ensures* lends { sem 𝓛 (LendsAddedFlags self.entry result) }
+        ensures value { IfOk result (λ flags. flags.now ≡ ADDED_FLAGS) }
+    {
+        self.segments.push(added_stack())?;
+        self.changed = true;
+        let at = self.segments.len() - 1;
+        let segment = &mut self.segments[at];
+        let numbers = &mut segment.numbers;
+        Ok(&mut numbers.p_flags)
+    }
+}
+
+// The program header for the stack, as it is added.
+fn added_stack<'data>() -> Segment<'data>
+    ensures { segment_kept result ≡ added_header ADDED_FLAGS }
+{
+    Segment {
+        numbers: SegmentHeader {
+            p_type: PT_GNU_STACK,
+            p_flags: STACK_FLAGS,
+            p_offset: 0,
+            p_vaddr: 0,
+            p_paddr: 0,
+            p_filesz: 0,
+            p_memsz: 0,
+            p_align: STACK_ALIGN,
+        },
+        of: PhantomData,
+    }
+}
+
+// Lends the flags of the first program header for the stack.
+fn stack_flags<'s>(segments: &'s mut Vec<Segment<'_>>) -> Option<&'s mut u32> {
+    let at = stack_position(segments)?;
+    let segment = &mut segments[at];
+    let numbers = &mut segment.numbers;
+    Some(&mut numbers.p_flags)
+}
+
+// The entries with the one tag get the other.
+fn retag_entries(list: &mut Vec<Dynamic<'_>>, old: u64, new: u64)
+    ensures { map entry_kept list.new.items ≡ retagged old new (map entry_kept list.old.items) }
+{
+    for i in 0..list.len() {
+        if list[i].tag() == old {
+            list[i].set_tag(new);
+        }
+    }
+}
+
+// The loaded segments get the alignment.
+fn align_loads(segments: &mut Vec<Segment<'_>>, align: u64)
+    ensures { map segment_kept segments.new.items
+        ≡ with_load_align align (map segment_kept segments.old.items) }
+{
+    for i in 0..segments.len() {
+        if segments[i].p_type() == PT_LOAD {
+            let segment = &mut segments[i];
+            segment.numbers.p_align = align;
+        }
+    }
+}
+
+// Where the first program header for the stack stands.
+fn stack_position(segments: &[Segment<'_>]) -> Option<usize>
+    ensures { result ≡ position (λ p. p.p_type == STACK) (map segment_kept segments.now) }
+{
+    segments
+        .iter()
+        .position(|segment| segment.p_type() == PT_GNU_STACK)
+}
+
+// The program header for the stack at a position gets the flags.
+fn flag_stack(segments: &mut Vec<Segment<'_>>, at: usize, flags: u32)
+    requires { position (λ p. p.p_type == STACK) (map segment_kept segments.old.items) ≡ some at }
+    ensures { map segment_kept segments.new.items
+        ≡ with_stack_flags flags (map segment_kept segments.old.items) }
+{
+    let segment = &mut segments[at];
+    segment.numbers.p_flags = flags;
+}
