@@ -40,4 +40,18 @@ impl Dynamic<'_> {
             Dynamic::Text { tag, .. } => *tag = new,
         }
     }
+
+    ghost use Rattle.std.specs.Prelude.{◌==◌, if◌then◌else◌};
+    ghost use Rattle.elf_format.specs.Image.{entry_tag};
+
+    // Gives the entry the new tag where it has the old one.
+    pub(crate) fn change_tag(&mut self, old: u64, new: u64)
+        ensures { entry_kept self.new
+            ≡ (if entry_tag (entry_kept self.old) == old then with_tag new (entry_kept self.old)
+            else entry_kept self.old) }
+    {
+        if self.tag() == old {
+            self.set_tag(new);
+        }
+    }
 }

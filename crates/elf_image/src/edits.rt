@@ -1,26 +1,22 @@
 //! The changes of an image, one part at a time.
-ghost use Rattle.std.specs.Prelude.{◌≡◌, ◌==◌, All, IfOk, IsSome, IsTrue, map, not, option_map, position, None as none, Some as some, true};
+ghost use Rattle.std.specs.Prelude.{◌≡◌, ◌<◌, ◌==◌, All, MatchResult, IsSome, IsTrue, map, not, option_map, position, vec_len, None as none, Some as some, true};
 ghost use Rattle.std.specs.List.{remove};
 ghost use Rattle.elf_format.specs.declared.constants.TheConstants.{PT_GNU_STACK as STACK};
 ghost use Rattle.elf_image.specs.DynamicList.{IsListed, KeepsTables, all_but_last, can_delete, can_retag, can_follow, holds_nul, is_free_tag, retagged, with_tag_at, without_tag};
 ghost use Rattle.elf_image.specs.File.{segment_of_type};
 ghost use Rattle.elf_image.specs.ImageSeen.{entry_kept, segment_kept};
-ghost use Rattle.elf_image.specs.Segments.{added_stack as added_header, with_load_align, with_stack_flags};
-ghost use Rattle.elf_image.specs.declared.segment.TheConstants.{STACK_FLAGS as ADDED_FLAGS};
+ghost use Rattle.elf_image.specs.Segments.{added_stack as added_header, with_load_align, with_stack_added, with_stack_flags};
 
 use crate::builder::Builder;
 use crate::dynamic::Dynamic;
-use crate::segment::{STACK_ALIGN, STACK_FLAGS, Segment};
-use elf_format::constants::{PT_GNU_STACK, PT_LOAD};
+use crate::segment::{STACK_ALIGN, Segment};
+use elf_format::constants::PT_GNU_STACK;
 use elf_format::records::SegmentHeader;
 use patch_bytes::ByteString;
 use std::alloc::{AllocError, Global};
 use std::marker::PhantomData;
 
 impl<'data> Builder<'data> {
-    ghost use Rattle.std.specs.Borrow.{sem};
-    ghost use Rattle.elf_image.specs.Lending.{LendsAddedFlags, LendsStackFlags};
-
     /// Puts another dynamic list in place of the one that is there (gABI, Dynamic Section). The caller sees that
     /// it names the same tables in the same order, and that each entry may stand before the DT_NULL. Takes no
     /// memory.
@@ -42,10 +38,11 @@ impl<'data> Builder<'data> {
             entries = option_map (λ list. remove list index) self.old.entries;
         } }
     {
-        if let Some(list) = &mut self.dynamic {
-            list.remove(index);
-        }
         self.changed = true;
+        let Some(list) = &mut self.dynamic else {
+            return;
+        };
+        remove_entry(list, index);
     }
 
     /// Deletes every entry of the dynamic list with this tag, which is of no table. Takes no memory.
@@ -56,10 +53,11 @@ impl<'data> Builder<'data> {
             entries = option_map (without_tag tag) self.old.entries;
         } }
     {
-        if let Some(list) = &mut self.dynamic {
-            list.retain(|entry| entry.tag() != tag);
-        }
         self.changed = true;
+        let Some(list) = &mut self.dynamic else {
+            return;
+        };
+        remove_tagged(list, tag);
     }
 
     /// Gives the entry of the dynamic list at a position another tag, whose value is of the same kind. Takes no
@@ -71,10 +69,11 @@ impl<'data> Builder<'data> {
             entries = option_map (with_tag_at index tag) self.old.entries;
         } }
     {
-        if let Some(list) = &mut self.dynamic {
-            list[index].set_tag(tag);
-        }
         self.changed = true;
+        let Some(list) = &mut self.dynamic else {
+            return;
+        };
+        retag_entry(list, index, tag);
     }
 
     /// Gives every entry of the dynamic list with the one tag the other tag, whose value is of the same kind.
@@ -86,10 +85,11 @@ impl<'data> Builder<'data> {
             entries = option_map (retagged old new) self.old.entries;
         } }
     {
-        if let Some(list) = &mut self.dynamic {
-            retag_entries(list, old, new);
-        }
         self.changed = true;
+        let Some(list) = &mut self.dynamic else {
+            return;
+        };
+        retag_entries(list, old, new);
     }
 
     /// Puts other bytes in place of the interpreter's (gABI, Program Interpreter), in which a NUL stands last or
@@ -131,9 +131,8 @@ impl<'data> Builder<'data> {
     pub fn stack(&self) -> Option<&Segment<'data>>
         ensures { option_map (λ p. segment_kept p.now) result ≡ segment_of_type STACK self.now.segments }
     {
-        self.segments
-            .iter()
-            .find(|segment| segment.p_type() == PT_GNU_STACK)
+        let at = stack_position(&self.segments)?;
+        Some(&self.segments[at])
     }
 
     /// Sets the flags of the first PT_GNU_STACK, which is there. Takes no memory.
@@ -144,50 +143,35 @@ impl<'data> Builder<'data> {
             segments = with_stack_flags flags self.old.segments;
         } }
     {
-        if let Some(at) = stack_position(&self.segments) {
-            flag_stack(&mut self.segments, at, flags);
-        }
+        flag_stack(&mut self.segments, flags);
         self.changed = true;
     }
 
-    /// Lends the flags of the first PT_GNU_STACK; the image counts as changed where it lends them. Takes no
-    /// memory.
-    pub fn stack_mut(&mut self) -> Option<&mut u32>
-        ensures* lends { sem 𝓛 (LendsStackFlags self.entry result) }
-        ensures value { option_map (λ flags. flags.now) result
-            ≡ option_map (λ p. p.p_flags) (segment_of_type STACK self.old.segments) }
-    {
-        if self.stack().is_none() {
-            return None;
-        }
-        self.changed = true;
-        stack_flags(&mut self.segments)
-    }
-
-    /// Puts a PT_GNU_STACK behind all program headers, which have none (GNU extension): it says that the stack is
-    /// read, written and run, and stands nowhere. Lends its flags. Error: `AllocError`, and nothing has changed.
-    pub fn add_stack(&mut self, _alloc: Global) -> Result<&mut u32, AllocError>
+    /// Puts a PT_GNU_STACK with these flags behind all program headers, which have none (GNU extension). It stands
+    /// nowhere. Error: `AllocError`, and nothing has changed.
+    pub fn push_stack(&mut self, _alloc: Global, flags: u32) -> Result<(), AllocError>
         requires { segment_of_type STACK self.old.segments ≡ none }
-        ensures* lends { sem 𝓛 (LendsAddedFlags self.entry result) }
-        ensures value { IfOk result (λ flags. flags.now ≡ ADDED_FLAGS) }
+        ensures { MatchResult result
+            (λ _. self.new ≡ record self.old {
+                changed = true;
+                segments = with_stack_added flags self.old.segments;
+            })
+            (λ _. self.new ≡ self.old) }
     {
-        self.segments.push(added_stack())?;
+        self.segments.push(added_stack(flags))?;
         self.changed = true;
-        let at = self.segments.len() - 1;
-        let segment = &mut self.segments[at];
-        let numbers = &mut segment.numbers;
-        Ok(&mut numbers.p_flags)
+        Ok(())
     }
 }
 
 // The program header for the stack, as it is added.
-fn added_stack<'data>() -> Segment<'data>
-    ensures { segment_kept result ≡ added_header ADDED_FLAGS }
+fn added_stack<'data>(flags: u32) -> Segment<'data>
+    ensures { segment_kept result ≡ added_header flags }
 {
     Segment {
         numbers: SegmentHeader {
             p_type: PT_GNU_STACK,
-            p_flags: STACK_FLAGS,
+            p_flags: flags,
             p_offset: 0,
             p_vaddr: 0,
             p_paddr: 0,
@@ -199,12 +183,27 @@ fn added_stack<'data>() -> Segment<'data>
     }
 }
 
-// Lends the flags of the first program header for the stack.
-fn stack_flags<'s>(segments: &'s mut Vec<Segment<'_>>) -> Option<&'s mut u32> {
-    let at = stack_position(segments)?;
-    let segment = &mut segments[at];
-    let numbers = &mut segment.numbers;
-    Some(&mut numbers.p_flags)
+// The entry at a position is gone.
+fn remove_entry(list: &mut Vec<Dynamic<'_>>, index: usize)
+    requires { index < vec_len list.old }
+    ensures { map entry_kept list.new.items ≡ remove (map entry_kept list.old.items) index }
+{
+    drop(list.remove(index));
+}
+
+// The entries with the tag are gone.
+fn remove_tagged(list: &mut Vec<Dynamic<'_>>, tag: u64)
+    ensures { map entry_kept list.new.items ≡ without_tag tag (map entry_kept list.old.items) }
+{
+    list.retain(|entry| entry.tag() != tag);
+}
+
+// The entry at a position gets the tag.
+fn retag_entry(list: &mut Vec<Dynamic<'_>>, index: usize, tag: u64)
+    requires { index < vec_len list.old }
+    ensures { map entry_kept list.new.items ≡ with_tag_at index tag (map entry_kept list.old.items) }
+{
+    list[index].set_tag(tag);
 }
 
 // The entries with the one tag get the other.
@@ -212,9 +211,7 @@ fn retag_entries(list: &mut Vec<Dynamic<'_>>, old: u64, new: u64)
     ensures { map entry_kept list.new.items ≡ retagged old new (map entry_kept list.old.items) }
 {
     for i in 0..list.len() {
-        if list[i].tag() == old {
-            list[i].set_tag(new);
-        }
+        list[i].change_tag(old, new);
     }
 }
 
@@ -224,28 +221,27 @@ fn align_loads(segments: &mut Vec<Segment<'_>>, align: u64)
         ≡ with_load_align align (map segment_kept segments.old.items) }
 {
     for i in 0..segments.len() {
-        if segments[i].p_type() == PT_LOAD {
-            let segment = &mut segments[i];
-            segment.numbers.p_align = align;
-        }
+        segments[i].align_load(align);
     }
 }
 
 // Where the first program header for the stack stands.
 fn stack_position(segments: &[Segment<'_>]) -> Option<usize>
-    ensures { result ≡ position (λ p. p.p_type == STACK) (map segment_kept segments.now) }
+    ensures { result ≡ position (λ p. (segment_kept p).p_type == STACK) segments.now }
 {
     segments
         .iter()
         .position(|segment| segment.p_type() == PT_GNU_STACK)
 }
 
-// The program header for the stack at a position gets the flags.
-fn flag_stack(segments: &mut Vec<Segment<'_>>, at: usize, flags: u32)
-    requires { position (λ p. p.p_type == STACK) (map segment_kept segments.old.items) ≡ some at }
+// The first program header for the stack gets the flags.
+fn flag_stack(segments: &mut Vec<Segment<'_>>, flags: u32)
     ensures { map segment_kept segments.new.items
         ≡ with_stack_flags flags (map segment_kept segments.old.items) }
 {
+    let Some(at) = stack_position(segments) else {
+        return;
+    };
     let segment = &mut segments[at];
     segment.numbers.p_flags = flags;
 }
