@@ -4,3 +4,4 @@ pub mod WalkSteps
 pub mod VersionSteps
 pub mod TextSteps
 pub mod EditSteps
+pub mod ReadImageLaws
