@@ -3,3 +3,5 @@ pub mod ReadSteps
 pub mod WalkSteps
 pub mod VersionSteps
 pub mod TextSteps
+pub mod EditSteps
+pub mod ReadImageLaws
