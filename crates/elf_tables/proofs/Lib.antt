@@ -1,0 +1,5 @@
+pub mod TextOrder
+pub mod TextLists
+pub mod TableLaws
+pub mod StandingTexts
+pub mod LaySteps
