@@ -1,6 +1,7 @@
 //! A store in memory whose calls fail on purpose.
-ghost use Rattle.std.specs.Prelude.{◌≡◌, [], IfOk, false};
+ghost use Rattle.std.specs.Prelude.{◌≡◌, [], IfOk, true};
 
+use crate::support::Runtime;
 use byte_store::{MemoryStore, Store};
 use std::alloc::{AllocError, Global};
 use std::io;
@@ -47,15 +48,17 @@ pub struct TrialStore {
 }
 
 impl TrialStore {
-    /// A store of these bytes, opened for reading, that has written nothing yet.
-    pub fn new(bytes: Vec<u8>, plan: Plan) -> TrialStore
-        ensures bytes { result.inner.bytes ≡ bytes }
-        ensures open { result.inner.is_open ≡ false }
+    /// A store with the bytes `abcdef` that is open for writing.
+    pub fn open(rt: &impl Runtime, plan: Plan) -> TrialStore
+        ensures open { result.inner.is_open ≡ true }
         ensures plan { result.plan ≡ plan }
         ensures fresh { (result.writes ≡ 0) × (result.interrupted ≡ 0) }
     {
+        let bytes = copy(rt.alloc(), b"abcdef").expect(rt, "memory");
+        let mut inner = MemoryStore::new(bytes);
+        inner.open_for_writing().expect(rt, "a store");
         TrialStore {
-            inner: MemoryStore::new(bytes),
+            inner,
             plan,
             writes: 0,
             interrupted: 0,
