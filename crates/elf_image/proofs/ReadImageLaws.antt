@@ -189,7 +189,7 @@ module _ (p : Parts) where
       let (es, es_there, h4) = bind_some entries (λ es. definitions >>= λ vs. needs >>= λ ns. Some (make ss ys ds es vs ns)) image h3 in
       let (vs, vs_there, h5) = bind_some definitions (λ vs. needs >>= λ ns. Some (make ss ys ds es vs ns)) image h4 in
       let (ns, ns_there, h6) = bind_some needs (λ ns. Some (make ss ys ds es vs ns)) image h5 in
-      subst (λ (i : Image). HoldsParts p i) (same_Some (make ss ys ds es vs ns) image h6) (record {
+      subst (λ (i : Image). HoldsParts p i) {x = make ss ys ds es vs ns} (same_Some (make ss ys ds es vs ns) image h6) (record {
         source = refl;
         changed = refl;
         form = refl;
