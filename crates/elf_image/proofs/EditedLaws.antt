@@ -129,8 +129,8 @@ entry_listed room texts e shown not_null =
     let P : Option Entry → Type 0 = λ o. o ≡ Some shown → IsListed shown in
     cond_both (is_one_of text_tags e.d_tag) text (cond (is_one_of table_tags e.d_tag) auto number) P
     (λ is_text h.
-        let (t, there, made) = bind_some (text_at room texts e.d_value) (λ u. Some (Text e.d_tag u)) shown h in
-        subst IsListed (same_Some (Text e.d_tag t) shown made) (record { not_null = not_null; of_its_tag = is_text; whole = not_from_false (holds_nul t) (text_whole room texts e.d_value t there) }))
+    let (t, there, made) = bind_some (text_at room texts e.d_value) (λ u. Some (Text e.d_tag u)) shown h in
+    subst IsListed (same_Some (Text e.d_tag t) shown made) (record { not_null = not_null; of_its_tag = is_text; whole = not_from_false (holds_nul t) (text_whole room texts e.d_value t there) }))
     (λ no_text. cond_both (is_one_of table_tags e.d_tag) auto number P
     (λ is_table h. subst IsListed (same_Some (Auto e.d_tag) shown h) (record { not_null = not_null; of_its_tag = is_table; whole = refl }))
     (λ no_table h. subst IsListed (same_Some (Integer e.d_tag e.d_value) shown h) (record {

@@ -95,9 +95,10 @@ all_tagged : (old new : ℕ) (es : List Entry) → Follows old new → All IsLis
 all_tagged old new [] to all = (refl, All-nil IsListed)
 all_tagged old new (e ∷ es) to all =
     let (tables, listed) = all_tagged old new es to (All-tail IsListed e es all) in
-    let (is, same) = tagged_if e old new (entry_tag e == old) refl (All-head IsListed e es all) to in
-    (tables-head e (if entry_tag e == old then with_tag new e else e) es (retagged old new es) same tables,
-    All-cons IsListed (if entry_tag e == old then with_tag new e else e) (retagged old new es) is listed)
+    let (is, same) = tagged_if e old new (entry_tag e == old) refl (All-head IsListed e es all) to in (
+      tables-head e (if entry_tag e == old then with_tag new e else e) es (retagged old new es) same tables,
+      All-cons IsListed (if entry_tag e == old then with_tag new e else e) (retagged old new es) is listed,
+    )
 
 one_tagged : (i tag : ℕ) (es : List Entry) → can_retag (Some es) i tag ≡ true → All IsListed es → (tables_of (with_tag_at i tag es) ≡ tables_of es) × All IsListed (with_tag_at i tag es)
 unfolding with_tag_at

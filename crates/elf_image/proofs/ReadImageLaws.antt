@@ -89,11 +89,16 @@ module _ (room : ℕ) (texts : Memory) where
       let (z, z_there, more) = bind_some (text_of y) (λ z. each text_of ys >>= λ zs. Some (z ∷ zs)) (name ∷ names) h in
       let (zs, zs_there, made) = bind_some (each text_of ys) (λ zs. Some (z ∷ zs)) (name ∷ names) more in
       let first : z ≡ name = cc in
-      let same : kept_as y v name ≡ x = same_Some (kept_as y v name) x at in
-      (y, v, refl, refl, record {
-        name = z_there ∙ ap Some first ∙ ap (λ (q : NamedSymbol). Some q.name) same;
-        fields = sym same ∙ ap (λ (q : NamedSymbol). kept_as y v q.name) same;
-      })
+      let same : kept_as y v name ≡ x = same_Some (kept_as y v name) x at in (
+        y,
+        v,
+        refl,
+        refl,
+        record {
+          name = z_there ∙ ap Some first ∙ ap (λ (q : NamedSymbol). Some q.name) same;
+          fields = sym same ∙ ap (λ (q : NamedSymbol). kept_as y v q.name) same;
+        },
+      )
   named-at (y ∷ ys) (name ∷ names) (v ∷ versions) h (suc i) x at =
       let (z, z_there, more) = bind_some (text_of y) (λ z. each text_of ys >>= λ zs. Some (z ∷ zs)) (name ∷ names) h in
       let (zs, zs_there, made) = bind_some (each text_of ys) (λ zs. Some (z ∷ zs)) (name ∷ names) more in
