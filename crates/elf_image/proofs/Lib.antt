@@ -5,3 +5,7 @@ pub mod VersionSteps
 pub mod TextSteps
 pub mod EditSteps
 pub mod ReadImageLaws
+pub mod EditedLaws
+pub mod SegmentsKept
+pub mod EntriesKept
+pub mod Kept

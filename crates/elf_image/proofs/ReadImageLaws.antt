@@ -89,11 +89,16 @@ module _ (room : ℕ) (texts : Memory) where
       let (z, z_there, more) = bind_some (text_of y) (λ z. each text_of ys >>= λ zs. Some (z ∷ zs)) (name ∷ names) h in
       let (zs, zs_there, made) = bind_some (each text_of ys) (λ zs. Some (z ∷ zs)) (name ∷ names) more in
       let first : z ≡ name = cc in
-      let same : kept_as y v name ≡ x = same_Some (kept_as y v name) x at in
-      (y, v, refl, refl, record {
-        name = z_there ∙ ap Some first ∙ ap (λ (q : NamedSymbol). Some q.name) same;
-        fields = sym same ∙ ap (λ (q : NamedSymbol). kept_as y v q.name) same;
-      })
+      let same : kept_as y v name ≡ x = same_Some (kept_as y v name) x at in (
+        y,
+        v,
+        refl,
+        refl,
+        record {
+          name = z_there ∙ ap Some first ∙ ap (λ (q : NamedSymbol). Some q.name) same;
+          fields = sym same ∙ ap (λ (q : NamedSymbol). kept_as y v q.name) same;
+        },
+      )
   named-at (y ∷ ys) (name ∷ names) (v ∷ versions) h (suc i) x at =
       let (z, z_there, more) = bind_some (text_of y) (λ z. each text_of ys >>= λ zs. Some (z ∷ zs)) (name ∷ names) h in
       let (zs, zs_there, made) = bind_some (each text_of ys) (λ zs. Some (z ∷ zs)) (name ∷ names) more in
@@ -189,7 +194,7 @@ module _ (p : Parts) where
       let (es, es_there, h4) = bind_some entries (λ es. definitions >>= λ vs. needs >>= λ ns. Some (make ss ys ds es vs ns)) image h3 in
       let (vs, vs_there, h5) = bind_some definitions (λ vs. needs >>= λ ns. Some (make ss ys ds es vs ns)) image h4 in
       let (ns, ns_there, h6) = bind_some needs (λ ns. Some (make ss ys ds es vs ns)) image h5 in
-      subst (λ (i : Image). HoldsParts p i) (same_Some (make ss ys ds es vs ns) image h6) (record {
+      subst (λ (i : Image). HoldsParts p i) {x = make ss ys ds es vs ns} (same_Some (make ss ys ds es vs ns) image h6) (record {
         source = refl;
         changed = refl;
         form = refl;
