@@ -5,10 +5,7 @@ use patch_bytes::ByteString;
 use std::alloc::{AllocError, Global};
 
 // A copy of a string, with a letter behind its bytes.
-fn changed_copy<'a>(
-    alloc: Global,
-    string: &ByteString<'a>,
-) -> Result<ByteString<'a>, AllocError> {
+fn changed_copy<'a>(alloc: Global, string: &ByteString<'a>) -> Result<ByteString<'a>, AllocError> {
     let mut copy = string.try_clone(alloc)?;
     copy.to_mut(alloc)?.push(b'b')?;
     Ok(copy)
