@@ -1,6 +1,6 @@
 -- An image that was read is one that was edited in no way.
-use Rattle.std.proofs.Common.{◌≡◌, ◌≢◌, ℕ, zero, suc, ◌+◌, ◌<◌, ◌≤◌, Bool, true, false, cond, List, [], ◌∷◌, ◌++◌, length, get_or, refl, sym, ap, ◌∙◌, subst, inl, inr, Option, Some, None, Result, Ok, Err, All, arith}
-use Rattle.std.specs.Prelude.{◌==◌, ◌||◌, if◌then◌else◌, IsTrue, not, slice_index, unwrap_or}
+use Rattle.std.proofs.Common.{◌≡◌, ◌≢◌, ℕ, zero, suc, ◌+◌, ◌<◌, Bool, true, false, cond, List, [], ◌∷◌, ◌++◌, length, get_or, refl, sym, ap, ◌∙◌, subst, inl, inr, Option, Some, None, Ok, All, arith}
+use Rattle.std.specs.Prelude.{◌==◌, ◌||◌, if◌then◌else◌, slice_index, unwrap_or}
 use Rattle.std.specs.List.{slice_get}
 use Rattle.std.proofs.lemmas.Bool.{cases_lt, cond_both, ne_eqb, or_from, not_from_false, true≢false}
 use Rattle.std.proofs.lemmas.List.{append-nil, get_or_append_left, get_or-append-add, length-append}
@@ -15,14 +15,14 @@ use Rattle.elf_format.specs.declared.records.SegmentHeader.{SegmentHeader}
 use Rattle.elf_format.specs.Dynamic.{Auto, Entry, Integer, Text, entries_at, shown_entry, table_tags, text_tags}
 use Rattle.elf_format.specs.File.{Parts, linked_section, section_of_type}
 use Rattle.elf_format.specs.declared.form.Form.{Form}
-use Rattle.elf_format.specs.Image.{Image, ImageSection, counted, entries_read, image_of, section_name}
+use Rattle.elf_format.specs.Image.{Image, ImageSection, counted, entries_read, image_of}
 use Rattle.elf_format.specs.Options.{each, is_one_of}
 use Rattle.elf_format.specs.Records.{entry_numbers, entry_size}
 use Rattle.elf_format.specs.Rules.{dynamic_texts_of, file_of, linked_texts, raw_entries, texts_of}
 use Rattle.elf_format.specs.Views.{NamedSymbol, section_memory}
-use Rattle.elf_image.specs.DynamicList.{IsListed, holds_nul, tables_of}
+use Rattle.elf_image.specs.DynamicList.{IsListed, holds_nul}
 use Rattle.elf_image.specs.Edited.{AreEntriesOf, AreKept, ArePicked, AreSegments, IsEdited, IsEditOf, IsInterpreterOf, IsName, IsSameDynamicSymbol, IsSameSection, IsSameSymbol, as_kept}
-use Rattle.elf_image.specs.ReadImage.{AreDynamicSymbols, AreSectionsOf, AreStaticSymbols, AreSymbolsOf, HoldsParts}
+use Rattle.elf_image.specs.ReadImage.{AreDynamicSymbols, AreStaticSymbols, HoldsParts}
 use Rattle.elf_image.proofs.ReadImageLaws.{read_images_hold_parts}
 
 -- ## Texts

@@ -1,7 +1,7 @@
 -- Each change of a dynamic list leaves one that names the tables that were read.
-use Rattle.std.proofs.Common.{◌≡◌, ◌≢◌, ℕ, zero, suc, Bool, true, false, cond, List, [], ◌∷◌, ◌++◌, map, refl, sym, ap, ◌∙◌, subst, Option, Some, None, All, arith}
-use Rattle.std.specs.Prelude.{◌==◌, ◌||◌, ◌&&◌, if◌then◌else◌, IsTrue, drop, filter, not, take}
-use Rattle.std.specs.List.{filter_map, remove}
+use Rattle.std.proofs.Common.{◌≡◌, ◌≢◌, ℕ, zero, suc, Bool, true, false, List, [], ◌∷◌, refl, sym, ap, ◌∙◌, subst, Option, Some, None, All}
+use Rattle.std.specs.Prelude.{◌==◌, ◌||◌, ◌&&◌, if◌then◌else◌, drop, not, take}
+use Rattle.std.specs.List.{remove}
 use Rattle.std.specs.Option.{option_map}
 use Rattle.std.proofs.lemmas.Bool.{and_parts, eq-eqb, eqb-true, not-true, not_from_false, or_from, or_parts, true≢false}
 use Rattle.std.proofs.lemmas.List.Elements.{All-append, All-cons, All-drop, All-filter, All-head, All-nil, All-tail, All-take}
@@ -9,9 +9,8 @@ use Rattle.std.proofs.lemmas.Option.{none-some}
 use Rattle.elf_format.specs.declared.constants.TheConstants.{DT_NULL}
 use Rattle.elf_format.specs.Dynamic.{Auto, Entry, Integer, Text}
 use Rattle.elf_format.specs.Image.{entry_tag}
-use Rattle.elf_format.specs.Options.{is_some_and}
-use Rattle.elf_image.specs.DynamicList.{IsListed, KeepsTables, can_delete, can_follow, can_retag, is_free_tag, is_number_tag, is_of_its_tag, is_table_tag, is_text_tag, is_text_whole, retagged, table_tag, tables_of, tag_at, with_tag, with_tag_at, without_tag}
-use Rattle.elf_image.specs.Edited.{AreEntries, AreEntriesOf}
+use Rattle.elf_image.specs.DynamicList.{IsListed, KeepsTables, can_delete, can_follow, can_retag, is_free_tag, is_table_tag, is_text_tag, retagged, table_tag, tables_of, with_tag, with_tag_at, without_tag}
+use Rattle.elf_image.specs.Edited.{AreEntriesOf}
 
 -- an entry whose tag is no table's names no table
 free_none : (e : Entry) → IsListed e → is_free_tag (entry_tag e) ≡ true → table_tag e ≡ None

@@ -1,5 +1,5 @@
 -- A changed image was read and edited, where the one before it was.
-use Rattle.std.proofs.Common.{◌≡◌, ℕ, List, refl, sym, ap, ◌∙◌, inr, subst, Option, Some, None, true, false}
+use Rattle.std.proofs.Common.{◌≡◌, ℕ, List, sym, ap, ◌∙◌, inr, subst, Option, Some, None, true}
 use Rattle.std.specs.Prelude.{IsSome, IsTrue, not}
 use Rattle.std.specs.Option.{option_map}
 use Rattle.std.proofs.lemmas.Bool.{true≢false}
@@ -8,7 +8,7 @@ use Rattle.elf_format.specs.declared.records.SegmentHeader.{SegmentHeader}
 use Rattle.elf_format.specs.Dynamic.{Entry}
 use Rattle.elf_format.specs.Image.{Image}
 use Rattle.elf_image.specs.DynamicList.{all_but_last, holds_nul}
-use Rattle.elf_image.specs.Edited.{AreEntriesOf, AreSegments, IsEdited, IsEditOf, IsInterpreterOf}
+use Rattle.elf_image.specs.Edited.{AreEntriesOf, AreSegments, IsEdited, IsInterpreterOf}
 
 -- another dynamic list, that is one of what was read where the one before is
 pub with_entries : (image : Image) (new : Option (List Entry)) → IsEdited image → ((read : Option (List Entry)) → AreEntriesOf read image.entries → AreEntriesOf read new)

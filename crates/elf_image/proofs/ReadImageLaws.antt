@@ -1,5 +1,5 @@
 -- The image of an accepted file holds its parts.
-use Rattle.std.proofs.Common.{◌≡◌, ℕ, zero, suc, ◌+◌, List, [], ◌∷◌, drop, length, replicate, refl, sym, ap, ◌∙◌, subst, Option, Some, None, Result, Ok, Err, false, arith}
+use Rattle.std.proofs.Common.{◌≡◌, ℕ, zero, suc, List, [], ◌∷◌, drop, length, replicate, refl, sym, ap, ◌∙◌, subst, Option, Some, None, false, arith}
 use Rattle.std.specs.List.{slice_get}
 use Rattle.std.proofs.lemmas.List.{length-replicate}
 use Rattle.std.proofs.lemmas.Option.{none-some, same_Some}
@@ -12,7 +12,7 @@ use Rattle.elf_format.specs.declared.version_id.VersionId.{VersionId}
 use Rattle.elf_format.specs.Dynamic.{Entry}
 use Rattle.elf_format.specs.File.{Parts, linked_section, section_bytes, section_of_type}
 use Rattle.elf_format.specs.Form.{records}
-use Rattle.elf_format.specs.Image.{Image, ImageSection, counted, definitions_read, dynamic_symbols_read, entries_read, header_kept, image_in, image_of, interpreter_read, needs_read, section_name, section_read, static_symbols, symbols_of, versions_read}
+use Rattle.elf_format.specs.Image.{Image, ImageSection, counted, definitions_read, dynamic_symbols_read, entries_read, header_kept, image_in, interpreter_read, needs_read, section_name, section_read, static_symbols, symbols_of, versions_read}
 use Rattle.elf_format.specs.Options.{each}
 use Rattle.elf_format.specs.Rules.{accepted_parts, dynamic_texts_of, file_of, texts_of}
 use Rattle.elf_format.specs.Versions.{VersionDefinition, VersionNeeds, version_id}

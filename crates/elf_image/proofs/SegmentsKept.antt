@@ -1,19 +1,14 @@
 -- Each change of an image leaves one that was read and edited.
-use Rattle.std.proofs.Common.{◌≡◌, ◌≢◌, ℕ, zero, suc, Bool, true, false, cond, List, [], ◌∷◌, ◌++◌, map, refl, sym, ap, ◌∙◌, subst, inl, inr, Option, Some, None, All, arith}
-use Rattle.std.specs.Prelude.{◌==◌, ◌||◌, ◌&&◌, if◌then◌else◌, IsSome, IsTrue, drop, filter, is_some, not, take, unwrap_or}
-use Rattle.std.specs.List.{filter_map, remove}
+use Rattle.std.proofs.Common.{◌≡◌, ℕ, Bool, true, false, cond, List, [], ◌∷◌, ◌++◌, refl, sym, ap, ◌∙◌, inl, inr, Option, Some, None}
+use Rattle.std.specs.Prelude.{◌==◌, if◌then◌else◌, IsSome, unwrap_or}
 use Rattle.std.specs.Option.{option_map, option_to_list}
-use Rattle.std.proofs.lemmas.Bool.{and_parts, eqb-true, ne_eqb, not-true, not_from_true, true≢false}
-use Rattle.std.proofs.lemmas.List.{append_assoc, append-nil, map-append}
-use Rattle.std.proofs.lemmas.List.Elements.{All-append, All-cons, All-drop, All-filter, All-head, All-nil, All-tail, All-take}
+use Rattle.std.proofs.lemmas.Bool.{ne_eqb}
+use Rattle.std.proofs.lemmas.List.{append-nil, map-append}
 use Rattle.std.proofs.lemmas.Option.{none-some}
-use Rattle.elf_format.specs.declared.constants.TheConstants.{DT_NULL, PT_GNU_STACK, PT_LOAD}
+use Rattle.elf_format.specs.declared.constants.TheConstants.{PT_GNU_STACK, PT_LOAD}
 use Rattle.elf_format.specs.declared.records.SegmentHeader.{SegmentHeader}
-use Rattle.elf_format.specs.Dynamic.{Auto, Entry, Integer, Text}
 use Rattle.elf_format.specs.File.{segment_of_type}
-use Rattle.elf_format.specs.Image.{Image, entry_tag}
-use Rattle.elf_image.specs.DynamicList.{IsListed, KeepsTables, all_but_last, can_delete, can_follow, can_retag, holds_nul, is_free_tag, is_number_tag, is_of_its_tag, is_table_tag, is_text_tag, is_text_whole, retagged, table_tag, tables_of, tag_at, with_tag, with_tag_at, without_tag}
-use Rattle.elf_image.specs.Edited.{AreEntries, AreEntriesOf, AreKept, AreSegments, CanGo, IsEdited, IsEditOf, IsInterpreterOf, as_kept}
+use Rattle.elf_image.specs.Edited.{AreKept, AreSegments, CanGo, as_kept}
 use Rattle.elf_image.specs.Segments.{added_stack, with_align, with_load_align, with_stack_added, with_stack_flags}
 
 -- ## Program headers

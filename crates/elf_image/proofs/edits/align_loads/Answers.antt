@@ -1,8 +1,6 @@
-use Rattle.std.proofs.Common.{◌≡◌, ◌∙◌, ◌<◌, ℕ, ap, arith, length, map, sym}
+use Rattle.std.proofs.Common.{◌≡◌, ◌∙◌, ◌<◌, arith, length, map}
 use Rattle.std.specs.Prelude.{vec_len}
 use Rattle.std.proofs.lemmas.List.{length-map, length-set}
-use Rattle.elf_format.specs.declared.records.SegmentHeader.{SegmentHeader}
-use Rattle.elf_image.specs.declared.segment.Segment.{Segment}
 use Rattle.elf_image.specs.ImageSeen.{segment_kept}
 use Rattle.elf_image.specs.Segments.{with_align}
 use Rattle.elf_image.proofs.EditSteps.{mapped_all, next_changed}

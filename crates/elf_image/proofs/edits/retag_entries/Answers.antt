@@ -1,8 +1,7 @@
-use Rattle.std.proofs.Common.{◌≡◌, ◌∙◌, ◌<◌, ℕ, ap, arith, length, map, sym}
+use Rattle.std.proofs.Common.{◌≡◌, ◌∙◌, ◌<◌, arith, length, map}
 use Rattle.std.specs.Prelude.{◌==◌, if◌then◌else◌, vec_len}
 use Rattle.std.proofs.lemmas.List.{length-map, length-set}
 use Rattle.elf_format.specs.Dynamic.{Entry}
-use Rattle.elf_image.specs.declared.dynamic.Dynamic.{Dynamic}
 use Rattle.elf_format.specs.Image.{entry_tag}
 use Rattle.elf_image.specs.ImageSeen.{entry_kept}
 use Rattle.elf_image.specs.DynamicList.{with_tag}

@@ -1,4 +1,4 @@
-use Rattle.std.proofs.Common.{◌≡◌, ◌++◌, ◌∷◌, [], ◌∙◌, List, Option, Some, None, ap, map, subst, sym}
+use Rattle.std.proofs.Common.{◌≡◌, ◌++◌, ◌∷◌, [], ◌∙◌, List, None, ap, map, subst, sym}
 use Rattle.elf_format.specs.declared.constants.TheConstants.{PT_GNU_STACK}
 use Rattle.elf_format.specs.declared.records.SegmentHeader.{SegmentHeader}
 use Rattle.elf_format.specs.File.{segment_of_type}
@@ -6,7 +6,7 @@ use Rattle.elf_format.specs.Image.{Image}
 use Rattle.elf_image.specs.BuilderSeen.{image_kept}
 use Rattle.elf_image.specs.Edited.{AreSegments, IsEdited}
 use Rattle.elf_image.specs.ImageSeen.{segment_kept}
-use Rattle.elf_image.specs.Segments.{with_load_align, with_stack_added, with_stack_flags}
+use Rattle.elf_image.specs.Segments.{with_stack_added}
 use Rattle.elf_image.proofs.Kept.{with_segments}
 use Rattle.std.proofs.lemmas.List.{map-append}
 use Rattle.elf_image.specs.declared.segment.Segment.{Segment}

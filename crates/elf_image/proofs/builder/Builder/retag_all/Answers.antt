@@ -1,9 +1,7 @@
-use Rattle.std.proofs.Common.{◌≡◌, List, Option, ap, map, subst, sym}
-use Rattle.std.specs.Prelude.{IsTrue}
+use Rattle.std.proofs.Common.{List, Option, ap, map}
 use Rattle.std.specs.Option.{option_map}
 use Rattle.std.specs.Global.{Vec}
 use Rattle.elf_format.specs.Dynamic.{Entry}
-use Rattle.elf_format.specs.Image.{Image}
 use Rattle.elf_image.specs.declared.dynamic.Dynamic.{Dynamic}
 use Rattle.elf_image.specs.BuilderSeen.{image_kept}
 use Rattle.elf_image.specs.ImageSeen.{entry_kept}

@@ -1,12 +1,9 @@
-use Rattle.std.proofs.Common.{◌≡◌, ◌++◌, ◌∷◌, [], ◌∙◌, List, Option, Some, None, ap, map, subst, sym}
-use Rattle.elf_format.specs.declared.constants.TheConstants.{PT_GNU_STACK}
+use Rattle.std.proofs.Common.{◌≡◌, ◌∙◌, List, Some, ap, map, subst, sym}
 use Rattle.elf_format.specs.declared.records.SegmentHeader.{SegmentHeader}
-use Rattle.elf_format.specs.File.{segment_of_type}
-use Rattle.elf_format.specs.Image.{Image}
 use Rattle.elf_image.specs.BuilderSeen.{image_kept}
-use Rattle.elf_image.specs.Edited.{AreSegments, IsEdited}
+use Rattle.elf_image.specs.Edited.{AreSegments}
 use Rattle.elf_image.specs.ImageSeen.{segment_kept}
-use Rattle.elf_image.specs.Segments.{with_load_align, with_stack_added, with_stack_flags}
+use Rattle.elf_image.specs.Segments.{with_load_align}
 use Rattle.elf_image.proofs.Kept.{with_segments}
 use Rattle.elf_image.proofs.SegmentsKept.{segments_aligned}
 use Rattle.elf_image.proofs.builder.Builder.set_load_align.Goals as goal
