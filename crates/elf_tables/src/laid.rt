@@ -39,7 +39,8 @@ pub(crate) fn lay<'t>(alloc: Global, texts: &[&'t [u8]]) -> Result<Finished<'t>,
     requires { HoldNoNul (map (λ text. text.now) texts.now) }
     ensures { MatchResult result
         (IsLaid (map (λ text. text.now) texts.now))
-        (λ fault. fault ≡ NumberTooLarge → 2 ^ 32 < laid_length (map (λ text. text.now) texts.now)) }
+        (λ fault. fault ≡ NumberTooLarge
+        → 2 ^ 32 < laid_length (map (λ text. text.now) texts.now)) }
 {
     let mut bytes = Vec::from_slice(alloc, &[0])?;
     let mut places = HashMap::new(alloc);

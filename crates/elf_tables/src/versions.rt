@@ -41,10 +41,13 @@ pub fn build_versym(
     order: ByteOrder2,
 ) -> Result<Vec<u8>, TableFault>
     ensures bytes { MatchResult result
-        (λ bytes. (bytes.items ≡ fields order (version_fields ids.now)) × (list_any is_index_too_large ids.now ≡ false))
+        (λ bytes. (bytes.items ≡ fields order (version_fields ids.now))
+        × (list_any is_index_too_large ids.now ≡ false))
         (λ fault. fault ≡ NumberTooLarge → list_any is_index_too_large ids.now ≡ true) }
     ensures read { IfOk result (λ bytes. (wide : Wide)
-        → records (version_id (record { wide = wide; order = order })) 2 (length ids.now) bytes.items ≡ ids.now) }
+        → records (version_id (record { wide = wide; order = order })) 2 (length ids.now)
+        bytes.items
+        ≡ ids.now) }
 {
     let mut bytes = Vec::new(alloc);
     for id in ids {
@@ -82,7 +85,9 @@ fn push_names(
 ) -> Result<(), TableFault>
     requires { list_all (λ name. is_some (place_of table.now name)) names.now ≡ true }
     ensures { MatchResult result
-        (λ _. (bytes.new.items ≡ bytes.old.items ++ chained (spelled_definition_name order) (λ name. 8) (map (place_in table.now) names.now))
+        (λ _. (bytes.new.items ≡ bytes.old.items
+        ++ chained (spelled_definition_name order) (λ name. 8)
+        (map (place_in table.now) names.now))
         × AllByRecursion (λ place. place < 2 ^ 32) (map (place_in table.now) names.now))
         (λ fault. fault ≢ NumberTooLarge) }
 {
@@ -102,7 +107,8 @@ fn push_front(
     index: u16,
     count: u16,
 ) -> Result<(), AllocError>
-    ensures made { OnOk result (bytes.new.items ≡ bytes.old.items ++ fields order (halves (1 ∷ flags ∷ index ∷ count ∷ []))) }
+    ensures made { OnOk result (bytes.new.items
+        ≡ bytes.old.items ++ fields order (halves (1 ∷ flags ∷ index ∷ count ∷ []))) }
     ensures flags { flags < 2 ^ 16 }
     ensures index { index < 2 ^ 16 }
 {
@@ -118,11 +124,13 @@ fn push_definition(
     has_next: bool,
 ) -> Result<(), TableFault>
     requires { list_all (λ name. is_some (place_of table.now name)) version.now.names.items ≡ true }
-    ensures { let placed = placed_definition table.now (definition_kept version.now) in MatchResult result
+    ensures { let placed = placed_definition table.now (definition_kept version.now) in
+        MatchResult result
         (λ _. (bytes.new.items ≡ bytes.old.items
         ++ spelled_definition order placed (if has_next then definition_size placed else 0))
         × DefinitionFits placed)
-        (λ fault. fault ≡ NumberTooLarge → are_names_too_many (definition_kept version.now) ≡ true) }
+        (λ fault. fault ≡ NumberTooLarge
+        → are_names_too_many (definition_kept version.now) ≡ true) }
 {
     let count = version.names.len();
     if count > 0xffff {
@@ -150,7 +158,11 @@ pub fn build_verdef(
     ensures read { IfOk result (λ bytes. (wide : Wide) (room : ℕ) → PlacesStand names.now
         → length names.now.bytes ≤ room
         → defined_versions (record { wide = wide; order = order }) room
-        (record { bytes = memory_of bytes.items; texts = memory_of names.now.bytes; count = length records.now })
+        (record {
+          bytes = memory_of bytes.items;
+          texts = memory_of names.now.bytes;
+          count = length records.now;
+        })
         ≡ Some (map definition_kept records.now)) }
 {
     let mut bytes = Vec::new(alloc);
