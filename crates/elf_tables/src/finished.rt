@@ -16,7 +16,8 @@ impl<'t> Model for Finished<'t> {
 
     ghost view = { λ f. record { bytes = f.bytes.items; places = by_bytes f.places.entries } };
 
-    ghost invariant = { λ f. PlacesStand (record { bytes = f.bytes.items; places = by_bytes f.places.entries }) };
+    ghost invariant = { λ f. PlacesStand
+        (record { bytes = f.bytes.items; places = by_bytes f.places.entries }) };
 }
 
 impl<'t> Finished<'t> {

@@ -39,10 +39,10 @@ pub(crate) fn lay<'t>(alloc: Global, texts: &[&'t [u8]]) -> Result<Finished<'t>,
     requires { HoldNoNul (map (λ text. text.now) texts.now) }
     ensures { MatchResult result
         (IsLaid (map (λ text. text.now) texts.now))
-        (λ fault. fault ≡ NumberTooLarge → 2 ^ 32 < laid_length (map (λ text. text.now) texts.now)) }
+        (λ fault. fault ≡ NumberTooLarge
+        → 2 ^ 32 < laid_length (map (λ text. text.now) texts.now)) }
 {
-    let mut bytes = Vec::new(alloc);
-    bytes.push(0)?;
+    let mut bytes = Vec::from_slice(alloc, &[0])?;
     let mut places = HashMap::new(alloc);
     let mut last: &[u8] = &[];
     let mut place = 0;

@@ -1,4 +1,4 @@
-use Rattle.std.proofs.Common.{◌≡◌, ◌<◌, ℕ, List, [], ◌∷◌, ◌++◌, Some, length, map, get_or, false, ap, subst, ◌∙◌, arith}
+use Rattle.std.proofs.Common.{◌≡◌, ◌<◌, ℕ, List, [], Some, length, map, get_or, false, subst, arith}
 use Rattle.std.specs.Borrow.{Bor}
 use Rattle.std.proofs.lemmas.List.{get_or-map, length-map}
 use Rattle.std.proofs.lemmas.Map.Text.{hash_map_updates_str}
@@ -9,9 +9,7 @@ use Rattle.elf_tables.proofs.laid.lay.Goals as goal
 
 pub loop-text-init : goal.loop-text-init
 loop-text-init c =
-    growing-start (map (λ text. text.now) c.args.texts.now) c.push.new.self.items c.new-places.result.entries
-    (c.in_ok-push.ensures.items ∙ ap (λ l. l ++ 0 ∷ []) c.new-bytes.ensures.items)
-    c.new-places.ensures.empty
+    growing-start (map (λ text. text.now) c.args.texts.now) c.in_ok-bytes.bytes.items c.new-places.result.entries c.in_ok-bytes.ensures.items c.new-places.ensures.empty
 
 -- the i-th of the texts
 text_here : (texts : List (Bor (List ℕ))) (i : ℕ) (d : Bor (List ℕ)) → i < length texts → get_or (map (λ text. text.now) texts) i [] ≡ (get_or texts i d).now
