@@ -3,3 +3,4 @@ pub mod ReadSteps
 pub mod WalkSteps
 pub mod VersionSteps
 pub mod TextSteps
+pub mod EditSteps

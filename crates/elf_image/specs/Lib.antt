@@ -15,6 +15,12 @@ pub use Rattle.elf_format.specs.Answers
 pub mod ImageSeen
 pub mod BuilderSeen
 pub mod DynamicTag
+pub mod DynamicList
+pub mod Segments
+pub mod Lending
+pub mod LendingFlags
+pub mod Edited
+pub mod ReadImage
 pub mod Machine
 pub mod ImageSteps
 pub mod TextSteps

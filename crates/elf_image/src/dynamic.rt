@@ -26,4 +26,32 @@ impl Dynamic<'_> {
             Dynamic::Text { tag, .. } => *tag,
         }
     }
+
+    ghost use Rattle.elf_image.specs.DynamicList.{with_tag};
+    ghost use Rattle.elf_image.specs.ImageSeen.{entry_kept};
+
+    // Gives the entry another tag.
+    pub(crate) fn set_tag(&mut self, new: u64)
+        ensures { entry_kept self.new ≡ with_tag new (entry_kept self.old) }
+    {
+        match self {
+            Dynamic::Auto { tag } => *tag = new,
+            Dynamic::Integer { tag, .. } => *tag = new,
+            Dynamic::Text { tag, .. } => *tag = new,
+        }
+    }
+
+    ghost use Rattle.std.specs.Prelude.{◌==◌, if◌then◌else◌};
+    ghost use Rattle.elf_format.specs.Image.{entry_tag};
+
+    // Gives the entry the new tag where it has the old one.
+    pub(crate) fn change_tag(&mut self, old: u64, new: u64)
+        ensures { entry_kept self.new
+            ≡ (if entry_tag (entry_kept self.old) == old then with_tag new (entry_kept self.old)
+            else entry_kept self.old) }
+    {
+        if self.tag() == old {
+            self.set_tag(new);
+        }
+    }
 }

@@ -4,6 +4,7 @@
 
 pub mod builder;
 pub mod dynamic;
+mod edits;
 pub mod machine;
 mod read;
 pub mod section;

@@ -1,8 +1,15 @@
 ghost use Rattle.std.specs.Prelude.{◌≡◌};
 ghost use Rattle.elf_image.specs.ImageSeen.{segment_kept};
 
+use elf_format::constants::PT_LOAD;
 use elf_format::records::SegmentHeader;
 use std::marker::PhantomData;
+
+/// The flags of an added PT_GNU_STACK (GNU extension): read, write and run.
+pub const STACK_FLAGS: u32 = 7;
+
+/// The alignment of an added PT_GNU_STACK.
+pub const STACK_ALIGN: u64 = 16;
 
 /// A program header of a file (gABI, Program Header). Offsets, addresses and sizes are in bytes.
 #[derive(Clone, Copy, Debug)]
@@ -12,6 +19,8 @@ pub struct Segment<'data> {
 }
 
 impl Segment<'_> {
+    ghost use Rattle.elf_image.specs.Segments.{with_align};
+
     /// What the segment is for, as `PT_LOAD`.
     pub fn p_type(&self) -> u32
         ensures { result ≡ (segment_kept self.now).p_type }
@@ -66,5 +75,26 @@ impl Segment<'_> {
         ensures { result ≡ (segment_kept self.now).p_align }
     {
         self.numbers.p_align
+    }
+
+    // Gives a loaded segment the alignment.
+    pub(crate) fn align_load(&mut self, align: u64)
+        ensures { segment_kept self.new ≡ with_align align (segment_kept self.old) }
+    {
+        if self.numbers.p_type == PT_LOAD {
+            self.numbers.p_align = align;
+        }
+    }
+
+    ghost use Rattle.std.specs.Borrow.{sem};
+    ghost use Rattle.elf_image.specs.LendingFlags.{LendsFlags};
+
+    // Lends the flags.
+    pub(crate) fn flags_mut(&mut self) -> &mut u32
+        ensures* lends { sem 𝓛 (LendsFlags self.entry result) }
+        ensures value { result.now ≡ (segment_kept self.old).p_flags }
+    {
+        let numbers = &mut self.numbers;
+        &mut numbers.p_flags
     }
 }

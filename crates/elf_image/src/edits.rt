@@ -1,0 +1,247 @@
+//! The changes of an image, one part at a time.
+ghost use Rattle.std.specs.Prelude.{◌≡◌, ◌<◌, ◌==◌, All, MatchResult, IsSome, IsTrue, map, not, option_map, position, vec_len, None as none, Some as some, true};
+ghost use Rattle.std.specs.List.{remove};
+ghost use Rattle.elf_format.specs.declared.constants.TheConstants.{PT_GNU_STACK as STACK};
+ghost use Rattle.elf_image.specs.DynamicList.{IsListed, KeepsTables, all_but_last, can_delete, can_retag, can_follow, holds_nul, is_free_tag, retagged, with_tag_at, without_tag};
+ghost use Rattle.elf_image.specs.File.{segment_of_type};
+ghost use Rattle.elf_image.specs.ImageSeen.{entry_kept, segment_kept};
+ghost use Rattle.elf_image.specs.Segments.{added_stack as added_header, with_load_align, with_stack_added, with_stack_flags};
+
+use crate::builder::Builder;
+use crate::dynamic::Dynamic;
+use crate::segment::{STACK_ALIGN, Segment};
+use elf_format::constants::PT_GNU_STACK;
+use elf_format::records::SegmentHeader;
+use patch_bytes::ByteString;
+use std::alloc::{AllocError, Global};
+use std::marker::PhantomData;
+
+impl<'data> Builder<'data> {
+    /// Puts another dynamic list in place of the one that is there (gABI, Dynamic Section). The caller sees that
+    /// it names the same tables in the same order, and that each entry may stand before the DT_NULL. Takes no
+    /// memory.
+    pub fn set_dynamic(&mut self, list: Vec<Dynamic<'data>>)
+        requires tables { KeepsTables self.old.entries (map entry_kept list.items) }
+        requires entries { All IsListed (map entry_kept list.items) }
+        ensures { self.new ≡ record self.old { changed = true; entries = some (map entry_kept list.entry.items) } }
+    {
+        self.dynamic = Some(list);
+        self.changed = true;
+    }
+
+    /// Deletes the entry of the dynamic list at a position, which is of no table (gABI, Dynamic Section). Takes no
+    /// memory.
+    pub fn delete_dynamic(&mut self, index: usize)
+        requires { IsTrue (can_delete self.old.entries index) }
+        ensures { self.new ≡ record self.old {
+            changed = true;
+            entries = option_map (λ list. remove list index) self.old.entries;
+        } }
+    {
+        self.changed = true;
+        let Some(list) = &mut self.dynamic else {
+            return;
+        };
+        remove_entry(list, index);
+    }
+
+    /// Deletes every entry of the dynamic list with this tag, which is of no table. Takes no memory.
+    pub fn delete_dynamic_tag(&mut self, tag: u64)
+        requires { IsTrue (is_free_tag tag) }
+        ensures { self.new ≡ record self.old {
+            changed = true;
+            entries = option_map (without_tag tag) self.old.entries;
+        } }
+    {
+        self.changed = true;
+        let Some(list) = &mut self.dynamic else {
+            return;
+        };
+        remove_tagged(list, tag);
+    }
+
+    /// Gives the entry of the dynamic list at a position another tag, whose value is of the same kind. Takes no
+    /// memory.
+    pub fn retag(&mut self, index: usize, tag: u64)
+        requires { IsTrue (can_retag self.old.entries index tag) }
+        ensures { self.new ≡ record self.old {
+            changed = true;
+            entries = option_map (with_tag_at index tag) self.old.entries;
+        } }
+    {
+        self.changed = true;
+        let Some(list) = &mut self.dynamic else {
+            return;
+        };
+        retag_entry(list, index, tag);
+    }
+
+    /// Gives every entry of the dynamic list with the one tag the other tag, whose value is of the same kind.
+    /// Takes no memory.
+    pub fn retag_all(&mut self, old: u64, new: u64)
+        requires { IsTrue (can_follow new old) }
+        ensures { self.new ≡ record self.old {
+            changed = true;
+            entries = option_map (retagged old new) self.old.entries;
+        } }
+    {
+        self.changed = true;
+        let Some(list) = &mut self.dynamic else {
+            return;
+        };
+        retag_entries(list, old, new);
+    }
+
+    /// Puts other bytes in place of the interpreter's (gABI, Program Interpreter), in which a NUL stands last or
+    /// nowhere. Takes no memory.
+    pub fn set_interp(&mut self, bytes: ByteString<'data>)
+        requires there { IsSome self.old.interpreter }
+        requires nul { IsTrue (not (holds_nul (all_but_last bytes))) }
+        ensures { self.new ≡ record self.old { changed = true; interpreter = some bytes.entry } }
+    {
+        self.interpreter = Some(bytes);
+        self.changed = true;
+    }
+
+    /// Sets the byte that tells the ABI (gABI, ELF Identification, `EI_OSABI`). Takes no memory.
+    pub fn set_os_abi(&mut self, byte: u8)
+        ensures { self.new ≡ record self.old {
+            changed = true;
+            header = record self.old.header { os_abi = byte };
+        } }
+    {
+        self.header.os_abi = byte;
+        self.changed = true;
+    }
+
+    /// Sets the page size, in bytes: each PT_LOAD gets it as its alignment (gABI, Program Header). Takes no memory.
+    pub fn set_load_align(&mut self, size: u32)
+        ensures { self.new ≡ record self.old {
+            changed = true;
+            segments = with_load_align size self.old.segments;
+            page_size = some size;
+        } }
+    {
+        align_loads(&mut self.segments, u64::from(size));
+        self.page_size = Some(size);
+        self.changed = true;
+    }
+
+    /// The first PT_GNU_STACK, whose flags say whether the stack may be run (GNU extension). Takes no memory.
+    pub fn stack(&self) -> Option<&Segment<'data>>
+        ensures { option_map (λ p. segment_kept p.now) result ≡ segment_of_type STACK self.now.segments }
+    {
+        let at = stack_position(&self.segments)?;
+        Some(&self.segments[at])
+    }
+
+    /// Sets the flags of the first PT_GNU_STACK, which is there. Takes no memory.
+    pub fn set_stack_flags(&mut self, flags: u32)
+        requires { IsSome (segment_of_type STACK self.old.segments) }
+        ensures { self.new ≡ record self.old {
+            changed = true;
+            segments = with_stack_flags flags self.old.segments;
+        } }
+    {
+        flag_stack(&mut self.segments, flags);
+        self.changed = true;
+    }
+
+    /// Puts a PT_GNU_STACK with these flags behind all program headers, which have none (GNU extension). It stands
+    /// nowhere. Error: `AllocError`, and nothing has changed.
+    pub fn push_stack(&mut self, _alloc: Global, flags: u32) -> Result<(), AllocError>
+        requires { segment_of_type STACK self.old.segments ≡ none }
+        ensures { MatchResult result
+            (λ _. self.new ≡ record self.old {
+                changed = true;
+                segments = with_stack_added flags self.old.segments;
+            })
+            (λ _. self.new ≡ self.old) }
+    {
+        self.segments.push(added_stack(flags))?;
+        self.changed = true;
+        Ok(())
+    }
+}
+
+// The program header for the stack, as it is added.
+fn added_stack<'data>(flags: u32) -> Segment<'data>
+    ensures { segment_kept result ≡ added_header flags }
+{
+    Segment {
+        numbers: SegmentHeader {
+            p_type: PT_GNU_STACK,
+            p_flags: flags,
+            p_offset: 0,
+            p_vaddr: 0,
+            p_paddr: 0,
+            p_filesz: 0,
+            p_memsz: 0,
+            p_align: STACK_ALIGN,
+        },
+        of: PhantomData,
+    }
+}
+
+// The entry at a position is gone.
+fn remove_entry(list: &mut Vec<Dynamic<'_>>, index: usize)
+    requires { index < vec_len list.old }
+    ensures { map entry_kept list.new.items ≡ remove (map entry_kept list.old.items) index }
+{
+    drop(list.remove(index));
+}
+
+// The entries with the tag are gone.
+fn remove_tagged(list: &mut Vec<Dynamic<'_>>, tag: u64)
+    ensures { map entry_kept list.new.items ≡ without_tag tag (map entry_kept list.old.items) }
+{
+    list.retain(|entry| entry.tag() != tag);
+}
+
+// The entry at a position gets the tag.
+fn retag_entry(list: &mut Vec<Dynamic<'_>>, index: usize, tag: u64)
+    requires { index < vec_len list.old }
+    ensures { map entry_kept list.new.items ≡ with_tag_at index tag (map entry_kept list.old.items) }
+{
+    list[index].set_tag(tag);
+}
+
+// The entries with the one tag get the other.
+fn retag_entries(list: &mut Vec<Dynamic<'_>>, old: u64, new: u64)
+    ensures { map entry_kept list.new.items ≡ retagged old new (map entry_kept list.old.items) }
+{
+    for i in 0..list.len() {
+        list[i].change_tag(old, new);
+    }
+}
+
+// The loaded segments get the alignment.
+fn align_loads(segments: &mut Vec<Segment<'_>>, align: u64)
+    ensures { map segment_kept segments.new.items
+        ≡ with_load_align align (map segment_kept segments.old.items) }
+{
+    for i in 0..segments.len() {
+        segments[i].align_load(align);
+    }
+}
+
+// Where the first program header for the stack stands.
+fn stack_position(segments: &[Segment<'_>]) -> Option<usize>
+    ensures { result ≡ position (λ p. (segment_kept p).p_type == STACK) segments.now }
+{
+    segments
+        .iter()
+        .position(|segment| segment.p_type() == PT_GNU_STACK)
+}
+
+// The first program header for the stack gets the flags.
+fn flag_stack(segments: &mut Vec<Segment<'_>>, flags: u32)
+    ensures { map segment_kept segments.new.items
+        ≡ with_stack_flags flags (map segment_kept segments.old.items) }
+{
+    let Some(at) = stack_position(segments) else {
+        return;
+    };
+    let segment = &mut segments[at];
+    segment.numbers.p_flags = flags;
+}
