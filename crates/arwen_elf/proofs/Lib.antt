@@ -1,2 +1,3 @@
 pub mod ReadSteps
 pub mod PrintSteps
+pub mod DraftLaws
