@@ -6,7 +6,8 @@ use Rattle.elf_format.specs.declared.constants.TheConstants.{SHT_DYNAMIC, SHT_DY
 use Rattle.elf_format.specs.declared.version_id.VersionId.{VersionId}
 use Rattle.elf_format.specs.File.{Parts, linked_section, section_bytes, section_of_type}
 use Rattle.elf_format.specs.Image.{Image, ImageSection, counted, definitions_read, dynamic_symbols_read, entries_read, header_kept, image_of, interpreter_read, needs_read, section_name, symbols_of, versions_read}
-use Rattle.elf_format.specs.Records.{SectionHeader, SymbolNumbers}
+use Rattle.elf_format.specs.declared.records.SectionHeader.{SectionHeader}
+use Rattle.elf_format.specs.declared.records.SymbolNumbers.{SymbolNumbers}
 use Rattle.elf_format.specs.Rules.{IsAcceptedWith, accepted_parts, data_of, dynamic_texts_of, file_of, texts_of}
 use Rattle.elf_format.specs.Views.{NamedSymbol}
 use Rattle.elf_image.specs.TextSteps.{kept_as}
