@@ -142,8 +142,15 @@ room_stays (SetOsAbi name) image free = refl
 abbrev with_run_path : Bool → Facts → Facts
 with_run_path b facts = record facts { has_run_path = b }
 
+facts_with : ℕ → Bool → Bool → Bool → Bool → Facts
+facts_with machine list path interpreter room = record { machine = machine; has_list = list; has_run_path = path; has_interpreter = interpreter; is_full = room }
+
+same_parts : (m m' : ℕ) (l l' p i i' r r' : Bool) → m ≡ m' → l ≡ l' → i ≡ i' → r ≡ r' → facts_with m l p i r ≡ facts_with m' l' p i' r'
+same_parts m m' l l' p i i' r r' machine list interpreter room = cc
+
 same_facts : (old new : Facts) → new.machine ≡ old.machine → new.has_list ≡ old.has_list → new.has_interpreter ≡ old.has_interpreter → new.is_full ≡ old.is_full → new ≡ with_run_path new.has_run_path old
-same_facts old new machine list interpreter room = cc
+unfolding facts_with
+same_facts old new machine list interpreter room = same_parts new.machine old.machine new.has_list old.has_list new.has_run_path new.has_interpreter old.has_interpreter new.is_full old.is_full machine list interpreter room
 
 pub facts_stay : (edit : Edit) (image : Image) → cause edit image ≡ None → facts_of (edited_image edit image) ≡ with_run_path (facts_of (edited_image edit image)).has_run_path (facts_of image)
 unfolding cause edited_image full lacks_stack
@@ -184,7 +191,7 @@ first_refusal_same (edit ∷ edits) done facts b =
 pub batch_decided : (edits : List ElfEdit) (done : ℕ) (image : Image) → run_from done (map edit_meant edits) image ≡ unless_refused (first_refusal (facts_of image) done (map edit_meant edits)) (all_edited (map edit_meant edits) image)
 unfolding run_from first_refusal all_edited cause
 batch_decided [] done image = refl
-batch_decided (edit ∷ edits) done image = by_cause (cause (edit_meant edit) image) refl
+batch_decided (edit ∷ edits) done image = by_cause (batch_decided edits (done + 1) (edited_image (edit_meant edit) image)) (cause (edit_meant edit) image) refl
   where
     rest : List Edit
     rest = map edit_meant edits
@@ -192,14 +199,14 @@ batch_decided (edit ∷ edits) done image = by_cause (cause (edit_meant edit) im
     next : Image
     next = edited_image (edit_meant edit) image
 
-    by_cause : (found : Option Cause) → cause (edit_meant edit) image ≡ found → run_from done (edit_meant edit ∷ rest) image ≡ unless_refused (first_refusal (facts_of image) done (edit_meant edit ∷ rest)) (all_edited rest next)
-    by_cause None is =
+    by_cause : run_from (done + 1) rest next ≡ unless_refused (first_refusal (facts_of next) (done + 1) rest) (all_edited rest next) → (found : Option Cause) → cause (edit_meant edit) image ≡ found → run_from done (edit_meant edit ∷ rest) image ≡ unless_refused (first_refusal (facts_of image) done (edit_meant edit ∷ rest)) (all_edited rest next)
+    by_cause behind None is =
         let later : first_refusal (facts_of next) (done + 1) rest ≡ first_refusal (facts_of image) (done + 1) rest =
         ap (λ facts. first_refusal facts (done + 1) rest) (facts_stay (edit_meant edit) image is) ∙ first_refusal_same edits (done + 1) (facts_of image) (facts_of next).has_run_path in
         ap (λ answer. then_on (answer_at done answer) (run_from (done + 1) rest)) (step_is (edit_meant edit) image is)
-        ∙ batch_decided edits (done + 1) next
+        ∙ behind
         ∙ ap (λ o. unless_refused o (all_edited rest next)) (later ∙ sym (ap (λ o. refusal_or o done (first_refusal (facts_of image) (done + 1) rest)) is))
-    by_cause (Some reason) is =
+    by_cause behind (Some reason) is =
         ap (λ answer. then_on (answer_at done answer) (run_from (done + 1) rest)) (step_refused (edit_meant edit) image reason is)
         ∙ sym (ap (λ o. unless_refused (refusal_or o done (first_refusal (facts_of image) (done + 1) rest)) (all_edited rest next)) is)
 
