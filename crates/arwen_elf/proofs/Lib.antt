@@ -1,3 +1,2 @@
 pub mod ReadSteps
 pub mod PrintSteps
-pub mod DraftLaws

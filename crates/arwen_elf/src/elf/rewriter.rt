@@ -1,16 +1,11 @@
-//! The writer: the image of an ELF file, what is read from it, and its edits.
+//! The writer: the image of an ELF file and what is read from it.
 
-pub mod batch;
-mod draft;
-mod edits;
 pub mod error;
 pub mod ext;
 pub mod machines;
-mod told;
 pub mod writer;
 
-pub use crate::elf::rewriter::batch::ElfBatchError;
 pub use crate::elf::rewriter::error::{ElfError, ModifyCause, Result};
 pub use crate::elf::rewriter::ext::BuilderExt;
 pub use crate::elf::rewriter::writer::{Needed, Writer};
-pub use elf_edits::{ElfEdit, ProbeAnswer, Reason, Removed, Task};
+pub use elf_edits::{ProbeAnswer, Task};
