@@ -11,3 +11,9 @@ pub mod CauseSteps
 pub mod AnswerSteps
 pub mod ShrinkSteps
 pub mod GatherSteps
+pub mod ShrunkLaws
+pub mod UntouchedLaws
+pub mod DecidedLaws
+pub mod ListedLaws
+pub mod StoredLaws
+pub mod ForCallers

@@ -6,6 +6,7 @@ pub mod Abi
 pub mod Cause
 pub mod Edited
 pub mod Batch
+pub mod Decided
 pub mod Called
 pub mod CauseSeen
 pub mod ShrunkSeen

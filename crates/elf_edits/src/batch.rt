@@ -20,8 +20,8 @@ use elf_image::constants::EM_MIPS;
 use std::alloc::{AllocError, Global};
 use std::slice;
 
-// The list without needed libraries of these names.
-fn without_names<'d>(
+/// The list without needed libraries of these names, and whether one was dropped. Error: `AllocError`.
+pub fn without_names<'d>(
     alloc: Global,
     names: &[Vec<u8>],
     entries: &[Dynamic<'d>],
@@ -110,9 +110,9 @@ fn any_nul_in_pairs(pairs: &[(Vec<u8>, Vec<u8>)]) -> bool
     false
 }
 
-// The first cause against dropping needed libraries.
+/// The first cause that stands against dropping needed libraries of these names. Takes no memory.
 #[tactic(auto, unfolding(crate::specs::Cause::first_cause))]
-fn removal_cause(names: &[Vec<u8>], facts: &Facts) -> Option<Cause<'static>>
+pub fn removal_cause(names: &[Vec<u8>], facts: &Facts) -> Option<Cause<'static>>
     ensures { option_map cause_meant result
         ≡ first_cause (delete_needed (texts_held names.now)) facts.now }
 {

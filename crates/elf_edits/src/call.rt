@@ -1,6 +1,10 @@
 //! The edits as they are called for: with values that are lent, and with values that are owned.
+ghost use Rattle.std.specs.Prelude.{◌≡◌, false, MatchOption};
+ghost use Rattle.elf_edits.specs.Called.{call_meant, edit_meant};
+ghost use Rattle.elf_edits.specs.Edited.{touches_rest};
 
 use std::collections::{HashMap, HashSet};
+use std::slice;
 
 /// An edit of what an ELF file shows, with the values of one call. Texts are bytes without a NUL; they are compared
 /// whole.
@@ -75,4 +79,31 @@ pub enum ElfEdit {
     SetRpath(Vec<u8>),
     /// Sets the library's own name.
     SetSoname(Vec<u8>),
+}
+
+impl ElfEdit {
+    /// The same edit with its values lent; `None` for the two edits of the dynamic list that are called with a set or
+    /// a map of names. Takes no memory.
+    pub fn lend(&self) -> Option<EditCall<'_>>
+        ensures { MatchOption result (touches_rest (edit_meant self.now) ≡ false)
+            (λ call. call_meant call ≡ edit_meant self.now) }
+    {
+        match self {
+            ElfEdit::AddDebugTag => Some(EditCall::AddDebugEntry),
+            ElfEdit::AddNeeded(names) => Some(EditCall::AddNeeded(names.as_slice())),
+            ElfEdit::AddRpath(text) => Some(EditCall::AddRunPath(slice::from_ref(text))),
+            ElfEdit::ClearExecStack => Some(EditCall::ClearExecStack),
+            ElfEdit::ForceRpath => Some(EditCall::UseRpath),
+            ElfEdit::NoDefaultLib => Some(EditCall::NoDefaultLibrary),
+            ElfEdit::RemoveNeeded(_) => None,
+            ElfEdit::RemoveRpath => Some(EditCall::DeleteRunPath),
+            ElfEdit::ReplaceNeeded(_) => None,
+            ElfEdit::SetExecStack => Some(EditCall::SetExecStack),
+            ElfEdit::SetInterpreter(bytes) => Some(EditCall::SetInterpreter(bytes.as_slice())),
+            ElfEdit::SetOsAbi(name) => Some(EditCall::SetOsAbi(name.as_str())),
+            ElfEdit::SetPageSize(size) => Some(EditCall::SetPageSize(*size)),
+            ElfEdit::SetRpath(text) => Some(EditCall::SetRunPath(text.as_slice())),
+            ElfEdit::SetSoname(text) => Some(EditCall::SetSoname(text.as_slice())),
+        }
+    }
 }

@@ -20,7 +20,7 @@ pub mod shrinking;
 pub mod task;
 mod texts;
 
-pub use crate::batch::{cause_of_edit, edited_by};
+pub use crate::batch::{cause_of_edit, edited_by, removal_cause, without_names};
 pub use crate::call::{EditCall, ElfEdit};
 pub use crate::cause::{Cause, cause_of, shrink_cause};
 pub use crate::facts::Facts;

@@ -1,0 +1,13 @@
+-- For callers: what the crates above may cite. These are laws of the words of specs/; no other module of this
+-- crate's proofs is meant for them.
+
+-- where no cause stands, the step is the edited image; what is known then
+pub use Rattle.elf_edits.proofs.DecidedLaws.{IsFree, is_free, stands_not, step_is, step_refused}
+-- a batch is decided by the facts at its start
+pub use Rattle.elf_edits.proofs.DecidedLaws.{all_edited-push, batch_decided}
+-- an edited list is a list again
+pub use Rattle.elf_edits.proofs.ListedLaws.{ListsAgain, lists_again}
+-- an edit that touches nothing leaves the list as it was
+pub use Rattle.elf_edits.proofs.UntouchedLaws.{untouched}
+-- a stored interpreter has a NUL last or nowhere
+pub use Rattle.elf_edits.proofs.StoredLaws.{stored_whole}
