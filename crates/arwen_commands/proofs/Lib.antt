@@ -2,3 +2,4 @@ pub mod EditGroups
 pub mod Outcomes
 pub mod RowLemmas
 pub mod StoreLaws
+pub mod WordLemmas
