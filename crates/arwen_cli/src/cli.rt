@@ -7,9 +7,10 @@ mod parser;
 
 pub use arwen_commands::elf::{Probe, print_store, run_elf};
 pub use arwen_commands::{
-    ArwenError, Command, EditFault, EditKind, EditsError, ElfCommand, FaultLine, MOST_BYTES,
-    MachoCommand, add, apply, change, delete, elf, install_id, install_name, macho_execute,
-    parse_macho_edits, patch_store, read_bytes, run_macho,
+    ArwenError, Command, EditFault, EditKind, EditsError, ElfCommand, FaultLine, KeyValueError,
+    MOST_BYTES, MachoCommand, add, apply, change, delete, elf, install_id, install_name,
+    macho_execute, parse_elf_edits, parse_key_val, parse_macho_edits, patch_store, read_bytes,
+    run_macho,
 };
 pub use line::parse_line;
 use std::rt::Files;

@@ -3,3 +3,4 @@ pub mod ForCallers
 pub mod Outcomes
 pub mod RowLemmas
 pub mod StoreLaws
+pub mod WordLemmas

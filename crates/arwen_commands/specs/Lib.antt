@@ -1,6 +1,9 @@
 pub mod Edits
+pub mod ElfWords
 pub mod Engine
 pub mod Fault
+pub mod Groups
+pub mod KeyValue
 pub mod Meaning
 pub mod Prints
 pub mod Rows

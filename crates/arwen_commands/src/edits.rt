@@ -2,8 +2,8 @@
 ghost use Rattle.std.specs.Prelude.{◌≡◌, ◌∷◌, [], Ok, IfOk, IfErr, map, option_and_then, option_map};
 ghost use Rattle.std.specs.Prelude.{string_bytes};
 ghost use Rattle.arwen_macho.specs.Batch.{call_made, calls_of};
-ghost use Rattle.arwen_commands.specs.Edits.{TellsFault, TellsWrong, edit_asked, edits_of, fault_at};
-ghost use Rattle.arwen_commands.specs.Edits.{group_edit, one_edit, other_words as wrong_words};
+ghost use Rattle.arwen_commands.specs.Edits.{edit_asked, edits_of, macho_group_edit, one_edit};
+ghost use Rattle.arwen_commands.specs.Groups.{TellsFault, TellsWrong, fault_at, other_words as wrong_words};
 ghost use Rattle.arwen_commands.specs.Meaning.{macho_lines, macho_shown};
 ghost use Rattle.arwen_commands.specs.Rows.{given_shown, given_without_path, kind_shown, meant_with};
 ghost use Rattle.arwen_commands.specs.declared.edits.EditsError.TheVariants.{Memory};
@@ -123,8 +123,8 @@ pub fn parse_macho_edits(alloc: Global, words: &[&str]) -> Result<Vec<MachoEdit>
 /// Reads the edit of one group, which has this number.
 fn read_group(alloc: Global, group: usize, words: &[&str]) -> Result<MachoEdit, EditsError>
     ensures ok { IfOk result (λ edit.
-        group_edit (map (λ w. w.now) words.now) ≡ Ok (call_made edit)) }
-    ensures err { IfErr result (TellsWrong group (group_edit (map (λ w. w.now) words.now))) }
+        macho_group_edit (map (λ w. w.now) words.now) ≡ Ok (call_made edit)) }
+    ensures err { IfErr result (TellsWrong group (macho_group_edit (map (λ w. w.now) words.now))) }
 {
     let Some((name, words)) = words.split_first() else {
         return Err(no_edit(group, EditKind::Empty));
@@ -142,7 +142,7 @@ fn read_group(alloc: Global, group: usize, words: &[&str]) -> Result<MachoEdit, 
 }
 
 /// The fault of a group whose first word is no edit.
-fn no_edit(group: usize, kind: EditKind) -> EditsError
+pub(crate) fn no_edit(group: usize, kind: EditKind) -> EditsError
     ensures { result ≡ EditsError.Fault
         (record { group = group; kind = kind; word = 0; takes = 0 }) }
 {
@@ -155,7 +155,7 @@ fn no_edit(group: usize, kind: EditKind) -> EditsError
 }
 
 /// The fault of a group with another number of words than its edit takes.
-fn other_words(group: usize, form: &Form, words: &[&str]) -> EditsError
+pub(crate) fn other_words(group: usize, form: &Form, words: &[&str]) -> EditsError
     ensures { result ≡ EditsError.Fault (fault_at group
         (wrong_words (kind_shown form.now) (map (λ w. w.now) words.now))) }
 {
@@ -187,7 +187,7 @@ fn command_without_path(
 }
 
 /// The values that the words of a group are, with an empty path.
-fn values_without_path(
+pub(crate) fn values_without_path(
     alloc: Global,
     form: &Form,
     words: &[&str],

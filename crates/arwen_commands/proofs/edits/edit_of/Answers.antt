@@ -2,7 +2,8 @@
 use Rattle.std.proofs.Common.{sym, ap, ◌∙◌}
 use Rattle.std.specs.Prelude.{option_map}
 use Rattle.arwen_macho.specs.Batch.{call_made}
-use Rattle.arwen_commands.specs.Edits.{no_edit, one_edit}
+use Rattle.arwen_commands.specs.Edits.{one_edit}
+use Rattle.arwen_commands.specs.Groups.{no_edit}
 use Rattle.arwen_commands.proofs.RowLemmas.{fault_told}
 use Rattle.arwen_commands.proofs.edits.edit_of.Goals as goal
 

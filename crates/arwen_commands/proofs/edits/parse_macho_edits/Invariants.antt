@@ -1,10 +1,11 @@
 use Rattle.std.proofs.Common.{◌≡◌, length}
 use Rattle.arwen_macho.specs.Batch.{calls_of}
+use Rattle.arwen_commands.specs.Edits.{macho_group_edit}
 use Rattle.arwen_commands.proofs.EditGroups.{IsReadTo}
 use Rattle.arwen_commands.proofs.edits.parse_macho_edits.Given as goal
 
 abbrev pub invariant-loop-group : goal.invariant-loop-group
 invariant-loop-group l = record {
   counted : length l.edits.items ≡ length l.yielded;
-  read : IsReadTo l.words (length l.edits.items) (calls_of l.edits.items);
+  read : IsReadTo macho_group_edit l.words (length l.edits.items) (calls_of l.edits.items);
 }
