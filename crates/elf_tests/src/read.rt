@@ -334,8 +334,7 @@ fn without_lists(rt: HostRuntime) {
 }
 
 // Whether each section has its position as its number.
-fn are_sections_numbered(image: &Builder<'_>) -> bool
-{
+fn are_sections_numbered(image: &Builder<'_>) -> bool {
     for i in 0..image.sections().len() {
         if image.read_section(i) != i {
             return false;
@@ -345,8 +344,7 @@ fn are_sections_numbered(image: &Builder<'_>) -> bool
 }
 
 // Whether each static symbol has its position as its number.
-fn are_symbols_numbered(image: &Builder<'_>) -> bool
-{
+fn are_symbols_numbered(image: &Builder<'_>) -> bool {
     for i in 0..image.symbols().len() {
         if image.read_symbol(i) != i {
             return false;
@@ -356,8 +354,7 @@ fn are_symbols_numbered(image: &Builder<'_>) -> bool
 }
 
 // Whether each dynamic symbol has its position as its number.
-fn are_dynamic_symbols_numbered(image: &Builder<'_>) -> bool
-{
+fn are_dynamic_symbols_numbered(image: &Builder<'_>) -> bool {
     for i in 0..image.dynamic_symbols().len() {
         if image.read_dynamic_symbol(i) != i {
             return false;
