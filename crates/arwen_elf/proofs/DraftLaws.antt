@@ -26,15 +26,15 @@ use Rattle.elf_edits.proofs.ForCallers.{IsFree, ListsAgain, lists_again, stands_
 use Rattle.arwen_elf.specs.declared.elf.rewriter.draft.Draft.{Draft}
 use Rattle.arwen_elf.specs.Drafted.{changed_if, IsDraftOf, ListsEntries, OnlyShows, Writes, drafted, entries_drafted, flags_now, is_written, stack_flags_of, with_entries_put, with_flags, with_flags_put, with_interpreter_put, with_list, with_os_abi_put, with_page_size, with_page_size_put}
 
-by_test : {P : Type 0} (b : Bool) → (b ≡ true → P) → (b ≡ false → P) → P
+pub by_test : {P : Type 0} (b : Bool) → (b ≡ true → P) → (b ≡ false → P) → P
 by_test true then_so else_so = then_so refl
 by_test false then_so else_so = else_so refl
 
-or_true : (b : Bool) → (b || true) ≡ true
+pub or_true : (b : Bool) → (b || true) ≡ true
 or_true true = refl
 or_true false = refl
 
-or_false : (b : Bool) → (b || false) ≡ b
+pub or_false : (b : Bool) → (b || false) ≡ b
 or_false true = refl
 or_false false = refl
 
@@ -54,7 +54,7 @@ image_with changed abi segments entries interpreter size image = record image {
 pub nothing_written : (image : Image) → OnlyShows image image (record { entries = None; interpreter = None; os_abi = None; stack_flags = None; page_size = None })
 unfolding drafted image_with
 nothing_written image = record {
-  image = ap (λ changed. image_with changed image.header.os_abi image.segments image.entries image.interpreter image.page_size image) (or_false image.changed);
+  shows = ap (λ changed. image_with changed image.header.os_abi image.segments image.entries image.interpreter image.page_size image) (or_false image.changed);
   draft = record { tables = tt; entries = tt; interpreter_there = tt; interpreter = tt };
 }
 
@@ -74,7 +74,7 @@ is_there (Some x) h = tt
 pub interpreter_written : (bytes : List ℕ) (image : Image) (d : Draft) → IsFree (SetInterpreter bytes) (facts_of image) → IsDraftOf image d → Writes (SetInterpreter bytes) image d (record d { interpreter = Some (with_nul bytes) })
 unfolding drafted edited_image image_with
 interpreter_written bytes image d free is = record {
-  image = ap (λ changed. image_with changed (unwrap_or d.os_abi image.header.os_abi) (with_page_size d.page_size (with_flags d.stack_flags image.segments)) (first_there (entries_drafted d) image.entries) (Some (with_nul bytes)) (first_there d.page_size image.page_size) image)
+  shows = ap (λ changed. image_with changed (unwrap_or d.os_abi image.header.os_abi) (with_page_size d.page_size (with_flags d.stack_flags image.segments)) (first_there (entries_drafted d) image.entries) (Some (with_nul bytes)) (first_there d.page_size image.page_size) image)
       (written_marks image.changed (is_written d) (is_written (record d { interpreter = Some (with_nul bytes) })) marked);
   draft = record {
     tables = is.tables;
@@ -107,7 +107,7 @@ os_abi_written name number image d free is same =
 
     by_number : (n : ℕ) → abi_number name ≡ Some n → Writes (SetOsAbi name) image d (record d { os_abi = Some n })
     by_number n is_named = record {
-      image =
+      shows =
           ap (λ changed. image_with changed n (with_page_size d.page_size (with_flags d.stack_flags image.segments)) (first_there (entries_drafted d) image.entries) (first_there d.interpreter image.interpreter) (first_there d.page_size image.page_size) image)
           (written_marks image.changed (is_written d) (is_written (record d { os_abi = Some n })) (marked n))
           ∙ ap (λ o. image_with ((image.changed || is_written d) || true) (unwrap_or o (unwrap_or d.os_abi image.header.os_abi)) (with_page_size d.page_size (with_flags d.stack_flags image.segments)) (first_there (entries_drafted d) image.entries) (first_there d.interpreter image.interpreter) (first_there d.page_size image.page_size) image)
@@ -134,7 +134,7 @@ aligned_last size (Some old) segments = sym (aligned_again size old segments)
 pub page_size_written : (size : ℕ) (image : Image) (d : Draft) → IsDraftOf image d → Writes (SetPageSize size) image d (record d { page_size = Some size })
 unfolding drafted edited_image image_with
 page_size_written size image d is = record {
-  image =
+  shows =
       ap (λ changed. image_with changed (unwrap_or d.os_abi image.header.os_abi) (with_load_align size (with_flags d.stack_flags image.segments)) (first_there (entries_drafted d) image.entries) (first_there d.interpreter image.interpreter) (Some size) image)
       (written_marks image.changed (is_written d) (is_written (record d { page_size = Some size })) marked)
       ∙ ap (λ segments. image_with ((image.changed || is_written d) || true) (unwrap_or d.os_abi image.header.os_abi) segments (first_there (entries_drafted d) image.entries) (first_there d.interpreter image.interpreter) (Some size) image)
@@ -214,14 +214,14 @@ module _ (image : Image) (d : Draft) (change : ℕ → ℕ) where
 pub stack_cleared : (image : Image) (d : Draft) → IsDraftOf image d → Writes ClearExecStack image d (record d { stack_flags = Some (without_run (flags_now d image.segments)) })
 unfolding edited_image after flags_changed new_flags
 stack_cleared image d is = record {
-  image = flags_drafted image d without_run;
+  shows = flags_drafted image d without_run;
   draft = record { tables = is.tables; entries = is.entries; interpreter_there = is.interpreter_there; interpreter = is.interpreter };
 }
 
 pub stack_set : (image : Image) (d : Draft) → IsDraftOf image d → Writes SetExecStack image d (record d { stack_flags = Some (with_run (flags_now d image.segments)) })
 unfolding edited_image after flags_changed new_flags
 stack_set image d is = record {
-  image = flags_drafted image d with_run;
+  shows = flags_drafted image d with_run;
   draft = record { tables = is.tables; entries = is.entries; interpreter_there = is.interpreter_there; interpreter = is.interpreter };
 }
 
@@ -340,7 +340,7 @@ list_written edit image d made kind free listed is list touched =
         let again = lists_again machine edit es free.texts now.listed in
         let marked : is_list_with (touches_entries machine edit) (now_listed image d) ≡ true = ap (is_list_with (touches_entries machine edit)) now.now ∙ sym (ap (touches_entries machine edit) here) ∙ sym (touched machine) ∙ holds in
         record {
-          image =
+          shows =
               same_two (image.changed || is_written new) ((image.changed || is_written d) || is_list_with (touches_entries machine edit) (now_listed image d))
               (Some (map entry_kept made.entries.items)) (option_map (edited_entries machine edit) (now_listed image d))
               (unwrap_or d.os_abi image.header.os_abi) (with_page_size d.page_size (with_flags d.stack_flags image.segments)) (first_there d.interpreter image.interpreter) (first_there d.page_size image.page_size) image
@@ -361,7 +361,7 @@ list_written edit image d made kind free listed is list touched =
         let not_touched : touches_entries machine edit es ≡ false = sym (ap (touches_entries machine edit) here) ∙ sym (touched machine) ∙ fails in
         let marked : is_list_with (touches_entries machine edit) (now_listed image d) ≡ false = ap (is_list_with (touches_entries machine edit)) now.now ∙ not_touched in
         record {
-          image =
+          shows =
               same_two (image.changed || is_written d) ((image.changed || is_written d) || is_list_with (touches_entries machine edit) (now_listed image d))
               (now_listed image d) (option_map (edited_entries machine edit) (now_listed image d))
               (unwrap_or d.os_abi image.header.os_abi) (with_page_size d.page_size (with_flags d.stack_flags image.segments)) (first_there d.interpreter image.interpreter) (first_there d.page_size image.page_size) image

@@ -1,3 +1,5 @@
 pub mod ReadSteps
 pub mod PrintSteps
 pub mod DraftLaws
+pub mod HeldLaws
+pub mod TakenLaws

@@ -12,11 +12,13 @@ use Rattle.elf_image.specs.Options.{first_there}
 use Rattle.elf_edits.specs.declared.constants.TheConstants.{STACK_FLAGS}
 use Rattle.elf_edits.specs.Edit.{all_but_last}
 use Rattle.elf_edits.specs.Edited.{with_load_align, with_stack_changed}
-use Rattle.elf_edits.specs.Entries.{retagged}
+use Rattle.elf_edits.specs.declared.shrinking.ShrunkList.{ShrunkList}
+use Rattle.elf_edits.specs.Entries.{edited_entries, retagged}
+use Rattle.elf_edits.specs.ShrunkSeen.{removal_meant}
 use Rattle.elf_edits.specs.Texts.{holds_nul}
 use Rattle.elf_edits.specs.declared.list.NewList.{NewList}
 use Rattle.elf_edits.specs.Edit.{Edit}
-use Rattle.elf_edits.specs.Edited.{edited_image}
+use Rattle.elf_edits.specs.Edited.{edited_image, removed_by}
 use Rattle.elf_image.specs.declared.dynamic.Dynamic.{Dynamic}
 use Rattle.std.specs.declared.alloc.Global.{Global}
 use Rattle.std.specs.declared.vec.Vec.{Vec}
@@ -72,7 +74,7 @@ pub record IsDraftOf (image : Image) (d : Draft) : Type 0 where
 
 -- a draft of an image that shows another one
 pub record OnlyShows (image shown : Image) (d : Draft) : Type 0 where
-  pub image : drafted d image ≡ shown
+  pub shows : drafted d image ≡ shown
   pub draft : IsDraftOf image d
 
 -- an edit upon what was written
@@ -123,3 +125,8 @@ with_retagged old new image = record image {
   changed = image.changed || lists_tag old (unwrap_or image.entries []);
   entries = option_map (retagged old new) image.entries;
 }
+
+-- a list whose run paths shrank, with the directories that went
+pub record IsShrunkOf (edit : Edit) (image : Image) (made : ShrunkList) : Type 0 where
+  pub entries : map entry_kept made.entries.items ≡ edited_entries image.header.e_machine edit (unwrap_or image.entries [])
+  pub removed : map removal_meant made.removed.items ≡ removed_by edit (record image { entries = Some (unwrap_or image.entries []) })

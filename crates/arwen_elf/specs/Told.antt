@@ -26,11 +26,6 @@ cause_told told.SymbolInRelocation = None
 cause_told told.CannotRenumber = None
 cause_told told.SectionInUse = None
 
--- the cause that is told, where one is
-abbrev pub cause_if_told : Option ModifyCause → Option Cause
-cause_if_told None = None
-cause_if_told (Some cause) = cause_told cause
-
 -- the answer is a refusal for this cause
 abbrev pub IsRefusedFor : Option Cause → Result Image Cause → Type 0
 IsRefusedFor None answer = ⊥

@@ -6,6 +6,7 @@ mod edits;
 pub mod error;
 pub mod ext;
 pub mod machines;
+mod steps;
 mod told;
 pub mod writer;
 

@@ -30,6 +30,7 @@ pub(crate) struct Draft<'data> {
 
 impl<'data> Draft<'data> {
     // No part was written yet.
+    #[tactic(none)]
     pub(crate) fn new() -> Draft<'data>
         ensures { (image : Image) → OnlyShows image image result }
     {
@@ -55,7 +56,7 @@ impl<'data> Draft<'data> {
 
     // Notes a list that an edit made, where the edit wrote something.
     fn note_list(&mut self, made: NewList<'data>)
-        ensures { self.new ≡ with_list made self.old }
+        ensures { self.new ≡ with_list made.entry self.old }
     {
         if made.is_touched {
             self.entries = Some(made.entries);
@@ -85,6 +86,7 @@ impl<'data> Draft<'data> {
     }
 
     // Writes what an edit of the dynamic list makes.
+    #[tactic(none)]
     fn write_list(
         &mut self,
         alloc: Global,
@@ -103,6 +105,7 @@ impl<'data> Draft<'data> {
     }
 
     // Writes what an edit makes, against which no cause stands.
+    #[tactic(none)]
     pub(crate) fn write(
         &mut self,
         alloc: Global,
@@ -138,6 +141,7 @@ impl<'data> Draft<'data> {
     }
 
     // Writes the list without needed libraries of these names.
+    #[tactic(none)]
     pub(crate) fn write_without(
         &mut self,
         alloc: Global,
@@ -155,6 +159,7 @@ impl<'data> Draft<'data> {
     }
 
     // The same of an edit of a batch.
+    #[tactic(none)]
     pub(crate) fn write_edit(
         &mut self,
         alloc: Global,
@@ -176,6 +181,7 @@ impl<'data> Draft<'data> {
 
     // Puts what was written in place. There is want of memory only where a program header is added for the stack,
     // which comes first; the image then is as it was.
+    #[tactic(none)]
     pub(crate) fn put_in_place(
         self,
         alloc: Global,
@@ -202,6 +208,7 @@ impl<'data> Draft<'data> {
 }
 
 // Puts the stack's flags in place, with a program header for it where there is none.
+#[tactic(none)]
 fn put_stack_flags(
     alloc: Global,
     builder: &mut Builder<'_>,

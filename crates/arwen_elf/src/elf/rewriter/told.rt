@@ -1,11 +1,11 @@
 //! Causes, as errors tell them.
-ghost use Rattle.std.specs.Prelude.{◌≡◌, Err, not};
+ghost use Rattle.std.specs.Prelude.{◌≡◌, ◌==◌, Err, Some as some, not, option_map};
 ghost use Rattle.elf_edits.specs.Abi.{lowered};
 ghost use Rattle.elf_edits.specs.Cause.{BadPageSize as bad_page_size, MipsImage as mips_image, NoDynamic as no_dynamic, UnknownAbi, cause_if, is_page_size};
 ghost use Rattle.elf_edits.specs.CauseSeen.{cause_meant, words_of};
 ghost use Rattle.elf_format.specs.declared.constants.TheConstants.{EM_MIPS as MIPS};
 ghost use Rattle.elf_image.specs.Options.{first_there};
-ghost use Rattle.arwen_elf.specs.Told.{Refuses, cause_if_told};
+ghost use Rattle.arwen_elf.specs.Told.{Refuses, cause_told};
 
 use crate::elf::rewriter::error::{ElfError, ModifyCause};
 use elf_edits::constants::SMALLEST_PAGE;
@@ -16,7 +16,7 @@ use std::alloc::Global;
 // The error that tells a cause: a name with its ASCII letters lowered. Where there is no memory for the name, the error
 // tells that.
 pub(crate) fn told(alloc: Global, cause: Cause<'_>) -> ElfError
-    ensures { Refuses result (Err (cause_meant cause)) }
+    ensures { Refuses result (Err (cause_meant cause.entry)) }
 {
     match cause {
         Cause::MipsImage => ElfError::Modify(ModifyCause::MipsImage),
@@ -42,9 +42,9 @@ fn unknown_abi(alloc: Global, name: &str) -> ElfError
 
 // Why a dynamic list can't be edited, whatever the edit writes. Takes no memory.
 pub(crate) fn list_refusal(facts: &Facts, task: Task) -> Option<ModifyCause>
-    ensures { cause_if_told result
-        ≡ first_there (cause_if (facts.now.machine == MIPS) mips_image)
-        (cause_if (not facts.now.has_list) (no_dynamic (words_of task))) }
+    ensures { option_map cause_told result
+        ≡ option_map some (first_there (cause_if (facts.now.machine == MIPS) mips_image)
+        (cause_if (not facts.now.has_list) (no_dynamic (words_of task)))) }
 {
     if facts.machine == EM_MIPS {
         Some(ModifyCause::MipsImage)
@@ -57,9 +57,9 @@ pub(crate) fn list_refusal(facts: &Facts, task: Task) -> Option<ModifyCause>
 
 // Why the page size can't be set. Takes no memory.
 pub(crate) fn page_size_refusal(facts: &Facts, size: u32) -> Option<ModifyCause>
-    ensures { cause_if_told result
-        ≡ first_there (cause_if (facts.now.machine == MIPS) mips_image)
-        (cause_if (not (is_page_size size)) (bad_page_size size)) }
+    ensures { option_map cause_told result
+        ≡ option_map some (first_there (cause_if (facts.now.machine == MIPS) mips_image)
+        (cause_if (not (is_page_size size)) (bad_page_size size))) }
 {
     if facts.machine == EM_MIPS {
         Some(ModifyCause::MipsImage)
