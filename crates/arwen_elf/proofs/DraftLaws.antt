@@ -1,6 +1,6 @@
 -- What a draft shows once an edit wrote to it, and once it is put in place.
-use Rattle.std.proofs.Common.{◌≡◌, ℕ, ◌+◌, ◌-◌, Bool, true, false, not, ◌||◌, List, [], ◌∷◌, ◌++◌, length, map, take, drop, refl, sym, ap, subst, ◌∙◌, Option, Some, None, is_some, option_map, arith}
-use Rattle.std.specs.Prelude.{All, IfSome, IsSome, is_none, if◌then◌else◌, ◌==◌, nat_eq, unwrap_or}
+use Rattle.std.proofs.Common.{◌≡◌, ℕ, ◌+◌, ◌-◌, Bool, true, false, not, ◌||◌, List, [], ◌∷◌, ◌++◌, length, map, take, drop, refl, sym, ap, subst, ◌∙◌, Option, Some, None, is_some, option_map, Result, Ok, Err, arith}
+use Rattle.std.specs.Prelude.{All, IfSome, IsSome, MatchResult, is_none, if◌then◌else◌, ◌==◌, nat_eq, unwrap_or}
 use Rattle.std.specs.List.{ends_with, list_any}
 use Rattle.std.proofs.lemmas.Bool.{cond-true, cond-false, eqb-true, ne_eqb, or_parts}
 use Rattle.std.proofs.lemmas.List.Folds.{list_any-append}
@@ -39,7 +39,7 @@ or_false true = refl
 or_false false = refl
 
 -- an image with other parts
-image_with : Bool → ℕ → List SegmentHeader → Option (List Entry) → Option (List ℕ) → Option ℕ → Image → Image
+pub image_with : Bool → ℕ → List SegmentHeader → Option (List Entry) → Option (List ℕ) → Option ℕ → Image → Image
 image_with changed abi segments entries interpreter size image = record image {
   changed = changed;
   header = record image.header { os_abi = abi };
@@ -61,21 +61,47 @@ nothing_written image = record {
 written_marks : (changed before after : Bool) → after ≡ true → (changed || after) ≡ ((changed || before) || true)
 written_marks changed before after h = ap (λ b. changed || b) h ∙ or_true changed ∙ sym (or_true (changed || before))
 
+-- ## Edits of something else than the list
+
+kept_list : (o : Option (List Entry)) → option_map (λ es. es) o ≡ o
+kept_list None = refl
+kept_list (Some es) = refl
+
+interpreter_edit : (bytes : List ℕ) (image : Image) → edited_image (SetInterpreter bytes) image ≡ image_with (image.changed || true) image.header.os_abi image.segments image.entries (Some (with_nul bytes)) image.page_size image
+unfolding edited_image edited_entries image_with
+interpreter_edit bytes image = ap (λ o. image_with (image.changed || true) image.header.os_abi image.segments o (Some (with_nul bytes)) image.page_size image) (kept_list image.entries)
+
+os_abi_edit : (name : List ℕ) (image : Image) → edited_image (SetOsAbi name) image ≡ image_with (image.changed || true) (unwrap_or (abi_number name) image.header.os_abi) image.segments image.entries image.interpreter image.page_size image
+unfolding edited_image edited_entries image_with
+os_abi_edit name image = ap (λ o. image_with (image.changed || true) (unwrap_or (abi_number name) image.header.os_abi) image.segments o image.interpreter image.page_size image) (kept_list image.entries)
+
+pub page_size_edit : (size : ℕ) (image : Image) → edited_image (SetPageSize size) image ≡ image_with (image.changed || true) image.header.os_abi (with_load_align size image.segments) image.entries image.interpreter (Some size) image
+unfolding edited_image edited_entries image_with
+page_size_edit size image = ap (λ o. image_with (image.changed || true) image.header.os_abi (with_load_align size image.segments) o image.interpreter (Some size) image) (kept_list image.entries)
+
+cleared_edit : (image : Image) → edited_image ClearExecStack image ≡ image_with (image.changed || true) image.header.os_abi (with_stack_changed without_run image.segments) image.entries image.interpreter image.page_size image
+unfolding edited_image edited_entries image_with
+cleared_edit image = ap (λ o. image_with (image.changed || true) image.header.os_abi (with_stack_changed without_run image.segments) o image.interpreter image.page_size image) (kept_list image.entries)
+
+set_edit : (image : Image) → edited_image SetExecStack image ≡ image_with (image.changed || true) image.header.os_abi (with_stack_changed with_run image.segments) image.entries image.interpreter image.page_size image
+unfolding edited_image edited_entries image_with
+set_edit image = ap (λ o. image_with (image.changed || true) image.header.os_abi (with_stack_changed with_run image.segments) o image.interpreter image.page_size image) (kept_list image.entries)
+
 -- ## The interpreter
 
 not_false_is : (b : Bool) → not b ≡ false → b ≡ true
 not_false_is true h = refl
 not_false_is false h = cc
 
-is_there : {A : Type 0} (o : Option A) → is_some o ≡ true → IsSome o
-is_there None h = absurd (cc)
-is_there (Some x) h = tt
+pub is_there : {A : Type 0} (o : Option A) → is_some o ≡ true → IsSome o
+is_there o h = h
 
 pub interpreter_written : (bytes : List ℕ) (image : Image) (d : Draft) → IsFree (SetInterpreter bytes) (facts_of image) → IsDraftOf image d → Writes (SetInterpreter bytes) image d (record d { interpreter = Some (with_nul bytes) })
 unfolding drafted edited_image image_with
 interpreter_written bytes image d free is = record {
   shows = ap (λ changed. image_with changed (unwrap_or d.os_abi image.header.os_abi) (with_page_size d.page_size (with_flags d.stack_flags image.segments)) (first_there (entries_drafted d) image.entries) (Some (with_nul bytes)) (first_there d.page_size image.page_size) image)
-      (written_marks image.changed (is_written d) (is_written (record d { interpreter = Some (with_nul bytes) })) marked);
+      (written_marks image.changed (is_written d) (is_written (record d { interpreter = Some (with_nul bytes) })) marked)
+      ∙ sym (interpreter_edit bytes (drafted d image));
   draft = record {
     tables = is.tables;
     entries = is.entries;
@@ -111,7 +137,8 @@ os_abi_written name number image d free is same =
           ap (λ changed. image_with changed n (with_page_size d.page_size (with_flags d.stack_flags image.segments)) (first_there (entries_drafted d) image.entries) (first_there d.interpreter image.interpreter) (first_there d.page_size image.page_size) image)
           (written_marks image.changed (is_written d) (is_written (record d { os_abi = Some n })) (marked n))
           ∙ ap (λ o. image_with ((image.changed || is_written d) || true) (unwrap_or o (unwrap_or d.os_abi image.header.os_abi)) (with_page_size d.page_size (with_flags d.stack_flags image.segments)) (first_there (entries_drafted d) image.entries) (first_there d.interpreter image.interpreter) (first_there d.page_size image.page_size) image)
-          (sym is_named);
+          (sym is_named)
+          ∙ sym (os_abi_edit name (drafted d image));
       draft = record { tables = is.tables; entries = is.entries; interpreter_there = is.interpreter_there; interpreter = is.interpreter };
     }
 
@@ -138,7 +165,8 @@ page_size_written size image d is = record {
       ap (λ changed. image_with changed (unwrap_or d.os_abi image.header.os_abi) (with_load_align size (with_flags d.stack_flags image.segments)) (first_there (entries_drafted d) image.entries) (first_there d.interpreter image.interpreter) (Some size) image)
       (written_marks image.changed (is_written d) (is_written (record d { page_size = Some size })) marked)
       ∙ ap (λ segments. image_with ((image.changed || is_written d) || true) (unwrap_or d.os_abi image.header.os_abi) segments (first_there (entries_drafted d) image.entries) (first_there d.interpreter image.interpreter) (Some size) image)
-      (aligned_last size d.page_size (with_flags d.stack_flags image.segments));
+      (aligned_last size d.page_size (with_flags d.stack_flags image.segments))
+      ∙ sym (page_size_edit size (drafted d image));
   draft = record { tables = is.tables; entries = is.entries; interpreter_there = is.interpreter_there; interpreter = is.interpreter };
 }
   where
@@ -212,16 +240,16 @@ module _ (image : Image) (d : Draft) (change : ℕ → ℕ) where
       (ap (with_page_size d.page_size) (sym (flags_set change d.stack_flags image.segments)) ∙ sized_flags_set change d.page_size (with_flags d.stack_flags image.segments))
 
 pub stack_cleared : (image : Image) (d : Draft) → IsDraftOf image d → Writes ClearExecStack image d (record d { stack_flags = Some (without_run (flags_now d image.segments)) })
-unfolding edited_image after flags_changed new_flags
+unfolding image_with after flags_changed new_flags
 stack_cleared image d is = record {
-  shows = flags_drafted image d without_run;
+  shows = flags_drafted image d without_run ∙ sym (cleared_edit (drafted d image));
   draft = record { tables = is.tables; entries = is.entries; interpreter_there = is.interpreter_there; interpreter = is.interpreter };
 }
 
 pub stack_set : (image : Image) (d : Draft) → IsDraftOf image d → Writes SetExecStack image d (record d { stack_flags = Some (with_run (flags_now d image.segments)) })
-unfolding edited_image after flags_changed new_flags
+unfolding image_with after flags_changed new_flags
 stack_set image d is = record {
-  shows = flags_drafted image d with_run;
+  shows = flags_drafted image d with_run ∙ sym (set_edit (drafted d image));
   draft = record { tables = is.tables; entries = is.entries; interpreter_there = is.interpreter_there; interpreter = is.interpreter };
 }
 
@@ -297,13 +325,13 @@ module _ (image : Image) (d : Draft) where
 
   is_now : (read : List Entry) → image.entries ≡ Some read → ListsEntries image → IsDraftOf image d → (es : List Entry) × IsNow read es
   unfolding now_listed
-  is_now read there listed is =
+  is_now read is_read listed is =
       let found = by_draft (entries_drafted d) is.tables is.entries in
-      (found.0, record { now = found.1.0; listed = found.1.1.0; tables = found.1.1.1 })
+      (found.0, record { now = found.1; listed = found.2; tables = found.3 })
     where
       by_draft : (o : Option (List Entry)) → IfSome o (KeepsTables image.entries) → IfSome o (All IsListed) → (es : List Entry) × (first_there o image.entries ≡ Some es) × All IsListed es × (tables_of es ≡ tables_of read)
-      by_draft None t l = (read, (there, (subst (λ (o : Option (List Entry)). All IsListed (unwrap_or o [])) there listed, refl)))
-      by_draft (Some es) t l = (es, (refl, (l, subst (λ (o : Option (List Entry)). KeepsTables o es) there t)))
+      by_draft None t l = (read, is_read, subst (λ (o : Option (List Entry)). All IsListed (unwrap_or o [])) is_read listed, refl)
+      by_draft (Some es) t l = (es, refl, l, subst (λ (o : Option (List Entry)). KeepsTables o es) is_read t)
 
 -- two parts of an image
 same_two : (c c' : Bool) (e e' : Option (List Entry)) (abi : ℕ) (segments : List SegmentHeader) (interpreter : Option (List ℕ)) (size : Option ℕ) (image : Image) → c ≡ c' → e ≡ e'
@@ -420,3 +448,18 @@ flags_added flags (p ∷ ps) h = by_test (p.p_type == PT_GNU_STACK)
     (λ fails.
     ap (λ l. p ∷ l) (flags_added flags ps (sym (cond-false (p.p_type == PT_GNU_STACK) (Some p) (segment_of_type PT_GNU_STACK ps) fails) ∙ h))
     ∙ sym (cond-false (p.p_type == PT_GNU_STACK) (record p { p_flags = flags } ∷ ps) (p ∷ with_stack_changed (λ _. flags) ps) fails))
+
+-- what the question for a stack tells of the image's program headers
+pub found_there : {A B : Type 0} (f : A → B) (r : Option A) (o : Option B) → option_map f r ≡ o → is_some r ≡ true → is_some o ≡ true
+found_there f None o e h = absurd (cc)
+found_there f (Some x) o e h = ap is_some (sym e)
+
+pub not_found : {A B : Type 0} (f : A → B) (r : Option A) (o : Option B) → option_map f r ≡ o → is_some r ≡ false → o ≡ None
+not_found f None o e h = sym e
+not_found f (Some x) o e h = absurd (cc)
+
+pub pushed : {E : Type 0} (r : Result (Unit {0}) E) (flags : ℕ) (old new : Image) → segment_of_type PT_GNU_STACK old.segments ≡ None
+    → MatchResult r (λ _. new ≡ record old { changed = true; segments = with_stack_added flags old.segments }) (λ _. new ≡ old)
+    → MatchResult r (λ _. new ≡ with_flags_put (Some flags) old) (λ _. new ≡ old)
+pushed (Ok x) flags old new none h = h ∙ ap (λ (l : List SegmentHeader). record old { changed = true; segments = l }) (flags_added flags old.segments none)
+pushed (Err e) flags old new none h = h

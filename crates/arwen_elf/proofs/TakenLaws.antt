@@ -1,6 +1,6 @@
 -- What edits leave, by what was written, and what their errors tell.
 use Rattle.std.proofs.Common.{◌≡◌, ℕ, ◌+◌, Bool, true, false, not, ◌||◌, List, [], ◌∷◌, ◌++◌, map, filter, refl, sym, ap, subst, ◌∙◌, Option, Some, None, is_some, option_map, Result, Ok, Err}
-use Rattle.std.specs.Prelude.{All, if◌then◌else◌, ◌==◌, unwrap_or}
+use Rattle.std.specs.Prelude.{All, codes, if◌then◌else◌, ◌==◌, unwrap_or}
 use Rattle.std.specs.List.{list_any}
 use Rattle.std.proofs.lemmas.Bool.{cond-true, cond-false}
 use Rattle.elf_format.specs.declared.constants.TheConstants.{DT_RPATH, DT_RUNPATH, EM_MIPS}
@@ -9,6 +9,7 @@ use Rattle.elf_image.specs.DynamicList.{without_tag}
 use Rattle.elf_image.specs.Image.{Image, entry_tag, lists_tag}
 use Rattle.elf_image.specs.Options.{first_there}
 use Rattle.elf_edits.specs.declared.call.ElfEdit.{ElfEdit}
+use Rattle.elf_edits.specs.declared.facts.Facts.{Facts}
 use Rattle.elf_edits.specs.Batch.{Refusal, run, run_from}
 use Rattle.elf_edits.specs.Called.{edit_meant}
 use Rattle.elf_edits.specs.Cause.{BadPageSize, Cause, MipsImage, NoDynamic, cause, cause_if, facts_of, first_cause, is_page_size, lists_run_path}
@@ -24,7 +25,7 @@ use Rattle.arwen_elf.specs.declared.elf.rewriter.error.ModifyCause.{ModifyCause}
 use Rattle.arwen_elf.specs.Drafted.{OnlyShows, drafted, with_retagged}
 use Rattle.arwen_elf.specs.Taken.{edits_meant}
 use Rattle.arwen_elf.specs.Told.{IsRefusedAt, IsRefusedFor, Refuses, RefusesAt, TellsCause, cause_told}
-use Rattle.arwen_elf.proofs.DraftLaws.{by_test, or_false, or_true}
+use Rattle.arwen_elf.proofs.DraftLaws.{by_test, image_with, or_false, or_true, page_size_edit}
 
 -- ## One edit
 
@@ -66,15 +67,7 @@ told_in_place c (Some reason) edit old h is =
     let told : cause_told c ≡ Some reason = cc in
     subst (λ (o : Option Cause). IsRefusedFor o (step edit old)) (sym told) (step_refused edit old reason is)
 
--- the causes of an edit of the list without texts
-list_causes : List ℕ → Image → Option Cause
-list_causes task old = first_there (cause_if ((facts_of old).machine == EM_MIPS) MipsImage) (cause_if (not (facts_of old).has_list) (NoDynamic task))
-
-pub told_for_list : (c : ModifyCause) (edit : Edit) (task : List ℕ) (old : Image) → Some (cause_told c) ≡ option_map Some (first_there (cause_if ((facts_of old).machine == EM_MIPS) MipsImage) (cause_if (not (facts_of old).has_list) (NoDynamic task)))
-    → cause edit old ≡ first_there (cause_if ((facts_of old).machine == EM_MIPS) MipsImage) (cause_if (not (facts_of old).has_list) (NoDynamic task)) → IsRefusedFor (cause_told c) (step edit old)
-told_for_list c edit task old h is = told_in_place c (first_there (cause_if ((facts_of old).machine == EM_MIPS) MipsImage) (cause_if (not (facts_of old).has_list) (NoDynamic task))) edit old h is
-
-pub none_found : (found : Option Cause) → None ≡ option_map {B = Option Cause} Some found → found ≡ None
+pub none_found : (found : Option Cause) → None ≡ option_map {U = Option Cause} Some found → found ≡ None
 none_found None h = refl
 none_found (Some reason) h = absurd (cc)
 
@@ -98,8 +91,8 @@ used_rpath old =
     ap (λ b. record old { changed = old.changed || b; entries = option_map (edited_entries old.header.e_machine UseRpath) old.entries }) (sym (test_listed (lists_tag DT_RUNPATH) refl old.entries))
 
 pub sized : (size : ℕ) (old : Image) → record old { changed = true; segments = with_load_align size old.segments; page_size = Some size } ≡ edited_image (SetPageSize size) old
-unfolding edited_image
-sized size old = ap (λ b. record old { changed = b; segments = with_load_align size old.segments; page_size = Some size }) (sym (or_true old.changed))
+unfolding image_with
+sized size old = ap (λ b. record old { changed = b; segments = with_load_align size old.segments; page_size = Some size }) (sym (or_true old.changed)) ∙ sym (page_size_edit size old)
 
 without_both : (es : List Entry) → without_tag DT_RUNPATH (without_tag DT_RPATH es) ≡ without_run_paths es
 without_both [] = refl
@@ -142,3 +135,57 @@ no_run_path_deleted old none =
     by_list : (o : Option (List Entry)) → lists_run_path o ≡ false → (option_map without_run_paths o ≡ o) × (is_list_with (list_any is_run_path) o ≡ false)
     by_list None h = (refl, refl)
     by_list (Some es) h = (ap Some (untouched 0 DeleteRunPath es h), h)
+
+-- ## What the causes in place tell
+
+size_causes : ℕ → Facts → Option Cause
+size_causes size facts = first_there (cause_if (facts.machine == EM_MIPS) MipsImage) (cause_if (not (is_page_size size)) (BadPageSize size))
+
+pub page_size_refused : (told : ModifyCause) (size : ℕ) (old : Image) (facts : Facts) → facts ≡ facts_of old
+    → option_map cause_told (Some told) ≡ option_map Some (first_there (cause_if (facts.machine == EM_MIPS) MipsImage) (cause_if (not (is_page_size size)) (BadPageSize size))) → IsRefusedFor (cause_told told) (step (SetPageSize size) old)
+unfolding cause first_cause size_causes
+page_size_refused told size old facts same h = told_in_place told (size_causes size (facts_of old)) (SetPageSize size) old (h ∙ ap (λ (f : Facts). option_map {U = Option Cause} Some (size_causes size f)) same) refl
+
+pub page_size_taken : (size : ℕ) (old new : Image) (facts : Facts) → facts ≡ facts_of old
+    → None ≡ option_map {U = Option Cause} Some (first_there (cause_if (facts.machine == EM_MIPS) MipsImage) (cause_if (not (is_page_size size)) (BadPageSize size)))
+    → new ≡ record old { changed = true; segments = with_load_align size old.segments; page_size = Some size } → step (SetPageSize size) old ≡ Ok new
+unfolding cause first_cause size_causes
+page_size_taken size old new facts same h put =
+    let none : size_causes size (facts_of old) ≡ None = none_found (size_causes size (facts_of old)) (h ∙ ap (λ (f : Facts). option_map {U = Option Cause} Some (size_causes size f)) same) in
+    step_is (SetPageSize size) old none ∙ ap Ok (sym (put ∙ sized size old))
+
+task_causes : List ℕ → Facts → Option Cause
+task_causes task facts = first_there (cause_if (facts.machine == EM_MIPS) MipsImage) (cause_if (not facts.has_list) (NoDynamic task))
+
+-- an edit of the list that has no texts and no cause of its own
+pub record IsPlain (edit : Edit) (task : List ℕ) : Type 0 where
+  pub is : (old : Image) → cause edit old ≡ first_there (cause_if ((facts_of old).machine == EM_MIPS) MipsImage) (cause_if (not (facts_of old).has_list) (NoDynamic task))
+
+pub plain_rpath : IsPlain UseRpath (codes "change rpath")
+unfolding cause first_cause
+plain_rpath = record { is = λ old. ap (first_there (cause_if ((facts_of old).machine == EM_MIPS) MipsImage)) (or_nothing (cause_if (not (facts_of old).has_list) (NoDynamic (codes "change rpath")))) }
+
+pub plain_runpath : IsPlain UseRunpath (codes "change runpath")
+unfolding cause first_cause
+plain_runpath = record { is = λ old. ap (first_there (cause_if ((facts_of old).machine == EM_MIPS) MipsImage)) (or_nothing (cause_if (not (facts_of old).has_list) (NoDynamic (codes "change runpath")))) }
+
+pub plain_deletion : IsPlain DeleteRunPath (codes "delete runpath")
+unfolding cause first_cause
+plain_deletion = record { is = λ old. ap (first_there (cause_if ((facts_of old).machine == EM_MIPS) MipsImage)) (or_nothing (cause_if (not (facts_of old).has_list) (NoDynamic (codes "delete runpath")))) }
+
+pub plain_refused : (told : ModifyCause) (edit : Edit) (task : List ℕ) (old : Image) (facts : Facts) → IsPlain edit task → facts ≡ facts_of old
+    → option_map cause_told (Some told) ≡ option_map Some (first_there (cause_if (facts.machine == EM_MIPS) MipsImage) (cause_if (not facts.has_list) (NoDynamic task))) → IsRefusedFor (cause_told told) (step edit old)
+unfolding task_causes
+plain_refused told edit task old facts plain same h = told_in_place told (task_causes task (facts_of old)) edit old (h ∙ ap (λ (f : Facts). option_map {U = Option Cause} Some (task_causes task f)) same) (plain.is old)
+
+pub plain_taken : (edit : Edit) (task : List ℕ) (old new : Image) (facts : Facts) → IsPlain edit task → facts ≡ facts_of old
+    → None ≡ option_map {U = Option Cause} Some (first_there (cause_if (facts.machine == EM_MIPS) MipsImage) (cause_if (not facts.has_list) (NoDynamic task)))
+    → new ≡ edited_image edit old → step edit old ≡ Ok new
+unfolding task_causes
+plain_taken edit task old new facts plain same h put =
+    let none : task_causes task (facts_of old) ≡ None = none_found (task_causes task (facts_of old)) (h ∙ ap (λ (f : Facts). option_map {U = Option Cause} Some (task_causes task f)) same) in
+    step_is edit old (plain.is old ∙ none) ∙ ap Ok (sym put)
+
+pub deleted_twice : (old once twice : Image) → once ≡ record old { changed = true; entries = option_map (without_tag DT_RPATH) old.entries }
+    → twice ≡ record once { changed = true; entries = option_map (without_tag DT_RUNPATH) once.entries } → twice ≡ record old { changed = true; entries = option_map (without_tag DT_RUNPATH) (option_map (without_tag DT_RPATH) old.entries) }
+deleted_twice old once twice first second = second ∙ ap (λ (image : Image). record image { changed = true; entries = option_map (without_tag DT_RUNPATH) image.entries }) first

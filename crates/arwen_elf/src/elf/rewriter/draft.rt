@@ -207,8 +207,7 @@ impl<'data> Draft<'data> {
     }
 }
 
-// Puts the stack's flags in place, with a program header for it where there is none.
-#[tactic(none)]
+// Puts the stack's flags in place.
 fn put_stack_flags(
     alloc: Global,
     builder: &mut Builder<'_>,
@@ -217,14 +216,23 @@ fn put_stack_flags(
     ensures { MatchResult result (λ _. builder.new ≡ with_flags_put flags builder.old)
         (λ _. builder.new ≡ builder.old) }
 {
-    let Some(flags) = flags else {
-        return Ok(());
-    };
+    match flags {
+        None => Ok(()),
+        Some(flags) => put_flags(alloc, builder, flags),
+    }
+}
+
+// Puts these flags of the stack in place, with a program header for it where there is none.
+fn put_flags(alloc: Global, builder: &mut Builder<'_>, flags: u32) -> Result<(), AllocError>
+    ensures { MatchResult result (λ _. builder.new ≡ with_flags_put (some flags) builder.old)
+        (λ _. builder.new ≡ builder.old) }
+{
     if builder.stack().is_some() {
         builder.set_stack_flags(flags);
-        return Ok(());
+        Ok(())
+    } else {
+        builder.push_stack(alloc, flags)
     }
-    builder.push_stack(alloc, flags)
 }
 
 fn put_page_size(builder: &mut Builder<'_>, size: Option<u32>)
