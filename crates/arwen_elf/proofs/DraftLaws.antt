@@ -20,11 +20,15 @@ use Rattle.elf_edits.specs.Abi.{abi_number, lowered, with_nul}
 use Rattle.elf_edits.specs.Cause.{NoDynamic, NoInterpreter, UnknownAbi, cause_if, facts_of}
 use Rattle.elf_edits.specs.Edit.{Edit, AddDebugEntry, AddNeeded, AddRunPath, ClearExecStack, DeleteNeeded, DeleteRunPath, NoDefaultLibrary, ReplaceNeeded, SetExecStack, SetInterpreter, SetOsAbi, SetPageSize, SetRunPath, SetSoname, ShrinkRunPath, UseRpath, UseRunpath, all_but_last}
 use Rattle.elf_edits.specs.Edited.{edited_image, is_list_with, touches_rest, with_align, with_load_align, with_run, with_stack_changed, without_run}
-use Rattle.elf_edits.specs.Entries.{edited_entries, touches_entries}
+use Rattle.elf_edits.specs.Entries.{edited_entries, retagged, touches_entries, with_tag}
+use Rattle.elf_image.specs.Image.{entry_tag, lists_tag}
+use Rattle.elf_image.specs.declared.dynamic.Dynamic.{Dynamic}
+use Rattle.std.specs.declared.alloc.Global.{Global}
+use Rattle.std.specs.declared.vec.Vec.{Vec}
 use Rattle.elf_edits.specs.Texts.{holds_nul}
 use Rattle.elf_edits.proofs.ForCallers.{IsFree, ListsAgain, lists_again, stands_not, stored_whole, untouched}
 use Rattle.arwen_elf.specs.declared.elf.rewriter.draft.Draft.{Draft}
-use Rattle.arwen_elf.specs.Drafted.{changed_if, IsDraftOf, ListsEntries, OnlyShows, Writes, drafted, entries_drafted, flags_now, is_written, stack_flags_of, with_entries_put, with_flags, with_flags_put, with_interpreter_put, with_list, with_os_abi_put, with_page_size, with_page_size_put}
+use Rattle.arwen_elf.specs.Drafted.{CanPutEntries, CanPutInterpreter, changed_if, IsDraftOf, ListsEntries, OnlyShows, Writes, drafted, entries_drafted, flags_now, is_written, stack_flags_of, with_entries_put, with_flags, with_flags_put, with_interpreter_put, with_list, with_retagged, with_os_abi_put, with_page_size, with_page_size_put}
 
 pub by_test : {P : Type 0} (b : Bool) → (b ≡ true → P) → (b ≡ false → P) → P
 by_test true then_so else_so = then_so refl
@@ -39,7 +43,7 @@ or_false true = refl
 or_false false = refl
 
 -- an image with other parts
-pub image_with : Bool → ℕ → List SegmentHeader → Option (List Entry) → Option (List ℕ) → Option ℕ → Image → Image
+unfoldable pub image_with : Bool → ℕ → List SegmentHeader → Option (List Entry) → Option (List ℕ) → Option ℕ → Image → Image
 image_with changed abi segments entries interpreter size image = record image {
   changed = changed;
   header = record image.header { os_abi = abi };
@@ -463,3 +467,37 @@ pub pushed : {E : Type 0} (r : Result (Unit {0}) E) (flags : ℕ) (old new : Ima
     → MatchResult r (λ _. new ≡ with_flags_put (Some flags) old) (λ _. new ≡ old)
 pushed (Ok x) flags old new none h = h ∙ ap (λ (l : List SegmentHeader). record old { changed = true; segments = l }) (flags_added flags old.segments none)
 pushed (Err e) flags old new none h = h
+
+-- what was written may be put in place, also after other parts were
+pub can_put_interpreter : (d : Draft) (old now : Image) → IsDraftOf old d → now.interpreter ≡ old.interpreter → CanPutInterpreter now d.interpreter
+can_put_interpreter d old now is same = record { there = subst (λ (o : Option (List ℕ)). IfSome d.interpreter (λ _. IsSome o)) (sym same) is.interpreter_there; whole = is.interpreter }
+
+listed_each : (o : Option (Vec Dynamic Global)) (P : List Entry → Type 0) → IfSome (option_map (λ l. map entry_kept l.items) o) P → IfSome o (λ l. P (map entry_kept l.items))
+listed_each None P h = h
+listed_each (Some l) P h = h
+
+pub can_put_entries : (d : Draft) (old now : Image) → IsDraftOf old d → now.entries ≡ old.entries → CanPutEntries now d.entries
+can_put_entries d old now is same = record {
+  tables = listed_each d.entries (KeepsTables now.entries) (subst (λ (o : Option (List Entry)). IfSome (entries_drafted d) (KeepsTables o)) (sym same) is.tables);
+  entries = listed_each d.entries (All IsListed) is.entries;
+}
+
+-- entries with a tag, and without
+pub retagged_some : (old new : ℕ) (image : Image) (found : Bool) → found ≡ lists_tag old (unwrap_or image.entries []) → found ≡ true → record image { changed = true; entries = option_map (retagged old new) image.entries } ≡ with_retagged old new image
+retagged_some old new image found is holds = ap (λ b. record image { changed = b; entries = option_map (retagged old new) image.entries }) (sym (or_true image.changed) ∙ ap (λ b. image.changed || b) (sym holds ∙ is))
+
+none_retagged : (old new : ℕ) (es : List Entry) → lists_tag old es ≡ false → retagged old new es ≡ es
+none_retagged old new [] none = refl
+none_retagged old new (e ∷ es) none =
+    let parts = or_parts (entry_tag e == old) (lists_tag old es) none in
+    ap (λ x. x ∷ retagged old new es) (cond-false (entry_tag e == old) (with_tag new e) e parts.0) ∙ ap (λ l. e ∷ l) (none_retagged old new es parts.1)
+
+pub retagged_none : (old new : ℕ) (image : Image) (found : Bool) → found ≡ lists_tag old (unwrap_or image.entries []) → found ≡ false → image ≡ with_retagged old new image
+retagged_none old new image found is fails =
+    sym (ap (λ b. record image { changed = image.changed || b; entries = option_map (retagged old new) image.entries }) (sym is ∙ fails)
+    ∙ ap (λ b. record image { changed = b; entries = option_map (retagged old new) image.entries }) (or_false image.changed)
+    ∙ ap (λ (o : Option (List Entry)). record image { changed = image.changed; entries = o }) (by_list image.entries (sym is ∙ fails)))
+  where
+    by_list : (o : Option (List Entry)) → lists_tag old (unwrap_or o []) ≡ false → option_map (retagged old new) o ≡ o
+    by_list None h = refl
+    by_list (Some es) h = ap Some (none_retagged old new es h)

@@ -22,7 +22,7 @@ use Rattle.arwen_elf.specs.declared.elf.rewriter.draft.Draft.{Draft}
 use Rattle.arwen_elf.specs.declared.elf.rewriter.error.ElfError.{ElfError}
 use Rattle.arwen_elf.specs.declared.elf.rewriter.error.ElfError.TheVariants.{InvalidDtNeededEncoding, Io, Memory, Modify, Parse, Write}
 use Rattle.arwen_elf.specs.declared.elf.rewriter.error.ModifyCause.{ModifyCause}
-use Rattle.arwen_elf.specs.Drafted.{OnlyShows, drafted, with_retagged}
+use Rattle.arwen_elf.specs.Drafted.{OnlyShows, Writes, drafted, with_retagged}
 use Rattle.arwen_elf.specs.Taken.{edits_meant}
 use Rattle.arwen_elf.specs.Told.{IsRefusedAt, IsRefusedFor, Refuses, RefusesAt, TellsCause, cause_told}
 use Rattle.arwen_elf.proofs.DraftLaws.{by_test, image_with, or_false, or_true, page_size_edit}
@@ -189,3 +189,8 @@ plain_taken edit task old new facts plain same h put =
 pub deleted_twice : (old once twice : Image) → once ≡ record old { changed = true; entries = option_map (without_tag DT_RPATH) old.entries }
     → twice ≡ record once { changed = true; entries = option_map (without_tag DT_RUNPATH) once.entries } → twice ≡ record old { changed = true; entries = option_map (without_tag DT_RUNPATH) (option_map (without_tag DT_RPATH) old.entries) }
 deleted_twice old once twice first second = second ∙ ap (λ (image : Image). record image { changed = true; entries = option_map (without_tag DT_RUNPATH) image.entries }) first
+
+-- what an edit wrote upon nothing
+pub only_after : (edit : Edit) (image known : Image) (first d : Draft) → known ≡ image → OnlyShows known known first → Writes edit known first d → OnlyShows image (edited_image edit image) d
+only_after edit image known first d same start wrote =
+    subst (λ (i : Image). OnlyShows i (edited_image edit i) d) same (record { shows = wrote.shows ∙ ap (edited_image edit) start.shows; draft = wrote.draft })

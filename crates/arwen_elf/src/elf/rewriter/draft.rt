@@ -30,7 +30,6 @@ pub(crate) struct Draft<'data> {
 
 impl<'data> Draft<'data> {
     // No part was written yet.
-    #[tactic(none)]
     pub(crate) fn new() -> Draft<'data>
         ensures { (image : Image) → OnlyShows image image result }
     {
@@ -86,7 +85,6 @@ impl<'data> Draft<'data> {
     }
 
     // Writes what an edit of the dynamic list makes.
-    #[tactic(none)]
     fn write_list(
         &mut self,
         alloc: Global,
@@ -141,7 +139,6 @@ impl<'data> Draft<'data> {
     }
 
     // Writes the list without needed libraries of these names.
-    #[tactic(none)]
     pub(crate) fn write_without(
         &mut self,
         alloc: Global,
@@ -181,7 +178,6 @@ impl<'data> Draft<'data> {
 
     // Puts what was written in place. There is want of memory only where a program header is added for the stack,
     // which comes first; the image then is as it was.
-    #[tactic(none)]
     pub(crate) fn put_in_place(
         self,
         alloc: Global,

@@ -1,17 +1,17 @@
 //! One edit, and a batch of edits, upon an image.
-ghost use Rattle.std.specs.Prelude.{◌≡◌, IfErr, IfOk, IsTrue, None as none, Ok, OnOk, map, option_map};
-ghost use Rattle.elf_edits.specs.Batch.{run};
+ghost use Rattle.std.specs.Prelude.{◌≡◌, IfOk, IsTrue, None as none, [], map, option_map, unwrap_or};
 ghost use Rattle.elf_edits.specs.Called.{answer_held, call_meant, texts_held};
 ghost use Rattle.elf_edits.specs.Cause.{cause as first_cause_against, facts_of};
 ghost use Rattle.elf_edits.specs.Decided.{all_edited, first_refusal as first_refusal_of};
 ghost use Rattle.elf_edits.specs.Edit.{DeleteNeeded, DeleteRunPath, SetPageSize, ShrinkRunPath, UseRpath, UseRunpath};
-ghost use Rattle.elf_edits.specs.Edited.{edited_image, step};
+ghost use Rattle.elf_edits.specs.Edited.{edited_image};
+ghost use Rattle.elf_edits.specs.Entries.{has_tag as has_that_tag};
 ghost use Rattle.elf_image.specs.DynamicList.{can_follow};
 ghost use Rattle.elf_image.specs.Image.{lists_tag as has_entry_with};
 ghost use Rattle.elf_image.specs.ImageSeen.{entry_kept};
 ghost use Rattle.arwen_elf.specs.Drafted.{IsShrunkOf, ListsEntries, OnlyShows, with_retagged};
 ghost use Rattle.arwen_elf.specs.Taken.{RemovedAre, TakesBatch, TakesEdit, TakesInPlace, edits_meant};
-ghost use Rattle.arwen_elf.specs.Told.{Refuses, RefusesBatch, refusal_meant};
+ghost use Rattle.arwen_elf.specs.Told.{refusal_meant};
 
 use crate::elf::rewriter::batch::ElfBatchError;
 use crate::elf::rewriter::draft::Draft;
@@ -27,7 +27,6 @@ use elf_image::{Builder, Dynamic};
 use std::alloc::{AllocError, Global};
 
 // The image, of which a proof then knows that each entry of its list may stand there.
-#[tactic(none)]
 fn known<'s, 'data>(builder: &'s Builder<'data>) -> &'s Builder<'data>
     ensures same { result.now ≡ builder.now }
     ensures lists { ListsEntries builder.now }
@@ -37,7 +36,6 @@ fn known<'s, 'data>(builder: &'s Builder<'data>) -> &'s Builder<'data>
 }
 
 // What an edit writes, against which no cause stands.
-#[tactic(none)]
 fn written<'data>(
     alloc: Global,
     builder: &Builder<'data>,
@@ -52,7 +50,6 @@ fn written<'data>(
 }
 
 // One edit: a batch of one, with values that are lent.
-#[tactic(none)]
 pub(crate) fn edit(builder: &mut Builder<'_>, alloc: Global, call: &EditCall<'_>) -> Result<()>
     ensures { TakesEdit (call_meant call.now) builder.old builder.new result }
 {
@@ -65,7 +62,6 @@ pub(crate) fn edit(builder: &mut Builder<'_>, alloc: Global, call: &EditCall<'_>
 }
 
 // What dropping needed libraries of these names writes.
-#[tactic(none)]
 fn written_without<'data>(
     alloc: Global,
     builder: &Builder<'data>,
@@ -81,7 +77,6 @@ fn written_without<'data>(
 }
 
 // Drops needed libraries of these names.
-#[tactic(none)]
 pub(crate) fn delete_needed(
     builder: &mut Builder<'_>,
     alloc: Global,
@@ -130,7 +125,6 @@ fn first_refusal<'e>(edits: &'e [ElfEdit], facts: &Facts) -> Option<(usize, Caus
 }
 
 // A batch of edits: all of them, or none.
-#[tactic(none)]
 pub(crate) fn apply(
     builder: &mut Builder<'_>,
     alloc: Global,
@@ -148,7 +142,6 @@ pub(crate) fn apply(
 }
 
 // Drops every run path. Takes no memory.
-#[tactic(none)]
 pub(crate) fn delete_run_paths(builder: &mut Builder<'_>) -> Result<()>
     ensures { TakesInPlace DeleteRunPath builder.old builder.new result }
 {
@@ -163,26 +156,47 @@ pub(crate) fn delete_run_paths(builder: &mut Builder<'_>) -> Result<()>
     Ok(())
 }
 
+// Whether the entry has this tag.
+fn has_tag(entry: &Dynamic<'_>, tag: u64) -> bool
+    ensures { result ≡ has_that_tag tag (entry_kept entry.now) }
+{
+    match entry {
+        Dynamic::Auto { tag: own } => *own == tag,
+        Dynamic::Integer { tag: own, .. } => *own == tag,
+        Dynamic::Text { tag: own, .. } => *own == tag,
+    }
+}
+
 // Whether an entry has this tag.
 fn lists_tag(entries: &[Dynamic<'_>], tag: u64) -> bool
     ensures { result ≡ has_entry_with tag (map entry_kept entries.now) }
 {
-    entries.iter().any(|entry| entry.tag() == tag)
+    for entry in entries {
+        if has_tag(entry, tag) {
+            return true;
+        }
+    }
+    false
+}
+
+// The entries of the dynamic list, none without one.
+fn entries<'s, 'data>(builder: &'s Builder<'data>) -> &'s [Dynamic<'data>]
+    ensures { map entry_kept result.now ≡ unwrap_or builder.now.entries [] }
+{
+    builder.dynamic_data().unwrap_or_default()
 }
 
 // Gives every entry with the one tag the other, where there is one.
-#[tactic(none)]
 fn retag(builder: &mut Builder<'_>, old: u64, new: u64)
     requires { IsTrue (can_follow new old) }
     ensures { builder.new ≡ with_retagged old new builder.old }
 {
-    if lists_tag(builder.dynamic_data().unwrap_or_default(), old) {
+    if lists_tag(entries(builder), old) {
         builder.retag_all(old, new);
     }
 }
 
 // Makes every DT_RPATH a DT_RUNPATH. Takes no memory.
-#[tactic(none)]
 pub(crate) fn use_runpath(builder: &mut Builder<'_>) -> Result<()>
     ensures { TakesInPlace UseRunpath builder.old builder.new result }
 {
@@ -194,7 +208,6 @@ pub(crate) fn use_runpath(builder: &mut Builder<'_>) -> Result<()>
 }
 
 // Makes every DT_RUNPATH a DT_RPATH. Takes no memory.
-#[tactic(none)]
 pub(crate) fn use_rpath(builder: &mut Builder<'_>) -> Result<()>
     ensures { TakesInPlace UseRpath builder.old builder.new result }
 {
@@ -206,7 +219,6 @@ pub(crate) fn use_rpath(builder: &mut Builder<'_>) -> Result<()>
 }
 
 // Sets the page size. Takes no memory.
-#[tactic(none)]
 pub(crate) fn set_page_size(builder: &mut Builder<'_>, size: u32) -> Result<()>
     ensures { TakesInPlace (SetPageSize size) builder.old builder.new result }
 {
@@ -228,13 +240,7 @@ fn shrunk<'data>(
     ensures { IfOk result (IsShrunkOf (ShrinkRunPath (texts_held prefixes.now) (map answer_held probe.now)) builder.now) }
 {
     let machine = builder.header().e_machine;
-    shrink(
-        alloc,
-        machine,
-        prefixes,
-        probe,
-        builder.dynamic_data().unwrap_or_default(),
-    )
+    shrink(alloc, machine, prefixes, probe, entries(builder))
 }
 
 // Shrinks the run paths, and answers the directories that went.
