@@ -7,12 +7,17 @@ Each file is made in bench/made, which git ignores. Each timed run works on a fr
 outside the timed part. The times are medians of N runs (5), and all runs of one call stand side by side:
 each round times every program once. `cp --reflink=never` writes onto a file that is there already. The
 peak is the largest resident size of the runs; it says nothing for the small file, where this script's
-own size is the larger one. The status is 1 where a target is missed, 2 where a program is missing or
-fails.
+own size is the larger one. Last, `strace` counts the bytes that one edit of the largest file writes, and
+shows that no open cuts a file.
+
+The targets: of the large files at most 0.7 times the time of cp and 1.1 times their size in memory, of the
+small one at most 0.2 times the time of LLVM's tool, and at most 64 KB written. The status is 1 where one is
+missed, 2 where a program is missing or fails. A target whose tool is not there is named as not checked.
 """
 
 import argparse
 import os
+import re
 import shutil
 import statistics
 import struct
@@ -35,11 +40,15 @@ import make  # noqa: E402
 # A file's size in bytes, its slices, and the targets: at most so many times the time of cp, the time of
 # LLVM's tool, and its own size in memory.
 FILES = {
-    "small": (0, 1, None, 1.0, None),
-    "thin-50": (50 * MEGABYTE, 1, 3.5, 1.0, 2.2),
-    "fat-50": (50 * MEGABYTE, 2, 5.0, 1.0, 3.3),
-    "thin-300": (300 * MEGABYTE, 1, 3.5, None, 2.2),
+    "small": (0, 1, None, 0.2, None),
+    "thin-50": (50 * MEGABYTE, 1, 0.7, None, 1.1),
+    "fat-50": (50 * MEGABYTE, 2, 0.7, None, 1.1),
+    "thin-300": (300 * MEGABYTE, 1, 0.7, None, 1.1),
 }
+
+# The file whose writes are counted, and the most bytes that they may have together.
+COUNTED = "thin-300"
+MOST_WRITTEN = 64 * 1024
 
 
 def head(size):
@@ -162,37 +171,82 @@ def verdict(value, target):
     return f"{value:.2f} ({'within' if value <= target else 'PAST'} {target})"
 
 
+def compare(name, options, tool):
+    """Times a file's edit, prints the ratios, and answers whether one is past its target."""
+    _, _, most_time, most_llvm, most_memory = FILES[name]
+    path = make_file(name)
+    size = os.path.getsize(path)
+    arwen, cp, llvm, peak = measure(path, options.runs, tool)
+    ratios = [(arwen / cp, most_time), (peak / size, most_memory)]
+    if llvm:
+        ratios.append((arwen / llvm, most_llvm))
+    beside = verdict(arwen / llvm, most_llvm) if llvm else "-"
+    memory = verdict(peak / size, most_memory) if most_memory else "-"
+    print(
+        f"{name}: {size} bytes, arwen {arwen * 1000:.1f} ms, cp {cp * 1000:.1f} ms, "
+        + (f"llvm {llvm * 1000:.1f} ms; " if llvm else "")
+        + f"to cp {verdict(arwen / cp, most_time)}, to llvm {beside}, "
+        + f"peak to size {memory}",
+        flush=True,
+    )
+    return any(most is not None and value > most for value, most in ratios)
+
+
+def calls_of(name):
+    """The calls by which one edit of a file opens, writes and cuts, as strace tells them."""
+    copy = fresh_copy(make_file(name))
+    log = os.path.join(WORK, "calls")
+    traced = "trace=open,openat,creat,write,pwrite64,writev,pwritev,truncate,ftruncate"
+    words = ["strace", "-f", "-qq", "-o", log, "-e", traced]
+    timed(words + [PROGRAM, "macho", "add-rpath", RUN_PATH, copy])
+    with open(log, errors="replace") as lines:
+        calls = lines.read().splitlines()
+    os.remove(log)
+    os.remove(copy)
+    return calls
+
+
+def count_writes(name):
+    """Counts the bytes that one edit of a file writes; answers whether they are too many, or an open cuts."""
+    calls = calls_of(name)
+    answers = [re.search(r"p?writev?(?:64)?\(.*= (\d+)$", call) for call in calls]
+    counts = [int(answer[1]) for answer in answers if answer]
+    cuts = [call for call in calls if re.search(r"O_TRUNC|O_CREAT|creat\(|truncate\(", call)]
+    past = not counts or sum(counts) > MOST_WRITTEN or bool(cuts)
+    said = f"{'PAST' if past else 'within'} {MOST_WRITTEN}"
+    print(f"{name}: {sum(counts)} bytes in {len(counts)} writes ({said}), {len(cuts)} calls that cut or create")
+    return past
+
+
+def newest_tool():
+    """LLVM's tool on the path, the one without a version or the newest; None where there is none."""
+    name = "llvm-install-name-tool"
+    return next(filter(None, map(shutil.which, [name, *(f"{name}-{version}" for version in range(30, 12, -1))])), None)
+
+
 def main():
     parser = argparse.ArgumentParser(description=__doc__.split("\n", 1)[0])
     parser.add_argument("--runs", type=int, default=5)
     parser.add_argument("--only", default="")
-    parser.add_argument("--tool", default="llvm-install-name-tool-19")
+    parser.add_argument("--tool", help="LLVM's tool (the newest llvm-install-name-tool on the path)")
     options = parser.parse_args()
     if not os.access(PROGRAM, os.X_OK):
         print("the program is not built: run ./arwen --help first", file=sys.stderr)
         return 2
-    tool = shutil.which(options.tool)
+    unchecked = []
+    tool = shutil.which(options.tool) if options.tool else newest_tool()
     if not tool:
-        print(f"{options.tool} is not there: its column stays empty", file=sys.stderr)
+        unchecked.append("the times of LLVM's tool")
     missed = False
-    for name, (_, _, most_time, most_llvm, most_memory) in FILES.items():
-        if options.only not in name:
-            continue
-        path = make_file(name)
-        size = os.path.getsize(path)
-        arwen, cp, llvm, peak = measure(path, options.runs, tool)
-        ratios = [(arwen / cp, most_time), (peak / size, most_memory)]
-        memory = verdict(peak / size, most_memory) if most_memory else "-"
-        if llvm:
-            ratios.append((arwen / llvm, most_llvm))
-        missed = missed or any(most is not None and value > most for value, most in ratios)
-        beside = verdict(arwen / llvm, most_llvm) if llvm else "-"
-        print(
-            f"{name}: {size} bytes, arwen {arwen * 1000:.1f} ms, cp {cp * 1000:.1f} ms, "
-            + (f"llvm {llvm * 1000:.1f} ms; " if llvm else "")
-            + f"to cp {verdict(arwen / cp, most_time)}, to llvm {beside}, "
-            + f"peak to size {memory}"
-        )
+    for name in FILES:
+        if options.only in name:
+            missed = compare(name, options, tool) or missed
+    if not shutil.which("strace"):
+        unchecked.append("the bytes written")
+    elif options.only in COUNTED:
+        missed = count_writes(COUNTED) or missed
+    for what in unchecked:
+        print(f"not checked, as a tool is not there: {what}")
     return 1 if missed else 0
 
 

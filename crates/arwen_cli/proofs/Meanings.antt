@@ -3,7 +3,7 @@ use Rattle.std.proofs.Common.{◌≡◌, ◌≢◌, ◌∷◌, [], ◌≤◌, Li
 use Rattle.std.specs.Prelude.{option_and_then, option_map, slice_get}
 use Rattle.std.proofs.lemmas.List.{length-map}
 use Rattle.clap.specs.Lexer.{usize_max}
-use Rattle.arwen_commands.proofs.RowLemmas.{meant_with-named, named-map}
+use Rattle.arwen_commands.proofs.ForCallers.{meant_with-named, named-map}
 use Rattle.arwen_commands.specs.Meaning.{ElfMeaning, MachoMeaning, Meaning, elf_lines, macho_lines, of_elf, of_macho}
 use Rattle.arwen_commands.specs.Rows.{Given, Line, Named, Text, asked_by_words, asked_with, given_by, kind_of, line_named, meant_by, meant_with, named, named_of}
 use Rattle.arwen_cli.specs.Line.{has_option, meaning_of}

@@ -19,7 +19,7 @@ use Rattle.macho_image.specs.Fat.{table_fault}
 use Rattle.macho_image.specs.declared.format.MachFault.TheVariants.{TooLong}
 use Rattle.arwen_macho.specs.Found.{begins_fat, container_found, fat_found, found_fault}
 use Rattle.arwen_macho.specs.Found.Found.{fault}
-use Rattle.arwen_commands.specs.Engine.{Asked, Outcome, Tells, Writes, asked, edited_file, outcome, outcome_of}
+use Rattle.arwen_commands.specs.Engine.{Asked, Outcome, ShowsEdited, Tells, Writes, asked, edited_file, outcome, outcome_of}
 use Rattle.arwen_commands.specs.Engine.Asked.{one, several}
 use Rattle.arwen_commands.specs.Engine.Outcome.{bytes, no_file, refused, refused_batch}
 
@@ -130,15 +130,18 @@ refused_store meaning old mid loaded (Edits e) first kept tells =
 refused_store meaning old mid loaded (Elf e) first kept tells = absurd tells
 refused_store meaning old mid loaded (Line text status) first kept tells = absurd tells
 
-pub patched_store : (meaning : MachoMeaning) (old mid new : Option (List ℕ)) (loaded : List ℕ) (fronts : List Front) (pieces : List Piece) → IsFirst (2 ^ 32) old loaded → Stays old mid → Writes (outcome meaning loaded) loaded fronts → ArePiecesOf loaded fronts pieces → Becomes (laid (patches_of pieces)) mid new → Patched meaning old new
+pub patched_store : (meaning : MachoMeaning) (old mid new : Option (List ℕ)) (loaded : List ℕ) (fronts : List Front) (pieces : List Piece) → IsFirst (2 ^ 32) old loaded → Stays old mid → Writes meaning loaded fronts → ArePiecesOf loaded fronts pieces → Becomes (laid (patches_of pieces)) mid new → Patched meaning old new
 patched_store meaning old mid new loaded fronts pieces first kept writes are becomes file known =
+    let Shown : List ℕ → Type 0 = λ l. ShowsEdited (asked meaning) l (laid (patches_of pieces) l) in
+    let Made : List ℕ → Type 0 = λ l. ShowsEdited (asked meaning) loaded l in
     let whole : loaded ≡ file = read_whole (asked meaning) old loaded file (fronts_on fronts loaded) first known writes.is in (
       laid (patches_of pieces) file,
       ap (outcome meaning) (sym whole) ∙ writes.is ∙ ap (λ (l : List ℕ). bytes l) (sym are.same ∙ ap (laid (patches_of pieces)) whole),
       becomes file (kept ∙ known),
+      subst Shown whole (subst Made (sym are.same) writes.shows),
     )
 
-pub torn_store : (meaning : MachoMeaning) (old mid new : Option (List ℕ)) (loaded : List ℕ) (fronts : List Front) (pieces : List Piece) → IsFirst (2 ^ 32) old loaded → Stays old mid → Writes (outcome meaning loaded) loaded fronts → ArePiecesOf loaded fronts pieces → Stays mid new ⊎ BecomesLaid (patches_of pieces) mid new → Stays old new ⊎ Torn meaning old new
+pub torn_store : (meaning : MachoMeaning) (old mid new : Option (List ℕ)) (loaded : List ℕ) (fronts : List Front) (pieces : List Piece) → IsFirst (2 ^ 32) old loaded → Stays old mid → Writes meaning loaded fronts → ArePiecesOf loaded fronts pieces → Stays mid new ⊎ BecomesLaid (patches_of pieces) mid new → Stays old new ⊎ Torn meaning old new
 torn_store meaning old mid new loaded fronts pieces first kept writes are (inl stays) = inl (stays ∙ kept)
 torn_store meaning old mid new loaded fronts pieces first kept writes are (inr laid_first) = inr (λ file known.
     let whole : loaded ≡ file = read_whole (asked meaning) old loaded file (fronts_on fronts loaded) first known writes.is in (

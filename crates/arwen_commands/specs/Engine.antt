@@ -7,6 +7,7 @@ use Rattle.arwen_macho.specs.declared.front.Front.{Front}
 use Rattle.arwen_macho.specs.declared.macho.MachoType.{MachoType}
 use Rattle.arwen_macho.specs.Call.{Call}
 use Rattle.arwen_macho.specs.Container.{container_bytes, container_step, first_container}
+use Rattle.arwen_macho.specs.ContainerShown.{ShowsFile}
 use Rattle.arwen_macho.specs.Found.{Found, container_found}
 use Rattle.arwen_macho.specs.Found.Found.{archive, fault}
 use Rattle.arwen_macho.specs.Fronts.{LiesIn, fronts_on}
@@ -118,7 +119,17 @@ abbrev pub refused_answer : Asked → MachoBatchError → ArwenError
 refused_answer (one call) e = answer_to e.fault
 refused_answer (several edits) e = answer_to_batch e
 
--- fronts that lie in a file's bytes, and make them those of an outcome
-pub record Writes (result : Outcome) (file : List ℕ) (fronts : List Front) : Type 0 where
+-- new bytes of a file: a parse accepts them and finds what the edits that are asked for make of it, in each
+-- slice of a fat file
+pub record ShowsEdited (a : Asked) (file new : List ℕ) : Type 0 where
+  pub calls : List Call
+  pub are : AreAsked a calls
+  pub made : MachoType
+  pub step : container_step calls (first_container file) ≡ Ok made
+  pub shows : ShowsFile made new
+
+-- fronts that lie in a file's bytes, and make them what a command makes of them, which shows its edits
+pub record Writes (meaning : MachoMeaning) (file : List ℕ) (fronts : List Front) : Type 0 where
   pub inside : All (LiesIn (length file)) fronts
-  pub is : result ≡ bytes (fronts_on fronts file)
+  pub is : outcome meaning file ≡ bytes (fronts_on fronts file)
+  pub shows : ShowsEdited (asked meaning) file (fronts_on fronts file)

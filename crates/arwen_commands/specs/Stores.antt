@@ -8,15 +8,16 @@ use Rattle.byte_store.specs.Laid.{LiesIn, Patch, first_bytes, laid, patches_of}
 use Rattle.elf_image.specs.Image.{image_of}
 use Rattle.arwen_commands.specs.declared.error.ArwenError.{ArwenError}
 use Rattle.arwen_commands.specs.declared.error.ArwenError.TheVariants.{Elf, Io, Memory}
-use Rattle.arwen_commands.specs.Engine.{Tells, outcome}
+use Rattle.arwen_commands.specs.Engine.{ShowsEdited, Tells, asked, outcome}
 use Rattle.arwen_commands.specs.Engine.Outcome.{bytes}
 use Rattle.arwen_commands.specs.Meaning.{ElfMeaning, MachoMeaning}
 use Rattle.arwen_commands.specs.Prints.{Prints, TellsElfFault}
 
--- known bytes become those that a command makes of them
+-- known bytes become those that a command makes of them, which are accepted and show its edits
 abbrev pub Patched : MachoMeaning → Option (List ℕ) → Option (List ℕ) → Type 0
 Patched meaning old new = (file : List ℕ) → old ≡ Some file
     → (made : List ℕ) × (outcome meaning file ≡ bytes made) × (new ≡ Some made)
+    × ShowsEdited (asked meaning) file made
 
 -- known bytes get first bytes of patches laid over them, in order; all of these make what the command makes
 abbrev pub Torn : MachoMeaning → Option (List ℕ) → Option (List ℕ) → Type 0

@@ -86,15 +86,6 @@ pub(crate) fn print_file<R: Files + Print + AllocGlobal>(
     ensures err { IfErr result (λ e. PrintMayFail e) }
 {
     let mut store = FileStore::open(rt, command.path_to_binary())?;
-    let most = most_of(store.length()?);
-    let bytes = load_whole(rt.alloc(), &mut store, most)?;
     let mut out = io::writer(rt);
-    run_elf(
-        rt.alloc(),
-        bytes.as_slice(),
-        command,
-        &mut NoLibraries,
-        &mut out,
-    )?;
-    Ok(())
+    print_store(rt.alloc(), &mut store, command, &mut out)
 }

@@ -1,7 +1,8 @@
 //! New bytes of old ones.
 ghost use Rattle.std.specs.Prelude.{◌≡◌, ◌∷◌, [], Ok, IfOk, IfErr, OnOk, map, string_bytes};
 ghost use Rattle.arwen_macho.specs.Batch.{calls_of};
-ghost use Rattle.arwen_commands.specs.Engine.{AreAsked, IsDone, MayFail, Outcome, Tells, TellsAsked, Writes};
+ghost use Rattle.arwen_commands.specs.Engine.{AreAsked, IsDone, MayFail, Outcome, ShowsEdited};
+ghost use Rattle.arwen_commands.specs.Engine.{Tells, TellsAsked, Writes};
 ghost use Rattle.arwen_commands.specs.Engine.{asked, outcome, refused_answer};
 ghost use Rattle.arwen_commands.specs.Meaning.{macho_shown};
 ghost use Rattle.arwen_commands.specs.Stores.{FailsPatch, Patched};
@@ -18,10 +19,13 @@ use byte_store::{FileStore, Store, load_up_to};
 use std::alloc::{AllocError, Global};
 use std::rt::Files;
 
-/// The bytes of a file after a command. Of `apply` the words are read before the bytes are looked at.
+/// The bytes of a file after a command: a parse accepts them again, and finds the edited load commands. Of
+/// `apply` the words are read before the bytes are looked at.
 pub fn run_macho(alloc: Global, bytes: &[u8], command: &MachoCommand) -> Result<Vec<u8>, ArwenError>
     ensures ok { IfOk result (λ new.
         outcome (macho_shown command.now) bytes.now ≡ Outcome.bytes new.items) }
+    ensures shows { IfOk result (λ new.
+        ShowsEdited (asked (macho_shown command.now)) bytes.now new.items) }
     ensures err { IfErr result (λ e. Tells (outcome (macho_shown command.now) bytes.now) e) }
 {
     let fronts = fronts_of(alloc, bytes, command)?;
@@ -33,7 +37,7 @@ pub fn run_macho(alloc: Global, bytes: &[u8], command: &MachoCommand) -> Result<
 /// What a command writes over the bytes of a file. Its edits are read before the bytes are looked at.
 fn fronts_of(alloc: Global, bytes: &[u8], command: &MachoCommand) -> Result<Vec<Front>, ArwenError>
     ensures ok { IfOk result (λ fronts.
-        Writes (outcome (macho_shown command.now) bytes.now) bytes.now fronts.items) }
+        Writes (macho_shown command.now) bytes.now fronts.items) }
     ensures err { IfErr result (λ e. Tells (outcome (macho_shown command.now) bytes.now) e) }
 {
     let edits = edits_asked(alloc, command)?;
@@ -123,25 +127,8 @@ pub(crate) fn patch_file<R: Files + AllocGlobal>(
     ensures ok { IfOk result (λ _. IsDone (macho_shown command.now)) }
     ensures err { IfErr result (λ e. MayFail (macho_shown command.now) e) }
 {
-    let store = FileStore::open(rt, command.path_to_binary())?;
-    patch_opened(rt.alloc(), store, command)
-}
-
-/// Edits a file that was opened, by the steps of `patch_store`. A call of that one has no generated proof
-/// at a store with lifetimes, since its error names another.
-fn patch_opened<R: Files>(
-    alloc: Global,
-    mut store: FileStore<'_, R>,
-    command: &MachoCommand,
-) -> Result<(), ArwenError>
-    ensures ok { IfOk result (λ _. IsDone (macho_shown command.now)) }
-    ensures err { IfErr result (λ e. MayFail (macho_shown command.now) e) }
-{
-    let mut bytes = load_up_to(alloc, &mut store, MOST_BYTES)?;
-    let fronts = fronts_of(alloc, bytes.as_slice(), command)?;
-    let pieces = changes_of(alloc, &mut bytes, fronts.as_slice())?;
-    write_changes_of(&mut store, bytes.len() as u64, pieces.as_slice())?;
-    Ok(())
+    let mut store = FileStore::open(rt, command.path_to_binary())?;
+    patch_store(rt.alloc(), &mut store, command)
 }
 
 /// Edits a Mach-O file in its place. Only bytes that change are written, and only after all of them

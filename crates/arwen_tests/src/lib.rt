@@ -1,4 +1,4 @@
-//! Tests of the commands that need a reader of their own, or faults that no file has. What lines mean, what
+//! Tests of the commands that need a reader or a store of their own, or faults that no file has. What lines mean, what
 //! commands do to files and what is printed is shown by the cases of `arwen_cases`.
 #![tactic(auto)]
 
@@ -6,3 +6,5 @@
 mod faults;
 #[cfg(test)]
 mod reading;
+#[cfg(test)]
+mod stores;

@@ -1,8 +1,8 @@
 //! Runs of writes: what lies behind the old end, the pieces, and a shorter length last.
-ghost use Rattle.std.specs.Prelude.{◌≡◌, ◌+◌, ◌++◌, ◌<◌, ◌≤◌, ◌^◌, [], All, IfErr, IfOk, IsOk, IsTrue, OnErr, OnOk, length, take};
+ghost use Rattle.std.specs.Prelude.{◌≡◌, ◌+◌, ◌++◌, ◌<◌, ◌≤◌, ◌^◌, [], All, IfErr, IfOk, IsTrue, OnErr, OnOk, length, take};
 ghost use Rattle.byte_store.specs.Known.{Becomes, HasLength, Puts, PutsFirst};
 ghost use Rattle.byte_store.specs.Laid.{Lays, LaysAndCuts, LaysFirst, LiesIn, changed, laid, patches_of};
-ghost use Rattle.byte_store.specs.Fault.{BecomesLaid, IsLeft, IsIdle};
+ghost use Rattle.byte_store.specs.Fault.{BecomesLaid, IsIdle, IsLeftBy, IsLeftByGrowth, IsOkAndSame};
 
 use crate::pieces::Piece;
 use crate::stores::Store;
@@ -69,9 +69,9 @@ pub fn write_changes<S: Store>(store: &mut S, changes: &Changes<'_>) -> Result<(
     ensures ok { OnOk result (Becomes
         (changed changes.now.growth.now (patches_of changes.now.pieces.now) changes.now.new_length)
         (S.contents store.old) (S.contents store.new)) }
-    ensures err { IfErr result (λ e. IsLeft e.left changes.now.growth.now (patches_of changes.now.pieces.now)
-        (S.contents store.old) (S.contents store.new)) }
-    ensures idle { IsIdle changes.now → IsOk result × (store.new ≡ store.old) }
+    ensures err { IfErr result (λ e.
+        IsLeftBy changes.now e.left (S.contents store.old) (S.contents store.new)) }
+    ensures idle { IsIdle changes.now → IsOkAndSame result store.old store.new }
 {
     grow(store, changes.old_length, changes.growth)?;
     let length = changes.old_length + changes.growth.len() as u64;
@@ -97,7 +97,7 @@ fn lay_and_cut<S: Store>(
         (S.contents store.old) (S.contents store.new)) }
     ensures err { OnErr result
         (LaysFirst (patches_of pieces.now) (S.contents store.old) (S.contents store.new)) }
-    ensures idle { length pieces.now ≡ 0 → len ≤ new_length → IsOk result × (store.new ≡ store.old) }
+    ensures idle { length pieces.now ≡ 0 → len ≤ new_length → IsOkAndSame result store.old store.new }
 {
     lay(store, pieces)?;
     if new_length < len {
@@ -116,7 +116,7 @@ pub fn write_pieces<S: Store>(store: &mut S, len: u64, pieces: &[Piece<'_>]) -> 
         (S.contents store.old) (S.contents store.new)) }
     ensures err { OnErr result (BecomesLaid (patches_of pieces.now)
         (S.contents store.old) (S.contents store.new)) }
-    ensures idle { length pieces.now ≡ 0 → IsOk result × (store.new ≡ store.old) }
+    ensures idle { length pieces.now ≡ 0 → IsOkAndSame result store.old store.new }
 {
     lay(store, pieces)
 }
@@ -129,7 +129,7 @@ fn lay<S: Store>(store: &mut S, pieces: &[Piece<'_>]) -> io::Result<()>
         (Lays (patches_of pieces.now) (S.contents store.old) (S.contents store.new)) }
     ensures err { OnErr result
         (LaysFirst (patches_of pieces.now) (S.contents store.old) (S.contents store.new)) }
-    ensures idle { length pieces.now ≡ 0 → IsOk result × (store.new ≡ store.old) }
+    ensures idle { length pieces.now ≡ 0 → IsOkAndSame result store.old store.new }
     ensures open { S.is_writable store.new ≡ S.is_writable store.old }
 {
     for piece in pieces {
@@ -145,8 +145,9 @@ fn grow<S: Store>(store: &mut S, old_length: u64, growth: &[u8]) -> Result<(), W
     requires fits { old_length + length growth.now < 2 ^ 64 }
     ensures ok { OnOk result (Becomes (λ bytes. bytes ++ growth.now)
         (S.contents store.old) (S.contents store.new)) }
-    ensures err { IfErr result (λ e. IsLeft e.left growth.now [] (S.contents store.old) (S.contents store.new)) }
-    ensures idle { length growth.now ≡ 0 → IsOk result × (store.new ≡ store.old) }
+    ensures err { IfErr result (λ e.
+        IsLeftByGrowth growth.now e.left (S.contents store.old) (S.contents store.new)) }
+    ensures idle { length growth.now ≡ 0 → IsOkAndSame result store.old store.new }
     ensures open { OnOk result (S.is_writable store.new ≡ S.is_writable store.old) }
 {
     match put_all(store, old_length, growth) {
@@ -169,8 +170,9 @@ fn put_all<S: Store>(store: &mut S, offset: u64, part: &[u8]) -> io::Result<()>
     requires open { IsTrue (S.is_writable store.old) }
     requires fits { offset + length part.now < 2 ^ 64 }
     ensures ok { OnOk result (Puts offset part.now (S.contents store.old) (S.contents store.new)) }
-    ensures err { OnErr result (PutsFirst offset part.now (S.contents store.old) (S.contents store.new)) }
-    ensures idle { length part.now ≡ 0 → IsOk result × (store.new ≡ store.old) }
+    ensures err { OnErr result
+        (PutsFirst offset part.now (S.contents store.old) (S.contents store.new)) }
+    ensures idle { length part.now ≡ 0 → IsOkAndSame result store.old store.new }
     ensures open { S.is_writable store.new ≡ S.is_writable store.old }
 {
     let mut done = 0;

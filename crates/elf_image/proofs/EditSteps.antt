@@ -1,5 +1,5 @@
 -- What a change of a `Vec` makes of the list that it shows.
-use Rattle.std.proofs.Common.{◌≡◌, ℕ, zero, suc, ◌+◌, ◌<◌, ◌≤◌, Bool, true, false, cond, List, [], ◌∷◌, ◌++◌, length, map, take, drop, get_or, refl, sym, ap, ◌∙◌, subst, Option, Some, None, arith}
+use Rattle.std.proofs.Common.{◌≡◌, ℕ, zero, suc, ◌+◌, ◌<◌, ◌≤◌, Bool, true, false, cond, List, [], ◌∷◌, ◌++◌, length, map, take, drop, get_or, refl, sym, ap, ◌∙◌, subst, Some, None, arith}
 use Rattle.std.specs.Prelude.{◌==◌, filter, if◌then◌else◌, not, position, slice_set}
 use Rattle.std.specs.List.{position_from, remove}
 use Rattle.std.proofs.lemmas.Iterator.Adapters.{position_from-zero}
@@ -89,6 +89,7 @@ none_seen {A} view zs h = none_from zs 0 (sym (position_from-zero (λ a. is_stac
         → cond b (Some i) (position_from (λ z. is_stack (view z)) (i + 1) rest) ≡ None → cond b (Some (view a)) (segment_of_type PT_GNU_STACK (map view rest)) ≡ None
     none_by a rest i true more e = absurd (none-some i (sym e))
     none_by a rest i false more e = more (i + 1) e
+
     none_from : (rest : List A) (i : ℕ) → position_from (λ a. is_stack (view a)) i rest ≡ None → segment_of_type PT_GNU_STACK (map view rest) ≡ None
     none_from [] i e = refl
     none_from (a ∷ rest) i e = none_by a rest i (is_stack (view a)) (none_from rest) e
@@ -122,6 +123,7 @@ without_kept (z ∷ zs) tag = by_tag z zs tag (without_kept zs tag)
     split : (b : Bool) (z : Dynamic) (kept : List Dynamic) (rest : List Entry) → map entry_kept kept ≡ rest → map entry_kept (if b then z ∷ kept else kept) ≡ (if b then entry_kept z ∷ rest else rest)
     split true z kept rest h = ap (λ xs. entry_kept z ∷ xs) h
     split false z kept rest h = h
+
     by_tag : (z : Dynamic) (zs : List Dynamic) (tag : ℕ) → map entry_kept (filter (λ e. not (tag_of e == tag)) zs) ≡ without_tag tag (map entry_kept zs)
         → map entry_kept (filter (λ e. not (tag_of e == tag)) (z ∷ zs)) ≡ without_tag tag (map entry_kept (z ∷ zs))
     by_tag (kinds.Auto t) zs tag h = split (not (t == tag)) (kinds.Auto t) _ _ h

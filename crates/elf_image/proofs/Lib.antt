@@ -4,3 +4,8 @@ pub mod WalkSteps
 pub mod VersionSteps
 pub mod TextSteps
 pub mod EditSteps
+pub mod ReadImageLaws
+pub mod EditedLaws
+pub mod SegmentsKept
+pub mod EntriesKept
+pub mod Kept

@@ -1,6 +1,6 @@
 -- The reader goes through the read rules in stages: which stage's fault is the answer.
 use Rattle.std.proofs.Common.{◌≡◌, ℕ, List, [], ◌∷◌, Bool, true, false, Option, Some, None, Result, Ok, Err, refl, sym, ap, ◌∙◌, inl, inr}
-use Rattle.std.specs.Prelude.{MatchResult, is_some}
+use Rattle.std.specs.Prelude.{is_some}
 use Rattle.elf_format.specs.declared.fault.ElfFault.{ElfFault}
 use Rattle.elf_format.specs.declared.fault.ElfFault.TheVariants as faults
 use Rattle.elf_format.specs.declared.fault.ElfFault.TheVariants.{BadText}
@@ -116,9 +116,11 @@ module _ (file : List ℕ) (p : Parts) (there : parts_read file ≡ Ok p) where
       groups : there_or BadText (image_in p) ≡ there_or BadText (image_by_groups p)
       groups = ap (there_or BadText) (image_in-groups p)
 
-      pub texts_answer : (r : Result Image ElfFault) → TextsRead p r → MatchResult r (λ b. image_of file ≡ Ok b) (λ e. (e ≡ faults.Memory → ⊥) → image_of file ≡ Err e)
-      texts_answer (Ok image) h = all_read image (groups ∙ h.0) h.1
-      texts_answer (Err e) h = elim h [
+      pub texts_read : {X : Type 0} → (view : X → Image) (x : X) → TextsRead view p (Ok x) → image_of file ≡ Ok (view x)
+      texts_read view x h = all_read (view x) (groups ∙ h.0) h.1
+
+      pub no_image : {X : Type 0} → (view : X → Image) (e : ElfFault) → TextsRead view p (Err e) → (e ≡ faults.Memory → ⊥) → image_of file ≡ Err e
+      no_image view e h = elim h [
         | inl refused ↦ λ other. texts_refused e (groups ∙ refused_is e (there_or BadText (image_by_groups p)) refused other)
         | inr late ↦ λ other. last_refused late.0 (groups ∙ late.1) e (refused_is e (checked last_rules p) late.2 other)
       ]

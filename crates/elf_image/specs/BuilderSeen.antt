@@ -3,6 +3,7 @@ use Rattle.std.specs.Prelude.{map}
 use Rattle.std.specs.Option.{option_map}
 use Rattle.elf_image.specs.declared.builder.Builder.TheInside.{Inside}
 use Rattle.elf_format.specs.Image.{Image}
+use Rattle.elf_image.specs.Edited.{IsEdited}
 use Rattle.elf_image.specs.ImageSeen.{definition_kept, entry_kept, needs_kept, section_kept, segment_kept, symbol_kept}
 
 abbrev pub image_kept : Inside → Image
@@ -24,3 +25,7 @@ image_kept b = record {
   dynamic_symbol_numbers = b.dynamic_symbol_numbers.items;
   page_size = b.page_size;
 }
+
+-- what a builder holds is an image that was read, and edited
+abbrev pub IsKept : Inside → Type 0
+IsKept b = IsEdited (image_kept b)

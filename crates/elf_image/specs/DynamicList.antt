@@ -1,5 +1,5 @@
 -- What stands in a dynamic list before its DT_NULL, and changes of one (gABI, Dynamic Section).
-use Rattle.std.specs.Prelude.{ℕ, zero, suc, ◌≡◌, ◌≢◌, ◌-◌, List, [], ◌∷◌, length, map, filter, take, Bool, true, false, not, ◌&&◌, ◌||◌, ◌==◌, Option, Some, None, IsTrue, if◌then◌else◌}
+use Rattle.std.specs.Prelude.{ℕ, zero, suc, ◌≡◌, ◌≢◌, ◌-◌, List, [], ◌∷◌, length, map, filter, take, Bool, true, not, ◌&&◌, ◌||◌, ◌==◌, Option, Some, None, IsTrue, if◌then◌else◌}
 use Rattle.std.specs.List.{filter_map, list_any, slice_get}
 use Rattle.patch_bytes.specs.Memory.{◌>>=◌}
 use Rattle.elf_format.specs.declared.constants.TheConstants.{DT_NULL}
@@ -75,9 +75,9 @@ is_free_tag tag = not (is_table_tag tag)
 abbrev pub can_delete : Option (List Entry) → ℕ → Bool
 can_delete entries i = is_some_and is_free_tag (tag_at entries i)
 
--- the one tag may take the other's place: both stand before texts, or both before numbers
+-- the one tag may take the other's place: neither is a table's, and both stand before texts or neither does
 abbrev pub can_follow : ℕ → ℕ → Bool
-can_follow new old = not (new == DT_NULL) && (is_text_tag old && is_text_tag new || is_number_tag old && is_number_tag new)
+can_follow new old = not (new == DT_NULL) && (is_free_tag old && (is_free_tag new && (if is_text_tag old then is_text_tag new else not (is_text_tag new))))
 
 -- the entry at a position may get this tag
 abbrev pub can_retag : Option (List Entry) → ℕ → ℕ → Bool

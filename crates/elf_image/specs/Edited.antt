@@ -1,5 +1,5 @@
 -- What an image is: one that was read from its source, with those changes that the calls of `Builder` can make.
-use Rattle.std.specs.Prelude.{ℕ, ◌≡◌, ◌≢◌, ◌<◌, ◌⊎◌, List, [], ◌∷◌, ◌++◌, length, slice_index, map, All, Bool, true, false, not, ◌==◌, if◌then◌else◌, IsTrue, IsSome, Option, Some, None, unwrap_or, Ok}
+use Rattle.std.specs.Prelude.{ℕ, ◌≡◌, ◌≢◌, ◌<◌, ◌⊎◌, List, [], ◌∷◌, ◌++◌, length, slice_index, All, false, not, ◌==◌, if◌then◌else◌, IsTrue, IsSome, Option, Some, None, unwrap_or, Ok}
 use Rattle.std.specs.List.{slice_get}
 use Rattle.std.specs.Option.{option_map, option_to_list}
 use Rattle.elf_format.specs.declared.constants.TheConstants.{PT_GNU_STACK, PT_LOAD}

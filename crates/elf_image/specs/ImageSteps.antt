@@ -15,10 +15,11 @@ use Rattle.elf_format.specs.Stages.{last_rules, link_rules}
 use Rattle.elf_format.specs.Versions.{VersionDefinition, VersionNeeds}
 use Rattle.elf_format.specs.Views.{NamedSymbol}
 use Rattle.elf_rules.specs.Read.{Refuses}
+use Rattle.elf_image.specs.declared.read.Gathered.{Gathered}
 use Rattle.elf_image.specs.declared.read.Listed.{Listed}
 use Rattle.elf_image.specs.declared.read.Named.{Named}
 use Rattle.elf_image.specs.declared.read.Numbers.{Numbers}
-use Rattle.elf_image.specs.ImageSeen.{definition_kept, entry_kept, needs_kept, section_kept, symbol_kept}
+use Rattle.elf_image.specs.ImageSeen.{definition_kept, entry_kept, needs_kept, section_kept, segment_kept, symbol_kept}
 
 -- the sections and symbols of an image
 pub record NamedParts : Type 0 where
@@ -95,7 +96,28 @@ abbrev pub LinksRead : Parts → Result (Vec SectionData) ElfFault → Type 0
 LinksRead p (Ok kinds) = (checked link_rules p ≡ Ok p) × (kinds.items ≡ map (data_of p) p.sections)
 LinksRead p (Err e) = Refuses e (checked link_rules p)
 
--- the image, and that the last rules hold; or that a text isn't there, or the first fault of those rules
-abbrev pub TextsRead : Parts → Result Image ElfFault → Type 0
-TextsRead p (Ok image) = (there_or BadText (image_by_groups p) ≡ Ok image) × (checked last_rules p ≡ Ok p)
-TextsRead p (Err e) = Refuses e (there_or BadText (image_by_groups p)) ⊎ ((image : Image) × (there_or BadText (image_by_groups p) ≡ Ok image) × Refuses e (checked last_rules p))
+-- the image that has these parts, as far as they are kept apart
+abbrev pub image_gathered : Parts → Gathered → Image
+image_gathered p g = record {
+  source = file_of p;
+  changed = false;
+  form = p.opened.form;
+  header = header_kept p.opened.header;
+  segments = map segment_kept g.segments.items;
+  sections = map section_kept g.named.sections.items;
+  symbols = map symbol_kept g.named.symbols.items;
+  dynamic_symbols = map symbol_kept g.named.dynamic_symbols.items;
+  definitions = map definition_kept g.listed.versions.definitions.items;
+  needs = map needs_kept g.listed.versions.needs.items;
+  entries = option_map (λ list. map entry_kept list.items) g.listed.dynamic;
+  interpreter = g.interpreter;
+  section_numbers = g.numbers.sections.items;
+  symbol_numbers = g.numbers.symbols.items;
+  dynamic_symbol_numbers = g.numbers.dynamic_symbols.items;
+  page_size = None;
+}
+
+-- the image, seen by view, and that the last rules hold; or that a text isn't there, or the first fault of those rules
+abbrev pub TextsRead : {X : Type 0} → (X → Image) → Parts → Result X ElfFault → Type 0
+TextsRead view p (Ok x) = (there_or BadText (image_by_groups p) ≡ Ok (view x)) × (checked last_rules p ≡ Ok p)
+TextsRead view p (Err e) = Refuses e (there_or BadText (image_by_groups p)) ⊎ ((image : Image) × (there_or BadText (image_by_groups p) ≡ Ok image) × Refuses e (checked last_rules p))

@@ -17,8 +17,6 @@ pub mod BuilderSeen
 pub mod DynamicTag
 pub mod DynamicList
 pub mod Segments
-pub mod Lending
-pub mod LendingFlags
 pub mod Edited
 pub mod ReadImage
 pub mod Machine

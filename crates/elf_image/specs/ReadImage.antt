@@ -5,10 +5,10 @@ use Rattle.patch_bytes.specs.Memory.{Memory, text_at}
 use Rattle.elf_format.specs.declared.constants.TheConstants.{SHT_DYNAMIC, SHT_DYNSYM, SHT_GNU_VERDEF, SHT_GNU_VERNEED, SHT_GNU_VERSYM, SHT_SYMTAB}
 use Rattle.elf_format.specs.declared.version_id.VersionId.{VersionId}
 use Rattle.elf_format.specs.File.{Parts, linked_section, section_bytes, section_of_type}
-use Rattle.elf_format.specs.Image.{Image, ImageSection, counted, definitions_read, dynamic_symbols_read, entries_read, header_kept, image_of, interpreter_read, needs_read, section_name, symbols_of, versions_read}
+use Rattle.elf_format.specs.Image.{Image, ImageSection, counted, definitions_read, entries_read, header_kept, image_of, interpreter_read, needs_read, section_name, symbols_of, versions_read}
 use Rattle.elf_format.specs.declared.records.SectionHeader.{SectionHeader}
 use Rattle.elf_format.specs.declared.records.SymbolNumbers.{SymbolNumbers}
-use Rattle.elf_format.specs.Rules.{IsAcceptedWith, accepted_parts, data_of, dynamic_texts_of, file_of, texts_of}
+use Rattle.elf_format.specs.Rules.{ArePartsOf, MeetsRules, accepted_parts, data_of, dynamic_texts_of, file_of, texts_of}
 use Rattle.elf_format.specs.Views.{NamedSymbol}
 use Rattle.elf_image.specs.TextSteps.{kept_as}
 
@@ -85,4 +85,4 @@ pub record HoldsParts (p : Parts) (image : Image) : Type 0 where
 -- The image of an accepted file holds its parts, of which each read rule is true.
 abbrev pub ReadImagesHoldParts : Type 0
 ReadImagesHoldParts =
-    (file : List ℕ) (image : Image) → image_of file ≡ Ok image → (p : Parts) × (accepted_parts file ≡ Ok p) × IsAcceptedWith file p × HoldsParts p image
+    (file : List ℕ) (image : Image) → image_of file ≡ Ok image → (p : Parts) × (accepted_parts file ≡ Ok p) × ArePartsOf file p × MeetsRules p × HoldsParts p image

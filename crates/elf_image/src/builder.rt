@@ -44,9 +44,15 @@ impl<'data> Model for Builder<'data> {
     ghost use Rattle.elf_image.specs.BuilderSeen.{image_kept};
 
     ghost view = { image_kept };
+
+    ghost use Rattle.elf_image.specs.BuilderSeen.{IsKept};
+
+    ghost invariant = { IsKept };
 }
 
 impl<'data> Builder<'data> {
+    ghost use Rattle.elf_image.specs.Edited.{IsEdited};
+
     /// The class (gABI, ELF Identification, `EI_CLASS`). Takes no memory.
     pub fn class(&self) -> Wide
         ensures { result ≡ self.now.form.wide }
@@ -145,14 +151,16 @@ impl<'data> Builder<'data> {
 
     /// The file's bytes as read. Takes no memory.
     pub fn source(&self) -> &'data [u8]
-        ensures { result.now ≡ self.now.source }
+        ensures source { result.now ≡ self.now.source }
+        // what every image is: one that was read from these bytes, and edited
+        ensures edited { IsEdited self.now }
     {
         self.source
     }
 
     /// The number that the section at a position had at read. Takes no memory.
     pub fn read_section(&self, i: usize) -> usize
-        requires { i < length self.now.section_numbers }
+        requires { i < length self.now.sections }
         ensures { result ≡ slice_index self.now.section_numbers i }
     {
         self.section_numbers[i]
@@ -160,7 +168,7 @@ impl<'data> Builder<'data> {
 
     /// The number that the symbol for a link editor at a position had at read. Takes no memory.
     pub fn read_symbol(&self, i: usize) -> usize
-        requires { i < length self.now.symbol_numbers }
+        requires { i < length self.now.symbols }
         ensures { result ≡ slice_index self.now.symbol_numbers i }
     {
         self.symbol_numbers[i]
@@ -168,7 +176,7 @@ impl<'data> Builder<'data> {
 
     /// The number that the symbol for a loader at a position had at read. Takes no memory.
     pub fn read_dynamic_symbol(&self, i: usize) -> usize
-        requires { i < length self.now.dynamic_symbol_numbers }
+        requires { i < length self.now.dynamic_symbols }
         ensures { result ≡ slice_index self.now.dynamic_symbol_numbers i }
     {
         self.dynamic_symbol_numbers[i]

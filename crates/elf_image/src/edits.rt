@@ -34,8 +34,8 @@ impl<'data> Builder<'data> {
     pub fn delete_dynamic(&mut self, index: usize)
         requires { IsTrue (can_delete self.old.entries index) }
         ensures { self.new ≡ record self.old {
-            changed = true;
-            entries = option_map (λ list. remove list index) self.old.entries;
+          changed = true;
+          entries = option_map (λ list. remove list index) self.old.entries;
         } }
     {
         self.changed = true;
@@ -49,8 +49,8 @@ impl<'data> Builder<'data> {
     pub fn delete_dynamic_tag(&mut self, tag: u64)
         requires { IsTrue (is_free_tag tag) }
         ensures { self.new ≡ record self.old {
-            changed = true;
-            entries = option_map (without_tag tag) self.old.entries;
+          changed = true;
+          entries = option_map (without_tag tag) self.old.entries;
         } }
     {
         self.changed = true;
@@ -65,8 +65,8 @@ impl<'data> Builder<'data> {
     pub fn retag(&mut self, index: usize, tag: u64)
         requires { IsTrue (can_retag self.old.entries index tag) }
         ensures { self.new ≡ record self.old {
-            changed = true;
-            entries = option_map (with_tag_at index tag) self.old.entries;
+          changed = true;
+          entries = option_map (with_tag_at index tag) self.old.entries;
         } }
     {
         self.changed = true;
@@ -81,8 +81,8 @@ impl<'data> Builder<'data> {
     pub fn retag_all(&mut self, old: u64, new: u64)
         requires { IsTrue (can_follow new old) }
         ensures { self.new ≡ record self.old {
-            changed = true;
-            entries = option_map (retagged old new) self.old.entries;
+          changed = true;
+          entries = option_map (retagged old new) self.old.entries;
         } }
     {
         self.changed = true;
@@ -106,8 +106,8 @@ impl<'data> Builder<'data> {
     /// Sets the byte that tells the ABI (gABI, ELF Identification, `EI_OSABI`). Takes no memory.
     pub fn set_os_abi(&mut self, byte: u8)
         ensures { self.new ≡ record self.old {
-            changed = true;
-            header = record self.old.header { os_abi = byte };
+          changed = true;
+          header = record self.old.header { os_abi = byte };
         } }
     {
         self.header.os_abi = byte;
@@ -117,9 +117,9 @@ impl<'data> Builder<'data> {
     /// Sets the page size, in bytes: each PT_LOAD gets it as its alignment (gABI, Program Header). Takes no memory.
     pub fn set_load_align(&mut self, size: u32)
         ensures { self.new ≡ record self.old {
-            changed = true;
-            segments = with_load_align size self.old.segments;
-            page_size = some size;
+          changed = true;
+          segments = with_load_align size self.old.segments;
+          page_size = some size;
         } }
     {
         align_loads(&mut self.segments, u64::from(size));
@@ -139,8 +139,8 @@ impl<'data> Builder<'data> {
     pub fn set_stack_flags(&mut self, flags: u32)
         requires { IsSome (segment_of_type STACK self.old.segments) }
         ensures { self.new ≡ record self.old {
-            changed = true;
-            segments = with_stack_flags flags self.old.segments;
+          changed = true;
+          segments = with_stack_flags flags self.old.segments;
         } }
     {
         flag_stack(&mut self.segments, flags);
@@ -153,8 +153,8 @@ impl<'data> Builder<'data> {
         requires { segment_of_type STACK self.old.segments ≡ none }
         ensures { MatchResult result
             (λ _. self.new ≡ record self.old {
-                changed = true;
-                segments = with_stack_added flags self.old.segments;
+              changed = true;
+              segments = with_stack_added flags self.old.segments;
             })
             (λ _. self.new ≡ self.old) }
     {

@@ -5,6 +5,7 @@
 pub mod builder;
 pub mod dynamic;
 mod edits;
+pub mod laws;
 pub mod machine;
 mod read;
 pub mod section;
@@ -19,4 +20,6 @@ pub use crate::section::Section;
 pub use crate::segment::Segment;
 pub use crate::symbol::Symbol;
 pub use crate::version::{VersionDef, VersionNeed, VersionNeedName, Versions};
-pub use elf_format::{ElfFault, Form, Header, SectionData, VersionId, constants, laws, records};
+pub use elf_format::{
+    ElfFault, Form, Header, SectionData, VersionId, constants, laws as format_laws, records,
+};

@@ -1,7 +1,8 @@
 //! The reader: the read rules in their order, each in time in proportion to what it looks at.
 ghost use Rattle.std.specs.Prelude.{◌≡◌, ◌≢◌, Ok, Err, MatchResult, All, map, IfOk};
 ghost use Rattle.elf_format.specs.Image.{header_kept, image_of, interpreter_read};
-ghost use Rattle.elf_image.specs.ImageSteps.{AreNumbered, LinksRead, TextsRead, image_built, image_by_groups, listed_in, listed_kept, named_in, named_kept};
+ghost use Rattle.elf_image.specs.ImageSteps.{AreNumbered, LinksRead, TextsRead, image_built, image_by_groups, image_gathered, listed_in, listed_kept, named_in, named_kept};
+ghost use Rattle.elf_image.specs.Edited.{IsEdited};
 ghost use Rattle.elf_image.specs.ImageSeen.{segment_kept};
 ghost use Rattle.elf_format.specs.Answers.{Gives, borrowed};
 ghost use Rattle.elf_format.specs.Stages.{last_rules};
@@ -170,38 +171,39 @@ fn numbers_at_read(alloc: Global, named: &Named<'_>) -> Result<Numbers, AllocErr
     })
 }
 
-// The image that has these parts.
-fn builder<'data>(
+// What is kept of a file besides its header tables.
+#[derive(Drop)]
+pub(crate) struct Gathered<'data> {
+    segments: Vec<Segment<'data>>,
+    named: Named<'data>,
+    listed: Listed<'data>,
+    interpreter: Option<ByteString<'data>>,
+    numbers: Numbers,
+}
+
+// These parts together.
+fn gather<'data>(
     parts: &Headers<'data>,
     segments: Vec<Segment<'data>>,
     named: Named<'data>,
     listed: Listed<'data>,
     numbers: Numbers,
-) -> Builder<'data>
+) -> Gathered<'data>
     requires segments { map segment_kept segments.items ≡ parts.now.segments.items }
     requires numbered { AreNumbered named numbers }
-    ensures { result ≡ image_built (parts_seen parts.now) named.entry listed.entry }
+    ensures { image_gathered (parts_seen parts.now) result
+        ≡ image_built (parts_seen parts.now) named.entry listed.entry }
 {
-    Builder {
-        source: parts.file,
-        changed: false,
-        form: parts.form,
-        header: header(parts.header),
+    Gathered {
         segments,
-        sections: named.sections,
-        symbols: named.symbols,
-        dynamic_symbols: named.dynamic_symbols,
-        versions: listed.versions,
-        dynamic: listed.dynamic,
+        named,
+        listed,
         interpreter: interpreter_kept(parts),
-        section_numbers: numbers.sections,
-        symbol_numbers: numbers.symbols,
-        dynamic_symbol_numbers: numbers.dynamic_symbols,
-        page_size: None,
+        numbers,
     }
 }
 
-// The file's image, absent where a text isn't there.
+// The file's image in its parts, absent where a text isn't there.
 #[tactic(auto, unfolding(crate::specs::ImageSteps::image_by_groups))]
 fn image<'data>(
     alloc: Global,
@@ -210,18 +212,19 @@ fn image<'data>(
     kinds: &[SectionData],
     defined: &DefinitionWalk,
     needed: &NeedWalk,
-) -> Result<Builder<'data>, ViewFault>
+) -> Result<Gathered<'data>, ViewFault>
     requires kinds { kinds.now ≡ map (data_of (parts_seen parts.now)) parts.now.sections.items }
     requires raw { raw.now ≡ entries_of (parts_seen parts.now) }
     requires defined { AreDefinitions (parts_seen parts.now) defined.now }
     requires needed { AreNeeds (parts_seen parts.now) needed.now }
-    ensures { Gives (λ b. b) result (image_by_groups (parts_seen parts.now)) }
+    ensures { Gives (image_gathered (parts_seen parts.now)) result
+        (image_by_groups (parts_seen parts.now)) }
 {
     let named = named_parts(alloc, parts, raw, kinds)?;
     let listed = listed_parts(alloc, parts, raw, defined, needed)?;
     let numbers = numbers_at_read(alloc, &named)?;
     let segments = segments(alloc, &parts.segments)?;
-    Ok(builder(parts, segments, named, listed, numbers))
+    Ok(gather(parts, segments, named, listed, numbers))
 }
 
 // The interpreter's bytes.
@@ -252,7 +255,7 @@ fn check_last(
     Ok(())
 }
 
-// The file's image, or that a text isn't there.
+// The file's image in its parts, or that a text isn't there.
 fn image_or_fault<'data>(
     alloc: Global,
     parts: &Headers<'data>,
@@ -260,12 +263,13 @@ fn image_or_fault<'data>(
     kinds: &[SectionData],
     defined: &DefinitionWalk,
     needed: &NeedWalk,
-) -> Result<Builder<'data>, ElfFault>
+) -> Result<Gathered<'data>, ElfFault>
     requires kinds { kinds.now ≡ map (data_of (parts_seen parts.now)) parts.now.sections.items }
     requires raw { raw.now ≡ entries_of (parts_seen parts.now) }
     requires defined { AreDefinitions (parts_seen parts.now) defined.now }
     requires needed { AreNeeds (parts_seen parts.now) needed.now }
-    ensures { Reads (λ b. b) result (there_or BadText (image_by_groups (parts_seen parts.now))) }
+    ensures { Reads (image_gathered (parts_seen parts.now)) result
+        (there_or BadText (image_by_groups (parts_seen parts.now))) }
 {
     match image(alloc, parts, raw, kinds, defined, needed) {
         Ok(image) => Ok(image),
@@ -288,22 +292,46 @@ fn linked_kinds(
     Ok(kinds(alloc, parts, &checked)?)
 }
 
-// The file's image, where its texts are there and the last rules hold.
+// The file's image in its parts, where its texts are there and the last rules hold.
 fn image_and_last<'data>(
     alloc: Global,
     parts: &Headers<'data>,
     raw: &[EntryNumbers],
     kinds: &[SectionData],
-) -> Result<Builder<'data>, ElfFault>
+) -> Result<Gathered<'data>, ElfFault>
     requires kinds { kinds.now ≡ map (data_of (parts_seen parts.now)) parts.now.sections.items }
     requires raw { raw.now ≡ entries_of (parts_seen parts.now) }
-    ensures { TextsRead (parts_seen parts.now) result }
+    ensures { TextsRead (image_gathered (parts_seen parts.now)) (parts_seen parts.now) result }
 {
     let defined = walk_definitions(alloc, parts)?;
     let needed = walk_needs(alloc, parts)?;
     let image = image_or_fault(alloc, parts, raw, kinds, &defined, &needed)?;
     check_last(alloc, parts, &defined, &needed)?;
     Ok(image)
+}
+
+// The image that has these parts.
+fn builder<'data>(parts: &Headers<'data>, gathered: Gathered<'data>) -> Builder<'data>
+    requires { IsEdited (image_gathered (parts_seen parts.now) gathered) }
+    ensures { result ≡ image_gathered (parts_seen parts.now) gathered.entry }
+{
+    Builder {
+        source: parts.file,
+        changed: false,
+        form: parts.form,
+        header: header(parts.header),
+        segments: gathered.segments,
+        sections: gathered.named.sections,
+        symbols: gathered.named.symbols,
+        dynamic_symbols: gathered.named.dynamic_symbols,
+        versions: gathered.listed.versions,
+        dynamic: gathered.listed.dynamic,
+        interpreter: gathered.interpreter,
+        section_numbers: gathered.numbers.sections,
+        symbol_numbers: gathered.numbers.symbols,
+        dynamic_symbol_numbers: gathered.numbers.dynamic_symbols,
+        page_size: None,
+    }
 }
 
 impl<'data> Builder<'data> {
@@ -318,6 +346,7 @@ impl<'data> Builder<'data> {
         check_placement(alloc, &parts)?;
         let raw = raw_entries(alloc, &parts)?;
         let kinds = linked_kinds(alloc, &parts, &raw)?;
-        image_and_last(alloc, &parts, &raw, &kinds)
+        let gathered = image_and_last(alloc, &parts, &raw, &kinds)?;
+        Ok(builder(&parts, gathered))
     }
 }

@@ -85,16 +85,4 @@ impl Segment<'_> {
             self.numbers.p_align = align;
         }
     }
-
-    ghost use Rattle.std.specs.Borrow.{sem};
-    ghost use Rattle.elf_image.specs.LendingFlags.{LendsFlags};
-
-    // Lends the flags.
-    pub(crate) fn flags_mut(&mut self) -> &mut u32
-        ensures* lends { sem 𝓛 (LendsFlags self.entry result) }
-        ensures value { result.now ≡ (segment_kept self.old).p_flags }
-    {
-        let numbers = &mut self.numbers;
-        &mut numbers.p_flags
-    }
 }

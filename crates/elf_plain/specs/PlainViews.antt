@@ -1,5 +1,5 @@
 -- What the answers of plain readers show.
-use Rattle.std.specs.Prelude.{◌≡◌, ◌+◌, ◌≤◌, ◌⊎◌, true, false, Result, Ok, Err, ℕ, length, Bool, ◌==◌, List, map, Option, None, Some, if◌then◌else◌, is_some, option_map}
+use Rattle.std.specs.Prelude.{Bool, Err, List, None, Ok, Option, Result, Some, false, if◌then◌else◌, is_some, length, map, option_map, true, ℕ, ◌&&◌, ◌+◌, ◌/◌, ◌==◌, ◌≡◌, ◌≤◌, ◌⊎◌}
 use Rattle.std.specs.Global.{Vec}
 use Rattle.elf_plain.specs.declared.source.Loaded.{Loaded}
 use Rattle.elf_plain.specs.declared.source.Source.{Source}
@@ -14,20 +14,25 @@ use Rattle.elf_plain.specs.declared.view.ShownNeeds.{ShownNeeds}
 use Rattle.elf_plain.specs.declared.view.ShownSymbol.{ShownSymbol}
 use Rattle.elf_plain.specs.declared.view.Outline.{Outline}
 use Rattle.elf_plain.specs.declared.view.ShownView.{ShownView}
-use Rattle.elf_format.specs.declared.constants.TheConstants.{DT_SYMENT, PT_INTERP}
+use Rattle.elf_format.specs.declared.constants.TheConstants.{DT_SYMENT, DT_SYMTAB, DT_VERDEF, DT_VERDEFNUM, DT_VERNEED, DT_VERNEEDNUM, DT_VERSYM, PT_INTERP, SHT_DYNSYM}
 use Rattle.elf_format.specs.File.{bytes_in, segment_of_type}
 use Rattle.elf_format.specs.declared.form.Form.{Form}
 use Rattle.elf_format.specs.Options.{is_none_or, where_asked}
 use Rattle.elf_format.specs.declared.records.EntryNumbers.{EntryNumbers}
 use Rattle.elf_format.specs.declared.records.SegmentHeader.{SegmentHeader}
 use Rattle.elf_format.specs.Records.{symbol_size}
-use Rattle.elf_format.specs.Views.{NamedSymbol, Table, Tables, View, byte_at, first_by_tag, memory_at_tag, tables_by_tags, view_of}
+use Rattle.elf_format.specs.Views.{NamedSymbol, Table, Tables, View, byte_at, defined_versions, dynamic_symbols, first_by_tag, memory_at_tag, needed_versions, section_table, tables_by_tags, view_of}
 use Rattle.patch_bytes.specs.Memory.{◌>>=◌, Memory, from, memory_of}
-use Rattle.elf_format.specs.Answers.{borrowed}
+use Rattle.elf_format.specs.Answers.{borrowed, chain, whole_step}
+use Rattle.elf_format.specs.Seen.{raw_definition, raw_needs}
+use Rattle.elf_format.specs.declared.records.NeedNameNumbers.{NeedNameNumbers}
+use Rattle.elf_format.specs.declared.records.SectionHeader.{SectionHeader}
+use Rattle.elf_format.specs.declared.versions.RawDefinition.{RawDefinition}
+use Rattle.elf_format.specs.declared.versions.RawNeeds.{RawNeeds}
 use Rattle.elf_format.specs.declared.view_fault.ViewFault.{ViewFault}
 use Rattle.elf_format.specs.declared.view_fault.ViewFault.TheVariants as faults
-use Rattle.elf_format.specs.Versions.{VersionDefinition, VersionName, VersionNeeds}
-use Rattle.elf_format.specs.Dynamic.{Auto, Entry, Integer, Text, entries_at, value_of_tag}
+use Rattle.elf_format.specs.Versions.{DefinitionNumbers, NeedNumbers, Step, VersionDefinition, VersionName, VersionNeeds, definition_at, definition_name_at, need_at, need_name_at}
+use Rattle.elf_format.specs.Dynamic.{Auto, Entry, Integer, Text, entries_at, has_tag, value_of_tag}
 
 -- a text that was copied
 abbrev pub text_seen : Vec ℕ → List ℕ
@@ -75,6 +80,32 @@ needs_seen n = record { file = n.file.items; versions = map name_seen n.versions
 abbrev pub symbol_seen : ShownSymbol → NamedSymbol
 symbol_seen y = record { name = y.name.items; st_info = y.st_info; st_other = y.st_other; st_shndx = y.st_shndx; st_value = y.st_value; st_size = y.st_size; version = y.version }
 
+-- lists of these, in the order in which they stand in a `Vec`
+abbrev pub texts_seen : Vec (Vec ℕ) → List (List ℕ)
+texts_seen v = map text_seen v.items
+
+abbrev pub entries_seen : Vec EntryView → List Entry
+entries_seen v = map entry_viewed v.items
+
+abbrev pub definitions_seen : Vec ShownDefinition → List VersionDefinition
+definitions_seen v = map definition_seen v.items
+
+abbrev pub names_seen : Vec ShownName → List VersionName
+names_seen v = map name_seen v.items
+
+abbrev pub libraries_seen : Vec ShownNeeds → List VersionNeeds
+libraries_seen v = map needs_seen v.items
+
+abbrev pub symbols_seen : Vec ShownSymbol → List NamedSymbol
+symbols_seen v = map symbol_seen v.items
+
+-- version records as they were read, whose texts aren't looked up yet
+abbrev pub raw_definitions : Vec RawDefinition → List DefinitionNumbers
+raw_definitions v = map raw_definition v.items
+
+abbrev pub raw_libraries : Vec RawNeeds → List NeedNumbers
+raw_libraries v = map raw_needs v.items
+
 -- what is shown besides the list
 abbrev pub outline_seen : Outline → View
 outline_seen o = record {
@@ -107,13 +138,56 @@ loaded_interpreter_of file segments = where_asked (is_some (segment_of_type PT_I
 abbrev pub holds_symbol_size : Form → List EntryNumbers → Bool
 holds_symbol_size form raw = is_none_or (λ size. size == symbol_size form) (value_of_tag DT_SYMENT raw)
 
--- the loader's view, by what the program headers show and by the dynamic segment
+-- the loader's view, by what the program headers show and by the dynamic segment, where there is one
 abbrev pub loaded_by_dynamic : Form → List ℕ → View → List SegmentHeader → ℕ → Option SegmentHeader → Option View
 loaded_by_dynamic form file outline segments symbol_count None = Some outline
 loaded_by_dynamic form file outline segments symbol_count (Some list) =
     entries_at (length file) form (from (byte_at segments file) list.p_vaddr) 0 >>= λ raw. if holds_symbol_size form raw
     then view_of form (length file) outline raw (tables_by_tags (byte_at segments file) symbol_count raw)
     else None
+
+-- the records of a chain, one behind the other, as a source shows them
+abbrev pub definition_names_from : Form → Source → ℕ → ℕ → Option (List ℕ)
+definition_names_from form source count start = chain (definition_name_at form (source_seen source)) count start
+
+abbrev pub need_names_from : Form → Source → ℕ → ℕ → Option (List NeedNameNumbers)
+need_names_from form source count start = chain (need_name_at form (source_seen source)) count start
+
+abbrev pub definitions_from : Form → Source → ℕ → Option (List DefinitionNumbers)
+definitions_from form source count = chain (definition_at form (source_seen source)) count 0
+
+abbrev pub needs_from : Form → Source → ℕ → Option (List NeedNumbers)
+needs_from form source count = chain (need_at form (source_seen source)) count 0
+
+-- the record at a place of a source, with all that it leads to
+abbrev pub definition_name_in : Form → Source → ℕ → Option (Step ℕ)
+definition_name_in form source place = whole_step (definition_name_at form (source_seen source) place)
+
+abbrev pub need_name_in : Form → Source → ℕ → Option (Step NeedNameNumbers)
+need_name_in form source place = whole_step (need_name_at form (source_seen source) place)
+
+abbrev pub definition_in : Form → Source → ℕ → Option (Step DefinitionNumbers)
+definition_in form source place = whole_step (definition_at form (source_seen source) place)
+
+abbrev pub need_in : Form → Source → ℕ → Option (Step NeedNumbers)
+need_in form source place = whole_step (need_at form (source_seen source) place)
+
+-- what a list of entries asks for: the symbols, the defined and the needed versions
+abbrev pub symbols_asked : Form → ℕ → List EntryNumbers → Tables → Option (Option (List NamedSymbol))
+symbols_asked form room raw tables =
+    where_asked (has_tag DT_SYMTAB raw) (dynamic_symbols form room (has_tag DT_VERSYM raw) tables.symbols tables.versions)
+
+abbrev pub definitions_asked : Form → ℕ → List EntryNumbers → Table → Option (Option (List VersionDefinition))
+definitions_asked form room raw table =
+    where_asked (has_tag DT_VERDEF raw && has_tag DT_VERDEFNUM raw) (defined_versions form room table)
+
+abbrev pub needs_asked : Form → ℕ → List EntryNumbers → Table → Option (Option (List VersionNeeds))
+needs_asked form room raw table =
+    where_asked (has_tag DT_VERNEED raw && has_tag DT_VERNEEDNUM raw) (needed_versions form room table)
+
+-- the dynamic symbols by their section
+abbrev pub symbol_table_of : Form → List ℕ → List SectionHeader → Table
+symbol_table_of form file sections = section_table file sections (λ s. s.sh_size / symbol_size form) SHT_DYNSYM
 
 -- the place of the next record, or for the last any, where no place is too far
 abbrev pub GoesOn : ℕ → ℕ → Bool → Result ℕ ViewFault → Type 0

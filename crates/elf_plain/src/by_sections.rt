@@ -1,7 +1,5 @@
-ghost use Rattle.std.specs.Prelude.{◌≡◌, ◌/◌, None};
-ghost use Rattle.elf_format.specs.declared.constants.TheConstants.{SHT_DYNSYM as DYNSYM};
-ghost use Rattle.elf_plain.specs.PlainViews.{source_seen, table_seen, tables_seen};
-ghost use Rattle.elf_format.specs.Records.{symbol_size};
+ghost use Rattle.std.specs.Prelude.{◌≡◌, None};
+ghost use Rattle.elf_plain.specs.PlainViews.{source_seen, symbol_table_of, table_seen, tables_seen};
 ghost use Rattle.elf_format.specs.Views.{section_memory, section_table, tables_by_sections as section_tables};
 
 use crate::source::{Source, TableSource, TableSources};
@@ -30,7 +28,7 @@ fn no_table<'a>() -> TableSource<'a>
 
 // The dynamic symbols by their section.
 fn symbol_table<'a>(file: &'a [u8], form: Form, sections: &[SectionHeader]) -> TableSource<'a>
-    ensures { table_seen result ≡ section_table file.now sections.now (λ s. s.sh_size / symbol_size form) DYNSYM }
+    ensures { table_seen result ≡ symbol_table_of form file.now sections.now }
 {
     match section_of_type(sections, SHT_DYNSYM) {
         None => no_table(),

@@ -1,11 +1,10 @@
-ghost use Rattle.std.specs.Prelude.{◌≡◌, ◌&&◌, map, option_map};
-ghost use Rattle.elf_format.specs.declared.constants.TheConstants.{DT_SYMTAB as SYMTAB, DT_VERDEF as VERDEF, DT_VERDEFNUM as VERDEFNUM, DT_VERNEED as VERNEED, DT_VERNEEDNUM as VERNEEDNUM, DT_VERSYM as VERSYM};
-ghost use Rattle.elf_format.specs.Dynamic.{has_tag as tag_is_there};
-ghost use Rattle.elf_format.specs.Options.{where_asked};
+ghost use Rattle.std.specs.Prelude.{◌≡◌, option_map};
 ghost use Rattle.elf_format.specs.Answers.{Gives};
 ghost use Rattle.elf_format.specs.Seen.{flags_of_stack};
-ghost use Rattle.elf_plain.specs.PlainViews.{definition_seen, needs_seen, outline_seen, source_seen, symbol_seen, table_seen, tables_seen, view_seen};
-ghost use Rattle.elf_format.specs.Views.{defined_versions, dynamic_symbols, needed_versions, view_of};
+ghost use Rattle.elf_plain.specs.PlainViews.{definitions_asked, needs_asked, symbols_asked};
+ghost use Rattle.elf_plain.specs.PlainViews.{definitions_seen, libraries_seen, symbols_seen};
+ghost use Rattle.elf_plain.specs.PlainViews.{outline_seen, table_seen, tables_seen, view_seen};
+ghost use Rattle.elf_format.specs.Views.{defined_versions, needed_versions, view_of};
 
 use crate::chains::{read_definitions, read_needs};
 use crate::entries::view_entries;
@@ -53,7 +52,8 @@ fn definitions_of(
     room: usize,
     table: &TableSource<'_>,
 ) -> Result<Vec<ShownDefinition>, ViewFault>
-    ensures { Gives (λ v. map definition_seen v.items) result (defined_versions form room (table_seen table.now)) }
+    ensures { Gives definitions_seen result
+        (defined_versions form room (table_seen table.now)) }
 {
     let raw = read_definitions(alloc, form, &table.bytes, table.count)?;
     show_definitions(alloc, room, &table.texts, &raw)
@@ -67,7 +67,8 @@ fn needs_of(
     room: usize,
     table: &TableSource<'_>,
 ) -> Result<Vec<ShownNeeds>, ViewFault>
-    ensures { Gives (λ v. map needs_seen v.items) result (needed_versions form room (table_seen table.now)) }
+    ensures { Gives libraries_seen result
+        (needed_versions form room (table_seen table.now)) }
 {
     let raw = read_needs(alloc, form, &table.bytes, table.count)?;
     show_needs(alloc, room, &table.texts, &raw)
@@ -81,7 +82,8 @@ fn asked_symbols(
     raw: &[EntryNumbers],
     tables: &TableSources<'_>,
 ) -> Result<Option<Vec<ShownSymbol>>, ViewFault>
-    ensures { Gives (λ o. option_map (λ v. map symbol_seen v.items) o) result (where_asked (tag_is_there SYMTAB raw.now) (dynamic_symbols form room (tag_is_there VERSYM raw.now) (table_seen tables.now.symbols) (source_seen tables.now.versions))) }
+    ensures { Gives (option_map symbols_seen) result
+        (symbols_asked form room raw.now (tables_seen tables.now)) }
 {
     if !has_tag(raw, DT_SYMTAB) {
         return Ok(None);
@@ -106,7 +108,8 @@ fn asked_definitions(
     raw: &[EntryNumbers],
     table: &TableSource<'_>,
 ) -> Result<Option<Vec<ShownDefinition>>, ViewFault>
-    ensures { Gives (λ o. option_map (λ v. map definition_seen v.items) o) result (where_asked (tag_is_there VERDEF raw.now && tag_is_there VERDEFNUM raw.now) (defined_versions form room (table_seen table.now))) }
+    ensures { Gives (option_map definitions_seen) result
+        (definitions_asked form room raw.now (table_seen table.now)) }
 {
     let named = has_tag(raw, DT_VERDEF);
     let counted = has_tag(raw, DT_VERDEFNUM);
@@ -125,7 +128,8 @@ fn asked_needs(
     raw: &[EntryNumbers],
     table: &TableSource<'_>,
 ) -> Result<Option<Vec<ShownNeeds>>, ViewFault>
-    ensures { Gives (λ o. option_map (λ v. map needs_seen v.items) o) result (where_asked (tag_is_there VERNEED raw.now && tag_is_there VERNEEDNUM raw.now) (needed_versions form room (table_seen table.now))) }
+    ensures { Gives (option_map libraries_seen) result
+        (needs_asked form room raw.now (table_seen table.now)) }
 {
     let named = has_tag(raw, DT_VERNEED);
     let counted = has_tag(raw, DT_VERNEEDNUM);
@@ -145,7 +149,8 @@ pub(crate) fn show_tables<'a>(
     raw: &[EntryNumbers],
     tables: &TableSources<'_>,
 ) -> Result<ShownView<'a>, ViewFault>
-    ensures { Gives view_seen result (view_of form room (outline_seen outline.entry) raw.now (tables_seen tables.now)) }
+    ensures { Gives view_seen result
+        (view_of form room (outline_seen outline.entry) raw.now (tables_seen tables.now)) }
 {
     let entries = view_entries(alloc, room, &tables.entry_texts, raw)?;
     let symbols = asked_symbols(alloc, form, room, raw, tables)?;

@@ -17,7 +17,8 @@ fn source_by_tag<'a>(
     raw: &[EntryNumbers],
     tag: u64,
 ) -> Source<'a>
-    ensures { source_seen result ≡ memory_at_tag (byte_at segments.now file.now) (first_value tag raw.now) }
+    ensures { source_seen result
+        ≡ memory_at_tag (byte_at segments.now file.now) (first_value tag raw.now) }
 {
     Source::Segments(Loaded {
         file,

@@ -1,9 +1,10 @@
-ghost use Rattle.std.specs.Prelude.{◌+◌, ◌<◌, ◌^◌, map};
-ghost use Rattle.elf_format.specs.Answers.{Gives, chain, step_seen, whole_step};
-ghost use Rattle.elf_plain.specs.PlainViews.{GoesOn};
+ghost use Rattle.std.specs.Prelude.{◌+◌, ◌<◌, ◌^◌};
+ghost use Rattle.elf_format.specs.Answers.{Gives, step_seen};
 ghost use Rattle.elf_format.specs.Seen.{raw_definition, raw_needs};
-ghost use Rattle.elf_plain.specs.PlainViews.{source_seen};
-ghost use Rattle.elf_format.specs.Versions.{definition_at, definition_name_at, need_at, need_name_at};
+ghost use Rattle.elf_plain.specs.PlainViews.{GoesOn, raw_definitions, raw_libraries};
+ghost use Rattle.elf_plain.specs.PlainViews.{definition_in, definition_name_in, need_in, need_name_in};
+ghost use Rattle.elf_plain.specs.PlainViews.{definition_names_from, definitions_from};
+ghost use Rattle.elf_plain.specs.PlainViews.{need_names_from, needs_from};
 
 use crate::source::{Source, read_bytes};
 use elf_format::form::Form;
@@ -35,7 +36,7 @@ fn read_name(
     place: u128,
 ) -> Result<(u32, u32), ViewFault>
     requires { place < 2 ^ 99 }
-    ensures { Gives (step_seen (λ n. n)) result (whole_step (definition_name_at form (source_seen source.now) place)) }
+    ensures { Gives (step_seen (λ n. n)) result (definition_name_in form source.now place) }
 {
     let record = read_bytes(alloc, source, place, 8)?;
     Ok((word_at(form, &record, 0), word_at(form, &record, 4)))
@@ -49,7 +50,7 @@ fn read_need_name(
     place: u128,
 ) -> Result<(NeedNameNumbers, u32), ViewFault>
     requires { place < 2 ^ 99 }
-    ensures { Gives (step_seen (λ n. n)) result (whole_step (need_name_at form (source_seen source.now) place)) }
+    ensures { Gives (step_seen (λ n. n)) result (need_name_in form source.now place) }
 {
     let record = read_bytes(alloc, source, place, 16)?;
     let name = NeedNameNumbers {
@@ -69,7 +70,7 @@ fn definition_names(
     start: u128,
 ) -> Result<Vec<u32>, ViewFault>
     requires { start < 2 ^ 98 }
-    ensures { Gives (λ v. v.items) result (chain (definition_name_at form (source_seen source.now)) count start) }
+    ensures { Gives (λ v. v.items) result (definition_names_from form source.now count start) }
 {
     let mut made = Vec::new(alloc);
     let mut place = start;
@@ -90,7 +91,7 @@ fn need_names(
     start: u128,
 ) -> Result<Vec<NeedNameNumbers>, ViewFault>
     requires { start < 2 ^ 98 }
-    ensures { Gives (λ v. v.items) result (chain (need_name_at form (source_seen source.now)) count start) }
+    ensures { Gives (λ v. v.items) result (need_names_from form source.now count start) }
 {
     let mut made = Vec::new(alloc);
     let mut place = start;
@@ -110,7 +111,7 @@ fn read_definition(
     place: u128,
 ) -> Result<(RawDefinition, u32), ViewFault>
     requires { place < 2 ^ 97 }
-    ensures { Gives (step_seen raw_definition) result (whole_step (definition_at form (source_seen source.now) place)) }
+    ensures { Gives (step_seen raw_definition) result (definition_in form source.now place) }
 {
     let copied = read_bytes(alloc, source, place, 20)?;
     let record = copied.as_slice();
@@ -133,7 +134,7 @@ fn read_need(
     place: u128,
 ) -> Result<(RawNeeds, u32), ViewFault>
     requires { place < 2 ^ 97 }
-    ensures { Gives (step_seen raw_needs) result (whole_step (need_at form (source_seen source.now) place)) }
+    ensures { Gives (step_seen raw_needs) result (need_in form source.now place) }
 {
     let copied = read_bytes(alloc, source, place, 16)?;
     let record = copied.as_slice();
@@ -154,7 +155,7 @@ pub(crate) fn read_definitions(
     source: &Source<'_>,
     count: u64,
 ) -> Result<Vec<RawDefinition>, ViewFault>
-    ensures { Gives (λ v. map raw_definition v.items) result (chain (definition_at form (source_seen source.now)) count 0) }
+    ensures { Gives raw_definitions result (definitions_from form source.now count) }
 {
     let mut made = Vec::new(alloc);
     let mut place = 0;
@@ -173,7 +174,7 @@ pub(crate) fn read_needs(
     source: &Source<'_>,
     count: u64,
 ) -> Result<Vec<RawNeeds>, ViewFault>
-    ensures { Gives (λ v. map raw_needs v.items) result (chain (need_at form (source_seen source.now)) count 0) }
+    ensures { Gives raw_libraries result (needs_from form source.now count) }
 {
     let mut made = Vec::new(alloc);
     let mut place = 0;

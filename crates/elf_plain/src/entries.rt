@@ -1,8 +1,7 @@
-ghost use Rattle.std.specs.Prelude.{map};
 ghost use Rattle.elf_format.specs.Dynamic.{entries_at, shown_entry};
 ghost use Rattle.elf_format.specs.Options.{each};
 ghost use Rattle.elf_format.specs.Answers.{Gives};
-ghost use Rattle.elf_plain.specs.PlainViews.{entry_viewed, source_seen};
+ghost use Rattle.elf_plain.specs.PlainViews.{entries_seen, entry_viewed, source_seen};
 
 use crate::source::{Source, read_bytes, read_text};
 use crate::view::EntryView;
@@ -40,7 +39,8 @@ pub(crate) fn view_entries(
     texts: &Source<'_>,
     entries: &[EntryNumbers],
 ) -> Result<Vec<EntryView>, ViewFault>
-    ensures { Gives (λ v. map entry_viewed v.items) result (each (shown_entry room (source_seen texts.now)) entries.now) }
+    ensures { Gives entries_seen result
+        (each (shown_entry room (source_seen texts.now)) entries.now) }
 {
     let mut shown = Vec::new(alloc);
     for entry in entries {

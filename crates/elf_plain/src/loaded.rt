@@ -23,7 +23,7 @@ fn loaded_interpreter<'a>(
     file: &'a [u8],
     segments: &[SegmentHeader],
 ) -> Result<Option<&'a [u8]>, ViewFault>
-    ensures { Gives (λ i. option_map borrowed i) result (loaded_interpreter_of file.now segments.now) }
+    ensures { Gives (option_map borrowed) result (loaded_interpreter_of file.now segments.now) }
 {
     let Some(segment) = segment_of_type(segments, PT_INTERP) else {
         return Ok(None);
@@ -51,7 +51,8 @@ fn show_loaded<'a>(
     segments: &[SegmentHeader],
     symbol_count: u64,
 ) -> Result<ShownView<'a>, ViewFault>
-    ensures { Gives view_seen result (loaded_by_dynamic form file.now (outline_seen outline.entry) segments.now symbol_count (first_segment DYNAMIC_SEGMENT segments.now)) }
+    ensures { Gives view_seen result (loaded_by_dynamic form file.now (outline_seen outline.entry)
+        segments.now symbol_count (first_segment DYNAMIC_SEGMENT segments.now)) }
 {
     let Some(list) = segment_of_type(segments, PT_DYNAMIC) else {
         return Ok(bare_view(outline));

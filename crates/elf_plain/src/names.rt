@@ -3,7 +3,8 @@ ghost use Rattle.patch_bytes.specs.Memory.{text_at};
 ghost use Rattle.elf_format.specs.Options.{each};
 ghost use Rattle.elf_format.specs.Answers.{Gives};
 ghost use Rattle.elf_format.specs.Seen.{raw_definition, raw_needs};
-ghost use Rattle.elf_plain.specs.PlainViews.{definition_seen, name_seen, needs_seen, source_seen, text_seen};
+ghost use Rattle.elf_plain.specs.PlainViews.{definition_seen, name_seen, needs_seen, source_seen};
+ghost use Rattle.elf_plain.specs.PlainViews.{definitions_seen, libraries_seen, names_seen, texts_seen};
 ghost use Rattle.elf_format.specs.Versions.{shown_definition, shown_need, shown_need_name};
 
 use crate::source::{Source, read_text};
@@ -20,7 +21,7 @@ fn show_texts(
     texts: &Source<'_>,
     places: &[u32],
 ) -> Result<Vec<Vec<u8>>, ViewFault>
-    ensures { Gives (λ v. map text_seen v.items) result (each (text_at room (source_seen texts.now)) places.now) }
+    ensures { Gives texts_seen result (each (text_at room (source_seen texts.now)) places.now) }
 {
     let mut shown = Vec::new(alloc);
     for place in places {
@@ -38,7 +39,8 @@ fn show_definition(
     texts: &Source<'_>,
     definition: &RawDefinition,
 ) -> Result<ShownDefinition, ViewFault>
-    ensures { Gives definition_seen result (shown_definition room (source_seen texts.now) (raw_definition definition.now)) }
+    ensures { Gives definition_seen result
+        (shown_definition room (source_seen texts.now) (raw_definition definition.now)) }
 {
     let names = show_texts(alloc, room, texts, &definition.names)?;
     Ok(ShownDefinition {
@@ -55,7 +57,8 @@ pub(crate) fn show_definitions(
     texts: &Source<'_>,
     definitions: &[RawDefinition],
 ) -> Result<Vec<ShownDefinition>, ViewFault>
-    ensures { Gives (λ v. map definition_seen v.items) result (each (shown_definition room (source_seen texts.now)) (map raw_definition definitions.now)) }
+    ensures { Gives definitions_seen result (each
+        (shown_definition room (source_seen texts.now)) (map raw_definition definitions.now)) }
 {
     let mut shown = Vec::new(alloc);
     for definition in definitions {
@@ -90,7 +93,8 @@ fn show_names(
     texts: &Source<'_>,
     versions: &[NeedNameNumbers],
 ) -> Result<Vec<ShownName>, ViewFault>
-    ensures { Gives (λ v. map name_seen v.items) result (each (shown_need_name room (source_seen texts.now)) versions.now) }
+    ensures { Gives names_seen result
+        (each (shown_need_name room (source_seen texts.now)) versions.now) }
 {
     let mut shown = Vec::new(alloc);
     for version in versions {
@@ -108,7 +112,8 @@ fn show_need(
     texts: &Source<'_>,
     needs: &RawNeeds,
 ) -> Result<ShownNeeds, ViewFault>
-    ensures { Gives needs_seen result (shown_need room (source_seen texts.now) (raw_needs needs.now)) }
+    ensures { Gives needs_seen result
+        (shown_need room (source_seen texts.now) (raw_needs needs.now)) }
 {
     let file = read_text(alloc, room, texts, needs.file as u64)?;
     let versions = show_names(alloc, room, texts, &needs.versions)?;
@@ -122,7 +127,8 @@ pub(crate) fn show_needs(
     texts: &Source<'_>,
     libraries: &[RawNeeds],
 ) -> Result<Vec<ShownNeeds>, ViewFault>
-    ensures { Gives (λ v. map needs_seen v.items) result (each (shown_need room (source_seen texts.now)) (map raw_needs libraries.now)) }
+    ensures { Gives libraries_seen result
+        (each (shown_need room (source_seen texts.now)) (map raw_needs libraries.now)) }
 {
     let mut shown = Vec::new(alloc);
     for library in libraries {

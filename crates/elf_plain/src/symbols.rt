@@ -1,6 +1,6 @@
 ghost use Rattle.std.specs.Prelude.{◌≡◌, map, replicate, IfOk, None};
 ghost use Rattle.elf_format.specs.Answers.{Gives};
-ghost use Rattle.elf_plain.specs.PlainViews.{source_seen, symbol_seen, table_seen, text_seen};
+ghost use Rattle.elf_plain.specs.PlainViews.{source_seen, symbols_seen, table_seen, text_seen, texts_seen};
 ghost use Rattle.elf_format.specs.Views.{dynamic_symbols, named_symbols, names_of, symbol_versions};
 
 use crate::source::{Source, TableSource, read_bytes, read_text};
@@ -19,7 +19,8 @@ fn join_symbols(
     names: &[Vec<u8>],
     versions: &[Option<VersionId>],
 ) -> Result<Vec<ShownSymbol>, AllocError>
-    ensures { IfOk result (λ v. map symbol_seen v.items ≡ named_symbols symbols.now (map text_seen names.now) versions.now) }
+    ensures { IfOk result (λ v. symbols_seen v
+        ≡ named_symbols symbols.now (map text_seen names.now) versions.now) }
 {
     let mut made = Vec::new(alloc);
     for i in 0..symbols.len() {
@@ -62,7 +63,8 @@ fn versions_of(
     count: usize,
     versions: &Source<'_>,
 ) -> Result<Vec<Option<VersionId>>, ViewFault>
-    ensures { Gives (λ v. v.items) result (symbol_versions form with_versions count (source_seen versions.now)) }
+    ensures { Gives (λ v. v.items) result
+        (symbol_versions form with_versions count (source_seen versions.now)) }
 {
     if !with_versions {
         return Ok(no_versions(alloc, count)?);
@@ -78,7 +80,7 @@ fn symbol_names(
     texts: &Source<'_>,
     symbols: &[SymbolNumbers],
 ) -> Result<Vec<Vec<u8>>, ViewFault>
-    ensures { Gives (λ v. map text_seen v.items) result (names_of room (source_seen texts.now) symbols.now) }
+    ensures { Gives texts_seen result (names_of room (source_seen texts.now) symbols.now) }
 {
     let mut names = Vec::new(alloc);
     for symbol in symbols {
@@ -97,7 +99,8 @@ pub(crate) fn show_symbols(
     table: &TableSource<'_>,
     versions: &Source<'_>,
 ) -> Result<Vec<ShownSymbol>, ViewFault>
-    ensures { Gives (λ v. map symbol_seen v.items) result (dynamic_symbols form room with_versions (table_seen table.now) (source_seen versions.now)) }
+    ensures { Gives symbols_seen result (dynamic_symbols form room with_versions
+        (table_seen table.now) (source_seen versions.now)) }
 {
     let size = form.symbol_size();
     let count = table.count as usize;

@@ -26,7 +26,8 @@ fn show_dynamic<'a>(
     outline: Outline<'a>,
     sections: &[SectionHeader],
 ) -> Result<ShownView<'a>, ViewFault>
-    ensures { Gives view_seen result (view_by_dynamic form file.now (outline_seen outline.entry) sections.now (first_section DYNAMIC sections.now)) }
+    ensures { Gives view_seen result (view_by_dynamic form file.now (outline_seen outline.entry)
+        sections.now (first_section DYNAMIC sections.now)) }
 {
     match section_of_type(sections, SHT_DYNAMIC) {
         None => Ok(bare_view(outline)),

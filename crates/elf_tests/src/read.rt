@@ -335,7 +335,6 @@ fn without_lists(rt: HostRuntime) {
 
 // Whether each section has its position as its number.
 fn are_sections_numbered(image: &Builder<'_>) -> bool
-    requires { length image.now.section_numbers ≡ length image.now.sections }
 {
     for i in 0..image.sections().len() {
         if image.read_section(i) != i {
@@ -347,7 +346,6 @@ fn are_sections_numbered(image: &Builder<'_>) -> bool
 
 // Whether each static symbol has its position as its number.
 fn are_symbols_numbered(image: &Builder<'_>) -> bool
-    requires { length image.now.symbol_numbers ≡ length image.now.symbols }
 {
     for i in 0..image.symbols().len() {
         if image.read_symbol(i) != i {
@@ -359,7 +357,6 @@ fn are_symbols_numbered(image: &Builder<'_>) -> bool
 
 // Whether each dynamic symbol has its position as its number.
 fn are_dynamic_symbols_numbered(image: &Builder<'_>) -> bool
-    requires { length image.now.dynamic_symbol_numbers ≡ length image.now.dynamic_symbols }
 {
     for i in 0..image.dynamic_symbols().len() {
         if image.read_dynamic_symbol(i) != i {
@@ -370,7 +367,6 @@ fn are_dynamic_symbols_numbered(image: &Builder<'_>) -> bool
 }
 
 #[test]
-#[tactic(auto, using(elf_format::proofs::ReadNumbers::sections_numbered))]
 fn numbers_of_sections(rt: HostRuntime) -> Result<(), Fail> {
     let image = read(&rt, VERSIONED)?;
     assert!(rt; are_sections_numbered(&image));
@@ -378,7 +374,6 @@ fn numbers_of_sections(rt: HostRuntime) -> Result<(), Fail> {
 }
 
 #[test]
-#[tactic(auto, using(elf_format::proofs::ReadNumbers::symbols_numbered))]
 fn numbers_of_symbols(rt: HostRuntime) -> Result<(), Fail> {
     let image = read(&rt, VERSIONED)?;
     assert!(rt; are_symbols_numbered(&image));
@@ -386,7 +381,6 @@ fn numbers_of_symbols(rt: HostRuntime) -> Result<(), Fail> {
 }
 
 #[test]
-#[tactic(auto, using(elf_format::proofs::ReadNumbers::dynamic_symbols_numbered))]
 fn numbers_of_dynamic_symbols(rt: HostRuntime) -> Result<(), Fail> {
     let image = read(&rt, VERSIONED)?;
     assert!(rt; are_dynamic_symbols_numbered(&image));

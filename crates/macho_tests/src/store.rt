@@ -175,7 +175,8 @@ fn prepared(
     area: &[u8],
 ) -> Result<Prepared, AllocError>
     requires commands { area_fault (ctx_of file.now.bytes).le count area.now ≡ None }
-    requires room { header_size (ctx_of file.now.bytes).container + length area.now ≤ length file.now.bytes }
+    requires room { header_size (ctx_of file.now.bytes).container + length area.now
+        ≤ length file.now.bytes }
     ensures { IfOk result (IsMadeFor file.now count area.now) }
 {
     if let Ok(made) = file.prepare(alloc, count, copied(alloc, area)?) {

@@ -5,8 +5,6 @@
 pub mod byte_string;
 pub mod number;
 pub mod rounding;
-#[cfg(test)]
-mod tests;
 
 pub use crate::byte_string::ByteString;
 pub use crate::number::{

@@ -1,131 +1,96 @@
 //! Readers, stores and files that are read whole.
-ghost use Rattle.std.specs.Prelude.{◌-◌, ◌<◌, ◌^◌};
 
-use crate::trial::copy;
+use crate::support::{Runtime, copied, same, same_bytes};
 use byte_store::{
     FileStore, MemoryStore, Piece, ReadError, Store, load_up_to, load_whole, read_up_to,
     read_whole, write_pieces,
 };
-use std::io::Read;
-use std::test::Fail;
 use std::{env, fs, io, process};
 
-// Calls that are made once more where memory was refused.
-fn up_to<F: Read>(
-    rt: &HostRuntime,
-    reader: &mut F,
-    expected: u64,
-    most: usize,
-) -> Result<Vec<u8>, ReadError> {
-    match read_up_to(rt.alloc(), reader, expected, most) {
-        Err(ReadError::Memory) => read_up_to(rt.alloc(), reader, expected, most),
-        answer => answer,
-    }
-}
-
-fn whole<F: Read>(
-    rt: &HostRuntime,
-    reader: &mut F,
-    expected: u64,
-    most: usize,
-) -> Result<Vec<u8>, ReadError>
-    requires { most < 2 ^ 64 - 1 }
-{
-    match read_whole(rt.alloc(), reader, expected, most) {
-        Err(ReadError::Memory) => read_whole(rt.alloc(), reader, expected, most),
-        answer => answer,
-    }
-}
-
-fn loaded<S: Store>(rt: &HostRuntime, store: &mut S, most: usize) -> Result<Vec<u8>, ReadError>
-    requires { most < 2 ^ 64 - 1 }
-{
-    match load_whole(rt.alloc(), store, most) {
-        Err(ReadError::Memory) => load_whole(rt.alloc(), store, most),
-        answer => answer,
-    }
-}
-
-fn loaded_up_to<S: Store>(
-    rt: &HostRuntime,
-    store: &mut S,
-    most: usize,
-) -> Result<Vec<u8>, ReadError> {
-    match load_up_to(rt.alloc(), store, most) {
-        Err(ReadError::Memory) => load_up_to(rt.alloc(), store, most),
-        answer => answer,
-    }
+// Whether a read failed, and not for want of memory.
+fn fails(answer: &Result<Vec<u8>, ReadError>) -> bool {
+    matches!(answer, Err(ReadError::Io(_)))
 }
 
 #[test]
-fn reader_without_end(rt: HostRuntime) -> Result<(), Fail> {
-    let most = 300_000;
+fn first_bytes_of_a_reader_without_end(rt: HostRuntime) {
     let mut zeros = io::repeat(0);
-    let first = up_to(&rt, &mut zeros, 0, most)?;
-    assert_eq!(rt; first.len(), most);
-    let endless = whole(&rt, &mut zeros, 9, most);
-    assert!(rt; matches!(&endless, Err(ReadError::Io(_))));
-    Ok(())
+    let first = again!(&rt; read_up_to(rt.alloc(), &mut zeros, 0, 300_000));
+    same(&rt, "length", &first.expect(&rt, "bytes").len(), &300_000);
 }
 
 #[test]
-fn reader_with_an_end(rt: HostRuntime) -> Result<(), Fail> {
+fn all_of_a_reader_without_end(rt: HostRuntime) {
+    let mut zeros = io::repeat(0);
+    let answer = again!(&rt; read_whole(rt.alloc(), &mut zeros, 9, 300_000));
+    same(&rt, "fails", &fails(&answer), &true);
+}
+
+#[test]
+fn reader_with_an_end(rt: HostRuntime) {
     let mut reader = b"abcdef".as_slice();
-    let bytes = whole(&rt, &mut reader, 6, 6)?;
-    assert_eq!(rt; bytes.as_slice(), b"abcdef".as_slice());
-    Ok(())
+    let bytes = again!(&rt; read_whole(rt.alloc(), &mut reader, 6, 6));
+    same_bytes(&rt, "bytes", &bytes.expect(&rt, "bytes"), b"abcdef");
+}
+
+fn store_of(rt: &impl Runtime, bytes: &[u8]) -> MemoryStore {
+    MemoryStore::new(copied(rt, bytes))
 }
 
 #[test]
-fn store_in_memory(rt: HostRuntime) -> Result<(), Fail> {
-    let mut store = MemoryStore::new(copy(rt.alloc(), b"abcdef")?);
-    let bytes = loaded(&rt, &mut store, 6)?;
-    assert_eq!(rt; bytes.as_slice(), b"abcdef".as_slice());
-    let first = loaded_up_to(&rt, &mut store, 4)?;
-    assert_eq!(rt; first.as_slice(), b"abcd".as_slice());
-    let longer = loaded(&rt, &mut store, 5);
-    assert!(rt; matches!(&longer, Err(ReadError::Io(_))));
-    Ok(())
+fn store_in_memory(rt: HostRuntime) {
+    let mut store = store_of(&rt, b"abcdef");
+    let bytes = again!(&rt; load_whole(rt.alloc(), &mut store, 6));
+    same_bytes(&rt, "bytes", &bytes.expect(&rt, "bytes"), b"abcdef");
+}
+
+#[test]
+fn first_bytes_of_a_store(rt: HostRuntime) {
+    let mut store = store_of(&rt, b"abcdef");
+    let bytes = again!(&rt; load_up_to(rt.alloc(), &mut store, 4));
+    same_bytes(&rt, "bytes", &bytes.expect(&rt, "bytes"), b"abcd");
+}
+
+#[test]
+fn store_that_is_longer(rt: HostRuntime) {
+    let mut store = store_of(&rt, b"abcdef");
+    let answer = again!(&rt; load_whole(rt.alloc(), &mut store, 5));
+    same(&rt, "fails", &fails(&answer), &true);
 }
 
 // A path that no other run of the tests uses.
-fn own_path(rt: &HostRuntime) -> Result<String, Fail> {
-    let folder = match env::temp_dir(rt) {
-        Err(_) => env::temp_dir(rt)?,
-        Ok(folder) => folder,
-    };
+fn own_path(rt: &HostRuntime) -> io::Result<String> {
+    let folder = env::temp_dir(rt)?;
     let folder = folder.as_path().to_string_lossy();
     let id = process::id(rt.process());
-    match format!(in rt.alloc(); "{folder}/store-test-{id}") {
-        Err(_) => Ok(format!(in rt.alloc(); "{folder}/store-test-{id}")?),
-        Ok(path) => Ok(path),
-    }
+    Ok(format!(in rt.alloc(); "{folder}/store-test-{id}")?)
 }
 
-// Loads a file, and lays a piece over it.
-fn patch(rt: &HostRuntime, path: &str) -> Result<Vec<u8>, Fail> {
-    let mut store = FileStore::open(rt, path)?;
-    let bytes = loaded(rt, &mut store, 9)?;
+// Lays a piece over a file.
+fn lay(store: &mut FileStore<'_, HostRuntime>) -> io::Result<()> {
     store.open_for_writing()?;
     let pieces = [Piece {
         offset: 3,
         bytes: b"XY",
     }];
-    write_pieces(&mut store, 6, &pieces)?;
+    write_pieces(store, 6, &pieces)
+}
+
+// Loads a file, and lays a piece over it.
+fn patched(rt: &HostRuntime, path: &str) -> Result<Vec<u8>, ReadError> {
+    let mut store = FileStore::open(rt, path)?;
+    let bytes = load_whole(rt.alloc(), &mut store, 9)?;
+    lay(&mut store)?;
     Ok(bytes)
 }
 
 #[test]
-fn file_in_its_place(rt: HostRuntime) -> Result<(), Fail> {
-    let path = own_path(&rt)?;
-    fs::write(&rt, path.as_str(), b"abcdef".as_slice())?;
-    let old = patch(&rt, path.as_str())?;
-    let new = match fs::read(&rt, path.as_str()) {
-        Err(_) => fs::read(&rt, path.as_str())?,
-        Ok(new) => new,
-    };
-    fs::remove_file(&rt, path.as_str())?;
-    assert_eq!(rt; old.as_slice(), b"abcdef".as_slice());
-    assert_eq!(rt; new.as_slice(), b"abcXYf".as_slice());
-    Ok(())
+fn file_in_its_place(rt: HostRuntime) {
+    let path = again!(&rt; own_path(&rt)).expect(&rt, "a path");
+    fs::write(&rt, &path, b"abcdef".as_slice()).expect(&rt, "a file");
+    let old = again!(&rt; patched(&rt, &path)).expect(&rt, "bytes");
+    same_bytes(&rt, "old bytes", &old, b"abcdef");
+    let new = again!(&rt; fs::read(&rt, &path)).expect(&rt, "bytes");
+    same_bytes(&rt, "new bytes", &new, b"abcXYf");
+    fs::remove_file(&rt, &path).expect(&rt, "no file");
 }

@@ -1,13 +1,12 @@
 //! Runs of writes, each of whose calls fails in turn.
 ghost use Rattle.std.specs.Prelude.{◌≡◌, ◌+◌, ◌≤◌, length};
 
+use crate::support::{Runtime, same, same_bytes};
 use crate::trial::{Plan, TrialStore, copy};
 use byte_store::{
     Changes, Left, MemoryStore, Piece, Store, WriteError, write_changes, write_pieces,
 };
-use std::alloc::Global;
-use std::process::Abort;
-use std::test::Fail;
+use std::io;
 
 // What a run does to `abcdef` by a plan, and what comes of it.
 #[derive(Clone, Copy)]
@@ -36,7 +35,7 @@ const fn planned(fails_at: usize, takes: usize, interruptions: usize, keeps_leng
     }
 }
 
-fn word(answer: &Result<(), WriteError>) -> &'static str {
+fn word(answer: Result<(), WriteError>) -> &'static str {
     match answer {
         Ok(()) => "done",
         Err(error) => match error.left {
@@ -48,19 +47,11 @@ fn word(answer: &Result<(), WriteError>) -> &'static str {
 }
 
 // Two pieces are laid, `XY` at 4 and `Z` at 1, and the growth and the new length are given.
-fn follow(
-    rt: &impl Abort,
-    alloc: Global,
-    row: Row,
-    growth: &[u8],
-    new_length: u64,
-) -> Result<(), Fail>
+fn follow(rt: &impl Runtime, row: Row, growth: &[u8], new_length: u64)
     requires room { length growth.now ≤ 9 }
     requires end { new_length ≤ 6 + length growth.now }
 {
-    let bytes = copy(alloc, b"abcdef")?;
-    let mut store = TrialStore::new(bytes, row.plan);
-    store.open_for_writing()?;
+    let mut store = TrialStore::open(rt, row.plan);
     let pieces = [
         Piece {
             offset: 4,
@@ -77,16 +68,14 @@ fn follow(
         pieces: &pieces,
         new_length,
     };
-    let answer = write_changes(&mut store, &changes);
-    assert_eq!(rt; word(&answer), row.word);
-    assert_eq!(rt; store.inner.bytes.as_slice(), row.bytes);
-    assert_eq!(rt; store.writes, row.writes);
-    Ok(())
+    let word = word(write_changes(&mut store, &changes));
+    let found = (word, store.inner.bytes.as_slice(), store.writes);
+    same(rt, row.word, &found, &(row.word, row.bytes, row.writes));
 }
 
 // One byte is written at a time: `gh` behind the end, then the pieces.
 #[test]
-fn each_write_fails(rt: HostRuntime) -> Result<(), Fail> {
+fn each_write_fails(rt: HostRuntime) {
     let rows = [
         outcome(planned(0, 1, 0, false), "old", b"abcdef", 1),
         outcome(planned(1, 1, 0, false), "old", b"abcdef", 2),
@@ -100,50 +89,51 @@ fn each_write_fails(rt: HostRuntime) -> Result<(), Fail> {
         outcome(planned(5, 0, 0, false), "old", b"abcdef", 1),
     ];
     for row in rows {
-        follow(&rt, rt.alloc(), row, b"gh", 8)?;
+        follow(&rt, row, b"gh", 8);
     }
-    Ok(())
 }
 
 #[test]
-fn shorter_length_comes_last(rt: HostRuntime) -> Result<(), Fail> {
+fn shorter_length_comes_last(rt: HostRuntime) {
     let rows = [
         outcome(planned(1, 1, 0, false), "torn", b"abcdXf", 2),
         outcome(planned(9, 9, 0, true), "torn", b"aZcdXY", 2),
         outcome(planned(9, 9, 0, false), "done", b"aZc", 2),
     ];
     for row in rows {
-        follow(&rt, rt.alloc(), row, b"", 3)?;
+        follow(&rt, row, b"", 3);
     }
-    Ok(())
 }
 
 #[test]
-fn nothing_to_write_writes_nothing(rt: HostRuntime) -> Result<(), Fail> {
-    let bytes = copy(rt.alloc(), b"abc")?;
-    let mut store = TrialStore::new(bytes, planned(0, 9, 0, true));
-    store.open_for_writing()?;
+fn nothing_to_write_writes_nothing(rt: HostRuntime) {
+    let mut store = TrialStore::open(&rt, planned(0, 9, 0, true));
     let changes = Changes {
-        old_length: 3,
+        old_length: 6,
         growth: b"",
         pieces: &[],
-        new_length: 3,
+        new_length: 6,
     };
-    let answer = write_changes(&mut store, &changes);
-    assert_eq!(rt; word(&answer), "done");
-    assert_eq!(rt; store.writes, 0);
-    Ok(())
+    let word = word(write_changes(&mut store, &changes));
+    same(&rt, "writes", &(word, store.writes), &("done", 0));
 }
 
-#[test]
-fn pieces_in_memory(rt: HostRuntime) -> Result<(), Fail> {
-    let mut store = MemoryStore::new(copy(rt.alloc(), b"abcdef")?);
+// Lays a piece over a store of six bytes.
+fn lay(store: &mut MemoryStore) -> io::Result<()>
+    requires { length store.old.bytes.items ≡ 6 }
+{
     store.open_for_writing()?;
     let pieces = [Piece {
         offset: 2,
         bytes: b"XYZ",
     }];
-    write_pieces(&mut store, 6, &pieces)?;
-    assert_eq!(rt; store.bytes.as_slice(), b"abXYZf".as_slice());
-    Ok(())
+    write_pieces(store, 6, &pieces)
+}
+
+#[test]
+fn pieces_in_memory(rt: HostRuntime) {
+    let bytes = copy(rt.alloc(), b"abcdef").expect(&rt, "memory");
+    let mut store = MemoryStore::new(bytes);
+    lay(&mut store).expect(&rt, "pieces");
+    same_bytes(&rt, "bytes", &store.bytes, b"abXYZf");
 }

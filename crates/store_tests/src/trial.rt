@@ -1,6 +1,7 @@
 //! A store in memory whose calls fail on purpose.
-ghost use Rattle.std.specs.Prelude.{◌≡◌, [], IfOk};
+ghost use Rattle.std.specs.Prelude.{◌≡◌, [], IfOk, true};
 
+use crate::support::Runtime;
 use byte_store::{MemoryStore, Store};
 use std::alloc::{AllocError, Global};
 use std::io;
@@ -47,9 +48,17 @@ pub struct TrialStore {
 }
 
 impl TrialStore {
-    pub fn new(bytes: Vec<u8>, plan: Plan) -> TrialStore {
+    /// A store with the bytes `abcdef` that is open for writing.
+    pub fn open(rt: &impl Runtime, plan: Plan) -> TrialStore
+        ensures open { result.inner.is_open ≡ true }
+        ensures plan { result.plan ≡ plan }
+        ensures fresh { (result.writes ≡ 0) × (result.interrupted ≡ 0) }
+    {
+        let bytes = copy(rt.alloc(), b"abcdef").expect(rt, "memory");
+        let mut inner = MemoryStore::new(bytes);
+        inner.open_for_writing().expect(rt, "a store");
         TrialStore {
-            inner: MemoryStore::new(bytes),
+            inner,
             plan,
             writes: 0,
             interrupted: 0,

@@ -5,6 +5,7 @@ use Rattle.arwen_macho.specs.declared.batch.MachoEdit.{MachoEdit}
 use Rattle.arwen_macho.specs.declared.macho.MachoType.{MachoType}
 use Rattle.arwen_macho.specs.Batch.{RefusesAt, calls_of}
 use Rattle.arwen_macho.specs.Container.{container_bytes, container_step}
+use Rattle.arwen_macho.specs.ContainerShown.{StepShows}
 use Rattle.arwen_macho.specs.Fronts.{LeadOn}
 use Rattle.arwen_macho.specs.Refused.{cause_of}
 use Rattle.arwen_macho.proofs.ForCallers.{first_bytes}
@@ -20,7 +21,6 @@ returns-in_err-edits-clause-err c =
 
 pub returns-in-Ok-clause-ok : goal.returns-in-Ok-clause-ok
 returns-in-Ok-clause-ok c =
-    let a : Asked = asked (macho_shown c.args.command.now) in
     let file : List ℕ = c.args.bytes.now in
     let bytes : AreBytes file = record { each = λ i. omega (arith, c.type_inv.bytes i) } in
     let edits : List MachoEdit = c.in_ok-edits.edits.items in
@@ -28,7 +28,10 @@ returns-in-Ok-clause-ok c =
     let Lead : List MachoEdit → Type 0 = λ l. LeadOn container_bytes c.in_ok-macho.macho (container_step (calls_of l) c.in_ok-macho.macho) c.in-Ok.fronts.items in
     let First : MachoType → Type 0 = λ f. LeadOn container_bytes f (container_step (calls_of edits) f) c.in-Ok.fronts.items in
     let lead = subst First c.in_ok-macho.ensures.1 (subst Lead c.deref.ensures.value c.in-Ok.ensures.ok) in
-    writes_on a (calls_of edits) file c.in-Ok.fronts.items c.in_ok-edits.ensures.ok found (first_bytes file bytes found) lead
+    let Shows : List MachoEdit → Type 0 = λ l. StepShows (container_step (calls_of l) c.in_ok-macho.macho) in
+    let FirstShows : MachoType → Type 0 = λ f. StepShows (container_step (calls_of edits) f) in
+    let shows = subst FirstShows c.in_ok-macho.ensures.1 (subst Shows c.deref.ensures.value c.in-Ok.ensures.shows) in
+    writes_on (macho_shown c.args.command.now) (calls_of edits) file c.in-Ok.fronts.items c.in_ok-edits.ensures.ok found (first_bytes file bytes found) lead shows
 
 pub returns-clause-err : goal.returns-clause-err
 returns-clause-err c =

@@ -1,6 +1,6 @@
 use Rattle.std.proofs.Common.{◌≡◌, ◌∙◌, ap, arith, length, List, sym, ℕ}
 use Rattle.std.proofs.lemmas.Result.{err_from_is_err_and}
-use Rattle.arwen_commands.specs.Engine.{Writes, asked, outcome}
+use Rattle.arwen_commands.specs.Engine.{Writes, asked}
 use Rattle.arwen_commands.specs.Meaning.{macho_shown}
 use Rattle.arwen_commands.proofs.StoreLaws.{patched_store, read_whole, refused_store, torn_store}
 use Rattle.arwen_commands.proofs.engine.patch_store.Goals as goal
@@ -20,7 +20,7 @@ returns-clause-patched g c =
 pub write_changes_of-requires-clause-old : goal.write_changes_of-requires-clause-old
 write_changes_of-requires-clause-old g c = λ all known.
     let loaded : List ℕ = c.in_ok-bytes.bytes.items in
-    let writes : Writes (outcome (macho_shown c.args.command.now) loaded) loaded c.as_slice-2.result.now = rw (sym c.as_slice.ensures.value, c.as_slice-2.ensures.value) c.in_ok-fronts.ensures.ok in
+    let writes : Writes (macho_shown c.args.command.now) loaded c.as_slice-2.result.now = rw (sym c.as_slice.ensures.value, c.as_slice-2.ensures.value) c.in_ok-fronts.ensures.ok in
     let whole : loaded ≡ all = read_whole (asked (macho_shown c.args.command.now)) _ loaded all _ c.in_ok-bytes.ensures.read (sym c.in_ok-bytes.ensures.kept ∙ known) writes.is in
     let long : length loaded ≡ length all = ap length whole in
     let part : length c.deref_mut.result.now ≡ length loaded = ap length c.deref_mut.ensures.value in

@@ -1,8 +1,7 @@
-use Rattle.std.proofs.Common.{◌≡◌, ◌∙◌, ◌<◌, ℕ, ap, arith, length, map, sym}
+use Rattle.std.proofs.Common.{◌≡◌, ◌∙◌, ◌<◌, arith, length, map}
 use Rattle.std.specs.Prelude.{◌==◌, if◌then◌else◌, vec_len}
 use Rattle.std.proofs.lemmas.List.{length-map, length-set}
 use Rattle.elf_format.specs.Dynamic.{Entry}
-use Rattle.elf_image.specs.declared.dynamic.Dynamic.{Dynamic}
 use Rattle.elf_format.specs.Image.{entry_tag}
 use Rattle.elf_image.specs.ImageSeen.{entry_kept}
 use Rattle.elf_image.specs.DynamicList.{with_tag}
@@ -14,10 +13,11 @@ loop-i-preserved c =
     let seen : length (map entry_kept c.args.list.now.items) ≡ length c.args.list.now.items = length-map c.args.list.now.items entry_kept in
     let long : vec_len c.args.list.now ≡ length c.args.list.now.items = c.args.list.now.ok.0 in
     let inside : c.loop-i.i < length (map entry_kept c.args.list.now.items) = omega arith in
-    let here : c.loop-i.i < length c.loop-i.list.items = omega arith in
-    (next_changed entry_kept (λ (e : Entry). if entry_tag e == c.args.old then with_tag c.args.new e else e) (map entry_kept c.args.list.now.items) c.loop-i.i inside c.loop-i.list.items c.loop-i.invariant.0 here
-    c.index_mut.result.now c.index_mut.ensures.value c.change_tag.new.self c.change_tag.ensures,
-    length-set c.loop-i.list.items c.loop-i.i c.change_tag.new.self ∙ c.loop-i.invariant.1)
+    let here : c.loop-i.i < length c.loop-i.list.items = omega arith in (
+      next_changed entry_kept (λ (e : Entry). if entry_tag e == c.args.old then with_tag c.args.new e else e) (map entry_kept c.args.list.now.items) c.loop-i.i inside c.loop-i.list.items c.loop-i.invariant.0 here
+          c.index_mut.result.now c.index_mut.ensures.value c.change_tag.new.self c.change_tag.ensures,
+      length-set c.loop-i.list.items c.loop-i.i c.change_tag.new.self ∙ c.loop-i.invariant.1,
+    )
 
 pub returns : goal.returns
 returns c =

@@ -1,9 +1,14 @@
 -- Each stage's refusal is the answer, and the image where none refuses.
+use Rattle.std.proofs.Common.{◌≡◌, ◌∙◌, Ok, Result, ap, sym}
 use Rattle.std.proofs.lemmas.Result.{err_from_is_err_and}
+use Rattle.elf_format.specs.declared.fault.ElfFault.{ElfFault}
+use Rattle.elf_format.specs.Image.{Image, image_of}
 use Rattle.elf_format.specs.Stages.{link_rules, parts_read}
 use Rattle.elf_rules.specs.Read.{parts_seen}
 use Rattle.elf_format.specs.Rules.{checked, placement_rules}
-use Rattle.elf_image.proofs.ReadSteps.{links_refused, open_refused, placement_refused, refused_is, texts_answer}
+use Rattle.elf_image.specs.ImageSteps.{image_gathered}
+use Rattle.elf_image.proofs.EditedLaws.{read_is_edited}
+use Rattle.elf_image.proofs.ReadSteps.{links_refused, no_image, open_refused, placement_refused, refused_is, texts_read}
 use Rattle.elf_image.proofs.builder.Builder.read.Goals as goal
 
 pub returns-in_err-parts : goal.returns-in_err-parts
@@ -23,5 +28,24 @@ returns-in_err-kinds c =
     rw (e.1, e.2) (λ other. links_refused c.args.bytes.now (parts_seen c.in_ok-parts.parts) c.in_ok-parts.ensures c.in_ok-check_placement.ensures c.in_err-kinds.field-0.0
     (refused_is c.in_err-kinds.field-0.0 (checked link_rules (parts_seen c.in_ok-parts.parts)) c.in_err-kinds.ensures other))
 
+pub returns-in_err-gathered : goal.returns-in_err-gathered
+returns-in_err-gathered c =
+    let e = err_from_is_err_and c.from_residual-in_err-gathered.result c.from_residual-in_err-gathered.ensures.1 in
+    rw (e.1, e.2) (no_image c.args.bytes.now (parts_seen c.in_ok-parts.parts) c.in_ok-parts.ensures c.in_ok-check_placement.ensures c.in_ok-kinds.ensures.0
+    (image_gathered (parts_seen c.in_ok-parts.parts)) c.in_err-gathered.field-0.0 c.in_err-gathered.ensures)
+
+pub builder-requires : goal.builder-requires
+builder-requires c =
+    read_is_edited c.args.bytes.now (image_gathered (parts_seen c.in_ok-parts.parts) c.in_ok-gathered.gathered)
+    (texts_read c.args.bytes.now (parts_seen c.in_ok-parts.parts) c.in_ok-parts.ensures c.in_ok-check_placement.ensures c.in_ok-kinds.ensures.0
+    (image_gathered (parts_seen c.in_ok-parts.parts)) c.in_ok-gathered.gathered c.in_ok-gathered.ensures)
+
+answer_of : Image → Result Image ElfFault
+answer_of i = Ok i
+
 pub returns : goal.returns
-returns c = texts_answer c.args.bytes.now (parts_seen c.in_ok-parts.parts) c.in_ok-parts.ensures c.in_ok-check_placement.ensures c.in_ok-kinds.ensures.0 c.image_and_last.result c.image_and_last.ensures
+unfolding answer_of
+returns c =
+    let read : image_of c.args.bytes.now ≡ Ok (image_gathered (parts_seen c.in_ok-parts.parts) c.in_ok-gathered.gathered) = texts_read c.args.bytes.now (parts_seen c.in_ok-parts.parts) c.in_ok-parts.ensures c.in_ok-check_placement.ensures c.in_ok-kinds.ensures.0
+    (image_gathered (parts_seen c.in_ok-parts.parts)) c.in_ok-gathered.gathered c.in_ok-gathered.ensures in
+    read ∙ ap answer_of (sym c.builder.ensures)

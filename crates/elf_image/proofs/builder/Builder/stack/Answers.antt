@@ -1,4 +1,4 @@
-use Rattle.std.proofs.Common.{sym, ap, map, ◌∙◌, List, Option, option_map}
+use Rattle.std.proofs.Common.{sym, ap, ◌∙◌, List, Option, option_map}
 use Rattle.std.specs.Prelude.{position}
 use Rattle.std.specs.Borrow.{Bor}
 use Rattle.elf_format.specs.declared.constants.TheConstants.{PT_GNU_STACK}

@@ -1,0 +1,136 @@
+use arwen_commands::{ArwenError, MachoCommand, add, patch_store};
+use byte_store::{MemoryStore, Store};
+use std::alloc::{AllocError, Global};
+use std::io;
+use std::process::Abort;
+use std::test::Fail;
+
+// The header and the table of a fat file with two slices, at 48 and at 92.
+const TABLE: &[u8; 48] = b"\xca\xfe\xba\xbe\0\0\0\x02\
+\0\0\0\x07\0\0\0\x03\0\0\0\x30\0\0\0\x2c\0\0\0\0\
+\0\0\0\x07\0\0\0\x04\0\0\0\x5c\0\0\0\x2c\0\0\0\0";
+
+// A narrow file in big-endian order with no commands, and with room for one of 16 bytes.
+const PLAIN: &[u8; 44] = b"\xfe\xed\xfa\xce\0\0\0\x07\0\0\0\x03\0\0\0\x06\
+\0\0\0\0\0\0\0\0\0\0\0\x85\0\0\0\0\0\0\0\0\0\0\0\0\0\0\0\0";
+
+// The same with the run path `/a`.
+const WITH_RPATH: &[u8; 44] = b"\xfe\xed\xfa\xce\0\0\0\x07\0\0\0\x03\0\0\0\x06\
+\0\0\0\x01\0\0\0\x10\0\0\0\x85\x80\0\0\x1c\0\0\0\x10\0\0\0\x0c/a\0\0";
+
+// A store in memory that takes so many writes, and fails at the next.
+#[derive(Drop)]
+struct Failing {
+    inner: MemoryStore,
+    writes: usize,
+}
+
+impl Store for Failing {
+    ghost is_writable = { λ store. store.inner.is_open };
+
+    fn length(&self) -> io::Result<u64> {
+        self.inner.length()
+    }
+
+    fn read_at(&mut self, offset: u64, buffer: &mut [u8]) -> io::Result<usize> {
+        self.inner.read_at(offset, buffer)
+    }
+
+    fn open_for_writing(&mut self) -> io::Result<()> {
+        self.inner.open_for_writing()
+    }
+
+    fn write_at(&mut self, offset: u64, bytes: &[u8]) -> io::Result<usize> {
+        if self.writes == 0 {
+            return Err(io::Error::from(io::ErrorKind::StorageFull));
+        }
+        self.writes -= 1;
+        self.inner.write_at(offset, bytes)
+    }
+
+    fn set_length(&mut self, length: u64) -> io::Result<()> {
+        self.inner.set_length(length)
+    }
+}
+
+// A fat file of two slices.
+fn file_once(alloc: Global, first: &[u8], second: &[u8]) -> Result<Vec<u8>, AllocError> {
+    let mut file = Vec::with_capacity(alloc, 136)?;
+    file.extend_from_slice(TABLE)?;
+    file.extend_from_slice(first)?;
+    file.extend_from_slice(second)?;
+    Ok(file)
+}
+
+fn file(alloc: Global, first: &[u8], second: &[u8]) -> Result<Vec<u8>, AllocError> {
+    match file_once(alloc, first, second) {
+        Err(_) => file_once(alloc, first, second),
+        made => made,
+    }
+}
+
+// The command that adds the run path `/a`.
+fn command_once(alloc: Global) -> Result<MachoCommand, AllocError> {
+    Ok(MachoCommand::AddRpath(add::Args {
+        new_rpath: String::from_str(alloc, "/a")?,
+        path_to_binary: String::new(alloc),
+    }))
+}
+
+fn command(alloc: Global) -> Result<MachoCommand, AllocError> {
+    match command_once(alloc) {
+        Err(_) => command_once(alloc),
+        made => made,
+    }
+}
+
+// Adds the run path to a store. Where memory is refused its bytes are the old ones, and it is tried again.
+fn patched(
+    rt: &impl Abort,
+    alloc: Global,
+    store: &mut Failing,
+    command: &MachoCommand,
+    old: &[u8],
+) -> Result<(), ArwenError> {
+    let answer = patch_store(alloc, store, command);
+    if let Err(ArwenError::Memory) = &answer {
+        assert_eq!(rt; store.inner.bytes.as_slice(), old);
+        return patch_store(alloc, store, command);
+    }
+    answer
+}
+
+// What is left of a file of which both slices are edited, where so many writes succeed. The last slice is
+// written first.
+fn expect_left(
+    rt: &impl Abort,
+    alloc: Global,
+    writes: usize,
+    first: &[u8],
+    second: &[u8],
+) -> Result<(), Fail> {
+    let command = command(alloc)?;
+    let old = file(alloc, PLAIN, PLAIN)?;
+    let mut store = Failing {
+        inner: MemoryStore::new(file(alloc, PLAIN, PLAIN)?),
+        writes,
+    };
+    let answer = patched(rt, alloc, &mut store, &command, old.as_slice());
+    let is_right = match answer {
+        Ok(()) => writes >= 2,
+        Err(ArwenError::Io(_)) => writes < 2,
+        Err(_) => false,
+    };
+    assert!(rt; is_right, "{writes}");
+    let left = file(alloc, first, second)?;
+    assert_eq!(rt; store.inner.bytes.as_slice(), left.as_slice(), "{writes}");
+    Ok(())
+}
+
+#[test]
+fn leaves_what_was_written(rt: HostRuntime) -> Result<(), Fail> {
+    let alloc = rt.alloc();
+    expect_left(&rt, alloc, 0, PLAIN, PLAIN)?;
+    expect_left(&rt, alloc, 1, PLAIN, WITH_RPATH)?;
+    expect_left(&rt, alloc, 2, WITH_RPATH, WITH_RPATH)
+}

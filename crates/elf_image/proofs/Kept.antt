@@ -1,0 +1,106 @@
+-- A changed image was read and edited, where the one before it was.
+use Rattle.std.proofs.Common.{◌≡◌, ℕ, List, sym, ap, ◌∙◌, inr, subst, Option, Some, None, true}
+use Rattle.std.specs.Prelude.{IsSome, IsTrue, not}
+use Rattle.std.specs.Option.{option_map}
+use Rattle.std.proofs.lemmas.Bool.{true≢false}
+use Rattle.elf_format.specs.declared.header.Header.{Header}
+use Rattle.elf_format.specs.declared.records.SegmentHeader.{SegmentHeader}
+use Rattle.elf_format.specs.Dynamic.{Entry}
+use Rattle.elf_format.specs.Image.{Image}
+use Rattle.elf_image.specs.DynamicList.{all_but_last, holds_nul}
+use Rattle.elf_image.specs.Edited.{AreEntriesOf, AreSegments, IsEdited, IsInterpreterOf}
+
+-- another dynamic list, that is one of what was read where the one before is
+pub with_entries : (image : Image) (new : Option (List Entry)) → IsEdited image → ((read : Option (List Entry)) → AreEntriesOf read image.entries → AreEntriesOf read new)
+    → IsEdited (record image { changed = true; entries = new })
+with_entries image new h step = record {
+  read = h.read;
+  is_read = h.is_read;
+  is_edit = record {
+    form = h.is_edit.form;
+    header = h.is_edit.header;
+    segments = h.is_edit.segments;
+    sections = h.is_edit.sections;
+    symbols = h.is_edit.symbols;
+    dynamic_symbols = h.is_edit.dynamic_symbols;
+    definitions = h.is_edit.definitions;
+    needs = h.is_edit.needs;
+    entries = step h.read.entries h.is_edit.entries;
+    interpreter = h.is_edit.interpreter;
+    unchanged = λ e. absurd (true≢false e);
+  };
+}
+
+-- other program headers, and another page size
+pub with_segments : (image : Image) (size : Option ℕ) (new : List SegmentHeader) → IsEdited image → ((read : List SegmentHeader) → AreSegments image.page_size read image.segments → AreSegments size read new)
+    → IsEdited (record image { changed = true; segments = new; page_size = size })
+with_segments image size new h step = record {
+  read = h.read;
+  is_read = h.is_read;
+  is_edit = record {
+    form = h.is_edit.form;
+    header = h.is_edit.header;
+    segments = step h.read.segments h.is_edit.segments;
+    sections = h.is_edit.sections;
+    symbols = h.is_edit.symbols;
+    dynamic_symbols = h.is_edit.dynamic_symbols;
+    definitions = h.is_edit.definitions;
+    needs = h.is_edit.needs;
+    entries = h.is_edit.entries;
+    interpreter = h.is_edit.interpreter;
+    unchanged = λ e. absurd (true≢false e);
+  };
+}
+
+interpreter_set : (read now : Option (List ℕ)) (bytes : List ℕ) → IsSome now → IsTrue (not (holds_nul (all_but_last bytes))) → IsInterpreterOf read now → IsInterpreterOf read (Some bytes)
+interpreter_set None None bytes there no_nul h = absurd (true≢false (sym there))
+interpreter_set None (Some now) bytes there no_nul h = absurd h
+interpreter_set (Some read) now bytes there no_nul h = inr no_nul
+
+-- another interpreter
+pub with_interpreter : (image : Image) (bytes : List ℕ) → IsEdited image → IsSome image.interpreter → IsTrue (not (holds_nul (all_but_last bytes)))
+    → IsEdited (record image { changed = true; interpreter = Some bytes })
+with_interpreter image bytes h there no_nul = record {
+  read = h.read;
+  is_read = h.is_read;
+  is_edit = record {
+    form = h.is_edit.form;
+    header = h.is_edit.header;
+    segments = h.is_edit.segments;
+    sections = h.is_edit.sections;
+    symbols = h.is_edit.symbols;
+    dynamic_symbols = h.is_edit.dynamic_symbols;
+    definitions = h.is_edit.definitions;
+    needs = h.is_edit.needs;
+    entries = h.is_edit.entries;
+    interpreter = interpreter_set h.read.interpreter image.interpreter bytes there no_nul h.is_edit.interpreter;
+    unchanged = λ e. absurd (true≢false e);
+  };
+}
+
+-- another ABI
+pub with_os_abi : (image : Image) (byte : ℕ) → IsEdited image → IsEdited (record image { changed = true; header = record image.header { os_abi = byte } })
+with_os_abi image byte h = record {
+  read = h.read;
+  is_read = h.is_read;
+  is_edit = record {
+    form = h.is_edit.form;
+    header = ap (λ (header : Header). record header { os_abi = byte }) h.is_edit.header;
+    segments = h.is_edit.segments;
+    sections = h.is_edit.sections;
+    symbols = h.is_edit.symbols;
+    dynamic_symbols = h.is_edit.dynamic_symbols;
+    definitions = h.is_edit.definitions;
+    needs = h.is_edit.needs;
+    entries = h.is_edit.entries;
+    interpreter = h.is_edit.interpreter;
+    unchanged = λ e. absurd (true≢false e);
+  };
+}
+
+-- the list after a change of one that is there
+pub with_list : (image : Image) (now new : List Entry) (change : List Entry → List Entry) → image.entries ≡ Some now → new ≡ change now → IsEdited image
+    → ((read : Option (List Entry)) → AreEntriesOf read image.entries → AreEntriesOf read (option_map change image.entries))
+    → IsEdited (record image { changed = true; entries = Some new })
+with_list image now new change is changes h step =
+    with_entries image (Some new) h (λ read g. subst (λ (o : Option (List Entry)). AreEntriesOf read o) (ap (λ (o : Option (List Entry)). option_map change o) is ∙ ap (λ (l : List Entry). Some l) (sym changes)) (step read g))

@@ -1,0 +1,5 @@
+pub mod Strings
+pub mod StringSteps
+pub mod VersionRecords
+pub mod VersionSteps
+pub mod Rows

@@ -1,0 +1,55 @@
+ghost use Rattle.std.specs.Prelude.{◌≡◌, ◌≤◌, ◌<◌, ◌^◌, ◌+◌, false, length, map, nat_eq, MatchResult};
+ghost use Rattle.std.specs.List.{ends_with};
+ghost use Rattle.elf_tables.specs.declared.fault.TableFault.TheVariants.{NumberTooLarge};
+ghost use Rattle.elf_tables.specs.Strings.{HoldNoNul};
+ghost use Rattle.elf_tables.specs.StringSteps.{IsLaid, PutsText, StandsWith, laid_length};
+
+use crate::fault::TableFault;
+use crate::finished::Finished;
+use std::alloc::Global;
+use std::collections::HashMap;
+
+// How many bytes a table may have: each has an offset of 32 bits.
+const MOST_BYTES: usize = 0x1_0000_0000;
+
+// Puts a text into a table, where `last` stands at a place, and tells where the text stands.
+fn put_text(bytes: &mut Vec<u8>, last: &[u8], place: u32, text: &[u8]) -> Result<u32, TableFault>
+    requires fits { length bytes.old.items ≤ 2 ^ 32 }
+    requires last_stands { StandsWith bytes.old.items place last.now }
+    ensures { MatchResult result
+        (PutsText bytes.old.items bytes.new.items last.now text.now)
+        (λ fault. fault ≡ NumberTooLarge → (ends_with nat_eq last.now text.now ≡ false)
+        × (2 ^ 32 < length bytes.old.items + (length text.now + 1))) }
+{
+    if last.ends_with(text) {
+        return Ok(place + (last.len() - text.len()) as u32);
+    }
+    let end = bytes.len();
+    if text.len() >= MOST_BYTES - end {
+        return Err(TableFault::NumberTooLarge);
+    }
+    bytes.extend_from_slice(text)?;
+    bytes.push(0)?;
+    Ok(end as u32)
+}
+
+// The table of texts in an order in which each stands behind those that end with it. Each stands within the one
+// before it where it ends that one.
+pub(crate) fn lay<'t>(alloc: Global, texts: &[&'t [u8]]) -> Result<Finished<'t>, TableFault>
+    requires { HoldNoNul (map (λ text. text.now) texts.now) }
+    ensures { MatchResult result
+        (IsLaid (map (λ text. text.now) texts.now))
+        (λ fault. fault ≡ NumberTooLarge
+        → 2 ^ 32 < laid_length (map (λ text. text.now) texts.now)) }
+{
+    let mut bytes = Vec::from_slice(alloc, &[0])?;
+    let mut places = HashMap::new(alloc);
+    let mut last: &[u8] = &[];
+    let mut place = 0;
+    for text in texts {
+        place = put_text(&mut bytes, last, place, text)?;
+        places.insert(*text, place)?;
+        last = text;
+    }
+    Ok(Finished { bytes, places })
+}

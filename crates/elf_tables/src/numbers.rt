@@ -1,0 +1,54 @@
+ghost use Rattle.std.specs.Prelude.{◌≡◌, ◌<◌, ◌++◌, map, OnOk};
+ghost use Rattle.patch_bytes.specs.Number.{bytes_of};
+ghost use Rattle.elf_tables.specs.VersionRecords.{fields, halves, words};
+
+use patch_bytes::ByteOrder2;
+use std::alloc::AllocError;
+
+// The bytes of a number of two bytes.
+fn half_bytes(order: ByteOrder2, number: u16) -> [u8; 2]
+    ensures { result ≡ bytes_of order 2 number }
+{
+    match order {
+        ByteOrder2::Little => number.to_le_bytes(),
+        ByteOrder2::Big => number.to_be_bytes(),
+    }
+}
+
+// The bytes of a number of four bytes.
+fn word_bytes(order: ByteOrder2, number: u32) -> [u8; 4]
+    ensures { result ≡ bytes_of order 4 number }
+{
+    match order {
+        ByteOrder2::Little => number.to_le_bytes(),
+        ByteOrder2::Big => number.to_be_bytes(),
+    }
+}
+
+// Appends numbers of two bytes.
+pub(crate) fn push_halves(
+    bytes: &mut Vec<u8>,
+    order: ByteOrder2,
+    numbers: &[u16],
+) -> Result<(), AllocError>
+    ensures { OnOk result (bytes.new.items ≡ bytes.old.items ++ fields order (halves numbers.now)) }
+{
+    for number in numbers {
+        bytes.extend_from_slice(&half_bytes(order, *number))?;
+    }
+    Ok(())
+}
+
+// Appends numbers of four bytes.
+pub(crate) fn push_words(
+    bytes: &mut Vec<u8>,
+    order: ByteOrder2,
+    numbers: &[u32],
+) -> Result<(), AllocError>
+    ensures { OnOk result (bytes.new.items ≡ bytes.old.items ++ fields order (words numbers.now)) }
+{
+    for number in numbers {
+        bytes.extend_from_slice(&word_bytes(order, *number))?;
+    }
+    Ok(())
+}

@@ -1,0 +1,72 @@
+ghost use Rattle.std.specs.Prelude.{◌≡◌, reverse};
+ghost use Rattle.std.specs.Cmp.Lexicographic.{slice_cmp};
+ghost use Rattle.std.specs.Ordering.{nat_cmp};
+
+use crate::fault::TableFault;
+use crate::finished::Finished;
+use crate::laid::lay;
+use std::alloc::{AllocError, Global};
+use std::cmp::Ordering;
+use std::marker::Model;
+
+// How two texts compare by their bytes, the last one first.
+fn from_their_ends(a: &[u8], b: &[u8]) -> Ordering
+    ensures { result ≡ slice_cmp nat_cmp (reverse a.now) (reverse b.now) }
+{
+    a.iter().rev().cmp(b.iter().rev())
+}
+
+/// The texts of a string table that isn't finished (gABI, String Table).
+#[derive(Drop)]
+pub struct StringTable<'t> {
+    texts: Vec<&'t [u8]>,
+}
+
+impl<'t> Model for StringTable<'t> {
+    ghost use Rattle.std.specs.Prelude.{List, ℕ, map};
+    ghost use Rattle.elf_tables.specs.Strings.{HoldNoNul};
+
+    ghost Value = { List (List ℕ) };
+
+    ghost view = { λ s. map (λ text. text.now) s.texts.items };
+
+    ghost invariant = { λ s. HoldNoNul (map (λ text. text.now) s.texts.items) };
+}
+
+impl<'t> StringTable<'t> {
+    ghost use Rattle.std.specs.Prelude.{◌≤◌, ◌<◌, ◌^◌, [], ◌∷◌, ◌++◌, false, IfOk, MatchResult, OnErr, OnOk};
+    ghost use Rattle.elf_tables.specs.declared.fault.TableFault.TheVariants.{NumberTooLarge};
+    ghost use Rattle.elf_tables.specs.Strings.{IsTableOf, PlacesStand, holds_nul, table_length};
+
+    /// No text. Takes no memory.
+    pub fn new(alloc: Global) -> Self
+        ensures { result ≡ [] }
+    {
+        StringTable {
+            texts: Vec::new(alloc),
+        }
+    }
+
+    /// Adds a text, which has no NUL in it.
+    pub fn add(&mut self, text: &'t [u8]) -> Result<(), AllocError>
+        requires { holds_nul text.now ≡ false }
+        ensures ok { OnOk result (self.new ≡ self.old ++ text.entry.now ∷ []) }
+        ensures err { OnErr result (self.new ≡ self.old) }
+    {
+        self.texts.push(text)?;
+        Ok(())
+    }
+
+    /// The table of these texts, which is as short as their common ends allow. `NumberTooLarge` where it has more
+    /// than 2 to the 32 bytes, so that the last of them has an offset past 32 bits.
+    pub fn finish(self, alloc: Global) -> Result<Finished<'t>, TableFault>
+        ensures table { MatchResult result
+            (λ table. IsTableOf self.entry table × (table_length self.entry ≤ 2 ^ 32))
+            (λ fault. fault ≡ NumberTooLarge → 2 ^ 32 < table_length self.entry) }
+        ensures stands { IfOk result PlacesStand }
+    {
+        let mut texts = self.texts;
+        texts.sort_unstable_by(|a, b| from_their_ends(b, a));
+        lay(alloc, texts.as_slice())
+    }
+}
