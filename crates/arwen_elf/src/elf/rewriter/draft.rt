@@ -103,7 +103,6 @@ impl<'data> Draft<'data> {
     }
 
     // Writes what an edit makes, against which no cause stands.
-    #[tactic(none)]
     pub(crate) fn write(
         &mut self,
         alloc: Global,
@@ -156,7 +155,6 @@ impl<'data> Draft<'data> {
     }
 
     // The same of an edit of a batch.
-    #[tactic(none)]
     pub(crate) fn write_edit(
         &mut self,
         alloc: Global,

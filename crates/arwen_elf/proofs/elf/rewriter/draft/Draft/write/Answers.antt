@@ -1,6 +1,6 @@
 -- Each edit writes its part.
-use Rattle.std.proofs.Common.{◌≡◌, ℕ, ◌-◌, List, Bool, false, Option, None, Some, Result, Ok, Err, ap, refl, subst, sym, ◌∙◌}
-use Rattle.std.specs.Prelude.{IfOk, bit_and, bit_or}
+use Rattle.std.proofs.Common.{◌≡◌, ℕ, List, false, Option, None, Some, Result, Ok, Err, ap, refl, subst, sym, ◌∙◌}
+use Rattle.std.specs.Prelude.{IfOk}
 use denote.Ref.{Bor}
 use Rattle.elf_edits.specs.Abi.{abi_number, with_nul}
 use Rattle.elf_edits.specs.Called.{call_meant}
@@ -71,7 +71,7 @@ pub returns-in-SetInterpreter : goal.returns-in-SetInterpreter
 returns-in-SetInterpreter c = interpreter_arm c.args.call.now c.args.builder.now c.args.self.now c.requires.draft c.write_interpreter.result c.in-SetInterpreter.bytes c.write_interpreter.new.self c.requires.free c.in-SetInterpreter.is c.write_interpreter.ensures
 
 pub returns-in-SetOsAbi : goal.returns-in-SetOsAbi
-returns-in-SetOsAbi c = os_abi_arm c.args.call.now c.args.builder.now c.args.self.now c.requires.draft c.in-SetOsAbi.name c.abi_number.result c.requires.free c.in-SetOsAbi.is c.abi_number.ensures
+returns-in-SetOsAbi c = os_abi_arm c.args.call.now c.args.builder.now c.args.self.now c.requires.draft c.in-SetOsAbi.name c.abi_number-self.result c.requires.free c.in-SetOsAbi.is c.abi_number-self.ensures
 
 pub returns-in-ClearExecStack : goal.returns-in-ClearExecStack
 returns-in-ClearExecStack c = cleared_arm c.args.call.now c.args.builder.now c.args.self.now c.requires.draft c.flags-flags.result c.in-ClearExecStack.is c.flags-flags.ensures
