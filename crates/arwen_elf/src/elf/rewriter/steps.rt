@@ -93,7 +93,6 @@ pub(crate) fn delete_needed(
 }
 
 // What the edits of a batch write, none of which is refused.
-#[tactic(none)]
 fn all_written<'data>(
     alloc: Global,
     builder: &Builder<'data>,
@@ -111,7 +110,6 @@ fn all_written<'data>(
 }
 
 // The first edit that is refused, and why.
-#[tactic(none)]
 fn first_refusal<'e>(edits: &'e [ElfEdit], facts: &Facts) -> Option<(usize, Cause<'e>)>
     ensures { option_map refusal_meant result
         ≡ first_refusal_of facts.now 0 (edits_meant edits.now) }
@@ -230,7 +228,6 @@ pub(crate) fn set_page_size(builder: &mut Builder<'_>, size: u32) -> Result<()>
 }
 
 // The list with run paths that shrink, where no cause stands against it.
-#[tactic(none)]
 fn shrunk<'data>(
     alloc: Global,
     builder: &Builder<'data>,
@@ -244,7 +241,6 @@ fn shrunk<'data>(
 }
 
 // Shrinks the run paths, and answers the directories that went.
-#[tactic(none)]
 pub(crate) fn shrink_run_paths(
     builder: &mut Builder<'_>,
     alloc: Global,
