@@ -263,7 +263,7 @@ not_both : {P : Type 0} → true ≡ false → P
 not_both h = absurd (cc)
 
 -- an edit of the list leaves all else
-pub rest_stays : (edit : Edit) → touches_rest edit ≡ false → (image : Image) → edited_image edit image ≡ record image {
+rest_stays : (edit : Edit) → touches_rest edit ≡ false → (image : Image) → edited_image edit image ≡ record image {
   changed = image.changed || is_list_with (touches_entries image.header.e_machine edit) image.entries;
   entries = option_map (edited_entries image.header.e_machine edit) image.entries;
 }
@@ -309,7 +309,7 @@ list_there ClearExecStack image h free = not_both h
 list_there SetExecStack image h free = not_both h
 list_there (SetPageSize size) image h free = not_both h
 
-pub listed_in : (edit : Edit) (image : Image) → touches_rest edit ≡ false → IsFree edit (facts_of image) → (es : List Entry) × (image.entries ≡ Some es)
+listed_in : (edit : Edit) (image : Image) → touches_rest edit ≡ false → IsFree edit (facts_of image) → (es : List Entry) × (image.entries ≡ Some es)
 listed_in edit image h free = by_list image.entries (list_there edit image h free)
   where
     by_list : (o : Option (List Entry)) → is_some o ≡ true → (es : List Entry) × (o ≡ Some es)

@@ -4,4 +4,3 @@ pub mod DraftLaws
 pub mod HeldLaws
 pub mod TakenLaws
 pub mod BatchSteps
-pub mod ShrinkLaws

@@ -29,6 +29,7 @@ impl<'data> Writer<'data> {
 
     /// Applies batch after batch, each of them all or none, and answers each. After an error, that there is no memory
     /// for the answers, nothing was applied.
+    #[tactic(none)]
     pub fn apply_each(
         &mut self,
         alloc: Global,

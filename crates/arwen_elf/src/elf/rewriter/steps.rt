@@ -93,6 +93,7 @@ pub(crate) fn delete_needed(
 }
 
 // What the edits of a batch write, none of which is refused.
+#[tactic(none)]
 fn all_written<'data>(
     alloc: Global,
     builder: &Builder<'data>,
@@ -228,6 +229,7 @@ pub(crate) fn set_page_size(builder: &mut Builder<'_>, size: u32) -> Result<()>
 }
 
 // The list with run paths that shrink, where no cause stands against it.
+#[tactic(none)]
 fn shrunk<'data>(
     alloc: Global,
     builder: &Builder<'data>,
@@ -241,6 +243,7 @@ fn shrunk<'data>(
 }
 
 // Shrinks the run paths, and answers the directories that went.
+#[tactic(none)]
 pub(crate) fn shrink_run_paths(
     builder: &mut Builder<'_>,
     alloc: Global,
