@@ -3,3 +3,4 @@ pub mod PrintSteps
 pub mod DraftLaws
 pub mod HeldLaws
 pub mod TakenLaws
+pub mod BatchSteps

@@ -111,7 +111,6 @@ fn all_written<'data>(
 }
 
 // The first edit that is refused, and why.
-#[tactic(none)]
 fn first_refusal<'e>(edits: &'e [ElfEdit], facts: &Facts) -> Option<(usize, Cause<'e>)>
     ensures { option_map refusal_meant result
         ≡ first_refusal_of facts.now 0 (edits_meant edits.now) }
