@@ -1,6 +1,6 @@
 -- What a shrunk list leaves of an image.
 use Rattle.std.proofs.Common.{◌≡◌, ℕ, Bool, true, false, ◌||◌, List, [], ◌∷◌, map, refl, sym, ap, subst, ◌∙◌, Option, Some, None, option_map, Result, Ok, Err}
-use Rattle.std.specs.Prelude.{All, unwrap_or}
+use Rattle.std.specs.Prelude.{All, IfOk, unwrap_or}
 use Rattle.elf_image.specs.Dynamic.{Entry}
 use Rattle.elf_image.specs.DynamicList.{IsListed, KeepsTables}
 use Rattle.elf_image.specs.Image.{Image}
@@ -10,7 +10,7 @@ use Rattle.elf_edits.specs.declared.shrinking.ShrunkList.{ShrunkList}
 use Rattle.elf_edits.specs.Cause.{cause, facts_of}
 use Rattle.elf_edits.specs.Edit.{Answer, Edit, ShrinkRunPath}
 use Rattle.elf_edits.specs.Edited.{edited_image, is_list_with, removed_by, step}
-use Rattle.elf_edits.specs.Entries.{directories_removed, edited_entries, search_of, touches_entries}
+use Rattle.elf_edits.specs.Entries.{directories_removed, edited_entries, search_of, touches_entries, with_run_paths_shrunk}
 use Rattle.elf_edits.specs.ShrunkSeen.{removal_meant}
 use Rattle.elf_edits.specs.Texts.{has_some}
 use Rattle.elf_edits.proofs.ForCallers.{is_free, lists_again, step_is, untouched}
@@ -21,6 +21,24 @@ use Rattle.arwen_elf.proofs.DraftLaws.{listed_in, or_false, or_true, rest_stays}
 pub record CanPut (image : Image) (es : List Entry) : Type 0 where
   pub tables : KeepsTables image.entries es
   pub entries : All IsListed es
+
+-- a list that shrank, by the entries and the machine of the image
+pub shrunk_is : {E : Type 0} (r : Result ShrunkList E) (prefixes : List (List ℕ)) (answers : List Answer) (machine : ℕ) (es : List Entry) (image : Image) → machine ≡ image.header.e_machine → es ≡ unwrap_or image.entries []
+    → IfOk r (λ made. map entry_kept made.entries.items ≡ with_run_paths_shrunk (search_of machine prefixes answers es) es)
+    → IfOk r (λ made. map removal_meant made.removed.items ≡ directories_removed (search_of machine prefixes answers es) es)
+    → IfOk r (IsShrunkOf (ShrinkRunPath prefixes answers) image)
+unfolding edited_entries
+shrunk_is (Ok made) prefixes answers machine es image of_machine of_list list gone = record {
+  entries =
+      list
+      ∙ ap (λ (l : List Entry). with_run_paths_shrunk (search_of machine prefixes answers l) l) of_list
+      ∙ ap (λ m. with_run_paths_shrunk (search_of m prefixes answers (unwrap_or image.entries [])) (unwrap_or image.entries [])) of_machine;
+  removed =
+      gone
+      ∙ ap (λ (l : List Entry). directories_removed (search_of machine prefixes answers l) l) of_list
+      ∙ ap (λ m. directories_removed (search_of m prefixes answers (unwrap_or image.entries [])) (unwrap_or image.entries [])) of_machine;
+}
+shrunk_is (Err e) prefixes answers machine es image of_machine of_list list gone = tt
 
 some_changed : {A B : Type 0} (f : A → B) (xs : List A) → has_some (map f xs) ≡ has_some xs
 some_changed f [] = refl
@@ -64,7 +82,7 @@ module _ (prefixes : List (List ℕ)) (answers : List Answer) (old : Image) (non
   marked made is =
       ap (is_list_with (touches_entries old.header.e_machine (ShrinkRunPath prefixes answers))) there.1
       ∙ sym (ap (λ (o : Option (List Entry)). has_some (removed_by (ShrinkRunPath prefixes answers) (record old { entries = o }))) there.1)
-      ∙ sym (ap (λ (l). has_some l) (removed_are made is))
+      ∙ sym (ap has_some (removed_are made is))
       ∙ some_changed removal_meant made.removed.items
 
   pub some_gone : (made : ShrunkList) (new : Image) → IsShrunkOf (ShrinkRunPath prefixes answers) old made → has_some made.removed.items ≡ true
