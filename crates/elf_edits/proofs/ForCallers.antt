@@ -11,3 +11,5 @@ pub use Rattle.elf_edits.proofs.ListedLaws.{ListsAgain, lists_again}
 pub use Rattle.elf_edits.proofs.UntouchedLaws.{untouched}
 -- a stored interpreter has a NUL last or nowhere
 pub use Rattle.elf_edits.proofs.StoredLaws.{stored_whole}
+-- lists of entries that are changed, filtered and looked through
+pub use Rattle.elf_edits.proofs.ListLaws.{All-map_each, All-of_none, by_test, changed_where_none, filter-filter, flat_map-changed, list_any-filter, list_any-map, map_twice, none_after, none_kept}

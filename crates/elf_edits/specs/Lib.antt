@@ -11,5 +11,3 @@ pub mod Called
 pub mod CauseSeen
 pub mod ShrunkSeen
 pub mod Steps
-pub mod Laws
-pub mod Rows

@@ -14,10 +14,10 @@ use Rattle.elf_image.specs.Image.{entry_tag}
 use Rattle.elf_image.specs.Options.{first_there}
 use Rattle.elf_edits.specs.declared.constants.TheConstants.{COLON}
 use Rattle.elf_edits.specs.Entries.{changed_where, edited_entries, has_tag, is_run_path, needed_names, needs_one_of, text_if, with_text, with_text_changed, with_text_set}
-use Rattle.elf_edits.specs.Laws.{MapsAtOnce, OthersStayInOrder, RunPathsAreSet, ShrinkingTells, swap_of}
+use Rattle.elf_edit_laws.specs.Laws.{MapsAtOnce, OthersStayInOrder, RunPathsAreSet, ShrinkingTells, swap_of}
 use Rattle.elf_edits.specs.Shrunk.{Removal, Search, reason_of, stays}
 use Rattle.elf_edits.specs.Texts.{directories_in, joined, value_of}
-use Rattle.elf_edits.proofs.ListLaws.{All-map_each, All-of_none, by_test, filter-filter, flat_map-changed, list_any-map, none_kept}
+use Rattle.elf_edits.proofs.ForCallers.{All-map_each, All-of_none, by_test, filter-filter, flat_map-changed, list_any-map, none_kept}
 
 -- ## The run path is set
 

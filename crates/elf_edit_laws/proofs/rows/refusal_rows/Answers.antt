@@ -1,7 +1,7 @@
 -- Each row is computed.
 use Rattle.std.proofs.Common.{refl}
-use Rattle.elf_edits.proofs.Computing.{computing}
-use Rattle.elf_edits.proofs.rows.refusal_rows.Goals as goal
+use Rattle.elf_edit_laws.proofs.Computing.{computing}
+use Rattle.elf_edit_laws.proofs.rows.refusal_rows.Goals as goal
 
 pub returns-clause-causes : goal.returns-clause-causes
 unfolding computing

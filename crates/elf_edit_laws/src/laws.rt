@@ -1,5 +1,5 @@
 //! What is proved of the edits themselves. The functions do nothing: each stands for the law that is its contract.
-ghost use Rattle.elf_edits.specs.Laws.{BatchesAreTheirEdits, EditsShow, ListsOfBatches, MapsAtOnce, OthersStayInOrder, RunPathsAreSet, ShrinkingTells, TwiceIsOnce};
+ghost use Rattle.elf_edit_laws.specs.Laws.{BatchesAreTheirEdits, EditsShow, ListsOfBatches, MapsAtOnce, OthersStayInOrder, RunPathsAreSet, ShrinkingTells, TwiceIsOnce};
 
 /// An edited image shows the edited view, and all that edits leave is as it was.
 #[tactic(auto, using(crate::proofs::ShownLaws::edits_show))]

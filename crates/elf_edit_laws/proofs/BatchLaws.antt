@@ -5,8 +5,8 @@ use Rattle.elf_edits.specs.Batch.{answer_at, answers, left_by, left_by_all, refu
 use Rattle.elf_edits.specs.Cause.{Cause}
 use Rattle.elf_edits.specs.Edit.{Edit}
 use Rattle.elf_edits.specs.Edited.{edited_view, step}
-use Rattle.elf_edits.specs.Laws.{BatchesAreTheirEdits, ListsOfBatches, viewed}
-use Rattle.elf_edits.proofs.ShownLaws.{edits_show}
+use Rattle.elf_edit_laws.specs.Laws.{BatchesAreTheirEdits, ListsOfBatches, viewed}
+use Rattle.elf_edit_laws.proofs.ShownLaws.{edits_show}
 
 -- what follows upon the answer of the first edit, by what that is
 run_both : (xs ys : List Edit) (done : ℕ) (image : Image) → run_from done (xs ++ ys) image ≡ then_on (run_from done xs image) (run_from (done + length xs) ys)

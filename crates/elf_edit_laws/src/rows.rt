@@ -1,6 +1,6 @@
 //! Small lists and images, and what the edits make of them. The functions do nothing: the contract of each is
 //! computed.
-ghost use Rattle.elf_edits.specs.Rows.{AbiRows, BatchRows, InterpreterRows, MarkRows, NeededRows, OtherEntryRows, PageRows, RefusalRows, RunPathRows, ShrinkRows, StackRows};
+ghost use Rattle.elf_edit_laws.specs.Rows.{AbiRows, BatchRows, InterpreterRows, MarkRows, NeededRows, OtherEntryRows, PageRows, RefusalRows, RunPathRows, ShrinkRows, StackRows};
 
 /// Run paths, needed libraries and the other entries.
 pub fn list_rows()

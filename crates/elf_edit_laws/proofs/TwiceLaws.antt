@@ -15,9 +15,9 @@ use Rattle.elf_edits.specs.Cause.{Cause, MipsImage, NoDynamic, cause, cause_if, 
 use Rattle.elf_edits.specs.Edit.{AddDebugEntry, Edit, NoDefaultLibrary, UseRpath}
 use Rattle.elf_edits.specs.Edited.{edited_image, is_list_with, step, touches}
 use Rattle.elf_edits.specs.Entries.{changed_where, edited_entries, has_tag, touches_entries, with_bits, with_tag}
-use Rattle.elf_edits.specs.Laws.{ChangesNothingAgain, IsDoneAtOnce, TwiceIsOnce}
-use Rattle.elf_edits.proofs.ListLaws.{by_test, changed_where_none, list_any-map, map_twice, none_after}
-use Rattle.elf_edits.proofs.ShownLaws.{accepted_step, step_of}
+use Rattle.elf_edit_laws.specs.Laws.{ChangesNothingAgain, IsDoneAtOnce, TwiceIsOnce}
+use Rattle.elf_edits.proofs.ForCallers.{by_test, changed_where_none, list_any-map, map_twice, none_after}
+use Rattle.elf_edit_laws.proofs.ShownLaws.{accepted_step, step_of}
 
 -- ## DT_RUNPATH becomes DT_RPATH
 

@@ -18,9 +18,9 @@ use Rattle.elf_edits.specs.Edited.{edited_image, edited_segments, edited_view, s
 use Rattle.elf_edits.specs.Entries.{changed_where, edited_entries, has_tag, is_run_path, needs_one_of, with_tag, with_text, with_text_changed, with_bits, with_each_added, not_needed_yet, search_of}
 use Rattle.elf_edits.specs.declared.constants.TheConstants.{DF_1_NODEFLIB}
 use Rattle.elf_edits.specs.Shrunk.{shrunk}
-use Rattle.elf_edits.specs.Laws.{EditsShow, KeepsTheRest}
+use Rattle.elf_edit_laws.specs.Laws.{EditsShow, KeepsTheRest}
 use Rattle.elf_edits.specs.Texts.{is_among, joined, value_of}
-use Rattle.elf_edits.proofs.ListLaws.{by_test, list_any-filter, list_any-map}
+use Rattle.elf_edits.proofs.ForCallers.{by_test, list_any-filter, list_any-map}
 
 -- ## Tags that no edit touches
 

@@ -1,0 +1,5 @@
+pub mod Computing
+pub mod EntryLaws
+pub mod TwiceLaws
+pub mod ShownLaws
+pub mod BatchLaws
