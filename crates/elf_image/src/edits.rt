@@ -1,5 +1,5 @@
 //! The changes of an image, one part at a time.
-ghost use Rattle.std.specs.Prelude.{◌≡◌, ◌<◌, ◌==◌, All, MatchResult, IsSome, IsTrue, map, not, option_map, position, vec_len, None as none, Some as some, true};
+ghost use Rattle.std.specs.Prelude.{◌≡◌, ◌<◌, ◌==◌, All, IfOk, MatchResult, IsSome, IsTrue, map, not, option_map, position, vec_len, None as none, Some as some, true};
 ghost use Rattle.std.specs.List.{remove};
 ghost use Rattle.elf_format.specs.declared.constants.TheConstants.{PT_GNU_STACK as STACK};
 ghost use Rattle.elf_image.specs.DynamicList.{IsListed, KeepsTables, all_but_last, can_delete, can_retag, can_follow, holds_nul, is_free_tag, retagged, with_tag_at, without_tag};
@@ -9,7 +9,7 @@ ghost use Rattle.elf_image.specs.Segments.{added_stack as added_header, with_loa
 
 use crate::builder::Builder;
 use crate::dynamic::Dynamic;
-use crate::segment::{STACK_ALIGN, Segment};
+use crate::segment::{STACK_ALIGN, STACK_FLAGS, Segment};
 use elf_format::constants::PT_GNU_STACK;
 use elf_format::records::SegmentHeader;
 use patch_bytes::ByteString;
@@ -17,6 +17,10 @@ use std::alloc::{AllocError, Global};
 use std::marker::PhantomData;
 
 impl<'data> Builder<'data> {
+    ghost use Rattle.std.specs.Borrow.{sem};
+    ghost use Rattle.elf_image.specs.Lending.{LendsAddedFlags, LendsStackFlags};
+    ghost use Rattle.elf_image.specs.declared.segment.TheConstants.{STACK_FLAGS as ADDED_FLAGS};
+
     /// Puts another dynamic list in place of the one that is there (gABI, Dynamic Section). The caller sees that
     /// it names the same tables in the same order, and that each entry may stand before the DT_NULL. Takes no
     /// memory.
@@ -161,6 +165,33 @@ impl<'data> Builder<'data> {
         self.segments.push(added_stack(flags))?;
         self.changed = true;
         Ok(())
+    }
+
+    /// Lends the flags of the first PT_GNU_STACK; the image counts as changed where it lends them. Takes no
+    /// memory.
+    pub fn stack_mut(&mut self) -> Option<&mut u32>
+        ensures* lends { sem 𝓛 (LendsStackFlags self.entry result) }
+        ensures value { option_map (λ flags. flags.now) result
+            ≡ option_map (λ p. p.p_flags) (segment_of_type STACK self.old.segments) }
+    {
+        let at = stack_position(&self.segments)?;
+        self.changed = true;
+        let segment = &mut self.segments[at];
+        Some(segment.flags_mut())
+    }
+
+    /// Puts a PT_GNU_STACK behind all program headers, which have none (GNU extension): it says that the stack is
+    /// read, written and run, and stands nowhere. Lends its flags. Error: `AllocError`, and nothing has changed.
+    pub fn add_stack(&mut self, _alloc: Global) -> Result<&mut u32, AllocError>
+        requires { segment_of_type STACK self.old.segments ≡ none }
+        ensures* lends { sem 𝓛 (LendsAddedFlags self.entry result) }
+        ensures value { IfOk result (λ flags. flags.now ≡ ADDED_FLAGS) }
+    {
+        self.segments.push(added_stack(STACK_FLAGS))?;
+        self.changed = true;
+        let at = self.segments.len() - 1;
+        let segment = &mut self.segments[at];
+        Ok(segment.flags_mut())
     }
 }
 
