@@ -20,6 +20,8 @@ mod hashes;
 #[cfg(test)]
 mod lengths;
 #[cfg(test)]
+mod needs;
+#[cfg(test)]
 mod strings;
 #[cfg(test)]
 mod support;

@@ -83,3 +83,16 @@ pub(crate) fn repeated(rt: &impl Runtime) -> Result<Vec<&'static [u8]>, AllocErr
     }
     Ok(texts)
 }
+
+// Compares the bytes that a call answered, or its fault.
+pub(crate) fn answers(
+    rt: &impl Abort,
+    what: &str,
+    answer: Result<Vec<u8>, TableFault>,
+    want: Result<&[u8], TableFault>,
+) {
+    match answer {
+        Ok(bytes) => same(rt, what, &Ok(bytes.as_slice()), &want),
+        Err(fault) => same(rt, what, &Err(fault), &want),
+    }
+}

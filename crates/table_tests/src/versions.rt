@@ -1,28 +1,15 @@
 //! Tables of versions: their bytes, which were laid out by hand.
-ghost use Rattle.std.specs.Prelude.{◌≡◌, map};
+ghost use Rattle.std.specs.Prelude.{◌≡◌, is_some, map};
+ghost use Rattle.std.specs.List.{list_all};
 ghost use Rattle.elf_image.specs.ImageSeen.{definition_kept};
+ghost use Rattle.elf_tables.specs.Strings.{place_of};
 ghost use Rattle.elf_tables.specs.VersionRecords.{has_definition_texts};
 
-use crate::support::{Runtime, repeated, same, table_of};
+use crate::support::{Runtime, answers, repeated, table_of};
 use elf_image::{VersionDef, VersionId};
 use elf_tables::{Finished, TableFault, build_verdef, build_versym};
 use patch_bytes::{ByteOrder2, ByteString};
 use std::alloc::AllocError;
-use std::process::Abort;
-
-
-// Compares the bytes that a call answered, none where a number is past its field.
-fn answers(
-    rt: &impl Abort,
-    what: &str,
-    answer: Result<Vec<u8>, TableFault>,
-    want: Result<&[u8], TableFault>,
-) {
-    match answer {
-        Ok(bytes) => same(rt, what, &Ok(bytes.as_slice()), &want),
-        Err(fault) => same(rt, what, &Err(fault), &want),
-    }
-}
 
 const fn version(index: u16, hidden: bool) -> VersionId {
     VersionId { index, hidden }
@@ -45,16 +32,22 @@ fn versions_of_symbols(rt: HostRuntime) {
     }
 }
 
+// Whether the table has these names.
+fn has_all(names: &[ByteString<'_>], table: &Finished<'_>) -> bool
+    ensures { result ≡ list_all (λ name. is_some (place_of table.now name)) names.now }
+{
+    names
+        .iter()
+        .all(|name| table.offset_of(name.as_slice()).is_some())
+}
+
 // Whether the table has the names of these versions.
 fn has_names(records: &[VersionDef<'_>], table: &Finished<'_>) -> bool
     ensures { result ≡ has_definition_texts table.now (map definition_kept records.now) }
 {
-    records.iter().all(|version| {
-        version
-            .names
-            .iter()
-            .all(|name| table.offset_of(name.as_slice()).is_some())
-    })
+    records
+        .iter()
+        .all(|version| has_all(&version.names, table))
 }
 
 // A version that a file defines: its number, its flags, its names.
