@@ -1,4 +1,5 @@
 pub mod EditGroups
+pub mod ForCallers
 pub mod Outcomes
 pub mod RowLemmas
 pub mod StoreLaws

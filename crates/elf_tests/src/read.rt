@@ -5,15 +5,16 @@ mod views;
 ghost use Rattle.std.specs.Prelude.{◌≡◌, length, IfOk};
 ghost use Rattle.elf_image.specs.Image.{image_of};
 
-use crate::listing::text;
+use crate::listing::{push_bytes, push_text, push_word};
 use crate::samples::{SMALL, TWIN, VERSIONED};
 use crate::support::{Runtime, same, same_text};
 use elf_image::{
-    Builder, Dynamic, ElfFault, Header, Section, SectionData, Segment, Symbol, VersionId,
-    machine_of,
+    Builder, Dynamic, ElfFault, Header, Section, SectionData, Segment, Symbol, VersionDef,
+    VersionId, VersionNeed, machine_of,
 };
 use patch_bytes::{ByteOrder2, Wide};
 use std::alloc::{AllocError, Global};
+use std::fmt::Write;
 use std::test::Fail;
 
 // A call that was refused memory is made once more.
@@ -186,42 +187,58 @@ fn name_of_a_section(rt: HostRuntime) {
 }
 
 // A symbol's name, numbers and version, as text.
-fn symbol_line(alloc: Global, symbol: &Symbol<'_>) -> Result<String, AllocError> {
-    let name = text(alloc, symbol.name.as_slice())?;
+fn push_symbol(lines: &mut String, symbol: &Symbol<'_>) -> Result<(), AllocError> {
+    push_bytes(lines, symbol.name.as_slice())?;
     let (info, other, section) = (symbol.st_info, symbol.st_other, symbol.st_shndx);
     let (value, size, version) = (symbol.st_value, symbol.st_size, symbol.version);
-    format!(in alloc; "{name} {info} {other} {section} {value} {size} {version:?}\n")
+    write!(
+        lines,
+        " {info} {other} {section} {value} {size} {version:?}\n"
+    )
 }
 
-fn symbol_lines(alloc: Global, symbols: &[Symbol<'_>]) -> Result<String, AllocError> {
-    let mut lines = String::new(alloc);
+fn push_symbols(lines: &mut String, symbols: &[Symbol<'_>]) -> Result<(), AllocError> {
     for symbol in symbols {
-        lines.push_str(&symbol_line(alloc, symbol)?)?;
+        push_symbol(lines, symbol)?;
     }
+    Ok(())
+}
+
+// The lists of an image that are shown as text, a line for each item.
+#[derive(Clone, Copy, Debug)]
+enum List {
+    // The symbols of the table that no loader reads.
+    Symbols,
+    DynamicSymbols,
+    // The defined versions: index, flags, names.
+    Definitions,
+    // The needed versions: library, index, flags, name.
+    Needs,
+    // The dynamic list: an entry's tag, and its number or text.
+    Entries,
+}
+
+fn push_list(lines: &mut String, image: &Builder<'_>, list: List) -> Result<(), AllocError> {
+    match list {
+        List::Symbols => push_symbols(lines, image.symbols()),
+        List::DynamicSymbols => push_symbols(lines, image.dynamic_symbols()),
+        List::Definitions => push_definitions(lines, &image.versions().definitions),
+        List::Needs => push_needs(lines, &image.versions().needs),
+        List::Entries => push_entries(lines, image.dynamic_data().unwrap_or_default()),
+    }
+}
+
+fn listed(alloc: Global, image: &Builder<'_>, list: List) -> Result<String, AllocError> {
+    let mut lines = String::new(alloc);
+    push_list(&mut lines, image, list)?;
     Ok(lines)
 }
 
-// What `readelf -sV` prints of them.
-#[test]
-fn symbols(rt: HostRuntime) {
-    let image = versioned(&rt);
-    let found = again!(&rt; symbol_lines(rt.alloc(), image.symbols())).expect(&rt, "memory");
-    same_text(
-        &rt,
-        "symbols",
-        &found,
-        " 0 0 0 0 0 None\nff 2 0 11 16 4 None\n",
-    );
-}
-
-#[test]
-fn dynamic_symbols(rt: HostRuntime) {
-    let image = versioned(&rt);
-    let found = again!(&rt; symbol_lines(rt.alloc(), image.dynamic_symbols()));
-    let want = " 0 0 0 0 0 Some(VersionId { index: 0, hidden: false })\n\
-        g 18 0 0 0 0 Some(VersionId { index: 3, hidden: false })\n\
-        f 18 0 11 16 4 Some(VersionId { index: 2, hidden: true })\n";
-    same_text(&rt, "symbols", &found.expect(&rt, "memory"), want);
+// Compares a list of the library with an interpreter, symbols and versions.
+fn expect_list(rt: &impl Runtime, list: List, want: &str) {
+    let image = versioned(rt);
+    let found = again!(rt; listed(rt.alloc(), &image, list)).expect(rt, "memory");
+    same_text(rt, "a list", &found, want);
 }
 
 #[test]
@@ -231,82 +248,79 @@ fn versions_of_no_name(rt: HostRuntime) {
     same(&rt, "global", &(global.index, global.hidden), &(1, false));
 }
 
-// The defined versions, a line each: index, flags, names.
-fn definition_lines(alloc: Global, image: &Builder<'_>) -> Result<String, AllocError> {
-    let mut lines = String::new(alloc);
-    for definition in &image.versions().definitions {
-        let (index, flags) = (definition.index, definition.flags);
-        lines.push_str(&format!(in alloc; "{index} {flags}")?)?;
-        for name in &definition.names {
-            lines.push(' ')?;
-            lines.push_str(&text(alloc, name.as_slice())?)?;
-        }
+fn push_definition(lines: &mut String, definition: &VersionDef<'_>) -> Result<(), AllocError> {
+    let (index, flags) = (definition.index, definition.flags);
+    write!(lines, "{index} {flags}")?;
+    for name in &definition.names {
+        push_word(lines, name.as_slice())?;
+    }
+    lines.push('\n')
+}
+
+fn push_definitions(lines: &mut String, list: &[VersionDef<'_>]) -> Result<(), AllocError> {
+    for definition in list {
+        push_definition(lines, definition)?;
+    }
+    Ok(())
+}
+
+fn push_need(lines: &mut String, need: &VersionNeed<'_>) -> Result<(), AllocError> {
+    for version in &need.versions {
+        push_bytes(lines, need.file.as_slice())?;
+        let (index, flags) = (version.index, version.flags);
+        write!(lines, " {index} {flags}")?;
+        push_word(lines, version.name.as_slice())?;
         lines.push('\n')?;
     }
-    Ok(lines)
+    Ok(())
 }
 
-#[test]
-fn definitions(rt: HostRuntime) {
-    let image = versioned(&rt);
-    let found = again!(&rt; definition_lines(rt.alloc(), &image)).expect(&rt, "memory");
-    same_text(&rt, "definitions", &found, "1 1 me.so\n2 0 V2 V1\n");
-}
-
-// The needed versions, a line each: library, index, flags, name.
-fn need_lines(alloc: Global, image: &Builder<'_>) -> Result<String, AllocError> {
-    let mut lines = String::new(alloc);
-    for need in &image.versions().needs {
-        for version in &need.versions {
-            lines.push_str(&text(alloc, need.file.as_slice())?)?;
-            let (index, flags) = (version.index, version.flags);
-            lines.push_str(&format!(in alloc; " {index} {flags} ")?)?;
-            lines.push_str(&text(alloc, version.name.as_slice())?)?;
-            lines.push('\n')?;
-        }
+fn push_needs(lines: &mut String, list: &[VersionNeed<'_>]) -> Result<(), AllocError> {
+    for need in list {
+        push_need(lines, need)?;
     }
-    Ok(lines)
+    Ok(())
 }
 
-#[test]
-fn needs(rt: HostRuntime) {
-    let image = versioned(&rt);
-    let found = again!(&rt; need_lines(rt.alloc(), &image)).expect(&rt, "memory");
-    same_text(&rt, "needs", &found, "libc.so 3 0 L1\n");
-}
-
-// An entry's tag, and its number or text.
-fn entry_line(alloc: Global, entry: &Dynamic<'_>) -> Result<String, AllocError> {
+fn push_entry(lines: &mut String, entry: &Dynamic<'_>) -> Result<(), AllocError> {
     let tag = entry.tag();
     match entry {
-        Dynamic::Auto { .. } => format!(in alloc; "{tag}\n"),
-        Dynamic::Integer { val, .. } => format!(in alloc; "{tag} = {val}\n"),
-        Dynamic::Text { val, .. } => text_line(alloc, tag, val.as_slice()),
+        Dynamic::Auto { .. } => write!(lines, "{tag}\n"),
+        Dynamic::Integer { val, .. } => write!(lines, "{tag} = {val}\n"),
+        Dynamic::Text { val, .. } => push_text(lines, tag, val.as_slice()),
     }
 }
 
-fn text_line(alloc: Global, tag: u64, bytes: &[u8]) -> Result<String, AllocError> {
-    let text = text(alloc, bytes)?;
-    format!(in alloc; "{tag} {text}\n")
-}
-
-fn entry_lines(alloc: Global, list: Option<&[Dynamic<'_>]>) -> Result<String, AllocError> {
-    let mut lines = String::new(alloc);
-    for entry in list.unwrap_or_default() {
-        lines.push_str(&entry_line(alloc, entry)?)?;
+fn push_entries(lines: &mut String, list: &[Dynamic<'_>]) -> Result<(), AllocError> {
+    for entry in list {
+        push_entry(lines, entry)?;
     }
-    Ok(lines)
+    Ok(())
 }
 
-// What `readelf -d` prints of it.
-#[test]
-fn dynamic_data(rt: HostRuntime) {
-    let image = versioned(&rt);
-    let found = again!(&rt; entry_lines(rt.alloc(), image.dynamic_data()));
-    let want =
+// What `readelf -sVd` prints of them.
+const LISTS: [(List, &str); 5] = [
+    (List::Symbols, " 0 0 0 0 0 None\nff 2 0 11 16 4 None\n"),
+    (
+        List::DynamicSymbols,
+        " 0 0 0 0 0 Some(VersionId { index: 0, hidden: false })\n\
+        g 18 0 0 0 0 Some(VersionId { index: 3, hidden: false })\n\
+        f 18 0 11 16 4 Some(VersionId { index: 2, hidden: true })\n",
+    ),
+    (List::Definitions, "1 1 me.so\n2 0 V2 V1\n"),
+    (List::Needs, "libc.so 3 0 L1\n"),
+    (
+        List::Entries,
         "1 libc.so\n14 me.so\n29 /a\n5\n6\n10\n11\n21 = 0\n4\n1879047925\n1879048176\n1879048188\n\
-        1879048189\n1879048190\n1879048191\n";
-    same_text(&rt, "entries", &found.expect(&rt, "memory"), want);
+        1879048189\n1879048190\n1879048191\n",
+    ),
+];
+
+#[test]
+fn lists(rt: HostRuntime) {
+    for (list, want) in LISTS {
+        expect_list(&rt, list, want);
+    }
 }
 
 #[test]

@@ -4,12 +4,13 @@ mod batches;
 mod rows;
 
 use crate::fat::joined;
-use crate::support::{Runtime, copied, put, same, text_of, wants_memory};
+use crate::support::{Runtime, copied, granted, put, same, text_of, wants_memory};
 use arwen_macho::macho::{
     FatMachoContainer, MachO, MachoBatchError, MachoContainer, MachoEdit, MachoError, MachoType,
     SingleMachO,
 };
 use std::alloc::{AllocError, Global};
+use std::fmt::Write;
 
 // An edit with its texts.
 #[derive(Clone, Copy)]
@@ -43,8 +44,8 @@ pub(crate) trait Container<'a>: Sized + Drop {
 
     fn bytes(&self) -> &[u8];
 
-    // The lists and the counts of each thin file in it.
-    fn lists(&self, alloc: Global) -> Result<String, AllocError>;
+    // Puts the lists and the counts of each thin file in it behind lines.
+    fn list(&self, lines: &mut String) -> Result<(), AllocError>;
 
     fn edit(&mut self, alloc: Global, edit: Edit<'_>) -> Result<(), MachoError>;
 
@@ -53,10 +54,10 @@ pub(crate) trait Container<'a>: Sized + Drop {
     fn into_bytes(self, alloc: Global) -> Result<Vec<u8>, AllocError>;
 }
 
-// The list and the counts of a file.
-fn listed(alloc: Global, file: &MachO<'_>) -> Result<String, AllocError> {
+// The list and the counts of a thin file.
+fn list_thin(lines: &mut String, file: &MachO<'_>) -> Result<(), AllocError> {
     let (header, commands, first) = (file.header(), file.load_commands(), file.first_content());
-    format!(in alloc; "{header:?} {commands:?} {first}\n")
+    write!(lines, "{header:?} {commands:?} {first}\n")
 }
 
 impl<'a> Container<'a> for SingleMachO<'a> {
@@ -68,8 +69,8 @@ impl<'a> Container<'a> for SingleMachO<'a> {
         self.bytes()
     }
 
-    fn lists(&self, alloc: Global) -> Result<String, AllocError> {
-        listed(alloc, self.inner())
+    fn list(&self, lines: &mut String) -> Result<(), AllocError> {
+        list_thin(lines, self.inner())
     }
 
     fn edit(&mut self, alloc: Global, edit: Edit<'_>) -> Result<(), MachoError> {
@@ -100,12 +101,11 @@ impl<'a> Container<'a> for FatMachoContainer<'a> {
         self.bytes()
     }
 
-    fn lists(&self, alloc: Global) -> Result<String, AllocError> {
-        let mut lists = String::new(alloc);
+    fn list(&self, lines: &mut String) -> Result<(), AllocError> {
         for slice in self.archs() {
-            lists.push_str(listed(alloc, slice.inner().inner())?.as_str())?;
+            list_thin(lines, slice.inner().inner())?;
         }
-        Ok(lists)
+        Ok(())
     }
 
     fn edit(&mut self, alloc: Global, edit: Edit<'_>) -> Result<(), MachoError> {
@@ -136,10 +136,10 @@ impl<'a> Container<'a> for MachoContainer<'a> {
         self.bytes()
     }
 
-    fn lists(&self, alloc: Global) -> Result<String, AllocError> {
+    fn list(&self, lines: &mut String) -> Result<(), AllocError> {
         match self.inner() {
-            MachoType::SingleArch(single) => single.lists(alloc),
-            MachoType::Fat(fat) => fat.lists(alloc),
+            MachoType::SingleArch(single) => single.list(lines),
+            MachoType::Fat(fat) => fat.list(lines),
         }
     }
 
@@ -169,11 +169,14 @@ struct Seen {
     lists: String,
 }
 
+fn lists<'a, T: Container<'a>>(alloc: Global, file: &T) -> Result<String, AllocError> {
+    let mut lines = String::new(alloc);
+    file.list(&mut lines)?;
+    Ok(lines)
+}
+
 fn lists_of<'a, T: Container<'a>>(rt: &impl Runtime, file: &T) -> String {
-    match file.lists(rt.alloc()) {
-        Err(_) => file.lists(rt.alloc()).expect(rt, "memory"),
-        Ok(lists) => lists,
-    }
+    again!(rt; lists(rt.alloc(), file)).expect(rt, "memory")
 }
 
 fn look<'a, T: Container<'a>>(rt: &impl Runtime, file: &T) -> Seen {
@@ -191,9 +194,15 @@ fn stays<'a, T: Container<'a>>(rt: &impl Runtime, file: &T, want: &Seen) {
 }
 
 // The lists and counts that a parse of bytes finds.
-fn parsed_lists(alloc: Global, bytes: &[u8]) -> Result<String, MachoError> {
+fn list_parsed(alloc: Global, bytes: &[u8], lines: &mut String) -> Result<(), MachoError> {
     let file = MachoContainer::parse(alloc, bytes)?;
-    Ok(file.lists(alloc)?)
+    Ok(file.list(lines)?)
+}
+
+fn parsed_lists(alloc: Global, bytes: &[u8]) -> Result<String, MachoError> {
+    let mut lines = String::new(alloc);
+    list_parsed(alloc, bytes, &mut lines)?;
+    Ok(lines)
 }
 
 // The same, asked for again where there was no memory.
@@ -249,9 +258,8 @@ fn called<'a, T: Container<'a>>(
         return answer;
     }
     stays(rt, file, &before);
-    let answer = call(rt.alloc(), file, edits, &batch);
-    assert!(rt; !wants_memory(&answer), "refused memory twice");
-    answer
+    let second = call(rt.alloc(), file, edits, &batch);
+    granted(rt, answer, second)
 }
 
 // An answer's text: the fault alone of a refused single edit.

@@ -2,7 +2,7 @@
 ghost use Rattle.std.specs.Prelude.{◌≡◌, IfOk};
 ghost use Rattle.macho_image.specs.Form.{header_of};
 
-use crate::support::{Runtime, copied, prints, same};
+use crate::support::{Runtime, copied, prints, same, shows};
 use arwen_macho::commands::{
     CommandBuilderError, DlibCommandBuilder, NulInside, RpathCommandBuilder,
 };
@@ -63,63 +63,77 @@ fn rounds_sizes(rt: HostRuntime) {
     }
 }
 
+fn built_rpath(
+    alloc: Global,
+    text: &str,
+    ctx: Ctx,
+) -> Result<(RpathCommand, Vec<u8>), CommandBuilderError> {
+    RpathCommandBuilder::new(text, ctx).build(alloc)
+}
+
 // Compares a built run path's command, whose size and bytes are these.
 fn expect_rpath(rt: &impl Runtime, ctx: Ctx, text: &str, cmdsize: u32, bytes: &[u8]) {
-    let builder = RpathCommandBuilder::new(text, ctx);
-    let built = again!(rt; builder.build(rt.alloc())).expect(rt, "a command");
+    let built = again!(rt; built_rpath(rt.alloc(), text, ctx)).expect(rt, "a command");
     let command = RpathCommand {
         cmd: 0x8000_001c,
         cmdsize,
         path: 12,
     };
-    same(rt, "command", &built.0, &command);
-    same(rt, "bytes", &built.1.as_slice(), &bytes);
+    same(rt, "command", &(built.0, built.1.as_slice()), &(command, bytes));
 }
+
+// A form, a text, and the size and the bytes of its command.
+const RPATH_COMMANDS: [(Ctx, &str, u32, &[u8]); 5] = [
+    (
+        WIDE_LITTLE,
+        "/usr/local/lib",
+        32,
+        b"\x1c\0\0\x80\x20\0\0\0\x0c\0\0\0/usr/local/lib\0\0\0\0\0\0",
+    ),
+    (
+        WIDE_BIG,
+        "/usr/local/lib",
+        32,
+        b"\x80\0\0\x1c\0\0\0\x20\0\0\0\x0c/usr/local/lib\0\0\0\0\0\0",
+    ),
+    (
+        NARROW_LITTLE,
+        "/usr/local/lib",
+        28,
+        b"\x1c\0\0\x80\x1c\0\0\0\x0c\0\0\0/usr/local/lib\0\0",
+    ),
+    (
+        NARROW_BIG,
+        "/usr/local/lib",
+        28,
+        b"\x80\0\0\x1c\0\0\0\x1c\0\0\0\x0c/usr/local/lib\0\0",
+    ),
+    (
+        WIDE_LITTLE,
+        "",
+        16,
+        b"\x1c\0\0\x80\x10\0\0\0\x0c\0\0\0\0\0\0\0",
+    ),
+];
 
 #[test]
 fn builds_rpath_commands(rt: HostRuntime) {
-    let path = "/usr/local/lib";
-    let rows: [(Ctx, &str, u32, &[u8]); 5] = [
-        (
-            WIDE_LITTLE,
-            path,
-            32,
-            b"\x1c\0\0\x80\x20\0\0\0\x0c\0\0\0/usr/local/lib\0\0\0\0\0\0",
-        ),
-        (
-            WIDE_BIG,
-            path,
-            32,
-            b"\x80\0\0\x1c\0\0\0\x20\0\0\0\x0c/usr/local/lib\0\0\0\0\0\0",
-        ),
-        (
-            NARROW_LITTLE,
-            path,
-            28,
-            b"\x1c\0\0\x80\x1c\0\0\0\x0c\0\0\0/usr/local/lib\0\0",
-        ),
-        (
-            NARROW_BIG,
-            path,
-            28,
-            b"\x80\0\0\x1c\0\0\0\x1c\0\0\0\x0c/usr/local/lib\0\0",
-        ),
-        (
-            WIDE_LITTLE,
-            "",
-            16,
-            b"\x1c\0\0\x80\x10\0\0\0\x0c\0\0\0\0\0\0\0",
-        ),
-    ];
-    for (ctx, text, cmdsize, bytes) in rows {
+    for (ctx, text, cmdsize, bytes) in RPATH_COMMANDS {
         expect_rpath(&rt, ctx, text, cmdsize, bytes);
     }
 }
 
+fn built_library(
+    alloc: Global,
+    name: &str,
+    ctx: Ctx,
+) -> Result<(DylibCommand, Vec<u8>), CommandBuilderError> {
+    DlibCommandBuilder::new(name, OLD, ctx).build(alloc)
+}
+
 // Compares a built command of a library, whose size and bytes are these.
 fn expect_library(rt: &impl Runtime, ctx: Ctx, cmdsize: u32, bytes: &[u8]) {
-    let builder = DlibCommandBuilder::new("libx.dylib", OLD, ctx);
-    let built = again!(rt; builder.build(rt.alloc())).expect(rt, "a command");
+    let built = again!(rt; built_library(rt.alloc(), "libx.dylib", ctx)).expect(rt, "a command");
     let dylib = Dylib {
         name: 24,
         ..OLD.dylib
@@ -129,84 +143,76 @@ fn expect_library(rt: &impl Runtime, ctx: Ctx, cmdsize: u32, bytes: &[u8]) {
         cmdsize,
         dylib,
     };
-    same(rt, "command", &built.0, &command);
-    same(rt, "bytes", &built.1.as_slice(), &bytes);
+    same(rt, "command", &(built.0, built.1.as_slice()), &(command, bytes));
 }
+
+// A form, and the size and the bytes of a command.
+const LIBRARY_COMMANDS: [(Ctx, u32, &[u8]); 2] = [
+    (
+        WIDE_LITTLE,
+        40,
+        b"\x1f\0\0\x80\x28\0\0\0\x18\0\0\0\x04\x03\x02\x01\x03\x02\x01\0\0\0\x01\0libx.dylib\0\0\0\0\0\0",
+    ),
+    (
+        NARROW_BIG,
+        36,
+        b"\x80\0\0\x1f\0\0\0\x24\0\0\0\x18\x01\x02\x03\x04\0\x01\x02\x03\0\x01\0\0libx.dylib\0\0",
+    ),
+];
 
 #[test]
 fn builds_library_commands(rt: HostRuntime) {
-    let rows: [(Ctx, u32, &[u8]); 2] = [
-        (
-            WIDE_LITTLE,
-            40,
-            b"\x1f\0\0\x80\x28\0\0\0\x18\0\0\0\x04\x03\x02\x01\x03\x02\x01\0\0\0\x01\0libx.dylib\0\0\0\0\0\0",
-        ),
-        (
-            NARROW_BIG,
-            36,
-            b"\x80\0\0\x1f\0\0\0\x24\0\0\0\x18\x01\x02\x03\x04\0\x01\x02\x03\0\x01\0\0libx.dylib\0\0",
-        ),
-    ];
-    for (ctx, cmdsize, bytes) in rows {
+    for (ctx, cmdsize, bytes) in LIBRARY_COMMANDS {
         expect_library(&rt, ctx, cmdsize, bytes);
     }
 }
 
 #[test]
-fn refuses_nul_in_path(rt: HostRuntime) {
-    let builder = RpathCommandBuilder::new("a\0b", WIDE_LITTLE);
-    let refused = again!(&rt; builder.build(rt.alloc())).err();
-    let nul = CommandBuilderError::CStrError(NulInside { position: 1 });
-    same(&rt, "a path with a NUL", &refused, &Some(nul));
+fn refuses_nuls(rt: HostRuntime) {
+    let nul = "Some(CStrError(NulInside { position: 1 }))";
+    let path = again!(&rt; built_rpath(rt.alloc(), "a\0b", WIDE_LITTLE)).err();
+    shows(&rt, &path, nul);
+    let name = again!(&rt; built_library(rt.alloc(), "a\0b\0", NARROW_BIG)).err();
+    shows(&rt, &name, nul);
 }
 
-#[test]
-fn refuses_nul_in_name(rt: HostRuntime) {
-    let builder = DlibCommandBuilder::new("a\0b\0", OLD, NARROW_BIG);
-    let refused = again!(&rt; builder.build(rt.alloc())).err();
-    let nul = CommandBuilderError::CStrError(NulInside { position: 1 });
-    same(&rt, "a name with NULs", &refused, &Some(nul));
+fn prints_as_builder_error(rt: &impl Runtime, error: CommandBuilderError, text: &str) {
+    prints(rt, &error, text);
+}
+
+fn prints_as_error(rt: &impl Runtime, error: MachoError, text: &str) {
+    prints(rt, &error, text);
 }
 
 #[test]
 fn prints_builder_errors(rt: HostRuntime) {
-    let rows: [(CommandBuilderError, &str); 4] = [
-        (
-            NulInside { position: 1 }.into(),
-            "error when creating a CStr: NUL at 1",
-        ),
-        (
-            CommandBuilderError::ScrollError,
-            "error when writing rpath command as bytes: command too long",
-        ),
-        (AllocError.into(), "out of memory"),
-        (AllocFailed { value: 1u8 }.into(), "out of memory"),
-    ];
-    for (error, text) in rows {
-        prints(&rt, &error, text);
-    }
+    let nul = NulInside { position: 1 };
+    prints_as_builder_error(&rt, nul.into(), "error when creating a CStr: NUL at 1");
+    prints_as_builder_error(
+        &rt,
+        CommandBuilderError::ScrollError,
+        "error when writing rpath command as bytes: command too long",
+    );
+    prints_as_builder_error(&rt, AllocError.into(), "out of memory");
+    let failed = AllocFailed { value: 1u8 };
+    prints_as_builder_error(&rt, failed.into(), "out of memory");
 }
 
 #[test]
 fn prints_file_errors(rt: HostRuntime) {
-    let nul = NulInside { position: 1 };
-    let rows: [(MachoError, &str); 3] = [
-        (
-            MachFault::Truncated.into(),
-            "error while parsing Mach-O file",
-        ),
-        (
-            MachoError::UnixArchive,
-            "unix archive is not supported as fat file format",
-        ),
-        (
-            CommandBuilderError::CStrError(nul).into(),
-            "error when creating a new command: error when creating a CStr: NUL at 1",
-        ),
-    ];
-    for (error, text) in rows {
-        prints(&rt, &error, text);
-    }
+    let truncated = MachFault::Truncated.into();
+    prints_as_error(&rt, truncated, "error while parsing Mach-O file");
+    prints_as_error(
+        &rt,
+        MachoError::UnixArchive,
+        "unix archive is not supported as fat file format",
+    );
+    let nul = CommandBuilderError::CStrError(NulInside { position: 1 });
+    prints_as_error(
+        &rt,
+        nul.into(),
+        "error when creating a new command: error when creating a CStr: NUL at 1",
+    );
 }
 
 fn string(rt: &impl Runtime, text: &str) -> String {
@@ -215,52 +221,39 @@ fn string(rt: &impl Runtime, text: &str) -> String {
 
 #[test]
 fn prints_edit_errors(rt: HostRuntime) {
-    let rows: [(MachoError, &str); 4] = [
-        (
-            MachoError::RpathMissing(string(&rt, "/a")),
-            "requested rpath is missing: /a",
-        ),
-        (
-            MachoError::DylibNameMissing(string(&rt, "b.dylib")),
-            "requested dylib name is missing: b.dylib",
-        ),
-        (
-            MachoError::DylibIdMissing,
-            "LC_ID_DYLIB is missing or file is not a shared library",
-        ),
-        (
-            MachoError::NoRoom {
-                needed: 96,
-                available: 64,
-            },
-            "no room: 96 > 64",
-        ),
-    ];
-    for (error, text) in rows {
-        prints(&rt, &error, text);
-    }
+    let path = MachoError::RpathMissing(string(&rt, "/a"));
+    prints_as_error(&rt, path, "requested rpath is missing: /a");
+    let name = MachoError::DylibNameMissing(string(&rt, "b.dylib"));
+    prints_as_error(&rt, name, "requested dylib name is missing: b.dylib");
+    prints_as_error(
+        &rt,
+        MachoError::DylibIdMissing,
+        "LC_ID_DYLIB is missing or file is not a shared library",
+    );
+    let no_room = MachoError::NoRoom {
+        needed: 96,
+        available: 64,
+    };
+    prints_as_error(&rt, no_room, "no room: 96 > 64");
 }
 
 #[test]
 fn turns_want_of_memory_into_its_own(rt: HostRuntime) {
-    let rows: [MachoError; 4] = [
-        CommandBuilderError::Memory.into(),
-        MachFault::Memory.into(),
-        AllocError.into(),
-        AllocFailed { value: 1u8 }.into(),
-    ];
-    for error in rows {
-        prints(&rt, &error, "out of memory");
-    }
+    prints_as_error(&rt, CommandBuilderError::Memory.into(), "out of memory");
+    prints_as_error(&rt, MachFault::Memory.into(), "out of memory");
+    prints_as_error(&rt, AllocError.into(), "out of memory");
+    prints_as_error(&rt, AllocFailed { value: 1u8 }.into(), "out of memory");
+}
+
+fn expect_batch_memory(rt: &impl Runtime, error: MachoBatchError) {
+    prints(rt, &error.fault, "out of memory");
+    prints(rt, &error, "MachoBatchError");
 }
 
 #[test]
 fn turns_want_of_memory_into_that_of_a_batch(rt: HostRuntime) {
-    let rows: [MachoBatchError; 2] = [AllocError.into(), AllocFailed { value: 1u8 }.into()];
-    for error in rows {
-        prints(&rt, &error.fault, "out of memory");
-        prints(&rt, &error, "MachoBatchError");
-    }
+    expect_batch_memory(&rt, AllocError.into());
+    expect_batch_memory(&rt, AllocFailed { value: 1u8 }.into());
 }
 
 // A library with its own name and a library that it loads, zeros behind its commands, and content at
@@ -279,13 +272,20 @@ const WITH_RPATH: &[u8; 128] =
 \x0c\0\0\0\x20\0\0\0\x18\0\0\0\x02\0\0\0\0\0\x02\0\0\0\x01\0b.dylib\0\
 \0\0\0\0\0\0\0\0content!";
 
+// The header that a file shows.
+fn header_in(alloc: Global, bytes: &[u8]) -> Result<HeaderContainer, MachFault>
+    ensures { IfOk result (λ header. header.inner ≡ header_of header.ctx bytes.now) }
+{
+    let file = MachO::parse(alloc, bytes)?;
+    Ok(HeaderContainer::new(*file.header(), file.ctx()))
+}
+
 // A file's header, and its bytes to be changed.
 fn opened_once(alloc: Global, bytes: &[u8]) -> Result<(HeaderContainer, Vec<u8>), MachFault>
     ensures { IfOk result (λ opened. opened.0.inner ≡ header_of opened.0.ctx opened.1.items) }
 {
-    let file = MachO::parse(alloc, bytes)?;
-    let buffer = Vec::from_slice(alloc, file.bytes())?;
-    Ok((HeaderContainer::new(*file.header(), file.ctx()), buffer))
+    let header = header_in(alloc, bytes)?;
+    Ok((header, Vec::from_slice(alloc, bytes)?))
 }
 
 // The same, asked for again where there was no memory.
@@ -296,11 +296,6 @@ fn opened(rt: &impl Runtime, bytes: &[u8]) -> Result<(HeaderContainer, Vec<u8>),
         Err(MachFault::Memory) => opened_once(rt.alloc(), bytes),
         answer => answer,
     }
-}
-
-// The header that a file shows.
-fn header_in(alloc: Global, bytes: &[u8]) -> Result<HeaderContainer, MachFault> {
-    Ok(opened_once(alloc, bytes)?.0)
 }
 
 // Compares bytes and a header with those of a file.

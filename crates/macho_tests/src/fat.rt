@@ -6,6 +6,7 @@ use arwen_macho::macho::{
     FatMachoContainer, MachoBatchError, MachoContainer, MachoEdit, MachoError, lay_fronts,
 };
 use std::alloc::{AllocError, Global};
+use std::fmt::Write;
 
 // A library with its own name and a library that it loads, and zeros behind its commands.
 const PLAIN: &[u8; 128] =
@@ -38,21 +39,32 @@ pub(crate) fn push_number(file: &mut Vec<u8>, number: u32) -> Result<(), AllocEr
     file.extend_from_slice(&number.to_be_bytes())
 }
 
+// A header, and a record of each slice.
+fn push_table(file: &mut Vec<u8>, slices: &[(u32, &[u8])]) -> Result<(), AllocError> {
+    push_number(file, 0xcafe_babe)?;
+    push_number(file, size32(slices.len()))?;
+    for (offset, bytes) in slices {
+        for number in [0x0100_0007, 3, *offset, size32(bytes.len()), 12] {
+            push_number(file, number)?;
+        }
+    }
+    Ok(())
+}
+
+// A slice at an offset, behind what is there.
+fn push_slice(file: &mut Vec<u8>, offset: u32, bytes: &[u8]) -> Result<(), AllocError> {
+    for _i in file.len()..offset as usize {
+        file.push(PAD)?;
+    }
+    file.extend_from_slice(bytes)
+}
+
 // A fat file of slices at these offsets, each behind the one before it, and a byte behind the last.
 pub(crate) fn joined(alloc: Global, slices: &[(u32, &[u8])]) -> Result<Vec<u8>, AllocError> {
     let mut file = Vec::new(alloc);
-    push_number(&mut file, 0xcafe_babe)?;
-    push_number(&mut file, size32(slices.len()))?;
+    push_table(&mut file, slices)?;
     for (offset, bytes) in slices {
-        for number in [0x0100_0007, 3, *offset, size32(bytes.len()), 12] {
-            push_number(&mut file, number)?;
-        }
-    }
-    for (offset, bytes) in slices {
-        for _i in file.len()..*offset as usize {
-            file.push(PAD)?;
-        }
-        file.extend_from_slice(bytes)?;
+        push_slice(&mut file, *offset, bytes)?;
     }
     file.push(PAD)?;
     Ok(file)
@@ -167,66 +179,84 @@ fn refuses_what_one_slice_lacks(rt: HostRuntime) {
     walks(&rt, &PATH_BEHIND, &MISSING_IN_ONE);
 }
 
-// Where the slices of a fat file are, as its records tell.
-fn places(alloc: Global, bytes: &[u8]) -> Result<Vec<(u32, u32)>, MachoError> {
-    let mut places = Vec::new(alloc);
+// Where the slices of a fat file are and how long, as its records tell, a line each.
+fn places(alloc: Global, bytes: &[u8]) -> Result<String, MachoError> {
+    let mut lines = String::new(alloc);
+    push_places(alloc, &mut lines, bytes)?;
+    Ok(lines)
+}
+
+fn push_places(alloc: Global, lines: &mut String, bytes: &[u8]) -> Result<(), MachoError> {
     for slice in FatMachoContainer::parse(alloc, bytes)?.archs() {
-        places.push((slice.arch().offset, slice.arch().size))?;
+        write!(lines, "{} {}\n", slice.arch().offset, slice.arch().size)?;
     }
-    Ok(places)
+    Ok(())
+}
+
+fn file_of_three(rt: &impl Runtime) -> Vec<u8> {
+    again!(rt; joined(rt.alloc(), &THREE)).expect(rt, "memory")
 }
 
 #[test]
 fn shows_records(rt: HostRuntime) {
-    let file = again!(&rt; joined(rt.alloc(), &THREE)).expect(&rt, "memory");
+    let file = file_of_three(&rt);
     let found = again!(&rt; places(rt.alloc(), &file)).expect(&rt, "a file");
-    let want = [(80, 128), (216, 128), (400, 44)];
-    same(&rt, "places", &found.as_slice(), &want.as_slice());
+    same(&rt, "places", &found.as_str(), &"80 128\n216 128\n400 44\n");
 }
 
 // One edit that adds a run path of no text.
-fn empty_path(alloc: Global) -> Result<[MachoEdit; 1], AllocError> {
-    Ok([MachoEdit::AddRpath(String::new(alloc))])
+fn empty_path(alloc: Global) -> [MachoEdit; 1] {
+    [MachoEdit::AddRpath(String::new(alloc))]
 }
 
-// Where the fronts stand that this edit writes, and how long they are.
-fn front_places(alloc: Global, bytes: &[u8]) -> Result<Vec<(usize, usize)>, MachoBatchError> {
-    let file = FatMachoContainer::parse(alloc, bytes).map_err(|fault| MachoBatchError {
-        index: 0,
-        fault,
-    })?;
-    let mut places = Vec::new(alloc);
-    for front in &file.fronts(alloc, &empty_path(alloc)?)? {
-        places.push((front.offset, front.bytes.len()))?;
+fn parsed<'a>(alloc: Global, bytes: &'a [u8]) -> Result<MachoContainer<'a>, MachoBatchError> {
+    MachoContainer::parse(alloc, bytes).map_err(|fault| MachoBatchError { index: 0, fault })
+}
+
+fn fat_parsed<'a>(
+    alloc: Global,
+    bytes: &'a [u8],
+) -> Result<FatMachoContainer<'a>, MachoBatchError> {
+    FatMachoContainer::parse(alloc, bytes).map_err(|fault| MachoBatchError { index: 0, fault })
+}
+
+fn push_fronts(
+    alloc: Global,
+    lines: &mut String,
+    file: &FatMachoContainer<'_>,
+) -> Result<(), MachoBatchError> {
+    for front in &file.fronts(alloc, &empty_path(alloc))? {
+        write!(lines, "{} {}\n", front.offset, front.bytes.len())?;
     }
-    Ok(places)
+    Ok(())
+}
+
+// Where the fronts stand that this edit writes, and how long they are, a line each.
+fn front_places(alloc: Global, bytes: &[u8]) -> Result<String, MachoBatchError> {
+    let mut lines = String::new(alloc);
+    push_fronts(alloc, &mut lines, &fat_parsed(alloc, bytes)?)?;
+    Ok(lines)
 }
 
 #[test]
 fn writes_fronts_alone(rt: HostRuntime) {
-    let file = again!(&rt; joined(rt.alloc(), &THREE)).expect(&rt, "memory");
+    let file = file_of_three(&rt);
     let found = again!(&rt; front_places(rt.alloc(), &file)).expect(&rt, "fronts");
-    let want = [(80, 112), (216, 128), (400, 44)];
-    same(&rt, "fronts", &found.as_slice(), &want.as_slice());
+    same(&rt, "fronts", &found.as_str(), &"80 112\n216 128\n400 44\n");
 }
 
 // The bytes with these fronts over them.
 fn with_fronts(alloc: Global, bytes: &[u8]) -> Result<Vec<u8>, MachoBatchError> {
-    let file = MachoContainer::parse(alloc, bytes).map_err(|fault| MachoBatchError {
-        index: 0,
-        fault,
-    })?;
-    let mut copy = Vec::from_slice(alloc, file.bytes())?;
-    let fronts = file.fronts(alloc, &empty_path(alloc)?)?;
+    let fronts = parsed(alloc, bytes)?.fronts(alloc, &empty_path(alloc))?;
+    let mut copy = Vec::from_slice(alloc, bytes)?;
     lay_fronts(&mut copy, fronts);
     Ok(copy)
 }
 
 #[test]
 fn lays_fronts(rt: HostRuntime) {
-    let file = again!(&rt; joined(rt.alloc(), &THREE)).expect(&rt, "memory");
-    let found = again!(&rt; with_fronts(rt.alloc(), &file)).expect(&rt, "fronts");
-    let mut want = file;
+    let mut want = file_of_three(&rt);
+    let found = again!(&rt; with_fronts(rt.alloc(), &want)).expect(&rt, "fronts");
     for (place, part) in EMPTY_PATHS {
         put(&mut want, *place, part);
     }
@@ -249,17 +279,20 @@ fn answer_of(alloc: Global, first: &[u8], second: &[u8]) -> Result<(), MachoErro
     Ok(())
 }
 
+const ARCHIVE: &[u8] = b"!<arch>\nmembers";
+
+// Two slices, and what comes of them.
+const CHECKED_SLICES: [(&[u8], &[u8], &str); 5] = [
+    (PLAIN, ARCHIVE, "Err(UnixArchive)"),
+    (ARCHIVE, b"", "Err(UnixArchive)"),
+    (b"!<arch>!", ARCHIVE, "Err(Parsing(BadMagic))"),
+    (PLAIN, b"", "Err(Parsing(Truncated))"),
+    (b"\xca\xfe\xba\xbe\0\0\0\0", PLAIN, "Err(Parsing(BadMagic))"),
+];
+
 #[test]
 fn checks_slices_in_order(rt: HostRuntime) {
-    let archive = b"!<arch>\nmembers";
-    let rows: [(&[u8], &[u8], &str); 5] = [
-        (PLAIN, archive, "Err(UnixArchive)"),
-        (archive, b"", "Err(UnixArchive)"),
-        (b"!<arch>!", archive, "Err(Parsing(BadMagic))"),
-        (PLAIN, b"", "Err(Parsing(Truncated))"),
-        (b"\xca\xfe\xba\xbe\0\0\0\0", PLAIN, "Err(Parsing(BadMagic))"),
-    ];
-    for (first, second, want) in rows {
+    for (first, second, want) in CHECKED_SLICES {
         let answer = again!(&rt; answer_of(rt.alloc(), first, second));
         shows(&rt, &answer, want);
     }

@@ -120,18 +120,20 @@ fn refuses_slices_outside(rt: HostRuntime) {
     expect(&rt, &rows, Some(MachFault::SliceOutside));
 }
 
+// First bytes of files, and their faults.
+const FRONTS: [(&[u8], MachFault); 7] = [
+    (b"", MachFault::Truncated),
+    (b"\xca\xfe\xba", MachFault::Truncated),
+    (b"\xca\xfe\xba\xbe\0\0\0", MachFault::Truncated),
+    (b"\xca\xfe\xba\xbe\0\0\0\x01", MachFault::Truncated),
+    (b"\xcf\xfa\xed\xfe", MachFault::BadMagic),
+    (b"\xbe\xba\xfe\xca\0\0\0\0", MachFault::BadMagic),
+    (b"\xca\xfe\xba\xbf\0\0\0\0", MachFault::BadMagic),
+];
+
 #[test]
 fn refuses_other_fronts(rt: HostRuntime) {
-    let rows: [(&[u8], MachFault); 7] = [
-        (b"", MachFault::Truncated),
-        (b"\xca\xfe\xba", MachFault::Truncated),
-        (b"\xca\xfe\xba\xbe\0\0\0", MachFault::Truncated),
-        (b"\xca\xfe\xba\xbe\0\0\0\x01", MachFault::Truncated),
-        (b"\xcf\xfa\xed\xfe", MachFault::BadMagic),
-        (b"\xbe\xba\xfe\xca\0\0\0\0", MachFault::BadMagic),
-        (b"\xca\xfe\xba\xbf\0\0\0\0", MachFault::BadMagic),
-    ];
-    for (bytes, fault) in rows {
+    for (bytes, fault) in FRONTS {
         same(
             &rt,
             "a front's fault",
@@ -141,15 +143,18 @@ fn refuses_other_fronts(rt: HostRuntime) {
     }
 }
 
+fn expect_truncated(rt: &impl Runtime, bytes: &[u8]) {
+    let fault = fault_of(rt, bytes, &[]);
+    same(rt, "a table's fault", &fault, &Some(MachFault::Truncated));
+}
+
 #[test]
 fn refuses_tables_past_the_end(rt: HostRuntime) {
     for nfat_arch in [2, 0x0ccc_cccd, u32::MAX] {
         let file = again!(&rt; file_with(rt.alloc(), 47, nfat_arch, &[(28, 1)]));
         let file = file.expect(&rt, "memory");
-        for length in [8, 47] {
-            let fault = fault_of(&rt, file.get(..length).unwrap_or_default(), &[]);
-            same(&rt, "a table's fault", &fault, &Some(MachFault::Truncated));
-        }
+        expect_truncated(&rt, file.get(..8).unwrap_or_default());
+        expect_truncated(&rt, &file);
     }
 }
 
@@ -187,15 +192,17 @@ fn long_answer(alloc: Global, middle: u32) -> Result<usize, MachFault> {
     Ok(fat_archs(alloc, &file)?.len())
 }
 
+// The same, asked for once more where memory was refused: not always, since it takes long.
+fn settled_answer(rt: &impl Runtime, middle: u32) -> Result<usize, MachFault> {
+    match long_answer(rt.alloc(), middle) {
+        Err(MachFault::Memory) => long_answer(rt.alloc(), middle),
+        answer => answer,
+    }
+}
+
 #[test]
 fn reads_long_tables(rt: HostRuntime) {
-    let rows = [(9, Ok(100_000)), (10, Err(MachFault::SlicesOverlap))];
-    for (middle, want) in rows {
-        same(
-            &rt,
-            "a long table",
-            &again!(&rt; long_answer(rt.alloc(), middle)),
-            &want,
-        );
-    }
+    same(&rt, "a long table", &settled_answer(&rt, 9), &Ok(100_000));
+    let overlap = Err(MachFault::SlicesOverlap);
+    same(&rt, "a long table", &settled_answer(&rt, 10), &overlap);
 }

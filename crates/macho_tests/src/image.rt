@@ -5,9 +5,10 @@ use macho_image::command::{
     LC_ID_DYLIB, LC_LOAD_WEAK_DYLIB, LC_RPATH, LC_SEGMENT, LC_SEGMENT_64, LC_SYMTAB,
 };
 use macho_image::format::{MH_MAGIC, MH_MAGIC_64};
-use macho_image::{Ctx, Header, MachFault, MachO};
+use macho_image::{Ctx, MachFault, MachO};
 use patch_bytes::{ByteOrder2, Wide, write_u32_at};
 use std::alloc::{AllocError, Global};
+use std::fmt::Write;
 
 // `LC_UUID`, a kind that is kept as it is.
 const LC_UUID: u32 = 0x1b;
@@ -128,59 +129,136 @@ fn library(form: Ctx) -> Sample {
     sample
 }
 
-// The header that the file shows.
-fn header_in(alloc: Global, sample: &Sample) -> Result<Header, MachFault> {
-    Ok(*MachO::parse(alloc, sample.front(200))?.header())
+// What is looked at in a file.
+#[derive(Clone, Copy)]
+enum What {
+    // Its header.
+    Header,
+    // Its form, its length, and where its content begins.
+    Measures,
+    // Its load commands.
+    Commands,
+    // Its own name, its run paths and the names of the libraries that it loads, a line each.
+    Texts,
+    // The bytes of its commands, a line each.
+    Area,
 }
 
-#[test]
-fn reads_header(rt: HostRuntime) {
-    for form in FORMS {
-        let (magic, reserved) = match form.container {
-            Wide::W32 => (0xfeed_face, 0),
-            Wide::W64 => (0xfeed_facf, 9),
-        };
-        let want = Header {
-            magic,
-            cputype: 7,
-            cpusubtype: 3,
-            filetype: 6,
-            ncmds: 4,
-            sizeofcmds: 104,
-            flags: 0x85,
-            reserved,
-        };
-        let sample = library(form);
-        same(
-            &rt,
-            "header",
-            &again!(&rt; header_in(rt.alloc(), &sample)),
-            &Ok(want),
-        );
+fn push_line(lines: &mut String, text: &[u8]) -> Result<(), AllocError> {
+    for byte in text {
+        lines.push(char::from(*byte))?;
+    }
+    lines.push('\n')
+}
+
+fn push_lines(lines: &mut String, texts: &[&[u8]]) -> Result<(), AllocError> {
+    for text in texts {
+        push_line(lines, text)?;
+    }
+    Ok(())
+}
+
+fn push_texts(alloc: Global, lines: &mut String, file: &MachO<'_>) -> Result<(), AllocError> {
+    push_line(lines, file.id().unwrap_or(b"-"))?;
+    push_lines(lines, &file.rpaths(alloc)?)?;
+    push_lines(lines, &file.libs(alloc)?)
+}
+
+fn push_area(alloc: Global, lines: &mut String, file: &MachO<'_>) -> Result<(), AllocError> {
+    for command in &file.commands(alloc)? {
+        write!(lines, "{:?}\n", command.as_slice())?;
+    }
+    Ok(())
+}
+
+// Puts what a file shows behind lines.
+fn push_shown(
+    alloc: Global,
+    lines: &mut String,
+    file: &MachO<'_>,
+    what: What,
+) -> Result<(), AllocError> {
+    match what {
+        What::Header => write!(lines, "{:?}", file.header()),
+        What::Measures => {
+            let measures = (file.ctx(), file.bytes().len(), file.first_content());
+            write!(lines, "{measures:?}")
+        }
+        What::Commands => write!(lines, "{:?}", file.load_commands()),
+        What::Texts => push_texts(alloc, lines, file),
+        What::Area => push_area(alloc, lines, file),
     }
 }
 
-// The form of a file, its length, and where its content begins.
-fn measures_in(alloc: Global, sample: &Sample) -> Result<(Ctx, usize, usize), MachFault> {
-    let file = MachO::parse(alloc, sample.front(200))?;
-    Ok((file.ctx(), file.bytes().len(), file.first_content()))
+fn push_lent(
+    alloc: Global,
+    lines: &mut String,
+    bytes: &[u8],
+    what: What,
+) -> Result<(), MachFault> {
+    let file = MachO::parse(alloc, bytes)?;
+    Ok(push_shown(alloc, lines, &file, what)?)
 }
 
-#[test]
-fn reads_form(rt: HostRuntime) {
-    for form in FORMS {
-        let sample = library(form);
-        let found = again!(&rt; measures_in(rt.alloc(), &sample));
-        same(&rt, "form", &found, &Ok((form, 200, 200)));
-    }
+// What a file of bytes that are lent shows.
+fn shown(alloc: Global, bytes: &[u8], what: What) -> Result<String, MachFault> {
+    let mut lines = String::new(alloc);
+    push_lent(alloc, &mut lines, bytes, what)?;
+    Ok(lines)
 }
 
-// The text of the commands that the file shows, which it owns.
-fn commands_in(alloc: Global, sample: &Sample) -> Result<String, MachFault> {
-    let bytes = Vec::from_slice(alloc, sample.front(200))?;
+fn push_owned(
+    alloc: Global,
+    lines: &mut String,
+    bytes: Vec<u8>,
+    what: What,
+) -> Result<(), MachFault> {
     let file = MachO::parse_owned(alloc, bytes)?;
-    Ok(format!(in alloc; "{:?}", file.load_commands())?)
+    Ok(push_shown(alloc, lines, &file, what)?)
 }
+
+// What a file that owns its bytes shows.
+fn shown_owned(alloc: Global, bytes: &[u8], what: What) -> Result<String, MachFault> {
+    let mut lines = String::new(alloc);
+    push_owned(alloc, &mut lines, Vec::from_slice(alloc, bytes)?, what)?;
+    Ok(lines)
+}
+
+// Compares what a file shows, by bytes that are lent and by its own.
+fn expect(rt: &impl Runtime, bytes: &[u8], what: What, want: &str) {
+    let found = again!(rt; shown(rt.alloc(), bytes, what)).expect(rt, "a file");
+    same(rt, "lent", &found.as_str(), &want);
+    let found = again!(rt; shown_owned(rt.alloc(), bytes, what)).expect(rt, "a file");
+    same(rt, "owned", &found.as_str(), &want);
+}
+
+// What the libraries of the four forms show.
+const HEADERS: [&str; 4] = [
+    NARROW_HEADER,
+    NARROW_HEADER,
+    WIDE_HEADER,
+    WIDE_HEADER,
+];
+
+const NARROW_HEADER: &str = "Header { magic: 4277009102, cputype: 7, cpusubtype: 3, filetype: 6, \
+ncmds: 4, sizeofcmds: 104, flags: 133, reserved: 0 }";
+
+const WIDE_HEADER: &str = "Header { magic: 4277009103, cputype: 7, cpusubtype: 3, filetype: 6, \
+ncmds: 4, sizeofcmds: 104, flags: 133, reserved: 9 }";
+
+const MEASURES: [&str; 4] = [
+    "(Ctx { container: W32, le: Little }, 200, 200)",
+    "(Ctx { container: W32, le: Big }, 200, 200)",
+    "(Ctx { container: W64, le: Little }, 200, 200)",
+    "(Ctx { container: W64, le: Big }, 200, 200)",
+];
+
+const COMMANDS: [&str; 4] = [
+    NARROW_COMMANDS,
+    NARROW_COMMANDS,
+    WIDE_COMMANDS,
+    WIDE_COMMANDS,
+];
 
 const NARROW_COMMANDS: &str = "[\
 LoadCommand { offset: 28, command: IdDylib(DylibCommand { cmd: 13, cmdsize: 32, dylib: Dylib { \
@@ -198,117 +276,69 @@ LoadCommand { offset: 80, command: LoadWeakDylib(DylibCommand { cmd: 2147483672,
 dylib: Dylib { name: 24, timestamp: 2, current_version: 131072, compatibility_version: 65536 } }) }, \
 LoadCommand { offset: 112, command: Other(LoadCommandHeader { cmd: 27, cmdsize: 24 }) }]";
 
+const LITTLE_AREA: &str = "\
+[13, 0, 0, 0, 32, 0, 0, 0, 24, 0, 0, 0, 1, 0, 0, 0, 3, 2, 1, 0, 0, 0, 1, 0, 97, 46, 100, 121, \
+108, 105, 98, 0]\n\
+[28, 0, 0, 128, 16, 0, 0, 0, 12, 0, 0, 0, 47, 120, 0, 63]\n\
+[24, 0, 0, 128, 32, 0, 0, 0, 24, 0, 0, 0, 2, 0, 0, 0, 0, 0, 2, 0, 0, 0, 1, 0, 98, 98, 46, 100, \
+121, 108, 105, 98]\n\
+[27, 0, 0, 0, 24, 0, 0, 0, 1, 0, 0, 0, 2, 0, 0, 0, 3, 0, 0, 0, 4, 0, 0, 0]\n";
+
+const BIG_AREA: &str = "\
+[0, 0, 0, 13, 0, 0, 0, 32, 0, 0, 0, 24, 0, 0, 0, 1, 0, 1, 2, 3, 0, 1, 0, 0, 97, 46, 100, 121, \
+108, 105, 98, 0]\n\
+[128, 0, 0, 28, 0, 0, 0, 16, 0, 0, 0, 12, 47, 120, 0, 63]\n\
+[128, 0, 0, 24, 0, 0, 0, 32, 0, 0, 0, 24, 0, 0, 0, 2, 0, 2, 0, 0, 0, 1, 0, 0, 98, 98, 46, 100, \
+121, 108, 105, 98]\n\
+[0, 0, 0, 27, 0, 0, 0, 24, 0, 0, 0, 1, 0, 0, 0, 2, 0, 0, 0, 3, 0, 0, 0, 4]\n";
+
+// Compares what the library shows in each form.
+fn expect_each(rt: &impl Runtime, what: What, wanted: &[&str; 4]) {
+    for (form, want) in FORMS.iter().zip(wanted) {
+        expect(rt, library(*form).front(200), what, want);
+    }
+}
+
+#[test]
+fn reads_header(rt: HostRuntime) {
+    expect_each(&rt, What::Header, &HEADERS);
+}
+
+#[test]
+fn reads_form(rt: HostRuntime) {
+    expect_each(&rt, What::Measures, &MEASURES);
+}
+
 #[test]
 fn reads_commands(rt: HostRuntime) {
-    for form in FORMS {
-        let sample = library(form);
-        let want = match form.container {
-            Wide::W32 => NARROW_COMMANDS,
-            Wide::W64 => WIDE_COMMANDS,
-        };
-        let found = again!(&rt; commands_in(rt.alloc(), &sample)).expect(&rt, "a file");
-        same(&rt, "commands", &found.as_str(), &want);
-    }
-}
-
-// Texts, each with a line feed behind it.
-fn push_line(lines: &mut Vec<u8>, text: &[u8]) -> Result<(), AllocError> {
-    lines.extend_from_slice(text)?;
-    Ok(lines.push(b'\n')?)
-}
-
-fn push_lines(lines: &mut Vec<u8>, texts: &[&[u8]]) -> Result<(), AllocError> {
-    for text in texts {
-        push_line(lines, text)?;
-    }
-    Ok(())
-}
-
-// A file's own name, its run paths and the names of the libraries that it loads, a line each.
-fn texts_of(alloc: Global, file: &MachO<'_>) -> Result<Vec<u8>, AllocError> {
-    let mut lines = Vec::new(alloc);
-    if let Some(name) = file.id() {
-        push_line(&mut lines, name)?;
-    }
-    push_lines(&mut lines, &file.rpaths(alloc)?)?;
-    push_lines(&mut lines, &file.libs(alloc)?)?;
-    Ok(lines)
-}
-
-fn texts_in(alloc: Global, sample: &Sample) -> Result<Vec<u8>, MachFault> {
-    let file = MachO::parse(alloc, sample.front(200))?;
-    Ok(texts_of(alloc, &file)?)
+    expect_each(&rt, What::Commands, &COMMANDS);
 }
 
 #[test]
 fn reads_texts(rt: HostRuntime) {
-    for form in FORMS {
-        let sample = library(form);
-        let found = again!(&rt; texts_in(rt.alloc(), &sample)).expect(&rt, "a file");
-        same(
-            &rt,
-            "texts",
-            &found.as_slice(),
-            &b"a.dylib\n/x\nbb.dylib\n".as_slice(),
-        );
-    }
-}
-
-// The same of a file that owns its bytes.
-fn owned_texts(alloc: Global, bytes: &[u8]) -> Result<Vec<u8>, MachFault> {
-    let bytes = Vec::from_slice(alloc, bytes)?;
-    let file = MachO::parse_owned(alloc, bytes)?;
-    Ok(texts_of(alloc, &file)?)
-}
-
-#[test]
-fn reads_texts_of_owned_bytes(rt: HostRuntime) {
-    let mut sample = Sample::new(Wide::W64, ByteOrder2::Little, 1, 32);
-    sample.words(&[LC_RPATH, 32, 12]);
-    sample.text(b"/usr/local/lib");
-    let found = again!(&rt; owned_texts(rt.alloc(), sample.front(64))).expect(&rt, "a file");
-    same(
-        &rt,
-        "texts",
-        &found.as_slice(),
-        &b"/usr/local/lib\n".as_slice(),
-    );
-}
-
-// The lengths of a file's commands, and their bytes joined.
-fn area_in(alloc: Global, sample: &Sample) -> Result<(Vec<usize>, Vec<u8>), MachFault> {
-    let file = MachO::parse(alloc, sample.front(200))?;
-    let mut lengths = Vec::new(alloc);
-    let mut area = Vec::new(alloc);
-    for command in &file.commands(alloc)? {
-        lengths.push(command.as_slice().len())?;
-        area.extend_from_slice(command.as_slice())?;
-    }
-    Ok((lengths, area))
+    expect_each(&rt, What::Texts, &["a.dylib\n/x\nbb.dylib\n"; 4]);
 }
 
 #[test]
 fn lends_commands(rt: HostRuntime) {
-    for form in FORMS {
-        let sample = library(form);
-        let start = match form.container {
-            Wide::W32 => 28,
-            Wide::W64 => 32,
-        };
-        let found = again!(&rt; area_in(rt.alloc(), &sample)).expect(&rt, "a file");
-        same(
-            &rt,
-            "lengths",
-            &found.0.as_slice(),
-            &[32, 16, 32, 24].as_slice(),
-        );
-        same(
-            &rt,
-            "bytes",
-            &found.1.as_slice(),
-            &&sample.bytes[start..start + 104],
-        );
-    }
+    let areas = [LITTLE_AREA, BIG_AREA, LITTLE_AREA, BIG_AREA];
+    expect_each(&rt, What::Area, &areas);
+}
+
+// A file whose one command is a run path with this offset of its text, and a text of 14 bytes.
+fn with_path(cmdsize: u32, offset: u32) -> Sample {
+    let mut sample = Sample::new(Wide::W64, ByteOrder2::Little, 1, cmdsize);
+    sample.words(&[LC_RPATH, cmdsize, offset]);
+    sample.text(b"/usr/local/lib");
+    sample
+}
+
+// A run path at its command's end is the empty text.
+#[test]
+fn reads_run_paths(rt: HostRuntime) {
+    let path = with_path(32, 12);
+    expect(&rt, path.front(64), What::Texts, "-\n/usr/local/lib\n");
+    expect(&rt, with_path(16, 16).front(48), What::Texts, "-\n\n");
 }
 
 // The bytes that a file hands out which was not edited: lent ones, and its own.
@@ -368,47 +398,51 @@ fn refuses_other_magics(rt: HostRuntime) {
     }
 }
 
+const BAD_SIZE: Option<MachFault> = Some(MachFault::BadCommandSize);
+
+const BAD_NAME: Option<MachFault> = Some(MachFault::BadNameOffset);
+
+// Commands, how many there are and how long they are, and the fault of the file.
+const FAULTY_COMMANDS: [(&str, u32, u32, &[u32], Option<MachFault>); 10] = [
+    ("no room for a command", 1, 7, &[LC_UUID, 8], BAD_SIZE),
+    ("less than a command", 1, 8, &[LC_UUID, 7], BAD_SIZE),
+    ("past the area", 1, 8, &[LC_UUID, 0xffff_fff8], BAD_SIZE),
+    ("a kind's fixed part", 1, 8, &[LC_RPATH, 8], BAD_SIZE),
+    ("one command too few", 2, 8, &[LC_UUID, 8], BAD_SIZE),
+    (
+        "counts",
+        1,
+        16,
+        &[LC_UUID, 8],
+        Some(MachFault::CountsDisagree),
+    ),
+    ("all right", 1, 8, &[LC_UUID, 8], None),
+    (
+        "a path past its command",
+        1,
+        16,
+        &[LC_RPATH, 16, 17, 0],
+        BAD_NAME,
+    ),
+    (
+        "path before size",
+        2,
+        24,
+        &[LC_RPATH, 16, 17, 0, LC_UUID, 7],
+        BAD_NAME,
+    ),
+    (
+        "a name past its command",
+        1,
+        24,
+        &[LC_ID_DYLIB, 24, 25, 0, 0, 0],
+        BAD_NAME,
+    ),
+];
+
 #[test]
 fn refuses_commands(rt: HostRuntime) {
-    let bad_size = Some(MachFault::BadCommandSize);
-    let bad_name = Some(MachFault::BadNameOffset);
-    let rows: [(&str, u32, u32, &[u32], Option<MachFault>); 10] = [
-        ("no room for a command", 1, 7, &[LC_UUID, 8], bad_size),
-        ("less than a command", 1, 8, &[LC_UUID, 7], bad_size),
-        ("past the area", 1, 8, &[LC_UUID, 0xffff_fff8], bad_size),
-        ("a kind's fixed part", 1, 8, &[LC_RPATH, 8], bad_size),
-        ("one command too few", 2, 8, &[LC_UUID, 8], bad_size),
-        (
-            "counts",
-            1,
-            16,
-            &[LC_UUID, 8],
-            Some(MachFault::CountsDisagree),
-        ),
-        ("all right", 1, 8, &[LC_UUID, 8], None),
-        (
-            "a path past its command",
-            1,
-            16,
-            &[LC_RPATH, 16, 17, 0],
-            bad_name,
-        ),
-        (
-            "path before size",
-            2,
-            24,
-            &[LC_RPATH, 16, 17, 0, LC_UUID, 7],
-            bad_name,
-        ),
-        (
-            "a name past its command",
-            1,
-            24,
-            &[LC_ID_DYLIB, 24, 25, 0, 0, 0],
-            bad_name,
-        ),
-    ];
-    for (what, ncmds, sizeofcmds, words, want) in rows {
+    for (what, ncmds, sizeofcmds, words, want) in FAULTY_COMMANDS {
         let mut sample = Sample::new(Wide::W64, ByteOrder2::Little, ncmds, sizeofcmds);
         sample.words(words);
         expect_fault(&rt, what, sample.front(640), want);
@@ -429,15 +463,6 @@ fn refuses_sections(rt: HostRuntime) {
         let bad_size = Some(MachFault::BadCommandSize);
         expect_fault(&rt, "sections", sample.front(640), bad_size);
     }
-}
-
-// A run path at its command's end is the empty text.
-#[test]
-fn reads_empty_path(rt: HostRuntime) {
-    let mut sample = Sample::new(Wide::W64, ByteOrder2::Little, 1, 16);
-    sample.words(&[LC_RPATH, 16, 16, 0x6161_6161]);
-    let found = again!(&rt; texts_in(rt.alloc(), &sample)).expect(&rt, "a file");
-    same(&rt, "texts", &found.as_slice(), &b"\n".as_slice());
 }
 
 // Where the content of a file begins whose segment, symbols and strings have these offsets and sizes: of
@@ -461,8 +486,7 @@ fn first_content(
     sample.section(16, 4, 0xc);
     sample.section(16, 4, 0x8000_0012);
     sample.section(0, 4, 0);
-    let file = MachO::parse(alloc, sample.front(640))?;
-    Ok(file.first_content())
+    Ok(MachO::parse(alloc, sample.front(640))?.first_content())
 }
 
 #[test]

@@ -2,6 +2,7 @@
 //! by the calls of each container.
 
 use super::{Edit, Sample, Step, walks};
+use crate::support::Runtime;
 
 // A command with the run path `/a`, low byte first.
 const PATH: &[u8] = b"\x1c\0\0\x80\x10\0\0\0\x0c\0\0\0/a\0\0";
@@ -33,11 +34,6 @@ const NO_ROOM_AT_64: Step<'static> = Step {
 
 const FILL_WIDE: [Step<'static>; 2] = [ADDED, NO_ROOM_AT_64];
 
-#[test]
-fn fills_a_wide_file(rt: HostRuntime) {
-    walks(&rt, &EMPTY, &FILL_WIDE);
-}
-
 const WIDE_BIG: Sample<'static> = Sample {
     length: 64,
     parts: &[(0, b"\xfe\xed\xfa\xcf\x01\0\0\x07\0\0\0\x03\0\0\0\x06")],
@@ -54,11 +50,6 @@ const FILL_WIDE_BIG: [Step<'static>; 2] = [
     },
     NO_ROOM_AT_64,
 ];
-
-#[test]
-fn fills_a_wide_file_high_byte_first(rt: HostRuntime) {
-    walks(&rt, &WIDE_BIG, &FILL_WIDE_BIG);
-}
 
 const NARROW_LITTLE: Sample<'static> = Sample {
     length: 56,
@@ -83,11 +74,6 @@ const FILL_NARROW: [Step<'static>; 2] = [
     NO_ROOM_AT_56,
 ];
 
-#[test]
-fn fills_a_narrow_file(rt: HostRuntime) {
-    walks(&rt, &NARROW_LITTLE, &FILL_NARROW);
-}
-
 const NARROW_BIG: Sample<'static> = Sample {
     length: 56,
     parts: &[(0, b"\xfe\xed\xfa\xce\0\0\0\x07\0\0\0\x03\0\0\0\x06")],
@@ -104,11 +90,6 @@ const FILL_NARROW_BIG: [Step<'static>; 2] = [
     },
     NO_ROOM_AT_56,
 ];
-
-#[test]
-fn fills_a_narrow_file_high_byte_first(rt: HostRuntime) {
-    walks(&rt, &NARROW_BIG, &FILL_NARROW_BIG);
-}
 
 // A file whose one command is that run path, and zeros up to twice its size.
 const WITH_PATH: Sample<'static> = Sample {
@@ -154,11 +135,6 @@ const CHANGE_PATH: [Step<'static>; 5] = [
     },
 ];
 
-#[test]
-fn changes_a_run_path(rt: HostRuntime) {
-    walks(&rt, &WITH_PATH, &CHANGE_PATH);
-}
-
 const EQUAL_PATHS: Sample<'static> = Sample {
     length: 96,
     parts: &[
@@ -192,11 +168,6 @@ const REMOVE_PATHS: [Step<'static>; 3] = [
         changes: &[(16, b"\x01\0\0\0\x10"), (48, &[0; 16])],
     },
 ];
-
-#[test]
-fn removes_the_first_of_equal_run_paths(rt: HostRuntime) {
-    walks(&rt, &EQUAL_PATHS, &REMOVE_PATHS);
-}
 
 // A segment of 64 bits with one section, up to where its content is told.
 const SEGMENT: &[u8] = b"\x19\0\0\0\x98\0\0\0__TEXT\0\0\0\0\0\0\0\0\0\0\0\0\0\0\0\0\0\0\
@@ -256,11 +227,6 @@ const STOP_BEFORE_CONTENT: [Step<'static>; 6] = [
     },
 ];
 
-#[test]
-fn stops_before_the_content(rt: HostRuntime) {
-    walks(&rt, &CONTENT_AT_256, &STOP_BEFORE_CONTENT);
-}
-
 const CONTENT_AT_264: Sample<'static> = Sample {
     length: 288,
     parts: &[
@@ -283,11 +249,6 @@ const REACH_CONTENT: [Step<'static>; 5] = [
         changes: &[(16, b"\x06\0\0\0\xe8"), (248, PATH)],
     },
 ];
-
-#[test]
-fn reaches_the_content(rt: HostRuntime) {
-    walks(&rt, &CONTENT_AT_264, &REACH_CONTENT);
-}
 
 // A library with its own name and a library that it loads, zeros behind its commands, and other bytes at the end.
 const LIBRARY: Sample<'static> = Sample {
@@ -330,11 +291,6 @@ const CHANGE_NAME: [Step<'static>; 4] = [
     },
 ];
 
-#[test]
-fn changes_the_name_of_a_library_that_is_loaded(rt: HostRuntime) {
-    walks(&rt, &LIBRARY, &CHANGE_NAME);
-}
-
 const CHANGE_OWN_NAME: [Step<'static>; 2] = [
     Step {
         edits: &[Edit::Id("c")],
@@ -357,11 +313,6 @@ const CHANGE_OWN_NAME: [Step<'static>; 2] = [
     },
 ];
 
-#[test]
-fn changes_a_library_s_own_name(rt: HostRuntime) {
-    walks(&rt, &LIBRARY, &CHANGE_OWN_NAME);
-}
-
 const LIBX: Sample<'static> = Sample {
     length: 72,
     parts: &[
@@ -380,11 +331,6 @@ const SHORTEN_NAME: [Step<'static>; 1] = [Step {
     changes: &[(20, b"\x20"), (36, b"\x20"), (56, b"a\0\0\0\0\0\0\0\0\0")],
 }];
 
-#[test]
-fn shortens_a_library_s_own_name(rt: HostRuntime) {
-    walks(&rt, &LIBX, &SHORTEN_NAME);
-}
-
 const FIND_NO_NAMES: [Step<'static>; 3] = [
     Step {
         edits: &[Edit::Id("a")],
@@ -402,11 +348,6 @@ const FIND_NO_NAMES: [Step<'static>; 3] = [
         changes: &[],
     },
 ];
-
-#[test]
-fn finds_no_names(rt: HostRuntime) {
-    walks(&rt, &EMPTY, &FIND_NO_NAMES);
-}
 
 const DECIDE_ROOM: [Step<'static>; 5] = [
     ADDED,
@@ -432,11 +373,6 @@ const DECIDE_ROOM: [Step<'static>; 5] = [
     },
 ];
 
-#[test]
-fn decides_room_by_the_last_list(rt: HostRuntime) {
-    walks(&rt, &EMPTY, &DECIDE_ROOM);
-}
-
 // A file without commands, and other bytes than zeros behind its header.
 const FULL: Sample<'static> = Sample {
     length: 64,
@@ -448,11 +384,6 @@ const CHANGE_NO_BYTE: [Step<'static>; 1] = [Step {
     answer: "Ok(())",
     changes: &[],
 }];
-
-#[test]
-fn changes_no_byte_in_one_batch(rt: HostRuntime) {
-    walks(&rt, &FULL, &CHANGE_NO_BYTE);
-}
 
 const LEAVE_ZEROS: [Step<'static>; 2] = [
     Step {
@@ -466,11 +397,6 @@ const LEAVE_ZEROS: [Step<'static>; 2] = [
         changes: &[(16, b"\0\0\0\0\0"), (32, &[0; 16])],
     },
 ];
-
-#[test]
-fn leaves_zeros_where_commands_were(rt: HostRuntime) {
-    walks(&rt, &FULL, &LEAVE_ZEROS);
-}
 
 const MAKE_EACH_KIND: [Step<'static>; 1] = [Step {
     edits: &[
@@ -488,7 +414,63 @@ const MAKE_EACH_KIND: [Step<'static>; 1] = [Step {
     ],
 }];
 
+// A file, and steps in it.
+type Row = (Sample<'static>, &'static [Step<'static>]);
+
+// Files without commands, which are filled.
+const FILLS: [Row; 4] = [
+    (EMPTY, &FILL_WIDE),
+    (WIDE_BIG, &FILL_WIDE_BIG),
+    (NARROW_LITTLE, &FILL_NARROW),
+    (NARROW_BIG, &FILL_NARROW_BIG),
+];
+
+// Run paths that are changed and removed.
+const PATHS: [Row; 4] = [
+    (WITH_PATH, &CHANGE_PATH),
+    (EQUAL_PATHS, &REMOVE_PATHS),
+    (FULL, &CHANGE_NO_BYTE),
+    (FULL, &LEAVE_ZEROS),
+];
+
+// Room that ends at the content, or with the last list.
+const ROOM: [Row; 3] = [
+    (CONTENT_AT_256, &STOP_BEFORE_CONTENT),
+    (CONTENT_AT_264, &REACH_CONTENT),
+    (EMPTY, &DECIDE_ROOM),
+];
+
+// Names of libraries, own ones and those that are loaded.
+const NAMES: [Row; 5] = [
+    (LIBRARY, &CHANGE_NAME),
+    (LIBRARY, &CHANGE_OWN_NAME),
+    (LIBX, &SHORTEN_NAME),
+    (EMPTY, &FIND_NO_NAMES),
+    (LIBRARY, &MAKE_EACH_KIND),
+];
+
+fn walk_all(rt: &impl Runtime, rows: &[Row]) {
+    for (sample, steps) in rows {
+        walks(rt, sample, steps);
+    }
+}
+
 #[test]
-fn makes_each_kind_of_edit_in_one_batch(rt: HostRuntime) {
-    walks(&rt, &LIBRARY, &MAKE_EACH_KIND);
+fn fills_files_of_each_form(rt: HostRuntime) {
+    walk_all(&rt, &FILLS);
+}
+
+#[test]
+fn changes_and_removes_run_paths(rt: HostRuntime) {
+    walk_all(&rt, &PATHS);
+}
+
+#[test]
+fn knows_how_much_room_there_is(rt: HostRuntime) {
+    walk_all(&rt, &ROOM);
+}
+
+#[test]
+fn changes_names_of_libraries(rt: HostRuntime) {
+    walk_all(&rt, &NAMES);
 }
