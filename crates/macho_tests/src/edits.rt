@@ -79,7 +79,12 @@ fn expect_rpath(rt: &impl Runtime, ctx: Ctx, text: &str, cmdsize: u32, bytes: &[
         cmdsize,
         path: 12,
     };
-    same(rt, "command", &(built.0, built.1.as_slice()), &(command, bytes));
+    same(
+        rt,
+        "command",
+        &(built.0, built.1.as_slice()),
+        &(command, bytes),
+    );
 }
 
 // A form, a text, and the size and the bytes of its command.
@@ -143,7 +148,12 @@ fn expect_library(rt: &impl Runtime, ctx: Ctx, cmdsize: u32, bytes: &[u8]) {
         cmdsize,
         dylib,
     };
-    same(rt, "command", &(built.0, built.1.as_slice()), &(command, bytes));
+    same(
+        rt,
+        "command",
+        &(built.0, built.1.as_slice()),
+        &(command, bytes),
+    );
 }
 
 // A form, and the size and the bytes of a command.

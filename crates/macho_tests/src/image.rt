@@ -190,12 +190,7 @@ fn push_shown(
     }
 }
 
-fn push_lent(
-    alloc: Global,
-    lines: &mut String,
-    bytes: &[u8],
-    what: What,
-) -> Result<(), MachFault> {
+fn push_lent(alloc: Global, lines: &mut String, bytes: &[u8], what: What) -> Result<(), MachFault> {
     let file = MachO::parse(alloc, bytes)?;
     Ok(push_shown(alloc, lines, &file, what)?)
 }
@@ -233,12 +228,7 @@ fn expect(rt: &impl Runtime, bytes: &[u8], what: What, want: &str) {
 }
 
 // What the libraries of the four forms show.
-const HEADERS: [&str; 4] = [
-    NARROW_HEADER,
-    NARROW_HEADER,
-    WIDE_HEADER,
-    WIDE_HEADER,
-];
+const HEADERS: [&str; 4] = [NARROW_HEADER, NARROW_HEADER, WIDE_HEADER, WIDE_HEADER];
 
 const NARROW_HEADER: &str = "Header { magic: 4277009102, cputype: 7, cpusubtype: 3, filetype: 6, \
 ncmds: 4, sizeofcmds: 104, flags: 133, reserved: 0 }";
