@@ -3,7 +3,7 @@
 #![tactic(auto)]
 
 // What a call answers that changes nothing. It is made twice, and what it answers first counts where that is not want of
-// memory. Then it is not refused memory again. (Without a branch where it is called, a test is proved in half the time.)
+// memory. Then it is not refused memory again. (So no call needs a branch for it.)
 #[cfg(test)]
 macro_rules! again {
     ($rt:expr; $call:expr) => {
