@@ -102,7 +102,8 @@ pub fn read_versions(
     bytes: &[u8],
 ) -> Result<Vec<Option<VersionId>>, AllocError>
     requires { count * size ≤ length bytes.now }
-    ensures { IfOk result (λ v. v.items ≡ records (λ b. Some (version_id form b)) size count bytes.now) }
+    ensures { IfOk result (λ v.
+        v.items ≡ records (λ b. Some (version_id form b)) size count bytes.now) }
 {
     let mut made = Vec::new(alloc);
     let mut rest = bytes;

@@ -13,15 +13,15 @@ use Rattle.elf_format.specs.Dynamic.{Entry, shown_entry}
 use Rattle.elf_format.specs.File.{Parts, linked_section, section_bytes, section_of_type}
 use Rattle.elf_format.specs.declared.form.Form.{Form}
 use Rattle.elf_format.specs.Form.{records}
-use Rattle.elf_format.specs.Image.{definitions_read, dynamic_symbols_read, entries_read, needs_read, section_read, static_symbols, versions_read}
-use Rattle.elf_format.specs.Options.{each, list_at}
+use Rattle.elf_format.specs.Image.{dynamic_symbols_read, entries_read, section_read, static_symbols, versions_read}
+use Rattle.elf_format.specs.Options.{each}
 use Rattle.elf_format.specs.Answers.{Fails}
 use Rattle.elf_format.specs.declared.records.SectionHeader.{SectionHeader}
 use Rattle.elf_format.specs.declared.records.SymbolNumbers.{SymbolNumbers}
 use Rattle.elf_format.specs.Records.{symbol_numbers, symbol_size, symbols_in}
-use Rattle.elf_format.specs.Rules.{data_of, definition_steps, file_of, linked_texts, need_steps, raw_entries, texts_of}
+use Rattle.elf_format.specs.Rules.{data_of, file_of, linked_texts, raw_entries, texts_of}
 use Rattle.elf_image.specs.TextSteps.{kept_as, named_section, named_symbol, symbols_from, symbols_shown, version_at, versions_in}
-use Rattle.elf_format.specs.Versions.{DefinitionNumbers, NeedNumbers, shown_definition, shown_need, values_of, version_id}
+use Rattle.elf_format.specs.Versions.{version_id}
 use Rattle.elf_format.specs.Views.{NamedSymbol, named_symbols, names_of}
 use Rattle.elf_format.proofs.ReadingSteps.{with_front, with_front-cons}
 
@@ -133,11 +133,6 @@ module _ (form : Form) (room : ℕ) (texts : Memory) (versions : Option (List �
 
 -- ## By the one section of a type
 
--- nothing was found, where no value that is there was
-pub none_found : {A : Type 0} → (found o : Option A) → ((x : A) → found ≡ Some x → ⊥) → found ≡ o → None ≡ o
-none_found None o h e = e
-none_found (Some x) o h e = absurd (h x refl)
-
 module _ (p : Parts) (o : Option SectionHeader) where
   pub static_none : None ≡ o → static_symbols p o ≡ Some []
   unfolding static_symbols
@@ -158,14 +153,6 @@ module _ (p : Parts) (o : Option SectionHeader) where
   pub entries_none : None ≡ o → entries_read p o ≡ Some None
   unfolding entries_read
   entries_none e = ap (entries_read p) (sym e)
-
-  pub definitions_none : None ≡ o → definitions_read p o ≡ Some []
-  unfolding definitions_read
-  definitions_none e = ap (definitions_read p) (sym e)
-
-  pub needs_none : None ≡ o → needs_read p o ≡ Some []
-  unfolding needs_read
-  needs_none e = ap (needs_read p) (sym e)
 
 -- the versions of a section's bytes, where there is such a section
 pub versions_by_section : (p : Parts) (o : Option SectionHeader) (count : ℕ) → versions_in p.opened.form (option_map (section_bytes (file_of p)) o) count ≡ versions_read p o count
@@ -197,17 +184,3 @@ module _ (p : Parts) (o : Option SectionHeader) (s : SectionHeader) (texts : Mem
 
   pub entries_some : (es : List Entry) → each (shown_entry (length (file_of p)) texts) (raw_entries p) ≡ Some es → entries_read p o ≡ Some (Some es)
   entries_some es h = sym entries_by ∙ ap (λ v. v >>= (λ l. Some (Some l))) h
-
-  pub definitions_some : (walked : List DefinitionNumbers) → walked ≡ list_at (λ t. values_of (definition_steps p t)) o → each (shown_definition (length (file_of p)) texts) walked ≡ definitions_read p o
-  unfolding definitions_read
-  definitions_some walked same =
-      ap (λ t. each (shown_definition (length (file_of p)) t) walked) same_texts
-      ∙ ap (each (shown_definition (length (file_of p)) (linked_texts p s))) (same ∙ sym (ap (list_at (λ t. values_of (definition_steps p t))) is))
-      ∙ ap (definitions_read p) is
-
-  pub needs_some : (walked : List NeedNumbers) → walked ≡ list_at (λ t. values_of (need_steps p t)) o → each (shown_need (length (file_of p)) texts) walked ≡ needs_read p o
-  unfolding needs_read
-  needs_some walked same =
-      ap (λ t. each (shown_need (length (file_of p)) t) walked) same_texts
-      ∙ ap (each (shown_need (length (file_of p)) (linked_texts p s))) (same ∙ sym (ap (list_at (λ t. values_of (need_steps p t))) is))
-      ∙ ap (needs_read p) is

@@ -22,4 +22,3 @@ pub mod ReadImage
 pub mod Machine
 pub mod ImageSteps
 pub mod TextSteps
-pub mod WalkSteps

@@ -107,7 +107,8 @@ impl<'data> Builder<'data> {
 
     /// The versions that the file defines and needs (GNU symbol versioning). Takes no memory.
     pub fn versions(&self) -> &Versions<'data>
-        ensures definitions { map definition_kept result.now.definitions.items ≡ self.now.definitions }
+        ensures definitions { map definition_kept result.now.definitions.items
+            ≡ self.now.definitions }
         ensures needs { map needs_kept result.now.needs.items ≡ self.now.needs }
     {
         &self.versions

@@ -23,7 +23,10 @@ impl<'data> Builder<'data> {
     pub fn set_dynamic(&mut self, list: Vec<Dynamic<'data>>)
         requires tables { KeepsTables self.old.entries (map entry_kept list.items) }
         requires entries { All IsListed (map entry_kept list.items) }
-        ensures { self.new ≡ record self.old { changed = true; entries = some (map entry_kept list.entry.items) } }
+        ensures { self.new ≡ record self.old {
+          changed = true;
+          entries = some (map entry_kept list.entry.items);
+        } }
     {
         self.dynamic = Some(list);
         self.changed = true;
@@ -129,7 +132,8 @@ impl<'data> Builder<'data> {
 
     /// The first PT_GNU_STACK, whose flags say whether the stack may be run (GNU extension). Takes no memory.
     pub fn stack(&self) -> Option<&Segment<'data>>
-        ensures { option_map (λ p. segment_kept p.now) result ≡ segment_of_type STACK self.now.segments }
+        ensures { option_map (λ p. segment_kept p.now) result
+            ≡ segment_of_type STACK self.now.segments }
     {
         let at = stack_position(&self.segments)?;
         Some(&self.segments[at])
@@ -201,7 +205,8 @@ fn remove_tagged(list: &mut Vec<Dynamic<'_>>, tag: u64)
 // The entry at a position gets the tag.
 fn retag_entry(list: &mut Vec<Dynamic<'_>>, index: usize, tag: u64)
     requires { index < vec_len list.old }
-    ensures { map entry_kept list.new.items ≡ with_tag_at index tag (map entry_kept list.old.items) }
+    ensures { map entry_kept list.new.items
+        ≡ with_tag_at index tag (map entry_kept list.old.items) }
 {
     list[index].set_tag(tag);
 }

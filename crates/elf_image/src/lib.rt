@@ -11,7 +11,6 @@ mod read;
 pub mod section;
 pub mod segment;
 pub mod symbol;
-pub mod version;
 
 pub use crate::builder::Builder;
 pub use crate::dynamic::Dynamic;
@@ -19,7 +18,7 @@ pub use crate::machine::machine_of;
 pub use crate::section::Section;
 pub use crate::segment::Segment;
 pub use crate::symbol::Symbol;
-pub use crate::version::{VersionDef, VersionNeed, VersionNeedName, Versions};
 pub use elf_format::{
     ElfFault, Form, Header, SectionData, VersionId, constants, laws as format_laws, records,
 };
+pub use elf_versions::version::{self, VersionDef, VersionNeed, VersionNeedName, Versions};

@@ -10,10 +10,9 @@ ghost use Rattle.elf_rules.specs.Read.{Passes, Reads, parts_seen};
 ghost use Rattle.elf_format.specs.Rules.{checked, data_of, raw_entries as entries_of, there_or};
 ghost use Rattle.elf_format.specs.declared.fault.ElfFault.TheVariants.{BadText};
 ghost use Rattle.elf_rules.specs.LinkSteps.{IsChecked};
-ghost use Rattle.elf_image.specs.WalkSteps.{AreDefinitions, AreNeeds};
+ghost use Rattle.elf_versions.specs.WalkSteps.{AreDefinitions, AreNeeds};
 
 pub(crate) mod texts;
-pub(crate) mod versions;
 
 use crate::builder::{Builder, counted};
 use crate::dynamic::Dynamic;
@@ -21,10 +20,6 @@ use crate::read::texts::entries::entries;
 use crate::read::texts::interpreter;
 use crate::read::texts::sections::sections;
 use crate::read::texts::symbols::{dynamic_symbols, static_symbols};
-use crate::read::texts::versions::{definitions, needs};
-use crate::read::versions::{
-    DefinitionWalk, NeedWalk, are_versions_right, walk_definitions, walk_needs,
-};
 use crate::section::Section;
 use crate::segment::Segment;
 use crate::symbol::Symbol;
@@ -38,6 +33,9 @@ use elf_rules::dynamic::{check_links, raw_entries};
 use elf_rules::headers::{Headers, read_headers};
 use elf_rules::linked::{Checked, are_tables_linked, check_relocations, kind_of};
 use elf_rules::placement::{check_placement, header_table_loaded};
+use elf_versions::kept::{definitions, needs};
+use elf_versions::rule::are_versions_right;
+use elf_versions::walks::{DefinitionWalk, NeedWalk, walk_definitions, walk_needs};
 use patch_bytes::ByteString;
 use std::alloc::{AllocError, Global};
 use std::marker::PhantomData;
@@ -83,7 +81,8 @@ fn kinds(
     checked: &[Checked],
 ) -> Result<Vec<SectionData>, AllocError>
     requires { All (IsChecked parts.now.form parts.now.file.now) checked.now }
-    ensures { IfOk result (λ made. made.items ≡ map (data_of (parts_seen parts.now)) parts.now.sections.items) }
+    ensures { IfOk result (λ made.
+        made.items ≡ map (data_of (parts_seen parts.now)) parts.now.sections.items) }
 {
     let mut made = Vec::with_capacity(alloc, parts.sections.len())?;
     for section in parts.sections.as_slice() {

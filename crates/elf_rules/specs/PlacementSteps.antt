@@ -2,10 +2,11 @@
 use Rattle.std.specs.Prelude.{ℕ, ◌+◌, ◌≤◌, List, [], ◌∷◌, filter, map, Bool, true, ◌&&◌, ◌||◌, not, nat_le, nat_lt, ◌==◌, if◌then◌else◌}
 use Rattle.std.specs.List.{AllPairs, list_all, list_any}
 use Rattle.std.specs.List.Sorted.{IsNonDecreasing, IsPermutation}
-use Rattle.elf_format.specs.File.{is_loaded, loads_of}
-use Rattle.elf_format.specs.Placement.{file_part, holds, is_stored, is_uninitialized}
+use Rattle.elf_format.specs.File.{is_loaded, loads_of, Parts, has_file_bytes}
+use Rattle.elf_format.specs.Placement.{file_part, holds, is_stored, is_uninitialized, ends_by, file_range}
 use Rattle.elf_format.specs.declared.range.Range.{Range}
-use Rattle.elf_format.specs.Ranges.{end_of}
+use Rattle.elf_format.specs.Ranges.{end_of, apart}
+use Rattle.elf_format.specs.Rules.{header_range, segment_table_range}
 use Rattle.elf_format.specs.declared.records.SectionHeader.{SectionHeader}
 use Rattle.elf_format.specs.declared.records.SegmentHeader.{SegmentHeader}
 
@@ -48,3 +49,15 @@ lies_inside s e = nat_lt s.sh_addr e && nat_lt e (s.sh_addr + s.sh_size)
 -- a section, where it is uninitialized, has none of the places inside its addresses
 abbrev pub is_clear_if_uninitialized : List ℕ → SectionHeader → Bool
 is_clear_if_uninitialized ends s = not (is_uninitialized s) || list_all (λ e. not (lies_inside s e)) ends
+
+-- the bytes of each section lie in a file of this length
+abbrev pub sections_end_by : ℕ → List SectionHeader → Bool
+sections_end_by length sections = list_all (λ s. ends_by length (file_range s)) (filter has_file_bytes sections)
+
+-- where the file header and the program header table stand
+abbrev pub header_ranges : Parts → List Range
+header_ranges parts = header_range parts ∷ segment_table_range parts ∷ []
+
+-- stored sections share no byte of the file with ranges
+abbrev pub stored_clear_of : List Range → List SectionHeader → Bool
+stored_clear_of ranges sections = list_all (λ h. list_all (λ r. apart h r) (map file_range (filter is_stored sections))) ranges

@@ -81,7 +81,8 @@ fn read_tables(
     form: Form,
     header: FileHeader,
 ) -> Result<(Vec<SegmentHeader>, Vec<SectionHeader>), ViewFault>
-    ensures { Gives (tables_seen (opened_seen file.now (form, header))) result (parts_of (opened_seen file.now (form, header))) }
+    ensures { Gives (tables_seen (opened_seen file.now (form, header))) result
+        (parts_of (opened_seen file.now (form, header))) }
 {
     let segments = segments(alloc, file, form, header)?;
     let sections = sections(alloc, file, form, header)?;

@@ -1,7 +1,7 @@
-ghost use Rattle.std.specs.Prelude.{◌≡◌, ◌<◌, ◌≤◌, ◌*◌, ◌/◌, IfOk, filter, ◌==◌, ◌&&◌, ◌||◌, [], ◌∷◌, drop, length, nat_le, nat_lt, not};
+ghost use Rattle.std.specs.Prelude.{◌≡◌, ◌<◌, ◌≤◌, ◌*◌, ◌/◌, IfOk, filter, ◌==◌, ◌&&◌, ◌||◌, [], ◌∷◌, drop, length, nat_lt, not};
 ghost use Rattle.std.specs.List.{list_all};
 ghost use Rattle.elf_format.specs.File.{section_bytes as bytes_of_section, sections_there as headers_there};
-ghost use Rattle.elf_rules.specs.LinkSteps.{IsAmong};
+ghost use Rattle.elf_rules.specs.LinkSteps.{IsAmong, all_numbers_plain, is_index_outside};
 ghost use Rattle.elf_format.specs.Options.{is_one_of};
 ghost use Rattle.elf_format.specs.Seen.{opened_seen};
 ghost use Rattle.elf_format.specs.Records.{section_header_size, segment_header_size, symbol_numbers, symbols_in};
@@ -42,7 +42,8 @@ fn is_header_kind(form: Form, header: FileHeader) -> bool
     ensures { result ≡ (is_one_of (ET_EXEC ∷ ET_DYN ∷ []) header.e_type
         && not (header.e_shoff == 0) && not (header.e_shnum == 0)
         && nat_lt header.e_shnum SHN_LORESERVE && nat_lt header.e_phnum PN_XNUM
-        && header.e_phentsize == segment_header_size form && header.e_shentsize == section_header_size form
+        && header.e_phentsize == segment_header_size form
+        && header.e_shentsize == section_header_size form
         && nat_lt header.e_shstrndx header.e_shnum) }
 {
     has_plain_counts(header)
@@ -104,7 +105,8 @@ fn sections_there(
     form: Form,
     header: FileHeader,
 ) -> Result<Vec<SectionHeader>, AllocError>
-    ensures { IfOk result (λ sections. sections.items ≡ headers_there (opened_seen file.now (form, header))) }
+    ensures { IfOk result (λ sections.
+        sections.items ≡ headers_there (opened_seen file.now (form, header))) }
 {
     let size = form.section_header_size();
     let rest = bytes_from(file, header.e_shoff as usize);
@@ -129,7 +131,8 @@ fn symbol_tables(
 // Whether no symbol of tables says to look elsewhere for its section's number. What a table shares with those
 // before it isn't looked at again, where they are in the order of their offsets.
 fn are_numbers_plain(file: &[u8], form: Form, tables: &[SectionHeader]) -> bool
-    ensures { result ≡ list_all (λ s. list_all (λ y. not (y.st_shndx == SHN_XINDEX)) (symbols_in form (bytes_of_section file.now s))) tables.now }
+    ensures { result ≡ list_all
+        (λ s. all_numbers_plain form (bytes_of_section file.now s)) tables.now }
 {
     let size = form.symbol_size();
     let mut done = Run { start: 0, count: 0 };
@@ -188,7 +191,7 @@ fn bytes_from(bytes: &[u8], place: usize) -> &[u8]
 
 // Whether no symbol in bytes says to look elsewhere for its section's number.
 fn has_plain_numbers(form: Form, bytes: &[u8]) -> bool
-    ensures { result ≡ list_all (λ y. not (y.st_shndx == SHN_XINDEX)) (symbols_in form bytes.now) }
+    ensures { result ≡ all_numbers_plain form bytes.now }
 {
     no_index_within(form, bytes, SHN_XINDEX as u32, SHN_XINDEX as u32 + 1)
 }
@@ -196,7 +199,7 @@ fn has_plain_numbers(form: Form, bytes: &[u8]) -> bool
 // Whether the number of a symbol's section is below the first of two, or not below the second.
 #[tactic(auto, unfolding(elf_format::specs::Records::symbol_numbers))]
 fn is_outside(form: Form, symbol: &[u8], low: u32, high: u32) -> bool
-    ensures { result ≡ (nat_lt (symbol_numbers form symbol.now).st_shndx low || nat_le high (symbol_numbers form symbol.now).st_shndx) }
+    ensures { result ≡ is_index_outside low high (symbol_numbers form symbol.now) }
 {
     let index = half(form, symbol, 14, 6) as u32;
     index < low || high <= index
@@ -204,7 +207,7 @@ fn is_outside(form: Form, symbol: &[u8], low: u32, high: u32) -> bool
 
 // Whether no symbol is of a section whose number is from the first of two on and below the second.
 pub(crate) fn no_index_within(form: Form, bytes: &[u8], low: u32, high: u32) -> bool
-    ensures { result ≡ list_all (λ y. nat_lt y.st_shndx low || nat_le high y.st_shndx) (symbols_in form bytes.now) }
+    ensures { result ≡ list_all (is_index_outside low high) (symbols_in form bytes.now) }
 {
     let size = form.symbol_size();
     let mut rest = bytes;

@@ -1,11 +1,10 @@
-ghost use Rattle.std.specs.Prelude.{◌≡◌, ◌≤◌, All, IfOk, IsTrue, length, true, ◌<◌, ◌/◌, ◌%◌, ◌==◌, ◌&&◌, ◌||◌, count_by, filter, nat_le, nat_lt, not};
-ghost use Rattle.std.specs.List.{list_all, list_any};
+ghost use Rattle.std.specs.Prelude.{◌≡◌, ◌≤◌, All, IfOk, IsTrue, length, true, ◌<◌, ◌/◌, ◌%◌, ◌==◌, ◌&&◌, ◌||◌, count_by, nat_le};
 ghost use Rattle.elf_format.specs.Form.{records};
-ghost use Rattle.elf_rules.specs.LinkSteps.{IsAmongKnown, IsChecked, IsKnown, all_names_below, names_below_limit};
-ghost use Rattle.elf_format.specs.Options.{is_none_or, is_one_of};
+ghost use Rattle.elf_rules.specs.LinkSteps.{IsAmongKnown, IsChecked, IsKnown, all_names_below, names_below_limit, all_users_linked, bytes_name_below, first_name_below, fits_table, headers_linked, section_types_once, segment_types_once, some_names_symbol, symbols_right};
+ghost use Rattle.elf_format.specs.Options.{is_one_of};
 ghost use Rattle.elf_rules.specs.Read.{parts_seen};
-ghost use Rattle.elf_format.specs.Records.{relocation, relocation_size, relocations_in, symbol_size};
-ghost use Rattle.elf_format.specs.Rules.{are_linked as all_linked, are_tables_linked as all_tables_linked, are_whole as all_whole, data_of, infos_are_sections as all_infos_are_sections, is_one_of_each as one_of_each, is_opaque_relocation as is_opaque, links_to as is_linked_to, relocated_symbols as table_of, relocations_fit as all_relocations_fit, relocations_of, single_section_types, single_segment_types, symbol_users, symbols_have_sections as all_symbols_have_sections, text_users, unit_of as unit_size};
+ghost use Rattle.elf_format.specs.Records.{relocation, relocation_size};
+ghost use Rattle.elf_format.specs.Rules.{are_linked as all_linked, are_tables_linked as all_tables_linked, are_whole as all_whole, data_of, infos_are_sections as all_infos_are_sections, is_one_of_each as one_of_each, is_opaque_relocation as is_opaque, links_to as is_linked_to, relocated_symbols as table_of, relocations_fit as all_relocations_fit, relocations_of, symbol_users, symbols_have_sections as all_symbols_have_sections, text_users, unit_of as unit_size};
 
 use crate::headers::Headers;
 use crate::kind::{Run, covered, no_index_within, records_from};
@@ -33,15 +32,14 @@ pub fn are_tables_linked(parts: &Headers<'_>, checked: &[Checked]) -> bool
 
 // The same, as far as headers and symbols say it.
 fn are_symbols_right(parts: &Headers<'_>) -> bool
-    ensures { result ≡ (one_of_each parts.now.segments.items parts.now.sections.items && all_linked parts.now.sections.items && all_whole parts.now.form parts.now.sections.items
-        && all_symbols_have_sections (parts_seen parts.now)) }
+    ensures { result ≡ symbols_right (parts_seen parts.now) }
 {
     are_headers_linked(parts.form, &parts.segments, &parts.sections) && symbols_have_sections(parts)
 }
 
 // The same, as far as headers alone say it.
 fn are_headers_linked(form: Form, segments: &[SegmentHeader], sections: &[SectionHeader]) -> bool
-    ensures { result ≡ (one_of_each segments.now sections.now && all_linked sections.now && all_whole form sections.now) }
+    ensures { result ≡ headers_linked form segments.now sections.now }
 {
     is_one_of_each(segments, sections) && are_linked(sections) && are_whole(form, sections)
 }
@@ -55,7 +53,7 @@ fn is_one_of_each(segments: &[SegmentHeader], sections: &[SectionHeader]) -> boo
 
 // Whether no two segments are of a type that may come once.
 fn are_segments_single(segments: &[SegmentHeader]) -> bool
-    ensures { result ≡ list_all (λ type. nat_le (count_by (λ p. p.p_type == type) segments.now) 1) single_segment_types }
+    ensures { result ≡ segment_types_once segments.now }
 {
     [PT_DYNAMIC, PT_INTERP, PT_PHDR]
         .iter()
@@ -64,7 +62,7 @@ fn are_segments_single(segments: &[SegmentHeader]) -> bool
 
 // Whether no two sections are of a type that may come once.
 fn are_sections_single(sections: &[SectionHeader]) -> bool
-    ensures { result ≡ list_all (λ type. nat_le (count_by (λ s. s.sh_type == type) sections.now) 1) single_section_types }
+    ensures { result ≡ section_types_once sections.now }
 {
     [
         SHT_SYMTAB,
@@ -103,7 +101,7 @@ fn are_linked(sections: &[SectionHeader]) -> bool
 
 // Whether tables with texts link to string tables.
 fn are_texts_linked(sections: &[SectionHeader]) -> bool
-    ensures { result ≡ list_all (λ s. is_linked_to SHT_STRTAB sections.now s) (filter (λ s. is_one_of text_users s.sh_type) sections.now) }
+    ensures { result ≡ all_users_linked text_users SHT_STRTAB sections.now }
 {
     sections
         .iter()
@@ -113,7 +111,7 @@ fn are_texts_linked(sections: &[SectionHeader]) -> bool
 
 // Whether tables about the dynamic symbols link to these.
 fn are_symbols_linked(sections: &[SectionHeader]) -> bool
-    ensures { result ≡ list_all (λ s. is_linked_to SHT_DYNSYM sections.now s) (filter (λ s. is_one_of symbol_users s.sh_type) sections.now) }
+    ensures { result ≡ all_users_linked symbol_users SHT_DYNSYM sections.now }
 {
     sections
         .iter()
@@ -208,7 +206,7 @@ fn relocated_symbols(sections: &[SectionHeader], section: SectionHeader) -> Opti
 // Whether a relocation names symbol 0 or one below a number.
 #[tactic(auto, unfolding(elf_format::specs::Records::relocation))]
 fn names_below(form: Form, kind: u32, bytes: &[u8], limit: u64) -> bool
-    ensures { result ≡ ((relocation form kind bytes.now).r_symbol == 0 || nat_lt (relocation form kind bytes.now).r_symbol limit) }
+    ensures { result ≡ names_below_limit limit (relocation form kind bytes.now) }
 {
     let info = long(form, bytes, (4, 4), (8, 8));
     let symbol = match form.wide {
@@ -221,8 +219,9 @@ fn names_below(form: Form, kind: u32, bytes: &[u8], limit: u64) -> bool
 // How many of the first relocations in bytes name symbol 0 or one below a number.
 fn good_count(form: Form, kind: u32, bytes: &[u8], limit: u64) -> usize
     ensures within { result ≤ length bytes.now / relocation_size form kind }
-    ensures good { list_all (names_below_limit limit) (records (relocation form kind) (relocation_size form kind) result bytes.now) ≡ true }
-    ensures all { (result == length bytes.now / relocation_size form kind) ≡ list_all (names_below_limit limit) (relocations_in form kind bytes.now) }
+    ensures good { first_name_below form kind limit result bytes.now ≡ true }
+    ensures all { (result == length bytes.now / relocation_size form kind)
+        ≡ bytes_name_below form kind limit bytes.now }
 {
     let size = form.relocation_size(kind);
     let mut count = 0;
@@ -267,7 +266,8 @@ pub(crate) struct Known {
 /// Which relocations name symbols that they may, section by section. A relocation in several sections is looked
 /// at once. Those of MIPS aren't looked at, nor any where headers are wrong, as tables that don't come once.
 pub fn check_relocations(alloc: Global, parts: &Headers<'_>) -> Result<Vec<Checked>, AllocError>
-    ensures { IfOk result (λ checked. All (IsChecked parts.now.form parts.now.file.now) checked.items) }
+    ensures { IfOk result (λ checked.
+        All (IsChecked parts.now.form parts.now.file.now) checked.items) }
 {
     if parts.header.e_machine == EM_MIPS
         || !are_headers_linked(parts.form, &parts.segments, &parts.sections)
@@ -408,7 +408,7 @@ fn all_name_below(parts: &Headers<'_>, checked: &[Checked], table: Relocated) ->
 #[tactic(auto, using(crate::proofs::LinkSteps::some_name_symbols))]
 fn some_name_symbols(parts: &Headers<'_>, checked: &[Checked], section: SectionHeader) -> bool
     requires { All (IsChecked parts.now.form parts.now.file.now) checked.now }
-    ensures { result ≡ list_any (λ r. not (r.r_symbol == 0)) (relocations_of (parts_seen parts.now) section) }
+    ensures { result ≡ some_names_symbol (parts_seen parts.now) section }
 {
     !all_name_below(parts, checked, Relocated { section, limit: 0 })
 }
@@ -438,8 +438,8 @@ fn relocations_fit(parts: &Headers<'_>, checked: &[Checked]) -> bool
 // Whether the relocations of a section are whole, and name symbols of their table.
 fn fits(parts: &Headers<'_>, checked: &[Checked], section: SectionHeader) -> bool
     requires { All (IsChecked parts.now.form parts.now.file.now) checked.now }
-    ensures { result ≡ (section.sh_size % relocation_size parts.now.form section.sh_type == 0
-        && is_none_or (λ l. list_all (λ r. r.r_symbol == 0 || nat_lt r.r_symbol (l.sh_size / symbol_size parts.now.form)) (relocations_of (parts_seen parts.now) section)) (table_of parts.now.sections.items section)) }
+    ensures { result ≡ fits_table parts.now.form parts.now.sections.items
+        (relocations_of (parts_seen parts.now) section) section }
 {
     if section.sh_size % parts.form.relocation_size(section.sh_type) as u64 != 0 {
         return false;

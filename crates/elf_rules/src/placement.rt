@@ -1,12 +1,12 @@
 ghost use Rattle.std.specs.Prelude.{◌≡◌, ◌∷◌, [], ◌+◌, ◌<◌, ◌==◌, IfOk, IsTrue, filter, map, not};
 ghost use Rattle.std.specs.List.{list_all, list_any};
 ghost use Rattle.std.specs.List.Sorted.{IsNonDecreasing};
-ghost use Rattle.elf_format.specs.File.{has_file_bytes, is_allocated, is_loaded, loads_of};
+ghost use Rattle.elf_format.specs.File.{is_allocated, is_loaded, loads_of};
 ghost use Rattle.elf_format.specs.Placement.{ends_by, file_part, file_parts_fit as all_fit, file_range, header_table_loaded as is_table_loaded, holds, is_stored, memory_part, ranges_in_file as all_in_file, sections_held as all_held, segments_apart as all_segments_apart, something_loaded as some_loaded, stored_apart as all_stored_apart, uninitialized_clear as all_clear};
-ghost use Rattle.elf_rules.specs.PlacementSteps.{AreEndsInOrder, AreInTurn, AreLoadsInTurn, file_end, follows_end, is_clear_if_uninitialized, is_filled_load, is_held_if_stored, lies_inside};
+ghost use Rattle.elf_rules.specs.PlacementSteps.{AreEndsInOrder, AreInTurn, AreLoadsInTurn, file_end, follows_end, is_clear_if_uninitialized, is_filled_load, is_held_if_stored, lies_inside, header_ranges, sections_end_by, stored_clear_of};
 ghost use Rattle.elf_format.specs.Ranges.{all_apart as no_two_meet, apart, lies_in};
 ghost use Rattle.elf_rules.specs.Read.{Passes, parts_seen};
-ghost use Rattle.elf_format.specs.Rules.{are_sections_loaded as all_loaded, checked, header_range, placement_rules, segment_table_range};
+ghost use Rattle.elf_format.specs.Rules.{are_sections_loaded as all_loaded, checked, placement_rules, segment_table_range};
 
 use crate::headers::Headers;
 use elf_format::constants::PT_PHDR;
@@ -17,7 +17,7 @@ use std::alloc::{AllocError, Global};
 
 // Whether the bytes of each section lie in a file of that length.
 fn sections_in_file(length: usize, sections: &[SectionHeader]) -> bool
-    ensures { result ≡ list_all (λ s. ends_by length (file_range s)) (filter has_file_bytes sections.now) }
+    ensures { result ≡ sections_end_by length sections.now }
 {
     sections
         .iter()
@@ -86,7 +86,8 @@ fn has_header_table(segments: &[SegmentHeader]) -> bool
 /// Whether the program header table lies in a loaded segment, where a segment says where it is (gABI, Program
 /// Header, `PT_PHDR`).
 pub fn header_table_loaded(parts: &Headers<'_>) -> bool
-    ensures { result ≡ is_table_loaded (segment_table_range (parts_seen parts.now)) parts.now.segments.items }
+    ensures { result
+        ≡ is_table_loaded (segment_table_range (parts_seen parts.now)) parts.now.segments.items }
 {
     !has_header_table(&parts.segments) || some_load_has(header_table(parts), &parts.segments)
 }
@@ -194,14 +195,15 @@ fn clear_of_sections(range: Range, sections: &[SectionHeader]) -> bool
 
 // Whether stored sections share no byte of the file with the file header and the program header table.
 fn clear_of_headers(header: Range, table: Range, sections: &[SectionHeader]) -> bool
-    ensures { result ≡ list_all (λ h. list_all (λ r. apart h r) (map file_range (filter is_stored sections.now))) (header ∷ table ∷ []) }
+    ensures { result ≡ stored_clear_of (header ∷ table ∷ []) sections.now }
 {
     clear_of_sections(header, sections) && clear_of_sections(table, sections)
 }
 
 // Whether stored sections share no byte of the file with each other or with the two headers.
 fn stored_apart(alloc: Global, parts: &Headers<'_>) -> Result<bool, AllocError>
-    ensures { IfOk result (λ b. b ≡ all_stored_apart (header_range (parts_seen parts.now) ∷ segment_table_range (parts_seen parts.now) ∷ []) parts.now.sections.items) }
+    ensures { IfOk result (λ b. b
+        ≡ all_stored_apart (header_ranges (parts_seen parts.now)) parts.now.sections.items) }
 {
     if !apart_among_sections(alloc, &parts.sections)? {
         return Ok(false);
@@ -381,7 +383,8 @@ pub(crate) fn uninitialized_clear(
 /// `Memory` where there isn't enough memory.
 #[tactic(auto, unfolding(elf_format::specs::Rules::checked))]
 pub fn check_placement(alloc: Global, parts: &Headers<'_>) -> Result<(), ElfFault>
-    ensures { Passes (parts_seen parts.now) result (checked placement_rules (parts_seen parts.now)) }
+    ensures { Passes (parts_seen parts.now) result
+        (checked placement_rules (parts_seen parts.now)) }
 {
     if !ranges_in_file(parts.file.len(), &parts.segments, &parts.sections) {
         return Err(ElfFault::Truncated);

@@ -320,7 +320,7 @@ fn expect_opened(rt: &impl Runtime, header: HeaderContainer, buffer: &[u8], file
 }
 
 // Puts a command of 16 bytes in at 64.
-#[tactic(auto, using(arwen_macho::proofs::PatchLemmas::held_ncmds, arwen_macho::proofs::PatchLemmas::held_sizeofcmds))]
+#[tactic(auto, using(arwen_macho::proofs::ForCallers::held_ncmds, arwen_macho::proofs::ForCallers::held_sizeofcmds))]
 fn insert_at_64(
     rt: &HostRuntime,
     header: &mut HeaderContainer,
@@ -349,7 +349,7 @@ fn inserts_command(rt: HostRuntime) -> Result<(), Fail> {
 }
 
 // Takes the command of 16 bytes out that is at 64.
-#[tactic(auto, using(arwen_macho::proofs::PatchLemmas::held_ncmds, arwen_macho::proofs::PatchLemmas::held_sizeofcmds))]
+#[tactic(auto, using(arwen_macho::proofs::ForCallers::held_ncmds, arwen_macho::proofs::ForCallers::held_sizeofcmds))]
 fn remove_at_64(
     rt: &HostRuntime,
     header: &mut HeaderContainer,

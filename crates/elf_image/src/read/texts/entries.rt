@@ -12,13 +12,13 @@ ghost use Rattle.elf_rules.specs.Read.{parts_seen};
 ghost use Rattle.elf_format.specs.Rules.{raw_entries};
 
 use crate::dynamic::Dynamic;
-use crate::read::texts::dynamic_texts;
 use elf_format::constants::SHT_DYNAMIC;
 use elf_format::entries::{ShownEntry, show_entry};
 use elf_format::lookups::section_of_type;
 use elf_format::records::EntryNumbers;
 use elf_format::view_fault::ViewFault;
 use elf_rules::headers::Headers;
+use elf_versions::texts::dynamic_texts;
 use patch_bytes::ByteString;
 use std::alloc::Global;
 
@@ -44,7 +44,8 @@ fn kept_entries<'data>(
     raw: &[EntryNumbers],
 ) -> Result<Vec<Dynamic<'data>>, ViewFault>
     requires { length texts.now ≤ room }
-    ensures { Gives (λ v. map entry_kept v.items) result (each (shown_entry room (memory_of texts.now)) raw.now) }
+    ensures { Gives (λ v. map entry_kept v.items) result
+        (each (shown_entry room (memory_of texts.now)) raw.now) }
 {
     let mut made = Vec::new(alloc);
     for entry in raw {
@@ -61,7 +62,8 @@ pub(crate) fn entries<'data>(
     raw: &[EntryNumbers],
 ) -> Result<Option<Vec<Dynamic<'data>>>, ViewFault>
     requires { raw.now ≡ raw_entries (parts_seen parts.now) }
-    ensures { Gives (λ o. option_map (λ v. map entry_kept v.items) o) result (entries_read (parts_seen parts.now) (first_section DYNAMIC parts.now.sections.items)) }
+    ensures { Gives (λ o. option_map (λ v. map entry_kept v.items) o) result
+        (entries_read (parts_seen parts.now) (first_section DYNAMIC parts.now.sections.items)) }
 {
     let Some(section) = section_of_type(&parts.sections, SHT_DYNAMIC) else {
         return Ok(None);

@@ -21,7 +21,8 @@ use std::alloc::Global;
 
 // The names of sections (gABI, ELF Header, e_shstrndx).
 fn section_names<'data>(parts: &Headers<'data>) -> &'data [u8]
-    ensures value { memory_of result.now ≡ texts_of (parts_seen parts.now) (slice_get parts.now.sections.items parts.now.header.e_shstrndx) }
+    ensures value { memory_of result.now ≡ texts_of (parts_seen parts.now)
+        (slice_get parts.now.sections.items parts.now.header.e_shstrndx) }
     ensures short { length result.now ≤ length parts.now.file.now }
 {
     let number = parts.header.e_shstrndx as usize;
@@ -63,7 +64,8 @@ pub(crate) fn sections<'data>(
     kinds: &[SectionData],
 ) -> Result<Vec<Section<'data>>, ViewFault>
     requires { kinds.now ≡ map (data_of (parts_seen parts.now)) parts.now.sections.items }
-    ensures { Gives (λ v. map section_kept v.items) result (each (section_read (parts_seen parts.now)) parts.now.sections.items) }
+    ensures { Gives (λ v. map section_kept v.items) result
+        (each (section_read (parts_seen parts.now)) parts.now.sections.items) }
 {
     let names = section_names(parts);
     let mut made = Vec::new(alloc);

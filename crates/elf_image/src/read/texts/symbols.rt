@@ -9,7 +9,6 @@ ghost use Rattle.elf_rules.specs.Read.{parts_seen};
 ghost use Rattle.elf_format.specs.Rules.{raw_entries};
 ghost use Rattle.elf_image.specs.TextSteps.{named_symbol, symbols_shown, version_at};
 
-use crate::read::texts::dynamic_texts;
 use crate::symbol::Symbol;
 use elf_format::constants::{SHT_DYNSYM, SHT_GNU_VERSYM, SHT_SYMTAB};
 use elf_format::form::Form;
@@ -20,6 +19,7 @@ use elf_format::texts::text;
 use elf_format::version_id::VersionId;
 use elf_format::view_fault::ViewFault;
 use elf_rules::headers::Headers;
+use elf_versions::texts::dynamic_texts;
 use patch_bytes::ByteString;
 use std::alloc::Global;
 
@@ -65,7 +65,8 @@ fn symbols<'data>(
     versions: Option<&[u8]>,
 ) -> Result<Vec<Symbol<'data>>, ViewFault>
     requires { length texts.now ≤ room }
-    ensures { Gives (λ v. map symbol_kept v.items) result (symbols_shown form room (memory_of texts.now) bytes.now (option_map borrowed versions.entry)) }
+    ensures { Gives (λ v. map symbol_kept v.items) result (symbols_shown form room
+        (memory_of texts.now) bytes.now (option_map borrowed versions.entry)) }
 {
     let size = form.symbol_size();
     let count = bytes.len() / size;
@@ -86,7 +87,8 @@ pub(crate) fn static_symbols<'data>(
     alloc: Global,
     parts: &Headers<'data>,
 ) -> Result<Vec<Symbol<'data>>, ViewFault>
-    ensures { Gives (λ v. map symbol_kept v.items) result (static_ones (parts_seen parts.now) (first_section SYMTAB parts.now.sections.items)) }
+    ensures { Gives (λ v. map symbol_kept v.items) result
+        (static_ones (parts_seen parts.now) (first_section SYMTAB parts.now.sections.items)) }
 {
     let Some(section) = section_of_type(&parts.sections, SHT_SYMTAB) else {
         return Ok(Vec::new(alloc));
@@ -98,7 +100,8 @@ pub(crate) fn static_symbols<'data>(
 
 // The bytes of the section with the versions of symbols (GNU symbol versioning, .gnu.version).
 fn version_bytes<'data>(parts: &Headers<'data>) -> Option<&'data [u8]>
-    ensures { option_map borrowed result ≡ option_map (bytes_of_section parts.now.file.now) (first_section VERSYMS parts.now.sections.items) }
+    ensures { option_map borrowed result ≡ option_map (bytes_of_section parts.now.file.now)
+        (first_section VERSYMS parts.now.sections.items) }
 {
     let section = section_of_type(&parts.sections, SHT_GNU_VERSYM)?;
     Some(section_bytes(parts.file, section))
@@ -111,7 +114,8 @@ pub(crate) fn dynamic_symbols<'data>(
     raw: &[EntryNumbers],
 ) -> Result<Vec<Symbol<'data>>, ViewFault>
     requires { raw.now ≡ raw_entries (parts_seen parts.now) }
-    ensures { Gives (λ v. map symbol_kept v.items) result (dynamic_symbols_read (parts_seen parts.now) (first_section DYNSYM parts.now.sections.items)) }
+    ensures { Gives (λ v. map symbol_kept v.items) result (dynamic_symbols_read
+        (parts_seen parts.now) (first_section DYNSYM parts.now.sections.items)) }
 {
     let Some(section) = section_of_type(&parts.sections, SHT_DYNSYM) else {
         return Ok(Vec::new(alloc));

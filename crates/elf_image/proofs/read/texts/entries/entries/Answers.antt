@@ -12,7 +12,8 @@ use Rattle.elf_rules.specs.Read.{parts_seen}
 use Rattle.elf_format.specs.declared.records.EntryNumbers.{EntryNumbers}
 use Rattle.elf_format.specs.declared.records.SectionHeader.{SectionHeader}
 use Rattle.elf_format.specs.Rules.{file_of}
-use Rattle.elf_image.proofs.TextSteps.{entries_fail, entries_none, entries_some, none_found}
+use Rattle.elf_versions.proofs.KeptSteps.{none_found}
+use Rattle.elf_image.proofs.TextSteps.{entries_fail, entries_none, entries_some}
 use Rattle.elf_image.proofs.read.texts.entries.entries.Goals as goal
 
 pub returns-in_default : goal.returns-in_default

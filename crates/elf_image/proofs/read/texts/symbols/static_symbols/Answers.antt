@@ -9,7 +9,8 @@ use Rattle.elf_rules.specs.Read.{parts_seen}
 use Rattle.elf_format.specs.declared.records.SectionHeader.{SectionHeader}
 use Rattle.elf_format.specs.Rules.{texts_of}
 use Rattle.elf_format.specs.Views.{NamedSymbol}
-use Rattle.elf_image.proofs.TextSteps.{none_found, static_none, static_some}
+use Rattle.elf_versions.proofs.KeptSteps.{none_found}
+use Rattle.elf_image.proofs.TextSteps.{static_none, static_some}
 use Rattle.elf_image.proofs.read.texts.symbols.static_symbols.Goals as goal
 
 pub returns-in_default : goal.returns-in_default

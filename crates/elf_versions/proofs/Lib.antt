@@ -1,0 +1,3 @@
+pub mod WalkSteps
+pub mod VersionSteps
+pub mod KeptSteps

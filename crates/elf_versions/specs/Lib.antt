@@ -1,0 +1,2 @@
+pub mod VersionsSeen
+pub mod WalkSteps

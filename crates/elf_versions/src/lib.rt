@@ -1,0 +1,13 @@
+//! The records of symbol versions in a file (GNU symbol versioning): walked as far as they stand in their section,
+//! held against the read rule on versions, and kept with their texts.
+#![tactic(auto)]
+
+mod definitions;
+mod found;
+pub mod kept;
+mod known;
+mod needs;
+pub mod rule;
+pub mod texts;
+pub mod version;
+pub mod walks;
