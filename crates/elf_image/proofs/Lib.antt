@@ -7,3 +7,5 @@ pub mod EditedLaws
 pub mod SegmentsKept
 pub mod EntriesKept
 pub mod Kept
+pub mod LookupSteps
+pub mod CopySteps

@@ -21,5 +21,7 @@ pub mod Segments
 pub mod Edited
 pub mod ReadImage
 pub mod Machine
+pub mod Lookups
 pub mod ImageSteps
+pub mod Copies
 pub mod TextSteps

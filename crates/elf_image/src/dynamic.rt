@@ -1,6 +1,7 @@
 ghost use Rattle.std.specs.Prelude.{◌≡◌};
 
 use patch_bytes::ByteString;
+use std::alloc::{AllocError, Global};
 
 /// An entry of the dynamic list (gABI, Dynamic Section).
 #[derive(Debug, Drop)]
@@ -52,6 +53,28 @@ impl Dynamic<'_> {
     {
         if self.tag() == old {
             self.set_tag(new);
+        }
+    }
+}
+
+impl<'data> Dynamic<'data> {
+    ghost use Rattle.std.specs.Prelude.{IfOk};
+    ghost use Rattle.elf_image.specs.ImageSeen.{entry_kept};
+
+    // The same entry: a borrowed text is lent again, an owned one copied.
+    pub(crate) fn try_clone(&self, alloc: Global) -> Result<Dynamic<'data>, AllocError>
+        ensures { IfOk result (λ copy. entry_kept copy ≡ entry_kept self.now) }
+    {
+        match self {
+            Dynamic::Auto { tag } => Ok(Dynamic::Auto { tag: *tag }),
+            Dynamic::Integer { tag, val } => Ok(Dynamic::Integer {
+                tag: *tag,
+                val: *val,
+            }),
+            Dynamic::Text { tag, val } => {
+                let val = val.try_clone(alloc)?;
+                Ok(Dynamic::Text { tag: *tag, val })
+            }
         }
     }
 }

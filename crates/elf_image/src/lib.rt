@@ -3,9 +3,11 @@
 #![tactic(auto)]
 
 pub mod builder;
+mod copies;
 pub mod dynamic;
 mod edits;
 pub mod laws;
+mod lookups;
 pub mod machine;
 mod read;
 pub mod section;

@@ -94,24 +94,24 @@ fn kinds(
 // The parts of an image that have names: sections and symbols.
 #[derive(Drop)]
 pub(crate) struct Named<'data> {
-    sections: Vec<Section<'data>>,
-    symbols: Vec<Symbol<'data>>,
-    dynamic_symbols: Vec<Symbol<'data>>,
+    pub(crate) sections: Vec<Section<'data>>,
+    pub(crate) symbols: Vec<Symbol<'data>>,
+    pub(crate) dynamic_symbols: Vec<Symbol<'data>>,
 }
 
 // The dynamic list of an image, and its versions.
 #[derive(Drop)]
 pub(crate) struct Listed<'data> {
-    dynamic: Option<Vec<Dynamic<'data>>>,
-    versions: Versions<'data>,
+    pub(crate) dynamic: Option<Vec<Dynamic<'data>>>,
+    pub(crate) versions: Versions<'data>,
 }
 
 // The numbers at read of sections and symbols.
 #[derive(Drop)]
 pub(crate) struct Numbers {
-    sections: Vec<usize>,
-    symbols: Vec<usize>,
-    dynamic_symbols: Vec<usize>,
+    pub(crate) sections: Vec<usize>,
+    pub(crate) symbols: Vec<usize>,
+    pub(crate) dynamic_symbols: Vec<usize>,
 }
 
 // The sections and symbols, absent where a name isn't there.

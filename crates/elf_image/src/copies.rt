@@ -1,0 +1,181 @@
+//! Copies of an image: what is borrowed is lent again, what is owned copied.
+ghost use Rattle.std.specs.Prelude.{◌≡◌, map, IfOk};
+ghost use Rattle.elf_image.specs.Copies.{AreNumbersOf, listed_seen, named_seen};
+ghost use Rattle.elf_image.specs.ImageSeen.{entry_kept, section_kept, symbol_kept};
+ghost use Rattle.elf_image.specs.ImageSteps.{listed_kept, named_kept};
+
+use crate::builder::Builder;
+use crate::dynamic::Dynamic;
+use crate::read::{Listed, Named, Numbers};
+use crate::section::Section;
+use crate::symbol::Symbol;
+use crate::version::Versions;
+use patch_bytes::ByteString;
+use std::alloc::{AllocError, Global};
+
+impl<'data> Builder<'data> {
+    /// The same image: what is borrowed is lent again, what is owned copied. Error: `AllocError`.
+    pub fn try_clone(&self, alloc: Global) -> Result<Builder<'data>, AllocError>
+        ensures { IfOk result (λ copy. copy ≡ self.now) }
+    {
+        let named = copied_named(alloc, &self.sections, &self.symbols, &self.dynamic_symbols)?;
+        let listed = copied_listed(alloc, &self.dynamic, &self.versions)?;
+        let interpreter = copied_interpreter(alloc, &self.interpreter)?;
+        let numbers = copied_numbers(
+            alloc,
+            &self.section_numbers,
+            &self.symbol_numbers,
+            &self.dynamic_symbol_numbers,
+        )?;
+        let segments = Vec::from_slice(alloc, &self.segments)?;
+        Ok(Builder {
+            source: self.source,
+            changed: self.changed,
+            form: self.form,
+            header: self.header,
+            segments,
+            sections: named.sections,
+            symbols: named.symbols,
+            dynamic_symbols: named.dynamic_symbols,
+            versions: listed.versions,
+            dynamic: listed.dynamic,
+            interpreter,
+            section_numbers: numbers.sections,
+            symbol_numbers: numbers.symbols,
+            dynamic_symbol_numbers: numbers.dynamic_symbols,
+            page_size: self.page_size,
+        })
+    }
+}
+
+// The same sections and symbols.
+fn copied_named<'data>(
+    alloc: Global,
+    sections: &[Section<'data>],
+    symbols: &[Symbol<'data>],
+    dynamic_symbols: &[Symbol<'data>],
+) -> Result<Named<'data>, AllocError>
+    ensures { IfOk result (λ copies.
+        named_kept copies ≡ named_seen sections.now symbols.now dynamic_symbols.now) }
+{
+    let sections = copied_sections(alloc, sections)?;
+    let symbols = copied_symbols(alloc, symbols)?;
+    let dynamic_symbols = copied_symbols(alloc, dynamic_symbols)?;
+    Ok(Named {
+        sections,
+        symbols,
+        dynamic_symbols,
+    })
+}
+
+// The same dynamic list and versions.
+fn copied_listed<'data>(
+    alloc: Global,
+    dynamic: &Option<Vec<Dynamic<'data>>>,
+    versions: &Versions<'data>,
+) -> Result<Listed<'data>, AllocError>
+    ensures { IfOk result (λ copies. listed_kept copies ≡ listed_seen dynamic.now versions.now) }
+{
+    let versions = versions.try_clone(alloc)?;
+    let dynamic = match dynamic {
+        None => None,
+        Some(list) => Some(copied_entries(alloc, list)?),
+    };
+    Ok(Listed { dynamic, versions })
+}
+
+// The same numbers.
+fn copied_numbers(
+    alloc: Global,
+    sections: &[usize],
+    symbols: &[usize],
+    dynamic_symbols: &[usize],
+) -> Result<Numbers, AllocError>
+    ensures { IfOk result (AreNumbersOf sections.now symbols.now dynamic_symbols.now) }
+{
+    Ok(Numbers {
+        sections: Vec::from_slice(alloc, sections)?,
+        symbols: Vec::from_slice(alloc, symbols)?,
+        dynamic_symbols: Vec::from_slice(alloc, dynamic_symbols)?,
+    })
+}
+
+// The same interpreter.
+fn copied_interpreter<'data>(
+    alloc: Global,
+    interpreter: &Option<ByteString<'data>>,
+) -> Result<Option<ByteString<'data>>, AllocError>
+    ensures { IfOk result (λ copy. copy ≡ interpreter.now) }
+{
+    match interpreter {
+        None => Ok(None),
+        Some(bytes) => Ok(Some(bytes.try_clone(alloc)?)),
+    }
+}
+
+// The same sections.
+fn copied_sections<'data>(
+    alloc: Global,
+    sections: &[Section<'data>],
+) -> Result<Vec<Section<'data>>, AllocError>
+    ensures { IfOk result (λ copies.
+        map section_kept copies.items ≡ map section_kept sections.now) }
+{
+    let mut made = Vec::with_capacity(alloc, sections.len())?;
+    for section in sections {
+        let name = section.name.try_clone(alloc)?;
+        made.push(Section {
+            name,
+            kind: section.kind,
+            sh_type: section.sh_type,
+            sh_flags: section.sh_flags,
+            sh_addr: section.sh_addr,
+            sh_offset: section.sh_offset,
+            sh_size: section.sh_size,
+            sh_link: section.sh_link,
+            sh_info: section.sh_info,
+            sh_addralign: section.sh_addralign,
+            sh_entsize: section.sh_entsize,
+            content: section.content,
+        })?;
+    }
+    Ok(made)
+}
+
+// The same symbols.
+fn copied_symbols<'data>(
+    alloc: Global,
+    symbols: &[Symbol<'data>],
+) -> Result<Vec<Symbol<'data>>, AllocError>
+    ensures { IfOk result (λ copies. map symbol_kept copies.items ≡ map symbol_kept symbols.now) }
+{
+    let mut made = Vec::with_capacity(alloc, symbols.len())?;
+    for symbol in symbols {
+        let name = symbol.name.try_clone(alloc)?;
+        made.push(Symbol {
+            name,
+            st_info: symbol.st_info,
+            st_other: symbol.st_other,
+            st_shndx: symbol.st_shndx,
+            st_value: symbol.st_value,
+            st_size: symbol.st_size,
+            version: symbol.version,
+        })?;
+    }
+    Ok(made)
+}
+
+// The same entries.
+fn copied_entries<'data>(
+    alloc: Global,
+    entries: &[Dynamic<'data>],
+) -> Result<Vec<Dynamic<'data>>, AllocError>
+    ensures { IfOk result (λ copies. map entry_kept copies.items ≡ map entry_kept entries.now) }
+{
+    let mut made = Vec::with_capacity(alloc, entries.len())?;
+    for entry in entries {
+        let one = entry.try_clone(alloc)?;
+        made.push(one)?;
+    }
+    Ok(made)
+}

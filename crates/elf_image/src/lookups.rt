@@ -1,0 +1,95 @@
+//! Where parts of a file stand in its image, by the numbers that they had at read.
+ghost use Rattle.std.specs.Prelude.{◌≡◌, ◌<◌, length, map, option_map, position};
+ghost use Rattle.elf_image.specs.ImageSeen.{section_kept, segment_kept};
+ghost use Rattle.elf_format.specs.declared.constants.TheConstants.{PT_INTERP as INTERP};
+ghost use Rattle.elf_image.specs.File.{segment_of_type};
+ghost use Rattle.elf_image.specs.Lookups.{CountsReadSegments, dynamic_strings_position as strings_position, has_interpreter, interpreter_position as interpreter_at, link_position as link_at, section_position as section_at, type_position as type_at};
+
+use crate::builder::Builder;
+use crate::section::Section;
+use crate::segment::Segment;
+use elf_format::constants::{PT_INTERP, SHT_DYNAMIC, SHT_DYNSYM, SHT_PROGBITS};
+use elf_format::numbers::{part, read_file_header};
+
+impl<'data> Builder<'data> {
+    /// Where the section that had this number at read stands now (gABI, Sections); `None` where it is gone, or where
+    /// none had it. Takes no memory.
+    pub fn section_position(&self, number: usize) -> Option<usize>
+        ensures { result ≡ section_at self.now number }
+    {
+        self.section_numbers.iter().position(|n| *n == number)
+    }
+
+    /// Where the section stands now that the one at a position names by its `sh_link` (gABI, Sections), which keeps
+    /// the number of read; `None` where that section is gone. Takes no memory.
+    pub fn link_position(&self, i: usize) -> Option<usize>
+        requires { i < length self.now.sections }
+        ensures { result ≡ link_at self.now i }
+    {
+        let number = self.sections[i].sh_link as usize;
+        self.section_position(number)
+    }
+
+    /// Where the first section of a type stands (gABI, Sections, `sh_type`). Takes no memory.
+    pub fn type_position(&self, kind: u32) -> Option<usize>
+        ensures { result ≡ type_at self.now kind }
+    {
+        self.sections
+            .iter()
+            .position(|section| section.sh_type == kind)
+    }
+
+    /// Where the section with the interpreter's bytes stands (gABI, Program Header, `PT_INTERP`); `None` without one.
+    /// Takes no memory.
+    pub fn interpreter_position(&self) -> Option<usize>
+        ensures { result ≡ interpreter_at self.now }
+    {
+        let segment = interpreter_segment(&self.segments)?;
+        interpreter_section(segment, &self.sections)
+    }
+
+    /// Where the dynamic strings stand (gABI, Dynamic Section, `DT_STRTAB`): the section that the dynamic list links
+    /// to, or without a list the one that the dynamic symbols link to. Takes no memory.
+    pub fn dynamic_strings_position(&self) -> Option<usize>
+        ensures { result ≡ strings_position self.now }
+    {
+        let user = match self.type_position(SHT_DYNAMIC) {
+            Some(list) => list,
+            None => self.type_position(SHT_DYNSYM)?,
+        };
+        self.link_position(user)
+    }
+
+    /// How many program headers were read (gABI, ELF Header, `e_phnum`). Takes no memory.
+    pub fn read_segment_count(&self) -> usize
+        ensures { CountsReadSegments self.now result }
+    {
+        let size = self.form.file_header_size();
+        let header = read_file_header(self.form, part(self.source, 0, size));
+        header.e_phnum as usize
+    }
+}
+
+// The program header of the interpreter.
+fn interpreter_segment<'a, 'data>(segments: &'a [Segment<'data>]) -> Option<&'a Segment<'data>>
+    ensures { option_map (λ p. segment_kept p.now) result
+        ≡ segment_of_type INTERP (map segment_kept segments.now) }
+{
+    segments
+        .iter()
+        .find(|segment| segment.p_type() == PT_INTERP)
+}
+
+// Where the first section stands that has the bytes of the interpreter's program header.
+fn interpreter_section(segment: &Segment<'_>, sections: &[Section<'_>]) -> Option<usize>
+    ensures { result
+        ≡ position (has_interpreter (segment_kept segment.now)) (map section_kept sections.now) }
+{
+    let (offset, address, size) = (segment.p_offset(), segment.p_vaddr(), segment.p_filesz());
+    sections.iter().position(|section| {
+        section.sh_type == SHT_PROGBITS
+            && section.sh_offset == offset
+            && section.sh_addr == address
+            && section.sh_size == size
+    })
+}
