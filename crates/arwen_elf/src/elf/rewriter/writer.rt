@@ -21,7 +21,7 @@ use std::slice::Iter;
 /// An ELF file whose image is read, and later edited and written.
 #[derive(Debug, Drop)]
 pub struct Writer<'data> {
-    builder: Builder<'data>,
+    pub(crate) builder: Builder<'data>,
 }
 
 impl<'data> Model for Writer<'data> {
