@@ -1,6 +1,6 @@
 -- What a draft shows once an edit wrote to it, and once it is put in place.
 use Rattle.std.proofs.Common.{◌≡◌, ℕ, ◌+◌, ◌-◌, Bool, true, false, not, ◌||◌, List, [], ◌∷◌, ◌++◌, length, map, take, drop, refl, sym, ap, subst, ◌∙◌, Option, Some, None, is_some, option_map, Result, Ok, Err, arith}
-use Rattle.std.specs.Prelude.{All, IfSome, IsSome, MatchResult, is_none, if◌then◌else◌, ◌==◌, nat_eq, unwrap_or}
+use Rattle.std.specs.Prelude.{All, IfOk, IfSome, IsSome, MatchResult, is_none, if◌then◌else◌, ◌==◌, nat_eq, unwrap_or}
 use Rattle.std.specs.List.{ends_with, list_any}
 use Rattle.std.proofs.lemmas.Bool.{cond-true, cond-false, eqb-true, ne_eqb, or_parts}
 use Rattle.std.proofs.lemmas.List.Folds.{list_any-append}
@@ -17,16 +17,19 @@ use Rattle.elf_image.specs.Segments.{with_stack_added, with_stack_flags}
 use Rattle.elf_edits.specs.declared.constants.TheConstants.{STACK_FLAGS}
 use Rattle.elf_edits.specs.declared.list.NewList.{NewList}
 use Rattle.elf_edits.specs.Abi.{abi_number, lowered, with_nul}
-use Rattle.elf_edits.specs.Cause.{NoDynamic, NoInterpreter, UnknownAbi, cause_if, facts_of}
+use Rattle.elf_edits.specs.Cause.{NoDynamic, NoInterpreter, UnknownAbi, cause_if, facts_of, first_cause}
 use Rattle.elf_edits.specs.Edit.{Edit, AddDebugEntry, AddNeeded, AddRunPath, ClearExecStack, DeleteNeeded, DeleteRunPath, NoDefaultLibrary, ReplaceNeeded, SetExecStack, SetInterpreter, SetOsAbi, SetPageSize, SetRunPath, SetSoname, ShrinkRunPath, UseRpath, UseRunpath, all_but_last}
 use Rattle.elf_edits.specs.Edited.{edited_image, is_list_with, touches_rest, with_align, with_load_align, with_run, with_stack_changed, without_run}
+use Rattle.elf_edits.specs.Called.{call_meant}
+use Rattle.elf_edits.specs.declared.call.EditCall.{EditCall}
+use Rattle.elf_edits.specs.declared.call.EditCall.TheVariants as calls
 use Rattle.elf_edits.specs.Entries.{edited_entries, retagged, touches_entries, with_tag}
 use Rattle.elf_image.specs.Image.{entry_tag, lists_tag}
 use Rattle.elf_image.specs.declared.dynamic.Dynamic.{Dynamic}
 use Rattle.std.specs.declared.alloc.Global.{Global}
 use Rattle.std.specs.declared.vec.Vec.{Vec}
 use Rattle.elf_edits.specs.Texts.{holds_nul}
-use Rattle.elf_edits.proofs.ForCallers.{IsFree, ListsAgain, lists_again, stands_not, stored_whole, untouched}
+use Rattle.elf_edits.proofs.ForCallers.{IsFree, ListsAgain, is_free, lists_again, stands_not, stored_whole, untouched}
 use Rattle.arwen_elf.specs.declared.elf.rewriter.draft.Draft.{Draft}
 use Rattle.arwen_elf.specs.Drafted.{CanPutEntries, CanPutInterpreter, changed_if, IsDraftOf, ListsEntries, OnlyShows, Writes, drafted, entries_drafted, flags_now, is_written, stack_flags_of, with_entries_put, with_flags, with_flags_put, with_interpreter_put, with_list, with_retagged, with_os_abi_put, with_page_size, with_page_size_put}
 
@@ -402,6 +405,40 @@ list_written edit image d made kind free listed is list touched =
               ∙ sym edited_parts;
           draft = is;
         }
+
+-- ## Each edit, as it is called
+
+-- an edit that is called by this one
+as_called : (edit : Edit) (called : Edit) (image : Image) (old new : Draft) → called ≡ edit → Writes edit image old new → Writes called image old new
+as_called edit called image old new same wrote = subst (λ (e : Edit). Writes e image old new) (sym same) wrote
+
+free_as : (edit : Edit) (called : Edit) (image : Image) → called ≡ edit → first_cause called (facts_of image) ≡ None → IsFree edit (facts_of image)
+free_as edit called image same none = is_free edit (facts_of image) (ap (λ (e : Edit). first_cause e (facts_of image)) (sym same) ∙ none)
+
+pub interpreter_noted : {E : Type 0} (r : Result (Unit {0}) E) (called : Edit) (bytes : List ℕ) (image : Image) (old new : Draft) → called ≡ SetInterpreter bytes → first_cause called (facts_of image) ≡ None → IsDraftOf image old
+    → IfOk r (λ _. new ≡ record old { interpreter = Some (with_nul bytes) }) → IfOk r (λ _. Writes called image old new)
+interpreter_noted (Ok done) called bytes image old new same none is put =
+    as_called (SetInterpreter bytes) called image old new same
+    (subst (λ (d : Draft). Writes (SetInterpreter bytes) image old d) (sym put) (interpreter_written bytes image old (free_as (SetInterpreter bytes) called image same none) is))
+interpreter_noted (Err e) called bytes image old new same none is put = tt
+
+pub os_abi_noted : (called : Edit) (name : List ℕ) (number : Option ℕ) (image : Image) (d : Draft) → called ≡ SetOsAbi name → first_cause called (facts_of image) ≡ None → IsDraftOf image d → number ≡ abi_number name
+    → Writes called image d (record d { os_abi = number })
+os_abi_noted called name number image d same none is number_is =
+    as_called (SetOsAbi name) called image d (record d { os_abi = number }) same (os_abi_written name number image d (free_as (SetOsAbi name) called image same none) is number_is)
+
+pub cleared_noted : (called : Edit) (flags : ℕ) (image : Image) (d : Draft) → called ≡ ClearExecStack → IsDraftOf image d → flags ≡ flags_now d image.segments → Writes called image d (record d { stack_flags = Some (without_run flags) })
+cleared_noted called flags image d same is flags_are =
+    as_called ClearExecStack called image d (record d { stack_flags = Some (without_run flags) }) same
+    (subst (λ (n : ℕ). Writes ClearExecStack image d (record d { stack_flags = Some (without_run n) })) (sym flags_are) (stack_cleared image d is))
+
+pub set_noted : (called : Edit) (flags : ℕ) (image : Image) (d : Draft) → called ≡ SetExecStack → IsDraftOf image d → flags ≡ flags_now d image.segments → Writes called image d (record d { stack_flags = Some (with_run flags) })
+set_noted called flags image d same is flags_are =
+    as_called SetExecStack called image d (record d { stack_flags = Some (with_run flags) }) same
+    (subst (λ (n : ℕ). Writes SetExecStack image d (record d { stack_flags = Some (with_run n) })) (sym flags_are) (stack_set image d is))
+
+pub page_size_noted : (called : Edit) (size : ℕ) (image : Image) (d : Draft) → called ≡ SetPageSize size → IsDraftOf image d → Writes called image d (record d { page_size = Some size })
+page_size_noted called size image d same is = as_called (SetPageSize size) called image d (record d { page_size = Some size }) same (page_size_written size image d is)
 
 -- ## Putting it in place
 

@@ -1,13 +1,15 @@
 -- What a shrunk list leaves of an image.
-use Rattle.std.proofs.Common.{◌≡◌, ℕ, Bool, true, false, ◌||◌, List, [], ◌∷◌, map, refl, sym, ap, subst, ◌∙◌, Option, Some, None, option_map, Result, Ok, Err}
-use Rattle.std.specs.Prelude.{All, IfOk, unwrap_or}
+use Rattle.std.proofs.Common.{◌≡◌, ℕ, Bool, true, false, ◌||◌, List, [], ◌∷◌, length, map, refl, sym, ap, subst, ◌∙◌, Option, Some, None, option_map, Result, Ok, Err, arith}
+use Rattle.std.specs.Prelude.{All, IfOk, ◌==◌, unwrap_or}
+use Rattle.std.proofs.lemmas.Bool.{eqb-true}
 use Rattle.elf_image.specs.Dynamic.{Entry}
 use Rattle.elf_image.specs.DynamicList.{IsListed, KeepsTables}
 use Rattle.elf_image.specs.Image.{Image}
 use Rattle.elf_image.specs.ImageSeen.{entry_kept}
 use Rattle.elf_edits.specs.declared.shrink.Removed.{Removed}
 use Rattle.elf_edits.specs.declared.shrinking.ShrunkList.{ShrunkList}
-use Rattle.elf_edits.specs.Cause.{cause, facts_of}
+use Rattle.elf_edits.specs.declared.facts.Facts.{Facts}
+use Rattle.elf_edits.specs.Cause.{cause, facts_of, first_cause}
 use Rattle.elf_edits.specs.Edit.{Answer, Edit, ShrinkRunPath}
 use Rattle.elf_edits.specs.Edited.{edited_image, is_list_with, removed_by, step}
 use Rattle.elf_edits.specs.Entries.{directories_removed, edited_entries, search_of, touches_entries, with_run_paths_shrunk}
@@ -39,6 +41,20 @@ shrunk_is (Ok made) prefixes answers machine es image of_machine of_list list go
       ∙ ap (λ m. directories_removed (search_of m prefixes answers (unwrap_or image.entries [])) (unwrap_or image.entries [])) of_machine;
 }
 shrunk_is (Err e) prefixes answers machine es image of_machine of_list list gone = tt
+
+-- no cause was found, by the facts of the image
+pub found_none : (edit : Edit) (image : Image) (facts : Facts) → facts ≡ facts_of image → None ≡ first_cause edit facts → cause edit image ≡ None
+unfolding cause
+found_none edit image facts same none = sym (none ∙ ap (λ (f : Facts). first_cause edit f) same)
+
+-- a list by its length
+pub some_there : {A : Type 0} (xs : List A) (n : ℕ) → n ≡ length xs → (n == 0) ≡ false → has_some xs ≡ true
+some_there [] n e h = let both : true ≡ false = sym (ap (λ (m : ℕ). m == 0) e) ∙ h in absurd (cc)
+some_there (x ∷ xs) n e h = refl
+
+pub none_there : {A : Type 0} (xs : List A) (n : ℕ) → n ≡ length xs → (n == 0) ≡ true → has_some xs ≡ false
+none_there [] n e h = refl
+none_there (x ∷ xs) n e h = let zero_of : n ≡ 0 = eqb-true n 0 h in absurd (omega arith)
 
 some_changed : {A B : Type 0} (f : A → B) (xs : List A) → has_some (map f xs) ≡ has_some xs
 some_changed f [] = refl

@@ -4,11 +4,12 @@ use Rattle.std.specs.declared.alloc.Global.{Global}
 use Rattle.std.specs.declared.vec.Vec.{Vec}
 use Rattle.elf_image.specs.Image.{Image}
 use Rattle.elf_edits.specs.declared.call.ElfEdit.{ElfEdit}
+use Rattle.elf_edits.specs.declared.shrink.ProbeAnswer.{ProbeAnswer}
 use Rattle.elf_edits.specs.declared.shrink.Removed.{Removed}
 use Rattle.elf_edits.specs.Batch.{Refusal, run}
-use Rattle.elf_edits.specs.Called.{edit_meant}
+use Rattle.elf_edits.specs.Called.{Bytes, answer_held, edit_meant, texts_held}
 use Rattle.elf_edits.specs.Cause.{Cause}
-use Rattle.elf_edits.specs.Edit.{Edit}
+use Rattle.elf_edits.specs.Edit.{Edit, ShrinkRunPath}
 use Rattle.elf_edits.specs.Edited.{removed_by, step}
 use Rattle.elf_edits.specs.ShrunkSeen.{removal_meant}
 use Rattle.arwen_elf.specs.declared.elf.rewriter.batch.ElfBatchError.{ElfBatchError}
@@ -33,6 +34,10 @@ TakesInPlace edit old new answer = Takes TellsCause edit old new answer
 -- the directories that are told are just those that the edit removes, in order
 abbrev pub RemovedAre : Edit → Image → Vec Removed Global → Type 0
 RemovedAre edit old removed = map removal_meant removed.items ≡ removed_by edit old
+
+-- the edit that shrinks run paths by these prefixes and what was found
+abbrev pub shrink_meant : List Bytes → List ProbeAnswer → Edit
+shrink_meant prefixes probe = ShrinkRunPath (texts_held prefixes) (map answer_held probe)
 
 -- ## Batches
 

@@ -1,8 +1,8 @@
 //! The edits of an ELF file, by the names of the program's commands.
-ghost use Rattle.std.specs.Prelude.{◌∷◌, [], IfOk, map};
-ghost use Rattle.elf_edits.specs.Called.{answer_held, pairs_of_map, texts_held};
-ghost use Rattle.elf_edits.specs.Edit.{AddDebugEntry, AddNeeded, AddRunPath, ClearExecStack, DeleteNeeded, DeleteRunPath, NoDefaultLibrary, ReplaceNeeded, SetExecStack, SetInterpreter, SetOsAbi, SetPageSize, SetRunPath, SetSoname, ShrinkRunPath, UseRpath};
-ghost use Rattle.arwen_elf.specs.Taken.{RemovedAre, edits_meant};
+ghost use Rattle.std.specs.Prelude.{◌∷◌, [], IfOk};
+ghost use Rattle.elf_edits.specs.Called.{pairs_of_map, texts_held};
+ghost use Rattle.elf_edits.specs.Edit.{AddDebugEntry, AddNeeded, AddRunPath, ClearExecStack, DeleteNeeded, DeleteRunPath, NoDefaultLibrary, ReplaceNeeded, SetExecStack, SetInterpreter, SetOsAbi, SetPageSize, SetRunPath, SetSoname, UseRpath};
+ghost use Rattle.arwen_elf.specs.Taken.{RemovedAre, edits_meant, shrink_meant};
 ghost use Rattle.arwen_elf.specs.Contained.{BatchTaken, EditTaken, InPlaceTaken};
 
 use crate::elf::container::ElfContainer;
@@ -61,8 +61,9 @@ impl<'a> ElfContainer<'a> {
         prefixes: &[Vec<u8>],
         probe: &[ProbeAnswer<'_>],
     ) -> Result<Vec<Removed>>
-        ensures takes { EditTaken (ShrinkRunPath (texts_held prefixes.now) (map answer_held probe.now)) self.old self.new result }
-        ensures removed { IfOk result (RemovedAre (ShrinkRunPath (texts_held prefixes.now) (map answer_held probe.now)) self.old.inner) }
+        ensures takes { EditTaken (shrink_meant prefixes.now probe.now) self.old self.new result }
+        ensures removed { IfOk result
+            (RemovedAre (shrink_meant prefixes.now probe.now) self.old.inner) }
     {
         self.inner.elf_shrink_rpath(alloc, prefixes, probe)
     }
@@ -105,7 +106,8 @@ impl<'a> ElfContainer<'a> {
 
     /// Replaces the names of needed libraries that are keys by their values, all at once.
     pub fn replace_needed(&mut self, alloc: Global, names: &HashMap<Vec<u8>, Vec<u8>>) -> Result<()>
-        ensures { EditTaken (ReplaceNeeded (pairs_of_map names.now.entries)) self.old self.new result }
+        ensures { EditTaken (ReplaceNeeded (pairs_of_map names.now.entries))
+            self.old self.new result }
     {
         self.inner.elf_replace_needed(alloc, names)
     }

@@ -145,10 +145,12 @@ impl<'data> Draft<'data> {
         builder: &Builder<'data>,
         names: &[Vec<u8>],
     ) -> Result<(), AllocError>
-        requires free { first_cause (DeleteNeeded (texts_held names.now)) (facts_of builder.now) ≡ none }
+        requires free { first_cause (DeleteNeeded (texts_held names.now)) (facts_of builder.now)
+            ≡ none }
         requires listed { ListsEntries builder.now }
         requires draft { IsDraftOf builder.now self.old }
-        ensures { IfOk result (λ _. Writes (DeleteNeeded (texts_held names.now)) builder.now self.old self.new) }
+        ensures { IfOk result (λ _. Writes (DeleteNeeded (texts_held names.now)) builder.now
+            self.old self.new) }
     {
         let made = without_names(alloc, names, self.list(builder))?;
         self.note_list(made);

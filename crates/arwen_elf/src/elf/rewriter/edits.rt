@@ -1,13 +1,13 @@
 //! The edits of a file's image.
 ghost use Rattle.std.specs.Prelude.{◌≡◌, IfOk, OnErr, map};
 ghost use Rattle.std.specs.HashSet.{keys};
-ghost use Rattle.elf_edits.specs.Called.{answer_held, pairs_of_map, texts_held};
-ghost use Rattle.elf_edits.specs.Edit.{AddDebugEntry, AddNeeded, AddRunPath, ClearExecStack, DeleteNeeded, DeleteRunPath, NoDefaultLibrary, ReplaceNeeded, SetExecStack, SetInterpreter, SetOsAbi, SetPageSize, SetRunPath, SetSoname, ShrinkRunPath, UseRpath, UseRunpath};
+ghost use Rattle.elf_edits.specs.Called.{pairs_of_map, texts_held};
+ghost use Rattle.elf_edits.specs.Edit.{AddDebugEntry, AddNeeded, AddRunPath, ClearExecStack, DeleteNeeded, DeleteRunPath, NoDefaultLibrary, ReplaceNeeded, SetExecStack, SetInterpreter, SetOsAbi, SetPageSize, SetRunPath, SetSoname, UseRpath, UseRunpath};
 ghost use Rattle.elf_edits.specs.Entries.{shrink_questions as all_questions};
 ghost use Rattle.elf_edits.specs.ShrunkSeen.{pair_lent};
 ghost use Rattle.elf_image.specs.Image.{shown};
 ghost use Rattle.arwen_elf.specs.Reads.{entries_shown};
-ghost use Rattle.arwen_elf.specs.Taken.{AnswersEach, LeavesEach, RemovedAre, TakesBatch, TakesEdit, TakesInPlace, batches_meant, edits_meant};
+ghost use Rattle.arwen_elf.specs.Taken.{AnswersEach, LeavesEach, RemovedAre, TakesBatch, TakesEdit, TakesInPlace, batches_meant, edits_meant, shrink_meant};
 
 use crate::elf::rewriter::batch::ElfBatchError;
 use crate::elf::rewriter::error::ElfError;
@@ -96,7 +96,8 @@ impl<'data> Writer<'data> {
         alloc: Global,
         names: &HashMap<Vec<u8>, Vec<u8>>,
     ) -> Result<(), ElfError>
-        ensures { TakesEdit (ReplaceNeeded (pairs_of_map names.now.entries)) self.old self.new result }
+        ensures { TakesEdit (ReplaceNeeded (pairs_of_map names.now.entries))
+            self.old self.new result }
     {
         steps::edit(&mut self.builder, alloc, &EditCall::ReplaceNeeded(names))
     }
@@ -183,7 +184,8 @@ impl<'data> Writer<'data> {
     /// The pairs of an absolute directory of a run path and a needed library that have to be looked for before
     /// `elf_shrink_rpath`, in order. Error: `AllocError`.
     pub fn elf_shrink_questions(&self, alloc: Global) -> Result<Vec<(&[u8], &[u8])>, AllocError>
-        ensures { IfOk result (λ pairs. map pair_lent pairs.items ≡ all_questions (entries_shown (shown self.now))) }
+        ensures { IfOk result (λ pairs. map pair_lent pairs.items
+            ≡ all_questions (entries_shown (shown self.now))) }
     {
         shrink_questions(alloc, self.entries())
     }
@@ -198,8 +200,8 @@ impl<'data> Writer<'data> {
         prefixes: &[Vec<u8>],
         probe: &[ProbeAnswer<'_>],
     ) -> Result<Vec<Removed>, ElfError>
-        ensures takes { TakesEdit (ShrinkRunPath (texts_held prefixes.now) (map answer_held probe.now)) self.old self.new result }
-        ensures removed { IfOk result (RemovedAre (ShrinkRunPath (texts_held prefixes.now) (map answer_held probe.now)) self.old) }
+        ensures takes { TakesEdit (shrink_meant prefixes.now probe.now) self.old self.new result }
+        ensures removed { IfOk result (RemovedAre (shrink_meant prefixes.now probe.now) self.old) }
     {
         steps::shrink_run_paths(&mut self.builder, alloc, prefixes, probe)
     }

@@ -1,16 +1,16 @@
 //! One edit, and a batch of edits, upon an image.
 ghost use Rattle.std.specs.Prelude.{◌≡◌, IfOk, IsTrue, None as none, [], map, option_map, unwrap_or};
-ghost use Rattle.elf_edits.specs.Called.{answer_held, call_meant, texts_held};
+ghost use Rattle.elf_edits.specs.Called.{call_meant, texts_held};
 ghost use Rattle.elf_edits.specs.Cause.{cause as first_cause_against, facts_of};
 ghost use Rattle.elf_edits.specs.Decided.{all_edited, first_refusal as first_refusal_of};
-ghost use Rattle.elf_edits.specs.Edit.{DeleteNeeded, DeleteRunPath, SetPageSize, ShrinkRunPath, UseRpath, UseRunpath};
+ghost use Rattle.elf_edits.specs.Edit.{DeleteNeeded, DeleteRunPath, SetPageSize, UseRpath, UseRunpath};
 ghost use Rattle.elf_edits.specs.Edited.{edited_image};
 ghost use Rattle.elf_edits.specs.Entries.{has_tag as has_that_tag};
 ghost use Rattle.elf_image.specs.DynamicList.{can_follow};
 ghost use Rattle.elf_image.specs.Image.{lists_tag as has_entry_with};
 ghost use Rattle.elf_image.specs.ImageSeen.{entry_kept};
 ghost use Rattle.arwen_elf.specs.Drafted.{IsShrunkOf, ListsEntries, OnlyShows, with_retagged};
-ghost use Rattle.arwen_elf.specs.Taken.{RemovedAre, TakesBatch, TakesEdit, TakesInPlace, edits_meant};
+ghost use Rattle.arwen_elf.specs.Taken.{RemovedAre, TakesBatch, TakesEdit, TakesInPlace, edits_meant, shrink_meant};
 ghost use Rattle.arwen_elf.specs.Told.{refusal_meant};
 
 use crate::elf::rewriter::batch::ElfBatchError;
@@ -234,7 +234,7 @@ fn shrunk<'data>(
     prefixes: &[Vec<u8>],
     probe: &[ProbeAnswer<'_>],
 ) -> std::result::Result<ShrunkList<'data>, AllocError>
-    ensures { IfOk result (IsShrunkOf (ShrinkRunPath (texts_held prefixes.now) (map answer_held probe.now)) builder.now) }
+    ensures { IfOk result (IsShrunkOf (shrink_meant prefixes.now probe.now) builder.now) }
 {
     let machine = builder.header().e_machine;
     shrink(alloc, machine, prefixes, probe, entries(builder))
@@ -247,10 +247,8 @@ pub(crate) fn shrink_run_paths(
     prefixes: &[Vec<u8>],
     probe: &[ProbeAnswer<'_>],
 ) -> Result<Vec<Removed>>
-    ensures takes { TakesEdit (ShrinkRunPath (texts_held prefixes.now) (map answer_held probe.now))
-        builder.old builder.new result }
-    ensures removed { IfOk result (RemovedAre (ShrinkRunPath (texts_held prefixes.now)
-        (map answer_held probe.now)) builder.old) }
+    ensures takes { TakesEdit (shrink_meant prefixes.now probe.now) builder.old builder.new result }
+    ensures removed { IfOk result (RemovedAre (shrink_meant prefixes.now probe.now) builder.old) }
 {
     if let Some(cause) = shrink_cause(prefixes, &image_facts(builder)) {
         return Err(told(alloc, cause));

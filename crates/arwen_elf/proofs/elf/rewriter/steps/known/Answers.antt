@@ -5,6 +5,5 @@ use Rattle.arwen_elf.proofs.elf.rewriter.steps.known.Goals as goal
 pub returns-clause-same : goal.returns-clause-same
 returns-clause-same c = refl
 
--- waits for what `source` lends of an image: lists_entries c.args.builder.now c.source-source.ensures.edited
 pub returns-clause-lists : goal.returns-clause-lists
-returns-clause-lists c = ?
+returns-clause-lists c = lists_entries c.args.builder.now c.source-source.ensures.edited
