@@ -1,5 +1,5 @@
 -- Steps through the edits of a batch, and through a list of batches.
-use Rattle.std.proofs.Common.{◌≡◌, ◌<◌, ◌≤◌, ◌+◌, ℕ, zero, suc, List, [], ◌∷◌, ◌++◌, length, drop, take, get_or, map, refl, sym, ap, subst, ◌∙◌, Option, Some, None, Result, Ok, Err, IsOk, add-one, drop-cons, arith}
+use Rattle.std.proofs.Common.{◌≡◌, ◌<◌, ◌≤◌, ◌+◌, ℕ, zero, suc, List, [], ◌∷◌, ◌++◌, length, drop, take, get_or, refl, sym, ap, subst, ◌∙◌, Option, Some, None, Result, Ok, Err, IsOk, add-one, drop-cons, arith}
 use Rattle.std.proofs.lemmas.List.{drop_all, map_more}
 use Rattle.elf_image.specs.Image.{Image}
 use Rattle.elf_edits.specs.declared.call.ElfEdit.{ElfEdit}
@@ -13,7 +13,7 @@ use Rattle.elf_edits.specs.Edited.{edited_image}
 use Rattle.elf_edits.proofs.ForCallers.{all_edited-push}
 use Rattle.arwen_elf.specs.declared.elf.rewriter.batch.ElfBatchError.{ElfBatchError}
 use Rattle.arwen_elf.specs.declared.elf.rewriter.draft.Draft.{Draft}
-use Rattle.arwen_elf.specs.Drafted.{OnlyShows, Writes, drafted}
+use Rattle.arwen_elf.specs.Drafted.{OnlyShows, Writes}
 use Rattle.arwen_elf.specs.Taken.{AnswersAll, AnswersBatch, TakesBatch, edits_meant, left_upon, left_upon_all}
 
 -- ## The first refused edit

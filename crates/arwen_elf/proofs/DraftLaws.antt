@@ -1,11 +1,8 @@
 -- What a draft shows once an edit wrote to it, and once it is put in place.
-use Rattle.std.proofs.Common.{◌≡◌, ℕ, ◌+◌, ◌-◌, Bool, true, false, not, ◌||◌, List, [], ◌∷◌, ◌++◌, length, map, take, drop, refl, sym, ap, subst, ◌∙◌, Option, Some, None, is_some, option_map, Result, Ok, Err, arith}
-use Rattle.std.specs.Prelude.{All, IfOk, IfSome, IsSome, MatchResult, is_none, if◌then◌else◌, ◌==◌, nat_eq, unwrap_or}
-use Rattle.std.specs.List.{ends_with, list_any}
-use Rattle.std.proofs.lemmas.Bool.{cond-true, cond-false, eqb-true, ne_eqb, or_parts}
-use Rattle.std.proofs.lemmas.List.Folds.{list_any-append}
+use Rattle.std.proofs.Common.{◌≡◌, ℕ, Bool, true, false, not, ◌||◌, List, [], ◌∷◌, map, refl, sym, ap, subst, ◌∙◌, Option, Some, None, is_some, option_map, Result, Ok, Err}
+use Rattle.std.specs.Prelude.{All, IfOk, IfSome, IsSome, MatchResult, is_none, if◌then◌else◌, ◌==◌, unwrap_or}
+use Rattle.std.proofs.lemmas.Bool.{cond-true, cond-false, or_parts}
 use Rattle.elf_format.specs.declared.constants.TheConstants.{PT_GNU_STACK, PT_LOAD}
-use Rattle.elf_format.specs.declared.header.Header.{Header}
 use Rattle.elf_format.specs.declared.records.SegmentHeader.{SegmentHeader}
 use Rattle.elf_image.specs.Dynamic.{Entry}
 use Rattle.elf_image.specs.DynamicList.{IsListed, KeepsTables, tables_of}
@@ -20,16 +17,13 @@ use Rattle.elf_edits.specs.Abi.{abi_number, lowered, with_nul}
 use Rattle.elf_edits.specs.Cause.{NoDynamic, NoInterpreter, UnknownAbi, cause_if, facts_of, first_cause}
 use Rattle.elf_edits.specs.Edit.{Edit, AddDebugEntry, AddNeeded, AddRunPath, ClearExecStack, DeleteNeeded, DeleteRunPath, NoDefaultLibrary, ReplaceNeeded, SetExecStack, SetInterpreter, SetOsAbi, SetPageSize, SetRunPath, SetSoname, ShrinkRunPath, UseRpath, UseRunpath, all_but_last}
 use Rattle.elf_edits.specs.Edited.{edited_image, is_list_with, touches_rest, with_align, with_load_align, with_run, with_stack_changed, without_run}
-use Rattle.elf_edits.specs.Called.{call_meant}
-use Rattle.elf_edits.specs.declared.call.EditCall.{EditCall}
-use Rattle.elf_edits.specs.declared.call.EditCall.TheVariants as calls
 use Rattle.elf_edits.specs.Entries.{edited_entries, retagged, touches_entries, with_tag}
 use Rattle.elf_image.specs.Image.{entry_tag, lists_tag}
 use Rattle.elf_image.specs.declared.dynamic.Dynamic.{Dynamic}
 use Rattle.std.specs.declared.alloc.Global.{Global}
 use Rattle.std.specs.declared.vec.Vec.{Vec}
 use Rattle.elf_edits.specs.Texts.{holds_nul}
-use Rattle.elf_edits.proofs.ForCallers.{IsFree, ListsAgain, is_free, lists_again, stands_not, stored_whole, untouched}
+use Rattle.elf_edits.proofs.ForCallers.{IsFree, is_free, lists_again, stands_not, stored_whole, untouched}
 use Rattle.arwen_elf.specs.declared.elf.rewriter.draft.Draft.{Draft}
 use Rattle.arwen_elf.specs.Drafted.{CanPutEntries, CanPutInterpreter, changed_if, IsDraftOf, ListsEntries, OnlyShows, Writes, drafted, entries_drafted, flags_now, is_written, stack_flags_of, with_entries_put, with_flags, with_flags_put, with_interpreter_put, with_list, with_retagged, with_os_abi_put, with_page_size, with_page_size_put}
 

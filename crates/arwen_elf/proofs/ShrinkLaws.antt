@@ -1,17 +1,16 @@
 -- What a shrunk list leaves of an image.
-use Rattle.std.proofs.Common.{◌≡◌, ℕ, Bool, true, false, ◌||◌, List, [], ◌∷◌, length, map, refl, sym, ap, subst, ◌∙◌, Option, Some, None, option_map, Result, Ok, Err, arith}
+use Rattle.std.proofs.Common.{◌≡◌, ℕ, true, false, ◌||◌, List, [], ◌∷◌, length, map, refl, sym, ap, subst, ◌∙◌, Option, Some, None, option_map, Result, Ok, Err, arith}
 use Rattle.std.specs.Prelude.{All, IfOk, ◌==◌, unwrap_or}
 use Rattle.std.proofs.lemmas.Bool.{eqb-true}
 use Rattle.elf_image.specs.Dynamic.{Entry}
 use Rattle.elf_image.specs.DynamicList.{IsListed, KeepsTables}
 use Rattle.elf_image.specs.Image.{Image}
 use Rattle.elf_image.specs.ImageSeen.{entry_kept}
-use Rattle.elf_edits.specs.declared.shrink.Removed.{Removed}
 use Rattle.elf_edits.specs.declared.shrinking.ShrunkList.{ShrunkList}
 use Rattle.elf_edits.specs.declared.facts.Facts.{Facts}
 use Rattle.elf_edits.specs.Cause.{cause, facts_of, first_cause}
 use Rattle.elf_edits.specs.Edit.{Answer, Edit, ShrinkRunPath}
-use Rattle.elf_edits.specs.Edited.{edited_image, is_list_with, removed_by, step}
+use Rattle.elf_edits.specs.Edited.{is_list_with, removed_by, step}
 use Rattle.elf_edits.specs.Entries.{directories_removed, edited_entries, search_of, touches_entries, with_run_paths_shrunk}
 use Rattle.elf_edits.specs.ShrunkSeen.{removal_meant}
 use Rattle.elf_edits.specs.Texts.{has_some}

@@ -1,6 +1,6 @@
 -- What edits leave, by what was written, and what their errors tell.
-use Rattle.std.proofs.Common.{◌≡◌, ℕ, ◌+◌, Bool, true, false, not, ◌||◌, List, [], ◌∷◌, ◌++◌, map, filter, refl, sym, ap, subst, ◌∙◌, Option, Some, None, is_some, option_map, Result, Ok, Err}
-use Rattle.std.specs.Prelude.{All, codes, if◌then◌else◌, ◌==◌, unwrap_or}
+use Rattle.std.proofs.Common.{◌≡◌, ℕ, Bool, true, false, not, ◌||◌, List, [], ◌∷◌, refl, sym, ap, subst, ◌∙◌, Option, Some, None, option_map, Result, Ok, Err}
+use Rattle.std.specs.Prelude.{codes, ◌==◌, unwrap_or}
 use Rattle.std.specs.List.{list_any}
 use Rattle.std.proofs.lemmas.Bool.{cond-true, cond-false}
 use Rattle.elf_format.specs.declared.constants.TheConstants.{DT_RPATH, DT_RUNPATH, EM_MIPS}
@@ -10,8 +10,7 @@ use Rattle.elf_image.specs.Image.{Image, entry_tag, lists_tag}
 use Rattle.elf_image.specs.Options.{first_there}
 use Rattle.elf_edits.specs.declared.call.ElfEdit.{ElfEdit}
 use Rattle.elf_edits.specs.declared.facts.Facts.{Facts}
-use Rattle.elf_edits.specs.Batch.{Refusal, run, run_from}
-use Rattle.elf_edits.specs.Called.{edit_meant}
+use Rattle.elf_edits.specs.Batch.{Refusal, run}
 use Rattle.elf_edits.specs.Cause.{BadPageSize, Cause, MipsImage, NoDynamic, cause, cause_if, facts_of, first_cause, is_page_size, lists_run_path}
 use Rattle.elf_edits.specs.Decided.{all_edited, first_refusal, unless_refused}
 use Rattle.elf_edits.specs.Edit.{DeleteRunPath, Edit, SetPageSize, UseRpath, UseRunpath}
@@ -24,7 +23,7 @@ use Rattle.arwen_elf.specs.declared.elf.rewriter.error.ElfError.TheVariants.{Inv
 use Rattle.arwen_elf.specs.declared.elf.rewriter.error.ModifyCause.{ModifyCause}
 use Rattle.arwen_elf.specs.Drafted.{OnlyShows, Writes, drafted, with_retagged}
 use Rattle.arwen_elf.specs.Taken.{edits_meant}
-use Rattle.arwen_elf.specs.Told.{IsRefusedAt, IsRefusedFor, Refuses, RefusesAt, TellsCause, cause_told}
+use Rattle.arwen_elf.specs.Told.{IsRefusedAt, IsRefusedFor, Refuses, RefusesAt, cause_told}
 use Rattle.arwen_elf.proofs.DraftLaws.{by_test, image_with, or_false, or_true, page_size_edit}
 
 -- ## One edit

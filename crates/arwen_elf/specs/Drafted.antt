@@ -1,6 +1,5 @@
 -- The parts of an image that edits wrote, before they are put in place.
 use Rattle.std.specs.Prelude.{ℕ, ◌≡◌, List, [], map, Bool, false, true, ◌||◌, if◌then◌else◌, Option, Some, None, is_some, option_map, unwrap_or, IsSome, IfSome, All}
-use Rattle.std.specs.List.{list_any}
 use Rattle.elf_format.specs.declared.constants.TheConstants.{PT_GNU_STACK}
 use Rattle.elf_format.specs.declared.records.SegmentHeader.{SegmentHeader}
 use Rattle.elf_image.specs.Dynamic.{Entry}

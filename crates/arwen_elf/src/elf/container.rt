@@ -78,7 +78,7 @@ impl<'a> ElfContainer<'a> {
     pub fn parse(alloc: Global, bytes_of_file: &'a [u8]) -> Result<ElfContainer<'a>>
         ensures reads { MatchResult result
             (λ c. (image_of bytes_of_file.entry.now ≡ Ok c.inner)
-              × (c.bytes.now ≡ bytes_of_file.entry.now))
+            × (c.bytes.now ≡ bytes_of_file.entry.now))
             (λ e. RefusesRead e (image_of bytes_of_file.entry.now)) }
         ensures shows { IfOk result (λ c. ShowsBothViews bytes_of_file.entry.now c.inner) }
     {
@@ -110,7 +110,7 @@ impl<'a> ElfContainer<'a> {
     pub fn get_rpath(&self, alloc: Global) -> Result<Vec<String>>
         ensures { MatchResult result
             (λ directories. map string_bytes directories.items
-              ≡ directories_shown (shown self.now.inner))
+            ≡ directories_shown (shown self.now.inner))
             (λ e. e ≡ ElfError.Memory) }
     {
         match self.inner.searched_runpath() {

@@ -1,4 +1,4 @@
-use Rattle.std.proofs.Common.{◌≡◌, ap, refl, codes, sym, ◌∙◌}
+use Rattle.std.proofs.Common.{ap, refl, codes, sym, ◌∙◌}
 use Rattle.elf_edits.specs.declared.facts.Facts.{Facts}
 use Rattle.elf_edits.specs.Edit.{DeleteRunPath}
 use Rattle.arwen_elf.proofs.TakenLaws.{deleted_twice, no_run_path_deleted, plain_deletion, plain_refused, plain_taken, run_paths_deleted}

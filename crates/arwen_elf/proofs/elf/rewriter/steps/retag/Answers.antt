@@ -1,4 +1,4 @@
-use Rattle.std.proofs.Common.{ap, sym, ◌∙◌}
+use Rattle.std.proofs.Common.{ap, ◌∙◌}
 use Rattle.elf_image.specs.Image.{lists_tag}
 use Rattle.arwen_elf.proofs.DraftLaws.{retagged_none, retagged_some}
 use Rattle.arwen_elf.proofs.elf.rewriter.steps.retag.Goals as goal

@@ -1,5 +1,5 @@
 -- The step, or its refusal.
-use Rattle.std.proofs.Common.{◌≡◌, None, ap, refl, sym, subst, map, ◌∙◌}
+use Rattle.std.proofs.Common.{ap, refl, sym, subst, map, ◌∙◌}
 use Rattle.elf_image.specs.Image.{Image}
 use Rattle.elf_edits.specs.declared.facts.Facts.{Facts}
 use Rattle.elf_edits.specs.Called.{answer_held, texts_held}
@@ -15,9 +15,11 @@ use Rattle.arwen_elf.proofs.elf.rewriter.steps.shrink_run_paths.Goals as goal
 pub returns-in-Some-clause-takes : goal.returns-in-Some-clause-takes
 unfolding cause
 returns-in-Some-clause-takes c =
-    let edit = shrink_meant c.args.prefixes.now c.args.probe.now in
-    (refl, refused edit c.args.builder.now c.told.result (cause_meant c.in-Some.cause) c.told.ensures
-    (sym (c.in-Some.ensures (map answer_held c.args.probe.now) ∙ ap (λ (f : Facts). first_cause edit f) c.image_facts.ensures)))
+    let edit = shrink_meant c.args.prefixes.now c.args.probe.now in (
+      refl,
+      refused edit c.args.builder.now c.told.result (cause_meant c.in-Some.cause) c.told.ensures
+          (sym (c.in-Some.ensures (map answer_held c.args.probe.now) ∙ ap (λ (f : Facts). first_cause edit f) c.image_facts.ensures)),
+    )
 
 pub set_dynamic-requires-clause-tables : goal.set_dynamic-requires-clause-tables
 set_dynamic-requires-clause-tables c =

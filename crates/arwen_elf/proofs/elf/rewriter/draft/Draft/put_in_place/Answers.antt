@@ -1,16 +1,9 @@
 -- Part by part, what was written is put in place.
-use Rattle.std.proofs.Common.{ℕ, List, ap, rules, sym, subst, ◌∙◌, ◌≡◌, Option}
-use Rattle.std.specs.Prelude.{IfSome, IsSome, map}
-use Rattle.std.specs.declared.alloc.Global.{Global}
-use Rattle.std.specs.declared.vec.Vec.{Vec}
-use Rattle.elf_image.specs.declared.dynamic.Dynamic.{Dynamic}
-use Rattle.elf_image.specs.Dynamic.{Entry}
-use Rattle.elf_image.specs.DynamicList.{KeepsTables}
+use Rattle.std.proofs.Common.{ap, ◌∙◌}
 use Rattle.elf_image.specs.Image.{Image}
 use Rattle.arwen_elf.specs.Drafted.{with_entries_put, with_interpreter_put, with_os_abi_put, with_page_size_put}
 use Rattle.arwen_elf.proofs.DraftLaws.{can_put_entries, can_put_interpreter, put_together}
 use Rattle.arwen_elf.proofs.elf.rewriter.draft.Draft.put_in_place.Goals as goal
-
 
 pub put_interpreter-requires : goal.put_interpreter-requires
 put_interpreter-requires c =

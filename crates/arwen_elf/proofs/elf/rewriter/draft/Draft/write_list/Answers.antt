@@ -1,5 +1,5 @@
 -- A list that was made is noted where the edit wrote something.
-use Rattle.std.proofs.Common.{ap, refl, sym, subst, ◌∙◌}
+use Rattle.std.proofs.Common.{ap, sym, subst, ◌∙◌}
 use Rattle.elf_edits.specs.Called.{call_meant}
 use Rattle.elf_edits.specs.Cause.{facts_of}
 use Rattle.elf_edits.specs.Entries.{edited_entries, touches_entries}
