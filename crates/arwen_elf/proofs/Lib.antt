@@ -1,2 +1,7 @@
 pub mod ReadSteps
 pub mod PrintSteps
+pub mod DraftLaws
+pub mod HeldLaws
+pub mod TakenLaws
+pub mod BatchSteps
+pub mod ShrinkLaws

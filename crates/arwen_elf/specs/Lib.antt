@@ -3,3 +3,7 @@ pub mod WriterSeen
 pub mod Causes
 pub mod PageSizes
 pub mod Prints
+pub mod Told
+pub mod Taken
+pub mod Drafted
+pub mod Contained

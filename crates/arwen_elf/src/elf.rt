@@ -1,9 +1,11 @@
 //! ELF files: the container that the program works with, over the writer that holds a file's image.
 
+pub mod changes;
 pub mod container;
 pub mod rewriter;
 
 pub use crate::elf::container::ElfContainer;
 pub use crate::elf::rewriter::{
-    BuilderExt, ElfError, ModifyCause, Needed, ProbeAnswer, Task, Writer,
+    BuilderExt, ElfBatchError, ElfEdit, ElfError, ModifyCause, Needed, ProbeAnswer, Reason,
+    Removed, Task, Writer,
 };

@@ -1,9 +1,9 @@
-ghost use Rattle.std.specs.Prelude.{◌≡◌, Ok, IfErr, IfOk, OnOk, MatchResult, map, option_map, unwrap_or, string_bytes};
+ghost use Rattle.std.specs.Prelude.{◌≡◌, Ok, IfErr, IfOk, OnOk, MatchResult, map, option_map, string_bytes};
 ghost use Rattle.std.specs.Io.KnownBytes.{Appends};
 ghost use Rattle.elf_image.specs.Image.{image_of, shown};
 ghost use Rattle.elf_image.specs.Answers.{borrowed};
 ghost use Rattle.arwen_elf.specs.Causes.{FailsPrint, FailsWrite, RefusesRead};
-ghost use Rattle.arwen_elf.specs.PageSizes.{page_size_of};
+ghost use Rattle.arwen_elf.specs.PageSizes.{page_size_for};
 ghost use Rattle.arwen_elf.specs.Prints.{before_nul as bytes_before_nul, cut_at_colons as parts_between_colons, directories_shown, line_if, line_of, printed_exec_stack, printed_interpreter, printed_needed, printed_os_abi, printed_runpath, printed_soname};
 ghost use Rattle.arwen_elf.specs.WriterSeen.{ShowsBothViews};
 
@@ -35,7 +35,8 @@ fn line(alloc: Global, text: &[u8]) -> std::result::Result<Vec<u8>, AllocError>
 
 // Writes a text's line, or nothing where there is no text.
 fn write_line<W: Write>(alloc: Global, out: &mut W, text: Option<&[u8]>) -> Result<()>
-    ensures prints { OnOk result (Appends (W.contents out.old) (W.contents out.new) (line_if (option_map borrowed text.entry))) }
+    ensures prints { OnOk result (Appends (W.contents out.old) (W.contents out.new)
+        (line_if (option_map borrowed text.entry))) }
     ensures fails { IfErr result (FailsPrint out.old out.new) }
 {
     match text {
@@ -76,7 +77,8 @@ impl<'a> ElfContainer<'a> {
     /// of the first rule that doesn't hold, `Memory`.
     pub fn parse(alloc: Global, bytes_of_file: &'a [u8]) -> Result<ElfContainer<'a>>
         ensures reads { MatchResult result
-            (λ c. (image_of bytes_of_file.entry.now ≡ Ok c.inner) × (c.bytes.now ≡ bytes_of_file.entry.now))
+            (λ c. (image_of bytes_of_file.entry.now ≡ Ok c.inner)
+            × (c.bytes.now ≡ bytes_of_file.entry.now))
             (λ e. RefusesRead e (image_of bytes_of_file.entry.now)) }
         ensures shows { IfOk result (λ c. ShowsBothViews bytes_of_file.entry.now c.inner) }
     {
@@ -97,7 +99,7 @@ impl<'a> ElfContainer<'a> {
     /// The page size that was set, else the default one of the file's machine (gABI, ELF Header, `e_machine`), in
     /// bytes. Takes no memory.
     pub fn get_page_size(&self) -> u32
-        ensures { result ≡ unwrap_or self.now.inner.page_size (page_size_of self.now.inner.header.e_machine) }
+        ensures { result ≡ page_size_for self.now.inner }
     {
         self.inner.elf_get_page_size()
     }
@@ -107,7 +109,8 @@ impl<'a> ElfContainer<'a> {
     /// entry and in the empty text; `/a::/b` is `/a`, the empty text and `/b`. Error: `Memory`.
     pub fn get_rpath(&self, alloc: Global) -> Result<Vec<String>>
         ensures { MatchResult result
-            (λ directories. map string_bytes directories.items ≡ directories_shown (shown self.now.inner))
+            (λ directories. map string_bytes directories.items
+            ≡ directories_shown (shown self.now.inner))
             (λ e. e ≡ ElfError.Memory) }
     {
         match self.inner.searched_runpath() {
@@ -119,7 +122,8 @@ impl<'a> ElfContainer<'a> {
     /// Prints the text of the first DT_RPATH or DT_RUNPATH entry (gABI, Dynamic Section): with U+FFFD for what is no
     /// character, and a line feed; nothing without such an entry. Errors: `Memory`, before anything was printed; `Io`.
     pub fn print_runpath<W: Write>(&self, alloc: Global, out: &mut W) -> Result<()>
-        ensures prints { OnOk result (Appends (W.contents out.old) (W.contents out.new) (printed_runpath (shown self.now.inner))) }
+        ensures prints { OnOk result (Appends (W.contents out.old) (W.contents out.new)
+            (printed_runpath (shown self.now.inner))) }
         ensures fails { IfErr result (FailsPrint out.old out.new) }
     {
         write_line(alloc, out, self.inner.elf_runpath())
@@ -128,7 +132,8 @@ impl<'a> ElfContainer<'a> {
     /// Prints the text of the first DT_SONAME entry (gABI, Dynamic Section), the library's own name, in the same way.
     /// Errors: `Memory`, before anything was printed; `Io`.
     pub fn print_soname<W: Write>(&self, alloc: Global, out: &mut W) -> Result<()>
-        ensures prints { OnOk result (Appends (W.contents out.old) (W.contents out.new) (printed_soname (shown self.now.inner))) }
+        ensures prints { OnOk result (Appends (W.contents out.old) (W.contents out.new)
+            (printed_soname (shown self.now.inner))) }
         ensures fails { IfErr result (FailsPrint out.old out.new) }
     {
         write_line(alloc, out, self.inner.elf_soname())
@@ -137,7 +142,8 @@ impl<'a> ElfContainer<'a> {
     /// Prints the text of each DT_NEEDED entry (gABI, Dynamic Section) in the same way, in order. Errors: `Memory`,
     /// before anything was printed; `Io`.
     pub fn print_needed<W: Write>(&self, alloc: Global, out: &mut W) -> Result<()>
-        ensures prints { OnOk result (Appends (W.contents out.old) (W.contents out.new) (printed_needed (shown self.now.inner))) }
+        ensures prints { OnOk result (Appends (W.contents out.old) (W.contents out.new)
+            (printed_needed (shown self.now.inner))) }
         ensures fails { IfErr result (FailsPrint out.old out.new) }
     {
         let mut lines = Vec::new(alloc);
@@ -150,7 +156,8 @@ impl<'a> ElfContainer<'a> {
     /// Prints the bytes of the interpreter's section before the first NUL (gABI, Program Interpreter) in the same way.
     /// Errors: `Memory`, before anything was printed; `Io`.
     pub fn print_interpreter<W: Write>(&self, alloc: Global, out: &mut W) -> Result<()>
-        ensures prints { OnOk result (Appends (W.contents out.old) (W.contents out.new) (printed_interpreter (shown self.now.inner))) }
+        ensures prints { OnOk result (Appends (W.contents out.old) (W.contents out.new)
+            (printed_interpreter (shown self.now.inner))) }
         ensures fails { IfErr result (FailsPrint out.old out.new) }
     {
         write_line(alloc, out, self.inner.elf_interpreter().map(before_nul))
@@ -159,7 +166,8 @@ impl<'a> ElfContainer<'a> {
     /// Prints the ABI byte (gABI, ELF Identification, `EI_OSABI`) in decimal, with a line feed. Errors: `Memory`,
     /// before anything was printed; `Io`.
     pub fn print_os_abi<W: Write>(&self, alloc: Global, out: &mut W) -> Result<()>
-        ensures prints { OnOk result (Appends (W.contents out.old) (W.contents out.new) (printed_os_abi (shown self.now.inner))) }
+        ensures prints { OnOk result (Appends (W.contents out.old) (W.contents out.new)
+            (printed_os_abi (shown self.now.inner))) }
         ensures fails { IfErr result (FailsPrint out.old out.new) }
     {
         let mut text = self.inner.header().os_abi.to_string(alloc)?;
@@ -170,7 +178,8 @@ impl<'a> ElfContainer<'a> {
     /// Prints `X` where the flags of the first PT_GNU_STACK (GNU extension) let the stack be run (`PF_X`), else `-`,
     /// with a line feed; nothing without a PT_GNU_STACK. Takes no memory. Error: `Io`.
     pub fn print_exec_stack<W: Write>(&self, out: &mut W) -> Result<()>
-        ensures prints { OnOk result (Appends (W.contents out.old) (W.contents out.new) (printed_exec_stack (shown self.now.inner))) }
+        ensures prints { OnOk result (Appends (W.contents out.old) (W.contents out.new)
+            (printed_exec_stack (shown self.now.inner))) }
         ensures fails { IfErr result FailsWrite }
     {
         match self.inner.elf_gnu_exec_stack() {

@@ -15,7 +15,8 @@ pub trait BuilderExt<'data> {
 
     /// The first PT_GNU_STACK, whose flags say whether the stack may be run (GNU extension). Takes no memory.
     fn gnu_stack(&self) -> Option<&Segment<'data>>
-        ensures { option_map (λ p. segment_kept p.now) result ≡ segment_of_type STACK (image self.now).segments };
+        ensures { option_map (λ p. segment_kept p.now) result
+            ≡ segment_of_type STACK (image self.now).segments };
 }
 
 impl<'data> BuilderExt<'data> for Builder<'data> {

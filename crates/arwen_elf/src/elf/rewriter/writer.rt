@@ -1,9 +1,9 @@
-ghost use Rattle.std.specs.Prelude.{◌≡◌, ◌∷◌, [], Ok, IfOk, MatchResult, map, option_map, unwrap_or};
+ghost use Rattle.std.specs.Prelude.{◌≡◌, ◌∷◌, [], Ok, IfOk, MatchResult, map, option_map};
 ghost use Rattle.elf_image.specs.Image.{image_of, shown};
 ghost use Rattle.elf_image.specs.ImageSeen.{entry_kept};
 ghost use Rattle.elf_image.specs.Answers.{borrowed};
 ghost use Rattle.arwen_elf.specs.Causes.{RefusesRead};
-ghost use Rattle.arwen_elf.specs.PageSizes.{page_size_of};
+ghost use Rattle.arwen_elf.specs.PageSizes.{page_size_for, page_size_of};
 ghost use Rattle.arwen_elf.specs.Reads.{entries_shown, text_if, first_of, needed_shown, runpath_shown, searched_shown, soname_shown, texts_tagged};
 ghost use Rattle.arwen_elf.specs.WriterSeen.{ShowsBothViews, needed_left};
 
@@ -21,7 +21,7 @@ use std::slice::Iter;
 /// An ELF file whose image is read, and later edited and written.
 #[derive(Debug, Drop)]
 pub struct Writer<'data> {
-    builder: Builder<'data>,
+    pub(crate) builder: Builder<'data>,
 }
 
 impl<'data> Model for Writer<'data> {
@@ -72,7 +72,8 @@ fn tagged_text<'a>(entry: &'a Dynamic<'_>, tags: &[u64]) -> Option<&'a [u8]>
 
 // The text of the first entry with one of these tags.
 fn first_text<'a>(entries: &'a [Dynamic<'_>], tags: &[u64]) -> Option<&'a [u8]>
-    ensures { option_map borrowed result ≡ first_of (texts_tagged tags.now (map entry_kept entries.now)) }
+    ensures { option_map borrowed result
+        ≡ first_of (texts_tagged tags.now (map entry_kept entries.now)) }
 {
     for entry in entries {
         if let Some(text) = tagged_text(entry, tags) {
@@ -87,7 +88,8 @@ impl<'data> Writer<'data> {
     /// a loader sees by the program headers alone (gABI, Sections and Program Header). Errors: `Parse` with the fault
     /// of the first rule that doesn't hold, `Memory`.
     pub fn read(alloc: Global, bytes: &'data [u8]) -> Result<Writer<'data>, ElfError>
-        ensures reads { MatchResult result (λ w. image_of bytes.entry.now ≡ Ok w) (λ e. RefusesRead e (image_of bytes.entry.now)) }
+        ensures reads { MatchResult result (λ w. image_of bytes.entry.now ≡ Ok w)
+            (λ e. RefusesRead e (image_of bytes.entry.now)) }
         ensures shows { IfOk result (λ w. ShowsBothViews bytes.entry.now w) }
     {
         let builder = Builder::read(alloc, bytes)?;
@@ -168,7 +170,7 @@ impl<'data> Writer<'data> {
     /// The page size that was set, else the default one of the file's machine (gABI, ELF Header, `e_machine`), in
     /// bytes. Takes no memory.
     pub fn elf_get_page_size(&self) -> u32
-        ensures { result ≡ unwrap_or self.now.page_size (page_size_of self.now.header.e_machine) }
+        ensures { result ≡ page_size_for self.now }
     {
         match self.builder.page_size() {
             Some(size) => size,

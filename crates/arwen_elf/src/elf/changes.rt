@@ -1,0 +1,149 @@
+//! The edits of an ELF file, by the names of the program's commands.
+ghost use Rattle.std.specs.Prelude.{◌∷◌, [], IfOk};
+ghost use Rattle.elf_edits.specs.Called.{pairs_of_map, texts_held};
+ghost use Rattle.elf_edits.specs.Edit.{AddDebugEntry, AddNeeded, AddRunPath, ClearExecStack, DeleteNeeded, DeleteRunPath, NoDefaultLibrary, ReplaceNeeded, SetExecStack, SetInterpreter, SetOsAbi, SetPageSize, SetRunPath, SetSoname, UseRpath};
+ghost use Rattle.arwen_elf.specs.Taken.{RemovedAre, edits_meant, shrink_meant};
+ghost use Rattle.arwen_elf.specs.Contained.{BatchTaken, EditTaken, InPlaceTaken};
+
+use crate::elf::container::ElfContainer;
+use crate::elf::rewriter::batch::ElfBatchError;
+use crate::elf::rewriter::error::Result;
+use elf_edits::{ElfEdit, ProbeAnswer, Removed};
+use std::alloc::Global;
+use std::collections::HashMap;
+use std::slice;
+
+impl<'a> ElfContainer<'a> {
+    /// Makes several edits, each upon what the one before it left: all of them, or none. No edits change nothing.
+    pub fn apply(
+        &mut self,
+        alloc: Global,
+        edits: &[ElfEdit],
+    ) -> std::result::Result<(), ElfBatchError>
+        ensures { BatchTaken (edits_meant edits.now) self.old self.new result }
+    {
+        self.inner.apply(alloc, edits)
+    }
+
+    /// Adds a directory to every run path; without one, puts a DT_RUNPATH last (gABI, Dynamic Section).
+    pub fn add_runpath(&mut self, alloc: Global, text: &[u8]) -> Result<()>
+        ensures { EditTaken (AddRunPath (text.now ∷ [])) self.old self.new result }
+    {
+        let text = Vec::from_slice(alloc, text)?;
+        self.inner.elf_add_runpath(alloc, slice::from_ref(&text))
+    }
+
+    /// Drops every run path. Takes no memory.
+    pub fn remove_runpath(&mut self) -> Result<()>
+        ensures { InPlaceTaken DeleteRunPath self.old self.new result }
+    {
+        self.inner.elf_delete_runpath()
+    }
+
+    /// Gives every run path this text; without one, puts a DT_RUNPATH last.
+    pub fn set_runpath(&mut self, alloc: Global, text: &[u8]) -> Result<()>
+        ensures { EditTaken (SetRunPath text.now) self.old self.new result }
+    {
+        self.inner.elf_set_runpath(alloc, text)
+    }
+
+    /// Makes every DT_RUNPATH a DT_RPATH. Takes no memory.
+    pub fn force_rpath(&mut self) -> Result<()>
+        ensures { InPlaceTaken UseRpath self.old self.new result }
+    {
+        self.inner.elf_use_rpath()
+    }
+
+    /// Leaves directories out of every run path, as `Writer::elf_shrink_rpath` does, and answers them.
+    pub fn shrink_rpath(
+        &mut self,
+        alloc: Global,
+        prefixes: &[Vec<u8>],
+        probe: &[ProbeAnswer<'_>],
+    ) -> Result<Vec<Removed>>
+        ensures takes { EditTaken (shrink_meant prefixes.now probe.now) self.old self.new result }
+        ensures removed { IfOk result
+            (RemovedAre (shrink_meant prefixes.now probe.now) self.old.inner) }
+    {
+        self.inner.elf_shrink_rpath(alloc, prefixes, probe)
+    }
+
+    /// Sets the interpreter's bytes (gABI, Program Interpreter), with a NUL behind them unless they are empty or end
+    /// with one.
+    pub fn set_interpreter(&mut self, alloc: Global, bytes: &[u8]) -> Result<()>
+        ensures { EditTaken (SetInterpreter bytes.now) self.old self.new result }
+    {
+        self.inner.elf_set_interpreter(alloc, bytes)
+    }
+
+    /// Sets the ABI byte by a name (gABI, ELF Identification, `EI_OSABI`), whatever the case of its ASCII letters.
+    pub fn set_os_abi(&mut self, alloc: Global, name: &str) -> Result<()>
+        ensures { EditTaken (SetOsAbi name.now) self.old self.new result }
+    {
+        self.inner.elf_set_osabi(alloc, name)
+    }
+
+    /// Sets the library's own name: every DT_SONAME gets it; without one, puts one last.
+    pub fn set_soname(&mut self, alloc: Global, text: &[u8]) -> Result<()>
+        ensures { EditTaken (SetSoname text.now) self.old self.new result }
+    {
+        self.inner.elf_set_soname(alloc, text)
+    }
+
+    /// Puts the names of libraries that are not needed yet before all entries, in order and with repeats.
+    pub fn add_needed(&mut self, alloc: Global, names: &[Vec<u8>]) -> Result<()>
+        ensures { EditTaken (AddNeeded (texts_held names.now)) self.old self.new result }
+    {
+        self.inner.elf_add_needed(alloc, names)
+    }
+
+    /// Drops every needed library of one of these names.
+    pub fn remove_needed(&mut self, alloc: Global, names: &[Vec<u8>]) -> Result<()>
+        ensures { EditTaken (DeleteNeeded (texts_held names.now)) self.old self.new result }
+    {
+        self.inner.delete_needed_names(alloc, names)
+    }
+
+    /// Replaces the names of needed libraries that are keys by their values, all at once.
+    pub fn replace_needed(&mut self, alloc: Global, names: &HashMap<Vec<u8>, Vec<u8>>) -> Result<()>
+        ensures { EditTaken (ReplaceNeeded (pairs_of_map names.now.entries))
+            self.old self.new result }
+    {
+        self.inner.elf_replace_needed(alloc, names)
+    }
+
+    /// Leaves out the default directories: sets DF_1_NODEFLIB in every DT_FLAGS_1; without one, puts one last.
+    pub fn no_default_lib(&mut self, alloc: Global) -> Result<()>
+        ensures { EditTaken NoDefaultLibrary self.old self.new result }
+    {
+        self.inner.elf_no_default_lib(alloc)
+    }
+
+    /// Puts an entry DT_DEBUG last, unless one is there.
+    pub fn add_debug_tag(&mut self, alloc: Global) -> Result<()>
+        ensures { EditTaken AddDebugEntry self.old self.new result }
+    {
+        self.inner.elf_add_dynamic_debug(alloc)
+    }
+
+    /// Takes the permission to run from the stack (GNU extension PT_GNU_STACK).
+    pub fn clear_exec_stack(&mut self, alloc: Global) -> Result<()>
+        ensures { EditTaken ClearExecStack self.old self.new result }
+    {
+        self.inner.elf_clear_exec_stack(alloc)
+    }
+
+    /// Gives the stack the permission to run.
+    pub fn set_exec_stack(&mut self, alloc: Global) -> Result<()>
+        ensures { EditTaken SetExecStack self.old self.new result }
+    {
+        self.inner.elf_set_exec_stack(alloc)
+    }
+
+    /// Sets the page size, in bytes: a power of two of 1024 or more. Takes no memory.
+    pub fn set_page_size(&mut self, size: u32) -> Result<()>
+        ensures { InPlaceTaken (SetPageSize size) self.old self.new result }
+    {
+        self.inner.elf_set_page_size(size)
+    }
+}

@@ -1,0 +1,208 @@
+//! The edits of a file's image.
+ghost use Rattle.std.specs.Prelude.{◌≡◌, IfOk, OnErr, map};
+ghost use Rattle.std.specs.HashSet.{keys};
+ghost use Rattle.elf_edits.specs.Called.{pairs_of_map, texts_held};
+ghost use Rattle.elf_edits.specs.Edit.{AddDebugEntry, AddNeeded, AddRunPath, ClearExecStack, DeleteNeeded, DeleteRunPath, NoDefaultLibrary, ReplaceNeeded, SetExecStack, SetInterpreter, SetOsAbi, SetPageSize, SetRunPath, SetSoname, UseRpath, UseRunpath};
+ghost use Rattle.elf_edits.specs.Entries.{shrink_questions as all_questions};
+ghost use Rattle.elf_edits.specs.ShrunkSeen.{pair_lent};
+ghost use Rattle.elf_image.specs.Image.{shown};
+ghost use Rattle.arwen_elf.specs.Reads.{entries_shown};
+ghost use Rattle.arwen_elf.specs.Taken.{AnswersEach, LeavesEach, RemovedAre, TakesBatch, TakesEdit, TakesInPlace, batches_meant, edits_meant, shrink_meant};
+
+use crate::elf::rewriter::batch::ElfBatchError;
+use crate::elf::rewriter::error::ElfError;
+use crate::elf::rewriter::steps;
+use crate::elf::rewriter::writer::Writer;
+use elf_edits::{EditCall, ElfEdit, ProbeAnswer, Removed, shrink_questions};
+use std::alloc::{AllocError, Global};
+use std::collections::{HashMap, HashSet};
+
+impl<'data> Writer<'data> {
+    /// Makes several edits, each upon what the one before it left: all of them, or none. All memory is wanted before
+    /// anything changes. No edits change nothing. The cost is in proportion to the
+    /// dynamic list and the values of the edits.
+    pub fn apply(&mut self, alloc: Global, edits: &[ElfEdit]) -> Result<(), ElfBatchError>
+        ensures { TakesBatch (edits_meant edits.now) self.old self.new result }
+    {
+        steps::apply(&mut self.builder, alloc, edits)
+    }
+
+    /// Applies batch after batch, each of them all or none, and answers each. After an error, that there is no memory
+    /// for the answers, nothing was applied.
+    pub fn apply_each(
+        &mut self,
+        alloc: Global,
+        batches: &[Vec<ElfEdit>],
+    ) -> Result<Vec<Result<(), ElfBatchError>>, AllocError>
+        ensures answers { IfOk result (AnswersEach (batches_meant batches.now) self.old) }
+        ensures left { IfOk result (LeavesEach (batches_meant batches.now) self.old self.new) }
+        ensures err { OnErr result (self.new ≡ self.old) }
+    {
+        let mut answers = Vec::with_capacity(alloc, batches.len())?;
+        for batch in batches {
+            let answer = self.apply(alloc, batch.as_slice());
+            answers.push_reserved(answer);
+        }
+        Ok(answers)
+    }
+
+    // Drops every DT_NEEDED whose text is one of these names.
+    pub(crate) fn delete_needed_names(
+        &mut self,
+        alloc: Global,
+        names: &[Vec<u8>],
+    ) -> Result<(), ElfError>
+        ensures { TakesEdit (DeleteNeeded (texts_held names.now)) self.old self.new result }
+    {
+        steps::delete_needed(&mut self.builder, alloc, names)
+    }
+
+    /// Puts an entry DT_DEBUG last, unless one is there (gABI, Dynamic Section).
+    pub fn elf_add_dynamic_debug(&mut self, alloc: Global) -> Result<(), ElfError>
+        ensures { TakesEdit AddDebugEntry self.old self.new result }
+    {
+        steps::edit(&mut self.builder, alloc, &EditCall::AddDebugEntry)
+    }
+
+    /// Gives every DT_RPATH and DT_RUNPATH this text; without one, puts a DT_RUNPATH last.
+    pub fn elf_set_runpath(&mut self, alloc: Global, text: &[u8]) -> Result<(), ElfError>
+        ensures { TakesEdit (SetRunPath text.now) self.old self.new result }
+    {
+        steps::edit(&mut self.builder, alloc, &EditCall::SetRunPath(text))
+    }
+
+    /// Adds each text to every DT_RPATH and DT_RUNPATH, behind a colon where the old text isn't empty; without one,
+    /// puts a DT_RUNPATH last, of the texts joined by colons.
+    pub fn elf_add_runpath(&mut self, alloc: Global, texts: &[Vec<u8>]) -> Result<(), ElfError>
+        ensures { TakesEdit (AddRunPath (texts_held texts.now)) self.old self.new result }
+    {
+        steps::edit(&mut self.builder, alloc, &EditCall::AddRunPath(texts))
+    }
+
+    /// Drops every DT_NEEDED whose text is one of these names.
+    pub fn elf_delete_needed(
+        &mut self,
+        alloc: Global,
+        names: &HashSet<Vec<u8>>,
+    ) -> Result<(), ElfError>
+        ensures { TakesEdit (DeleteNeeded (texts_held (keys names.now))) self.old self.new result }
+    {
+        steps::edit(&mut self.builder, alloc, &EditCall::DeleteNeeded(names))
+    }
+
+    /// Replaces the texts of DT_NEEDED that are keys by their values, all at once.
+    pub fn elf_replace_needed(
+        &mut self,
+        alloc: Global,
+        names: &HashMap<Vec<u8>, Vec<u8>>,
+    ) -> Result<(), ElfError>
+        ensures { TakesEdit (ReplaceNeeded (pairs_of_map names.now.entries))
+            self.old self.new result }
+    {
+        steps::edit(&mut self.builder, alloc, &EditCall::ReplaceNeeded(names))
+    }
+
+    /// Puts the names that no DT_NEEDED has before all entries, in order and with repeats.
+    pub fn elf_add_needed(&mut self, alloc: Global, names: &[Vec<u8>]) -> Result<(), ElfError>
+        ensures { TakesEdit (AddNeeded (texts_held names.now)) self.old self.new result }
+    {
+        steps::edit(&mut self.builder, alloc, &EditCall::AddNeeded(names))
+    }
+
+    /// Gives every DT_SONAME this text; without one, puts one last.
+    pub fn elf_set_soname(&mut self, alloc: Global, text: &[u8]) -> Result<(), ElfError>
+        ensures { TakesEdit (SetSoname text.now) self.old self.new result }
+    {
+        steps::edit(&mut self.builder, alloc, &EditCall::SetSoname(text))
+    }
+
+    /// Sets DF_1_NODEFLIB in every DT_FLAGS_1; without one, puts one last.
+    pub fn elf_no_default_lib(&mut self, alloc: Global) -> Result<(), ElfError>
+        ensures { TakesEdit NoDefaultLibrary self.old self.new result }
+    {
+        steps::edit(&mut self.builder, alloc, &EditCall::NoDefaultLibrary)
+    }
+
+    /// Sets the interpreter's bytes (gABI, Program Interpreter), with a NUL behind them unless they are empty or end
+    /// with one.
+    pub fn elf_set_interpreter(&mut self, alloc: Global, bytes: &[u8]) -> Result<(), ElfError>
+        ensures { TakesEdit (SetInterpreter bytes.now) self.old self.new result }
+    {
+        steps::edit(&mut self.builder, alloc, &EditCall::SetInterpreter(bytes))
+    }
+
+    /// Sets the ABI byte by a name (gABI, ELF Identification, `EI_OSABI`), whatever the case of its ASCII letters.
+    pub fn elf_set_osabi(&mut self, alloc: Global, name: &str) -> Result<(), ElfError>
+        ensures { TakesEdit (SetOsAbi name.now) self.old self.new result }
+    {
+        steps::edit(&mut self.builder, alloc, &EditCall::SetOsAbi(name))
+    }
+
+    /// Takes the permission to run from the first PT_GNU_STACK (GNU extension), which is added where there is none.
+    pub fn elf_clear_exec_stack(&mut self, alloc: Global) -> Result<(), ElfError>
+        ensures { TakesEdit ClearExecStack self.old self.new result }
+    {
+        steps::edit(&mut self.builder, alloc, &EditCall::ClearExecStack)
+    }
+
+    /// Gives the first PT_GNU_STACK (GNU extension) the permission to run; it is added where there is none.
+    pub fn elf_set_exec_stack(&mut self, alloc: Global) -> Result<(), ElfError>
+        ensures { TakesEdit SetExecStack self.old self.new result }
+    {
+        steps::edit(&mut self.builder, alloc, &EditCall::SetExecStack)
+    }
+
+    /// Drops every DT_RPATH and DT_RUNPATH (gABI, Dynamic Section). Takes no memory.
+    pub fn elf_delete_runpath(&mut self) -> Result<(), ElfError>
+        ensures { TakesInPlace DeleteRunPath self.old self.new result }
+    {
+        steps::delete_run_paths(&mut self.builder)
+    }
+
+    /// Makes every DT_RPATH a DT_RUNPATH (gABI, Dynamic Section). Takes no memory.
+    pub fn elf_use_runpath(&mut self) -> Result<(), ElfError>
+        ensures { TakesInPlace UseRunpath self.old self.new result }
+    {
+        steps::use_runpath(&mut self.builder)
+    }
+
+    /// Makes every DT_RUNPATH a DT_RPATH (gABI, Dynamic Section). Takes no memory.
+    pub fn elf_use_rpath(&mut self) -> Result<(), ElfError>
+        ensures { TakesInPlace UseRpath self.old self.new result }
+    {
+        steps::use_rpath(&mut self.builder)
+    }
+
+    /// Sets the page size, in bytes: a power of two of 1024 or more. Each PT_LOAD gets it as its alignment (gABI,
+    /// Program Header, `p_align`). Takes no memory.
+    pub fn elf_set_page_size(&mut self, size: u32) -> Result<(), ElfError>
+        ensures { TakesInPlace (SetPageSize size) self.old self.new result }
+    {
+        steps::set_page_size(&mut self.builder, size)
+    }
+
+    /// The pairs of an absolute directory of a run path and a needed library that have to be looked for before
+    /// `elf_shrink_rpath`, in order. Error: `AllocError`.
+    pub fn elf_shrink_questions(&self, alloc: Global) -> Result<Vec<(&[u8], &[u8])>, AllocError>
+        ensures { IfOk result (λ pairs. map pair_lent pairs.items
+            ≡ all_questions (entries_shown (shown self.now))) }
+    {
+        shrink_questions(alloc, self.entries())
+    }
+
+    /// Leaves out of every run path the absolute directories that no prefix begins, where there are prefixes, and
+    /// those in which no needed library was found for the image's machine; an entry whose directories all go keeps
+    /// the empty text. Answers the directories that went, in order, with their reasons. The first answer for a
+    /// directory and a library counts; one that is missing found nothing.
+    pub fn elf_shrink_rpath(
+        &mut self,
+        alloc: Global,
+        prefixes: &[Vec<u8>],
+        probe: &[ProbeAnswer<'_>],
+    ) -> Result<Vec<Removed>, ElfError>
+        ensures takes { TakesEdit (shrink_meant prefixes.now probe.now) self.old self.new result }
+        ensures removed { IfOk result (RemovedAre (shrink_meant prefixes.now probe.now) self.old) }
+    {
+        steps::shrink_run_paths(&mut self.builder, alloc, prefixes, probe)
+    }
+}
