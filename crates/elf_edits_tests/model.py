@@ -28,6 +28,7 @@ TASKS = {
     "replace-needed": "replace needed library", "add-needed": "add needed library", "set-soname": "set soname",
     "no-default-lib": "set soname",
 }
+PAGES = {0x9026: 65536, 50: 65536, 8: 65536, 20: 65536, 21: 65536, 183: 65536, 191: 65536, 258: 65536, 2: 8192, 43: 8192}
 ALONE = ["add-debug-tag", "clear-exec-stack", "force-rpath", "no-default-lib", "remove-rpath", "set-exec-stack"]
 ONE = ["add-rpath", "set-rpath", "set-interpreter", "set-os-abi", "set-soname", "set-page-size"]
 MANY = ["add-needed", "remove-needed", "replace-needed"]
@@ -239,7 +240,12 @@ def questions(entries):
 
 def shrunk(line):
     entries, prefixes, answers = (line.split(">") + ["", ""])[:3]
-    entries, prefixes = entries_of(entries), split(prefixes)
+    made, removed = shrunk_list(entries_of(entries), split(prefixes), answers, "62")
+    return shown(made) + removed
+
+
+def shrunk_list(entries, prefixes, answers, right):
+    """The list with run paths that shrink, and lines of the directories that go."""
     needed = [v for t, v in entries if t == 1]
     found = {}
     for word in answers.split(" "):
@@ -256,13 +262,13 @@ def shrunk(line):
                     kept.append(directory)
                 elif prefixes and not any(directory.startswith(prefix) for prefix in prefixes):
                     removed += "removed %s: prefix\n" % directory
-                elif any(found.get((directory, name)) == "62" for name in needed):
+                elif any(found.get((directory, name)) == right for name in needed):
                     kept.append(directory)
                 else:
                     removed += "removed %s: no library\n" % directory
             value = ":".join(kept)
         made.append((tag, value))
-    return shown(made) + removed
+    return made, removed
 
 
 # ---- files
@@ -285,7 +291,13 @@ class File:
         for kind, offset, length, link in sections:
             if kind == 6:
                 self.entries = self.list(offset, length, sections[link])
-        self.has_interpreter = self.has_segment(3)
+        self.interpreter = None
+        self.stack = None
+        for kind, flags, offset, length in self.segments():
+            if kind == 3:
+                self.interpreter = data[offset : offset + length].split(b"\0")[0].decode()
+            if kind == 0x6474E551 and self.stack is None:
+                self.stack = flags
 
     def number(self, kind, at):
         return struct.unpack_from(self.order + kind, self.data, at)[0]
@@ -296,11 +308,19 @@ class File:
             return kind, self.number("Q", at + 24), self.number("Q", at + 32), self.number("I", at + 40)
         return kind, self.number("I", at + 16), self.number("I", at + 20), self.number("I", at + 24)
 
-    def has_segment(self, kind):
+    def segments(self):
         at = self.number(self.word, 32 if self.big else 28)
         size = 56 if self.big else 32
-        count = self.number("H", 56 if self.big else 44)
-        return any(self.number("I", at + i * size) == kind for i in range(count))
+        made = []
+        for i in range(self.number("H", 56 if self.big else 44)):
+            start = at + i * size
+            kind = self.number("I", start)
+            if self.big:
+                rest = self.number("I", start + 4), self.number("Q", start + 8), self.number("Q", start + 32)
+            else:
+                rest = self.number("I", start + 24), self.number("I", start + 4), self.number("I", start + 16)
+            made.append((kind,) + rest)
+        return made
 
     def list(self, offset, length, strings):
         made = []
@@ -318,15 +338,125 @@ class File:
         return made
 
 
-def edit_file(data, words):
-    file = File(data)
-    entries = file.entries or []
-    if not words:
-        return shown(entries)
-    facts = {
-        "machine": file.machine, "list": file.entries is not None, "interpreter": file.has_interpreter,
+# ---- what a file shows
+
+
+def refusal(why):
+    """The words of a cause as errors have them."""
+    words = {
+        "MIPS": "MIPS images can't be modified",
+        "no interpreter": "No interp section found; can't set interpreter",
+        "no run path": "No DT_RPATH entry found",
     }
-    return edit_list(words, entries, facts)
+    for short, long in [
+        ("no dynamic section, can't ", "No dynamic section found; can't "), ("unknown ABI ", "Unknown ABI "),
+        ("bad page size ", "Page size must be a power of 2 and >= 1024, got "),
+    ]:
+        if why.startswith(short):
+            rest = why[len(short) :]
+            return long + (lowered(rest) if short == "unknown ABI " else rest)
+    return words.get(why, why)
+
+
+class Image:
+    """What is shown of a file, and edited."""
+
+    def __init__(self, file):
+        self.machine = file.machine
+        self.entries = file.entries
+        self.interpreter = file.interpreter
+        self.abi = file.data[7]
+        self.stack = file.stack
+        self.pages = PAGES.get(file.machine, 4096)
+        self.changed = False
+
+    def facts(self):
+        return {
+            "machine": self.machine, "list": self.entries is not None, "interpreter": self.interpreter is not None,
+        }
+
+    def edit(self, edit):
+        name, values = edit
+        if name == "set-interpreter":
+            self.interpreter = values[0].split("\0")[0]
+        elif name == "set-os-abi":
+            self.abi = ABIS[lowered(values[0])]
+        elif name == "set-page-size":
+            self.pages = values[0]
+        elif name in ("clear-exec-stack", "set-exec-stack"):
+            flags = 7 if self.stack is None else self.stack
+            self.stack = flags & ~1 if name == "clear-exec-stack" else flags | 1
+        else:
+            self.entries, wrote = edited(edit, self.entries)
+            self.changed = self.changed or wrote
+            return
+        self.changed = True
+
+    def shown(self):
+        entries = self.entries or []
+        paths = [v for t, v in entries if t in RUN_PATHS][:1]
+        names = [v for t, v in entries if t == 14][:1]
+        needed = [v for t, v in entries if t == 1]
+        parts = [
+            ("run path", paths), ("name", names), ("needs", needed),
+            ("interpreter", [] if self.interpreter is None else [self.interpreter]), ("abi", [str(self.abi)]),
+            ("stack", [] if self.stack is None else ["X" if self.stack & 1 else "-"]),
+        ]
+        line = "".join("%s %s " % (name, "".join(text + "," for text in texts)) for name, texts in parts)
+        mark = "changed" if self.changed else "as read"
+        others = sum(tag not in NAMES for tag, _ in entries)
+        brief = shown([e for e in entries if e[0] in NAMES])[:-1] + " and %d others\n" % others
+        return brief + line + "pages %d %s\n" % (self.pages, mark)
+
+
+def edit_container(data, words, is_batch):
+    edits, fault = read_edits(words)
+    if fault:
+        return fault
+    image = Image(File(data))
+    if is_batch:
+        for index, edit in enumerate(edits):
+            why = cause(edit, image.facts())
+            if why:
+                return "edit %d refused: %s\n" % (index, refusal(why)) + image.shown()
+    for index, edit in enumerate(edits):
+        why = cause(edit, image.facts())
+        if why:
+            return "edit %d refused: %s\n" % (index, refusal(why)) + image.shown()
+        image.edit(edit)
+    return image.shown()
+
+
+def use_runpath(data):
+    image = Image(File(data))
+    if image.machine == 8:
+        return "edit 0 refused: %s\n" % refusal("MIPS") + image.shown()
+    if image.entries is None:
+        return "edit 0 refused: No dynamic section found; can't change runpath\n" + image.shown()
+    image.changed = any(tag == 15 for tag, _ in image.entries)
+    image.entries = [(29 if tag == 15 else tag, value) for tag, value in image.entries]
+    return image.shown()
+
+
+def shrink_file(data, line):
+    prefixes, _, answers = line.partition(">")
+    prefixes = split(prefixes)
+    image = Image(File(data))
+    lines = "asks %d\n" % questions(image.entries or []).count("\n")
+    why = None
+    if image.machine == 8:
+        why = refusal("MIPS")
+    elif image.entries is None:
+        why = "No dynamic section found; can't shrink rpath"
+    elif any("\0" in prefix for prefix in prefixes):
+        why = "NUL in a text"
+    elif not any(tag in RUN_PATHS for tag, _ in image.entries):
+        why = refusal("no run path")
+    if why:
+        return lines + "edit 0 refused: %s\n" % why + image.shown()
+    image.entries, removed = shrunk_list(image.entries, prefixes, answers, str(image.machine))
+    image.changed = removed != ""
+    return lines + removed + image.shown()
 
 
 # ---- a long list
@@ -383,9 +513,14 @@ def answer(kind, rest, data):
         return shrunk(rest)
     if kind == "*":
         return long_list(rest)
-    if kind in ("=", ">"):
-        words = rest if kind == ">" else ""
-        return "".join("%s: %s" % (name, edit_file(data[name], words)) for name in data)
+    if kind == "u":
+        return "".join("%s: %s" % (name, use_runpath(data[name])) for name in data)
+    if kind == "~":
+        return "".join("%s: %s" % (name, shrink_file(data[name], rest)) for name in data)
+    if kind == "=":
+        return "".join("%s: %s" % (name, shown(File(data[name]).entries or [])) for name in data)
+    if kind in ("!", "."):
+        return "".join("%s: %s" % (name, edit_container(data[name], rest, kind == "!")) for name in data)
     return ""
 
 

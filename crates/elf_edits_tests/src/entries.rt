@@ -104,3 +104,18 @@ pub(crate) fn shown(alloc: Global, entries: &[Dynamic<'_>]) -> Result<String, Al
     line.push('\n')?;
     Ok(line)
 }
+
+/// The entries with named tags of a list in a line, and how many others there are.
+pub(crate) fn brief(alloc: Global, entries: &[Dynamic<'_>]) -> Result<String, AllocError> {
+    let mut line = String::from_str(alloc, "list")?;
+    let mut others = 0u32;
+    for entry in entries {
+        if name_of(entry.tag()).is_some() {
+            line.push_str(&shown_entry(alloc, entry)?)?;
+        } else {
+            others = others.saturating_add(1);
+        }
+    }
+    line.push_str(&format!(in alloc; " and {others} others\n")?)?;
+    Ok(line)
+}

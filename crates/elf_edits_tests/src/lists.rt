@@ -35,30 +35,28 @@ pub(crate) fn interpreter_shown(alloc: Global, word: &str) -> Result<String, All
 pub(crate) fn edit(alloc: Global, line: &str) -> Result<String, AllocError> {
     let (entries, words) = line.split_once('>').unwrap_or((line, ""));
     let entries = entries_of(alloc, entries)?;
-    edit_by_words(alloc, words, entries.as_slice(), &ALONE)
+    edit_by_words(alloc, words, entries.as_slice())
 }
 
-/// Does edits that stand in words to entries of an image with these facts.
-pub(crate) fn edit_by_words(
+/// Does edits that stand in words to entries.
+fn edit_by_words(
     alloc: Global,
     words: &str,
     entries: &[Dynamic<'_>],
-    facts: &Facts,
 ) -> Result<String, AllocError> {
     match edits_of(alloc, words)? {
-        Read::Edits(edits) => edit_all(alloc, edits.as_slice(), entries, facts),
+        Read::Edits(edits) => edit_all(alloc, edits.as_slice(), entries),
         Read::Fault(fault) => Ok(fault),
     }
 }
 
-/// Does edits one after the other, up to the first that is refused.
+/// Does edits one after the other, where none is refused.
 fn edit_all(
     alloc: Global,
     edits: &[ElfEdit],
     entries: &[Dynamic<'_>],
-    facts: &Facts,
 ) -> Result<String, AllocError> {
-    match first_cause(edits, facts) {
+    match first_cause(edits, &ALONE) {
         Some((index, cause)) => refused(alloc, index, &cause),
         None => edited_all(alloc, edits, entries),
     }

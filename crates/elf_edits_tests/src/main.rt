@@ -9,11 +9,14 @@
 //! - `% ENTRY .. > WORD ..` tells what has to be looked for before the run paths of a list shrink.
 //! - `- ENTRY .. > PREFIX .. > ANSWER ..` shrinks run paths; an answer is DIRECTORY,LIBRARY,MACHINE.
 //! - `* NUMBER NUMBER` does edits to a list of so many run paths and so many needed libraries.
-//! - `= NAME ..` looks at these files from then on, and `> WORD ..` does edits to what each of them shows.
+//! - `= NAME ..` looks at these files from then on, and prints the dynamic list of each. Then `! WORD ..` does edits to
+//!   each of them in one batch, and `. WORD ..` each edit by its own call: printed are the edit that is refused, and
+//!   what the file shows then. `u` makes every DT_RPATH a DT_RUNPATH, `~ PREFIX .. > ANSWER ..` shrinks run paths.
 //!
 //! In words `~` stands for a NUL, `^` for a blank, and `''` is the empty word. Nothing comes of other lines.
 #![tactic(auto)]
 
+mod container;
 mod entries;
 mod files;
 mod lists;
@@ -21,6 +24,7 @@ mod many;
 mod paths;
 mod words;
 
+use container::Way;
 use std::alloc::{AllocError, Global};
 use std::{fs, io};
 
@@ -50,29 +54,44 @@ fn content(rt: &HostRuntime, path: &str) -> io::Result<Vec<u8>> {
 /// Prints what comes of a line.
 fn step(rt: &HostRuntime, kind: &str, names: &str, rest: &str) -> io::Result<()> {
     match kind {
-        "=" => on_files(rt, names, ""),
-        ">" => on_files(rt, names, rest),
+        "=" | "!" | "." | "u" | "~" => on_files(rt, names, kind, rest),
         _ => print!(rt; "{}", answer(rt.alloc(), kind, rest)?),
     }
 }
 
 /// Prints what comes of edits of each of some files.
-fn on_files(rt: &HostRuntime, names: &str, words: &str) -> io::Result<()> {
+fn on_files(rt: &HostRuntime, names: &str, kind: &str, words: &str) -> io::Result<()> {
     for name in names.split(' ') {
         let bytes = content(rt, name)?;
         print!(rt;
             "{name}: {}",
-            file_answer(rt.alloc(), bytes.as_slice(), words)?
+            file_answer(rt.alloc(), bytes.as_slice(), kind, words)?
         )?;
     }
     Ok(())
 }
 
-/// What comes of edits of a file, asked for again where memory was refused.
-fn file_answer(alloc: Global, bytes: &[u8], words: &str) -> Result<String, AllocError> {
-    match files::edit(alloc, bytes, words) {
-        Err(_) => files::edit(alloc, bytes, words),
+/// What comes of a line for a file, asked for again where memory was refused.
+fn file_answer(alloc: Global, bytes: &[u8], kind: &str, words: &str) -> Result<String, AllocError> {
+    match one_file_answer(alloc, bytes, kind, words) {
+        Err(_) => one_file_answer(alloc, bytes, kind, words),
         made => made,
+    }
+}
+
+/// What comes of a line for a file.
+fn one_file_answer(
+    alloc: Global,
+    bytes: &[u8],
+    kind: &str,
+    words: &str,
+) -> Result<String, AllocError> {
+    match kind {
+        "!" => container::edit(alloc, bytes, words, Way::Batch),
+        "." => container::edit(alloc, bytes, words, Way::Calls),
+        "u" => container::edit(alloc, bytes, words, Way::UseRunpath),
+        "~" => container::edit(alloc, bytes, words, Way::Shrink),
+        _ => files::entries_shown(alloc, bytes),
     }
 }
 

@@ -39,7 +39,10 @@ fn answer_of<'a>(word: &'a str) -> ProbeAnswer<'a> {
 }
 
 /// The answers that the words of a line are.
-fn answers_of<'a>(alloc: Global, line: &'a str) -> Result<Vec<ProbeAnswer<'a>>, AllocError> {
+pub(crate) fn answers_of<'a>(
+    alloc: Global,
+    line: &'a str,
+) -> Result<Vec<ProbeAnswer<'a>>, AllocError> {
     let mut made = Vec::new(alloc);
     for word in line.split(' ') {
         if !word.is_empty() {
@@ -50,7 +53,7 @@ fn answers_of<'a>(alloc: Global, line: &'a str) -> Result<Vec<ProbeAnswer<'a>>, 
 }
 
 /// The words of a line as bytes.
-fn texts_of(alloc: Global, line: &str) -> Result<Vec<Vec<u8>>, AllocError> {
+pub(crate) fn texts_of(alloc: Global, line: &str) -> Result<Vec<Vec<u8>>, AllocError> {
     let mut made = Vec::new(alloc);
     for word in split(alloc, line)? {
         made.push(word.into_bytes())?;
@@ -69,7 +72,7 @@ fn removed_shown(alloc: Global, removed: &Removed) -> Result<String, AllocError>
 }
 
 /// The directories that went, in lines.
-fn all_removed(alloc: Global, removed: &[Removed]) -> Result<String, AllocError> {
+pub(crate) fn all_removed(alloc: Global, removed: &[Removed]) -> Result<String, AllocError> {
     let mut lines = String::new(alloc);
     for one in removed {
         lines.push_str(&removed_shown(alloc, one)?)?;
