@@ -10,7 +10,7 @@ use Rattle.elf_image.specs.Image.{Image, entry_tag, lists_tag}
 use Rattle.elf_image.specs.Options.{first_there}
 use Rattle.elf_edits.specs.declared.call.ElfEdit.{ElfEdit}
 use Rattle.elf_edits.specs.declared.facts.Facts.{Facts}
-use Rattle.elf_edits.specs.Batch.{Refusal, run}
+use Rattle.elf_edits.specs.Batch.{Refusal, run, run_from}
 use Rattle.elf_edits.specs.Cause.{BadPageSize, Cause, MipsImage, NoDynamic, cause, cause_if, facts_of, first_cause, is_page_size, lists_run_path}
 use Rattle.elf_edits.specs.Decided.{all_edited, first_refusal, unless_refused}
 use Rattle.elf_edits.specs.Edit.{DeleteRunPath, Edit, SetPageSize, UseRpath, UseRunpath}
@@ -35,6 +35,12 @@ pub refused : (edit : Edit) (old : Image) (e : ElfError) (reason : Cause) → Re
 refused edit old e reason tells some = subst (λ (answer : Result Image Cause). Refuses e answer) (sym (step_refused edit old reason some)) tells
 
 -- ## Batches
+
+-- no edits leave the image
+pub no_edits_taken : (edits : List ElfEdit) (old : Image) → edits ≡ [] → run (edits_meant edits) old ≡ Ok old
+unfolding run_from
+no_edits_taken [] old none = refl
+no_edits_taken (edit ∷ edits) old none = absurd (cc)
 
 pub batch_taken : (edits : List ElfEdit) (old new : Image) (d : Draft) → first_refusal (facts_of old) 0 (edits_meant edits) ≡ None → OnlyShows old (all_edited (edits_meant edits) old) d → new ≡ drafted d old → run (edits_meant edits) old ≡ Ok new
 batch_taken edits old new d none only put =

@@ -1,5 +1,5 @@
 //! The edits of an ELF file, by the names of the program's commands.
-ghost use Rattle.std.specs.Prelude.{◌∷◌, [], IfOk};
+ghost use Rattle.std.specs.Prelude.{◌≡◌, ◌∷◌, [], IfOk, IsOk};
 ghost use Rattle.elf_edits.specs.Called.{pairs_of_map, texts_held};
 ghost use Rattle.elf_edits.specs.Edit.{AddDebugEntry, AddNeeded, AddRunPath, ClearExecStack, DeleteNeeded, DeleteRunPath, NoDefaultLibrary, ReplaceNeeded, SetExecStack, SetInterpreter, SetOsAbi, SetPageSize, SetRunPath, SetSoname, UseRpath};
 ghost use Rattle.arwen_elf.specs.Taken.{RemovedAre, edits_meant, shrink_meant};
@@ -14,13 +14,15 @@ use std::collections::HashMap;
 use std::slice;
 
 impl<'a> ElfContainer<'a> {
-    /// Makes several edits, each upon what the one before it left: all of them, or none. No edits change nothing.
+    /// Makes several edits, each upon what the one before it left: all of them, or none. An empty batch is accepted
+    /// without memory, and changes nothing.
     pub fn apply(
         &mut self,
         alloc: Global,
         edits: &[ElfEdit],
     ) -> std::result::Result<(), ElfBatchError>
-        ensures { BatchTaken (edits_meant edits.now) self.old self.new result }
+        ensures takes { BatchTaken (edits_meant edits.now) self.old self.new result }
+        ensures none { edits.now ≡ [] → IsOk result }
     {
         self.inner.apply(alloc, edits)
     }

@@ -1,5 +1,5 @@
 //! The edits of a file's image.
-ghost use Rattle.std.specs.Prelude.{◌≡◌, IfOk, OnErr, map};
+ghost use Rattle.std.specs.Prelude.{◌≡◌, [], IfOk, IsOk, OnErr, map};
 ghost use Rattle.std.specs.HashSet.{keys};
 ghost use Rattle.elf_edits.specs.Called.{pairs_of_map, texts_held};
 ghost use Rattle.elf_edits.specs.Edit.{AddDebugEntry, AddNeeded, AddRunPath, ClearExecStack, DeleteNeeded, DeleteRunPath, NoDefaultLibrary, ReplaceNeeded, SetExecStack, SetInterpreter, SetOsAbi, SetPageSize, SetRunPath, SetSoname, UseRpath, UseRunpath};
@@ -19,10 +19,11 @@ use std::collections::{HashMap, HashSet};
 
 impl<'data> Writer<'data> {
     /// Makes several edits, each upon what the one before it left: all of them, or none. All memory is wanted before
-    /// anything changes. No edits change nothing. The cost is in proportion to the
-    /// dynamic list and the values of the edits.
+    /// anything changes. An empty batch is accepted without memory, and changes nothing. The cost is in proportion to
+    /// the dynamic list, for each edit of it, and the values of the edits.
     pub fn apply(&mut self, alloc: Global, edits: &[ElfEdit]) -> Result<(), ElfBatchError>
-        ensures { TakesBatch (edits_meant edits.now) self.old self.new result }
+        ensures takes { TakesBatch (edits_meant edits.now) self.old self.new result }
+        ensures none { edits.now ≡ [] → IsOk result }
     {
         steps::apply(&mut self.builder, alloc, edits)
     }

@@ -1,5 +1,5 @@
 //! One edit, and a batch of edits, upon an image.
-ghost use Rattle.std.specs.Prelude.{◌≡◌, IfOk, IsTrue, None as none, [], map, option_map, unwrap_or};
+ghost use Rattle.std.specs.Prelude.{◌≡◌, IfOk, IsOk, IsTrue, None as none, [], map, option_map, unwrap_or};
 ghost use Rattle.elf_edits.specs.Called.{call_meant, texts_held};
 ghost use Rattle.elf_edits.specs.Cause.{cause as first_cause_against, facts_of};
 ghost use Rattle.elf_edits.specs.Decided.{all_edited, first_refusal as first_refusal_of};
@@ -122,14 +122,18 @@ fn first_refusal<'e>(edits: &'e [ElfEdit], facts: &Facts) -> Option<(usize, Caus
     None
 }
 
-// A batch of edits: all of them, or none.
+// A batch of edits: all of them, or none. An empty batch is accepted without memory.
 pub(crate) fn apply(
     builder: &mut Builder<'_>,
     alloc: Global,
     edits: &[ElfEdit],
 ) -> std::result::Result<(), ElfBatchError>
-    ensures { TakesBatch (edits_meant edits.now) builder.old builder.new result }
+    ensures takes { TakesBatch (edits_meant edits.now) builder.old builder.new result }
+    ensures none { edits.now ≡ [] → IsOk result }
 {
+    if edits.is_empty() {
+        return Ok(());
+    }
     if let Some((index, cause)) = first_refusal(edits, &image_facts(builder)) {
         let fault = told(alloc, cause);
         return Err(ElfBatchError { index, fault });

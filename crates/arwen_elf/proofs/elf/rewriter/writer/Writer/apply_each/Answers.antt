@@ -24,7 +24,7 @@ loop-batch-preserved c =
     let next : batches_meant (take (i + 1) xs) ≡ before ++ (edits ∷ []) =
     map_more (λ (b : Vec ElfEdit Global). edits_meant b.items) xs i batch (omega arith) ∙ ap (λ (b : Vec ElfEdit Global). before ++ (edits_meant b.items ∷ [])) (sym c.batch-item.is) in
     let Takes : List ElfEdit → Type 0 = λ l. TakesBatch (edits_meant l) c.loop-batch.self c.apply-answer.new.self answer in
-    let taken = taken_is edits c.loop-batch.self c.apply-answer.new.self answer (subst Takes c.as_slice.ensures.value c.apply-answer.ensures) in
+    let taken = taken_is edits c.loop-batch.self c.apply-answer.new.self answer (subst Takes c.as_slice.ensures.value c.apply-answer.ensures.takes) in
     let here : c.loop-batch.self ≡ left_upon_all before c.loop-batch.answers.items old = c.loop-batch.invariant.left in
     let Answer : Image → Type 0 = λ image. AnswersBatch edits image answer in
     let Left : Image → Type 0 = λ image. c.apply-answer.new.self ≡ left_upon image (run edits image) answer in
