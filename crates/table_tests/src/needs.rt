@@ -1,7 +1,7 @@
 //! Tables of needed versions: their bytes, which were laid out by hand.
 ghost use Rattle.std.specs.Prelude.{◌≡◌, ◌&&◌, is_some, map};
 ghost use Rattle.std.specs.List.{list_all};
-ghost use Rattle.elf_image.specs.ImageSeen.{name_kept, needs_kept};
+ghost use Rattle.elf_image.specs.ImageSeen.{needs_kept};
 ghost use Rattle.elf_tables.specs.Strings.{place_of};
 ghost use Rattle.elf_tables.specs.VersionRecords.{has_needs_texts};
 
@@ -13,8 +13,7 @@ use std::alloc::AllocError;
 
 // Whether a table has the names of these versions.
 fn has_all(versions: &[VersionNeedName<'_>], table: &Finished<'_>) -> bool
-    ensures { result
-        ≡ list_all (λ v. is_some (place_of table.now v.name)) (map name_kept versions.now) }
+    ensures { result ≡ list_all (λ v. is_some (place_of table.now v.name)) versions.now }
 {
     versions
         .iter()
@@ -25,16 +24,24 @@ fn has_all(versions: &[VersionNeedName<'_>], table: &Finished<'_>) -> bool
 fn has_texts(needs: &VersionNeed<'_>, table: &Finished<'_>) -> bool
     ensures { result
         ≡ (is_some (place_of table.now needs.now.file)
-        && list_all (λ v. is_some (place_of table.now v.name)) (needs_kept needs.now).versions) }
+        && list_all (λ v. is_some (place_of table.now v.name)) needs.now.versions.items) }
 {
     table.offset_of(needs.file.as_slice()).is_some() && has_all(&needs.versions, table)
 }
 
-// Whether a table has the texts of these versions.
+// Whether a table has the texts of each of these.
+fn has_each(records: &[VersionNeed<'_>], table: &Finished<'_>) -> bool
+    ensures { result ≡ list_all (λ n. is_some (place_of table.now n.file)
+        && list_all (λ v. is_some (place_of table.now v.name)) n.versions.items) records.now }
+{
+    records.iter().all(|needs| has_texts(needs, table))
+}
+
+// The same, of what is kept of them.
 fn has_names(records: &[VersionNeed<'_>], table: &Finished<'_>) -> bool
     ensures { result ≡ has_needs_texts table.now (map needs_kept records.now) }
 {
-    records.iter().all(|needs| has_texts(needs, table))
+    has_each(records, table)
 }
 
 // A library, and the versions needed of it: the number, the flags, the name of each.

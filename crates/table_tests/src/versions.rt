@@ -41,13 +41,22 @@ fn has_all(names: &[ByteString<'_>], table: &Finished<'_>) -> bool
         .all(|name| table.offset_of(name.as_slice()).is_some())
 }
 
-// Whether the table has the names of these versions.
-fn has_names(records: &[VersionDef<'_>], table: &Finished<'_>) -> bool
-    ensures { result ≡ has_definition_texts table.now (map definition_kept records.now) }
+// Whether the table has the names of each of these versions.
+fn has_each(records: &[VersionDef<'_>], table: &Finished<'_>) -> bool
+    ensures { result
+        ≡ list_all (λ d. list_all (λ name. is_some (place_of table.now name)) d.names.items)
+        records.now }
 {
     records
         .iter()
         .all(|version| has_all(&version.names, table))
+}
+
+// The same, of what is kept of them.
+fn has_names(records: &[VersionDef<'_>], table: &Finished<'_>) -> bool
+    ensures { result ≡ has_definition_texts table.now (map definition_kept records.now) }
+{
+    has_each(records, table)
 }
 
 // A version that a file defines: its number, its flags, its names.

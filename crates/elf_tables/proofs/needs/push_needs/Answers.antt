@@ -3,7 +3,6 @@ use Rattle.std.specs.Prelude.{unwrap_or}
 use Rattle.std.specs.List.{AllByRecursion}
 use Rattle.std.proofs.lemmas.List.{length-map}
 use Rattle.std.proofs.lemmas.Result.{MatchResult-weaker}
-use Rattle.elf_format.specs.Versions.{VersionName}
 use Rattle.elf_image.specs.declared.version.VersionNeedName.{VersionNeedName}
 use Rattle.elf_image.specs.ImageSeen.{name_kept, needs_kept}
 use Rattle.elf_tables.specs.Strings.{place_of}
