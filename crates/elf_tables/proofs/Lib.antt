@@ -6,3 +6,4 @@ pub mod LaySteps
 pub mod RecordLaws
 pub mod VersionLaws
 pub mod ChainingSteps
+pub mod NeedsSteps

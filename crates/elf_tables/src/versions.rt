@@ -5,8 +5,8 @@ ghost use Rattle.patch_bytes.specs.Memory.{memory_of};
 ghost use Rattle.elf_format.specs.Form.{records};
 ghost use Rattle.elf_format.specs.Hashes.{gabi_hash};
 ghost use Rattle.elf_format.specs.Versions.{version_id};
-ghost use Rattle.elf_format.specs.Views.{defined_versions, needed_versions};
-ghost use Rattle.elf_image.specs.ImageSeen.{definition_kept, name_kept, needs_kept};
+ghost use Rattle.elf_format.specs.Views.{defined_versions};
+ghost use Rattle.elf_image.specs.ImageSeen.{definition_kept};
 ghost use Rattle.elf_tables.specs.declared.fault.TableFault.TheVariants.{NumberTooLarge};
 ghost use Rattle.elf_tables.specs.Strings.{PlacesStand, place_of};
 ghost use Rattle.elf_tables.specs.VersionRecords.{version_number as number_of_version, are_names_too_many, chained, definition_size, definition_table, fields, halves, has_definition_texts, is_index_too_large, own_name, place_in, placed_definition, spelled_definition, spelled_definition_name, version_fields};
@@ -70,7 +70,7 @@ fn own_hash(names: &[ByteString<'_>]) -> u32
 }
 
 // How far behind a record of so many bytes the next one stands.
-fn next_distance(has_next: bool, size: u32) -> u32
+pub(crate) fn next_distance(has_next: bool, size: u32) -> u32
     ensures { result ≡ (if has_next then size else 0) }
 {
     if has_next { size } else { 0 }

@@ -1,0 +1,98 @@
+//! What the tests share: calls that are refused memory, comparisons, and string tables of given texts.
+
+use elf_tables::{Finished, StringTable, TableFault};
+use std::alloc::AllocError;
+use std::fmt;
+use std::process::Abort;
+
+// The runtime that a test is given.
+pub(crate) trait Runtime: Abort + AllocGlobal {}
+
+impl<R: Abort + AllocGlobal> Runtime for R {}
+
+// An error that can be want of memory.
+pub(crate) trait Refusal: Drop {
+    fn is_memory(&self) -> bool;
+}
+
+impl Refusal for AllocError {
+    fn is_memory(&self) -> bool {
+        true
+    }
+}
+
+impl Refusal for TableFault {
+    fn is_memory(&self) -> bool {
+        matches!(self, TableFault::Memory)
+    }
+}
+
+// Whether an answer is want of memory.
+pub(crate) fn wants_memory<T, E: Refusal>(answer: &Result<T, E>) -> bool {
+    match answer {
+        Ok(_) => false,
+        Err(error) => error.is_memory(),
+    }
+}
+
+// The answer of a call that is made once more, which is not refused memory again.
+pub(crate) fn granted<T, E: Refusal>(rt: &impl Abort, answer: Result<T, E>) -> Result<T, E> {
+    assert!(rt; !wants_memory(&answer), "refused memory twice");
+    answer
+}
+
+// Compares.
+pub(crate) fn same<T: PartialEq + fmt::Debug>(rt: &impl Abort, what: &str, found: &T, want: &T) {
+    assert_eq!(rt; found, want, "{what}");
+}
+
+// Compares bytes.
+pub(crate) fn same_bytes(rt: &impl Abort, what: &str, found: &[u8], want: &[u8]) {
+    same(rt, what, &found, &want);
+}
+
+// Adds a text that has no NUL.
+fn add<'t>(
+    rt: &impl Runtime,
+    table: &mut StringTable<'t>,
+    text: &'t [u8],
+) -> Result<(), AllocError> {
+    assert!(rt; !text.contains(&0), "a NUL");
+    again!(rt; table.add(text))
+}
+
+// The table of these texts.
+fn finished<'t>(rt: &impl Runtime, texts: &[&'t [u8]]) -> Result<Finished<'t>, TableFault> {
+    let mut table = StringTable::new(rt.alloc());
+    for text in texts {
+        add(rt, &mut table, text)?;
+    }
+    table.finish(rt.alloc())
+}
+
+// The same, made again where there was no memory.
+pub(crate) fn table_of<'t>(rt: &impl Runtime, texts: &[&'t [u8]]) -> Finished<'t> {
+    again!(rt; finished(rt, texts)).expect(rt, "memory")
+}
+
+// One text 65,536 times.
+pub(crate) fn repeated(rt: &impl Runtime) -> Result<Vec<&'static [u8]>, AllocError> {
+    let mut texts: Vec<&'static [u8]> = Vec::new(rt.alloc());
+    for _ in 0..65_536 {
+        texts.push(b"abc")?;
+    }
+    Ok(texts)
+}
+
+// Compares the bytes that a call answered, or its fault.
+pub(crate) fn answers(
+    rt: &impl Abort,
+    what: &str,
+    answer: Result<Vec<u8>, TableFault>,
+    want: Result<&[u8], TableFault>,
+) {
+    match answer {
+        Ok(bytes) => same(rt, what, &Ok(bytes.as_slice()), &want),
+        Err(fault) => same(rt, what, &Err(fault), &want),
+    }
+}
