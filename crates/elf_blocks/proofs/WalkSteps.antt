@@ -5,7 +5,7 @@ use Rattle.std.proofs.lemmas.Bool.{cases_eq}
 use Rattle.std.proofs.lemmas.List.{get_or-set_same}
 use Rattle.std.proofs.lemmas.Option.{same_Some, slice_get-get_or, slice_get_within}
 use Rattle.elf_blocks.specs.declared.block.Block.{Block}
-use Rattle.elf_blocks.specs.Blocks.{EarlierMoves, HasCause, HasStuck, IsApart, IsOrdered, IsStuck, LaterMoves, MoveForCause, Pair, StayApart, end_of}
+use Rattle.elf_blocks.specs.Blocks.{EarlierMoves, HasStuck, IsApart, IsOrdered, IsStuck, LaterMoves, MoveForCause, Pair, StayApart, end_of}
 
 -- ## Marks
 

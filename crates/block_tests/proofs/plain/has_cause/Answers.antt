@@ -1,9 +1,9 @@
-use Rattle.std.proofs.Common.{◌≡◌, ◌<◌, ◌≤◌, ◌+◌, ◌⊎◌, ℕ, List, true, length, refl, inl, inr, arith}
+use Rattle.std.proofs.Common.{List, true, refl, inl, inr, arith}
 use Rattle.std.proofs.lemmas.Bool.{cases_eq}
 use Rattle.std.proofs.lemmas.Option.{slice_get-get_or, slice_get_within}
 use Rattle.elf_blocks.specs.declared.block.Block.{Block}
 use Rattle.elf_blocks.specs.Blocks.{EarlierMoves, LaterMoves, Pair}
-use Rattle.block_tests.proofs.PairSteps.{not_here, some_pair, pair_of}
+use Rattle.block_tests.proofs.PairSteps.{not_here, pair_of}
 use Rattle.block_tests.proofs.plain.has_cause.Goals as goal
 
 pub returns-then-does_later_move : goal.returns-then-does_later_move

@@ -1,4 +1,4 @@
-use Rattle.std.proofs.Common.{◌≡◌, ◌<◌, ◌≤◌, ◌+◌, ℕ, List, true, length, refl, arith}
+use Rattle.std.proofs.Common.{List, true, refl, arith}
 use Rattle.std.proofs.lemmas.Option.{slice_get-get_or}
 use Rattle.elf_blocks.specs.declared.block.Block.{Block}
 use Rattle.elf_blocks.specs.Blocks.{IsStuck}

@@ -1,7 +1,7 @@
-use Rattle.std.proofs.Common.{◌≡◌, ◌+◌, ◌<◌, ◌≤◌, ℕ, List, Bool, false, true, length, refl, sym, subst, arith}
+use Rattle.std.proofs.Common.{◌≡◌, ◌+◌, ◌<◌, ℕ, List, Bool, length, refl, sym, subst, arith}
 use Rattle.std.proofs.lemmas.Option.{slice_get-get_or}
 use Rattle.elf_blocks.specs.declared.block.Block.{Block}
-use Rattle.elf_blocks.specs.Blocks.{HasStuck, StayApart}
+use Rattle.elf_blocks.specs.Blocks.{StayApart}
 use Rattle.elf_blocks.proofs.WalkSteps.{IsWalked, none_stuck, walk_ends, walk_past_apart, walk_past_earlier, walk_past_later, walk_stuck}
 use Rattle.elf_blocks.proofs.walk.walk_blocks.Goals as goal
 use Rattle.elf_blocks.proofs.walk.walk_blocks.Goals.{in-Apart, in-Later, in-Earlier}
