@@ -20,22 +20,22 @@ none_yet blocks P = λ p early. absurd (omega (arith, early))
 
 pub row_starts : (blocks : List Block) (P : Pair blocks → Type 0) (i : ℕ) → Below blocks P i → Within blocks P i (i + 1)
 row_starts blocks P i below = record {
-    rows = below;
-    row = λ p same early. absurd (omega (arith, same, early, p.ordered));
-  }
+  rows = below;
+  row = λ p same early. absurd (omega (arith, same, early, p.ordered));
+}
 
 pub row_more : (blocks : List Block) (P : Pair blocks → Type 0) (i j : ℕ) → Within blocks P i j
     → ((p : Pair blocks) → p.first ≡ i → p.second ≡ j → P p) → Within blocks P i (j + 1)
 row_more blocks P i j w here = record {
-    rows = w.rows;
-    row = λ p same early. elim (cases_eq p.second j) [ inl at ↦ here p same at | inr other ↦ w.row p same (omega arith) ];
-  }
+  rows = w.rows;
+  row = λ p same early. elim (cases_eq p.second j) [ inl at ↦ here p same at | inr other ↦ w.row p same (omega arith) ];
+}
 
 pub row_ends : (blocks : List Block) (P : Pair blocks → Type 0) (i j : ℕ) → Within blocks P i j → length blocks ≤ j → Below blocks P (i + 1)
 row_ends blocks P i j w all = λ p early. elim (cases_eq p.first i) [
-      inl same ↦ w.row p same (omega (arith, slice_get_within blocks p.second p.later p.at_second))
-    | inr other ↦ w.rows p (omega arith)
-    ]
+  | inl same ↦ w.row p same (omega (arith, slice_get_within blocks p.second p.later p.at_second))
+  | inr other ↦ w.rows p (omega arith)
+]
 
 pub all_pairs : (blocks : List Block) (P : Pair blocks → Type 0) (i : ℕ) → Below blocks P i → length blocks ≤ i → (p : Pair blocks) → P p
 all_pairs blocks P i below all = λ p. below p (omega (arith, p.ordered, slice_get_within blocks p.second p.later p.at_second))
@@ -57,7 +57,6 @@ pair_of blocks i j a b ordered at_i at_j = record { first = i; second = j; earli
 
 module _ (blocks : List Block) (Q : Block → Block → Type 0) (i j : ℕ) (a b : Block) (yes : Bool)
     (at_i : slice_get blocks i ≡ Some a) (at_j : slice_get blocks j ≡ Some b) (told : IsTrue yes ↔ Q a b) where
-
   pub not_each : i < j → yes ≡ false → ((p : Pair blocks) → Q p.earlier p.later) → IsTrue false
   not_each ordered isnt each = sym isnt ∙ told.1 (each (pair_of blocks i j a b ordered at_i at_j))
 
@@ -89,7 +88,6 @@ module _ (blocks : List Block) (moves : List Bool) (i j : ℕ) (a b : Block) (m 
     (at_i : slice_get blocks i ≡ Some a) (at_j : slice_get blocks j ≡ Some b)
     (moves_i : slice_get moves i ≡ Some m) (moves_j : slice_get moves j ≡ Some n)
     (told : IsTrue yes ↔ ((m ≡ false) × (n ≡ false) × Overlap a b)) where
-
   pub not_apart : i < j → yes ≡ true → StayApart blocks moves → IsTrue false
   not_apart ordered is each =
       let all = told.0 is in

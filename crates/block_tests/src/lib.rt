@@ -10,10 +10,9 @@ macro_rules! again {
     }};
 }
 
-pub mod plain;
-
 #[cfg(test)]
 mod made;
+pub mod plain;
 #[cfg(test)]
 mod rows;
 #[cfg(test)]

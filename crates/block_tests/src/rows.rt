@@ -30,7 +30,12 @@ fn three(rt: &impl Runtime, rows: [Row; 3], want: Option<&[bool]>) {
 #[test]
 fn no_block_and_one(rt: HostRuntime) {
     same(&rt, "none", &moved(&rt, &[]).as_deref(), &Some(&[]));
-    same(&rt, "one", &moved(&rt, &[block((7, 9, 0))]).as_deref(), &Some(&[false]));
+    same(
+        &rt,
+        "one",
+        &moved(&rt, &[block((7, 9, 0))]).as_deref(),
+        &Some(&[false]),
+    );
 }
 
 #[test]
@@ -97,5 +102,10 @@ fn the_one_that_moves_more_readily(rt: HostRuntime) {
 #[test]
 fn ends_past_64_bits(rt: HostRuntime) {
     two(&rt, (8, u64::MAX, 0), (u64::MAX, 1, 0), None);
-    two(&rt, (0, u64::MAX, 0), (u64::MAX, u64::MAX, 0), Some(&[false, false]));
+    two(
+        &rt,
+        (0, u64::MAX, 0),
+        (u64::MAX, u64::MAX, 0),
+        Some(&[false, false]),
+    );
 }

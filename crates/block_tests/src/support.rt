@@ -21,11 +21,7 @@ pub(crate) fn same<T: PartialEq + fmt::Debug>(rt: &impl Abort, what: &str, found
 }
 
 // The walk over blocks in their order, on a ledger of its own.
-fn walk_on<L: Ledger>(
-    blank: Blank,
-    blocks: &[Block],
-    moves: &mut [bool],
-) -> Result<(), LayoutFault>
+fn walk_on<L: Ledger>(blank: Blank, blocks: &[Block], moves: &mut [bool]) -> Result<(), LayoutFault>
     requires name { blank.name ≡ L.name }
     requires parts { blank.parts ≡ L.parts }
     requires one { blank.parts ≡ 1 }

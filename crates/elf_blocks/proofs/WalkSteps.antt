@@ -5,7 +5,7 @@ use Rattle.std.proofs.lemmas.Bool.{cases_eq}
 use Rattle.std.proofs.lemmas.List.{get_or-set_same}
 use Rattle.std.proofs.lemmas.Option.{same_Some, slice_get-get_or, slice_get_within}
 use Rattle.elf_blocks.specs.declared.block.Block.{Block}
-use Rattle.elf_blocks.specs.Blocks.{EarlierMoves, HasCause, HasStuck, IsApart, IsOrdered, IsStuck, LaterMoves, MoveForCause, Pair, StayApart, end_of}
+use Rattle.elf_blocks.specs.Blocks.{EarlierMoves, HasStuck, IsApart, IsOrdered, IsStuck, LaterMoves, MoveForCause, Pair, StayApart, end_of}
 
 -- ## Marks
 
@@ -25,19 +25,19 @@ still_unmarked : (marks : List Bool) (i k : ℕ) → i < length marks → slice_
     → (k ≢ i) × (slice_get marks k ≡ Some false)
 still_unmarked marks i k within free =
     elim (cases_eq k i) [
-      inl same ↦
-        let there : slice_get (set marks i true) k ≡ Some true = subst (λ (j : ℕ). slice_get (set marks i true) j ≡ Some true) (sym same) (marked_there marks i within) in
-        let no : ⊥ = cc (free, there) in
-        absurd no
-    | inr apart ↦ (apart, sym (kept_elsewhere marks i k apart) ∙ free)
+      | inl same ↦
+          let there : slice_get (set marks i true) k ≡ Some true = subst (λ (j : ℕ). slice_get (set marks i true) j ≡ Some true) (sym same) (marked_there marks i within) in
+          let no : ⊥ = cc (free, there) in
+          absurd no
+      | inr apart ↦ (apart, sym (kept_elsewhere marks i k apart) ∙ free)
     ]
 
 -- what is marked after one more mark was so before, or stands there
 marked_before : (marks : List Bool) (i k : ℕ) → slice_get (set marks i true) k ≡ Some true → (k ≡ i) ⊎ (slice_get marks k ≡ Some true)
 marked_before marks i k marked =
     elim (cases_eq k i) [
-      inl same ↦ inl same
-    | inr apart ↦ inr (sym (kept_elsewhere marks i k apart) ∙ marked)
+      | inl same ↦ inl same
+      | inr apart ↦ inr (sym (kept_elsewhere marks i k apart) ∙ marked)
     ]
 
 -- ## The walk
@@ -69,17 +69,16 @@ walk_starts blocks moves long unmarked =
       behind = λ k c l early other free there at. absurd (other (omega arith));
       apart = λ p early first second. absurd (omega (arith, p.ordered));
       causes = λ k marked.
-        let within : k < length blocks = omega (arith, slice_get_within moves k true marked) in
-        let free = still k within in
-        let no : ⊥ = cc (free, marked) in
-        absurd no;
+          let within : k < length blocks = omega (arith, slice_get_within moves k true marked) in
+          let free = still k within in
+          let no : ⊥ = cc (free, marked) in
+          absurd no;
       fixed = λ k c there stays. still k (slice_get_within blocks k c there);
     }
 
 module _ (blocks : List Block) (moves : List Bool) (last next : ℕ) (l b : Block) (ordered : IsOrdered blocks) (long : length moves ≡ length blocks)
     (w : IsWalked blocks moves last next) (within : next < length blocks) (at_last : slice_get blocks last ≡ Some l)
     (at_next : slice_get blocks next ≡ Some b) where
-
   -- the last block that stays and the next one
   abbrev these : Pair blocks
   these = record { first = last; second = next; earlier = l; later = b; ordered = w.before; at_first = at_last; at_second = at_next }
@@ -101,31 +100,31 @@ module _ (blocks : List Block) (moves : List Bool) (last next : ℕ) (l b : Bloc
       → ((k : ℕ) (c : Block) → slice_get blocks k ≡ Some c → c.priority ≡ 0 → slice_get marks k ≡ Some false)
       → IsWalked blocks marks next (next + 1)
   next_stays marks ended unmarked ahead causes fixed = record {
-      before = omega arith;
-      ahead = λ k late inside. ahead k (omega arith) inside;
-      last_stays = λ inside. ahead next (omega arith) inside;
-      behind = λ k c n early other free there at.
+    before = omega arith;
+    ahead = λ k late inside. ahead k (omega arith) inside;
+    last_stays = λ inside. ahead next (omega arith) inside;
+    behind = λ k c n early other free there at.
         subst (λ (x : Block). end_of c ≤ x.start) (same_Some b n (sym at_next ∙ at)) (ended k c (omega arith) free there);
-      apart = λ p early first second. elim (cases_eq p.second next) [
-          inl same ↦
-            let at : slice_get blocks next ≡ Some p.later = subst (λ (k : ℕ). slice_get blocks k ≡ Some p.later) same p.at_second in
-            subst (λ (x : Block). end_of p.earlier ≤ x.start) (same_Some b p.later (sym at_next ∙ at))
-            (ended p.first p.earlier (omega (arith, p.ordered)) first p.at_first)
-        | inr other ↦ w.apart p (omega arith) (unmarked p.first first) (unmarked p.second second)
-        ];
-      causes = causes;
-      fixed = fixed;
-    }
+    apart = λ p early first second. elim (cases_eq p.second next) [
+      | inl same ↦
+          let at : slice_get blocks next ≡ Some p.later = subst (λ (k : ℕ). slice_get blocks k ≡ Some p.later) same p.at_second in
+          subst (λ (x : Block). end_of p.earlier ≤ x.start) (same_Some b p.later (sym at_next ∙ at))
+          (ended p.first p.earlier (omega (arith, p.ordered)) first p.at_first)
+      | inr other ↦ w.apart p (omega arith) (unmarked p.first first) (unmarked p.second second)
+    ];
+    causes = causes;
+    fixed = fixed;
+  }
 
   pub walk_past_apart : IsApart l b → IsWalked blocks moves next (next + 1)
   walk_past_apart apart =
       next_stays moves
       (λ k c early free there. elim (cases_eq k last) [
-          inl same ↦
+        | inl same ↦
             let at : slice_get blocks last ≡ Some c = subst (λ (j : ℕ). slice_get blocks j ≡ Some c) same there in
             subst (λ (x : Block). end_of x ≤ b.start) (same_Some l c (sym at_last ∙ at)) apart
         | inr other ↦ others_apart k c early other free there
-        ])
+      ])
       (λ k free. free) (λ k late inside. w.ahead k late inside) w.causes w.fixed
 
   pub walk_past_earlier : EarlierMoves l b → IsWalked blocks (set moves last true) next (next + 1)
@@ -137,12 +136,12 @@ module _ (blocks : List Block) (moves : List Bool) (last next : ℕ) (l b : Bloc
       (λ k late here. kept_elsewhere moves last k (λ same. absurd (omega (arith, w.before, same))) ∙ w.ahead k late here)
       (λ k marked. elim (marked_before moves last k marked) [ inl same ↦ (these, inl (sym same, m)) | inr marked_then ↦ w.causes k marked_then ])
       (λ k c there stays.
-        let apart : k ≢ last = λ same.
-          let at : slice_get blocks last ≡ Some c = subst (λ (j : ℕ). slice_get blocks j ≡ Some c) same there in
-          let one : l ≡ c = same_Some l c (sym at_last ∙ at) in
-          let can : 0 < c.priority = subst (λ (x : Block). 0 < x.priority) one m.can in
-          absurd (omega (arith, can, stays)) in
-        kept_elsewhere moves last k apart ∙ w.fixed k c there stays)
+      let apart : k ≢ last = λ same.
+      let at : slice_get blocks last ≡ Some c = subst (λ (j : ℕ). slice_get blocks j ≡ Some c) same there in
+      let one : l ≡ c = same_Some l c (sym at_last ∙ at) in
+      let can : 0 < c.priority = subst (λ (x : Block). 0 < x.priority) one m.can in
+      absurd (omega (arith, can, stays)) in
+      kept_elsewhere moves last k apart ∙ w.fixed k c there stays)
 
   pub walk_past_later : LaterMoves l b → IsWalked blocks (set moves next true) last (next + 1)
   walk_past_later m =
@@ -152,22 +151,22 @@ module _ (blocks : List Block) (moves : List Bool) (last next : ℕ) (l b : Bloc
         ahead = λ k late here. kept_elsewhere moves next k (λ same. absurd (omega (arith, same))) ∙ w.ahead k (omega arith) here;
         last_stays = λ here. kept_elsewhere moves next last (λ same. absurd (omega (arith, w.before, same))) ∙ w.last_stays here;
         behind = λ k c n early other free there at.
-          let before = still_unmarked moves next k inside free in
-          let first : k ≢ next = before.0 in
-          w.behind k c n (omega arith) other before.1 there at;
+            let before = still_unmarked moves next k inside free in
+            let first : k ≢ next = before.0 in
+            w.behind k c n (omega arith) other before.1 there at;
         apart = λ p early first second.
-          let before = still_unmarked moves next p.first inside first in
-          let after = still_unmarked moves next p.second inside second in
-          let other : p.second ≢ next = after.0 in
-          w.apart p (omega arith) before.1 after.1;
+            let before = still_unmarked moves next p.first inside first in
+            let after = still_unmarked moves next p.second inside second in
+            let other : p.second ≢ next = after.0 in
+            w.apart p (omega arith) before.1 after.1;
         causes = λ k marked. elim (marked_before moves next k marked) [ inl same ↦ (these, inr (sym same, m)) | inr marked_then ↦ w.causes k marked_then ];
         fixed = λ k c there stays.
-          let apart : k ≢ next = λ same.
+            let apart : k ≢ next = λ same.
             let at : slice_get blocks next ≡ Some c = subst (λ (j : ℕ). slice_get blocks j ≡ Some c) same there in
             let one : b ≡ c = same_Some b c (sym at_next ∙ at) in
             let more : l.priority < c.priority = subst (λ (x : Block). l.priority < x.priority) one m.readily in
             absurd (omega (arith, more, stays)) in
-          kept_elsewhere moves next k apart ∙ w.fixed k c there stays;
+            kept_elsewhere moves next k apart ∙ w.fixed k c there stays;
       }
 
   pub walk_stuck : IsStuck l b → HasStuck blocks

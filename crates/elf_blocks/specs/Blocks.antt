@@ -55,11 +55,15 @@ HasStuck blocks = (p : Pair blocks) × IsStuck p.earlier p.later
 
 -- of each two blocks that don't move the earlier one ends before the later one starts, or there
 abbrev pub StayApart : List Block → List Bool → Type 0
-StayApart blocks moves = (p : Pair blocks) → slice_get moves p.first ≡ Some false → slice_get moves p.second ≡ Some false → IsApart p.earlier p.later
+StayApart blocks moves =
+    (p : Pair blocks) → slice_get moves p.first ≡ Some false → slice_get moves p.second ≡ Some false
+    → IsApart p.earlier p.later
 
 -- a block overlaps another one against which it moves
 abbrev pub HasCause : List Block → ℕ → Type 0
-HasCause blocks k = (p : Pair blocks) × (((p.first ≡ k) × EarlierMoves p.earlier p.later) ⊎ ((p.second ≡ k) × LaterMoves p.earlier p.later))
+HasCause blocks k =
+    (p : Pair blocks)
+    × (((p.first ≡ k) × EarlierMoves p.earlier p.later) ⊎ ((p.second ≡ k) × LaterMoves p.earlier p.later))
 
 -- each block that moves does so against one that it overlaps
 abbrev pub MoveForCause : List Block → List Bool → Type 0

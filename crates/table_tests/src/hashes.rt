@@ -13,9 +13,18 @@ fn hashes_of_names(rt: HostRuntime) {
         (b"syscall", 0x0b09_985c, 0xbac2_12a0),
         (b"flapenguin.me", 0x0398_7915, 0x8ae9_f18e),
         (b"GLIBC_2.2.5", 0x0969_1a75, 0x4273_15ba),
-        (b"\xff\xff\xff\xff\xff\xff\xff\xff\xff", 0x10fef, 0x6250_bf1c),
+        (
+            b"\xff\xff\xff\xff\xff\xff\xff\xff\xff",
+            0x10fef,
+            0x6250_bf1c,
+        ),
     ];
     for (name, sysv, gnu) in rows {
-        same(&rt, "hashes", &(sysv_hash(name), gnu_hash(name)), &(sysv, gnu));
+        same(
+            &rt,
+            "hashes",
+            &(sysv_hash(name), gnu_hash(name)),
+            &(sysv, gnu),
+        );
     }
 }

@@ -15,9 +15,7 @@ use std::alloc::AllocError;
 fn has_all(versions: &[VersionNeedName<'_>], table: &Finished<'_>) -> bool
     ensures { result ≡ list_all (λ v. is_some (place_of table.now v.name)) versions.now }
 {
-    versions
-        .iter()
-        .all(|version| table.offset_of(version.name.as_slice()).is_some())
+    versions.iter().all(|version| table.offset_of(version.name.as_slice()).is_some())
 }
 
 // Whether a table has the name of a library and those of the versions needed of it.

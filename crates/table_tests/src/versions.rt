@@ -16,19 +16,40 @@ const fn version(index: u16, hidden: bool) -> VersionId {
 }
 
 // Versions of symbols, the byte order, and the bytes.
-type Row<'i> = (&'i [VersionId], ByteOrder2, Result<&'static [u8], TableFault>);
+type Row<'i> = (
+    &'i [VersionId],
+    ByteOrder2,
+    Result<&'static [u8], TableFault>,
+);
 
 #[test]
 fn versions_of_symbols(rt: HostRuntime) {
     let rows: [Row<'_>; 5] = [
         (&[], ByteOrder2::Little, Ok(b"")),
-        (&[version(0x7fff, false)], ByteOrder2::Little, Ok(b"\xff\x7f")),
+        (
+            &[version(0x7fff, false)],
+            ByteOrder2::Little,
+            Ok(b"\xff\x7f"),
+        ),
         (&[version(0x7fff, true)], ByteOrder2::Big, Ok(b"\xff\xff")),
-        (&[version(0, false), version(2, true)], ByteOrder2::Big, Ok(b"\0\0\x80\x02")),
-        (&[version(1, false), version(0x8000, false)], ByteOrder2::Little, Err(TableFault::NumberTooLarge)),
+        (
+            &[version(0, false), version(2, true)],
+            ByteOrder2::Big,
+            Ok(b"\0\0\x80\x02"),
+        ),
+        (
+            &[version(1, false), version(0x8000, false)],
+            ByteOrder2::Little,
+            Err(TableFault::NumberTooLarge),
+        ),
     ];
     for (ids, order, want) in rows {
-        answers(&rt, "versions", again!(&rt; build_versym(rt.alloc(), ids, order)), want);
+        answers(
+            &rt,
+            "versions",
+            again!(&rt; build_versym(rt.alloc(), ids, order)),
+            want,
+        );
     }
 }
 
@@ -47,9 +68,7 @@ fn has_each(records: &[VersionDef<'_>], table: &Finished<'_>) -> bool
         ≡ list_all (λ d. list_all (λ name. is_some (place_of table.now name)) d.names.items)
         records.now }
 {
-    records
-        .iter()
-        .all(|version| has_all(&version.names, table))
+    records.iter().all(|version| has_all(&version.names, table))
 }
 
 // The same, of what is kept of them.

@@ -1,4 +1,4 @@
-use Rattle.std.proofs.Common.{◌≡◌, ◌<◌, ◌≤◌, ◌+◌, ℕ, List, true, length, refl, arith}
+use Rattle.std.proofs.Common.{List, true, refl, arith}
 use Rattle.std.proofs.lemmas.Option.{slice_get-get_or}
 use Rattle.elf_blocks.specs.declared.block.Block.{Block}
 use Rattle.elf_blocks.specs.Blocks.{IsStuck}
@@ -7,11 +7,10 @@ use Rattle.block_tests.proofs.plain.has_stuck.Goals as goal
 
 pub returns-then-is_stuck : goal.returns-then-is_stuck
 returns-then-is_stuck c =
-    let blocks : List Block = c.args.blocks.now in
-    (
+    let blocks : List Block = c.args.blocks.now in (
       λ _. some_pair blocks (λ a b. IsStuck a b) c.loop-first.first c.loop-second.second _ _ c.is_stuck.result
-      (slice_get-get_or blocks c.loop-first.first _ (omega arith)) (slice_get-get_or blocks c.loop-second.second _ (omega arith))
-      c.is_stuck.ensures (omega arith) c.if-is_stuck.true,
+          (slice_get-get_or blocks c.loop-first.first _ (omega arith)) (slice_get-get_or blocks c.loop-second.second _ (omega arith))
+          c.is_stuck.ensures (omega arith) c.if-is_stuck.true,
       λ _. refl,
     )
 

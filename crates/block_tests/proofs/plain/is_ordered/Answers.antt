@@ -1,4 +1,4 @@
-use Rattle.std.proofs.Common.{◌≡◌, ◌<◌, ◌≤◌, ◌+◌, ℕ, List, true, length, refl, arith}
+use Rattle.std.proofs.Common.{List, true, refl, arith}
 use Rattle.std.proofs.lemmas.Option.{slice_get-get_or}
 use Rattle.elf_blocks.specs.declared.block.Block.{Block}
 use Rattle.elf_blocks.specs.Blocks.{IsEarlier}
@@ -7,12 +7,11 @@ use Rattle.block_tests.proofs.plain.is_ordered.Goals as goal
 
 pub returns-then-not-is_earlier : goal.returns-then-not-is_earlier
 returns-then-not-is_earlier c =
-    let blocks : List Block = c.args.blocks.now in
-    (
+    let blocks : List Block = c.args.blocks.now in (
       λ bad. let no : ⊥ = cc bad in absurd no,
       not_each blocks (λ a b. IsEarlier a b) c.loop-first.first c.loop-second.second _ _ c.is_earlier.result
-      (slice_get-get_or blocks c.loop-first.first _ (omega arith)) (slice_get-get_or blocks c.loop-second.second _ (omega arith))
-      c.is_earlier.ensures (omega arith) c.if-not-is_earlier.true,
+          (slice_get-get_or blocks c.loop-first.first _ (omega arith)) (slice_get-get_or blocks c.loop-second.second _ (omega arith))
+          c.is_earlier.ensures (omega arith) c.if-not-is_earlier.true,
     )
 
 pub loop-second-preserved : goal.loop-second-preserved

@@ -1,4 +1,4 @@
-use Rattle.std.proofs.Common.{◌≡◌, ◌<◌, ◌≤◌, ◌+◌, ℕ, List, Bool, Some, true, false, length, refl, arith}
+use Rattle.std.proofs.Common.{◌≡◌, List, Bool, Some, true, false, refl, arith}
 use Rattle.std.specs.Prelude.{slice_get}
 use Rattle.std.proofs.lemmas.Option.{slice_get-get_or}
 use Rattle.elf_blocks.specs.declared.block.Block.{Block}
@@ -9,13 +9,12 @@ use Rattle.block_tests.proofs.plain.stay_apart.Goals as goal
 pub returns-then-clash : goal.returns-then-clash
 returns-then-clash c =
     let blocks : List Block = c.args.blocks.now in
-    let moves : List Bool = c.args.moves.now in
-    (
+    let moves : List Bool = c.args.moves.now in (
       λ bad. let no : ⊥ = cc bad in absurd no,
       not_apart blocks moves c.loop-first.first c.loop-second.second _ _ _ _ c.clash.result
-      (slice_get-get_or blocks c.loop-first.first _ (omega arith)) (slice_get-get_or blocks c.loop-second.second _ (omega arith))
-      (slice_get-get_or moves c.loop-first.first _ (omega arith)) (slice_get-get_or moves c.loop-second.second _ (omega arith))
-      c.clash.ensures (omega arith) c.if-clash.true,
+          (slice_get-get_or blocks c.loop-first.first _ (omega arith)) (slice_get-get_or blocks c.loop-second.second _ (omega arith))
+          (slice_get-get_or moves c.loop-first.first _ (omega arith)) (slice_get-get_or moves c.loop-second.second _ (omega arith))
+          c.clash.ensures (omega arith) c.if-clash.true,
     )
 
 pub loop-second-preserved : goal.loop-second-preserved
@@ -37,6 +36,6 @@ loop-first-preserved c =
 pub returns : goal.returns
 returns c = (
   λ _. all_pairs c.args.blocks.now (λ p. slice_get c.args.moves.now p.first ≡ Some false → slice_get c.args.moves.now p.second ≡ Some false → IsApart p.earlier p.later)
-  c.loop-first.first c.loop-first.invariant (omega arith),
+      c.loop-first.first c.loop-first.invariant (omega arith),
   λ _. refl,
 )

@@ -1,7 +1,7 @@
-use Rattle.std.proofs.Common.{◌≡◌, ◌+◌, ◌<◌, ◌≤◌, ℕ, List, Bool, false, true, length, refl, sym, subst, arith}
+use Rattle.std.proofs.Common.{◌≡◌, ◌+◌, ◌<◌, ℕ, List, Bool, length, refl, sym, subst, arith}
 use Rattle.std.proofs.lemmas.Option.{slice_get-get_or}
 use Rattle.elf_blocks.specs.declared.block.Block.{Block}
-use Rattle.elf_blocks.specs.Blocks.{HasStuck, StayApart}
+use Rattle.elf_blocks.specs.Blocks.{StayApart}
 use Rattle.elf_blocks.proofs.WalkSteps.{IsWalked, none_stuck, walk_ends, walk_past_apart, walk_past_earlier, walk_past_later, walk_stuck}
 use Rattle.elf_blocks.proofs.walk.walk_blocks.Goals as goal
 use Rattle.elf_blocks.proofs.walk.walk_blocks.Goals.{in-Apart, in-Later, in-Earlier}
@@ -15,10 +15,9 @@ carried blocks moves marks last place next same there w =
 pub returns-in-Stuck-clause-refused : goal.returns-in-Stuck-clause-refused
 returns-in-Stuck-clause-refused g c =
     let blocks : List Block = c.args.blocks.now in
-    let long : length c.loop-next.moves ≡ length blocks = omega arith in
-    (
+    let long : length c.loop-next.moves ≡ length blocks = omega arith in (
       λ refused. walk_stuck blocks c.loop-next.moves c.loop-next.last c.loop-next.next _ _ c.requires.ordered long c.loop-next.invariant.walked (omega arith)
-      (slice_get-get_or blocks c.loop-next.last _ (omega arith)) (slice_get-get_or blocks c.loop-next.next _ (omega arith)) c.in-Stuck.ensures.meeting,
+          (slice_get-get_or blocks c.loop-next.last _ (omega arith)) (slice_get-get_or blocks c.loop-next.next _ (omega arith)) c.in-Stuck.ensures.meeting,
       λ stuck. refl,
     )
 
@@ -33,7 +32,7 @@ loop-next-preserved g c =
     let before : last < length blocks = omega arith in
     record {
       walked = elim c.match-meet.branch [
-          in-Apart w ↦ carried blocks _ c.match-meet.moves _ c.match-meet.last (next + 1) w.moves-is w.last-is
+        | in-Apart w ↦ carried blocks _ c.match-meet.moves _ c.match-meet.last (next + 1) w.moves-is w.last-is
             (walk_past_apart blocks moves last next _ _ c.requires.ordered long c.loop-next.invariant.walked within
             (slice_get-get_or blocks last _ before) (slice_get-get_or blocks next _ within) w.in-Apart.ensures.meeting)
         | in-Later w ↦ carried blocks _ c.match-meet.moves _ c.match-meet.last (next + 1) w.moves-is w.last-is
@@ -42,7 +41,7 @@ loop-next-preserved g c =
         | in-Earlier w ↦ carried blocks _ c.match-meet.moves _ c.match-meet.last (next + 1) w.moves-is w.last-is
             (walk_past_earlier blocks moves last next _ _ c.requires.ordered long c.loop-next.invariant.walked within
             (slice_get-get_or blocks last _ before) (slice_get-get_or blocks next _ within) w.in-Earlier.ensures.meeting)
-        ];
+      ];
       counted = omega arith;
       few = omega arith;
     }
@@ -50,8 +49,7 @@ loop-next-preserved g c =
 pub returns-clause-refused : goal.returns-clause-refused
 returns-clause-refused g c =
     let blocks : List Block = c.args.blocks.now in
-    let apart : StayApart blocks c.loop-next.moves = walk_ends blocks c.loop-next.moves c.loop-next.last c.loop-next.next (omega arith) c.loop-next.invariant.walked in
-    (
+    let apart : StayApart blocks c.loop-next.moves = walk_ends blocks c.loop-next.moves c.loop-next.last c.loop-next.next (omega arith) c.loop-next.invariant.walked in (
       λ refused. let no : ⊥ = cc refused in absurd no,
       λ stuck. absurd (none_stuck blocks c.loop-next.moves apart c.loop-next.invariant.walked.fixed stuck),
     )

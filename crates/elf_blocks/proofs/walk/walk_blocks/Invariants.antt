@@ -4,7 +4,7 @@ use Rattle.elf_blocks.proofs.walk.walk_blocks.Given as goal
 
 abbrev pub invariant-loop-next : goal.invariant-loop-next
 invariant-loop-next g l = record {
-    walked : IsWalked l.blocks l.moves l.last l.next;
-    counted : l.steps + 1 ≤ l.initial.steps + l.next;
-    few : l.steps ≤ l.initial.steps + length l.blocks;
-  }
+  walked : IsWalked l.blocks l.moves l.last l.next;
+  counted : l.steps + 1 ≤ l.initial.steps + l.next;
+  few : l.steps ≤ l.initial.steps + length l.blocks;
+}
