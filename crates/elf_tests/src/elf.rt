@@ -6,8 +6,6 @@ mod reads;
 mod refusals;
 
 use crate::samples::SMALL;
-use crate::support::Runtime;
-use arwen_elf::elf::{ElfContainer, Writer};
 
 // A library that needs `libc.so.6` and has the run path `/a`: 64 bits, low byte first. Of its dynamic entries, which
 // begin at 240, each has its tag at its place and its number 8 bytes behind; the strings are at 176.
@@ -28,12 +26,3 @@ const PROGRAM: &[u8] = b"\
     \0\0\0\0\0\0\0\x01\0\0\0\0\0\0\0\x09\0\0\0\x03\0\0\0\0\
     \0\0\0\0\0\0\0\x98\0\0\0\x13\0\0\0\0\0\0\0\0\0\0\0\x01\
     \0\0\0\0";
-
-// Reads a file.
-fn read<'a>(rt: &impl Runtime, bytes: &'a [u8]) -> Writer<'a> {
-    again!(rt; Writer::read(rt.alloc(), bytes)).expect(rt, "an image")
-}
-
-fn parsed<'a>(rt: &impl Runtime, bytes: &'a [u8]) -> ElfContainer<'a> {
-    again!(rt; ElfContainer::parse(rt.alloc(), bytes)).expect(rt, "a file")
-}

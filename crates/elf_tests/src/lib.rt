@@ -2,17 +2,13 @@
 //! stand apart, so that a proof of what they test does not wait for them.
 #![tactic(auto)]
 
-// What a call answers. One that was refused memory is made once more, and is then not refused it again.
+// What a call answers that changes nothing. It is made twice, and what it answers first counts where that is not want of
+// memory. Then it is not refused memory again. (Without a branch where it is called, a test is proved in half the time.)
 #[cfg(test)]
 macro_rules! again {
-    ($rt:expr; $call:expr) => {{
-        let answer = $call;
-        if crate::support::wants_memory(&answer) {
-            crate::support::granted($rt, $call)
-        } else {
-            answer
-        }
-    }};
+    ($rt:expr; $call:expr) => {
+        crate::support::granted($rt, $call, $call)
+    };
 }
 
 #[cfg(test)]

@@ -2,6 +2,7 @@
 
 use elf_plain::view::{EntryView, ShownDefinition, ShownName, ShownNeeds, ShownSymbol, ShownView};
 use std::alloc::{AllocError, Global};
+use std::fmt::Write;
 
 // The parts of a view.
 #[derive(Clone, Copy, Debug)]
@@ -18,130 +19,145 @@ pub(crate) enum Part {
     Needs,
 }
 
-// Bytes as text, a character each.
-pub(crate) fn text(alloc: Global, bytes: &[u8]) -> Result<String, AllocError> {
-    let mut text = String::new(alloc);
+// Puts bytes behind lines as text, a character each.
+pub(crate) fn push_bytes(lines: &mut String, bytes: &[u8]) -> Result<(), AllocError> {
     for byte in bytes {
-        text.push(char::from(*byte))?;
+        lines.push(char::from(*byte))?;
     }
-    Ok(text)
+    Ok(())
 }
 
-fn not_shown(alloc: Global) -> Result<String, AllocError> {
-    String::from_str(alloc, "not shown\n")
+// The same behind a space.
+pub(crate) fn push_word(lines: &mut String, bytes: &[u8]) -> Result<(), AllocError> {
+    lines.push(' ')?;
+    push_bytes(lines, bytes)
 }
 
-fn outline(alloc: Global, view: &ShownView<'_>) -> Result<String, AllocError> {
-    let interpreter = text(alloc, view.interpreter.unwrap_or(b"none"))?;
+fn push_outline(lines: &mut String, view: &ShownView<'_>) -> Result<(), AllocError> {
     let (os_abi, stack_flags) = (view.os_abi, view.stack_flags);
-    format!(in alloc; "abi {os_abi}, stack {stack_flags:?}, interpreter {interpreter}\n")
+    write!(lines, "abi {os_abi}, stack {stack_flags:?}, interpreter")?;
+    push_word(lines, view.interpreter.unwrap_or(b"none"))?;
+    lines.push('\n')
 }
 
-fn text_entry(alloc: Global, tag: u64, bytes: &[u8]) -> Result<String, AllocError> {
-    let text = text(alloc, bytes)?;
-    format!(in alloc; "{tag} {text}\n")
+// Puts a text entry behind lines.
+pub(crate) fn push_text(lines: &mut String, tag: u64, bytes: &[u8]) -> Result<(), AllocError> {
+    write!(lines, "{tag}")?;
+    push_word(lines, bytes)?;
+    lines.push('\n')
 }
 
-fn entry(alloc: Global, entry: &EntryView) -> Result<String, AllocError> {
+fn push_entry(lines: &mut String, entry: &EntryView) -> Result<(), AllocError> {
     match entry {
-        EntryView::Auto(tag) => format!(in alloc; "{tag}\n"),
-        EntryView::Integer(tag, number) => format!(in alloc; "{tag} = {number}\n"),
-        EntryView::Text(tag, text) => text_entry(alloc, *tag, text),
+        EntryView::Auto(tag) => write!(lines, "{tag}\n"),
+        EntryView::Integer(tag, number) => write!(lines, "{tag} = {number}\n"),
+        EntryView::Text(tag, text) => push_text(lines, *tag, text),
     }
 }
 
-fn entries(alloc: Global, list: &Option<Vec<EntryView>>) -> Result<String, AllocError> {
-    let Some(list) = list else {
-        return not_shown(alloc);
-    };
-    let mut lines = String::new(alloc);
-    for one in list {
-        lines.push_str(&entry(alloc, one)?)?;
+fn push_entries(lines: &mut String, list: &[EntryView]) -> Result<(), AllocError> {
+    for entry in list {
+        push_entry(lines, entry)?;
     }
-    Ok(lines)
+    Ok(())
 }
 
-// The numbers of a symbol, and its version.
-fn symbol_numbers(alloc: Global, symbol: &ShownSymbol) -> Result<String, AllocError> {
+// A symbol's numbers.
+fn push_numbers(lines: &mut String, symbol: &ShownSymbol) -> Result<(), AllocError> {
     let (info, other, section) = (symbol.st_info, symbol.st_other, symbol.st_shndx);
     let (value, size) = (symbol.st_value, symbol.st_size);
-    format!(in alloc; " {info} {other} {section} {value} {size}")
+    write!(lines, " {info} {other} {section} {value} {size}")
 }
 
-fn symbol_version(alloc: Global, symbol: &ShownSymbol) -> Result<String, AllocError> {
+fn push_version(lines: &mut String, symbol: &ShownSymbol) -> Result<(), AllocError> {
     let Some(version) = symbol.version else {
-        return Ok(String::new(alloc));
+        return lines.push('\n');
     };
     let (index, mark) = (version.index, if version.hidden { "h" } else { "" });
-    format!(in alloc; " version {index}{mark}")
+    write!(lines, " version {index}{mark}\n")
 }
 
-fn symbols(alloc: Global, list: &Option<Vec<ShownSymbol>>) -> Result<String, AllocError> {
-    let Some(list) = list else {
-        return not_shown(alloc);
-    };
-    let mut lines = String::new(alloc);
+fn push_symbols(lines: &mut String, list: &[ShownSymbol]) -> Result<(), AllocError> {
     for symbol in list {
-        lines.push_str(&text(alloc, &symbol.name)?)?;
-        lines.push_str(&symbol_numbers(alloc, symbol)?)?;
-        lines.push_str(&symbol_version(alloc, symbol)?)?;
-        lines.push('\n')?;
+        push_bytes(lines, &symbol.name)?;
+        push_numbers(lines, symbol)?;
+        push_version(lines, symbol)?;
     }
-    Ok(lines)
+    Ok(())
 }
 
-fn names(alloc: Global, list: &[Vec<u8>]) -> Result<String, AllocError> {
-    let mut line = String::new(alloc);
-    for name in list {
-        line.push(' ')?;
-        line.push_str(&text(alloc, name)?)?;
+fn push_definition(lines: &mut String, definition: &ShownDefinition) -> Result<(), AllocError> {
+    let (index, flags) = (definition.index, definition.flags);
+    write!(lines, "{index} {flags}")?;
+    for name in &definition.names {
+        push_word(lines, name)?;
     }
-    Ok(line)
+    lines.push('\n')
 }
 
-fn definitions(alloc: Global, list: &Option<Vec<ShownDefinition>>) -> Result<String, AllocError> {
-    let Some(list) = list else {
-        return not_shown(alloc);
-    };
-    let mut lines = String::new(alloc);
+fn push_definitions(lines: &mut String, list: &[ShownDefinition]) -> Result<(), AllocError> {
     for definition in list {
-        let (index, flags) = (definition.index, definition.flags);
-        let names = names(alloc, &definition.names)?;
-        lines.push_str(&format!(in alloc; "{index} {flags}{names}\n")?)?;
+        push_definition(lines, definition)?;
     }
-    Ok(lines)
+    Ok(())
 }
 
-fn needed_names(alloc: Global, list: &[ShownName]) -> Result<String, AllocError> {
-    let mut line = String::new(alloc);
-    for version in list {
-        let (index, flags) = (version.index, version.flags);
-        let name = text(alloc, &version.name)?;
-        line.push_str(&format!(in alloc; ", {index} {flags} {name}")?)?;
-    }
-    Ok(line)
+fn push_needed_name(lines: &mut String, version: &ShownName) -> Result<(), AllocError> {
+    let (index, flags) = (version.index, version.flags);
+    write!(lines, ", {index} {flags}")?;
+    push_word(lines, &version.name)
 }
 
-fn needs(alloc: Global, list: &Option<Vec<ShownNeeds>>) -> Result<String, AllocError> {
-    let Some(list) = list else {
-        return not_shown(alloc);
-    };
-    let mut lines = String::new(alloc);
+fn push_need(lines: &mut String, need: &ShownNeeds) -> Result<(), AllocError> {
+    push_bytes(lines, &need.file)?;
+    for version in &need.versions {
+        push_needed_name(lines, version)?;
+    }
+    lines.push('\n')
+}
+
+fn push_needs(lines: &mut String, list: &[ShownNeeds]) -> Result<(), AllocError> {
     for need in list {
-        let file = text(alloc, &need.file)?;
-        let versions = needed_names(alloc, &need.versions)?;
-        lines.push_str(&format!(in alloc; "{file}{versions}\n")?)?;
+        push_need(lines, need)?;
     }
-    Ok(lines)
+    Ok(())
+}
+
+// Whether a view has a part.
+fn has(view: &ShownView<'_>, part: Part) -> bool {
+    match part {
+        Part::Outline => true,
+        Part::Entries => view.entries.is_some(),
+        Part::Symbols => view.symbols.is_some(),
+        Part::Definitions => view.definitions.is_some(),
+        Part::Needs => view.needs.is_some(),
+    }
+}
+
+// The items of a list, none where there is no list.
+fn items<T>(list: &Option<Vec<T>>) -> &[T] {
+    match list {
+        Some(list) => list.as_slice(),
+        None => &[],
+    }
+}
+
+fn push_part(lines: &mut String, view: &ShownView<'_>, part: Part) -> Result<(), AllocError> {
+    match part {
+        Part::Outline => push_outline(lines, view),
+        Part::Entries => push_entries(lines, items(&view.entries)),
+        Part::Symbols => push_symbols(lines, items(&view.symbols)),
+        Part::Definitions => push_definitions(lines, items(&view.definitions)),
+        Part::Needs => push_needs(lines, items(&view.needs)),
+    }
 }
 
 // The lines of a part of a view.
 pub(crate) fn lines(alloc: Global, view: &ShownView<'_>, part: Part) -> Result<String, AllocError> {
-    match part {
-        Part::Outline => outline(alloc, view),
-        Part::Entries => entries(alloc, &view.entries),
-        Part::Symbols => symbols(alloc, &view.symbols),
-        Part::Definitions => definitions(alloc, &view.definitions),
-        Part::Needs => needs(alloc, &view.needs),
+    if !has(view, part) {
+        return String::from_str(alloc, "not shown\n");
     }
+    let mut lines = String::new(alloc);
+    push_part(&mut lines, view, part)?;
+    Ok(lines)
 }

@@ -2,71 +2,29 @@
 mod faults;
 mod views;
 
-ghost use Rattle.std.specs.Prelude.{◌≡◌, length, IfOk};
-ghost use Rattle.elf_image.specs.Image.{image_of};
-
-use crate::listing::text;
+use crate::listing::{push_bytes, push_text, push_word};
 use crate::samples::{SMALL, TWIN, VERSIONED};
 use crate::support::{Runtime, same, same_text};
 use elf_image::{
-    Builder, Dynamic, ElfFault, Header, Section, SectionData, Segment, Symbol, VersionId,
+    Builder, Dynamic, ElfFault, Section, Segment, Symbol, VersionDef, VersionId, VersionNeed,
     machine_of,
 };
-use patch_bytes::{ByteOrder2, Wide};
 use std::alloc::{AllocError, Global};
-use std::test::Fail;
+use std::fmt::Write;
 
-// A call that was refused memory is made once more.
-pub(crate) fn read<'a>(rt: &impl Runtime, file: &'a [u8]) -> Result<Builder<'a>, ElfFault>
-    ensures { IfOk result (λ image. image_of file.entry.now ≡ Ok image) }
-{
-    match Builder::read(rt.alloc(), file) {
-        Err(ElfFault::Memory) => Builder::read(rt.alloc(), file),
-        answer => answer,
-    }
+// The form of the file, and whether the image is as it was read.
+fn push_form(lines: &mut String, image: &Builder<'_>) -> Result<(), AllocError> {
+    let (class, order) = (image.class(), image.order());
+    write!(lines, "{class:?} {order:?}")
 }
 
-// The image of a library with an interpreter, symbols and versions.
-fn versioned(rt: &impl Runtime) -> Builder<'static> {
-    read(rt, VERSIONED).expect(rt, "an image")
-}
-
-#[test]
-fn form(rt: HostRuntime) {
-    let rows = [
-        (SMALL, (Wide::W64, ByteOrder2::Little)),
-        (TWIN, (Wide::W32, ByteOrder2::Big)),
-        (VERSIONED, (Wide::W32, ByteOrder2::Big)),
-    ];
-    for (file, want) in rows {
-        let image = read(&rt, file).expect(&rt, "an image");
-        same(&rt, "form", &(image.class(), image.order()), &want);
-    }
-}
-
-#[test]
-fn header(rt: HostRuntime) {
-    let image = versioned(&rt);
-    let want = Header {
-        os_abi: 0,
-        abi_version: 0,
-        e_type: 3,
-        e_machine: 62,
-        e_entry: 0,
-        e_flags: 0,
-        e_phoff: 52,
-        e_shoff: 880,
-        e_shstrndx: 18,
-    };
-    same(&rt, "header", image.header(), &want);
-}
-
-#[test]
-fn as_it_was_read(rt: HostRuntime) {
-    let image = read(&rt, SMALL).expect(&rt, "an image");
-    same(&rt, "changed", &image.changed(), &false);
-    same(&rt, "page size", &image.page_size(), &None);
-    same(&rt, "source", &image.source(), &SMALL);
+fn push_state(lines: &mut String, image: &Builder<'_>) -> Result<(), AllocError> {
+    let (changed, page_size) = (image.changed(), image.page_size());
+    write!(
+        lines,
+        "changed {changed}, page size {page_size:?}, source {}",
+        image.source() == SMALL
+    )
 }
 
 // The numbers of a program header.
@@ -83,51 +41,18 @@ fn numbers(segment: &Segment<'_>) -> [u64; 8] {
     ]
 }
 
-#[test]
-fn segments(rt: HostRuntime) {
-    let image = versioned(&rt);
-    let found = image.segments().get(3).map(numbers);
-    let want = [1, 6, 0x220, 0x11220, 0x11220, 0x88, 0xa8, 0x1000];
-    same(&rt, "the fourth", &found, &Some(want));
-    same(&rt, "how many", &image.segments().len(), &7);
+// The fourth program header, and how many there are.
+fn push_segments(lines: &mut String, segments: &[Segment<'_>]) -> Result<(), AllocError> {
+    let (fourth, count) = (segments.get(3).map(numbers), segments.len());
+    write!(lines, "{fourth:?} of {count}")
 }
 
 // What the bytes of each section are.
-const KINDS: [SectionData; 19] = [
-    SectionData::Opaque,
-    SectionData::Opaque,
-    SectionData::Note,
-    SectionData::Hash,
-    SectionData::GnuHash,
-    SectionData::DynamicSymbols,
-    SectionData::Strings,
-    SectionData::GnuVersym,
-    SectionData::GnuVerdef,
-    SectionData::GnuVerneed,
-    SectionData::Relocation,
-    SectionData::Opaque,
-    SectionData::Dynamic,
-    SectionData::Uninitialized,
-    SectionData::Uninitialized,
-    SectionData::Opaque,
-    SectionData::Symbols,
-    SectionData::Strings,
-    SectionData::Strings,
-];
-
-fn kinds_of(alloc: Global, sections: &[Section<'_>]) -> Result<Vec<SectionData>, AllocError> {
-    let mut kinds = Vec::new(alloc);
+fn push_kinds(lines: &mut String, sections: &[Section<'_>]) -> Result<(), AllocError> {
     for section in sections {
-        kinds.push(section.kind)?;
+        write!(lines, "{:?} ", section.kind)?;
     }
-    Ok(kinds)
-}
-
-#[test]
-fn kinds_of_sections(rt: HostRuntime) {
-    let image = versioned(&rt);
-    let found = again!(&rt; kinds_of(rt.alloc(), image.sections())).expect(&rt, "memory");
-    same(&rt, "kinds", &found.as_slice(), &KINDS.as_slice());
+    Ok(())
 }
 
 // The numbers of a section header.
@@ -145,83 +70,107 @@ fn section_numbers(section: &Section<'_>) -> [u64; 9] {
     ]
 }
 
-#[test]
-fn sections(rt: HostRuntime) {
-    let image = versioned(&rt);
-    let found = image.sections().get(10).map(section_numbers);
-    let want = [9, 2, 0x1020c, 0x20c, 8, 5, 0, 4, 8];
-    same(&rt, "relocations", &found, &Some(want));
-    let found = image.sections().get(14).map(section_numbers);
-    let want = [8, 3, 0x112a8, 0x2a8, 32, 0, 0, 8, 0];
-    same(&rt, "zeros", &found, &Some(want));
+// The name, the numbers and the content of a section.
+fn push_section(lines: &mut String, section: &Section<'_>) -> Result<(), AllocError> {
+    push_bytes(lines, section.name.as_slice())?;
+    let (numbers, content) = (section_numbers(section), section.content);
+    write!(lines, " {numbers:?} {content:?}\n")
 }
 
-// The content of a section.
-fn content<'b>(image: &'b Builder<'_>, i: usize) -> Option<&'b [u8]> {
-    Some(image.sections().get(i)?.content)
-}
-
-#[test]
-fn contents_of_sections(rt: HostRuntime) {
-    let image = versioned(&rt);
-    same(
-        &rt,
-        "relocations",
-        &content(&image, 10),
-        &VERSIONED.get(0x20c..0x214),
-    );
-    same(&rt, "zeros", &content(&image, 14), &Some(b"".as_slice()));
-}
-
-#[test]
-fn name_of_a_section(rt: HostRuntime) {
-    let image = versioned(&rt);
-    let section = image.sections().get(10).expect(&rt, "a section");
-    same(
-        &rt,
-        "name",
-        &section.name.as_slice(),
-        &b".rel.dyn".as_slice(),
-    );
+// The relocations, and one that has no bytes in the file.
+fn push_sections(lines: &mut String, sections: &[Section<'_>]) -> Result<(), AllocError> {
+    if let (Some(relocations), Some(zeros)) = (sections.get(10), sections.get(14)) {
+        push_section(lines, relocations)?;
+        push_section(lines, zeros)?;
+    }
+    Ok(())
 }
 
 // A symbol's name, numbers and version, as text.
-fn symbol_line(alloc: Global, symbol: &Symbol<'_>) -> Result<String, AllocError> {
-    let name = text(alloc, symbol.name.as_slice())?;
+fn push_symbol(lines: &mut String, symbol: &Symbol<'_>) -> Result<(), AllocError> {
+    push_bytes(lines, symbol.name.as_slice())?;
     let (info, other, section) = (symbol.st_info, symbol.st_other, symbol.st_shndx);
     let (value, size, version) = (symbol.st_value, symbol.st_size, symbol.version);
-    format!(in alloc; "{name} {info} {other} {section} {value} {size} {version:?}\n")
+    write!(
+        lines,
+        " {info} {other} {section} {value} {size} {version:?}\n"
+    )
 }
 
-fn symbol_lines(alloc: Global, symbols: &[Symbol<'_>]) -> Result<String, AllocError> {
-    let mut lines = String::new(alloc);
+fn push_symbols(lines: &mut String, symbols: &[Symbol<'_>]) -> Result<(), AllocError> {
     for symbol in symbols {
-        lines.push_str(&symbol_line(alloc, symbol)?)?;
+        push_symbol(lines, symbol)?;
     }
+    Ok(())
+}
+
+// What is looked at in an image, and shown as text, the items of a list a line each.
+#[derive(Clone, Copy, Debug)]
+enum What {
+    // Class and byte order.
+    Form,
+    // Whether it was changed, a page size that was set, and whether its source is that of the small library.
+    State,
+    Header,
+    // The fourth program header.
+    Segments,
+    // What the bytes of each section are.
+    Kinds,
+    // Two sections.
+    Sections,
+    Interpreter,
+    // The symbols of the table that no loader reads.
+    Symbols,
+    DynamicSymbols,
+    // The defined versions: index, flags, names.
+    Definitions,
+    // The needed versions: library, index, flags, name.
+    Needs,
+    // The dynamic list: an entry's tag, and its number or text.
+    Entries,
+    // Whether sections, symbols and dynamic symbols have their positions as their numbers.
+    Numbers,
+}
+
+fn push_list(lines: &mut String, image: &Builder<'_>, what: What) -> Result<(), AllocError> {
+    match what {
+        What::Segments => push_segments(lines, image.segments()),
+        What::Kinds => push_kinds(lines, image.sections()),
+        What::Sections => push_sections(lines, image.sections()),
+        What::Symbols => push_symbols(lines, image.symbols()),
+        What::DynamicSymbols => push_symbols(lines, image.dynamic_symbols()),
+        What::Definitions => push_definitions(lines, &image.versions().definitions),
+        What::Needs => push_needs(lines, &image.versions().needs),
+        What::Entries => push_entries(lines, image.dynamic_data().unwrap_or_default()),
+        _ => push_value(lines, image, what),
+    }
+}
+
+fn push_value(lines: &mut String, image: &Builder<'_>, what: What) -> Result<(), AllocError> {
+    match what {
+        What::Form => push_form(lines, image),
+        What::State => push_state(lines, image),
+        What::Header => write!(lines, "{:?}", image.header()),
+        What::Interpreter => write!(lines, "{:?}", image.interp_data()),
+        _ => push_numbered(lines, image),
+    }
+}
+
+fn lines_of(alloc: Global, image: &Builder<'_>, what: What) -> Result<String, AllocError> {
+    let mut lines = String::new(alloc);
+    push_list(&mut lines, image, what)?;
     Ok(lines)
 }
 
-// What `readelf -sV` prints of them.
-#[test]
-fn symbols(rt: HostRuntime) {
-    let image = versioned(&rt);
-    let found = again!(&rt; symbol_lines(rt.alloc(), image.symbols())).expect(&rt, "memory");
-    same_text(
-        &rt,
-        "symbols",
-        &found,
-        " 0 0 0 0 0 None\nff 2 0 11 16 4 None\n",
-    );
+fn shown(alloc: Global, file: &[u8], what: What) -> Result<String, ElfFault> {
+    let image = Builder::read(alloc, file)?;
+    Ok(lines_of(alloc, &image, what)?)
 }
 
-#[test]
-fn dynamic_symbols(rt: HostRuntime) {
-    let image = versioned(&rt);
-    let found = again!(&rt; symbol_lines(rt.alloc(), image.dynamic_symbols()));
-    let want = " 0 0 0 0 0 Some(VersionId { index: 0, hidden: false })\n\
-        g 18 0 0 0 0 Some(VersionId { index: 3, hidden: false })\n\
-        f 18 0 11 16 4 Some(VersionId { index: 2, hidden: true })\n";
-    same_text(&rt, "symbols", &found.expect(&rt, "memory"), want);
+// Compares what the image of a file shows.
+fn expect(rt: &impl Runtime, file: &[u8], what: What, want: &str) {
+    let found = again!(rt; shown(rt.alloc(), file, what)).expect(rt, "an image");
+    same_text(rt, "an image", &found, want);
 }
 
 #[test]
@@ -231,106 +180,140 @@ fn versions_of_no_name(rt: HostRuntime) {
     same(&rt, "global", &(global.index, global.hidden), &(1, false));
 }
 
-// The defined versions, a line each: index, flags, names.
-fn definition_lines(alloc: Global, image: &Builder<'_>) -> Result<String, AllocError> {
-    let mut lines = String::new(alloc);
-    for definition in &image.versions().definitions {
-        let (index, flags) = (definition.index, definition.flags);
-        lines.push_str(&format!(in alloc; "{index} {flags}")?)?;
-        for name in &definition.names {
-            lines.push(' ')?;
-            lines.push_str(&text(alloc, name.as_slice())?)?;
-        }
+fn push_definition(lines: &mut String, definition: &VersionDef<'_>) -> Result<(), AllocError> {
+    let (index, flags) = (definition.index, definition.flags);
+    write!(lines, "{index} {flags}")?;
+    for name in &definition.names {
+        push_word(lines, name.as_slice())?;
+    }
+    lines.push('\n')
+}
+
+fn push_definitions(lines: &mut String, list: &[VersionDef<'_>]) -> Result<(), AllocError> {
+    for definition in list {
+        push_definition(lines, definition)?;
+    }
+    Ok(())
+}
+
+fn push_need(lines: &mut String, need: &VersionNeed<'_>) -> Result<(), AllocError> {
+    for version in &need.versions {
+        push_bytes(lines, need.file.as_slice())?;
+        let (index, flags) = (version.index, version.flags);
+        write!(lines, " {index} {flags}")?;
+        push_word(lines, version.name.as_slice())?;
         lines.push('\n')?;
     }
-    Ok(lines)
+    Ok(())
 }
 
-#[test]
-fn definitions(rt: HostRuntime) {
-    let image = versioned(&rt);
-    let found = again!(&rt; definition_lines(rt.alloc(), &image)).expect(&rt, "memory");
-    same_text(&rt, "definitions", &found, "1 1 me.so\n2 0 V2 V1\n");
-}
-
-// The needed versions, a line each: library, index, flags, name.
-fn need_lines(alloc: Global, image: &Builder<'_>) -> Result<String, AllocError> {
-    let mut lines = String::new(alloc);
-    for need in &image.versions().needs {
-        for version in &need.versions {
-            lines.push_str(&text(alloc, need.file.as_slice())?)?;
-            let (index, flags) = (version.index, version.flags);
-            lines.push_str(&format!(in alloc; " {index} {flags} ")?)?;
-            lines.push_str(&text(alloc, version.name.as_slice())?)?;
-            lines.push('\n')?;
-        }
+fn push_needs(lines: &mut String, list: &[VersionNeed<'_>]) -> Result<(), AllocError> {
+    for need in list {
+        push_need(lines, need)?;
     }
-    Ok(lines)
+    Ok(())
 }
 
-#[test]
-fn needs(rt: HostRuntime) {
-    let image = versioned(&rt);
-    let found = again!(&rt; need_lines(rt.alloc(), &image)).expect(&rt, "memory");
-    same_text(&rt, "needs", &found, "libc.so 3 0 L1\n");
-}
-
-// An entry's tag, and its number or text.
-fn entry_line(alloc: Global, entry: &Dynamic<'_>) -> Result<String, AllocError> {
+fn push_entry(lines: &mut String, entry: &Dynamic<'_>) -> Result<(), AllocError> {
     let tag = entry.tag();
     match entry {
-        Dynamic::Auto { .. } => format!(in alloc; "{tag}\n"),
-        Dynamic::Integer { val, .. } => format!(in alloc; "{tag} = {val}\n"),
-        Dynamic::Text { val, .. } => text_line(alloc, tag, val.as_slice()),
+        Dynamic::Auto { .. } => write!(lines, "{tag}\n"),
+        Dynamic::Integer { val, .. } => write!(lines, "{tag} = {val}\n"),
+        Dynamic::Text { val, .. } => push_text(lines, tag, val.as_slice()),
     }
 }
 
-fn text_line(alloc: Global, tag: u64, bytes: &[u8]) -> Result<String, AllocError> {
-    let text = text(alloc, bytes)?;
-    format!(in alloc; "{tag} {text}\n")
-}
-
-fn entry_lines(alloc: Global, list: Option<&[Dynamic<'_>]>) -> Result<String, AllocError> {
-    let mut lines = String::new(alloc);
-    for entry in list.unwrap_or_default() {
-        lines.push_str(&entry_line(alloc, entry)?)?;
+fn push_entries(lines: &mut String, list: &[Dynamic<'_>]) -> Result<(), AllocError> {
+    for entry in list {
+        push_entry(lines, entry)?;
     }
-    Ok(lines)
+    Ok(())
 }
 
-// What `readelf -d` prints of it.
-#[test]
-fn dynamic_data(rt: HostRuntime) {
-    let image = versioned(&rt);
-    let found = again!(&rt; entry_lines(rt.alloc(), image.dynamic_data()));
-    let want =
-        "1 libc.so\n14 me.so\n29 /a\n5\n6\n10\n11\n21 = 0\n4\n1879047925\n1879048176\n1879048188\n\
-        1879048189\n1879048190\n1879048191\n";
-    same_text(&rt, "entries", &found.expect(&rt, "memory"), want);
-}
+const FORMS: [(&[u8], &str); 3] = [
+    (SMALL, "W64 Little"),
+    (TWIN, "W32 Big"),
+    (VERSIONED, "W32 Big"),
+];
 
 #[test]
-fn interpreter(rt: HostRuntime) {
-    let image = versioned(&rt);
-    same(
-        &rt,
-        "interpreter",
-        &image.interp_data(),
-        &Some(b"/ld\0".as_slice()),
-    );
+fn forms(rt: HostRuntime) {
+    for (file, want) in FORMS {
+        expect(&rt, file, What::Form, want);
+    }
 }
+
+// What a library without lists shows.
+const WITHOUT_LISTS: [(What, &str); 6] = [
+    (What::State, "changed false, page size None, source true"),
+    (What::Symbols, ""),
+    (What::DynamicSymbols, ""),
+    (What::Definitions, ""),
+    (What::Needs, ""),
+    (What::Interpreter, "None"),
+];
 
 #[test]
 fn without_lists(rt: HostRuntime) {
-    let image = read(&rt, SMALL).expect(&rt, "an image");
-    let counts = [
-        image.symbols().len(),
-        image.dynamic_symbols().len(),
-        image.versions().definitions.len(),
-        image.versions().needs.len(),
-    ];
-    same(&rt, "counts", &counts, &[0; 4]);
-    same(&rt, "interpreter", &image.interp_data(), &None);
+    for (what, want) in WITHOUT_LISTS {
+        expect(&rt, SMALL, what, want);
+    }
+}
+
+// What a library with an interpreter, symbols and versions shows.
+const PARTS: [(What, &str); 6] = [
+    (
+        What::Header,
+        "Header { os_abi: 0, abi_version: 0, e_type: 3, e_machine: 62, e_entry: 0, e_flags: 0, e_phoff: 52, \
+        e_shoff: 880, e_shstrndx: 18 }",
+    ),
+    (
+        What::Segments,
+        "Some([1, 6, 544, 70176, 70176, 136, 168, 4096]) of 7",
+    ),
+    (
+        What::Kinds,
+        "Opaque Opaque Note Hash GnuHash DynamicSymbols Strings GnuVersym GnuVerdef GnuVerneed Relocation Opaque \
+        Dynamic Uninitialized Uninitialized Opaque Symbols Strings Strings ",
+    ),
+    (
+        What::Sections,
+        ".rel.dyn [9, 2, 66060, 524, 8, 5, 0, 4, 8] [0, 0, 1, 0, 0, 0, 2, 7]\n.bss [8, 3, 70312, 680, 32, 0, 0, 8, 0] []\n",
+    ),
+    (What::Interpreter, "Some([47, 108, 100, 0])"),
+    (What::Numbers, "true true true"),
+];
+
+#[test]
+fn parts(rt: HostRuntime) {
+    for (what, want) in PARTS {
+        expect(&rt, VERSIONED, what, want);
+    }
+}
+
+// What `readelf -sVd` prints of its lists.
+const LISTS: [(What, &str); 5] = [
+    (What::Symbols, " 0 0 0 0 0 None\nff 2 0 11 16 4 None\n"),
+    (
+        What::DynamicSymbols,
+        " 0 0 0 0 0 Some(VersionId { index: 0, hidden: false })\n\
+        g 18 0 0 0 0 Some(VersionId { index: 3, hidden: false })\n\
+        f 18 0 11 16 4 Some(VersionId { index: 2, hidden: true })\n",
+    ),
+    (What::Definitions, "1 1 me.so\n2 0 V2 V1\n"),
+    (What::Needs, "libc.so 3 0 L1\n"),
+    (
+        What::Entries,
+        "1 libc.so\n14 me.so\n29 /a\n5\n6\n10\n11\n21 = 0\n4\n1879047925\n1879048176\n1879048188\n\
+        1879048189\n1879048190\n1879048191\n",
+    ),
+];
+
+#[test]
+fn lists(rt: HostRuntime) {
+    for (what, want) in LISTS {
+        expect(&rt, VERSIONED, what, want);
+    }
 }
 
 // Whether each section has its position as its number.
@@ -363,25 +346,10 @@ fn are_dynamic_symbols_numbered(image: &Builder<'_>) -> bool {
     true
 }
 
-#[test]
-fn numbers_of_sections(rt: HostRuntime) -> Result<(), Fail> {
-    let image = read(&rt, VERSIONED)?;
-    assert!(rt; are_sections_numbered(&image));
-    Ok(())
-}
-
-#[test]
-fn numbers_of_symbols(rt: HostRuntime) -> Result<(), Fail> {
-    let image = read(&rt, VERSIONED)?;
-    assert!(rt; are_symbols_numbered(&image));
-    Ok(())
-}
-
-#[test]
-fn numbers_of_dynamic_symbols(rt: HostRuntime) -> Result<(), Fail> {
-    let image = read(&rt, VERSIONED)?;
-    assert!(rt; are_dynamic_symbols_numbered(&image));
-    Ok(())
+fn push_numbered(lines: &mut String, image: &Builder<'_>) -> Result<(), AllocError> {
+    let (sections, symbols) = (are_sections_numbered(image), are_symbols_numbered(image));
+    let dynamic_symbols = are_dynamic_symbols_numbered(image);
+    write!(lines, "{sections} {symbols} {dynamic_symbols}")
 }
 
 #[test]

@@ -49,10 +49,17 @@ pub(crate) fn wants_memory<T, E: Refusal>(answer: &Result<T, E>) -> bool {
     }
 }
 
-// The answer of a call that is made once more, which is not refused memory again.
-pub(crate) fn granted<T, E: Refusal>(rt: &impl Abort, answer: Result<T, E>) -> Result<T, E> {
-    assert!(rt; !wants_memory(&answer), "refused memory twice");
-    answer
+// The first answer of a call, or the second where the first is want of memory. The second is not, then.
+pub(crate) fn granted<T: Drop, E: Refusal>(
+    rt: &impl Abort,
+    first: Result<T, E>,
+    second: Result<T, E>,
+) -> Result<T, E> {
+    if !wants_memory(&first) {
+        return first;
+    }
+    assert!(rt; !wants_memory(&second), "refused memory twice");
+    second
 }
 
 // Compares.

@@ -1,7 +1,7 @@
 //! What is printed.
 
-use super::{LIBRARY, PROGRAM, parsed};
-use crate::support::{Runtime, changed, same, wants_memory};
+use super::{LIBRARY, PROGRAM};
+use crate::support::{Runtime, changed, same};
 use arwen_elf::elf::{ElfContainer, ElfError};
 use std::alloc::Global;
 use std::io::{Cursor, Write};
@@ -40,23 +40,35 @@ fn print_to(
     what: What,
     page: &mut Cursor<[u8; 32]>,
 ) -> Result<(), ElfError> {
-    let answer = print(rt.alloc(), file, what, page);
-    if !wants_memory(&answer) {
-        return answer;
+    match print(rt.alloc(), file, what, page) {
+        Err(ElfError::Memory) => print_again(rt, file, what, page),
+        answer => answer,
     }
+}
+
+fn print_again(
+    rt: &impl Runtime,
+    file: &ElfContainer<'_>,
+    what: What,
+    page: &mut Cursor<[u8; 32]>,
+) -> Result<(), ElfError> {
     same(rt, "a page after a refusal", page.get_ref(), &[0; 32]);
     same(rt, "its position", &page.position(), &0);
     print(rt.alloc(), file, what, page)
 }
 
 // Compares a file's print.
-fn expect_print(rt: &impl Runtime, bytes: &[u8], what: What, want: &[u8]) {
-    let file = parsed(rt, bytes);
+fn expect_print_of(rt: &impl Runtime, file: &ElfContainer<'_>, what: What, want: &[u8]) {
     let mut page = Cursor::new([0; 32]);
-    print_to(rt, &file, what, &mut page).expect(rt, "a print");
+    print_to(rt, file, what, &mut page).expect(rt, "a print");
     let length = want.len();
     same(rt, "length", &page.position(), &(length as u64));
     same(rt, "print", &page.get_ref().get(..length), &Some(want));
+}
+
+fn expect_print(rt: &impl Runtime, bytes: &[u8], what: What, want: &[u8]) {
+    let file = again!(rt; ElfContainer::parse(rt.alloc(), bytes)).expect(rt, "a file");
+    expect_print_of(rt, &file, what, want);
 }
 
 const PRINTS: [(&[u8], What, &[u8]); 12] = [
@@ -154,7 +166,7 @@ fn prints_changed_files(rt: HostRuntime) {
 }
 
 // Whether the print of a needed library fails for its writer.
-fn fails_for_writer(alloc: Global, file: &ElfContainer<'_>) -> Result<bool, ElfError> {
+fn fails(alloc: Global, file: &ElfContainer<'_>) -> Result<bool, ElfError> {
     let mut page = Cursor::new([0u8; 3]);
     match print(alloc, file, What::Needed, &mut page) {
         Err(ElfError::Io(_)) => Ok(true),
@@ -163,9 +175,13 @@ fn fails_for_writer(alloc: Global, file: &ElfContainer<'_>) -> Result<bool, ElfE
     }
 }
 
+fn fails_for_writer(alloc: Global, bytes: &[u8]) -> Result<bool, ElfError> {
+    let file = ElfContainer::parse(alloc, bytes)?;
+    fails(alloc, &file)
+}
+
 #[test]
 fn tells_a_writer_that_fails(rt: HostRuntime) {
-    let file = parsed(&rt, LIBRARY);
-    let fails = again!(&rt; fails_for_writer(rt.alloc(), &file)).expect(&rt, "an answer");
+    let fails = again!(&rt; fails_for_writer(rt.alloc(), LIBRARY)).expect(&rt, "an answer");
     same(&rt, "fails", &fails, &true);
 }

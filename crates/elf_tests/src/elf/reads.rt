@@ -1,9 +1,11 @@
 //! What is read of a file.
 
-use super::{LIBRARY, PROGRAM, parsed, read};
+use super::{LIBRARY, PROGRAM};
+use crate::listing::push_bytes;
 use crate::support::{Runtime, changed, same, same_text};
 use arwen_elf::elf::{BuilderExt, ElfContainer, ElfError, Writer};
-use std::alloc::Global;
+use std::alloc::{AllocError, Global};
+use std::fmt::Write;
 
 // The texts of a file: its run path, its own name and its interpreter.
 fn texts<'f>(file: &'f Writer<'_>) -> [Option<&'f [u8]>; 3] {
@@ -29,83 +31,108 @@ fn numbers(file: &Writer<'_>) -> [u32; 5] {
     ]
 }
 
-#[test]
-fn reads_a_library(rt: HostRuntime) {
-    let file = read(&rt, LIBRARY);
-    same(
-        &rt,
-        "texts",
-        &texts(&file),
-        &[Some(b"/a".as_slice()), None, None],
-    );
-    same(&rt, "numbers", &numbers(&file), &[0, 62, 4096, 0, 0]);
-    same(&rt, "source", &file.builder().source(), &LIBRARY);
-}
-
-#[test]
-fn finds_no_stack(rt: HostRuntime) {
-    let file = read(&rt, LIBRARY);
-    same(&rt, "flags", &file.elf_gnu_exec_stack(), &None);
-    same(&rt, "segment", &file.builder().gnu_stack().is_none(), &true);
-}
-
-#[test]
-fn reads_a_program(rt: HostRuntime) {
-    let file = read(&rt, PROGRAM);
-    same(
-        &rt,
-        "texts",
-        &texts(&file),
-        &[None, None, Some(b"/ld\0".as_slice())],
-    );
-    same(&rt, "numbers", &numbers(&file), &[6, 2, 8192, 7, 7]);
+// The flags of the stack and its alignment, where there is one.
+fn push_stack(lines: &mut String, file: &Writer<'_>) -> Result<(), AllocError> {
     let alignment = file.builder().gnu_stack().map(|stack| stack.p_align());
-    same(&rt, "alignment of the stack", &alignment, &Some(16));
+    write!(lines, "{:?} {alignment:?}", file.elf_gnu_exec_stack())
+}
+
+// The needed libraries, a line each.
+fn push_needed(lines: &mut String, file: &Writer<'_>) -> Result<(), AllocError> {
+    for text in file.elf_needed() {
+        push_bytes(lines, text)?;
+        lines.push('\n')?;
+    }
+    Ok(())
+}
+
+// What is read of a file, and shown as text.
+#[derive(Clone, Copy, Debug)]
+enum What {
+    Texts,
+    Numbers,
+    Stack,
+    Needed,
+}
+
+fn push_read(lines: &mut String, file: &Writer<'_>, what: What) -> Result<(), AllocError> {
+    match what {
+        What::Texts => write!(lines, "{:?}", texts(file)),
+        What::Numbers => write!(lines, "{:?}", numbers(file)),
+        What::Stack => push_stack(lines, file),
+        What::Needed => push_needed(lines, file),
+    }
+}
+
+fn lines_of(alloc: Global, file: &Writer<'_>, what: What) -> Result<String, AllocError> {
+    let mut lines = String::new(alloc);
+    push_read(&mut lines, file, what)?;
+    Ok(lines)
+}
+
+fn shown(alloc: Global, bytes: &[u8], what: What) -> Result<String, ElfError> {
+    let file = Writer::read(alloc, bytes)?;
+    Ok(lines_of(alloc, &file, what)?)
+}
+
+// Compares what is read of a file.
+fn expect(rt: &impl Runtime, bytes: &[u8], what: What, want: &str) {
+    let found = again!(rt; shown(rt.alloc(), bytes, what)).expect(rt, "an image");
+    same_text(rt, "what is read", &found, want);
+}
+
+const READS: [(&[u8], What, &str); 8] = [
+    (LIBRARY, What::Texts, "[Some([47, 97]), None, None]"),
+    (LIBRARY, What::Numbers, "[0, 62, 4096, 0, 0]"),
+    (LIBRARY, What::Stack, "None None"),
+    (LIBRARY, What::Needed, "libc.so.6\n"),
+    (
+        PROGRAM,
+        What::Texts,
+        "[None, None, Some([47, 108, 100, 0])]",
+    ),
+    (PROGRAM, What::Numbers, "[6, 2, 8192, 7, 7]"),
+    (PROGRAM, What::Stack, "Some(7) Some(16)"),
+    (PROGRAM, What::Needed, ""),
+];
+
+#[test]
+fn reads_files(rt: HostRuntime) {
+    for (bytes, what, want) in READS {
+        expect(&rt, bytes, what, want);
+    }
+}
+
+// The page size and the type of a file, and whether it holds its bytes.
+fn measures(alloc: Global, bytes: &[u8]) -> Result<(u32, u16, bool), ElfError> {
+    let file = ElfContainer::parse(alloc, bytes)?;
+    let holds = file.bytes() == bytes && file.inner.builder().source() == bytes;
+    Ok((file.get_page_size(), file.inner.header().e_type, holds))
 }
 
 #[test]
 fn holds_the_bytes(rt: HostRuntime) {
-    let file = parsed(&rt, LIBRARY);
-    same(&rt, "bytes", &file.bytes(), &LIBRARY);
-    same(&rt, "page size", &file.get_page_size(), &4096);
-    same(&rt, "type", &file.inner.header().e_type, &3);
-}
-
-// Whether the needed libraries are these.
-fn needs(file: &Writer<'_>, want: &[&[u8]]) -> bool {
-    let mut count = 0usize;
-    for text in file.elf_needed() {
-        if want.get(count) != Some(&text) {
-            return false;
-        }
-        count = count.saturating_add(1);
-    }
-    count == want.len()
+    let found = again!(&rt; measures(rt.alloc(), LIBRARY)).expect(&rt, "a file");
+    same(&rt, "measures", &found, &(4096, 3, true));
 }
 
 #[test]
 fn reads_needed_libraries(rt: HostRuntime) {
     let with_two = changed(&rt, LIBRARY, &[(256, &[1]), (264, &[1])]);
-    let rows: [(&[u8], &[&[u8]]); 3] = [
-        (LIBRARY, &[b"libc.so.6"]),
-        (&with_two, &[b"libc.so.6", b"libc.so.6"]),
-        (PROGRAM, &[]),
-    ];
-    for (bytes, want) in rows {
-        same(&rt, "needed", &needs(&read(&rt, bytes), want), &true);
-    }
+    expect(&rt, &with_two, What::Needed, "libc.so.6\nlibc.so.6\n");
+}
+
+// The page size of a machine.
+fn page_size(alloc: Global, bytes: &[u8]) -> Result<u32, ElfError> {
+    Ok(Writer::read(alloc, bytes)?.elf_get_page_size())
 }
 
 #[test]
 fn page_size_of_machines(rt: HostRuntime) {
     for (machine, want) in [(183, 65536), (43, 8192), (62, 4096), (8, 65536)] {
         let bytes = changed(&rt, LIBRARY, &[(18, &[machine])]);
-        same(
-            &rt,
-            "page size",
-            &read(&rt, &bytes).elf_get_page_size(),
-            &want,
-        );
+        let found = again!(&rt; page_size(rt.alloc(), &bytes)).expect(&rt, "a file");
+        same(&rt, "page size", &found, &want);
     }
 }
 
