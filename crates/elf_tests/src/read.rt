@@ -5,6 +5,7 @@ mod views;
 use crate::listing::{push_bytes, push_text, push_word};
 use crate::samples::{SMALL, TWIN, VERSIONED};
 use crate::support::{Runtime, same, same_text};
+use elf_format::constants::SHT_DYNSYM;
 use elf_image::{
     Builder, Dynamic, ElfFault, Section, Segment, Symbol, VersionDef, VersionId, VersionNeed,
     machine_of,
@@ -130,6 +131,10 @@ enum What {
     Entries,
     // Whether sections, symbols and dynamic symbols have their positions as their numbers.
     Numbers,
+    // Where sections stand that had a number at read, are of a type, or are the interpreter's or the dynamic strings'.
+    Positions,
+    // Where the section stands that each section names.
+    Links,
 }
 
 fn push_list(lines: &mut String, image: &Builder<'_>, what: What) -> Result<(), AllocError> {
@@ -152,6 +157,8 @@ fn push_value(lines: &mut String, image: &Builder<'_>, what: What) -> Result<(),
         What::State => push_state(lines, image),
         What::Header => write!(lines, "{:?}", image.header()),
         What::Interpreter => write!(lines, "{:?}", image.interp_data()),
+        What::Positions => push_positions(lines, image),
+        What::Links => push_links(lines, image),
         _ => push_numbered(lines, image),
     }
 }
@@ -164,6 +171,12 @@ fn lines_of(alloc: Global, image: &Builder<'_>, what: What) -> Result<String, Al
 
 fn shown(alloc: Global, file: &[u8], what: What) -> Result<String, ElfFault> {
     let image = Builder::read(alloc, file)?;
+    Ok(lines_of(alloc, &image, what)?)
+}
+
+// The same of a copy of the image.
+fn shown_by_copy(alloc: Global, file: &[u8], what: What) -> Result<String, ElfFault> {
+    let image = Builder::read(alloc, file)?.try_clone(alloc)?;
     Ok(lines_of(alloc, &image, what)?)
 }
 
@@ -313,6 +326,70 @@ const LISTS: [(What, &str); 5] = [
 fn lists(rt: HostRuntime) {
     for (what, want) in LISTS {
         expect(&rt, VERSIONED, what, want);
+    }
+}
+
+// Compares what a copy of the image of a file shows.
+fn expect_of_copy(rt: &impl Runtime, file: &[u8], what: What, want: &str) {
+    let found = again!(rt; shown_by_copy(rt.alloc(), file, what)).expect(rt, "a copy");
+    same_text(rt, "a copy", &found, want);
+}
+
+#[test]
+fn copies(rt: HostRuntime) {
+    for (what, want) in PARTS {
+        expect_of_copy(&rt, VERSIONED, what, want);
+    }
+    for (what, want) in LISTS {
+        expect_of_copy(&rt, VERSIONED, what, want);
+    }
+}
+
+// Where sections stand: the fifth of read and one past all; the dynamic symbols and a type that no section has.
+fn push_positions(lines: &mut String, image: &Builder<'_>) -> Result<(), AllocError> {
+    let (fifth, past) = (image.section_position(4), image.section_position(40));
+    let (symbols, none) = (image.type_position(SHT_DYNSYM), image.type_position(99));
+    write!(lines, "{fifth:?} {past:?} {symbols:?} {none:?}\n")?;
+    let (interpreter, strings) = (
+        image.interpreter_position(),
+        image.dynamic_strings_position(),
+    );
+    let count = image.read_segment_count();
+    write!(lines, "{interpreter:?} {strings:?} {count}")
+}
+
+fn push_links(lines: &mut String, image: &Builder<'_>) -> Result<(), AllocError> {
+    for i in 0..image.sections().len() {
+        let link = image.link_position(i);
+        write!(lines, "{link:?} ")?;
+    }
+    Ok(())
+}
+
+// Where sections of a library with an interpreter, symbols and versions stand, and of one without them.
+const PLACES: [(&[u8], What, &str); 3] = [
+    (
+        VERSIONED,
+        What::Positions,
+        "Some(4) None Some(5) None\nSome(1) Some(6) 7",
+    ),
+    (
+        VERSIONED,
+        What::Links,
+        "Some(0) Some(0) Some(0) Some(5) Some(5) Some(6) Some(0) Some(5) \
+        Some(6) Some(6) Some(5) Some(0) Some(6) Some(0) Some(0) Some(0) Some(17) Some(0) Some(0) ",
+    ),
+    (
+        SMALL,
+        What::Positions,
+        "None None None None\nNone Some(1) 2",
+    ),
+];
+
+#[test]
+fn places(rt: HostRuntime) {
+    for (file, what, want) in PLACES {
+        expect(&rt, file, what, want);
     }
 }
 
