@@ -1,0 +1,17 @@
+pub mod Places
+pub mod Kept
+pub mod Needs
+pub mod Texts
+pub mod Sizes
+pub mod Blocks
+pub mod Memory
+pub mod Follow
+pub mod Rounds
+pub mod Added
+pub mod Standing
+pub mod Written
+pub mod Plan
+pub mod Rows
+pub mod Apart
+pub mod Refusals
+pub mod PlanSeen

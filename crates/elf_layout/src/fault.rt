@@ -1,0 +1,25 @@
+use std::error::Error;
+use std::fmt;
+
+/// Why no place was found for what is written.
+#[derive(Clone, Copy, Debug, PartialEq, Eq)]
+pub enum LayoutFault {
+    /// Two blocks overlap, and neither can move.
+    Overlap,
+    /// An address, an offset or a count is past its field or its limit.
+    NumberTooLarge,
+    /// There isn't enough memory.
+    Memory,
+}
+
+impl fmt::Display for LayoutFault {
+    fn fmt<W: fmt::Write>(&self, f: &mut fmt::Formatter<W>) -> fmt::Result {
+        f.write_str(match self {
+            LayoutFault::Overlap => "Overlap",
+            LayoutFault::NumberTooLarge => "NumberTooLarge",
+            LayoutFault::Memory => "Memory",
+        })
+    }
+}
+
+impl Error for LayoutFault {}

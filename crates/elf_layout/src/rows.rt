@@ -1,0 +1,17 @@
+//! Small images, edited, and where everything of them goes. The functions do nothing: the contract of each is computed.
+ghost use Rattle.elf_layout.specs.Rows.{HighRows, SmallRows, StartRows};
+
+/// A small library with a longer run path, a name, a program header more.
+pub fn small_rows()
+    ensures { SmallRows }
+{}
+
+/// A program whose interpreter's name stands behind its program headers.
+pub fn start_rows()
+    ensures { StartRows }
+{}
+
+/// The address of an added segment.
+pub fn high_rows()
+    ensures { HighRows }
+{}
