@@ -8,7 +8,8 @@ use Rattle.elf_format.specs.File.{loads_of}
 use Rattle.elf_format.specs.Options.{is_one_of}
 use Rattle.elf_format.specs.Placement.{file_part, memory_part}
 use Rattle.elf_format.specs.Ranges.{end_of, range}
-use Rattle.elf_format.specs.Records.{SegmentHeader, file_header_size, segment_header_size}
+use Rattle.elf_format.specs.declared.records.SegmentHeader.{SegmentHeader}
+use Rattle.elf_format.specs.Records.{file_header_size, segment_header_size}
 use Rattle.elf_layout.specs.Follow.{HeaderTable, Itself, Leader, Notes, OneSection, is_loaded_section, is_moved, leader_of}
 use Rattle.elf_layout.specs.Kept.{KeptSection}
 use Rattle.elf_layout.specs.Memory.{Resized, SizedSection, sized_sections, takes_memory}

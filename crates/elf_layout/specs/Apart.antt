@@ -3,8 +3,10 @@ use Rattle.std.specs.Prelude.{ℕ, ◌*◌, List, [], ◌∷◌, ◌++◌, lengt
 use Rattle.std.specs.List.{list_all, list_any}
 use Rattle.elf_format.specs.declared.constants.TheConstants.{PT_GNU_PROPERTY, PT_NOTE, SHF_TLS, SHT_NOBITS, SHT_NOTE, SHT_NULL}
 use Rattle.elf_format.specs.Options.{is_one_of, is_none_or}
-use Rattle.elf_format.specs.Ranges.{Range, all_apart, range}
-use Rattle.elf_format.specs.Records.{SegmentHeader, file_header_size, segment_header_size}
+use Rattle.elf_format.specs.declared.range.Range.{Range}
+use Rattle.elf_format.specs.Ranges.{all_apart, range}
+use Rattle.elf_format.specs.declared.records.SegmentHeader.{SegmentHeader}
+use Rattle.elf_format.specs.Records.{file_header_size, segment_header_size}
 use Rattle.elf_layout.specs.Follow.{has_bytes, is_just_over, is_loaded_section, is_over_notes}
 use Rattle.elf_layout.specs.Kept.{KeptSection, kept_sections, place_at_read}
 use Rattle.elf_layout.specs.Memory.{Resized, block_in_load, loaded_over}

@@ -6,7 +6,7 @@ use Rattle.elf_format.specs.Image.{ImageSection}
 use Rattle.elf_format.specs.Options.{first_there, is_one_of}
 use Rattle.elf_format.specs.Placement.{file_part}
 use Rattle.elf_format.specs.Ranges.{apart, lies_in}
-use Rattle.elf_format.specs.Records.{SegmentHeader}
+use Rattle.elf_format.specs.declared.records.SegmentHeader.{SegmentHeader}
 use Rattle.elf_layout.specs.Kept.{KeptSection, interpreter_number, is_numbered, kept_of_type, kept_sections, place_at_read}
 use Rattle.elf_layout.specs.Memory.{Resized}
 use Rattle.elf_layout.specs.Places.{file_range, occupies_file, occupies_memory}

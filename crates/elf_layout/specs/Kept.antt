@@ -6,7 +6,7 @@ use Rattle.elf_format.specs.declared.constants.TheConstants.{PT_INTERP, SHT_DYNA
 use Rattle.elf_format.specs.File.{segment_of_type}
 use Rattle.elf_format.specs.Image.{Image, ImageSection, image_of}
 use Rattle.elf_format.specs.Options.{first_there, is_some_and}
-use Rattle.elf_format.specs.Records.{SegmentHeader}
+use Rattle.elf_format.specs.declared.records.SegmentHeader.{SegmentHeader}
 use Rattle.elf_layout.specs.Places.{Place}
 
 -- the image as its source was read, before any edit

@@ -33,8 +33,12 @@ is_empty xs = length xs == 0
 abbrev pub do_needs_stay : Image → Image → VersionNeeds → Bool
 do_needs_stay read image n = is_empty n.versions || not (is_empty (staying_names read image n.versions))
 
+abbrev pub with_staying_names : Image → Image → VersionNeeds → VersionNeeds
+with_staying_names read image n = record n { versions = staying_names read image n.versions }
+
+-- the records that stay, with the versions of each that do
 abbrev pub staying_needs : Image → Image → List VersionNeeds
-staying_needs read image = map (λ n. record n { versions = staying_names read image n.versions }) (filter (do_needs_stay read image) image.needs)
+staying_needs read image = map (with_staying_names read image) (filter (do_needs_stay read image) image.needs)
 
 -- The needed versions that are written: none goes where the dynamic list doesn't lead a loader to them.
 unfoldable pub written_needs : Image → Image → List VersionNeeds

@@ -2,8 +2,9 @@
 use Rattle.std.specs.Prelude.{ℕ, ◌+◌, Bool, ◌&&◌, not, bit_and, ◌==◌}
 use Rattle.elf_format.specs.declared.constants.TheConstants.{SHF_ALLOC, SHT_NOBITS, SHT_NULL}
 use Rattle.elf_format.specs.Placement.{file_part}
-use Rattle.elf_format.specs.Ranges.{Range, lies_in, range}
-use Rattle.elf_format.specs.Records.{SegmentHeader}
+use Rattle.elf_format.specs.declared.range.Range.{Range}
+use Rattle.elf_format.specs.Ranges.{lies_in, range}
+use Rattle.elf_format.specs.declared.records.SegmentHeader.{SegmentHeader}
 
 -- What a section is, and where it stands in memory and in the file (gABI, Sections).
 pub record Place : Type 0 where

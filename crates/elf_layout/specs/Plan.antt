@@ -3,9 +3,9 @@ use Rattle.std.specs.Prelude.{ℕ, ◌+◌, ◌≡◌, ◌≤◌, List, [], ◌�
 use Rattle.std.specs.List.{list_all}
 use Rattle.elf_format.specs.declared.constants.TheConstants.{PN_XNUM, SHN_LORESERVE}
 use Rattle.elf_format.specs.File.{is_loaded}
-use Rattle.elf_format.specs.Form.{Form}
+use Rattle.elf_format.specs.declared.form.Form.{Form}
 use Rattle.elf_format.specs.Image.{Image}
-use Rattle.elf_format.specs.Records.{SegmentHeader}
+use Rattle.elf_format.specs.declared.records.SegmentHeader.{SegmentHeader}
 use Rattle.elf_layout.specs.Kept.{image_at_read}
 use Rattle.elf_layout.specs.Memory.{Resized}
 use Rattle.elf_layout.specs.Places.{Place}

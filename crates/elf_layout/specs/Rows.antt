@@ -165,13 +165,13 @@ pub record SmallRows : Type 0 where
 
 -- with data at an offset
 abbrev pub started : ℕ → Image
-started data = image_of_parts 600 384 3 (segment 1 6 0 0 320 4096 ∷ segment 3 4 176 176 28 1 ∷ [])
-    (null_section ∷ section (codes ".interp") kinds.Opaque 1 2 176 28 0 1 ∷ section (codes ".data") kinds.Opaque 1 3 data 32 0 1 ∷ names_section 320 28 ∷ [])
+started data_at = image_of_parts 600 384 3 (segment 1 6 0 0 320 4096 ∷ segment 3 4 176 176 28 1 ∷ [])
+    (null_section ∷ section (codes ".interp") kinds.Opaque 1 2 176 28 0 1 ∷ section (codes ".data") kinds.Opaque 1 3 data_at 32 0 1 ∷ names_section 320 28 ∷ [])
     None (Some (replicate 28 120))
 
 abbrev pub started_stack : ℕ → Resized
-started_stack data =
-    after_edit (started data) (record (started data) { segments = segment 1 6 0 0 320 4096 ∷ segment 3 4 176 176 28 1 ∷ added_stack 7 ∷ [] })
+started_stack data_at =
+    after_edit (started data_at) (record (started data_at) { segments = segment 1 6 0 0 320 4096 ∷ segment 3 4 176 176 28 1 ∷ added_stack 7 ∷ [] })
 
 pub record StartRows : Type 0 where
   -- three headers reach into the interpreter's name; the four that are then needed end where the data begins

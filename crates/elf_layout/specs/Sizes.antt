@@ -4,7 +4,8 @@ use Rattle.std.specs.List.{list_all}
 use Rattle.patch_bytes.specs.Number.{word_size}
 use Rattle.patch_bytes.specs.Memory.{memory_of}
 use Rattle.elf_format.specs.declared.constants.TheConstants.{SHT_DYNAMIC, SHT_DYNSYM, SHT_GNU_HASH, SHT_GNU_VERDEF, SHT_GNU_VERNEED, SHT_GNU_VERSYM, SHT_HASH, SHT_STRTAB, SHT_SYMTAB}
-use Rattle.elf_format.specs.Form.{Form, by_class}
+use Rattle.elf_format.specs.declared.form.Form.{Form}
+use Rattle.elf_format.specs.Form.{by_class}
 use Rattle.elf_format.specs.Hashes.{GnuHeader, gnu_header, word_of_table}
 use Rattle.elf_format.specs.Image.{Image, ImageSection}
 use Rattle.elf_format.specs.Options.{list_at}

@@ -4,8 +4,10 @@ use Rattle.std.specs.List.{filter_map, flat_map, list_any}
 use Rattle.elf_format.specs.declared.constants.TheConstants.{PT_DYNAMIC, PT_INTERP}
 use Rattle.elf_format.specs.File.{is_loaded}
 use Rattle.elf_format.specs.Options.{is_one_of}
-use Rattle.elf_format.specs.Ranges.{Range, end_of, range}
-use Rattle.elf_format.specs.Records.{SegmentHeader, segment_header_size}
+use Rattle.elf_format.specs.declared.range.Range.{Range}
+use Rattle.elf_format.specs.Ranges.{end_of, range}
+use Rattle.elf_format.specs.declared.records.SegmentHeader.{SegmentHeader}
+use Rattle.elf_format.specs.Records.{segment_header_size}
 use Rattle.elf_layout.specs.Added.{added_loads, greatest, header_count}
 use Rattle.elf_layout.specs.Follow.{HeaderTable, Itself, Leader, Notes, OneSection, is_moved, leader_of, moved_notes, staying_notes}
 use Rattle.elf_layout.specs.Kept.{KeptSection}
