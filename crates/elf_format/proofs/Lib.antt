@@ -1,5 +1,7 @@
 pub mod Agreement
 pub mod Placed
+pub mod PlacementTests
+pub mod ForCallers
 pub mod Accepted
 pub mod ViewsAgree
 pub mod Meaning

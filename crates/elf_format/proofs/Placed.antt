@@ -1,19 +1,21 @@
--- A section that is held by a loaded segment is seen at its address: the section's bytes, read as a memory,
--- are kept by the bytes at addresses.
+-- What a loaded segment shows is seen at its address: the bytes of a range in its file part, read as a memory, are kept by the
+-- bytes at addresses; so are the bytes of a section that it holds.
 use Rattle.std.proofs.Common.{◌≡◌, ◌≤◌, ◌<◌, ℕ, zero, suc, ◌+◌, ◌-◌, Bool, true, false, cond, eqb, leb, ltb, List, [], ◌∷◌, length, map, drop, refl, sym, ap, ◌∙◌, subst, inl, inr, Option, Some, arith}
 use Rattle.std.specs.Prelude.{◌&&◌, ◌||◌, not, filter, find}
 use Rattle.std.specs.List.{list_all, list_any, slice_get}
 use Rattle.std.proofs.lemmas.List.{get_or-drop, get_or-take, length-drop, length-take}
+use Rattle.std.proofs.lemmas.List.Folds.{list_all-map}
 use Rattle.std.proofs.lemmas.Option.{none-some, same_Some, slice_get-get_or, slice_get_within, get_or_from_slice_get}
 use Rattle.std.proofs.lemmas.Bool.{and_from, and_parts, both_ways, eqb-true, false≢true, le-leb, leb-true, lt-ltb, ltb-true, ne_eqb, not_from_false, or_cases}
 use Rattle.patch_bytes.specs.Number.{field}
 use Rattle.patch_bytes.specs.Memory.{Keeps, from, memory_of}
 use Rattle.patch_bytes.proofs.MemoryLaws.{some_bind}
 use Rattle.elf_format.specs.File.{has_file_bytes, is_allocated, loads_of, section_bytes}
-use Rattle.elf_format.specs.Placement.{file_parts_fit, file_range, holds, is_stored, memory_part, sections_held, segments_apart}
-use Rattle.elf_format.specs.Ranges.{all_apart, apart, lies_in}
+use Rattle.elf_format.specs.Placement.{addresses_apart, file_part, file_parts_fit, holds, is_stored, memory_part, sections_held, segments_apart, shows_at}
+use Rattle.elf_format.specs.Places.{Place, file_range, place_of, places_of}
+use Rattle.elf_format.specs.Ranges.{Range, all_apart, apart, lies_in}
 use Rattle.elf_format.specs.Records.{SectionHeader, SegmentHeader}
-use Rattle.elf_format.specs.Rules.{HeldSectionsAreSeen}
+use Rattle.elf_format.specs.Rules.{HeldRangesAreSeen, HeldSectionsAreSeen}
 use Rattle.elf_format.specs.Views.{byte_at, covers}
 
 -- ## Elements of lists
@@ -63,19 +65,23 @@ passes_picked x xs here test pick all picked =
     by_pick true e h = h
     by_pick false e h = absurd (false≢true e)
 
--- ## Numbers of a section that is held
+-- what each element that a map makes of another list passes
+pub IsIn-map : {X Y : Type 0} → (f : X → Y) (x : X) (xs : List X) → IsIn x xs → IsIn (f x) (map f xs)
+IsIn-map f x xs here = record { passes = λ test all. here.passes (λ y. test (f y)) (sym (list_all-map test f xs) ∙ all) }
 
--- a section that a segment holds is covered by it, byte for byte, and lies in the file as in memory
-held_place : (p : SegmentHeader) (s : SectionHeader) (k : ℕ) → holds p s ≡ true → k < s.sh_size
-    → (covers p (s.sh_addr + k) ≡ true) × (p.p_offset + (s.sh_addr + k - p.p_vaddr) ≡ s.sh_offset + k)
-held_place p s k h below =
-    let inside = and_parts (lies_in (file_range s) (record { start = p.p_offset; size = p.p_filesz })) (eqb (s.sh_addr + p.p_offset) (p.p_vaddr + s.sh_offset)) h in
-    let ends = and_parts (leb p.p_offset s.sh_offset) (leb (s.sh_offset + s.sh_size) (p.p_offset + p.p_filesz)) inside.0 in
-    let distance : s.sh_addr + p.p_offset ≡ p.p_vaddr + s.sh_offset = eqb-true (s.sh_addr + p.p_offset) (p.p_vaddr + s.sh_offset) inside.1 in
-    let first : p.p_offset ≤ s.sh_offset = leb-true p.p_offset s.sh_offset ends.0 in
-    let last : s.sh_offset + s.sh_size ≤ p.p_offset + p.p_filesz = leb-true (s.sh_offset + s.sh_size) (p.p_offset + p.p_filesz) ends.1 in (
-      and_from (leb p.p_vaddr (s.sh_addr + k)) (ltb (s.sh_addr + k) (p.p_vaddr + p.p_filesz))
-          (le-leb p.p_vaddr (s.sh_addr + k) (omega arith)) (lt-ltb (s.sh_addr + k) (p.p_vaddr + p.p_filesz) (omega arith)),
+-- ## Numbers of a range that is shown
+
+-- a range that a segment shows at an address is covered by it, byte for byte, and lies in the file as in memory
+shown_place : (p : SegmentHeader) (r : Range) (address k : ℕ) → shows_at p r address ≡ true → k < r.size
+    → (covers p (address + k) ≡ true) × (p.p_offset + (address + k - p.p_vaddr) ≡ r.start + k)
+shown_place p r address k h below =
+    let inside = and_parts (lies_in r (file_part p)) (eqb (address + p.p_offset) (p.p_vaddr + r.start)) h in
+    let ends = and_parts (leb p.p_offset r.start) (leb (r.start + r.size) (p.p_offset + p.p_filesz)) inside.0 in
+    let distance : address + p.p_offset ≡ p.p_vaddr + r.start = eqb-true (address + p.p_offset) (p.p_vaddr + r.start) inside.1 in
+    let first : p.p_offset ≤ r.start = leb-true p.p_offset r.start ends.0 in
+    let last : r.start + r.size ≤ p.p_offset + p.p_filesz = leb-true (r.start + r.size) (p.p_offset + p.p_filesz) ends.1 in (
+      and_from (leb p.p_vaddr (address + k)) (ltb (address + k) (p.p_vaddr + p.p_filesz))
+          (le-leb p.p_vaddr (address + k) (omega arith)) (lt-ltb (address + k) (p.p_vaddr + p.p_filesz) (omega arith)),
       omega arith,
     )
 
@@ -103,49 +109,49 @@ not_both p q a apart_parts p_fits q_fits p_covers q_covers =
       | inr z ↦ omega (arith, leb-true (q.p_vaddr + q.p_memsz) p.p_vaddr z)
     ]
 
--- ## The segment that covers a byte of a held section
+-- ## The segment that covers a byte of a range
 
--- no segment of a list holds a section one of whose bytes a segment apart from all of them covers
-none_other : (p : SegmentHeader) (qs : List SegmentHeader) (s : SectionHeader) (k : ℕ) → k < s.sh_size → covers p (s.sh_addr + k) ≡ true → leb p.p_filesz p.p_memsz ≡ true
-    → list_all (λ r. apart (memory_part p) r) (map memory_part qs) ≡ true → list_all (λ q. leb q.p_filesz q.p_memsz) qs ≡ true → list_any (λ q. holds q s) qs ≡ true → ⊥
-none_other p [] s k below p_covers p_fits apart_all fit any = false≢true any
-none_other p (q ∷ qs) s k below p_covers p_fits apart_all fit any =
+-- no segment of a list shows a range one of whose bytes a segment apart from all of them covers
+none_other : (p : SegmentHeader) (qs : List SegmentHeader) (s : Range) (a k : ℕ) → k < s.size → covers p (a + k) ≡ true → leb p.p_filesz p.p_memsz ≡ true
+    → list_all (λ r. apart (memory_part p) r) (map memory_part qs) ≡ true → list_all (λ q. leb q.p_filesz q.p_memsz) qs ≡ true → list_any (λ q. shows_at q s a) qs ≡ true → ⊥
+none_other p [] s a k below p_covers p_fits apart_all fit any = false≢true any
+none_other p (q ∷ qs) s a k below p_covers p_fits apart_all fit any =
     let apart_here = and_parts (apart (memory_part p) (memory_part q)) (list_all (λ r. apart (memory_part p) r) (map memory_part qs)) apart_all in
     let fit_here = and_parts (leb q.p_filesz q.p_memsz) (list_all (λ r. leb r.p_filesz r.p_memsz) qs) fit in
-    elim (or_cases (holds q s) (list_any (λ r. holds r s) qs) any) [
-      | inl h ↦ not_both p q (s.sh_addr + k) apart_here.0 p_fits fit_here.0 p_covers (held_place q s k h below).0
-      | inr h ↦ none_other p qs s k below p_covers p_fits apart_here.1 fit_here.1 h
+    elim (or_cases (shows_at q s a) (list_any (λ r. shows_at r s a) qs) any) [
+      | inl h ↦ not_both p q (a + k) apart_here.0 p_fits fit_here.0 p_covers (shown_place q s a k h below).0
+      | inr h ↦ none_other p qs s a k below p_covers p_fits apart_here.1 fit_here.1 h
     ]
 
--- the first segment that covers a byte of a held section holds the section
-abbrev FindsHolder : List SegmentHeader → SectionHeader → ℕ → Option SegmentHeader → Type 0
-FindsHolder loads s k found = (p : SegmentHeader) × (found ≡ Some p) × (holds p s ≡ true)
+-- the first segment that covers a byte of a range shows the range
+abbrev FindsHolder : List SegmentHeader → Range → ℕ → Option SegmentHeader → Type 0
+FindsHolder loads s a found = (p : SegmentHeader) × (found ≡ Some p) × (shows_at p s a ≡ true)
 
-holder_by : (q : SegmentHeader) (qs : List SegmentHeader) (s : SectionHeader) (k : ℕ) → k < s.sh_size → all_apart (map memory_part (q ∷ qs)) ≡ true
-    → list_all (λ r. leb r.p_filesz r.p_memsz) (q ∷ qs) ≡ true → list_any (λ r. holds r s) (q ∷ qs) ≡ true
-    → (list_any (λ r. holds r s) qs ≡ true → FindsHolder qs s k (find (λ r. covers r (s.sh_addr + k)) qs))
-    → (b : Bool) → covers q (s.sh_addr + k) ≡ b → FindsHolder (q ∷ qs) s k (cond b (Some q) (find (λ r. covers r (s.sh_addr + k)) qs))
-holder_by q qs s k below all_parts fit any more true e =
+holder_by : (q : SegmentHeader) (qs : List SegmentHeader) (s : Range) (a k : ℕ) → k < s.size → all_apart (map memory_part (q ∷ qs)) ≡ true
+    → list_all (λ r. leb r.p_filesz r.p_memsz) (q ∷ qs) ≡ true → list_any (λ r. shows_at r s a) (q ∷ qs) ≡ true
+    → (list_any (λ r. shows_at r s a) qs ≡ true → FindsHolder qs s a (find (λ r. covers r (a + k)) qs))
+    → (b : Bool) → covers q (a + k) ≡ b → FindsHolder (q ∷ qs) s a (cond b (Some q) (find (λ r. covers r (a + k)) qs))
+holder_by q qs s a k below all_parts fit any more true e =
     let apart_here = and_parts (list_all (λ r. apart (memory_part q) r) (map memory_part qs)) (all_apart (map memory_part qs)) all_parts in
     let fit_here = and_parts (leb q.p_filesz q.p_memsz) (list_all (λ r. leb r.p_filesz r.p_memsz) qs) fit in
-    elim (or_cases (holds q s) (list_any (λ r. holds r s) qs) any) [
+    elim (or_cases (shows_at q s a) (list_any (λ r. shows_at r s a) qs) any) [
       | inl h ↦ (q, refl, h)
-      | inr h ↦ absurd (none_other q qs s k below e fit_here.0 apart_here.0 fit_here.1 h)
+      | inr h ↦ absurd (none_other q qs s a k below e fit_here.0 apart_here.0 fit_here.1 h)
     ]
-holder_by q qs s k below all_parts fit any more false e =
-    elim (or_cases (holds q s) (list_any (λ r. holds r s) qs) any) [
-      | inl h ↦ absurd (both_ways (covers q (s.sh_addr + k)) e (held_place q s k h below).0)
+holder_by q qs s a k below all_parts fit any more false e =
+    elim (or_cases (shows_at q s a) (list_any (λ r. shows_at r s a) qs) any) [
+      | inl h ↦ absurd (both_ways (covers q (a + k)) e (shown_place q s a k h below).0)
       | inr h ↦ more h
     ]
 
-finds_holder : (loads : List SegmentHeader) (s : SectionHeader) (k : ℕ) → k < s.sh_size → all_apart (map memory_part loads) ≡ true
-    → list_all (λ r. leb r.p_filesz r.p_memsz) loads ≡ true → list_any (λ r. holds r s) loads ≡ true
-    → FindsHolder loads s k (find (λ r. covers r (s.sh_addr + k)) loads)
-finds_holder [] s k below all_parts fit any = absurd (false≢true any)
-finds_holder (q ∷ qs) s k below all_parts fit any =
+finds_holder : (loads : List SegmentHeader) (s : Range) (a k : ℕ) → k < s.size → all_apart (map memory_part loads) ≡ true
+    → list_all (λ r. leb r.p_filesz r.p_memsz) loads ≡ true → list_any (λ r. shows_at r s a) loads ≡ true
+    → FindsHolder loads s a (find (λ r. covers r (a + k)) loads)
+finds_holder [] s a k below all_parts fit any = absurd (false≢true any)
+finds_holder (q ∷ qs) s a k below all_parts fit any =
     let apart_here = and_parts (list_all (λ r. apart (memory_part q) r) (map memory_part qs)) (all_apart (map memory_part qs)) all_parts in
     let fit_here = and_parts (leb q.p_filesz q.p_memsz) (list_all (λ r. leb r.p_filesz r.p_memsz) qs) fit in
-    holder_by q qs s k below all_parts fit any (finds_holder qs s k below apart_here.1 fit_here.1) (covers q (s.sh_addr + k)) refl
+    holder_by q qs s a k below all_parts fit any (finds_holder qs s a k below apart_here.1 fit_here.1) (covers q (a + k)) refl
 
 -- ## A section's bytes
 
@@ -171,23 +177,35 @@ pub section_bytes-is : (file : List ℕ) (s : SectionHeader) → has_file_bytes 
 unfolding section_bytes
 section_bytes-is file s h = ap (λ b. cond b (field s.sh_size s.sh_offset file) []) h
 
+-- the bytes of a range that a loaded segment shows are those at its address
+pub range-Keeps : (file : List ℕ) (segments : List SegmentHeader) → file_parts_fit segments ≡ true → addresses_apart segments ≡ true
+    → (r : Range) (address : ℕ) → list_any (λ p. shows_at p r address) (loads_of segments) ≡ true → Keeps (memory_of (field r.size r.start file)) (from (byte_at segments file) address)
+unfolding byte_at
+range-Keeps file segments fit apart_parts r address some_shows k x h =
+    let below : k < r.size = omega (arith, slice_get_within (field r.size r.start file) k x h, length-take r.size (drop r.start file)) in
+    let (p, found, p_shows) = finds_holder (loads_of segments) r address k below apart_parts fit some_shows in
+    let at_place : p.p_offset + (address + k - p.p_vaddr) ≡ r.start + k = (shown_place p r address k p_shows below).1 in
+    some_bind (find (λ q. covers q (address + k)) (loads_of segments)) (λ q. slice_get file (q.p_offset + (address + k - q.p_vaddr))) p found
+    ∙ ap (λ i. slice_get file i) at_place ∙ slice_get-field r.size r.start k x file h
+
+-- the law over ranges
+pub held_ranges_are_seen : HeldRangesAreSeen
+held_ranges_are_seen = range-Keeps
+
 -- the bytes of an allocated section with file bytes are those at its address
 pub section-Keeps : (file : List ℕ) (segments : List SegmentHeader) (sections : List SectionHeader) → file_parts_fit segments ≡ true → segments_apart segments ≡ true
-    → sections_held segments sections ≡ true → (s : SectionHeader) → IsIn s sections → is_allocated s ≡ true → has_file_bytes s ≡ true
+    → sections_held segments (places_of sections) ≡ true → (s : SectionHeader) → IsIn s sections → is_allocated s ≡ true → has_file_bytes s ≡ true
     → Keeps (memory_of (section_bytes file s)) (from (byte_at segments file) s.sh_addr)
-unfolding byte_at
 section-Keeps file segments sections fit apart_parts held s here allocated has_bytes a x h =
     let loads : List SegmentHeader = loads_of segments in
+    let place : Place = place_of s in
     let below : a < s.sh_size = omega (arith, slice_get_within (section_bytes file s) a x h, length-section_bytes file s) in
     let sized : not (eqb s.sh_size 0) ≡ true = not_from_false (eqb s.sh_size 0) (ne_eqb s.sh_size 0 (λ z. omega arith)) in
-    let stored : is_stored s ≡ true = and_from (is_allocated s && has_file_bytes s) (not (eqb s.sh_size 0)) (and_from (is_allocated s) (has_file_bytes s) allocated has_bytes) sized in
-    let place = passes_picked s sections here (λ t. list_any (λ p. holds p t) loads && not (eqb t.sh_offset 0)) is_stored held stored in
-    let some_holds = (and_parts (list_any (λ p. holds p s) loads) (not (eqb s.sh_offset 0)) place).0 in
-    let (p, found, p_holds) = finds_holder loads s a below (and_parts (all_apart (map memory_part loads)) (all_apart (map (λ q. record { start = q.p_offset; size = q.p_filesz }) loads)) apart_parts).0 fit some_holds in
-    let at_place : p.p_offset + (s.sh_addr + a - p.p_vaddr) ≡ s.sh_offset + a = (held_place p s a p_holds below).1 in
+    let stored : is_stored place ≡ true = and_from (is_allocated s && has_file_bytes s) (not (eqb s.sh_size 0)) (and_from (is_allocated s) (has_file_bytes s) allocated has_bytes) sized in
+    let both = passes_picked place (places_of sections) (IsIn-map place_of s sections here) (λ t. list_any (λ p. holds p t) loads && not (eqb t.sh_offset 0)) is_stored held stored in
+    let some_holds = (and_parts (list_any (λ p. holds p place) loads) (not (eqb s.sh_offset 0)) both).0 in
     let in_field : slice_get (field s.sh_size s.sh_offset file) a ≡ Some x = ap (λ l. slice_get l a) (sym (section_bytes-is file s has_bytes)) ∙ h in
-    some_bind (find (λ q. covers q (s.sh_addr + a)) loads) (λ q. slice_get file (q.p_offset + (s.sh_addr + a - q.p_vaddr))) p found
-    ∙ ap (λ i. slice_get file i) at_place ∙ slice_get-field s.sh_size s.sh_offset a x file in_field
+    range-Keeps file segments fit (and_parts (addresses_apart segments) (all_apart (map file_part loads)) apart_parts).0 (file_range place) s.sh_addr some_holds a x in_field
 
 -- the same, by the section's number
 pub held_sections_are_seen : HeldSectionsAreSeen

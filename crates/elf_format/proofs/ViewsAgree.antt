@@ -16,14 +16,15 @@ use Rattle.elf_format.specs.Dynamic.{Entry, entries_at, has_tag, shown_entry, va
 use Rattle.elf_format.specs.File.{Parts, bytes_in, has_file_bytes, is_allocated, linked_section, loads_of, section_bytes, section_of_type, segment_of_type}
 use Rattle.elf_format.specs.Form.{Form, by_class, records}
 use Rattle.elf_format.specs.Options.{are_both_or_neither, each, is_none_or, is_one_of, is_some_and, where_asked}
-use Rattle.elf_format.specs.Placement.{ends_by, file_part, file_range}
+use Rattle.elf_format.specs.Placement.{ends_by, file_part}
+use Rattle.elf_format.specs.Places.{file_range, occupies_file, place_of, places_of}
 use Rattle.elf_format.specs.Records.{EntryNumbers, SectionHeader, SegmentHeader, SymbolNumbers, symbol_numbers, symbol_size, symbols_in}
 use Rattle.elf_format.specs.Rules.{ArePartsOf, ViewsAgree, accepted_parts, MeetsRules, are_linked, are_whole, definition_steps, definition_texts_end, dynamic_tables_agree, dynamic_texts_of, entry_texts_end, need_texts_end, records_agree, shares_texts, tag_fits, symbols_agree, symbols_are_named, texts_are_shared, version_symbols_agree, versions_agree, dynamic_section_agrees, file_of, is_symbol_table, linked_texts, links_to, need_steps, raw_entries, strings_agree, symbol_users, tag_is_address, text_users, unit_of}
 use Rattle.elf_format.specs.Versions.{VersionDefinition, VersionNeeds, is_whole_walk, shown_definition, shown_need, values_of, version_id}
 use Rattle.elf_format.specs.Views.{NamedSymbol, Table, Tables, View, byte_at, count_by_tag, defined_versions, dynamic_symbol_count, dynamic_symbols, first_by_tag, interpreter_section, loaded_strings, loader_view_within, memory_at_tag, named_symbols, names_of, needed_versions, outline_of, section_memory, section_table, section_view, symbol_versions, tables_by_sections, tables_by_tags, view_of, whole_chain}
 use Rattle.elf_format.proofs.Accepted.{accepted, no_fault}
 use Rattle.elf_format.proofs.Agreement.{defined_versions-keeps, dynamic_symbols-keeps, each-agrees, entries_at-keeps, needed_versions-keeps, shown_entry-keeps}
-use Rattle.elf_format.proofs.Placed.{IsIn, IsIn-slice_get, find_some, passes_picked, section-Keeps, section_bytes-is, slice_get-field}
+use Rattle.elf_format.proofs.Placed.{IsIn, IsIn-map, IsIn-slice_get, find_some, passes_picked, section-Keeps, section_bytes-is, slice_get-field}
 
 -- ## Options
 
@@ -121,8 +122,8 @@ module _ (p : Parts) (rules : MeetsRules p) where
   pub lies_in_file : (s : SectionHeader) → IsIn s p.sections → has_file_bytes s ≡ true → s.sh_offset + s.sh_size ≤ length (file_of p)
   lies_in_file s here bytes =
       let size : ℕ = length (file_of p) in
-      let in_file = and_parts (list_all (λ t. ends_by size (file_range t)) (filter has_file_bytes p.sections)) (list_all (λ q. ends_by size (file_part q)) (loads_of p.segments)) rules.in_file in
-      leb-true (s.sh_offset + s.sh_size) size (passes_picked s p.sections here (λ t. ends_by size (file_range t)) has_file_bytes in_file.0 bytes)
+      let in_file = and_parts (list_all (λ t. ends_by size (file_range t)) (filter occupies_file (places_of p.sections))) (list_all (λ q. ends_by size (file_part q)) (loads_of p.segments)) rules.in_file in
+      leb-true (s.sh_offset + s.sh_size) size (passes_picked (place_of s) (places_of p.sections) (IsIn-map place_of s p.sections here) (λ t. ends_by size (file_range t)) occupies_file in_file.0 bytes)
 
   pub length-bytes : (s : SectionHeader) → IsIn s p.sections → has_file_bytes s ≡ true → length (section_bytes (file_of p) s) ≡ s.sh_size
   length-bytes s here bytes =

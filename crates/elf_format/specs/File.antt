@@ -1,5 +1,5 @@
 -- What a file is made of: its identification, its header and its two header tables.
-use Rattle.std.specs.Prelude.{ℕ, ◌+◌, ◌-◌, ◌*◌, ◌/◌, min, List, [], length, drop, slice_index, Bool, ◌&&◌, not, Option, Some, None, nat_le, ◌==◌, if◌then◌else◌, bit_and, filter, find}
+use Rattle.std.specs.Prelude.{ℕ, ◌+◌, ◌-◌, ◌*◌, ◌/◌, min, List, [], length, drop, slice_index, Bool, Option, Some, None, nat_le, ◌==◌, if◌then◌else◌, filter, find}
 use Rattle.std.specs.List.{slice_get}
 use Rattle.patch_bytes.specs.declared.number.ByteOrder2.{ByteOrder2}
 use Rattle.patch_bytes.specs.declared.number.ByteOrder2.TheVariants.{Big, Little}
@@ -7,8 +7,9 @@ use Rattle.patch_bytes.specs.declared.number.Wide.{Wide}
 use Rattle.patch_bytes.specs.declared.number.Wide.TheVariants.{W32, W64}
 use Rattle.patch_bytes.specs.Number.{field}
 use Rattle.patch_bytes.specs.Memory.{◌>>=◌}
-use Rattle.elf_format.specs.declared.constants.TheConstants.{ELFCLASS32, ELFCLASS64, ELFDATA2LSB, ELFDATA2MSB, EV_CURRENT, PT_LOAD, SHF_ALLOC, SHT_NOBITS, SHT_NULL}
+use Rattle.elf_format.specs.declared.constants.TheConstants.{ELFCLASS32, ELFCLASS64, ELFDATA2LSB, ELFDATA2MSB, EV_CURRENT, PT_LOAD}
 use Rattle.elf_format.specs.Form.{Form, records}
+use Rattle.elf_format.specs.Places.{is_set, occupies_file, occupies_memory, place_of}
 use Rattle.elf_format.specs.Records.{FileHeader, SectionHeader, SegmentHeader, file_header, file_header_size, section_header, section_header_size, segment_header, segment_header_size}
 
 -- the bytes of a range of the file, where it lies in it
@@ -94,15 +95,15 @@ abbrev pub linked_section : List SectionHeader → SectionHeader → Option Sect
 linked_section sections s = slice_get sections s.sh_link
 
 abbrev pub has_flag : ℕ → SectionHeader → Bool
-has_flag flag s = not (bit_and s.sh_flags flag == 0)
+has_flag flag s = is_set flag s.sh_flags
 
--- the section takes up memory when the program runs (gABI, Sections, SHF_ALLOC)
+-- the section takes up memory when the program runs
 abbrev pub is_allocated : SectionHeader → Bool
-is_allocated s = has_flag SHF_ALLOC s
+is_allocated s = occupies_memory (place_of s)
 
--- the section takes up bytes of the file (gABI, Sections, SHT_NULL and SHT_NOBITS don't)
+-- the section takes up bytes of the file
 abbrev pub has_file_bytes : SectionHeader → Bool
-has_file_bytes s = not (s.sh_type == SHT_NULL) && not (s.sh_type == SHT_NOBITS)
+has_file_bytes s = occupies_file (place_of s)
 
 -- the bytes of the file that a section header names
 unfoldable pub section_bytes : List ℕ → SectionHeader → List ℕ

@@ -2,6 +2,7 @@ pub mod Form
 pub mod Records
 pub mod Ranges
 pub mod Options
+pub mod Places
 pub mod File
 pub mod Placement
 pub mod Dynamic

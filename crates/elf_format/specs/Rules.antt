@@ -1,6 +1,7 @@
 -- Which files are accepted: twelve rules in their order, each a test with the fault that it answers.
 use Rattle.std.specs.Prelude.{ℕ, ◌+◌, ◌*◌, ◌/◌, ◌%◌, List, [], ◌∷◌, ◌++◌, map, filter, take, length, ◌≤◌, Bool, true, ◌&&◌, ◌||◌, not, Option, Some, None, ◌≡◌, IsTrue, Result, Ok, Err, is_some, is_none, nat_le, nat_lt, nat_eq, ◌==◌, if◌then◌else◌, count_by, unwrap_or}
 use Rattle.std.specs.List.{flat_map, list_all, list_any, slice_get, starts_with}
+use Rattle.patch_bytes.specs.Number.{field}
 use Rattle.patch_bytes.specs.Memory.{Keeps, Memory, from, memory_of, text_at}
 use Rattle.elf_format.specs.declared.constants.TheConstants.{DT_GNU_HASH, DT_HASH, DT_STRSZ, DT_STRTAB, DT_SYMENT, DT_SYMTAB, DT_VERDEF, DT_VERDEFNUM, DT_VERNEED, DT_VERNEEDNUM, DT_VERSYM, EM_MIPS, ET_DYN, ET_EXEC, PN_XNUM, PT_DYNAMIC, PT_INTERP, PT_PHDR, SHF_INFO_LINK, SHN_LORESERVE, SHN_XINDEX, SHT_DYNAMIC, SHT_DYNSYM, SHT_GNU_HASH, SHT_GNU_VERDEF, SHT_GNU_VERNEED, SHT_GNU_VERSYM, SHT_HASH, SHT_NOBITS, SHT_NOTE, SHT_NULL, SHT_REL, SHT_RELA, SHT_STRTAB, SHT_SYMTAB, VER_NDX_FIRST}
 use Rattle.elf_format.specs.declared.fault.ElfFault.{ElfFault}
@@ -8,10 +9,11 @@ use Rattle.elf_format.specs.declared.fault.ElfFault.TheVariants.{BadMagic, BadTe
 use Rattle.elf_format.specs.declared.section_data.SectionData.{SectionData}
 use Rattle.elf_format.specs.declared.section_data.SectionData.TheVariants as kinds
 use Rattle.elf_format.specs.Dynamic.{entries_at, has_tag, shown_entry, table_tags, value_of_tag}
-use Rattle.elf_format.specs.File.{Opened, Parts, bytes_in, form_of, has_file_bytes, has_flag, is_allocated, linked_section, opened_of, parts_of, section_bytes, section_of_type, sections_of, sections_there, segment_of_type, segments_of}
+use Rattle.elf_format.specs.File.{Opened, Parts, bytes_in, form_of, has_file_bytes, has_flag, is_allocated, linked_section, loads_of, opened_of, parts_of, section_bytes, section_of_type, sections_of, sections_there, segment_of_type, segments_of}
 use Rattle.elf_format.specs.Form.{Form, records}
 use Rattle.elf_format.specs.Options.{are_both_or_neither, each, first_there, is_none_or, is_one_of, is_some_and, kept_if, list_at}
-use Rattle.elf_format.specs.Placement.{file_parts_fit, header_table_loaded, ranges_in_file, sections_held, segments_apart, something_loaded, stored_apart, uninitialized_clear}
+use Rattle.elf_format.specs.Placement.{addresses_apart, file_parts_fit, header_table_loaded, ranges_in_file, sections_held, sections_loaded, segments_apart, shows_at, uninitialized_clear}
+use Rattle.elf_format.specs.Places.{places_of}
 use Rattle.elf_format.specs.Ranges.{Range, range}
 use Rattle.elf_format.specs.Records.{EntryNumbers, Relocation, SectionHeader, SegmentHeader, entry_size, file_header_size, relocation_size, relocations_in, section_header, section_header_size, segment_header_size, symbol_size, symbols_in}
 use Rattle.elf_format.specs.Versions.{DefinitionNumbers, NeedNumbers, Step, definition_at, is_whole_walk, need_at, shown_definition, shown_need, values_of, version_id, walked}
@@ -93,11 +95,12 @@ header_range p = range 0 (file_header_size p.opened.form)
 abbrev pub segment_table_range : Parts → Range
 segment_table_range p = range p.opened.header.e_phoff (p.opened.header.e_phnum * segment_header_size p.opened.form)
 
+abbrev pub header_ranges : Parts → List Range
+header_ranges p = header_range p ∷ segment_table_range p ∷ []
+
 -- stored sections are held by segments, apart from each other and from the headers
 abbrev pub are_sections_loaded : Parts → Bool
-are_sections_loaded p =
-    sections_held p.segments p.sections && something_loaded p.segments p.sections
-    && stored_apart (header_range p ∷ segment_table_range p ∷ []) p.sections
+are_sections_loaded p = sections_loaded (header_ranges p) p.segments (places_of p.sections)
 
 -- ## 6: one of each, and linked
 
@@ -346,11 +349,11 @@ are_versions_right p =
 
 abbrev pub placement_rules : List (Rule Parts)
 placement_rules =
-    rule (λ p. ranges_in_file (length (file_of p)) p.segments p.sections) Truncated
+    rule (λ p. ranges_in_file (length (file_of p)) p.segments (places_of p.sections)) Truncated
     ∷ rule (λ p. file_parts_fit p.segments) (Disagree 2)
     ∷ rule (λ p. segments_apart p.segments) (Disagree 3)
     ∷ rule are_sections_loaded (Disagree 4)
-    ∷ rule (λ p. uninitialized_clear p.segments p.sections) (Disagree 5)
+    ∷ rule (λ p. uninitialized_clear p.segments (places_of p.sections)) (Disagree 5)
     ∷ []
 
 abbrev pub table_rules : List (Rule Parts)
@@ -393,11 +396,11 @@ pub record ArePartsOf (file : List ℕ) (p : Parts) : Type 0 where
 -- each of the twelve rules holds
 pub record MeetsRules (p : Parts) : Type 0 where
   pub file_kind : IsTrue (is_file_kind p.opened)
-  pub in_file : IsTrue (ranges_in_file (length (file_of p)) p.segments p.sections)
+  pub in_file : IsTrue (ranges_in_file (length (file_of p)) p.segments (places_of p.sections))
   pub fit : IsTrue (file_parts_fit p.segments)
   pub segments : IsTrue (segments_apart p.segments)
   pub loaded : IsTrue (are_sections_loaded p)
-  pub clear : IsTrue (uninitialized_clear p.segments p.sections)
+  pub clear : IsTrue (uninitialized_clear p.segments (places_of p.sections))
   pub linked : IsTrue (are_tables_linked p)
   pub dynamic : IsTrue (is_dynamic_section_right p)
   pub interpreter : IsTrue (is_interpreter_right p)
@@ -418,12 +421,20 @@ AcceptedFilesMeetTheRules =
     ((file : List ℕ) → fault_of file ≡ None → (p : Parts) × IsAcceptedWith file p)
     × ((file : List ℕ) (p : Parts) → IsAcceptedWith file p → fault_of file ≡ None)
 
+-- Where loaded segments share no address and their file parts fit, the bytes of a range that lies in the file part of
+-- one of them are those at the address that is as far from the segment's as the range is from the segment's offset.
+abbrev pub HeldRangesAreSeen : Type 0
+HeldRangesAreSeen =
+    (file : List ℕ) (segments : List SegmentHeader) → IsTrue (file_parts_fit segments) → IsTrue (addresses_apart segments)
+    → (r : Range) (address : ℕ) → IsTrue (list_any (λ p. shows_at p r address) (loads_of segments))
+    → Keeps (memory_of (field r.size r.start file)) (from (byte_at segments file) address)
+
 -- Where segments are apart, their file parts fit and stored sections are held, the bytes of an allocated
 -- section are those at its address.
 abbrev pub HeldSectionsAreSeen : Type 0
 HeldSectionsAreSeen =
     (file : List ℕ) (segments : List SegmentHeader) (sections : List SectionHeader)
-    → IsTrue (file_parts_fit segments) → IsTrue (segments_apart segments) → IsTrue (sections_held segments sections)
+    → IsTrue (file_parts_fit segments) → IsTrue (segments_apart segments) → IsTrue (sections_held segments (places_of sections))
     → (i : ℕ) (s : SectionHeader) → slice_get sections i ≡ Some s → IsTrue (is_allocated s) → IsTrue (has_file_bytes s)
     → Keeps (memory_of (section_bytes file s)) (from (byte_at segments file) s.sh_addr)
 

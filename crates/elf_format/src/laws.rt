@@ -1,9 +1,9 @@
 //! What is proved of the definitions themselves. The functions do nothing: each stands for the law that
 //! is its contract.
-ghost use Rattle.elf_format.specs.Facts.{TestsMean};
+ghost use Rattle.elf_format.specs.Facts.{PlacementTestsMean, TestsMean};
 ghost use Rattle.elf_format.specs.Image.{ImagesShow};
 ghost use Rattle.elf_format.specs.ReadNumbers.{NumbersAreThere};
-ghost use Rattle.elf_format.specs.Rules.{AcceptedFilesMeetTheRules, HeldSectionsAreSeen, ViewsAgree};
+ghost use Rattle.elf_format.specs.Rules.{AcceptedFilesMeetTheRules, HeldRangesAreSeen, HeldSectionsAreSeen, ViewsAgree};
 
 /// For every byte string that the read rules accept, the section headers show what a loader sees.
 pub fn views_agree()
@@ -15,9 +15,19 @@ pub fn accepted_files_meet_the_rules()
     ensures { AcceptedFilesMeetTheRules }
 {}
 
+/// Any bytes in the file part of a loaded segment are seen as far behind its address as they are behind its offset.
+pub fn held_ranges_are_seen()
+    ensures { HeldRangesAreSeen }
+{}
+
 /// What a segment holds is seen at its address.
 pub fn held_sections_are_seen()
     ensures { HeldSectionsAreSeen }
+{}
+
+/// What each test of placement means, both ways: also of places that no file has yet.
+pub fn placement_tests_mean()
+    ensures { PlacementTestsMean }
 {}
 
 /// What the tests of the read rules mean.

@@ -41,6 +41,7 @@ pub struct SegmentHeader {
 impl SegmentHeader {
     ghost use Rattle.elf_format.specs.Placement.{file_part, holds, memory_part};
     ghost use Rattle.elf_format.specs.File.{is_loaded};
+    ghost use Rattle.elf_format.specs.Places.{place_of};
 
     /// Whether it is loaded (gABI, Program Header, `PT_LOAD`).
     pub fn is_loaded(self) -> bool
@@ -71,7 +72,7 @@ impl SegmentHeader {
 
     /// Whether a section lies in its file part, as far from the start of that as from its address.
     pub fn holds(self, section: SectionHeader) -> bool
-        ensures { result ≡ holds self section }
+        ensures { result ≡ holds self (place_of section) }
     {
         section.file_range().lies_in(self.file_part())
             && section.sh_addr as u128 + self.p_offset as u128
@@ -96,12 +97,13 @@ pub struct SectionHeader {
 
 impl SectionHeader {
     ghost use Rattle.elf_format.specs.File.{has_file_bytes, is_allocated};
-    ghost use Rattle.elf_format.specs.Placement.{file_range, is_stored, is_uninitialized};
+    ghost use Rattle.elf_format.specs.Placement.{is_stored, is_uninitialized};
+    ghost use Rattle.elf_format.specs.Places.{file_range, place_of};
     ghost use Rattle.elf_format.specs.Rules.{has_section_info, is_relocation_section, is_symbol_table};
 
     /// The bytes of the file that it names (gABI, Sections, `sh_offset` and `sh_size`).
     pub fn file_range(self) -> Range
-        ensures { result ≡ file_range self }
+        ensures { result ≡ file_range (place_of self) }
     {
         Range {
             start: self.sh_offset,
@@ -125,7 +127,7 @@ impl SectionHeader {
 
     /// Whether it is allocated and has bytes, and has them in the file.
     pub fn is_stored(self) -> bool
-        ensures { result ≡ is_stored self }
+        ensures { result ≡ is_stored (place_of self) }
     {
         self.is_allocated() && self.has_file_bytes() && self.sh_size != 0
     }
@@ -133,7 +135,7 @@ impl SectionHeader {
     /// Whether it is allocated and has zeros in place of bytes in the file, and isn't of threads (gABI, Sections,
     /// `SHT_NOBITS` and `SHF_TLS`).
     pub fn is_uninitialized(self) -> bool
-        ensures { result ≡ is_uninitialized self }
+        ensures { result ≡ is_uninitialized (place_of self) }
     {
         self.sh_type == SHT_NOBITS && self.is_allocated() && self.sh_flags & SHF_TLS == 0
     }

@@ -2,6 +2,7 @@ pub use Rattle.elf_format.specs.Form
 pub use Rattle.elf_format.specs.Records
 pub use Rattle.elf_format.specs.Ranges
 pub use Rattle.elf_format.specs.Options
+pub use Rattle.elf_format.specs.Places
 pub use Rattle.elf_format.specs.File
 pub use Rattle.elf_format.specs.Placement
 pub use Rattle.elf_format.specs.Dynamic

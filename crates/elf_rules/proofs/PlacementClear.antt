@@ -9,24 +9,25 @@ use Rattle.std.proofs.lemmas.List.Folds.{list_all-map, list_all_at}
 use Rattle.std.proofs.lemmas.List.Sorted.{list_any-IsPermutation}
 use Rattle.std.proofs.lemmas.List.Sums.{list_all-from_AllPass}
 use Rattle.elf_format.specs.File.{loads_of}
-use Rattle.elf_format.specs.Placement.{crosses_file_end, is_uninitialized, uninitialized_clear}
-use Rattle.elf_rules.specs.PlacementSteps.{AreEndsInOrder, file_end, is_clear_if_uninitialized, lies_inside}
+use Rattle.elf_format.specs.Placement.{crosses_file_end, file_end, is_uninitialized, uninitialized_clear}
+use Rattle.elf_format.specs.Places.{Place, place_of, places_of}
+use Rattle.elf_rules.specs.PlacementSteps.{AreEndsInOrder, is_clear_if_uninitialized, lies_inside}
 use Rattle.elf_format.specs.declared.records.SectionHeader.{SectionHeader}
 use Rattle.elf_format.specs.declared.records.SegmentHeader.{SegmentHeader}
 use Rattle.elf_rules.proofs.PlacementHeld.{all_if_picked}
 
 -- ## Places in order
 
-not_inside_before : (s : SectionHeader) (e : ℕ) → e ≤ s.sh_addr → not (lies_inside s e) ≡ true
+not_inside_before : (s : Place) (e : ℕ) → e ≤ s.sh_addr → not (lies_inside s e) ≡ true
 not_inside_before s e before = not_from_false (lies_inside s e) (and_left (ltb s.sh_addr e) (ltb e (s.sh_addr + s.sh_size)) (le-ltb s.sh_addr e before))
 
-not_inside_behind : (s : SectionHeader) (e : ℕ) → s.sh_addr + s.sh_size ≤ e → not (lies_inside s e) ≡ true
+not_inside_behind : (s : Place) (e : ℕ) → s.sh_addr + s.sh_size ≤ e → not (lies_inside s e) ≡ true
 not_inside_behind s e behind = not_from_false (lies_inside s e) (and_right (ltb s.sh_addr e) (ltb e (s.sh_addr + s.sh_size)) (le-ltb e (s.sh_addr + s.sh_size) behind))
 
-inside : (s : SectionHeader) (e : ℕ) → s.sh_addr < e → e < s.sh_addr + s.sh_size → not (lies_inside s e) ≡ false
+inside : (s : Place) (e : ℕ) → s.sh_addr < e → e < s.sh_addr + s.sh_size → not (lies_inside s e) ≡ false
 inside s e low high = not_from_true (lies_inside s e) (and_from (ltb s.sh_addr e) (ltb e (s.sh_addr + s.sh_size)) (lt-ltb s.sh_addr e low) (lt-ltb e (s.sh_addr + s.sh_size) high))
 
-module _ (ends : List ℕ) (s : SectionHeader) (up : IsNonDecreasing ends) (passed : ℕ) (bound : passed ≤ length ends)
+module _ (ends : List ℕ) (s : Place) (up : IsNonDecreasing ends) (passed : ℕ) (bound : passed ≤ length ends)
     (point : IsPartitionPoint (λ e. leb e s.sh_addr ≡ true) (λ e. leb e s.sh_addr ≡ false) ends passed) where
   before_start : (k d : ℕ) → k < passed → not (lies_inside s (get_or ends k d)) ≡ true
   before_start k d before = not_inside_before s (get_or ends k d) (leb-true (get_or ends k d) s.sh_addr (point.0 k d (omega arith) before))
@@ -61,7 +62,7 @@ all_not test (x ∷ xs) = ap (λ b. not (test x) && b) (all_not test xs) ∙ by_
     by_test false b = refl
 
 -- the places are clear of a section where each load's is
-clear_alike : (segments : List SegmentHeader) (ends : List ℕ) (s : SectionHeader) → AreEndsInOrder segments ends
+clear_alike : (segments : List SegmentHeader) (ends : List ℕ) (s : Place) → AreEndsInOrder segments ends
     → list_all (λ e. not (lies_inside s e)) ends ≡ list_all (λ p. not (crosses_file_end p s)) (loads_of segments)
 clear_alike segments ends s are =
     let places : List ℕ = map file_end (loads_of segments) in
@@ -69,7 +70,8 @@ clear_alike segments ends s are =
     ∙ list_all-map (λ e. not (lies_inside s e)) file_end (loads_of segments)
 
 pub clear_if_uninitialized : (segments : List SegmentHeader) (ends : List ℕ) (ss : List SectionHeader) → AreEndsInOrder segments ends
-    → list_all (is_clear_if_uninitialized ends) ss ≡ uninitialized_clear segments ss
+    → list_all (λ s. is_clear_if_uninitialized ends (place_of s)) ss ≡ uninitialized_clear segments (places_of ss)
 clear_if_uninitialized segments ends ss are =
-    all_if_picked is_uninitialized (λ s. list_all (λ e. not (lies_inside s e)) ends) (λ s. list_all (λ p. not (crosses_file_end p s)) (loads_of segments))
-    (λ s h. clear_alike segments ends s are) ss
+    sym (list_all-map (is_clear_if_uninitialized ends) place_of ss)
+    ∙ all_if_picked is_uninitialized (λ s. list_all (λ e. not (lies_inside s e)) ends) (λ s. list_all (λ p. not (crosses_file_end p s)) (loads_of segments))
+    (λ s h. clear_alike segments ends s are) (places_of ss)

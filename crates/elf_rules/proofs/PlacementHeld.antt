@@ -5,14 +5,15 @@ use Rattle.std.specs.Prelude.{◌&&◌, ◌||◌, not, filter}
 use Rattle.std.specs.List.{list_all, list_any}
 use Rattle.std.specs.List.Sorted.{IsNonDecreasingBy, IsPartitionPoint, IsPartitionedBy, IsPermutation}
 use Rattle.std.proofs.Math.Bool.{and-true}
-use Rattle.std.proofs.lemmas.Bool.{and_from, and_parts, cases_Bool, cases_eq, cases_lt, eqb-false, false_from_ne_true, false≢true, le-leb, leb-false, leb-true, ne_eqb, not-true, or_left}
+use Rattle.std.proofs.lemmas.Bool.{and_from, and_parts, cases_Bool, cases_eq, cases_lt, eqb-false, false_from_ne_true, false≢true, le-leb, leb-false, leb-true, ne_eqb, not-true}
 use Rattle.std.proofs.lemmas.List.{get_or-map, get_or_default, length-map}
-use Rattle.std.proofs.lemmas.List.Folds.{list_any_at, list_any_none}
+use Rattle.std.proofs.lemmas.List.Folds.{list_all-map, list_any_at, list_any_none}
 use Rattle.std.proofs.lemmas.List.Sorted.{All-permutation, IsPermutation-map, list_any-IsPermutation}
 use Rattle.std.proofs.lemmas.List.Elements.{filter_passes}
 use Rattle.elf_format.specs.declared.constants.TheConstants.{PT_LOAD}
-use Rattle.elf_format.specs.File.{has_file_bytes, is_allocated, loads_of}
-use Rattle.elf_format.specs.Placement.{file_part, file_range, holds, is_stored, sections_held, something_loaded}
+use Rattle.elf_format.specs.File.{loads_of}
+use Rattle.elf_format.specs.Placement.{file_part, holds, is_stored, sections_held}
+use Rattle.elf_format.specs.Places.{Place, file_range, occupies_file, occupies_memory, place_of, places_of}
 use Rattle.elf_rules.specs.PlacementSteps.{AreInTurn, AreLoadsInTurn, is_filled_load, is_held_if_stored}
 use Rattle.elf_format.specs.declared.range.Range.{Range}
 use Rattle.elf_format.specs.Ranges.{all_apart, apart, lies_in}
@@ -20,23 +21,10 @@ use Rattle.elf_format.specs.declared.records.SectionHeader.{SectionHeader}
 use Rattle.elf_format.specs.declared.records.SegmentHeader.{SegmentHeader}
 use Rattle.elf_rules.proofs.PlacementApart.{all_apart-IsPermutation, apart-order, apart_at}
 
--- ## Something is loaded
-
-any_picked : {X : Type 0} → (test : X → Bool) (xs : List X) → list_any (λ _. true) (filter test xs) ≡ list_any test xs
-any_picked test [] = refl
-any_picked test (x ∷ xs) =
-    elim (cases_Bool (test x)) [
-      | inl h ↦ ap (λ b. list_any (λ _. true) (cond b (x ∷ filter test xs) (filter test xs))) h ∙ sym (or_left (test x) (list_any test xs) h)
-      | inr h ↦ ap (λ b. list_any (λ _. true) (cond b (x ∷ filter test xs) (filter test xs))) h ∙ any_picked test xs ∙ sym (ap (λ b. b || list_any test xs) h)
-    ]
-
-pub something_loaded_is : (ps : List SegmentHeader) (ss : List SectionHeader) → something_loaded ps ss ≡ (not (list_any is_allocated ss) || list_any (λ p. eqb p.p_type PT_LOAD) ps)
-something_loaded_is ps ss = ap (λ b. not (list_any is_allocated ss) || b) (any_picked (λ p. eqb p.p_type PT_LOAD) ps)
-
 -- ## The holder of a section
 
 -- what a segment that holds a section that has bytes is, in numbers
-holds-tells : (p : SegmentHeader) (s : SectionHeader) → holds p s ≡ true → (p.p_offset ≤ s.sh_offset) × (s.sh_offset + s.sh_size ≤ p.p_offset + p.p_filesz)
+holds-tells : (p : SegmentHeader) (s : Place) → holds p s ≡ true → (p.p_offset ≤ s.sh_offset) × (s.sh_offset + s.sh_size ≤ p.p_offset + p.p_filesz)
 holds-tells p s h =
     let inside = and_parts (lies_in (file_range s) (file_part p)) (eqb (s.sh_addr + p.p_offset) (p.p_vaddr + s.sh_offset)) h in
     let ends = and_parts (leb p.p_offset s.sh_offset) (leb (s.sh_offset + s.sh_size) (p.p_offset + p.p_filesz)) inside.0 in
@@ -51,7 +39,7 @@ parted_by loads place turn i j d order within e =
       | inr other ↦ le-leb (get_or loads i d).p_offset place (let h = turn i j d (omega arith) within in omega (arith, h))
     ]
 
-module _ (loads : List SegmentHeader) (s : SectionHeader) (sized : 0 < s.sh_size) (turn : AreInTurn loads) (count : ℕ) (bound : count ≤ length loads)
+module _ (loads : List SegmentHeader) (s : Place) (sized : 0 < s.sh_size) (turn : AreInTurn loads) (count : ℕ) (bound : count ≤ length loads)
     (point : IsPartitionPoint (λ p. leb p.p_offset s.sh_offset ≡ true) (λ p. leb p.p_offset s.sh_offset ≡ false) loads count) where
   -- no segment holds it but the last one that begins at it or before it
   other_holds : (k : ℕ) (d : SegmentHeader) → k < length loads → k + 1 ≢ count → holds (get_or loads k d) s ≡ false
@@ -175,14 +163,14 @@ all_if_picked pick test other same (x ∷ xs) = by_pick (pick x) (same x) (all_i
     by_pick true e rest = ap (λ t. t && list_all (λ y. not (pick y) || test y) xs) (e refl) ∙ ap (λ t. other x && t) rest
     by_pick false e rest = rest
 
-stored-sized : (s : SectionHeader) → is_stored s ≡ true → 0 < s.sh_size
+stored-sized : (s : Place) → is_stored s ≡ true → 0 < s.sh_size
 stored-sized s h =
-    let both = and_parts (is_allocated s && has_file_bytes s) (not (eqb s.sh_size 0)) h in
+    let both = and_parts (occupies_memory s && occupies_file s) (not (eqb s.sh_size 0)) h in
     let ne = eqb-false s.sh_size 0 (not-true (eqb s.sh_size 0) both.1) in
     omega (arith, ne)
 
 -- a section that has bytes is held by a load in turn where it is held by a load
-held_alike : (segments loads : List SegmentHeader) (s : SectionHeader) → AreLoadsInTurn segments loads → 0 < s.sh_size
+held_alike : (segments loads : List SegmentHeader) (s : Place) → AreLoadsInTurn segments loads → 0 < s.sh_size
     → list_any (λ p. holds p s) loads ≡ list_any (λ p. holds p s) (loads_of segments)
 held_alike segments loads s are sized =
     sym (list_any-IsPermutation (λ p. holds p s) (filter is_filled_load segments) loads are.same)
@@ -193,10 +181,12 @@ held_alike segments loads s are sized =
         let some : eqb p.p_filesz 0 ≡ false = ne_eqb p.p_filesz 0 (λ e. omega (arith, tells.0, tells.1)) in
         ap (λ b. eqb p.p_type PT_LOAD && not b) some ∙ and-true (eqb p.p_type PT_LOAD)
 
-pub held_if_stored : (segments loads : List SegmentHeader) (ss : List SectionHeader) → AreLoadsInTurn segments loads → list_all (is_held_if_stored loads) ss ≡ sections_held segments ss
+pub held_if_stored : (segments loads : List SegmentHeader) (ss : List SectionHeader) → AreLoadsInTurn segments loads
+    → list_all (λ s. is_held_if_stored loads (place_of s)) ss ≡ sections_held segments (places_of ss)
 held_if_stored segments loads ss are =
-    all_if_picked is_stored (λ s. list_any (λ p. holds p s) loads && not (eqb s.sh_offset 0)) (λ s. list_any (λ p. holds p s) (loads_of segments) && not (eqb s.sh_offset 0))
-    (λ s h. ap (λ b. b && not (eqb s.sh_offset 0)) (held_alike segments loads s are (stored-sized s h))) ss
+    sym (list_all-map (is_held_if_stored loads) place_of ss)
+    ∙ all_if_picked is_stored (λ s. list_any (λ p. holds p s) loads && not (eqb s.sh_offset 0)) (λ s. list_any (λ p. holds p s) (loads_of segments) && not (eqb s.sh_offset 0))
+    (λ s h. ap (λ b. b && not (eqb s.sh_offset 0)) (held_alike segments loads s are (stored-sized s h))) (places_of ss)
 
 -- a segment that stands for none
 abbrev pub no_segment : SegmentHeader

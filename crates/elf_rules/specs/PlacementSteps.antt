@@ -1,12 +1,12 @@
 -- What the steps of the placement rules say: the rules in parts.
-use Rattle.std.specs.Prelude.{ℕ, ◌+◌, ◌≤◌, List, [], ◌∷◌, filter, map, Bool, true, ◌&&◌, ◌||◌, not, nat_le, nat_lt, ◌==◌, if◌then◌else◌}
+use Rattle.std.specs.Prelude.{ℕ, ◌≤◌, List, [], ◌∷◌, filter, map, Bool, true, ◌&&◌, ◌||◌, not, nat_le, nat_lt, ◌==◌, if◌then◌else◌}
 use Rattle.std.specs.List.{AllPairs, list_all, list_any}
 use Rattle.std.specs.List.Sorted.{IsNonDecreasing, IsPermutation}
-use Rattle.elf_format.specs.File.{is_loaded, loads_of, Parts, has_file_bytes}
-use Rattle.elf_format.specs.Placement.{file_part, holds, is_stored, is_uninitialized, ends_by, file_range}
+use Rattle.elf_format.specs.File.{is_loaded, loads_of, has_file_bytes}
+use Rattle.elf_format.specs.Placement.{file_end, file_part, holds, is_stored, is_uninitialized, ends_by}
+use Rattle.elf_format.specs.Places.{Place, file_range, memory_range, place_of}
 use Rattle.elf_format.specs.declared.range.Range.{Range}
-use Rattle.elf_format.specs.Ranges.{end_of, apart}
-use Rattle.elf_format.specs.Rules.{header_range, segment_table_range}
+use Rattle.elf_format.specs.Ranges.{end_of}
 use Rattle.elf_format.specs.declared.records.SectionHeader.{SectionHeader}
 use Rattle.elf_format.specs.declared.records.SegmentHeader.{SegmentHeader}
 
@@ -30,34 +30,26 @@ pub record AreLoadsInTurn (segments loads : List SegmentHeader) : Type 0 where
   pub same : IsPermutation (filter is_filled_load segments) loads
 
 -- a section, where it is stored, is held by one of the segments and doesn't begin at the file's start
-abbrev pub is_held_if_stored : List SegmentHeader → SectionHeader → Bool
+abbrev pub is_held_if_stored : List SegmentHeader → Place → Bool
 is_held_if_stored loads s = not (is_stored s) || list_any (λ p. holds p s) loads && not (s.sh_offset == 0)
 
--- where a segment's file part ends in memory
-abbrev pub file_end : SegmentHeader → ℕ
-file_end p = p.p_vaddr + p.p_filesz
-
--- those ends of loaded segments, in order
+-- where the file parts of loaded segments end in memory, in order
 pub record AreEndsInOrder (segments : List SegmentHeader) (ends : List ℕ) : Type 0 where
   pub in_order : IsNonDecreasing ends
   pub same : IsPermutation (map file_end (loads_of segments)) ends
 
 -- a place lies inside the addresses of a section, and isn't their start
-abbrev pub lies_inside : SectionHeader → ℕ → Bool
-lies_inside s e = nat_lt s.sh_addr e && nat_lt e (s.sh_addr + s.sh_size)
+abbrev pub lies_inside : Place → ℕ → Bool
+lies_inside s e = nat_lt s.sh_addr e && nat_lt e (end_of (memory_range s))
 
 -- a section, where it is uninitialized, has none of the places inside its addresses
-abbrev pub is_clear_if_uninitialized : List ℕ → SectionHeader → Bool
+abbrev pub is_clear_if_uninitialized : List ℕ → Place → Bool
 is_clear_if_uninitialized ends s = not (is_uninitialized s) || list_all (λ e. not (lies_inside s e)) ends
 
 -- the bytes of each section lie in a file of this length
 abbrev pub sections_end_by : ℕ → List SectionHeader → Bool
-sections_end_by length sections = list_all (λ s. ends_by length (file_range s)) (filter has_file_bytes sections)
+sections_end_by length sections = list_all (λ s. ends_by length (file_range (place_of s))) (filter has_file_bytes sections)
 
--- where the file header and the program header table stand
-abbrev pub header_ranges : Parts → List Range
-header_ranges parts = header_range parts ∷ segment_table_range parts ∷ []
-
--- stored sections share no byte of the file with ranges
-abbrev pub stored_clear_of : List Range → List SectionHeader → Bool
-stored_clear_of ranges sections = list_all (λ h. list_all (λ r. apart h r) (map file_range (filter is_stored sections))) ranges
+-- the headers of stored sections
+abbrev pub stored_of : List SectionHeader → List SectionHeader
+stored_of sections = filter (λ s. is_stored (place_of s)) sections

@@ -2,11 +2,12 @@ ghost use Rattle.std.specs.Prelude.{◌≡◌, ◌∷◌, [], ◌+◌, ◌<◌, 
 ghost use Rattle.std.specs.List.{list_all, list_any};
 ghost use Rattle.std.specs.List.Sorted.{IsNonDecreasing};
 ghost use Rattle.elf_format.specs.File.{is_allocated, is_loaded, loads_of};
-ghost use Rattle.elf_format.specs.Placement.{ends_by, file_part, file_parts_fit as all_fit, file_range, header_table_loaded as is_table_loaded, holds, is_stored, memory_part, ranges_in_file as all_in_file, sections_held as all_held, segments_apart as all_segments_apart, something_loaded as some_loaded, stored_apart as all_stored_apart, uninitialized_clear as all_clear};
-ghost use Rattle.elf_rules.specs.PlacementSteps.{AreEndsInOrder, AreInTurn, AreLoadsInTurn, file_end, follows_end, is_clear_if_uninitialized, is_filled_load, is_held_if_stored, lies_inside, header_ranges, sections_end_by, stored_clear_of};
+ghost use Rattle.elf_format.specs.Placement.{ends_by, file_end, file_part, file_parts_fit as all_fit, header_table_loaded as is_table_loaded, holds, memory_part, ranges_in_file as all_in_file, sections_held as all_held, segments_apart as all_segments_apart, something_loaded as some_loaded, stored_apart as all_stored_apart, stored_clear_of, stored_ranges as all_stored, uninitialized_clear as all_clear};
+ghost use Rattle.elf_format.specs.Places.{file_range, place_of, places_of};
+ghost use Rattle.elf_rules.specs.PlacementSteps.{AreEndsInOrder, AreInTurn, AreLoadsInTurn, follows_end, is_clear_if_uninitialized, is_filled_load, is_held_if_stored, lies_inside, sections_end_by, stored_of};
 ghost use Rattle.elf_format.specs.Ranges.{all_apart as no_two_meet, apart, lies_in};
 ghost use Rattle.elf_rules.specs.Read.{Passes, parts_seen};
-ghost use Rattle.elf_format.specs.Rules.{are_sections_loaded as all_loaded, checked, placement_rules, segment_table_range};
+ghost use Rattle.elf_format.specs.Rules.{are_sections_loaded as all_loaded, checked, header_ranges, placement_rules, segment_table_range};
 
 use crate::headers::Headers;
 use elf_format::constants::PT_PHDR;
@@ -36,12 +37,13 @@ fn loads_in_file(length: usize, segments: &[SegmentHeader]) -> bool
 }
 
 // Whether the bytes of each section and of each loaded segment lie in a file of that length.
+#[tactic(auto, using(crate::proofs::PlacementSteps::ranges_in_file_is))]
 pub(crate) fn ranges_in_file(
     length: usize,
     segments: &[SegmentHeader],
     sections: &[SectionHeader],
 ) -> bool
-    ensures { result ≡ all_in_file length segments.now sections.now }
+    ensures { result ≡ all_in_file length segments.now (places_of sections.now) }
 {
     sections_in_file(length, sections) && loads_in_file(length, segments)
 }
@@ -166,7 +168,8 @@ pub(crate) fn segments_apart(alloc: Global, segments: &[SegmentHeader]) -> Resul
 
 // The bytes of the file that stored sections name.
 fn stored_ranges(alloc: Global, sections: &[SectionHeader]) -> Result<Vec<Range>, AllocError>
-    ensures { IfOk result (λ made. made.items ≡ map file_range (filter is_stored sections.now)) }
+    ensures { IfOk result (λ made. made.items
+        ≡ map (λ s. file_range (place_of s)) (stored_of sections.now)) }
 {
     sections
         .iter()
@@ -177,7 +180,7 @@ fn stored_ranges(alloc: Global, sections: &[SectionHeader]) -> Result<Vec<Range>
 
 // Whether stored sections share no byte of the file.
 fn apart_among_sections(alloc: Global, sections: &[SectionHeader]) -> Result<bool, AllocError>
-    ensures { IfOk result (λ b. b ≡ no_two_meet (map file_range (filter is_stored sections.now))) }
+    ensures { IfOk result (λ b. b ≡ no_two_meet (all_stored (places_of sections.now))) }
 {
     let mut ranges = stored_ranges(alloc, sections)?;
     Ok(all_apart(&mut ranges))
@@ -185,7 +188,8 @@ fn apart_among_sections(alloc: Global, sections: &[SectionHeader]) -> Result<boo
 
 // Whether no stored section shares a byte of the file with a range.
 fn clear_of_sections(range: Range, sections: &[SectionHeader]) -> bool
-    ensures { result ≡ list_all (λ s. apart range (file_range s)) (filter is_stored sections.now) }
+    ensures { result
+        ≡ list_all (λ s. apart range (file_range (place_of s))) (stored_of sections.now) }
 {
     sections
         .iter()
@@ -195,7 +199,7 @@ fn clear_of_sections(range: Range, sections: &[SectionHeader]) -> bool
 
 // Whether stored sections share no byte of the file with the file header and the program header table.
 fn clear_of_headers(header: Range, table: Range, sections: &[SectionHeader]) -> bool
-    ensures { result ≡ stored_clear_of (header ∷ table ∷ []) sections.now }
+    ensures { result ≡ stored_clear_of (header ∷ table ∷ []) (places_of sections.now) }
 {
     clear_of_sections(header, sections) && clear_of_sections(table, sections)
 }
@@ -203,7 +207,8 @@ fn clear_of_headers(header: Range, table: Range, sections: &[SectionHeader]) -> 
 // Whether stored sections share no byte of the file with each other or with the two headers.
 fn stored_apart(alloc: Global, parts: &Headers<'_>) -> Result<bool, AllocError>
     ensures { IfOk result (λ b. b
-        ≡ all_stored_apart (header_ranges (parts_seen parts.now)) parts.now.sections.items) }
+        ≡ all_stored_apart (header_ranges (parts_seen parts.now))
+        (places_of parts.now.sections.items)) }
 {
     if !apart_among_sections(alloc, &parts.sections)? {
         return Ok(false);
@@ -250,7 +255,7 @@ fn loads_by_offset(
 fn some_holds(loads: &[SegmentHeader], section: SectionHeader) -> bool
     requires sized { 0 < section.sh_size }
     requires in_turn { AreInTurn loads.now }
-    ensures { result ≡ list_any (λ p. holds p section) loads.now }
+    ensures { result ≡ list_any (λ p. holds p (place_of section)) loads.now }
 {
     let count = loads.partition_point(|p| p.p_offset <= section.sh_offset);
     count != 0 && loads[count - 1].holds(section)
@@ -259,7 +264,7 @@ fn some_holds(loads: &[SegmentHeader], section: SectionHeader) -> bool
 // Whether a section, where it is stored, is held by one of the segments and doesn't begin at the file's start.
 fn is_held(loads: &[SegmentHeader], section: SectionHeader) -> bool
     requires { AreInTurn loads.now }
-    ensures { result ≡ is_held_if_stored loads.now section }
+    ensures { result ≡ is_held_if_stored loads.now (place_of section) }
 {
     !section.is_stored() || some_holds(loads, section) && section.sh_offset != 0
 }
@@ -267,7 +272,7 @@ fn is_held(loads: &[SegmentHeader], section: SectionHeader) -> bool
 // Whether each stored section is held by one of the segments and doesn't begin at the file's start.
 fn are_held(loads: &[SegmentHeader], sections: &[SectionHeader]) -> bool
     requires { AreInTurn loads.now }
-    ensures { result ≡ list_all (is_held_if_stored loads.now) sections.now }
+    ensures { result ≡ list_all (λ s. is_held_if_stored loads.now (place_of s)) sections.now }
 {
     sections.iter().all(|s| is_held(loads, *s))
 }
@@ -279,7 +284,7 @@ fn sections_held(
     sections: &[SectionHeader],
 ) -> Result<bool, AllocError>
     requires { IsTrue (no_two_meet (map file_part (loads_of segments.now))) }
-    ensures { IfOk result (λ b. b ≡ all_held segments.now sections.now) }
+    ensures { IfOk result (λ b. b ≡ all_held segments.now (places_of sections.now)) }
 {
     let loads = loads_by_offset(alloc, segments)?;
     Ok(are_held(&loads, sections))
@@ -300,9 +305,9 @@ fn has_load(segments: &[SegmentHeader]) -> bool
 }
 
 // Whether there is a loaded segment, where there is an allocated section.
-#[tactic(auto, using(crate::proofs::PlacementHeld::something_loaded_is))]
+#[tactic(auto, using(crate::proofs::PlacementSteps::something_loaded_is))]
 fn something_loaded(segments: &[SegmentHeader], sections: &[SectionHeader]) -> bool
-    ensures { result ≡ some_loaded segments.now sections.now }
+    ensures { result ≡ some_loaded segments.now (places_of sections.now) }
 {
     !has_allocated(sections) || has_load(segments)
 }
@@ -344,7 +349,7 @@ fn sorted_file_ends(alloc: Global, segments: &[SegmentHeader]) -> Result<Vec<u12
 // Whether none of the places lies inside a section's addresses: only the first behind its start can.
 fn is_clear_of(ends: &[u128], section: SectionHeader) -> bool
     requires { IsNonDecreasing ends.now }
-    ensures { result ≡ list_all (λ e. not (lies_inside section e)) ends.now }
+    ensures { result ≡ list_all (λ e. not (lies_inside (place_of section) e)) ends.now }
 {
     let start = section.sh_addr as u128;
     let passed = ends.partition_point(|e| *e <= start);
@@ -354,7 +359,7 @@ fn is_clear_of(ends: &[u128], section: SectionHeader) -> bool
 // Whether a section, where it is uninitialized, has none of the places inside its addresses.
 fn is_clear(ends: &[u128], section: SectionHeader) -> bool
     requires { IsNonDecreasing ends.now }
-    ensures { result ≡ is_clear_if_uninitialized ends.now section }
+    ensures { result ≡ is_clear_if_uninitialized ends.now (place_of section) }
 {
     !section.is_uninitialized() || is_clear_of(ends, section)
 }
@@ -362,7 +367,8 @@ fn is_clear(ends: &[u128], section: SectionHeader) -> bool
 // Whether no uninitialized section has one of the places inside its addresses.
 fn are_clear(ends: &[u128], sections: &[SectionHeader]) -> bool
     requires { IsNonDecreasing ends.now }
-    ensures { result ≡ list_all (is_clear_if_uninitialized ends.now) sections.now }
+    ensures { result
+        ≡ list_all (λ s. is_clear_if_uninitialized ends.now (place_of s)) sections.now }
 {
     sections.iter().all(|s| is_clear(ends, *s))
 }
@@ -373,7 +379,7 @@ pub(crate) fn uninitialized_clear(
     segments: &[SegmentHeader],
     sections: &[SectionHeader],
 ) -> Result<bool, AllocError>
-    ensures { IfOk result (λ b. b ≡ all_clear segments.now sections.now) }
+    ensures { IfOk result (λ b. b ≡ all_clear segments.now (places_of sections.now)) }
 {
     let ends = sorted_file_ends(alloc, segments)?;
     Ok(are_clear(&ends, sections))
