@@ -1,1 +1,3 @@
 pub mod Computing
+pub mod HeaderLaws
+pub mod RoundLaws

@@ -7,10 +7,11 @@ use Rattle.elf_format.specs.declared.range.Range.{Range}
 use Rattle.elf_format.specs.Ranges.{all_apart, range}
 use Rattle.elf_format.specs.declared.records.SegmentHeader.{SegmentHeader}
 use Rattle.elf_format.specs.Records.{file_header_size, segment_header_size}
+use Rattle.elf_format.specs.Placement.{shows_at}
+use Rattle.elf_format.specs.Places.{Place, file_range, is_set, occupies_memory}
 use Rattle.elf_layout.specs.Follow.{has_bytes, is_just_over, is_loaded_section, is_over_notes}
 use Rattle.elf_layout.specs.Kept.{KeptSection, kept_sections, place_at_read}
 use Rattle.elf_layout.specs.Memory.{Resized, block_in_load, loaded_over}
-use Rattle.elf_layout.specs.Places.{Place, file_range, is_set, occupies_memory, shows_at}
 use Rattle.elf_layout.specs.Plan.{Layout}
 
 -- ## Memory

@@ -7,9 +7,9 @@ use Rattle.elf_format.specs.Options.{first_there, is_one_of}
 use Rattle.elf_format.specs.Placement.{file_part}
 use Rattle.elf_format.specs.Ranges.{apart, lies_in}
 use Rattle.elf_format.specs.declared.records.SegmentHeader.{SegmentHeader}
+use Rattle.elf_format.specs.Places.{file_range, occupies_file, occupies_memory}
 use Rattle.elf_layout.specs.Kept.{KeptSection, interpreter_number, is_numbered, kept_of_type, kept_sections, place_at_read}
 use Rattle.elf_layout.specs.Memory.{Resized}
-use Rattle.elf_layout.specs.Places.{file_range, occupies_file, occupies_memory}
 
 -- What a program header goes by.
 pub data Leader : Type 0 where
@@ -103,6 +103,12 @@ staying_notes moved notes = filter (λ s. not (is_moved moved s)) notes
 abbrev pub are_parted : List ℕ → List KeptSection → Bool
 are_parted moved notes = list_any (is_moved moved) notes && list_any (λ s. not (is_moved moved s)) notes
 
+abbrev pub is_parted : List ℕ → Leader → Bool
+is_parted moved Itself = false
+is_parted moved HeaderTable = false
+is_parted moved (OneSection s) = false
+is_parted moved (Notes notes) = are_parted moved notes
+
 -- a program header over several notes is split in two where only some of them move
 unfoldable pub is_split : Resized → List ℕ → SegmentHeader → Bool
-is_split r moved p = elim (leader_of r p) [ Notes notes ↦ are_parted moved notes | _ ↦ false ]
+is_split r moved p = is_parted moved (leader_of r p)

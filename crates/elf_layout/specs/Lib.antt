@@ -1,4 +1,3 @@
-pub mod Places
 pub mod Kept
 pub mod Needs
 pub mod Texts
@@ -15,3 +14,5 @@ pub mod Rows
 pub mod Apart
 pub mod Refusals
 pub mod PlanSeen
+pub mod FilePlaced
+pub mod Laws

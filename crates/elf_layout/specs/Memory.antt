@@ -5,14 +5,14 @@ use Rattle.elf_format.specs.declared.constants.TheConstants.{SHF_TLS, SHT_DYNSYM
 use Rattle.elf_format.specs.File.{loads_of}
 use Rattle.elf_format.specs.Image.{Image, ImageSection}
 use Rattle.elf_format.specs.Options.{is_one_of, list_at}
-use Rattle.elf_format.specs.Placement.{file_part}
+use Rattle.elf_format.specs.Placement.{file_part, shows_at}
 use Rattle.elf_format.specs.declared.range.Range.{Range}
 use Rattle.elf_format.specs.Ranges.{lies_in, range}
 use Rattle.elf_format.specs.declared.records.SegmentHeader.{SegmentHeader}
 use Rattle.elf_format.specs.Records.{file_header_size, segment_header_size}
+use Rattle.elf_format.specs.Places.{is_set, occupies_file, occupies_memory}
 use Rattle.elf_layout.specs.Blocks.{Block}
 use Rattle.elf_layout.specs.Kept.{KeptSection, dynamic_strings_number, interpreter_number, is_numbered, kept_sections, place_at_read}
-use Rattle.elf_layout.specs.Places.{is_set, occupies_file, occupies_memory, shows_at}
 
 -- An image whose sections have new sizes, and the image that was read from its source.
 pub record Resized : Type 0 where

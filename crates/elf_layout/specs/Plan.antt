@@ -6,9 +6,9 @@ use Rattle.elf_format.specs.File.{is_loaded}
 use Rattle.elf_format.specs.declared.form.Form.{Form}
 use Rattle.elf_format.specs.Image.{Image}
 use Rattle.elf_format.specs.declared.records.SegmentHeader.{SegmentHeader}
+use Rattle.elf_format.specs.Places.{Place}
 use Rattle.elf_layout.specs.Kept.{image_at_read}
 use Rattle.elf_layout.specs.Memory.{Resized}
-use Rattle.elf_layout.specs.Places.{Place}
 use Rattle.elf_layout.specs.Rounds.{AreRounds, is_stuck_with, leads_to}
 use Rattle.elf_layout.specs.Sizes.{do_sizes_fit, fits_field, new_sizes}
 use Rattle.elf_layout.specs.Standing.{places, sections_offset, table_offset}

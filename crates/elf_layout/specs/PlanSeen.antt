@@ -1,8 +1,8 @@
 -- What a plan holds, seen without where its lists lie.
 use Rattle.std.specs.Prelude.{map}
+use Rattle.elf_format.specs.Places.{Place}
 use Rattle.elf_layout.specs.declared.plan.Plan.TheInside.{Inside}
 use Rattle.elf_layout.specs.declared.plan.SectionPlace.{SectionPlace}
-use Rattle.elf_layout.specs.Places.{Place}
 use Rattle.elf_layout.specs.Plan.{Layout}
 
 abbrev pub place_seen : SectionPlace → Place

@@ -1,11 +1,12 @@
 -- Which fault is answered when.
-use Rattle.std.specs.Prelude.{ℕ, ◌≡◌, true, false, List, Bool}
+use Rattle.std.specs.Prelude.{ℕ, ◌≡◌, true, false, List, Bool, IsTrue}
 use Rattle.elf_format.specs.Image.{Image}
 use Rattle.elf_layout.specs.declared.fault.LayoutFault.{LayoutFault}
 use Rattle.elf_layout.specs.declared.fault.LayoutFault.TheVariants as faults
 use Rattle.elf_layout.specs.Kept.{image_at_read}
 use Rattle.elf_layout.specs.Plan.{IsOverlapping, IsTooLarge, resized}
-use Rattle.elf_layout.specs.Rounds.{is_stuck_with}
+use Rattle.elf_layout.specs.Memory.{Resized}
+use Rattle.elf_layout.specs.Rounds.{IsAsked, is_stuck_with}
 use Rattle.elf_layout.specs.Sizes.{do_sizes_fit, new_sizes}
 
 -- the new sizes of an image's sections
@@ -27,6 +28,12 @@ abbrev pub IsStuckBy : Image → ℕ → LayoutFault → Type 0
 IsStuckBy image added faults.Overlap = is_stuck_with (resized image) added ≡ true
 IsStuckBy image added faults.NumberTooLarge = ⊥
 IsStuckBy image added faults.Memory = Unit {0}
+
+-- two blocks that can't move overlap with a number of program headers more that is asked for
+pub record IsStuckAsked (r : Resized) : Type 0 where
+  pub looked : ℕ
+  pub asked : IsAsked r looked
+  pub stuck : IsTrue (is_stuck_with r looked)
 
 -- no plan
 abbrev pub IsNoPlan : Image → LayoutFault → Type 0

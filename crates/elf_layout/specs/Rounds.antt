@@ -3,12 +3,12 @@
 use Rattle.std.specs.Prelude.{ℕ, ◌+◌, ◌<◌, ◌≡◌, ◌⊎◌, List, [], ◌∷◌, ◌++◌, length, map, Bool, true, false, ◌&&◌, ◌||◌, not, IsTrue, Option, count_by, filter, nat_le, nat_lt, ◌==◌, if◌then◌else◌, slice_get}
 use Rattle.std.specs.List.{filter_map}
 use Rattle.elf_format.specs.declared.constants.TheConstants.{PF_X, SHF_EXECINSTR, SHF_WRITE, SHT_NOTE}
+use Rattle.elf_format.specs.Places.{is_set}
 use Rattle.elf_layout.specs.declared.constants.TheConstants.{PF_R, PF_W}
 use Rattle.elf_format.specs.Image.{ImageSection}
 use Rattle.elf_layout.specs.Blocks.{have_causes, is_stuck, stay_apart}
 use Rattle.elf_layout.specs.Follow.{is_split}
 use Rattle.elf_layout.specs.Memory.{Resized, SizedSection, blocks_with, sized_sections}
-use Rattle.elf_layout.specs.Places.{is_set}
 
 -- ## The sections that move, with so many entries more in the program header table
 

@@ -1,5 +1,5 @@
 -- Small images, edited, and where everything of them goes. Each row is computed.
-use Rattle.std.specs.Prelude.{ℕ, ◌+◌, ◌≡◌, List, [], ◌∷◌, ◌++◌, true, false, Option, Some, None, codes, replicate}
+use Rattle.std.specs.Prelude.{ℕ, ◌+◌, ◌-◌, ◌≡◌, List, [], ◌∷◌, ◌++◌, true, false, Option, Some, None, codes, replicate}
 use Rattle.patch_bytes.specs.declared.number.ByteOrder2.TheVariants.{Little}
 use Rattle.patch_bytes.specs.declared.number.Wide.TheVariants.{W64}
 use Rattle.elf_format.specs.declared.records.SegmentHeader.{SegmentHeader}
@@ -8,10 +8,10 @@ use Rattle.elf_format.specs.declared.section_data.SectionData.TheVariants as kin
 use Rattle.elf_format.specs.Dynamic.{Auto, Entry, Integer, Text}
 use Rattle.elf_format.specs.Image.{Image, ImageSection, counted}
 use Rattle.elf_image.specs.Segments.{added_stack}
+use Rattle.elf_format.specs.Places.{Place}
 use Rattle.elf_layout.specs.Memory.{Resized}
-use Rattle.elf_layout.specs.Places.{Place}
-use Rattle.elf_layout.specs.Plan.{IsOverlapping, IsPlan, Layout}
-use Rattle.elf_layout.specs.Rounds.{do_move, headers_needed}
+use Rattle.elf_layout.specs.Plan.{IsOverlapping, IsPlan, IsTooLarge, Layout}
+use Rattle.elf_layout.specs.Rounds.{do_move}
 use Rattle.elf_layout.specs.Sizes.{new_sizes}
 
 -- ## Parts of images
@@ -144,6 +144,31 @@ small_empty = image_of_parts 608 352 3 (small_load ∷ small_list ∷ [])
 abbrev pub small_empty_named : Resized
 small_empty_named = after_edit small_empty (record small_empty { entries = Some (Integer 21 0 ∷ Auto 5 ∷ Auto 10 ∷ Text 14 (codes "x") ∷ []) })
 
+-- the library without its first entry, then with a name of its own
+abbrev pub small_renamed : Resized
+small_renamed = small_with (Text 29 (codes "/a") ∷ Auto 5 ∷ Auto 10 ∷ Text 14 (codes "x") ∷ [])
+
+-- the library with a section that isn't loaded before the section of names, which was deleted
+abbrev pub small_noted : Image
+small_noted = image_of_parts 688 368 4 (small_load ∷ small_list ∷ [])
+    (null_section ∷ small_strings ∷ small_dynamic ∷ record (section (codes ".comment") kinds.Opaque 1 0 320 4 0 1) { sh_addr = 0 } ∷ names_section 324 37 ∷ [])
+    (Some small_entries) None
+
+abbrev pub small_without_note : Resized
+small_without_note = after_edit small_noted (record small_noted {
+  sections = null_section ∷ small_strings ∷ small_dynamic ∷ names_section 324 37 ∷ [];
+  section_numbers = 0 ∷ 1 ∷ 2 ∷ 4 ∷ [];
+})
+
+-- the library with an empty loaded section behind all that is written
+abbrev pub small_marked : Image
+small_marked = image_of_parts 672 352 4 (small_load ∷ small_list ∷ [])
+    (null_section ∷ small_strings ∷ small_dynamic ∷ record (section (codes ".mark") kinds.Opaque 1 2 600 0 0 1) { sh_addr = 4096 } ∷ names_section 320 34 ∷ [])
+    (Some small_entries) None
+
+abbrev pub small_marked_again : Resized
+small_marked_again = after_edit small_marked (record small_marked { changed = true })
+
 pub record SmallRows : Type 0 where
   -- without an edit
   pub sizes : new_sizes small_image small_image ≡ 0 ∷ 14 ∷ 80 ∷ 28 ∷ []
@@ -152,6 +177,11 @@ pub record SmallRows : Type 0 where
   -- a longer run path, up to the last byte before the dynamic list
   pub longer : IsPlan (small_run_path (codes "/a:/b")) (small_plan 17)
   pub longest : IsPlan (small_run_path (replicate 52 120)) (small_plan 64)
+  -- a run path that ends another text
+  pub shared : IsPlan (small_run_path (codes ".6")) (small_plan 11)
+  -- without a run path the strings are copied; with another text in place of one they aren't
+  pub copied : IsPlan (small_with (Text 1 (codes "libc.so.6") ∷ Auto 5 ∷ Auto 10 ∷ [])) (small_plan 14)
+  pub renamed : IsPlan small_renamed (small_plan 6)
   -- one byte more
   pub moves : IsPlan (small_run_path (replicate 53 120)) (moved_plan 65 385 416)
   -- an entry more takes the list past the end of memory
@@ -160,6 +190,62 @@ pub record SmallRows : Type 0 where
   pub from_nothing : IsPlan small_empty_named (moved_plan 3 323 352)
   -- the table of four program headers would reach into the dynamic list
   pub stack : IsOverlapping small_stack
+
+pub record SectionRows : Type 0 where
+  -- what isn't loaded closes up, the names are copied, and the last section is still the section of names
+  pub closes_up : IsPlan small_without_note (record (small_plan 14) {
+    places = no_place ∷ place 3 2 176 176 14 ∷ place 6 3 240 240 80 ∷ place 3 0 0 320 37 ∷ [];
+    e_shoff = 360;
+  })
+  -- an empty section ends up where the content does
+  pub empty_last : IsPlan small_marked_again (record (small_plan 14) {
+    places = no_place ∷ place 3 2 176 176 14 ∷ place 6 3 240 240 80 ∷ place 1 2 4096 354 0 ∷ place 3 0 0 320 34 ∷ [];
+    e_shoff = 360;
+  })
+
+-- ## The same library after its strings moved, and at the end of memory
+
+abbrev pub moved_strings : ImageSection
+moved_strings = record (section (codes ".dynstr") kinds.Strings 3 2 320 65 0 1) { sh_addr = 4416 }
+
+abbrev pub moved_image : Image
+moved_image = image_of_parts 672 416 3 (moved_plan 65 385 416).segments
+    (null_section ∷ moved_strings ∷ small_dynamic ∷ names_section 385 28 ∷ [])
+    (Some (Text 1 (codes "libc.so.6") ∷ Text 29 (replicate 53 120) ∷ Auto 5 ∷ Auto 10 ∷ [])) None
+
+abbrev pub moved_run_path : List ℕ → Resized
+moved_run_path text =
+    after_edit moved_image (record moved_image { entries = Some (Text 1 (codes "libc.so.6") ∷ Text 29 text ∷ Auto 5 ∷ Auto 10 ∷ []) })
+
+-- memory ends at 2 to the 64
+abbrev pub last_page : ℕ
+last_page = 0xfffffffffffffec0
+
+abbrev pub last_image : Image
+last_image = record small_image {
+  segments = record small_load { p_vaddr = last_page; p_paddr = 0 } ∷ record small_list { p_vaddr = last_page + 240 } ∷ [];
+  sections = null_section ∷ record small_strings { sh_addr = last_page + 176 } ∷ record small_dynamic { sh_addr = last_page + 240 } ∷ names_section 320 28 ∷ [];
+}
+
+abbrev pub last_run_path : List ℕ → Resized
+last_run_path text =
+    after_edit last_image (record last_image { entries = Some (Text 1 (codes "libc.so.6") ∷ Text 29 text ∷ Auto 5 ∷ Auto 10 ∷ []) })
+
+pub record AgainRows : Type 0 where
+  -- shorter strings stay in the segment that was added
+  pub shorter : IsPlan (moved_run_path (codes "/a")) (record (moved_plan 65 385 416) {
+    places = no_place ∷ place 3 2 4416 320 14 ∷ place 6 3 240 240 80 ∷ place 3 0 0 385 28 ∷ [];
+    rounds = 1;
+    looked = 0;
+  })
+  -- longer ones need another segment, and the table of four program headers would reach into the dynamic list
+  pub longer : IsOverlapping (moved_run_path (replicate 100 120))
+  -- no page is left where memory ends
+  pub fits : IsPlan (last_run_path (replicate 52 120)) (record (small_plan 64) {
+    places = no_place ∷ place 3 2 (last_page + 176) 176 64 ∷ place 6 3 (last_page + 240) 240 80 ∷ place 3 0 0 320 28 ∷ [];
+    segments = last_image.segments;
+  })
+  pub too_large : IsTooLarge (last_run_path (replicate 53 120))
 
 -- ## A program with an interpreter behind its program headers
 
@@ -215,4 +301,36 @@ pub record HighRows : Type 0 where
     e_shoff = 0x1238;
     rounds = 2;
     looked = 1;
+  })
+
+-- ## Several notes under one program header
+
+-- a first note at 176, a second one at an offset, and data behind them
+abbrev pub noted : ℕ → Image
+noted second = image_of_parts 1500 1152 4 (segment 1 6 0 0 1024 4096 ∷ segment 4 4 176 176 (second - 144) 4 ∷ [])
+    (null_section ∷ section (codes ".note.a") kinds.Note 7 2 176 64 0 4 ∷ section (codes ".note.b") kinds.Note 7 2 second 32 0 4
+    ∷ section (codes ".data") kinds.Opaque 1 3 512 512 0 1 ∷ names_section 1024 32 ∷ [])
+    None None
+
+abbrev pub noted_stack : ℕ → Resized
+noted_stack second = after_edit (noted second) (record (noted second) { segments = segment 1 6 0 0 1024 4096 ∷ segment 4 4 176 176 (second - 144) 4 ∷ added_stack 7 ∷ [] })
+
+pub record NoteRows : Type 0 where
+  -- the first note moves alone, and its program header is split
+  pub split : IsPlan (noted_stack 400) (record {
+    places = no_place ∷ place 7 2 5120 1024 64 ∷ place 7 2 400 400 32 ∷ place 1 3 512 512 512 ∷ place 3 0 0 1088 32 ∷ [];
+    segments = segment 1 6 0 0 1024 4096 ∷ segment 1 4 1024 5120 64 4096 ∷ segment 4 4 400 400 32 4 ∷ segment 4 4 1024 5120 64 4 ∷ added_stack 7 ∷ [];
+    e_phoff = 64;
+    e_shoff = 1120;
+    rounds = 2;
+    looked = 2;
+  })
+  -- the entries for the split push the second note away too: then there is none, and fewer are written than were looked with
+  pub both : IsPlan (noted_stack 240) (record {
+    places = no_place ∷ place 7 2 5120 1024 64 ∷ place 7 2 5184 1088 32 ∷ place 1 3 512 512 512 ∷ place 3 0 0 1120 32 ∷ [];
+    segments = segment 1 6 0 0 1024 4096 ∷ segment 1 4 1024 5120 96 4096 ∷ segment 4 4 1024 5120 96 4 ∷ added_stack 7 ∷ [];
+    e_phoff = 64;
+    e_shoff = 1152;
+    rounds = 2;
+    looked = 2;
   })

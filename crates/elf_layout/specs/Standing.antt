@@ -7,11 +7,11 @@ use Rattle.patch_bytes.specs.Number.{word_size}
 use Rattle.elf_format.specs.Placement.{file_part}
 use Rattle.elf_format.specs.Ranges.{end_of}
 use Rattle.elf_format.specs.Records.{section_header_size, segment_header_size}
+use Rattle.elf_format.specs.Places.{Place, occupies_file}
 use Rattle.elf_layout.specs.Added.{AddedLoad, Spot, added_loads, alignment_of, greatest, header_count, kept_end}
 use Rattle.elf_layout.specs.Follow.{is_loaded_section, is_moved}
 use Rattle.elf_layout.specs.Kept.{place_at_read}
 use Rattle.elf_layout.specs.Memory.{Resized, SizedSection, sized_sections, table_load}
-use Rattle.elf_layout.specs.Places.{Place, occupies_file}
 
 -- ## The program header table
 

@@ -8,11 +8,11 @@ use Rattle.elf_format.specs.declared.range.Range.{Range}
 use Rattle.elf_format.specs.Ranges.{end_of, range}
 use Rattle.elf_format.specs.declared.records.SegmentHeader.{SegmentHeader}
 use Rattle.elf_format.specs.Records.{segment_header_size}
+use Rattle.elf_format.specs.Places.{Place, file_range, occupies_memory}
 use Rattle.elf_layout.specs.Added.{added_loads, greatest, header_count}
 use Rattle.elf_layout.specs.Follow.{HeaderTable, Itself, Leader, Notes, OneSection, is_moved, leader_of, moved_notes, staying_notes}
 use Rattle.elf_layout.specs.Kept.{KeptSection}
 use Rattle.elf_layout.specs.Memory.{Resized}
-use Rattle.elf_layout.specs.Places.{Place, file_range, occupies_memory}
 use Rattle.elf_layout.specs.Standing.{places}
 
 -- Where a program header goes: bytes of the file and, where what it goes by is loaded, an address.

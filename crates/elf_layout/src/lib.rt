@@ -4,6 +4,7 @@
 
 pub mod constants;
 pub mod fault;
+pub mod laws;
 pub mod moving;
 pub mod plan;
 pub mod rows;

@@ -1,7 +1,9 @@
 ghost use Rattle.std.specs.Prelude.{◌≡◌, ◌+◌, ◌≤◌, IfErr, IfOk, IsTrue, OnOk, false};
+ghost use Rattle.elf_layout.specs.declared.fault.LayoutFault.TheVariants.{Overlap};
 ghost use Rattle.elf_layout.specs.Apart.{are_notes_shown, is_memory_apart};
+ghost use Rattle.elf_layout.specs.FilePlaced.{IsPlacedInFile};
 ghost use Rattle.elf_layout.specs.Plan.{IsPlan, most_added, resized};
-ghost use Rattle.elf_layout.specs.Refusals.{AreNoSizes, IsNoPlan, IsStuckBy, do_sizes_of_image_fit, sizes_of_image};
+ghost use Rattle.elf_layout.specs.Refusals.{AreNoSizes, IsNoPlan, IsStuckAsked, IsStuckBy, do_sizes_of_image_fit, sizes_of_image};
 ghost use Rattle.elf_layout.specs.Rounds.{IsAsked, do_move, is_stuck_with};
 
 use crate::fault::LayoutFault;
@@ -47,9 +49,12 @@ pub fn move_sections(
     ensures plan { IfOk result (λ plan. IsPlan (resized _builder.now) plan) }
     ensures fault { IfErr result (IsNoPlan _builder.now) }
 
+    ensures stuck { IfErr result (λ fault.
+        fault ≡ Overlap → IsStuckAsked (resized _builder.now)) }
     ensures asked { IfOk result (λ plan. IsAsked (resized _builder.now) plan.looked) }
     ensures rounds { IfOk result (λ plan. plan.rounds ≤ most_added _builder.now + 1) }
 
+    ensures file { IfOk result (λ plan. IsPlacedInFile (resized _builder.now) plan) }
     ensures apart { IfOk result (λ plan. IsTrue (is_memory_apart (resized _builder.now) plan)) }
     ensures notes { IfOk result (λ plan. IsTrue (are_notes_shown (resized _builder.now) plan)) }
 {

@@ -1,5 +1,5 @@
 //! Small images, edited, and where everything of them goes. The functions do nothing: the contract of each is computed.
-ghost use Rattle.elf_layout.specs.Rows.{HighRows, SmallRows, StartRows};
+ghost use Rattle.elf_layout.specs.Rows.{AgainRows, HighRows, NoteRows, SectionRows, SmallRows, StartRows};
 
 /// A small library with a longer run path, a name, a program header more.
 pub fn small_rows()
@@ -14,4 +14,19 @@ pub fn start_rows()
 /// The address of an added segment.
 pub fn high_rows()
     ensures { HighRows }
+{}
+
+/// Sections that aren't loaded, or are empty.
+pub fn section_rows()
+    ensures { SectionRows }
+{}
+
+/// A library that was edited before, and one at the end of memory.
+pub fn again_rows()
+    ensures { AgainRows }
+{}
+
+/// Several notes under one program header, some of which move.
+pub fn note_rows()
+    ensures { NoteRows }
 {}
