@@ -1,12 +1,12 @@
 -- Rounds: what each leads to is asked for, and they come to an end.
-use Rattle.std.proofs.Common.{◌≡◌, ℕ, ◌+◌, ◌≤◌, ◌<◌, Bool, true, false, ◌&&◌, ◌⊎◌, List, [], ◌∷◌, length, refl, sym, subst, inl, inr, arith, ◌-◌, ◌*◌, ◌∙◌}
-use Rattle.std.specs.Prelude.{IsTrue, nat_le, nat_lt, ◌==◌, count_by}
+use Rattle.std.proofs.Common.{◌≡◌, ℕ, ◌+◌, ◌≤◌, true, ◌&&◌, List, [], ◌∷◌, length, refl, subst, inl, inr, arith}
+use Rattle.std.specs.Prelude.{nat_lt}
 use Rattle.std.proofs.lemmas.Bool.{and_parts, eqb-true, ltb-true}
 use Rattle.elf_layout.specs.Blocks.{have_causes, stay_apart}
 use Rattle.elf_layout.specs.Laws.{RoundsAreAsked, RoundsEnd}
 use Rattle.elf_layout.specs.Memory.{Resized, blocks_with}
 use Rattle.elf_layout.specs.Plan.{most_added}
-use Rattle.elf_layout.specs.Rounds.{AreAskedBy, IsAsked, are_in_old_order, do_move, headers_needed, leads_to, sections_at}
+use Rattle.elf_layout.specs.Rounds.{IsAsked, are_in_old_order, do_move, headers_needed, leads_to, sections_at}
 use Rattle.elf_layout.proofs.HeaderLaws.{headers_needed-le}
 
 module _ (r : Resized) where

@@ -1,5 +1,5 @@
 -- The loaded segments that are added for sections that move: where they stand, and where their sections stand in them.
-use Rattle.std.specs.Prelude.{ℕ, ◌+◌, ◌-◌, ◌*◌, ◌%◌, max, List, [], ◌∷◌, length, map, filter, fold, Bool, true, false, ◌&&◌, not, Option, Some, None, nat_le, ◌==◌, if◌then◌else◌}
+use Rattle.std.specs.Prelude.{ℕ, ◌+◌, ◌-◌, ◌*◌, ◌%◌, max, List, [], ◌∷◌, length, map, filter, fold, Bool, true, ◌&&◌, not, Some, None, nat_le, ◌==◌, if◌then◌else◌}
 use Rattle.std.specs.Int.{next_multiple_of}
 use Rattle.std.specs.List.{list_any}
 use Rattle.elf_format.specs.declared.constants.TheConstants.{EM_MIPS, PT_LOAD}
@@ -7,10 +7,10 @@ use Rattle.elf_layout.specs.declared.constants.TheConstants.{EM_AARCH64, EM_ALPH
 use Rattle.elf_format.specs.File.{loads_of}
 use Rattle.elf_format.specs.Options.{is_one_of}
 use Rattle.elf_format.specs.Placement.{file_part, memory_part}
-use Rattle.elf_format.specs.Ranges.{end_of, range}
+use Rattle.elf_format.specs.Ranges.{end_of}
 use Rattle.elf_format.specs.declared.records.SegmentHeader.{SegmentHeader}
 use Rattle.elf_format.specs.Records.{file_header_size, segment_header_size}
-use Rattle.elf_layout.specs.Follow.{HeaderTable, Itself, Leader, Notes, OneSection, is_loaded_section, is_moved, leader_of}
+use Rattle.elf_layout.specs.Follow.{HeaderTable, Itself, Notes, OneSection, is_loaded_section, is_moved, leader_of}
 use Rattle.elf_layout.specs.Kept.{KeptSection}
 use Rattle.elf_layout.specs.Memory.{Resized, SizedSection, sized_sections, takes_memory}
 use Rattle.elf_layout.specs.Rounds.{added_flags, flags_for, headers_needed, sections_at}
@@ -54,7 +54,7 @@ unfoldable pub memory_end : Resized → ℕ
 memory_end r =
     let sections = filter (λ s. takes_memory s.kept.section && not (s.kept.section.sh_size == 0)) (sized_sections r) in
     greatest (greatest 0 (map (λ p. end_of (memory_part p)) (loads_of r.image.segments)))
-      (map (λ s. s.kept.section.sh_addr + s.kept.section.sh_size) sections)
+    (map (λ s. s.kept.section.sh_addr + s.kept.section.sh_size) sections)
 
 -- ## The alignment of what is loaded
 

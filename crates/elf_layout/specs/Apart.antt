@@ -1,5 +1,5 @@
 -- What a plan promises of memory: what stands in it is apart, and notes are found where they stand.
-use Rattle.std.specs.Prelude.{ℕ, ◌*◌, List, [], ◌∷◌, ◌++◌, length, map, filter, Bool, ◌&&◌, ◌||◌, not, Option, ◌==◌, slice_get}
+use Rattle.std.specs.Prelude.{ℕ, ◌*◌, List, [], ◌∷◌, ◌++◌, length, map, filter, Bool, ◌&&◌, ◌||◌, not, ◌==◌, slice_get}
 use Rattle.std.specs.List.{list_all, list_any}
 use Rattle.elf_format.specs.declared.constants.TheConstants.{PT_GNU_PROPERTY, PT_NOTE, SHF_TLS, SHT_NOBITS, SHT_NOTE, SHT_NULL}
 use Rattle.elf_format.specs.Options.{is_one_of, is_none_or}
@@ -56,10 +56,10 @@ is_shown_by segments type s = list_any (λ q. q.p_type == type && shows_place q 
 abbrev pub is_note_shown : Resized → Layout → KeptSection → Bool
 is_note_shown r plan s =
     list_all (λ p. is_none_or (is_shown_by plan.segments p.p_type) (slice_get plan.places s.position))
-      (filter (did_show_note r s) r.read.segments)
+    (filter (did_show_note r s) r.read.segments)
 
 -- Every loaded note section that is still there is shown as it was.
 unfoldable pub are_notes_shown : Resized → Layout → Bool
 are_notes_shown r plan =
     list_all (is_note_shown r plan)
-      (filter (λ s. s.section.sh_type == SHT_NOTE && is_loaded_section s.section && has_bytes s.section) (kept_sections r.image))
+    (filter (λ s. s.section.sh_type == SHT_NOTE && is_loaded_section s.section && has_bytes s.section) (kept_sections r.image))

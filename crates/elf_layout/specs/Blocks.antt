@@ -1,5 +1,5 @@
 -- Blocks of memory: which two overlap, and which of the two moves.
-use Rattle.std.specs.Prelude.{ℕ, ◌+◌, List, [], ◌∷◌, Bool, true, false, ◌&&◌, ◌||◌, not, Option, nat_le, nat_lt, ◌==◌, unwrap_or}
+use Rattle.std.specs.Prelude.{ℕ, ◌+◌, List, [], ◌∷◌, Bool, false, ◌&&◌, ◌||◌, not, Option, nat_le, nat_lt, ◌==◌, unwrap_or}
 use Rattle.std.specs.List.{list_all, list_any}
 use Rattle.elf_format.specs.Options.{is_one_of, is_some_and}
 

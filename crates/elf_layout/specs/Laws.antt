@@ -2,7 +2,7 @@
 use Rattle.std.specs.Prelude.{ℕ, ◌≤◌, List, length, IsTrue}
 use Rattle.elf_layout.specs.Memory.{Resized}
 use Rattle.elf_layout.specs.Plan.{most_added}
-use Rattle.elf_layout.specs.Rounds.{AreRounds, IsAsked, leads_to}
+use Rattle.elf_layout.specs.Rounds.{IsAsked, leads_to}
 
 -- Rounds lead to a number of entries that is asked for.
 abbrev pub RoundsAreAsked : Type 0

@@ -1,5 +1,5 @@
 -- A plan: where everything of an edited image goes.
-use Rattle.std.specs.Prelude.{ℕ, ◌+◌, ◌≡◌, ◌≤◌, List, [], ◌∷◌, length, map, Bool, ◌&&◌, not, IsTrue, count_by, nat_le, nat_lt}
+use Rattle.std.specs.Prelude.{ℕ, ◌+◌, ◌≡◌, List, [], ◌∷◌, length, Bool, ◌&&◌, not, IsTrue, count_by, nat_le, nat_lt}
 use Rattle.std.specs.List.{list_all}
 use Rattle.elf_format.specs.declared.constants.TheConstants.{PN_XNUM, SHN_LORESERVE}
 use Rattle.elf_format.specs.File.{is_loaded}
@@ -10,7 +10,7 @@ use Rattle.elf_format.specs.Places.{Place}
 use Rattle.elf_layout.specs.Kept.{image_at_read}
 use Rattle.elf_layout.specs.Memory.{Resized}
 use Rattle.elf_layout.specs.Rounds.{AreRounds, is_stuck_with, leads_to}
-use Rattle.elf_layout.specs.Sizes.{do_sizes_fit, fits_field, new_sizes}
+use Rattle.elf_layout.specs.Sizes.{fits_field, new_sizes}
 use Rattle.elf_layout.specs.Standing.{places, sections_offset, table_offset}
 use Rattle.elf_layout.specs.Written.{address_for, targets_of, written_segments}
 

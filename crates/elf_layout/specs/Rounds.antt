@@ -1,6 +1,6 @@
 -- Which sections move, and how many program headers more that takes. Each further program header makes the table longer, which
 -- may push more sections away: so it is looked in rounds.
-use Rattle.std.specs.Prelude.{ℕ, ◌+◌, ◌<◌, ◌≡◌, ◌⊎◌, List, [], ◌∷◌, ◌++◌, length, map, Bool, true, false, ◌&&◌, ◌||◌, not, IsTrue, Option, count_by, filter, nat_le, nat_lt, ◌==◌, if◌then◌else◌, slice_get}
+use Rattle.std.specs.Prelude.{ℕ, ◌+◌, ◌<◌, ◌≡◌, ◌⊎◌, List, [], ◌∷◌, length, map, Bool, true, ◌&&◌, ◌||◌, not, IsTrue, count_by, filter, nat_le, nat_lt, ◌==◌, if◌then◌else◌, slice_get}
 use Rattle.std.specs.List.{filter_map}
 use Rattle.elf_format.specs.declared.constants.TheConstants.{PF_X, SHF_EXECINSTR, SHF_WRITE, SHT_NOTE}
 use Rattle.elf_format.specs.Places.{is_set}

@@ -1,5 +1,5 @@
 -- How large each section is to be.
-use Rattle.std.specs.Prelude.{ℕ, ◌+◌, ◌*◌, ◌/◌, ◌^◌, max, List, [], ◌∷◌, length, map, filter, drop, count_by, sum_by, Bool, ◌&&◌, ◌||◌, not, Option, Some, None, nat_le, nat_lt, ◌==◌, if◌then◌else◌, unwrap_or}
+use Rattle.std.specs.Prelude.{ℕ, ◌+◌, ◌*◌, ◌/◌, ◌^◌, max, List, length, map, drop, count_by, sum_by, Bool, ◌&&◌, ◌||◌, not, Some, None, nat_le, nat_lt, ◌==◌, if◌then◌else◌, unwrap_or}
 use Rattle.std.specs.List.{list_all}
 use Rattle.patch_bytes.specs.Number.{word_size}
 use Rattle.patch_bytes.specs.Memory.{memory_of}

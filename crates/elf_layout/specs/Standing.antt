@@ -1,15 +1,14 @@
 -- Where everything of the image stands in the file that is written: the two header tables and every section.
-use Rattle.std.specs.Prelude.{ℕ, ◌+◌, ◌*◌, max, min, List, [], ◌∷◌, length, map, filter, find, Bool, ◌&&◌, not, Option, Some, None, is_some, ◌==◌, if◌then◌else◌}
+use Rattle.std.specs.Prelude.{ℕ, ◌+◌, ◌*◌, min, List, [], ◌∷◌, length, map, filter, find, Bool, ◌&&◌, not, Option, Some, None, is_some, ◌==◌, if◌then◌else◌}
 use Rattle.std.specs.Int.{next_multiple_of}
 use Rattle.std.specs.List.{flat_map}
-use Rattle.patch_bytes.specs.Memory.{◌>>=◌}
 use Rattle.patch_bytes.specs.Number.{word_size}
 use Rattle.elf_format.specs.Placement.{file_part}
 use Rattle.elf_format.specs.Ranges.{end_of}
 use Rattle.elf_format.specs.Records.{section_header_size, segment_header_size}
 use Rattle.elf_format.specs.Places.{Place, occupies_file}
-use Rattle.elf_layout.specs.Added.{AddedLoad, Spot, added_loads, alignment_of, greatest, header_count, kept_end}
-use Rattle.elf_layout.specs.Follow.{is_loaded_section, is_moved}
+use Rattle.elf_layout.specs.Added.{Spot, added_loads, alignment_of, greatest, header_count, kept_end}
+use Rattle.elf_layout.specs.Follow.{is_loaded_section}
 use Rattle.elf_layout.specs.Kept.{place_at_read}
 use Rattle.elf_layout.specs.Memory.{Resized, SizedSection, sized_sections, table_load}
 

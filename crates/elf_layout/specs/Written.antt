@@ -1,5 +1,5 @@
 -- The program headers that are written.
-use Rattle.std.specs.Prelude.{ℕ, ◌+◌, ◌-◌, ◌*◌, max, List, [], ◌∷◌, ◌++◌, map, Bool, true, ◌&&◌, ◌||◌, not, Option, Some, None, nat_lt, ◌==◌, if◌then◌else◌, slice_get}
+use Rattle.std.specs.Prelude.{ℕ, ◌+◌, ◌-◌, ◌*◌, max, List, [], ◌∷◌, ◌++◌, map, true, ◌&&◌, ◌||◌, not, Option, Some, None, nat_lt, ◌==◌, if◌then◌else◌, slice_get}
 use Rattle.std.specs.List.{filter_map, flat_map, list_any}
 use Rattle.elf_format.specs.declared.constants.TheConstants.{PT_DYNAMIC, PT_INTERP}
 use Rattle.elf_format.specs.File.{is_loaded}
@@ -10,7 +10,7 @@ use Rattle.elf_format.specs.declared.records.SegmentHeader.{SegmentHeader}
 use Rattle.elf_format.specs.Records.{segment_header_size}
 use Rattle.elf_format.specs.Places.{Place, file_range, occupies_memory}
 use Rattle.elf_layout.specs.Added.{added_loads, greatest, header_count}
-use Rattle.elf_layout.specs.Follow.{HeaderTable, Itself, Leader, Notes, OneSection, is_moved, leader_of, moved_notes, staying_notes}
+use Rattle.elf_layout.specs.Follow.{HeaderTable, Itself, Notes, OneSection, is_moved, leader_of, moved_notes, staying_notes}
 use Rattle.elf_layout.specs.Kept.{KeptSection}
 use Rattle.elf_layout.specs.Memory.{Resized}
 use Rattle.elf_layout.specs.Standing.{places}

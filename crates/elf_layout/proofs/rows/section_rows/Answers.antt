@@ -1,5 +1,5 @@
 -- Each row is computed.
-use Rattle.std.specs.Prelude.{[], ◌∷◌}
+use Rattle.std.specs.Prelude.{[]}
 use Rattle.std.proofs.Common.{refl}
 use Rattle.elf_layout.proofs.Computing.{computing}
 use Rattle.elf_layout.proofs.rows.section_rows.Goals as goal
