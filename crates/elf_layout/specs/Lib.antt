@@ -10,6 +10,9 @@ pub mod Added
 pub mod Standing
 pub mod Written
 pub mod Plan
+pub mod RowParts
+pub mod SmallRows
+pub mod AgainRows
 pub mod Rows
 pub mod Apart
 pub mod Refusals

@@ -1,5 +1,7 @@
 //! Small images, edited, and where everything of them goes. The functions do nothing: the contract of each is computed.
-ghost use Rattle.elf_layout.specs.Rows.{AgainRows, HighRows, NoteRows, SectionRows, SmallRows, StartRows};
+ghost use Rattle.elf_layout.specs.AgainRows.{AgainRows};
+ghost use Rattle.elf_layout.specs.Rows.{HighRows, NoteRows, StartRows};
+ghost use Rattle.elf_layout.specs.SmallRows.{SectionRows, SmallRows};
 
 /// A small library with a longer run path, a name, a program header more.
 pub fn small_rows()
