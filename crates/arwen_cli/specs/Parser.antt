@@ -110,11 +110,14 @@ abbrev pub found_by : List Named → Text → List Row → Option (Text × Given
 found_by table name rows = option_and_then (λ row. option_map (λ given. (row.name, given))
     (found_values row.kind rows)) (named table name)
 
+-- the same of a command that may have been found
+abbrev pub taken_in : List Named → Option (Text × List Row) → Option (Text × Given)
+taken_in table = option_and_then (λ p. found_by table p.0 p.1)
+
 -- the parser takes the words, and finds this command with these values
 abbrev pub IsTaken : Text → List Named → List Text → Text × Given → Type 0
 IsTaken first table list taken = (fault_of (line_app first table) list ≡ [])
-    × (option_and_then (λ p. found_by table p.0 p.1) (subcommand_of (line_app first table) list)
-    ≡ Some taken)
+    × (taken_in table (subcommand_of (line_app first table) list) ≡ Some taken)
 
 -- no command is named as the parser's own, which prints help
 abbrev pub has_no_help : List Named → Bool
