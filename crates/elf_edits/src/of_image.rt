@@ -11,7 +11,7 @@ use elf_image::constants::PT_GNU_STACK;
 use elf_image::{Builder, Dynamic, Segment};
 
 // Whether there is a program header for the stack.
-fn has_stack(segments: &[Segment<'_>]) -> bool
+fn has_stack(segments: &[Segment]) -> bool
     ensures { result ≡ is_some (segment_of_type STACK (map segment_kept segments.now)) }
 {
     for segment in segments {

@@ -22,7 +22,7 @@ pub struct Builder<'data> {
     pub(crate) changed: bool,
     pub(crate) form: Form,
     pub(crate) header: Header,
-    pub(crate) segments: Vec<Segment<'data>>,
+    pub(crate) segments: Vec<Segment>,
     pub(crate) sections: Vec<Section<'data>>,
     pub(crate) symbols: Vec<Symbol<'data>>,
     pub(crate) dynamic_symbols: Vec<Symbol<'data>>,
@@ -75,7 +75,7 @@ impl<'data> Builder<'data> {
     }
 
     /// The program headers (gABI, Program Header), in order. Takes no memory.
-    pub fn segments(&self) -> &[Segment<'data>]
+    pub fn segments(&self) -> &[Segment]
         ensures { map segment_kept result.now ≡ self.now.segments }
     {
         self.segments.as_slice()

@@ -1,5 +1,5 @@
 //! The changes of an image, one part at a time.
-ghost use Rattle.std.specs.Prelude.{◌≡◌, ◌<◌, ◌==◌, All, MatchResult, IsSome, IsTrue, map, not, option_map, position, vec_len, None as none, Some as some, true};
+ghost use Rattle.std.specs.Prelude.{◌≡◌, ◌<◌, ◌==◌, All, IfOk, MatchResult, IsSome, IsTrue, map, not, option_map, position, vec_len, None as none, Some as some, true};
 ghost use Rattle.std.specs.List.{remove};
 ghost use Rattle.elf_format.specs.declared.constants.TheConstants.{PT_GNU_STACK as STACK};
 ghost use Rattle.elf_image.specs.DynamicList.{IsListed, KeepsTables, all_but_last, can_delete, can_retag, can_follow, holds_nul, is_free_tag, retagged, with_tag_at, without_tag};
@@ -9,14 +9,17 @@ ghost use Rattle.elf_image.specs.Segments.{added_stack as added_header, with_loa
 
 use crate::builder::Builder;
 use crate::dynamic::Dynamic;
-use crate::segment::{STACK_ALIGN, Segment};
+use crate::segment::{STACK_ALIGN, STACK_FLAGS, Segment};
 use elf_format::constants::PT_GNU_STACK;
 use elf_format::records::SegmentHeader;
 use patch_bytes::ByteString;
 use std::alloc::{AllocError, Global};
-use std::marker::PhantomData;
 
 impl<'data> Builder<'data> {
+    ghost use Rattle.std.specs.Borrow.{sem};
+    ghost use Rattle.elf_image.specs.Lending.{LendsAddedFlags, LendsStackFlags, LendsFlagsOfStack};
+    ghost use Rattle.elf_image.specs.declared.segment.TheConstants.{STACK_FLAGS as ADDED_FLAGS};
+
     /// Puts another dynamic list in place of the one that is there (gABI, Dynamic Section). The caller sees that
     /// it names the same tables in the same order, and that each entry may stand before the DT_NULL. Takes no
     /// memory.
@@ -131,7 +134,7 @@ impl<'data> Builder<'data> {
     }
 
     /// The first PT_GNU_STACK, whose flags say whether the stack may be run (GNU extension). Takes no memory.
-    pub fn stack(&self) -> Option<&Segment<'data>>
+    pub fn stack(&self) -> Option<&Segment>
         ensures { option_map (λ p. segment_kept p.now) result
             ≡ segment_of_type STACK self.now.segments }
     {
@@ -166,10 +169,46 @@ impl<'data> Builder<'data> {
         self.changed = true;
         Ok(())
     }
+
+    /// Lends the flags of the first PT_GNU_STACK; the image counts as changed where it lends them. Takes no
+    /// memory.
+    pub fn stack_mut(&mut self) -> Option<&mut u32>
+        ensures* lends { sem 𝓛 (LendsStackFlags self.entry result) }
+        ensures value { option_map (λ flags. flags.now) result
+            ≡ option_map (λ p. p.p_flags) (segment_of_type STACK self.old.segments) }
+    {
+        match stack_position(&self.segments) {
+            Some(at) => Some(self.stack_flags_at(at)),
+            None => None,
+        }
+    }
+
+    // Lends the flags of the first program header for the stack, which stands at a position.
+    fn stack_flags_at(&mut self, at: usize) -> &mut u32
+        requires { position (λ p. p.p_type == STACK) self.old.segments ≡ some at }
+        ensures* lends { sem 𝓛 (LendsFlagsOfStack self.entry result) }
+        ensures value { some result.now
+            ≡ option_map (λ p. p.p_flags) (segment_of_type STACK self.old.segments) }
+    {
+        self.changed = true;
+        self.segments[at].flags_mut()
+    }
+
+    /// Puts a PT_GNU_STACK behind all program headers, which have none (GNU extension): it says that the stack is
+    /// read, written and run, and stands nowhere. Lends its flags. Error: `AllocError`, and nothing has changed.
+    pub fn add_stack(&mut self, alloc: Global) -> Result<&mut u32, AllocError>
+        requires { segment_of_type STACK self.old.segments ≡ none }
+        ensures* lends { sem 𝓛 (LendsAddedFlags self.entry result) }
+        ensures value { IfOk result (λ flags. flags.now ≡ ADDED_FLAGS) }
+    {
+        self.push_stack(alloc, STACK_FLAGS)?;
+        let at = self.segments.len() - 1;
+        Ok(self.stack_flags_at(at))
+    }
 }
 
 // The program header for the stack, as it is added.
-fn added_stack<'data>(flags: u32) -> Segment<'data>
+fn added_stack(flags: u32) -> Segment
     ensures { segment_kept result ≡ added_header flags }
 {
     Segment {
@@ -183,7 +222,6 @@ fn added_stack<'data>(flags: u32) -> Segment<'data>
             p_memsz: 0,
             p_align: STACK_ALIGN,
         },
-        of: PhantomData,
     }
 }
 
@@ -221,7 +259,7 @@ fn retag_entries(list: &mut Vec<Dynamic<'_>>, old: u64, new: u64)
 }
 
 // The loaded segments get the alignment.
-fn align_loads(segments: &mut Vec<Segment<'_>>, align: u64)
+fn align_loads(segments: &mut Vec<Segment>, align: u64)
     ensures { map segment_kept segments.new.items
         ≡ with_load_align align (map segment_kept segments.old.items) }
 {
@@ -231,7 +269,7 @@ fn align_loads(segments: &mut Vec<Segment<'_>>, align: u64)
 }
 
 // Where the first program header for the stack stands.
-fn stack_position(segments: &[Segment<'_>]) -> Option<usize>
+fn stack_position(segments: &[Segment]) -> Option<usize>
     ensures { result ≡ position (λ p. (segment_kept p).p_type == STACK) segments.now }
 {
     segments
@@ -240,7 +278,7 @@ fn stack_position(segments: &[Segment<'_>]) -> Option<usize>
 }
 
 // The first program header for the stack gets the flags.
-fn flag_stack(segments: &mut Vec<Segment<'_>>, flags: u32)
+fn flag_stack(segments: &mut Vec<Segment>, flags: u32)
     ensures { map segment_kept segments.new.items
         ≡ with_stack_flags flags (map segment_kept segments.old.items) }
 {

@@ -71,7 +71,7 @@ impl<'data> Builder<'data> {
 }
 
 // The program header of the interpreter.
-fn interpreter_segment<'a, 'data>(segments: &'a [Segment<'data>]) -> Option<&'a Segment<'data>>
+fn interpreter_segment(segments: &[Segment]) -> Option<&Segment>
     ensures { option_map (λ p. segment_kept p.now) result
         ≡ segment_of_type INTERP (map segment_kept segments.now) }
 {
@@ -81,7 +81,7 @@ fn interpreter_segment<'a, 'data>(segments: &'a [Segment<'data>]) -> Option<&'a 
 }
 
 // Where the first section stands that has the bytes of the interpreter's program header.
-fn interpreter_section(segment: &Segment<'_>, sections: &[Section<'_>]) -> Option<usize>
+fn interpreter_section(segment: &Segment, sections: &[Section<'_>]) -> Option<usize>
     ensures { result
         ≡ position (has_interpreter (segment_kept segment.now)) (map section_kept sections.now) }
 {

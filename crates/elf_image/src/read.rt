@@ -38,7 +38,6 @@ use elf_versions::rule::are_versions_right;
 use elf_versions::walks::{DefinitionWalk, NeedWalk, walk_definitions, walk_needs};
 use patch_bytes::ByteString;
 use std::alloc::{AllocError, Global};
-use std::marker::PhantomData;
 
 // What the file header says besides the tables' sizes.
 fn header(read: FileHeader) -> Header
@@ -58,18 +57,12 @@ fn header(read: FileHeader) -> Header
 }
 
 // The program headers.
-fn segments<'data>(
-    alloc: Global,
-    headers: &[SegmentHeader],
-) -> Result<Vec<Segment<'data>>, AllocError>
+fn segments(alloc: Global, headers: &[SegmentHeader]) -> Result<Vec<Segment>, AllocError>
     ensures { IfOk result (λ made. map segment_kept made.items ≡ headers.now) }
 {
     let mut made = Vec::with_capacity(alloc, headers.len())?;
     for numbers in headers {
-        made.push(Segment {
-            numbers: *numbers,
-            of: PhantomData,
-        })?;
+        made.push(Segment { numbers: *numbers })?;
     }
     Ok(made)
 }
@@ -173,7 +166,7 @@ fn numbers_at_read(alloc: Global, named: &Named<'_>) -> Result<Numbers, AllocErr
 // What is kept of a file besides its header tables.
 #[derive(Drop)]
 pub(crate) struct Gathered<'data> {
-    segments: Vec<Segment<'data>>,
+    segments: Vec<Segment>,
     named: Named<'data>,
     listed: Listed<'data>,
     interpreter: Option<ByteString<'data>>,
@@ -183,7 +176,7 @@ pub(crate) struct Gathered<'data> {
 // These parts together.
 fn gather<'data>(
     parts: &Headers<'data>,
-    segments: Vec<Segment<'data>>,
+    segments: Vec<Segment>,
     named: Named<'data>,
     listed: Listed<'data>,
     numbers: Numbers,

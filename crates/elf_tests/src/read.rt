@@ -70,7 +70,7 @@ fn as_it_was_read(rt: HostRuntime) {
 }
 
 // The numbers of a program header.
-fn numbers(segment: &Segment<'_>) -> [u64; 8] {
+fn numbers(segment: &Segment) -> [u64; 8] {
     [
         segment.p_type() as u64,
         segment.p_flags() as u64,

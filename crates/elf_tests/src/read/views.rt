@@ -13,7 +13,7 @@ use patch_bytes::ByteString;
 use std::alloc::{AllocError, Global};
 
 // The flags of the first PT_GNU_STACK.
-fn stack_flags(segments: &[Segment<'_>]) -> Option<u32> {
+fn stack_flags(segments: &[Segment]) -> Option<u32> {
     let stack = segments.iter().find(|p| p.p_type() == PT_GNU_STACK)?;
     Some(stack.p_flags())
 }

@@ -14,14 +14,14 @@ pub trait BuilderExt<'data> {
     ghost image: { Self → Image };
 
     /// The first PT_GNU_STACK, whose flags say whether the stack may be run (GNU extension). Takes no memory.
-    fn gnu_stack(&self) -> Option<&Segment<'data>>
+    fn gnu_stack(&self) -> Option<&Segment>
         ensures { option_map (λ p. segment_kept p.now) result ≡ segment_of_type STACK (image self.now).segments };
 }
 
 impl<'data> BuilderExt<'data> for Builder<'data> {
     ghost image = { λ b. b };
 
-    fn gnu_stack(&self) -> Option<&Segment<'data>> {
+    fn gnu_stack(&self) -> Option<&Segment> {
         self.segments()
             .iter()
             .find(|segment| segment.p_type() == PT_GNU_STACK)
