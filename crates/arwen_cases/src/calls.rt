@@ -1,6 +1,6 @@
 //! The calls that work on bytes and on a writer, and touch no file.
 use crate::changes::print_rows;
-use crate::tell;
+use crate::{tell, tell_answer};
 use arwen_cli::cli::{ArwenError, ElfCommand, MachoCommand, Probe, run_elf, run_macho};
 use std::io;
 use std::io::Cursor;
@@ -37,11 +37,19 @@ impl Probe for NoLibraries {
 /// Prints what a command writes on a page, and the fault where it does not fit.
 pub(crate) fn print(rt: &HostRuntime, bytes: &[u8], command: &ElfCommand) -> io::Result<()> {
     let mut page = Cursor::new([0; 8]);
-    match printed(rt, bytes, command, &mut page) {
-        Ok(_) => println!(rt; "status 0")?,
-        Err(error) => tell(rt, &error)?,
-    }
+    print_answer(rt, bytes, command, &mut page)?;
     print_rows(rt, &[0; 8], page.get_ref())
+}
+
+/// Prints the status of a command that writes on a page, and the fault where it does not fit.
+fn print_answer(
+    rt: &HostRuntime,
+    bytes: &[u8],
+    command: &ElfCommand,
+    page: &mut Page,
+) -> io::Result<()> {
+    let answer = printed(rt, bytes, command, page);
+    tell_answer(rt, &answer)
 }
 
 /// The answer of a command that prints, asked for again where memory was refused: that leaves the page as it was.

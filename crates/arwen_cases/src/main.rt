@@ -28,9 +28,13 @@ const FILE: &str = "file";
 
 fn main(rt: HostRuntime) -> io::Result<()> {
     let cases = content(&rt, "cases")?.unwrap_or(Vec::new(rt.alloc()));
-    let cases = std::str::from_utf8(cases.as_slice()).unwrap_or("");
+    steps(&rt, std::str::from_utf8(cases.as_slice()).unwrap_or(""))
+}
+
+/// Prints the lines of the cases, and what comes of each.
+fn steps(rt: &HostRuntime, cases: &str) -> io::Result<()> {
     for line in cases.lines() {
-        step(&rt, line)?;
+        step(rt, line)?;
     }
     Ok(())
 }
@@ -53,7 +57,7 @@ fn content(rt: &HostRuntime, path: &str) -> io::Result<Option<Vec<u8>>> {
     match fs::read(rt, path) {
         Ok(bytes) => Ok(Some(bytes)),
         Err(error) if error.kind() == io::ErrorKind::NotFound => Ok(None),
-        Err(_) => Ok(Some(fs::read(rt, path)?)),
+        Err(_) => fs::read(rt, path).map(Some),
     }
 }
 
@@ -86,27 +90,38 @@ fn words_of<'a>(rt: &HostRuntime, words: &'a str) -> Result<Vec<&'a str>, AllocE
 fn run(rt: &HostRuntime, words: &str) -> io::Result<()> {
     let before = content(rt, FILE)?;
     answer(rt, words, &before)?;
-    print_changes(rt, &before, &content(rt, FILE)?)
+    print_file(rt, &before)
+}
+
+/// Prints what became of the file.
+fn print_file(rt: &HostRuntime, before: &Option<Vec<u8>>) -> io::Result<()> {
+    let after = content(rt, FILE)?;
+    print_changes(rt, before, &after)
 }
 
 /// Does what the words of a line ask, and prints the status and the fault.
 fn answer(rt: &HostRuntime, words: &str, before: &Option<Vec<u8>>) -> io::Result<()> {
     let words = words_of(rt, words)?;
-    match done(rt, words.as_slice(), before) {
-        Ok(()) => println!(rt; "status 0"),
-        Err(error) => tell(rt, &error),
-    }
+    let answer = done(rt, words.as_slice(), before);
+    tell_answer(rt, &answer)
 }
 
 /// Does what words ask, once more where memory was refused.
 fn done(rt: &HostRuntime, words: &[&str], before: &Option<Vec<u8>>) -> Result<(), ArwenError> {
     match execute(rt, words) {
-        Err(ArwenError::Memory) => {
-            check_file(rt, before)?;
-            execute(rt, words)
-        }
+        Err(ArwenError::Memory) => done_again(rt, words, before),
         answer => answer,
     }
+}
+
+/// Does it once more, where the file is as it was.
+fn done_again(
+    rt: &HostRuntime,
+    words: &[&str],
+    before: &Option<Vec<u8>>,
+) -> Result<(), ArwenError> {
+    check_file(rt, before)?;
+    execute(rt, words)
 }
 
 /// Says so where a command that was refused memory did not leave the file as it was.
@@ -117,19 +132,26 @@ fn check_file(rt: &HostRuntime, before: &Option<Vec<u8>>) -> io::Result<()> {
     Ok(())
 }
 
+/// Prints the status, and the first line of a fault.
+pub(crate) fn tell_answer<T>(rt: &HostRuntime, answer: &Result<T, ArwenError>) -> io::Result<()> {
+    match answer {
+        Ok(_) => println!(rt; "status 0"),
+        Err(error) => tell(rt, error),
+    }
+}
+
 /// Prints the status after a fault, and its first line.
 pub(crate) fn tell(rt: &HostRuntime, error: &ArwenError) -> io::Result<()> {
     let status = error.status();
     match error {
-        ArwenError::Line { text, .. } => {
-            let first = text.as_str().lines().next().unwrap_or("");
-            println!(rt; "status {status}: {first}")
-        }
-        _ => {
-            let line = error.line();
-            println!(rt; "status {status}: {line}")
-        }
+        ArwenError::Line { text, .. } => println!(rt; "status {status}: {}", first_line(text)),
+        _ => println!(rt; "status {status}: {}", error.line()),
     }
+}
+
+/// The first line of a text.
+fn first_line(text: &String) -> &str {
+    text.as_str().lines().next().unwrap_or("")
 }
 
 /// Prints the command that the words of a line mean.
@@ -143,12 +165,22 @@ fn read(rt: &HostRuntime, words: &str) -> io::Result<()> {
 
 /// Does what the words of a line ask to the bytes of the file alone.
 fn call(rt: &HostRuntime, words: &str) -> io::Result<()> {
-    let bytes = content(rt, FILE)?.unwrap_or(Vec::new(rt.alloc()));
     let words = words_of(rt, words)?;
-    match command_of(rt, words.as_slice()) {
-        Ok(Command::Macho(command)) => calls::edit(rt, bytes.as_slice(), &command),
-        Ok(Command::Elf(command)) => calls::print(rt, bytes.as_slice(), &command),
-        Err(error) => tell(rt, &error),
+    let command = command_of(rt, words.as_slice());
+    let bytes = content(rt, FILE)?.unwrap_or(Vec::new(rt.alloc()));
+    call_with(rt, bytes.as_slice(), &command)
+}
+
+/// Does what a command asks to bytes.
+fn call_with(
+    rt: &HostRuntime,
+    bytes: &[u8],
+    command: &Result<Command, ArwenError>,
+) -> io::Result<()> {
+    match command {
+        Ok(Command::Macho(command)) => calls::edit(rt, bytes, command),
+        Ok(Command::Elf(command)) => calls::print(rt, bytes, command),
+        Err(error) => tell(rt, error),
     }
 }
 
@@ -156,12 +188,15 @@ fn call(rt: &HostRuntime, words: &str) -> io::Result<()> {
 /// of it.
 fn relocate(rt: &HostRuntime, words: &str) -> io::Result<()> {
     let before = content(rt, FILE)?;
+    tell_relocated(rt, words, &before)?;
+    print_file(rt, &before)
+}
+
+/// Gives the file both, and prints the status and the fault.
+fn tell_relocated(rt: &HostRuntime, words: &str, before: &Option<Vec<u8>>) -> io::Result<()> {
     let (rpath, id) = words.split_once(' ').unwrap_or((words, ""));
-    match relocated(rt, rpath, id, &before) {
-        Ok(()) => println!(rt; "status 0")?,
-        Err(error) => tell(rt, &error)?,
-    }
-    print_changes(rt, &before, &content(rt, FILE)?)
+    let answer = relocated(rt, rpath, id, before);
+    tell_answer(rt, &answer)
 }
 
 fn relocated(
@@ -171,12 +206,20 @@ fn relocated(
     before: &Option<Vec<u8>>,
 ) -> Result<(), ArwenError> {
     match library::relocate(rt, FILE, rpath, id) {
-        Err(ArwenError::Memory) => {
-            check_file(rt, before)?;
-            library::relocate(rt, FILE, rpath, id)
-        }
+        Err(ArwenError::Memory) => relocated_again(rt, rpath, id, before),
         answer => answer,
     }
+}
+
+/// Gives it both once more, where it is as it was.
+fn relocated_again(
+    rt: &HostRuntime,
+    rpath: &str,
+    id: &str,
+    before: &Option<Vec<u8>>,
+) -> Result<(), ArwenError> {
+    check_file(rt, before)?;
+    library::relocate(rt, FILE, rpath, id)
 }
 
 /// The command that words mean, read again where memory was refused.

@@ -77,6 +77,15 @@ module _ {M : Type 0} where
         let v = values_at lines name rest m (line_named lines name) refl meant in
         ((name, v.given), table_passes first (map named_of lines) is name rest v.row v.given plain fits v.row_is v.given_is, sym (words_mean lines name rest v.row v.given v.row_is v.given_is) ∙ meant)
 
+-- what the values that were found ask for is what the words mean
+pub no_meaning : {M : Type 0} (first : Text) (lines : List (Line M)) (words : List Text) (taken : Text × Given) (m : M) → IsTaken first (map named_of lines) words taken → MeansBy first lines words m
+    → None ≡ meant_with lines taken.0 taken.1 → ⊥
+no_meaning first lines words taken m is by none =
+    let found = is.1 in
+    let other = by.1.1 in
+    let same : by.0 ≡ taken = cc in
+    some≢none m (none ∙ ap (λ (p : Text × Given). meant_with lines p.0 p.1) (sym same) ∙ by.2)
+
 -- ---- a whole line
 
 module _ {A B : Type 0} (f : A → B) where

@@ -3,10 +3,10 @@ use Rattle.std.specs.Prelude.{◌==◌, Bool, false, List, [], ◌∷◌, Option
 use Rattle.std.specs.Prelude.{if◌then◌else◌, option_map}
 use Rattle.std.specs.List.{list_any}
 use Rattle.std.specs.Str.{bytes_eq}
-use Rattle.arwen_commands.specs.Engine.{IsDone, MayFail}
+use Rattle.arwen_commands.specs.Engine.{MayFail}
 use Rattle.arwen_commands.specs.Fault.{IsOfLine}
 use Rattle.arwen_commands.specs.Meaning.{Meaning, elf_lines, macho_lines, of_elf, of_macho}
-use Rattle.arwen_commands.specs.Prints.{PrintMayFail, SomeAccepted}
+use Rattle.arwen_commands.specs.Prints.{PrintMayFail}
 use Rattle.arwen_commands.specs.Rows.{Text, meant_by}
 use Rattle.arwen_commands.specs.declared.error.ArwenError.{ArwenError}
 
@@ -32,12 +32,6 @@ abbrev pub has_option : List Text → Bool
 has_option words = list_any begins_with_hyphen words
 
 -- ---- what comes of words
-
--- words mean a command, and it can be done
-abbrev pub CanBeDone : Option Meaning → Type 0
-CanBeDone (Some (of_macho meaning)) = IsDone meaning
-CanBeDone (Some (of_elf meaning)) = SomeAccepted
-CanBeDone None = ⊥
 
 -- the error of a line: that of the command that it means, or else of the line
 abbrev pub LineMayFail : Option Meaning → ArwenError → Type 0

@@ -110,11 +110,14 @@ abbrev pub found_by : List Named → Text → List Row → Option (Text × Given
 found_by table name rows = option_and_then (λ row. option_map (λ given. (row.name, given))
     (found_values row.kind rows)) (named table name)
 
+-- the same of a command that may have been found
+abbrev pub taken_in : List Named → Option (Text × List Row) → Option (Text × Given)
+taken_in table = option_and_then (λ p. found_by table p.0 p.1)
+
 -- the parser takes the words, and finds this command with these values
 abbrev pub IsTaken : Text → List Named → List Text → Text × Given → Type 0
 IsTaken first table list taken = (fault_of (line_app first table) list ≡ [])
-    × (option_and_then (λ p. found_by table p.0 p.1) (subcommand_of (line_app first table) list)
-    ≡ Some taken)
+    × (taken_in table (subcommand_of (line_app first table) list) ≡ Some taken)
 
 -- no command is named as the parser's own, which prints help
 abbrev pub has_no_help : List Named → Bool
@@ -145,6 +148,11 @@ abbrev pub Matches : App → List Text → ArgMatches → Type 0
 Matches app list found = is_simple_and_free app ≡ true
     → (fault_of app list ≡ []) × (subcommand_rows_of found ≡ subcommand_of app list)
 
+-- a parse by a table takes the words, and finds the command that they name
+abbrev pub MatchesBy : Text → List Named → List Text → ArgMatches → Type 0
+MatchesBy first table list found = (fault_of (line_app first table) list ≡ [])
+    × (subcommand_rows_of found ≡ subcommand_of (line_app first table) list)
+
 -- where it takes the words, the error is want of memory
 abbrev pub RefusesNone : App → List Text → ArwenError → Type 0
 RefusesNone app list error = is_simple_and_free app ≡ true → fault_of app list ≡ []
@@ -160,3 +168,7 @@ taken_shown taken = (taken.0.now, given_shown taken.1)
 abbrev pub MayRefuseValues : Text → List Named → List Text → ArwenError → Type 0
 MayRefuseValues first table list error = (taken : Text × Given) → IsTaken first table list taken
     → error ≡ Memory
+
+-- where a command was found with its values, the error is want of memory
+abbrev pub MayRefuseFound : Option (Text × Given) → ArwenError → Type 0
+MayRefuseFound found error = (taken : Text × Given) → found ≡ Some taken → error ≡ Memory

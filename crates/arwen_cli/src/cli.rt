@@ -1,16 +1,16 @@
 //! The command line: what the words of a line mean, and doing it.
-ghost use Rattle.std.specs.Prelude.{◌≡◌, false, IfErr, IfOk, map};
-ghost use Rattle.arwen_cli.specs.Line.{CanBeDone, LineMayFail, has_option, meaning_of};
+ghost use Rattle.std.specs.Prelude.{◌≡◌, false, IfErr, IsSome, OnOk, map};
+ghost use Rattle.arwen_cli.specs.Line.{LineMayFail, has_option, meaning_of};
 
 mod line;
 mod parser;
 
-pub use arwen_commands::elf::{Probe, print_store, run_elf};
+pub use arwen_commands::elf::{Probe, print_path, print_store, run_elf};
 pub use arwen_commands::{
     ArwenError, Command, EditFault, EditKind, EditsError, ElfCommand, FaultLine, KeyValueError,
     MOST_BYTES, MachoCommand, add, apply, change, delete, elf, install_id, install_name,
-    macho_execute, parse_elf_edits, parse_key_val, parse_macho_edits, patch_store, read_bytes,
-    run_macho,
+    macho_execute, parse_elf_edits, parse_key_val, parse_macho_edits, patch_path, patch_store,
+    read_bytes, run_macho,
 };
 pub use line::parse_line;
 use std::rt::Files;
@@ -18,8 +18,8 @@ use std::rt::Files;
 /// Does what the words behind the program's name ask. A line that asks for help, and one that is
 /// wrong, is answered by `ArwenError::Line`.
 pub fn execute<R: Files + Print + AllocGlobal>(rt: &R, words: &[&str]) -> Result<(), ArwenError>
-    ensures ok { IfOk result (λ _. has_option (map (λ w. w.now) words.now) ≡ false
-        → CanBeDone (meaning_of (map (λ w. w.now) words.now))) }
+    ensures ok { OnOk result (has_option (map (λ w. w.now) words.now) ≡ false
+        → IsSome (meaning_of (map (λ w. w.now) words.now))) }
     ensures err { IfErr result (λ e. has_option (map (λ w. w.now) words.now) ≡ false
         → LineMayFail (meaning_of (map (λ w. w.now) words.now)) e) }
 {

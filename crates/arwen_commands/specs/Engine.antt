@@ -60,13 +60,6 @@ outcome_of (several (Err wrong)) file = no_edits wrong
 abbrev pub outcome : MachoMeaning → List ℕ → Outcome
 outcome meaning file = outcome_of (asked meaning) file
 
--- a command can be done: some file has new bytes by it. No clause can name the bytes of a file that is
--- read, so a run that succeeds tells no more
-pub record IsDone (meaning : MachoMeaning) : Type 0 where
-  pub old : List ℕ
-  pub new : List ℕ
-  pub makes : outcome meaning old ≡ bytes new
-
 -- ---- which answer tells an outcome; want of memory may be answered in any case
 
 -- what an error of reading a file finds

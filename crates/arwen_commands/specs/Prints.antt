@@ -27,12 +27,6 @@ abbrev pub Prints : ElfMeaning → Result Image ElfFault → Option (List ℕ) �
 Prints meaning read old new =
     (image : Image) × (read ≡ Ok image) × Appends old new (printed meaning (shown image))
 
--- some file is accepted, so that a command which prints can be done
-pub record SomeAccepted : Type 0 where
-  pub file : List ℕ
-  pub image : Image
-  pub reads : image_of file ≡ Ok image
-
 -- ---- which answer tells what; want of memory may be answered in any case, and only a writer that
 -- fails may have got something
 

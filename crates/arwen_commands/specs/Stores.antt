@@ -1,5 +1,5 @@
 -- What a command makes of the bytes of a store, and prints of them, where they are known.
-use Rattle.std.specs.Prelude.{ℕ, ◌≡◌, ◌⊎◌, List, length, All, Option, Some}
+use Rattle.std.specs.Prelude.{ℕ, ◌≡◌, ◌⊎◌, List, length, All, Option, Some, ⊤}
 use Rattle.arwen_macho.specs.declared.front.Front.{Front}
 use Rattle.arwen_macho.specs.Fronts.{fronts_on}
 use Rattle.byte_store.specs.declared.pieces.Piece.{Piece}
@@ -34,6 +34,11 @@ RefusesPatch meaning old new e =
 abbrev pub FailsPatch : MachoMeaning → Option (List ℕ) → Option (List ℕ) → ArwenError → Type 0
 FailsPatch meaning old new (Io e) = Stays old new ⊎ Torn meaning old new
 FailsPatch meaning old new e = RefusesPatch meaning old new e
+
+-- what the error of a command tells of the bytes at its path; one of reading or writing them tells nothing
+abbrev pub TellsPath : MachoMeaning → Option (List ℕ) → ArwenError → Type 0
+TellsPath meaning known (Io e) = ⊤
+TellsPath meaning known e = (file : List ℕ) → known ≡ Some file → Tells (outcome meaning file) e
 
 -- pieces that lie in a file's bytes, and make of them what fronts make
 pub record ArePiecesOf (file : List ℕ) (fronts : List Front) (pieces : List Piece) : Type 0 where

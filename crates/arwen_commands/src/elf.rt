@@ -1,8 +1,8 @@
 //! The commands for ELF files.
-ghost use Rattle.std.specs.Prelude.{◌<◌, IfErr, IfOk, OnOk};
+ghost use Rattle.std.specs.Prelude.{◌<◌, IfErr, OnOk};
 ghost use Rattle.byte_store.specs.Known.{Stays};
-ghost use Rattle.arwen_commands.specs.Meaning.{elf_shown};
-ghost use Rattle.arwen_commands.specs.Prints.{PrintMayFail, SomeAccepted};
+ghost use Rattle.arwen_commands.specs.Meaning.{elf_file_of, elf_shown};
+ghost use Rattle.arwen_commands.specs.Prints.{PrintMayFail};
 ghost use Rattle.arwen_commands.specs.Stores.{PrintsStored, TellsStored};
 
 mod engine;
@@ -16,7 +16,7 @@ pub mod print_soname;
 use crate::command::ElfCommand;
 use crate::error::ArwenError;
 use crate::file::MOST_BYTES;
-use byte_store::{FileStore, Store, load_whole};
+use byte_store::{Opens, RuntimeFiles, Store, load_whole};
 pub use engine::{Probe, run_elf};
 use std::alloc::Global;
 use std::io;
@@ -25,8 +25,7 @@ use std::rt::Files;
 
 /// Does what is asked of an ELF file. What is printed goes to the standard output.
 pub fn execute<R: Files + Print + AllocGlobal>(rt: &R, elf: ElfCommand) -> Result<(), ArwenError>
-    ensures ok { IfOk result (λ _. SomeAccepted) }
-    ensures err { IfErr result (λ e. PrintMayFail e) }
+    ensures { IfErr result (λ e. PrintMayFail e) }
 {
     match elf {
         ElfCommand::PrintRpath(args) => print_rpath::execute(rt, args),
@@ -56,7 +55,6 @@ pub fn print_store<S: Store, W: Write>(
     command: &ElfCommand,
     out: &mut W,
 ) -> Result<(), ArwenError>
-    ensures accepted { IfOk result (λ _. SomeAccepted) }
     ensures printed { OnOk result (PrintsStored (elf_shown command.now) (S.contents store.old)
         (W.contents out.old) (W.contents out.new)) }
     ensures err { IfErr result (λ e. PrintMayFail e) }
@@ -77,15 +75,32 @@ fn most_of(told: u64) -> usize
     told.max(MOST_BYTES).min(usize::MAX - 1)
 }
 
+/// Prints what a command asks of the bytes of the store at its path, as `print_store` does.
+pub fn print_path<'p, O: Opens<'p>, W: Write>(
+    alloc: Global,
+    files: &O,
+    command: &'p ElfCommand,
+    out: &mut W,
+) -> Result<(), ArwenError>
+    ensures printed { OnOk result (PrintsStored (elf_shown command.now)
+        (O.contents files.now (elf_file_of (elf_shown command.now)))
+        (W.contents out.old) (W.contents out.new)) }
+    ensures err { IfErr result (λ e. PrintMayFail e) }
+    ensures tells { IfErr result (λ e. TellsStored
+        (O.contents files.now (elf_file_of (elf_shown command.now))) out.old out.new e) }
+{
+    let mut store = files.open(command.path_to_binary())?;
+    print_store(alloc, &mut store, command, out)
+}
+
 /// Prints what a command asks of a file, which is only read.
 pub(crate) fn print_file<R: Files + Print + AllocGlobal>(
     rt: &R,
     command: &ElfCommand,
 ) -> Result<(), ArwenError>
-    ensures ok { IfOk result (λ _. SomeAccepted) }
-    ensures err { IfErr result (λ e. PrintMayFail e) }
+    ensures { IfErr result (λ e. PrintMayFail e) }
 {
-    let mut store = FileStore::open(rt, command.path_to_binary())?;
+    let files = RuntimeFiles { files: rt };
     let mut out = io::writer(rt);
-    print_store(rt.alloc(), &mut store, command, &mut out)
+    print_path(rt.alloc(), &files, command, &mut out)
 }

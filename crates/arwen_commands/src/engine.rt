@@ -1,11 +1,11 @@
 //! New bytes of old ones.
 ghost use Rattle.std.specs.Prelude.{◌≡◌, ◌∷◌, [], Ok, IfOk, IfErr, OnOk, map, string_bytes};
 ghost use Rattle.arwen_macho.specs.Batch.{calls_of};
-ghost use Rattle.arwen_commands.specs.Engine.{AreAsked, IsDone, MayFail, Outcome, ShowsEdited};
+ghost use Rattle.arwen_commands.specs.Engine.{AreAsked, MayFail, Outcome, ShowsEdited};
 ghost use Rattle.arwen_commands.specs.Engine.{Tells, TellsAsked, Writes};
 ghost use Rattle.arwen_commands.specs.Engine.{asked, outcome, refused_answer};
-ghost use Rattle.arwen_commands.specs.Meaning.{macho_shown};
-ghost use Rattle.arwen_commands.specs.Stores.{FailsPatch, Patched};
+ghost use Rattle.arwen_commands.specs.Meaning.{file_of, macho_shown};
+ghost use Rattle.arwen_commands.specs.Stores.{FailsPatch, Patched, TellsPath};
 ghost use Rattle.arwen_commands.specs.declared.error.ArwenError.TheVariants.{Memory};
 
 use crate::changes::{changes_of, write_changes_of};
@@ -15,7 +15,7 @@ use crate::error::ArwenError;
 use crate::file::MOST_BYTES;
 use crate::{add, apply, change, delete, install_id, install_name};
 use arwen_macho::macho::{Front, MachoBatchError, MachoContainer, MachoEdit, lay_fronts};
-use byte_store::{FileStore, Store, load_up_to};
+use byte_store::{Opens, RuntimeFiles, Store, load_up_to};
 use std::alloc::{AllocError, Global};
 use std::rt::Files;
 
@@ -105,7 +105,6 @@ pub fn patch_store<S: Store>(
     store: &mut S,
     command: &MachoCommand,
 ) -> Result<(), ArwenError>
-    ensures done { IfOk result (λ _. IsDone (macho_shown command.now)) }
     ensures patched { OnOk result
         (Patched (macho_shown command.now) (S.contents store.old) (S.contents store.new)) }
     ensures err { IfErr result (λ e. MayFail (macho_shown command.now) e) }
@@ -119,23 +118,40 @@ pub fn patch_store<S: Store>(
     Ok(())
 }
 
+/// Edits the bytes of the store at the command's path, as `patch_store` does, and hands the store back.
+pub fn patch_path<'p, O: Opens<'p>>(
+    alloc: Global,
+    files: &O,
+    command: &'p MachoCommand,
+) -> Result<O::Opened, ArwenError>
+    ensures patched { IfOk result (λ store. Patched (macho_shown command.now)
+        (O.contents files.now (file_of (macho_shown command.now)))
+        (O.Opened.contents store)) }
+    ensures err { IfErr result (λ e. MayFail (macho_shown command.now) e) }
+    ensures tells { IfErr result (λ e. TellsPath (macho_shown command.now)
+        (O.contents files.now (file_of (macho_shown command.now))) e) }
+{
+    let mut store = files.open(command.path_to_binary())?;
+    patch_store(alloc, &mut store, command)?;
+    Ok(store)
+}
+
 /// Edits a file in its place.
 pub(crate) fn patch_file<R: Files + AllocGlobal>(
     rt: &R,
     command: &MachoCommand,
 ) -> Result<(), ArwenError>
-    ensures ok { IfOk result (λ _. IsDone (macho_shown command.now)) }
-    ensures err { IfErr result (λ e. MayFail (macho_shown command.now) e) }
+    ensures { IfErr result (λ e. MayFail (macho_shown command.now) e) }
 {
-    let mut store = FileStore::open(rt, command.path_to_binary())?;
-    patch_store(rt.alloc(), &mut store, command)
+    let files = RuntimeFiles { files: rt };
+    patch_path(rt.alloc(), &files, command)?;
+    Ok(())
 }
 
 /// Edits a Mach-O file in its place. Only bytes that change are written, and only after all of them
 /// exist, so a refused edit leaves the file as it was.
 pub fn macho_execute<R: Files + AllocGlobal>(rt: &R, macho: MachoCommand) -> Result<(), ArwenError>
-    ensures ok { IfOk result (λ _. IsDone (macho_shown macho)) }
-    ensures err { IfErr result (λ e. MayFail (macho_shown macho) e) }
+    ensures { IfErr result (λ e. MayFail (macho_shown macho) e) }
 {
     match macho {
         MachoCommand::DeleteRpath(args) => delete::execute(rt, args),

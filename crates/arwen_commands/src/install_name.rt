@@ -1,6 +1,6 @@
 //! `change-install-name`.
-ghost use Rattle.std.specs.Prelude.{IfErr, IfOk};
-ghost use Rattle.arwen_commands.specs.Engine.{IsDone, MayFail};
+ghost use Rattle.std.specs.Prelude.{IfErr};
+ghost use Rattle.arwen_commands.specs.Engine.{MayFail};
 ghost use Rattle.arwen_commands.specs.Meaning.{macho_shown};
 
 use crate::command::MachoCommand;
@@ -24,8 +24,7 @@ pub struct Args {
 
 /// Edits the file.
 pub fn execute<R: Files + AllocGlobal>(rt: &R, args: Args) -> Result<(), ArwenError>
-    ensures ok { IfOk result (λ _. IsDone (macho_shown (MachoCommand.ChangeInstallName args))) }
-    ensures err { IfErr result (λ e.
+    ensures { IfErr result (λ e.
         MayFail (macho_shown (MachoCommand.ChangeInstallName args)) e) }
 {
     patch_file(rt, &MachoCommand::ChangeInstallName(args))

@@ -23,7 +23,7 @@ mod tables;
 pub use command::{Command, ElfCommand, MachoCommand};
 pub use edits::{EditFault, EditKind, EditsError, copies, parse_macho_edits};
 pub use elf_words::{elf_edit_table, parse_elf_edits};
-pub use engine::{macho_execute, patch_store, run_macho};
+pub use engine::{macho_execute, patch_path, patch_store, run_macho};
 pub use error::{ArwenError, FaultLine};
 pub use file::{MOST_BYTES, read_bytes};
 pub use key_value::{KeyValueError, parse_key_val};

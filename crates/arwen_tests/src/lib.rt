@@ -5,6 +5,8 @@
 #[cfg(test)]
 mod faults;
 #[cfg(test)]
+mod paths;
+#[cfg(test)]
 mod reading;
 #[cfg(test)]
 mod stores;

@@ -11,11 +11,11 @@ const TABLE: &[u8; 48] = b"\xca\xfe\xba\xbe\0\0\0\x02\
 \0\0\0\x07\0\0\0\x04\0\0\0\x5c\0\0\0\x2c\0\0\0\0";
 
 // A narrow file in big-endian order with no commands, and with room for one of 16 bytes.
-const PLAIN: &[u8; 44] = b"\xfe\xed\xfa\xce\0\0\0\x07\0\0\0\x03\0\0\0\x06\
+pub(crate) const PLAIN: &[u8; 44] = b"\xfe\xed\xfa\xce\0\0\0\x07\0\0\0\x03\0\0\0\x06\
 \0\0\0\0\0\0\0\0\0\0\0\x85\0\0\0\0\0\0\0\0\0\0\0\0\0\0\0\0";
 
 // The same with the run path `/a`.
-const WITH_RPATH: &[u8; 44] = b"\xfe\xed\xfa\xce\0\0\0\x07\0\0\0\x03\0\0\0\x06\
+pub(crate) const WITH_RPATH: &[u8; 44] = b"\xfe\xed\xfa\xce\0\0\0\x07\0\0\0\x03\0\0\0\x06\
 \0\0\0\x01\0\0\0\x10\0\0\0\x85\x80\0\0\x1c\0\0\0\x10\0\0\0\x0c/a\0\0";
 
 // A store in memory that takes so many writes, and fails at the next.

@@ -1,5 +1,6 @@
 -- What is said of bytes only where they are known.
-use Rattle.std.specs.Prelude.{ℕ, ◌≡◌, ◌+◌, ◌-◌, ◌<◌, ◌≤◌, List, ◌++◌, length, take, drop, replicate, Option, Some, Result, MatchResult, ⊤}
+use Rattle.std.specs.Prelude.{ℕ, ◌≡◌, ◌+◌, ◌-◌, ◌<◌, ◌≤◌, List, ◌++◌, length, take, drop, replicate, Option, Some, None, Result, MatchResult, if◌then◌else◌, ⊤}
+use Rattle.std.specs.Str.{bytes_eq}
 
 -- known bytes become this function of them
 abbrev pub Becomes : (List ℕ → List ℕ) → Option (List ℕ) → Option (List ℕ) → Type 0
@@ -70,3 +71,7 @@ EndsWithin known n = (all : List ℕ) → known ≡ Some all → length all ≤ 
 abbrev pub ReadsInto : ℕ → ℕ → Option (List ℕ) → List ℕ → Type 0
 ReadsInto n at known buffer = (all : List ℕ) → known ≡ Some all
     → (take n (drop at buffer) ≡ take n (drop at all)) × (n ≡ 0 → length all ≤ at)
+
+-- the bytes of a file at a path, where there is no other
+abbrev pub bytes_at : List ℕ → List ℕ → List ℕ → Option (List ℕ)
+bytes_at path bytes asked = if bytes_eq asked path then Some bytes else None

@@ -1,6 +1,7 @@
 //! A store over a file.
 ghost use Rattle.std.specs.Prelude.{◌≡◌, false, IfOk, is_some};
 
+use crate::opens::Opens;
 use crate::stores::Store;
 use std::fs::{OpenFile, OpenOptions};
 use std::io::{Read, Seek, SeekFrom, Write};
@@ -31,6 +32,21 @@ impl<'a, R: Files> FileStore<'a, R> {
             position: 0,
             writer: None,
         })
+    }
+}
+
+/// The files of a runtime, opened by their paths. What they hold is not known.
+#[derive(Clone, Copy)]
+pub struct RuntimeFiles<'a, R> {
+    /// The runtime.
+    pub files: &'a R,
+}
+
+impl<'a, R: Files> Opens<'a> for RuntimeFiles<'a, R> {
+    type Opened = FileStore<'a, R>;
+
+    fn open(&self, path: &'a str) -> io::Result<FileStore<'a, R>> {
+        FileStore::open(self.files, path)
     }
 }
 

@@ -4,13 +4,15 @@
 pub mod file;
 pub mod laws;
 pub mod memory;
+pub mod opens;
 pub mod pieces;
 pub mod reading;
 pub mod stores;
 pub mod writing;
 
-pub use crate::file::FileStore;
-pub use crate::memory::MemoryStore;
+pub use crate::file::{FileStore, RuntimeFiles};
+pub use crate::memory::{MemoryFile, MemoryStore};
+pub use crate::opens::Opens;
 pub use crate::pieces::Piece;
 pub use crate::reading::{ReadError, load_up_to, load_whole, read_up_to, read_whole};
 pub use crate::stores::Store;

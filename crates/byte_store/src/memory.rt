@@ -1,9 +1,11 @@
 //! A store in memory.
 ghost use Rattle.std.specs.Prelude.{◌≡◌, ◌+◌, ◌<◌, ◌≤◌, false, Some, IfOk, IsOk, IsTrue, OnErr, OnOk, drop, length, take, vec_len};
 ghost use Rattle.std.specs.Io.{ReadsAtMost, WritesAtMost};
-ghost use Rattle.byte_store.specs.Known.{HasLength, ReadsFrom, Stays, WritesAt, put_at};
+ghost use Rattle.byte_store.specs.Known.{HasLength, ReadsFrom, Stays, WritesAt, bytes_at, put_at};
 
+use crate::opens::Opens;
 use crate::stores::Store;
+use std::alloc::Global;
 use std::io;
 
 /// A store whose bytes are in memory.
@@ -72,6 +74,31 @@ impl Store for MemoryStore {
     fn set_length(&mut self, length: u64) -> io::Result<()> {
         self.bytes.resize(length as usize, 0)?;
         Ok(())
+    }
+}
+
+/// One file in memory: its bytes are found at its path, and there is no other.
+#[derive(Clone, Copy)]
+pub struct MemoryFile<'a> {
+    /// Where the bytes of an opened store come from.
+    pub alloc: Global,
+    /// The path of the file.
+    pub path: &'a str,
+    /// Its bytes. A store that is opened has a copy of them.
+    pub bytes: &'a [u8],
+}
+
+impl<'a, 'p> Opens<'p> for MemoryFile<'a> {
+    type Opened = MemoryStore;
+
+    ghost contents = { λ file path. bytes_at file.path.now file.bytes.now path };
+
+    fn open(&self, path: &'p str) -> io::Result<MemoryStore> {
+        if path != self.path {
+            let message = "there is no such file";
+            return Err(io::Error::new(io::ErrorKind::NotFound, message));
+        }
+        Ok(MemoryStore::new(Vec::from_slice(self.alloc, self.bytes)?))
     }
 }
 

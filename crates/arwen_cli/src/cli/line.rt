@@ -1,5 +1,5 @@
 //! What the words of a line mean.
-ghost use Rattle.std.specs.Prelude.{◌≡◌, Some, codes, false, IfErr, IfOk, map};
+ghost use Rattle.std.specs.Prelude.{◌≡◌, None, Some, codes, false, IfErr, IfOk, MatchResult, map};
 ghost use Rattle.arwen_commands.specs.Fault.{IsOfLine, status_of};
 ghost use Rattle.arwen_commands.specs.Meaning.{Meaning, elf_lines, elf_shown, macho_lines};
 ghost use Rattle.arwen_commands.specs.Meaning.{macho_shown, shown};
@@ -59,7 +59,7 @@ pub fn parse_line(alloc: Global, words: &[&str]) -> Result<Command, ArwenError>
     match *first {
         "macho" => Ok(Command::Macho(parse_macho(alloc, words)?)),
         "elf" => Ok(Command::Elf(parse_elf(alloc, words)?)),
-        word => Err(other_line(alloc, word, words)?),
+        word => Err(or_memory(other_line(alloc, word, words))),
     }
 }
 
@@ -114,6 +114,28 @@ pub(crate) fn usage(alloc: Global, status: u8) -> Result<ArwenError, AllocError>
     line_of(alloc, USAGE, status)
 }
 
+/// A fault of a line, or want of memory for it.
+pub(crate) fn or_memory(fault: Result<ArwenError, AllocError>) -> ArwenError
+    ensures { MatchResult fault (λ fault. result ≡ fault) (λ _. result ≡ ArwenError.Memory) }
+{
+    match fault {
+        Ok(fault) => fault,
+        Err(_) => ArwenError::Memory,
+    }
+}
+
+/// A value, or the usage text as the fault of a line where there is none.
+pub(crate) fn or_usage<T>(alloc: Global, value: Option<T>) -> Result<T, ArwenError>
+    ensures ok { IfOk result (λ found. value ≡ Some found) }
+    ensures none { IfErr result (λ _. value ≡ None) }
+    ensures err { IfErr result (λ error. IsOfLine error) }
+{
+    match value {
+        Some(value) => Ok(value),
+        None => Err(or_memory(usage(alloc, 2))),
+    }
+}
+
 /// A text, as the fault of a line.
 fn line_of(alloc: Global, text: &str, status: u8) -> Result<ArwenError, AllocError>
     ensures status { IfOk result (λ fault. status_of fault ≡ status) }
@@ -132,10 +154,7 @@ fn parse_macho(alloc: Global, words: &[&str]) -> Result<MachoCommand, ArwenError
     ensures err { IfErr result (λ error. IsOfLine error) }
 {
     let (name, values) = parse_values(alloc, MACHO, macho_table(), words)?;
-    match MachoCommand::with_values(name, values) {
-        Some(command) => Ok(command),
-        None => Err(usage(alloc, 2)?),
-    }
+    or_usage(alloc, MachoCommand::with_values(name, values))
 }
 
 /// The command of a line whose first word is `elf`.
@@ -147,8 +166,5 @@ fn parse_elf(alloc: Global, words: &[&str]) -> Result<ElfCommand, ArwenError>
     ensures err { IfErr result (λ error. IsOfLine error) }
 {
     let (name, values) = parse_values(alloc, ELF, elf_table(), words)?;
-    match ElfCommand::with_values(name, values) {
-        Some(command) => Ok(command),
-        None => Err(usage(alloc, 2)?),
-    }
+    or_usage(alloc, ElfCommand::with_values(name, values))
 }

@@ -1,17 +1,17 @@
 //! The parser of lines, told its commands by a table.
-ghost use Rattle.std.specs.Prelude.{◌≡◌, ◌<◌, [], false, IfOk, IfErr, length, map, option_map, string_bytes, true};
+ghost use Rattle.std.specs.Prelude.{◌≡◌, ◌<◌, [], Some, false, IfOk, IfErr, length, map, option_map, string_bytes, true};
 ghost use Rattle.std.specs.Prelude.{unwrap_or};
-ghost use Rattle.clap.specs.Words.{all_of, app_of, first_of, found_of, kind_of, new_app, rows_of};
-ghost use Rattle.clap.specs.Words.{rule_of, with_rule};
+ghost use Rattle.clap.specs.Words.{all_of, app_of, fault_of, first_of, found_of, kind_of, new_app, rows_of};
+ghost use Rattle.clap.specs.Words.{rule_of, with_rule, with_subcommand};
 ghost use Rattle.arwen_commands.specs.Fault.{IsOfLine};
-ghost use Rattle.arwen_commands.specs.Rows.{given_shown, kind_shown, row_shown};
-ghost use Rattle.arwen_cli.specs.Parser.{IsTaken, Matches, RefusesNone, MayRefuseValues, first_id, found_by};
-ghost use Rattle.arwen_cli.specs.Parser.{found_values, has_globals, is_table, leaf_app, line_app, path_id, second_id};
-ghost use Rattle.arwen_cli.specs.Parser.{taken_shown, top_app, value_rule, values_rule, with_path};
-ghost use Rattle.arwen_cli.specs.Parser.{with_text, with_texts, with_words, words_id};
+ghost use Rattle.arwen_commands.specs.Rows.{given_shown, kind_shown, row_shown, texts};
+ghost use Rattle.arwen_cli.specs.Parser.{IsTaken, Matches, MatchesBy, RefusesNone, MayRefuseFound, MayRefuseValues, first_id, found_by};
+ghost use Rattle.arwen_cli.specs.Parser.{found_values, has_globals, is_table, leaf_app, leaf_of, line_app};
+ghost use Rattle.arwen_cli.specs.Parser.{path_id, second_id, taken_shown, top_app, value_rule, values_rule};
+ghost use Rattle.arwen_cli.specs.Parser.{with_path, with_text, with_texts, with_words, words_id};
 
 use crate::cli::ArwenError;
-use crate::cli::line::usage;
+use crate::cli::line::{or_memory, or_usage, usage};
 use arwen_commands::{Form, Row, Value, Values, copies, find_row};
 use clap::error::ErrorKind;
 use clap::{Arg, ArgAction, ArgMatches, Error};
@@ -60,15 +60,31 @@ pub(crate) fn parse_values(
         (map (λ w. w.now) words.now)) }
     ensures err { IfErr result (λ error. IsOfLine error) }
 {
-    let line = table_line(alloc, first, rows)?;
-    let matches = matches_of(alloc, line, words)?;
+    let shown: &[Row] = rows;
+    let matches = matches_by(alloc, first, shown, words)?;
     let Some((name, found)) = matches.subcommand() else {
-        return Err(usage(alloc, 2)?);
+        return Err(or_memory(usage(alloc, 2)));
     };
-    match read_row(alloc, rows, name, found)? {
-        Some(taken) => Ok(taken),
-        None => Err(usage(alloc, 2)?),
-    }
+    row_values(alloc, rows, name, found)
+}
+
+/// What the parser finds in words by a table, or what it has to say of them.
+fn matches_by<'a>(
+    alloc: Global,
+    first: First,
+    rows: &'a [Row],
+    words: &'a [&'a str],
+) -> Result<ArgMatches<'a>, ArwenError>
+    requires { is_table (map row_shown rows.now) ≡ true }
+    ensures taken { IfOk result (MatchesBy first.word.now (map row_shown rows.entry.now)
+        (map (λ w. w.now) words.entry.now)) }
+    ensures refused { IfErr result (λ error. fault_of (line_app first.word.now
+        (map row_shown rows.entry.now)) (map (λ w. w.now) words.entry.now) ≡ []
+        → error ≡ ArwenError.Memory) }
+    ensures err { IfErr result (λ error. IsOfLine error) }
+{
+    let line = table_line(alloc, first, rows)?;
+    matches_of(alloc, line, words)
 }
 
 /// What the parser finds in words, or what it has to say of them.
@@ -84,7 +100,7 @@ fn matches_of<'a>(
 {
     match line.try_get_matches_from(words) {
         Ok(matches) => Ok(matches),
-        Err(error) => Err(line_fault(alloc, &error)?),
+        Err(error) => Err(or_memory(line_fault(alloc, &error))),
     }
 }
 
@@ -113,21 +129,33 @@ fn table_line<'a>(
 {
     let mut line = top_line(alloc, first)?;
     for row in rows {
-        line = line.subcommand(row_line(alloc, row)?)?;
+        line = with_row(alloc, line, row)?;
     }
     Ok(line)
+}
+
+/// A line with the command of a further row.
+fn with_row<'a>(
+    alloc: Global,
+    line: clap::Command<'a>,
+    row: &'a Row,
+) -> Result<clap::Command<'a>, AllocError>
+    ensures { IfOk result (λ new. app_of new
+        ≡ with_subcommand (app_of line.entry) (leaf_of (row_shown row.entry.now))) }
+{
+    let command = row_line(alloc, row)?;
+    line.subcommand(command)
 }
 
 /// The lines of a first word, without their commands.
 fn top_line<'a>(alloc: Global, first: First) -> Result<clap::Command<'a>, AllocError>
     ensures { IfOk result (λ line. app_of line ≡ top_app first.word.now) }
 {
-    let line = clap::Command::new(alloc, first.word).bin_name(first.shown_as)?;
-    Ok(
-        line.about(first.about)
-            .subcommand_required(true)
-            .arg_required_else_help(true),
-    )
+    clap::Command::new(alloc, first.word)
+        .about(first.about)
+        .subcommand_required(true)
+        .arg_required_else_help(true)
+        .bin_name(first.shown_as)
 }
 
 /// A command, as a part of a line.
@@ -139,10 +167,25 @@ fn row_line<'a>(alloc: Global, row: &'a Row) -> Result<clap::Command<'a>, AllocE
     let line = named_line(alloc, row);
     match &row.form {
         Form::Path => path_line(alloc, line),
-        Form::Text(first) => text_line(alloc, line, first),
+        Form::Text(text) => text_line(alloc, line, FIRST, text),
         Form::Texts(first, second) => texts_line(alloc, line, first, second),
         Form::Words(words) => words_line(alloc, line, words),
     }
+}
+
+/// A command with a further value.
+fn with_value<'a>(
+    alloc: Global,
+    line: clap::Command<'a>,
+    id: &'a str,
+    shown: &'a Value,
+) -> Result<clap::Command<'a>, AllocError>
+    requires { has_globals line ≡ false }
+    ensures app { IfOk result (λ new.
+        app_of new ≡ with_rule (app_of line.entry) (value_rule id.entry.now)) }
+    ensures local { IfOk result (λ new. has_globals new ≡ false) }
+{
+    line.arg(value(alloc, id, shown))
 }
 
 /// A command with the path as a further value.
@@ -152,21 +195,22 @@ fn path_line<'a>(alloc: Global, line: clap::Command<'a>) -> Result<clap::Command
         app_of new ≡ with_rule (app_of line.entry) (value_rule path_id)) }
     ensures local { IfOk result (λ new. has_globals new ≡ false) }
 {
-    line.arg(value(alloc, PATH, &FILE))
+    with_value(alloc, line, PATH, &FILE)
 }
 
 /// A command with a text and the path as further values.
 fn text_line<'a>(
     alloc: Global,
     line: clap::Command<'a>,
-    first: &'a Value,
+    id: &'a str,
+    text: &'a Value,
 ) -> Result<clap::Command<'a>, AllocError>
     requires { has_globals line ≡ false }
     ensures app { IfOk result (λ new. app_of new ≡ with_rule
-        (with_rule (app_of line.entry) (value_rule first_id)) (value_rule path_id)) }
+        (with_rule (app_of line.entry) (value_rule id.entry.now)) (value_rule path_id)) }
     ensures local { IfOk result (λ new. has_globals new ≡ false) }
 {
-    let line = line.arg(value(alloc, FIRST, first))?;
+    let line = with_value(alloc, line, id, text)?;
     path_line(alloc, line)
 }
 
@@ -183,9 +227,8 @@ fn texts_line<'a>(
         (value_rule path_id)) }
     ensures local { IfOk result (λ new. has_globals new ≡ false) }
 {
-    let line = line.arg(value(alloc, FIRST, first))?;
-    let line = line.arg(value(alloc, SECOND, second))?;
-    path_line(alloc, line)
+    let line = with_value(alloc, line, FIRST, first)?;
+    text_line(alloc, line, SECOND, second)
 }
 
 /// A command with the path and any number of words as further values.
@@ -239,7 +282,24 @@ fn values<'a>(alloc: Global, id: &'a str, value: &'a Value) -> Arg<'a>
         .help(value.help)
 }
 
-/// The name and the values of the command that was found, where they are all there.
+/// The name and the values of a command that was found, or the usage text as the fault of a line.
+fn row_values(
+    alloc: Global,
+    rows: &'static [Row],
+    name: &str,
+    matches: &ArgMatches<'_>,
+) -> Result<(&'static str, Values), ArwenError>
+    ensures taken { IfOk result (λ taken. found_by (map row_shown rows.entry.now) name.now
+        (rows_of (found_of matches.now)) ≡ Some (taken_shown taken)) }
+    ensures refused { IfErr result (MayRefuseFound (found_by (map row_shown rows.entry.now)
+        name.now (rows_of (found_of matches.now)))) }
+    ensures err { IfErr result (λ error. IsOfLine error) }
+{
+    let taken = read_row(alloc, rows, name, matches)?;
+    or_usage(alloc, taken)
+}
+
+/// The name and the values of a command that was found, where they are all there.
 fn read_row(
     alloc: Global,
     rows: &'static [Row],
@@ -252,10 +312,8 @@ fn read_row(
     let Some(row) = find_row(rows, name) else {
         return Ok(None);
     };
-    match read_values(alloc, &row.form, matches)? {
-        Some(values) => Ok(Some((row.name, values))),
-        None => Ok(None),
-    }
+    let values = read_values(alloc, &row.form, matches)?;
+    Ok(values.map(|values| (row.name, values)))
 }
 
 /// The values of a command that was found, where they are all there.
@@ -280,10 +338,10 @@ fn read_path(alloc: Global, matches: &ArgMatches<'_>) -> Result<Option<Values>, 
     ensures { IfOk result (λ values. option_map given_shown values
         ≡ with_path (first_of path_id (rows_of (found_of matches.now)))) }
 {
-    Ok(match text_of(alloc, matches, PATH)? {
-        Some(path) => Some(Values::Path(path)),
-        None => None,
-    })
+    let Some(path) = text_of(matches, PATH) else {
+        return Ok(None);
+    };
+    Ok(Some(Values::Path(String::from_str(alloc, path)?)))
 }
 
 /// A text and the path.
@@ -292,12 +350,11 @@ fn read_text(alloc: Global, matches: &ArgMatches<'_>) -> Result<Option<Values>, 
         ≡ with_text (first_of first_id (rows_of (found_of matches.now)))
         (first_of path_id (rows_of (found_of matches.now)))) }
 {
-    let value = text_of(alloc, matches, FIRST)?;
-    let path = text_of(alloc, matches, PATH)?;
-    Ok(match (value, path) {
-        (Some(value), Some(path)) => Some(Values::Text(value, path)),
-        _ => None,
-    })
+    let (Some(text), Some(path)) = (text_of(matches, FIRST), text_of(matches, PATH)) else {
+        return Ok(None);
+    };
+    let text = String::from_str(alloc, text)?;
+    Ok(Some(Values::Text(text, String::from_str(alloc, path)?)))
 }
 
 /// Two texts and the path.
@@ -307,13 +364,23 @@ fn read_texts(alloc: Global, matches: &ArgMatches<'_>) -> Result<Option<Values>,
         (first_of second_id (rows_of (found_of matches.now)))
         (first_of path_id (rows_of (found_of matches.now)))) }
 {
-    let first = text_of(alloc, matches, FIRST)?;
-    let second = text_of(alloc, matches, SECOND)?;
-    let path = text_of(alloc, matches, PATH)?;
-    Ok(match (first, second, path) {
-        (Some(first), Some(second), Some(path)) => Some(Values::Texts(first, second, path)),
-        _ => None,
-    })
+    let first = text_of(matches, FIRST);
+    let second = text_of(matches, SECOND);
+    let path = text_of(matches, PATH);
+    let (Some(first), Some(second), Some(path)) = (first, second, path) else {
+        return Ok(None);
+    };
+    Ok(Some(texts_values(alloc, first, second, path)?))
+}
+
+/// Two texts and a path, as the values of a command.
+fn texts_values(alloc: Global, first: &str, second: &str, path: &str) -> Result<Values, AllocError>
+    ensures { IfOk result (λ values. given_shown values ≡ texts first.now second.now path.now) }
+{
+    let first = String::from_str(alloc, first)?;
+    let second = String::from_str(alloc, second)?;
+    let path = String::from_str(alloc, path)?;
+    Ok(Values::Texts(first, second, path))
 }
 
 /// The path and any number of words.
@@ -322,22 +389,18 @@ fn read_words(alloc: Global, matches: &ArgMatches<'_>) -> Result<Option<Values>,
         ≡ with_words (first_of path_id (rows_of (found_of matches.now)))
         (all_of words_id (rows_of (found_of matches.now)))) }
 {
+    let Some(path) = text_of(matches, PATH) else {
+        return Ok(None);
+    };
     let words = texts_of(alloc, matches, WORDS)?;
-    Ok(match text_of(alloc, matches, PATH)? {
-        Some(path) => Some(Values::Words(path, words)),
-        None => None,
-    })
+    Ok(Some(Values::Words(String::from_str(alloc, path)?, words)))
 }
 
 /// The text of a value, where it is there.
-fn text_of(alloc: Global, matches: &ArgMatches<'_>, id: &str) -> Result<Option<String>, AllocError>
-    ensures { IfOk result (λ text. option_map string_bytes text
-        ≡ first_of id.now (rows_of (found_of matches.now))) }
+fn text_of<'m>(matches: &'m ArgMatches<'_>, id: &str) -> Option<&'m str>
+    ensures { option_map (λ s. s.now) result ≡ first_of id.now (rows_of (found_of matches.entry.now)) }
 {
-    match matches.get_str(id) {
-        Some(text) => Ok(Some(String::from_str(alloc, text)?)),
-        None => Ok(None),
-    }
+    matches.get_str(id)
 }
 
 /// The texts of a value that may be given any number of times.

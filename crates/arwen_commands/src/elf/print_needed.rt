@@ -1,6 +1,6 @@
 //! `print-needed`.
-ghost use Rattle.std.specs.Prelude.{IfErr, IfOk};
-ghost use Rattle.arwen_commands.specs.Prints.{PrintMayFail, SomeAccepted};
+ghost use Rattle.std.specs.Prelude.{IfErr};
+ghost use Rattle.arwen_commands.specs.Prints.{PrintMayFail};
 
 use crate::command::ElfCommand;
 use crate::elf::print_file;
@@ -19,8 +19,7 @@ pub struct Args {
 
 /// Prints to the standard output.
 pub fn execute<R: Files + Print + AllocGlobal>(rt: &R, args: Args) -> Result<(), ArwenError>
-    ensures ok { IfOk result (λ _. SomeAccepted) }
-    ensures err { IfErr result (λ e. PrintMayFail e) }
+    ensures { IfErr result (λ e. PrintMayFail e) }
 {
     print_file(rt, &ElfCommand::PrintNeeded(args))
 }

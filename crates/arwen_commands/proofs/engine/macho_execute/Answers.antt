@@ -1,20 +1,20 @@
 -- A command's errors are those of its variant.
 use Rattle.arwen_commands.proofs.engine.macho_execute.Goals as goal
 
-pub returns-in-DeleteRpath-clause-err : goal.returns-in-DeleteRpath-clause-err
-returns-in-DeleteRpath-clause-err g c = rw c.in-DeleteRpath.is c.execute.ensures.err
+pub returns-in-DeleteRpath : goal.returns-in-DeleteRpath
+returns-in-DeleteRpath g c = rw c.in-DeleteRpath.is c.execute.ensures
 
-pub returns-in-ChangeRpath-clause-err : goal.returns-in-ChangeRpath-clause-err
-returns-in-ChangeRpath-clause-err g c = rw c.in-ChangeRpath.is c.execute-in-ChangeRpath.ensures.err
+pub returns-in-ChangeRpath : goal.returns-in-ChangeRpath
+returns-in-ChangeRpath g c = rw c.in-ChangeRpath.is c.execute-in-ChangeRpath.ensures
 
-pub returns-in-AddRpath-clause-err : goal.returns-in-AddRpath-clause-err
-returns-in-AddRpath-clause-err g c = rw c.in-AddRpath.is c.execute-in-AddRpath.ensures.err
+pub returns-in-AddRpath : goal.returns-in-AddRpath
+returns-in-AddRpath g c = rw c.in-AddRpath.is c.execute-in-AddRpath.ensures
 
-pub returns-in-ChangeInstallName-clause-err : goal.returns-in-ChangeInstallName-clause-err
-returns-in-ChangeInstallName-clause-err g c = rw c.in-ChangeInstallName.is c.execute-in-ChangeInstallName.ensures.err
+pub returns-in-ChangeInstallName : goal.returns-in-ChangeInstallName
+returns-in-ChangeInstallName g c = rw c.in-ChangeInstallName.is c.execute-in-ChangeInstallName.ensures
 
-pub returns-in-ChangeInstallId-clause-err : goal.returns-in-ChangeInstallId-clause-err
-returns-in-ChangeInstallId-clause-err g c = rw c.in-ChangeInstallId.is c.execute-in-ChangeInstallId.ensures.err
+pub returns-in-ChangeInstallId : goal.returns-in-ChangeInstallId
+returns-in-ChangeInstallId g c = rw c.in-ChangeInstallId.is c.execute-in-ChangeInstallId.ensures
 
-pub returns-in-Apply-clause-err : goal.returns-in-Apply-clause-err
-returns-in-Apply-clause-err g c = rw c.in-Apply.is c.execute-in-Apply.ensures.err
+pub returns-in-Apply : goal.returns-in-Apply
+returns-in-Apply g c = rw c.in-Apply.is c.execute-in-Apply.ensures

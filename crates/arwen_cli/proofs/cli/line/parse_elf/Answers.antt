@@ -1,10 +1,11 @@
 -- The values that are found ask for the command of their name.
 use Rattle.std.proofs.Common.{List, Bor, codes, map, sym, ap, ◌∙◌, subst}
 use Rattle.std.specs.Option.{option_map}
-use Rattle.std.proofs.lemmas.Result.{err_from_is_err_and}
-use Rattle.arwen_commands.specs.Meaning.{elf_shown}
+use Rattle.std.proofs.lemmas.Result.{IfErr-weaker, IfOk-weaker, err_from_is_err_and}
+use Rattle.arwen_commands.specs.Meaning.{elf_lines, elf_shown}
 use Rattle.arwen_commands.specs.Rows.{Named, Text, given_shown}
 use Rattle.arwen_cli.specs.Parser.{IsTaken}
+use Rattle.arwen_cli.proofs.Meanings.{no_meaning}
 use Rattle.arwen_cli.proofs.cli.line.parse_elf.Goals as goal
 
 abbrev texts : List (Bor Text) → List Text
@@ -17,9 +18,17 @@ returns-in_err-name-clause-refused c =
     let taken = subst (λ (t : List Named). IsTaken (codes "elf") t (texts c.args.words.now) by.0) (sym c.elf_table.ensures) by.1 in
     p.2 ∙ c.in_err-name.ensures.refused by.0 taken)
 
-pub returns-in-Some-clause-means : goal.returns-in-Some-clause-means
-returns-in-Some-clause-means c =
+pub returns-clause-means : goal.returns-clause-means
+returns-clause-means c =
     let name = c.in_ok-name.name.now in
     let given = given_shown c.in_ok-name.values in
     let taken = subst (λ (t : List Named). IsTaken (codes "elf") t (texts c.args.words.now) (name, given)) c.elf_table.ensures c.in_ok-name.ensures.taken in
-    ((name, given), taken, sym c.with_values.ensures ∙ ap (option_map elf_shown) c.in-Some.is)
+    IfOk-weaker c.or_usage.result _ _ (λ command is. ((name, given), taken, sym c.with_values.ensures ∙ ap (option_map elf_shown) is)) c.or_usage.ensures.ok
+
+pub returns-clause-refused : goal.returns-clause-refused
+returns-clause-refused c =
+    let name = c.in_ok-name.name.now in
+    let given = given_shown c.in_ok-name.values in
+    let taken = subst (λ (t : List Named). IsTaken (codes "elf") t (texts c.args.words.now) (name, given)) c.elf_table.ensures c.in_ok-name.ensures.taken in
+    IfErr-weaker c.or_usage.result _ _ (λ error none meaning by.
+    absurd (no_meaning (codes "elf") elf_lines (texts c.args.words.now) (name, given) meaning taken by (ap (option_map elf_shown) (sym none) ∙ c.with_values.ensures))) c.or_usage.ensures.none

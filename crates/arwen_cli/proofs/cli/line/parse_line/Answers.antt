@@ -48,7 +48,6 @@ pub returns-in_ok-parse_elf-in-elf-clause-means :
 returns-in_ok-parse_elf-in-elf-clause-means c plain =
     elf_means c.args.words.now c.in-Some.first.now c.in-Some.ensures.value plain _ c.in-elf.is c.in_ok-parse_elf-in-elf.ensures.means
 
-pub returns-in_ok-other_line-in_default-first-clause-refused :
-    goal.returns-in_ok-other_line-in_default-first-clause-refused
-returns-in_ok-other_line-in_default-first-clause-refused c plain meaning meant =
+pub returns-in_default-first-clause-refused : goal.returns-in_default-first-clause-refused
+returns-in_default-first-clause-refused c plain meaning meant =
     absurd (other_first c.args.words.now c.in-Some.first.now meaning c.in-Some.ensures.value c.in_default-first.not-macho c.in_default-first.not-elf meant)

@@ -4,4 +4,4 @@ use Rattle.arwen_cli.proofs.cli.parser.table_line.Goals as goal
 
 pub loop-row-preserved : goal.loop-row-preserved
 loop-row-preserved c =
-    with_row c.args.first.word.now c.args.rows.now c.loop-row.row-index _ _ _ _ c.loop-row-test.true c.loop-row.invariant c.in_ok-row_line.ensures.app c.in_ok-row_line.ensures.local c.in_ok-line-2.ensures
+    with_row c.args.first.word.now c.args.rows.now c.loop-row.row-index _ _ _ c.loop-row-test.true c.loop-row.invariant c.in_ok-line-2.ensures

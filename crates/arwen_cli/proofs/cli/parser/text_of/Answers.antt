@@ -1,12 +1,8 @@
 -- The first value of a name stands in its row.
-use Rattle.std.proofs.Common.{Some, ap, ◌∙◌}
+use Rattle.std.proofs.Common.{◌∙◌}
 use Rattle.clap.specs.Matches.{found_of}
 use Rattle.clap.proofs.WalkLemmas.{first_value-rows}
 use Rattle.arwen_cli.proofs.cli.parser.text_of.Goals as goal
 
-pub returns-in_ok-from_str-in-Some : goal.returns-in_ok-from_str-in-Some
-returns-in_ok-from_str-in-Some c =
-    ap Some c.in_ok-from_str-in-Some.ensures.ok ∙ c.in-Some.ensures ∙ first_value-rows (found_of c.args.matches.now) c.args.id.now
-
-pub returns-in-None : goal.returns-in-None
-returns-in-None c = c.in-None.ensures ∙ first_value-rows (found_of c.args.matches.now) c.args.id.now
+pub returns : goal.returns
+returns c = c.get_str.ensures ∙ first_value-rows (found_of c.args.matches.now) c.args.id.now
