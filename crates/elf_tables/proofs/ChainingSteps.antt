@@ -12,25 +12,11 @@ use Rattle.elf_format.specs.declared.form.Form.{Form}
 use Rattle.elf_format.specs.declared.version_id.VersionId.{VersionId}
 use Rattle.elf_format.specs.Form.{fixed_field, records}
 use Rattle.elf_format.specs.Versions.{VersionDefinition, version_id}
+use Rattle.elf_records.proofs.ForCallers.{fields-append}
 use Rattle.elf_tables.specs.Strings.{Strings}
 use Rattle.elf_tables.specs.VersionRecords.{PlacedDefinition, are_names_too_many, chained, fields, halves, is_index_too_large, next_behind, place_in, placed_definition, spelled_definition, spelled_definition_name, version_fields, version_number, words}
 use Rattle.elf_tables.specs.VersionSteps.{DefinitionFits}
 use Rattle.elf_tables.proofs.RecordLaws.{fixed_field-number}
-
-pub fields-append : (order : ByteOrder2) (fs gs : List (ℕ × ℕ)) → fields order (fs ++ gs) ≡ fields order fs ++ fields order gs
-fields-append order [] gs = refl
-fields-append order (f ∷ fs) gs = ap (λ l. bytes_of order f.0 f.1 ++ l) (fields-append order fs gs) ∙ sym (append_assoc (bytes_of order f.0 f.1) (fields order fs) (fields order gs))
-
--- one more number of so many bytes
-pub fields_more : (order : ByteOrder2) (n : ℕ) (items was now numbers : List ℕ) (i : ℕ) → i < length numbers → was ≡ items ++ fields order (map (λ x. (n, x)) (take i numbers))
-    → now ≡ was ++ bytes_of order n (get_or numbers i 0) → now ≡ items ++ fields order (map (λ x. (n, x)) (take (i + 1) numbers))
-fields_more order n items was now numbers i inside before step =
-    let more : fields order (map (λ x. (n, x)) (take (i + 1) numbers)) ≡ fields order (map (λ x. (n, x)) (take i numbers)) ++ (bytes_of order n (get_or numbers i 0) ++ []) =
-    ap (λ l. fields order (map (λ (x : ℕ). (n, x)) l)) (take_more numbers i 0 inside)
-    ∙ ap (fields order) (map-append (λ (x : ℕ). (n, x)) (take i numbers) (get_or numbers i 0 ∷ []))
-    ∙ fields-append order (map (λ x. (n, x)) (take i numbers)) ((n, get_or numbers i 0) ∷ []) in
-    step ∙ ap (λ l. l ++ bytes_of order n (get_or numbers i 0)) before ∙ append_assoc items (fields order (map (λ x. (n, x)) (take i numbers))) (bytes_of order n (get_or numbers i 0))
-    ∙ ap (λ l. items ++ l) (sym (more ∙ ap (λ l. fields order (map (λ x. (n, x)) (take i numbers)) ++ l) (append-nil (bytes_of order n (get_or numbers i 0)))))
 
 pub versions_more : (order : ByteOrder2) (was now : List ℕ) (ids : List VersionId) (i n : ℕ) (d : VersionId) → i < length ids → was ≡ fields order (version_fields (take i ids))
     → n ≡ version_number (get_or ids i d) → now ≡ was ++ (bytes_of order 2 n ++ []) → now ≡ fields order (version_fields (take (i + 1) ids))

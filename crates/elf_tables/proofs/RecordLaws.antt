@@ -16,18 +16,10 @@ use Rattle.elf_format.specs.declared.form.Form.{Form}
 use Rattle.elf_format.specs.Form.{by_class, fixed_field}
 use Rattle.elf_format.specs.Versions.{Step, is_whole_walk, values_of, walked}
 use Rattle.elf_format.specs.Views.{whole_chain}
-use Rattle.elf_tables.specs.VersionRecords.{chained, fields, next_behind}
+use Rattle.elf_records.specs.Fields.{fields, widths}
+use Rattle.elf_tables.specs.VersionRecords.{chained, next_behind}
 
 -- ## Numbers end to end
-
--- how many bytes they take
-abbrev pub widths : List (ℕ × ℕ) → ℕ
-widths [] = 0
-widths (f ∷ fs) = f.0 + widths fs
-
-pub length-fields : (order : ByteOrder2) (fs : List (ℕ × ℕ)) → length (fields order fs) ≡ widths fs
-length-fields order [] = refl
-length-fields order (f ∷ fs) = length-append (bytes_of order f.0 f.1) (fields order fs) ∙ omega (arith, length-bytes_of order f.0 f.1, length-fields order fs)
 
 -- the number behind others is read back
 pub number_at-fields : (order : ByteOrder2) (fs gs : List (ℕ × ℕ)) (n x : ℕ) → x < 256 ^ n → number_at order n (widths fs) (fields order (fs ++ (n, x) ∷ gs)) ≡ x

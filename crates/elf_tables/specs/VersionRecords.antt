@@ -2,24 +2,12 @@
 use Rattle.std.specs.Prelude.{ℕ, ◌+◌, ◌*◌, ◌^◌, List, [], ◌∷◌, ◌++◌, length, map, Bool, ◌&&◌, is_some, nat_le, unwrap_or, if◌then◌else◌}
 use Rattle.std.specs.List.{list_all}
 use Rattle.patch_bytes.specs.declared.number.ByteOrder2.{ByteOrder2}
-use Rattle.patch_bytes.specs.Number.{bytes_of}
 use Rattle.elf_format.specs.declared.constants.TheConstants.{VERSYM_HIDDEN}
 use Rattle.elf_format.specs.declared.version_id.VersionId.{VersionId}
 use Rattle.elf_format.specs.Hashes.{gabi_hash}
 use Rattle.elf_format.specs.Versions.{VersionDefinition, VersionName, VersionNeeds}
+pub use Rattle.elf_records.specs.Fields.{fields, halves, words}
 use Rattle.elf_tables.specs.Strings.{Strings, place_of}
-
--- numbers end to end, each told with how many bytes it takes
-abbrev pub fields : ByteOrder2 → List (ℕ × ℕ) → List ℕ
-fields order [] = []
-fields order (f ∷ fs) = bytes_of order f.0 f.1 ++ fields order fs
-
--- numbers of two bytes, and of four
-abbrev pub halves : List ℕ → List (ℕ × ℕ)
-halves numbers = map (λ number. (2, number)) numbers
-
-abbrev pub words : List ℕ → List (ℕ × ℕ)
-words numbers = map (λ number. (4, number)) numbers
 
 -- how far behind a record of so many bytes the next one stands, 0 where there is none
 abbrev pub next_behind : {A : Type 0} → List A → ℕ → ℕ

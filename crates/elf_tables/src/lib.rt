@@ -6,7 +6,6 @@ pub mod finished;
 pub mod hash;
 mod laid;
 pub mod needs;
-mod numbers;
 pub mod rows;
 pub mod strings;
 pub mod versions;

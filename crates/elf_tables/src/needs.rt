@@ -12,9 +12,9 @@ ghost use Rattle.elf_tables.specs.VersionSteps.{NameFits, NeedsFit};
 use crate::fault::TableFault;
 use crate::finished::Finished;
 use crate::hash::sysv_hash;
-use crate::numbers::{push_halves, push_words};
 use crate::versions::next_distance;
 use elf_image::{VersionNeed, VersionNeedName};
+use elf_records::{push_halves, push_words};
 use patch_bytes::ByteOrder2;
 use std::alloc::{AllocError, Global};
 

@@ -22,6 +22,8 @@ mod lengths;
 #[cfg(test)]
 mod needs;
 #[cfg(test)]
+mod records;
+#[cfg(test)]
 mod strings;
 #[cfg(test)]
 mod support;

@@ -1,12 +1,12 @@
 ghost use Rattle.std.specs.Prelude.{◌≡◌, ◌<◌, ◌++◌, map, OnOk};
 ghost use Rattle.patch_bytes.specs.Number.{bytes_of};
-ghost use Rattle.elf_tables.specs.VersionRecords.{fields, halves, words};
+ghost use Rattle.elf_records.specs.Fields.{fields, halves, words};
 
 use patch_bytes::ByteOrder2;
 use std::alloc::AllocError;
 
 // The bytes of a number of two bytes.
-fn half_bytes(order: ByteOrder2, number: u16) -> [u8; 2]
+pub(crate) fn half_bytes(order: ByteOrder2, number: u16) -> [u8; 2]
     ensures { result ≡ bytes_of order 2 number }
 {
     match order {
@@ -16,7 +16,7 @@ fn half_bytes(order: ByteOrder2, number: u16) -> [u8; 2]
 }
 
 // The bytes of a number of four bytes.
-fn word_bytes(order: ByteOrder2, number: u32) -> [u8; 4]
+pub(crate) fn word_bytes(order: ByteOrder2, number: u32) -> [u8; 4]
     ensures { result ≡ bytes_of order 4 number }
 {
     match order {
@@ -25,8 +25,18 @@ fn word_bytes(order: ByteOrder2, number: u32) -> [u8; 4]
     }
 }
 
-// Appends numbers of two bytes.
-pub(crate) fn push_halves(
+// The bytes of a number of eight bytes.
+pub(crate) fn long_bytes(order: ByteOrder2, number: u64) -> [u8; 8]
+    ensures { result ≡ bytes_of order 8 number }
+{
+    match order {
+        ByteOrder2::Little => number.to_le_bytes(),
+        ByteOrder2::Big => number.to_be_bytes(),
+    }
+}
+
+/// Appends numbers of two bytes. Where memory is refused some of them may be there already.
+pub fn push_halves(
     bytes: &mut Vec<u8>,
     order: ByteOrder2,
     numbers: &[u16],
@@ -39,12 +49,8 @@ pub(crate) fn push_halves(
     Ok(())
 }
 
-// Appends numbers of four bytes.
-pub(crate) fn push_words(
-    bytes: &mut Vec<u8>,
-    order: ByteOrder2,
-    numbers: &[u32],
-) -> Result<(), AllocError>
+/// Appends numbers of four bytes. Where memory is refused some of them may be there already.
+pub fn push_words(bytes: &mut Vec<u8>, order: ByteOrder2, numbers: &[u32]) -> Result<(), AllocError>
     ensures { OnOk result (bytes.new.items ≡ bytes.old.items ++ fields order (words numbers.now)) }
 {
     for number in numbers {
