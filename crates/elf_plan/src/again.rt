@@ -1,0 +1,19 @@
+ghost use Rattle.std.specs.Prelude.{◌≡◌, IfOk};
+ghost use Rattle.elf_plan.specs.Kept.{image_at_read};
+
+use elf_image::{Builder, ElfFault};
+use std::alloc::{AllocError, Global};
+
+/// The image as its source was read, before any edit. Takes memory as a read does.
+pub fn read_again<'data>(
+    alloc: Global,
+    image: &Builder<'data>,
+) -> Result<Builder<'data>, AllocError>
+    ensures { IfOk result (λ read. read ≡ image_at_read image.now) }
+{
+    match Builder::read(alloc, image.source()) {
+        Ok(read) => Ok(read),
+        Err(ElfFault::Memory) => Err(AllocError),
+        Err(_) => unreachable!(),
+    }
+}
