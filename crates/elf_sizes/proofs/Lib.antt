@@ -1,0 +1,6 @@
+pub mod HashSteps
+pub mod KeptSteps
+pub mod NeedSteps
+pub mod SizeSteps
+pub mod TextSteps
+pub mod WholeTexts

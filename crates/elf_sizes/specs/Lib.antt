@@ -1,0 +1,4 @@
+pub mod Inner
+pub mod Seen
+pub mod UsersSeen
+pub mod SizingSeen

@@ -1,0 +1,12 @@
+//! How large each section of an edited ELF file is to be.
+#![tactic(auto)]
+
+mod kinds;
+mod sizes;
+mod strings;
+mod tables;
+mod texts;
+mod users;
+mod versions;
+
+pub use crate::sizes::{new_sizes_of, sizes_of};
