@@ -1,0 +1,400 @@
+-- Where program headers go, and what is written of them.
+use Rattle.std.proofs.Common.{◌≡◌, ℕ, zero, suc, ◌+◌, ◌-◌, ◌*◌, ◌<◌, ◌^◌, max, Bool, true, false, not, ◌&&◌, ◌||◌, cond, List, [], ◌∷◌, ◌++◌, map, length, take, drop, get_or, refl, sym, ap, ◌∙◌, Option, Some, None, All, MatchOption, option_map, arith}
+use Rattle.std.specs.Prelude.{count_by, filter, fold, if◌then◌else◌, nat_le, nat_lt, ◌==◌}
+use Rattle.std.specs.List.{cons_option, flat_map, list_all, list_any, slice_get}
+use Rattle.std.specs.Option.{option_to_list}
+use Rattle.std.proofs.lemmas.Bool.{and_from, and_parts, and_right, eq-eqb, eqb-false, eqb-true, false_from_ne_true, lt-ltb, ltb-true, ne_eqb, true≢false}
+use Rattle.std.proofs.lemmas.List.{append-nil, append_assoc, at_drop_more, take_more}
+use Rattle.std.proofs.lemmas.List.Concat.{flat_map-append}
+use Rattle.std.proofs.lemmas.List.Elements.{All-head, All-tail}
+use Rattle.std.proofs.lemmas.List.Folds.{list_all-append, list_all_more}
+use Rattle.std.proofs.lemmas.Option.{get_or_from_slice_get, slice_get_within}
+use Rattle.std.proofs.lemmas.List.Sums.{AllPass-from_list_all, sum_by-cons}
+use Rattle.patch_bytes.specs.declared.number.Wide.{Wide}
+use Rattle.patch_bytes.specs.declared.number.Wide.TheVariants.{W32, W64}
+use Rattle.elf_format.specs.declared.constants.TheConstants.{PN_XNUM, SHN_LORESERVE}
+use Rattle.elf_blocks.specs.declared.fault.LayoutFault.{LayoutFault}
+use Rattle.elf_blocks.specs.declared.fault.LayoutFault.TheVariants as faults
+use Rattle.elf_format.specs.File.{is_loaded}
+use Rattle.elf_format.specs.declared.form.Form.{Form}
+use Rattle.elf_format.specs.Form.{by_class}
+use Rattle.elf_format.specs.Places.{Place, file_range}
+use Rattle.elf_format.specs.Ranges.{end_of}
+use Rattle.elf_format.specs.Records.{segment_header_size}
+use Rattle.elf_format.specs.declared.records.SegmentHeader.{SegmentHeader}
+use Rattle.elf_plan.specs.Added.{added_loads, greatest, header_count}
+use Rattle.elf_plan.specs.Follow.{HeaderTable, Itself, Leader, Notes, OneSection, is_moved, leader_of}
+use Rattle.elf_plan.specs.Kept.{KeptSection}
+use Rattle.elf_plan.specs.Memory.{Resized}
+use Rattle.elf_plan.specs.Plan.{does_place_fit, does_plan_fit, does_segment_fit, keep_physical, layout_for}
+use Rattle.elf_plan.specs.Sizes.{fits_field}
+use Rattle.elf_plan.specs.Standing.{places, sections_offset, table_offset}
+use Rattle.elf_plan.specs.Written.{Target, address_for, behind_last_load, first_in_file, led_to, places_of_kept, resized_table, target_at, targets_of, targets_of_notes, targets_over, written_from, written_segments}
+use Rattle.elf_layout.specs.declared.headings.Headings.{Headings}
+use Rattle.elf_layout.specs.declared.targets.TargetAt.{TargetAt}
+use Rattle.elf_layout.specs.declared.targets.Targets.{Targets}
+use Rattle.elf_layout.specs.Inner.{AreMarks, IsPastField, StandsTooFar, Told, notes, told}
+use Rattle.elf_layout.specs.Sections.{AreSized}
+use Rattle.elf_layout.specs.Targets.{IsMisfit, Span, added_behind, do_headings_fit, does_table_fit, fits_word, header_at, headings_at, headings_for, headings_found, headings_seen, is_led_well, is_physical_well, is_well_at, left_behind, sized_table, span_over, span_step, span_with, target_of_span, targets_at, targets_found, targets_seen}
+use Rattle.elf_layout.proofs.FollowSteps.{AreThere, IsThere, any_move-is, leader-there, marked-is}
+
+-- ## Several places
+
+-- of places, the first and the end of the last
+span_is : (first : Place) (end : ℕ) (ts : List Place)
+    → fold span_with (Some (record { first = first; end = end })) ts ≡ Some (record { first = first_in_file first ts; end = greatest end (map (λ t. end_of (file_range t)) ts) })
+unfolding first_in_file
+span_is first end [] = refl
+span_is first end (t ∷ ts) = span_is (if nat_lt t.sh_offset first.sh_offset then t else first) (max end (end_of (file_range t))) ts
+
+span-over : (ts : List Place) → option_to_list (option_map target_of_span (fold span_with None ts)) ≡ targets_over ts
+span-over [] = refl
+span-over (t ∷ ts) = ap (λ o. option_to_list (option_map target_of_span o)) (span_is t (end_of (file_range t)) ts)
+
+module _ (r : Resized) (moved : List ℕ) (marks : List Bool) (are : AreSized r) (h : AreMarks r moved marks) (all : List Place) where
+  -- those that move, or those that stay
+  abbrev chosen : Bool → KeptSection → Bool
+  chosen moving s = if moving then is_moved moved s else not (is_moved moved s)
+
+  span_kept : (moving : Bool) (ns : List KeptSection) (o : Option Span) → All (IsThere r) ns
+      → fold (span_step all marks moving) o (map (λ (s : KeptSection). s.position) ns) ≡ fold span_with o (places_of_kept all (filter (chosen moving) ns))
+  unfolding span_step
+  span_kept moving [] o there = refl
+  span_kept moving (s ∷ ns) o there =
+      ap (λ b. fold (span_step all marks moving) (if (if moving then b else not b) then elim (slice_get all s.position) as (λ _. Option Span) [ Some t ↦ span_with o t | None ↦ o ] else o) (map (λ (s : KeptSection). s.position) ns))
+      (marked-is r moved marks are h s (All-head (IsThere r) s ns there))
+      ∙ by_tests (chosen moving s) (slice_get all s.position) (λ x. span_kept moving ns x (All-tail (IsThere r) s ns there)) refl
+    where
+      by_tests : (b : Bool) (at : Option Place)
+          → ((x : Option Span) → fold (span_step all marks moving) x (map (λ (s : KeptSection). s.position) ns) ≡ fold span_with x (places_of_kept all (filter (chosen moving) ns)))
+          → slice_get all s.position ≡ at
+          → fold (span_step all marks moving) (if b then elim at as (λ _. Option Span) [ Some t ↦ span_with o t | None ↦ o ] else o) (map (λ (s : KeptSection). s.position) ns)
+          ≡ fold span_with o (places_of_kept all (cond b (s ∷ filter (chosen moving) ns) (filter (chosen moving) ns)))
+      by_tests false at rest is = rest o
+      by_tests true None rest is = rest o ∙ ap (λ x. fold span_with o (cons_option x (places_of_kept all (filter (chosen moving) ns)))) (sym is)
+      by_tests true (Some t) rest is = rest (span_with o t) ∙ ap (λ x. fold span_with o (cons_option x (places_of_kept all (filter (chosen moving) ns)))) (sym is)
+
+  spans_are : (moving : Bool) (ns : List KeptSection) → All (IsThere r) ns
+      → option_to_list (option_map target_of_span (span_over all marks moving (map (λ (s : KeptSection). s.position) ns))) ≡ targets_over (places_of_kept all (filter (chosen moving) ns))
+  spans_are moving ns there =
+      ap (λ o. option_to_list (option_map target_of_span o)) (span_kept moving ns None there) ∙ span-over (places_of_kept all (filter (chosen moving) ns))
+
+  notes_go : (ns : List KeptSection) → All (IsThere r) ns → targets_at all marks (notes (map (λ (s : KeptSection). s.position) ns)) ≡ targets_of_notes moved all ns
+  unfolding targets_at
+  notes_go ns there =
+      let ps : List ℕ = map (λ (s : KeptSection). s.position) ns in
+      ap (λ b. if b then option_to_list (option_map target_of_span (span_over all marks false ps)) ++ option_to_list (option_map target_of_span (span_over all marks true ps)) else [])
+      (any_move-is r moved marks are h ns there)
+      ∙ ap (λ l. if list_any (is_moved moved) ns then l ++ option_to_list (option_map target_of_span (span_over all marks true ps)) else []) (spans_are false ns there)
+      ∙ ap (λ l. if list_any (is_moved moved) ns then targets_over (places_of_kept all (filter (chosen false) ns)) ++ l else []) (spans_are true ns there)
+
+one_goes : (o : Option Place) → option_to_list (option_map target_at o) ≡ map target_at (cons_option o [])
+one_goes None = refl
+one_goes (Some t) = refl
+
+-- ## Targets that were found
+
+module _ (p alone : SegmentHeader) where
+  found_well : (a b : Option TargetAt) → list_all (is_well_at p) (targets_found (record { first = a; second = b })) ≡ list_all (is_led_well p) (targets_seen (record { first = a; second = b }))
+  unfolding is_well_at
+  found_well None None = refl
+  found_well None (Some u) = refl
+  found_well (Some t) None = refl
+  found_well (Some t) (Some u) = refl
+
+  found_same : (a b : Option TargetAt) → headings_found p alone (targets_found (record { first = a; second = b })) ≡ headings_at p alone (targets_seen (record { first = a; second = b }))
+  unfolding header_at
+  found_same None None = refl
+  found_same None (Some u) = refl
+  found_same (Some t) None = refl
+  found_same (Some t) (Some u) = refl
+
+  abbrev AreFound : Option Headings → Targets → Type 0
+  AreFound o found = MatchOption o (list_all (is_well_at p) (targets_found found) ≡ false) (λ h. (headings_seen h ≡ headings_found p alone (targets_found found)) × (list_all (is_well_at p) (targets_found found) ≡ true))
+
+  pub headings_found-are : (all : List Place) (marks : List Bool) (size : ℕ) (k : Told) (o : Option Headings) (found : Targets) → AreFound o found
+      → targets_seen found ≡ targets_at all marks k → alone ≡ sized_table size p k → does_table_fit size k ≡ true
+      → MatchOption o (do_headings_fit all marks size p k ≡ false) (λ h. (headings_seen h ≡ headings_for all marks size p k) × (do_headings_fit all marks size p k ≡ true))
+  unfolding headings_for do_headings_fit
+  headings_found-are all marks size k None found is same sized fits =
+      and_right (does_table_fit size k) (list_all (is_led_well p) (targets_at all marks k))
+      (sym (found_well found.first found.second ∙ ap (list_all (is_led_well p)) same) ∙ is)
+  headings_found-are all marks size k (Some h) found is same sized fits = (
+    is.0 ∙ found_same found.first found.second ∙ ap (headings_at p alone) same ∙ ap (λ q. headings_at p q (targets_at all marks k)) sized,
+    and_from (does_table_fit size k) (list_all (is_led_well p) (targets_at all marks k)) fits (sym (found_well found.first found.second ∙ ap (list_all (is_led_well p)) same) ∙ is.1),
+  )
+
+-- ## What is written of a program header
+
+list_all-weaker : {A : Type 0} → (f g : A → Bool) → ((x : A) → f x ≡ true → g x ≡ true) → (xs : List A) → list_all f xs ≡ true → list_all g xs ≡ true
+list_all-weaker f g more [] h = refl
+list_all-weaker f g more (x ∷ xs) h =
+    let parts = and_parts (f x) (list_all f xs) h in
+    and_from (g x) (list_all g xs) (more x parts.0) (list_all-weaker f g more xs parts.1)
+
+word-fits : (form : Form) (n : ℕ) → fits_field form n ≡ true → fits_word n ≡ true
+word-fits form n h = lt-ltb n (2 ^ 64) (by_wide form.wide h)
+  where
+    by_wide : (w : Wide) → nat_lt n (by_class w (2 ^ 32) (2 ^ 64)) ≡ true → n < 2 ^ 64
+    by_wide W32 e = omega (arith, ltb-true n (2 ^ 32) e)
+    by_wide W64 e = ltb-true n (2 ^ 64) e
+
+-- a header that fits has a physical address and a size that fit
+parts_fit : (form : Form) (p : SegmentHeader) → does_segment_fit form p ≡ true → (fits_word p.p_paddr ≡ true) × (fits_word p.p_filesz ≡ true)
+parts_fit form p h =
+    let f : ℕ → Bool = fits_field form in
+    let a = and_parts (f p.p_offset) (list_all f (p.p_vaddr ∷ p.p_paddr ∷ p.p_filesz ∷ p.p_memsz ∷ p.p_align ∷ [])) h in
+    let b = and_parts (f p.p_vaddr) (list_all f (p.p_paddr ∷ p.p_filesz ∷ p.p_memsz ∷ p.p_align ∷ [])) a.1 in
+    let c = and_parts (f p.p_paddr) (list_all f (p.p_filesz ∷ p.p_memsz ∷ p.p_align ∷ [])) b.1 in
+    let d = and_parts (f p.p_filesz) (list_all f (p.p_memsz ∷ p.p_align ∷ [])) c.1 in
+    (word-fits form p.p_paddr c.0, word-fits form p.p_filesz d.0)
+
+abbrev keeps_distance : SegmentHeader → Target → Bool
+keeps_distance p t = nat_le p.p_vaddr (p.p_paddr + address_for p t)
+
+all_led_well : (form : Form) (p : SegmentHeader) (ts : List Target) → list_all (keeps_distance p) ts ≡ true → list_all (does_segment_fit form) (map (led_to p) ts) ≡ true → list_all (is_led_well p) ts ≡ true
+unfolding is_physical_well
+all_led_well form p [] keeps fits = refl
+all_led_well form p (t ∷ ts) keeps fits =
+    let k = and_parts (keeps_distance p t) (list_all (keeps_distance p) ts) keeps in
+    let f = and_parts (does_segment_fit form (led_to p t)) (list_all (does_segment_fit form) (map (led_to p) ts)) fits in
+    let w = parts_fit form (led_to p t) f.0 in
+    and_from (is_led_well p t) (list_all (is_led_well p) ts)
+    (and_from (is_physical_well p (address_for p t)) (fits_word t.part.size) (and_from (keeps_distance p t) (fits_word (p.p_paddr + address_for p t - p.p_vaddr)) k.0 w.0) w.1)
+    (all_led_well form p ts k.1 f.1)
+
+well_keeps : (p : SegmentHeader) (t : Target) → is_led_well p t ≡ true → keeps_distance p t ≡ true
+unfolding is_physical_well
+well_keeps p t h =
+    (and_parts (keeps_distance p t) (fits_word (p.p_paddr + address_for p t - p.p_vaddr)) (and_parts (is_physical_well p (address_for p t)) (fits_word t.part.size) h).0).0
+
+module _ (r : Resized) (moved : List ℕ) (marks : List Bool) (are : AreSized r) (h : AreMarks r moved marks) (p : SegmentHeader) where
+  abbrev table_bytes : ℕ
+  table_bytes = header_count r moved * segment_header_size r.image.form
+
+  leader_goes : (l : Leader) → AreThere r l → targets_at (places r moved) marks (told l) ≡ (elim l as (λ _. List Target) [
+    | Itself ↦ []
+    | HeaderTable ↦ []
+    | OneSection s ↦ map target_at (places_of_kept (places r moved) (s ∷ []))
+    | Notes ns ↦ targets_of_notes moved (places r moved) ns
+  ])
+  unfolding targets_at
+  leader_goes Itself there = refl
+  leader_goes HeaderTable there = refl
+  leader_goes (OneSection s) there = one_goes (slice_get (places r moved) s.position)
+  leader_goes (Notes ns) there = notes_go r moved marks are h (places r moved) ns there
+
+  targets-are : targets_at (places r moved) marks (told (leader_of r p)) ≡ targets_of r moved p
+  unfolding targets_of
+  targets-are = leader_goes (leader_of r p) (leader-there r p are)
+
+  table_sized : (l : Leader) → sized_table table_bytes p (told l) ≡ (elim l as (λ _. SegmentHeader) [ HeaderTable ↦ record p { p_filesz = table_bytes; p_memsz = table_bytes } | _ ↦ p ])
+  table_sized Itself = refl
+  table_sized HeaderTable = refl
+  table_sized (OneSection s) = refl
+  table_sized (Notes ns) = refl
+
+  headings_of_targets : (alone : SegmentHeader) (ts : List Target) → headings_at p alone ts ≡ (elim ts as (λ _. List SegmentHeader) [ [] ↦ alone ∷ [] | t ∷ us ↦ map (led_to p) (t ∷ us) ])
+  headings_of_targets alone [] = refl
+  headings_of_targets alone (t ∷ ts) = refl
+
+  written-is : headings_for (places r moved) marks table_bytes p (told (leader_of r p)) ≡ written_from r moved p
+  unfolding headings_for
+  written-is =
+      ap (headings_at p (sized_table table_bytes p (told (leader_of r p)))) targets-are
+      ∙ ap (λ q. headings_at p q (targets_of r moved p)) (table_sized (leader_of r p))
+      ∙ headings_of_targets (resized_table r moved p) (targets_of r moved p)
+
+  physical-is : do_headings_fit (places r moved) marks table_bytes p (told (leader_of r p)) ≡ true → keep_physical r moved p ≡ true
+  unfolding do_headings_fit
+  physical-is fits =
+      let k : Told = told (leader_of r p) in
+      let well : list_all (is_led_well p) (targets_at (places r moved) marks k) ≡ true = (and_parts (does_table_fit table_bytes k) (list_all (is_led_well p) (targets_at (places r moved) marks k)) fits).1 in
+      list_all-weaker (is_led_well p) (keeps_distance p) (well_keeps p) (targets_of r moved p) (sym (ap (list_all (is_led_well p)) targets-are) ∙ well)
+
+  -- what fits its fields was written well
+  table_fits : (form : Form) (l : Leader) → list_all (does_segment_fit form) (headings_at p (sized_table table_bytes p (told l)) (targets_at (places r moved) marks (told l))) ≡ true → does_table_fit table_bytes (told l) ≡ true
+  unfolding targets_at
+  table_fits form Itself fits = refl
+  table_fits form HeaderTable fits = (parts_fit form (record p { p_filesz = table_bytes; p_memsz = table_bytes }) (and_parts (does_segment_fit form (record p { p_filesz = table_bytes; p_memsz = table_bytes })) true fits).0).1
+  table_fits form (OneSection s) fits = refl
+  table_fits form (Notes ns) fits = refl
+
+  targets_fit : (form : Form) (alone : SegmentHeader) (ts : List Target) → list_all (keeps_distance p) ts ≡ true → list_all (does_segment_fit form) (headings_at p alone ts) ≡ true → list_all (is_led_well p) ts ≡ true
+  targets_fit form alone [] keeps fits = refl
+  targets_fit form alone (t ∷ ts) keeps fits = all_led_well form p (t ∷ ts) keeps fits
+
+  fits-is : (form : Form) → keep_physical r moved p ≡ true → list_all (does_segment_fit form) (written_from r moved p) ≡ true → do_headings_fit (places r moved) marks table_bytes p (told (leader_of r p)) ≡ true
+  unfolding do_headings_fit headings_for
+  fits-is form keeps fits =
+      let k : Told = told (leader_of r p) in
+      let made : list_all (does_segment_fit form) (headings_at p (sized_table table_bytes p k) (targets_at (places r moved) marks k)) ≡ true = ap (list_all (does_segment_fit form)) written-is ∙ fits in
+      and_from (does_table_fit table_bytes k) (list_all (is_led_well p) (targets_at (places r moved) marks k))
+      (table_fits form (leader_of r p) made)
+      (targets_fit form (sized_table table_bytes p k) (targets_at (places r moved) marks k) (ap (list_all (keeps_distance p)) targets-are ∙ keeps) made)
+
+-- ## Headers behind the last one that is loaded
+
+behind_keeps : (q : SegmentHeader → Bool) (more ps : List SegmentHeader) → list_all q (behind_last_load more ps) ≡ true → list_all q ps ≡ true
+unfolding behind_last_load
+behind_keeps q more [] fits = refl
+behind_keeps q more (p ∷ ps) fits = by_test (is_loaded p && not (list_any is_loaded ps)) fits (behind_keeps q more ps)
+  where
+    by_test : (b : Bool) → list_all q (elim b as (λ _. List SegmentHeader) [ true ↦ p ∷ more ++ ps | _ ↦ p ∷ behind_last_load more ps ]) ≡ true
+        → (list_all q (behind_last_load more ps) ≡ true → list_all q ps ≡ true) → (q p && list_all q ps) ≡ true
+    by_test true all rest =
+        let parts = and_parts (q p) (list_all q (more ++ ps)) all in
+        and_from (q p) (list_all q ps) parts.0 (and_parts (list_all q more) (list_all q ps) (sym (list_all-append q more ps) ∙ parts.1)).1
+    by_test false all rest =
+        let parts = and_parts (q p) (list_all q (behind_last_load more ps)) all in
+        and_from (q p) (list_all q ps) parts.0 (rest parts.1)
+
+flat_all : {A B : Type 0} → (q : B → Bool) (f : A → List B) (xs : List A) (i : ℕ) (x : A) → i < length xs → get_or xs i x ≡ x → list_all q (flat_map f xs) ≡ true → list_all q (f x) ≡ true
+flat_all q f [] i x within at h = absurd (omega (arith, within))
+flat_all q f (y ∷ xs) zero x within at h = ap (λ z. list_all q (f z)) (sym at) ∙ (and_parts (list_all q (f y)) (list_all q (flat_map f xs)) (sym (list_all-append q (f y) (flat_map f xs)) ∙ h)).0
+flat_all q f (y ∷ xs) (suc i) x within at h =
+    flat_all q f xs i x (omega (arith, within)) at (and_parts (list_all q (f y)) (list_all q (flat_map f xs)) (sym (list_all-append q (f y) (flat_map f xs)) ∙ h)).1
+
+-- of a plan that fits, the headers fit and keep their physical addresses
+plan_parts : (r : Resized) (moved : List ℕ) (rounds looked : ℕ) → does_plan_fit r moved (layout_for r rounds looked moved) ≡ true
+    → (list_all (does_segment_fit r.image.form) (written_segments r moved) ≡ true) × (list_all (keep_physical r moved) r.image.segments ≡ true)
+unfolding does_plan_fit layout_for
+plan_parts r moved rounds looked h =
+    let form : Form = r.image.form in
+    let A : Bool = list_all (does_place_fit form) (places r moved) in
+    let B : Bool = list_all (does_segment_fit form) (written_segments r moved) in
+    let C : Bool = list_all (keep_physical r moved) r.image.segments in
+    let D : Bool = fits_field form (table_offset r moved) in
+    let E : Bool = fits_field form (sections_offset r moved) in
+    let F : Bool = nat_lt (length (written_segments r moved)) PN_XNUM in
+    let G : Bool = nat_lt (length (places r moved)) SHN_LORESERVE in
+    let f = and_parts (A && B && C && D && E && F) G h in
+    let e = and_parts (A && B && C && D && E) F f.0 in
+    let d = and_parts (A && B && C && D) E e.0 in
+    let c = and_parts (A && B && C) D d.0 in
+    let b = and_parts (A && B) C c.0 in
+    ((and_parts A B b.0).1, b.1)
+
+-- ## Steps of the walk over the program headers
+
+module _ (r : Resized) (moved : List ℕ) (marks : List Bool) (are : AreSized r) (h : AreMarks r moved marks) (all : List Place) (size : ℕ) (k : Told) (p : SegmentHeader)
+    (stand : all ≡ places r moved) (sized : size ≡ header_count r moved * segment_header_size r.image.form) (lead : k ≡ told (leader_of r p)) where
+  pub heading_written : headings_for all marks size p k ≡ written_from r moved p
+  heading_written =
+      ap (λ l. headings_for l marks size p k) stand ∙ ap (λ n. headings_for (places r moved) marks n p k) sized
+      ∙ ap (headings_for (places r moved) marks (header_count r moved * segment_header_size r.image.form) p) lead ∙ written-is r moved marks are h p
+
+  fit_same : do_headings_fit all marks size p k ≡ do_headings_fit (places r moved) marks (header_count r moved * segment_header_size r.image.form) p (told (leader_of r p))
+  fit_same =
+      ap (λ l. do_headings_fit l marks size p k) stand ∙ ap (λ n. do_headings_fit (places r moved) marks n p k) sized
+      ∙ ap (do_headings_fit (places r moved) marks (header_count r moved * segment_header_size r.image.form) p) lead
+
+  pub heading_physical : do_headings_fit all marks size p k ≡ true → keep_physical r moved p ≡ true
+  heading_physical fits = physical-is r moved marks are h p (sym fit_same ∙ fits)
+
+  pub heading_past : (i : ℕ) → slice_get r.image.segments i ≡ Some p → do_headings_fit all marks size p k ≡ false
+      → (rounds looked : ℕ) → does_plan_fit r moved (layout_for r rounds looked moved) ≡ false
+  unfolding written_segments
+  heading_past i there misfit rounds looked =
+      let within : i < length r.image.segments = slice_get_within r.image.segments i p there in
+      let at : get_or r.image.segments i p ≡ p = get_or_from_slice_get r.image.segments i p p there in
+      false_from_ne_true (does_plan_fit r moved (layout_for r rounds looked moved)) (λ plan.
+      let parts = plan_parts r moved rounds looked plan in
+      let form : Form = r.image.form in
+      let keeps : keep_physical r moved p ≡ true =
+      ap (keep_physical r moved) (sym at) ∙ AllPass-from_list_all (keep_physical r moved) r.image.segments parts.1 i p within in
+      let fits : list_all (does_segment_fit form) (written_from r moved p) ≡ true =
+      flat_all (does_segment_fit form) (written_from r moved) r.image.segments i p within at
+      (behind_keeps (does_segment_fit form) (map (λ load. load.header) (added_loads r moved)) (flat_map (written_from r moved) r.image.segments) parts.0) in
+      true≢false (sym (fits-is r moved marks are h p form keeps fits) ∙ sym fit_same ∙ misfit))
+
+pub written-more : (r : Resized) (moved : List ℕ) (i : ℕ) (p : SegmentHeader) → slice_get r.image.segments i ≡ Some p
+    → flat_map (written_from r moved) (take (i + 1) r.image.segments) ≡ flat_map (written_from r moved) (take i r.image.segments) ++ written_from r moved p
+written-more r moved i p there =
+    let within : i < length r.image.segments = slice_get_within r.image.segments i p there in
+    let at : get_or r.image.segments i p ≡ p = get_or_from_slice_get r.image.segments i p p there in
+    ap (flat_map (written_from r moved)) (take_more r.image.segments i p within ∙ ap (λ q. take i r.image.segments ++ q ∷ []) at)
+    ∙ flat_map-append (written_from r moved) (take i r.image.segments) (p ∷ [])
+    ∙ ap (λ l. flat_map (written_from r moved) (take i r.image.segments) ++ l) (append-nil (written_from r moved p))
+
+-- ## Steps of the walk that puts headers behind the last one that is loaded
+
+counts : (p : SegmentHeader) (ps : List SegmentHeader) → count_by is_loaded (p ∷ ps) ≡ cond (is_loaded p) 1 0 + count_by is_loaded ps
+counts p ps = sum_by-cons (λ q. cond (is_loaded q) 1 0) p ps
+
+none_loaded : (ps : List SegmentHeader) → list_any is_loaded ps ≡ not (count_by is_loaded ps == 0)
+none_loaded [] = refl
+none_loaded (p ∷ ps) = by_test (is_loaded p) (none_loaded ps) ∙ ap (λ n. not (n == 0)) (sym (counts p ps))
+  where
+    by_test : (b : Bool) → list_any is_loaded ps ≡ not (count_by is_loaded ps == 0) → (b || list_any is_loaded ps) ≡ not ((cond b 1 0 + count_by is_loaded ps) == 0)
+    by_test true rest = ap not (sym (ne_eqb (1 + count_by is_loaded ps) 0 (λ e. absurd (omega (arith, e)))))
+    by_test false rest = rest ∙ ap (λ n. not (n == 0)) (let e : count_by is_loaded ps ≡ 0 + count_by is_loaded ps = omega arith in e)
+
+behind_none : (more ps : List SegmentHeader) → list_any is_loaded ps ≡ false → behind_last_load more ps ≡ ps
+unfolding behind_last_load
+behind_none more [] none = refl
+behind_none more (p ∷ ps) none = by_test (is_loaded p) none (behind_none more ps)
+  where
+    by_test : (b : Bool) → (b || list_any is_loaded ps) ≡ false → (list_any is_loaded ps ≡ false → behind_last_load more ps ≡ ps)
+        → (elim (b && not (list_any is_loaded ps)) as (λ _. List SegmentHeader) [ true ↦ p ∷ more ++ ps | _ ↦ p ∷ behind_last_load more ps ]) ≡ p ∷ ps
+    by_test true e rest = absurd (true≢false e)
+    by_test false e rest = ap (λ l. p ∷ l) (rest e)
+
+-- a header with what is put behind it, and then the rest
+behind_step : (more : List SegmentHeader) (p : SegmentHeader) (ps : List SegmentHeader) (left : ℕ) → left ≡ count_by is_loaded (p ∷ ps)
+    → (behind_last_load more (p ∷ ps) ≡ (p ∷ added_behind more p left) ++ behind_last_load more ps) × (left_behind p left ≡ count_by is_loaded ps)
+unfolding behind_last_load
+behind_step more p ps left e =
+    by_test (is_loaded p) (count_by is_loaded ps) (none_loaded ps) (e ∙ counts p ps) (behind_none more ps)
+  where
+    by_test : (b : Bool) (n : ℕ) → list_any is_loaded ps ≡ not (n == 0) → left ≡ cond b 1 0 + n → (list_any is_loaded ps ≡ false → behind_last_load more ps ≡ ps)
+        → ((elim (b && not (list_any is_loaded ps)) as (λ _. List SegmentHeader) [ true ↦ p ∷ more ++ ps | _ ↦ p ∷ behind_last_load more ps ])
+        ≡ (p ∷ (if b && left == 1 then more else [])) ++ behind_last_load more ps) × ((if b then left - 1 else left) ≡ n)
+    by_test false n any is none = (refl, omega (arith, is))
+    by_test true n any is none = (last (n == 0) refl, omega (arith, is))
+      where
+        last : (z : Bool) → (n == 0) ≡ z
+            → (elim (not (list_any is_loaded ps)) as (λ _. List SegmentHeader) [ true ↦ p ∷ more ++ ps | _ ↦ p ∷ behind_last_load more ps ])
+            ≡ (p ∷ (if left == 1 then more else [])) ++ behind_last_load more ps
+        last true zero_left =
+            let n_is : n ≡ 0 = eqb-true n 0 zero_left in
+            let nothing : list_any is_loaded ps ≡ false = any ∙ ap not zero_left in
+            let one : (left == 1) ≡ true = eq-eqb left 1 (omega (arith, is, n_is)) in
+            ap (λ c. elim (not c) as (λ _. List SegmentHeader) [ true ↦ p ∷ more ++ ps | _ ↦ p ∷ behind_last_load more ps ]) nothing
+            ∙ ap (λ l. p ∷ more ++ l) (sym (none nothing))
+            ∙ ap (λ c. (p ∷ (if c then more else [])) ++ behind_last_load more ps) (sym one)
+        last false some_left =
+            let something : list_any is_loaded ps ≡ true = any ∙ ap not some_left in
+            let not_one : (left == 1) ≡ false = ne_eqb left 1 (λ f. eqb-false n 0 some_left (omega (arith, is, f))) in
+            ap (λ c. elim (not c) as (λ _. List SegmentHeader) [ true ↦ p ∷ more ++ ps | _ ↦ p ∷ behind_last_load more ps ]) something
+            ∙ ap (λ c. (p ∷ (if c then more else [])) ++ behind_last_load more ps) (sym not_one)
+
+-- the rest of a list, one header on
+pub behind-more : (more ps : List SegmentHeader) (i : ℕ) (d : SegmentHeader) (left : ℕ) (made new : List SegmentHeader) → i < length ps
+    → made ++ behind_last_load more (drop i ps) ≡ behind_last_load more ps → left ≡ count_by is_loaded (drop i ps)
+    → new ≡ made ++ (get_or ps i d ∷ added_behind more (get_or ps i d) left)
+    → (new ++ behind_last_load more (drop (i + 1) ps) ≡ behind_last_load more ps) × (left_behind (get_or ps i d) left ≡ count_by is_loaded (drop (i + 1) ps))
+behind-more more ps i d left made new within whole left_is new_is =
+    let p : SegmentHeader = get_or ps i d in
+    let step = behind_step more p (drop (i + 1) ps) left (left_is ∙ at_drop_more (count_by is_loaded) ps i d within) in (
+      ap (λ l. l ++ behind_last_load more (drop (i + 1) ps)) new_is ∙ append_assoc made (p ∷ added_behind more p left) (behind_last_load more (drop (i + 1) ps))
+          ∙ ap (λ l. made ++ l) (sym step.0) ∙ ap (λ l. made ++ l) (sym (at_drop_more (behind_last_load more) ps i d within)) ∙ whole,
+      step.1,
+    )
+
+pub behind-nothing : (more : List SegmentHeader) → behind_last_load more [] ≡ []
+unfolding behind_last_load
+behind-nothing more = refl
+
+pub physical-more : (r : Resized) (moved : List ℕ) (i : ℕ) (p : SegmentHeader) → slice_get r.image.segments i ≡ Some p
+    → list_all (keep_physical r moved) (take i r.image.segments) ≡ true → keep_physical r moved p ≡ true → list_all (keep_physical r moved) (take (i + 1) r.image.segments) ≡ true
+physical-more r moved i p there so_far keeps =
+    list_all_more (keep_physical r moved) r.image.segments i p (slice_get_within r.image.segments i p there)
+    ∙ and_from (list_all (keep_physical r moved) (take i r.image.segments)) (keep_physical r moved (get_or r.image.segments i p)) so_far
+    (ap (keep_physical r moved) (get_or_from_slice_get r.image.segments i p p there) ∙ keeps)
+
+-- a fault of a program header is one of all
+pub stands_too_far : (r : Resized) (moved : List ℕ) (fits : Bool) (fault : LayoutFault) → IsMisfit fits fault → (fits ≡ false → IsPastField r moved) → StandsTooFar r moved fault
+stands_too_far r moved fits faults.Overlap misfit past = misfit
+stands_too_far r moved fits faults.NumberTooLarge misfit past = past misfit
+stands_too_far r moved fits faults.Memory misfit past = tt

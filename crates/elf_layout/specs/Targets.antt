@@ -1,0 +1,140 @@
+-- Where a program header goes, told by the positions of sections and the marks of those that move.
+use Rattle.std.specs.Prelude.{ℕ, ◌≡◌, ◌+◌, ◌-◌, ◌^◌, max, List, [], ◌∷◌, ◌++◌, map, fold, Bool, true, false, ◌&&◌, not, Option, Some, None, nat_le, nat_lt, ◌==◌, if◌then◌else◌}
+use Rattle.std.specs.List.{list_all, slice_get}
+use Rattle.std.specs.Option.{option_map, option_to_list}
+use Rattle.elf_format.specs.File.{is_loaded}
+use Rattle.elf_format.specs.Places.{Place, file_range}
+use Rattle.elf_format.specs.Ranges.{end_of, range}
+use Rattle.elf_blocks.specs.declared.fault.LayoutFault.{LayoutFault}
+use Rattle.elf_blocks.specs.declared.fault.LayoutFault.TheVariants as faults
+use Rattle.elf_format.specs.declared.records.SegmentHeader.{SegmentHeader}
+use Rattle.elf_plan.specs.PlanSeen.{place_seen}
+use Rattle.elf_plan.specs.Written.{Target, address_for, address_in_memory, led_to, target_at}
+use Rattle.elf_layout.specs.declared.targets.Spread.{Spread}
+use Rattle.elf_layout.specs.declared.targets.TargetAt.{TargetAt}
+use Rattle.elf_layout.specs.declared.targets.Targets.{Targets}
+use Rattle.elf_layout.specs.declared.headings.Headings.{Headings}
+use Rattle.elf_layout.specs.Following.{do_any_move, is_marked}
+use Rattle.elf_layout.specs.Inner.{Told, itself, notes, section, table}
+
+abbrev pub target_seen : TargetAt → Target
+target_seen t = record { part = range t.offset t.size; address = t.address }
+
+abbrev pub targets_seen : Targets → List Target
+targets_seen t = option_to_list (option_map target_seen t.first) ++ option_to_list (option_map target_seen t.second)
+
+-- ## Over several places
+
+-- of several places the one that stands first in the file, and the end of the last
+pub record Span : Type 0 where
+  pub first : Place
+  pub end : ℕ
+
+abbrev pub span_seen : Spread → Span
+span_seen s = record { first = place_seen s.first; end = s.end }
+
+-- one more place
+abbrev pub span_with : Option Span → Place → Option Span
+span_with None t = Some (record { first = t; end = end_of (file_range t) })
+span_with (Some s) t = Some (record { first = if nat_lt t.sh_offset s.first.sh_offset then t else s.first; end = max s.end (end_of (file_range t)) })
+
+-- the section at a position is one that moves, or one that stays
+abbrev pub is_chosen : Bool → List Bool → ℕ → Bool
+is_chosen moving marks position = if moving then is_marked marks position else not (is_marked marks position)
+
+-- the place of one more section, if it is chosen
+unfoldable pub span_step : List Place → List Bool → Bool → Option Span → ℕ → Option Span
+span_step all marks moving span position =
+    if is_chosen moving marks position then elim (slice_get all position) [ Some t ↦ span_with span t | None ↦ span ] else span
+
+-- the places of those sections that are chosen
+abbrev pub span_over : List Place → List Bool → Bool → List ℕ → Option Span
+span_over all marks moving positions = fold (span_step all marks moving) None positions
+
+abbrev pub target_of_span : Span → Target
+target_of_span s = record { part = range s.first.sh_offset (s.end - s.first.sh_offset); address = address_in_memory s.first }
+
+-- ## Of a leader
+
+-- where a program header goes that goes by this
+unfoldable pub targets_at : List Place → List Bool → Told → List Target
+targets_at all marks itself = []
+targets_at all marks table = []
+targets_at all marks (section position) = option_to_list (option_map target_at (slice_get all position))
+targets_at all marks (notes positions) =
+    if do_any_move marks positions
+    then option_to_list (option_map target_of_span (span_over all marks false positions)) ++ option_to_list (option_map target_of_span (span_over all marks true positions))
+    else []
+
+-- ## What is written
+
+abbrev pub headings_seen : Headings → List SegmentHeader
+headings_seen h = h.first ∷ option_to_list h.second
+
+abbrev pub fits_word : ℕ → Bool
+fits_word n = nat_lt n (2 ^ 64)
+
+-- the physical address that goes with an address doesn't fall below 0, and fits 64 bits
+unfoldable pub is_physical_well : SegmentHeader → ℕ → Bool
+is_physical_well p address = nat_le p.p_vaddr (p.p_paddr + address) && fits_word (p.p_paddr + address - p.p_vaddr)
+
+-- a program header's numbers at a target fit
+abbrev pub is_led_well : SegmentHeader → Target → Bool
+is_led_well p t = is_physical_well p (address_for p t) && fits_word t.part.size
+
+-- the same of a target that was found
+unfoldable pub is_well_at : SegmentHeader → TargetAt → Bool
+is_well_at p t = is_led_well p (target_seen t)
+
+unfoldable pub header_at : SegmentHeader → TargetAt → SegmentHeader
+header_at p t = led_to p (target_seen t)
+
+abbrev pub targets_found : Targets → List TargetAt
+targets_found t = option_to_list t.first ++ option_to_list t.second
+
+-- what becomes of a program header at its targets, where it has any
+abbrev pub headings_at : SegmentHeader → SegmentHeader → List Target → List SegmentHeader
+headings_at p alone [] = alone ∷ []
+headings_at p alone (t ∷ ts) = map (led_to p) (t ∷ ts)
+
+-- the same at targets that were found
+abbrev pub headings_found : SegmentHeader → SegmentHeader → List TargetAt → List SegmentHeader
+headings_found p alone [] = alone ∷ []
+headings_found p alone (t ∷ ts) = map (header_at p) (t ∷ ts)
+
+-- a program header for the table has that table's size
+abbrev pub sized_table : ℕ → SegmentHeader → Told → SegmentHeader
+sized_table size p itself = p
+sized_table size p table = record p { p_filesz = size; p_memsz = size }
+sized_table size p (section position) = p
+sized_table size p (notes positions) = p
+
+abbrev pub does_table_fit : ℕ → Told → Bool
+does_table_fit size itself = true
+does_table_fit size table = fits_word size
+does_table_fit size (section position) = true
+does_table_fit size (notes positions) = true
+
+-- what becomes of a program header that goes by this, where the table has that size
+unfoldable pub headings_for : List Place → List Bool → ℕ → SegmentHeader → Told → List SegmentHeader
+headings_for all marks size p told = headings_at p (sized_table size p told) (targets_at all marks told)
+
+unfoldable pub do_headings_fit : List Place → List Bool → ℕ → SegmentHeader → Told → Bool
+do_headings_fit all marks size p told = does_table_fit size told && list_all (is_led_well p) (targets_at all marks told)
+
+-- ## Headers behind the last one that is loaded
+
+-- what is put behind a header, where so many of those that are left are loaded
+abbrev pub added_behind : List SegmentHeader → SegmentHeader → ℕ → List SegmentHeader
+added_behind more p left = if is_loaded p && left == 1 then more else []
+
+abbrev pub left_behind : SegmentHeader → ℕ → ℕ
+left_behind p left = if is_loaded p then left - 1 else left
+
+-- ## Faults
+
+-- some number doesn't fit, or there isn't enough memory
+abbrev pub IsMisfit : Bool → LayoutFault → Type 0
+IsMisfit fits faults.Overlap = ⊥
+IsMisfit fits faults.NumberTooLarge = fits ≡ false
+IsMisfit fits faults.Memory = Unit {0}

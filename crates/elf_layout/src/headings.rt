@@ -1,0 +1,230 @@
+//! What becomes of a program header.
+ghost use Rattle.std.specs.Prelude.{◌≡◌, ◌+◌, ◌-◌, [], ◌∷◌, ◌++◌, ◌&&◌, MatchOption, MatchResult, OnOk, true, false, map};
+ghost use Rattle.std.specs.List.{list_all};
+ghost use Rattle.elf_plan.specs.PlanSeen.{place_seen};
+ghost use Rattle.elf_plan.specs.Written.{address_for as address_at, memory_size as size_in_memory};
+ghost use Rattle.elf_layout.specs.Inner.{leader_seen};
+ghost use Rattle.elf_layout.specs.Targets.{IsMisfit, do_headings_fit, does_table_fit, fits_word, header_at, headings_for, headings_found, headings_seen, is_physical_well, is_well_at, sized_table, target_seen, targets_found};
+
+use crate::leaders::LeaderAt;
+use crate::targets::{TargetAt, Targets, targets_of};
+use elf_format::constants::{PT_DYNAMIC, PT_INTERP};
+use elf_format::records::SegmentHeader;
+use elf_plan::{LayoutFault, SectionPlace};
+use std::alloc::AllocError;
+
+// What becomes of a program header: one, or two.
+#[derive(Clone, Copy)]
+pub(crate) struct Headings {
+    pub(crate) first: SegmentHeader,
+    pub(crate) second: Option<SegmentHeader>,
+}
+
+// How many bytes a program header takes in memory that has so many in the file.
+fn memory_size(p: SegmentHeader, size: u64) -> u64
+    ensures { result ≡ size_in_memory p size }
+{
+    let as_many = p.p_memsz == p.p_filesz;
+    if p.p_type == PT_DYNAMIC || p.p_type == PT_INTERP || as_many {
+        size
+    } else if p.p_memsz < p.p_filesz || size < p.p_memsz {
+        p.p_memsz
+    } else {
+        size
+    }
+}
+
+// The address that a program header gets.
+fn address_for(p: SegmentHeader, t: TargetAt) -> u64
+    ensures { result ≡ address_at p (target_seen t) }
+{
+    match t.address {
+        Some(address) => address,
+        None => p.p_vaddr,
+    }
+}
+
+// A number, if it fits 64 bits.
+fn in_word(number: u128) -> Option<u64>
+    ensures { MatchOption result (fits_word number ≡ false)
+        (λ n. (n ≡ number) × (fits_word number ≡ true)) }
+{
+    if number <= 0xffff_ffff_ffff_ffff {
+        Some(number as u64)
+    } else {
+        None
+    }
+}
+
+// The physical address that goes with an address; none where it falls below 0 or doesn't fit.
+#[tactic(auto, unfolding(crate::specs::Targets::is_physical_well))]
+fn physical_at(p: SegmentHeader, address: u64) -> Option<u64>
+    ensures { MatchOption result (is_physical_well p address ≡ false)
+        (λ n. (n ≡ p.p_paddr + address - p.p_vaddr) × (is_physical_well p address ≡ true)) }
+{
+    let sum = p.p_paddr as u128 + address as u128;
+    let start = p.p_vaddr as u128;
+    if start <= sum {
+        in_word(sum - start)
+    } else {
+        None
+    }
+}
+
+// The program header at a target; none where a number doesn't fit.
+#[tactic(auto, unfolding(crate::specs::Targets::is_well_at, crate::specs::Targets::header_at))]
+fn led_to(p: SegmentHeader, t: TargetAt) -> Option<SegmentHeader>
+    ensures { MatchOption result (is_well_at p t ≡ false)
+        (λ h. (h ≡ header_at p t) × (is_well_at p t ≡ true)) }
+{
+    let address = address_for(p, t);
+    match physical_at(p, address) {
+        None => None,
+        Some(physical) => match in_word(t.size) {
+            None => None,
+            Some(size) => Some(SegmentHeader {
+                p_type: p.p_type,
+                p_flags: p.p_flags,
+                p_offset: t.offset,
+                p_vaddr: address,
+                p_paddr: physical,
+                p_filesz: size,
+                p_memsz: memory_size(p, size),
+                p_align: p.p_align,
+            }),
+        },
+    }
+}
+
+// The program header with the size of the table where it is for that; none where the size doesn't fit.
+fn table_or(p: SegmentHeader, leader: &LeaderAt, size: u128) -> Option<SegmentHeader>
+    ensures { MatchOption result (does_table_fit size (leader_seen leader.now) ≡ false)
+        (λ h. (h ≡ sized_table size p (leader_seen leader.now))
+        × (does_table_fit size (leader_seen leader.now) ≡ true)) }
+{
+    match leader {
+        LeaderAt::HeaderTable => {
+            if 0xffff_ffff_ffff_ffff < size {
+                return None;
+            }
+            let mut table = p;
+            table.p_filesz = size as u64;
+            table.p_memsz = size as u64;
+            Some(table)
+        }
+        LeaderAt::Itself => Some(p),
+        LeaderAt::OneSection(_) => Some(p),
+        LeaderAt::Notes(_) => Some(p),
+    }
+}
+
+// What becomes of a program header at one target.
+fn at_one(p: SegmentHeader, t: TargetAt) -> Option<Headings>
+    ensures { MatchOption result (is_well_at p t ≡ false)
+        (λ h. (headings_seen h ≡ header_at p t ∷ [])
+        × (is_well_at p t ≡ true)) }
+{
+    match led_to(p, t) {
+        None => None,
+        Some(first) => Some(Headings {
+            first,
+            second: None,
+        }),
+    }
+}
+
+// What becomes of a program header at two targets.
+fn at_two(p: SegmentHeader, t: TargetAt, u: TargetAt) -> Option<Headings>
+    ensures { let both = is_well_at p t && is_well_at p u in
+        MatchOption result (both ≡ false)
+        (λ h. (headings_seen h ≡ header_at p t ∷ header_at p u ∷ [])
+        × (both ≡ true)) }
+{
+    match led_to(p, t) {
+        None => None,
+        Some(first) => match led_to(p, u) {
+            None => None,
+            Some(second) => Some(Headings {
+                first,
+                second: Some(second),
+            }),
+        },
+    }
+}
+
+// What becomes of a program header at its targets, where it has any.
+fn at_targets(p: SegmentHeader, alone: SegmentHeader, targets: Targets) -> Option<Headings>
+    ensures { let well = list_all (is_well_at p) (targets_found targets) in
+        MatchOption result (well ≡ false)
+        (λ h. (headings_seen h ≡ headings_found p alone (targets_found targets)) × (well ≡ true)) }
+{
+    match targets.first {
+        None => match targets.second {
+            None => Some(Headings {
+                first: alone,
+                second: None,
+            }),
+            Some(t) => at_one(p, t),
+        },
+        Some(t) => match targets.second {
+            None => at_one(p, t),
+            Some(u) => at_two(p, t, u),
+        },
+    }
+}
+
+// What becomes of a program header that goes by this, where the program header table has that size; none where a number
+// doesn't fit.
+#[tactic(auto, unfolding(crate::specs::Targets::headings_for, crate::specs::Targets::do_headings_fit))]
+fn headings_of(
+    places: &[SectionPlace],
+    marks: &[bool],
+    size: u128,
+    p: SegmentHeader,
+    leader: &LeaderAt,
+) -> Option<Headings>
+    ensures { let all = map place_seen places.now in let told = leader_seen leader.now in
+        MatchOption result (do_headings_fit all marks.now size p told ≡ false)
+        (λ h. (headings_seen h ≡ headings_for all marks.now size p told)
+        × (do_headings_fit all marks.now size p told ≡ true)) }
+{
+    match table_or(p, leader, size) {
+        None => None,
+        Some(alone) => at_targets(p, alone, targets_of(places, marks, leader)),
+    }
+}
+
+// Puts them behind others.
+fn push_headings(made: &mut Vec<SegmentHeader>, headings: Headings) -> Result<(), AllocError>
+    ensures { OnOk result (made.new.items ≡ made.old.items ++ headings_seen headings) }
+{
+    made.push(headings.first)?;
+    if let Some(second) = headings.second {
+        made.push(second)?;
+    }
+    Ok(())
+}
+
+// Puts what becomes of a program header behind others.
+pub(crate) fn push_written(
+    made: &mut Vec<SegmentHeader>,
+    places: &[SectionPlace],
+    marks: &[bool],
+    size: u128,
+    p: SegmentHeader,
+    leader: &LeaderAt,
+) -> Result<(), LayoutFault>
+    ensures { let all = map place_seen places.now in let told = leader_seen leader.now in
+        MatchResult result
+        (λ _. (made.new.items ≡ made.old.items ++ headings_for all marks.now size p told)
+        × (do_headings_fit all marks.now size p told ≡ true))
+        (IsMisfit (do_headings_fit all marks.now size p told)) }
+{
+    let Some(headings) = headings_of(places, marks, size, p, leader) else {
+        return Err(LayoutFault::NumberTooLarge);
+    };
+    match push_headings(made, headings) {
+        Ok(()) => Ok(()),
+        Err(_) => Err(LayoutFault::Memory),
+    }
+}

@@ -1,0 +1,139 @@
+// The end of memory, and the alignment of what is loaded.
+ghost use Rattle.std.specs.Prelude.{◌≡◌, ◌+◌, ◌<◌, ◌^◌, ◌&&◌, ◌==◌, map, slice_get};
+ghost use Rattle.elf_format.specs.File.{is_loaded, loads_of};
+ghost use Rattle.elf_format.specs.Placement.{memory_part};
+ghost use Rattle.elf_format.specs.Ranges.{end_of};
+ghost use Rattle.elf_image.specs.ImageSeen.{segment_kept};
+ghost use Rattle.elf_plan.specs.Added.{alignment_at_read as align_at_read, default_page_size as page_size_of, greatest, load_alignment as align_of_loads, memory_end as end_of_memory};
+ghost use Rattle.elf_plan.specs.Memory.{SizedSection, sized_sections};
+ghost use Rattle.elf_layout.specs.Numbers.{numbers_of};
+ghost use Rattle.elf_layout.specs.Spots.{end_at, has_memory, value_where};
+
+use crate::resizing::Resizing;
+use crate::sized::{SectionNumbers, section_count, sized_at};
+use elf_format::constants::{EM_MIPS, PT_LOAD, SHF_ALLOC, SHF_TLS, SHT_NOBITS, SHT_NULL};
+use elf_image::Segment;
+use elf_plan::constants::{
+    EM_AARCH64, EM_ALPHA, EM_IA_64, EM_LOONGARCH, EM_PPC, EM_PPC64, EM_SPARC, EM_SPARCV9, EM_TILEGX,
+};
+
+// The end of a segment in memory, 0 where it isn't loaded.
+fn load_end(segment: &Segment<'_>) -> u128
+    ensures end { result
+        ≡ value_where is_loaded (λ p. end_of (memory_part p)) (segment_kept segment.now) }
+    ensures near { result < 2 ^ 65 }
+{
+    if segment.p_type() == PT_LOAD {
+        u128::from(segment.p_vaddr()) + u128::from(segment.p_memsz())
+    } else {
+        0
+    }
+}
+
+// The end of the loaded segments in memory.
+fn loads_end(segments: &[Segment<'_>]) -> u128
+    ensures end { result ≡ greatest 0
+        (map (λ p. end_of (memory_part p)) (loads_of (map segment_kept segments.now))) }
+    ensures near { result < 2 ^ 65 }
+{
+    let mut end = 0;
+    for segment in segments {
+        end = load_end(segment).max(end);
+    }
+    end
+}
+
+// Whether a section takes memory of its own, and had some at read.
+fn had_memory(section: SectionNumbers) -> bool
+    ensures { (s : SizedSection) → section ≡ numbers_of s → result ≡ has_memory s }
+{
+    section.sh_flags & SHF_ALLOC != 0
+        && section.sh_type != SHT_NULL
+        && !(section.sh_type == SHT_NOBITS && section.sh_flags & SHF_TLS != 0)
+        && section.sh_size != 0
+}
+
+// The end in memory of the section at a position, 0 where it takes none.
+fn section_end_at(r: &Resizing<'_, '_>, position: usize) -> u128
+    ensures end { result ≡ end_at (slice_get (sized_sections r.now) position) }
+    ensures near { result < 2 ^ 65 }
+{
+    let Some(section) = sized_at(r, position) else {
+        return 0;
+    };
+    if had_memory(section) {
+        u128::from(section.sh_addr) + u128::from(section.sh_size)
+    } else {
+        0
+    }
+}
+
+// The ends of the loaded segments, and of the sections that take memory and had some at read.
+pub(crate) fn memory_end(r: &Resizing<'_, '_>) -> u128
+    ensures end { result ≡ end_of_memory r.now }
+    ensures near { result < 2 ^ 65 }
+{
+    let mut end = loads_end(r.image.segments());
+    for position in 0..section_count(r) {
+        end = section_end_at(r, position).max(end);
+    }
+    end
+}
+
+// The alignment of a segment, 0 where it isn't loaded.
+fn load_align(segment: &Segment<'_>) -> u64
+    ensures { result ≡ value_where is_loaded (λ p. p.p_align) (segment_kept segment.now) }
+{
+    if segment.p_type() == PT_LOAD {
+        segment.p_align()
+    } else {
+        0
+    }
+}
+
+// The greatest alignment of the loaded segments.
+fn greatest_align(segments: &[Segment<'_>]) -> u64
+    ensures { result ≡ greatest 0
+        (map (λ p. p.p_align) (loads_of (map segment_kept segments.now))) }
+{
+    let mut found = 0;
+    for segment in segments {
+        found = load_align(segment).max(found);
+    }
+    found
+}
+
+// The pages of a machine, where nothing tells their size.
+fn default_page_size(machine: u16) -> u64
+    ensures { result ≡ page_size_of machine }
+{
+    match machine {
+        EM_ALPHA | EM_IA_64 | EM_MIPS | EM_PPC | EM_PPC64 | EM_AARCH64 | EM_TILEGX | EM_LOONGARCH =>
+            65536,
+        EM_SPARC | EM_SPARCV9 => 8192,
+        _ => 4096,
+    }
+}
+
+// The greatest alignment of the loaded segments that were read, or the machine's pages where they tell none.
+fn alignment_at_read(r: &Resizing<'_, '_>) -> u64
+    ensures { result ≡ align_at_read r.now }
+{
+    let found = greatest_align(r.read.segments());
+    if found == 0 {
+        default_page_size(r.read.header().e_machine)
+    } else {
+        found
+    }
+}
+
+// The page size that was set, or without one the alignment at read.
+#[tactic(auto, unfolding(elf_plan::specs::Added::load_alignment))]
+pub(crate) fn load_alignment(r: &Resizing<'_, '_>) -> u64
+    ensures { result ≡ align_of_loads r.now }
+{
+    match r.image.page_size() {
+        Some(size) => u64::from(size),
+        None => alignment_at_read(r),
+    }
+}

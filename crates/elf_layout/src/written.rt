@@ -1,0 +1,134 @@
+ghost use Rattle.std.specs.Prelude.{◌≡◌, ◌∷◌, ◌++◌, IfErr, IfOk, OnOk, count_by, map, true};
+ghost use Rattle.std.specs.List.{flat_map, list_all};
+ghost use Rattle.elf_format.specs.File.{is_loaded};
+ghost use Rattle.elf_plan.specs.Added.{header_count};
+ghost use Rattle.elf_plan.specs.Plan.{keep_physical};
+ghost use Rattle.elf_plan.specs.PlanSeen.{place_seen};
+ghost use Rattle.elf_plan.specs.Standing.{places as places_of};
+ghost use Rattle.elf_plan.specs.Written.{behind_last_load, written_from};
+ghost use Rattle.elf_layout.specs.Inner.{AreLeaders, AreMarks, AreWritten, IsStanding, StandsTooFar};
+ghost use Rattle.elf_layout.specs.Targets.{added_behind, left_behind as left_at};
+
+use crate::headings::push_written;
+use crate::leaders::LeaderAt;
+use crate::reading::{form_of, sections_are_sized, segment_at};
+use crate::resizing::Resizing;
+use crate::standing::Standing;
+use elf_format::records::SegmentHeader;
+use elf_plan::{LayoutFault, SectionPlace};
+use std::alloc::{AllocError, Global};
+
+// How many program headers are loaded.
+fn count_loads(headers: &[SegmentHeader]) -> usize
+    ensures { result ≡ count_by is_loaded headers.now }
+{
+    let mut count = 0usize;
+    for p in headers {
+        if p.is_loaded() {
+            count += 1;
+        }
+    }
+    count
+}
+
+// How many of those behind a header are loaded, where so many are that are left.
+fn left_behind(p: SegmentHeader, left: usize) -> usize
+    ensures { result ≡ left_at p left }
+{
+    if p.is_loaded() && 0 < left {
+        left - 1
+    } else {
+        left
+    }
+}
+
+// Puts a header behind others, and others behind it where it is the last of those that are left that is loaded.
+fn push_next(
+    made: &mut Vec<SegmentHeader>,
+    p: SegmentHeader,
+    loads: &[SegmentHeader],
+    left: usize,
+) -> Result<(), AllocError>
+    ensures { OnOk result (made.new.items
+        ≡ made.old.items ++ (p ∷ added_behind loads.now p left)) }
+{
+    made.push(p)?;
+    if p.is_loaded() && left == 1 {
+        made.extend_from_slice(loads)?;
+    }
+    Ok(())
+}
+
+// The headers, with others behind the last one that is loaded.
+fn with_loads(
+    alloc: Global,
+    headers: &[SegmentHeader],
+    loads: &[SegmentHeader],
+) -> Result<Vec<SegmentHeader>, AllocError>
+    ensures { IfOk result (λ made. made.items ≡ behind_last_load loads.now headers.now) }
+{
+    let mut made = Vec::new(alloc);
+    let mut left = count_loads(headers);
+    for p in headers {
+        push_next(&mut made, *p, loads, left)?;
+        left = left_behind(*p, left);
+    }
+    Ok(made)
+}
+
+// What becomes of each program header.
+fn all_written(
+    alloc: Global,
+    r: &Resizing<'_, '_>,
+    leaders: &[LeaderAt],
+    moved: &[usize],
+    marks: &[bool],
+    places: &[SectionPlace],
+    headers: usize,
+) -> Result<Vec<SegmentHeader>, LayoutFault>
+    requires leaders { AreLeaders r.now leaders.now }
+    requires marks { AreMarks r.now moved.now marks.now }
+    requires places { map place_seen places.now ≡ places_of r.now moved.now }
+    requires headers { headers ≡ header_count r.now moved.now }
+    ensures written { IfOk result (λ made. made.items
+        ≡ flat_map (written_from r.now moved.now) r.now.image.segments) }
+    ensures physical { OnOk result (list_all (keep_physical r.now moved.now) r.now.image.segments
+        ≡ true) }
+    ensures fault { IfErr result (StandsTooFar r.now moved.now) }
+{
+    sections_are_sized(r);
+    let size = headers as u128 * form_of(r).segment_header_size() as u128;
+    let mut made = Vec::new(alloc);
+    for i in 0..leaders.len() {
+        let p = segment_at(r, i);
+        match push_written(&mut made, places, marks, size, p, &leaders[i]) {
+            Ok(()) => {}
+            Err(fault) => return Err(fault),
+        }
+    }
+    Ok(made)
+}
+
+// The program headers that are written, as many as `headers`, once sections stand where they stand.
+pub(crate) fn written_segments(
+    alloc: Global,
+    r: &Resizing<'_, '_>,
+    leaders: &[LeaderAt],
+    moved: &[usize],
+    marks: &[bool],
+    standing: &Standing,
+    headers: usize,
+) -> Result<Vec<SegmentHeader>, LayoutFault>
+    requires leaders { AreLeaders r.now leaders.now }
+    requires marks { AreMarks r.now moved.now marks.now }
+    requires standing { IsStanding r.now moved.now standing.now }
+    requires headers { headers ≡ header_count r.now moved.now }
+    ensures written { IfOk result (λ segments. AreWritten r.now moved.now segments.items) }
+    ensures fault { IfErr result (StandsTooFar r.now moved.now) }
+{
+    let made = all_written(alloc, r, leaders, moved, marks, &standing.places, headers)?;
+    match with_loads(alloc, &made, &standing.loads) {
+        Ok(all) => Ok(all),
+        Err(_) => Err(LayoutFault::Memory),
+    }
+}
