@@ -24,13 +24,20 @@ fn main(rt: HostRuntime) -> io::Result<()> {
     for line in cases.lines() {
         println!(rt; "{line}")?;
         let (kind, rest) = line.split_once(' ').unwrap_or((line, ""));
-        match kind {
-            "=" => names = rest,
-            "!" => on_files(&rt, names, rest)?,
-            _ => {}
+        if kind == "=" {
+            names = rest;
         }
+        step(&rt, kind, names, rest)?;
     }
     Ok(())
+}
+
+/// Prints what comes of a line.
+fn step(rt: &HostRuntime, kind: &str, names: &str, rest: &str) -> io::Result<()> {
+    match kind {
+        "!" => on_files(rt, names, rest),
+        _ => Ok(()),
+    }
 }
 
 /// The bytes of a file, read again where memory was refused.
