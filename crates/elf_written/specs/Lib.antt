@@ -1,0 +1,9 @@
+pub mod Final
+pub mod Whole
+pub mod Base
+pub mod Headers
+pub mod Contents
+pub mod Writing
+pub mod Again
+pub mod Stays
+pub mod Laws

@@ -1,0 +1,5 @@
+//! What a file is to which an edited ELF image is written by a plan: the bytes of headers, tables and contents, and what a reader
+//! and a loader find in them. The definitions, with laws.
+#![tactic(auto)]
+
+pub mod laws;
