@@ -185,8 +185,8 @@ pub(crate) fn promised(image: &Builder<'_>, plan: Plan) -> Plan
     plan
 }
 
-// Where everything goes, for the image that was read from the same bytes and the edited one.
-fn lay_out_from<'data>(
+/// Where everything goes, as `lay_out` tells it, for a caller that has the image as its source was read.
+pub fn lay_out_again<'data>(
     alloc: Global,
     read: &Builder<'data>,
     image: &Builder<'data>,
@@ -194,10 +194,12 @@ fn lay_out_from<'data>(
     requires { read.now ≡ image_at_read image.now }
     ensures plan { IfOk result (λ plan. IsPlan (resized image.now) plan) }
     ensures fit { OnOk result (IsTrue (do_sizes_of_image_fit image.now)) }
+    ensures promises { IfOk result (λ plan. IsPromised image.now plan) }
     ensures fault { IfErr result (IsNoLayout image.now) }
 {
     let sizes = new_sizes_of(alloc, read, image)?;
-    plan_from(alloc, read, image, &sizes)
+    let plan = plan_from(alloc, read, image, &sizes)?;
+    Ok(promised(image, plan))
 }
 
 /// Where everything goes, with the new sizes of the sections. `Overlap` where two blocks of memory overlap that can't move, with a
@@ -209,9 +211,8 @@ pub fn lay_out(alloc: Global, image: &Builder<'_>) -> Result<Plan, LayoutFault>
     ensures promises { IfOk result (λ plan. IsPromised image.now plan) }
     ensures fault { IfErr result (IsNoLayout image.now) }
 {
-    let answer = match read_again(alloc, image) {
-        Ok(read) => lay_out_from(alloc, &read, image),
-        Err(_) => Err(LayoutFault::Memory),
+    let Ok(read) = read_again(alloc, image) else {
+        return Err(LayoutFault::Memory);
     };
-    Ok(promised(image, answer?))
+    lay_out_again(alloc, &read, image)
 }

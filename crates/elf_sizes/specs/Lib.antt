@@ -2,3 +2,4 @@ pub mod Inner
 pub mod Seen
 pub mod UsersSeen
 pub mod SizingSeen
+pub mod MadeTables

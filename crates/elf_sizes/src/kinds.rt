@@ -6,7 +6,7 @@ ghost use Rattle.elf_plan.specs.Texts.{are_names_changed as have_names_changed};
 ghost use Rattle.elf_sizes.specs.Inner.{fits_class};
 ghost use Rattle.elf_tables.specs.declared.fault.TableFault.TheVariants.{NumberTooLarge};
 
-use crate::strings::{have_same_names, is_subsequence, table_length};
+use crate::strings::{have_same_names, made_for};
 use crate::tables::{gabi_size, gnu_size};
 use crate::users::{Users, form_of};
 use crate::versions::{definitions_size, grown};
@@ -108,12 +108,11 @@ impl<'a, 'data> Sizing<'a, 'data> {
             (λ length. (length ≡ size) × ((copied || nat_le size (2 ^ 32)) ≡ true))
             (λ fault. fault ≡ NumberTooLarge → (copied || nat_le size (2 ^ 32)) ≡ false) }
     {
-        let now = self.users.texts(alloc, number)?;
-        let at_read = self.read_users.texts(alloc, number)?;
-        if is_subsequence(now.as_slice(), at_read.as_slice()) {
-            return Ok(old);
+        let made = made_for(alloc, &self.users, &self.read_users, number)?;
+        match made {
+            Some(table) => Ok(table.bytes().len() as u64),
+            None => Ok(old),
         }
-        table_length(alloc, now.as_slice())
     }
 
     // The size of a table of so many symbols (gABI, Symbol Table). `None` where it is past 64 bits.

@@ -1,4 +1,4 @@
-//! How large each section of an edited ELF file is to be.
+//! How large each section of an edited ELF file is to be, and the string tables that are made anew.
 #![tactic(auto)]
 
 mod kinds;
@@ -10,3 +10,4 @@ mod users;
 mod versions;
 
 pub use crate::sizes::{new_sizes_of, sizes_of};
+pub use crate::strings::made_table;

@@ -1,12 +1,14 @@
-//! Whether a string table is copied, and how long it is where it is made anew.
-ghost use Rattle.std.specs.Prelude.{◌≡◌, ℕ, ◌≤◌, ◌<◌, ◌^◌, List, ◌∷◌, drop, length, map, MatchResult};
+//! Whether a string table is copied, and the table where it is made anew.
+ghost use Rattle.std.specs.Prelude.{◌≡◌, ℕ, ◌≤◌, ◌<◌, ◌^◌, List, ◌∷◌, drop, length, map, IfErr, IfOk, IsTrue, MatchOption, MatchResult};
 ghost use Rattle.elf_tables.specs.declared.fault.TableFault.TheVariants.{NumberTooLarge};
-ghost use Rattle.elf_tables.specs.Strings.{HoldNoNul, table_length as length_of_table};
+ghost use Rattle.elf_tables.specs.Strings.{HoldNoNul, IsTableOf, PlacesStand, table_length};
 ghost use Rattle.elf_image.specs.ImageSeen.{symbol_kept};
-ghost use Rattle.elf_plan.specs.Texts.{are_same_texts, is_subsequence as is_subsequence_of, texts_of_symbols};
+ghost use Rattle.elf_plan.specs.Texts.{are_same_texts, is_subsequence as is_subsequence_of, is_table_copied, texts_of_symbols};
+ghost use Rattle.elf_sizes.specs.MadeTables.{IsMade, IsTooLong};
 
-use elf_image::Symbol;
-use elf_tables::{StringTable, TableFault};
+use crate::users::Users;
+use elf_image::{Builder, Symbol};
+use elf_tables::{Finished, StringTable, TableFault};
 use std::alloc::Global;
 
 // How many of the first texts are found once another text was looked at, where `next` of them were before.
@@ -24,7 +26,7 @@ fn next_after(some: &[&[u8]], next: usize, text: &[u8]) -> usize
 }
 
 // Whether the first texts are the second with some left out.
-pub(crate) fn is_subsequence(some: &[&[u8]], all: &[&[u8]]) -> bool
+fn is_subsequence(some: &[&[u8]], all: &[&[u8]]) -> bool
     ensures { result ≡ is_subsequence_of (map (λ text. text.now) some.now)
         (map (λ text. text.now) all.now) }
 {
@@ -51,19 +53,61 @@ pub(crate) fn have_same_names(left: &[Symbol<'_>], right: &[Symbol<'_>]) -> bool
     true
 }
 
-// How long a string table of these texts is (gABI, String Table). `NumberTooLarge` where it is longer than 2 to the 32
-// bytes.
-pub(crate) fn table_length(alloc: Global, texts: &[&[u8]]) -> Result<u64, TableFault>
+// The string table of these texts (gABI, String Table). `NumberTooLarge` where it is longer than 2 to the 32 bytes.
+fn table_of<'t>(alloc: Global, texts: &[&'t [u8]]) -> Result<Finished<'t>, TableFault>
     requires { HoldNoNul (map (λ text. text.now) texts.now) }
-    ensures { let size = length_of_table (map (λ text. text.now) texts.now) in
-        MatchResult result
-        (λ length. (length ≡ size) × (size ≤ 2 ^ 32))
-        (λ fault. fault ≡ NumberTooLarge → 2 ^ 32 < size) }
+    ensures table { let list = map (λ text. text.now) texts.now in MatchResult result
+        (λ table. IsTableOf list table × (table_length list ≤ 2 ^ 32))
+        (λ fault. fault ≡ NumberTooLarge → 2 ^ 32 < table_length list) }
+    ensures stands { IfOk result PlacesStand }
 {
     let mut table = StringTable::new(alloc);
     for text in texts {
         table.add(*text)?;
     }
-    let table = table.finish(alloc)?;
-    Ok(table.bytes().len() as u64)
+    table.finish(alloc)
+}
+
+// The string table with that number at read, where it is made anew, for the users of the image's texts and of the texts
+// that were read.
+pub(crate) fn made_for<'a, 'data>(
+    alloc: Global,
+    users: &Users<'a, 'data>,
+    read_users: &Users<'a, 'data>,
+    number: usize,
+) -> Result<Option<Finished<'a>>, TableFault>
+    requires { read_users.now ≡ record { read = users.now.read; image = users.now.read } }
+    ensures table { IfOk result (λ made. MatchOption made
+        (IsTrue (is_table_copied users.now.read users.now.image number))
+        (IsMade users.now.read users.now.image number)) }
+    ensures fault { IfErr result (λ fault.
+        fault ≡ NumberTooLarge → IsTooLong users.now.read users.now.image number) }
+{
+    let now = users.texts(alloc, number)?;
+    let at_read = read_users.texts(alloc, number)?;
+    if is_subsequence(now.as_slice(), at_read.as_slice()) {
+        return Ok(None);
+    }
+    let table = table_of(alloc, now.as_slice())?;
+    Ok(Some(table))
+}
+
+/// The string table with that number at read, with the texts that the edited image uses of it (gABI, String Table); `None`
+/// where the table that was read is copied. `NumberTooLarge` where it has more than 2 to the 32 bytes, so that the last of
+/// its texts has an offset past 32 bits.
+pub fn made_table<'a, 'data>(
+    alloc: Global,
+    read: &'a Builder<'data>,
+    image: &'a Builder<'data>,
+    number: usize,
+) -> Result<Option<Finished<'a>>, TableFault>
+    ensures table { IfOk result (λ made. MatchOption made
+        (IsTrue (is_table_copied read.entry.now image.entry.now number))
+        (IsMade read.entry.now image.entry.now number)) }
+    ensures fault { IfErr result (λ fault.
+        fault ≡ NumberTooLarge → IsTooLong read.entry.now image.entry.now number) }
+{
+    let users = Users::new(alloc, read, image)?;
+    let read_users = Users::new(alloc, read, read)?;
+    made_for(alloc, &users, &read_users, number)
 }

@@ -39,7 +39,7 @@ lookup-by_bytes text [] = refl
 lookup-by_bytes text (e ∷ es) = ap (λ o. cond (bytes_eq text e.0.now) (Some e.1) o) (lookup-by_bytes text es)
 
 -- the places after one more text was put into them
-pub PutsPlace : List (List ℕ × ℕ) → List (List ℕ × ℕ) → List ℕ → ℕ → Type 0
+unfoldable pub PutsPlace : List (List ℕ × ℕ) → List (List ℕ × ℕ) → List ℕ → ℕ → Type 0
 PutsPlace old new text place = (q : List ℕ) → lookup (bytes_eq q) new ≡ cond (bytes_eq text q) (Some place) (lookup (bytes_eq q) old)
 
 pub puts-from : (old new : List (Bor (List ℕ) × ℕ)) (text : List ℕ) (place : ℕ)

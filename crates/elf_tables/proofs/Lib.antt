@@ -7,3 +7,4 @@ pub mod RecordLaws
 pub mod VersionLaws
 pub mod ChainingSteps
 pub mod NeedsSteps
+pub mod PlacingSteps

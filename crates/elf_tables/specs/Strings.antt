@@ -1,5 +1,5 @@
 -- String tables (gABI, String Table): texts that each end with a NUL, told by where they begin.
-use Rattle.std.specs.Prelude.{ℕ, ◌+◌, ◌<◌, ◌≡◌, List, [], ◌∷◌, ◌++◌, length, Bool, ◌&&◌, ◌||◌, not, Option, Some, IsSome, Contains, All, false, nat_eq, ◌==◌, filter, sum_by, slice_get, if◌then◌else◌}
+use Rattle.std.specs.Prelude.{ℕ, ◌+◌, ◌<◌, ◌≡◌, ◌≢◌, List, [], ◌∷◌, ◌++◌, length, Bool, ◌&&◌, ◌||◌, not, Option, Some, IsSome, Contains, All, false, nat_eq, ◌==◌, filter, sum_by, slice_get, if◌then◌else◌}
 use Rattle.std.specs.Map.{lookup}
 use Rattle.std.specs.List.{ends_with, list_all, list_any}
 use Rattle.std.specs.Str.{bytes_eq}
@@ -50,6 +50,14 @@ place_of table text = lookup (bytes_eq text) table.places
 -- each text of which the table tells a place stands there
 abbrev pub PlacesStand : Strings → Type 0
 PlacesStand table = (text : List ℕ) (place : ℕ) → place_of table text ≡ Some place → StandsAt table.bytes place text
+
+-- the table once a text is placed in it: its bytes stay, and so do the places of other texts
+pub record IsPlaced (old new : Strings) (text : List ℕ) (place : ℕ) : Type 0 where
+  pub bytes : new.bytes ≡ old.bytes
+  pub here : place_of new text ≡ Some place
+  pub others : (other : List ℕ) → other ≢ text → place_of new other ≡ place_of old other
+  -- each text that had a place has one
+  pub had : (other : List ℕ) → IsSome (place_of old other) → IsSome (place_of new other)
 
 -- the table holds these texts, no others, and no byte more than they need
 pub record IsTableOf (texts : List (List ℕ)) (table : Strings) : Type 0 where

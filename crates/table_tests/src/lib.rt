@@ -16,6 +16,8 @@ macro_rules! again {
 }
 
 #[cfg(test)]
+mod copied;
+#[cfg(test)]
 mod hashes;
 #[cfg(test)]
 mod lengths;

@@ -3,7 +3,7 @@ use Rattle.std.proofs.Common.{◌≡◌, ◌<◌, ℕ, List, [], length, map, ge
 use Rattle.std.specs.Borrow.{Bor}
 use Rattle.std.proofs.lemmas.List.{get_or-map, length-map}
 use Rattle.elf_tables.specs.Strings.{holds_nul}
-use Rattle.elf_sizes.proofs.strings.table_length.Goals as goal
+use Rattle.elf_sizes.proofs.strings.table_of.Goals as goal
 
 pub add-requires : goal.add-requires
 add-requires c =

@@ -1,5 +1,5 @@
 use Rattle.std.proofs.Common.{◌≡◌, ◌++◌, drop, map}
-use Rattle.elf_sizes.proofs.strings.table_length.Given as goal
+use Rattle.elf_sizes.proofs.strings.table_of.Given as goal
 
 -- the texts so far, with those that are left, are all of them
 abbrev pub invariant-loop-text : goal.invariant-loop-text
