@@ -1,5 +1,6 @@
 pub mod Reads
 pub mod WriterSeen
+pub mod Held
 pub mod Causes
 pub mod PageSizes
 pub mod Prints
@@ -7,3 +8,4 @@ pub mod Told
 pub mod Taken
 pub mod Drafted
 pub mod Contained
+pub mod Written

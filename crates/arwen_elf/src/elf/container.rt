@@ -1,4 +1,4 @@
-ghost use Rattle.std.specs.Prelude.{◌≡◌, Ok, IfErr, IfOk, OnOk, MatchResult, map, option_map, string_bytes};
+ghost use Rattle.std.specs.Prelude.{◌≡◌, false, Ok, IfErr, IfOk, OnOk, MatchResult, map, option_map, string_bytes};
 ghost use Rattle.std.specs.Io.KnownBytes.{Appends};
 ghost use Rattle.elf_image.specs.Image.{image_of, shown};
 ghost use Rattle.elf_image.specs.Answers.{borrowed};
@@ -6,13 +6,16 @@ ghost use Rattle.arwen_elf.specs.Causes.{FailsPrint, FailsWrite, RefusesRead};
 ghost use Rattle.arwen_elf.specs.PageSizes.{page_size_for};
 ghost use Rattle.arwen_elf.specs.Prints.{before_nul as bytes_before_nul, cut_at_colons as parts_between_colons, directories_shown, line_if, line_of, printed_exec_stack, printed_interpreter, printed_needed, printed_os_abi, printed_runpath, printed_soname};
 ghost use Rattle.arwen_elf.specs.WriterSeen.{ShowsBothViews};
+ghost use Rattle.arwen_elf.specs.Written.{GetsImage, IsImageWritten, IsIo, IsNoImage, IsNotWritten, MayNotWrite};
 
 use crate::elf::rewriter::error::{ElfError, Result};
 use crate::elf::rewriter::writer::Writer;
 use bstr::ByteSlice;
 use elf_image::constants::PF_X;
+use elf_write::CountedWrite;
 use std::alloc::{AllocError, Global};
 use std::io::Write;
+use std::rt::Files;
 
 /// An ELF file as the program works with it: its image, and its bytes as read.
 #[derive(Debug, Drop)]
@@ -189,5 +192,30 @@ impl<'a> ElfContainer<'a> {
                 Ok(out.write_all(text)?)
             }
         }
+    }
+
+    /// The bytes of the file that is written, as `Writer::image_bytes` gives them.
+    pub fn image_bytes(&self, alloc: Global) -> Result<Vec<u8>>
+        ensures bytes { IfOk result (λ bytes. IsImageWritten self.now.inner bytes.items) }
+        ensures fault { IfErr result (IsNoImage self.now.inner) }
+    {
+        self.inner.image_bytes(alloc)
+    }
+
+    /// Writes the bytes of `image_bytes`, as `Writer::write` does.
+    pub fn write<W: CountedWrite>(&self, alloc: Global, w: &mut W) -> Result<()>
+        ensures ok { OnOk result (GetsImage self.now.inner (W.contents w.old) (W.contents w.new)) }
+        ensures err { IfErr result
+            (IsNotWritten W.contents W.failed self.now.inner w.old w.new) }
+        ensures unchanged { self.now.inner.changed ≡ false → IfErr result IsIo }
+    {
+        self.inner.write(alloc, w)
+    }
+
+    /// Writes the bytes of `image_bytes` to a file, as `Writer::write_to_path` does.
+    pub fn write_to_path<R: Files + AllocGlobal>(&self, rt: &R, path: &str) -> Result<()>
+        ensures { IfErr result (MayNotWrite self.now.inner) }
+    {
+        self.inner.write_to_path(rt, path)
     }
 }

@@ -9,6 +9,7 @@ pub mod machines;
 mod steps;
 mod told;
 pub mod writer;
+mod written;
 
 pub use crate::elf::rewriter::batch::ElfBatchError;
 pub use crate::elf::rewriter::error::{ElfError, ModifyCause, Result};

@@ -17,6 +17,7 @@ use elf_edits::{EditCall, ElfEdit, ProbeAnswer, Removed, shrink_questions};
 use std::alloc::{AllocError, Global};
 use std::collections::{HashMap, HashSet};
 
+#[tactic(auto, using(crate::proofs::WholeLaws::edit_leaves, crate::proofs::WholeLaws::in_place_leaves, crate::proofs::WholeLaws::batch_leaves))]
 impl<'data> Writer<'data> {
     /// Makes several edits, each upon what the one before it left: all of them, or none. All memory is wanted before
     /// anything changes. An empty batch is accepted without memory, and changes nothing. The cost is in proportion to

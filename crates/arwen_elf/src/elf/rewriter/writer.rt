@@ -2,6 +2,8 @@ ghost use Rattle.std.specs.Prelude.{◌≡◌, ◌∷◌, [], Ok, IfOk, MatchRes
 ghost use Rattle.elf_image.specs.Image.{image_of, shown};
 ghost use Rattle.elf_image.specs.ImageSeen.{entry_kept};
 ghost use Rattle.elf_image.specs.Answers.{borrowed};
+ghost use Rattle.elf_plan.specs.Kept.{image_at_read};
+ghost use Rattle.elf_written.specs.Whole.{IsWhole};
 ghost use Rattle.arwen_elf.specs.Causes.{RefusesRead};
 ghost use Rattle.arwen_elf.specs.PageSizes.{page_size_for, page_size_of};
 ghost use Rattle.arwen_elf.specs.Reads.{entries_shown, text_if, first_of, needed_shown, runpath_shown, searched_shown, soname_shown, texts_tagged};
@@ -32,6 +34,10 @@ impl<'data> Model for Writer<'data> {
     ghost use Rattle.arwen_elf.specs.WriterSeen.{image_held};
 
     ghost view = { image_held };
+
+    ghost use Rattle.arwen_elf.specs.Held.{is_whole_held};
+
+    ghost invariant = { is_whole_held };
 }
 
 /// The texts of the DT_NEEDED entries (gABI, Dynamic Section), in order, equal ones too.
@@ -96,9 +102,11 @@ impl<'data> Writer<'data> {
         Ok(Writer { builder })
     }
 
-    /// The file's image. Takes no memory.
+    /// The file's image, of which no edit took anything away. Takes no memory.
+    #[tactic(auto, using(crate::proofs::WholeLaws::whole_at_read))]
     pub fn builder(&self) -> &Builder<'data>
-        ensures { result.now ≡ self.now }
+        ensures image { result.now ≡ self.now }
+        ensures whole { IsWhole (image_at_read self.now) self.now }
     {
         &self.builder
     }

@@ -1,0 +1,88 @@
+-- The bytes that an image is written to, and why there are none.
+use Rattle.std.specs.Prelude.{ℕ, ◌≡◌, ◌⊎◌, List, Option, true, false}
+use Rattle.std.specs.Io.KnownBytes.{Appends}
+use Rattle.elf_format.specs.declared.fault.ElfFault.TheVariants.{NumberTooLarge}
+use Rattle.elf_image.specs.Image.{Image}
+use Rattle.elf_blocks.specs.declared.fault.LayoutFault.{LayoutFault}
+use Rattle.elf_blocks.specs.declared.fault.LayoutFault.TheVariants as layout
+use Rattle.elf_plan.specs.Plan.{IsOverlapping, IsPlan, Layout, resized}
+use Rattle.elf_layout.specs.Refused.{IsNoLayout}
+use Rattle.elf_written.specs.Laws.{ShowsFinal}
+use Rattle.elf_written.specs.Stays.{AreOthersSeen, IsDataSeen}
+use Rattle.elf_written.specs.Writing.{AreHeadersApart, IsWritten}
+use Rattle.elf_write.specs.Counted.{Stops}
+use Rattle.elf_write.specs.Numbers.{do_numbers_fit}
+use Rattle.arwen_elf.specs.declared.elf.rewriter.error.ElfError.{ElfError}
+use Rattle.arwen_elf.specs.declared.elf.rewriter.error.ElfError.TheVariants.{Io, Memory, Modify, Write}
+use Rattle.arwen_elf.specs.declared.elf.rewriter.error.ModifyCause.TheVariants.{Overlap}
+
+-- A file to which an edited image is written by a plan of it: it shows the image in its final form, to a loader too; data of the program
+-- stands at its address, and so does every other byte that isn't written anew.
+pub record IsEditWritten (image : Image) (bytes : List ℕ) : Type 0 where
+  pub plan : Layout
+  pub planned : IsPlan (resized image) plan
+  pub written : IsWritten image plan bytes
+  pub shows : ShowsFinal image bytes
+  pub kept_data : IsDataSeen (resized image) plan bytes
+  pub others : AreOthersSeen (resized image) plan bytes
+
+-- The bytes of an image: those that were read where nothing was edited.
+pub record IsImageWritten (image : Image) (bytes : List ℕ) : Type 0 where
+  pub unchanged : image.changed ≡ false → bytes ≡ image.source
+  pub edited : image.changed ≡ true → IsEditWritten image bytes
+
+-- two blocks of memory overlap that can't move, or the file header and the program header table share some of the file
+abbrev pub IsOverlap : Image → Type 0
+IsOverlap image = IsOverlapping (resized image) ⊎ ((plan : Layout) × IsPlan (resized image) plan × (AreHeadersApart image plan → ⊥))
+
+-- a number of the layout or of what is written is past its field
+abbrev pub IsPastField : Image → Type 0
+IsPastField image = IsNoLayout image layout.NumberTooLarge ⊎ ((plan : Layout) × IsPlan (resized image) plan × (do_numbers_fit image plan ≡ false))
+
+-- why an edited image has no bytes
+abbrev pub IsNoEdit : Image → LayoutFault → Type 0
+IsNoEdit image layout.Overlap = IsOverlap image
+IsNoEdit image layout.NumberTooLarge = IsPastField image
+IsNoEdit image layout.Memory = Unit {0}
+
+-- how that is told
+abbrev pub IsTold : LayoutFault → ElfError → Type 0
+IsTold layout.Overlap e = e ≡ Modify Overlap
+IsTold layout.NumberTooLarge e = e ≡ Write NumberTooLarge
+IsTold layout.Memory e = e ≡ Memory
+
+-- an image has no bytes: it was edited, and one of these is why
+abbrev pub IsNoImage : Image → ElfError → Type 0
+IsNoImage image (Modify Overlap) = (image.changed ≡ true) × IsOverlap image
+IsNoImage image (Write NumberTooLarge) = (image.changed ≡ true) × IsPastField image
+IsNoImage image Memory = Unit {0}
+IsNoImage image other = ⊥
+
+-- ## Writers
+
+-- a writer got the bytes of an image
+pub record GetsImage (image : Image) (old new : Option (List ℕ)) : Type 0 where
+  pub bytes : List ℕ
+  pub are_written : IsImageWritten image bytes
+  pub appended : Appends old new bytes
+
+-- the first bytes of an image were got, and then a write failed
+pub record StopsAmong (image : Image) (old new : Option (List ℕ)) (failed_old failed_new : ℕ) : Type 0 where
+  pub bytes : List ℕ
+  pub are_written : IsImageWritten image bytes
+  pub stops : Stops bytes old new failed_old failed_new
+
+-- an image isn't written whole: a write failed; or there are no bytes of it, and the writer got nothing
+abbrev pub IsNotWritten : {W : Type 0} → (W → Option (List ℕ)) → (W → ℕ) → Image → W → W → ElfError → Type 0
+IsNotWritten contents failed image old new (Io fault) = StopsAmong image (contents old) (contents new) (failed old) (failed new)
+IsNotWritten contents failed image old new other = (new ≡ old) × IsNoImage image other
+
+-- a write failed
+abbrev pub IsIo : ElfError → Type 0
+IsIo (Io fault) = Unit {0}
+IsIo other = ⊥
+
+-- an image isn't written to a file
+abbrev pub MayNotWrite : Image → ElfError → Type 0
+MayNotWrite image (Io fault) = Unit {0}
+MayNotWrite image other = IsNoImage image other

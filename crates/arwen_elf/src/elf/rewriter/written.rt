@@ -1,0 +1,128 @@
+//! The bytes that an image is written to.
+ghost use Rattle.std.specs.Prelude.{◌≡◌, false, true, IfErr, IfOk, IsTrue, OnOk};
+ghost use Rattle.elf_plan.specs.Kept.{image_at_read};
+ghost use Rattle.elf_plan.specs.Plan.{IsPlan, resized};
+ghost use Rattle.elf_plan.specs.Refusals.{do_sizes_of_image_fit};
+ghost use Rattle.elf_written.specs.Whole.{IsWhole};
+ghost use Rattle.arwen_elf.specs.Written.{GetsImage, IsEditWritten, IsImageWritten, IsIo, IsNoEdit, IsNoImage, IsNotWritten, IsTold, MayNotWrite};
+
+use crate::elf::rewriter::error::{ElfError, ModifyCause, Result};
+use crate::elf::rewriter::writer::Writer;
+use elf_image::{Builder, ElfFault};
+use elf_layout::lay_out_again;
+use elf_plan::{LayoutFault, Plan, read_again};
+use elf_write::{CountedWrite, Sink, image_bytes_again, write_all_counted};
+use patch_bytes::ByteString;
+use std::alloc::Global;
+use std::fs;
+use std::rt::Files;
+
+// The bytes of an edited image by a plan, with the image that was read from its source.
+fn bytes_by<'data>(
+    alloc: Global,
+    read: &Builder<'data>,
+    image: &Builder<'data>,
+    plan: &Plan,
+) -> std::result::Result<Vec<u8>, LayoutFault>
+    requires read { read.now ≡ image_at_read image.now }
+    requires whole { IsWhole read.now image.now }
+    requires planned { IsPlan (resized image.now) plan.now }
+    requires sized { IsTrue (do_sizes_of_image_fit image.now) }
+    ensures bytes { IfOk result (λ bytes. IsEditWritten image.now bytes.items) }
+    ensures fault { IfErr result (IsNoEdit image.now) }
+{
+    match image_bytes_again(alloc, read, image, plan) {
+        Ok(bytes) => Ok(bytes),
+        Err(fault) => Err(fault),
+    }
+}
+
+// The bytes of an edited image.
+fn edited_bytes(alloc: Global, image: &Builder<'_>) -> std::result::Result<Vec<u8>, LayoutFault>
+    requires { IsWhole (image_at_read image.now) image.now }
+    ensures bytes { IfOk result (λ bytes. IsEditWritten image.now bytes.items) }
+    ensures fault { IfErr result (IsNoEdit image.now) }
+{
+    let Ok(read) = read_again(alloc, image) else {
+        return Err(LayoutFault::Memory);
+    };
+    match lay_out_again(alloc, &read, image) {
+        Ok(plan) => bytes_by(alloc, &read, image, &plan),
+        Err(fault) => Err(fault),
+    }
+}
+
+// Why an image isn't written, as it is told.
+fn told_of(fault: LayoutFault) -> ElfError
+    ensures { IsTold fault result }
+{
+    match fault {
+        LayoutFault::Overlap => ElfError::Modify(ModifyCause::Overlap),
+        LayoutFault::NumberTooLarge => ElfError::Write(ElfFault::NumberTooLarge),
+        LayoutFault::Memory => ElfError::Memory,
+    }
+}
+
+impl<'data> Writer<'data> {
+    // The bytes of the file that is written, where nothing was edited those that were read, which takes no memory.
+    fn written(&self, alloc: Global) -> Result<ByteString<'data>>
+        ensures bytes { IfOk result (IsImageWritten self.now) }
+        ensures fault { IfErr result (IsNoImage self.now) }
+        ensures edited { IfErr result (λ _. self.now.changed ≡ true) }
+    {
+        let image = self.builder();
+        if !image.changed() {
+            return Ok(ByteString::borrowed(image.source()));
+        }
+        match edited_bytes(alloc, image) {
+            Ok(bytes) => Ok(ByteString::owned(bytes)),
+            Err(fault) => Err(told_of(fault)),
+        }
+    }
+
+    /// The bytes of the file that is written: those that were read where nothing was edited, else a file that shows the
+    /// edited image by its section headers and to a loader. Errors: `Modify(Overlap)` where two blocks of memory overlap
+    /// that can't move, `Write(NumberTooLarge)` where a number is past its field, `Memory`. The image stays as it is.
+    pub fn image_bytes(&self, alloc: Global) -> Result<Vec<u8>>
+        ensures bytes { IfOk result (λ bytes. IsImageWritten self.now bytes.items) }
+        ensures fault { IfErr result (IsNoImage self.now) }
+    {
+        let image = self.builder();
+        if !image.changed() {
+            return Ok(Vec::from_slice(alloc, image.source())?);
+        }
+        match edited_bytes(alloc, image) {
+            Ok(bytes) => Ok(bytes),
+            Err(fault) => Err(told_of(fault)),
+        }
+    }
+
+    /// Writes the bytes of `image_bytes`, all of which are made before the first is written; those of an image that wasn't
+    /// edited take no memory. Errors: those of `image_bytes`, and then the writer has got nothing; `Io` where a write
+    /// failed, took nothing or was interrupted 1,001 times in a row, and then the writer has got the first of the bytes.
+    pub fn write<W: CountedWrite>(&self, alloc: Global, w: &mut W) -> Result<()>
+        ensures ok { OnOk result (GetsImage self.now (W.contents w.old) (W.contents w.new)) }
+        ensures err { IfErr result
+            (IsNotWritten W.contents W.failed self.now w.old w.new) }
+        ensures unchanged { self.now.changed ≡ false → IfErr result IsIo }
+    {
+        let bytes = self.written(alloc)?;
+        match write_all_counted(bytes.as_slice(), w) {
+            Ok(()) => Ok(()),
+            Err(error) => Err(ElfError::Io(error)),
+        }
+    }
+
+    /// Writes the bytes of `image_bytes` to a file, which is made, or emptied, once all of them are there. Errors: those of
+    /// `write`, and `Io` where the file can't be made.
+    pub fn write_to_path<R: Files + AllocGlobal>(&self, rt: &R, path: &str) -> Result<()>
+        ensures { IfErr result (MayNotWrite self.now) }
+    {
+        let bytes = self.written(rt.alloc())?;
+        let mut file = Sink::new(fs::create(rt, path)?);
+        match write_all_counted(bytes.as_slice(), &mut file) {
+            Ok(()) => Ok(()),
+            Err(error) => Err(ElfError::Io(error)),
+        }
+    }
+}

@@ -1,0 +1,220 @@
+-- The old places of what is written anew, and the bytes that stay.
+use Rattle.std.proofs.Common.{◌≡◌, ◌≤◌, ◌<◌, ◌+◌, ◌∙◌, ℕ, zero, suc, Bool, true, false, List, [], ◌∷◌, ◌++◌, length, map, take, filter, get_or, replicate, refl, sym, ap, subst, Option, inl, inr, arith}
+use Rattle.std.specs.Prelude.{slice_index, nat_lt, not, ◌&&◌, ◌==◌, if◌then◌else◌}
+use Rattle.std.proofs.lemmas.Bool.{and_parts, cases_lt, cond-true, cond-false, le-ltb, lt-ltb, ltb-true}
+use Rattle.std.proofs.lemmas.List.{append_assoc, get_or-map, get_or-replicate, get_or_past, length-map, length-replicate, map-append, take_all, take_more}
+use Rattle.std.proofs.lemmas.List.Elements.{filter-append}
+use Rattle.std.proofs.lemmas.Grind.{same_number_lists}
+use Rattle.elf_format.specs.declared.constants.TheConstants.{ET_DYN, ET_EXEC, PN_XNUM, SHN_LORESERVE}
+use Rattle.elf_format.specs.declared.range.Range.{Range}
+use Rattle.elf_format.specs.declared.records.SegmentHeader.{SegmentHeader}
+use Rattle.elf_format.specs.File.{Opened}
+use Rattle.elf_format.specs.Image.{Image, ImageSection}
+use Rattle.elf_format.specs.Options.{is_one_of}
+use Rattle.elf_format.specs.Places.{file_range}
+use Rattle.elf_format.specs.Records.{section_header_size, segment_header_size}
+use Rattle.elf_format.specs.Rules.{is_file_kind, names_are_texts, no_extended_numbers}
+use Rattle.elf_image.specs.Edited.{IsEdited}
+use Rattle.elf_image.specs.ImageSeen.{section_kept}
+use Rattle.elf_image.specs.declared.section.Section.{Section}
+use Rattle.elf_plan.specs.Kept.{KeptSection, image_at_read, interpreter_number, kept_from, kept_sections, place_at_read}
+use Rattle.elf_plan.specs.Memory.{Resized}
+use Rattle.elf_plan.specs.Plan.{resized}
+use Rattle.elf_written.specs.Base.{base, base_byte, is_rewritten, old_places, values_from}
+use Rattle.elf_written.proofs.BaseBytes.{length-segments}
+use Rattle.elf_written.proofs.Laying.{length-values, value-at}
+use Rattle.elf_write.specs.Inner.{IsReady}
+use Rattle.elf_write.specs.LayingSteps.{IsCleared, TakesFrom, is_in_load, is_in_range, is_rewritten_at, rewritten_places}
+use Rattle.elf_write.proofs.ReadFacts.{ReadFacts, read_facts}
+
+-- ## Program headers
+
+few : (o : Opened) → is_file_kind o ≡ true → o.header.e_phnum < 65536
+few o kind =
+    let a : Bool = is_one_of (ET_EXEC ∷ ET_DYN ∷ []) o.header.e_type in
+    let b : Bool = not (o.header.e_shoff == 0) in
+    let c : Bool = not (o.header.e_shnum == 0) in
+    let d : Bool = nat_lt o.header.e_shnum SHN_LORESERVE in
+    let e : Bool = nat_lt o.header.e_phnum PN_XNUM in
+    let f : Bool = o.header.e_phentsize == segment_header_size o.form in
+    let g : Bool = o.header.e_shentsize == section_header_size o.form in
+    let h : Bool = nat_lt o.header.e_shstrndx o.header.e_shnum in
+    let i : Bool = names_are_texts o in
+    let nine = and_parts (a && b && c && d && e && f && g && h && i) (no_extended_numbers o) kind in
+    let eight = and_parts (a && b && c && d && e && f && g && h) i nine.0 in
+    let seven = and_parts (a && b && c && d && e && f && g) h eight.0 in
+    let six = and_parts (a && b && c && d && e && f) g seven.0 in
+    let five = and_parts (a && b && c && d && e) f six.0 in
+    let four = and_parts (a && b && c && d) e five.0 in
+    let below : o.header.e_phnum < PN_XNUM = ltb-true o.header.e_phnum PN_XNUM four.1 in
+    omega arith
+
+-- no more than plain numbering has
+pub few_segments : (read image : Image) → IsReady read image → length read.segments < 65536
+few_segments read image is =
+    let f : ReadFacts read image = read_facts read image is in
+    let many : length read.segments ≡ f.parts.opened.header.e_phnum =
+    ap length f.holds.segments ∙ length-segments f.parts.opened f.parts.segments f.are_parts.segments in
+    omega (arith, many, few f.parts.opened f.rules.file_kind)
+
+-- ## Sections
+
+-- each stands at its position
+kept_from-at : (k : ℕ) (ns : List ℕ) (ss : List ImageSection) (i : ℕ) (d : KeptSection) (s : ImageSection) → i < length ns
+    → i < length ss
+    → get_or (kept_from k ns ss) i d ≡ record { position = k + i; number = slice_index ns i; section = get_or ss i s }
+kept_from-at k [] ss i d s h g = absurd (omega (arith, h))
+kept_from-at k (n ∷ ns) [] i d s h g = absurd (omega (arith, g))
+kept_from-at k (n ∷ ns) (t ∷ ss) zero d s h g =
+    let e : k ≡ k + 0 = omega arith in
+    ap (λ (j : ℕ). record { position = j; number = n; section = t }) e
+kept_from-at k (n ∷ ns) (t ∷ ss) (suc i) d s h g =
+    let e : k + 1 + i ≡ k + suc i = omega arith in
+    kept_from-at (k + 1) ns ss i d s (omega (arith, h)) (omega (arith, g))
+    ∙ ap (λ (j : ℕ). record { position = j; number = slice_index ns i; section = get_or ss i s }) e
+
+length-kept_from : (k : ℕ) (ns : List ℕ) (ss : List ImageSection) → length ns ≡ length ss → length (kept_from k ns ss) ≡ length ss
+length-kept_from k [] [] e = refl
+length-kept_from k [] (t ∷ ss) e = e
+length-kept_from k (n ∷ ns) [] e = refl
+length-kept_from k (n ∷ ns) (t ∷ ss) e = ap suc (length-kept_from (k + 1) ns ss (omega (arith, e)))
+
+pub length-kept : (image : Image) → length image.section_numbers ≡ length image.sections
+    → length (kept_sections image) ≡ length image.sections
+length-kept image long = length-kept_from 0 image.section_numbers image.sections long
+
+-- the one at a position, as it is looked at
+pub kept_here : (image : Image) (sections : List Section) (i : ℕ) (x : Section) (d : KeptSection)
+    → length image.section_numbers ≡ length image.sections
+    → map section_kept sections ≡ image.sections → i < length sections → x ≡ get_or sections i x
+    → (i < length (kept_sections image))
+    × (get_or (kept_sections image) i d
+    ≡ record { position = i; number = slice_index image.section_numbers i; section = section_kept x })
+kept_here image sections i x d long seen here at =
+    let many : length image.sections ≡ length sections = sym (ap length seen) ∙ length-map sections section_kept in
+    let at_image : get_or image.sections i (section_kept x) ≡ section_kept x =
+    ap (λ (l : List ImageSection). get_or l i (section_kept x)) (sym seen)
+    ∙ get_or-map section_kept sections i x (section_kept x) here ∙ ap section_kept (sym at) in
+    let from_zero : 0 + i ≡ i = omega arith in (
+      omega (arith, length-kept image long),
+      kept_from-at 0 image.section_numbers image.sections i d (section_kept x) (omega arith) (omega arith)
+          ∙ ap (λ (s : ImageSection). record { position = 0 + i; number = slice_index image.section_numbers i; section = s }) at_image
+          ∙ ap (λ (j : ℕ). record { position = j; number = slice_index image.section_numbers i; section = section_kept x }) from_zero,
+    )
+
+-- ## The places of sections that are written anew
+
+-- one section more
+rewritten-more : (r : Resized) (ks : List KeptSection) (i : ℕ) (s : KeptSection) → i < length ks → get_or ks i s ≡ s
+    → rewritten_places r (take (i + 1) ks) ≡ rewritten_places r (take i ks) ++ rewritten_places r (s ∷ [])
+rewritten-more r ks i s here at =
+    ap (rewritten_places r) (take_more ks i s here ∙ ap (λ (x : KeptSection). take i ks ++ x ∷ []) at)
+    ∙ ap (map (λ (x : KeptSection). file_range (place_at_read x.section))) (filter-append (is_rewritten r) (take i ks) (s ∷ []))
+    ∙ map-append (λ (x : KeptSection). file_range (place_at_read x.section)) (filter (is_rewritten r) (take i ks))
+    (filter (is_rewritten r) (s ∷ []))
+
+-- what one section brings
+one-place : (r : Resized) (interpreter : Option ℕ) (s : KeptSection) (b : Bool) → interpreter ≡ interpreter_number r.read
+    → b ≡ is_rewritten_at interpreter s.number s.section
+    → rewritten_places r (s ∷ []) ≡ (if b then file_range (place_at_read s.section) ∷ [] else [])
+one-place r interpreter s b same is = by_test b (is ∙ ap (λ (o : Option ℕ). is_rewritten_at o s.number s.section) same)
+  where
+    by_test : (b : Bool) → b ≡ is_rewritten r s
+        → rewritten_places r (s ∷ []) ≡ (if b then file_range (place_at_read s.section) ∷ [] else [])
+    by_test true e = ap (λ (t : Bool). map (λ (x : KeptSection). file_range (place_at_read x.section)) (if t then s ∷ [] else [])) (sym e)
+    by_test false e = ap (λ (t : Bool). map (λ (x : KeptSection). file_range (place_at_read x.section)) (if t then s ∷ [] else [])) (sym e)
+
+-- the places with those of one section more
+pub places-more : (image : Image) (interpreter : Option ℕ) (start made : List Range) (sections : List Section) (i number : ℕ)
+    (x : Section) (b : Bool) → interpreter ≡ interpreter_number (image_at_read image) → IsEdited image
+    → map section_kept sections ≡ image.sections → i < length sections → x ≡ get_or sections i x
+    → number ≡ slice_index image.section_numbers i → b ≡ is_rewritten_at interpreter number (section_kept x)
+    → made ≡ start ++ rewritten_places (resized image) (take i (kept_sections image))
+    → made ++ (if b then file_range (place_at_read (section_kept x)) ∷ [] else [])
+    ≡ start ++ rewritten_places (resized image) (take (i + 1) (kept_sections image))
+places-more image interpreter start made sections i number x b same edited seen here at of tested so_far =
+    let r : Resized = resized image in
+    let ks : List KeptSection = kept_sections image in
+    let s : KeptSection = record { position = i; number = slice_index image.section_numbers i; section = section_kept x } in
+    let found = kept_here image sections i x s edited.is_edit.sections.numbered seen here at in
+    let brings : List Range = if b then file_range (place_at_read (section_kept x)) ∷ [] else [] in
+    let one : rewritten_places r (s ∷ []) ≡ brings =
+    one-place r interpreter s b same (tested ∙ ap (λ (n : ℕ). is_rewritten_at interpreter n (section_kept x)) of) in
+    ap (λ (l : List Range). l ++ brings) so_far
+    ∙ append_assoc start (rewritten_places r (take i ks)) brings
+    ∙ ap (λ (l : List Range). start ++ (rewritten_places r (take i ks) ++ l)) (sym one)
+    ∙ ap (λ (l : List Range). start ++ l) (sym (rewritten-more r ks i s found.0 found.1))
+
+pub places-all : (image : Image) (start made : List Range) (sections : List Section) (i : ℕ) → IsEdited image
+    → map section_kept sections ≡ image.sections → length sections ≤ i
+    → made ≡ start ++ rewritten_places (resized image) (take i (kept_sections image))
+    → made ≡ start ++ rewritten_places (resized image) (kept_sections image)
+places-all image start made sections i edited seen end so_far =
+    let many : length image.sections ≡ length sections = sym (ap length seen) ∙ length-map sections section_kept in
+    so_far ∙ ap (λ (l : List KeptSection). start ++ rewritten_places (resized image) l)
+    (take_all i (kept_sections image) (omega (arith, length-kept image edited.is_edit.sections.numbered)))
+
+-- ## The bytes that stay
+
+-- bytes that are a function's values at their positions
+values-are : (f : ℕ → ℕ) (size : ℕ) (bytes : List ℕ) → length bytes ≡ size
+    → ((k : ℕ) → k < size → slice_index bytes k ≡ f k)
+    → bytes ≡ values_from f 0 size
+values-are f size bytes long at =
+    same_number_lists bytes (values_from f 0 size) (long ∙ sym (length-values f 0 size)) (λ k less.
+    at k (omega arith) ∙ sym (value-at f 0 size k (omega arith) ∙ ap f (omega arith)))
+
+-- what is copied and not cleared is what stays
+stays : (source : List ℕ) (k : ℕ) (taken old : Bool)
+    → (if old then 0 else if taken && nat_lt k (length source) then slice_index source k else 0)
+    ≡ (if taken && not old then slice_index source k else 0)
+stays source k true true = refl
+stays source k false true = refl
+stays source k false false = refl
+stays source k true false = elim (cases_lt k (length source)) [
+  | inl below ↦ cond-true (nat_lt k (length source)) (slice_index source k) 0 (lt-ltb k (length source) below)
+  | inr past ↦ cond-false (nat_lt k (length source)) (slice_index source k) 0 (le-ltb k (length source) past)
+      ∙ sym (get_or_past source k 0 past)
+]
+
+pub based : (r : Resized) (size : ℕ) (zeros copied cleared : List ℕ) → zeros ≡ replicate size 0
+    → length copied ≡ length zeros → length cleared ≡ length copied
+    → TakesFrom r.image.source (is_in_load r.read.segments) zeros copied
+    → IsCleared (is_in_range (old_places r)) copied cleared
+    → cleared ≡ base r size
+unfolding base
+based r size zeros copied cleared are_zeros copied_long cleared_long takes clears =
+    values-are (base_byte r) size cleared (cleared_long ∙ copied_long ∙ long) (λ k less.
+    clears k (omega (arith, long))
+    ∙ ap (λ (n : ℕ). if old k then 0 else n) (takes k (omega (arith, long))
+    ∙ ap (λ (n : ℕ). if taken k && nat_lt k (length source) then slice_index source k else n) (zero_at k less))
+    ∙ stays source k (taken k) (old k))
+  where
+    source : List ℕ
+    source = r.image.source
+
+    long : length zeros ≡ size
+    long = ap length are_zeros ∙ length-replicate {A = ℕ} size 0
+
+    taken : ℕ → Bool
+    taken k = is_in_load r.read.segments k
+
+    old : ℕ → Bool
+    old k = is_in_range (old_places r) k
+
+    zero_at : (k : ℕ) → k < size → slice_index zeros k ≡ 0
+    zero_at k less = ap (λ (l : List ℕ). slice_index l k) are_zeros ∙ get_or-replicate size k 0 0 less
+
+-- the same by equal lists
+pub based_by : (r : Resized) (source : List ℕ) (segments : List SegmentHeader) (places : List Range) (zeros copied cleared : List ℕ)
+    → source ≡ r.image.source → segments ≡ r.read.segments → places ≡ old_places r
+    → zeros ≡ replicate (length zeros) 0 → length copied ≡ length zeros → length cleared ≡ length copied
+    → TakesFrom source (is_in_load segments) zeros copied
+    → IsCleared (is_in_range places) copied cleared
+    → cleared ≡ base r (length zeros)
+based_by r source segments places zeros copied cleared same_source same_segments same_places are_zeros copied_long cleared_long takes clears =
+    based r (length zeros) zeros copied cleared are_zeros copied_long cleared_long
+    (subst (λ (l : List ℕ). TakesFrom l (is_in_load r.read.segments) zeros copied) same_source
+    (subst (λ (l : List SegmentHeader). TakesFrom source (is_in_load l) zeros copied)
+    same_segments takes))
+    (subst (λ (l : List Range). IsCleared (is_in_range l) copied cleared) same_places clears)

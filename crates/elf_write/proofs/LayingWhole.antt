@@ -1,0 +1,231 @@
+-- Headers, tables and contents laid over bytes make the bytes of the file.
+use Rattle.std.proofs.Common.{◌≡◌, ◌≤◌, ◌<◌, ◌+◌, ◌∙◌, ℕ, Bool, List, [], ◌∷◌, ◌++◌, length, map, drop, get_or, refl, sym, ap, subst, Option, arith}
+use Rattle.std.specs.Prelude.{slice_index, not, ◌&&◌, if◌then◌else◌}
+use Rattle.std.specs.List.{flat_map}
+use Rattle.std.proofs.lemmas.List.{drop_all, drop_more, get_or-map, length-map}
+use Rattle.byte_store.specs.Known.{put_at}
+use Rattle.byte_store.specs.Laid.{LiesIn, Patch, laid}
+use Rattle.elf_format.specs.declared.form.Form.{Form}
+use Rattle.elf_format.specs.declared.records.EntryNumbers.{EntryNumbers}
+use Rattle.elf_format.specs.declared.records.FileHeader.{FileHeader}
+use Rattle.elf_format.specs.declared.records.SectionHeader.{SectionHeader}
+use Rattle.elf_format.specs.Image.{Image}
+use Rattle.elf_format.specs.Places.{Place, occupies_file}
+use Rattle.elf_records.specs.Spelled.{spelled_file_header, spelled_segment_header}
+use Rattle.elf_image.specs.declared.section.Section.{Section}
+use Rattle.elf_image.specs.Edited.{IsEdited}
+use Rattle.elf_image.specs.ImageSeen.{section_kept}
+use Rattle.elf_plan.specs.declared.plan.SectionPlace.{SectionPlace}
+use Rattle.elf_plan.specs.FilePlaced.{written_size}
+use Rattle.elf_plan.specs.Kept.{KeptSection, image_at_read, interpreter_number, kept_sections}
+use Rattle.elf_plan.specs.Memory.{Resized}
+use Rattle.elf_plan.specs.Plan.{Layout, resized}
+use Rattle.elf_plan.specs.PlanSeen.{place_seen}
+use Rattle.elf_plan.proofs.ApartLists.{Each}
+use Rattle.elf_written.specs.Base.{base, base_byte, is_data}
+use Rattle.elf_written.specs.Headers.{written_header}
+use Rattle.elf_written.specs.Writing.{IsWholeWriting, Writing, patch, patches, patches_of_headers, patches_of_section, patches_of_sections, written_bytes}
+use Rattle.elf_written.proofs.Laying.{length-values}
+use Rattle.elf_written.proofs.Patches.{patches_lie}
+use Rattle.elf_written.proofs.WholeFacts.{lengths, read_facts}
+use Rattle.elf_write.specs.Inner.{writing_of}
+use Rattle.elf_write.specs.declared.laying.SpelledHeaders.{SpelledHeaders}
+use Rattle.elf_write.specs.LayingSteps.{AreHeadersSpelled, DoHeadersFit, IsLayable, Lie, content_patches, header_patches, is_data_at}
+use Rattle.elf_write.proofs.LayingPlaces.{kept_here, length-kept}
+
+-- ## Patches
+
+lie-append : (n : ℕ) (ps qs : List Patch) → Lie n (ps ++ qs) → Lie n ps × Lie n qs
+lie-append n [] qs h = (tt, h)
+lie-append n (p ∷ ps) qs h = let rest = lie-append n ps qs h.1 in ((h.0, rest.0), rest.1)
+
+laid-append : (ps qs : List Patch) (bytes : List ℕ) → laid (ps ++ qs) bytes ≡ laid qs (laid ps bytes)
+laid-append [] qs bytes = refl
+laid-append (p ∷ ps) qs bytes = laid-append ps qs (put_at p.offset p.bytes bytes)
+
+-- ## Section by section
+
+-- the patches of the sections that are left at a position
+abbrev pub left_patches : Resized → List KeptSection → List Place → List (List ℕ) → ℕ → List Patch
+left_patches r ks ps cs i = patches_of_sections r (drop i ks) (drop i ps) (drop i cs)
+
+-- those before it are laid
+pub record IsLaidTo (r : Resized) (ks : List KeptSection) (ps : List Place) (cs : List (List ℕ)) (i : ℕ) (old now : List ℕ) : Type 0 where
+  pub lie : Lie (length now) (left_patches r ks ps cs i)
+  pub same : laid (left_patches r ks ps cs i) now ≡ laid (patches_of_sections r ks ps cs) old
+
+left-at : (r : Resized) (ks : List KeptSection) (ps : List Place) (cs : List (List ℕ)) (i : ℕ) (s : KeptSection) (p : Place) (c : List ℕ)
+    → i < length ks → i < length ps → i < length cs → get_or ks i s ≡ s → get_or ps i p ≡ p → get_or cs i c ≡ c
+    → left_patches r ks ps cs i ≡ patches_of_section r s p c ++ left_patches r ks ps cs (i + 1)
+left-at r ks ps cs i s p c in_ks in_ps in_cs at_s at_p at_c =
+    ap (λ (l : List KeptSection). patches_of_sections r l (drop i ps) (drop i cs))
+    (drop_more ks i s in_ks ∙ ap (λ (x : KeptSection). x ∷ drop (i + 1) ks) at_s)
+    ∙ ap (λ (l : List Place). patches_of_sections r (s ∷ drop (i + 1) ks) l (drop i cs))
+    (drop_more ps i p in_ps ∙ ap (λ (x : Place). x ∷ drop (i + 1) ps) at_p)
+    ∙ ap (λ (l : List (List ℕ)). patches_of_sections r (s ∷ drop (i + 1) ks) (p ∷ drop (i + 1) ps) l)
+    (drop_more cs i c in_cs ∙ ap (λ (x : List ℕ). x ∷ drop (i + 1) cs) at_c)
+
+-- what is looked at of a section: itself, its number, its place and its bytes
+pub record IsAt (image : Image) (sections : List Section) (places : List SectionPlace) (contents : List (List ℕ)) (i number : ℕ)
+    (x : Section) (bytes : List ℕ) : Type 0 where
+  pub edited : IsEdited image
+  pub seen : map section_kept sections ≡ image.sections
+  pub as_many_places : length places ≡ length image.sections
+  pub as_many_contents : length contents ≡ length image.sections
+  pub here : i < length sections
+  pub section : x ≡ get_or sections i x
+  pub of_number : number ≡ slice_index image.section_numbers i
+  pub content : bytes ≡ get_or contents i bytes
+
+-- its patch, and those of the sections behind it
+pub left-next : (image : Image) (interpreter : Option ℕ) (sections : List Section) (places : List SectionPlace)
+    (ps : List Place) (contents : List (List ℕ))
+    (i number : ℕ) (x : Section) (bytes : List ℕ) (d : SectionPlace) (stays : Bool)
+    → interpreter ≡ interpreter_number (image_at_read image)
+    → map place_seen places ≡ ps → IsAt image sections places contents i number x bytes
+    → stays ≡ is_data_at interpreter number (section_kept x)
+    → left_patches (resized image) (kept_sections image) ps contents i
+    ≡ content_patches (place_seen (get_or places i d)) stays bytes
+    ++ left_patches (resized image) (kept_sections image) ps contents (i + 1)
+left-next image interpreter sections places ps contents i number x bytes d stays same seen at tested =
+    left-at r ks ps contents i s p bytes found.0 (omega (arith, in_places, ap length seen, length-map places place_seen))
+    (omega (arith, at.here, many, at.as_many_contents)) found.1 place (sym at.content)
+    ∙ ap (λ (b : Bool). (if occupies_file p && not b then patch p.sh_offset bytes ∷ [] else []) ++ left_patches r ks ps contents (i + 1))
+    (sym of_data)
+  where
+    r : Resized
+    r = resized image
+
+    ks : List KeptSection
+    ks = kept_sections image
+
+    s : KeptSection
+    s = record { position = i; number = slice_index image.section_numbers i; section = section_kept x }
+
+    p : Place
+    p = place_seen (get_or places i d)
+
+    many : length image.sections ≡ length sections
+    many = sym (ap length at.seen) ∙ length-map sections section_kept
+
+    in_places : i < length places
+    in_places = omega (arith, at.here, many, at.as_many_places)
+
+    found : (i < length ks) × (get_or ks i s ≡ s)
+    found = kept_here image sections i x s at.edited.is_edit.sections.numbered at.seen at.here at.section
+
+    place : get_or ps i p ≡ p
+    place = ap (λ (l : List Place). get_or l i p) (sym seen) ∙ get_or-map place_seen places i d p in_places
+
+    of_data : stays ≡ is_data r s
+    of_data = tested ∙ ap (λ (n : ℕ). is_data_at interpreter n (section_kept x)) at.of_number
+        ∙ ap (λ (o : Option ℕ). is_data_at o (slice_index image.section_numbers i) (section_kept x)) same
+
+-- the patch of the section lies in the bytes
+pub next_lies : (r : Resized) (ks : List KeptSection) (ps : List Place) (cs : List (List ℕ)) (i : ℕ) (old now : List ℕ)
+    (first : List Patch) → left_patches r ks ps cs i ≡ first ++ left_patches r ks ps cs (i + 1)
+    → IsLaidTo r ks ps cs i old now → Lie (length now) first
+next_lies r ks ps cs i old now first is so_far =
+    (lie-append (length now) first (left_patches r ks ps cs (i + 1)) (subst (λ (l : List Patch). Lie (length now) l) is so_far.lie)).0
+
+-- with it laid
+pub laid-next : (r : Resized) (ks : List KeptSection) (ps : List Place) (cs : List (List ℕ)) (i : ℕ) (old now new : List ℕ)
+    (first : List Patch) → left_patches r ks ps cs i ≡ first ++ left_patches r ks ps cs (i + 1)
+    → IsLaidTo r ks ps cs i old now → length new ≡ length now → new ≡ laid first now → IsLaidTo r ks ps cs (i + 1) old new
+laid-next r ks ps cs i old now new first is so_far long done = record {
+  lie = subst (λ (n : ℕ). Lie n (left_patches r ks ps cs (i + 1))) (sym long)
+      (lie-append (length now) first (left_patches r ks ps cs (i + 1)) (subst (λ (l : List Patch). Lie (length now) l) is so_far.lie)).1;
+  same =
+      ap (laid (left_patches r ks ps cs (i + 1))) done
+      ∙ sym (laid-append first (left_patches r ks ps cs (i + 1)) now)
+      ∙ ap (λ (l : List Patch). laid l now) (sym is)
+      ∙ so_far.same;
+}
+
+-- all are laid
+pub laid-all : (image : Image) (sections : List Section) (ps : List Place) (cs : List (List ℕ)) (i : ℕ) (old now : List ℕ)
+    → IsEdited image → map section_kept sections ≡ image.sections → length sections ≤ i
+    → IsLaidTo (resized image) (kept_sections image) ps cs i old now
+    → now ≡ laid (patches_of_sections (resized image) (kept_sections image) ps cs) old
+laid-all image sections ps cs i old now edited seen end so_far =
+    let many : length image.sections ≡ length sections = sym (ap length seen) ∙ length-map sections section_kept in
+    let none : drop i (kept_sections image) ≡ [] =
+    drop_all i (kept_sections image) (omega (arith, length-kept image edited.is_edit.sections.numbered)) in
+    sym (ap (λ (l : List KeptSection). laid (patches_of_sections (resized image) l (drop i ps) (drop i cs)) now) none) ∙ so_far.same
+
+-- ## All of it
+
+lie-each : (n : ℕ) (qs : List Patch) → Each (LiesIn n) qs → Lie n qs
+lie-each n [] h = tt
+lie-each n (q ∷ qs) h = (h.0, lie-each n qs h.1)
+
+-- what the headers and tables ask for
+pub headers_fit : (image : Image) (plan : Layout) (form : Form) (header : FileHeader) (headers : List SectionHeader)
+    (contents : List (List ℕ)) → form ≡ image.form → header ≡ written_header image plan
+    → ((raw : List EntryNumbers) × IsWholeWriting (writing_of image plan headers contents raw))
+    → DoHeadersFit form header plan.segments headers
+headers_fit image plan form header headers contents same_form same_header writing =
+    subst (λ (f : Form). DoHeadersFit f header plan.segments headers) (sym same_form)
+    (subst (λ (h : FileHeader). DoHeadersFit image.form h plan.segments headers) (sym same_header) (record {
+      of_file = writing.1.written.fit.header;
+      of_segments = writing.1.written.fit.segments;
+      of_sections = writing.1.written.fit.sections;
+    }))
+
+-- with the form and the file header of the image
+spelled_as : (form : Form) (header : FileHeader) (image : Image) (plan : Layout) (headers : List SectionHeader) (spelled : SpelledHeaders)
+    → form ≡ image.form → header ≡ written_header image plan → AreHeadersSpelled form header plan.segments headers spelled
+    → AreHeadersSpelled image.form (written_header image plan) plan.segments headers spelled
+spelled_as form header image plan headers spelled same_form same_header are =
+    subst (λ (f : Form). AreHeadersSpelled f (written_header image plan) plan.segments headers spelled) same_form
+    (subst (λ (h : FileHeader). AreHeadersSpelled form h plan.segments headers spelled) same_header are)
+
+same_patches : (w : Writing) (spelled : SpelledHeaders)
+    → AreHeadersSpelled w.image.form (written_header w.image w.plan) w.plan.segments w.headers spelled
+    → header_patches w.plan spelled ≡ patches_of_headers w
+same_patches w spelled are =
+    let form : Form = w.image.form in
+    let first : List ℕ = spelled_file_header form (written_header w.image w.plan) in
+    let second : List ℕ = flat_map (spelled_segment_header form) w.plan.segments in
+    ap (λ (l : List ℕ). patch 0 l ∷ patch w.plan.e_phoff spelled.segments.items ∷ patch w.plan.e_shoff spelled.sections.items ∷ [])
+    are.of_file
+    ∙ ap (λ (l : List ℕ). patch 0 first ∷ patch w.plan.e_phoff l ∷ patch w.plan.e_shoff spelled.sections.items ∷ []) are.of_segments
+    ∙ ap (λ (l : List ℕ). patch 0 first ∷ patch w.plan.e_phoff second ∷ patch w.plan.e_shoff l ∷ []) are.of_sections
+
+-- what is laid lies in the bytes of the file
+pub layable : (image : Image) (plan : Layout) (form : Form) (header : FileHeader) (headers : List SectionHeader)
+    (spelled : SpelledHeaders) (contents : List (List ℕ)) (size : ℕ) → form ≡ image.form → header ≡ written_header image plan
+    → ((raw : List EntryNumbers) × IsWholeWriting (writing_of image plan headers contents raw))
+    → AreHeadersSpelled form header plan.segments headers spelled → size ≡ written_size (resized image) plan
+    → IsLayable image plan spelled contents size
+layable image plan form header headers spelled contents size same_form same_header (raw, is) are same_size =
+    let w : Writing = writing_of image plan headers contents raw in
+    let l = lengths w is (read_facts w is) in
+    let lie : Each (LiesIn size) (patches w) = subst (λ (n : ℕ). Each (LiesIn n) (patches w)) (sym same_size) (patches_lie w is) in
+    let own : Lie size (patches_of_headers w) = (lie.0, (lie.1.0, (lie.1.1.0, tt))) in record {
+      headers_lie = subst (λ (qs : List Patch). Lie size qs)
+          (sym (same_patches w spelled (spelled_as form header image plan headers spelled same_form same_header are))) own;
+      as_many_places = l.places ∙ sym l.sections;
+      as_many_contents = l.contents ∙ sym l.sections;
+      contents_lie = lie-each size (patches_of_sections (resized image) (kept_sections image) plan.places contents) lie.1.1.1;
+    }
+
+pub length-based : (r : Resized) (size : ℕ) (bytes : List ℕ) → bytes ≡ base r size → length bytes ≡ size
+unfolding base
+length-based r size bytes is = ap length is ∙ length-values (base_byte r) 0 size
+
+-- the bytes of the file
+pub laid-whole : (image : Image) (plan : Layout) (form : Form) (header : FileHeader) (headers : List SectionHeader)
+    (spelled : SpelledHeaders) (contents : List (List ℕ)) (raw : List EntryNumbers) (size : ℕ) (old new : List ℕ)
+    → form ≡ image.form → header ≡ written_header image plan → AreHeadersSpelled form header plan.segments headers spelled
+    → size ≡ written_size (resized image) plan → old ≡ base (resized image) size
+    → new ≡ laid (patches_of_sections (resized image) (kept_sections image) plan.places contents) (laid (header_patches plan spelled) old)
+    → new ≡ written_bytes (writing_of image plan headers contents raw)
+unfolding written_bytes
+laid-whole image plan form header headers spelled contents raw size old new same_form same_header are same_size is_old is_new =
+    let w : Writing = writing_of image plan headers contents raw in
+    let of_sections : List Patch = patches_of_sections (resized image) (kept_sections image) plan.places contents in
+    is_new
+    ∙ ap (λ (qs : List Patch). laid of_sections (laid qs old))
+    (same_patches w spelled (spelled_as form header image plan headers spelled same_form same_header are))
+    ∙ ap (λ (l : List ℕ). laid of_sections (laid (patches_of_headers w) l)) (is_old ∙ ap (base (resized image)) same_size)

@@ -1,0 +1,238 @@
+-- What the steps give is a file to which the image is written.
+use Rattle.std.proofs.Common.{◌≡◌, ◌<◌, ℕ, zero, suc, Bool, true, false, List, [], ◌∷◌, length, refl, sym, ap, ◌∙◌, subst, Option, Some, arith}
+use Rattle.std.specs.Prelude.{unwrap_or, IsTrue}
+use Rattle.std.specs.List.{list_all, slice_get}
+use Rattle.std.specs.Option.{option_map}
+use Rattle.std.proofs.lemmas.Bool.{and_parts, false≢true}
+use Rattle.std.proofs.lemmas.Option.{none-some, same_Some, slice_get_within}
+use Rattle.patch_bytes.specs.Memory.{◌>>=◌}
+use Rattle.elf_format.specs.declared.constants.TheConstants.{SHT_STRTAB}
+use Rattle.elf_format.specs.declared.form.Form.{Form}
+use Rattle.elf_format.specs.declared.records.EntryNumbers.{EntryNumbers}
+use Rattle.elf_format.specs.declared.records.FileHeader.{FileHeader}
+use Rattle.elf_format.specs.declared.records.SegmentHeader.{SegmentHeader}
+use Rattle.elf_format.specs.declared.records.SectionHeader.{SectionHeader}
+use Rattle.elf_format.specs.declared.section_data.SectionData.{SectionData}
+use Rattle.elf_format.specs.declared.section_data.SectionData.TheVariants as kinds
+use Rattle.elf_format.specs.Image.{Image, ImageSection}
+use Rattle.elf_format.specs.Options.{is_one_of, list_at}
+use Rattle.elf_format.specs.Places.{Place}
+use Rattle.elf_format.specs.Records.{symbols_in}
+use Rattle.elf_format.specs.Rules.{text_users}
+use Rattle.elf_records.specs.Fields.{do_fields_fit}
+use Rattle.elf_records.specs.Spelled.{entry_fields}
+use Rattle.elf_plan.specs.Kept.{KeptSection, kept_sections}
+use Rattle.elf_plan.specs.Memory.{Resized}
+use Rattle.elf_plan.specs.Plan.{Layout, resized}
+use Rattle.elf_plan.specs.Texts.{is_table_copied}
+use Rattle.elf_written.specs.Base.{is_interpreter}
+use Rattle.elf_written.specs.Contents.{AreDefinitionsIn, AreEntriesOf, AreNeedsIn, AreSymbolsOf, IsContent, content_at_number, spelled_list}
+use Rattle.elf_written.specs.Final.{final}
+use Rattle.elf_written.specs.Headers.{IsHeaderOf, written_header}
+use Rattle.elf_written.specs.Whole.{IsWhole}
+use Rattle.elf_written.specs.Writing.{AreHeadersApart, AreSectionsWritten, IsWholeWriting, written_bytes}
+use Rattle.elf_written.proofs.WholeFacts.{kept}
+use Rattle.elf_written.proofs.DataSeen.{written_files_keep_data, written_files_keep_others}
+use Rattle.elf_written.proofs.ReadAgain.{written_files_show}
+use Rattle.elf_write.specs.declared.made.Made.{Made}
+use Rattle.elf_write.specs.Inner.{AreContents, AreHeaders, ArePromised, AreRaw, IsMadeContent, IsPlanned, IsWholeWritten, strings_at, writing_of}
+use Rattle.elf_write.specs.Numbers.{do_records_fit}
+use Rattle.elf_write.proofs.NamesTable.{linked_at, names_at, names_typed, shows_none, shows_texts}
+use Rattle.elf_write.proofs.ReadFacts.{ReadFacts, SectionRead, are_numbered, kept-at, kept_is, length-numbered, read_facts, section_read}
+
+-- the content at a position
+record ContentAt (r : Resized) (plan : Layout) (made : Option Made) (raw : List EntryNumbers) (ps : List Place) (cs : List (List ℕ)) (i : ℕ) (k : KeptSection) : Type 0 where
+  place : Place
+  bytes : List ℕ
+  is_bytes : slice_get cs i ≡ Some bytes
+  is : IsMadeContent r plan made raw k place bytes
+
+content-at : (r : Resized) (plan : Layout) (made : Option Made) (raw : List EntryNumbers) (ks : List KeptSection) (ps : List Place) (cs : List (List ℕ))
+    → AreContents r plan made raw ks ps cs
+    → (i : ℕ) (k : KeptSection) → slice_get ks i ≡ Some k → ContentAt r plan made raw ps cs i k
+content-at r plan made raw [] [] [] are i k at = absurd (none-some k at)
+content-at r plan made raw (x ∷ ks) (p ∷ ps) (c ∷ cs) are zero k at = record {
+  place = p;
+  bytes = c;
+  is_bytes = refl;
+  is = subst (λ (y : KeptSection). IsMadeContent r plan made raw y p c) (same_Some x k at) are.0;
+}
+content-at r plan made raw (x ∷ ks) (p ∷ ps) (c ∷ cs) are (suc i) k at =
+    let more = content-at r plan made raw ks ps cs are.1 i k at in
+    record { place = more.place; bytes = more.bytes; is_bytes = more.is_bytes; is = more.is }
+content-at r plan made raw _ _ _ are i k at = absurd are
+
+-- what bytes show that are no texts' users', whichever texts these are
+without_texts : (r : Resized) (plan : Layout) (raw : List EntryNumbers) (a b : List ℕ) (s : KeptSection) (bytes : List ℕ)
+    → shows_texts s.section.kind ≡ false → IsContent r plan raw a s bytes → IsContent r plan raw b s bytes
+unfolding shows_texts
+without_texts r plan raw a b s bytes none shown = by_interpreter (is_interpreter r s) shown
+  where
+    content_of : List ℕ → SectionData → Type 0
+    content_of strings kind = elim kind [
+      | kinds.Dynamic ↦ AreEntriesOf r plan strings (list_at (λ es. es) (final r.read r.image).entries) raw ×
+          (bytes ≡ spelled_list r.image.form raw (length bytes))
+      | kinds.Strings ↦ IsTrue (is_table_copied r.read r.image s.number) → bytes ≡ s.section.content
+      | kinds.DynamicSymbols ↦ AreSymbolsOf strings (final r.read r.image).dynamic_symbols (symbols_in r.image.form bytes)
+      | kinds.GnuVerdef ↦ AreDefinitionsIn r.image strings bytes
+      | kinds.GnuVerneed ↦ AreNeedsIn r strings bytes
+      | _ ↦ bytes ≡ s.section.content
+    ]
+
+    by_kind : (kind : SectionData) → shows_texts kind ≡ false → content_of a kind → content_of b kind
+    by_kind kinds.Dynamic h is = absurd (false≢true (sym h))
+    by_kind kinds.DynamicSymbols h is = absurd (false≢true (sym h))
+    by_kind kinds.GnuVerdef h is = absurd (false≢true (sym h))
+    by_kind kinds.GnuVerneed h is = absurd (false≢true (sym h))
+    by_kind kinds.Opaque h is = is
+    by_kind kinds.Uninitialized h is = is
+    by_kind kinds.Relocation h is = is
+    by_kind kinds.Note h is = is
+    by_kind kinds.Strings h is = is
+    by_kind kinds.Symbols h is = is
+    by_kind kinds.Hash h is = is
+    by_kind kinds.GnuHash h is = is
+    by_kind kinds.GnuVersym h is = is
+
+    by_interpreter : (t : Bool)
+        → (elim t as (λ _. Type 0) [ true ↦ bytes ≡ list_at (λ name. name) r.image.interpreter | _ ↦ content_of a s.section.kind ])
+        → elim t as (λ _. Type 0) [ true ↦ bytes ≡ list_at (λ name. name) r.image.interpreter | _ ↦ content_of b s.section.kind ]
+    by_interpreter true is = is
+    by_interpreter false is = by_kind s.section.kind none is
+
+-- entries of records that fit
+pub entries_fit : (form : Form) (header : FileHeader) (segments : List SegmentHeader) (hs : List SectionHeader) (raw : List EntryNumbers)
+    → do_records_fit form header segments hs raw ≡ true → IsTrue (list_all (λ e. do_fields_fit (entry_fields form e)) raw)
+unfolding do_records_fit
+entries_fit form header segments hs raw fit = (and_parts _ _ fit).1
+
+module _ (read image : Image) (plan : Layout) (made : Option Made) (raw : List EntryNumbers) (contents : List (List ℕ))
+    (planned : IsPlanned read image plan)
+    (are : AreContents (resized image) plan made raw (kept_sections image) plan.places contents) where
+  facts : ReadFacts read image
+  facts = read_facts read image planned.ready
+
+  -- the bytes of a string table are those that were found for it
+  strings_are : (n : ℕ) (s : ImageSection) → slice_get image.sections n ≡ Some s → s.sh_type ≡ SHT_STRTAB
+      → content_at_number image contents n ≡ strings_at image made n
+  strings_are n s at typed =
+      let k_at : slice_get (kept_sections image) n ≡ Some (kept n s) =
+      kept-at read image planned.ready n ∙ ap (option_map (kept n)) at in
+      let c = content-at (resized image) plan made raw (kept_sections image) plan.places contents are n (kept n s) k_at in
+      ap (λ (o : Option KeptSection). unwrap_or (o >>= λ x. slice_get contents x.position) [])
+      (kept_is read image planned.ready n ∙ ap (option_map (kept n)) at)
+      ∙ ap (λ (o : Option (List ℕ)). unwrap_or o []) c.is_bytes
+      ∙ c.is.strings typed
+
+  section_linked : (i : ℕ) (at : SectionRead read image facts.parts i) (bytes : List ℕ)
+      → IsContent (resized image) plan raw (strings_at image made at.section.sh_link) (kept i at.section) bytes
+      → IsContent (resized image) plan raw (content_at_number image contents at.section.sh_link) (kept i at.section) bytes
+  section_linked i at bytes shown = by_users (is_one_of text_users at.section.sh_type) refl
+    where
+      by_users : (b : Bool) → is_one_of text_users at.section.sh_type ≡ b
+          → IsContent (resized image) plan raw (content_at_number image contents at.section.sh_link) (kept i at.section) bytes
+      by_users true user =
+          let l = linked_at read image planned.ready facts i at user in
+          subst (λ (strings : List ℕ). IsContent (resized image) plan raw strings (kept i at.section) bytes)
+          (sym (strings_are at.section.sh_link l.table.section l.table.is_section l.typed)) shown
+      by_users false none =
+          without_texts (resized image) plan raw (strings_at image made at.section.sh_link)
+          (content_at_number image contents at.section.sh_link) (kept i at.section) bytes
+          (shows_none read image facts.parts i at none) shown
+
+  -- what a section's bytes show doesn't depend on texts, or these are the linked table's
+  content_linked : (i : ℕ) (k : KeptSection) → slice_get (kept_sections image) i ≡ Some k → (bytes : List ℕ)
+      → IsContent (resized image) plan raw (strings_at image made k.section.sh_link) k bytes
+      → IsContent (resized image) plan raw (content_at_number image contents k.section.sh_link) k bytes
+  content_linked i k at bytes shown =
+      let long : length (kept_sections image) ≡ length image.sections =
+      ap length (are_numbered read image planned.ready) ∙ length-numbered 0 image.sections in
+      let within : i < length image.sections = omega (arith, slice_get_within (kept_sections image) i k at, long) in
+      let here = section_read read image planned.ready facts i within in
+      let same : kept i here.section ≡ k = same_Some (kept i here.section) k (sym here.is_kept ∙ at) in
+      subst (λ (x : KeptSection). IsContent (resized image) plan raw (content_at_number image contents x.section.sh_link) x bytes) same
+      (section_linked i here bytes
+      (subst (λ (x : KeptSection). IsContent (resized image) plan raw (strings_at image made x.section.sh_link) x bytes) (sym same) shown))
+
+  names_are : content_at_number image contents image.header.e_shstrndx ≡ strings_at image made image.header.e_shstrndx
+  names_are =
+      let at = names_at read image planned.ready facts in
+      strings_are image.header.e_shstrndx at.section at.is_section (names_typed read image planned.ready facts)
+
+  sections_written : (hs : List SectionHeader) (ks : List KeptSection) (ps : List Place) (part : List SectionHeader) (cs : List (List ℕ))
+      → ((i : ℕ) (k : KeptSection) → slice_get ks i ≡ Some k → (bytes : List ℕ)
+      → IsContent (resized image) plan raw (strings_at image made k.section.sh_link) k bytes
+      → IsContent (resized image) plan raw (content_at_number image contents k.section.sh_link) k bytes)
+      → AreHeaders (resized image) (strings_at image made image.header.e_shstrndx) ks ps part
+      → AreContents (resized image) plan made raw ks ps cs
+      → AreSectionsWritten (writing_of image plan hs contents raw) ks ps part cs
+  sections_written hs [] [] [] [] linked headers bytes = tt
+  sections_written hs (k ∷ ks) (p ∷ ps) (h ∷ part) (c ∷ cs) linked headers bytes = (
+    record {
+      has_header = subst (λ (names : List ℕ). IsHeaderOf (resized image) names k.section p h) (sym names_are) headers.0;
+      sized = bytes.0.sized;
+      content = linked zero k refl c bytes.0.content;
+    },
+    sections_written hs ks ps part cs (λ i x at. linked (suc i) x at) headers.1 bytes.1,
+  )
+  sections_written hs [] [] [] (c ∷ cs) linked headers bytes = absurd bytes
+  sections_written hs (k ∷ ks) (p ∷ ps) (h ∷ part) [] linked headers bytes = absurd bytes
+  sections_written hs _ _ _ _ linked headers bytes = absurd headers
+
+  pub is_whole_writing : (hs : List SectionHeader) → AreHeadersApart image plan
+      → AreRaw (resized image) plan made raw
+      → AreHeaders (resized image) (strings_at image made image.header.e_shstrndx) (kept_sections image) plan.places hs
+      → do_records_fit image.form (written_header image plan) plan.segments hs raw ≡ true
+      → IsWholeWriting (writing_of image plan hs contents raw)
+  unfolding do_records_fit
+  is_whole_writing hs apart is_raw headers fit =
+      let four = and_parts _ _ fit in
+      let three = and_parts _ _ four.0 in
+      let two = and_parts _ _ three.0 in
+      record {
+        edited = planned.ready.edited;
+        whole = subst (λ (r : Image). IsWhole r image) planned.ready.at_read planned.ready.whole;
+        planned = planned.planned;
+        written = record {
+          headers = apart;
+          no_list = is_raw.no_list;
+          sections = sections_written hs (kept_sections image) plan.places hs contents (λ i k at. content_linked i k at) headers are;
+          fit = record { header = two.0; segments = two.1; sections = three.1; entries = four.1 };
+        };
+      }
+
+  -- there is such a one
+  pub are_written : (hs : List SectionHeader) → AreHeadersApart image plan
+      → AreRaw (resized image) plan made raw
+      → AreHeaders (resized image) (strings_at image made image.header.e_shstrndx) (kept_sections image) plan.places hs
+      → do_records_fit image.form (written_header image plan) plan.segments hs raw ≡ true
+      → (entries : List EntryNumbers) × IsWholeWriting (writing_of image plan hs contents entries)
+  are_written hs apart is_raw headers fit = (raw, is_whole_writing hs apart is_raw headers fit)
+
+  -- these are its bytes
+  pub is_whole_written : (hs : List SectionHeader) (bytes : List ℕ) → AreHeadersApart image plan
+      → AreRaw (resized image) plan made raw
+      → AreHeaders (resized image) (strings_at image made image.header.e_shstrndx) (kept_sections image) plan.places hs
+      → do_records_fit image.form (written_header image plan) plan.segments hs raw ≡ true
+      → bytes ≡ written_bytes (writing_of image plan hs contents raw)
+      → IsWholeWritten image plan bytes
+  is_whole_written hs bytes apart is_raw headers fit same = record {
+    writing = writing_of image plan hs contents raw;
+    of_image = refl;
+    by_plan = refl;
+    whole = is_whole_writing hs apart is_raw headers fit;
+    are_bytes = same;
+  }
+
+-- what the laws of written files say of them
+pub are_promised : (image : Image) (plan : Layout) (bytes : List ℕ) → IsWholeWritten image plan bytes → ArePromised image plan bytes
+are_promised image plan bytes is =
+    let w = is.writing in
+    subst (λ (i : Image). ArePromised i plan bytes) is.of_image
+    (subst (λ (l : Layout). ArePromised w.image l bytes) is.by_plan
+    (subst (λ (b : List ℕ). ArePromised w.image w.plan b) (sym is.are_bytes) (record {
+      written = record { writing = w; of_image = refl; by_plan = refl; is_writing = is.whole.written; are_bytes = refl };
+      shows = written_files_show w is.whole;
+      kept_data = written_files_keep_data w is.whole;
+      others = written_files_keep_others w is.whole;
+    })))

@@ -1,0 +1,10 @@
+-- There are as many as sections were looked at, and each is its section's.
+use Rattle.std.proofs.Common.{◌≡◌, length}
+use Rattle.elf_write.specs.ContentSteps.{AreBytesOf}
+use Rattle.elf_write.proofs.contents.contents.Given as goal
+
+abbrev pub invariant-loop-i : goal.invariant-loop-i
+invariant-loop-i l = record {
+  long : length l.contents.items ≡ l.i;
+  are : AreBytesOf l.image l.fn.plan l.made l.raw l.contents.items;
+}

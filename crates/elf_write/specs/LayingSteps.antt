@@ -1,0 +1,94 @@
+-- Steps towards the bytes of a written file.
+use Rattle.std.specs.Prelude.{ℕ, ◌≡◌, ◌<◌, List, [], ◌∷◌, length, map, filter, slice_index, Bool, ◌&&◌, not, Option, nat_lt, if◌then◌else◌, ◌==◌, IsTrue}
+use Rattle.std.specs.List.{flat_map, list_all, list_any}
+use Rattle.byte_store.specs.Laid.{LiesIn, Patch}
+use Rattle.elf_format.specs.declared.form.Form.{Form}
+use Rattle.elf_format.specs.declared.records.FileHeader.{FileHeader}
+use Rattle.elf_format.specs.declared.records.SectionHeader.{SectionHeader}
+use Rattle.elf_format.specs.declared.records.SegmentHeader.{SegmentHeader}
+use Rattle.elf_format.specs.declared.range.Range.{Range}
+use Rattle.elf_format.specs.Image.{Image, ImageSection}
+use Rattle.elf_format.specs.File.{loads_of}
+use Rattle.elf_format.specs.Options.{is_some_and}
+use Rattle.elf_format.specs.Placement.{file_part}
+use Rattle.elf_format.specs.Places.{Place, file_range, occupies_file}
+use Rattle.elf_records.specs.Fields.{do_fields_fit}
+use Rattle.elf_records.specs.Spelled.{file_header_fields, section_fields, segment_fields}
+use Rattle.elf_records.specs.Spelled.{spelled_file_header, spelled_section_header, spelled_segment_header}
+use Rattle.elf_plan.specs.Follow.{is_loaded_section}
+use Rattle.elf_plan.specs.Kept.{KeptSection, kept_sections, place_at_read}
+use Rattle.elf_plan.specs.Memory.{Resized}
+use Rattle.elf_plan.specs.Plan.{Layout, resized}
+use Rattle.elf_written.specs.Base.{has_position, is_opaque, is_rewritten}
+use Rattle.elf_written.specs.Writing.{patch, patches_of_sections}
+use Rattle.elf_write.specs.declared.laying.SpelledHeaders.{SpelledHeaders}
+
+-- ## Bytes by their positions
+
+-- a loaded segment has the position in the file
+abbrev pub is_in_load : List SegmentHeader → ℕ → Bool
+is_in_load segments position = list_any (λ p. has_position position (file_part p)) (loads_of segments)
+
+-- one of the ranges has it
+abbrev pub is_in_range : List Range → ℕ → Bool
+is_in_range ranges position = list_any (has_position position) ranges
+
+-- at the positions that pass a test bytes are those of others, as far as these have such positions
+abbrev pub TakesFrom : List ℕ → (ℕ → Bool) → List ℕ → List ℕ → Type 0
+TakesFrom source passes old new = (k : ℕ) → k < length old
+    → slice_index new k ≡ (if passes k && nat_lt k (length source) then slice_index source k else slice_index old k)
+
+-- at the positions that pass a test bytes become zeros
+abbrev pub IsCleared : (ℕ → Bool) → List ℕ → List ℕ → Type 0
+IsCleared passes old new = (k : ℕ) → k < length old → slice_index new k ≡ (if passes k then 0 else slice_index old k)
+
+-- ## Data
+
+-- a section is data that had that number, where the interpreter's had this one
+abbrev pub is_data_at : Option ℕ → ℕ → ImageSection → Bool
+is_data_at interpreter number s = is_loaded_section s && is_opaque s.kind && not (is_some_and (λ n. n == number) interpreter)
+
+-- it takes memory and bytes of the file, and is no data
+abbrev pub is_rewritten_at : Option ℕ → ℕ → ImageSection → Bool
+is_rewritten_at interpreter number s =
+    is_loaded_section s && occupies_file (place_at_read s) && not (is_data_at interpreter number s)
+
+-- where those stood that are written anew
+abbrev pub rewritten_places : Resized → List KeptSection → List Range
+rewritten_places r kept = map (λ s. file_range (place_at_read s.section)) (filter (is_rewritten r) kept)
+
+-- ## What is laid over the bytes that stay
+
+-- each patch lies in so many bytes
+abbrev pub Lie : ℕ → List Patch → Type 0
+Lie size [] = Unit {0}
+Lie size (q ∷ qs) = LiesIn size q × Lie size qs
+
+-- each number of the headers fits its field
+pub record DoHeadersFit (form : Form) (header : FileHeader) (segments : List SegmentHeader) (sections : List SectionHeader) : Type 0 where
+  pub of_file : IsTrue (do_fields_fit (file_header_fields form header))
+  pub of_segments : IsTrue (list_all (λ p. do_fields_fit (segment_fields form p)) segments)
+  pub of_sections : IsTrue (list_all (λ s. do_fields_fit (section_fields form s)) sections)
+
+-- the bytes of the file header, the program header table and the section header table
+pub record AreHeadersSpelled (form : Form) (header : FileHeader) (segments : List SegmentHeader) (sections : List SectionHeader)
+    (spelled : SpelledHeaders) : Type 0 where
+  pub of_file : spelled.file.items ≡ spelled_file_header form header
+  pub of_segments : spelled.segments.items ≡ flat_map (spelled_segment_header form) segments
+  pub of_sections : spelled.sections.items ≡ flat_map (spelled_section_header form) sections
+
+-- each where the plan has it
+abbrev pub header_patches : Layout → SpelledHeaders → List Patch
+header_patches plan spelled =
+    patch 0 spelled.file.items ∷ patch plan.e_phoff spelled.segments.items ∷ patch plan.e_shoff spelled.sections.items ∷ []
+
+-- the bytes of a section at its place, where it has one in the file and isn't data
+abbrev pub content_patches : Place → Bool → List ℕ → List Patch
+content_patches place is_data bytes = if occupies_file place && not is_data then patch place.sh_offset bytes ∷ [] else []
+
+-- headers, tables and contents lie in so many bytes, and each section has a place and bytes
+pub record IsLayable (image : Image) (plan : Layout) (spelled : SpelledHeaders) (contents : List (List ℕ)) (size : ℕ) : Type 0 where
+  pub headers_lie : Lie size (header_patches plan spelled)
+  pub as_many_places : length plan.places ≡ length image.sections
+  pub as_many_contents : length contents ≡ length image.sections
+  pub contents_lie : Lie size (patches_of_sections (resized image) (kept_sections image) plan.places contents)

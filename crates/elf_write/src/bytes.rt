@@ -1,0 +1,213 @@
+//! The bytes of an edited ELF file.
+ghost use Rattle.std.specs.Prelude.{◌≡◌, false, true, IfErr, IfOk, IsTrue};
+ghost use Rattle.elf_format.specs.Ranges.{apart, range};
+ghost use Rattle.elf_format.specs.Records.{file_header_size};
+ghost use Rattle.elf_tables.specs.declared.fault.TableFault.TheVariants.{NumberTooLarge};
+ghost use Rattle.elf_plan.specs.FilePlaced.{written_table};
+ghost use Rattle.elf_plan.specs.Kept.{image_at_read, kept_sections};
+ghost use Rattle.elf_plan.specs.Plan.{IsPlan, resized};
+ghost use Rattle.elf_plan.specs.Refusals.{do_sizes_of_image_fit};
+ghost use Rattle.elf_written.specs.Laws.{ShowsFinal};
+ghost use Rattle.elf_written.specs.Stays.{AreOthersSeen, IsDataSeen};
+ghost use Rattle.elf_written.specs.Whole.{IsWhole};
+ghost use Rattle.elf_written.specs.Writing.{AreHeadersApart, IsWritten};
+ghost use Rattle.elf_written.specs.Headers.{written_header};
+ghost use Rattle.elf_write.specs.Inner.{AreContents, AreHeaders, ArePromised, AreRaw, AreStrings, IsPlanned, IsWholeWritten, strings_at};
+ghost use Rattle.elf_write.specs.Numbers.{do_numbers_fit as do_all_fit, do_records_fit};
+ghost use Rattle.elf_write.specs.Refused.{AreNoBytes};
+
+use crate::contents::contents;
+use crate::entries::raw_entries;
+use crate::fits::do_numbers_fit;
+use crate::headers::{file_header, section_headers};
+use crate::laying::laid_bytes;
+use crate::made::{Made, made_strings};
+use elf_format::form::Form;
+use elf_format::range::Range;
+use elf_format::records::{EntryNumbers, FileHeader, SectionHeader};
+use elf_image::Builder;
+use elf_plan::{LayoutFault, Plan, read_again};
+use elf_tables::TableFault;
+use patch_bytes::ByteString;
+use std::alloc::{AllocError, Global};
+
+// Where the program header table stands in the file that is written.
+#[tactic(auto, using(crate::proofs::PlanCounts::plan_counts))]
+fn table_range(image: &Builder<'_>, plan: &Plan) -> Range
+    requires { IsPlan (resized image.now) plan.now }
+    ensures { result ≡ written_table (resized image.now) plan.now }
+{
+    Range {
+        start: plan.e_phoff(),
+        size: plan.segments().len() as u64 * form_of(image).segment_header_size() as u64,
+    }
+}
+
+// How the numbers of an image's file are spelled.
+pub(crate) fn form_of(image: &Builder<'_>) -> Form
+    ensures { result ≡ image.now.form }
+{
+    Form {
+        wide: image.class(),
+        order: image.order(),
+    }
+}
+
+// Whether the file header and the program header table share no byte of the file.
+fn are_headers_apart(image: &Builder<'_>, plan: &Plan) -> bool
+    requires { IsPlan (resized image.now) plan.now }
+    ensures { result ≡ apart (range 0 (file_header_size image.now.form))
+        (written_table (resized image.now) plan.now) }
+{
+    let header = Range {
+        start: 0,
+        size: form_of(image).file_header_size() as u64,
+    };
+    header.is_apart(table_range(image, plan))
+}
+
+// The bytes of the file with these headers, entries and contents.
+fn laid_with<'data>(
+    alloc: Global,
+    read: &Builder<'data>,
+    image: &Builder<'data>,
+    plan: &Plan,
+    made: &Option<Made<'_>>,
+    header: FileHeader,
+    headers: &[SectionHeader],
+    raw: &[EntryNumbers],
+    contents: &[ByteString<'_>],
+) -> Result<Vec<u8>, AllocError>
+    requires planned { IsPlanned read.now image.now plan.now }
+    requires apart { AreHeadersApart image.now plan.now }
+    requires header { header ≡ written_header image.now plan.now }
+    requires headers { AreHeaders (resized image.now)
+        (strings_at image.now made.now image.now.header.e_shstrndx)
+        (kept_sections image.now) plan.now.places headers.now }
+    requires raw { AreRaw (resized image.now) plan.now made.now raw.now }
+    requires contents { AreContents (resized image.now) plan.now made.now raw.now
+        (kept_sections image.now) plan.now.places contents.now }
+    requires fit { do_records_fit image.now.form (written_header image.now plan.now)
+        plan.now.segments headers.now raw.now ≡ true }
+    ensures { IfOk result (λ bytes. IsWholeWritten image.now plan.now bytes.items) }
+{
+    let bytes = laid_bytes(alloc, read, image, plan, header, headers, contents)?;
+    Ok(bytes)
+}
+
+// The bytes of the file with these headers and entries.
+#[tactic(auto, using(crate::proofs::Writes::entries_fit))]
+fn bytes_with<'a, 'data>(
+    alloc: Global,
+    read: &'a Builder<'data>,
+    image: &'a Builder<'data>,
+    plan: &Plan,
+    made: &'a Option<Made<'_>>,
+    header: FileHeader,
+    headers: &[SectionHeader],
+    raw: &[EntryNumbers],
+) -> Result<Vec<u8>, AllocError>
+    requires planned { IsPlanned read.now image.now plan.now }
+    requires apart { AreHeadersApart image.now plan.now }
+    requires strings { AreStrings read.now image.now made.now }
+    requires header { header ≡ written_header image.now plan.now }
+    requires headers { AreHeaders (resized image.now)
+        (strings_at image.now made.now image.now.header.e_shstrndx)
+        (kept_sections image.now) plan.now.places headers.now }
+    requires raw { AreRaw (resized image.now) plan.now made.now raw.now }
+    requires fit { do_records_fit image.now.form (written_header image.now plan.now)
+        plan.now.segments headers.now raw.now ≡ true }
+    ensures { IfOk result (λ bytes.
+        IsWholeWritten image.entry.now plan.now bytes.items) }
+{
+    let contents = contents(alloc, read, image, plan, made, raw)?;
+    laid_with(
+        alloc, read, image, plan, made, header, headers, raw, &contents,
+    )
+}
+
+// The bytes of the file, of which the headers share none.
+fn bytes_with_headers_apart<'a, 'data>(
+    alloc: Global,
+    read: &'a Builder<'data>,
+    image: &'a Builder<'data>,
+    plan: &Plan,
+) -> Result<Vec<u8>, TableFault>
+    requires planned { IsPlanned read.now image.now plan.now }
+    requires apart { AreHeadersApart image.now plan.now }
+    ensures written { IfOk result (λ bytes.
+        IsWholeWritten image.entry.now plan.now bytes.items) }
+    ensures fault { IfErr result (λ fault.
+        fault ≡ NumberTooLarge → do_all_fit image.entry.now plan.now ≡ false) }
+{
+    let made = made_strings(alloc, read, image)?;
+    let raw = raw_entries(alloc, read, image, plan, &made)?;
+    let header = file_header(image, plan);
+    let headers = section_headers(alloc, read, image, plan, &made)?;
+    if !do_numbers_fit(read, image, plan, &made, header, &headers, &raw) {
+        return Err(TableFault::NumberTooLarge);
+    }
+    let bytes = bytes_with(alloc, read, image, plan, &made, header, &headers, &raw)?;
+    Ok(bytes)
+}
+
+// The bytes of a file, of which it is known that the image is written whole to it: so it shows the image in its final form, and has the
+// data that was read.
+fn promised(image: &Builder<'_>, plan: &Plan, bytes: Vec<u8>) -> Vec<u8>
+    requires { IsWholeWritten image.now plan.now bytes.items }
+    ensures same { result ≡ bytes }
+    ensures promises { ArePromised image.now plan.now result.items }
+{
+    bytes
+}
+
+/// The bytes of the file, as `image_bytes` tells them, for a caller that has the image as its source was read.
+pub fn image_bytes_again<'data>(
+    alloc: Global,
+    read: &Builder<'data>,
+    image: &Builder<'data>,
+    plan: &Plan,
+) -> Result<Vec<u8>, LayoutFault>
+    requires read { read.now ≡ image_at_read image.now }
+    requires whole { IsWhole read.now image.now }
+    requires planned { IsPlan (resized image.now) plan.now }
+    requires sized { IsTrue (do_sizes_of_image_fit image.now) }
+    ensures written { IfOk result (λ bytes. IsWritten image.now plan.now bytes.items) }
+    ensures shows { IfOk result (λ bytes. ShowsFinal image.now bytes.items) }
+    ensures data { IfOk result (λ bytes.
+        IsDataSeen (resized image.now) plan.now bytes.items) }
+    ensures others { IfOk result (λ bytes.
+        AreOthersSeen (resized image.now) plan.now bytes.items) }
+    ensures fault { IfErr result (AreNoBytes image.now plan.now) }
+{
+    // what every image is: one that was read from these bytes, and edited
+    let _source = image.source();
+    if !are_headers_apart(image, plan) {
+        return Err(LayoutFault::Overlap);
+    }
+    match bytes_with_headers_apart(alloc, read, image, plan) {
+        Ok(bytes) => Ok(promised(image, plan, bytes)),
+        Err(TableFault::NumberTooLarge) => Err(LayoutFault::NumberTooLarge),
+        Err(TableFault::Memory) => Err(LayoutFault::Memory),
+    }
+}
+
+/// The bytes of the file to which an edited image is written by a plan, of which nothing went. `Overlap` where the file header and
+/// the program header table share a byte; `NumberTooLarge` where a number is past its field. The image's source is read once more.
+pub fn image_bytes(alloc: Global, image: &Builder<'_>, plan: &Plan) -> Result<Vec<u8>, LayoutFault>
+    requires whole { IsWhole (image_at_read image.now) image.now }
+    requires planned { IsPlan (resized image.now) plan.now }
+    requires sized { IsTrue (do_sizes_of_image_fit image.now) }
+    ensures written { IfOk result (λ bytes. IsWritten image.now plan.now bytes.items) }
+    ensures shows { IfOk result (λ bytes. ShowsFinal image.now bytes.items) }
+    ensures data { IfOk result (λ bytes.
+        IsDataSeen (resized image.now) plan.now bytes.items) }
+    ensures others { IfOk result (λ bytes.
+        AreOthersSeen (resized image.now) plan.now bytes.items) }
+    ensures fault { IfErr result (AreNoBytes image.now plan.now) }
+{
+    let Ok(read) = read_again(alloc, image) else {
+        return Err(LayoutFault::Memory);
+    };
+    image_bytes_again(alloc, &read, image, plan)
+}
