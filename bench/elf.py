@@ -1,13 +1,20 @@
 #!/usr/bin/env python3
-"""Times `arwen elf print-needed` beside `patchelf --print-needed`.
+"""Times `arwen elf set-rpath` beside `cp` and patchelf, and measures its memory.
 
-    python3 bench/elf.py [--runs N] [--tool NAME]
+    python3 bench/elf.py [--runs N] [--only WORD] [--tool NAME]
 
-The libraries are made with gcc in bench/made, which git ignores: a small one, and three of 300 MB with
-1, 50,000 and 500,000 dynamic symbols. The times are medians of N runs (5); each round times every
-program once. Targets: not slower than patchelf on the small one, at most twice its time on the largest,
-and no more time for a symbol among 500,000 than among 50,000 (half as much again is taken for noise).
-The status is 1 where a target is missed, 2 where a program is missing or fails.
+The libraries are linked by gcc into bench/made, which git ignores: a small one, one of 300 MB with few
+symbols, and two with 50,000 and 500,000 dynamic symbols, the larger of 300 MB too. Each is edited twice: by a run path
+that fits where the old one stands, and by a long one, which moves the strings. Each timed run works on a fresh
+copy, made outside the timed part. The times are medians of N runs (5), and all runs of one call stand side by
+side: each round times every program once. `cp --reflink=never` writes onto a file that is there already. The
+peak is the largest resident size of the runs; it says nothing for the small library.
+
+The targets: a run path that fits takes, in 300 MB with few symbols, at most 0.7 times the time of cp, and with
+500,000 symbols at most half the time of patchelf; one that moves the strings takes no longer than patchelf; an edit of the
+small library takes no longer than patchelf and at most 1.5 ms; memory is at most 2.2 times the file; and
+from 50,000 to 500,000 symbols the time for each byte of the file doesn't grow to more than 1.5 times. The status is 1 where one is missed, 2
+where a program is missing or fails. A target whose tool is not there is named as not checked.
 """
 
 import argparse
@@ -19,97 +26,161 @@ import sys
 import time
 
 HERE = os.path.dirname(os.path.abspath(__file__))
+TOP = os.path.dirname(HERE)
 WORK = os.path.join(HERE, "made")
-PROGRAM = os.path.join(os.path.dirname(HERE), "crates", "arwen", "out", "arwen")
+PROGRAM = os.path.join(TOP, "crates", "arwen", "out", "arwen")
+OLD_PATH = "/opt/old/lib/that/is/here"
+FITS = "/opt/new/lib"
+MOVES = "/opt/" + "long/" * 40 + "lib"
 MEGABYTE = 1 << 20
 
-# A library's symbols and its bytes of data.
+# How many symbols a library has, and how many bytes of data.
 LIBRARIES = {
     "small": (10, 0),
-    "wide-1": (1, 300 * MEGABYTE),
-    "wide-50000": (50_000, 300 * MEGABYTE),
-    "wide-500000": (500_000, 300 * MEGABYTE),
+    "few-300": (10, 300 * MEGABYTE),
+    "symbols-30": (50_000, 24 * MEGABYTE),
+    "symbols-300": (500_000, 240 * MEGABYTE),
 }
 
+# A library, a run path, and the targets: at most so many times the time of cp, that of patchelf, so many
+# seconds, and so many times the file in memory.
+EDITS = [
+    ("small", FITS, None, 1.0, 0.0015, None),
+    ("small", MOVES, None, 1.0, 0.0015, None),
+    ("few-300", FITS, 0.7, None, None, 2.2),
+    ("few-300", MOVES, None, 1.0, None, 2.2),
+    ("symbols-30", FITS, None, None, None, 2.2),
+    ("symbols-300", FITS, None, 0.5, None, 2.2),
+    ("symbols-300", MOVES, None, 1.0, None, 2.2),
+]
 
-def fail(text):
-    print(text, file=sys.stderr)
-    sys.exit(2)
+# The pair of libraries whose times for a byte are compared, and by how much the larger one's may be more.
+GROWTH = ("symbols-30", "symbols-300", 1.5)
 
 
-def made(name):
-    """A library's path; it is made where it isn't there."""
-    count, size = LIBRARIES[name]
-    path = os.path.join(WORK, "lib%s.so" % name)
+def make_library(name):
+    """Links one of the libraries, unless it is there."""
+    path = os.path.join(WORK, name + ".so")
     if os.path.exists(path):
         return path
     os.makedirs(WORK, exist_ok=True)
-    other = os.path.join(WORK, "libneeded.so")
-    source = os.path.join(WORK, "%s.s" % name)
+    symbols, data = LIBRARIES[name]
+    source = os.path.join(WORK, name + ".s")
     with open(source, "w") as out:
-        out.write(".text\n")
-        for i in range(count):
-            out.write(".globl a_symbol_with_number_%d\na_symbol_with_number_%d: nop\n" % (i, i))
-        out.write(".data\n.fill %d, 1, 7\n" % size)
-    linker = ["gcc", "-shared", "-nostdlib", "-Wl,--hash-style=both"]
-    empty = os.path.join(WORK, "empty.s")
-    open(empty, "w").close()
-    for command in (
-        linker + ["-Wl,-soname,libneeded.so", "-o", other, empty],
-        linker + ["-Wl,--no-as-needed", "-o", path, source, other],
-    ):
-        if subprocess.run(command).returncode != 0:
-            fail("gcc could not make %s" % path)
+        out.write(".data\n")
+        if data:
+            out.write(f".fill {data // 8}, 8, 0x5a5a5a5a5a5a5a5a\n")
+        for number in range(symbols):
+            out.write(f".globl value_of_number_{number}\nvalue_of_number_{number}: .byte 1\n")
+    words = ["gcc", "-shared", "-nostdlib", "-o", path + ".part", source, "-Wl,-soname,libbench.so.1",
+             "-Wl,-rpath," + OLD_PATH, "-Wl,--enable-new-dtags", "-Wl,-z,noexecstack"]
+    done = subprocess.run(words)
     os.remove(source)
+    if done.returncode != 0:
+        print("gcc could not link a library", file=sys.stderr)
+        sys.exit(2)
+    os.replace(path + ".part", path)
     return path
 
 
-def timed(command):
+def timed(words):
+    """The wall time of a program in seconds, and its peak resident size in bytes."""
     start = time.perf_counter()
-    run = subprocess.run(command, stdout=subprocess.PIPE, stderr=subprocess.PIPE)
-    spent = time.perf_counter() - start
-    if run.returncode != 0 or run.stdout != b"libneeded.so\n":
-        fail("%s: status %d, %r %r" % (" ".join(command), run.returncode, run.stdout, run.stderr))
-    return spent
+    process = subprocess.Popen(words, stdin=subprocess.DEVNULL)
+    _, status, usage = os.wait4(process.pid, 0)
+    wall = time.perf_counter() - start
+    process.returncode = os.waitstatus_to_exitcode(status)
+    if process.returncode != 0:
+        print(f"{words[0]} ended with status {process.returncode}", file=sys.stderr)
+        sys.exit(2)
+    return wall, usage.ru_maxrss * 1024
 
 
-def medians(path, tool, runs):
-    """The median times of both programs on a file that was read before."""
-    commands = ([PROGRAM, "elf", "print-needed", path], [tool, "--print-needed", path])
-    spent = ([], [])
+def fresh_copy(path):
+    """A copy of a file that nothing has touched, on disk before the clock starts."""
+    copy = os.path.join(WORK, "copy")
+    shutil.copyfile(path, copy)
+    with open(copy, "rb+") as file:
+        os.fsync(file.fileno())
+    return copy
+
+
+def measure(path, run_path, runs, tool):
+    """The median times of arwen, cp and patchelf (None where it is not there), and arwen's peak."""
+    copy = os.path.join(WORK, "copy")
+    programs = {
+        "arwen": [PROGRAM, "elf", "set-rpath", run_path, copy],
+        "cp": ["cp", "--reflink=never", path, copy],
+    }
+    if tool:
+        programs["patchelf"] = [tool, "--set-rpath", run_path, copy]
+    times = {name: [] for name in programs}
+    peak = 0
     for _ in range(runs):
-        for times, command in zip(spent, commands):
-            times.append(timed(command))
-    return [statistics.median(times) for times in spent]
+        for name, words in programs.items():
+            fresh_copy(path)
+            wall, resident = timed(words)
+            times[name].append(wall)
+            if name == "arwen":
+                peak = max(peak, resident)
+    os.remove(copy)
+    medians = {name: statistics.median(walls) for name, walls in times.items()}
+    return medians["arwen"], medians["cp"], medians.get("patchelf"), peak
+
+
+def verdict(value, target):
+    if target is None:
+        return f"{value:.2f}"
+    return f"{value:.2f} ({'within' if value <= target else 'PAST'} {target})"
+
+
+def compare(edit, options, tool, speeds):
+    """Times an edit, prints the ratios, and answers whether one is past its target."""
+    name, run_path, most_cp, most_tool, most_time, most_memory = edit
+    path = make_library(name)
+    size = os.path.getsize(path)
+    arwen, cp, patchelf, peak = measure(path, run_path, options.runs, tool)
+    speeds.setdefault(name, arwen / size)
+    ratios = [("to cp", arwen / cp, most_cp)]
+    if patchelf:
+        ratios.append(("to patchelf", arwen / patchelf, most_tool))
+    if most_time:
+        ratios.append(("ms", arwen * 1000, most_time * 1000))
+    if most_memory:
+        ratios.append(("peak to size", peak / size, most_memory))
+    kind = "fits" if run_path == FITS else "moves"
+    print(f"{name} {kind}: {size} bytes, arwen {arwen * 1000:.1f} ms, cp {cp * 1000:.1f} ms; "
+          + ", ".join(f"{what} {verdict(value, most)}" for what, value, most in ratios), flush=True)
+    return any(most is not None and value > most for _, value, most in ratios)
 
 
 def main():
-    given = argparse.ArgumentParser()
-    given.add_argument("--runs", type=int, default=5)
-    given.add_argument("--tool", default="patchelf")
-    given = given.parse_args()
-    if shutil.which(given.tool) is None:
-        fail("%s is missing" % given.tool)
-    if not os.path.exists(PROGRAM):
-        fail("%s is missing: run ./arwen first" % PROGRAM)
-    found = {}
+    parser = argparse.ArgumentParser(description=__doc__.split("\n", 1)[0])
+    parser.add_argument("--runs", type=int, default=5)
+    parser.add_argument("--only", default="")
+    parser.add_argument("--tool", default="patchelf", help="patchelf's name or path")
+    options = parser.parse_args()
+    if not os.access(PROGRAM, os.X_OK):
+        print("the program is not built: run ./arwen --help first", file=sys.stderr)
+        return 2
+    if not shutil.which("gcc"):
+        print("gcc is not there, which links the libraries", file=sys.stderr)
+        return 2
+    tool = shutil.which(options.tool)
     missed = False
-    for name, limit in (("small", 1.0), ("wide-1", None), ("wide-50000", None), ("wide-500000", 2.0)):
-        path = made(name)
-        timed([PROGRAM, "elf", "print-needed", path])
-        ours, theirs = medians(path, given.tool, given.runs)
-        found[name] = ours
-        late = limit is not None and ours > limit * theirs
-        missed = missed or late
-        print("%-12s %8.1f ms, %s %8.1f ms, %.2f times%s" % (
-            name, ours * 1000, given.tool, theirs * 1000, ours / theirs, "  MISSED" if late else ""))
-    few = (found["wide-50000"] - found["wide-1"]) / 50_000
-    many = (found["wide-500000"] - found["wide-1"]) / 500_000
-    grows = many > 1.5 * max(few, 1e-9)
-    print("a symbol costs %.0f ns among 50,000, %.0f ns among 500,000%s" % (
-        few * 1e9, many * 1e9, "  MISSED" if grows else ""))
-    sys.exit(1 if missed or grows else 0)
+    speeds = {}
+    for edit in EDITS:
+        if options.only in edit[0]:
+            missed = compare(edit, options, tool, speeds) or missed
+    less, more, most = GROWTH
+    if less in speeds and more in speeds:
+        growth = speeds[more] / speeds[less]
+        print(f"time for a byte from {less} to {more}: {verdict(growth, most)}")
+        missed = missed or growth > most
+    if not tool:
+        print("not checked, as a tool is not there: the times of patchelf")
+    return 1 if missed else 0
 
 
 if __name__ == "__main__":
-    main()
+    sys.exit(main())
