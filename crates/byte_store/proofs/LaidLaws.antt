@@ -11,7 +11,7 @@ use Rattle.byte_store.specs.Laws.{IsOutside, LaidHoldsInside, LaidKeepsLength, L
 use Rattle.byte_store.proofs.PutLaws.{get_or-put_at, get_or-put_at_inside, length-put_at, put_at-nil}
 
 -- what lies in bytes lies in those with a part over them
-tail_lies : (patch : Patch) (patches : List Patch) (bytes : List ℕ) → All (LiesIn (length bytes)) (patch ∷ patches) → All (LiesIn (length (put_at patch.offset patch.bytes bytes))) patches
+pub tail_lies : (patch : Patch) (patches : List Patch) (bytes : List ℕ) → All (LiesIn (length bytes)) (patch ∷ patches) → All (LiesIn (length (put_at patch.offset patch.bytes bytes))) patches
 tail_lies patch patches bytes inside =
     let same = length-put_at patch.offset patch.bytes bytes (All-head (LiesIn (length bytes)) patch patches inside) in
     let P : ℕ → Type 0 = λ n. All (LiesIn n) patches in

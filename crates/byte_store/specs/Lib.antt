@@ -2,3 +2,4 @@ pub mod Known
 pub mod Laid
 pub mod Laws
 pub mod Fault
+pub mod Replaced

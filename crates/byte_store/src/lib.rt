@@ -1,6 +1,7 @@
 //! Stores of bytes that are read whole, and in which only what changes is written.
 #![tactic(auto)]
 
+pub mod difference;
 pub mod file;
 pub mod laws;
 pub mod memory;
@@ -10,6 +11,7 @@ pub mod reading;
 pub mod stores;
 pub mod writing;
 
+pub use crate::difference::{ReplaceError, replace};
 pub use crate::file::{FileStore, RuntimeFiles};
 pub use crate::memory::{MemoryFile, MemoryStore};
 pub use crate::opens::Opens;

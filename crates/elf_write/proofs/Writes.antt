@@ -32,11 +32,15 @@ use Rattle.elf_written.specs.Headers.{IsHeaderOf, written_header}
 use Rattle.elf_written.specs.Whole.{IsWhole}
 use Rattle.elf_written.specs.Writing.{AreHeadersApart, AreSectionsWritten, IsWholeWriting, written_bytes}
 use Rattle.elf_written.proofs.WholeFacts.{kept}
-use Rattle.elf_written.proofs.DataSeen.{written_files_keep_data, written_files_keep_others}
-use Rattle.elf_written.proofs.ReadAgain.{written_files_show}
+use Rattle.elf_plan.specs.ApartLaws.{PlansAreApart, PlansShowNotes}
+use Rattle.elf_written.proofs.ApartInFile.{plans_are_apart_in_file}
+use Rattle.elf_written.proofs.DataSeen.{written_files_keep_data, written_files_keep_hashes, written_files_keep_others}
+use Rattle.elf_written.proofs.FileParts.{written_files_have_parts}
+use Rattle.elf_written.proofs.ReadAgain.{written_files_are_read, written_files_show}
 use Rattle.elf_write.specs.declared.made.Made.{Made}
 use Rattle.elf_write.specs.Inner.{AreContents, AreHeaders, ArePromised, AreRaw, IsMadeContent, IsPlanned, IsWholeWritten, strings_at, writing_of}
 use Rattle.elf_write.specs.Numbers.{do_records_fit}
+use Rattle.elf_write.specs.Seen.{IsWritingTo}
 use Rattle.elf_write.proofs.NamesTable.{linked_at, names_at, names_typed, shows_none, shows_texts}
 use Rattle.elf_write.proofs.ReadFacts.{ReadFacts, SectionRead, are_numbered, kept-at, kept_is, length-numbered, read_facts, section_read}
 
@@ -224,15 +228,28 @@ module _ (read image : Image) (plan : Layout) (made : Option Made) (raw : List E
     are_bytes = same;
   }
 
--- what the laws of written files say of them
-pub are_promised : (image : Image) (plan : Layout) (bytes : List ℕ) → IsWholeWritten image plan bytes → ArePromised image plan bytes
-are_promised image plan bytes is =
+-- what the laws of plans and of written files say of them
+pub are_promised : PlansAreApart → PlansShowNotes
+    → (image : Image) (plan : Layout) (bytes : List ℕ) → IsWholeWritten image plan bytes → ArePromised image plan bytes
+are_promised are_apart show_notes image plan bytes is =
     let w = is.writing in
-    subst (λ (i : Image). ArePromised i plan bytes) is.of_image
-    (subst (λ (l : Layout). ArePromised w.image l bytes) is.by_plan
-    (subst (λ (b : List ℕ). ArePromised w.image w.plan b) (sym is.are_bytes) (record {
+    let of_bytes : (b : List ℕ) → b ≡ written_bytes w → ArePromised w.image w.plan b = λ b same.
+    subst (λ (x : List ℕ). ArePromised w.image w.plan x) (sym same) (record {
       written = record { writing = w; of_image = refl; by_plan = refl; is_writing = is.whole.written; are_bytes = refl };
       shows = written_files_show w is.whole;
       kept_data = written_files_keep_data w is.whole;
       others = written_files_keep_others w is.whole;
-    })))
+      headers = record { writing = w; to = to; parts = written_files_have_parts w is.whole; again = written_files_are_read w is.whole };
+      hashes = record { writing = w; to = to; seen = written_files_keep_hashes w is.whole };
+      apart = record {
+        memory = are_apart w.image w.plan is.whole.edited is.whole.planned;
+        notes = show_notes w.image w.plan is.whole.edited is.whole.planned;
+        in_file = plans_are_apart_in_file w.image w.plan is.whole.edited is.whole.planned is.whole.written.headers;
+      };
+    }) in
+    subst (λ (i : Image). ArePromised i plan bytes) is.of_image
+    (subst (λ (l : Layout). ArePromised w.image l bytes) is.by_plan
+    (of_bytes bytes is.are_bytes))
+  where
+    to : IsWritingTo is.writing is.writing.image is.writing.plan (written_bytes is.writing)
+    to = record { of_image = refl; by_plan = refl; is_writing = is.whole.written; are_bytes = refl }

@@ -22,6 +22,7 @@ use Rattle.elf_written.specs.Laws.{ShowsFinal}
 use Rattle.elf_written.specs.Stays.{AreOthersSeen, IsDataSeen}
 use Rattle.elf_written.specs.Whole.{IsWhole}
 use Rattle.elf_written.specs.Writing.{IsWholeWriting, IsWritten, Writing, written_bytes}
+use Rattle.elf_write.specs.Seen.{HasHashes, HasHeaders, IsApart}
 use Rattle.elf_write.specs.declared.made.Made.{Made}
 
 -- An edited image of which nothing went, with the image that was read from its source.
@@ -105,3 +106,6 @@ pub record ArePromised (image : Image) (plan : Layout) (bytes : List ℕ) : Type
   pub shows : ShowsFinal image bytes
   pub kept_data : IsDataSeen (resized image) plan bytes
   pub others : AreOthersSeen (resized image) plan bytes
+  pub headers : HasHeaders image plan bytes
+  pub hashes : HasHashes image plan bytes
+  pub apart : IsApart image plan

@@ -9,3 +9,4 @@ pub mod SymbolSteps
 pub mod Counted
 pub mod ContentSteps
 pub mod VersionPlaces
+pub mod Seen

@@ -1,5 +1,5 @@
 //! The bytes of an edited ELF file.
-ghost use Rattle.std.specs.Prelude.{◌≡◌, false, true, IfErr, IfOk, IsTrue};
+ghost use Rattle.std.specs.Prelude.{◌≡◌, false, true, IfErr, IfOk, IsTrue, OnOk};
 ghost use Rattle.elf_format.specs.Ranges.{apart, range};
 ghost use Rattle.elf_format.specs.Records.{file_header_size};
 ghost use Rattle.elf_tables.specs.declared.fault.TableFault.TheVariants.{NumberTooLarge};
@@ -15,6 +15,7 @@ ghost use Rattle.elf_written.specs.Headers.{written_header};
 ghost use Rattle.elf_write.specs.Inner.{AreContents, AreHeaders, ArePromised, AreRaw, AreStrings, IsPlanned, IsWholeWritten, strings_at};
 ghost use Rattle.elf_write.specs.Numbers.{do_numbers_fit as do_all_fit, do_records_fit};
 ghost use Rattle.elf_write.specs.Refused.{AreNoBytes};
+ghost use Rattle.elf_write.specs.Seen.{HasHashes, HasHeaders, IsApart};
 
 use crate::contents::contents;
 use crate::entries::raw_entries;
@@ -26,6 +27,7 @@ use elf_format::form::Form;
 use elf_format::range::Range;
 use elf_format::records::{EntryNumbers, FileHeader, SectionHeader};
 use elf_image::Builder;
+use elf_plan::laws::{plans_are_apart, plans_show_notes};
 use elf_plan::{LayoutFault, Plan, read_again};
 use elf_tables::TableFault;
 use patch_bytes::ByteString;
@@ -152,12 +154,14 @@ fn bytes_with_headers_apart<'a, 'data>(
 }
 
 // The bytes of a file, of which it is known that the image is written whole to it: so it shows the image in its final form, and has the
-// data that was read.
+// data that was read; its headers, tables and sections stand apart.
 fn promised(image: &Builder<'_>, plan: &Plan, bytes: Vec<u8>) -> Vec<u8>
     requires { IsWholeWritten image.now plan.now bytes.items }
     ensures same { result ≡ bytes }
     ensures promises { ArePromised image.now plan.now result.items }
 {
+    plans_are_apart();
+    plans_show_notes();
     bytes
 }
 
@@ -178,6 +182,9 @@ pub fn image_bytes_again<'data>(
         IsDataSeen (resized image.now) plan.now bytes.items) }
     ensures others { IfOk result (λ bytes.
         AreOthersSeen (resized image.now) plan.now bytes.items) }
+    ensures headers { IfOk result (λ bytes. HasHeaders image.now plan.now bytes.items) }
+    ensures hashes { IfOk result (λ bytes. HasHashes image.now plan.now bytes.items) }
+    ensures apart { OnOk result (IsApart image.now plan.now) }
     ensures fault { IfErr result (AreNoBytes image.now plan.now) }
 {
     // what every image is: one that was read from these bytes, and edited
@@ -204,6 +211,9 @@ pub fn image_bytes(alloc: Global, image: &Builder<'_>, plan: &Plan) -> Result<Ve
         IsDataSeen (resized image.now) plan.now bytes.items) }
     ensures others { IfOk result (λ bytes.
         AreOthersSeen (resized image.now) plan.now bytes.items) }
+    ensures headers { IfOk result (λ bytes. HasHeaders image.now plan.now bytes.items) }
+    ensures hashes { IfOk result (λ bytes. HasHashes image.now plan.now bytes.items) }
+    ensures apart { OnOk result (IsApart image.now plan.now) }
     ensures fault { IfErr result (AreNoBytes image.now plan.now) }
 {
     let Ok(read) = read_again(alloc, image) else {
