@@ -1,9 +1,9 @@
 -- The dynamic symbols spelled anew, their names in a string table that is made anew.
-use Rattle.std.proofs.Common.{◌≡◌, ◌<◌, ℕ, ◌+◌, ◌*◌, ◌/◌, ◌^◌, Bool, true, List, [], ◌∷◌, ◌++◌, get_or, length, map, refl, sym, ap, ◌∙◌, subst, Option, Some, arith}
-use Rattle.std.specs.Prelude.{◌==◌, if◌then◌else◌, option_map, unwrap_or}
+use Rattle.std.proofs.Common.{◌≡◌, ◌<◌, ℕ, ◌+◌, ◌*◌, ◌/◌, ◌^◌, Bool, true, false, List, [], ◌∷◌, ◌++◌, get_or, length, map, refl, sym, ap, ◌∙◌, subst, Option, Some, arith}
+use Rattle.std.specs.Prelude.{◌==◌, IsSome, if◌then◌else◌, option_map, unwrap_or}
 use Rattle.std.specs.List.{Contains, flat_map, list_all, slice_get}
 use Rattle.std.proofs.Math.Nat.{mul-div_left}
-use Rattle.std.proofs.lemmas.Bool.{and_from, eq-eqb, lt-ltb}
+use Rattle.std.proofs.lemmas.Bool.{and_from, eq-eqb, lt-ltb, ne_eqb}
 use Rattle.std.proofs.lemmas.List.{append-nil, length-append, length-map}
 use Rattle.std.proofs.lemmas.List.Folds.{list_all-map}
 use Rattle.std.proofs.lemmas.List.Elements.{Contains-append_left, Contains-append_right}
@@ -33,12 +33,14 @@ use Rattle.elf_records.specs.Spelled.{spelled_symbol, symbol_fields}
 use Rattle.elf_records.proofs.SymbolBack.{symbols_are_read_back}
 use Rattle.elf_records.proofs.TableBack.{tables_are_read_back}
 use Rattle.elf_sizes.specs.MadeTables.{IsMade}
+use Rattle.elf_tables.specs.StringSteps.{StandsWith}
 use Rattle.elf_tables.specs.Strings.{StandsAt, Strings, place_of}
+use Rattle.elf_tables.proofs.StandingTexts.{stands-from}
 use Rattle.elf_written.specs.Contents.{AreSymbolsOf, IsSymbolOf}
 use Rattle.elf_written.proofs.TextsRead.{text_inside}
 use Rattle.elf_written.proofs.WholeLists.{all-each, there_at}
 use Rattle.elf_write.specs.Inner.{IsReady}
-use Rattle.elf_write.specs.SymbolSteps.{does_symbol_fit, symbol_bytes, symbol_in, symbol_with}
+use Rattle.elf_write.specs.SymbolSteps.{does_symbol_fit, place_of_name, symbol_bytes, symbol_in, symbol_with}
 use Rattle.elf_write.proofs.ReadFacts.{Nowhere, ReadFacts, SectionRead, There, type_at}
 use Rattle.elf_write.proofs.SymbolsRead.{count, each_symbol, is_one, link_was, record_at, symbol_read, symbol_size-positive}
 
@@ -112,6 +114,12 @@ module _ (form : Form) (table : Strings) where
       ∙ ap (records (symbol_numbers form) size (length ns)) same
       ∙ (tables_are_read_back form).symbols ns [] (fits-map ys fit)
 
+-- the empty text stands at 0 of a table that begins with a NUL
+first_stands : (bytes : List ℕ) → slice_get bytes 0 ≡ Some 0 → StandsAt bytes 0 []
+unfolding StandsWith
+first_stands [] none = absurd (none-some 0 none)
+first_stands (x ∷ xs) first = stands-from (x ∷ xs) 0 [] refl (ap (λ (b : ℕ). b ∷ []) (same_Some x 0 first))
+
 -- ## The symbols of the image
 
 -- an element of a list is in it
@@ -164,11 +172,17 @@ module _ (read image : Image) (is : IsReady read image) (f : ReadFacts read imag
       (contains_at (texts_of_symbols image.dynamic_symbols) j y.name
       (slice_get-map (λ (z : NamedSymbol). z.name) image.dynamic_symbols j ∙ ap (option_map (λ (z : NamedSymbol). z.name)) y_at)))
 
-  -- and stand where it tells
+  -- and stand where it tells, no name at 0
+  name_stands : (name : List ℕ) → IsSome (place_of table name) → StandsAt table.bytes (place_of_name table name) name
+  name_stands [] told = first_stands table.bytes made.holds.first
+  name_stands (byte ∷ name) told =
+      let (place, is) = there_if (place_of table (byte ∷ name)) told in
+      let some : (length (byte ∷ name) == 0) ≡ false = ne_eqb (length (byte ∷ name)) 0 (λ none. absurd (omega (arith, none))) in
+      subst (λ (b : Bool). StandsAt table.bytes (if b then 0 else unwrap_or (place_of table (byte ∷ name)) 0) (byte ∷ name)) (sym some)
+      (subst (λ (n : ℕ). StandsAt table.bytes n (byte ∷ name)) (sym (ap (λ (o : Option ℕ). unwrap_or o 0) is)) (made.stand (byte ∷ name) place is))
+
   stands : (j : ℕ) (y : NamedSymbol) → slice_get image.dynamic_symbols j ≡ Some y → StandsAt table.bytes (symbol_in table y).st_name y.name
-  stands j y y_at =
-      let (place, told) = there_if (place_of table y.name) (made.holds.added y.name (named j y y_at)) in
-      subst (λ (n : ℕ). StandsAt table.bytes n y.name) (sym (ap (λ (o : Option ℕ). unwrap_or o 0) told)) (made.stand y.name place told)
+  stands j y y_at = name_stands y.name (made.holds.added y.name (named j y y_at))
 
   -- offsets have 32 bits
   place_fits : (j : ℕ) (y : NamedSymbol) → slice_get image.dynamic_symbols j ≡ Some y → (symbol_in table y).st_name < 256 ^ 4

@@ -1,5 +1,5 @@
 -- The steps of spelling the dynamic symbols (gABI, Symbol Table).
-use Rattle.std.specs.Prelude.{ℕ, List, Bool, Option, Some, None, ◌==◌, if◌then◌else◌, unwrap_or}
+use Rattle.std.specs.Prelude.{ℕ, List, length, Bool, Option, Some, None, ◌==◌, if◌then◌else◌, unwrap_or}
 use Rattle.elf_format.specs.declared.form.Form.{Form}
 use Rattle.elf_format.specs.declared.records.SymbolNumbers.{SymbolNumbers}
 use Rattle.elf_format.specs.Views.{NamedSymbol}
@@ -17,9 +17,13 @@ table_made (Some m) number = if m.number == number then Some m.table else None
 abbrev pub symbol_with : ℕ → NamedSymbol → SymbolNumbers
 symbol_with place y = record { st_name = place; st_info = y.st_info; st_other = y.st_other; st_shndx = y.st_shndx; st_value = y.st_value; st_size = y.st_size }
 
+-- where a string table tells a name; no name is at 0 (gABI, Symbol Table, st_name)
+abbrev pub place_of_name : Strings → List ℕ → ℕ
+place_of_name table name = if length name == 0 then 0 else unwrap_or (place_of table name) 0
+
 -- the same, its name where a string table tells it
 abbrev pub symbol_in : Strings → NamedSymbol → SymbolNumbers
-symbol_in table y = symbol_with (unwrap_or (place_of table y.name) 0) y
+symbol_in table y = symbol_with (place_of_name table y.name) y
 
 -- each of these numbers fits its field
 unfoldable pub does_symbol_fit : Form → Strings → NamedSymbol → Bool

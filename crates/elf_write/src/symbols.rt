@@ -8,7 +8,7 @@ ghost use Rattle.elf_sizes.specs.MadeTables.{IsMade};
 ghost use Rattle.elf_written.specs.Contents.{AreSymbolsOf};
 ghost use Rattle.elf_written.specs.Final.{final};
 ghost use Rattle.elf_write.specs.Inner.{AreStrings, IsReady, IsSectionOfType, strings_at};
-ghost use Rattle.elf_write.specs.SymbolSteps.{does_symbol_fit, symbol_bytes, symbol_in, table_made};
+ghost use Rattle.elf_write.specs.SymbolSteps.{does_symbol_fit, place_of_name, symbol_bytes, symbol_in, table_made};
 
 use crate::made::Made;
 use elf_image::records::SymbolNumbers;
@@ -28,12 +28,22 @@ fn table_made_for<'m, 't>(made: &'m Option<Made<'t>>, number: u32) -> Option<&'m
     }
 }
 
+// Where a name stands in a string table; 0 where there is none.
+fn symbol_name_place(name: &[u8], table: &Finished<'_>) -> u32
+    ensures { result ≡ place_of_name table.now name.now }
+{
+    if name.is_empty() {
+        return 0;
+    }
+    table.offset_of(name).unwrap_or(0)
+}
+
 // The numbers of a symbol, with where its name stands in a string table.
 fn symbol_numbers(symbol: &Symbol<'_>, table: &Finished<'_>) -> SymbolNumbers
     ensures { result ≡ symbol_in table.now (symbol_kept symbol.now) }
 {
     SymbolNumbers {
-        st_name: table.offset_of(symbol.name.as_slice()).unwrap_or(0),
+        st_name: symbol_name_place(symbol.name.as_slice(), table),
         st_info: symbol.st_info,
         st_other: symbol.st_other,
         st_shndx: symbol.st_shndx,
