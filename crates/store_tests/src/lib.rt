@@ -16,6 +16,8 @@ macro_rules! again {
 }
 
 #[cfg(test)]
+mod differences;
+#[cfg(test)]
 mod numbers;
 #[cfg(test)]
 mod reading;

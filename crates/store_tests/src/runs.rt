@@ -26,23 +26,34 @@ const fn outcome(plan: Plan, word: &'static str, bytes: &'static [u8], writes: u
     }
 }
 
-const fn planned(fails_at: usize, takes: usize, interruptions: usize, keeps_length: bool) -> Plan {
+pub(crate) const fn planned(
+    fails_at: usize,
+    takes: usize,
+    interruptions: usize,
+    keeps_length: bool,
+) -> Plan {
     Plan {
         fails_at,
         takes,
         interruptions,
         keeps_length,
+        stays_closed: false,
+    }
+}
+
+// What a run left that failed.
+pub(crate) fn left(error: WriteError) -> &'static str {
+    match error.left {
+        Left::Old => "old",
+        Left::Longer => "longer",
+        Left::Torn => "torn",
     }
 }
 
 fn word(answer: Result<(), WriteError>) -> &'static str {
     match answer {
         Ok(()) => "done",
-        Err(error) => match error.left {
-            Left::Old => "old",
-            Left::Longer => "longer",
-            Left::Torn => "torn",
-        },
+        Err(error) => left(error),
     }
 }
 

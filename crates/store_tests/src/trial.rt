@@ -6,12 +6,14 @@ use byte_store::{MemoryStore, Store};
 use std::alloc::{AllocError, Global};
 use std::io;
 
-// Room for a store that grows, asked for once more where memory was refused.
-fn room(alloc: Global) -> Result<Vec<u8>, AllocError>
+// Room for so many bytes and for those of a store that grows, asked for once more where memory was
+// refused.
+fn room(alloc: Global, count: usize) -> Result<Vec<u8>, AllocError>
     ensures { IfOk result (λ made. made.items ≡ []) }
 {
-    match Vec::with_capacity(alloc, 64) {
-        Err(_) => Vec::with_capacity(alloc, 64),
+    let wanted = count.saturating_add(64);
+    match Vec::with_capacity(alloc, wanted) {
+        Err(_) => Vec::with_capacity(alloc, wanted),
         made => made,
     }
 }
@@ -20,7 +22,7 @@ fn room(alloc: Global) -> Result<Vec<u8>, AllocError>
 pub fn copy(alloc: Global, bytes: &[u8]) -> Result<Vec<u8>, AllocError>
     ensures { IfOk result (λ copied. copied.items ≡ bytes.now) }
 {
-    let mut copied = room(alloc)?;
+    let mut copied = room(alloc, bytes.len())?;
     copied.extend_from_slice(bytes)?;
     Ok(copied)
 }
@@ -36,6 +38,8 @@ pub struct Plan {
     pub interruptions: usize,
     /// Setting the length fails.
     pub keeps_length: bool,
+    /// Opening for writing fails.
+    pub stays_closed: bool,
 }
 
 /// A store in memory that follows a plan, and counts its writes.
@@ -54,11 +58,19 @@ impl TrialStore {
         ensures plan { result.plan ≡ plan }
         ensures fresh { (result.writes ≡ 0) × (result.interrupted ≡ 0) }
     {
-        let bytes = copy(rt.alloc(), b"abcdef").expect(rt, "memory");
-        let mut inner = MemoryStore::new(bytes);
-        inner.open_for_writing().expect(rt, "a store");
+        let mut store = TrialStore::closed(rt, b"abcdef", plan);
+        store.inner.open_for_writing().expect(rt, "a store");
+        store
+    }
+
+    /// A store with these bytes that is not open for writing.
+    pub fn closed(rt: &impl Runtime, bytes: &[u8], plan: Plan) -> TrialStore
+        ensures plan { result.plan ≡ plan }
+        ensures fresh { (result.writes ≡ 0) × (result.interrupted ≡ 0) }
+    {
+        let bytes = copy(rt.alloc(), bytes).expect(rt, "memory");
         TrialStore {
-            inner,
+            inner: MemoryStore::new(bytes),
             plan,
             writes: 0,
             interrupted: 0,
@@ -78,6 +90,9 @@ impl Store for TrialStore {
     }
 
     fn open_for_writing(&mut self) -> io::Result<()> {
+        if self.plan.stays_closed {
+            return Err(io::Error::from(io::ErrorKind::PermissionDenied));
+        }
         self.inner.open_for_writing()
     }
 
