@@ -1,6 +1,9 @@
 pub mod EditGroups
+pub mod ElfOutcomes
+pub mod ElfStoreLaws
 pub mod ForCallers
 pub mod Outcomes
 pub mod RowLemmas
 pub mod StoreLaws
+pub mod ValueLemmas
 pub mod WordLemmas

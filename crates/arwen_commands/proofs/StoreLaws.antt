@@ -11,7 +11,7 @@ use Rattle.arwen_macho.specs.Fronts.{fronts_on}
 use Rattle.arwen_commands.specs.Stores.{ArePiecesOf, FailsPatch, LaysOn, Patched, Torn}
 use Rattle.arwen_commands.specs.Meaning.{MachoMeaning}
 use Rattle.arwen_commands.specs.declared.error.ArwenError.{ArwenError}
-use Rattle.arwen_commands.specs.declared.error.ArwenError.TheVariants.{Edits, Elf, Io, Line, Macho, MachoBatch, Memory}
+use Rattle.arwen_commands.specs.declared.error.ArwenError.TheVariants.{Edits, Elf, ElfBatch, Io, Line, Macho, MachoBatch, Memory}
 use Rattle.std.proofs.lemmas.Bool.{cases_lt, cond-true, lt-ltb}
 use Rattle.std.proofs.lemmas.List.{drop-drop, drop_more, length-drop, length-take-le, take_all, take-append-drop}
 use Rattle.macho_image.specs.Checks.{file_fault}
@@ -128,6 +128,7 @@ refused_store meaning old mid loaded (MachoBatch e) first kept tells =
 refused_store meaning old mid loaded (Edits e) first kept tells =
     (kept, λ file known. let P : Outcome → Type 0 = λ o. Tells o (Edits e) in subst P (read_outcome (asked meaning) old loaded file first known) tells)
 refused_store meaning old mid loaded (Elf e) first kept tells = absurd tells
+refused_store meaning old mid loaded (ElfBatch e) first kept tells = absurd tells
 refused_store meaning old mid loaded (Line text status) first kept tells = absurd tells
 
 pub patched_store : (meaning : MachoMeaning) (old mid new : Option (List ℕ)) (loaded : List ℕ) (fronts : List Front) (pieces : List Piece) → IsFirst (2 ^ 32) old loaded → Stays old mid → Writes meaning loaded fronts → ArePiecesOf loaded fronts pieces → Becomes (laid (patches_of pieces)) mid new → Patched meaning old new

@@ -81,7 +81,7 @@ module _ {S : Type 0} (bytes : S → Text) (ws : List S) where
         sym (pairs_before-then (i + 1) done pair rest) ∙ ap (λ o. pairs_before done (then_pairs (i + 1) o rest)) (sym is)
         ∙ ap (pairs_before done) (sym pairs_from-step) ∙ before
 
-    pair_missing : (done : Pairs) → key_value (bytes w) ≡ None → IsPairedTo (map bytes ws) i done → pairs_from 1 (map bytes ws) ≡ Err (no_pair (i + 1))
+    pub pair_missing : (done : Pairs) → key_value (bytes w) ≡ None → IsPairedTo (map bytes ws) i done → pairs_from 1 (map bytes ws) ≡ Err (no_pair (i + 1))
     pair_missing done is before =
         let rest : Result Pairs Wrong = pairs_from (i + 1 + 1) (drop (i + 1) (map bytes ws)) in
         sym before ∙ ap (pairs_before done) pairs_from-step ∙ ap (λ o. pairs_before done (then_pairs (i + 1) o rest)) is

@@ -15,7 +15,7 @@ use Rattle.arwen_macho.specs.Refused.{cause_of}
 use Rattle.arwen_macho.specs.State.{Refusal}
 use Rattle.arwen_commands.specs.declared.edits.EditFault.{EditFault}
 use Rattle.arwen_commands.specs.declared.error.ArwenError.{ArwenError}
-use Rattle.arwen_commands.specs.declared.error.ArwenError.TheVariants.{Edits, Elf, Io, Line, Macho, MachoBatch, Memory}
+use Rattle.arwen_commands.specs.declared.error.ArwenError.TheVariants.{Edits, Elf, ElfBatch, Io, Line, Macho, MachoBatch, Memory}
 use Rattle.arwen_commands.specs.Edits.{edits_of}
 use Rattle.arwen_commands.specs.Fault.{answer_to, answer_to_batch}
 use Rattle.arwen_commands.specs.Meaning.{MachoMeaning, apply, edit}
@@ -85,6 +85,7 @@ Tells outcome (Macho e) = TellsMacho outcome e
 Tells outcome (MachoBatch e) = TellsBatch outcome e
 Tells outcome (Edits wrong) = outcome ≡ no_edits wrong
 Tells outcome (Elf e) = ⊥
+Tells outcome (ElfBatch e) = ⊥
 Tells outcome (Io e) = ⊥
 Tells outcome (Line text status) = ⊥
 

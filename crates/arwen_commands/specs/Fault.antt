@@ -2,16 +2,19 @@
 use Rattle.std.specs.Prelude.{ℕ, ⊤}
 use Rattle.arwen_elf.specs.declared.elf.rewriter.error.ElfError.{ElfError}
 use Rattle.arwen_elf.specs.declared.elf.rewriter.error.ElfError.TheVariants as elf
+use Rattle.arwen_elf.specs.declared.elf.rewriter.batch.ElfBatchError.{ElfBatchError}
 use Rattle.arwen_macho.specs.declared.error.MachoError.{MachoError}
 use Rattle.arwen_macho.specs.declared.error.MachoError.TheVariants as macho
 use Rattle.arwen_macho.specs.declared.batch.MachoBatchError.{MachoBatchError}
 use Rattle.byte_store.specs.declared.reading.ReadError.{ReadError}
 use Rattle.byte_store.specs.declared.reading.ReadError.TheVariants as read
+use Rattle.byte_store.specs.declared.difference.ReplaceError.{ReplaceError}
+use Rattle.byte_store.specs.declared.difference.ReplaceError.TheVariants as replace
 use Rattle.arwen_commands.specs.declared.edits.EditsError.{EditsError}
 use Rattle.arwen_commands.specs.declared.edits.EditsError.TheVariants as edits
 use Rattle.arwen_commands.specs.declared.error.ArwenError.{ArwenError}
 use Rattle.arwen_commands.specs.declared.error.FaultLine.{FaultLine}
-use Rattle.arwen_commands.specs.declared.error.ArwenError.TheVariants.{Edits, Elf, Io, Line, Macho, MachoBatch, Memory}
+use Rattle.arwen_commands.specs.declared.error.ArwenError.TheVariants.{Edits, Elf, ElfBatch, Io, Line, Macho, MachoBatch, Memory}
 
 -- the status that the program ends with
 abbrev pub status_of : ArwenError → ℕ
@@ -48,6 +51,19 @@ answer_by_fault batch _ = MachoBatch batch
 
 abbrev pub answer_to_batch : MachoBatchError → ArwenError
 answer_to_batch batch = answer_by_fault batch batch.fault
+
+-- the same of a refused batch of edits of an ELF file
+abbrev pub answer_to_elf_fault : ElfBatchError → ElfError → ArwenError
+answer_to_elf_fault batch elf.Memory = Memory
+answer_to_elf_fault batch _ = ElfBatch batch
+
+abbrev pub answer_to_elf_batch : ElfBatchError → ArwenError
+answer_to_elf_batch batch = answer_to_elf_fault batch batch.fault
+
+-- the program's answer for bytes that were not replaced
+abbrev pub answer_to_replaced : ReplaceError → ArwenError
+answer_to_replaced replace.Memory = Memory
+answer_to_replaced (replace.Write e) = Io e.error
 
 -- the program's answer for words that were not read as edits
 abbrev pub answer_to_words : EditsError → ArwenError

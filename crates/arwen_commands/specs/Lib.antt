@@ -8,3 +8,6 @@ pub mod Meaning
 pub mod Prints
 pub mod Rows
 pub mod Stores
+pub mod ElfAsked
+pub mod ElfEngine
+pub mod ElfStores

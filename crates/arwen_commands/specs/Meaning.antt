@@ -1,8 +1,14 @@
 -- What a command asks for, with its texts as bytes.
-use Rattle.std.specs.Prelude.{◌∷◌, [], List, codes, false, map, string_bytes, true}
+use Rattle.std.specs.Prelude.{◌∷◌, [], ◌++◌, List, Option, Some, None, Ok, Err, codes, false, map}
+use Rattle.std.specs.Prelude.{String, string_bytes, true}
+use Rattle.std.specs.declared.alloc.Global.{Global}
+use Rattle.elf_edits.specs.Edit.{Edit, AddDebugEntry, AddNeeded, AddRunPath, ClearExecStack, DeleteNeeded}
+use Rattle.elf_edits.specs.Edit.{DeleteRunPath, NoDefaultLibrary, ReplaceNeeded, SetExecStack}
+use Rattle.elf_edits.specs.Edit.{SetInterpreter, SetOsAbi, SetPageSize, SetRunPath, SetSoname, UseRpath}
 use Rattle.arwen_macho.specs.Call.{Call}
 use Rattle.arwen_macho.specs.Call.Call.{add_rpath, change_install_id, change_install_name}
 use Rattle.arwen_macho.specs.Call.Call.{change_rpath, remove_rpath}
+use Rattle.arwen_commands.specs.ElfWords.{Reading, elf_edit_lines}
 use Rattle.arwen_commands.specs.Rows.{Asks, Line, Text, by_path, by_text, by_texts, by_words}
 use Rattle.arwen_commands.specs.declared.command.Command.{Command}
 use Rattle.arwen_commands.specs.declared.command.Command.TheVariants.{Elf, Macho}
@@ -16,8 +22,10 @@ pub data MachoMeaning : Type 0 where
   edit : Call → Text → MachoMeaning
   apply : Text → List Text → MachoMeaning
 
--- what is asked of the ELF file at a path
+-- what is asked of the ELF file at a path: an edit, or the edits that words name, or something to print
 pub data ElfMeaning : Type 0 where
+  edit_elf : Edit → Text → ElfMeaning
+  apply_elf : Text → List Text → ElfMeaning
   print_rpath : Text → ElfMeaning
   print_needed : Text → ElfMeaning
   print_soname : Text → ElfMeaning
@@ -51,17 +59,46 @@ macho_lines = edit_line (codes "delete-rpath") (by_one remove_rpath)
     ∷ record { name = codes "apply"; is_edit = false; asks = by_words apply }
     ∷ []
 
-abbrev pub print_line : Text → (Text → ElfMeaning) → Line ElfMeaning
-print_line name meaning = record { name = name; is_edit = false; asks = by_path meaning }
+-- what a command for ELF files asks for with its values; none where they are not what it takes
+abbrev pub ElfAsks : Type 0
+ElfAsks = Asks (Option ElfMeaning)
 
-abbrev pub elf_lines : List (Line ElfMeaning)
-elf_lines = print_line (codes "print-rpath") print_rpath
+-- an edit of the file at a path
+abbrev pub edit_at : Text → Reading → Option ElfMeaning
+edit_at path (Ok read) = Some (edit_elf read path)
+edit_at path (Err wrong) = None
+
+-- a command that asks for the edit of its values
+abbrev pub asks_at : Asks Reading → ElfAsks
+asks_at (by_path read) = by_path (λ path. edit_at path (read path))
+asks_at (by_text read) = by_text (λ value path. edit_at path (read value path))
+asks_at (by_texts read) = by_texts (λ first second path. edit_at path (read first second path))
+asks_at (by_words read) = by_words (λ path words. edit_at path (read path words))
+
+abbrev pub edit_line_at : Line Reading → Line (Option ElfMeaning)
+edit_line_at line =
+    record { name = line.name; is_edit = line.is_edit; asks = asks_at line.asks }
+
+abbrev pub other_line : Text → ElfAsks → Line (Option ElfMeaning)
+other_line name asks = record { name = name; is_edit = false; asks = asks }
+
+abbrev pub print_line : Text → (Text → ElfMeaning) → Line (Option ElfMeaning)
+print_line name meaning = other_line name (by_path (λ path. Some (meaning path)))
+
+-- the commands that aren't an edit by themselves
+abbrev pub elf_other_lines : List (Line (Option ElfMeaning))
+elf_other_lines =
+    other_line (codes "apply") (by_words (λ path words. Some (apply_elf path words)))
+    ∷ print_line (codes "print-rpath") print_rpath
     ∷ print_line (codes "print-needed") print_needed
     ∷ print_line (codes "print-soname") print_soname
     ∷ print_line (codes "print-interpreter") print_interpreter
     ∷ print_line (codes "print-os-abi") print_os_abi
     ∷ print_line (codes "print-exec-stack") print_exec_stack
     ∷ []
+
+abbrev pub elf_lines : List (Line (Option ElfMeaning))
+elf_lines = map edit_line_at elf_edit_lines ++ elf_other_lines
 
 -- ---- what a value of the program stands for
 
@@ -81,7 +118,37 @@ macho_shown (macho.ChangeInstallId args) =
 macho_shown (macho.Apply args) =
     apply (string_bytes args.path_to_binary) (map string_bytes args.edits.items)
 
+-- a pair of texts
+abbrev pub pair_shown : String Global × String Global → Text × Text
+pair_shown pair = (string_bytes pair.0, string_bytes pair.1)
+
 abbrev pub elf_shown : ElfCommand → ElfMeaning
+elf_shown (elf.AddDebugTag args) = edit_elf AddDebugEntry (string_bytes args.path_to_binary)
+elf_shown (elf.ClearExecStack args) = edit_elf ClearExecStack (string_bytes args.path_to_binary)
+elf_shown (elf.ForceRpath args) = edit_elf UseRpath (string_bytes args.path_to_binary)
+elf_shown (elf.NoDefaultLib args) = edit_elf NoDefaultLibrary (string_bytes args.path_to_binary)
+elf_shown (elf.RemoveRpath args) = edit_elf DeleteRunPath (string_bytes args.path_to_binary)
+elf_shown (elf.SetExecStack args) = edit_elf SetExecStack (string_bytes args.path_to_binary)
+elf_shown (elf.AddRpath args) =
+    edit_elf (AddRunPath (string_bytes args.new_rpath ∷ [])) (string_bytes args.path_to_binary)
+elf_shown (elf.SetRpath args) =
+    edit_elf (SetRunPath (string_bytes args.new_rpath)) (string_bytes args.path_to_binary)
+elf_shown (elf.SetInterpreter args) =
+    edit_elf (SetInterpreter (string_bytes args.interpreter)) (string_bytes args.path_to_binary)
+elf_shown (elf.SetOsAbi args) =
+    edit_elf (SetOsAbi (string_bytes args.os_abi)) (string_bytes args.path_to_binary)
+elf_shown (elf.SetSoname args) =
+    edit_elf (SetSoname (string_bytes args.soname)) (string_bytes args.path_to_binary)
+elf_shown (elf.SetPageSize args) =
+    edit_elf (SetPageSize args.page_size) (string_bytes args.path_to_binary)
+elf_shown (elf.AddNeeded args) =
+    edit_elf (AddNeeded (map string_bytes args.dt_needed.items)) (string_bytes args.path_to_binary)
+elf_shown (elf.RemoveNeeded args) =
+    edit_elf (DeleteNeeded (map string_bytes args.dt_needed.items)) (string_bytes args.path_to_binary)
+elf_shown (elf.ReplaceNeeded args) =
+    edit_elf (ReplaceNeeded (map pair_shown args.dt_needed.items)) (string_bytes args.path_to_binary)
+elf_shown (elf.Apply args) =
+    apply_elf (string_bytes args.path_to_binary) (map string_bytes args.edits.items)
 elf_shown (elf.PrintRpath args) = print_rpath (string_bytes args.path_to_binary)
 elf_shown (elf.PrintNeeded args) = print_needed (string_bytes args.path_to_binary)
 elf_shown (elf.PrintSoname args) = print_soname (string_bytes args.path_to_binary)
@@ -98,8 +165,10 @@ abbrev pub file_of : MachoMeaning → Text
 file_of (edit call path) = path
 file_of (apply path words) = path
 
--- the ELF file that is read
+-- the ELF file that is edited or read
 abbrev pub elf_file_of : ElfMeaning → Text
+elf_file_of (edit_elf asked path) = path
+elf_file_of (apply_elf path words) = path
 elf_file_of (print_rpath path) = path
 elf_file_of (print_needed path) = path
 elf_file_of (print_soname path) = path

@@ -1,5 +1,5 @@
 -- What a command prints of an ELF file.
-use Rattle.std.specs.Prelude.{◌≡◌, ℕ, List, Option, Ok, Err, Result, ⊤}
+use Rattle.std.specs.Prelude.{◌≡◌, ℕ, List, [], Option, Ok, Err, Result, ⊤}
 use Rattle.std.specs.Io.KnownBytes.{Appends}
 use Rattle.arwen_elf.specs.Prints.{printed_exec_stack, printed_interpreter, printed_needed}
 use Rattle.arwen_elf.specs.Prints.{printed_os_abi, printed_runpath, printed_soname}
@@ -10,11 +10,13 @@ use Rattle.elf_image.specs.Views.{View}
 use Rattle.elf_format.specs.declared.fault.ElfFault.{ElfFault}
 use Rattle.arwen_commands.specs.declared.error.ArwenError.{ArwenError}
 use Rattle.arwen_commands.specs.declared.error.ArwenError.TheVariants.{Elf, Io, Memory}
-use Rattle.arwen_commands.specs.Meaning.{ElfMeaning, print_exec_stack, print_interpreter, print_needed}
+use Rattle.arwen_commands.specs.Meaning.{ElfMeaning, apply_elf, edit_elf, print_exec_stack, print_interpreter, print_needed}
 use Rattle.arwen_commands.specs.Meaning.{print_os_abi, print_rpath, print_soname}
 
--- the bytes that a command prints of what a file shows
+-- the bytes that a command prints of what a file shows; an edit prints nothing
 abbrev pub printed : ElfMeaning → View → List ℕ
+printed (edit_elf edit path) view = []
+printed (apply_elf path words) view = []
 printed (print_rpath path) view = printed_runpath view
 printed (print_needed path) view = printed_needed view
 printed (print_soname path) view = printed_soname view

@@ -1,22 +1,43 @@
 //! The commands for ELF files.
-ghost use Rattle.std.specs.Prelude.{◌<◌, IfErr, OnOk};
-ghost use Rattle.byte_store.specs.Known.{Stays};
+ghost use Rattle.std.specs.Prelude.{◌<◌, IfErr, IfOk, OnOk, vec_len};
+ghost use Rattle.byte_store.specs.Known.{HasLength, IsAll, Stays};
+ghost use Rattle.arwen_commands.specs.ElfEngine.{ElfMayFail};
 ghost use Rattle.arwen_commands.specs.Meaning.{elf_file_of, elf_shown};
 ghost use Rattle.arwen_commands.specs.Prints.{PrintMayFail};
 ghost use Rattle.arwen_commands.specs.Stores.{PrintsStored, TellsStored};
 
+pub mod add_debug_tag;
+pub mod add_needed;
+pub mod add_rpath;
+pub mod apply;
+pub mod clear_execstack;
+mod editing;
 mod engine;
+pub mod force_rpath;
+pub mod no_default_lib;
 pub mod print_execstack;
 pub mod print_interpreter;
 pub mod print_needed;
 pub mod print_os_abi;
 pub mod print_rpath;
 pub mod print_soname;
+pub mod remove_needed;
+pub mod remove_rpath;
+pub mod replace_needed;
+pub mod set_execstack;
+pub mod set_interpreter;
+pub mod set_os_abi;
+pub mod set_page_size;
+pub mod set_rpath;
+pub mod set_soname;
 
 use crate::command::ElfCommand;
 use crate::error::ArwenError;
 use crate::file::MOST_BYTES;
-use byte_store::{Opens, RuntimeFiles, Store, load_whole};
+use byte_store::{Opens, ReadError, RuntimeFiles, Store, load_whole};
+pub(crate) use editing::edit_file;
+pub use editing::{edit_path, edit_store};
+use engine::print_bytes;
 pub use engine::{Probe, run_elf};
 use std::alloc::Global;
 use std::io;
@@ -25,25 +46,12 @@ use std::rt::Files;
 
 /// Does what is asked of an ELF file. What is printed goes to the standard output.
 pub fn execute<R: Files + Print + AllocGlobal>(rt: &R, elf: ElfCommand) -> Result<(), ArwenError>
-    ensures { IfErr result (λ e. PrintMayFail e) }
+    ensures { IfErr result (λ e. ElfMayFail (elf_shown elf) e) }
 {
-    match elf {
-        ElfCommand::PrintRpath(args) => print_rpath::execute(rt, args),
-        ElfCommand::PrintNeeded(args) => print_needed::execute(rt, args),
-        ElfCommand::PrintSoname(args) => print_soname::execute(rt, args),
-        ElfCommand::PrintInterpreter(args) => print_interpreter::execute(rt, args),
-        ElfCommand::PrintOsAbi(args) => print_os_abi::execute(rt, args),
-        ElfCommand::PrintExecStack(args) => print_execstack::execute(rt, args),
-    }
-}
-
-/// Where no library is looked for.
-#[derive(Drop)]
-struct NoLibraries;
-
-impl Probe for NoLibraries {
-    fn machine(&mut self, _directory: &[u8], _needed: &[u8]) -> Option<u16> {
-        None
+    if elf.is_print() {
+        print_file(rt, &elf)
+    } else {
+        edit_file(rt, &elf)
     }
 }
 
@@ -61,10 +69,19 @@ pub fn print_store<S: Store, W: Write>(
     ensures tells { IfErr result (λ e. TellsStored (S.contents store.old) out.old out.new e) }
     ensures kept { Stays (S.contents store.old) (S.contents store.new) }
 {
+    let bytes = load_elf(alloc, store)?;
+    print_bytes(alloc, bytes.as_slice(), command, out)
+}
+
+/// The bytes of a store, whole: at most 4 GiB, or as many as the store says that it has, where these are
+/// more. A store that goes on behind that is a fault.
+pub(crate) fn load_elf<S: Store>(alloc: Global, store: &mut S) -> Result<Vec<u8>, ReadError>
+    ensures read { IfOk result (λ bytes. IsAll (S.contents store.old) bytes.items) }
+    ensures length { IfOk result (λ bytes. HasLength (S.contents store.new) (vec_len bytes)) }
+    ensures kept { Stays (S.contents store.old) (S.contents store.new) }
+{
     let most = most_of(store.length()?);
-    let bytes = load_whole(alloc, store, most)?;
-    run_elf(alloc, bytes.as_slice(), command, &mut NoLibraries, out)?;
-    Ok(())
+    load_whole(alloc, store, most)
 }
 
 /// How many bytes are read of a store that says it has so many.

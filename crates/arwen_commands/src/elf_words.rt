@@ -4,186 +4,19 @@ ghost use Rattle.elf_edits.specs.Called.{pair_held, pairs_held, texts_held};
 ghost use Rattle.arwen_commands.specs.ElfWords.{TellsPair, TellsPairs, TellsValues, asked_of, edits_meant, elf_edit_lines, elf_edits_of, elf_group_edit, made, pairs_from, replacement_read, size_read};
 ghost use Rattle.arwen_commands.specs.KeyValue.{key_value};
 ghost use Rattle.arwen_commands.specs.Groups.{TellsFault, TellsWrong, fault_at};
-ghost use Rattle.arwen_commands.specs.Rows.{given_shown, kind_shown, meant_with, named_of, path, row_shown, text, words as words_given};
+ghost use Rattle.arwen_commands.specs.Rows.{given_shown, kind_shown, meant_with, path, text, words as words_given};
 
 use crate::edits::{EditFault, EditKind, EditsError, no_edit, other_words, values_without_path};
+use crate::elf::{
+    add_debug_tag, add_needed, add_rpath, clear_execstack, force_rpath, no_default_lib,
+    remove_needed, remove_rpath, replace_needed, set_execstack, set_interpreter, set_os_abi,
+    set_page_size, set_rpath, set_soname,
+};
 use crate::key_value::{KeyValueError, decimal_number, parse_key_val};
-use crate::rows::{Form, Row, Value, Values, find_row};
+use crate::rows::{Form, Values, find_row};
+use crate::tables::elf_edit_table;
 use elf_edits::ElfEdit;
 use std::alloc::{AllocError, Global};
-
-const ADD_DEBUG_TAG: &str = "add-debug-tag";
-
-const CLEAR_EXEC_STACK: &str = "clear-exec-stack";
-
-const FORCE_RPATH: &str = "force-rpath";
-
-const NO_DEFAULT_LIB: &str = "no-default-lib";
-
-const REMOVE_RPATH: &str = "remove-rpath";
-
-const SET_EXEC_STACK: &str = "set-exec-stack";
-
-const ADD_RPATH: &str = "add-rpath";
-
-const SET_RPATH: &str = "set-rpath";
-
-const SET_INTERPRETER: &str = "set-interpreter";
-
-const SET_OS_ABI: &str = "set-os-abi";
-
-const SET_SONAME: &str = "set-soname";
-
-const SET_PAGE_SIZE: &str = "set-page-size";
-
-const ADD_NEEDED: &str = "add-needed";
-
-const REMOVE_NEEDED: &str = "remove-needed";
-
-const REPLACE_NEEDED: &str = "replace-needed";
-
-/// The edits of ELF files, as `apply` takes them: the one place that says how each is written.
-pub static ELF_EDIT_ROWS: [Row; 15] = [
-    Row {
-        name: ADD_DEBUG_TAG,
-        about: "Add an entry for a debugger",
-        form: Form::Path,
-        is_edit: true,
-        more: "",
-    },
-    Row {
-        name: CLEAR_EXEC_STACK,
-        about: "Take the permission to run from the stack",
-        form: Form::Path,
-        is_edit: true,
-        more: "",
-    },
-    Row {
-        name: FORCE_RPATH,
-        about: "Make every DT_RUNPATH a DT_RPATH",
-        form: Form::Path,
-        is_edit: true,
-        more: "",
-    },
-    Row {
-        name: NO_DEFAULT_LIB,
-        about: "Leave out the default directories",
-        form: Form::Path,
-        is_edit: true,
-        more: "",
-    },
-    Row {
-        name: REMOVE_RPATH,
-        about: "Remove the run path",
-        form: Form::Path,
-        is_edit: true,
-        more: "",
-    },
-    Row {
-        name: SET_EXEC_STACK,
-        about: "Give the stack the permission to run",
-        form: Form::Path,
-        is_edit: true,
-        more: "",
-    },
-    Row {
-        name: ADD_RPATH,
-        about: "Add a directory to the run path",
-        form: Form::Text(Value {
-            name: "NEW",
-            help: "Directory to add",
-        }),
-        is_edit: true,
-        more: "",
-    },
-    Row {
-        name: SET_RPATH,
-        about: "Set the run path",
-        form: Form::Text(Value {
-            name: "NEW",
-            help: "Directories, with a colon between two",
-        }),
-        is_edit: true,
-        more: "",
-    },
-    Row {
-        name: SET_INTERPRETER,
-        about: "Set the interpreter",
-        form: Form::Text(Value {
-            name: "INTERPRETER",
-            help: "Path of the interpreter",
-        }),
-        is_edit: true,
-        more: "",
-    },
-    Row {
-        name: SET_OS_ABI,
-        about: "Set the ABI byte",
-        form: Form::Text(Value {
-            name: "ABI",
-            help: "Name of the ABI",
-        }),
-        is_edit: true,
-        more: "",
-    },
-    Row {
-        name: SET_SONAME,
-        about: "Set the library's own name",
-        form: Form::Text(Value {
-            name: "NAME",
-            help: "New name",
-        }),
-        is_edit: true,
-        more: "",
-    },
-    Row {
-        name: SET_PAGE_SIZE,
-        about: "Set the page size",
-        form: Form::Text(Value {
-            name: "SIZE",
-            help: "Bytes, a power of two from 1024 on",
-        }),
-        is_edit: true,
-        more: "",
-    },
-    Row {
-        name: ADD_NEEDED,
-        about: "Add needed libraries",
-        form: Form::Words(Value {
-            name: "NEW",
-            help: "Names of the libraries",
-        }),
-        is_edit: true,
-        more: "",
-    },
-    Row {
-        name: REMOVE_NEEDED,
-        about: "Remove needed libraries",
-        form: Form::Words(Value {
-            name: "OLD",
-            help: "Names of the libraries",
-        }),
-        is_edit: true,
-        more: "",
-    },
-    Row {
-        name: REPLACE_NEEDED,
-        about: "Replace needed libraries, all at once",
-        form: Form::Words(Value {
-            name: "OLD=NEW",
-            help: "Pairs of an old and a new name",
-        }),
-        is_edit: true,
-        more: "",
-    },
-];
-
-/// The edits of ELF files, as a slice.
-pub fn elf_edit_table() -> &'static [Row]
-    ensures { map row_shown result.now ≡ map named_of elf_edit_lines }
-{
-    ELF_EDIT_ROWS.as_slice()
-}
 
 /// Reads edits of an ELF file from words that are cut into groups at each `+`. A group is a command's name and its
 /// words without the path; no words are one empty group. The first faulty group is answered.
@@ -265,12 +98,12 @@ fn with_path(name: &str) -> Option<ElfEdit>
         option_map made result ≡ meant_with elf_edit_lines name.now (path file) }
 {
     match name {
-        ADD_DEBUG_TAG => Some(ElfEdit::AddDebugTag),
-        CLEAR_EXEC_STACK => Some(ElfEdit::ClearExecStack),
-        FORCE_RPATH => Some(ElfEdit::ForceRpath),
-        NO_DEFAULT_LIB => Some(ElfEdit::NoDefaultLib),
-        REMOVE_RPATH => Some(ElfEdit::RemoveRpath),
-        SET_EXEC_STACK => Some(ElfEdit::SetExecStack),
+        add_debug_tag::NAME => Some(ElfEdit::AddDebugTag),
+        clear_execstack::NAME => Some(ElfEdit::ClearExecStack),
+        force_rpath::NAME => Some(ElfEdit::ForceRpath),
+        no_default_lib::NAME => Some(ElfEdit::NoDefaultLib),
+        remove_rpath::NAME => Some(ElfEdit::RemoveRpath),
+        set_execstack::NAME => Some(ElfEdit::SetExecStack),
         _ => None,
     }
 }
@@ -283,12 +116,12 @@ fn with_text(group: usize, name: &str, value: String) -> Result<Option<ElfEdit>,
         (meant_with elf_edit_lines name.now (text (string_bytes value) file))) }
 {
     match name {
-        ADD_RPATH => Ok(Some(ElfEdit::AddRpath(value.into_bytes()))),
-        SET_RPATH => Ok(Some(ElfEdit::SetRpath(value.into_bytes()))),
-        SET_INTERPRETER => Ok(Some(ElfEdit::SetInterpreter(value.into_bytes()))),
-        SET_OS_ABI => Ok(Some(ElfEdit::SetOsAbi(value))),
-        SET_SONAME => Ok(Some(ElfEdit::SetSoname(value.into_bytes()))),
-        SET_PAGE_SIZE => page_size(group, value.as_str()),
+        add_rpath::NAME => Ok(Some(ElfEdit::AddRpath(value.into_bytes()))),
+        set_rpath::NAME => Ok(Some(ElfEdit::SetRpath(value.into_bytes()))),
+        set_interpreter::NAME => Ok(Some(ElfEdit::SetInterpreter(value.into_bytes()))),
+        set_os_abi::NAME => Ok(Some(ElfEdit::SetOsAbi(value))),
+        set_soname::NAME => Ok(Some(ElfEdit::SetSoname(value.into_bytes()))),
+        set_page_size::NAME => page_size(group, value.as_str()),
         _ => Ok(None),
     }
 }
@@ -322,9 +155,9 @@ fn with_words(
         (meant_with elf_edit_lines name.now (words_given file (map string_bytes words.items)))) }
 {
     match name {
-        ADD_NEEDED => Ok(Some(ElfEdit::AddNeeded(texts_of(alloc, words)?))),
-        REMOVE_NEEDED => Ok(Some(ElfEdit::RemoveNeeded(texts_of(alloc, words)?))),
-        REPLACE_NEEDED => replacement(alloc, group, words.as_slice()),
+        add_needed::NAME => Ok(Some(ElfEdit::AddNeeded(texts_of(alloc, words)?))),
+        remove_needed::NAME => Ok(Some(ElfEdit::RemoveNeeded(texts_of(alloc, words)?))),
+        replace_needed::NAME => replacement(alloc, group, words.as_slice()),
         _ => Ok(None),
     }
 }

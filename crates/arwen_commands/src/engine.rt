@@ -85,7 +85,7 @@ fn alone(alloc: Global, edit: MachoEdit) -> Result<Vec<MachoEdit>, ArwenError>
 }
 
 /// The same words, lent.
-fn words_of<'a>(alloc: Global, words: &'a [String]) -> Result<Vec<&'a str>, AllocError>
+pub(crate) fn words_of<'a>(alloc: Global, words: &'a [String]) -> Result<Vec<&'a str>, AllocError>
     ensures { IfOk result (λ texts.
         map (λ text. text.now) texts.items ≡ map string_bytes words.now) }
 {

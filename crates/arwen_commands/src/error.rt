@@ -1,13 +1,13 @@
 //! What the program answers when it does not do what was asked.
 ghost use Rattle.std.specs.Prelude.{◌≡◌};
-ghost use Rattle.arwen_commands.specs.Fault.{answer_to, answer_to_batch, answer_to_elf, answer_to_read, answer_to_words};
+ghost use Rattle.arwen_commands.specs.Fault.{answer_to, answer_to_batch, answer_to_elf, answer_to_elf_batch, answer_to_read, answer_to_replaced, answer_to_words};
 ghost use Rattle.arwen_commands.specs.Fault.{fault_told, status_of};
 ghost use Rattle.arwen_commands.specs.declared.error.ArwenError.TheVariants.{Io, Memory};
 
 use crate::edits::{EditFault, EditsError};
-use arwen_elf::elf::ElfError;
+use arwen_elf::elf::{ElfBatchError, ElfError};
 use arwen_macho::macho::{MachoBatchError, MachoError};
-use byte_store::ReadError;
+use byte_store::{ReadError, ReplaceError};
 use std::alloc::{AllocError, AllocFailed};
 use std::{fmt, io};
 use thiserror::Error;
@@ -41,6 +41,9 @@ pub enum ArwenError {
     /// One of several edits of a Mach-O file was refused.
     #[error("Mach-O batch refused")]
     MachoBatch(MachoBatchError),
+    /// One of several edits of an ELF file was refused.
+    #[error("ELF batch refused")]
+    ElfBatch(ElfBatchError),
 }
 
 impl ArwenError {
@@ -95,6 +98,31 @@ impl From<MachoBatchError> for ArwenError {
                 index: error.index,
                 fault,
             }),
+        }
+    }
+}
+
+impl From<ElfBatchError> for ArwenError {
+    ghost from_gives = { λ e answer. answer ≡ answer_to_elf_batch e };
+
+    fn from(error: ElfBatchError) -> ArwenError {
+        match error.fault {
+            ElfError::Memory => ArwenError::Memory,
+            fault => ArwenError::ElfBatch(ElfBatchError {
+                index: error.index,
+                fault,
+            }),
+        }
+    }
+}
+
+impl From<ReplaceError> for ArwenError {
+    ghost from_gives = { λ e answer. answer ≡ answer_to_replaced e };
+
+    fn from(error: ReplaceError) -> ArwenError {
+        match error {
+            ReplaceError::Memory => ArwenError::Memory,
+            ReplaceError::Write(fault) => ArwenError::Io(fault.error),
         }
     }
 }
@@ -168,6 +196,13 @@ impl fmt::Display for FaultLine<'_> {
             ArwenError::Line { text, .. } => write!(f, "{text}"),
             ArwenError::Memory => write!(f, "{outer}"),
             ArwenError::Edits(fault) => write!(f, "{outer}: {fault}"),
+            ArwenError::ElfBatch(batch) => {
+                let index = batch.index;
+                let causes = ElfCauses {
+                    fault: &batch.fault,
+                };
+                write!(f, "{outer}: edit {index}: {causes}")
+            }
             ArwenError::MachoBatch(batch) => {
                 let index = batch.index;
                 let causes = MachoCauses {

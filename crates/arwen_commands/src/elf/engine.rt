@@ -1,14 +1,22 @@
-//! What is printed of a file's bytes.
+//! What is made of a file's bytes, and printed of them.
 ghost use Rattle.std.specs.Prelude.{◌≡◌, None, IfOk, IfErr};
 ghost use Rattle.std.specs.Io.KnownBytes.{Appends};
 ghost use Rattle.arwen_elf.specs.Causes.{FailsPrint};
 ghost use Rattle.elf_image.specs.Image.{image_of, shown};
+ghost use Rattle.arwen_commands.specs.ElfAsked.{elf_asked};
+ghost use Rattle.arwen_commands.specs.ElfEngine.{AreAskedIf, AreEditsAsked, IsElfEdited, LeavesElf, RunsElf, TellsEachFile, TellsEdit, TellsRun, bytes_left, elf_refusal};
+ghost use Rattle.arwen_commands.specs.ElfWords.{edits_meant};
 ghost use Rattle.arwen_commands.specs.Meaning.{elf_shown};
 ghost use Rattle.arwen_commands.specs.Prints.{Prints, TellsElf, printed};
 
 use crate::command::ElfCommand;
+use crate::elf_words::parse_elf_edits;
+use crate::engine::words_of;
 use crate::error::ArwenError;
-use arwen_elf::elf::{ElfContainer, ElfError};
+use arwen_elf::elf::{ElfBatchError, ElfContainer, ElfError};
+use elf_edits::ElfEdit;
+use elf_edits::laws::{batches_are_their_edits, edits_show};
+use elf_image::laws::read_images_hold_parts;
 use std::alloc::Global;
 use std::io::Write;
 
@@ -20,8 +28,10 @@ pub trait Probe {
 }
 
 /// The bytes of a file after a command, or `None` where it stays as it was, as it does after each
-/// command that prints. What is printed goes to `out`, in one write: a file or a want of memory that is
-/// refused leaves `out` as it was. No command that prints asks for a machine.
+/// command that prints and where an edit changed nothing. New bytes show the edits, to a loader that
+/// knows the program headers alone too. What is printed goes to `out`, in one write: a file or a want of
+/// memory that is refused leaves `out` as it was. Of `apply` the words are read before the bytes are
+/// looked at. No command asks for a machine yet.
 pub fn run_elf<P: Probe, W: Write>(
     alloc: Global,
     bytes: &[u8],
@@ -29,18 +39,94 @@ pub fn run_elf<P: Probe, W: Write>(
     probe: &mut P,
     out: &mut W,
 ) -> Result<Option<Vec<u8>>, ArwenError>
-    ensures kept { IfOk result (λ new. new ≡ None) }
+    ensures ran { IfOk result (λ new. RunsElf (elf_shown command.now)
+        (elf_asked (elf_shown command.now)) bytes.now new
+        (W.contents out.old) (W.contents out.new)) }
+    ensures err { IfErr result
+        (TellsRun (elf_asked (elf_shown command.now)) bytes.now out.old out.new) }
+    ensures unasked { probe.new ≡ probe.old }
+{
+    match edits_asked(alloc, command)? {
+        Some(edits) => edited(alloc, bytes, command, edits.as_slice()),
+        None => {
+            print_bytes(alloc, bytes, command, out)?;
+            Ok(None)
+        }
+    }
+}
+
+/// The edits that a command asks for; `None` where it prints.
+pub(crate) fn edits_asked(
+    alloc: Global,
+    command: &ElfCommand,
+) -> Result<Option<Vec<ElfEdit>>, ArwenError>
+    ensures ok { IfOk result (AreAskedIf (elf_asked (elf_shown command.now))) }
+    ensures err { IfErr result (TellsEachFile (elf_asked (elf_shown command.now))) }
+{
+    if let ElfCommand::Apply(args) = command {
+        let words = words_of(alloc, args.edits.as_slice())?;
+        return Ok(Some(parse_elf_edits(alloc, words.as_slice())?));
+    }
+    let Some(edit) = command.edit(alloc)? else {
+        return Ok(None);
+    };
+    let mut edits = Vec::new(alloc);
+    edits.push(edit)?;
+    Ok(Some(edits))
+}
+
+/// The bytes of a file after the edits that a command asks for, or `None` where they change nothing.
+pub(crate) fn edited(
+    alloc: Global,
+    bytes: &[u8],
+    command: &ElfCommand,
+    edits: &[ElfEdit],
+) -> Result<Option<Vec<u8>>, ArwenError>
+    requires { AreEditsAsked (elf_asked (elf_shown command.now)) (edits_meant edits.now) }
+    ensures ok { IfOk result (IsElfEdited (elf_asked (elf_shown command.now)) bytes.now) }
+    ensures left { IfOk result (λ new. LeavesElf (elf_asked (elf_shown command.now)) bytes.now
+        (bytes_left bytes.now new)) }
+    ensures err { IfErr result (TellsEdit (elf_asked (elf_shown command.now)) bytes.now) }
+{
+    edits_show();
+    batches_are_their_edits();
+    read_images_hold_parts();
+    let mut elf = ElfContainer::parse(alloc, bytes)?;
+    if let Err(error) = elf.apply(alloc, edits) {
+        return Err(refusal(command, error));
+    }
+    if !elf.inner.builder().changed() {
+        return Ok(None);
+    }
+    Ok(Some(elf.image_bytes(alloc)?))
+}
+
+/// A refused edit as it is answered to a command. Of several it is told which one is refused.
+fn refusal(command: &ElfCommand, error: ElfBatchError) -> ArwenError
+    ensures { result ≡ elf_refusal (elf_asked (elf_shown command.now)) error }
+{
+    match command {
+        ElfCommand::Apply(_) => ArwenError::from(error),
+        _ => ArwenError::from(error.fault),
+    }
+}
+
+/// Prints what a command asks of a file's bytes; nothing where it edits.
+pub(crate) fn print_bytes<W: Write>(
+    alloc: Global,
+    bytes: &[u8],
+    command: &ElfCommand,
+    out: &mut W,
+) -> Result<(), ArwenError>
     ensures printed { IfOk result (λ _. Prints (elf_shown command.now) (image_of bytes.now)
         (W.contents out.old) (W.contents out.new)) }
     ensures err { IfErr result (λ e. TellsElf (image_of bytes.now) out.old out.new e) }
-    ensures unasked { probe.new ≡ probe.old }
 {
     let elf = ElfContainer::parse(alloc, bytes)?;
-    print_asked(alloc, &elf, command, out)?;
-    Ok(None)
+    Ok(print_asked(alloc, &elf, command, out)?)
 }
 
-/// Prints what a command asks of a file.
+/// Prints what a command asks of a file; nothing where it edits.
 fn print_asked<W: Write>(
     alloc: Global,
     elf: &ElfContainer<'_>,
@@ -58,5 +144,6 @@ fn print_asked<W: Write>(
         ElfCommand::PrintInterpreter(_) => elf.print_interpreter(alloc, out),
         ElfCommand::PrintOsAbi(_) => elf.print_os_abi(alloc, out),
         ElfCommand::PrintExecStack(_) => elf.print_exec_stack(out),
+        _ => Ok(()),
     }
 }

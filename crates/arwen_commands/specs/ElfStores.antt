@@ -1,0 +1,32 @@
+-- What commands for ELF files make of the bytes of a store, where they are known.
+use Rattle.std.specs.Prelude.{ℕ, ◌≡◌, ◌⊎◌, List, Option, Some, ⊤}
+use Rattle.byte_store.specs.Known.{Stays}
+use Rattle.byte_store.specs.Replaced.{IsReplacedInPart}
+use Rattle.byte_store.specs.declared.writing.Left.{Left}
+use Rattle.arwen_commands.specs.ElfAsked.{ElfAsked, printing}
+use Rattle.arwen_commands.specs.ElfEngine.{LeavesElf, TellsEdit}
+use Rattle.arwen_commands.specs.declared.error.ArwenError.{ArwenError}
+use Rattle.arwen_commands.specs.declared.error.ArwenError.TheVariants.{Io}
+
+-- known bytes become those that the edits leave that are asked for; those of a command that prints stay
+abbrev pub IsElfPatched : ElfAsked → Option (List ℕ) → Option (List ℕ) → Type 0
+IsElfPatched printing old new = Stays old new
+IsElfPatched a old new = (file : List ℕ) → old ≡ Some file
+    → (made : List ℕ) × LeavesElf a file made × (new ≡ Some made)
+
+-- A run of writes that failed: it was to turn a file into what the edits make of it.
+pub record IsElfTorn (a : ElfAsked) (file : List ℕ) (old new : Option (List ℕ)) : Type 0 where
+  pub made : List ℕ
+  pub leaves : LeavesElf a file made
+  pub left : Left
+  pub part : IsReplacedInPart file made left old new
+
+-- what an error leaves and tells: only a write that failed changes bytes, where the command was accepted
+abbrev pub FailsElf : ElfAsked → Option (List ℕ) → Option (List ℕ) → ArwenError → Type 0
+FailsElf a old new (Io e) = Stays old new ⊎ ((file : List ℕ) → old ≡ Some file → IsElfTorn a file old new)
+FailsElf a old new e = Stays old new × ((file : List ℕ) → old ≡ Some file → TellsEdit a file e)
+
+-- what the error of a command tells of the bytes at its path; one of reading or writing them tells nothing
+abbrev pub TellsElfPath : ElfAsked → Option (List ℕ) → ArwenError → Type 0
+TellsElfPath a known (Io e) = ⊤
+TellsElfPath a known e = (file : List ℕ) → known ≡ Some file → TellsEdit a file e
