@@ -1,5 +1,5 @@
 -- Values of commands for ELF files that not every word is.
-use Rattle.std.proofs.Common.{◌≡◌, ◌<◌, ◌+◌, List, Option, Err, ℕ, length, get_or, map}
+use Rattle.std.proofs.Common.{◌≡◌, ◌<◌, ◌+◌, List, ℕ, length, get_or, map}
 use Rattle.arwen_commands.specs.ElfAsked.{TellsNoPair, TellsNoPairs}
 use Rattle.arwen_commands.specs.ElfWords.{no_pair, pairs_from}
 use Rattle.arwen_commands.specs.KeyValue.{key_value}

@@ -1,5 +1,5 @@
 -- What a command for ELF files asks of the bytes of its file.
-use Rattle.std.specs.Prelude.{ℕ, ◌≡◌, Bool, true, false, List, Option, Some, None, Result, Ok, Err, ⊤}
+use Rattle.std.specs.Prelude.{ℕ, ◌≡◌, Bool, true, false, List, Option, Some, None, Result, Err, ⊤}
 use Rattle.elf_edits.specs.Edit.{Edit}
 use Rattle.arwen_commands.specs.ElfWords.{elf_edits_of}
 use Rattle.arwen_commands.specs.Groups.{Wrong}

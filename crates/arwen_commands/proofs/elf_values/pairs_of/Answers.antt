@@ -1,5 +1,5 @@
 -- The pairs that were read stand before what the words behind them give.
-use Rattle.std.proofs.Common.{◌+◌, ◌<◌, ◌≡◌, ◌∙◌, List, ℕ, arith, length, map, string_bytes, ap, sym, subst}
+use Rattle.std.proofs.Common.{◌+◌, ◌<◌, ◌∙◌, List, ℕ, arith, length, map, string_bytes, ap, sym, subst}
 use Rattle.std.proofs.lemmas.List.{map_push}
 use Rattle.std.proofs.lemmas.Result.{err_from_is_err_and}
 use Rattle.arwen_commands.specs.ElfAsked.{TellsNoPair}

@@ -1,4 +1,4 @@
-use Rattle.std.proofs.Common.{◌≡◌, map, string_bytes}
+use Rattle.std.proofs.Common.{map, string_bytes}
 use Rattle.arwen_commands.specs.Meaning.{pair_shown}
 use Rattle.arwen_commands.proofs.WordLemmas.{IsPairedTo}
 use Rattle.arwen_commands.proofs.elf_values.pairs_of.Given as goal
