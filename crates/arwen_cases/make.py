@@ -171,6 +171,24 @@ def elf(form, entries=None, interpreter=None, stack=None, abi=0, kind=3):
     return laid(form, parts, named, (count, stack, abi, kind))
 
 
+def small(form):
+    """A library whose list has room for one entry more if another goes, and no room behind it."""
+    strings = b"\0libc.so.6\0/a\0"
+    entries = [(DT_NEEDED, 1), (DT_RUNPATH, 11), (DT_STRTAB, 176), (DT_STRSZ, len(strings)), (0, 0)]
+    listed = b"".join(form.pack("QQ", *entry) for entry in entries)
+    names, named = string_table([b".dynstr", b".dynamic", b".shstrtab"])
+    identity = b"\x7fELF" + bytes([2, 1 if form.order == "<" else 2, 1, 0]) + bytes(8)
+    data = identity + form.pack("HHIQQQIHHHHHH", 3, 62, 1, 0, 64, 352, 0, 64, 56, 2, 64, 4, 3)
+    data += form.segment_header(PT_LOAD, 6, 0, 320, 4096)
+    data += form.pack("IIQQQQQQ", PT_DYNAMIC, 6, 240, 240, 0, 80, 80, 8)
+    data = data.ljust(240, b"\0")[:176] + strings.ljust(64, b"\0") + listed + names.ljust(32, b"\0")
+    data += bytes(form.section)
+    data += form.section_header(named[b".dynstr"], SHT_STRTAB, SHF_ALLOC, 176, 176, len(strings), 0, 1, 0)
+    flags = SHF_ALLOC | SHF_WRITE
+    data += form.section_header(named[b".dynamic"], SHT_DYNAMIC, flags, 240, 240, 80, 1, 8, 16)
+    return data + form.section_header(named[b".shstrtab"], SHT_STRTAB, 0, 0, 320, len(names), 0, 1, 0)
+
+
 def laid(form, parts, named, rest):
     """The file's bytes: header, segment headers, the parts in turn, section headers."""
     count, stack, abi, kind = rest
@@ -226,6 +244,7 @@ def elfs():
         "elf-old-path": elf(little64, [(DT_RPATH, b"/a"), (DT_RUNPATH, b"/b")]),
         "elf-lossy": elf(big32, [(DT_NEEDED, b"lib\xff.so"), (DT_SONAME, b"")]),
         "elf-bare": elf(little64),
+        "elf-small": small(little64),
         "elf-cut": full[:-1],
         "elf-damaged": bytes(damaged),
         "elf-object": elf(little64, kind=1),

@@ -1,5 +1,5 @@
-//! Patches finished Mach-O files from the command line: run paths, the install id and library names.
-//! Prints what a loader takes from ELF files.
+//! Patches finished Mach-O and ELF files from the command line: run paths, names of libraries and what else a
+//! loader is told. Prints what it takes from ELF files.
 #![tactic(auto)]
 
 use arwen_cli::cli::{ArwenError, execute};

@@ -34,26 +34,32 @@ impl Probe for NoLibraries {
     }
 }
 
-/// Prints what a command writes on a page, and the fault where it does not fit.
-pub(crate) fn print(rt: &HostRuntime, bytes: &[u8], command: &ElfCommand) -> io::Result<()> {
+/// Prints what a command for ELF files makes of the bytes of a file: the rows that an edit changes, or what is
+/// printed on a page, and the fault.
+pub(crate) fn elf(rt: &HostRuntime, bytes: &[u8], command: &ElfCommand) -> io::Result<()> {
     let mut page = Cursor::new([0; 8]);
-    print_answer(rt, bytes, command, &mut page)?;
-    print_rows(rt, &[0; 8], page.get_ref())
+    let new = tell_run(rt, bytes, command, &mut page)?;
+    match new {
+        Some(new) => print_rows(rt, bytes, new.as_slice()),
+        None if command.is_print() => print_rows(rt, &[0; 8], page.get_ref()),
+        None => println!(rt; "no new bytes"),
+    }
 }
 
-/// Prints the status of a command that writes on a page, and the fault where it does not fit.
-fn print_answer(
+/// Prints the status of a command for ELF files, and the fault. Hands the new bytes back, where there are any.
+fn tell_run(
     rt: &HostRuntime,
     bytes: &[u8],
     command: &ElfCommand,
     page: &mut Page,
-) -> io::Result<()> {
-    let answer = printed(rt, bytes, command, page);
-    tell_answer(rt, &answer)
+) -> io::Result<Option<Vec<u8>>> {
+    let answer = run(rt, bytes, command, page);
+    tell_answer(rt, &answer)?;
+    Ok(answer.unwrap_or(None))
 }
 
-/// The answer of a command that prints, asked for again where memory was refused: that leaves the page as it was.
-fn printed(
+/// The answer of a command, asked for again where memory was refused: that leaves the page as it was.
+fn run(
     rt: &HostRuntime,
     bytes: &[u8],
     command: &ElfCommand,

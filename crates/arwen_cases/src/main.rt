@@ -6,8 +6,9 @@
 //! - `> WORD WORD ..` does what these words of a command line ask. Printed are its own prints, the status, the
 //!   first line of the fault, the length of `file`, and each row of 16 bytes in which it changed.
 //! - `? WORD WORD ..` only reads the words, and prints the command that they mean, or the status and the fault.
-//! - `! WORD WORD ..` does it to the bytes of `file` alone. Printed are the rows that an edit would change, or what
-//!   stands on a page of 8 bytes after a print.
+//! - `h WORD WORD ..` only reads the words too, and prints all of the text that they are answered with.
+//! - `! WORD WORD ..` does it to the bytes of `file` alone. Printed are the rows that an edit would change, or that an
+//!   edit of an ELF file makes no new bytes, or what stands on a page of 8 bytes after a print.
 //! - `* RPATH ID` gives the library `file` a run path and an id, by calls of the library alone. Printed is what is
 //!   printed of words.
 //!
@@ -46,6 +47,7 @@ fn step(rt: &HostRuntime, line: &str) -> io::Result<()> {
         ("=", name) => copy(rt, name),
         (">", words) => run(rt, words),
         ("?", words) => read(rt, words),
+        ("h", words) => help(rt, words),
         ("!", words) => call(rt, words),
         ("*", words) => relocate(rt, words),
         _ => Ok(()),
@@ -163,6 +165,15 @@ fn read(rt: &HostRuntime, words: &str) -> io::Result<()> {
     }
 }
 
+/// Prints the status and the text that the words of a line are answered with.
+fn help(rt: &HostRuntime, words: &str) -> io::Result<()> {
+    let words = words_of(rt, words)?;
+    match command_of(rt, words.as_slice()) {
+        Err(ArwenError::Line { text, status }) => print!(rt; "status {status}:\n{text}"),
+        _ => println!(rt; "no text"),
+    }
+}
+
 /// Does what the words of a line ask to the bytes of the file alone.
 fn call(rt: &HostRuntime, words: &str) -> io::Result<()> {
     let words = words_of(rt, words)?;
@@ -179,7 +190,7 @@ fn call_with(
 ) -> io::Result<()> {
     match command {
         Ok(Command::Macho(command)) => calls::edit(rt, bytes, command),
-        Ok(Command::Elf(command)) => calls::print(rt, bytes, command),
+        Ok(Command::Elf(command)) => calls::elf(rt, bytes, command),
         Err(error) => tell(rt, error),
     }
 }

@@ -6,8 +6,12 @@ use Rattle.clap.specs.Lexer.{usize_max}
 use Rattle.arwen_commands.proofs.ForCallers.{meant_with-named, named-map}
 use Rattle.arwen_commands.specs.Meaning.{ElfMeaning, MachoMeaning, Meaning, elf_lines, macho_lines, of_elf, of_macho}
 use Rattle.arwen_commands.specs.Rows.{Given, Line, Named, Text, asked_by_words, asked_with, given_by, kind_of, line_named, meant_by, meant_with, named, named_of}
-use Rattle.arwen_cli.specs.Line.{has_option, meaning_of}
-use Rattle.arwen_cli.specs.Parser.{IsTaken, MeansBy, is_table}
+use Rattle.arwen_commands.specs.ElfAsked.{TellsNoValue}
+use Rattle.arwen_commands.specs.Fault.{IsOfLine}
+use Rattle.arwen_commands.specs.declared.error.ArwenError.{ArwenError}
+use Rattle.arwen_commands.specs.declared.error.ArwenError.TheVariants as error
+use Rattle.arwen_cli.specs.Line.{has_option, if_taken, meaning_of}
+use Rattle.arwen_cli.specs.Parser.{IsTaken, MeansBy, MeansTaken, is_table}
 use Rattle.arwen_cli.proofs.Named.{differs}
 use Rattle.arwen_cli.proofs.Table.{NamesValues, line_passes, line_taken}
 use Rattle.arwen_cli.proofs.Values.{first_value}
@@ -78,13 +82,41 @@ module _ {M : Type 0} where
         ((name, v.given), table_passes first (map named_of lines) is name rest v.row v.given plain fits v.row_is v.given_is, sym (words_mean lines name rest v.row v.given v.row_is v.given_is) ∙ meant)
 
 -- what the values that were found ask for is what the words mean
-pub no_meaning : {M : Type 0} (first : Text) (lines : List (Line M)) (words : List Text) (taken : Text × Given) (m : M) → IsTaken first (map named_of lines) words taken → MeansBy first lines words m
-    → None ≡ meant_with lines taken.0 taken.1 → ⊥
-no_meaning first lines words taken m is by none =
+pub found_meaning : {M : Type 0} (first : Text) (lines : List (Line M)) (words : List Text) (taken : Text × Given) (m : M) → IsTaken first (map named_of lines) words taken → MeansBy first lines words m
+    → meant_with lines taken.0 taken.1 ≡ Some m
+found_meaning first lines words taken m is by =
     let found = is.1 in
     let other = by.1.1 in
     let same : by.0 ≡ taken = cc in
-    some≢none m (none ∙ ap (λ (p : Text × Given). meant_with lines p.0 p.1) (sym same) ∙ by.2)
+    ap (λ (p : Text × Given). meant_with lines p.0 p.1) (sym same) ∙ by.2
+
+pub no_meaning : {M : Type 0} (first : Text) (lines : List (Line M)) (words : List Text) (taken : Text × Given) (m : M) → IsTaken first (map named_of lines) words taken → MeansBy first lines words m
+    → None ≡ meant_with lines taken.0 taken.1 → ⊥
+no_meaning first lines words taken m is by none = some≢none m (none ∙ found_meaning first lines words taken m is by)
+
+-- ---- values that are not what a command takes
+
+-- their error is one of a line
+pub of_line : (meant : Option (Option ElfMeaning)) (e : ArwenError) → TellsNoValue meant e → IsOfLine e
+of_line meant error.Memory told = tt
+of_line meant (error.Line text status) told = tt
+of_line meant (error.Macho e) told = told
+of_line meant (error.Elf e) told = told
+of_line meant (error.Io e) told = told
+of_line meant (error.Edits e) told = told
+of_line meant (error.MachoBatch e) told = told
+of_line meant (error.ElfBatch e) told = told
+
+-- where the command takes the values, it is want of memory
+pub of_memory : (meant : Option (Option ElfMeaning)) (m : ElfMeaning) (e : ArwenError) → TellsNoValue meant e → meant ≡ Some (Some m) → e ≡ error.Memory
+of_memory meant m error.Memory told is = refl
+of_memory meant m (error.Line text status) told is = absurd (cc)
+of_memory meant m (error.Macho e) told is = absurd told
+of_memory meant m (error.Elf e) told is = absurd told
+of_memory meant m (error.Io e) told is = absurd told
+of_memory meant m (error.Edits e) told is = absurd told
+of_memory meant m (error.MachoBatch e) told is = absurd told
+of_memory meant m (error.ElfBatch e) told is = absurd told
 
 -- ---- a whole line
 
@@ -93,6 +125,11 @@ module _ {A B : Type 0} (f : A → B) where
   pub made_of : (o : Option A) (b : B) → option_map f o ≡ Some b → (a : A) × (o ≡ Some a)
   made_of None b e = absurd (cc)
   made_of (Some a) b e = (a, refl)
+
+-- a command that takes its values was named
+taken_of : (o : Option (Option ElfMeaning)) (m : ElfMeaning) → if_taken o ≡ Some m → o ≡ Some (Some m)
+taken_of None m e = absurd (some≢none m e)
+taken_of (Some taken) m e = ap (λ (t : Option ElfMeaning). Some t) e
 
 -- the words behind the first
 first_word : (words : List (Bor Text)) (first : Bor Text) (known : Text) → Some first ≡ slice_get words 0 → first.now ≡ known → (rest : List (Bor Text)) × (texts words ≡ known ∷ texts rest) × (length rest ≤ length words)
@@ -112,12 +149,12 @@ module _ (words : List (Bor Text)) (first : Bor Text) (is : Some first ≡ slice
       let n = means_of (codes "macho") macho_lines refl (texts w.0) m at (behind (codes "macho") w.0 w.1) in
       ap meaning_of (w.1 ∙ ap (λ ws. codes "macho" ∷ ws) n.2) ∙ ap (option_map of_macho) n.3
 
-  pub elf_means : (m : ElfMeaning) → first.now ≡ codes "elf" → MeansBy (codes "elf") elf_lines (texts words) m → meaning_of (texts words) ≡ Some (of_elf m)
+  pub elf_means : (m : ElfMeaning) → first.now ≡ codes "elf" → MeansTaken (codes "elf") elf_lines (texts words) m → meaning_of (texts words) ≡ Some (of_elf m)
   elf_means m named by =
       let w = first_word words first (codes "elf") is named in
-      let at = subst (λ ws. MeansBy (codes "elf") elf_lines ws m) w.1 by in
-      let n = means_of (codes "elf") elf_lines refl (texts w.0) m at (behind (codes "elf") w.0 w.1) in
-      ap meaning_of (w.1 ∙ ap (λ ws. codes "elf" ∷ ws) n.2) ∙ ap (option_map of_elf) n.3
+      let at = subst (λ ws. MeansTaken (codes "elf") elf_lines ws m) w.1 by in
+      let n = means_of (codes "elf") elf_lines refl (texts w.0) (Some m) at (behind (codes "elf") w.0 w.1) in
+      ap meaning_of (w.1 ∙ ap (λ ws. codes "elf" ∷ ws) n.2) ∙ ap (λ asked. option_map of_elf (if_taken asked)) n.3
 
   macho_by : (m : Meaning) (rest : List Text) → has_option rest ≡ false → length rest ≤ usize_max → meaning_of (codes "macho" ∷ rest) ≡ Some m → (taken : MachoMeaning) × MeansBy (codes "macho") macho_lines (codes "macho" ∷ rest) taken
   macho_by m [] p fits meant = absurd (some≢none m meant)
@@ -125,11 +162,12 @@ module _ (words : List (Bor Text)) (first : Bor Text) (is : Some first ≡ slice
       let made = made_of of_macho (meant_by macho_lines name rest) m meant in
       (made.0, means_by (codes "macho") macho_lines refl name rest made.0 p (omega arith) made.1)
 
-  elf_by : (m : Meaning) (rest : List Text) → has_option rest ≡ false → length rest ≤ usize_max → meaning_of (codes "elf" ∷ rest) ≡ Some m → (taken : ElfMeaning) × MeansBy (codes "elf") elf_lines (codes "elf" ∷ rest) taken
+  elf_by : (m : Meaning) (rest : List Text) → has_option rest ≡ false → length rest ≤ usize_max → meaning_of (codes "elf" ∷ rest) ≡ Some m → (taken : ElfMeaning) × MeansTaken (codes "elf") elf_lines (codes "elf" ∷ rest) taken
   elf_by m [] p fits meant = absurd (some≢none m meant)
   elf_by m (name ∷ rest) p fits meant =
-      let made = made_of of_elf (meant_by elf_lines name rest) m meant in
-      (made.0, means_by (codes "elf") elf_lines refl name rest made.0 p (omega arith) made.1)
+      let made = made_of of_elf (if_taken (meant_by elf_lines name rest)) m meant in
+      let taken = taken_of (meant_by elf_lines name rest) made.0 made.1 in
+      (made.0, means_by (codes "elf") elf_lines refl name rest (Some made.0) p (omega arith) taken)
 
   pub macho_passes : (m : Meaning) → first.now ≡ codes "macho" → length words ≤ usize_max → meaning_of (texts words) ≡ Some m → (taken : MachoMeaning) × MeansBy (codes "macho") macho_lines (texts words) taken
   macho_passes m named fits meant =
@@ -138,12 +176,12 @@ module _ (words : List (Bor Text)) (first : Bor Text) (is : Some first ≡ slice
       let by = macho_by m (texts w.0) (behind (codes "macho") w.0 w.1) (omega (arith, w.2, counted)) (ap meaning_of (sym w.1) ∙ meant) in
       (by.0, subst (λ ws. MeansBy (codes "macho") macho_lines ws by.0) (sym w.1) by.1)
 
-  pub elf_passes : (m : Meaning) → first.now ≡ codes "elf" → length words ≤ usize_max → meaning_of (texts words) ≡ Some m → (taken : ElfMeaning) × MeansBy (codes "elf") elf_lines (texts words) taken
+  pub elf_passes : (m : Meaning) → first.now ≡ codes "elf" → length words ≤ usize_max → meaning_of (texts words) ≡ Some m → (taken : ElfMeaning) × MeansTaken (codes "elf") elf_lines (texts words) taken
   elf_passes m named fits meant =
       let w = first_word words first (codes "elf") is named in
       let counted : length (texts w.0) ≡ length w.0 = length-map w.0 (λ w. w.now) in
       let by = elf_by m (texts w.0) (behind (codes "elf") w.0 w.1) (omega (arith, w.2, counted)) (ap meaning_of (sym w.1) ∙ meant) in
-      (by.0, subst (λ ws. MeansBy (codes "elf") elf_lines ws by.0) (sym w.1) by.1)
+      (by.0, subst (λ ws. MeansTaken (codes "elf") elf_lines ws by.0) (sym w.1) by.1)
 
 -- a line with another first word means nothing
 pub other_line : (words : List (Bor Text)) (m : Meaning) → ((first : Bor Text) → Some first ≡ slice_get words 0 → first.now ≢ codes "macho")

@@ -1,22 +1,26 @@
 -- What the words of a line mean, those behind the program's name.
 use Rattle.std.specs.Prelude.{◌==◌, Bool, false, List, [], ◌∷◌, Option, Some, None, codes}
-use Rattle.std.specs.Prelude.{if◌then◌else◌, option_map}
+use Rattle.std.specs.Prelude.{if◌then◌else◌, option_and_then, option_map}
 use Rattle.std.specs.List.{list_any}
 use Rattle.std.specs.Str.{bytes_eq}
+use Rattle.arwen_commands.specs.ElfEngine.{ElfMayFail}
 use Rattle.arwen_commands.specs.Engine.{MayFail}
 use Rattle.arwen_commands.specs.Fault.{IsOfLine}
-use Rattle.arwen_commands.specs.Meaning.{Meaning, elf_lines, macho_lines, of_elf, of_macho}
-use Rattle.arwen_commands.specs.Prints.{PrintMayFail}
+use Rattle.arwen_commands.specs.Meaning.{ElfMeaning, Meaning, elf_lines, macho_lines, of_elf, of_macho}
 use Rattle.arwen_commands.specs.Rows.{Text, meant_by}
 use Rattle.arwen_commands.specs.declared.error.ArwenError.{ArwenError}
 
 -- ---- what words mean
 
+-- what a command for ELF files asks for; nothing where a value is not what the command takes
+abbrev pub if_taken : Option (Option ElfMeaning) → Option ElfMeaning
+if_taken asked = option_and_then (λ taken. taken) asked
+
 -- the first word names the commands, the second a command, and those behind it are its values in order
 abbrev pub meaning_of : List Text → Option Meaning
 meaning_of (first ∷ name ∷ words) =
     if bytes_eq first (codes "macho") then option_map of_macho (meant_by macho_lines name words)
-    else (if bytes_eq first (codes "elf") then option_map of_elf (meant_by elf_lines name words)
+    else (if bytes_eq first (codes "elf") then option_map of_elf (if_taken (meant_by elf_lines name words))
     else None)
 meaning_of _ = None
 
@@ -36,5 +40,5 @@ has_option words = list_any begins_with_hyphen words
 -- the error of a line: that of the command that it means, or else of the line
 abbrev pub LineMayFail : Option Meaning → ArwenError → Type 0
 LineMayFail (Some (of_macho meaning)) e = MayFail meaning e
-LineMayFail (Some (of_elf meaning)) e = PrintMayFail e
+LineMayFail (Some (of_elf meaning)) e = ElfMayFail meaning e
 LineMayFail None e = IsOfLine e

@@ -141,6 +141,15 @@ abbrev pub MayRefuse : {M : Type 0} → Text → List (Line M) → List Text →
 MayRefuse {M} first lines list error = (meaning : M) → MeansBy first lines list meaning
     → error ≡ Memory
 
+-- the same of commands that take not every value: the values that the parser finds ask for this
+abbrev pub MeansTaken : {M : Type 0} → Text → List (Line (Option M)) → List Text → M → Type 0
+MeansTaken first lines list meaning = MeansBy first lines list (Some meaning)
+
+-- where the words mean a command with values that it takes, the error is want of memory
+abbrev pub MayRefuseTaken : {M : Type 0} → Text → List (Line (Option M)) → List Text → ArwenError → Type 0
+MayRefuseTaken {M} first lines list error = (meaning : M) → MeansTaken first lines list meaning
+    → error ≡ Memory
+
 -- ---- a parse that is told a command
 
 -- it takes the words, and finds the command that they name

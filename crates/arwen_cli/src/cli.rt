@@ -5,7 +5,7 @@ ghost use Rattle.arwen_cli.specs.Line.{LineMayFail, has_option, meaning_of};
 mod line;
 mod parser;
 
-pub use arwen_commands::elf::{Probe, print_path, print_store, run_elf};
+pub use arwen_commands::elf::{Probe, edit_path, edit_store, print_path, print_store, run_elf};
 pub use arwen_commands::{
     ArwenError, Command, EditFault, EditKind, EditsError, ElfCommand, FaultLine, KeyValueError,
     MOST_BYTES, MachoCommand, add, apply, change, delete, elf, install_id, install_name,

@@ -4,7 +4,7 @@ ghost use Rattle.arwen_commands.specs.Fault.{IsOfLine, status_of};
 ghost use Rattle.arwen_commands.specs.Meaning.{Meaning, elf_lines, elf_shown, macho_lines};
 ghost use Rattle.arwen_commands.specs.Meaning.{macho_shown, shown};
 ghost use Rattle.arwen_cli.specs.Line.{has_option, meaning_of};
-ghost use Rattle.arwen_cli.specs.Parser.{MayRefuse, MeansBy};
+ghost use Rattle.arwen_cli.specs.Parser.{MayRefuse, MayRefuseTaken, MeansBy, MeansTaken};
 
 use crate::cli::parser::{First, parse_values};
 use crate::cli::{ArwenError, Command, ElfCommand, MachoCommand};
@@ -15,13 +15,13 @@ use std::alloc::{AllocError, Global};
 const VERSION: &str = "arwen 0.0.5\n";
 
 /// What the program says where no command is named.
-const USAGE: &str = "Patches finished Mach-O files, and prints what ELF files say.
+const USAGE: &str = "Patches finished Mach-O and ELF files, and prints what ELF files say.
 
 Usage: arwen <COMMAND>
 
 Commands:
   macho  Edit a Mach-O file (`arwen help macho` lists the edits)
-  elf    Print what an ELF file says (`arwen help elf` lists the commands)
+  elf    Edit or print an ELF file (`arwen help elf` lists the commands)
   help   Print this text, or the help of the command behind it
 
 Options:
@@ -40,7 +40,7 @@ const MACHO: First = First {
 const ELF: First = First {
     word: "elf",
     shown_as: "arwen elf",
-    about: "Print what an ELF file says",
+    about: "Edit or print an ELF file",
 };
 
 /// The command that a line's words mean, those behind the program's name. A line that asks for help,
@@ -157,14 +157,16 @@ fn parse_macho(alloc: Global, words: &[&str]) -> Result<MachoCommand, ArwenError
     or_usage(alloc, MachoCommand::with_values(name, values))
 }
 
-/// The command of a line whose first word is `elf`.
+/// The command of a line whose first word is `elf`. A value that is not what the command takes, as a
+/// page size that is no number, is a fault of the line.
 fn parse_elf(alloc: Global, words: &[&str]) -> Result<ElfCommand, ArwenError>
-    ensures means { IfOk result (λ command. MeansBy (codes "elf") elf_lines
+    ensures means { IfOk result (λ command. MeansTaken (codes "elf") elf_lines
         (map (λ w. w.now) words.now) (elf_shown command)) }
-    ensures refused { IfErr result (MayRefuse (codes "elf") elf_lines
+    ensures refused { IfErr result (MayRefuseTaken (codes "elf") elf_lines
         (map (λ w. w.now) words.now)) }
     ensures err { IfErr result (λ error. IsOfLine error) }
 {
     let (name, values) = parse_values(alloc, ELF, elf_table(), words)?;
-    or_usage(alloc, ElfCommand::with_values(name, values))
+    let command = ElfCommand::with_values(alloc, name, values)?;
+    or_usage(alloc, command)
 }
