@@ -20,7 +20,8 @@ if_taken asked = option_and_then (λ taken. taken) asked
 abbrev pub meaning_of : List Text → Option Meaning
 meaning_of (first ∷ name ∷ words) =
     if bytes_eq first (codes "macho") then option_map of_macho (meant_by macho_lines name words)
-    else (if bytes_eq first (codes "elf") then option_map of_elf (if_taken (meant_by elf_lines name words))
+    else (if bytes_eq first (codes "elf")
+    then option_map of_elf (if_taken (meant_by elf_lines name words))
     else None)
 meaning_of _ = None
 

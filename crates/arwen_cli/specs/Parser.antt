@@ -146,7 +146,8 @@ abbrev pub MeansTaken : {M : Type 0} → Text → List (Line (Option M)) → Lis
 MeansTaken first lines list meaning = MeansBy first lines list (Some meaning)
 
 -- where the words mean a command with values that it takes, the error is want of memory
-abbrev pub MayRefuseTaken : {M : Type 0} → Text → List (Line (Option M)) → List Text → ArwenError → Type 0
+abbrev pub MayRefuseTaken : {M : Type 0} → Text → List (Line (Option M)) → List Text → ArwenError
+    → Type 0
 MayRefuseTaken {M} first lines list error = (meaning : M) → MeansTaken first lines list meaning
     → error ≡ Memory
 

@@ -157,8 +157,8 @@ fn parse_macho(alloc: Global, words: &[&str]) -> Result<MachoCommand, ArwenError
     or_usage(alloc, MachoCommand::with_values(name, values))
 }
 
-/// The command of a line whose first word is `elf`. A value that is not what the command takes, as a
-/// page size that is no number, is a fault of the line.
+/// The command of a line whose first word is `elf`. A value that is not what the command takes, as
+/// a page size that is no number, is a fault of the line.
 fn parse_elf(alloc: Global, words: &[&str]) -> Result<ElfCommand, ArwenError>
     ensures means { IfOk result (λ command. MeansTaken (codes "elf") elf_lines
         (map (λ w. w.now) words.now) (elf_shown command)) }

@@ -22,7 +22,7 @@ returns-in_err-name-clause-refused c =
 
 pub returns-in_err-command-clause-refused : goal.returns-in_err-command-clause-refused
 returns-in_err-command-clause-refused c =
-    let p = err_from_is_err_and c.from_residual.result c.from_residual.ensures.1 in
+    let p = err_from_is_err_and c.from_residual-in_err-command.result c.from_residual-in_err-command.ensures.1 in
     let name = c.in_ok-name.name.now in
     let given = given_shown c.in_ok-name.values in
     let taken = subst (λ (t : List Named). IsTaken (codes "elf") t (texts c.args.words.now) (name, given)) c.elf_table.ensures c.in_ok-name.ensures.taken in
@@ -32,7 +32,7 @@ returns-in_err-command-clause-refused c =
 
 pub returns-in_err-command-clause-err : goal.returns-in_err-command-clause-err
 returns-in_err-command-clause-err c =
-    let p = err_from_is_err_and c.from_residual.result c.from_residual.ensures.1 in
+    let p = err_from_is_err_and c.from_residual-in_err-command.result c.from_residual-in_err-command.ensures.1 in
     let name = c.in_ok-name.name.now in
     let given = given_shown c.in_ok-name.values in
     rw p.1 (subst IsOfLine (sym p.2) (of_line (meant_with elf_lines name given) _ c.in_err-command.ensures.err))
