@@ -1,6 +1,6 @@
 //! Edits of files, and what is written of them.
 
-use crate::support::{Runtime, laid, same};
+use crate::support::{Refusal, Runtime, laid, same};
 use arwen_elf::elf::{ElfEdit, ElfError, ModifyCause, Writer};
 use std::alloc::{AllocError, Global};
 
@@ -40,18 +40,24 @@ fn edits_of(alloc: Global, changes: &[Change<'_>]) -> Result<Vec<ElfEdit>, Alloc
     Ok(edits)
 }
 
-// The image of a file after edits, all of which are accepted.
-fn edited_once<'a>(
+// Edits an image.
+fn edit(alloc: Global, file: &mut Writer<'_>, changes: &[Change<'_>]) -> Result<(), ElfError> {
+    let edits = edits_of(alloc, changes)?;
+    match file.apply(alloc, edits.as_slice()) {
+        Ok(()) => Ok(()),
+        Err(batch) => Err(batch.fault),
+    }
+}
+
+// The image of a file after edits.
+pub(crate) fn edited_once<'a>(
     alloc: Global,
     bytes: &'a [u8],
     changes: &[Change<'_>],
 ) -> Result<Writer<'a>, ElfError> {
-    let edits = edits_of(alloc, changes)?;
     let mut file = Writer::read(alloc, bytes)?;
-    match file.apply(alloc, edits.as_slice()) {
-        Ok(()) => Ok(file),
-        Err(batch) => Err(batch.fault),
-    }
+    edit(alloc, &mut file, changes)?;
+    Ok(file)
 }
 
 // The same, asked for again where there was no memory.
@@ -59,14 +65,52 @@ pub(crate) fn edited<'a>(rt: &impl Runtime, bytes: &'a [u8], changes: &[Change<'
     again!(rt; edited_once(rt.alloc(), bytes, changes)).expect(rt, "edits")
 }
 
-// What comes of the bytes of a file's image.
-pub(crate) fn word<T>(answer: &Result<T, ElfError>) -> &'static str {
+// What came of a call, in a word, unless it was want of memory.
+pub(crate) fn told<T>(answer: &Result<T, ElfError>) -> Result<&'static str, AllocError> {
     match answer {
-        Ok(_) => "done",
-        Err(ElfError::Modify(ModifyCause::Overlap)) => "overlap",
-        Err(ElfError::Io(_)) => "a write failed",
-        Err(_) => "other",
+        Ok(_) => Ok("done"),
+        Err(error) => refusal(error),
     }
+}
+
+fn refusal(error: &ElfError) -> Result<&'static str, AllocError> {
+    match error {
+        ElfError::Modify(ModifyCause::Overlap) => Ok("overlap"),
+        other if other.is_memory() => Err(AllocError),
+        ElfError::Io(_) => Ok("a write failed"),
+        _ => Ok("other"),
+    }
+}
+
+// The bytes of a file's image after edits, or why there are none.
+fn image_once(alloc: Global, bytes: &[u8], changes: &[Change<'_>]) -> Result<Vec<u8>, ElfError> {
+    let file = edited_once(alloc, bytes, changes)?;
+    file.image_bytes(alloc)
+}
+
+// The bytes; none where there is no image.
+fn bytes_once(alloc: Global, bytes: &[u8], changes: &[Change<'_>]) -> Result<Vec<u8>, AllocError> {
+    match image_once(alloc, bytes, changes) {
+        Ok(bytes) => Ok(bytes),
+        Err(error) => {
+            refusal(&error)?;
+            Ok(Vec::new(alloc))
+        }
+    }
+}
+
+// What comes of them.
+fn outcome_once(
+    alloc: Global,
+    bytes: &[u8],
+    changes: &[Change<'_>],
+) -> Result<&'static str, AllocError> {
+    told(&image_once(alloc, bytes, changes))
+}
+
+// The bytes of a file's image after edits.
+pub(crate) fn written(rt: &impl Runtime, bytes: &[u8], changes: &[Change<'_>]) -> Vec<u8> {
+    again!(rt; bytes_once(rt.alloc(), bytes, changes)).expect(rt, "memory")
 }
 
 // Compares the file that is written after edits: so many bytes, the front of the old file and zeros, with other bytes at some
@@ -77,15 +121,13 @@ pub(crate) fn expect(
     (length, front): (usize, usize),
     parts: &[(usize, &[u8])],
 ) {
-    let file = edited(rt, bytes, changes);
-    let found = again!(rt; file.image_bytes(rt.alloc())).expect(rt, "bytes");
+    let found = written(rt, bytes, changes);
     let want = laid(rt, length, bytes.get(..front).unwrap_or(&[]), parts);
     same(rt, "bytes", &found.as_slice(), &want.as_slice());
 }
 
-// Compares why nothing is written after edits.
+// Compares what comes of a file's image after edits.
 pub(crate) fn expect_word(rt: &impl Runtime, bytes: &[u8], changes: &[Change<'_>], want: &str) {
-    let file = edited(rt, bytes, changes);
-    let found = again!(rt; file.image_bytes(rt.alloc()));
-    same(rt, "what comes of it", &word(&found), &want);
+    let found = again!(rt; outcome_once(rt.alloc(), bytes, changes)).expect(rt, "memory");
+    same(rt, "what comes of it", &found, &want);
 }

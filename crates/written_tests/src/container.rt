@@ -1,99 +1,104 @@
 //! The container's calls that write, and what a written file shows when it is read.
 
+use crate::changes::{Change, written};
+use crate::paths::own_path;
 use crate::samples::SMALL;
-use crate::support::{Runtime, same, wants_memory};
+use crate::support::{Runtime, same};
 use crate::taker::Taker;
 use arwen_elf::elf::{ElfContainer, ElfError};
 use elf_write::Sink;
 use std::alloc::Global;
+use std::fs;
 use std::io::Cursor;
-use std::{env, fs, io, process};
+use std::rt::Files;
 
-fn edited_once<'a>(alloc: Global, bytes: &'a [u8]) -> Result<ElfContainer<'a>, ElfError> {
-    let mut file = ElfContainer::parse(alloc, bytes)?;
+// The small library with the run path `/usr/lib:/b`.
+fn edited_once(alloc: Global) -> Result<ElfContainer<'static>, ElfError> {
+    let mut file = ElfContainer::parse(alloc, SMALL)?;
     file.set_runpath(alloc, b"/usr/lib:/b")?;
     Ok(file)
 }
 
-// A file with the run path `/usr/lib:/b`.
-fn edited<'a>(rt: &impl Runtime, bytes: &'a [u8]) -> ElfContainer<'a> {
-    again!(rt; edited_once(rt.alloc(), bytes)).expect(rt, "a file")
+// Its bytes, by the container's calls.
+fn bytes_once(alloc: Global) -> Result<Vec<u8>, ElfError> {
+    let file = edited_once(alloc)?;
+    file.image_bytes(alloc)
 }
 
-// The bytes that it is written to.
+// Its bytes, by the writer's calls.
 fn bytes(rt: &impl Runtime) -> Vec<u8> {
-    let file = edited(rt, SMALL);
-    again!(rt; file.image_bytes(rt.alloc())).expect(rt, "bytes")
+    written(rt, SMALL, &[Change::SetRpath(b"/usr/lib:/b")])
 }
 
-// The written file read again: its own bytes are those that were written.
 #[test]
-fn read_again(rt: HostRuntime) {
-    let bytes = bytes(&rt);
-    let file = again!(&rt; ElfContainer::parse(rt.alloc(), &bytes)).expect(&rt, "a file");
-    let again = again!(&rt; file.image_bytes(rt.alloc())).expect(&rt, "bytes");
-    same(&rt, "bytes", &again, &bytes);
+fn bytes_of_an_image(rt: HostRuntime) {
+    let found = again!(&rt; bytes_once(rt.alloc())).expect(&rt, "bytes");
+    same(&rt, "bytes", &found, &bytes(&rt));
 }
 
-// Prints the run path, once more where there was no memory.
-fn print(
-    rt: &impl Runtime,
-    file: &ElfContainer<'_>,
-    page: &mut Cursor<[u8; 16]>,
-) -> Result<(), ElfError> {
-    let answer = file.print_runpath(rt.alloc(), page);
-    if !wants_memory(&answer) {
-        return answer;
-    }
-    file.print_runpath(rt.alloc(), page)
+// The bytes of a file that is read and written.
+fn again_once(alloc: Global, bytes: &[u8]) -> Result<Vec<u8>, ElfError> {
+    let file = ElfContainer::parse(alloc, bytes)?;
+    file.image_bytes(alloc)
+}
+
+#[test]
+fn read_and_written_again(rt: HostRuntime) {
+    let bytes = bytes(&rt);
+    let found = again!(&rt; again_once(rt.alloc(), &bytes)).expect(&rt, "bytes");
+    same(&rt, "bytes", &found, &bytes);
+}
+
+// Prints the run path of a file.
+fn print_once(alloc: Global, bytes: &[u8], page: &mut Cursor<[u8; 16]>) -> Result<(), ElfError> {
+    let file = ElfContainer::parse(alloc, bytes)?;
+    file.print_runpath(alloc, page)
+}
+
+fn print(alloc: Global, bytes: &[u8], page: &mut Cursor<[u8; 16]>) -> bool {
+    print_once(alloc, bytes, page).is_ok() || print_once(alloc, bytes, page).is_ok()
 }
 
 #[test]
 fn prints_of_a_written_file(rt: HostRuntime) {
     let bytes = bytes(&rt);
-    let file = again!(&rt; ElfContainer::parse(rt.alloc(), &bytes)).expect(&rt, "a file");
     let mut page = Cursor::new([0; 16]);
-    print(&rt, &file, &mut page).expect(&rt, "a print");
+    same(&rt, "prints", &print(rt.alloc(), &bytes, &mut page), &true);
     same(&rt, "print", page.get_ref(), b"/usr/lib:/b\n\0\0\0\0");
 }
 
-// Writes a file, once more where there was no memory.
-fn write(
-    rt: &impl Runtime,
-    file: &ElfContainer<'_>,
-    sink: &mut Sink<Taker<'_>>,
-) -> Result<(), ElfError> {
-    let answer = file.write(rt.alloc(), sink);
-    if !wants_memory(&answer) {
-        return answer;
-    }
-    file.write(rt.alloc(), sink)
+fn write_once(alloc: Global, sink: &mut Sink<Taker<'_>>) -> Result<(), ElfError> {
+    let file = edited_once(alloc)?;
+    file.write(alloc, sink)
+}
+
+fn write(alloc: Global, sink: &mut Sink<Taker<'_>>) -> bool {
+    write_once(alloc, sink).is_ok() || write_once(alloc, sink).is_ok()
 }
 
 #[test]
 fn written_to_a_writer(rt: HostRuntime) {
     let bytes = bytes(&rt);
-    let file = edited(&rt, SMALL);
     let mut sink = Sink::new(Taker::new(&bytes, 1000, 50));
-    write(&rt, &file, &mut sink).expect(&rt, "a file");
-    same(&rt, "taken", &sink.get_ref().taken(), &Some(bytes.len()));
+    same(&rt, "writes", &write(rt.alloc(), &mut sink), &true);
+    same(&rt, "taken", &sink.get_ref().taken(), &Some(608));
 }
 
-// A path that no other run of the tests uses.
-fn own_path(rt: &HostRuntime) -> io::Result<String> {
-    let folder = env::temp_dir(rt)?;
-    let folder = folder.as_path().to_string_lossy();
-    let id = process::id(rt.process());
-    Ok(format!(in rt.alloc(); "{folder}/written-container-{id}")?)
+fn path_once<R: Runtime + Files>(rt: &R, path: &str) -> Result<(), ElfError> {
+    let file = edited_once(rt.alloc())?;
+    file.write_to_path(rt, path)
+}
+
+// Writes a file, and compares what its path holds.
+fn write_path<R: Runtime + Files>(rt: &R, path: &str, want: &[u8]) {
+    again!(rt; path_once(rt, path)).expect(rt, "a file");
+    let found = again!(rt; fs::read(rt, path)).expect(rt, "bytes");
+    same(rt, "file", &found.as_slice(), &want);
 }
 
 #[test]
 fn written_to_a_path(rt: HostRuntime) {
-    let path = again!(&rt; own_path(&rt)).expect(&rt, "a path");
-    let bytes = bytes(&rt);
-    let file = edited(&rt, SMALL);
-    again!(&rt; file.write_to_path(&rt, &path)).expect(&rt, "a file");
-    let found = again!(&rt; fs::read(&rt, &path)).expect(&rt, "bytes");
-    same(&rt, "file", &found, &bytes);
+    let path = again!(&rt; own_path(&rt, "container")).expect(&rt, "a path");
+    write_path(&rt, &path, &bytes(&rt));
     fs::remove_file(&rt, &path).expect(&rt, "no file");
 }
