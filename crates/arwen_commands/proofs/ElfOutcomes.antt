@@ -1,18 +1,16 @@
 -- What edits of an ELF file keep and show, and which answers tell why there are no bytes.
-use Rattle.std.proofs.Common.{◌≡◌, ◌+◌, [], ◌∷◌, ◌∙◌, Bool, ℕ, List, Option, Some, None, Result, Ok, Err, true, false, refl, sym, ap, subst, inl, inr}
+use Rattle.std.proofs.Common.{◌≡◌, ◌+◌, [], ◌∷◌, ◌∙◌, Bool, ℕ, List, Some, Result, Ok, Err, true, false, refl, sym, ap, subst, inl, inr}
 use Rattle.std.specs.declared.alloc.Global.{Global}
 use Rattle.std.specs.declared.vec.Vec.{Vec}
 use Rattle.elf_format.specs.declared.header.Header.{Header}
 use Rattle.elf_image.specs.Image.{Image, image_of, shown}
 use Rattle.elf_image.specs.ReadImage.{ReadImagesHoldParts}
 use Rattle.elf_edits.specs.Batch.{Refusal, answer_at, run, run_from, then_on}
-use Rattle.elf_edits.specs.Called.{edit_meant}
 use Rattle.elf_edits.specs.Cause.{Cause}
 use Rattle.elf_edits.specs.Edit.{Edit}
 use Rattle.elf_edits.specs.Edited.{step}
-use Rattle.elf_edits.specs.declared.call.ElfEdit.{ElfEdit}
 use Rattle.elf_edits.specs.Laws.{BatchesAreTheirEdits, EditsShow, viewed}
-use Rattle.arwen_elf.specs.Causes.{FailsPrint, RefusesRead}
+use Rattle.arwen_elf.specs.Causes.{FailsPrint}
 use Rattle.arwen_elf.specs.Told.{RefusesAt, RefusesBatch}
 use Rattle.arwen_elf.specs.WriterSeen.{ShowsBothViews}
 use Rattle.arwen_elf.specs.Written.{IsEditWritten, IsImageWritten, IsNoImage}
@@ -20,22 +18,11 @@ use Rattle.arwen_elf.specs.declared.elf.rewriter.batch.ElfBatchError.{ElfBatchEr
 use Rattle.arwen_elf.specs.declared.elf.rewriter.error.ElfError.{ElfError}
 use Rattle.arwen_elf.specs.declared.elf.rewriter.error.ElfError.TheVariants as elf
 use Rattle.arwen_commands.specs.ElfAsked.{ElfAsked, one, printing, several}
-use Rattle.arwen_commands.specs.ElfAsked.{elf_asked, elf_edit_asked, is_printing}
-use Rattle.arwen_commands.specs.ElfEngine.{AreEditsAsked, IsElfEdited, LeavesElf, Makes, MayFailAs, RunsElf, ShowsEdits, TellsEachFile, TellsEdit, TellsElfOf, TellsRun, elf_refusal}
-use Rattle.arwen_commands.specs.Fault.{answer_to_elf, answer_to_elf_fault, answer_to_read, answer_to_replaced, answer_to_words}
-use Rattle.arwen_commands.specs.ElfWords.{edits_meant}
-use Rattle.arwen_commands.specs.Groups.{TellsFault}
-use Rattle.arwen_commands.specs.Meaning.{ElfMeaning, apply_elf, edit_elf, print_exec_stack, print_interpreter, print_needed, print_os_abi, print_rpath, print_soname}
-use Rattle.arwen_commands.specs.declared.edits.EditFault.{EditFault}
-use Rattle.arwen_commands.specs.declared.edits.EditsError.{EditsError}
-use Rattle.arwen_commands.specs.declared.edits.EditsError.TheVariants as words
-use Rattle.arwen_commands.specs.Prints.{PrintMayFail, Prints, TellsElf}
+use Rattle.arwen_commands.specs.ElfEngine.{AreEditsAsked, IsElfEdited, LeavesElf, Makes, MayFailAs, ShowsEdits, TellsEachFile, TellsEdit, TellsElfOf, TellsRun, elf_refusal}
+use Rattle.arwen_commands.specs.Fault.{answer_to_elf, answer_to_elf_fault}
+use Rattle.arwen_commands.specs.Prints.{PrintMayFail, TellsElf}
 use Rattle.arwen_commands.specs.declared.error.ArwenError.{ArwenError}
 use Rattle.arwen_commands.specs.declared.error.ArwenError.TheVariants.{Edits, Elf, ElfBatch, Io, Line, Macho, MachoBatch, Memory}
-use Rattle.byte_store.specs.declared.difference.ReplaceError.{ReplaceError}
-use Rattle.byte_store.specs.declared.difference.ReplaceError.TheVariants as replace
-use Rattle.byte_store.specs.declared.reading.ReadError.{ReadError}
-use Rattle.byte_store.specs.declared.reading.ReadError.TheVariants as read
 
 -- ## What edits keep
 
@@ -80,15 +67,6 @@ is_marked made seen asked mark same is found = ap (λ (i : Image). i.changed) (s
 pub made_of : (edits : List Edit) (file : List ℕ) (read made : Image) → image_of file ≡ Ok read → run edits read ≡ Ok made → Makes edits file made
 made_of edits file read made is runs = record { read = read; is_read = is; runs = runs }
 
--- no bytes where the edits change nothing
-pub unedited : (a : ElfAsked) (edits : List Edit) (file : List ℕ) (made : Image) → AreEditsAsked a edits → Makes edits file made → made.changed ≡ false → IsElfEdited a file None
-unedited a edits file made are makes same = record {
-  edits = edits;
-  are = are;
-  edited = record { made = made; makes = makes; unchanged = λ _. refl; changed = λ other. absurd (cc) };
-  shows = λ new is. absurd (cc);
-}
-
 -- the file is left as it was
 pub leaves_file : EditsShow → ReadImagesHoldParts → (a : ElfAsked) (edits : List Edit) (file : List ℕ) (read made : Image) → AreEditsAsked a edits
     → image_of file ≡ Ok read → run edits read ≡ Ok made → made.changed ≡ false → LeavesElf a file file
@@ -131,23 +109,7 @@ edited_to edits_show batches a edits file read made new are is views runs other 
       subst (λ (v : Vec ℕ Global). ShowsEdits edits file v.items) same (shows_edits edits_show batches edits file new.items read made views runs (written.edited other));
 }
 
-pub leaves_bytes : (a : ElfAsked) (edits : List Edit) (file : List ℕ) (made : Image) (new : List ℕ) → AreEditsAsked a edits → Makes edits file made → IsImageWritten made new → LeavesElf a file new
-leaves_bytes a edits file made new are makes written =
-    record { edits = edits; are = are; left = record { made = made; makes = makes; written = written } }
-
 -- ## Why there are no bytes
-
--- the file isn't accepted
-pub tells_unread : (a : ElfAsked) (edits : List Edit) (file : List ℕ) (e : ElfError) → AreEditsAsked a edits → RefusesRead e (image_of file) → TellsEdit a file (answer_to_elf e)
-tells_unread a edits file elf.Memory are refuses = tt
-tells_unread (one edit) edits file (elf.Parse fault) are refuses = inl refuses
-tells_unread (several (Ok read)) edits file (elf.Parse fault) are refuses = inl refuses
-tells_unread (several (Err wrong)) edits file (elf.Parse fault) are refuses = absurd (cc)
-tells_unread printing edits file (elf.Parse fault) are refuses = absurd are
-tells_unread a edits file (elf.Io e) are refuses = absurd refuses
-tells_unread a edits file (elf.Write fault) are refuses = absurd refuses
-tells_unread a edits file (elf.Modify cause) are refuses = absurd refuses
-tells_unread a edits file elf.InvalidDtNeededEncoding are refuses = absurd refuses
 
 one_refused : (edit : Edit) (file : List ℕ) (read : Image) (index : ℕ) (e : ElfError) → image_of file ≡ Ok read → RefusesAt index e (run (edit ∷ []) read) → TellsEdit (one edit) file (answer_to_elf e)
 one_refused edit file read index elf.Memory is refuses = tt
@@ -195,42 +157,7 @@ tells_no_image (several read_as) edits file made e are makes none = subst (λ r.
     unwritten edits file made elf.InvalidDtNeededEncoding makes none = inr (record { made = made; makes = makes; none = none })
 tells_no_image printing edits file made e are makes none = absurd are
 
--- words that are no edits
-pub words_tell : (a : ElfAsked) (meant : Result (List Edit) EditFault) (e : EditsError) → a ≡ several meant → TellsFault meant e → TellsEachFile a (answer_to_words e)
-words_tell a meant words.Memory is tells = λ file. tt
-words_tell a meant (words.Fault fault) is tells = λ file. is ∙ ap several tells
-
--- one edit alone
-pub one_asked : (meaning : ElfMeaning) (edit : ElfEdit) (edits : List ElfEdit) → Some (edit_meant edit) ≡ elf_edit_asked meaning → edits ≡ edit ∷ [] → AreEditsAsked (elf_asked meaning) (edits_meant edits)
-one_asked (edit_elf asked path) edit edits is alone =
-    let same : edit_meant edit ≡ asked = cc in
-    ap edits_meant alone ∙ ap (λ (e : Edit). e ∷ []) same
-one_asked (apply_elf path words) edit edits is alone = absurd (cc)
-one_asked (print_rpath path) edit edits is alone = absurd (cc)
-one_asked (print_needed path) edit edits is alone = absurd (cc)
-one_asked (print_soname path) edit edits is alone = absurd (cc)
-one_asked (print_interpreter path) edit edits is alone = absurd (cc)
-one_asked (print_os_abi path) edit edits is alone = absurd (cc)
-one_asked (print_exec_stack path) edit edits is alone = absurd (cc)
-
 -- ## A run
-
-pub runs_edits : (meaning : ElfMeaning) (a : ElfAsked) (edits : List Edit) (file : List ℕ) (answer : Option (Vec ℕ Global)) (old new : Option (List ℕ)) → AreEditsAsked a edits → IsElfEdited a file answer → new ≡ old → RunsElf meaning a file answer old new
-runs_edits meaning (one edit) edits file answer old new are edited same = (edited, same)
-runs_edits meaning (several read) edits file answer old new are edited same = (edited, same)
-runs_edits meaning printing edits file answer old new are edited same = absurd are
-
-pub runs_print : (meaning : ElfMeaning) (a : ElfAsked) (file : List ℕ) (old new : Option (List ℕ)) → a ≡ printing → Prints meaning (image_of file) old new → RunsElf meaning a file None old new
-runs_print meaning a file old new is prints = subst (λ (b : ElfAsked). RunsElf meaning b file None old new) (sym is) (refl, prints)
-
--- an error of edits, before which nothing was printed
-pub tells_run : {W : Type 0} (a : ElfAsked) (edits : List Edit) (file : List ℕ) (old new : W) (e : ArwenError) → AreEditsAsked a edits → new ≡ old → TellsEdit a file e → TellsRun a file old new e
-tells_run (one edit) edits file old new e are same tells = (same, tells)
-tells_run (several read) edits file old new e are same tells = (same, tells)
-tells_run printing edits file old new e are same tells = absurd are
-
-pub tells_print : {W : Type 0} (a : ElfAsked) (file : List ℕ) (old new : W) (e : ArwenError) → a ≡ printing → TellsElf (image_of file) old new e → TellsRun a file old new e
-tells_print a file old new e is tells = subst (λ (b : ElfAsked). TellsRun b file old new e) (sym is) tells
 
 -- an accepted file isn't printed
 pub tells_unprinted : {W : Type 0} (file : List ℕ) (read : Image) (old new : W) (e : ElfError) → image_of file ≡ Ok read → FailsPrint old new e → TellsElf (image_of file) old new (answer_to_elf e)
@@ -297,26 +224,3 @@ may_fail (several read) file (ElfBatch e) tells = (file, tells)
 may_fail (several read) file (Line text status) tells = (file, tells)
 may_fail (several read) file (Macho e) tells = (file, tells)
 may_fail (several read) file (MachoBatch e) tells = (file, tells)
-
--- what is printed may fail
-pub may_fail_print : (a : ElfAsked) (e : ArwenError) → is_printing a ≡ true → PrintMayFail e → MayFailAs a e
-may_fail_print printing e is fails = fails
-may_fail_print (one edit) e is fails = absurd (cc)
-may_fail_print (several read) e is fails = absurd (cc)
-
--- the bytes of a file may not be read, or not be replaced
-pub may_fail_read : (a : ElfAsked) (e : ReadError) → MayFailAs a (answer_to_read e)
-may_fail_read printing read.Memory = tt
-may_fail_read printing (read.Io e) = tt
-may_fail_read (one edit) read.Memory = tt
-may_fail_read (one edit) (read.Io e) = tt
-may_fail_read (several edits) read.Memory = tt
-may_fail_read (several edits) (read.Io e) = tt
-
-pub may_fail_replaced : (a : ElfAsked) (e : ReplaceError) → MayFailAs a (answer_to_replaced e)
-may_fail_replaced printing replace.Memory = tt
-may_fail_replaced printing (replace.Write e) = tt
-may_fail_replaced (one edit) replace.Memory = tt
-may_fail_replaced (one edit) (replace.Write e) = tt
-may_fail_replaced (several edits) replace.Memory = tt
-may_fail_replaced (several edits) (replace.Write e) = tt

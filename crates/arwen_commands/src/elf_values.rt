@@ -1,6 +1,6 @@
 //! Values of commands for ELF files that not every word is.
 ghost use Rattle.std.specs.Prelude.{◌≡◌, Ok, Some, IfErr, IfOk, map, string_bytes};
-ghost use Rattle.elf_edits.specs.Called.{pairs_held, texts_held};
+ghost use Rattle.elf_edits.specs.Called.{pair_held, pairs_held, texts_held};
 ghost use Rattle.arwen_commands.specs.ElfAsked.{TellsNoNumber, TellsNoPair, TellsNoPairs};
 ghost use Rattle.arwen_commands.specs.ElfWords.{pairs_from};
 ghost use Rattle.arwen_commands.specs.KeyValue.{decimal_number as number_written, key_value};
@@ -82,9 +82,16 @@ pub(crate) fn pairs_copied(
 {
     let mut copies = Vec::with_capacity(alloc, pairs.len())?;
     for pair in pairs {
-        let key = bytes_of(alloc, &pair.0)?;
-        let value = bytes_of(alloc, &pair.1)?;
-        copies.push((key, value))?;
+        copies.push(pair_copied(alloc, pair)?)?;
     }
     Ok(copies)
+}
+
+/// The bytes of a pair of texts.
+fn pair_copied(alloc: Global, pair: &(String, String)) -> Result<(Vec<u8>, Vec<u8>), AllocError>
+    ensures { IfOk result (λ copy. pair_held copy ≡ pair_shown pair.now) }
+{
+    let key = bytes_of(alloc, &pair.0)?;
+    let value = bytes_of(alloc, &pair.1)?;
+    Ok((key, value))
 }

@@ -332,5 +332,5 @@ pub fn elf_table() -> &'static [Row]
 pub fn elf_edit_table() -> &'static [Row]
     ensures { map row_shown result.now ≡ map named_of elf_edit_lines }
 {
-    &ELF_ROWS.as_slice()[..ELF_EDITS_COUNT]
+    &elf_table()[..ELF_EDITS_COUNT]
 }

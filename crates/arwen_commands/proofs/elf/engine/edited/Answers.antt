@@ -1,6 +1,5 @@
-use Rattle.std.proofs.Common.{◌≡◌, ◌∙◌, List, ℕ, ap, false, sym, true}
+use Rattle.std.proofs.Common.{List, false, true}
 use Rattle.std.proofs.lemmas.Result.{err_from_is_err_and}
-use Rattle.elf_image.specs.Image.{Image}
 use Rattle.elf_edits.specs.Edit.{Edit}
 use Rattle.arwen_commands.specs.ElfAsked.{ElfAsked, elf_asked}
 use Rattle.arwen_commands.specs.ElfWords.{edits_meant}
