@@ -12,14 +12,12 @@ use Rattle.elf_written.specs.Stays.{AreOthersSeen, IsDataSeen}
 use Rattle.elf_written.specs.Writing.{AreHeadersApart, IsWritten}
 use Rattle.elf_write.specs.Counted.{Stops}
 use Rattle.elf_write.specs.Numbers.{do_numbers_fit}
-use Rattle.elf_write.specs.Seen.{HasHashes, HasHeaders, IsApart}
 use Rattle.arwen_elf.specs.declared.elf.rewriter.error.ElfError.{ElfError}
 use Rattle.arwen_elf.specs.declared.elf.rewriter.error.ElfError.TheVariants.{Io, Memory, Modify, Write}
 use Rattle.arwen_elf.specs.declared.elf.rewriter.error.ModifyCause.TheVariants.{Overlap}
 
 -- A file to which an edited image is written by a plan of it: it shows the image in its final form, to a loader too; data of the program
--- stands at its address, and so does every other byte that isn't written anew; headers and sections are those of the plan, hash tables
--- stand where the dynamic list says, and nothing shares an address or a byte of the file.
+-- stands at its address, and so does every other byte that isn't written anew.
 pub record IsEditWritten (image : Image) (bytes : List ℕ) : Type 0 where
   pub plan : Layout
   pub planned : IsPlan (resized image) plan
@@ -27,9 +25,6 @@ pub record IsEditWritten (image : Image) (bytes : List ℕ) : Type 0 where
   pub shows : ShowsFinal image bytes
   pub kept_data : IsDataSeen (resized image) plan bytes
   pub others : AreOthersSeen (resized image) plan bytes
-  pub headers : HasHeaders image plan bytes
-  pub hashes : HasHashes image plan bytes
-  pub apart : IsApart image plan
 
 -- The bytes of an image: those that were read where nothing was edited.
 pub record IsImageWritten (image : Image) (bytes : List ℕ) : Type 0 where
