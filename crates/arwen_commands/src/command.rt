@@ -237,7 +237,8 @@ impl ElfCommand {
     ) -> Result<Option<ElfCommand>, ArwenError>
         ensures ok { IfOk result (λ command. option_map command_meant command
             ≡ meant_with elf_lines name.now (given_shown values)) }
-        ensures err { IfErr result (TellsNoValue (meant_with elf_lines name.now (given_shown values))) }
+        ensures err { IfErr result
+            (TellsNoValue (meant_with elf_lines name.now (given_shown values))) }
     {
         match values {
             Values::Path(file) => Ok(ElfCommand::with_path(name, file)),
@@ -354,7 +355,8 @@ impl ElfCommand {
     /// The edit that the command asks for; `None` for `apply`, which asks for several, and for a
     /// command that prints.
     pub(crate) fn edit(&self, alloc: Global) -> Result<Option<ElfEdit>, AllocError>
-        ensures { IfOk result (λ edit. option_map edit_meant edit ≡ elf_edit_asked (elf_shown self.now)) }
+        ensures { IfOk result (λ edit.
+            option_map edit_meant edit ≡ elf_edit_asked (elf_shown self.now)) }
     {
         Ok(Some(match self {
             ElfCommand::AddDebugTag(_) => ElfEdit::AddDebugTag,
