@@ -1,10 +1,11 @@
 -- Pieces that turn bytes into others.
 use Rattle.std.proofs.Common.{◌≡◌, ◌≤◌, ◌+◌, ◌-◌, ℕ, List, [], ◌∷◌, ◌++◌, length, take, drop, min, inl, inr, refl, sym, ap, ◌∙◌, arith, All, Option, Some}
 use Rattle.std.proofs.lemmas.Bool.{cases_lt}
-use Rattle.std.proofs.lemmas.List.{append_assoc, drop-append-le, drop-drop, drop_all, drop_at, length-drop, length-take-le, map-append, take-append-drop, take-append-le, take_all, take_at}
+use Rattle.std.proofs.lemmas.List.{append_assoc, drop-append-le, drop-drop, drop_all, drop_at, length-drop, length-take-le, map-append, take-append-drop, take-append-le, take-take, take_all, take_at}
 use Rattle.std.proofs.lemmas.List.Elements.{All-head, All-push, All-same}
 use Rattle.byte_store.specs.Known.{Becomes, IsAll, put_at}
 use Rattle.byte_store.specs.Laid.{LiesIn, Patch, changed, laid, patch_of, patches_of}
+use Rattle.byte_store.specs.Composed.{IsChange, Stands}
 use Rattle.byte_store.specs.Replaced.{Turns}
 use Rattle.byte_store.specs.declared.pieces.Piece.{Piece}
 use Rattle.byte_store.proofs.LaidLaws.{laid-append, tail_lies}
@@ -78,6 +79,31 @@ module _ (pieces more : List Piece) (p : Piece) (old new : List ℕ) (end : ℕ)
       ∙ ap (λ (xs : List ℕ). put_at at xs (take at new ++ drop at old)) is
       ∙ next_over at (end - at) old new (omega arith)
       ∙ ap (λ (k : ℕ). take k new ++ drop k old) sum
+
+  -- it stands in the new bytes, and not in the old ones, from which its first block differs
+  bytes_long : length p.bytes.now ≡ end - p.offset
+  bytes_long = ap length is ∙ length-take-le (end - p.offset) (drop p.offset new) (omega (arith, length-drop p.offset new))
+
+  pub pushed_stands : All (Stands new) (patches_of pieces) → All (Stands new) (patches_of more)
+  pushed_stands stand =
+      let P : Patch → Type 0 = Stands new in
+      let size : p.offset + length p.bytes.now - p.offset ≡ end - p.offset = omega (arith, bytes_long) in
+      let here : Stands new (patch_of p) = ap (λ (n : ℕ). take n (drop p.offset new)) size ∙ sym is in
+      All-same P (patches_of more) (patches_of pieces ++ patch_of p ∷ []) patch_pushed (All-push P (patches_of pieces) (patch_of p) stand here)
+
+  pub pushed_changes : (next : ℕ) → next ≤ end → (take (next - p.offset) (drop p.offset old) ≡ take (next - p.offset) (drop p.offset new) → ⊥) → All (IsChange old) (patches_of pieces) → All (IsChange old) (patches_of more)
+  pushed_changes next within_run differs changes =
+      let P : Patch → Type 0 = IsChange old in
+      let at : ℕ = p.offset in
+      let n : ℕ = next - at in
+      let size : at + length p.bytes.now - at ≡ end - at = omega (arith, bytes_long) in
+      let here : IsChange old (patch_of p) = λ stands.
+      differs
+      (sym (take-take n (at + length p.bytes.now - at) (drop at old) (omega arith))
+      ∙ ap (take n) stands
+      ∙ ap (take n) is
+      ∙ take-take n (end - at) (drop at new) (omega arith)) in
+      All-same P (patches_of more) (patches_of pieces ++ patch_of p ∷ []) patch_pushed (All-push P (patches_of pieces) (patch_of p) changes here)
 
 -- pieces over the bytes that both have in common, what lies behind these, and a cut
 module _ (common : ℕ) (old new : List ℕ) (is : common ≡ min (length old) (length new)) where

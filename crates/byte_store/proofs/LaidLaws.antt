@@ -62,7 +62,7 @@ first_all (patch ∷ patches) bytes =
     ∙ ap (λ (k : ℕ). laid (first_bytes k patches) (put_at patch.offset patch.bytes bytes)) left
     ∙ first_all patches (put_at patch.offset patch.bytes bytes)
 
-get_or-laid : (patches : List Patch) (bytes : List ℕ) (k d : ℕ) → All (LiesIn (length bytes)) patches → All (IsOutside k) patches → get_or (laid patches bytes) k d ≡ get_or bytes k d
+pub get_or-laid : (patches : List Patch) (bytes : List ℕ) (k d : ℕ) → All (LiesIn (length bytes)) patches → All (IsOutside k) patches → get_or (laid patches bytes) k d ≡ get_or bytes k d
 get_or-laid [] bytes k d inside outside = refl
 get_or-laid (patch ∷ patches) bytes k d inside outside =
     let lies = All-head (LiesIn (length bytes)) patch patches inside in

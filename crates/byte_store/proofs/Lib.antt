@@ -3,3 +3,8 @@ pub mod LaidLaws
 pub mod LoadLaws
 pub mod RunLaws
 pub mod DifferenceLaws
+pub mod GapLaws
+pub mod StandLaws
+pub mod ShownLaws
+pub mod PushLaws
+pub mod ComposedLaws

@@ -3,3 +3,6 @@ pub mod Laid
 pub mod Laws
 pub mod Fault
 pub mod Replaced
+pub mod Composed
+pub mod Gaps
+pub mod Shown

@@ -2,6 +2,7 @@
 ghost use Rattle.std.specs.Prelude.{◌≡◌, ◌+◌, ◌<◌, ◌≤◌, ◌^◌, ◌↔◌, [], All, IfErr, IfOk, IsOkAnd, IsTrue, OnOk, length, slice_range};
 ghost use Rattle.byte_store.specs.Known.{Becomes, HasLength, IsAll};
 ghost use Rattle.byte_store.specs.Laid.{LiesIn, changed, laid, patches_of};
+ghost use Rattle.byte_store.specs.Composed.{IsChange, Stands};
 ghost use Rattle.byte_store.specs.Fault.{IsIdle, IsLeftBy, IsOkAndSame};
 ghost use Rattle.byte_store.specs.Replaced.{IsNotReplaced};
 
@@ -13,7 +14,7 @@ use std::error::Error;
 use std::fmt;
 
 /// How many bytes are compared at a time.
-const BLOCK: usize = 4096;
+pub(crate) const BLOCK: usize = 4096;
 
 /// Why the bytes of a store were not replaced.
 #[derive(Debug, Drop)]
@@ -86,7 +87,10 @@ pub fn replace<S: Store>(
 }
 
 /// Opens a store for writing, and makes changes to it. Changes that change nothing do not open it.
-fn open_and_write<S: Store>(store: &mut S, changes: &Changes<'_>) -> Result<(), WriteError>
+pub(crate) fn open_and_write<S: Store>(
+    store: &mut S,
+    changes: &Changes<'_>,
+) -> Result<(), WriteError>
     requires old { HasLength (S.contents store.old) changes.now.old_length }
     requires fits { changes.now.old_length + length changes.now.growth.now < 2 ^ 64 }
     requires inside { All (LiesIn (changes.now.old_length + length changes.now.growth.now))
@@ -115,7 +119,7 @@ fn open_and_write<S: Store>(store: &mut S, changes: &Changes<'_>) -> Result<(), 
 }
 
 /// The pieces of new bytes that turn as many old ones into them: runs of blocks that differ.
-fn differences<'a>(
+pub(crate) fn differences<'a>(
     alloc: Global,
     old: &[u8],
     new: &'a [u8],
@@ -125,6 +129,8 @@ fn differences<'a>(
         All (LiesIn (length old.now)) (patches_of pieces.items)) }
     ensures makes { IfOk result (λ pieces.
         laid (patches_of pieces.items) old.now ≡ new.now) }
+    ensures stand { IfOk result (λ pieces. All (Stands new.now) (patches_of pieces.items)) }
+    ensures changes { IfOk result (λ pieces. All (IsChange old.now) (patches_of pieces.items)) }
     ensures idle { old.now ≡ new.now → IsOkAnd result (λ pieces. pieces.items ≡ []) }
 {
     let mut pieces = Vec::new(alloc);

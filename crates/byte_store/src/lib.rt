@@ -1,16 +1,20 @@
 //! Stores of bytes that are read whole, and in which only what changes is written.
 #![tactic(auto)]
 
+pub mod composed;
 pub mod difference;
 pub mod file;
+mod gaps;
 pub mod laws;
 pub mod memory;
 pub mod opens;
 pub mod pieces;
 pub mod reading;
+mod shown;
 pub mod stores;
 pub mod writing;
 
+pub use crate::composed::{Difference, OwnedPiece, Span, composed_difference, make_difference};
 pub use crate::difference::{ReplaceError, replace};
 pub use crate::file::{FileStore, RuntimeFiles};
 pub use crate::memory::{MemoryFile, MemoryStore};

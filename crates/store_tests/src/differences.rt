@@ -1,8 +1,15 @@
 //! Stores whose bytes become others, by writes of what differs.
+ghost use Rattle.std.specs.Prelude.{◌≡◌, ◌≤◌, All, length};
+ghost use Rattle.byte_store.specs.Laid.{LiesIn, patches_of};
+ghost use Rattle.byte_store.specs.Composed.{IsDifference};
+
 use crate::runs::{left, planned};
 use crate::support::{Runtime, same, same_bytes, wants_memory};
 use crate::trial::{Plan, TrialStore};
-use byte_store::{MemoryStore, ReplaceError, replace};
+use byte_store::{
+    Difference, MemoryStore, Piece, ReplaceError, Span, composed_difference, make_difference,
+    replace,
+};
 use std::alloc::{AllocError, Global};
 
 fn word(answer: Result<(), ReplaceError>) -> &'static str {
@@ -189,4 +196,184 @@ fn stays_where_there_is_no_memory(rt: HostRuntime) {
     }
     same(&rt, "answer", &word(answer), &"done");
     same_bytes(&rt, "bytes", &store.inner.bytes, b"aXc");
+}
+
+// Bytes that are composed of others: so many, with spans and pieces.
+#[derive(Clone, Copy)]
+struct Composition<'a> {
+    size: usize,
+    kept: &'a [Span],
+    cleared: &'a [Span],
+    pieces: &'a [Piece<'a>],
+}
+
+fn span(start: usize, end: usize) -> Span
+    ensures { (result.start ≡ start) × (result.end ≡ end) }
+{
+    Span { start, end }
+}
+
+fn has(spans: &[Span], position: usize) -> bool {
+    spans
+        .iter()
+        .any(|span| span.start <= position && position < span.end)
+}
+
+// The byte at a position: that of a piece, of the source or 0.
+fn byte_at(composition: Composition<'_>, source: &[u8], position: usize) -> u8 {
+    for piece in composition.pieces {
+        let offset = piece.offset as usize;
+        if offset <= position && position - offset < piece.bytes.len() {
+            return piece.bytes[position - offset];
+        }
+    }
+    if position >= source.len()
+        || !has(composition.kept, position)
+        || has(composition.cleared, position)
+    {
+        return 0;
+    }
+    source[position]
+}
+
+// The composed bytes, one after another.
+fn composed(
+    alloc: Global,
+    composition: Composition<'_>,
+    source: &[u8],
+) -> Result<Vec<u8>, AllocError> {
+    let mut bytes = Vec::new(alloc);
+    for position in 0..composition.size {
+        bytes.push(byte_at(composition, source, position))?;
+    }
+    Ok(bytes)
+}
+
+// What of them differs, asked for once more where memory was refused.
+fn difference_of(rt: &impl Runtime, composition: Composition<'_>, source: &[u8]) -> Difference
+    requires { All (LiesIn composition.size) (patches_of composition.pieces.now) }
+    ensures { IsDifference source.now result }
+{
+    let Composition {
+        size,
+        kept,
+        cleared,
+        pieces,
+    } = composition;
+    match composed_difference(rt.alloc(), source, size, kept, cleared, pieces) {
+        Ok(difference) => difference,
+        Err(_) => composed_difference(rt.alloc(), source, size, kept, cleared, pieces).expect(
+            rt, "memory",
+        ),
+    }
+}
+
+// Makes them in a store with the bytes of the source, by so many writes.
+fn make(rt: &impl Runtime, composition: Composition<'_>, source: &[u8], writes: usize)
+    requires inside { All (LiesIn composition.size) (patches_of composition.pieces.now) }
+    requires few { length source.now ≤ 100000 }
+{
+    let difference = difference_of(rt, composition, source);
+    let mut store = TrialStore::closed(rt, source, planned(99, 12_288, 0, false));
+    let length = source.len() as u64;
+    let answer = again!(rt; make_difference(rt.alloc(), &mut store, length, &difference));
+    same(
+        rt,
+        "answer",
+        &(word(answer), store.writes),
+        &("done", writes),
+    );
+    let want = again!(rt; composed(rt.alloc(), composition, source)).expect(rt, "memory");
+    same_bytes(rt, "bytes", &store.inner.bytes, &want);
+}
+
+const SOURCE: &[u8] = b"abcdefghij";
+
+// Two spans are kept, the second of which comes first, and one is cleared. A piece changes the source, another is what
+// it has there, and a third lies behind its end.
+#[test]
+fn longer_composed_bytes(rt: HostRuntime) {
+    let pieces = [
+        Piece {
+            offset: 3,
+            bytes: b"XY",
+        },
+        Piece {
+            offset: 7,
+            bytes: b"h",
+        },
+        Piece {
+            offset: 9,
+            bytes: b"jkZ",
+        },
+    ];
+    let composition = Composition {
+        size: 14,
+        kept: &[span(6, 9), span(0, 4)],
+        cleared: &[span(1, 2), span(3, 4)],
+        pieces: &pieces,
+    };
+    let want = again!(&rt; composed(rt.alloc(), composition, SOURCE)).expect(&rt, "memory");
+    same_bytes(&rt, "composed", &want, b"a\0cXY\0ghijkZ\0\0");
+    make(&rt, composition, SOURCE, 4);
+}
+
+// The store is cut, and what is cut off is not written.
+#[test]
+fn shorter_composed_bytes(rt: HostRuntime) {
+    let pieces = [Piece {
+        offset: 3,
+        bytes: b"XY",
+    }];
+    let composition = Composition {
+        size: 7,
+        kept: &[span(0, 9)],
+        cleared: &[span(1, 3), span(6, 9)],
+        pieces: &pieces,
+    };
+    let want = again!(&rt; composed(rt.alloc(), composition, SOURCE)).expect(&rt, "memory");
+    same_bytes(&rt, "composed", &want, b"a\0\0XYf\0");
+    make(&rt, composition, SOURCE, 3);
+}
+
+// Three blocks of ones.
+fn ones(alloc: Global) -> Result<Vec<u8>, AllocError> {
+    let mut bytes = Vec::new(alloc);
+    bytes.resize(12_288, 1)?;
+    Ok(bytes)
+}
+
+// Zeros are written by the block, where nothing is kept.
+#[test]
+fn zeros_in_blocks(rt: HostRuntime) {
+    let source = again!(&rt; ones(rt.alloc())).expect(&rt, "memory");
+    let composition = Composition {
+        size: 12_000,
+        kept: &[span(0, 100), span(11_000, 20_000)],
+        cleared: &[],
+        pieces: &[],
+    };
+    if source.len() <= 12_288 {
+        make(&rt, composition, &source, 3);
+    }
+}
+
+// Bytes that are the same need no store that can be opened.
+#[test]
+fn same_composed_bytes_write_nothing(rt: HostRuntime) {
+    let pieces = [Piece {
+        offset: 2,
+        bytes: b"cdef",
+    }];
+    let composition = Composition {
+        size: 10,
+        kept: &[span(0, 4), span(3, 10)],
+        cleared: &[span(2, 6)],
+        pieces: &pieces,
+    };
+    let difference = difference_of(&rt, composition, SOURCE);
+    let mut store = TrialStore::closed(&rt, SOURCE, SHUT);
+    let answer = make_difference(rt.alloc(), &mut store, 10, &difference);
+    let found = (word(answer), store.inner.is_open, store.writes);
+    same(&rt, "writes", &found, &("done", false, 0));
 }
