@@ -1,6 +1,7 @@
 -- The bytes that an image is written to, and why there are none.
-use Rattle.std.specs.Prelude.{ℕ, ◌≡◌, ◌⊎◌, List, Option, true, false}
+use Rattle.std.specs.Prelude.{ℕ, ◌≡◌, ◌⊎◌, List, [], length, Option, true, false}
 use Rattle.std.specs.Io.KnownBytes.{Appends}
+use Rattle.byte_store.specs.declared.composed.Difference.{Difference}
 use Rattle.elf_format.specs.declared.fault.ElfFault.TheVariants.{NumberTooLarge}
 use Rattle.elf_image.specs.Image.{Image}
 use Rattle.elf_blocks.specs.declared.fault.LayoutFault.{LayoutFault}
@@ -35,6 +36,12 @@ pub record IsEditWritten (image : Image) (bytes : List ℕ) : Type 0 where
 pub record IsImageWritten (image : Image) (bytes : List ℕ) : Type 0 where
   pub unchanged : image.changed ≡ false → bytes ≡ image.source
   pub edited : image.changed ≡ true → IsEditWritten image bytes
+
+-- nothing differs from these bytes
+pub record IsNoDifference (bytes : List ℕ) (d : Difference) : Type 0 where
+  pub no_growth : d.growth.items ≡ []
+  pub no_pieces : d.pieces.items ≡ []
+  pub as_long : d.new_length ≡ length bytes
 
 -- two blocks of memory overlap that can't move, or the file header and the program header table share some of the file
 abbrev pub IsOverlap : Image → Type 0

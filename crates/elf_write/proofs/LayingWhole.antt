@@ -1,16 +1,18 @@
--- Headers, tables and contents laid over bytes make the bytes of the file.
-use Rattle.std.proofs.Common.{◌≡◌, ◌≤◌, ◌<◌, ◌+◌, ◌∙◌, ℕ, Bool, List, [], ◌∷◌, ◌++◌, length, map, drop, get_or, refl, sym, ap, subst, Option, arith}
+-- Headers, tables and contents laid over what stays make the bytes of the file.
+use Rattle.std.proofs.Common.{◌≡◌, ◌≤◌, ◌<◌, ◌+◌, ◌*◌, ◌∙◌, ℕ, Bool, List, [], ◌∷◌, ◌++◌, length, map, drop, get_or, sym, ap, subst, Option, All, arith}
 use Rattle.std.specs.Prelude.{slice_index, not, ◌&&◌, if◌then◌else◌}
 use Rattle.std.specs.List.{flat_map}
-use Rattle.std.proofs.lemmas.List.{drop_all, drop_more, get_or-map, length-map}
+use Rattle.std.proofs.lemmas.List.{append-nil, append_assoc, drop_all, drop_more, get_or-map, length-map}
 use Rattle.byte_store.specs.Known.{put_at}
-use Rattle.byte_store.specs.Laid.{LiesIn, Patch, laid}
+use Rattle.byte_store.specs.Laid.{LiesIn, Patch, laid, patch_of, patches_of}
+use Rattle.byte_store.specs.declared.pieces.Piece.{Piece}
 use Rattle.elf_format.specs.declared.form.Form.{Form}
 use Rattle.elf_format.specs.declared.records.EntryNumbers.{EntryNumbers}
 use Rattle.elf_format.specs.declared.records.FileHeader.{FileHeader}
 use Rattle.elf_format.specs.declared.records.SectionHeader.{SectionHeader}
 use Rattle.elf_format.specs.Image.{Image}
 use Rattle.elf_format.specs.Places.{Place, occupies_file}
+use Rattle.elf_format.specs.Records.{section_header_size}
 use Rattle.elf_records.specs.Spelled.{spelled_file_header, spelled_segment_header}
 use Rattle.elf_image.specs.declared.section.Section.{Section}
 use Rattle.elf_image.specs.Edited.{IsEdited}
@@ -21,7 +23,6 @@ use Rattle.elf_plan.specs.Kept.{KeptSection, image_at_read, interpreter_number, 
 use Rattle.elf_plan.specs.Memory.{Resized}
 use Rattle.elf_plan.specs.Plan.{Layout, resized}
 use Rattle.elf_plan.specs.PlanSeen.{place_seen}
-use Rattle.elf_plan.proofs.ApartLists.{Each}
 use Rattle.elf_written.specs.Base.{base, base_byte, is_data}
 use Rattle.elf_written.specs.Headers.{written_header}
 use Rattle.elf_written.specs.Writing.{IsWholeWriting, Writing, patch, patches, patches_of_headers, patches_of_section, patches_of_sections, written_bytes}
@@ -29,19 +30,11 @@ use Rattle.elf_written.proofs.Laying.{length-values}
 use Rattle.elf_written.proofs.Patches.{patches_lie}
 use Rattle.elf_written.proofs.WholeFacts.{lengths, read_facts}
 use Rattle.elf_write.specs.Inner.{writing_of}
-use Rattle.elf_write.specs.declared.laying.SpelledHeaders.{SpelledHeaders}
-use Rattle.elf_write.specs.LayingSteps.{AreHeadersSpelled, DoHeadersFit, IsLayable, Lie, content_patches, header_patches, is_data_at}
+use Rattle.elf_write.specs.declared.spelled.SpelledHeaders.{SpelledHeaders}
+use Rattle.elf_write.specs.LayingSteps.{AreHeadersSpelled, DoHeadersFit, content_patches, header_patches, is_data_at}
+use Rattle.elf_write.specs.PieceSteps.{IsOverBase}
+use Rattle.elf_write.proofs.Composing.{all_each, over_base}
 use Rattle.elf_write.proofs.LayingPlaces.{kept_here, length-kept}
-
--- ## Patches
-
-lie-append : (n : ℕ) (ps qs : List Patch) → Lie n (ps ++ qs) → Lie n ps × Lie n qs
-lie-append n [] qs h = (tt, h)
-lie-append n (p ∷ ps) qs h = let rest = lie-append n ps qs h.1 in ((h.0, rest.0), rest.1)
-
-laid-append : (ps qs : List Patch) (bytes : List ℕ) → laid (ps ++ qs) bytes ≡ laid qs (laid ps bytes)
-laid-append [] qs bytes = refl
-laid-append (p ∷ ps) qs bytes = laid-append ps qs (put_at p.offset p.bytes bytes)
 
 -- ## Section by section
 
@@ -49,10 +42,9 @@ laid-append (p ∷ ps) qs bytes = laid-append ps qs (put_at p.offset p.bytes byt
 abbrev pub left_patches : Resized → List KeptSection → List Place → List (List ℕ) → ℕ → List Patch
 left_patches r ks ps cs i = patches_of_sections r (drop i ks) (drop i ps) (drop i cs)
 
--- those before it are laid
-pub record IsLaidTo (r : Resized) (ks : List KeptSection) (ps : List Place) (cs : List (List ℕ)) (i : ℕ) (old now : List ℕ) : Type 0 where
-  pub lie : Lie (length now) (left_patches r ks ps cs i)
-  pub same : laid (left_patches r ks ps cs i) now ≡ laid (patches_of_sections r ks ps cs) old
+-- those before it are there
+abbrev pub IsPushedTo : Resized → List KeptSection → List Place → List (List ℕ) → ℕ → List Patch → List Patch → Type 0
+IsPushedTo r ks ps cs i old now = now ++ left_patches r ks ps cs i ≡ old ++ patches_of_sections r ks ps cs
 
 left-at : (r : Resized) (ks : List KeptSection) (ps : List Place) (cs : List (List ℕ)) (i : ℕ) (s : KeptSection) (p : Place) (c : List ℕ)
     → i < length ks → i < length ps → i < length cs → get_or ks i s ≡ s → get_or ps i p ≡ p → get_or cs i c ≡ c
@@ -121,43 +113,43 @@ left-next image interpreter sections places ps contents i number x bytes d stays
     of_data = tested ∙ ap (λ (n : ℕ). is_data_at interpreter n (section_kept x)) at.of_number
         ∙ ap (λ (o : Option ℕ). is_data_at o (slice_index image.section_numbers i) (section_kept x)) same
 
--- the patch of the section lies in the bytes
-pub next_lies : (r : Resized) (ks : List KeptSection) (ps : List Place) (cs : List (List ℕ)) (i : ℕ) (old now : List ℕ)
-    (first : List Patch) → left_patches r ks ps cs i ≡ first ++ left_patches r ks ps cs (i + 1)
-    → IsLaidTo r ks ps cs i old now → Lie (length now) first
-next_lies r ks ps cs i old now first is so_far =
-    (lie-append (length now) first (left_patches r ks ps cs (i + 1)) (subst (λ (l : List Patch). Lie (length now) l) is so_far.lie)).0
+-- with it there
+pub pushed-next : (r : Resized) (ks : List KeptSection) (ps : List Place) (cs : List (List ℕ)) (i : ℕ) (old now new first : List Patch)
+    → left_patches r ks ps cs i ≡ first ++ left_patches r ks ps cs (i + 1)
+    → IsPushedTo r ks ps cs i old now → new ≡ now ++ first → IsPushedTo r ks ps cs (i + 1) old new
+pushed-next r ks ps cs i old now new first is so_far done =
+    ap (λ (l : List Patch). l ++ left_patches r ks ps cs (i + 1)) done
+    ∙ append_assoc now first (left_patches r ks ps cs (i + 1))
+    ∙ ap (λ (l : List Patch). now ++ l) (sym is)
+    ∙ so_far
 
--- with it laid
-pub laid-next : (r : Resized) (ks : List KeptSection) (ps : List Place) (cs : List (List ℕ)) (i : ℕ) (old now new : List ℕ)
-    (first : List Patch) → left_patches r ks ps cs i ≡ first ++ left_patches r ks ps cs (i + 1)
-    → IsLaidTo r ks ps cs i old now → length new ≡ length now → new ≡ laid first now → IsLaidTo r ks ps cs (i + 1) old new
-laid-next r ks ps cs i old now new first is so_far long done = record {
-  lie = subst (λ (n : ℕ). Lie n (left_patches r ks ps cs (i + 1))) (sym long)
-      (lie-append (length now) first (left_patches r ks ps cs (i + 1)) (subst (λ (l : List Patch). Lie (length now) l) is so_far.lie)).1;
-  same =
-      ap (laid (left_patches r ks ps cs (i + 1))) done
-      ∙ sym (laid-append first (left_patches r ks ps cs (i + 1)) now)
-      ∙ ap (λ (l : List Patch). laid l now) (sym is)
-      ∙ so_far.same;
-}
-
--- all are laid
-pub laid-all : (image : Image) (sections : List Section) (ps : List Place) (cs : List (List ℕ)) (i : ℕ) (old now : List ℕ)
+-- all are there
+pub pushed-all : (image : Image) (sections : List Section) (ps : List Place) (cs : List (List ℕ)) (i : ℕ) (old now : List Patch)
     → IsEdited image → map section_kept sections ≡ image.sections → length sections ≤ i
-    → IsLaidTo (resized image) (kept_sections image) ps cs i old now
-    → now ≡ laid (patches_of_sections (resized image) (kept_sections image) ps cs) old
-laid-all image sections ps cs i old now edited seen end so_far =
+    → IsPushedTo (resized image) (kept_sections image) ps cs i old now
+    → now ≡ old ++ patches_of_sections (resized image) (kept_sections image) ps cs
+pushed-all image sections ps cs i old now edited seen end so_far =
     let many : length image.sections ≡ length sections = sym (ap length seen) ∙ length-map sections section_kept in
     let none : drop i (kept_sections image) ≡ [] =
     drop_all i (kept_sections image) (omega (arith, length-kept image edited.is_edit.sections.numbered)) in
-    sym (ap (λ (l : List KeptSection). laid (patches_of_sections (resized image) l (drop i ps) (drop i cs)) now) none) ∙ so_far.same
+    sym (append-nil now)
+    ∙ ap (λ (l : List KeptSection). now ++ patches_of_sections (resized image) l (drop i ps) (drop i cs)) (sym none)
+    ∙ so_far
+
+-- ## Piece by piece
+
+-- with one piece more laid
+pub laid-next : (pieces : List Piece) (i : ℕ) (d : Piece) (old now : List ℕ) → i < length pieces
+    → laid (drop i (patches_of pieces)) now ≡ old
+    → laid (drop (i + 1) (patches_of pieces)) (put_at (get_or pieces i d).offset (get_or pieces i d).bytes.now now) ≡ old
+laid-next pieces i d old now within so_far =
+    let p : Piece = get_or pieces i d in
+    let first : drop i (patches_of pieces) ≡ patch_of p ∷ drop (i + 1) (patches_of pieces) =
+    drop_more (patches_of pieces) i (patch_of p) (omega (arith, length-map pieces patch_of))
+    ∙ ap (λ (q : Patch). q ∷ drop (i + 1) (patches_of pieces)) (get_or-map patch_of pieces i d (patch_of p) within) in
+    sym (ap (λ (l : List Patch). laid l now) first) ∙ so_far
 
 -- ## All of it
-
-lie-each : (n : ℕ) (qs : List Patch) → Each (LiesIn n) qs → Lie n qs
-lie-each n [] h = tt
-lie-each n (q ∷ qs) h = (h.0, lie-each n qs h.1)
 
 -- what the headers and tables ask for
 pub headers_fit : (image : Image) (plan : Layout) (form : Form) (header : FileHeader) (headers : List SectionHeader)
@@ -192,40 +184,71 @@ same_patches w spelled are =
     ∙ ap (λ (l : List ℕ). patch 0 first ∷ patch w.plan.e_phoff l ∷ patch w.plan.e_shoff spelled.sections.items ∷ []) are.of_segments
     ∙ ap (λ (l : List ℕ). patch 0 first ∷ patch w.plan.e_phoff second ∷ patch w.plan.e_shoff l ∷ []) are.of_sections
 
--- what is laid lies in the bytes of the file
-pub layable : (image : Image) (plan : Layout) (form : Form) (header : FileHeader) (headers : List SectionHeader)
-    (spelled : SpelledHeaders) (contents : List (List ℕ)) (size : ℕ) → form ≡ image.form → header ≡ written_header image plan
+-- each section has a place and bytes
+pub as_many : (image : Image) (plan : Layout) (headers : List SectionHeader) (contents : List (List ℕ))
     → ((raw : List EntryNumbers) × IsWholeWriting (writing_of image plan headers contents raw))
-    → AreHeadersSpelled form header plan.segments headers spelled → size ≡ written_size (resized image) plan
-    → IsLayable image plan spelled contents size
-layable image plan form header headers spelled contents size same_form same_header (raw, is) are same_size =
+    → (length plan.places ≡ length image.sections) × (length contents ≡ length image.sections)
+as_many image plan headers contents (raw, is) =
     let w : Writing = writing_of image plan headers contents raw in
     let l = lengths w is (read_facts w is) in
-    let lie : Each (LiesIn size) (patches w) = subst (λ (n : ℕ). Each (LiesIn n) (patches w)) (sym same_size) (patches_lie w is) in
-    let own : Lie size (patches_of_headers w) = (lie.0, (lie.1.0, (lie.1.1.0, tt))) in record {
-      headers_lie = subst (λ (qs : List Patch). Lie size qs)
-          (sym (same_patches w spelled (spelled_as form header image plan headers spelled same_form same_header are))) own;
-      as_many_places = l.places ∙ sym l.sections;
-      as_many_contents = l.contents ∙ sym l.sections;
-      contents_lie = lie-each size (patches_of_sections (resized image) (kept_sections image) plan.places contents) lie.1.1.1;
-    }
+    (l.places ∙ sym l.sections, l.contents ∙ sym l.sections)
+
+-- The headers, tables and contents of a file, each at its place; it has so many bytes.
+pub record IsFileOf (image : Image) (plan : Layout) (headers : List SectionHeader) (contents : List (List ℕ)) (spelled : SpelledHeaders)
+    (form : Form) (header : FileHeader) (size : ℕ) (these : List Patch) : Type 0 where
+  pub same_form : form ≡ image.form
+  pub same_header : header ≡ written_header image plan
+  pub are_spelled : AreHeadersSpelled form header plan.segments headers spelled
+  pub same_size : size ≡ plan.e_shoff + length plan.places * section_header_size form
+  pub are : these ≡ header_patches plan spelled ++ patches_of_sections (resized image) (kept_sections image) plan.places contents
+
+module _ (image : Image) (plan : Layout) (headers : List SectionHeader) (contents : List (List ℕ)) (spelled : SpelledHeaders) (form : Form)
+    (header : FileHeader) (size : ℕ) (these : List Patch) (of : IsFileOf image plan headers contents spelled form header size these) where
+  of_sections : List Patch
+  of_sections = patches_of_sections (resized image) (kept_sections image) plan.places contents
+
+  -- they are those of what is written
+  are_patches : (raw : List EntryNumbers) → these ≡ patches (writing_of image plan headers contents raw)
+  unfolding of_sections
+  are_patches raw = of.are ∙ ap (λ (qs : List Patch). qs ++ of_sections)
+      (same_patches (writing_of image plan headers contents raw) spelled
+      (spelled_as form header image plan headers spelled of.same_form of.same_header of.are_spelled))
+
+  is_size : size ≡ written_size (resized image) plan
+  is_size = of.same_size ∙ ap (λ (f : Form). plan.e_shoff + length plan.places * section_header_size f) of.same_form
+
+  -- they lie in the bytes of the file
+  pub all_lie : ((raw : List EntryNumbers) × IsWholeWriting (writing_of image plan headers contents raw)) → All (LiesIn size) these
+  all_lie (raw, is) =
+      subst (λ (n : ℕ). All (LiesIn n) these) (sym is_size)
+      (subst (λ (qs : List Patch). All (LiesIn (written_size (resized image) plan)) qs) (sym (are_patches raw))
+      (all_each (LiesIn (written_size (resized image) plan)) (patches (writing_of image plan headers contents raw))
+      (patches_lie (writing_of image plan headers contents raw) is)))
+
+  -- laid over what stays they make it
+  pub laid-whole : (raw : List EntryNumbers) (old new : List ℕ) → old ≡ base (resized image) size → new ≡ laid these old
+      → new ≡ written_bytes (writing_of image plan headers contents raw)
+  unfolding written_bytes
+  laid-whole raw old new is_old is_new =
+      is_new ∙ ap (laid these) (is_old ∙ ap (base (resized image)) is_size)
+      ∙ ap (λ (qs : List Patch). laid qs (base (resized image) (written_size (resized image) plan))) (are_patches raw)
+
+  -- its bytes are theirs over what stays
+  whole_over : (raw : List EntryNumbers) → IsWholeWriting (writing_of image plan headers contents raw)
+      → IsOverBase (resized image) these size (written_bytes (writing_of image plan headers contents raw))
+  whole_over raw is =
+      let bytes : List ℕ = written_bytes (writing_of image plan headers contents raw) in
+      subst (λ (n : ℕ). IsOverBase (resized image) these n bytes) (sym is_size)
+      (subst (λ (qs : List Patch). IsOverBase (resized image) qs (written_size (resized image) plan) bytes) (sym (are_patches raw))
+      (over_base (writing_of image plan headers contents raw) is))
+
+  -- so what makes such bytes makes those of the file
+  pub made-whole : ((raw : List EntryNumbers) × IsWholeWriting (writing_of image plan headers contents raw)) → (made : List ℕ)
+      → ((bytes : List ℕ) → IsOverBase (resized image) these size bytes → made ≡ bytes)
+      → (raw : List EntryNumbers) → made ≡ written_bytes (writing_of image plan headers contents raw)
+  unfolding written_bytes
+  made-whole (known, is) made makes raw = makes (written_bytes (writing_of image plan headers contents known)) (whole_over known is)
 
 pub length-based : (r : Resized) (size : ℕ) (bytes : List ℕ) → bytes ≡ base r size → length bytes ≡ size
 unfolding base
 length-based r size bytes is = ap length is ∙ length-values (base_byte r) 0 size
-
--- the bytes of the file
-pub laid-whole : (image : Image) (plan : Layout) (form : Form) (header : FileHeader) (headers : List SectionHeader)
-    (spelled : SpelledHeaders) (contents : List (List ℕ)) (raw : List EntryNumbers) (size : ℕ) (old new : List ℕ)
-    → form ≡ image.form → header ≡ written_header image plan → AreHeadersSpelled form header plan.segments headers spelled
-    → size ≡ written_size (resized image) plan → old ≡ base (resized image) size
-    → new ≡ laid (patches_of_sections (resized image) (kept_sections image) plan.places contents) (laid (header_patches plan spelled) old)
-    → new ≡ written_bytes (writing_of image plan headers contents raw)
-unfolding written_bytes
-laid-whole image plan form header headers spelled contents raw size old new same_form same_header are same_size is_old is_new =
-    let w : Writing = writing_of image plan headers contents raw in
-    let of_sections : List Patch = patches_of_sections (resized image) (kept_sections image) plan.places contents in
-    is_new
-    ∙ ap (λ (qs : List Patch). laid of_sections (laid qs old))
-    (same_patches w spelled (spelled_as form header image plan headers spelled same_form same_header are))
-    ∙ ap (λ (l : List ℕ). laid of_sections (laid (patches_of_headers w) l)) (is_old ∙ ap (base (resized image)) same_size)

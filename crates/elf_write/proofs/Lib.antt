@@ -1,5 +1,6 @@
 pub mod LayingFacts
 pub mod LayingPlaces
+pub mod Composing
 pub mod LayingWhole
 pub mod ReadFacts
 pub mod OthersCopied

@@ -1,13 +1,13 @@
 -- Steps towards the bytes of a written file.
 use Rattle.std.specs.Prelude.{ℕ, ◌≡◌, ◌<◌, List, [], ◌∷◌, length, map, filter, slice_index, Bool, ◌&&◌, not, Option, nat_lt, if◌then◌else◌, ◌==◌, IsTrue}
 use Rattle.std.specs.List.{flat_map, list_all, list_any}
-use Rattle.byte_store.specs.Laid.{LiesIn, Patch}
+use Rattle.byte_store.specs.Laid.{Patch}
 use Rattle.elf_format.specs.declared.form.Form.{Form}
 use Rattle.elf_format.specs.declared.records.FileHeader.{FileHeader}
 use Rattle.elf_format.specs.declared.records.SectionHeader.{SectionHeader}
 use Rattle.elf_format.specs.declared.records.SegmentHeader.{SegmentHeader}
 use Rattle.elf_format.specs.declared.range.Range.{Range}
-use Rattle.elf_format.specs.Image.{Image, ImageSection}
+use Rattle.elf_format.specs.Image.{ImageSection}
 use Rattle.elf_format.specs.File.{loads_of}
 use Rattle.elf_format.specs.Options.{is_some_and}
 use Rattle.elf_format.specs.Placement.{file_part}
@@ -16,12 +16,12 @@ use Rattle.elf_records.specs.Fields.{do_fields_fit}
 use Rattle.elf_records.specs.Spelled.{file_header_fields, section_fields, segment_fields}
 use Rattle.elf_records.specs.Spelled.{spelled_file_header, spelled_section_header, spelled_segment_header}
 use Rattle.elf_plan.specs.Follow.{is_loaded_section}
-use Rattle.elf_plan.specs.Kept.{KeptSection, kept_sections, place_at_read}
+use Rattle.elf_plan.specs.Kept.{KeptSection, place_at_read}
 use Rattle.elf_plan.specs.Memory.{Resized}
-use Rattle.elf_plan.specs.Plan.{Layout, resized}
+use Rattle.elf_plan.specs.Plan.{Layout}
 use Rattle.elf_written.specs.Base.{has_position, is_opaque, is_rewritten}
-use Rattle.elf_written.specs.Writing.{patch, patches_of_sections}
-use Rattle.elf_write.specs.declared.laying.SpelledHeaders.{SpelledHeaders}
+use Rattle.elf_written.specs.Writing.{patch}
+use Rattle.elf_write.specs.declared.spelled.SpelledHeaders.{SpelledHeaders}
 
 -- ## Bytes by their positions
 
@@ -59,11 +59,6 @@ rewritten_places r kept = map (λ s. file_range (place_at_read s.section)) (filt
 
 -- ## What is laid over the bytes that stay
 
--- each patch lies in so many bytes
-abbrev pub Lie : ℕ → List Patch → Type 0
-Lie size [] = Unit {0}
-Lie size (q ∷ qs) = LiesIn size q × Lie size qs
-
 -- each number of the headers fits its field
 pub record DoHeadersFit (form : Form) (header : FileHeader) (segments : List SegmentHeader) (sections : List SectionHeader) : Type 0 where
   pub of_file : IsTrue (do_fields_fit (file_header_fields form header))
@@ -85,10 +80,3 @@ header_patches plan spelled =
 -- the bytes of a section at its place, where it has one in the file and isn't data
 abbrev pub content_patches : Place → Bool → List ℕ → List Patch
 content_patches place is_data bytes = if occupies_file place && not is_data then patch place.sh_offset bytes ∷ [] else []
-
--- headers, tables and contents lie in so many bytes, and each section has a place and bytes
-pub record IsLayable (image : Image) (plan : Layout) (spelled : SpelledHeaders) (contents : List (List ℕ)) (size : ℕ) : Type 0 where
-  pub headers_lie : Lie size (header_patches plan spelled)
-  pub as_many_places : length plan.places ≡ length image.sections
-  pub as_many_contents : length contents ≡ length image.sections
-  pub contents_lie : Lie size (patches_of_sections (resized image) (kept_sections image) plan.places contents)

@@ -3,6 +3,7 @@ pub mod HeaderSteps
 pub mod EntrySteps
 pub mod Inner
 pub mod LayingSteps
+pub mod PieceSteps
 pub mod Numbers
 pub mod Refused
 pub mod SymbolSteps

@@ -17,7 +17,7 @@ use elf_image::{Builder, Segment};
 use std::alloc::{AllocError, Global};
 
 // A position, or the end of so many bytes where it is past that.
-fn within(position: u128, len: usize) -> usize
+pub(crate) fn within(position: u128, len: usize) -> usize
     ensures { result ≡ min position len }
 {
     if position < len as u128 {
@@ -135,7 +135,7 @@ fn push_rewritten(
 }
 
 // The old places of what is written anew.
-fn old_places<'data>(
+pub(crate) fn old_places<'data>(
     alloc: Global,
     read: &Builder<'data>,
     image: &Builder<'data>,

@@ -11,21 +11,17 @@ ghost use Rattle.elf_written.specs.Laws.{ShowsFinal};
 ghost use Rattle.elf_written.specs.Stays.{AreOthersSeen, IsDataSeen};
 ghost use Rattle.elf_written.specs.Whole.{IsWhole};
 ghost use Rattle.elf_written.specs.Writing.{AreHeadersApart, IsWritten};
-ghost use Rattle.elf_written.specs.Headers.{written_header};
-ghost use Rattle.elf_write.specs.Inner.{AreContents, AreHeaders, ArePromised, AreRaw, AreStrings, IsPlanned, IsWholeWritten, strings_at};
-ghost use Rattle.elf_write.specs.Numbers.{do_numbers_fit as do_all_fit, do_records_fit};
+ghost use Rattle.elf_write.specs.Inner.{AreContents, ArePromised, IsPlanned, IsWholeWritten};
+ghost use Rattle.elf_write.specs.Numbers.{do_numbers_fit as do_all_fit};
+ghost use Rattle.elf_write.specs.PieceSteps.{IsPrepared};
 ghost use Rattle.elf_write.specs.Refused.{AreNoBytes};
 ghost use Rattle.elf_write.specs.Seen.{HasHashes, HasHeaders, IsApart};
 
 use crate::contents::contents;
-use crate::entries::raw_entries;
-use crate::fits::do_numbers_fit;
-use crate::headers::{file_header, section_headers};
 use crate::laying::laid_bytes;
-use crate::made::{Made, made_strings};
+use crate::prepared::{Prepared, prepare};
 use elf_format::form::Form;
 use elf_format::range::Range;
-use elf_format::records::{EntryNumbers, FileHeader, SectionHeader};
 use elf_image::Builder;
 use elf_plan::laws::{plans_are_apart, plans_show_notes};
 use elf_plan::{LayoutFault, Plan, read_again};
@@ -56,7 +52,7 @@ pub(crate) fn form_of(image: &Builder<'_>) -> Form
 }
 
 // Whether the file header and the program header table share no byte of the file.
-fn are_headers_apart(image: &Builder<'_>, plan: &Plan) -> bool
+pub(crate) fn are_headers_apart(image: &Builder<'_>, plan: &Plan) -> bool
     requires { IsPlan (resized image.now) plan.now }
     ensures { result ≡ apart (range 0 (file_header_size image.now.form))
         (written_table (resized image.now) plan.now) }
@@ -68,64 +64,52 @@ fn are_headers_apart(image: &Builder<'_>, plan: &Plan) -> bool
     header.is_apart(table_range(image, plan))
 }
 
-// The bytes of the file with these headers, entries and contents.
+// The bytes of the file with these contents.
 fn laid_with<'data>(
     alloc: Global,
     read: &Builder<'data>,
     image: &Builder<'data>,
     plan: &Plan,
-    made: &Option<Made<'_>>,
-    header: FileHeader,
-    headers: &[SectionHeader],
-    raw: &[EntryNumbers],
+    prepared: &Prepared<'_>,
     contents: &[ByteString<'_>],
 ) -> Result<Vec<u8>, AllocError>
     requires planned { IsPlanned read.now image.now plan.now }
     requires apart { AreHeadersApart image.now plan.now }
-    requires header { header ≡ written_header image.now plan.now }
-    requires headers { AreHeaders (resized image.now)
-        (strings_at image.now made.now image.now.header.e_shstrndx)
-        (kept_sections image.now) plan.now.places headers.now }
-    requires raw { AreRaw (resized image.now) plan.now made.now raw.now }
-    requires contents { AreContents (resized image.now) plan.now made.now raw.now
-        (kept_sections image.now) plan.now.places contents.now }
-    requires fit { do_records_fit image.now.form (written_header image.now plan.now)
-        plan.now.segments headers.now raw.now ≡ true }
+    requires prepared { IsPrepared read.now image.now plan.now prepared.now }
+    requires contents { AreContents (resized image.now) plan.now prepared.now.made
+        prepared.now.raw.items (kept_sections image.now) plan.now.places contents.now }
     ensures { IfOk result (λ bytes. IsWholeWritten image.now plan.now bytes.items) }
 {
-    let bytes = laid_bytes(alloc, read, image, plan, header, headers, contents)?;
+    let header = prepared.header;
+    let bytes = laid_bytes(
+        alloc,
+        read,
+        image,
+        plan,
+        header,
+        &prepared.headers,
+        contents,
+    )?;
     Ok(bytes)
 }
 
-// The bytes of the file with these headers and entries.
+// The bytes of the file, with what is made before the contents.
 #[tactic(auto, using(crate::proofs::Writes::entries_fit))]
 fn bytes_with<'a, 'data>(
     alloc: Global,
     read: &'a Builder<'data>,
     image: &'a Builder<'data>,
     plan: &Plan,
-    made: &'a Option<Made<'_>>,
-    header: FileHeader,
-    headers: &[SectionHeader],
-    raw: &[EntryNumbers],
+    prepared: &'a Prepared<'_>,
 ) -> Result<Vec<u8>, AllocError>
     requires planned { IsPlanned read.now image.now plan.now }
     requires apart { AreHeadersApart image.now plan.now }
-    requires strings { AreStrings read.now image.now made.now }
-    requires header { header ≡ written_header image.now plan.now }
-    requires headers { AreHeaders (resized image.now)
-        (strings_at image.now made.now image.now.header.e_shstrndx)
-        (kept_sections image.now) plan.now.places headers.now }
-    requires raw { AreRaw (resized image.now) plan.now made.now raw.now }
-    requires fit { do_records_fit image.now.form (written_header image.now plan.now)
-        plan.now.segments headers.now raw.now ≡ true }
+    requires prepared { IsPrepared read.now image.now plan.now prepared.now }
     ensures { IfOk result (λ bytes.
         IsWholeWritten image.entry.now plan.now bytes.items) }
 {
-    let contents = contents(alloc, read, image, plan, made, raw)?;
-    laid_with(
-        alloc, read, image, plan, made, header, headers, raw, &contents,
-    )
+    let contents = contents(alloc, read, image, plan, &prepared.made, &prepared.raw)?;
+    laid_with(alloc, read, image, plan, prepared, &contents)
 }
 
 // The bytes of the file, of which the headers share none.
@@ -142,14 +126,8 @@ fn bytes_with_headers_apart<'a, 'data>(
     ensures fault { IfErr result (λ fault.
         fault ≡ NumberTooLarge → do_all_fit image.entry.now plan.now ≡ false) }
 {
-    let made = made_strings(alloc, read, image)?;
-    let raw = raw_entries(alloc, read, image, plan, &made)?;
-    let header = file_header(image, plan);
-    let headers = section_headers(alloc, read, image, plan, &made)?;
-    if !do_numbers_fit(read, image, plan, &made, header, &headers, &raw) {
-        return Err(TableFault::NumberTooLarge);
-    }
-    let bytes = bytes_with(alloc, read, image, plan, &made, header, &headers, &raw)?;
+    let prepared = prepare(alloc, read, image, plan)?;
+    let bytes = bytes_with(alloc, read, image, plan, &prepared)?;
     Ok(bytes)
 }
 

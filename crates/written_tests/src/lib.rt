@@ -16,6 +16,8 @@ mod changes;
 #[cfg(test)]
 mod container;
 #[cfg(test)]
+mod differences;
+#[cfg(test)]
 mod images;
 #[cfg(test)]
 mod paths;

@@ -1,17 +1,19 @@
 //! The bytes that an image is written to.
-ghost use Rattle.std.specs.Prelude.{◌≡◌, false, true, IfErr, IfOk, IsTrue, OnOk};
+ghost use Rattle.std.specs.Prelude.{◌≡◌, false, true, IfErr, IfOk, IsOkAnd, IsTrue, OnOk};
+ghost use Rattle.byte_store.specs.Composed.{IsDifference, made_of};
 ghost use Rattle.elf_plan.specs.Kept.{image_at_read};
 ghost use Rattle.elf_plan.specs.Plan.{IsPlan, resized};
 ghost use Rattle.elf_plan.specs.Refusals.{do_sizes_of_image_fit};
 ghost use Rattle.elf_written.specs.Whole.{IsWhole};
-ghost use Rattle.arwen_elf.specs.Written.{GetsImage, IsEditWritten, IsImageWritten, IsIo, IsNoEdit, IsNoImage, IsNotWritten, IsTold, MayNotWrite};
+ghost use Rattle.arwen_elf.specs.Written.{GetsImage, IsEditWritten, IsImageWritten, IsIo, IsNoDifference, IsNoEdit, IsNoImage, IsNotWritten, IsTold, MayNotWrite};
 
 use crate::elf::rewriter::error::{ElfError, ModifyCause, Result};
 use crate::elf::rewriter::writer::Writer;
+use byte_store::Difference;
 use elf_image::{Builder, ElfFault};
 use elf_layout::lay_out_again;
 use elf_plan::{LayoutFault, Plan, read_again};
-use elf_write::{CountedWrite, Sink, image_bytes_again, write_all_counted};
+use elf_write::{CountedWrite, Sink, image_bytes_again, image_pieces_again, write_all_counted};
 use patch_bytes::ByteString;
 use std::alloc::Global;
 use std::fs;
@@ -49,6 +51,58 @@ fn edited_bytes(alloc: Global, image: &Builder<'_>) -> std::result::Result<Vec<u
     match lay_out_again(alloc, &read, image) {
         Ok(plan) => bytes_by(alloc, &read, image, &plan),
         Err(fault) => Err(fault),
+    }
+}
+
+// What of the bytes of an edited image by a plan differs from its source, with the image that was read from this.
+fn pieces_by<'data>(
+    alloc: Global,
+    read: &Builder<'data>,
+    image: &Builder<'data>,
+    plan: &Plan,
+) -> std::result::Result<Difference, LayoutFault>
+    requires read { read.now ≡ image_at_read image.now }
+    requires whole { IsWhole read.now image.now }
+    requires planned { IsPlan (resized image.now) plan.now }
+    requires sized { IsTrue (do_sizes_of_image_fit image.now) }
+    ensures makeable { IfOk result (λ d. IsDifference image.now.source d) }
+    ensures bytes { IfOk result (λ d.
+        IsEditWritten image.now (made_of image.now.source d)) }
+    ensures fault { IfErr result (IsNoEdit image.now) }
+{
+    match image_pieces_again(alloc, read, image, plan) {
+        Ok(difference) => Ok(difference),
+        Err(fault) => Err(fault),
+    }
+}
+
+// What of the bytes of an edited image differs from its source.
+fn edited_pieces(alloc: Global, image: &Builder<'_>) -> std::result::Result<Difference, LayoutFault>
+    requires { IsWhole (image_at_read image.now) image.now }
+    ensures makeable { IfOk result (λ d. IsDifference image.now.source d) }
+    ensures bytes { IfOk result (λ d.
+        IsEditWritten image.now (made_of image.now.source d)) }
+    ensures fault { IfErr result (IsNoEdit image.now) }
+{
+    let Ok(read) = read_again(alloc, image) else {
+        return Err(LayoutFault::Memory);
+    };
+    match lay_out_again(alloc, &read, image) {
+        Ok(plan) => pieces_by(alloc, &read, image, &plan),
+        Err(fault) => Err(fault),
+    }
+}
+
+// What differs of bytes from themselves: nothing, which takes no memory.
+fn no_difference(alloc: Global, bytes: &[u8]) -> Difference
+    ensures none { IsNoDifference bytes.now result }
+    ensures makeable { IsDifference bytes.now result }
+    ensures same { made_of bytes.now result ≡ bytes.now }
+{
+    Difference {
+        growth: Vec::new(alloc),
+        pieces: Vec::new(alloc),
+        new_length: bytes.len(),
     }
 }
 
@@ -93,6 +147,26 @@ impl<'data> Writer<'data> {
         }
         match edited_bytes(alloc, image) {
             Ok(bytes) => Ok(bytes),
+            Err(fault) => Err(told_of(fault)),
+        }
+    }
+
+    /// What of the bytes of `image_bytes` differs from the bytes that were read: nothing where nothing was edited, which
+    /// takes no memory. Costs what is written anew and what doesn't stay, not what the bytes weigh. Errors: those of
+    /// `image_bytes`. The image stays as it is.
+    pub fn image_pieces(&self, alloc: Global) -> Result<Difference>
+        ensures makeable { IfOk result (λ d. IsDifference self.now.source d) }
+        ensures bytes { IfOk result (λ d. IsImageWritten self.now (made_of self.now.source d)) }
+        ensures fault { IfErr result (IsNoImage self.now) }
+        ensures unchanged { self.now.changed ≡ false
+            → IsOkAnd result (IsNoDifference self.now.source) }
+    {
+        let image = self.builder();
+        if !image.changed() {
+            return Ok(no_difference(alloc, image.source()));
+        }
+        match edited_pieces(alloc, image) {
+            Ok(difference) => Ok(difference),
             Err(fault) => Err(told_of(fault)),
         }
     }

@@ -1,15 +1,26 @@
+use Rattle.std.proofs.Common.{◌∙◌, List, ap, subst, sym}
+use Rattle.elf_format.specs.declared.records.EntryNumbers.{EntryNumbers}
+use Rattle.elf_format.specs.declared.records.SectionHeader.{SectionHeader}
+use Rattle.elf_written.specs.Writing.{IsWholeWriting, written_bytes}
+use Rattle.elf_write.specs.Inner.{writing_of}
 use Rattle.elf_write.proofs.Writes.{are_written, is_whole_written}
 use Rattle.elf_write.proofs.bytes.laid_with.Goals as goal
 
--- src/bytes.rt:95:5
 pub laid_bytes-requires-clause-writing : goal.laid_bytes-requires-clause-writing
 laid_bytes-requires-clause-writing c =
-    are_written c.args.read.now c.args.image.now c.args.plan.now c.args.made.now c.args.raw.now c.args.contents.now
-    c.requires.planned c.requires.contents c.args.headers.now c.requires.apart c.requires.raw c.requires.headers c.requires.fit
+    let p = c.requires.prepared in
+    subst (λ (hs : List SectionHeader).
+    (raw : List EntryNumbers) × IsWholeWriting (writing_of c.args.image.now c.args.plan.now hs c.args.contents.now raw))
+    (sym c.deref.ensures.value)
+    (are_written c.args.read.now c.args.image.now c.args.plan.now c.args.prepared.now.made c.args.prepared.now.raw.items
+    c.args.contents.now c.requires.planned c.requires.contents c.args.prepared.now.headers.items c.requires.apart p.raw p.headers p.fit)
 
--- src/bytes.rt:70:1
 pub returns : goal.returns
 returns c =
-    is_whole_written c.args.read.now c.args.image.now c.args.plan.now c.args.made.now c.args.raw.now c.args.contents.now
-    c.requires.planned c.requires.contents c.args.headers.now c.in_ok-bytes.bytes.items c.requires.apart c.requires.raw
-    c.requires.headers c.requires.fit (c.in_ok-bytes.ensures c.args.raw.now)
+    let p = c.requires.prepared in
+    is_whole_written c.args.read.now c.args.image.now c.args.plan.now c.args.prepared.now.made c.args.prepared.now.raw.items
+    c.args.contents.now c.requires.planned c.requires.contents c.args.prepared.now.headers.items c.in_ok-bytes.bytes.items
+    c.requires.apart p.raw p.headers p.fit
+    (c.in_ok-bytes.ensures c.args.prepared.now.raw.items
+    ∙ ap (λ (hs : List SectionHeader).
+    written_bytes (writing_of c.args.image.now c.args.plan.now hs c.args.contents.now c.args.prepared.now.raw.items)) c.deref.ensures.value)

@@ -1,7 +1,7 @@
 use Rattle.std.proofs.Common.{◌≡◌, take}
 use Rattle.std.specs.List.{flat_map}
 use Rattle.elf_records.specs.Spelled.{spelled_segment_header}
-use Rattle.elf_write.proofs.laying.segment_table.Given as goal
+use Rattle.elf_write.proofs.spelled.segment_table.Given as goal
 
 -- the bytes of the program headers so far
 abbrev pub invariant-loop-segment : goal.invariant-loop-segment

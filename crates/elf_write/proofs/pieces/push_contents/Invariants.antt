@@ -1,0 +1,10 @@
+use Rattle.byte_store.specs.Laid.{patches_of}
+use Rattle.elf_plan.specs.Kept.{kept_sections}
+use Rattle.elf_plan.specs.Plan.{resized}
+use Rattle.elf_write.proofs.LayingWhole.{IsPushedTo}
+use Rattle.elf_write.proofs.pieces.push_contents.Given as goal
+
+-- the pieces of the sections so far are there
+abbrev pub invariant-loop-i : goal.invariant-loop-i
+invariant-loop-i l = IsPushedTo (resized l.image) (kept_sections l.image) l.plan.places l.contents l.i
+    (patches_of l.initial.pieces.items) (patches_of l.pieces.items)

@@ -1,0 +1,184 @@
+//! What of the bytes of an edited ELF file differs from the bytes that were read.
+ghost use Rattle.std.specs.Prelude.{◌≡◌, false, IfErr, IfOk, IsTrue, OnOk};
+ghost use Rattle.byte_store.specs.Composed.{IsDifference, made_of};
+ghost use Rattle.elf_tables.specs.declared.fault.TableFault.TheVariants.{NumberTooLarge};
+ghost use Rattle.elf_plan.specs.Kept.{image_at_read, kept_sections};
+ghost use Rattle.elf_plan.specs.Plan.{IsPlan, resized};
+ghost use Rattle.elf_plan.specs.Refusals.{do_sizes_of_image_fit};
+ghost use Rattle.elf_written.specs.Laws.{ShowsFinal};
+ghost use Rattle.elf_written.specs.Stays.{AreOthersSeen, IsDataSeen};
+ghost use Rattle.elf_written.specs.Whole.{IsWhole};
+ghost use Rattle.elf_written.specs.Writing.{AreHeadersApart, IsWritten};
+ghost use Rattle.elf_write.specs.Inner.{AreContents, ArePromised, IsPlanned, IsWholeWritten};
+ghost use Rattle.elf_write.specs.Numbers.{do_numbers_fit as do_all_fit};
+ghost use Rattle.elf_write.specs.PieceSteps.{IsPrepared};
+ghost use Rattle.elf_write.specs.Refused.{AreNoBytes};
+ghost use Rattle.elf_write.specs.Seen.{HasHashes, HasHeaders, IsApart};
+
+use crate::bytes::are_headers_apart;
+use crate::contents::contents;
+use crate::laying::laid_difference;
+use crate::prepared::{Prepared, prepare};
+use byte_store::Difference;
+use elf_image::Builder;
+use elf_plan::laws::{plans_are_apart, plans_show_notes};
+use elf_plan::{LayoutFault, Plan, read_again};
+use elf_tables::TableFault;
+use patch_bytes::ByteString;
+use std::alloc::{AllocError, Global};
+
+// What differs from the source with these contents.
+fn differing_with<'data>(
+    alloc: Global,
+    read: &Builder<'data>,
+    image: &Builder<'data>,
+    plan: &Plan,
+    prepared: &Prepared<'_>,
+    contents: &[ByteString<'_>],
+) -> Result<Difference, AllocError>
+    requires planned { IsPlanned read.now image.now plan.now }
+    requires apart { AreHeadersApart image.now plan.now }
+    requires prepared { IsPrepared read.now image.now plan.now prepared.now }
+    requires contents { AreContents (resized image.now) plan.now prepared.now.made
+        prepared.now.raw.items (kept_sections image.now) plan.now.places contents.now }
+    ensures written { IfOk result (λ d.
+        IsWholeWritten image.now plan.now (made_of image.now.source d)) }
+    ensures makeable { IfOk result (λ d. IsDifference image.now.source d) }
+{
+    let header = prepared.header;
+    let difference = laid_difference(
+        alloc,
+        read,
+        image,
+        plan,
+        header,
+        &prepared.headers,
+        contents,
+    )?;
+    Ok(difference)
+}
+
+// What differs from the source, with what is made before the contents.
+#[tactic(auto, using(crate::proofs::Writes::entries_fit))]
+fn difference_with<'a, 'data>(
+    alloc: Global,
+    read: &'a Builder<'data>,
+    image: &'a Builder<'data>,
+    plan: &Plan,
+    prepared: &'a Prepared<'_>,
+) -> Result<Difference, AllocError>
+    requires planned { IsPlanned read.now image.now plan.now }
+    requires apart { AreHeadersApart image.now plan.now }
+    requires prepared { IsPrepared read.now image.now plan.now prepared.now }
+    ensures written { IfOk result (λ d.
+        IsWholeWritten image.entry.now plan.now (made_of image.entry.now.source d)) }
+    ensures makeable { IfOk result (λ d. IsDifference image.entry.now.source d) }
+{
+    let contents = contents(alloc, read, image, plan, &prepared.made, &prepared.raw)?;
+    differing_with(alloc, read, image, plan, prepared, &contents)
+}
+
+// What differs from the source, where the headers share no byte of the file.
+fn difference_with_headers_apart<'a, 'data>(
+    alloc: Global,
+    read: &'a Builder<'data>,
+    image: &'a Builder<'data>,
+    plan: &Plan,
+) -> Result<Difference, TableFault>
+    requires planned { IsPlanned read.now image.now plan.now }
+    requires apart { AreHeadersApart image.now plan.now }
+    ensures written { IfOk result (λ d.
+        IsWholeWritten image.entry.now plan.now (made_of image.entry.now.source d)) }
+    ensures makeable { IfOk result (λ d. IsDifference image.entry.now.source d) }
+    ensures fault { IfErr result (λ fault.
+        fault ≡ NumberTooLarge → do_all_fit image.entry.now plan.now ≡ false) }
+{
+    let prepared = prepare(alloc, read, image, plan)?;
+    let difference = difference_with(alloc, read, image, plan, &prepared)?;
+    Ok(difference)
+}
+
+// What differs from the source, of which it is known that the image is written whole to the bytes that it makes: so
+// they show the image in its final form, and have the data that was read; headers, tables and sections stand apart.
+fn promised(image: &Builder<'_>, plan: &Plan, difference: Difference) -> Difference
+    requires { IsWholeWritten image.now plan.now (made_of image.now.source difference) }
+    ensures same { result ≡ difference }
+    ensures promises { ArePromised image.now plan.now (made_of image.now.source result) }
+{
+    plans_are_apart();
+    plans_show_notes();
+    difference
+}
+
+/// What of the bytes of the file differs from the image's source, as `image_pieces` tells it, for a caller that has the
+/// image as its source was read.
+pub fn image_pieces_again<'data>(
+    alloc: Global,
+    read: &Builder<'data>,
+    image: &Builder<'data>,
+    plan: &Plan,
+) -> Result<Difference, LayoutFault>
+    requires read { read.now ≡ image_at_read image.now }
+    requires whole { IsWhole read.now image.now }
+    requires planned { IsPlan (resized image.now) plan.now }
+    requires sized { IsTrue (do_sizes_of_image_fit image.now) }
+    ensures makeable { IfOk result (λ d. IsDifference image.now.source d) }
+    ensures written { IfOk result (λ d.
+        IsWritten image.now plan.now (made_of image.now.source d)) }
+    ensures shows { IfOk result (λ d. ShowsFinal image.now (made_of image.now.source d)) }
+    ensures data { IfOk result (λ d.
+        IsDataSeen (resized image.now) plan.now (made_of image.now.source d)) }
+    ensures others { IfOk result (λ d.
+        AreOthersSeen (resized image.now) plan.now (made_of image.now.source d)) }
+    ensures headers { IfOk result (λ d.
+        HasHeaders image.now plan.now (made_of image.now.source d)) }
+    ensures hashes { IfOk result (λ d.
+        HasHashes image.now plan.now (made_of image.now.source d)) }
+    ensures apart { OnOk result (IsApart image.now plan.now) }
+    ensures fault { IfErr result (AreNoBytes image.now plan.now) }
+{
+    // what every image is: one that was read from these bytes, and edited
+    let _source = image.source();
+    if !are_headers_apart(image, plan) {
+        return Err(LayoutFault::Overlap);
+    }
+    match difference_with_headers_apart(alloc, read, image, plan) {
+        Ok(difference) => Ok(promised(image, plan, difference)),
+        Err(TableFault::NumberTooLarge) => Err(LayoutFault::NumberTooLarge),
+        Err(TableFault::Memory) => Err(LayoutFault::Memory),
+    }
+}
+
+/// What of the bytes of the file to which an edited image is written by a plan, of which nothing went, differs from
+/// the image's source: how many bytes there are, what comes behind the source's, and pieces that change some of
+/// these. Costs what is written anew and what doesn't stay, not what the source weighs. `Overlap` where the file
+/// header and the program header table share a byte; `NumberTooLarge` where a number is past its field. The image's
+/// source is read once more.
+pub fn image_pieces(
+    alloc: Global,
+    image: &Builder<'_>,
+    plan: &Plan,
+) -> Result<Difference, LayoutFault>
+    requires whole { IsWhole (image_at_read image.now) image.now }
+    requires planned { IsPlan (resized image.now) plan.now }
+    requires sized { IsTrue (do_sizes_of_image_fit image.now) }
+    ensures makeable { IfOk result (λ d. IsDifference image.now.source d) }
+    ensures written { IfOk result (λ d.
+        IsWritten image.now plan.now (made_of image.now.source d)) }
+    ensures shows { IfOk result (λ d. ShowsFinal image.now (made_of image.now.source d)) }
+    ensures data { IfOk result (λ d.
+        IsDataSeen (resized image.now) plan.now (made_of image.now.source d)) }
+    ensures others { IfOk result (λ d.
+        AreOthersSeen (resized image.now) plan.now (made_of image.now.source d)) }
+    ensures headers { IfOk result (λ d.
+        HasHeaders image.now plan.now (made_of image.now.source d)) }
+    ensures hashes { IfOk result (λ d.
+        HasHashes image.now plan.now (made_of image.now.source d)) }
+    ensures apart { OnOk result (IsApart image.now plan.now) }
+    ensures fault { IfErr result (AreNoBytes image.now plan.now) }
+{
+    let Ok(read) = read_again(alloc, image) else {
+        return Err(LayoutFault::Memory);
+    };
+    image_pieces_again(alloc, &read, image, plan)
+}

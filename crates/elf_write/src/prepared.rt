@@ -1,0 +1,52 @@
+//! What is made of an image before the contents of its sections: string table, headers and dynamic entries.
+ghost use Rattle.std.specs.Prelude.{◌≡◌, false, IfErr, IfOk};
+ghost use Rattle.elf_tables.specs.declared.fault.TableFault.TheVariants.{NumberTooLarge};
+ghost use Rattle.elf_write.specs.Inner.{IsPlanned};
+ghost use Rattle.elf_write.specs.Numbers.{do_numbers_fit as do_all_fit};
+ghost use Rattle.elf_write.specs.PieceSteps.{IsPrepared};
+
+use crate::entries::raw_entries;
+use crate::fits::do_numbers_fit;
+use crate::headers::{file_header, section_headers};
+use crate::made::{Made, made_strings};
+use elf_format::records::{EntryNumbers, FileHeader, SectionHeader};
+use elf_image::Builder;
+use elf_plan::Plan;
+use elf_tables::TableFault;
+use std::alloc::Global;
+
+// The string table that is made anew, the headers and the numbers of the dynamic entries.
+#[derive(Drop)]
+pub(crate) struct Prepared<'t> {
+    pub(crate) made: Option<Made<'t>>,
+    pub(crate) header: FileHeader,
+    pub(crate) headers: Vec<SectionHeader>,
+    pub(crate) raw: Vec<EntryNumbers>,
+}
+
+// These of an image that is written by a plan. `NumberTooLarge` where a number is past its field.
+pub(crate) fn prepare<'a, 'data>(
+    alloc: Global,
+    read: &'a Builder<'data>,
+    image: &'a Builder<'data>,
+    plan: &Plan,
+) -> Result<Prepared<'a>, TableFault>
+    requires { IsPlanned read.now image.now plan.now }
+    ensures prepared { IfOk result (IsPrepared read.entry.now image.entry.now plan.now) }
+    ensures fault { IfErr result (λ fault.
+        fault ≡ NumberTooLarge → do_all_fit image.entry.now plan.now ≡ false) }
+{
+    let made = made_strings(alloc, read, image)?;
+    let raw = raw_entries(alloc, read, image, plan, &made)?;
+    let header = file_header(image, plan);
+    let headers = section_headers(alloc, read, image, plan, &made)?;
+    if !do_numbers_fit(read, image, plan, &made, header, &headers, &raw) {
+        return Err(TableFault::NumberTooLarge);
+    }
+    Ok(Prepared {
+        made,
+        header,
+        headers,
+        raw,
+    })
+}
