@@ -5,6 +5,7 @@ pub mod Causes
 pub mod PageSizes
 pub mod Prints
 pub mod Told
+pub mod StackLent
 pub mod Taken
 pub mod Drafted
 pub mod Contained

@@ -17,7 +17,7 @@ use Rattle.elf_image.specs.declared.dynamic.Dynamic.TheVariants as kinds
 use Rattle.elf_image.specs.DynamicList.{with_tag, with_tag_at, without_tag}
 use Rattle.elf_image.specs.DynamicTag.{tag_of}
 use Rattle.elf_image.specs.ImageSeen.{entry_kept}
-use Rattle.elf_image.specs.Segments.{with_stack_flags}
+use Rattle.elf_image.specs.Segments.{added_stack, with_stack_added, with_stack_flags}
 
 -- ## Any list, seen element by element
 
@@ -81,6 +81,11 @@ module _ {A : Type 0} (view : A → SegmentHeader) (zs : List A) (i : ℕ) (z : 
           let first : is_stack (view a) ≡ false = before 0 (omega arith) in
           rw first (first_at rest k d (omega arith) here (λ j below. before (suc j) (omega arith)))
 
+-- it stands in the list
+pub place_within : {A : Type 0} → (view : A → SegmentHeader) (zs : List A) (i : ℕ) → position (λ a. is_stack (view a)) zs ≡ Some i → i < length zs
+place_within view [] i found = absurd (none-some i found)
+place_within view (z ∷ zs) i found = (position-Some (λ a. is_stack (view a)) (z ∷ zs) i z found).0
+
 -- none is found
 pub none_seen : {A : Type 0} → (view : A → SegmentHeader) (zs : List A) → position (λ a. is_stack (view a)) zs ≡ None → segment_of_type PT_GNU_STACK (map view zs) ≡ None
 none_seen {A} view zs h = none_from zs 0 (sym (position_from-zero (λ a. is_stack (view a)) zs) ∙ h)
@@ -104,6 +109,40 @@ none_flagged flags (p ∷ ps) h = by_type p ps (is_stack p) (none_flagged flags 
         → cond b (Some q) (segment_of_type PT_GNU_STACK qs) ≡ None → (if b then flagged q flags ∷ qs else q ∷ with_stack_flags flags qs) ≡ q ∷ qs
     by_type q qs true more e = absurd (none-some q (sym e))
     by_type q qs false more e = ap (λ rest. q ∷ rest) (more e)
+
+-- flags that are set behind others are those of what was added there
+pub flags_pushed : (f g : ℕ) (ps : List SegmentHeader) → segment_of_type PT_GNU_STACK ps ≡ None → with_stack_flags g (with_stack_added f ps) ≡ with_stack_added g ps
+unfolding with_stack_flags flagged
+flags_pushed f g [] h = refl
+flags_pushed f g (p ∷ ps) h = by_type p ps (is_stack p) (flags_pushed f g ps) h
+  where
+    by_type : (q : SegmentHeader) (qs : List SegmentHeader) (b : Bool) → (segment_of_type PT_GNU_STACK qs ≡ None → with_stack_flags g (with_stack_added f qs) ≡ with_stack_added g qs)
+        → cond b (Some q) (segment_of_type PT_GNU_STACK qs) ≡ None → (if b then flagged q g ∷ with_stack_added f qs else q ∷ with_stack_flags g (with_stack_added f qs)) ≡ q ∷ with_stack_added g qs
+    by_type q qs true more e = absurd (none-some q (sym e))
+    by_type q qs false more e = ap (λ rest. q ∷ rest) (more e)
+
+-- it is the first one
+pub pushed_found : (f : ℕ) (ps : List SegmentHeader) → segment_of_type PT_GNU_STACK ps ≡ None → segment_of_type PT_GNU_STACK (with_stack_added f ps) ≡ Some (added_stack f)
+pushed_found f [] h = refl
+pushed_found f (p ∷ ps) h = by_type p ps (is_stack p) (pushed_found f ps) h
+  where
+    by_type : (q : SegmentHeader) (qs : List SegmentHeader) (b : Bool) → (segment_of_type PT_GNU_STACK qs ≡ None → segment_of_type PT_GNU_STACK (with_stack_added f qs) ≡ Some (added_stack f))
+        → cond b (Some q) (segment_of_type PT_GNU_STACK qs) ≡ None → cond b (Some q) (segment_of_type PT_GNU_STACK (with_stack_added f qs)) ≡ Some (added_stack f)
+    by_type q qs true more e = absurd (none-some q (sym e))
+    by_type q qs false more e = more e
+
+-- it stands behind the others
+pub pushed_place : (f : ℕ) (ps : List SegmentHeader) → segment_of_type PT_GNU_STACK ps ≡ None → position is_stack (with_stack_added f ps) ≡ Some (length ps)
+pushed_place f ps h = position_from-zero is_stack (with_stack_added f ps) ∙ place_from ps 0 h ∙ ap Some (omega arith)
+  where
+    by_place : (q : SegmentHeader) (qs : List SegmentHeader) (i : ℕ) (b : Bool) → ((k : ℕ) → segment_of_type PT_GNU_STACK qs ≡ None → position_from is_stack k (with_stack_added f qs) ≡ Some (k + length qs))
+        → cond b (Some q) (segment_of_type PT_GNU_STACK qs) ≡ None → cond b (Some i) (position_from is_stack (i + 1) (with_stack_added f qs)) ≡ Some (i + suc (length qs))
+    by_place q qs i true more e = absurd (none-some q (sym e))
+    by_place q qs i false more e = more (i + 1) e ∙ ap Some (omega arith)
+
+    place_from : (qs : List SegmentHeader) (i : ℕ) → segment_of_type PT_GNU_STACK qs ≡ None → position_from is_stack i (with_stack_added f qs) ≡ Some (i + length qs)
+    place_from [] i e = ap Some (omega arith)
+    place_from (q ∷ qs) i e = by_place q qs i (is_stack q) (place_from qs) e
 
 -- ## The dynamic list
 

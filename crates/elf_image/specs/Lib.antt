@@ -18,6 +18,8 @@ pub mod BuilderSeen
 pub mod DynamicTag
 pub mod DynamicList
 pub mod Segments
+pub mod LendingFlags
+pub mod Lending
 pub mod Edited
 pub mod ReadImage
 pub mod Machine

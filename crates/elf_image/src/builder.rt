@@ -5,7 +5,7 @@ ghost use Rattle.elf_format.specs.Answers.{borrowed};
 
 use crate::dynamic::Dynamic;
 use crate::section::Section;
-use crate::segment::Segment;
+use crate::segment;
 use crate::symbol::Symbol;
 use crate::version::Versions;
 use elf_format::form::Form;
@@ -13,6 +13,10 @@ use elf_format::header::Header;
 use patch_bytes::{ByteOrder2, ByteString, Wide};
 use std::alloc::{AllocError, Global};
 use std::marker::Model;
+
+/// A program header of an image. It holds numbers alone, so that its lifetime, written as that of the image's other
+/// parts, binds nothing.
+pub type Segment<'data> = segment::Segment;
 
 /// The image of an ELF file that every read rule accepts: what the file shows, to be looked at, edited and
 /// written. Texts and contents stay slices of the file's bytes until they are edited.

@@ -1,5 +1,6 @@
 //! The changes of an image, one part at a time.
-ghost use Rattle.std.specs.Prelude.{◌≡◌, ◌<◌, ◌==◌, All, MatchResult, IsSome, IsTrue, map, not, option_map, position, vec_len, None as none, Some as some, true};
+ghost use Rattle.std.specs.Prelude.{◌≡◌, ◌<◌, ◌==◌, All, IfOk, MatchResult, IsSome, IsTrue, map, not, option_map, position, vec_len, None as none, Some as some, true};
+ghost use Rattle.std.specs.Borrow.{sem};
 ghost use Rattle.std.specs.List.{remove};
 ghost use Rattle.elf_format.specs.declared.constants.TheConstants.{PT_GNU_STACK as STACK};
 ghost use Rattle.elf_image.specs.DynamicList.{IsListed, KeepsTables, all_but_last, can_delete, can_retag, can_follow, holds_nul, is_free_tag, retagged, with_tag_at, without_tag};
@@ -7,16 +8,18 @@ ghost use Rattle.elf_image.specs.File.{segment_of_type};
 ghost use Rattle.elf_image.specs.ImageSeen.{entry_kept, segment_kept};
 ghost use Rattle.elf_image.specs.Segments.{added_stack as added_header, with_load_align, with_stack_added, with_stack_flags};
 
-use crate::builder::Builder;
+use crate::builder::{Builder, Segment};
 use crate::dynamic::Dynamic;
-use crate::segment::{STACK_ALIGN, Segment};
+use crate::segment::{STACK_ALIGN, STACK_FLAGS};
 use elf_format::constants::PT_GNU_STACK;
 use elf_format::records::SegmentHeader;
 use patch_bytes::ByteString;
 use std::alloc::{AllocError, Global};
-use std::marker::PhantomData;
 
 impl<'data> Builder<'data> {
+    ghost use Rattle.elf_image.specs.Lending.{LendsAddedFlags, LendsFlagsOfStack, LendsStackFlags};
+    ghost use Rattle.elf_image.specs.declared.segment.TheConstants.{STACK_FLAGS as ADDED_FLAGS};
+
     /// Puts another dynamic list in place of the one that is there (gABI, Dynamic Section). The caller sees that
     /// it names the same tables in the same order, and that each entry may stand before the DT_NULL. Takes no
     /// memory.
@@ -166,10 +169,46 @@ impl<'data> Builder<'data> {
         self.changed = true;
         Ok(())
     }
+
+    /// Lends the flags of the first PT_GNU_STACK (GNU extension); `None` without one. The image counts as changed
+    /// where they are lent. Takes no memory.
+    pub fn stack_mut(&mut self) -> Option<&mut u32>
+        ensures* lends { sem 𝓛 (LendsStackFlags self.entry result) }
+        ensures value { option_map (λ flags. flags.now) result
+            ≡ option_map (λ p. p.p_flags) (segment_of_type STACK self.old.segments) }
+    {
+        match stack_position(&self.segments) {
+            Some(at) => Some(self.stack_flags_at(at)),
+            None => None,
+        }
+    }
+
+    // Lends the flags of the first program header for the stack, which stands at a position.
+    fn stack_flags_at(&mut self, at: usize) -> &mut u32
+        requires { position (λ p. p.p_type == STACK) self.old.segments ≡ some at }
+        ensures* lends { sem 𝓛 (LendsFlagsOfStack self.entry result) }
+        ensures value { some result.now
+            ≡ option_map (λ p. p.p_flags) (segment_of_type STACK self.old.segments) }
+    {
+        self.changed = true;
+        self.segments[at].flags_mut()
+    }
+
+    /// Puts a PT_GNU_STACK behind all program headers, which have none (GNU extension), and lends its flags: those of
+    /// a stack that may be read, written and run. It stands nowhere. Error: `AllocError`, and nothing has changed.
+    pub fn add_stack(&mut self, alloc: Global) -> Result<&mut u32, AllocError>
+        requires { segment_of_type STACK self.old.segments ≡ none }
+        ensures* lends { sem 𝓛 (LendsAddedFlags self.entry result) }
+        ensures value { IfOk result (λ flags. flags.now ≡ ADDED_FLAGS) }
+    {
+        self.push_stack(alloc, STACK_FLAGS)?;
+        let at = self.segments.len() - 1;
+        Ok(self.stack_flags_at(at))
+    }
 }
 
 // The program header for the stack, as it is added.
-fn added_stack<'data>(flags: u32) -> Segment<'data>
+fn added_stack(flags: u32) -> Segment<'static>
     ensures { segment_kept result ≡ added_header flags }
 {
     Segment {
@@ -183,7 +222,6 @@ fn added_stack<'data>(flags: u32) -> Segment<'data>
             p_memsz: 0,
             p_align: STACK_ALIGN,
         },
-        of: PhantomData,
     }
 }
 

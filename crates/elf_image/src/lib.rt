@@ -14,11 +14,10 @@ pub mod section;
 pub mod segment;
 pub mod symbol;
 
-pub use crate::builder::Builder;
+pub use crate::builder::{Builder, Segment};
 pub use crate::dynamic::Dynamic;
 pub use crate::machine::machine_of;
 pub use crate::section::Section;
-pub use crate::segment::Segment;
 pub use crate::symbol::Symbol;
 pub use elf_format::{
     ElfFault, Form, Header, SectionData, VersionId, constants, laws as format_laws, records,

@@ -5,9 +5,8 @@ ghost use Rattle.elf_format.specs.declared.constants.TheConstants.{PT_INTERP as 
 ghost use Rattle.elf_image.specs.File.{segment_of_type};
 ghost use Rattle.elf_image.specs.Lookups.{CountsReadSegments, dynamic_strings_position as strings_position, has_interpreter, interpreter_position as interpreter_at, link_position as link_at, section_position as section_at, type_position as type_at};
 
-use crate::builder::Builder;
+use crate::builder::{Builder, Segment};
 use crate::section::Section;
-use crate::segment::Segment;
 use elf_format::constants::{PT_INTERP, SHT_DYNAMIC, SHT_DYNSYM, SHT_PROGBITS};
 use elf_format::numbers::{part, read_file_header};
 

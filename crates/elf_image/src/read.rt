@@ -14,14 +14,13 @@ ghost use Rattle.elf_versions.specs.WalkSteps.{AreDefinitions, AreNeeds};
 
 pub(crate) mod texts;
 
-use crate::builder::{Builder, counted};
+use crate::builder::{Builder, Segment, counted};
 use crate::dynamic::Dynamic;
 use crate::read::texts::entries::entries;
 use crate::read::texts::interpreter;
 use crate::read::texts::sections::sections;
 use crate::read::texts::symbols::{dynamic_symbols, static_symbols};
 use crate::section::Section;
-use crate::segment::Segment;
 use crate::symbol::Symbol;
 use crate::version::Versions;
 use elf_format::fault::ElfFault;
@@ -38,7 +37,6 @@ use elf_versions::rule::are_versions_right;
 use elf_versions::walks::{DefinitionWalk, NeedWalk, walk_definitions, walk_needs};
 use patch_bytes::ByteString;
 use std::alloc::{AllocError, Global};
-use std::marker::PhantomData;
 
 // What the file header says besides the tables' sizes.
 fn header(read: FileHeader) -> Header
@@ -66,10 +64,7 @@ fn segments<'data>(
 {
     let mut made = Vec::with_capacity(alloc, headers.len())?;
     for numbers in headers {
-        made.push(Segment {
-            numbers: *numbers,
-            of: PhantomData,
-        })?;
+        made.push(Segment { numbers: *numbers })?;
     }
     Ok(made)
 }

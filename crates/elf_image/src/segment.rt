@@ -3,7 +3,6 @@ ghost use Rattle.elf_image.specs.ImageSeen.{segment_kept};
 
 use elf_format::constants::PT_LOAD;
 use elf_format::records::SegmentHeader;
-use std::marker::PhantomData;
 
 /// The flags of an added PT_GNU_STACK (GNU extension): read, write and run.
 pub const STACK_FLAGS: u32 = 7;
@@ -13,12 +12,11 @@ pub const STACK_ALIGN: u64 = 16;
 
 /// A program header of a file (gABI, Program Header). Offsets, addresses and sizes are in bytes.
 #[derive(Clone, Copy, Debug)]
-pub struct Segment<'data> {
+pub struct Segment {
     pub(crate) numbers: SegmentHeader,
-    pub(crate) of: PhantomData<&'data ()>,
 }
 
-impl Segment<'_> {
+impl Segment {
     ghost use Rattle.elf_image.specs.Segments.{with_align};
 
     /// What the segment is for, as `PT_LOAD`.
@@ -84,5 +82,17 @@ impl Segment<'_> {
         if self.numbers.p_type == PT_LOAD {
             self.numbers.p_align = align;
         }
+    }
+
+    ghost use Rattle.std.specs.Borrow.{sem};
+    ghost use Rattle.elf_image.specs.LendingFlags.{LendsFlags};
+
+    // Lends the flags.
+    pub(crate) fn flags_mut(&mut self) -> &mut u32
+        ensures* lends { sem 𝓛 (LendsFlags self.entry result) }
+        ensures value { result.now ≡ (segment_kept self.old).p_flags }
+    {
+        let numbers = &mut self.numbers;
+        &mut numbers.p_flags
     }
 }

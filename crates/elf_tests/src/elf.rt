@@ -1,9 +1,11 @@
 //! The reads and the prints, run on small files.
 
+mod batches;
 mod errors;
 mod prints;
 mod reads;
 mod refusals;
+mod stacks;
 
 use crate::samples::SMALL;
 
@@ -12,7 +14,7 @@ use crate::samples::SMALL;
 const LIBRARY: &[u8] = SMALL;
 
 // A program with the interpreter `/ld` and a stack that may be run: 32 bits, high byte first.
-const PROGRAM: &[u8] = b"\
+pub(crate) const PROGRAM: &[u8] = b"\
     \x7fELF\x01\x02\x01\x06\0\0\0\0\0\0\0\0\0\x02\0\x02\0\0\0\x01\
     \0\0\0\0\0\0\04\0\0\0\xac\0\0\0\0\04\0\x20\0\x03\0(\
     \0\x03\0\x02\0\0\0\x01\0\0\0\0\0\x01\0\0\0\x01\0\0\0\0\0\x98\

@@ -16,6 +16,8 @@ mod elf;
 #[cfg(test)]
 mod faults;
 #[cfg(test)]
+mod image_edits;
+#[cfg(test)]
 mod listing;
 #[cfg(test)]
 mod plain;

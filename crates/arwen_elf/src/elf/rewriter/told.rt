@@ -1,7 +1,7 @@
 //! Causes, as errors tell them.
 ghost use Rattle.std.specs.Prelude.{◌≡◌, ◌==◌, Err, Some as some, not, option_map};
 ghost use Rattle.elf_edits.specs.Abi.{lowered};
-ghost use Rattle.elf_edits.specs.Cause.{BadPageSize as bad_page_size, MipsImage as mips_image, NoDynamic as no_dynamic, UnknownAbi, cause_if, is_page_size};
+ghost use Rattle.elf_edits.specs.Cause.{BadPageSize as bad_page_size, MipsImage as mips_image, NoDynamic as no_dynamic, TooManyHeaders as too_many_headers, UnknownAbi, cause_if, is_page_size};
 ghost use Rattle.elf_edits.specs.CauseSeen.{cause_meant, words_of};
 ghost use Rattle.elf_format.specs.declared.constants.TheConstants.{EM_MIPS as MIPS};
 ghost use Rattle.elf_image.specs.Options.{first_there};
@@ -67,5 +67,20 @@ pub(crate) fn page_size_refusal(facts: &Facts, size: u32) -> Option<ModifyCause>
         None
     } else {
         Some(ModifyCause::BadPageSize(size))
+    }
+}
+
+// Why no program header for the stack can be added. Takes no memory.
+pub(crate) fn stack_refusal(facts: &Facts) -> Option<ModifyCause>
+    ensures { option_map cause_told result
+        ≡ option_map some (first_there (cause_if (facts.now.machine == MIPS) mips_image)
+        (cause_if facts.now.is_full too_many_headers)) }
+{
+    if facts.machine == EM_MIPS {
+        Some(ModifyCause::MipsImage)
+    } else if facts.is_full {
+        Some(ModifyCause::TooManyHeaders)
+    } else {
+        None
     }
 }
