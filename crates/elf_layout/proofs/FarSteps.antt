@@ -54,8 +54,8 @@ pub past_place : (r : Resized) (moved : List ℕ) (i : ℕ) (s : Place) → slic
 unfolding does_plan_fit layout_for
 past_place r moved i s there far rounds looked =
     let no : does_place_fit r.image.form s ≡ false = and_left _ _ (no_field r.image.form s.sh_addr far) in
-    and_left _ _ (and_left _ _ (and_left _ _ (and_left _ _
-    (and_left _ _ (and_left _ _ (not_all (does_place_fit r.image.form) (places r moved) i s there no))))))
+    and_left _ _ (and_left _ _ (and_left _ _
+    (and_left _ _ (and_left _ _ (not_all (does_place_fit r.image.form) (places r moved) i s there no)))))
 
 -- ## What stands before what
 

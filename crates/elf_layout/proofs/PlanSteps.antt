@@ -9,7 +9,7 @@ use Rattle.elf_format.specs.Places.{Place}
 use Rattle.elf_blocks.specs.declared.fault.LayoutFault.{LayoutFault}
 use Rattle.elf_blocks.specs.declared.fault.LayoutFault.TheVariants as faults
 use Rattle.elf_plan.specs.Memory.{Resized}
-use Rattle.elf_plan.specs.Plan.{IsPlan, IsTooLarge, Layout, does_place_fit, does_plan_fit, does_segment_fit, keep_physical, layout_for}
+use Rattle.elf_plan.specs.Plan.{IsPlan, IsTooLarge, Layout, does_plan_fit, layout_for}
 use Rattle.elf_plan.specs.PlanSeen.{place_seen}
 use Rattle.elf_plan.specs.Rounds.{AreRounds}
 use Rattle.elf_plan.specs.Sizes.{fits_field}
@@ -17,7 +17,7 @@ use Rattle.elf_plan.specs.Standing.{places, table_offset}
 use Rattle.elf_plan.specs.Written.{written_segments}
 use Rattle.elf_layout.specs.declared.rounds.Rounds.{Rounds}
 use Rattle.elf_layout.specs.declared.standing.Standing.{Standing}
-use Rattle.elf_layout.specs.Inner.{AreParts, AreWritten, HasNoPlan, IsEnded, IsStanding, StandsTooFar, do_parts_fit}
+use Rattle.elf_layout.specs.Inner.{AreParts, AreWritten, HasNoPlan, IsEnded, IsStanding, StandsTooFar}
 use Rattle.elf_layout.proofs.Positions.{moved_within}
 
 abbrev pub made : List Place → List SegmentHeader → ℕ → ℕ → ℕ → ℕ → Layout
@@ -42,22 +42,7 @@ parts_found r rounds moved s segments same stands written =
     let P : List ℕ → Type 0 = λ ms. IsStanding r ms s in
     let Q : List ℕ → Type 0 = λ ms. AreWritten r ms segments in
     let all : AreWritten r rounds.moved.items segments = subst Q same written in
-    record { are = parts_are r rounds.moved.items rounds.count rounds.looked s segments (subst P same stands) all; physical = all.physical }
-
--- ## Whether every number fits
-
-without_third : (a b k c d e f : Bool) → k ≡ true → (a && b && k && c && d && e && f) ≡ (a && b && c && d && e && f)
-without_third a b k c d e f holds = ap (λ x. x && c && d && e && f) (ap (λ x. a && b && x) holds ∙ last (a && b))
-  where
-    last : (x : Bool) → (x && true) ≡ x
-    last true = refl
-    last false = refl
-
-fits_by : (r : Resized) (moved : List ℕ) (plan : Layout) → IsTrue (list_all (keep_physical r moved) r.image.segments) → does_plan_fit r moved plan ≡ do_parts_fit r.image.form plan
-unfolding does_plan_fit do_parts_fit
-fits_by r moved plan kept =
-    without_third (list_all (does_place_fit r.image.form) plan.places) (list_all (does_segment_fit r.image.form) plan.segments) (list_all (keep_physical r moved) r.image.segments)
-    (fits_field r.image.form plan.e_phoff) (fits_field r.image.form plan.e_shoff) (nat_lt (length plan.segments) PN_XNUM) (nat_lt (length plan.places) SHN_LORESERVE) kept
+    record { are = parts_are r rounds.moved.items rounds.count rounds.looked s segments (subst P same stands) all }
 
 -- ## A plan, or none
 
@@ -65,27 +50,27 @@ pub ended_within : (r : Resized) (rounds : Rounds) → IsEnded r rounds → All 
 ended_within r rounds ended = moved_within r rounds.looked rounds.moved.items ended.1.move
 
 plan_for : (r : Resized) (rounds looked : ℕ) (moved : List ℕ) (before : List (List ℕ)) → AreRounds r before looked moved → rounds ≡ length before + 1
-    → does_plan_fit r moved (layout_for r rounds looked moved) ≡ true → IsPlan r (layout_for r rounds looked moved)
+    → does_plan_fit r.image.form (layout_for r rounds looked moved) ≡ true → IsPlan r (layout_for r rounds looked moved)
 unfolding layout_for
 plan_for r rounds looked moved before ended count fits = record { before = before; moved = moved; ended = ended; counted = count; follows = refl; fits = fits }
 
-pub planned : (r : Resized) (rounds : Rounds) (parts : Layout) → IsEnded r rounds → AreParts r rounds parts → do_parts_fit r.image.form parts ≡ true → IsPlan r parts
+pub planned : (r : Resized) (rounds : Rounds) (parts : Layout) → IsEnded r rounds → AreParts r rounds parts → does_plan_fit r.image.form parts ≡ true → IsPlan r parts
 planned r rounds parts ended found fit =
     let moved : List ℕ = rounds.moved.items in
-    let P : Layout → Type 0 = λ plan. does_plan_fit r moved plan ≡ true → IsPlan r plan in
-    subst P (sym found.are) (plan_for r rounds.count rounds.looked moved ended.0 ended.1 ended.2) (fits_by r moved parts found.physical ∙ fit)
+    let P : Layout → Type 0 = λ plan. does_plan_fit r.image.form plan ≡ true → IsPlan r plan in
+    subst P (sym found.are) (plan_for r rounds.count rounds.looked moved ended.0 ended.1 ended.2) fit
 
 too_large_for : (r : Resized) (rounds looked : ℕ) (moved : List ℕ) (before : List (List ℕ)) → AreRounds r before looked moved → rounds ≡ length before + 1
-    → does_plan_fit r moved (layout_for r rounds looked moved) ≡ false → IsTooLarge r
+    → does_plan_fit r.image.form (layout_for r rounds looked moved) ≡ false → IsTooLarge r
 too_large_for r rounds looked moved before ended count no_fit =
-    let P : ℕ → Type 0 = λ n. does_plan_fit r moved (layout_for r n looked moved) ≡ false in
+    let P : ℕ → Type 0 = λ n. does_plan_fit r.image.form (layout_for r n looked moved) ≡ false in
     record { before = before; moved = moved; looked = looked; ended = ended; too_large = not_from_false _ (subst P count no_fit) }
 
-pub not_planned : (r : Resized) (rounds : Rounds) (parts : Layout) → IsEnded r rounds → AreParts r rounds parts → do_parts_fit r.image.form parts ≡ false → IsTooLarge r
+pub not_planned : (r : Resized) (rounds : Rounds) (parts : Layout) → IsEnded r rounds → AreParts r rounds parts → does_plan_fit r.image.form parts ≡ false → IsTooLarge r
 not_planned r rounds parts ended found no_fit =
     let moved : List ℕ = rounds.moved.items in
-    let P : Layout → Type 0 = λ plan. does_plan_fit r moved plan ≡ false in
-    too_large_for r rounds.count rounds.looked moved ended.0 ended.1 ended.2 (subst P found.are (fits_by r moved parts found.physical ∙ no_fit))
+    let P : Layout → Type 0 = λ plan. does_plan_fit r.image.form plan ≡ false in
+    too_large_for r rounds.count rounds.looked moved ended.0 ended.1 ended.2 (subst P found.are no_fit)
 
 pub stands_nowhere : (r : Resized) (rounds : Rounds) (fault : LayoutFault) → IsEnded r rounds → StandsTooFar r rounds.moved.items fault → HasNoPlan r fault
 stands_nowhere r rounds faults.Overlap ended never = absurd never

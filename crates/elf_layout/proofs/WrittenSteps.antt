@@ -9,7 +9,7 @@ use Rattle.std.proofs.lemmas.List.Concat.{flat_map-append}
 use Rattle.std.proofs.lemmas.List.Elements.{All-head, All-tail}
 use Rattle.std.proofs.lemmas.List.Folds.{list_all-append, list_all_more}
 use Rattle.std.proofs.lemmas.Option.{get_or_from_slice_get, slice_get_within}
-use Rattle.std.proofs.lemmas.List.Sums.{AllPass-from_list_all, sum_by-cons}
+use Rattle.std.proofs.lemmas.List.Sums.{sum_by-cons}
 use Rattle.patch_bytes.specs.declared.number.Wide.{Wide}
 use Rattle.patch_bytes.specs.declared.number.Wide.TheVariants.{W32, W64}
 use Rattle.elf_format.specs.declared.constants.TheConstants.{PN_XNUM, SHN_LORESERVE}
@@ -26,7 +26,7 @@ use Rattle.elf_plan.specs.Added.{added_loads, greatest, header_count}
 use Rattle.elf_plan.specs.Follow.{HeaderTable, Itself, Leader, Notes, OneSection, is_moved, leader_of}
 use Rattle.elf_plan.specs.Kept.{KeptSection}
 use Rattle.elf_plan.specs.Memory.{Resized}
-use Rattle.elf_plan.specs.Plan.{does_place_fit, does_plan_fit, does_segment_fit, keep_physical, layout_for}
+use Rattle.elf_plan.specs.Plan.{does_place_fit, does_plan_fit, does_segment_fit, layout_for}
 use Rattle.elf_plan.specs.Sizes.{fits_field}
 use Rattle.elf_plan.specs.Standing.{places, sections_offset, table_offset}
 use Rattle.elf_plan.specs.Written.{Target, address_for, behind_last_load, first_in_file, led_to, places_of_kept, resized_table, target_at, targets_of, targets_of_notes, targets_over, written_from, written_segments}
@@ -94,15 +94,15 @@ one_goes (Some t) = refl
 
 -- ## Targets that were found
 
-module _ (p alone : SegmentHeader) where
-  found_well : (a b : Option TargetAt) → list_all (is_well_at p) (targets_found (record { first = a; second = b })) ≡ list_all (is_led_well p) (targets_seen (record { first = a; second = b }))
+module _ (form : Form) (p alone : SegmentHeader) where
+  found_well : (a b : Option TargetAt) → list_all (is_well_at form p) (targets_found (record { first = a; second = b })) ≡ list_all (is_led_well form p) (targets_seen (record { first = a; second = b }))
   unfolding is_well_at
   found_well None None = refl
   found_well None (Some u) = refl
   found_well (Some t) None = refl
   found_well (Some t) (Some u) = refl
 
-  found_same : (a b : Option TargetAt) → headings_found p alone (targets_found (record { first = a; second = b })) ≡ headings_at p alone (targets_seen (record { first = a; second = b }))
+  found_same : (a b : Option TargetAt) → headings_found form p alone (targets_found (record { first = a; second = b })) ≡ headings_at form p alone (targets_seen (record { first = a; second = b }))
   unfolding header_at
   found_same None None = refl
   found_same None (Some u) = refl
@@ -110,27 +110,21 @@ module _ (p alone : SegmentHeader) where
   found_same (Some t) (Some u) = refl
 
   abbrev AreFound : Option Headings → Targets → Type 0
-  AreFound o found = MatchOption o (list_all (is_well_at p) (targets_found found) ≡ false) (λ h. (headings_seen h ≡ headings_found p alone (targets_found found)) × (list_all (is_well_at p) (targets_found found) ≡ true))
+  AreFound o found = MatchOption o (list_all (is_well_at form p) (targets_found found) ≡ false) (λ h. (headings_seen h ≡ headings_found form p alone (targets_found found)) × (list_all (is_well_at form p) (targets_found found) ≡ true))
 
   pub headings_found-are : (all : List Place) (marks : List Bool) (size : ℕ) (k : Told) (o : Option Headings) (found : Targets) → AreFound o found
       → targets_seen found ≡ targets_at all marks k → alone ≡ sized_table size p k → does_table_fit size k ≡ true
-      → MatchOption o (do_headings_fit all marks size p k ≡ false) (λ h. (headings_seen h ≡ headings_for all marks size p k) × (do_headings_fit all marks size p k ≡ true))
+      → MatchOption o (do_headings_fit form all marks size p k ≡ false) (λ h. (headings_seen h ≡ headings_for form all marks size p k) × (do_headings_fit form all marks size p k ≡ true))
   unfolding headings_for do_headings_fit
   headings_found-are all marks size k None found is same sized fits =
-      and_right (does_table_fit size k) (list_all (is_led_well p) (targets_at all marks k))
-      (sym (found_well found.first found.second ∙ ap (list_all (is_led_well p)) same) ∙ is)
+      and_right (does_table_fit size k) (list_all (is_led_well form p) (targets_at all marks k))
+      (sym (found_well found.first found.second ∙ ap (list_all (is_led_well form p)) same) ∙ is)
   headings_found-are all marks size k (Some h) found is same sized fits = (
-    is.0 ∙ found_same found.first found.second ∙ ap (headings_at p alone) same ∙ ap (λ q. headings_at p q (targets_at all marks k)) sized,
-    and_from (does_table_fit size k) (list_all (is_led_well p) (targets_at all marks k)) fits (sym (found_well found.first found.second ∙ ap (list_all (is_led_well p)) same) ∙ is.1),
+    is.0 ∙ found_same found.first found.second ∙ ap (headings_at form p alone) same ∙ ap (λ q. headings_at form p q (targets_at all marks k)) sized,
+    and_from (does_table_fit size k) (list_all (is_led_well form p) (targets_at all marks k)) fits (sym (found_well found.first found.second ∙ ap (list_all (is_led_well form p)) same) ∙ is.1),
   )
 
 -- ## What is written of a program header
-
-list_all-weaker : {A : Type 0} → (f g : A → Bool) → ((x : A) → f x ≡ true → g x ≡ true) → (xs : List A) → list_all f xs ≡ true → list_all g xs ≡ true
-list_all-weaker f g more [] h = refl
-list_all-weaker f g more (x ∷ xs) h =
-    let parts = and_parts (f x) (list_all f xs) h in
-    and_from (g x) (list_all g xs) (more x parts.0) (list_all-weaker f g more xs parts.1)
 
 word-fits : (form : Form) (n : ℕ) → fits_field form n ≡ true → fits_word n ≡ true
 word-fits form n h = lt-ltb n (2 ^ 64) (by_wide form.wide h)
@@ -149,26 +143,20 @@ parts_fit form p h =
     let d = and_parts (f p.p_filesz) (list_all f (p.p_memsz ∷ p.p_align ∷ [])) c.1 in
     (word-fits form p.p_paddr c.0, word-fits form p.p_filesz d.0)
 
-abbrev keeps_distance : SegmentHeader → Target → Bool
-keeps_distance p t = nat_le p.p_vaddr (p.p_paddr + address_for p t)
-
-all_led_well : (form : Form) (p : SegmentHeader) (ts : List Target) → list_all (keeps_distance p) ts ≡ true → list_all (does_segment_fit form) (map (led_to p) ts) ≡ true → list_all (is_led_well p) ts ≡ true
+all_led_well : (form : Form) (p : SegmentHeader) (ts : List Target) → list_all (does_segment_fit form) (map (led_to form p) ts) ≡ true → list_all (is_led_well form p) ts ≡ true
 unfolding is_physical_well
-all_led_well form p [] keeps fits = refl
-all_led_well form p (t ∷ ts) keeps fits =
-    let k = and_parts (keeps_distance p t) (list_all (keeps_distance p) ts) keeps in
-    let f = and_parts (does_segment_fit form (led_to p t)) (list_all (does_segment_fit form) (map (led_to p) ts)) fits in
-    let w = parts_fit form (led_to p t) f.0 in
-    and_from (is_led_well p t) (list_all (is_led_well p) ts)
-    (and_from (is_physical_well p (address_for p t)) (fits_word t.part.size) (and_from (keeps_distance p t) (fits_word (p.p_paddr + address_for p t - p.p_vaddr)) k.0 w.0) w.1)
-    (all_led_well form p ts k.1 f.1)
-
-well_keeps : (p : SegmentHeader) (t : Target) → is_led_well p t ≡ true → keeps_distance p t ≡ true
-unfolding is_physical_well
-well_keeps p t h =
-    (and_parts (keeps_distance p t) (fits_word (p.p_paddr + address_for p t - p.p_vaddr)) (and_parts (is_physical_well p (address_for p t)) (fits_word t.part.size) h).0).0
+all_led_well form p [] fits = refl
+all_led_well form p (t ∷ ts) fits =
+    let f = and_parts (does_segment_fit form (led_to form p t)) (list_all (does_segment_fit form) (map (led_to form p) ts)) fits in
+    let w = parts_fit form (led_to form p t) f.0 in
+    and_from (is_led_well form p t) (list_all (is_led_well form p) ts)
+    (and_from (is_physical_well form p (address_for p t)) (fits_word t.part.size) w.0 w.1)
+    (all_led_well form p ts f.1)
 
 module _ (r : Resized) (moved : List ℕ) (marks : List Bool) (are : AreSized r) (h : AreMarks r moved marks) (p : SegmentHeader) where
+  abbrev form : Form
+  form = r.image.form
+
   abbrev table_bytes : ℕ
   table_bytes = header_count r moved * segment_header_size r.image.form
 
@@ -194,44 +182,37 @@ module _ (r : Resized) (moved : List ℕ) (marks : List Bool) (are : AreSized r)
   table_sized (OneSection s) = refl
   table_sized (Notes ns) = refl
 
-  headings_of_targets : (alone : SegmentHeader) (ts : List Target) → headings_at p alone ts ≡ (elim ts as (λ _. List SegmentHeader) [ [] ↦ alone ∷ [] | t ∷ us ↦ map (led_to p) (t ∷ us) ])
+  headings_of_targets : (alone : SegmentHeader) (ts : List Target) → headings_at form p alone ts ≡ (elim ts as (λ _. List SegmentHeader) [ [] ↦ alone ∷ [] | t ∷ us ↦ map (led_to form p) (t ∷ us) ])
   headings_of_targets alone [] = refl
   headings_of_targets alone (t ∷ ts) = refl
 
-  written-is : headings_for (places r moved) marks table_bytes p (told (leader_of r p)) ≡ written_from r moved p
+  written-is : headings_for form (places r moved) marks table_bytes p (told (leader_of r p)) ≡ written_from r moved p
   unfolding headings_for
   written-is =
-      ap (headings_at p (sized_table table_bytes p (told (leader_of r p)))) targets-are
-      ∙ ap (λ q. headings_at p q (targets_of r moved p)) (table_sized (leader_of r p))
+      ap (headings_at form p (sized_table table_bytes p (told (leader_of r p)))) targets-are
+      ∙ ap (λ q. headings_at form p q (targets_of r moved p)) (table_sized (leader_of r p))
       ∙ headings_of_targets (resized_table r moved p) (targets_of r moved p)
 
-  physical-is : do_headings_fit (places r moved) marks table_bytes p (told (leader_of r p)) ≡ true → keep_physical r moved p ≡ true
-  unfolding do_headings_fit
-  physical-is fits =
-      let k : Told = told (leader_of r p) in
-      let well : list_all (is_led_well p) (targets_at (places r moved) marks k) ≡ true = (and_parts (does_table_fit table_bytes k) (list_all (is_led_well p) (targets_at (places r moved) marks k)) fits).1 in
-      list_all-weaker (is_led_well p) (keeps_distance p) (well_keeps p) (targets_of r moved p) (sym (ap (list_all (is_led_well p)) targets-are) ∙ well)
-
   -- what fits its fields was written well
-  table_fits : (form : Form) (l : Leader) → list_all (does_segment_fit form) (headings_at p (sized_table table_bytes p (told l)) (targets_at (places r moved) marks (told l))) ≡ true → does_table_fit table_bytes (told l) ≡ true
+  table_fits : (l : Leader) → list_all (does_segment_fit form) (headings_at form p (sized_table table_bytes p (told l)) (targets_at (places r moved) marks (told l))) ≡ true → does_table_fit table_bytes (told l) ≡ true
   unfolding targets_at
-  table_fits form Itself fits = refl
-  table_fits form HeaderTable fits = (parts_fit form (record p { p_filesz = table_bytes; p_memsz = table_bytes }) (and_parts (does_segment_fit form (record p { p_filesz = table_bytes; p_memsz = table_bytes })) true fits).0).1
-  table_fits form (OneSection s) fits = refl
-  table_fits form (Notes ns) fits = refl
+  table_fits Itself fits = refl
+  table_fits HeaderTable fits = (parts_fit form (record p { p_filesz = table_bytes; p_memsz = table_bytes }) (and_parts (does_segment_fit form (record p { p_filesz = table_bytes; p_memsz = table_bytes })) true fits).0).1
+  table_fits (OneSection s) fits = refl
+  table_fits (Notes ns) fits = refl
 
-  targets_fit : (form : Form) (alone : SegmentHeader) (ts : List Target) → list_all (keeps_distance p) ts ≡ true → list_all (does_segment_fit form) (headings_at p alone ts) ≡ true → list_all (is_led_well p) ts ≡ true
-  targets_fit form alone [] keeps fits = refl
-  targets_fit form alone (t ∷ ts) keeps fits = all_led_well form p (t ∷ ts) keeps fits
+  targets_fit : (alone : SegmentHeader) (ts : List Target) → list_all (does_segment_fit form) (headings_at form p alone ts) ≡ true → list_all (is_led_well form p) ts ≡ true
+  targets_fit alone [] fits = refl
+  targets_fit alone (t ∷ ts) fits = all_led_well form p (t ∷ ts) fits
 
-  fits-is : (form : Form) → keep_physical r moved p ≡ true → list_all (does_segment_fit form) (written_from r moved p) ≡ true → do_headings_fit (places r moved) marks table_bytes p (told (leader_of r p)) ≡ true
+  fits-is : list_all (does_segment_fit form) (written_from r moved p) ≡ true → do_headings_fit form (places r moved) marks table_bytes p (told (leader_of r p)) ≡ true
   unfolding do_headings_fit headings_for
-  fits-is form keeps fits =
+  fits-is fits =
       let k : Told = told (leader_of r p) in
-      let made : list_all (does_segment_fit form) (headings_at p (sized_table table_bytes p k) (targets_at (places r moved) marks k)) ≡ true = ap (list_all (does_segment_fit form)) written-is ∙ fits in
-      and_from (does_table_fit table_bytes k) (list_all (is_led_well p) (targets_at (places r moved) marks k))
-      (table_fits form (leader_of r p) made)
-      (targets_fit form (sized_table table_bytes p k) (targets_at (places r moved) marks k) (ap (list_all (keeps_distance p)) targets-are ∙ keeps) made)
+      let made : list_all (does_segment_fit form) (headings_at form p (sized_table table_bytes p k) (targets_at (places r moved) marks k)) ≡ true = ap (list_all (does_segment_fit form)) written-is ∙ fits in
+      and_from (does_table_fit table_bytes k) (list_all (is_led_well form p) (targets_at (places r moved) marks k))
+      (table_fits (leader_of r p) made)
+      (targets_fit (sized_table table_bytes p k) (targets_at (places r moved) marks k) made)
 
 -- ## Headers behind the last one that is loaded
 
@@ -255,58 +236,50 @@ flat_all q f (y ∷ xs) zero x within at h = ap (λ z. list_all q (f z)) (sym at
 flat_all q f (y ∷ xs) (suc i) x within at h =
     flat_all q f xs i x (omega (arith, within)) at (and_parts (list_all q (f y)) (list_all q (flat_map f xs)) (sym (list_all-append q (f y) (flat_map f xs)) ∙ h)).1
 
--- of a plan that fits, the headers fit and keep their physical addresses
-plan_parts : (r : Resized) (moved : List ℕ) (rounds looked : ℕ) → does_plan_fit r moved (layout_for r rounds looked moved) ≡ true
-    → (list_all (does_segment_fit r.image.form) (written_segments r moved) ≡ true) × (list_all (keep_physical r moved) r.image.segments ≡ true)
+-- of a plan that fits, the headers fit
+plan_parts : (r : Resized) (moved : List ℕ) (rounds looked : ℕ) → does_plan_fit r.image.form (layout_for r rounds looked moved) ≡ true
+    → list_all (does_segment_fit r.image.form) (written_segments r moved) ≡ true
 unfolding does_plan_fit layout_for
 plan_parts r moved rounds looked h =
     let form : Form = r.image.form in
     let A : Bool = list_all (does_place_fit form) (places r moved) in
     let B : Bool = list_all (does_segment_fit form) (written_segments r moved) in
-    let C : Bool = list_all (keep_physical r moved) r.image.segments in
     let D : Bool = fits_field form (table_offset r moved) in
     let E : Bool = fits_field form (sections_offset r moved) in
     let F : Bool = nat_lt (length (written_segments r moved)) PN_XNUM in
     let G : Bool = nat_lt (length (places r moved)) SHN_LORESERVE in
-    let f = and_parts (A && B && C && D && E && F) G h in
-    let e = and_parts (A && B && C && D && E) F f.0 in
-    let d = and_parts (A && B && C && D) E e.0 in
-    let c = and_parts (A && B && C) D d.0 in
-    let b = and_parts (A && B) C c.0 in
-    ((and_parts A B b.0).1, b.1)
+    let f = and_parts (A && B && D && E && F) G h in
+    let e = and_parts (A && B && D && E) F f.0 in
+    let d = and_parts (A && B && D) E e.0 in
+    let c = and_parts (A && B) D d.0 in
+    (and_parts A B c.0).1
 
 -- ## Steps of the walk over the program headers
 
-module _ (r : Resized) (moved : List ℕ) (marks : List Bool) (are : AreSized r) (h : AreMarks r moved marks) (all : List Place) (size : ℕ) (k : Told) (p : SegmentHeader)
-    (stand : all ≡ places r moved) (sized : size ≡ header_count r moved * segment_header_size r.image.form) (lead : k ≡ told (leader_of r p)) where
-  pub heading_written : headings_for all marks size p k ≡ written_from r moved p
+module _ (r : Resized) (moved : List ℕ) (marks : List Bool) (are : AreSized r) (h : AreMarks r moved marks) (form : Form) (all : List Place) (size : ℕ) (k : Told) (p : SegmentHeader)
+    (formed : form ≡ r.image.form) (stand : all ≡ places r moved) (sized : size ≡ header_count r moved * segment_header_size r.image.form) (lead : k ≡ told (leader_of r p)) where
+  pub heading_written : headings_for form all marks size p k ≡ written_from r moved p
   heading_written =
-      ap (λ l. headings_for l marks size p k) stand ∙ ap (λ n. headings_for (places r moved) marks n p k) sized
-      ∙ ap (headings_for (places r moved) marks (header_count r moved * segment_header_size r.image.form) p) lead ∙ written-is r moved marks are h p
+      ap (λ f. headings_for f all marks size p k) formed ∙ ap (λ l. headings_for r.image.form l marks size p k) stand ∙ ap (λ n. headings_for r.image.form (places r moved) marks n p k) sized
+      ∙ ap (headings_for r.image.form (places r moved) marks (header_count r moved * segment_header_size r.image.form) p) lead ∙ written-is r moved marks are h p
 
-  fit_same : do_headings_fit all marks size p k ≡ do_headings_fit (places r moved) marks (header_count r moved * segment_header_size r.image.form) p (told (leader_of r p))
+  fit_same : do_headings_fit form all marks size p k ≡ do_headings_fit r.image.form (places r moved) marks (header_count r moved * segment_header_size r.image.form) p (told (leader_of r p))
   fit_same =
-      ap (λ l. do_headings_fit l marks size p k) stand ∙ ap (λ n. do_headings_fit (places r moved) marks n p k) sized
-      ∙ ap (do_headings_fit (places r moved) marks (header_count r moved * segment_header_size r.image.form) p) lead
+      ap (λ f. do_headings_fit f all marks size p k) formed ∙ ap (λ l. do_headings_fit r.image.form l marks size p k) stand ∙ ap (λ n. do_headings_fit r.image.form (places r moved) marks n p k) sized
+      ∙ ap (do_headings_fit r.image.form (places r moved) marks (header_count r moved * segment_header_size r.image.form) p) lead
 
-  pub heading_physical : do_headings_fit all marks size p k ≡ true → keep_physical r moved p ≡ true
-  heading_physical fits = physical-is r moved marks are h p (sym fit_same ∙ fits)
-
-  pub heading_past : (i : ℕ) → slice_get r.image.segments i ≡ Some p → do_headings_fit all marks size p k ≡ false
-      → (rounds looked : ℕ) → does_plan_fit r moved (layout_for r rounds looked moved) ≡ false
+  pub heading_past : (i : ℕ) → slice_get r.image.segments i ≡ Some p → do_headings_fit form all marks size p k ≡ false
+      → (rounds looked : ℕ) → does_plan_fit r.image.form (layout_for r rounds looked moved) ≡ false
   unfolding written_segments
   heading_past i there misfit rounds looked =
       let within : i < length r.image.segments = slice_get_within r.image.segments i p there in
       let at : get_or r.image.segments i p ≡ p = get_or_from_slice_get r.image.segments i p p there in
-      false_from_ne_true (does_plan_fit r moved (layout_for r rounds looked moved)) (λ plan.
+      false_from_ne_true (does_plan_fit r.image.form (layout_for r rounds looked moved)) (λ plan.
       let parts = plan_parts r moved rounds looked plan in
-      let form : Form = r.image.form in
-      let keeps : keep_physical r moved p ≡ true =
-      ap (keep_physical r moved) (sym at) ∙ AllPass-from_list_all (keep_physical r moved) r.image.segments parts.1 i p within in
-      let fits : list_all (does_segment_fit form) (written_from r moved p) ≡ true =
-      flat_all (does_segment_fit form) (written_from r moved) r.image.segments i p within at
-      (behind_keeps (does_segment_fit form) (map (λ load. load.header) (added_loads r moved)) (flat_map (written_from r moved) r.image.segments) parts.0) in
-      true≢false (sym (fits-is r moved marks are h p form keeps fits) ∙ sym fit_same ∙ misfit))
+      let fits : list_all (does_segment_fit r.image.form) (written_from r moved p) ≡ true =
+      flat_all (does_segment_fit r.image.form) (written_from r moved) r.image.segments i p within at
+      (behind_keeps (does_segment_fit r.image.form) (map (λ load. load.header) (added_loads r moved)) (flat_map (written_from r moved) r.image.segments) parts) in
+      true≢false (sym (fits-is r moved marks are h p fits) ∙ sym fit_same ∙ misfit))
 
 pub written-more : (r : Resized) (moved : List ℕ) (i : ℕ) (p : SegmentHeader) → slice_get r.image.segments i ≡ Some p
     → flat_map (written_from r moved) (take (i + 1) r.image.segments) ≡ flat_map (written_from r moved) (take i r.image.segments) ++ written_from r moved p
@@ -385,13 +358,6 @@ behind-more more ps i d left made new within whole left_is new_is =
 pub behind-nothing : (more : List SegmentHeader) → behind_last_load more [] ≡ []
 unfolding behind_last_load
 behind-nothing more = refl
-
-pub physical-more : (r : Resized) (moved : List ℕ) (i : ℕ) (p : SegmentHeader) → slice_get r.image.segments i ≡ Some p
-    → list_all (keep_physical r moved) (take i r.image.segments) ≡ true → keep_physical r moved p ≡ true → list_all (keep_physical r moved) (take (i + 1) r.image.segments) ≡ true
-physical-more r moved i p there so_far keeps =
-    list_all_more (keep_physical r moved) r.image.segments i p (slice_get_within r.image.segments i p there)
-    ∙ and_from (list_all (keep_physical r moved) (take i r.image.segments)) (keep_physical r moved (get_or r.image.segments i p)) so_far
-    (ap (keep_physical r moved) (get_or_from_slice_get r.image.segments i p p there) ∙ keeps)
 
 -- a fault of a program header is one of all
 pub stands_too_far : (r : Resized) (moved : List ℕ) (fits : Bool) (fault : LayoutFault) → IsMisfit fits fault → (fits ≡ false → IsPastField r moved) → StandsTooFar r moved fault

@@ -12,7 +12,7 @@ use Rattle.elf_plan.specs.Added.{added_loads}
 use Rattle.elf_plan.specs.Follow.{Itself, HeaderTable, Leader, Notes, OneSection, leader_of}
 use Rattle.elf_plan.specs.Kept.{image_at_read}
 use Rattle.elf_plan.specs.Memory.{Resized}
-use Rattle.elf_plan.specs.Plan.{IsOverlapping, IsTooLarge, Layout, does_place_fit, does_plan_fit, does_segment_fit, keep_physical, layout_for}
+use Rattle.elf_plan.specs.Plan.{IsOverlapping, IsTooLarge, Layout, does_plan_fit, layout_for}
 use Rattle.elf_plan.specs.PlanSeen.{place_seen}
 use Rattle.elf_plan.specs.Rounds.{AreRounds, is_stuck_with}
 use Rattle.elf_plan.specs.Sizes.{fits_field, new_sizes}
@@ -93,33 +93,22 @@ pub record IsStanding (r : Resized) (moved : List ℕ) (s : Standing) : Type 0 w
 
 -- some number of what follows from the sections that move doesn't fit
 abbrev pub IsPastField : Resized → List ℕ → Type 0
-IsPastField r moved = (rounds looked : ℕ) → does_plan_fit r moved (layout_for r rounds looked moved) ≡ false
+IsPastField r moved = (rounds looked : ℕ) → does_plan_fit r.image.form (layout_for r rounds looked moved) ≡ false
 
 abbrev pub StandsTooFar : Resized → List ℕ → LayoutFault → Type 0
 StandsTooFar r moved faults.Overlap = ⊥
 StandsTooFar r moved faults.NumberTooLarge = IsPastField r moved
 StandsTooFar r moved faults.Memory = Unit {0}
 
--- the program headers that are written; each physical address that goes with another keeps its distance
+-- the program headers that are written
 pub record AreWritten (r : Resized) (moved : List ℕ) (segments : List SegmentHeader) : Type 0 where
   pub are : segments ≡ written_segments r moved
-  pub physical : IsTrue (list_all (keep_physical r moved) r.image.segments)
 
 -- ## A plan
 
--- what follows from the sections that move, but for whether every number fits; each physical address that goes with another
--- keeps its distance
+-- what follows from the sections that move, but for whether every number fits
 pub record AreParts (r : Resized) (rounds : Rounds) (parts : Layout) : Type 0 where
   pub are : parts ≡ layout_for r rounds.count rounds.looked rounds.moved.items
-  pub physical : IsTrue (list_all (keep_physical r rounds.moved.items) r.image.segments)
-
--- each number fits its field, and there are no more sections and program headers than plain numbering has (gABI, ELF Header,
--- e_phnum and e_shnum)
-unfoldable pub do_parts_fit : Form → Layout → Bool
-do_parts_fit form parts =
-    list_all (does_place_fit form) parts.places && list_all (does_segment_fit form) parts.segments
-    && fits_field form parts.e_phoff && fits_field form parts.e_shoff
-    && nat_lt (length parts.segments) PN_XNUM && nat_lt (length parts.places) SHN_LORESERVE
 
 -- an image with its sizes has no plan
 abbrev pub HasNoPlan : Resized → LayoutFault → Type 0

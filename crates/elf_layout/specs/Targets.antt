@@ -1,7 +1,8 @@
 -- Where a program header goes, told by the positions of sections and the marks of those that move.
-use Rattle.std.specs.Prelude.{ℕ, ◌≡◌, ◌+◌, ◌-◌, ◌^◌, max, List, [], ◌∷◌, ◌++◌, map, fold, Bool, true, false, ◌&&◌, not, Option, Some, None, nat_le, nat_lt, ◌==◌, if◌then◌else◌}
+use Rattle.std.specs.Prelude.{ℕ, ◌≡◌, ◌+◌, ◌-◌, ◌^◌, max, List, [], ◌∷◌, ◌++◌, map, fold, Bool, true, false, ◌&&◌, not, Option, Some, None, nat_lt, ◌==◌, if◌then◌else◌}
 use Rattle.std.specs.List.{list_all, slice_get}
 use Rattle.std.specs.Option.{option_map, option_to_list}
+use Rattle.elf_format.specs.declared.form.Form.{Form}
 use Rattle.elf_format.specs.File.{is_loaded}
 use Rattle.elf_format.specs.Places.{Place, file_range}
 use Rattle.elf_format.specs.Ranges.{end_of, range}
@@ -9,7 +10,7 @@ use Rattle.elf_blocks.specs.declared.fault.LayoutFault.{LayoutFault}
 use Rattle.elf_blocks.specs.declared.fault.LayoutFault.TheVariants as faults
 use Rattle.elf_format.specs.declared.records.SegmentHeader.{SegmentHeader}
 use Rattle.elf_plan.specs.PlanSeen.{place_seen}
-use Rattle.elf_plan.specs.Written.{Target, address_for, address_in_memory, led_to, target_at}
+use Rattle.elf_plan.specs.Written.{Target, address_for, address_in_memory, led_to, physical_for, target_at}
 use Rattle.elf_layout.specs.declared.targets.Spread.{Spread}
 use Rattle.elf_layout.specs.declared.targets.TargetAt.{TargetAt}
 use Rattle.elf_layout.specs.declared.targets.Targets.{Targets}
@@ -74,33 +75,33 @@ headings_seen h = h.first ∷ option_to_list h.second
 abbrev pub fits_word : ℕ → Bool
 fits_word n = nat_lt n (2 ^ 64)
 
--- the physical address that goes with an address doesn't fall below 0, and fits 64 bits
-unfoldable pub is_physical_well : SegmentHeader → ℕ → Bool
-is_physical_well p address = nat_le p.p_vaddr (p.p_paddr + address) && fits_word (p.p_paddr + address - p.p_vaddr)
+-- the physical address that goes with an address fits 64 bits
+unfoldable pub is_physical_well : Form → SegmentHeader → ℕ → Bool
+is_physical_well form p address = fits_word (physical_for form p address)
 
 -- a program header's numbers at a target fit
-abbrev pub is_led_well : SegmentHeader → Target → Bool
-is_led_well p t = is_physical_well p (address_for p t) && fits_word t.part.size
+abbrev pub is_led_well : Form → SegmentHeader → Target → Bool
+is_led_well form p t = is_physical_well form p (address_for p t) && fits_word t.part.size
 
 -- the same of a target that was found
-unfoldable pub is_well_at : SegmentHeader → TargetAt → Bool
-is_well_at p t = is_led_well p (target_seen t)
+unfoldable pub is_well_at : Form → SegmentHeader → TargetAt → Bool
+is_well_at form p t = is_led_well form p (target_seen t)
 
-unfoldable pub header_at : SegmentHeader → TargetAt → SegmentHeader
-header_at p t = led_to p (target_seen t)
+unfoldable pub header_at : Form → SegmentHeader → TargetAt → SegmentHeader
+header_at form p t = led_to form p (target_seen t)
 
 abbrev pub targets_found : Targets → List TargetAt
 targets_found t = option_to_list t.first ++ option_to_list t.second
 
 -- what becomes of a program header at its targets, where it has any
-abbrev pub headings_at : SegmentHeader → SegmentHeader → List Target → List SegmentHeader
-headings_at p alone [] = alone ∷ []
-headings_at p alone (t ∷ ts) = map (led_to p) (t ∷ ts)
+abbrev pub headings_at : Form → SegmentHeader → SegmentHeader → List Target → List SegmentHeader
+headings_at form p alone [] = alone ∷ []
+headings_at form p alone (t ∷ ts) = map (led_to form p) (t ∷ ts)
 
 -- the same at targets that were found
-abbrev pub headings_found : SegmentHeader → SegmentHeader → List TargetAt → List SegmentHeader
-headings_found p alone [] = alone ∷ []
-headings_found p alone (t ∷ ts) = map (header_at p) (t ∷ ts)
+abbrev pub headings_found : Form → SegmentHeader → SegmentHeader → List TargetAt → List SegmentHeader
+headings_found form p alone [] = alone ∷ []
+headings_found form p alone (t ∷ ts) = map (header_at form p) (t ∷ ts)
 
 -- a program header for the table has that table's size
 abbrev pub sized_table : ℕ → SegmentHeader → Told → SegmentHeader
@@ -116,11 +117,11 @@ does_table_fit size (section position) = true
 does_table_fit size (notes positions) = true
 
 -- what becomes of a program header that goes by this, where the table has that size
-unfoldable pub headings_for : List Place → List Bool → ℕ → SegmentHeader → Told → List SegmentHeader
-headings_for all marks size p told = headings_at p (sized_table size p told) (targets_at all marks told)
+unfoldable pub headings_for : Form → List Place → List Bool → ℕ → SegmentHeader → Told → List SegmentHeader
+headings_for form all marks size p told = headings_at form p (sized_table size p told) (targets_at all marks told)
 
-unfoldable pub do_headings_fit : List Place → List Bool → ℕ → SegmentHeader → Told → Bool
-do_headings_fit all marks size p told = does_table_fit size told && list_all (is_led_well p) (targets_at all marks told)
+unfoldable pub do_headings_fit : Form → List Place → List Bool → ℕ → SegmentHeader → Told → Bool
+do_headings_fit form all marks size p told = does_table_fit size told && list_all (is_led_well form p) (targets_at all marks told)
 
 -- ## Headers behind the last one that is loaded
 

@@ -2,15 +2,18 @@
 ghost use Rattle.std.specs.Prelude.{◌≡◌, ◌+◌, ◌-◌, [], ◌∷◌, ◌++◌, ◌&&◌, MatchOption, MatchResult, OnOk, true, false, map};
 ghost use Rattle.std.specs.List.{list_all};
 ghost use Rattle.elf_plan.specs.PlanSeen.{place_seen};
-ghost use Rattle.elf_plan.specs.Written.{address_for as address_at, memory_size as size_in_memory};
+ghost use Rattle.elf_plan.specs.Sizes.{field_range};
+ghost use Rattle.elf_plan.specs.Written.{address_for as address_at, memory_size as size_in_memory, physical_for};
 ghost use Rattle.elf_layout.specs.Inner.{leader_seen};
 ghost use Rattle.elf_layout.specs.Targets.{IsMisfit, do_headings_fit, does_table_fit, fits_word, header_at, headings_for, headings_found, headings_seen, is_physical_well, is_well_at, sized_table, target_seen, targets_found};
 
 use crate::leaders::LeaderAt;
 use crate::targets::{TargetAt, Targets, targets_of};
 use elf_format::constants::{PT_DYNAMIC, PT_INTERP};
+use elf_format::form::Form;
 use elf_format::records::SegmentHeader;
 use elf_plan::{LayoutFault, SectionPlace};
+use patch_bytes::Wide;
 use std::alloc::AllocError;
 
 // What becomes of a program header: one, or two.
@@ -56,29 +59,46 @@ fn in_word(number: u128) -> Option<u64>
     }
 }
 
-// The physical address that goes with an address; none where it falls below 0 or doesn't fit.
-#[tactic(auto, unfolding(crate::specs::Targets::is_physical_well))]
-fn physical_at(p: SegmentHeader, address: u64) -> Option<u64>
-    ensures { MatchOption result (is_physical_well p address ≡ false)
-        (λ n. (n ≡ p.p_paddr + address - p.p_vaddr) × (is_physical_well p address ≡ true)) }
+// How many numbers a field for addresses holds.
+fn range_of(form: Form) -> u128
+    ensures { result ≡ field_range form }
+{
+    match form.wide {
+        Wide::W32 => 1 << 32,
+        Wide::W64 => 1 << 64,
+    }
+}
+
+// The physical address that goes with an address.
+fn physical_number(form: Form, p: SegmentHeader, address: u64) -> u128
+    ensures { result ≡ physical_for form p address }
 {
     let sum = p.p_paddr as u128 + address as u128;
     let start = p.p_vaddr as u128;
     if start <= sum {
-        in_word(sum - start)
+        sum - start
     } else {
-        None
+        (sum + range_of(form)).saturating_sub(start)
     }
+}
+
+// The same; none where it doesn't fit.
+#[tactic(auto, unfolding(crate::specs::Targets::is_physical_well))]
+fn physical_at(form: Form, p: SegmentHeader, address: u64) -> Option<u64>
+    ensures { MatchOption result (is_physical_well form p address ≡ false)
+        (λ n. (n ≡ physical_for form p address) × (is_physical_well form p address ≡ true)) }
+{
+    in_word(physical_number(form, p, address))
 }
 
 // The program header at a target; none where a number doesn't fit.
 #[tactic(auto, unfolding(crate::specs::Targets::is_well_at, crate::specs::Targets::header_at))]
-fn led_to(p: SegmentHeader, t: TargetAt) -> Option<SegmentHeader>
-    ensures { MatchOption result (is_well_at p t ≡ false)
-        (λ h. (h ≡ header_at p t) × (is_well_at p t ≡ true)) }
+fn led_to(form: Form, p: SegmentHeader, t: TargetAt) -> Option<SegmentHeader>
+    ensures { MatchOption result (is_well_at form p t ≡ false)
+        (λ h. (h ≡ header_at form p t) × (is_well_at form p t ≡ true)) }
 {
     let address = address_for(p, t);
-    match physical_at(p, address) {
+    match physical_at(form, p, address) {
         None => None,
         Some(physical) => match in_word(t.size) {
             None => None,
@@ -119,12 +139,12 @@ fn table_or(p: SegmentHeader, leader: &LeaderAt, size: u128) -> Option<SegmentHe
 }
 
 // What becomes of a program header at one target.
-fn at_one(p: SegmentHeader, t: TargetAt) -> Option<Headings>
-    ensures { MatchOption result (is_well_at p t ≡ false)
-        (λ h. (headings_seen h ≡ header_at p t ∷ [])
-        × (is_well_at p t ≡ true)) }
+fn at_one(form: Form, p: SegmentHeader, t: TargetAt) -> Option<Headings>
+    ensures { MatchOption result (is_well_at form p t ≡ false)
+        (λ h. (headings_seen h ≡ header_at form p t ∷ [])
+        × (is_well_at form p t ≡ true)) }
 {
-    match led_to(p, t) {
+    match led_to(form, p, t) {
         None => None,
         Some(first) => Some(Headings {
             first,
@@ -134,15 +154,15 @@ fn at_one(p: SegmentHeader, t: TargetAt) -> Option<Headings>
 }
 
 // What becomes of a program header at two targets.
-fn at_two(p: SegmentHeader, t: TargetAt, u: TargetAt) -> Option<Headings>
-    ensures { let both = is_well_at p t && is_well_at p u in
+fn at_two(form: Form, p: SegmentHeader, t: TargetAt, u: TargetAt) -> Option<Headings>
+    ensures { let both = is_well_at form p t && is_well_at form p u in
         MatchOption result (both ≡ false)
-        (λ h. (headings_seen h ≡ header_at p t ∷ header_at p u ∷ [])
+        (λ h. (headings_seen h ≡ header_at form p t ∷ header_at form p u ∷ [])
         × (both ≡ true)) }
 {
-    match led_to(p, t) {
+    match led_to(form, p, t) {
         None => None,
-        Some(first) => match led_to(p, u) {
+        Some(first) => match led_to(form, p, u) {
             None => None,
             Some(second) => Some(Headings {
                 first,
@@ -153,10 +173,15 @@ fn at_two(p: SegmentHeader, t: TargetAt, u: TargetAt) -> Option<Headings>
 }
 
 // What becomes of a program header at its targets, where it has any.
-fn at_targets(p: SegmentHeader, alone: SegmentHeader, targets: Targets) -> Option<Headings>
-    ensures { let well = list_all (is_well_at p) (targets_found targets) in
+fn at_targets(
+    form: Form,
+    p: SegmentHeader,
+    alone: SegmentHeader,
+    targets: Targets,
+) -> Option<Headings>
+    ensures { let well = list_all (is_well_at form p) (targets_found targets) in
         MatchOption result (well ≡ false)
-        (λ h. (headings_seen h ≡ headings_found p alone (targets_found targets)) × (well ≡ true)) }
+        (λ h. (headings_seen h ≡ headings_found form p alone (targets_found targets)) × (well ≡ true)) }
 {
     match targets.first {
         None => match targets.second {
@@ -164,11 +189,11 @@ fn at_targets(p: SegmentHeader, alone: SegmentHeader, targets: Targets) -> Optio
                 first: alone,
                 second: None,
             }),
-            Some(t) => at_one(p, t),
+            Some(t) => at_one(form, p, t),
         },
         Some(t) => match targets.second {
-            None => at_one(p, t),
-            Some(u) => at_two(p, t, u),
+            None => at_one(form, p, t),
+            Some(u) => at_two(form, p, t, u),
         },
     }
 }
@@ -177,6 +202,7 @@ fn at_targets(p: SegmentHeader, alone: SegmentHeader, targets: Targets) -> Optio
 // doesn't fit.
 #[tactic(auto, unfolding(crate::specs::Targets::headings_for, crate::specs::Targets::do_headings_fit))]
 fn headings_of(
+    form: Form,
     places: &[SectionPlace],
     marks: &[bool],
     size: u128,
@@ -184,13 +210,13 @@ fn headings_of(
     leader: &LeaderAt,
 ) -> Option<Headings>
     ensures { let all = map place_seen places.now in let told = leader_seen leader.now in
-        MatchOption result (do_headings_fit all marks.now size p told ≡ false)
-        (λ h. (headings_seen h ≡ headings_for all marks.now size p told)
-        × (do_headings_fit all marks.now size p told ≡ true)) }
+        MatchOption result (do_headings_fit form all marks.now size p told ≡ false)
+        (λ h. (headings_seen h ≡ headings_for form all marks.now size p told)
+        × (do_headings_fit form all marks.now size p told ≡ true)) }
 {
     match table_or(p, leader, size) {
         None => None,
-        Some(alone) => at_targets(p, alone, targets_of(places, marks, leader)),
+        Some(alone) => at_targets(form, p, alone, targets_of(places, marks, leader)),
     }
 }
 
@@ -207,6 +233,7 @@ fn push_headings(made: &mut Vec<SegmentHeader>, headings: Headings) -> Result<()
 
 // Puts what becomes of a program header behind others.
 pub(crate) fn push_written(
+    form: Form,
     made: &mut Vec<SegmentHeader>,
     places: &[SectionPlace],
     marks: &[bool],
@@ -216,11 +243,11 @@ pub(crate) fn push_written(
 ) -> Result<(), LayoutFault>
     ensures { let all = map place_seen places.now in let told = leader_seen leader.now in
         MatchResult result
-        (λ _. (made.new.items ≡ made.old.items ++ headings_for all marks.now size p told)
-        × (do_headings_fit all marks.now size p told ≡ true))
-        (IsMisfit (do_headings_fit all marks.now size p told)) }
+        (λ _. (made.new.items ≡ made.old.items ++ headings_for form all marks.now size p told)
+        × (do_headings_fit form all marks.now size p told ≡ true))
+        (IsMisfit (do_headings_fit form all marks.now size p told)) }
 {
-    let Some(headings) = headings_of(places, marks, size, p, leader) else {
+    let Some(headings) = headings_of(form, places, marks, size, p, leader) else {
         return Err(LayoutFault::NumberTooLarge);
     };
     match push_headings(made, headings) {

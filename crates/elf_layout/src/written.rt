@@ -2,7 +2,6 @@ ghost use Rattle.std.specs.Prelude.{◌≡◌, ◌∷◌, ◌++◌, IfErr, IfOk,
 ghost use Rattle.std.specs.List.{flat_map, list_all};
 ghost use Rattle.elf_format.specs.File.{is_loaded};
 ghost use Rattle.elf_plan.specs.Added.{header_count};
-ghost use Rattle.elf_plan.specs.Plan.{keep_physical};
 ghost use Rattle.elf_plan.specs.PlanSeen.{place_seen};
 ghost use Rattle.elf_plan.specs.Standing.{places as places_of};
 ghost use Rattle.elf_plan.specs.Written.{behind_last_load, written_from};
@@ -92,16 +91,15 @@ fn all_written(
     requires headers { headers ≡ header_count r.now moved.now }
     ensures written { IfOk result (λ made. made.items
         ≡ flat_map (written_from r.now moved.now) r.now.image.segments) }
-    ensures physical { OnOk result (list_all (keep_physical r.now moved.now) r.now.image.segments
-        ≡ true) }
     ensures fault { IfErr result (StandsTooFar r.now moved.now) }
 {
     sections_are_sized(r);
-    let size = headers as u128 * form_of(r).segment_header_size() as u128;
+    let form = form_of(r);
+    let size = headers as u128 * form.segment_header_size() as u128;
     let mut made = Vec::new(alloc);
     for i in 0..leaders.len() {
         let p = segment_at(r, i);
-        match push_written(&mut made, places, marks, size, p, &leaders[i]) {
+        match push_written(form, &mut made, places, marks, size, p, &leaders[i]) {
             Ok(()) => {}
             Err(fault) => return Err(fault),
         }

@@ -258,22 +258,22 @@ module _ (r : Resized) (facts : AreFacts r) (moved : List ℕ) where
             let moving = moved_notes moved (notes_under r p) in
             let (j, at_j) = at-filter (λ s. not (is_moved moved s)) (notes_under r p) i k at (ap (λ b. not b) stays) in
             let (n, at_n) = at-filter_map (λ (s : KeptSection). slice_get (places r moved) s.position) staying j k (planned k) at_j (place_there k note) in
-            let (m, t, at_t, shows_it) = targets_show p p.p_offset p.p_vaddr (places_of_kept (places r moved) staying) staying_at n (planned k) at_n in
+            let (m, t, at_t, shows_it) = targets_show r.image.form p p.p_offset p.p_vaddr (places_of_kept (places r moved) staying) staying_at n (planned k) at_n in
             let front = targets_over (places_of_kept (places r moved) staying) in
             let back = targets_over (places_of_kept (places r moved) moving) in
             let (l, at_l) = append-front_at front back m t at_t in
-            (l, led_to p t, written-at r moved p (front ++ back) (notes_targets r moved p (notes_under r p) leader some) l t at_l, refl, shows_it)
+            (l, led_to r.image.form p t, written-at r moved p (front ++ back) (notes_targets r moved p (notes_under r p) leader some) l t at_l, refl, shows_it)
         by_moved true some true moves leader i at =
             let staying = staying_notes moved (notes_under r p) in
             let moving = moved_notes moved (notes_under r p) in
             let (j, at_j) = at-filter (is_moved moved) (notes_under r p) i k at moves in
             let (n, at_n) = at-filter_map (λ (s : KeptSection). slice_get (places r moved) s.position) moving j k (planned k) at_j (place_there k note) in
             let (offset, address, _) = distance_of r facts.sized moved PF_R in
-            let (m, t, at_t, shows_it) = targets_show p offset address (places_of_kept (places r moved) moving) moving_at n (planned k) at_n in
+            let (m, t, at_t, shows_it) = targets_show r.image.form p offset address (places_of_kept (places r moved) moving) moving_at n (planned k) at_n in
             let front = targets_over (places_of_kept (places r moved) staying) in
             let back = targets_over (places_of_kept (places r moved) moving) in
             let (l, at_l) = append-back_at front back m t at_t in
-            (l, led_to p t, written-at r moved p (front ++ back) (notes_targets r moved p (notes_under r p) leader some) l t at_l, refl, shows_it)
+            (l, led_to r.image.form p t, written-at r moved p (front ++ back) (notes_targets r moved p (notes_under r p) leader some) l t at_l, refl, shows_it)
 
   -- ## One note
 
@@ -391,10 +391,10 @@ module _ (r : Resized) (facts : AreFacts r) (moved : List ℕ) where
     one_shown : IsShownIn p k
     one_shown = (
       0,
-      led_to p (target_at (planned k)),
+      led_to r.image.form p (target_at (planned k)),
       written-at r moved p (target_at (planned k) ∷ []) (section_targets r moved p k (planned k) leader_one (place_there k note)) 0 (target_at (planned k)) refl,
       refl,
-      target_shows p (planned k) (in_memory k note),
+      target_shows r.image.form p (planned k) (in_memory k note),
     )
 
   -- ## The law

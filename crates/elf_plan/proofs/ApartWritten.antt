@@ -48,7 +48,7 @@ module _ (r : Resized) (moved : List ℕ) where
   targets_are p = refl
 
   pub written_by : SegmentHeader → List Target → List SegmentHeader
-  written_by p targets = elim targets [ [] ↦ resized_table r moved p ∷ [] | t ∷ ts ↦ map (led_to p) (t ∷ ts) ]
+  written_by p targets = elim targets [ [] ↦ resized_table r moved p ∷ [] | t ∷ ts ↦ map (led_to r.image.form p) (t ∷ ts) ]
 
   pub written_is : (p : SegmentHeader) → written_from r moved p ≡ written_by p (targets_of r moved p)
   unfolding written_by
@@ -85,7 +85,7 @@ module _ (r : Resized) (moved : List ℕ) where
   written_type : (p : SegmentHeader) (targets : List Target) → Each (λ q. q.p_type ≡ p.p_type) (written_by p targets)
   unfolding written_by
   written_type p [] = (ap (λ (q : SegmentHeader). q.p_type) (table_is p) ∙ table_type p (leader_of r p), tt)
-  written_type p (t ∷ ts) = each-map (λ (q : SegmentHeader). q.p_type ≡ p.p_type) (led_to p) (t ∷ ts) (each-all (λ t. p.p_type ≡ p.p_type) (λ t. refl) (t ∷ ts))
+  written_type p (t ∷ ts) = each-map (λ (q : SegmentHeader). q.p_type ≡ p.p_type) (led_to r.image.form p) (t ∷ ts) (each-all (λ t. p.p_type ≡ p.p_type) (λ t. refl) (t ∷ ts))
 
   loads_from_one : (p : SegmentHeader) → loads_of (written_from r moved p) ≡ cond (is_loaded p) (p ∷ []) []
   loads_from_one p = elim (cases_Bool (is_loaded p)) [
@@ -228,7 +228,7 @@ length-targets r moved (Notes notes) = length-notes moved (places r moved) notes
 length-written_by : (r : Resized) (moved : List ℕ) (p : SegmentHeader) (targets : List Target) (n : ℕ) → length targets ≤ 1 + n → length (written_by r moved p targets) ≤ 1 + n
 unfolding written_by
 length-written_by r moved p [] n h = omega arith
-length-written_by r moved p (t ∷ ts) n h = omega (arith, h, length-map (led_to p) (t ∷ ts))
+length-written_by r moved p (t ∷ ts) n h = omega (arith, h, length-map (led_to r.image.form p) (t ∷ ts))
 
 length-written : (r : Resized) (moved : List ℕ) (p : SegmentHeader) → length (written_from r moved p) ≤ 1 + cond (is_split r moved p) 1 0
 unfolding is_split
@@ -287,13 +287,13 @@ notes_stay r moved p notes leader none =
     written_is r moved p ∙ ap (written_by r moved p) no_targets ∙ ap (λ q. q ∷ []) (table_is r moved p ∙ ap (table_by r moved p) leader)
 
 -- the program header for a target
-written_by-at : (r : Resized) (moved : List ℕ) (p : SegmentHeader) (targets : List Target) (j : ℕ) (t : Target) → slice_get targets j ≡ Some t → slice_get (written_by r moved p targets) j ≡ Some (led_to p t)
+written_by-at : (r : Resized) (moved : List ℕ) (p : SegmentHeader) (targets : List Target) (j : ℕ) (t : Target) → slice_get targets j ≡ Some t → slice_get (written_by r moved p targets) j ≡ Some (led_to r.image.form p t)
 unfolding written_by
 written_by-at r moved p [] j t at = absurd (none-some t at)
-written_by-at r moved p (u ∷ targets) j t at = at-map (led_to p) (u ∷ targets) j t at
+written_by-at r moved p (u ∷ targets) j t at = at-map (led_to r.image.form p) (u ∷ targets) j t at
 
 pub written-at : (r : Resized) (moved : List ℕ) (p : SegmentHeader) (targets : List Target) → targets_of r moved p ≡ targets → (j : ℕ) (t : Target) → slice_get targets j ≡ Some t
-    → slice_get (written_from r moved p) j ≡ Some (led_to p t)
+    → slice_get (written_from r moved p) j ≡ Some (led_to r.image.form p t)
 written-at r moved p targets are j t at =
     ap (λ (l : List SegmentHeader). slice_get l j) (written_is r moved p ∙ ap (written_by r moved p) are) ∙ written_by-at r moved p targets j t at
 

@@ -80,9 +80,9 @@ module _ (r : Resized) (moved : List ℕ) where
   length-targets p = targets_by (leader_of r p)
 
   written_by : (p : SegmentHeader) (n : ℕ) (targets : List Target) → length targets ≤ 1 + n
-      → length (elim targets as (λ _. List SegmentHeader) [ [] ↦ resized_table r moved p ∷ [] | t ∷ ts ↦ map (led_to p) (t ∷ ts) ]) ≤ 1 + n
+      → length (elim targets as (λ _. List SegmentHeader) [ [] ↦ resized_table r moved p ∷ [] | t ∷ ts ↦ map (led_to r.image.form p) (t ∷ ts) ]) ≤ 1 + n
   written_by p n [] h = omega arith
-  written_by p n (t ∷ ts) h = omega (arith, length-map (t ∷ ts) (led_to p), h)
+  written_by p n (t ∷ ts) h = omega (arith, length-map (t ∷ ts) (led_to r.image.form p), h)
 
   length-from : (p : SegmentHeader) → length (written_from r moved p) ≤ 1 + one_if (is_split r moved p)
   length-from p = written_by p (one_if (is_split r moved p)) (targets_of r moved p) (length-targets p)

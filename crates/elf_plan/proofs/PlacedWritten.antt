@@ -51,13 +51,13 @@ module _ (r : Resized) (moved : List ℕ) where
   table_by p (Notes notes) = refl
 
   written_by : (p : SegmentHeader) (targets : List Target) (q : SegmentHeader)
-      → Has q (elim targets as (λ _. List SegmentHeader) [ [] ↦ resized_table r moved p ∷ [] | t ∷ ts ↦ map (led_to p) (t ∷ ts) ])
+      → Has q (elim targets as (λ _. List SegmentHeader) [ [] ↦ resized_table r moved p ∷ [] | t ∷ ts ↦ map (led_to r.image.form p) (t ∷ ts) ])
       → q.p_type ≡ p.p_type
   written_by p [] q h = elim (has_cases q (resized_table r moved p) [] h) [
     | inl same ↦ ap (λ (x : SegmentHeader). x.p_type) (sym same) ∙ table_by p (leader_of r p)
     | inr later ↦ absurd (has_none q later)
   ]
-  written_by p (t ∷ ts) q h = let made = map-at (led_to p) (t ∷ ts) q h in ap (λ (x : SegmentHeader). x.p_type) (sym made.made)
+  written_by p (t ∷ ts) q h = let made = map-at (led_to r.image.form p) (t ∷ ts) q h in ap (λ (x : SegmentHeader). x.p_type) (sym made.made)
 
   -- it keeps its type
   same_type : (p q : SegmentHeader) → Has q (written_from r moved p) → q.p_type ≡ p.p_type
@@ -82,7 +82,7 @@ module _ (r : Resized) (moved : List ℕ) where
       let leader = leader-load p h in
       ap (λ (ts : List Target). elim ts as (λ _. List SegmentHeader) [
         | [] ↦ resized_table r moved p ∷ []
-        | t ∷ us ↦ map (led_to p) (t ∷ us)
+        | t ∷ us ↦ map (led_to r.image.form p) (t ∷ us)
       ]) (targets-itself p leader)
       ∙ ap (λ (l : Leader). (elim l as (λ _. SegmentHeader) [ HeaderTable ↦ with_table_size r moved p | _ ↦ p ]) ∷ []) leader
 

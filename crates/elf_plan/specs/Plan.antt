@@ -1,5 +1,5 @@
 -- A plan: where everything of an edited image goes.
-use Rattle.std.specs.Prelude.{ℕ, ◌+◌, ◌≡◌, List, [], ◌∷◌, length, Bool, ◌&&◌, not, IsTrue, count_by, nat_le, nat_lt}
+use Rattle.std.specs.Prelude.{ℕ, ◌+◌, ◌≡◌, List, [], ◌∷◌, length, Bool, ◌&&◌, not, IsTrue, count_by, nat_lt}
 use Rattle.std.specs.List.{list_all}
 use Rattle.elf_format.specs.declared.constants.TheConstants.{PN_XNUM, SHN_LORESERVE}
 use Rattle.elf_format.specs.File.{is_loaded}
@@ -12,7 +12,7 @@ use Rattle.elf_plan.specs.Memory.{Resized}
 use Rattle.elf_plan.specs.Rounds.{AreRounds, is_stuck_with, leads_to}
 use Rattle.elf_plan.specs.Sizes.{fits_field, new_sizes}
 use Rattle.elf_plan.specs.Standing.{places, sections_offset, table_offset}
-use Rattle.elf_plan.specs.Written.{address_for, targets_of, written_segments}
+use Rattle.elf_plan.specs.Written.{written_segments}
 
 -- The place of each section, the program headers, where the two header tables stand; how many rounds it took, and how many program
 -- headers more the last of them looked with, which may be more than are written.
@@ -50,17 +50,11 @@ abbrev pub does_segment_fit : Form → SegmentHeader → Bool
 does_segment_fit form p =
     list_all (fits_field form) (p.p_offset ∷ p.p_vaddr ∷ p.p_paddr ∷ p.p_filesz ∷ p.p_memsz ∷ p.p_align ∷ [])
 
--- a physical address that goes with another address doesn't fall below 0
-abbrev pub keep_physical : Resized → List ℕ → SegmentHeader → Bool
-keep_physical r moved p = list_all (λ t. nat_le p.p_vaddr (p.p_paddr + address_for p t)) (targets_of r moved p)
-
 -- Each number fits its field, and there are no more sections and program headers than plain numbering has (gABI, ELF Header,
 -- e_phnum and e_shnum).
-unfoldable pub does_plan_fit : Resized → List ℕ → Layout → Bool
-does_plan_fit r moved plan =
-    let form = r.image.form in
+unfoldable pub does_plan_fit : Form → Layout → Bool
+does_plan_fit form plan =
     list_all (does_place_fit form) plan.places && list_all (does_segment_fit form) plan.segments
-    && list_all (keep_physical r moved) r.image.segments
     && fits_field form plan.e_phoff && fits_field form plan.e_shoff
     && nat_lt (length plan.segments) PN_XNUM && nat_lt (length plan.places) SHN_LORESERVE
 
@@ -73,7 +67,7 @@ pub record IsPlan (r : Resized) (plan : Layout) : Type 0 where
   pub ended : AreRounds r before plan.looked moved
   pub counted : plan.rounds ≡ length before + 1
   pub follows : plan ≡ layout_for r plan.rounds plan.looked moved
-  pub fits : IsTrue (does_plan_fit r moved plan)
+  pub fits : IsTrue (does_plan_fit r.image.form plan)
 
 -- There is no plan, since rounds lead to a number of entries with which two blocks overlap that can't move.
 pub record IsOverlapping (r : Resized) : Type 0 where
@@ -88,7 +82,7 @@ pub record IsTooLarge (r : Resized) : Type 0 where
   pub moved : List ℕ
   pub looked : ℕ
   pub ended : AreRounds r before looked moved
-  pub too_large : IsTrue (not (does_plan_fit r moved (layout_for r (length before + 1) looked moved)))
+  pub too_large : IsTrue (not (does_plan_fit r.image.form (layout_for r (length before + 1) looked moved)))
 
 -- as many program headers as aren't loaded, and four more: each of them may be split, and there are four sets of flags
 abbrev pub most_added : Image → ℕ

@@ -84,9 +84,13 @@ new_size read image s = if is_numbered (interpreter_number read) s then interpre
 unfoldable pub new_sizes : Image → Image → List ℕ
 new_sizes read image = map (new_size read image) (kept_sections image)
 
--- a number fits a field for addresses, offsets and sizes (gABI, Data Representation)
+-- how many numbers a field for addresses, offsets and sizes holds (gABI, Data Representation)
+abbrev pub field_range : Form → ℕ
+field_range form = by_class form.wide (2 ^ 32) (2 ^ 64)
+
+-- a number fits such a field
 abbrev pub fits_field : Form → ℕ → Bool
-fits_field form number = nat_lt number (by_class form.wide (2 ^ 32) (2 ^ 64))
+fits_field form number = nat_lt number (field_range form)
 
 -- the offset of each text of a table that is made anew fits 32 bits (gABI, String Table)
 abbrev pub do_texts_fit : Image → Image → KeptSection → Bool

@@ -1,7 +1,8 @@
 -- The program headers that are written.
-use Rattle.std.specs.Prelude.{ℕ, ◌+◌, ◌-◌, ◌*◌, max, List, [], ◌∷◌, ◌++◌, map, true, ◌&&◌, ◌||◌, not, Option, Some, None, nat_lt, ◌==◌, if◌then◌else◌, slice_get}
+use Rattle.std.specs.Prelude.{ℕ, ◌+◌, ◌-◌, ◌*◌, max, List, [], ◌∷◌, ◌++◌, map, true, ◌&&◌, ◌||◌, not, Option, Some, None, nat_le, nat_lt, ◌==◌, if◌then◌else◌, slice_get}
 use Rattle.std.specs.List.{filter_map, flat_map, list_any}
 use Rattle.elf_format.specs.declared.constants.TheConstants.{PT_DYNAMIC, PT_INTERP}
+use Rattle.elf_format.specs.declared.form.Form.{Form}
 use Rattle.elf_format.specs.File.{is_loaded}
 use Rattle.elf_format.specs.Options.{is_one_of}
 use Rattle.elf_format.specs.declared.range.Range.{Range}
@@ -13,6 +14,7 @@ use Rattle.elf_plan.specs.Added.{added_loads, greatest, header_count}
 use Rattle.elf_plan.specs.Follow.{HeaderTable, Itself, Notes, OneSection, is_moved, leader_of, moved_notes, staying_notes}
 use Rattle.elf_plan.specs.Kept.{KeptSection}
 use Rattle.elf_plan.specs.Memory.{Resized}
+use Rattle.elf_plan.specs.Sizes.{field_range}
 use Rattle.elf_plan.specs.Standing.{places}
 
 -- Where a program header goes: bytes of the file and, where what it goes by is loaded, an address.
@@ -30,16 +32,22 @@ memory_size p size =
     else if nat_lt p.p_memsz p.p_filesz then p.p_memsz
     else max p.p_memsz size
 
--- at another address, the physical address as far from it as it was
-abbrev pub at_address : SegmentHeader → ℕ → SegmentHeader
-at_address p address = record p { p_vaddr = address; p_paddr = p.p_paddr + address - p.p_vaddr }
+-- the physical address that goes with another address: as far from it as it was. One that would lie below 0 is counted from the end of
+-- its field, since nothing reads it (gABI, Program Header, p_paddr).
+abbrev pub physical_for : Form → SegmentHeader → ℕ → ℕ
+physical_for form p address =
+    if nat_le p.p_vaddr (p.p_paddr + address) then p.p_paddr + address - p.p_vaddr
+    else p.p_paddr + address + field_range form - p.p_vaddr
+
+abbrev pub at_address : Form → SegmentHeader → ℕ → SegmentHeader
+at_address form p address = record p { p_vaddr = address; p_paddr = physical_for form p address }
 
 -- the address that a program header gets
 abbrev pub address_for : SegmentHeader → Target → ℕ
 address_for p t = elim t.address [ Some address ↦ address | None ↦ p.p_vaddr ]
 
-abbrev pub led_to : SegmentHeader → Target → SegmentHeader
-led_to p t = record (at_address p (address_for p t)) {
+abbrev pub led_to : Form → SegmentHeader → Target → SegmentHeader
+led_to form p t = record (at_address form p (address_for p t)) {
   p_offset = t.part.start;
   p_filesz = t.part.size;
   p_memsz = memory_size p t.part.size;
@@ -106,7 +114,7 @@ resized_table r moved p = elim (leader_of r p) [ HeaderTable ↦ with_table_size
 abbrev pub written_from : Resized → List ℕ → SegmentHeader → List SegmentHeader
 written_from r moved p = elim (targets_of r moved p) [
   | [] ↦ resized_table r moved p ∷ []
-  | t ∷ ts ↦ map (led_to p) (t ∷ ts)
+  | t ∷ ts ↦ map (led_to r.image.form p) (t ∷ ts)
 ]
 
 -- headers put behind the last one that is loaded

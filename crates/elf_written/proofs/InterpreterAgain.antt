@@ -147,11 +147,11 @@ stands_again w is f old p there there_now there_plan =
     let at = found.at in
     let (_, _, typed) = find-at (λ (q : SegmentHeader). q.p_type == PT_INTERP) w.image.segments p there_now in
     let leader = goes_by w is f n at p number (eqb-true p.p_type PT_INTERP typed) in
-    let goes : becomes (resized w.image) is.planned.moved p ≡ led_to p (target_at at.place) =
+    let goes : becomes (resized w.image) is.planned.moved p ≡ led_to w.image.form p (target_at at.place) =
     becomes-section (resized w.image) is.planned.moved p (kept n at.section) at.place leader
     (ap (λ (l : List Place). slice_get l n) (sym (all_places_are w is)) ∙ at.is_place) in
     record {
-      segment = led_to p (target_at at.place);
+      segment = led_to w.image.form p (target_at at.place);
       is_segment = there_plan ∙ ap Some goes;
       number = n;
       at = at;

@@ -91,7 +91,7 @@ targets_by r moved leader = elim leader [
 ]
 
 abbrev written_by : Resized → List ℕ → SegmentHeader → List Target → List SegmentHeader
-written_by r moved p targets = elim targets [ [] ↦ resized_table r moved p ∷ [] | t ∷ ts ↦ map (led_to p) (t ∷ ts) ]
+written_by r moved p targets = elim targets [ [] ↦ resized_table r moved p ∷ [] | t ∷ ts ↦ map (led_to r.image.form p) (t ∷ ts) ]
 
 targets_are : (r : Resized) (moved : List ℕ) (p : SegmentHeader) → targets_of r moved p ≡ targets_by r moved (leader_of r p)
 unfolding targets_of
@@ -112,10 +112,10 @@ module _ (r : Resized) (moved : List ℕ) (type : ℕ) where
   table_type p (Notes notes) = refl
 
   -- where its type is another, none of it has this type
-  count-led : (p : SegmentHeader) (ts : List Target) → (p.p_type == type) ≡ false → count_of type (map (led_to p) ts) ≡ 0
+  count-led : (p : SegmentHeader) (ts : List Target) → (p.p_type == type) ≡ false → count_of type (map (led_to r.image.form p) ts) ≡ 0
   count-led p [] other = refl
   count-led p (t ∷ ts) other =
-      let first = count-cons (λ (q : SegmentHeader). q.p_type == type) (led_to p t) (map (led_to p) ts) in
+      let first = count-cons (λ (q : SegmentHeader). q.p_type == type) (led_to r.image.form p t) (map (led_to r.image.form p) ts) in
       omega (arith, first, ap one_if other, count-led p ts other)
 
   count-other : (p : SegmentHeader) (targets : List Target) → (p.p_type == type) ≡ false → count_of type (written_by r moved p targets) ≡ 0
@@ -129,7 +129,7 @@ module _ (r : Resized) (moved : List ℕ) (type : ℕ) where
   -- else it is no more than one
   length-one_made : (p : SegmentHeader) (targets : List Target) → length targets ≤ 1 → length (written_by r moved p targets) ≤ 1
   length-one_made p [] few = omega arith
-  length-one_made p (t ∷ ts) few = omega (arith, few, length-map (t ∷ ts) (led_to p))
+  length-one_made p (t ∷ ts) few = omega (arith, few, length-map (t ∷ ts) (led_to r.image.form p))
 
   count-made : (p : SegmentHeader) → (p.p_type ≡ type → is_notes (leader_of r p) ≡ false) → (b : Bool) → (p.p_type == type) ≡ b
       → count_of type (written_by r moved p (targets_of r moved p)) ≤ one_if b

@@ -8,6 +8,7 @@ use Rattle.std.proofs.lemmas.Bool.{and_from, and_parts, both_ways, eq-eqb, eqb-t
 use Rattle.std.proofs.lemmas.Option.{same_Some, slice_get_within}
 use Rattle.patch_bytes.specs.Memory.{◌>>=◌, memory_of}
 use Rattle.patch_bytes.proofs.MemoryLaws.{some_bind}
+use Rattle.elf_format.specs.declared.form.Form.{Form}
 use Rattle.elf_format.specs.declared.constants.TheConstants.{SHF_ALLOC, PT_DYNAMIC, PT_INTERP, PT_LOAD, PT_PHDR, SHT_DYNAMIC, SHT_PROGBITS}
 use Rattle.elf_format.specs.declared.records.SectionHeader.{SectionHeader}
 use Rattle.elf_format.specs.declared.records.SegmentHeader.{SegmentHeader}
@@ -63,7 +64,7 @@ first_typed type ps p h = let (_, _, passes) = find-at (has_type type) ps p h in
 -- where its section goes
 becomes_at : (w : Writing) (is : IsWholeWriting w) (f : ReadFacts w) (i : ℕ) (at : SectionAt w f.parts i) (p : SegmentHeader)
     → leader_of (resized w.image) p ≡ OneSection (kept i at.section)
-    → becomes (resized w.image) is.planned.moved p ≡ led_to p (target_at at.place)
+    → becomes (resized w.image) is.planned.moved p ≡ led_to w.image.form p (target_at at.place)
 becomes_at w is f i at p leader =
     becomes-section (resized w.image) is.planned.moved p (kept i at.section) at.place leader
     (ap (λ (l : List Place). slice_get l i) (sym (all_places_are w is)) ∙ at.is_place)
@@ -71,18 +72,18 @@ becomes_at w is f i at p leader =
 address_by : SegmentHeader → Place → Bool → ℕ
 address_by p x b = elim (if b then Some x.sh_addr else None) as (λ _. ℕ) [ Some address ↦ address | None ↦ p.p_vaddr ]
 
-address_is : (p : SegmentHeader) (x : Place) → (led_to p (target_at x)).p_vaddr ≡ address_by p x (occupies_memory x)
+address_is : (form : Form) (p : SegmentHeader) (x : Place) → (led_to form p (target_at x)).p_vaddr ≡ address_by p x (occupies_memory x)
 unfolding address_by
-address_is p x = refl
+address_is form p x = refl
 
 -- the address of a section in memory, or its own
-address_in : (p : SegmentHeader) (x : Place) → occupies_memory x ≡ true → (led_to p (target_at x)).p_vaddr ≡ x.sh_addr
+address_in : (form : Form) (p : SegmentHeader) (x : Place) → occupies_memory x ≡ true → (led_to form p (target_at x)).p_vaddr ≡ x.sh_addr
 unfolding address_by
-address_in p x takes = address_is p x ∙ ap (address_by p x) takes
+address_in form p x takes = address_is form p x ∙ ap (address_by p x) takes
 
-address_out : (p : SegmentHeader) (x : Place) → occupies_memory x ≡ false → (led_to p (target_at x)).p_vaddr ≡ p.p_vaddr
+address_out : (form : Form) (p : SegmentHeader) (x : Place) → occupies_memory x ≡ false → (led_to form p (target_at x)).p_vaddr ≡ p.p_vaddr
 unfolding address_by
-address_out p x none = address_is p x ∙ ap (address_by p x) none
+address_out form p x none = address_is form p x ∙ ap (address_by p x) none
 
 both : {A B : Type 0} (test : A → B → Bool) (o : Option A) (u : Option B) (o2 : Option A) (u2 : Option B) → o ≡ o2 → u ≡ u2
     → are_both_or_neither test o u ≡ are_both_or_neither test o2 u2
@@ -93,13 +94,13 @@ both test o u o2 u2 e g = ap (λ v. are_both_or_neither test v u) e ∙ ap (are_
 dynamic_agrees : (w : Writing) → IsWholeWriting w → HasWrittenParts w → (f : ReadFacts w) (i : ℕ) (at : SectionAt w f.parts i)
     → at.old.sh_type ≡ SHT_DYNAMIC
     → is_allocated at.old ≡ true → (p : SegmentHeader)
-    → dynamic_section_agrees (written_parts w) (led_to p (target_at at.place)) at.header ≡ true
+    → dynamic_section_agrees (written_parts w) (led_to w.image.form p (target_at at.place)) at.header ≡ true
 dynamic_agrees w is has f i at type allocated p =
-    let q : SegmentHeader = led_to p (target_at at.place) in
+    let q : SegmentHeader = led_to w.image.form p (target_at at.place) in
     let file : List ℕ = written_bytes w in
     let here : List ℕ = section_bytes file at.header in
     let takes : occupies_memory at.place ≡ true = ap (λ n. is_set SHF_ALLOC n) at.place_flags ∙ allocated in
-    let address : q.p_vaddr ≡ at.header.sh_addr = address_in p at.place takes ∙ sym at.address in
+    let address : q.p_vaddr ≡ at.header.sh_addr = address_in w.image.form p at.place takes ∙ sym at.address in
     let bytes : here ≡ at.bytes = has.contents i at.header at.bytes at.is_header at.is_bytes in
     let size : q.p_filesz ≡ length here = sym (place_filled w is f i at type) ∙ ap length (sym bytes) in
     let whole : take q.p_filesz here ≡ here = ap (λ n. take n here) size ∙ take-length here in
@@ -142,7 +143,7 @@ dynamic_by w is has f (ASegment old p is_old is_p like now) (There i at type at_
     dynamic_leader (resized w.image) p (first_typed PT_DYNAMIC w.image.segments p is_p) ∙ ap led_by_section at_kept in
     let goes = becomes_at w is f i at p leader in
     both (dynamic_section_agrees (written_parts w)) (segment_of_type PT_DYNAMIC w.plan.segments) (section_of_type SHT_DYNAMIC w.headers)
-    (Some (led_to p (target_at at.place))) (Some at.header)
+    (Some (led_to w.image.form p (target_at at.place))) (Some at.header)
     (now ∙ ap (λ (q : SegmentHeader). Some q) goes) at_header
     ∙ dynamic_agrees w is has f i at type allocated p
 
@@ -263,7 +264,7 @@ module _ (w : Writing) (is : IsWholeWriting w) (f : ReadFacts w) where
   -- its section's header stands where that says
   header_stands : (n : ℕ) (at : SectionAt w f.parts n) (old p : SegmentHeader) → p ≡ as_kept w.image.page_size p.p_flags old
       → stands_as_interpreter old at.section ≡ true
-      → Stands at.header.sh_type at.header.sh_offset at.header.sh_addr at.header.sh_size (led_to p (target_at at.place))
+      → Stands at.header.sh_type at.header.sh_offset at.header.sh_addr at.header.sh_size (led_to w.image.form p (target_at at.place))
   header_stands n at old p like h = record {
     is_type = at.type ∙ ap (λ (s : ImageSection). s.sh_type) (sym at.of_old.fields) ∙ was.is_type;
     is_offset = at.offset;
@@ -278,12 +279,12 @@ module _ (w : Writing) (is : IsWholeWriting w) (f : ReadFacts w) where
       flags : at.section.sh_flags ≡ at.place.sh_flags
       flags = ap (λ (s : ImageSection). s.sh_flags) at.of_old.fields ∙ sym at.place_flags
 
-      by_memory : (b : Bool) → occupies_memory at.place ≡ b → at.place.sh_addr ≡ (led_to p (target_at at.place)).p_vaddr
-      by_memory true takes = sym (address_in p at.place takes)
+      by_memory : (b : Bool) → occupies_memory at.place ≡ b → at.place.sh_addr ≡ (led_to w.image.form p (target_at at.place)).p_vaddr
+      by_memory true takes = sym (address_in w.image.form p at.place takes)
       by_memory false none =
           let unloaded : is_loaded_section at.section ≡ false = ap (is_set SHF_ALLOC) flags ∙ none in
           unloaded_stays w.image w.plan is.planned n (kept n at.section) at.is_kept unloaded at.place at.is_place
-          ∙ was.is_address ∙ sym (ap (λ (q : SegmentHeader). q.p_vaddr) like) ∙ sym (address_out p at.place none)
+          ∙ was.is_address ∙ sym (ap (λ (q : SegmentHeader). q.p_vaddr) like) ∙ sym (address_out w.image.form p at.place none)
 
   interpreter_by : SegmentAt w is f PT_INTERP
       → is_none_or (λ q. is_some (interpreter_section q f.parts.sections)) (segment_of_type PT_INTERP f.parts.segments) ≡ true
@@ -297,7 +298,7 @@ module _ (w : Writing) (is : IsWholeWriting w) (f : ReadFacts w) where
       let at = found.at in
       let same : found.segment ≡ old = same_Some found.segment old (sym found.is_segment ∙ is_old) in
       let stands : stands_as_interpreter old at.section ≡ true = ap (λ q. stands_as_interpreter q at.section) (sym same) ∙ found.stands in
-      let q : SegmentHeader = led_to p (target_at at.place) in
+      let q : SegmentHeader = led_to w.image.form p (target_at at.place) in
       let goes = becomes_at w is f n at p (goes_by n at p number (first_typed PT_INTERP w.image.segments p is_p)) in
       let written : segment_of_type PT_INTERP w.plan.segments ≡ Some q = now ∙ ap (λ (x : SegmentHeader). Some x) goes in
       ap (is_none_or (λ x. is_some (interpreter_section x w.headers))) written

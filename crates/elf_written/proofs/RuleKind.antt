@@ -19,7 +19,7 @@ use Rattle.elf_format.specs.Views.{NamedSymbol}
 use Rattle.elf_image.specs.ReadImage.{AreDynamicSymbols}
 use Rattle.elf_plan.specs.Kept.{image_at_read}
 use Rattle.elf_plan.specs.Memory.{Resized}
-use Rattle.elf_plan.specs.Plan.{Layout, does_place_fit, does_plan_fit, does_segment_fit, keep_physical, layout_for, resized}
+use Rattle.elf_plan.specs.Plan.{Layout, does_place_fit, does_plan_fit, does_segment_fit, layout_for, resized}
 use Rattle.elf_plan.specs.Sizes.{fits_field}
 use Rattle.elf_plan.specs.Standing.{sections_offset}
 use Rattle.elf_plan.proofs.PlacedLists.{Has, all-at, all-from, filter-at, filter-from, find-at, slice_get-at}
@@ -143,13 +143,12 @@ counts_fit w is =
     let form : Form = w.image.form in
     let a : Bool = list_all (does_place_fit form) w.plan.places in
     let b : Bool = list_all (does_segment_fit form) w.plan.segments in
-    let c : Bool = list_all (keep_physical (resized w.image) is.planned.moved) w.image.segments in
     let d : Bool = fits_field form w.plan.e_phoff in
     let e : Bool = fits_field form w.plan.e_shoff in
     let f : Bool = nat_lt (length w.plan.segments) PN_XNUM in
     let g : Bool = nat_lt (length w.plan.places) SHN_LORESERVE in
-    let last = and_parts (a && b && c && d && e && f) g is.planned.fits in
-    ((and_parts (a && b && c && d && e) f last.0).1, last.1)
+    let last = and_parts (a && b && d && e && f) g is.planned.fits in
+    ((and_parts (a && b && d && e) f last.0).1, last.1)
 
 module _ (w : Writing) (is : IsWholeWriting w) (f : ReadFacts w) where
   old_kind : KindTests f.parts.opened

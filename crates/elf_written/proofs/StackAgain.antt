@@ -73,12 +73,12 @@ module _ (r : Resized) (moved : List ℕ) where
   table_like p (OneSection s) = record { type = refl; flags = refl }
   table_like p (Notes notes) = record { type = refl; flags = refl }
 
-  led_like : (p : SegmentHeader) (ts : List Target) → Each (IsLike p) (map (led_to p) ts)
+  led_like : (p : SegmentHeader) (ts : List Target) → Each (IsLike p) (map (led_to r.image.form p) ts)
   led_like p [] = tt
   led_like p (t ∷ ts) = (record { type = refl; flags = refl }, led_like p ts)
 
   written_by : SegmentHeader → List Target → List SegmentHeader
-  written_by p targets = elim targets [ [] ↦ resized_table r moved p ∷ [] | t ∷ ts ↦ map (led_to p) (t ∷ ts) ]
+  written_by p targets = elim targets [ [] ↦ resized_table r moved p ∷ [] | t ∷ ts ↦ map (led_to r.image.form p) (t ∷ ts) ]
 
   written_is : (p : SegmentHeader) → written_from r moved p ≡ written_by p (targets_of r moved p)
   unfolding written_by
@@ -89,7 +89,7 @@ module _ (r : Resized) (moved : List ℕ) where
   unfolding written_by table_by
   flags_by_targets p rest [] = flags_like p (table_by p (leader_of r p)) [] rest (table_like p (leader_of r p)) tt
   flags_by_targets p rest (t ∷ ts) =
-      flags_like p (led_to p t) (map (led_to p) ts) rest (record { type = refl; flags = refl }) (led_like p ts)
+      flags_like p (led_to r.image.form p t) (map (led_to r.image.form p) ts) rest (record { type = refl; flags = refl }) (led_like p ts)
 
   flags_of_one : (p : SegmentHeader) (rest : List SegmentHeader) → stack_flags (written_from r moved p ++ rest) ≡ stack_flags (p ∷ rest)
   flags_of_one p rest = ap (λ l. stack_flags (l ++ rest)) (written_is p) ∙ flags_by_targets p rest (targets_of r moved p)

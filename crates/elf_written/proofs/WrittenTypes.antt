@@ -33,7 +33,7 @@ has_type type p = p.p_type == type
 module _ (r : Resized) (moved : List ℕ) where
   -- the first of what is written of it: where it first goes, or it stays
   unfoldable pub becomes_by : SegmentHeader → List Target → SegmentHeader
-  becomes_by p targets = elim targets [ [] ↦ resized_table r moved p | t ∷ ts ↦ led_to p t ]
+  becomes_by p targets = elim targets [ [] ↦ resized_table r moved p | t ∷ ts ↦ led_to r.image.form p t ]
 
   abbrev pub becomes : SegmentHeader → SegmentHeader
   becomes p = becomes_by p (targets_of r moved p)
@@ -57,27 +57,27 @@ module _ (r : Resized) (moved : List ℕ) where
   -- a program header that goes by one section goes where that goes
   pub becomes-section : (p : SegmentHeader) (s : KeptSection) (x : Place) → leader_of r p ≡ OneSection s
       → slice_get (places r moved) s.position ≡ Some x
-      → becomes p ≡ led_to p (target_at x)
+      → becomes p ≡ led_to r.image.form p (target_at x)
   unfolding becomes_by
   becomes-section p s x leader there = ap (becomes_by p) (section_targets r moved p s x leader there)
 
   module _ (type : ℕ) where
     led-none : (p : SegmentHeader) (ts : List Target) (rest : List SegmentHeader) → has_type type p ≡ false
-        → find (has_type type) (map (led_to p) ts ++ rest) ≡ find (has_type type) rest
+        → find (has_type type) (map (led_to r.image.form p) ts ++ rest) ≡ find (has_type type) rest
     led-none p [] rest h = refl
     led-none p (t ∷ ts) rest h =
-        cond-false (has_type type p) (Some (led_to p t)) (find (has_type type) (map (led_to p) ts ++ rest)) h ∙ led-none p ts rest h
+        cond-false (has_type type p) (Some (led_to r.image.form p t)) (find (has_type type) (map (led_to r.image.form p) ts ++ rest)) h ∙ led-none p ts rest h
 
     find-one : (p : SegmentHeader) (targets : List Target) (rest : List SegmentHeader) (b : Bool) → has_type type p ≡ b
         → find (has_type type) ((elim targets as
-        (λ _. List SegmentHeader) [ [] ↦ resized_table r moved p ∷ [] | t ∷ ts ↦ map (led_to p) (t ∷ ts) ]) ++ rest)
+        (λ _. List SegmentHeader) [ [] ↦ resized_table r moved p ∷ [] | t ∷ ts ↦ map (led_to r.image.form p) (t ∷ ts) ]) ++ rest)
         ≡ cond b (Some (becomes_by p targets)) (find (has_type type) rest)
     unfolding becomes_by
     find-one p [] rest b h =
         let q : SegmentHeader = resized_table r moved p in
         let same : has_type type q ≡ b = ap (λ n. n == type) (table_type p (leader_of r p)) ∙ h in
         ap (λ c. cond c (Some q) (find (has_type type) rest)) same
-    find-one p (t ∷ ts) rest true h = ap (λ c. cond c (Some (led_to p t)) (find (has_type type) (map (led_to p) ts ++ rest))) h
+    find-one p (t ∷ ts) rest true h = ap (λ c. cond c (Some (led_to r.image.form p t)) (find (has_type type) (map (led_to r.image.form p) ts ++ rest))) h
     find-one p (t ∷ ts) rest false h = led-none p (t ∷ ts) rest h
 
     find-all : (ps : List SegmentHeader) → find (has_type type) (flat_map (written_from r moved) ps)
@@ -188,7 +188,7 @@ module _ (r : Resized) (moved : List ℕ) where
   single-by (Notes notes) h = absurd h
 
   one-by : (p : SegmentHeader) (targets : List Target) → length targets ≤ 1
-      → (elim targets as (λ _. List SegmentHeader) [ [] ↦ resized_table r moved p ∷ [] | t ∷ ts ↦ map (led_to p) (t ∷ ts) ]) ≡ becomes_by r moved p targets ∷ []
+      → (elim targets as (λ _. List SegmentHeader) [ [] ↦ resized_table r moved p ∷ [] | t ∷ ts ↦ map (led_to r.image.form p) (t ∷ ts) ]) ≡ becomes_by r moved p targets ∷ []
   unfolding becomes_by
   one-by p [] h = refl
   one-by p (t ∷ []) h = refl

@@ -1,5 +1,5 @@
-use Rattle.std.proofs.Common.{◌≡◌, ◌*◌, ◌++◌, ℕ, List, true, map, sym, ap, ◌∙◌, arith}
-use Rattle.std.specs.List.{flat_map, list_all}
+use Rattle.std.proofs.Common.{◌≡◌, ◌*◌, ◌++◌, ℕ, List, map, sym, ap, ◌∙◌, arith}
+use Rattle.std.specs.List.{flat_map}
 use Rattle.std.proofs.lemmas.List.{take_all}
 use Rattle.elf_format.specs.declared.records.SegmentHeader.{SegmentHeader}
 use Rattle.elf_format.specs.Places.{Place}
@@ -7,13 +7,12 @@ use Rattle.elf_format.specs.Records.{segment_header_size}
 use Rattle.elf_plan.specs.Added.{header_count}
 use Rattle.elf_plan.specs.Follow.{leader_of}
 use Rattle.elf_plan.specs.Memory.{Resized}
-use Rattle.elf_plan.specs.Plan.{keep_physical}
 use Rattle.elf_plan.specs.PlanSeen.{place_seen}
 use Rattle.elf_plan.specs.Written.{written_from}
 use Rattle.elf_layout.specs.Inner.{Told, leader_seen, told}
 use Rattle.elf_layout.specs.Targets.{do_headings_fit}
 use Rattle.elf_layout.proofs.FollowSteps.{leader-at, leaders-length}
-use Rattle.elf_layout.proofs.WrittenSteps.{heading_past, heading_physical, heading_written, physical-more, stands_too_far, written-more}
+use Rattle.elf_layout.proofs.WrittenSteps.{heading_past, heading_written, stands_too_far, written-more}
 use Rattle.elf_layout.proofs.written.all_written.Goals as goal
 
 pub segment_at-p-requires : goal.segment_at-p-requires
@@ -29,15 +28,10 @@ loop-i-preserved c =
     let k : Told = leader_seen c.index-leaders-i.result in
     let lead : k ≡ told (leader_of r p) = leader-at r c.args.leaders.now c.requires.leaders c.loop-i.i c.index-leaders-i.result p c.index-leaders-i.is c.segment_at-p.ensures in
     let sized : size ≡ header_count r moved * segment_header_size r.image.form =
-    ap (λ n. n * c.segment_header_size.result) c.requires.headers ∙ ap (λ n. header_count r moved * n) (c.segment_header_size.ensures ∙ ap segment_header_size c.form_of.ensures) in
-    let physical : keep_physical r moved p ≡ true =
-    heading_physical r moved c.args.marks.now c.sections_are_sized.ensures c.requires.marks all size k p c.requires.places sized lead c.in-Ok.ensures.1 in
-    record {
-      made = c.in-Ok.ensures.0
-          ∙ ap (λ l. c.loop-i.made.items ++ l) (heading_written r moved c.args.marks.now c.sections_are_sized.ensures c.requires.marks all size k p c.requires.places sized lead)
-          ∙ ap (λ l. l ++ written_from r moved p) c.loop-i.invariant.made ∙ sym (written-more r moved c.loop-i.i p c.segment_at-p.ensures);
-      physical = physical-more r moved c.loop-i.i p c.segment_at-p.ensures c.loop-i.invariant.physical physical;
-    }
+    ap (λ n. n * c.segment_header_size.result) c.requires.headers ∙ ap (λ n. header_count r moved * n) (c.segment_header_size.ensures ∙ ap segment_header_size c.form_of-form.ensures) in
+    c.in-Ok.ensures.0
+    ∙ ap (λ l. c.loop-i.made.items ++ l) (heading_written r moved c.args.marks.now c.sections_are_sized.ensures c.requires.marks c.form_of-form.result all size k p c.form_of-form.ensures c.requires.places sized lead)
+    ∙ ap (λ l. l ++ written_from r moved p) c.loop-i.invariant ∙ sym (written-more r moved c.loop-i.i p c.segment_at-p.ensures)
 
 pub returns-in-Err-clause-fault : goal.returns-in-Err-clause-fault
 returns-in-Err-clause-fault c =
@@ -49,16 +43,11 @@ returns-in-Err-clause-fault c =
     let k : Told = leader_seen c.index-leaders-i.result in
     let lead : k ≡ told (leader_of r p) = leader-at r c.args.leaders.now c.requires.leaders c.loop-i.i c.index-leaders-i.result p c.index-leaders-i.is c.segment_at-p.ensures in
     let sized : size ≡ header_count r moved * segment_header_size r.image.form =
-    ap (λ n. n * c.segment_header_size.result) c.requires.headers ∙ ap (λ n. header_count r moved * n) (c.segment_header_size.ensures ∙ ap segment_header_size c.form_of.ensures) in
-    stands_too_far r moved (do_headings_fit all c.args.marks.now size p k) c.in-Err.fault c.in-Err.ensures
-    (heading_past r moved c.args.marks.now c.sections_are_sized.ensures c.requires.marks all size k p c.requires.places sized lead c.loop-i.i c.segment_at-p.ensures)
+    ap (λ n. n * c.segment_header_size.result) c.requires.headers ∙ ap (λ n. header_count r moved * n) (c.segment_header_size.ensures ∙ ap segment_header_size c.form_of-form.ensures) in
+    stands_too_far r moved (do_headings_fit c.form_of-form.result all c.args.marks.now size p k) c.in-Err.fault c.in-Err.ensures
+    (heading_past r moved c.args.marks.now c.sections_are_sized.ensures c.requires.marks c.form_of-form.result all size k p c.form_of-form.ensures c.requires.places sized lead c.loop-i.i c.segment_at-p.ensures)
 
 pub returns-clause-written : goal.returns-clause-written
 returns-clause-written c =
     let r : Resized = c.args.r.now in
-    c.loop-i.invariant.made ∙ ap (flat_map (written_from r c.args.moved.now)) (take_all c.loop-i.i r.image.segments (omega (arith, leaders-length r c.args.leaders.now c.requires.leaders)))
-
-pub returns-clause-physical : goal.returns-clause-physical
-returns-clause-physical c =
-    let r : Resized = c.args.r.now in
-    sym (ap (list_all (keep_physical r c.args.moved.now)) (take_all c.loop-i.i r.image.segments (omega (arith, leaders-length r c.args.leaders.now c.requires.leaders)))) ∙ c.loop-i.invariant.physical
+    c.loop-i.invariant ∙ ap (flat_map (written_from r c.args.moved.now)) (take_all c.loop-i.i r.image.segments (omega (arith, leaders-length r c.args.leaders.now c.requires.leaders)))

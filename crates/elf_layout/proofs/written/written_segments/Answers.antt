@@ -8,5 +8,4 @@ unfolding written_segments
 returns-in-Ok-clause-written c = record {
   are = c.in-Ok.ensures ∙ ap (λ l. behind_last_load l c.deref-2.result.now) (c.deref-3.ensures.value ∙ c.requires.standing.loads)
       ∙ ap (behind_last_load (map (λ load. load.header) (added_loads c.args.r.now c.args.moved.now))) (c.deref-2.ensures.value ∙ c.in_ok-made.ensures.written);
-  physical = c.in_ok-made.ensures.physical;
 }
