@@ -39,9 +39,7 @@ module _ {X : Type 0} (test : X → Bool) (value : X → ℕ) where
   pub greatest_end : (n : ℕ) (xs : List X) (i : ℕ) → length xs ≤ i → greatest_of n (drop i xs) ≡ n
   greatest_end n xs i past = ap (λ (l : List X). greatest_of n l) (drop_all i xs past)
 
--- the numbers of the segment at a place
-pub segment_at : (segments : List Segment) (i : ℕ) (p : Segment) → i < length segments → p ≡ get_or segments i p
-    → slice_get (map segment_kept segments) i ≡ Some (segment_kept p)
-segment_at segments i p within is =
-    slice_get-map segment_kept segments i ∙ ap (λ (o : Option Segment). option_map segment_kept o)
-    (slice_get-get_or segments i p within ∙ ap Some (sym is))
+-- the numbers of the segment that a loop reads at a place
+pub segment_read : (segments : List Segment) (i : ℕ) (d : Segment) → i < length segments → slice_get (map segment_kept segments) i ≡ Some (segment_kept (get_or segments i d))
+segment_read segments i d within =
+    slice_get-map segment_kept segments i ∙ ap (λ (o : Option Segment). option_map segment_kept o) (slice_get-get_or segments i d within)
