@@ -1,7 +1,7 @@
 -- The program header for the stack, there or added.
-use Rattle.std.proofs.Common.{◌≡◌, ℕ, List, refl, true, sym, ap, ◌∙◌, Option, Some, None, option_map}
+use Rattle.std.proofs.Common.{◌≡◌, ℕ, List, refl, sym, ap, ◌∙◌, Option, Some, None, option_map}
 use Rattle.std.specs.Prelude.{◌==◌, IsSome, unwrap_or}
-use Rattle.std.proofs.lemmas.Option.{none-some, same_Some}
+use Rattle.std.proofs.lemmas.Option.{none-some}
 use Rattle.elf_format.specs.declared.constants.TheConstants.{EM_MIPS, PT_GNU_STACK}
 use Rattle.elf_format.specs.declared.records.SegmentHeader.{SegmentHeader}
 use Rattle.elf_image.specs.File.{segment_of_type}
@@ -12,11 +12,8 @@ use Rattle.elf_image.specs.Segments.{with_stack_added, with_stack_flags}
 use Rattle.elf_edits.specs.declared.constants.TheConstants.{STACK_FLAGS}
 use Rattle.elf_edits.specs.declared.facts.Facts.{Facts}
 use Rattle.elf_edits.specs.Cause.{Cause, MipsImage, TooManyHeaders, cause_if, facts_of}
-use Rattle.arwen_elf.specs.declared.elf.rewriter.error.ElfError.TheVariants.{Modify}
-use Rattle.arwen_elf.specs.declared.elf.rewriter.error.ModifyCause.{ModifyCause}
 use Rattle.arwen_elf.specs.Drafted.{stack_flags_of}
-use Rattle.arwen_elf.specs.StackLent.{TellsWhy, stack_cause, with_stack}
-use Rattle.arwen_elf.specs.Told.{cause_told}
+use Rattle.arwen_elf.specs.StackLent.{stack_cause, with_stack}
 use Rattle.arwen_elf.proofs.DraftLaws.{flags_added, flags_there}
 
 -- ## What is lent
@@ -29,43 +26,24 @@ stack_there flags image there = ap (λ (l : List SegmentHeader). record image { 
 pub stack_added : (flags : ℕ) (image : Image) → segment_of_type PT_GNU_STACK image.segments ≡ None → with_segments (with_stack_added flags image.segments) image ≡ with_stack flags image
 stack_added flags image none = ap (λ (l : List SegmentHeader). record image { changed = true; segments = l }) (flags_added flags image.segments none)
 
+-- what is lent at first
 pub flags_there_are : (n : ℕ) (segments : List SegmentHeader) → Some n ≡ option_map (λ p. p.p_flags) (segment_of_type PT_GNU_STACK segments) → n ≡ stack_flags_of segments
 flags_there_are n segments h = ap (λ (o : Option ℕ). unwrap_or o STACK_FLAGS) h
 
 pub flags_added_are : (n : ℕ) (segments : List SegmentHeader) → n ≡ STACK_FLAGS → segment_of_type PT_GNU_STACK segments ≡ None → n ≡ stack_flags_of segments
 flags_added_are n segments h none = h ∙ sym (ap (λ (o : Option SegmentHeader). unwrap_or (option_map (λ p. p.p_flags) o) STACK_FLAGS) none)
 
--- flags are lent where there are some
-pub lent_there : (o : Option SegmentHeader) → IsSome o → None ≡ option_map (λ (p : SegmentHeader). p.p_flags) o → ⊥
-lent_there None there h = absurd (cc)
-lent_there (Some p) there h = none-some p.p_flags h
-
 -- ## Causes
 
 stack_causes : Facts → Option Cause
 stack_causes facts = first_there (cause_if (facts.machine == EM_MIPS) MipsImage) (cause_if facts.is_full TooManyHeaders)
 
-tells : (told : ModifyCause) (o : Option Cause) → Some (cause_told told) ≡ option_map {U = Option Cause} Some o → TellsWhy o (Modify told)
-tells told None h = absurd (cc)
-tells told (Some cause) h = same_Some (cause_told told) (Some cause) h
-
-pub refusal_tells : (told : ModifyCause) (image : Image) (facts : Facts) → facts ≡ facts_of image
-    → option_map cause_told (Some told) ≡ option_map Some (first_there (cause_if (facts.machine == EM_MIPS) MipsImage) (cause_if facts.is_full TooManyHeaders)) → TellsWhy (stack_cause image) (Modify told)
-unfolding stack_causes
-refusal_tells told image facts same h = tells told (stack_cause image) (h ∙ ap (λ (f : Facts). option_map {U = Option Cause} Some (stack_causes f)) same)
-
 none_told : (o : Option Cause) → None ≡ option_map {U = Option Cause} Some o → o ≡ None
 none_told None h = refl
 none_told (Some cause) h = absurd (none-some (Some cause) h)
 
+-- nothing was refused where no cause stands
 pub no_refusal : (image : Image) (facts : Facts) → facts ≡ facts_of image
     → None ≡ option_map {U = Option Cause} Some (first_there (cause_if (facts.machine == EM_MIPS) MipsImage) (cause_if facts.is_full TooManyHeaders)) → stack_cause image ≡ None
 unfolding stack_causes
 no_refusal image facts same h = none_told (stack_cause image) (h ∙ ap (λ (f : Facts). option_map {U = Option Cause} Some (stack_causes f)) same)
-
--- what is refused has a cause
-pub refusal_stands : (told : ModifyCause) (image : Image) (facts : Facts) → facts ≡ facts_of image
-    → option_map cause_told (Some told) ≡ option_map Some (first_there (cause_if (facts.machine == EM_MIPS) MipsImage) (cause_if facts.is_full TooManyHeaders)) → stack_cause image ≡ None → ⊥
-unfolding stack_causes
-refusal_stands told image facts same h none =
-    none-some (cause_told told) (ap (option_map {U = Option Cause} Some) (sym none) ∙ sym (h ∙ ap (λ (f : Facts). option_map {U = Option Cause} Some (stack_causes f)) same))

@@ -1,8 +1,7 @@
 -- What calls on the program header for the stack lend, and what they leave.
-use Rattle.std.specs.Prelude.{ℕ, ◌≡◌, ◌==◌, Option, Some, None, Result, if◌then◌else◌, option_map}
+use Rattle.std.specs.Prelude.{ℕ, ◌≡◌, ◌==◌, [], Option, Some, None, Result, if◌then◌else◌, option_map}
 use Rattle.std.specs.Option.{OnSome}
-use Rattle.std.specs.Borrow.{Fml, Lends, LendsIfOk, LendsSo, LendsSoOk, MutBor, RattleType, u32}
-use Rattle.std.specs.declared.alloc.AllocError.{AllocError}
+use Rattle.std.specs.Borrow.{Fml, Lends, LendsSo, LendsSoOk, MutBor, RattleType, u32}
 use Rattle.elf_edits.specs.Cause.{Cause, MipsImage, TooManyHeaders, cause_if, has_no_room_for_stack}
 use Rattle.elf_edits.specs.Edited.{with_stack_changed}
 use Rattle.elf_format.specs.declared.constants.TheConstants.{EM_MIPS, PT_GNU_STACK}
@@ -42,11 +41,7 @@ module _ (S : RattleType) (image : S.Denot → Image) (s : MutBor S.Denot) where
   LendsAddedFlags r =
       LendsSoOk S u32 s r (λ last flags. image last ≡ with_stack flags (image s.now)) (λ last. image last ≡ image s.now)
 
--- the same of a builder
-abbrev pub LendsFlagsOrAdds : MutBor Image → Result (MutBor ℕ) AllocError → Fml
-LendsFlagsOrAdds s r = LendsIfOk (the_row (record { mir = named 1; lft = [] })) u32 s r (λ flags. with_stack flags s.now) s.now
-
--- the same of one that has such a program header
+-- the same of a builder that has such a program header
 abbrev pub LendsFlagsThere : MutBor Image → MutBor ℕ → Fml
 LendsFlagsThere s r = Lends (the_row (record { mir = named 1; lft = [] })) u32 s r (λ flags. with_stack flags s.now)
 

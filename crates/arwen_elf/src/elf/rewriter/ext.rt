@@ -4,14 +4,14 @@ ghost use Rattle.elf_format.specs.declared.constants.TheConstants.{PT_GNU_STACK 
 ghost use Rattle.elf_image.specs.File.{segment_of_type};
 ghost use Rattle.elf_image.specs.ImageSeen.{segment_kept};
 ghost use Rattle.arwen_elf.specs.Drafted.{stack_flags_of};
-ghost use Rattle.arwen_elf.specs.StackLent.{LendsAddedFlags, LendsFlagsOrAdds, LendsFlagsThere, LendsStackFlags, TellsWhy, flags_to_lend, stack_cause};
+ghost use Rattle.arwen_elf.specs.StackLent.{LendsAddedFlags, LendsFlagsThere, LendsStackFlags, TellsWhy, flags_to_lend, stack_cause};
 
 use crate::elf::rewriter::error::ElfError;
 use crate::elf::rewriter::told::stack_refusal;
 use elf_edits::image_facts;
 use elf_image::constants::{EM_MIPS, PT_GNU_STACK};
 use elf_image::{Builder, Segment};
-use std::alloc::{AllocError, Global};
+use std::alloc::Global;
 
 /// What is asked of an image besides its own functions.
 pub trait BuilderExt<'data> {
@@ -65,23 +65,11 @@ impl<'data> BuilderExt<'data> for Builder<'data> {
         if let Some(cause) = stack_refusal(&image_facts(self)) {
             return Err(ElfError::Modify(cause));
         }
-        Ok(flags_or_added(self, alloc)?)
+        if self.stack().is_some() {
+            return Ok(flags_there(self));
+        }
+        Ok(self.add_stack(alloc)?)
     }
-}
-
-// Lends the flags of the first program header for the stack; without one, one is added.
-fn flags_or_added<'b, 'data>(
-    builder: &'b mut Builder<'data>,
-    alloc: Global,
-) -> Result<&'b mut u32, AllocError>
-    ensures* lends { sem 𝓛 (LendsFlagsOrAdds builder.entry result) }
-    ensures there { IsSome (segment_of_type STACK builder.old.segments) → IsOk result }
-    ensures value { IfOk result (λ flags. flags.now ≡ stack_flags_of builder.old.segments) }
-{
-    if builder.stack().is_none() {
-        return builder.add_stack(alloc);
-    }
-    Ok(flags_there(builder))
 }
 
 // Lends the flags of the first program header for the stack, which is there.
