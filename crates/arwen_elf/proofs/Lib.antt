@@ -1,6 +1,7 @@
 pub mod ReadSteps
 pub mod PrintSteps
 pub mod DraftLaws
+pub mod StackLaws
 pub mod HeldLaws
 pub mod TakenLaws
 pub mod WholeLaws

@@ -78,7 +78,12 @@ fn stack_is_added(rt: HostRuntime) {
     let mut image = small(&rt);
     assert!(rt; image.stack().is_none());
     let old = add_stack(&rt, &mut image, 6);
-    same(&rt, "stack", &(old, stack_shown(&image)), &(7, (Some(6), 3, true)));
+    same(
+        &rt,
+        "stack",
+        &(old, stack_shown(&image)),
+        &(7, (Some(6), 3, true)),
+    );
 }
 
 #[test]
@@ -120,5 +125,10 @@ fn copy_is_edited_alone(rt: HostRuntime) {
     let image = small(&rt);
     let mut copy = again!(&rt; image.try_clone(rt.alloc())).expect(&rt, "memory");
     copy.delete_dynamic_tag(DT_NEEDED);
-    same(&rt, "first tags", &(tag_at(&image, 0), tag_at(&copy, 0)), &(Some(1), Some(29)));
+    same(
+        &rt,
+        "first tags",
+        &(tag_at(&image, 0), tag_at(&copy, 0)),
+        &(Some(1), Some(29)),
+    );
 }

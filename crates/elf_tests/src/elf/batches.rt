@@ -56,7 +56,11 @@ fn apply(alloc: Global, file: &mut Writer<'_>) -> Result<Applied, ElfError> {
     let batches = batches(alloc)?;
     let answers = file.apply_each(alloc, batches.as_slice())?;
     let accepted = accepted(answers.as_slice())?;
-    Ok((accepted, file.elf_runpath().is_some(), file.elf_get_page_size()))
+    Ok((
+        accepted,
+        file.elf_runpath().is_some(),
+        file.elf_get_page_size(),
+    ))
 }
 
 fn apply_to_writer(alloc: Global, bytes: &[u8]) -> Result<Applied, ElfError> {

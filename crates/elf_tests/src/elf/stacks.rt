@@ -1,9 +1,5 @@
 //! The calls on the program header for the stack.
 
-ghost use Rattle.std.specs.Prelude.{◌≡◌, None as none};
-ghost use Rattle.elf_format.specs.declared.constants.TheConstants.{PT_GNU_STACK as STACK};
-ghost use Rattle.elf_image.specs.File.{segment_of_type};
-
 use super::{LIBRARY, PROGRAM};
 use crate::support::{Runtime, changed, same};
 use arwen_elf::elf::{BuilderExt, ElfError, ModifyCause};
@@ -30,18 +26,33 @@ fn lends_the_flags(rt: HostRuntime) {
 }
 
 #[test]
+fn lends_no_flags_without_a_stack(rt: HostRuntime) {
+    let mut image = image(&rt, LIBRARY);
+    let is_lent = image.gnu_stack_mut().is_some();
+    same(
+        &rt,
+        "stack",
+        &(is_lent, stack_shown(&image)),
+        &(false, (None, 2, false)),
+    );
+}
+
+#[test]
 fn lends_no_flags_of_a_mips_image(rt: HostRuntime) {
     let file = changed(&rt, PROGRAM, &[(19, &[8])]);
     let mut image = image(&rt, &file);
     let is_lent = image.gnu_stack_mut().is_some();
-    same(&rt, "stack", &(is_lent, stack_shown(&image)), &(false, (Some(7), 3, false)));
+    same(
+        &rt,
+        "stack",
+        &(is_lent, stack_shown(&image)),
+        &(false, (Some(7), 3, false)),
+    );
 }
 
-// Adds a program header for the stack, sets the flags that are lent, and gives those that were there. Where it is refused
+// Has a program header for the stack, sets the flags that are lent, and gives those that were there. Where it is refused
 // memory, the image is as it was, and is asked again.
-fn add_stack(rt: &impl Runtime, image: &mut Builder<'_>, new: u32) -> u32
-    requires { segment_of_type STACK image.old.segments ≡ none }
-{
+fn add_stack(rt: &impl Runtime, image: &mut Builder<'_>, new: u32) -> u32 {
     let before = stack_shown(image);
     if let Ok(flags) = image.add_gnu_stack(rt.alloc()) {
         return std::mem::replace(flags, new);
@@ -54,15 +65,31 @@ fn add_stack(rt: &impl Runtime, image: &mut Builder<'_>, new: u32) -> u32
 #[test]
 fn adds_a_stack(rt: HostRuntime) {
     let mut image = image(&rt, LIBRARY);
-    assert!(rt; image.gnu_stack().is_none());
     let old = add_stack(&rt, &mut image, 6);
-    same(&rt, "stack", &(old, stack_shown(&image)), &(7, (Some(6), 3, true)));
+    same(
+        &rt,
+        "stack",
+        &(old, stack_shown(&image)),
+        &(7, (Some(6), 3, true)),
+    );
+}
+
+// The flags of the program's stack are four bytes from 140 on.
+#[test]
+fn adds_no_second_stack(rt: HostRuntime) {
+    let file = changed(&rt, PROGRAM, &[(143, &[4])]);
+    let mut image = image(&rt, &file);
+    let old = add_stack(&rt, &mut image, 6);
+    same(
+        &rt,
+        "stack",
+        &(old, stack_shown(&image)),
+        &(4, (Some(6), 3, true)),
+    );
 }
 
 // Whether adding one is refused, as the image is for MIPS.
-fn is_refused_for_mips(rt: &impl Runtime, image: &mut Builder<'_>) -> bool
-    requires { segment_of_type STACK image.old.segments ≡ none }
-{
+fn is_refused_for_mips(rt: &impl Runtime, image: &mut Builder<'_>) -> bool {
     matches!(
         image.add_gnu_stack(rt.alloc()),
         Err(ElfError::Modify(ModifyCause::MipsImage))
@@ -73,7 +100,11 @@ fn is_refused_for_mips(rt: &impl Runtime, image: &mut Builder<'_>) -> bool
 fn adds_no_stack_to_a_mips_image(rt: HostRuntime) {
     let file = changed(&rt, LIBRARY, &[(18, &[8])]);
     let mut image = image(&rt, &file);
-    assert!(rt; image.gnu_stack().is_none());
     let is_refused = is_refused_for_mips(&rt, &mut image);
-    same(&rt, "stack", &(is_refused, stack_shown(&image)), &(true, (None, 2, false)));
+    same(
+        &rt,
+        "stack",
+        &(is_refused, stack_shown(&image)),
+        &(true, (None, 2, false)),
+    );
 }

@@ -1,10 +1,10 @@
-ghost use Rattle.std.specs.Prelude.{◌≡◌, IfOk, MatchResult, None as none, option_map};
-ghost use Rattle.elf_edits.specs.Cause.{cause as first_cause_against};
-ghost use Rattle.elf_edits.specs.Edit.{SetExecStack};
+ghost use Rattle.std.specs.Prelude.{◌≡◌, IfOk, IsOk, IsSome, MatchResult, None as none, option_map};
+ghost use Rattle.std.specs.Borrow.{sem};
 ghost use Rattle.elf_format.specs.declared.constants.TheConstants.{PT_GNU_STACK as STACK};
 ghost use Rattle.elf_image.specs.File.{segment_of_type};
 ghost use Rattle.elf_image.specs.ImageSeen.{segment_kept};
-ghost use Rattle.elf_image.specs.declared.segment.TheConstants.{STACK_FLAGS};
+ghost use Rattle.arwen_elf.specs.Drafted.{stack_flags_of};
+ghost use Rattle.arwen_elf.specs.StackLent.{LendsAddedFlags, LendsFlagsThere, LendsStackFlags, TellsWhy, flags_to_lend, stack_cause};
 
 use crate::elf::rewriter::error::ElfError;
 use crate::elf::rewriter::told::stack_refusal;
@@ -15,9 +15,7 @@ use std::alloc::Global;
 
 /// What is asked of an image besides its own functions.
 pub trait BuilderExt<'data> {
-    ghost use Rattle.std.specs.Borrow.{sem};
     ghost use Rattle.elf_image.specs.Image.{Image};
-    ghost use Rattle.arwen_elf.specs.StackLent.{LendsAddedFlags, LendsStackFlags, TellsWhy, flags_to_lend};
 
     // The image.
     ghost image: { Self → Image };
@@ -33,16 +31,18 @@ pub trait BuilderExt<'data> {
         ensures* lends { sem 𝓛 (LendsStackFlags Self.row image self.entry result) }
         ensures value { option_map (λ flags. flags.now) result ≡ flags_to_lend (image self.old) };
 
-    /// Puts a PT_GNU_STACK behind all program headers, which have none (GNU extension), and lends its flags: those of
-    /// a stack that may be read, written and run. Errors, and nothing has changed: the image is for MIPS, it has
-    /// 65,534 program headers, or there was no memory.
+    /// Puts a PT_GNU_STACK behind all program headers (GNU extension), and lends its flags: those of a stack that may
+    /// be read, written and run. It stands nowhere. Where one is there already, none is added, and the flags of the
+    /// first are lent as they are, which takes no memory. The image counts as changed. Errors, and nothing has changed:
+    /// the image is for MIPS, one would have to be added to 65,534 program headers, or there was no memory.
     fn add_gnu_stack(&mut self, alloc: Global) -> Result<&mut u32, ElfError>
-        requires { segment_of_type STACK (image self.old).segments ≡ none }
         ensures* lends { sem 𝓛 (LendsAddedFlags Self.row image self.entry result) }
-        ensures answer { MatchResult result
-            (λ _. first_cause_against SetExecStack (image self.old) ≡ none)
-            (λ e. TellsWhy (first_cause_against SetExecStack (image self.old)) e) }
-        ensures value { IfOk result (λ flags. flags.now ≡ STACK_FLAGS) };
+        ensures answer { MatchResult result (λ _. stack_cause (image self.old) ≡ none)
+            (λ e. TellsWhy (stack_cause (image self.old)) e) }
+        ensures there { stack_cause (image self.old) ≡ none
+            → IsSome (segment_of_type STACK (image self.old).segments) → IsOk result }
+        ensures value { IfOk result (λ flags. flags.now
+            ≡ stack_flags_of (image self.old).segments) };
 }
 
 impl<'data> BuilderExt<'data> for Builder<'data> {
@@ -56,16 +56,30 @@ impl<'data> BuilderExt<'data> for Builder<'data> {
 
     fn gnu_stack_mut(&mut self) -> Option<&mut u32> {
         if self.header().e_machine == EM_MIPS {
-            None
-        } else {
-            self.stack_mut()
+            return None;
         }
+        self.stack_mut()
     }
 
     fn add_gnu_stack(&mut self, alloc: Global) -> Result<&mut u32, ElfError> {
         if let Some(cause) = stack_refusal(&image_facts(self)) {
             return Err(ElfError::Modify(cause));
         }
+        if self.stack().is_some() {
+            return Ok(flags_there(self));
+        }
         Ok(self.add_stack(alloc)?)
+    }
+}
+
+// Lends the flags of the first program header for the stack, which is there.
+fn flags_there<'b, 'data>(builder: &'b mut Builder<'data>) -> &'b mut u32
+    requires { IsSome (segment_of_type STACK builder.old.segments) }
+    ensures* lends { sem 𝓛 (LendsFlagsThere builder.entry result) }
+    ensures value { result.now ≡ stack_flags_of builder.old.segments }
+{
+    match builder.stack_mut() {
+        Some(flags) => flags,
+        None => unreachable!(),
     }
 }
