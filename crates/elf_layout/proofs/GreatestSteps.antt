@@ -1,7 +1,7 @@
 -- The greatest number of the elements of a list that pass a test, sought one element after another.
 use Rattle.std.proofs.Common.{◌≡◌, ℕ, ◌+◌, ◌<◌, ◌≤◌, List, [], ◌∷◌, Bool, true, false, Option, Some, None, length, map, drop, get_or, zero, suc, sym, ap, ◌∙◌, arith, cond}
 use Rattle.std.specs.Prelude.{filter, max, slice_get, option_map}
-use Rattle.std.proofs.lemmas.List.{drop_all}
+use Rattle.std.proofs.lemmas.List.{drop_all, get_or_default}
 use Rattle.std.proofs.lemmas.Option.{slice_get-get_or, slice_get-map}
 use Rattle.elf_plan.specs.Added.{greatest}
 use Rattle.elf_image.specs.declared.segment.Segment.{Segment}
@@ -45,3 +45,8 @@ pub segment_at : (segments : List Segment) (i : ℕ) (p : Segment) → i < lengt
 segment_at segments i p within is =
     slice_get-map segment_kept segments i ∙ ap (λ (o : Option Segment). option_map segment_kept o)
     (slice_get-get_or segments i p within ∙ ap Some (sym is))
+
+pub segment_of : (segments : List Segment) (i : ℕ) (d : Segment) → i < length segments
+    → slice_get (map segment_kept segments) i ≡ Some (segment_kept (get_or segments i d))
+segment_of segments i d within =
+    segment_at segments i (get_or segments i d) within (get_or_default segments i d (get_or segments i d) within)

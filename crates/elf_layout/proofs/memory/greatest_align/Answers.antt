@@ -4,7 +4,7 @@ use Rattle.std.proofs.lemmas.List.{length-map}
 use Rattle.elf_format.specs.File.{is_loaded}
 use Rattle.elf_format.specs.declared.records.SegmentHeader.{SegmentHeader}
 use Rattle.elf_image.specs.ImageSeen.{segment_kept}
-use Rattle.elf_layout.proofs.GreatestSteps.{greatest_end, greatest_more, greatest_of, segment_at, value_at}
+use Rattle.elf_layout.proofs.GreatestSteps.{greatest_end, greatest_more, greatest_of, segment_of, value_at}
 use Rattle.elf_layout.proofs.memory.greatest_align.Goals as goal
 
 abbrev align_of : SegmentHeader → ℕ
@@ -18,7 +18,7 @@ loop-segment-preserved c =
     let here : c.max-found.result ≡ max (value_at is_loaded align_of (slice_get all i)) n =
     c.max-found.ensures ∙ ap (λ (v : ℕ). max v n) c.load_align.ensures
     ∙ ap (λ (o : Option SegmentHeader). max (value_at is_loaded align_of o) n)
-    (sym (segment_at c.args.segments.now i c.segment-item.result c.loop-segment-test.true c.segment-item.is)) in
+    (sym (segment_of c.args.segments.now i _ c.loop-segment-test.true)) in
     ap (λ (m : ℕ). greatest_of is_loaded align_of m (drop (i + 1) all)) here ∙ sym (greatest_more is_loaded align_of n all i)
     ∙ c.loop-segment.invariant
 

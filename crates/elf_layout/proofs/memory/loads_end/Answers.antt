@@ -6,7 +6,7 @@ use Rattle.elf_format.specs.Placement.{memory_part}
 use Rattle.elf_format.specs.Ranges.{end_of}
 use Rattle.elf_format.specs.declared.records.SegmentHeader.{SegmentHeader}
 use Rattle.elf_image.specs.ImageSeen.{segment_kept}
-use Rattle.elf_layout.proofs.GreatestSteps.{greatest_end, greatest_more, greatest_of, segment_at, value_at}
+use Rattle.elf_layout.proofs.GreatestSteps.{greatest_end, greatest_more, greatest_of, segment_of, value_at}
 use Rattle.elf_layout.proofs.memory.loads_end.Goals as goal
 
 abbrev end_in_memory : SegmentHeader → ℕ
@@ -20,7 +20,7 @@ loop-segment-preserved c =
     let here : c.max-end.result ≡ max (value_at is_loaded end_in_memory (slice_get all i)) n =
     c.max-end.ensures ∙ ap (λ (v : ℕ). max v n) c.load_end.ensures.end
     ∙ ap (λ (o : Option SegmentHeader). max (value_at is_loaded end_in_memory o) n)
-    (sym (segment_at c.args.segments.now i c.segment-item.result c.loop-segment-test.true c.segment-item.is)) in
+    (sym (segment_of c.args.segments.now i _ c.loop-segment-test.true)) in
     record {
       end = ap (λ (m : ℕ). greatest_of is_loaded end_in_memory m (drop (i + 1) all)) here
           ∙ sym (greatest_more is_loaded end_in_memory n all i) ∙ c.loop-segment.invariant.end;

@@ -2,22 +2,22 @@ use Rattle.std.proofs.Common.{◌∙◌, map, sym}
 use Rattle.std.proofs.lemmas.List.{length-map}
 use Rattle.elf_format.specs.declared.range.Range.{Range}
 use Rattle.elf_image.specs.ImageSeen.{segment_kept}
-use Rattle.elf_layout.proofs.GreatestSteps.{segment_at}
+use Rattle.elf_layout.proofs.GreatestSteps.{segment_of}
 use Rattle.elf_layout.proofs.TableSteps.{end_over, found_over, more_over}
 use Rattle.elf_layout.proofs.tables.is_range_loaded.Goals as goal
 
 pub returns-then-has_range : goal.returns-then-has_range
 returns-then-has_range c =
     let part : Range = record { start = c.args.start; size = c.args.size } in
-    found_over part (map segment_kept c.args.segments.now) c.loop-segment.segment-index (segment_kept c.segment-item.result)
-    (segment_at c.args.segments.now c.loop-segment.segment-index c.segment-item.result c.loop-segment-test.true c.segment-item.is)
+    found_over part (map segment_kept c.args.segments.now) c.loop-segment.segment-index _
+    (segment_of c.args.segments.now c.loop-segment.segment-index _ c.loop-segment-test.true)
     (sym c.has_range.ensures ∙ c.if-has_range.true) c.loop-segment.invariant
 
 pub loop-segment-preserved : goal.loop-segment-preserved
 loop-segment-preserved c =
     let part : Range = record { start = c.args.start; size = c.args.size } in
-    more_over part (map segment_kept c.args.segments.now) c.loop-segment.segment-index (segment_kept c.segment-item.result)
-    (segment_at c.args.segments.now c.loop-segment.segment-index c.segment-item.result c.loop-segment-test.true c.segment-item.is)
+    more_over part (map segment_kept c.args.segments.now) c.loop-segment.segment-index _
+    (segment_of c.args.segments.now c.loop-segment.segment-index _ c.loop-segment-test.true)
     (sym c.has_range.ensures ∙ c.if-has_range.false) c.loop-segment.invariant
 
 pub returns : goal.returns
