@@ -33,6 +33,12 @@ abbrev pub is_printing : ElfAsked → Bool
 is_printing printing = true
 is_printing _ = false
 
+-- edits are asked for by the command alone
+abbrev pub asks_edits : ElfAsked → Bool
+asks_edits (one edit) = true
+asks_edits (several edits) = true
+asks_edits _ = false
+
 -- the edit that a command asks for
 abbrev pub elf_edit_asked : ElfMeaning → Option Edit
 elf_edit_asked (edit_elf edit path) = Some edit
