@@ -1,5 +1,5 @@
 -- What edits of an ELF file keep and show, and which answers tell why there are no bytes.
-use Rattle.std.proofs.Common.{◌≡◌, ◌+◌, [], ◌∷◌, ◌∙◌, Bool, ℕ, List, Some, Result, Ok, Err, true, false, refl, sym, ap, subst, inl, inr}
+use Rattle.std.proofs.Common.{◌≡◌, ◌+◌, [], ◌∷◌, ◌∙◌, Bool, ℕ, List, Option, Some, Result, Ok, Err, true, false, refl, sym, ap, subst, inl, inr}
 use Rattle.std.specs.declared.alloc.Global.{Global}
 use Rattle.std.specs.declared.vec.Vec.{Vec}
 use Rattle.elf_format.specs.declared.header.Header.{Header}
@@ -17,7 +17,10 @@ use Rattle.arwen_elf.specs.Written.{IsEditWritten, IsImageWritten, IsNoImage}
 use Rattle.arwen_elf.specs.declared.elf.rewriter.batch.ElfBatchError.{ElfBatchError}
 use Rattle.arwen_elf.specs.declared.elf.rewriter.error.ElfError.{ElfError}
 use Rattle.arwen_elf.specs.declared.elf.rewriter.error.ElfError.TheVariants as elf
-use Rattle.arwen_commands.specs.ElfAsked.{ElfAsked, one, printing, several}
+use Rattle.arwen_commands.specs.ElfAsked.{ElfAsked, asks_edits, one, printing, several, shrinking}
+use Rattle.arwen_commands.specs.ElfStores.{IsElfPatched}
+use Rattle.arwen_commands.specs.Rows.{Text}
+use Rattle.byte_store.specs.Known.{Stays}
 use Rattle.arwen_commands.specs.ElfEngine.{AreEditsAsked, IsElfEdited, LeavesElf, Makes, MayFailAs, ShowsEdits, TellsEachFile, TellsEdit, TellsElfOf, TellsRun, elf_refusal}
 use Rattle.arwen_commands.specs.Fault.{answer_to_elf, answer_to_elf_fault}
 use Rattle.arwen_commands.specs.Prints.{PrintMayFail, TellsElf}
@@ -133,6 +136,7 @@ tells_refused (one edit) edits file read e are is refuses =
     one_refused edit file read e.index e.fault is (subst (λ (l : List Edit). RefusesAt e.index e.fault (run l read)) are refuses)
 tells_refused (several read_as) edits file read e are is refuses =
     subst (λ r. TellsEdit (several r) file (elf_refusal (several r) e)) (sym are) (several_refused edits file read e e.fault is refuses)
+tells_refused (shrinking prefixes) edits file read e are is refuses = absurd are
 tells_refused printing edits file read e are is refuses = absurd are
 
 -- the edited image has no bytes
@@ -155,6 +159,7 @@ tells_no_image (several read_as) edits file made e are makes none = subst (λ r.
     unwritten edits file made (elf.Io fault) makes none = inr (record { made = made; makes = makes; none = none })
     unwritten edits file made (elf.Write fault) makes none = inr (record { made = made; makes = makes; none = none })
     unwritten edits file made elf.InvalidDtNeededEncoding makes none = inr (record { made = made; makes = makes; none = none })
+tells_no_image (shrinking prefixes) edits file made e are makes none = absurd are
 tells_no_image printing edits file made e are makes none = absurd are
 
 -- ## A run
@@ -177,6 +182,26 @@ no_fault file (elf.Write fault) tells = tells
 no_fault file (elf.Modify cause) tells = tells
 no_fault file elf.InvalidDtNeededEncoding tells = tells
 
+-- nor has one that asks first what is found
+no_fault_yet : (prefixes : List Text) (file : List ℕ) (e : ElfError) → TellsElfOf (shrinking prefixes) file e → ⊥
+no_fault_yet prefixes file elf.Memory tells = tells
+no_fault_yet prefixes file (elf.Io e) tells = tells
+no_fault_yet prefixes file (elf.Parse fault) tells = tells
+no_fault_yet prefixes file (elf.Write fault) tells = tells
+no_fault_yet prefixes file (elf.Modify cause) tells = tells
+no_fault_yet prefixes file elf.InvalidDtNeededEncoding tells = tells
+
+-- so it tells a want of memory alone
+pub only_memory : (prefixes : List Text) (file : List ℕ) (e : ArwenError) → TellsEdit (shrinking prefixes) file e → e ≡ Memory
+only_memory prefixes file Memory tells = refl
+only_memory prefixes file (Edits wrong) tells = absurd (cc)
+only_memory prefixes file (Elf e) tells = absurd (no_fault_yet prefixes file e tells)
+only_memory prefixes file (ElfBatch e) tells = absurd tells
+only_memory prefixes file (Io e) tells = absurd tells
+only_memory prefixes file (Line text status) tells = absurd tells
+only_memory prefixes file (Macho e) tells = absurd tells
+only_memory prefixes file (MachoBatch e) tells = absurd tells
+
 prints_tell : {W : Type 0} (file : List ℕ) (old new : W) (e : ArwenError) → new ≡ old → TellsEdit printing file e → TellsElf (image_of file) old new e
 prints_tell file old new Memory same tells = same
 prints_tell file old new (Edits wrong) same tells = absurd (cc)
@@ -191,6 +216,8 @@ prints_tell file old new (MachoBatch e) same tells = absurd tells
 pub tells_words : {W : Type 0} (a : ElfAsked) (file : List ℕ) (old new : W) (e : ArwenError) → new ≡ old → TellsEachFile a e → TellsRun a file old new e
 tells_words (one edit) file old new e same tells = (same, tells file)
 tells_words (several read) file old new e same tells = (same, tells file)
+tells_words (shrinking prefixes) file old new e same tells =
+    let P : ArwenError → Type 0 = λ x. TellsElf (image_of file) old new x in subst P (sym (only_memory prefixes file e (tells file))) same
 tells_words printing file old new e same tells = prints_tell file old new e same (tells file)
 
 -- ## Why a command may fail
@@ -208,19 +235,30 @@ prints_fail file (MachoBatch e) tells = absurd tells
 -- an error that tells of some file
 pub may_fail : (a : ElfAsked) (file : List ℕ) (e : ArwenError) → TellsEdit a file e → MayFailAs a e
 may_fail printing file e tells = prints_fail file e tells
+may_fail (shrinking prefixes) file e tells =
+    let P : ArwenError → Type 0 = λ x. MayFailAs (shrinking prefixes) x in subst P (sym (only_memory prefixes file e tells)) tt
 may_fail (one edit) file Memory tells = tt
 may_fail (one edit) file (Io e) tells = tt
-may_fail (one edit) file (Edits wrong) tells = (file, tells)
-may_fail (one edit) file (Elf e) tells = (file, tells)
-may_fail (one edit) file (ElfBatch e) tells = (file, tells)
-may_fail (one edit) file (Line text status) tells = (file, tells)
-may_fail (one edit) file (Macho e) tells = (file, tells)
-may_fail (one edit) file (MachoBatch e) tells = (file, tells)
+may_fail (one edit) file (Edits wrong) tells = (file, [], tells)
+may_fail (one edit) file (Elf e) tells = (file, [], tells)
+may_fail (one edit) file (ElfBatch e) tells = (file, [], tells)
+may_fail (one edit) file (Line text status) tells = (file, [], tells)
+may_fail (one edit) file (Macho e) tells = (file, [], tells)
+may_fail (one edit) file (MachoBatch e) tells = (file, [], tells)
 may_fail (several read) file Memory tells = tt
 may_fail (several read) file (Io e) tells = tt
-may_fail (several read) file (Edits wrong) tells = (file, tells)
-may_fail (several read) file (Elf e) tells = (file, tells)
-may_fail (several read) file (ElfBatch e) tells = (file, tells)
-may_fail (several read) file (Line text status) tells = (file, tells)
-may_fail (several read) file (Macho e) tells = (file, tells)
-may_fail (several read) file (MachoBatch e) tells = (file, tells)
+may_fail (several read) file (Edits wrong) tells = (file, [], tells)
+may_fail (several read) file (Elf e) tells = (file, [], tells)
+may_fail (several read) file (ElfBatch e) tells = (file, [], tells)
+may_fail (several read) file (Line text status) tells = (file, [], tells)
+may_fail (several read) file (Macho e) tells = (file, [], tells)
+may_fail (several read) file (MachoBatch e) tells = (file, [], tells)
+
+-- ## A command that asks for no edits
+
+-- it leaves the bytes of a store
+pub unpatched : (a : ElfAsked) (old new : Option (List ℕ)) → asks_edits a ≡ false → Stays old new → IsElfPatched a old new
+unpatched (one edit) old new none kept = absurd (cc)
+unpatched (several edits) old new none kept = absurd (cc)
+unpatched (shrinking prefixes) old new none kept = kept
+unpatched printing old new none kept = kept

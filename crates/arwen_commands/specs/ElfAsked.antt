@@ -1,30 +1,43 @@
 -- What a command for ELF files asks of the bytes of its file.
 use Rattle.std.specs.Prelude.{ℕ, ◌≡◌, Bool, true, false, List, Option, Some, None, Result, Err, ⊤}
-use Rattle.elf_edits.specs.Edit.{Edit}
+use Rattle.elf_edits.specs.Edit.{Answer, Edit, ShrinkRunPath}
 use Rattle.arwen_commands.specs.ElfWords.{elf_edits_of}
 use Rattle.arwen_commands.specs.Groups.{Wrong}
 use Rattle.arwen_commands.specs.Rows.{Text}
-use Rattle.arwen_commands.specs.Meaning.{ElfMeaning, apply_elf, edit_elf, elf_shown}
+use Rattle.arwen_commands.specs.Meaning.{ElfMeaning, apply_elf, edit_elf, elf_shown, shrink_elf}
 use Rattle.arwen_commands.specs.declared.command.ElfCommand.{ElfCommand}
 use Rattle.arwen_commands.specs.declared.edits.EditFault.{EditFault}
 use Rattle.arwen_commands.specs.declared.error.ArwenError.{ArwenError}
 use Rattle.arwen_commands.specs.declared.error.ArwenError.TheVariants.{Line, Memory}
 
--- one edit, those that words name, or nothing but to print
+-- one edit, those that words name, that the run path shrinks with these prefixes, or nothing but to print
 pub data ElfAsked : Type 0 where
   one : Edit → ElfAsked
   several : Result (List Edit) EditFault → ElfAsked
+  shrinking : List Text → ElfAsked
   printing : ElfAsked
 
 abbrev pub elf_asked : ElfMeaning → ElfAsked
 elf_asked (edit_elf edit path) = one edit
 elf_asked (apply_elf path words) = several (elf_edits_of words)
+elf_asked (shrink_elf path prefixes) = shrinking prefixes
 elf_asked _ = printing
+
+-- what is asked for once it is known what was found for the directories of the run path and the needed libraries
+abbrev pub answered : List Answer → ElfAsked → ElfAsked
+answered answers (shrinking prefixes) = one (ShrinkRunPath prefixes answers)
+answered answers asked = asked
 
 -- the command prints, and edits nothing
 abbrev pub is_printing : ElfAsked → Bool
 is_printing printing = true
 is_printing _ = false
+
+-- edits are asked for by the command alone
+abbrev pub asks_edits : ElfAsked → Bool
+asks_edits (one edit) = true
+asks_edits (several edits) = true
+asks_edits _ = false
 
 -- the edit that a command asks for
 abbrev pub elf_edit_asked : ElfMeaning → Option Edit

@@ -8,14 +8,14 @@ use Rattle.arwen_elf.specs.declared.elf.rewriter.batch.ElfBatchError.{ElfBatchEr
 use Rattle.arwen_elf.specs.declared.elf.rewriter.error.ElfError.{ElfError}
 use Rattle.arwen_elf.specs.declared.elf.rewriter.error.ElfError.TheVariants as elf
 use Rattle.elf_edits.specs.Batch.{run}
-use Rattle.elf_edits.specs.Edit.{Edit}
+use Rattle.elf_edits.specs.Edit.{Answer, Edit}
 use Rattle.elf_edits.specs.Laws.{viewed}
 use Rattle.elf_edits.specs.declared.call.ElfEdit.{ElfEdit}
 use Rattle.elf_image.specs.Image.{Image, image_of, shown}
 use Rattle.elf_image.specs.Views.{View, dynamic_symbol_count, loader_view, section_view}
 use Rattle.elf_plan.specs.Kept.{image_at_read}
 use Rattle.elf_written.specs.Final.{final_view}
-use Rattle.arwen_commands.specs.ElfAsked.{ElfAsked, elf_asked, one, printing, several}
+use Rattle.arwen_commands.specs.ElfAsked.{ElfAsked, answered, asks_edits, elf_asked, one, printing, several, shrinking}
 use Rattle.arwen_commands.specs.ElfWords.{edits_meant}
 use Rattle.arwen_commands.specs.Fault.{answer_to_elf, answer_to_elf_batch}
 use Rattle.arwen_commands.specs.Meaning.{ElfMeaning}
@@ -100,6 +100,7 @@ TellsEdit a file e = ⊥
 abbrev pub AreEditsAsked : ElfAsked → List Edit → Type 0
 AreEditsAsked (one edit) edits = edits ≡ edit ∷ []
 AreEditsAsked (several read) edits = read ≡ Ok edits
+AreEditsAsked (shrinking prefixes) edits = ⊥
 AreEditsAsked printing edits = ⊥
 
 -- new bytes, or none, are what the edits make that a command asks for
@@ -123,12 +124,13 @@ bytes_left file (Some new) = new.items
 -- what a run answers, and what a writer gets
 abbrev pub RunsElf : ElfMeaning → ElfAsked → List ℕ → Option (Vec ℕ Global) → Option (List ℕ) → Option (List ℕ) → Type 0
 RunsElf meaning printing file answer old new = (answer ≡ None) × Prints meaning (image_of file) old new
+RunsElf meaning (shrinking prefixes) file answer old new = (answer ≡ None) × Prints meaning (image_of file) old new
 RunsElf meaning a file answer old new = IsElfEdited a file answer × (new ≡ old)
 
--- the edits of a command; none of one that prints
+-- the edits of a command; none of one that prints, or asks first what is found
 abbrev pub AreAskedIf : ElfAsked → Option (Vec ElfEdit Global) → Type 0
 AreAskedIf a (Some edits) = AreEditsAsked a (edits_meant edits.items)
-AreAskedIf a None = a ≡ printing
+AreAskedIf a None = asks_edits a ≡ false
 
 -- an error tells the outcome of each file, since no file was looked at
 abbrev pub TellsEachFile : ElfAsked → ArwenError → Type 0
@@ -137,6 +139,7 @@ TellsEachFile a e = (file : List ℕ) → TellsEdit a file e
 -- an error of a run; only a writer that fails may have got something
 abbrev pub TellsRun : {W : Type 0} → ElfAsked → List ℕ → W → W → ArwenError → Type 0
 TellsRun printing file old new e = TellsElf (image_of file) old new e
+TellsRun (shrinking prefixes) file old new e = TellsElf (image_of file) old new e
 TellsRun a file old new e = (new ≡ old) × TellsEdit a file e
 
 -- a refused edit as it is answered to a command: of several it is told which one is refused
@@ -150,7 +153,7 @@ abbrev pub MayFailAs : ElfAsked → ArwenError → Type 0
 MayFailAs printing e = PrintMayFail e
 MayFailAs a Memory = ⊤
 MayFailAs a (Io e) = ⊤
-MayFailAs a e = (file : List ℕ) × TellsEdit a file e
+MayFailAs a e = (file : List ℕ) × ((found : List Answer) × TellsEdit (answered found a) file e)
 
 abbrev pub ElfMayFail : ElfMeaning → ArwenError → Type 0
 ElfMayFail meaning e = MayFailAs (elf_asked meaning) e

@@ -3,14 +3,15 @@ use Rattle.std.specs.Prelude.{ℕ, ◌≡◌, ◌⊎◌, List, Option, Some, ⊤
 use Rattle.byte_store.specs.Known.{Stays}
 use Rattle.byte_store.specs.Replaced.{IsReplacedInPart}
 use Rattle.byte_store.specs.declared.writing.Left.{Left}
-use Rattle.arwen_commands.specs.ElfAsked.{ElfAsked, printing}
+use Rattle.arwen_commands.specs.ElfAsked.{ElfAsked, printing, shrinking}
 use Rattle.arwen_commands.specs.ElfEngine.{LeavesElf, TellsEdit}
 use Rattle.arwen_commands.specs.declared.error.ArwenError.{ArwenError}
 use Rattle.arwen_commands.specs.declared.error.ArwenError.TheVariants.{Io}
 
--- known bytes become those that the edits leave that are asked for; those of a command that prints stay
+-- known bytes become those that the edits leave that are asked for; those of a command that prints, or asks first what is found, stay
 abbrev pub IsElfPatched : ElfAsked → Option (List ℕ) → Option (List ℕ) → Type 0
 IsElfPatched printing old new = Stays old new
+IsElfPatched (shrinking prefixes) old new = Stays old new
 IsElfPatched a old new = (file : List ℕ) → old ≡ Some file
     → (made : List ℕ) × LeavesElf a file made × (new ≡ Some made)
 

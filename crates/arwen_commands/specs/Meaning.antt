@@ -9,7 +9,7 @@ use Rattle.arwen_macho.specs.Call.{Call}
 use Rattle.arwen_macho.specs.Call.Call.{add_rpath, change_install_id, change_install_name}
 use Rattle.arwen_macho.specs.Call.Call.{change_rpath, remove_rpath}
 use Rattle.arwen_commands.specs.ElfWords.{Reading, elf_edit_lines}
-use Rattle.arwen_commands.specs.Rows.{Asks, Line, Text, by_path, by_text, by_texts, by_words}
+use Rattle.arwen_commands.specs.Rows.{Asks, Line, Text, by_options, by_path, by_text, by_texts, by_words}
 use Rattle.arwen_commands.specs.declared.command.Command.{Command}
 use Rattle.arwen_commands.specs.declared.command.Command.TheVariants.{Elf, Macho}
 use Rattle.arwen_commands.specs.declared.command.ElfCommand.{ElfCommand}
@@ -22,10 +22,12 @@ pub data MachoMeaning : Type 0 where
   edit : Call → Text → MachoMeaning
   apply : Text → List Text → MachoMeaning
 
--- what is asked of the ELF file at a path: an edit, or the edits that words name, or something to print
+-- what is asked of the ELF file at a path: an edit, or the edits that words name, or that its run path shrinks, with the
+-- prefixes that are allowed, or something to print
 pub data ElfMeaning : Type 0 where
   edit_elf : Edit → Text → ElfMeaning
   apply_elf : Text → List Text → ElfMeaning
+  shrink_elf : Text → List Text → ElfMeaning
   print_rpath : Text → ElfMeaning
   print_needed : Text → ElfMeaning
   print_soname : Text → ElfMeaning
@@ -74,6 +76,7 @@ asks_at (by_path read) = by_path (λ path. edit_at path (read path))
 asks_at (by_text read) = by_text (λ value path. edit_at path (read value path))
 asks_at (by_texts read) = by_texts (λ first second path. edit_at path (read first second path))
 asks_at (by_words read) = by_words (λ path words. edit_at path (read path words))
+asks_at (by_options long short read) = by_options long short (λ path list. edit_at path (read path list))
 
 abbrev pub edit_line_at : Line Reading → Line (Option ElfMeaning)
 edit_line_at line =
@@ -89,6 +92,7 @@ print_line name meaning = other_line name (by_path (λ path. Some (meaning path)
 abbrev pub elf_other_lines : List (Line (Option ElfMeaning))
 elf_other_lines =
     other_line (codes "apply") (by_words (λ path words. Some (apply_elf path words)))
+    ∷ other_line (codes "shrink-rpath") (by_options (codes "allowed-rpath-prefixes") 97 (λ path prefixes. Some (shrink_elf path prefixes)))
     ∷ print_line (codes "print-rpath") print_rpath
     ∷ print_line (codes "print-needed") print_needed
     ∷ print_line (codes "print-soname") print_soname
@@ -149,6 +153,8 @@ elf_shown (elf.ReplaceNeeded args) =
     edit_elf (ReplaceNeeded (map pair_shown args.dt_needed.items)) (string_bytes args.path_to_binary)
 elf_shown (elf.Apply args) =
     apply_elf (string_bytes args.path_to_binary) (map string_bytes args.edits.items)
+elf_shown (elf.ShrinkRpath args) =
+    shrink_elf (string_bytes args.path_to_binary) (map string_bytes args.allowed_rpath_prefixes.items)
 elf_shown (elf.PrintRpath args) = print_rpath (string_bytes args.path_to_binary)
 elf_shown (elf.PrintNeeded args) = print_needed (string_bytes args.path_to_binary)
 elf_shown (elf.PrintSoname args) = print_soname (string_bytes args.path_to_binary)
@@ -169,6 +175,7 @@ file_of (apply path words) = path
 abbrev pub elf_file_of : ElfMeaning → Text
 elf_file_of (edit_elf asked path) = path
 elf_file_of (apply_elf path words) = path
+elf_file_of (shrink_elf path prefixes) = path
 elf_file_of (print_rpath path) = path
 elf_file_of (print_needed path) = path
 elf_file_of (print_soname path) = path

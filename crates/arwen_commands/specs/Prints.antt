@@ -11,12 +11,13 @@ use Rattle.elf_format.specs.declared.fault.ElfFault.{ElfFault}
 use Rattle.arwen_commands.specs.declared.error.ArwenError.{ArwenError}
 use Rattle.arwen_commands.specs.declared.error.ArwenError.TheVariants.{Elf, Io, Memory}
 use Rattle.arwen_commands.specs.Meaning.{ElfMeaning, apply_elf, edit_elf, print_exec_stack, print_interpreter, print_needed}
-use Rattle.arwen_commands.specs.Meaning.{print_os_abi, print_rpath, print_soname}
+use Rattle.arwen_commands.specs.Meaning.{print_os_abi, print_rpath, print_soname, shrink_elf}
 
 -- the bytes that a command prints of what a file shows; an edit prints nothing
 abbrev pub printed : ElfMeaning → View → List ℕ
 printed (edit_elf edit path) view = []
 printed (apply_elf path words) view = []
+printed (shrink_elf path prefixes) view = []
 printed (print_rpath path) view = printed_runpath view
 printed (print_needed path) view = printed_needed view
 printed (print_soname path) view = printed_soname view

@@ -14,12 +14,14 @@ Text = List ℕ
 
 -- ---- which values a command takes
 
--- the path alone, a text and the path, two texts and the path, or the path and any number of words
+-- the path alone, a text and the path, two texts and the path, the path and any number of words, or the path and any
+-- number of values of an option with this long and this short name
 pub data Kind : Type 0 where
   path_alone : Kind
   text_and_path : Kind
   texts_and_path : Kind
   path_and_words : Kind
+  path_and_options : Text → ℕ → Kind
 
 -- such values, each in the order of its words
 pub data Given : Type 0 where
@@ -27,13 +29,15 @@ pub data Given : Type 0 where
   text : Text → Text → Given
   texts : Text → Text → Text → Given
   words : Text → List Text → Given
+  options : Text → List Text → Given
 
--- words as such values
+-- words as such values, of which none is an option
 abbrev pub given_by : Kind → List Text → Option Given
 given_by path_alone (file ∷ []) = Some (path file)
 given_by text_and_path (value ∷ file ∷ []) = Some (text value file)
 given_by texts_and_path (first ∷ second ∷ file ∷ []) = Some (texts first second file)
 given_by path_and_words (file ∷ list) = Some (words file list)
+given_by (path_and_options long short) (file ∷ []) = Some (options file [])
 given_by _ _ = None
 
 -- the same words, with an empty path where the path stands
@@ -59,6 +63,7 @@ pub data Asks (M : Type 0) : Type 0 where
   by_text : (Text → Text → M) → Asks M
   by_texts : (Text → Text → Text → M) → Asks M
   by_words : (Text → List Text → M) → Asks M
+  by_options : Text → ℕ → (Text → List Text → M) → Asks M
 
 module _ {M : Type 0} where
   abbrev pub kind_of : Asks M → Kind
@@ -66,12 +71,14 @@ module _ {M : Type 0} where
   kind_of (by_text meaning) = text_and_path
   kind_of (by_texts meaning) = texts_and_path
   kind_of (by_words meaning) = path_and_words
+  kind_of (by_options long short meaning) = path_and_options long short
 
   abbrev pub asked_with : Asks M → Given → Option M
   asked_with (by_path meaning) (path file) = Some (meaning file)
   asked_with (by_text meaning) (text value file) = Some (meaning value file)
   asked_with (by_texts meaning) (texts first second file) = Some (meaning first second file)
   asked_with (by_words meaning) (words file list) = Some (meaning file list)
+  asked_with (by_options long short meaning) (options file list) = Some (meaning file list)
   asked_with _ _ = None
 
   abbrev pub asked_by_words : Asks M → List Text → Option M
@@ -122,6 +129,7 @@ kind_shown form.Path = path_alone
 kind_shown (form.Text value) = text_and_path
 kind_shown (form.Texts first second) = texts_and_path
 kind_shown (form.Words value) = path_and_words
+kind_shown (form.Options option) = path_and_options option.long.now option.short
 
 abbrev pub row_shown : Row → Named
 row_shown row = record { name = row.name.now; kind = kind_shown row.form; is_edit = row.is_edit }
@@ -132,3 +140,4 @@ given_shown (values.Text value file) = text (string_bytes value) (string_bytes f
 given_shown (values.Texts first second file) =
     texts (string_bytes first) (string_bytes second) (string_bytes file)
 given_shown (values.Words file list) = words (string_bytes file) (map string_bytes list.items)
+given_shown (values.Options file list) = options (string_bytes file) (map string_bytes list.items)

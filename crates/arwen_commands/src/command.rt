@@ -5,7 +5,7 @@ use crate::elf::{
     add_debug_tag, add_needed, add_rpath, apply as apply_elf, clear_execstack, force_rpath,
     no_default_lib, print_execstack, print_interpreter, print_needed, print_os_abi, print_rpath,
     print_soname, remove_needed, remove_rpath, replace_needed, set_execstack, set_interpreter,
-    set_os_abi, set_page_size, set_rpath, set_soname,
+    set_os_abi, set_page_size, set_rpath, set_soname, shrink_rpath,
 };
 use crate::elf_values::{bytes_of, number_of, pairs_copied, pairs_of, texts_of};
 use crate::error::ArwenError;
@@ -59,6 +59,7 @@ impl MachoCommand {
             Values::Text(value, path) => MachoCommand::with_text(name, value, path),
             Values::Texts(old, new, path) => MachoCommand::with_texts(name, old, new, path),
             Values::Words(path, words) => MachoCommand::with_words(name, path, words),
+            Values::Options(..) => None,
         }
     }
 
@@ -207,6 +208,8 @@ pub enum ElfCommand {
     ReplaceNeeded(replace_needed::Args),
     /// Several of these edits, all or none.
     Apply(apply_elf::Args),
+    /// Leave directories out of the run path.
+    ShrinkRpath(shrink_rpath::Args),
     /// Print the run path.
     PrintRpath(print_rpath::Args),
     /// Print the needed libraries.
@@ -226,7 +229,7 @@ impl ElfCommand {
     ghost use Rattle.elf_edits.specs.Called.{edit_meant};
     ghost use Rattle.arwen_commands.specs.ElfAsked.{TellsNoValue, command_meant, elf_asked, elf_edit_asked, is_printing};
     ghost use Rattle.arwen_commands.specs.Meaning.{elf_file_of, elf_lines, elf_shown};
-    ghost use Rattle.arwen_commands.specs.Rows.{given_shown, meant_with, path, text, words as words_given};
+    ghost use Rattle.arwen_commands.specs.Rows.{given_shown, meant_with, options, path, text, words as words_given};
 
     /// The command of a name with its values; `None` where no command of that name takes such
     /// values. Errors: `Line` where a value is not what the command takes, `Memory`.
@@ -245,6 +248,7 @@ impl ElfCommand {
             Values::Text(value, file) => ElfCommand::with_text(alloc, name, value, file),
             Values::Texts(..) => Ok(None),
             Values::Words(file, words) => ElfCommand::with_words(alloc, name, file, words),
+            Values::Options(file, values) => Ok(ElfCommand::with_options(name, file, values)),
         }
     }
 
@@ -352,8 +356,26 @@ impl ElfCommand {
         }))
     }
 
-    /// The edit that the command asks for; `None` for `apply`, which asks for several, and for a
-    /// command that prints.
+    /// The command of a name that takes the path and the values of an option.
+    fn with_options(
+        name: &str,
+        path_to_binary: String,
+        values: Vec<String>,
+    ) -> Option<ElfCommand>
+        ensures { option_map command_meant result ≡ meant_with elf_lines name.now
+            (options (string_bytes path_to_binary) (map string_bytes values.items)) }
+    {
+        match name {
+            shrink_rpath::NAME => Some(ElfCommand::ShrinkRpath(shrink_rpath::Args {
+                path_to_binary,
+                allowed_rpath_prefixes: values,
+            })),
+            _ => None,
+        }
+    }
+
+    /// The edit that the command asks for; `None` for `apply`, which asks for several, for
+    /// `shrink-rpath`, which asks for one by what is found, and for a command that prints.
     pub(crate) fn edit(&self, alloc: Global) -> Result<Option<ElfEdit>, AllocError>
         ensures { IfOk result (λ edit.
             option_map edit_meant edit ≡ elf_edit_asked (elf_shown self.now)) }
@@ -422,6 +444,7 @@ impl ElfCommand {
             ElfCommand::RemoveNeeded(args) => args.path_to_binary.as_str(),
             ElfCommand::ReplaceNeeded(args) => args.path_to_binary.as_str(),
             ElfCommand::Apply(args) => args.path_to_binary.as_str(),
+            ElfCommand::ShrinkRpath(args) => args.path_to_binary.as_str(),
             ElfCommand::PrintRpath(args) => args.path_to_binary.as_str(),
             ElfCommand::PrintNeeded(args) => args.path_to_binary.as_str(),
             ElfCommand::PrintSoname(args) => args.path_to_binary.as_str(),

@@ -30,6 +30,7 @@ pub mod set_os_abi;
 pub mod set_page_size;
 pub mod set_rpath;
 pub mod set_soname;
+pub mod shrink_rpath;
 
 use crate::command::ElfCommand;
 use crate::error::ArwenError;

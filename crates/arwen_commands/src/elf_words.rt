@@ -87,7 +87,7 @@ fn edit_with(
     match values {
         Values::Path(_) => Ok(with_path(name)),
         Values::Text(value, _) => with_text(group, name, value),
-        Values::Texts(..) => Ok(None),
+        Values::Texts(..) | Values::Options(..) => Ok(None),
         Values::Words(_, words) => with_words(alloc, group, name, words),
     }
 }

@@ -28,5 +28,5 @@ pub use engine::{macho_execute, patch_path, patch_store, run_macho};
 pub use error::{ArwenError, FaultLine};
 pub use file::{MOST_BYTES, read_bytes};
 pub use key_value::{KeyValueError, parse_key_val};
-pub use rows::{Form, Row, Value, Values, find_row};
+pub use rows::{Form, Row, Value, ValueOption, Values, find_row};
 pub use tables::{elf_edit_table, elf_table, macho_table};

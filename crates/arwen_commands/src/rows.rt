@@ -11,6 +11,17 @@ pub struct Value {
     pub help: &'static str,
 }
 
+/// An option of a command, which takes a value and may be given again.
+#[derive(Clone, Copy, Debug)]
+pub struct ValueOption {
+    /// Its long name, which stands behind two hyphens.
+    pub long: &'static str,
+    /// Its short name, which stands behind one.
+    pub short: char,
+    /// Its value.
+    pub value: Value,
+}
+
 /// The values that a command takes, in the order of its words. The path of its file is one of them.
 #[derive(Clone, Copy, Debug)]
 pub enum Form {
@@ -22,6 +33,8 @@ pub enum Form {
     Texts(Value, Value),
     /// The path and any number of words.
     Words(Value),
+    /// The path, and any number of values of an option.
+    Options(ValueOption),
 }
 
 impl Form {
@@ -35,7 +48,7 @@ impl Form {
         match self {
             Form::Text(_) => 1,
             Form::Texts(..) => 2,
-            Form::Path | Form::Words(_) => 0,
+            Form::Path | Form::Words(_) | Form::Options(_) => 0,
         }
     }
 }
@@ -66,6 +79,8 @@ pub enum Values {
     Texts(String, String, String),
     /// The path and the words.
     Words(String, Vec<String>),
+    /// The path and the values of the option.
+    Options(String, Vec<String>),
 }
 
 /// The row of a name.

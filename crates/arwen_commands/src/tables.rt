@@ -8,9 +8,9 @@ use crate::elf::{
     add_debug_tag, add_needed, add_rpath, apply as apply_elf, clear_execstack, force_rpath,
     no_default_lib, print_execstack, print_interpreter, print_needed, print_os_abi, print_rpath,
     print_soname, remove_needed, remove_rpath, replace_needed, set_execstack, set_interpreter,
-    set_os_abi, set_page_size, set_rpath, set_soname,
+    set_os_abi, set_page_size, set_rpath, set_soname, shrink_rpath,
 };
-use crate::rows::{Form, Row, Value};
+use crate::rows::{Form, Row, Value, ValueOption};
 use crate::{add, apply, change, delete, install_id, install_name};
 
 /// What help says of `apply` below its values.
@@ -127,7 +127,7 @@ Example:
 const ELF_EDITS_COUNT: usize = 15;
 
 /// The commands for ELF files: first the edits that `apply` takes, then the others.
-pub static ELF_ROWS: [Row; 22] = [
+pub static ELF_ROWS: [Row; 23] = [
     Row {
         name: add_debug_tag::NAME,
         about: "Add an entry for a debugger",
@@ -269,6 +269,20 @@ pub static ELF_ROWS: [Row; 22] = [
         }),
         is_edit: false,
         more: ELF_EDITS,
+    },
+    Row {
+        name: shrink_rpath::NAME,
+        about: "Leave out of the run path directories that have no needed library",
+        form: Form::Options(ValueOption {
+            long: "allowed-rpath-prefixes",
+            short: 'a',
+            value: Value {
+                name: "PREFIX",
+                help: "Leave out directories too that no such prefix begins",
+            },
+        }),
+        is_edit: false,
+        more: "",
     },
     Row {
         name: print_rpath::NAME,
