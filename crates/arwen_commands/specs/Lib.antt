@@ -11,3 +11,4 @@ pub mod Stores
 pub mod ElfAsked
 pub mod ElfEngine
 pub mod ElfStores
+pub mod Shrinking

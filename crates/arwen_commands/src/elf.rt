@@ -21,6 +21,7 @@ pub mod print_needed;
 pub mod print_os_abi;
 pub mod print_rpath;
 pub mod print_soname;
+mod probing;
 pub mod remove_needed;
 pub mod remove_rpath;
 pub mod replace_needed;
