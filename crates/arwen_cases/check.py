@@ -87,6 +87,18 @@ def shows(data):
     return seen + (loaded.abi,)
 
 
+def shrinking_of(words):
+    """The prefixes of a command that shrinks run paths, whose options stand apart from their values or behind a `=`."""
+    prefixes, rest = [], list(words)
+    while rest:
+        word = rest.pop(0)
+        if word in ("-a", "--allowed-rpath-prefixes"):
+            prefixes.append(model.plain(rest.pop(0)))
+        elif word.startswith("--allowed-rpath-prefixes="):
+            prefixes.append(word.partition("=")[2])
+    return prefixes
+
+
 def edits_of(words):
     """The edits of the words of a command, as the model has them."""
     name, rest = words[0], [word for word in words[1:] if word != "--"]
@@ -107,6 +119,47 @@ def laid(old, lines):
         content = bytes.fromhex(row.replace(" ", ""))
         new[int(at, 16) : int(at, 16) + len(content)] = content
     return bytes(new)
+
+
+def why_not_shrunk(image):
+    """Why the run paths of a file can't shrink."""
+    if image.machine == 8:
+        return "MIPS"
+    if image.entries is None:
+        return "no dynamic section, can't shrink rpath"
+    return None if any(tag in model.RUN_PATHS for tag, _ in image.entries) else "no run path"
+
+
+def told(removed):
+    """The lines in which the program tells of the directories that go."""
+    lines = []
+    for line in removed.splitlines():
+        directory, _, reason = line.removeprefix("removed ").rpartition(": ")
+        lines.append(
+            "Removing %s from RPATH due to non-allowed prefix" % directory if reason == "prefix"
+            else "Removing directory %s" % directory
+        )
+    return lines
+
+
+def compare_shrunk(data, words, printed, has_text):
+    """The same of a command that shrinks run paths, and finds no library."""
+    at = next((i for i, line in enumerate(printed) if line.startswith("status ")), 0)
+    lines = printed[at:]
+    image = model.Image(model.File(data))
+    why = why_not_shrunk(image)
+    if why is not None:
+        return data, None if lines[0].endswith(model.refusal(why)) and at == 0 else "not told: " + why
+    if lines[0] != "status 0":
+        return data, None if lines[0].endswith(OVERLAP) else "refused"
+    image.entries, removed = model.shrunk_list(image.entries, shrinking_of(words[1:]), "", "")
+    new = laid(data, lines[1:])
+    if has_text and printed[:at] != told(removed):
+        return new, "told are %r" % printed[:at]
+    if not removed:
+        return new, None if new == data else "bytes that nothing changes"
+    seen, meant = shows(new), (image.entries, image.interpreter, image.stack, image.abi)
+    return new, None if seen == meant else "shown are %r, meant %r" % (seen, meant)
 
 
 def compare(data, words, lines):
@@ -142,7 +195,7 @@ def steps(text):
     """The lines of the cases, each with what was printed of it."""
     found = []
     for line in text.split("\n"):
-        if line[:2] in ("= ", "> ", "! ", "? ", "* ", "h ") or line[:1] in ("#", "", "?", ">"):
+        if line[:2] in ("= ", "> ", "! ", "? ", "* ", "h ", "p ") or line[:1] in ("#", "", "?", ">"):
             found.append((line, []))
         elif found:
             found[-1][1].append(line)
@@ -164,14 +217,18 @@ def main():
         if kind == "=":
             path = os.path.join(folder, words[0])
             data = open(path, "rb").read() if os.path.isfile(path) else None
-        edits = words[:1] == ["elf"] and len(words) > 2 and words[1] in model.ALONE + model.ONE + model.MANY + ["apply"]
-        if kind not in (">", "!") or not edits or printed[:1] == [] or not is_checked(printed[0]):
+        names = model.ALONE + model.ONE + model.MANY + ["apply", "shrink-rpath"]
+        edits = words[:1] == ["elf"] and len(words) > 2 and words[1] in names
+        if kind not in (">", "!", "p") or not edits or printed[:1] == [] or not is_checked(printed[0]):
             continue
         try:
             shows(data)
         except (ValueError, TypeError, IndexError, KeyError, model.struct.error):
             continue
-        new, why = compare(data, words[1:], printed)
+        if words[1] == "shrink-rpath":
+            new, why = compare_shrunk(data, words[1:], printed, kind == "p")
+        else:
+            new, why = compare(data, words[1:], printed)
         count += 1
         if why is not None:
             wrong += 1

@@ -230,6 +230,12 @@ ENTRIES = [
 ]
 
 
+def shrinking(last=b"/nowhere/b"):
+    """A library that is nowhere, and two run paths, of whose directories some begin with a slash."""
+    path = b"/nowhere/a:$ORIGIN/x:" + last
+    return [(DT_NEEDED, b"libgone.so"), (DT_RUNPATH, path), (DT_RPATH, b"/nowhere::y")]
+
+
 def elfs():
     """The ELF files, by name."""
     little64, big64, little32, big32 = Class(64, "<"), Class(64, ">"), Class(32, "<"), Class(32, ">")
@@ -245,6 +251,10 @@ def elfs():
         "elf-lossy": elf(big32, [(DT_NEEDED, b"lib\xff.so"), (DT_SONAME, b"")]),
         "elf-bare": elf(little64),
         "elf-small": small(little64),
+        "paths-64-little": elf(little64, shrinking()),
+        "paths-64-big": elf(big64, shrinking()),
+        "paths-32-little": elf(little32, shrinking()),
+        "paths-32-big": elf(big32, shrinking(b"/nowhere/\xff")),
         "elf-cut": full[:-1],
         "elf-damaged": bytes(damaged),
         "elf-object": elf(little64, kind=1),

@@ -3,10 +3,10 @@ use crate::changes::print_rows;
 use crate::{tell, tell_answer};
 use arwen_cli::cli::{ArwenError, ElfCommand, MachoCommand, Probe, run_elf, run_macho};
 use std::io;
-use std::io::Cursor;
+use std::io::{Cursor, Write};
 
-/// A writer that has room for so many bytes and fails behind them.
-type Page = Cursor<[u8; 8]>;
+/// A writer that has room for some lines.
+type Sheet = Cursor<[u8; 256]>;
 
 /// Prints what a command makes of the bytes of a file, or the fault.
 pub(crate) fn edit(rt: &HostRuntime, bytes: &[u8], command: &MachoCommand) -> io::Result<()> {
@@ -38,32 +38,42 @@ impl Probe for NoLibraries {
 /// printed on a page, and the fault.
 pub(crate) fn elf(rt: &HostRuntime, bytes: &[u8], command: &ElfCommand) -> io::Result<()> {
     let mut page = Cursor::new([0; 8]);
-    let new = tell_run(rt, bytes, command, &mut page)?;
-    match new {
+    let answer = run(rt, bytes, command, &mut page);
+    tell_answer(rt, &answer)?;
+    match answer.unwrap_or(None) {
         Some(new) => print_rows(rt, bytes, new.as_slice()),
         None if command.is_print() => print_rows(rt, &[0; 8], page.get_ref()),
         None => println!(rt; "no new bytes"),
     }
 }
 
-/// Prints the status of a command for ELF files, and the fault. Hands the new bytes back, where there are any.
-fn tell_run(
-    rt: &HostRuntime,
-    bytes: &[u8],
-    command: &ElfCommand,
-    page: &mut Page,
-) -> io::Result<Option<Vec<u8>>> {
-    let answer = run(rt, bytes, command, page);
+/// Prints the text that a command for ELF files prints of the bytes of a file, the status, the fault, and the rows that
+/// an edit changes.
+pub(crate) fn elf_text(rt: &HostRuntime, bytes: &[u8], command: &ElfCommand) -> io::Result<()> {
+    let mut sheet = Cursor::new([0; 256]);
+    let answer = run(rt, bytes, command, &mut sheet);
+    print_text(rt, &sheet)?;
     tell_answer(rt, &answer)?;
-    Ok(answer.unwrap_or(None))
+    match answer.unwrap_or(None) {
+        Some(new) => print_rows(rt, bytes, new.as_slice()),
+        None => println!(rt; "no new bytes"),
+    }
 }
 
-/// The answer of a command, asked for again where memory was refused: that leaves the page as it was.
-fn run(
+/// Prints what stands on a sheet.
+fn print_text(rt: &HostRuntime, sheet: &Sheet) -> io::Result<()> {
+    let bytes: &[u8] = sheet.get_ref();
+    let end = usize::try_from(sheet.position()).unwrap_or(0);
+    let printed = bytes.get(..end).unwrap_or_default();
+    print!(rt; "{}", std::str::from_utf8(printed).unwrap_or(""))
+}
+
+/// The answer of a command, asked for again where memory was refused: that leaves the writer as it was.
+fn run<W: Write>(
     rt: &HostRuntime,
     bytes: &[u8],
     command: &ElfCommand,
-    page: &mut Page,
+    page: &mut W,
 ) -> Result<Option<Vec<u8>>, ArwenError> {
     match run_elf(rt.alloc(), bytes, command, &mut NoLibraries, page) {
         Err(ArwenError::Memory) => run_elf(rt.alloc(), bytes, command, &mut NoLibraries, page),

@@ -9,6 +9,8 @@
 //! - `h WORD WORD ..` only reads the words too, and prints all of the text that they are answered with.
 //! - `! WORD WORD ..` does it to the bytes of `file` alone. Printed are the rows that an edit would change, or that an
 //!   edit of an ELF file makes no new bytes, or what stands on a page of 8 bytes after a print.
+//! - `p WORD WORD ..` does the same by a command for ELF files. Printed is first the text that the command prints, and
+//!   then the status and what an edit changes. For no library a directory was found.
 //! - `* RPATH ID` gives the library `file` a run path and an id, by calls of the library alone. Printed is what is
 //!   printed of words.
 //!
@@ -49,6 +51,7 @@ fn step(rt: &HostRuntime, line: &str) -> io::Result<()> {
         ("?", words) => read(rt, words),
         ("h", words) => help(rt, words),
         ("!", words) => call(rt, words),
+        ("p", words) => call_text(rt, words),
         ("*", words) => relocate(rt, words),
         _ => Ok(()),
     }
@@ -191,6 +194,27 @@ fn call_with(
     match command {
         Ok(Command::Macho(command)) => calls::edit(rt, bytes, command),
         Ok(Command::Elf(command)) => calls::elf(rt, bytes, command),
+        Err(error) => tell(rt, error),
+    }
+}
+
+/// Does what the words of a line ask to the bytes of the file alone, and prints what is printed of them.
+fn call_text(rt: &HostRuntime, words: &str) -> io::Result<()> {
+    let words = words_of(rt, words)?;
+    let command = command_of(rt, words.as_slice());
+    let bytes = content(rt, FILE)?.unwrap_or(Vec::new(rt.alloc()));
+    text_with(rt, bytes.as_slice(), &command)
+}
+
+/// Does what a command for ELF files asks to bytes, and prints what is printed of them.
+fn text_with(
+    rt: &HostRuntime,
+    bytes: &[u8],
+    command: &Result<Command, ArwenError>,
+) -> io::Result<()> {
+    match command {
+        Ok(Command::Elf(command)) => calls::elf_text(rt, bytes, command),
+        Ok(Command::Macho(_)) => Ok(()),
         Err(error) => tell(rt, error),
     }
 }

@@ -13,7 +13,7 @@ use Rattle.clap.specs.Words.{is_simple_and_free}
 use Rattle.clap.specs.Kinds.{or_else}
 use Rattle.clap.specs.Faults.{has_free_rules, level_fault, other_fault, step_fault, turn_fault}
 use Rattle.clap.proofs.OnLiterals.{clap_on_literals}
-use Rattle.arwen_commands.specs.Rows.{Given, Kind, Named, given_by, named, path_alone, path_and_words, text_and_path, texts_and_path}
+use Rattle.arwen_commands.specs.Rows.{Given, Kind, Named, given_by, named, path_alone, path_and_options, path_and_words, text_and_path, texts_and_path}
 use Rattle.arwen_cli.specs.Line.{has_option}
 use Rattle.arwen_cli.specs.Parser.{found_by, found_values, has_no_help, is_table, leaf_app, leaf_of, line_app, top_app}
 use Rattle.arwen_cli.proofs.Named.{IsNamed, IsTakenAt, differs, fault_of_stranger, found_at, found_by_name, meaning_by, named_fault, named_found, named_taken, rest_fault}
@@ -44,6 +44,7 @@ built_sub first name path_alone = refl
 built_sub first name text_and_path = refl
 built_sub first name texts_and_path = refl
 built_sub first name path_and_words = refl
+built_sub first name (path_and_options long short) = refl
 
 built_subs : (first : Text) (rows : List Named) → map built_leaf (map (inherited (above first)) (map leaf_of rows) ++ help_shape ∷ []) ≡ map leaf_at rows ++ help_leaf ∷ []
 built_subs first [] = refl
@@ -60,6 +61,7 @@ label_leaf name path_alone = refl
 label_leaf name text_and_path = refl
 label_leaf name texts_and_path = refl
 label_leaf name path_and_words = refl
+label_leaf name (path_and_options long short) = refl
 
 -- ---- the command of a name
 
@@ -306,18 +308,21 @@ simple_sub name path_alone = refl
 simple_sub name text_and_path = refl
 simple_sub name texts_and_path = refl
 simple_sub name path_and_words = refl
+simple_sub name (path_and_options long short) = refl
 
 ready_sub : (name : Text) (kind : Kind) → is_ready_leaf (leaf name kind) ≡ true
 ready_sub name path_alone = refl
 ready_sub name text_and_path = refl
 ready_sub name texts_and_path = refl
 ready_sub name path_and_words = refl
+ready_sub name (path_and_options long short) = refl
 
 free_sub : (name : Text) (kind : Kind) → has_free_rules (leaf name kind) ≡ true
 free_sub name path_alone = refl
 free_sub name text_and_path = refl
 free_sub name texts_and_path = refl
 free_sub name path_and_words = refl
+free_sub name (path_and_options long short) = refl
 
 pub simple_and_free : (first : Text) (head : Named) (rows : List Named) → is_simple_and_free (line_app first (head ∷ rows)) ≡ true
 simple_and_free first head rows =

@@ -9,7 +9,7 @@ use Rattle.clap.specs.Kinds.{or_else, range_kinds, values_kinds}
 use Rattle.clap.specs.Faults.{level_fault, step_fault, turn_fault, walk_fault, word_fault}
 use Rattle.clap.specs.declared.builder.value_parser.ValueParser.TheVariants as vp
 use Rattle.clap.proofs.OnLiterals.{clap_on_literals}
-use Rattle.arwen_commands.specs.Rows.{Given, Kind, given_by, path, path_alone, path_and_words, text, text_and_path, texts, texts_and_path, words as words_given}
+use Rattle.arwen_commands.specs.Rows.{Given, Kind, given_by, options, path, path_alone, path_and_options, path_and_words, text, text_and_path, texts, texts_and_path, words as words_given}
 use Rattle.arwen_cli.specs.Line.{has_option}
 use Rattle.arwen_cli.specs.Parser.{first_id, found_values, leaf_app, path_id, second_id, with_text, with_texts, words_id}
 use Rattle.arwen_cli.proofs.Words.{IsValue, at, end_fault, no_fault_after, no_fault_here, no_words, one_word, value_at_positional, walked_idle, walked_positional}
@@ -46,59 +46,42 @@ some≢none x e = cc
 
 -- ---- the path alone
 
-module _ (name : Text) where
-  abbrev path_leaf : Shape
-  path_leaf = leaf name path_alone
+-- what holds of a command that takes one value, its path
+pub record TakesPath (s : Shape) (kind : Kind) (given : Text → Given) : Type 0 where
+  met : (file : Text) → after s 1 nothing_held file ≡ at idle 2 (one_held s file)
+  no_more : (h : Held) → step_fault s 2 h value ≢ []
+  none : found_values kind (finished s.rules nothing_held) ≡ None
+  path_is : (file : Text) → found_values kind (finished s.rules (one_held s file)) ≡ Some (given file)
+  given_is : (file : Text) → given_by kind (file ∷ []) ≡ Some (given file)
+  step : step_fault s 1 nothing_held value ≡ []
+  end : (file : Text) → end_fault s (one_held s file) ≡ []
 
-  path_met : (file : Text) → after path_leaf 1 nothing_held file ≡ at idle 2 (one_held path_leaf file)
-  unfolding clap_on_literals
-  path_met file = refl
-
-  no_more : (h : Held) → step_fault path_leaf 2 h value ≢ []
-  unfolding clap_on_literals
-  no_more h e = cc
-
-  no_path : found_values path_alone (finished path_leaf.rules nothing_held) ≡ None
-  unfolding clap_on_literals
-  no_path = refl
-
-  path_is : (file : Text) → found_values path_alone (finished path_leaf.rules (one_held path_leaf file)) ≡ Some (path file)
-  unfolding clap_on_literals
-  path_is file = refl
-
-  path_step : step_fault path_leaf 1 nothing_held value ≡ []
-  unfolding clap_on_literals
-  path_step = refl
-
-  path_end : (file : Text) → end_fault path_leaf (one_held path_leaf file) ≡ []
-  unfolding clap_on_literals
-  path_end file = refl
-
+module _ (s : Shape) (kind : Kind) (given : Text → Given) (t : TakesPath s kind given) where
   abbrev found_path : Walk → Option Given
-  found_path w = found_values path_alone (finished path_leaf.rules w.held)
+  found_path w = found_values kind (finished s.rules w.held)
 
-  path_walked : (file : Text) → IsValue file → walked path_leaf.rules [] (at idle 1 nothing_held) file ≡ at idle 2 (one_held path_leaf file)
-  path_walked file plain = walked_idle path_leaf.rules nothing_held 1 file plain ∙ path_met file
+  path_walked : (file : Text) → IsValue file → walked s.rules [] (at idle 1 nothing_held) file ≡ at idle 2 (one_held s file)
+  path_walked file plain = walked_idle s.rules nothing_held 1 file plain ∙ t.met file
 
-  pub path_found : (file : Text) → IsValue file → found_values path_alone (rows_after path_leaf.rules [] (file ∷ [])) ≡ Some (path file)
-  path_found file plain = ap found_path (path_walked file plain) ∙ path_is file
+  pub path_found : (file : Text) → IsValue file → found_values kind (rows_after s.rules [] (file ∷ [])) ≡ Some (given file)
+  path_found file plain = ap found_path (path_walked file plain) ∙ t.path_is file
 
-  pub path_word : (list : List Text) (given : Given) → has_option list ≡ false → walk_fault path_leaf [] (at idle 1 nothing_held) list ≡ []
-      → found_values path_alone (rows_after path_leaf.rules [] list) ≡ Some given → given_by path_alone list ≡ Some given
-  path_word [] given plain none found = absurd (some≢none given (sym no_path ∙ found))
-  path_word (file ∷ []) given plain none found = sym (path_found file (first_value file [] plain).0) ∙ found
-  path_word (file ∷ word ∷ rest) given plain none found =
+  pub path_word : (list : List Text) (m : Given) → has_option list ≡ false → walk_fault s [] (at idle 1 nothing_held) list ≡ []
+      → found_values kind (rows_after s.rules [] list) ≡ Some m → given_by kind list ≡ Some m
+  path_word [] m plain none found = absurd (some≢none m (sym t.none ∙ found))
+  path_word (file ∷ []) m plain none found = t.given_is file ∙ sym (path_found file (first_value file [] plain).0) ∙ found
+  path_word (file ∷ word ∷ rest) m plain none found =
       let p = first_value file (word ∷ rest) plain in
       let q = first_value word rest p.1 in
-      let from : Walk → List Text → Type 0 = λ w ws. walk_fault path_leaf [] w ws ≡ [] in
-      let one = subst (λ w. from w (word ∷ rest)) (path_met file) (no_fault_after path_leaf nothing_held 1 file (word ∷ rest) p.0 none) in
-      absurd (no_more (one_held path_leaf file) (no_fault_here path_leaf (one_held path_leaf file) 2 word rest q.0 one))
+      let from : Walk → List Text → Type 0 = λ w ws. walk_fault s [] w ws ≡ [] in
+      let one = subst (λ w. from w (word ∷ rest)) (t.met file) (no_fault_after s nothing_held 1 file (word ∷ rest) p.0 none) in
+      absurd (t.no_more (one_held s file) (no_fault_here s (one_held s file) 2 word rest q.0 one))
 
-  pub path_passes : (file : Text) → IsValue file → level_fault path_leaf [] nothing_held (file ∷ []) false [] ≡ []
+  pub path_passes : (file : Text) → IsValue file → level_fault s [] nothing_held (file ∷ []) false [] ≡ []
   path_passes file plain =
-      let from : Walk → Type 0 = λ w. walk_fault path_leaf [] w [] ≡ [] in
-      let two = subst from (sym (path_met file)) (no_words path_leaf (at idle 2 (one_held path_leaf file))) in
-      ap₂ or_else (one_word path_leaf nothing_held 1 file [] plain path_step two) (ap (λ (w : Walk). end_fault path_leaf w.held) (path_walked file plain) ∙ path_end file)
+      let from : Walk → Type 0 = λ w. walk_fault s [] w [] ≡ [] in
+      let two = subst from (sym (t.met file)) (no_words s (at idle 2 (one_held s file))) in
+      ap₂ or_else (one_word s nothing_held 1 file [] plain t.step two) (ap (λ (w : Walk). end_fault s w.held) (path_walked file plain) ∙ t.end file)
 
 -- ---- a text and the path
 
@@ -421,6 +404,34 @@ module _ (name : Text) where
 
 -- ---- each kind
 
+path_takes : (name : Text) → TakesPath (leaf name path_alone) path_alone path
+unfolding clap_on_literals
+path_takes name = record {
+  met = λ file. refl;
+  no_more = λ h e. cc;
+  none = refl;
+  path_is = λ file. refl;
+  given_is = λ file. refl;
+  step = refl;
+  end = λ file. refl;
+}
+
+-- without the option, it has no values
+abbrev no_options : Text → Given
+no_options file = options file []
+
+options_take : (name long : Text) (short : ℕ) → TakesPath (leaf name (path_and_options long short)) (path_and_options long short) no_options
+unfolding clap_on_literals
+options_take name long short = record {
+  met = λ file. refl;
+  no_more = λ h e. cc;
+  none = refl;
+  path_is = λ file. refl;
+  given_is = λ file. refl;
+  step = refl;
+  end = λ file. refl;
+}
+
 two_takes : (name : Text) → TakesTwo (leaf name text_and_path)
 unfolding clap_on_literals
 two_takes name = record {
@@ -459,10 +470,12 @@ three_passes name = record { first = refl; second = λ x. refl; third = λ x y. 
 -- what a command finds in words that it takes are their values
 pub found_given : (name : Text) (kind : Kind) (list : List Text) (given : Given) → has_option list ≡ false → walk_fault (leaf name kind) [] (at idle 1 nothing_held) list ≡ []
     → found_values kind (rows_after (leaf name kind).rules [] list) ≡ Some given → given_by kind list ≡ Some given
-found_given name path_alone list given plain none found = path_word name list given plain none found
+found_given name path_alone list given plain none found = path_word (leaf name path_alone) path_alone path (path_takes name) list given plain none found
 found_given name text_and_path list given plain none found = two_words (leaf name text_and_path) (two_takes name) list given plain none found
 found_given name texts_and_path list given plain none found = three_words (leaf name texts_and_path) (three_takes name) list given plain none found
 found_given name path_and_words list given plain none found = many_words name list given plain found
+found_given name (path_and_options long short) list given plain none found =
+    path_word (leaf name (path_and_options long short)) (path_and_options long short) no_options (options_take name long short) list given plain none found
 
 -- it takes the words of its values, and finds these
 pub record TakesGiven (name : Text) (kind : Kind) (list : List Text) (given : Given) : Type 0 where
@@ -474,7 +487,9 @@ pub takes_given : (name : Text) (kind : Kind) (list : List Text) (given : Given)
 takes_given name path_alone [] given plain fits is = absurd (cc)
 takes_given name path_alone (file ∷ []) given plain fits is =
     let p = (first_value file [] plain).0 in
-    record { passes = path_passes name file p; found = path_found name file p ∙ is }
+    let s : Shape = leaf name path_alone in
+    let t = path_takes name in
+    record { passes = path_passes s path_alone path t file p; found = path_found s path_alone path t file p ∙ is }
 takes_given name path_alone (file ∷ word ∷ rest) given plain fits is = absurd (cc)
 takes_given name text_and_path [] given plain fits is = absurd (cc)
 takes_given name text_and_path (x ∷ []) given plain fits is = absurd (cc)
@@ -497,3 +512,11 @@ takes_given name texts_and_path (x ∷ y ∷ z ∷ u ∷ rest) given plain fits 
 takes_given name path_and_words [] given plain fits is = absurd (cc)
 takes_given name path_and_words (file ∷ list) given plain fits is =
     record { passes = many_pass name file list plain (omega arith); found = many_found name file list plain ∙ is }
+takes_given name (path_and_options long short) [] given plain fits is = absurd (cc)
+takes_given name (path_and_options long short) (file ∷ []) given plain fits is =
+    let p = (first_value file [] plain).0 in
+    let kind : Kind = path_and_options long short in
+    let s : Shape = leaf name kind in
+    let t = options_take name long short in
+    record { passes = path_passes s kind no_options t file p; found = path_found s kind no_options t file p ∙ is }
+takes_given name (path_and_options long short) (file ∷ word ∷ rest) given plain fits is = absurd (cc)

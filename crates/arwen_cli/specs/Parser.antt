@@ -1,5 +1,5 @@
 -- What the parser of lines is told of a first word's commands, and what is made of what it finds.
-use Rattle.std.specs.Prelude.{◌≡◌, Bool, true, false, List, [], ◌∷◌, Option, Some, None, codes, map, not}
+use Rattle.std.specs.Prelude.{ℕ, ◌≡◌, Bool, true, false, List, [], ◌∷◌, Option, Some, None, codes, map, not}
 use Rattle.std.specs.Prelude.{option_and_then, option_map, unwrap_or}
 use Rattle.std.specs.List.{list_all}
 use Rattle.std.specs.Str.{bytes_eq}
@@ -10,9 +10,9 @@ use Rattle.clap.specs.declared.builder.command.Command.TheViews.{out-Command}
 use Rattle.clap.specs.declared.builder.action.ArgAction.TheVariants.{Append}
 use Rattle.clap.specs.declared.parser.matches.ArgMatches.{ArgMatches}
 use Rattle.clap.specs.Lexer.{usize_max}
-use Rattle.arwen_commands.specs.Rows.{Given, Kind, Line, Named, Text, meant_with, named, named_of, path}
-use Rattle.arwen_commands.specs.Rows.{path_alone, path_and_words, text, text_and_path, texts}
-use Rattle.arwen_commands.specs.Rows.{texts_and_path, words}
+use Rattle.arwen_commands.specs.Rows.{Given, Kind, Line, Named, Text, meant_with, named, named_of, options}
+use Rattle.arwen_commands.specs.Rows.{path, path_alone, path_and_options, path_and_words, text}
+use Rattle.arwen_commands.specs.Rows.{text_and_path, texts, texts_and_path, words}
 use Rattle.arwen_commands.specs.Rows.{given_shown}
 use Rattle.arwen_commands.specs.declared.rows.Values.{Values}
 use Rattle.std.specs.Borrow.{Bor}
@@ -37,6 +37,16 @@ values_rule id = record (new_rule id) {
   value_names = 1;
 }
 
+-- an option of these two names, with one value each time that it is given, and given any number of
+-- times
+abbrev pub option_rule : Text → Text → ℕ → Rule
+option_rule id long short = record (new_rule id) {
+  long = Some long;
+  short = Some short;
+  action = Some Append;
+  value_names = 1;
+}
+
 -- the values by their places
 abbrev pub path_id : Text
 path_id = codes "path"
@@ -50,6 +60,10 @@ second_id = codes "second"
 abbrev pub words_id : Text
 words_id = codes "words"
 
+-- the values of an option
+abbrev pub options_id : Text
+options_id = codes "options"
+
 -- a command with such values
 abbrev pub leaf_app : Text → Kind → App
 leaf_app name path_alone = with_rule (new_app name) (value_rule path_id)
@@ -60,6 +74,8 @@ leaf_app name texts_and_path =
     (value_rule path_id)
 leaf_app name path_and_words =
     with_rule (with_rule (new_app name) (value_rule path_id)) (values_rule words_id)
+leaf_app name (path_and_options long short) =
+    with_rule (with_rule (new_app name) (value_rule path_id)) (option_rule options_id long short)
 
 abbrev pub leaf_of : Named → Shape
 leaf_of row = (leaf_app row.name row.kind).top
@@ -98,12 +114,18 @@ abbrev pub with_words : Option Text → Option (List Text) → Option Given
 with_words (Some file) list = Some (words file (unwrap_or list []))
 with_words None list = None
 
+abbrev pub with_options : Option Text → Option (List Text) → Option Given
+with_options (Some file) list = Some (options file (unwrap_or list []))
+with_options None list = None
+
 abbrev pub found_values : Kind → List Row → Option Given
 found_values path_alone rows = with_path (first_of path_id rows)
 found_values text_and_path rows = with_text (first_of first_id rows) (first_of path_id rows)
 found_values texts_and_path rows =
     with_texts (first_of first_id rows) (first_of second_id rows) (first_of path_id rows)
 found_values path_and_words rows = with_words (first_of path_id rows) (all_of words_id rows)
+found_values (path_and_options long short) rows =
+    with_options (first_of path_id rows) (all_of options_id rows)
 
 -- the command of a name that the parser found, with its values
 abbrev pub found_by : List Named → Text → List Row → Option (Text × Given)

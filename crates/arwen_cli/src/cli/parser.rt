@@ -7,12 +7,12 @@ ghost use Rattle.arwen_commands.specs.Fault.{IsOfLine};
 ghost use Rattle.arwen_commands.specs.Rows.{given_shown, kind_shown, row_shown, texts};
 ghost use Rattle.arwen_cli.specs.Parser.{IsTaken, Matches, MatchesBy, RefusesNone, MayRefuseFound, MayRefuseValues, first_id, found_by};
 ghost use Rattle.arwen_cli.specs.Parser.{found_values, has_globals, is_table, leaf_app, leaf_of, line_app};
-ghost use Rattle.arwen_cli.specs.Parser.{path_id, second_id, taken_shown, top_app, value_rule, values_rule};
-ghost use Rattle.arwen_cli.specs.Parser.{with_path, with_text, with_texts, with_words, words_id};
+ghost use Rattle.arwen_cli.specs.Parser.{option_rule, options_id, path_id, second_id, taken_shown, top_app, value_rule};
+ghost use Rattle.arwen_cli.specs.Parser.{values_rule, with_options, with_path, with_text, with_texts, with_words, words_id};
 
 use crate::cli::ArwenError;
 use crate::cli::line::{or_memory, or_usage, usage};
-use arwen_commands::{Form, Row, Value, Values, copies, find_row};
+use arwen_commands::{Form, Row, Value, ValueOption, Values, copies, find_row};
 use clap::error::ErrorKind;
 use clap::{Arg, ArgAction, ArgMatches, Error};
 use std::alloc::{AllocError, Global};
@@ -39,6 +39,9 @@ const SECOND: &str = "second";
 
 /// What the parser calls any number of words.
 const WORDS: &str = "words";
+
+/// What the parser calls the values of an option.
+const OPTIONS: &str = "options";
 
 /// The path, as help shows it.
 const FILE: Value = Value {
@@ -170,6 +173,7 @@ fn row_line<'a>(alloc: Global, row: &'a Row) -> Result<clap::Command<'a>, AllocE
         Form::Text(text) => text_line(alloc, line, FIRST, text),
         Form::Texts(first, second) => texts_line(alloc, line, first, second),
         Form::Words(words) => words_line(alloc, line, words),
+        Form::Options(option) => option_line(alloc, line, option),
     }
 }
 
@@ -246,6 +250,22 @@ fn words_line<'a>(
     line.arg(values(alloc, WORDS, words))
 }
 
+/// A command with the path as a further value, and an option.
+fn option_line<'a>(
+    alloc: Global,
+    line: clap::Command<'a>,
+    shown: &'a ValueOption,
+) -> Result<clap::Command<'a>, AllocError>
+    requires { has_globals line ≡ false }
+    ensures app { IfOk result (λ new. app_of new ≡ with_rule
+        (with_rule (app_of line.entry) (value_rule path_id))
+        (option_rule options_id shown.entry.now.long.now shown.entry.now.short)) }
+    ensures local { IfOk result (λ new. has_globals new ≡ false) }
+{
+    let line = path_line(alloc, line)?;
+    line.arg(option(alloc, OPTIONS, shown))
+}
+
 /// A command with its name and its help alone.
 fn named_line<'a>(alloc: Global, row: &'a Row) -> clap::Command<'a>
     ensures app { app_of result ≡ new_app row.entry.now.name.now }
@@ -280,6 +300,20 @@ fn values<'a>(alloc: Global, id: &'a str, value: &'a Value) -> Arg<'a>
         .num_args(0..)
         .value_name(value.name)
         .help(value.help)
+}
+
+/// An option with a value. It may be given any number of times, with a value each time.
+fn option<'a>(alloc: Global, id: &'a str, shown: &'a ValueOption) -> Arg<'a>
+    ensures rule { rule_of result
+        ≡ option_rule id.entry.now shown.entry.now.long.now shown.entry.now.short }
+    ensures local { result.global ≡ false }
+{
+    Arg::new(alloc, id)
+        .long(shown.long)
+        .short(shown.short)
+        .action(ArgAction::Append)
+        .value_name(shown.value.name)
+        .help(shown.value.help)
 }
 
 /// The name and the values of a command that was found, or the usage text as the fault of a line.
@@ -330,6 +364,7 @@ fn read_values(
         Form::Text(_) => read_text(alloc, matches),
         Form::Texts(..) => read_texts(alloc, matches),
         Form::Words(_) => read_words(alloc, matches),
+        Form::Options(_) => read_options(alloc, matches),
     }
 }
 
@@ -394,6 +429,19 @@ fn read_words(alloc: Global, matches: &ArgMatches<'_>) -> Result<Option<Values>,
     };
     let words = texts_of(alloc, matches, WORDS)?;
     Ok(Some(Values::Words(String::from_str(alloc, path)?, words)))
+}
+
+/// The path and the values of an option.
+fn read_options(alloc: Global, matches: &ArgMatches<'_>) -> Result<Option<Values>, AllocError>
+    ensures { IfOk result (λ values. option_map given_shown values
+        ≡ with_options (first_of path_id (rows_of (found_of matches.now)))
+        (all_of options_id (rows_of (found_of matches.now)))) }
+{
+    let Some(path) = text_of(matches, PATH) else {
+        return Ok(None);
+    };
+    let list = texts_of(alloc, matches, OPTIONS)?;
+    Ok(Some(Values::Options(String::from_str(alloc, path)?, list)))
 }
 
 /// The text of a value, where it is there.
