@@ -1,5 +1,5 @@
 -- What edits of an ELF file keep and show, and which answers tell why there are no bytes.
-use Rattle.std.proofs.Common.{◌≡◌, ◌+◌, [], ◌∷◌, ◌∙◌, Bool, ℕ, List, Option, Some, Result, Ok, Err, true, false, refl, sym, ap, subst, inl, inr}
+use Rattle.std.proofs.Common.{◌≡◌, ◌+◌, [], ◌∷◌, ◌∙◌, Bool, ℕ, List, Some, Result, Ok, Err, true, false, refl, sym, ap, subst, inl, inr}
 use Rattle.std.specs.declared.alloc.Global.{Global}
 use Rattle.std.specs.declared.vec.Vec.{Vec}
 use Rattle.elf_format.specs.declared.header.Header.{Header}
@@ -17,10 +17,11 @@ use Rattle.arwen_elf.specs.Written.{IsEditWritten, IsImageWritten, IsNoImage}
 use Rattle.arwen_elf.specs.declared.elf.rewriter.batch.ElfBatchError.{ElfBatchError}
 use Rattle.arwen_elf.specs.declared.elf.rewriter.error.ElfError.{ElfError}
 use Rattle.arwen_elf.specs.declared.elf.rewriter.error.ElfError.TheVariants as elf
-use Rattle.arwen_commands.specs.ElfAsked.{ElfAsked, asks_edits, one, printing, several, shrinking}
-use Rattle.arwen_commands.specs.ElfStores.{IsElfPatched}
+use Rattle.arwen_commands.specs.ElfAsked.{ElfAsked, one, printing, several, shrinking}
+use Rattle.arwen_commands.specs.ElfStores.{ChangesNothing}
+use Rattle.byte_store.specs.Composed.{made_of}
+use Rattle.byte_store.specs.declared.composed.Difference.{Difference}
 use Rattle.arwen_commands.specs.Rows.{Text}
-use Rattle.byte_store.specs.Known.{Stays}
 use Rattle.arwen_commands.specs.ElfEngine.{AreEditsAsked, IsElfEdited, LeavesElf, Makes, MayFailAs, ShowsEdits, TellsEachFile, TellsEdit, TellsElfOf, TellsRun, elf_refusal}
 use Rattle.arwen_commands.specs.Fault.{answer_to_elf, answer_to_elf_fault}
 use Rattle.arwen_commands.specs.Prints.{PrintMayFail, TellsElf}
@@ -56,8 +57,8 @@ run_keeps edits_show done (edit ∷ edits) old new runs =
     then_keeps edits_show done edit old new (run_from (done + 1) edits) (step edit old) refl (λ mid more. run_keeps edits_show (done + 1) edits mid new more) runs
 
 -- an image that was read, and then edited, has the file as its source
-made_source : EditsShow → ReadImagesHoldParts → (edits : List Edit) (file : List ℕ) (read made : Image) → image_of file ≡ Ok read → run edits read ≡ Ok made → made.source ≡ file
-made_source edits_show hold_parts edits file read made is runs =
+pub source_is : EditsShow → ReadImagesHoldParts → (edits : List Edit) (file : List ℕ) (read made : Image) → image_of file ≡ Ok read → run edits read ≡ Ok made → made.source ≡ file
+source_is edits_show hold_parts edits file read made is runs =
     let (p, accepted, parts, rules, holds) = hold_parts file read is in
     (run_keeps edits_show 0 edits read made runs).source ∙ holds.source ∙ parts.same_file
 
@@ -67,8 +68,8 @@ made_source edits_show hold_parts edits file read made is runs =
 pub is_marked : (made seen : Image) (asked mark : Bool) → seen ≡ made → asked ≡ seen.changed → asked ≡ mark → made.changed ≡ mark
 is_marked made seen asked mark same is found = ap (λ (i : Image). i.changed) (sym same) ∙ sym is ∙ found
 
-pub made_of : (edits : List Edit) (file : List ℕ) (read made : Image) → image_of file ≡ Ok read → run edits read ≡ Ok made → Makes edits file made
-made_of edits file read made is runs = record { read = read; is_read = is; runs = runs }
+pub made_of_edits : (edits : List Edit) (file : List ℕ) (read made : Image) → image_of file ≡ Ok read → run edits read ≡ Ok made → Makes edits file made
+made_of_edits edits file read made is runs = record { read = read; is_read = is; runs = runs }
 
 -- the file is left as it was
 pub leaves_file : EditsShow → ReadImagesHoldParts → (a : ElfAsked) (edits : List Edit) (file : List ℕ) (read made : Image) → AreEditsAsked a edits
@@ -78,8 +79,8 @@ leaves_file edits_show hold_parts a edits file read made are is runs same = reco
   are = are;
   left = record {
     made = made;
-    makes = made_of edits file read made is runs;
-    written = record { unchanged = λ _. sym (made_source edits_show hold_parts edits file read made is runs); edited = λ other. absurd (cc) };
+    makes = made_of_edits edits file read made is runs;
+    written = record { unchanged = λ _. sym (source_is edits_show hold_parts edits file read made is runs); edited = λ other. absurd (cc) };
   };
 }
 
@@ -103,7 +104,7 @@ edited_to edits_show batches a edits file read made new are is views runs other 
   are = are;
   edited = record {
     made = made;
-    makes = made_of edits file read made is runs;
+    makes = made_of_edits edits file read made is runs;
     unchanged = λ same. absurd (cc);
     changed = λ _. (new, refl, written.edited other);
   };
@@ -239,26 +240,47 @@ may_fail (shrinking prefixes) file e tells =
     let P : ArwenError → Type 0 = λ x. MayFailAs (shrinking prefixes) x in subst P (sym (only_memory prefixes file e tells)) tt
 may_fail (one edit) file Memory tells = tt
 may_fail (one edit) file (Io e) tells = tt
-may_fail (one edit) file (Edits wrong) tells = (file, [], tells)
-may_fail (one edit) file (Elf e) tells = (file, [], tells)
-may_fail (one edit) file (ElfBatch e) tells = (file, [], tells)
-may_fail (one edit) file (Line text status) tells = (file, [], tells)
-may_fail (one edit) file (Macho e) tells = (file, [], tells)
-may_fail (one edit) file (MachoBatch e) tells = (file, [], tells)
+may_fail (one edit) file (Edits wrong) tells = (file, ([], tells))
+may_fail (one edit) file (Elf e) tells = (file, ([], tells))
+may_fail (one edit) file (ElfBatch e) tells = (file, ([], tells))
+may_fail (one edit) file (Line text status) tells = (file, ([], tells))
+may_fail (one edit) file (Macho e) tells = (file, ([], tells))
+may_fail (one edit) file (MachoBatch e) tells = (file, ([], tells))
 may_fail (several read) file Memory tells = tt
 may_fail (several read) file (Io e) tells = tt
-may_fail (several read) file (Edits wrong) tells = (file, [], tells)
-may_fail (several read) file (Elf e) tells = (file, [], tells)
-may_fail (several read) file (ElfBatch e) tells = (file, [], tells)
-may_fail (several read) file (Line text status) tells = (file, [], tells)
-may_fail (several read) file (Macho e) tells = (file, [], tells)
-may_fail (several read) file (MachoBatch e) tells = (file, [], tells)
+may_fail (several read) file (Edits wrong) tells = (file, ([], tells))
+may_fail (several read) file (Elf e) tells = (file, ([], tells))
+may_fail (several read) file (ElfBatch e) tells = (file, ([], tells))
+may_fail (several read) file (Line text status) tells = (file, ([], tells))
+may_fail (several read) file (Macho e) tells = (file, ([], tells))
+may_fail (several read) file (MachoBatch e) tells = (file, ([], tells))
 
--- ## A command that asks for no edits
+-- ## What differs
 
--- it leaves the bytes of a store
-pub unpatched : (a : ElfAsked) (old new : Option (List ℕ)) → asks_edits a ≡ false → Stays old new → IsElfPatched a old new
-unpatched (one edit) old new none kept = absurd (cc)
-unpatched (several edits) old new none kept = absurd (cc)
-unpatched (shrinking prefixes) old new none kept = kept
-unpatched printing old new none kept = kept
+-- a difference that makes the bytes of the edited image
+pub leaves_pieces : (a : ElfAsked) (edits : List Edit) (file : List ℕ) (read made : Image) (d : Difference) → AreEditsAsked a edits → image_of file ≡ Ok read → run edits read ≡ Ok made → made.source ≡ file → IsImageWritten made (made_of made.source d) → LeavesElf a file (made_of file d)
+leaves_pieces a edits file read made d are is runs source written = record {
+  edits = edits;
+  are = are;
+  left = record {
+    made = made;
+    makes = made_of_edits edits file read made is runs;
+    written = let P : List ℕ → Type 0 = λ l. IsImageWritten made (made_of l d) in subst P source written;
+  };
+}
+
+same_edits : (a : ElfAsked) (edits others : List Edit) → AreEditsAsked a edits → AreEditsAsked a others → edits ≡ others
+same_edits (one edit) edits others are too = are ∙ sym too
+same_edits (several read) edits others are too = let e : Ok edits ≡ Ok others = sym are ∙ too in cc
+same_edits (shrinking prefixes) edits others are too = absurd are
+same_edits printing edits others are too = absurd are
+
+-- where the edits find nothing to change, no image that they make is marked
+pub stays_unmarked : (a : ElfAsked) (edits : List Edit) (file : List ℕ) (read made : Image) → AreEditsAsked a edits → image_of file ≡ Ok read → run edits read ≡ Ok made → ChangesNothing a file → made.changed ≡ false
+stays_unmarked a edits file read made are is runs nothing =
+    let first : edits ≡ nothing.edits = same_edits a edits nothing.edits are nothing.are in
+    let started : Ok read ≡ Ok nothing.makes.read = sym is ∙ nothing.makes.is_read in
+    let at : read ≡ nothing.makes.read = cc in
+    let ended : Ok made ≡ Ok nothing.made = sym runs ∙ ap (λ (l : List Edit). run l read) first ∙ ap (run nothing.edits) at ∙ nothing.makes.runs in
+    let same : made ≡ nothing.made = cc in
+    ap (λ (i : Image). i.changed) same ∙ nothing.same

@@ -1,10 +1,14 @@
 -- What commands for ELF files make of the bytes of a store, where they are known.
-use Rattle.std.specs.Prelude.{ℕ, ◌≡◌, ◌⊎◌, List, Option, Some, ⊤}
+use Rattle.std.specs.Prelude.{ℕ, ◌≡◌, ◌⊎◌, List, Option, Some, false, ⊤}
 use Rattle.byte_store.specs.Known.{Stays}
-use Rattle.byte_store.specs.Replaced.{IsReplacedInPart}
+use Rattle.byte_store.specs.Composed.{made_of, owned_patches}
+use Rattle.byte_store.specs.Fault.{IsLeft}
+use Rattle.byte_store.specs.declared.composed.Difference.{Difference}
 use Rattle.byte_store.specs.declared.writing.Left.{Left}
 use Rattle.arwen_commands.specs.ElfAsked.{ElfAsked, printing, shrinking}
-use Rattle.arwen_commands.specs.ElfEngine.{LeavesElf, TellsEdit}
+use Rattle.elf_edits.specs.Edit.{Edit}
+use Rattle.elf_image.specs.Image.{Image}
+use Rattle.arwen_commands.specs.ElfEngine.{AreEditsAsked, LeavesElf, Makes, TellsEdit}
 use Rattle.arwen_commands.specs.declared.error.ArwenError.{ArwenError}
 use Rattle.arwen_commands.specs.declared.error.ArwenError.TheVariants.{Io}
 
@@ -17,10 +21,18 @@ IsElfPatched a old new = (file : List ℕ) → old ≡ Some file
 
 -- A run of writes that failed: it was to turn a file into what the edits make of it.
 pub record IsElfTorn (a : ElfAsked) (file : List ℕ) (old new : Option (List ℕ)) : Type 0 where
-  pub made : List ℕ
-  pub leaves : LeavesElf a file made
+  pub difference : Difference
+  pub leaves : LeavesElf a file (made_of file difference)
   pub left : Left
-  pub part : IsReplacedInPart file made left old new
+  pub part : IsLeft left difference.growth.items (owned_patches difference.pieces.items) old new
+
+-- The edits that are asked for find nothing to change in a file.
+pub record ChangesNothing (a : ElfAsked) (file : List ℕ) : Type 0 where
+  pub edits : List Edit
+  pub are : AreEditsAsked a edits
+  pub made : Image
+  pub makes : Makes edits file made
+  pub same : made.changed ≡ false
 
 -- what an error leaves and tells: only a write that failed changes bytes, where the command was accepted
 abbrev pub FailsElf : ElfAsked → Option (List ℕ) → Option (List ℕ) → ArwenError → Type 0

@@ -208,6 +208,7 @@ pub(crate) fn values_without_path(
             Ok(Some(Values::Texts(first, second, path)))
         }
         (Form::Words(_), words) => Ok(Some(Values::Words(path, copies(alloc, words)?))),
+        (Form::Options(_), []) => Ok(Some(Values::Options(path, Vec::new(alloc)))),
         _ => Ok(None),
     }
 }

@@ -1,22 +1,26 @@
 //! Edits of the bytes of stores.
-ghost use Rattle.std.specs.Prelude.{IfErr, IfOk, OnOk};
+ghost use Rattle.std.specs.Prelude.{◌≡◌, IfErr, IfOk, OnOk, length};
+ghost use Rattle.byte_store.specs.Known.{HasLength, IsAll};
 ghost use Rattle.arwen_commands.specs.ElfAsked.{elf_asked};
-ghost use Rattle.arwen_commands.specs.ElfEngine.{ElfMayFail};
-ghost use Rattle.arwen_commands.specs.ElfStores.{FailsElf, IsElfPatched, TellsElfPath};
+ghost use Rattle.arwen_commands.specs.ElfEngine.{AreEditsAsked, ElfMayFail};
+ghost use Rattle.arwen_commands.specs.ElfStores.{ChangesNothing, FailsElf, IsElfPatched, TellsElfPath};
+ghost use Rattle.arwen_commands.specs.ElfWords.{edits_meant};
 ghost use Rattle.arwen_commands.specs.Meaning.{elf_file_of, elf_shown};
 
 use crate::command::ElfCommand;
-use crate::elf::engine::{edited, edits_asked};
+use crate::elf::engine::{edited_pieces, edits_asked};
 use crate::elf::load_elf;
 use crate::error::ArwenError;
-use byte_store::{Opens, RuntimeFiles, Store, replace};
+use byte_store::{Opens, RuntimeFiles, Store, make_difference};
+use elf_edits::ElfEdit;
 use std::alloc::Global;
 use std::rt::Files;
 
 /// Edits the bytes of a store in their place, which are read whole, as `print_store` reads them. Only blocks
-/// that differ are written, after all that may be refused or wants memory; an edit that changes nothing
-/// does not open the store for writing. A refusal, and an error of a read, leave the bytes as they were; a
-/// write that fails leaves what `replace` says. A command that prints leaves the store as it is.
+/// that differ are written, after all that may be refused or wants memory, and no second copy of the bytes is
+/// made; an edit that changes nothing does not open the store for writing. A refusal, and an error of a read,
+/// leave the bytes as they were; a write that fails leaves what `make_difference` says. A command that prints,
+/// or that asks first what is found, leaves the store as it is.
 pub fn edit_store<S: Store>(
     alloc: Global,
     store: &mut S,
@@ -32,10 +36,31 @@ pub fn edit_store<S: Store>(
     let Some(edits) = edits_asked(alloc, command)? else {
         return Ok(());
     };
-    match edited(alloc, bytes.as_slice(), command, edits.as_slice())? {
-        Some(new) => Ok(replace(alloc, store, bytes.as_slice(), new.as_slice())?),
-        None => Ok(()),
-    }
+    edit_loaded(alloc, store, bytes.as_slice(), command, edits.as_slice())
+}
+
+/// Makes the edits that a command asks for in a store that has these bytes. Edits that find nothing to change
+/// leave the very store, which is not opened for writing.
+fn edit_loaded<S: Store>(
+    alloc: Global,
+    store: &mut S,
+    bytes: &[u8],
+    command: &ElfCommand,
+    edits: &[ElfEdit],
+) -> Result<(), ArwenError>
+    requires asked { AreEditsAsked (elf_asked (elf_shown command.now)) (edits_meant edits.now) }
+    requires whole { IsAll (S.contents store.old) bytes.now }
+    requires length { HasLength (S.contents store.old) (length bytes.now) }
+    ensures patched { OnOk result (IsElfPatched (elf_asked (elf_shown command.now))
+        (S.contents store.old) (S.contents store.new)) }
+    ensures err { IfErr result (λ e. ElfMayFail (elf_shown command.now) e) }
+    ensures left { IfErr result (FailsElf (elf_asked (elf_shown command.now))
+        (S.contents store.old) (S.contents store.new)) }
+    ensures idle { ChangesNothing (elf_asked (elf_shown command.now)) bytes.now
+        → OnOk result (store.new ≡ store.old) }
+{
+    let difference = edited_pieces(alloc, bytes, command, edits)?;
+    Ok(make_difference(alloc, store, bytes.len() as u64, &difference)?)
 }
 
 /// Edits the bytes of the store at the command's path, as `edit_store` does, and hands the store back.

@@ -1,6 +1,9 @@
 //! What is made of a file's bytes, and printed of them.
 ghost use Rattle.std.specs.Prelude.{◌≡◌, None, IfOk, IfErr};
 ghost use Rattle.std.specs.Io.KnownBytes.{Appends};
+ghost use Rattle.byte_store.specs.Composed.{IsDifference, made_of};
+ghost use Rattle.arwen_elf.specs.Written.{IsNoDifference};
+ghost use Rattle.arwen_commands.specs.ElfStores.{ChangesNothing};
 ghost use Rattle.arwen_elf.specs.Causes.{FailsPrint};
 ghost use Rattle.elf_image.specs.Image.{image_of, shown};
 ghost use Rattle.arwen_commands.specs.ElfAsked.{elf_asked};
@@ -14,6 +17,7 @@ use crate::elf_words::parse_elf_edits;
 use crate::engine::words_of;
 use crate::error::ArwenError;
 use arwen_elf::elf::{ElfBatchError, ElfContainer, ElfError};
+use byte_store::Difference;
 use elf_edits::ElfEdit;
 use elf_edits::laws::{batches_are_their_edits, edits_show};
 use elf_image::laws::read_images_hold_parts;
@@ -99,6 +103,30 @@ pub(crate) fn edited(
         return Ok(None);
     }
     Ok(Some(elf.image_bytes(alloc)?))
+}
+
+/// What of the bytes of a file differs after the edits that a command asks for.
+pub(crate) fn edited_pieces(
+    alloc: Global,
+    bytes: &[u8],
+    command: &ElfCommand,
+    edits: &[ElfEdit],
+) -> Result<Difference, ArwenError>
+    requires { AreEditsAsked (elf_asked (elf_shown command.now)) (edits_meant edits.now) }
+    ensures makeable { IfOk result (λ d. IsDifference bytes.now d) }
+    ensures left { IfOk result (λ d. LeavesElf (elf_asked (elf_shown command.now)) bytes.now
+        (made_of bytes.now d)) }
+    ensures err { IfErr result (TellsEdit (elf_asked (elf_shown command.now)) bytes.now) }
+    ensures idle { ChangesNothing (elf_asked (elf_shown command.now)) bytes.now
+        → IfOk result (IsNoDifference bytes.now) }
+{
+    edits_show();
+    read_images_hold_parts();
+    let mut elf = ElfContainer::parse(alloc, bytes)?;
+    if let Err(error) = elf.apply(alloc, edits) {
+        return Err(refusal(command, error));
+    }
+    Ok(elf.image_pieces(alloc)?)
 }
 
 /// A refused edit as it is answered to a command. Of several it is told which one is refused.

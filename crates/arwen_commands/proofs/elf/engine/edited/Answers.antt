@@ -4,7 +4,7 @@ use Rattle.elf_edits.specs.Edit.{Edit}
 use Rattle.arwen_commands.specs.ElfAsked.{ElfAsked, elf_asked}
 use Rattle.arwen_commands.specs.ElfWords.{edits_meant}
 use Rattle.arwen_commands.specs.Meaning.{elf_shown}
-use Rattle.arwen_commands.proofs.ElfOutcomes.{edited_to, is_marked, leaves_file, made_of, tells_no_image, tells_refused}
+use Rattle.arwen_commands.proofs.ElfOutcomes.{edited_to, is_marked, leaves_file, made_of_edits, tells_no_image, tells_refused}
 use Rattle.arwen_commands.proofs.elf.engine.edited.Goals as goal
 
 pub returns-in-Err-clause-err : goal.returns-in-Err-clause-err
@@ -25,7 +25,7 @@ returns-in_err-image_bytes-clause-err c =
     let a : ElfAsked = elf_asked (elf_shown c.args.command.now) in
     let edits : List Edit = edits_meant c.args.edits.now in
     let p = err_from_is_err_and c.from_residual-in_err-image_bytes.result c.from_residual-in_err-image_bytes.ensures.1 in
-    let makes = made_of edits c.args.bytes.now c.in_ok-elf.elf.inner _ c.in_ok-elf.ensures.reads.0 c.in_default.ensures.takes.0 in
+    let makes = made_of_edits edits c.args.bytes.now c.in_ok-elf.elf.inner _ c.in_ok-elf.ensures.reads.0 c.in_default.ensures.takes.0 in
     rw (p.1, p.2) (tells_no_image a edits c.args.bytes.now _ _ c.requires makes c.in_err-image_bytes.ensures.fault)
 
 pub returns-clause-ok : goal.returns-clause-ok
