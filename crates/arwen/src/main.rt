@@ -9,7 +9,7 @@ use std::rt::{Env, Files};
 use std::{env, io};
 
 /// Reads the words behind the program's name and does what they ask.
-fn run<R: Env + Files + Print + AllocGlobal>(rt: &R) -> Result<(), ArwenError> {
+fn run<R: Env + Files + Print + Eprint + AllocGlobal>(rt: &R) -> Result<(), ArwenError> {
     let words = given_words(rt)?;
     let mut texts = Vec::with_capacity(rt.alloc(), words.len())?;
     for word in words.as_slice() {

@@ -1,7 +1,7 @@
 //! The calls that work on bytes and on a writer, and touch no file.
 use crate::changes::print_rows;
 use crate::{tell, tell_answer};
-use arwen_cli::cli::{ArwenError, ElfCommand, MachoCommand, Probe, run_elf, run_macho};
+use arwen_cli::cli::{ArwenError, ElfCommand, MachoCommand, run_elf, run_macho};
 use std::io;
 use std::io::{Cursor, Write};
 
@@ -21,16 +21,6 @@ fn edited(rt: &HostRuntime, bytes: &[u8], command: &MachoCommand) -> Result<Vec<
     match run_macho(rt.alloc(), bytes, command) {
         Err(ArwenError::Memory) => run_macho(rt.alloc(), bytes, command),
         answer => answer,
-    }
-}
-
-/// Finds no library.
-#[derive(Drop)]
-struct NoLibraries;
-
-impl Probe for NoLibraries {
-    fn machine(&mut self, _directory: &[u8], _needed: &[u8]) -> Option<u16> {
-        None
     }
 }
 
@@ -68,15 +58,16 @@ fn print_text(rt: &HostRuntime, sheet: &Sheet) -> io::Result<()> {
     print!(rt; "{}", std::str::from_utf8(printed).unwrap_or(""))
 }
 
-/// The answer of a command, asked for again where memory was refused: that leaves the writer as it was.
+/// The answer of a command to which no answers are handed in, so that it finds no library. It is asked for again where
+/// memory was refused: that leaves the writer as it was.
 fn run<W: Write>(
     rt: &HostRuntime,
     bytes: &[u8],
     command: &ElfCommand,
     page: &mut W,
 ) -> Result<Option<Vec<u8>>, ArwenError> {
-    match run_elf(rt.alloc(), bytes, command, &mut NoLibraries, page) {
-        Err(ArwenError::Memory) => run_elf(rt.alloc(), bytes, command, &mut NoLibraries, page),
+    match run_elf(rt.alloc(), bytes, command, &[], page) {
+        Err(ArwenError::Memory) => run_elf(rt.alloc(), bytes, command, &[], page),
         answer => answer,
     }
 }

@@ -5,7 +5,10 @@ ghost use Rattle.arwen_cli.specs.Line.{LineMayFail, has_option, meaning_of};
 mod line;
 mod parser;
 
-pub use arwen_commands::elf::{Probe, edit_path, edit_store, print_path, print_store, run_elf};
+pub use arwen_commands::elf::{
+    FileProbe, Probe, edit_path, edit_store, print_path, print_store, run_elf, shrink_path,
+    shrink_store,
+};
 pub use arwen_commands::{
     ArwenError, Command, EditFault, EditKind, EditsError, ElfCommand, FaultLine, KeyValueError,
     MOST_BYTES, MachoCommand, add, apply, change, delete, elf, install_id, install_name,
@@ -17,7 +20,10 @@ use std::rt::Files;
 
 /// Does what the words behind the program's name ask. A line that asks for help, and one that is
 /// wrong, is answered by `ArwenError::Line`.
-pub fn execute<R: Files + Print + AllocGlobal>(rt: &R, words: &[&str]) -> Result<(), ArwenError>
+pub fn execute<R: Files + Print + Eprint + AllocGlobal>(
+    rt: &R,
+    words: &[&str],
+) -> Result<(), ArwenError>
     ensures ok { OnOk result (has_option (map (λ w. w.now) words.now) ≡ false
         → IsSome (meaning_of (map (λ w. w.now) words.now))) }
     ensures err { IfErr result (λ e. has_option (map (λ w. w.now) words.now) ≡ false

@@ -115,7 +115,7 @@ edited_to edits_show batches a edits file read made new are is views runs other 
 
 -- ## Why there are no bytes
 
-one_refused : (edit : Edit) (file : List ℕ) (read : Image) (index : ℕ) (e : ElfError) → image_of file ≡ Ok read → RefusesAt index e (run (edit ∷ []) read) → TellsEdit (one edit) file (answer_to_elf e)
+pub one_refused : (edit : Edit) (file : List ℕ) (read : Image) (index : ℕ) (e : ElfError) → image_of file ≡ Ok read → RefusesAt index e (run (edit ∷ []) read) → TellsEdit (one edit) file (answer_to_elf e)
 one_refused edit file read index elf.Memory is refuses = tt
 one_refused edit file read index (elf.Modify cause) is refuses = inr (inl (index, record { read = read; is_read = is; refused = refuses }))
 one_refused edit file read index (elf.Parse fault) is refuses = absurd refuses

@@ -7,3 +7,4 @@ pub mod RowLemmas
 pub mod StoreLaws
 pub mod ValueLemmas
 pub mod WordLemmas
+pub mod ShrinkLaws

@@ -12,3 +12,4 @@ pub mod ElfAsked
 pub mod ElfEngine
 pub mod ElfStores
 pub mod Shrinking
+pub mod ShrinkRuns

@@ -15,6 +15,7 @@ mod editing;
 mod engine;
 pub mod force_rpath;
 pub mod no_default_lib;
+mod notes;
 pub mod print_execstack;
 pub mod print_interpreter;
 pub mod print_needed;
@@ -32,6 +33,7 @@ pub mod set_page_size;
 pub mod set_rpath;
 pub mod set_soname;
 pub mod shrink_rpath;
+mod shrinking;
 
 use crate::command::ElfCommand;
 use crate::error::ArwenError;
@@ -40,16 +42,26 @@ use byte_store::{Opens, ReadError, RuntimeFiles, Store, load_whole};
 pub(crate) use editing::edit_file;
 pub use editing::{edit_path, edit_store};
 use engine::print_bytes;
-pub use engine::{Probe, run_elf};
+pub use engine::run_elf;
+pub use probing::{FileProbe, Probe};
+use shrinking::shrink_file;
+pub use shrinking::{shrink_path, shrink_store};
 use std::alloc::Global;
 use std::io;
 use std::io::Write;
 use std::rt::Files;
 
-/// Does what is asked of an ELF file. What is printed goes to the standard output.
-pub fn execute<R: Files + Print + AllocGlobal>(rt: &R, elf: ElfCommand) -> Result<(), ArwenError>
+/// Does what is asked of an ELF file. What is printed goes to the standard output, and which directories
+/// `shrink-rpath` leaves out to the standard error.
+pub fn execute<R: Files + Print + Eprint + AllocGlobal>(
+    rt: &R,
+    elf: ElfCommand,
+) -> Result<(), ArwenError>
     ensures { IfErr result (λ e. ElfMayFail (elf_shown elf) e) }
 {
+    if let ElfCommand::ShrinkRpath(args) = &elf {
+        return shrink_file(rt, args);
+    }
     if elf.is_print() {
         print_file(rt, &elf)
     } else {

@@ -1,5 +1,7 @@
 //! What is made of a file's bytes, and printed of them.
-ghost use Rattle.std.specs.Prelude.{◌≡◌, None, IfOk, IfErr};
+ghost use Rattle.std.specs.Prelude.{◌≡◌, None, IfOk, IfErr, map};
+ghost use Rattle.elf_edits.specs.Called.{answer_held};
+ghost use Rattle.arwen_commands.specs.ShrinkRuns.{RunsCommand, TellsCommand};
 ghost use Rattle.std.specs.Io.KnownBytes.{Appends};
 ghost use Rattle.byte_store.specs.Composed.{IsDifference, made_of};
 ghost use Rattle.arwen_elf.specs.Written.{IsNoDifference};
@@ -13,10 +15,11 @@ ghost use Rattle.arwen_commands.specs.Meaning.{elf_shown};
 ghost use Rattle.arwen_commands.specs.Prints.{Prints, TellsElf, printed};
 
 use crate::command::ElfCommand;
+use crate::elf::shrinking::run_shrink;
 use crate::elf_words::parse_elf_edits;
 use crate::engine::words_of;
 use crate::error::ArwenError;
-use arwen_elf::elf::{ElfBatchError, ElfContainer, ElfError};
+use arwen_elf::elf::{ElfBatchError, ElfContainer, ElfError, ProbeAnswer};
 use byte_store::Difference;
 use elf_edits::ElfEdit;
 use elf_edits::laws::{batches_are_their_edits, edits_show};
@@ -24,23 +27,35 @@ use elf_image::laws::read_images_hold_parts;
 use std::alloc::Global;
 use std::io::Write;
 
-/// Looks for needed libraries in the directories of a run path.
-pub trait Probe {
-    /// The machine of the file that a directory of a run path has for a needed library (gABI, ELF
-    /// Header, `e_machine`); `None` where there is no such file, or where it is no ELF file.
-    fn machine(&mut self, directory: &[u8], needed: &[u8]) -> Option<u16>;
-}
-
 /// The bytes of a file after a command, or `None` where it stays as it was, as it does after each
 /// command that prints and where an edit changed nothing. New bytes show the edits, to a loader that
 /// knows the program headers alone too. What is printed goes to `out`, in one write: a file or a want of
 /// memory that is refused leaves `out` as it was. Of `apply` the words are read before the bytes are
-/// looked at. No command asks for a machine yet.
-pub fn run_elf<P: Probe, W: Write>(
+/// looked at. Of `shrink-rpath` the answers are handed in as `probe`, which no other command looks at: the
+/// first one for a directory and a library counts, and `out` gets a line for each directory that went.
+pub fn run_elf<W: Write>(
     alloc: Global,
     bytes: &[u8],
     command: &ElfCommand,
-    probe: &mut P,
+    probe: &[ProbeAnswer<'_>],
+    out: &mut W,
+) -> Result<Option<Vec<u8>>, ArwenError>
+    ensures ran { IfOk result (λ new. RunsCommand (elf_shown command.now)
+        (map answer_held probe.now) bytes.now new (W.contents out.old) (W.contents out.new)) }
+    ensures err { IfErr result (TellsCommand (elf_shown command.now)
+        (map answer_held probe.now) bytes.now out.old out.new) }
+{
+    match command {
+        ElfCommand::ShrinkRpath(args) => run_shrink(alloc, bytes, args, probe, out),
+        _ => run_unprobed(alloc, bytes, command, out),
+    }
+}
+
+/// The same of a command that asks for no answers.
+fn run_unprobed<W: Write>(
+    alloc: Global,
+    bytes: &[u8],
+    command: &ElfCommand,
     out: &mut W,
 ) -> Result<Option<Vec<u8>>, ArwenError>
     ensures ran { IfOk result (λ new. RunsElf (elf_shown command.now)
@@ -48,7 +63,6 @@ pub fn run_elf<P: Probe, W: Write>(
         (W.contents out.old) (W.contents out.new)) }
     ensures err { IfErr result
         (TellsRun (elf_asked (elf_shown command.now)) bytes.now out.old out.new) }
-    ensures unasked { probe.new ≡ probe.old }
 {
     match edits_asked(alloc, command)? {
         Some(edits) => edited(alloc, bytes, command, edits.as_slice()),

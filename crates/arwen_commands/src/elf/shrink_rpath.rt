@@ -4,7 +4,7 @@ ghost use Rattle.arwen_commands.specs.ElfEngine.{ElfMayFail};
 ghost use Rattle.arwen_commands.specs.Meaning.{elf_shown};
 
 use crate::command::ElfCommand;
-use crate::elf::edit_file;
+use crate::elf::shrinking::shrink_file;
 use crate::error::ArwenError;
 use std::rt::Files;
 
@@ -20,9 +20,9 @@ pub struct Args {
     pub allowed_rpath_prefixes: Vec<String>,
 }
 
-/// Edits the file.
-pub fn execute<R: Files + AllocGlobal>(rt: &R, args: Args) -> Result<(), ArwenError>
+/// Edits the file. Which directories went is told on the standard error.
+pub fn execute<R: Files + Eprint + AllocGlobal>(rt: &R, args: Args) -> Result<(), ArwenError>
     ensures { IfErr result (λ e. ElfMayFail (elf_shown (ElfCommand.ShrinkRpath args)) e) }
 {
-    edit_file(rt, &ElfCommand::ShrinkRpath(args))
+    shrink_file(rt, &args)
 }

@@ -3,7 +3,7 @@ use Rattle.std.proofs.Common.{refl}
 use Rattle.arwen_commands.specs.ElfAsked.{elf_asked}
 use Rattle.arwen_commands.specs.Meaning.{elf_shown}
 use Rattle.arwen_commands.proofs.ElfOutcomes.{tells_words}
-use Rattle.arwen_commands.proofs.elf.engine.run_elf.Goals as goal
+use Rattle.arwen_commands.proofs.elf.engine.run_unprobed.Goals as goal
 
 pub returns-in_err-edits-clause-err : goal.returns-in_err-edits-clause-err
 returns-in_err-edits-clause-err g c =
