@@ -15,10 +15,11 @@ use Rattle.elf_plan.specs.Rounds.{AreRounds}
 use Rattle.elf_plan.specs.Sizes.{fits_field}
 use Rattle.elf_plan.specs.Standing.{places, table_offset}
 use Rattle.elf_plan.specs.Written.{written_segments}
-use Rattle.elf_layout.specs.declared.rounds.Rounds.{Rounds}
+use Rattle.elf_moves.specs.declared.rounds.Rounds.{Rounds}
 use Rattle.elf_layout.specs.declared.standing.Standing.{Standing}
-use Rattle.elf_layout.specs.Inner.{AreParts, AreWritten, HasNoPlan, IsEnded, IsStanding, StandsTooFar}
-use Rattle.elf_layout.proofs.Positions.{moved_within}
+use Rattle.elf_moves.specs.Inner.{IsEnded}
+use Rattle.elf_layout.specs.Inner.{AreParts, AreWritten, HasNoPlan, IsStanding, StandsTooFar}
+use Rattle.elf_moves.proofs.ForCallers.{moved_within}
 
 abbrev pub made : List Place → List SegmentHeader → ℕ → ℕ → ℕ → ℕ → Layout
 made places segments e_phoff e_shoff rounds looked =

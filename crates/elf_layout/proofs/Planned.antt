@@ -8,8 +8,9 @@ use Rattle.elf_plan.specs.Plan.{IsOverlapping, IsPlan, IsTooLarge, Layout, most_
 use Rattle.elf_plan.specs.Refusals.{IsNoPlan, IsStuckAsked}
 use Rattle.elf_plan.specs.Rounds.{IsAsked}
 use Rattle.elf_plan.proofs.RoundLaws.{rounds_are_asked, rounds_end}
-use Rattle.elf_layout.specs.Inner.{HasNoPlan, IsNoEnd, IsResized}
-use Rattle.elf_layout.proofs.ImagesWithSizes.{resized_is}
+use Rattle.elf_moves.specs.Inner.{IsNoEnd, IsResized}
+use Rattle.elf_layout.specs.Inner.{HasNoPlan}
+use Rattle.elf_moves.proofs.ForCallers.{resized_is}
 
 pub plan_is : (r : Resized) → IsResized r → (plan : Layout) → IsPlan r plan → IsPlan (resized r.image) plan
 plan_is r is plan p = let P : Resized → Type 0 = λ s. IsPlan s plan in subst P (sym (resized_is r is)) p

@@ -33,10 +33,11 @@ use Rattle.elf_plan.specs.Written.{Target, address_for, behind_last_load, first_
 use Rattle.elf_layout.specs.declared.headings.Headings.{Headings}
 use Rattle.elf_layout.specs.declared.targets.TargetAt.{TargetAt}
 use Rattle.elf_layout.specs.declared.targets.Targets.{Targets}
-use Rattle.elf_layout.specs.Inner.{AreMarks, IsPastField, StandsTooFar, Told, notes, told}
-use Rattle.elf_layout.specs.Sections.{AreSized}
+use Rattle.elf_moves.specs.Inner.{AreMarks, Told, notes, told}
+use Rattle.elf_layout.specs.Inner.{IsPastField, StandsTooFar}
+use Rattle.elf_moves.specs.Sections.{AreSized}
 use Rattle.elf_layout.specs.Targets.{IsMisfit, Span, added_behind, do_headings_fit, does_table_fit, fits_word, header_at, headings_at, headings_for, headings_found, headings_seen, is_led_well, is_physical_well, is_well_at, left_behind, sized_table, span_over, span_step, span_with, target_of_span, targets_at, targets_found, targets_seen}
-use Rattle.elf_layout.proofs.FollowSteps.{AreThere, IsThere, any_move-is, leader-there, marked-is}
+use Rattle.elf_moves.proofs.ForCallers.{AreThere, IsThere, any_move-is, leader-there, marked-is}
 
 -- ## Several places
 

@@ -1,14 +1,7 @@
-pub mod BlockSteps
-pub mod Following
-pub mod ImageBlocks
 pub mod Inner
-pub mod Leading
-pub mod LookedSeen
 pub mod Loose
 pub mod Numbers
 pub mod Promises
 pub mod Refused
-pub mod Sections
-pub mod Seen
 pub mod Spots
 pub mod Targets

@@ -15,8 +15,8 @@ use Rattle.elf_layout.specs.declared.targets.Spread.{Spread}
 use Rattle.elf_layout.specs.declared.targets.TargetAt.{TargetAt}
 use Rattle.elf_layout.specs.declared.targets.Targets.{Targets}
 use Rattle.elf_layout.specs.declared.headings.Headings.{Headings}
-use Rattle.elf_layout.specs.Following.{do_any_move, is_marked}
-use Rattle.elf_layout.specs.Inner.{Told, itself, notes, section, table}
+use Rattle.elf_moves.specs.Following.{do_any_move, is_marked}
+use Rattle.elf_moves.specs.Inner.{Told, itself, notes, section, table}
 
 abbrev pub target_seen : TargetAt → Target
 target_seen t = record { part = range t.offset t.size; address = t.address }

@@ -8,11 +8,11 @@ ghost use Rattle.elf_layout.specs.Spots.{IsAdded, IsFar, load_here, none_yet, st
 
 use crate::flags::added_flags;
 use crate::memory::{load_alignment, memory_end};
-use crate::resizing::Resizing;
 use crate::sized::section_count;
 use crate::spots::{At, place_sections, round_up};
 use elf_format::constants::PT_LOAD;
 use elf_format::records::SegmentHeader;
+use elf_moves::resizing::Resizing;
 use elf_plan::LayoutFault;
 use std::alloc::{AllocError, Global};
 

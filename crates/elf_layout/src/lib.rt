@@ -1,26 +1,16 @@
-//! Where everything of an edited ELF file goes: which sections move, and where all of them stand.
+//! Where everything of an edited ELF file goes: where its sections stand, those that move too, its program headers and its
+//! header tables.
 #![tactic(auto)]
 
 mod added;
-mod blocks;
 mod flags;
-mod following;
 mod headings;
 pub mod layout;
-mod leaders;
-mod leading;
 mod limits;
 mod loose;
-mod marks;
 mod memory;
 pub mod moving;
-mod old_order;
 mod places;
-mod reading;
-mod resizing;
-mod rounds;
-mod sections;
-mod settling;
 mod sized;
 mod spots;
 mod standing;

@@ -5,10 +5,10 @@ ghost use Rattle.elf_plan.specs.Standing.{is_loose as is_loose_section};
 ghost use Rattle.elf_layout.specs.Loose.{IsLooseFault, loose_end, loose_offset, loose_offsets, loose_next};
 ghost use Rattle.elf_layout.specs.Numbers.{numbers_of};
 
-use crate::resizing::Resizing;
 use crate::sized::{SectionNumbers, section_count, section_here};
 use crate::spots::round_up;
 use elf_format::constants::{SHF_ALLOC, SHT_NOBITS, SHT_NULL};
+use elf_moves::resizing::Resizing;
 use elf_plan::LayoutFault;
 use std::alloc::Global;
 

@@ -9,10 +9,10 @@ ghost use Rattle.elf_plan.specs.Memory.{SizedSection, sized_sections};
 ghost use Rattle.elf_layout.specs.Numbers.{numbers_of};
 ghost use Rattle.elf_layout.specs.Spots.{end_at, has_memory, value_where};
 
-use crate::resizing::Resizing;
 use crate::sized::{SectionNumbers, section_count, sized_at};
 use elf_format::constants::{EM_MIPS, PT_LOAD, SHF_ALLOC, SHF_TLS, SHT_NOBITS, SHT_NULL};
 use elf_image::Segment;
+use elf_moves::resizing::Resizing;
 use elf_plan::constants::{
     EM_AARCH64, EM_ALPHA, EM_IA_64, EM_LOONGARCH, EM_PPC, EM_PPC64, EM_SPARC, EM_SPARCV9, EM_TILEGX,
 };

@@ -6,10 +6,10 @@ ghost use Rattle.elf_plan.specs.Standing.{stands_at};
 ghost use Rattle.elf_layout.specs.Loose.{IsPlaceFault, kept_for, offset_stays, place_by, places_by};
 ghost use Rattle.elf_layout.specs.Numbers.{numbers_of};
 
-use crate::resizing::Resizing;
 use crate::sized::{SectionNumbers, section_count, section_here};
 use crate::spots::At;
 use elf_format::constants::{SHT_NOBITS, SHT_NULL};
+use elf_moves::resizing::Resizing;
 use elf_plan::{LayoutFault, SectionPlace};
 use std::alloc::Global;
 

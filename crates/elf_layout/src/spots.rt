@@ -7,9 +7,9 @@ ghost use Rattle.elf_plan.specs.Rounds.{flags_for as flags_of};
 ghost use Rattle.elf_layout.specs.Numbers.{numbers_of};
 ghost use Rattle.elf_layout.specs.Spots.{behind_spots, end_behind, spot_behind, with_at, with_flags, with_spots};
 
-use crate::resizing::Resizing;
 use crate::sized::{SectionNumbers, sized_at};
 use elf_format::constants::{PF_X, SHF_EXECINSTR, SHF_WRITE, SHT_NOTE};
+use elf_moves::resizing::Resizing;
 use elf_plan::constants::{PF_R, PF_W};
 
 // A place in the file and in memory. The address may be past 64 bits.

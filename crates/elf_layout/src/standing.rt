@@ -1,15 +1,16 @@
 ghost use Rattle.std.specs.Prelude.{◌≡◌, IfErr, IfOk};
 ghost use Rattle.elf_plan.specs.Added.{header_count, kept_end as end_of_kept};
-ghost use Rattle.elf_layout.specs.Inner.{AreMarks, IsStanding, StandsTooFar};
+ghost use Rattle.elf_moves.specs.Inner.{AreMarks};
+ghost use Rattle.elf_layout.specs.Inner.{IsStanding, StandsTooFar};
 ghost use Rattle.elf_layout.specs.Loose.{IsBehind, IsBehindFault};
 
 use crate::added::{Added, no_spots, place_added};
 use crate::loose::place_all_loose;
 use crate::places::place_all;
-use crate::resizing::Resizing;
 use crate::spots::At;
 use crate::tables::{next_table, place_table};
 use elf_format::records::SegmentHeader;
+use elf_moves::resizing::Resizing;
 use elf_plan::{LayoutFault, SectionPlace};
 use std::alloc::Global;
 

@@ -3,12 +3,12 @@ ghost use Rattle.std.specs.Prelude.{◌≡◌, map, slice_get};
 ghost use Rattle.std.specs.Option.{option_map};
 ghost use Rattle.elf_plan.specs.PlanSeen.{place_seen};
 ghost use Rattle.elf_plan.specs.Written.{address_in_memory, target_at as target_of_place};
-ghost use Rattle.elf_layout.specs.Inner.{leader_seen};
+ghost use Rattle.elf_moves.specs.Inner.{leader_seen};
 ghost use Rattle.elf_layout.specs.Targets.{is_chosen as is_of_those, span_over, span_seen, span_step, span_with, target_of_span, target_seen, targets_at, targets_seen};
 
-use crate::following::{any_moves, is_marked};
-use crate::leaders::LeaderAt;
 use elf_format::constants::SHF_ALLOC;
+use elf_moves::following::{any_moves, is_marked};
+use elf_moves::leaders::LeaderAt;
 use elf_plan::SectionPlace;
 
 // Bytes of the file and, where what a program header goes by is loaded, an address.

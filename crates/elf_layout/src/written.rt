@@ -5,15 +5,16 @@ ghost use Rattle.elf_plan.specs.Added.{header_count};
 ghost use Rattle.elf_plan.specs.PlanSeen.{place_seen};
 ghost use Rattle.elf_plan.specs.Standing.{places as places_of};
 ghost use Rattle.elf_plan.specs.Written.{behind_last_load, written_from};
-ghost use Rattle.elf_layout.specs.Inner.{AreLeaders, AreMarks, AreWritten, IsStanding, StandsTooFar};
+ghost use Rattle.elf_moves.specs.Inner.{AreLeaders, AreMarks};
+ghost use Rattle.elf_layout.specs.Inner.{AreWritten, IsStanding, StandsTooFar};
 ghost use Rattle.elf_layout.specs.Targets.{added_behind, left_behind as left_at};
 
 use crate::headings::push_written;
-use crate::leaders::LeaderAt;
-use crate::reading::{form_of, sections_are_sized, segment_at};
-use crate::resizing::Resizing;
 use crate::standing::Standing;
 use elf_format::records::SegmentHeader;
+use elf_moves::leaders::LeaderAt;
+use elf_moves::reading::{form_of, sections_are_sized, segment_at};
+use elf_moves::resizing::Resizing;
 use elf_plan::{LayoutFault, SectionPlace};
 use std::alloc::{AllocError, Global};
 

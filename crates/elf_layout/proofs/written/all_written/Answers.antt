@@ -9,9 +9,9 @@ use Rattle.elf_plan.specs.Follow.{leader_of}
 use Rattle.elf_plan.specs.Memory.{Resized}
 use Rattle.elf_plan.specs.PlanSeen.{place_seen}
 use Rattle.elf_plan.specs.Written.{written_from}
-use Rattle.elf_layout.specs.Inner.{Told, leader_seen, told}
+use Rattle.elf_moves.specs.Inner.{Told, leader_seen, told}
 use Rattle.elf_layout.specs.Targets.{do_headings_fit}
-use Rattle.elf_layout.proofs.FollowSteps.{leader-at, leaders-length}
+use Rattle.elf_moves.proofs.ForCallers.{leader-at, leaders-length}
 use Rattle.elf_layout.proofs.WrittenSteps.{heading_past, heading_written, stands_too_far, written-more}
 use Rattle.elf_layout.proofs.written.all_written.Goals as goal
 

@@ -1,9 +1,0 @@
-use Rattle.std.proofs.Common.{◌≡◌, map, take}
-use Rattle.elf_image.specs.ImageSeen.{segment_kept}
-use Rattle.elf_layout.specs.Inner.{leader_seen}
-use Rattle.elf_layout.specs.Leading.{told_of}
-use Rattle.elf_layout.specs.LookedSeen.{lists_seen}
-use Rattle.elf_layout.proofs.leading.leaders_with.Given as goal
-
-abbrev pub invariant-loop-segment : goal.invariant-loop-segment
-invariant-loop-segment l = map leader_seen l.made.items ≡ map (λ s. told_of (lists_seen l.lists) (segment_kept s)) (take l.segment-index l.segments)

@@ -1,0 +1,17 @@
+pub mod FollowSteps
+pub mod ForCallers
+pub mod ImageSteps
+pub mod ImagesWithSizes
+pub mod LeadingSteps
+pub mod Marking
+pub mod MovedLaws
+pub mod MoverLaws
+pub mod OldOrder
+pub mod OrderSteps
+pub mod Positions
+pub mod RangeLaws
+pub mod RangeSteps
+pub mod RoundSteps
+pub mod SectionSteps
+pub mod SomeTwo
+pub mod TwoPlaces

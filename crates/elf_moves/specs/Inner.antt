@@ -1,0 +1,74 @@
+-- What the steps hand to each other by which it is found which sections move.
+use Rattle.std.specs.Prelude.{ℕ, ◌≡◌, ◌+◌, List, length, map, Bool, true}
+use Rattle.elf_format.specs.Image.{counted}
+use Rattle.elf_format.specs.Options.{is_one_of}
+use Rattle.elf_blocks.specs.declared.fault.LayoutFault.{LayoutFault}
+use Rattle.elf_blocks.specs.declared.fault.LayoutFault.TheVariants as faults
+use Rattle.elf_plan.specs.Follow.{Itself, HeaderTable, Leader, Notes, OneSection, leader_of}
+use Rattle.elf_plan.specs.Kept.{image_at_read}
+use Rattle.elf_plan.specs.Memory.{Resized}
+use Rattle.elf_plan.specs.Plan.{IsOverlapping}
+use Rattle.elf_plan.specs.Rounds.{AreRounds, is_stuck_with}
+use Rattle.elf_plan.specs.Sizes.{new_sizes}
+use Rattle.elf_moves.specs.declared.leaders.LeaderAt.{LeaderAt}
+use Rattle.elf_moves.specs.declared.leaders.LeaderAt.TheVariants as at
+use Rattle.elf_moves.specs.declared.rounds.Rounds.{Rounds}
+
+-- ## Images with sizes
+
+-- the image that was read is that of the same bytes, and the sizes are those of the edited image's sections
+pub record IsResized (r : Resized) : Type 0 where
+  pub read : r.read ≡ image_at_read r.image
+  pub sizes : r.sizes ≡ new_sizes r.read r.image
+
+-- ## Sections that move
+
+-- the positions of the sections
+abbrev pub positions_of : Resized → List ℕ
+positions_of r = counted (length r.image.sections)
+
+-- one mark for each section, which says whether its position is among those that move
+pub record AreMarks (r : Resized) (moved : List ℕ) (marks : List Bool) : Type 0 where
+  pub is : marks ≡ map (is_one_of moved) (positions_of r)
+
+-- ## Leaders
+
+-- a leader with the positions of sections in place of the sections
+pub data Told : Type 0 where
+  itself : Told
+  table : Told
+  section : ℕ → Told
+  notes : List ℕ → Told
+
+abbrev pub told : Leader → Told
+told Itself = itself
+told HeaderTable = table
+told (OneSection s) = section s.position
+told (Notes ns) = notes (map (λ s. s.position) ns)
+
+abbrev pub leader_seen : LeaderAt → Told
+leader_seen at.Itself = itself
+leader_seen at.HeaderTable = table
+leader_seen (at.OneSection position) = section position
+leader_seen (at.Notes positions) = notes positions.items
+
+-- each leader is that of the program header at its place
+abbrev pub AreLeaders : Resized → List LeaderAt → Type 0
+AreLeaders r leaders = map leader_seen leaders ≡ map (λ p. told (leader_of r p)) r.image.segments
+
+-- ## Rounds
+
+-- rounds came to an end with these sections
+abbrev pub IsEnded : Resized → Rounds → Type 0
+IsEnded r rounds = (before : List (List ℕ)) × (AreRounds r before rounds.looked rounds.moved.items) × (rounds.count ≡ length before + 1)
+
+abbrev pub IsNoEnd : Resized → LayoutFault → Type 0
+IsNoEnd r faults.Overlap = IsOverlapping r
+IsNoEnd r faults.NumberTooLarge = ⊥
+IsNoEnd r faults.Memory = Unit {0}
+
+-- a round that looks with so many entries finds two blocks that overlap and can't move
+abbrev pub IsStuckAt : Resized → ℕ → LayoutFault → Type 0
+IsStuckAt r looked faults.Overlap = is_stuck_with r looked ≡ true
+IsStuckAt r looked faults.NumberTooLarge = ⊥
+IsStuckAt r looked faults.Memory = Unit {0}
