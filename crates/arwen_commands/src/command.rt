@@ -357,11 +357,7 @@ impl ElfCommand {
     }
 
     /// The command of a name that takes the path and the values of an option.
-    fn with_options(
-        name: &str,
-        path_to_binary: String,
-        values: Vec<String>,
-    ) -> Option<ElfCommand>
+    fn with_options(name: &str, path_to_binary: String, values: Vec<String>) -> Option<ElfCommand>
         ensures { option_map command_meant result ≡ meant_with elf_lines name.now
             (options (string_bytes path_to_binary) (map string_bytes values.items)) }
     {
