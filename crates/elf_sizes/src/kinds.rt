@@ -108,7 +108,8 @@ impl<'a, 'data> Sizing<'a, 'data> {
     pub(crate) fn into_strings(self) -> Option<Finished<'a>>
         ensures { IfSome result (IsMadeOfList self.entry.read self.entry.image) }
     {
-        match self.strings {
+        let strings = self.strings;
+        match strings {
             Some(known) => known.made,
             None => None,
         }
