@@ -21,4 +21,4 @@ mod written;
 pub use crate::layout::{lay_out, lay_out_again, lay_out_sized};
 pub use crate::moving::{find_move_sections, move_sections};
 pub use elf_plan::{LayoutFault, Plan, SectionPlace};
-pub use elf_sizes::{NewSizes, new_sizes_with_strings, sizes_of};
+pub use elf_sizes::sizes_of;
