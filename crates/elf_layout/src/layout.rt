@@ -186,6 +186,23 @@ pub(crate) fn promised(image: &Builder<'_>, plan: Plan) -> Plan
     plan
 }
 
+/// Where everything goes, as `lay_out_again` tells it, for a caller that has the new sizes of the sections too.
+pub fn lay_out_sized<'data>(
+    alloc: Global,
+    read: &Builder<'data>,
+    image: &Builder<'data>,
+    sizes: &[u64],
+) -> Result<Plan, LayoutFault>
+    requires read { read.now ≡ image_at_read image.now }
+    requires sizes { sizes.now ≡ sizes_of_image image.now }
+    ensures plan { IfOk result (λ plan. IsPlan (resized image.now) plan) }
+    ensures promises { IfOk result (λ plan. IsPromised image.now plan) }
+    ensures fault { IfErr result (IsNoPlan image.now) }
+{
+    let plan = plan_from(alloc, read, image, sizes)?;
+    Ok(promised(image, plan))
+}
+
 /// Where everything goes, as `lay_out` tells it, for a caller that has the image as its source was read.
 pub fn lay_out_again<'data>(
     alloc: Global,

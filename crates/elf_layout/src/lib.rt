@@ -18,7 +18,7 @@ mod tables;
 mod targets;
 mod written;
 
-pub use crate::layout::{lay_out, lay_out_again};
+pub use crate::layout::{lay_out, lay_out_again, lay_out_sized};
 pub use crate::moving::{find_move_sections, move_sections};
 pub use elf_plan::{LayoutFault, Plan, SectionPlace};
 pub use elf_sizes::sizes_of;

@@ -3,3 +3,4 @@ pub mod Seen
 pub mod UsersSeen
 pub mod SizingSeen
 pub mod MadeTables
+pub mod KnownTables

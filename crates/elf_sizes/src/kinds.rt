@@ -6,6 +6,7 @@ ghost use Rattle.elf_plan.specs.Texts.{are_names_changed as have_names_changed};
 ghost use Rattle.elf_sizes.specs.Inner.{fits_class};
 ghost use Rattle.elf_tables.specs.declared.fault.TableFault.TheVariants.{NumberTooLarge};
 
+use crate::known::{Known, known_strings};
 use crate::strings::{have_same_names, made_for};
 use crate::tables::{gabi_size, gnu_size};
 use crate::users::{Users, form_of};
@@ -15,7 +16,7 @@ use elf_image::constants::{
     SHT_HASH, SHT_STRTAB, SHT_SYMTAB,
 };
 use elf_image::{Builder, Section};
-use elf_tables::TableFault;
+use elf_tables::{Finished, TableFault};
 use patch_bytes::Wide;
 use std::alloc::{AllocError, Global};
 use std::marker::Model;
@@ -59,6 +60,7 @@ pub(crate) struct Sizing<'a, 'data> {
     read_users: Users<'a, 'data>,
     are_names_changed: bool,
     interpreter: Option<usize>,
+    strings: Option<Known<'a>>,
 }
 
 impl<'a, 'data> Model for Sizing<'a, 'data> {
@@ -73,11 +75,12 @@ impl<'a, 'data> Model for Sizing<'a, 'data> {
 }
 
 impl<'a, 'data> Sizing<'a, 'data> {
-    ghost use Rattle.std.specs.Prelude.{◌≡◌, ◌==◌, ◌<◌, ◌*◌, ◌^◌, ◌||◌, false, true, nat_le, IfOk, MatchResult, SomeIff};
+    ghost use Rattle.std.specs.Prelude.{◌≡◌, ◌==◌, ◌<◌, ◌*◌, ◌^◌, ◌||◌, false, true, nat_le, IfOk, IfSome, MatchResult, SomeIff};
     ghost use Rattle.elf_format.specs.Options.{is_some_and};
     ghost use Rattle.elf_format.specs.Records.{symbol_size};
     ghost use Rattle.elf_plan.specs.Sizes.{hash_size, interpreter_size};
     ghost use Rattle.elf_plan.specs.Texts.{is_table_copied};
+    ghost use Rattle.elf_sizes.specs.MadeTables.{IsMadeOfList};
     ghost use Rattle.elf_sizes.specs.Inner.{do_all_fit, do_strings_fit, does_size_fit, lists_size, size_by, sizes_by, strings_length};
 
     // What is computed once of an edited image.
@@ -91,12 +94,39 @@ impl<'a, 'data> Sizing<'a, 'data> {
     {
         let users = Users::new(alloc, read, image)?;
         let read_users = Users::new(alloc, read, read)?;
+        let strings = known_strings(alloc, &users, &read_users)?;
         Ok(Sizing {
             users,
             read_users,
             are_names_changed: are_names_changed(read, image),
             interpreter: interpreter_number(read),
+            strings,
         })
+    }
+
+    // The string table of the dynamic list, where it was made anew.
+    pub(crate) fn into_strings(self) -> Option<Finished<'a>>
+        ensures { IfSome result (IsMadeOfList self.entry.read self.entry.image) }
+    {
+        let strings = self.strings;
+        match strings {
+            Some(known) => known.made,
+            None => None,
+        }
+    }
+
+    // The size of the string table that had that number and this size at read, where it is that of the dynamic list
+    // and known.
+    fn known_size(&self, number: usize, old: u64) -> Option<u64>
+        ensures { let size = strings_length self.now.read self.now.image number old in
+            IfSome result (λ length. (length ≡ size)
+            × ((is_table_copied self.now.read self.now.image number
+            || nat_le size (2 ^ 32)) ≡ true)) }
+    {
+        match &self.strings {
+            Some(known) if known.number == number => Some(known.size(old)),
+            _ => None,
+        }
     }
 
     // The size of a string table that had that number. `NumberTooLarge` where it is made anew and longer than 2 to the
@@ -108,6 +138,9 @@ impl<'a, 'data> Sizing<'a, 'data> {
             (λ length. (length ≡ size) × ((copied || nat_le size (2 ^ 32)) ≡ true))
             (λ fault. fault ≡ NumberTooLarge → (copied || nat_le size (2 ^ 32)) ≡ false) }
     {
+        if let Some(size) = self.known_size(number, old) {
+            return Ok(size);
+        }
         let made = made_for(alloc, &self.users, &self.read_users, number)?;
         match made {
             Some(table) => Ok(table.bytes().len() as u64),

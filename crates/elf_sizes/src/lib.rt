@@ -2,6 +2,7 @@
 #![tactic(auto)]
 
 mod kinds;
+mod known;
 mod sizes;
 mod strings;
 mod tables;
@@ -9,5 +10,5 @@ mod texts;
 mod users;
 mod versions;
 
-pub use crate::sizes::{new_sizes_of, sizes_of};
+pub use crate::sizes::{NewSizes, new_sizes_of, new_sizes_with_strings, sizes_of};
 pub use crate::strings::made_table;

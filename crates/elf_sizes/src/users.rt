@@ -201,6 +201,13 @@ impl<'a, 'data> Users<'a, 'data> {
         self.image
     }
 
+    // The number of the string table of the dynamic list (gABI, Sections, `sh_link`).
+    pub(crate) fn list_link(&self) -> Option<u32>
+        ensures { result ≡ link_of_kind SHT_DYNAMIC self.now.image }
+    {
+        self.links.dynamic
+    }
+
     // How many entries the dynamic list has that is written.
     fn count_entries(&self) -> usize
         ensures { result

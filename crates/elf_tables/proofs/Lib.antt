@@ -8,3 +8,4 @@ pub mod VersionLaws
 pub mod ChainingSteps
 pub mod NeedsSteps
 pub mod PlacingSteps
+pub mod EndKeyLaws

@@ -36,7 +36,7 @@ falls_from_places (t ∷ ts) at = (
   falls_from_places ts (λ i j d order within. at (suc i) (suc j) d (omega arith) (omega arith)),
 )
 
-falls_from_sorted : (ts : List (List ℕ)) → IsSortedBy is_before ts → Falls ts
+pub falls_from_sorted : (ts : List (List ℕ)) → IsSortedBy is_before ts → Falls ts
 falls_from_sorted ts sorted = falls_from_places ts (λ i j d order within.
     is_before-NotBefore (get_or ts j d) (get_or ts i d) (sorted_far is_before (is_before-order (λ t. t)) ts sorted i j d (omega arith) within))
 

@@ -1,4 +1,4 @@
-ghost use Rattle.std.specs.Prelude.{◌≡◌, ◌≤◌, ◌<◌, ◌^◌, ◌+◌, false, length, map, nat_eq, MatchResult};
+ghost use Rattle.std.specs.Prelude.{◌≡◌, ◌≤◌, ◌<◌, ◌^◌, ◌+◌, false, length, nat_eq, MatchResult};
 ghost use Rattle.std.specs.List.{ends_with};
 ghost use Rattle.elf_tables.specs.declared.fault.TableFault.TheVariants.{NumberTooLarge};
 ghost use Rattle.elf_tables.specs.Strings.{HoldNoNul};
@@ -6,6 +6,7 @@ ghost use Rattle.elf_tables.specs.StringSteps.{IsLaid, PutsText, StandsWith, lai
 
 use crate::fault::TableFault;
 use crate::finished::Finished;
+use crate::keyed::Keyed;
 use std::alloc::Global;
 use std::collections::HashMap;
 
@@ -35,20 +36,20 @@ fn put_text(bytes: &mut Vec<u8>, last: &[u8], place: u32, text: &[u8]) -> Result
 
 // The table of texts in an order in which each stands behind those that end with it. Each stands within the one
 // before it where it ends that one.
-pub(crate) fn lay<'t>(alloc: Global, texts: &[&'t [u8]]) -> Result<Finished<'t>, TableFault>
-    requires { HoldNoNul (map (λ text. text.now) texts.now) }
+pub(crate) fn lay<'t>(alloc: Global, texts: &[Keyed<'t>]) -> Result<Finished<'t>, TableFault>
+    requires { HoldNoNul texts.now }
     ensures { MatchResult result
-        (IsLaid (map (λ text. text.now) texts.now))
-        (λ fault. fault ≡ NumberTooLarge
-        → 2 ^ 32 < laid_length (map (λ text. text.now) texts.now)) }
+        (IsLaid texts.now)
+        (λ fault. fault ≡ NumberTooLarge → 2 ^ 32 < laid_length texts.now) }
 {
     let mut bytes = Vec::from_slice(alloc, &[0])?;
-    let mut places = HashMap::new(alloc);
+    let mut places = HashMap::with_capacity(alloc, texts.len())?;
     let mut last: &[u8] = &[];
     let mut place = 0;
-    for text in texts {
+    for keyed in texts {
+        let text = keyed.text();
         place = put_text(&mut bytes, last, place, text)?;
-        places.insert(*text, place)?;
+        places.insert(text, place)?;
         last = text;
     }
     Ok(Finished { bytes, places })

@@ -4,6 +4,7 @@
 pub mod fault;
 pub mod finished;
 pub mod hash;
+mod keyed;
 mod laid;
 pub mod needs;
 pub mod rows;

@@ -1,40 +1,29 @@
-ghost use Rattle.std.specs.Prelude.{◌≡◌, reverse};
-ghost use Rattle.std.specs.Cmp.Lexicographic.{slice_cmp};
-ghost use Rattle.std.specs.Ordering.{nat_cmp};
-
 use crate::fault::TableFault;
 use crate::finished::Finished;
+use crate::keyed::Keyed;
 use crate::laid::lay;
 use std::alloc::{AllocError, Global};
-use std::cmp::Ordering;
 use std::marker::Model;
-
-// How two texts compare by their bytes, the last one first.
-fn from_their_ends(a: &[u8], b: &[u8]) -> Ordering
-    ensures { result ≡ slice_cmp nat_cmp (reverse a.now) (reverse b.now) }
-{
-    a.iter().rev().cmp(b.iter().rev())
-}
 
 /// The texts of a string table that isn't finished (gABI, String Table).
 #[derive(Drop)]
 pub struct StringTable<'t> {
-    texts: Vec<&'t [u8]>,
+    texts: Vec<Keyed<'t>>,
 }
 
 impl<'t> Model for StringTable<'t> {
-    ghost use Rattle.std.specs.Prelude.{List, ℕ, map};
+    ghost use Rattle.std.specs.Prelude.{List, ℕ};
     ghost use Rattle.elf_tables.specs.Strings.{HoldNoNul};
 
     ghost Value = { List (List ℕ) };
 
-    ghost view = { λ s. map (λ text. text.now) s.texts.items };
+    ghost view = { λ s. s.texts.items };
 
-    ghost invariant = { λ s. HoldNoNul (map (λ text. text.now) s.texts.items) };
+    ghost invariant = { λ s. HoldNoNul s.texts.items };
 }
 
 impl<'t> StringTable<'t> {
-    ghost use Rattle.std.specs.Prelude.{◌≤◌, ◌<◌, ◌^◌, [], ◌∷◌, ◌++◌, false, IfOk, MatchResult, OnErr, OnOk};
+    ghost use Rattle.std.specs.Prelude.{◌≡◌, ◌≤◌, ◌<◌, ◌^◌, [], ◌∷◌, ◌++◌, false, IfOk, MatchResult, OnErr, OnOk};
     ghost use Rattle.elf_tables.specs.declared.fault.TableFault.TheVariants.{NumberTooLarge};
     ghost use Rattle.elf_tables.specs.Strings.{IsTableOf, PlacesStand, holds_nul, table_length};
 
@@ -53,7 +42,7 @@ impl<'t> StringTable<'t> {
         ensures ok { OnOk result (self.new ≡ self.old ++ text.entry.now ∷ []) }
         ensures err { OnErr result (self.new ≡ self.old) }
     {
-        self.texts.push(text)?;
+        self.texts.push(Keyed::new(text))?;
         Ok(())
     }
 
@@ -66,7 +55,7 @@ impl<'t> StringTable<'t> {
         ensures stands { IfOk result PlacesStand }
     {
         let mut texts = self.texts;
-        texts.sort_unstable_by(|a, b| from_their_ends(b, a));
+        texts.sort_unstable_by(|a, b| b.from_their_ends(a));
         lay(alloc, texts.as_slice())
     }
 }

@@ -1,10 +1,11 @@
 //! What of the bytes of an edited ELF file differs from the bytes that were read.
-ghost use Rattle.std.specs.Prelude.{◌≡◌, false, IfErr, IfOk, IsTrue, OnOk};
+ghost use Rattle.std.specs.Prelude.{◌≡◌, false, IfErr, IfOk, IfSome, IsTrue, OnOk};
 ghost use Rattle.byte_store.specs.Composed.{IsDifference, made_of};
 ghost use Rattle.elf_tables.specs.declared.fault.TableFault.TheVariants.{NumberTooLarge};
 ghost use Rattle.elf_plan.specs.Kept.{image_at_read, kept_sections};
 ghost use Rattle.elf_plan.specs.Plan.{IsPlan, resized};
 ghost use Rattle.elf_plan.specs.Refusals.{do_sizes_of_image_fit};
+ghost use Rattle.elf_sizes.specs.MadeTables.{IsMadeOfList};
 ghost use Rattle.elf_written.specs.Laws.{ShowsFinal};
 ghost use Rattle.elf_written.specs.Stays.{AreOthersSeen, IsDataSeen};
 ghost use Rattle.elf_written.specs.Whole.{IsWhole};
@@ -18,12 +19,13 @@ ghost use Rattle.elf_write.specs.Seen.{HasHashes, HasHeaders, IsApart};
 use crate::bytes::are_headers_apart;
 use crate::contents::contents;
 use crate::laying::laid_difference;
-use crate::prepared::{Prepared, prepare};
+use crate::made::strings_from;
+use crate::prepared::{Prepared, prepare_with};
 use byte_store::Difference;
 use elf_image::Builder;
 use elf_plan::laws::{plans_are_apart, plans_show_notes};
 use elf_plan::{LayoutFault, Plan, read_again};
-use elf_tables::TableFault;
+use elf_tables::{Finished, TableFault};
 use patch_bytes::ByteString;
 use std::alloc::{AllocError, Global};
 
@@ -84,16 +86,19 @@ fn difference_with_headers_apart<'a, 'data>(
     read: &'a Builder<'data>,
     image: &'a Builder<'data>,
     plan: &Plan,
+    strings: Option<Finished<'a>>,
 ) -> Result<Difference, TableFault>
     requires planned { IsPlanned read.now image.now plan.now }
     requires apart { AreHeadersApart image.now plan.now }
+    requires strings { IfSome strings (IsMadeOfList read.now image.now) }
     ensures written { IfOk result (λ d.
         IsWholeWritten image.entry.now plan.now (made_of image.entry.now.source d)) }
     ensures makeable { IfOk result (λ d. IsDifference image.entry.now.source d) }
     ensures fault { IfErr result (λ fault.
         fault ≡ NumberTooLarge → do_all_fit image.entry.now plan.now ≡ false) }
 {
-    let prepared = prepare(alloc, read, image, plan)?;
+    let made = strings_from(alloc, read, image, strings)?;
+    let prepared = prepare_with(alloc, read, image, plan, made)?;
     let difference = difference_with(alloc, read, image, plan, &prepared)?;
     Ok(difference)
 }
@@ -108,6 +113,47 @@ fn promised(image: &Builder<'_>, plan: &Plan, difference: Difference) -> Differe
     plans_are_apart();
     plans_show_notes();
     difference
+}
+
+/// What of the bytes of the file differs from the image's source, as `image_pieces_again` tells it, for a caller that may
+/// have the string table of the dynamic list too, where it is made anew.
+pub fn image_pieces_with<'a, 'data>(
+    alloc: Global,
+    read: &'a Builder<'data>,
+    image: &'a Builder<'data>,
+    plan: &Plan,
+    strings: Option<Finished<'a>>,
+) -> Result<Difference, LayoutFault>
+    requires read { read.now ≡ image_at_read image.now }
+    requires whole { IsWhole read.now image.now }
+    requires planned { IsPlan (resized image.now) plan.now }
+    requires sized { IsTrue (do_sizes_of_image_fit image.now) }
+    requires strings { IfSome strings (IsMadeOfList read.now image.now) }
+    ensures makeable { IfOk result (λ d. IsDifference image.entry.now.source d) }
+    ensures written { IfOk result (λ d.
+        IsWritten image.entry.now plan.now (made_of image.entry.now.source d)) }
+    ensures shows { IfOk result (λ d. ShowsFinal image.entry.now (made_of image.entry.now.source d)) }
+    ensures data { IfOk result (λ d.
+        IsDataSeen (resized image.entry.now) plan.now (made_of image.entry.now.source d)) }
+    ensures others { IfOk result (λ d.
+        AreOthersSeen (resized image.entry.now) plan.now (made_of image.entry.now.source d)) }
+    ensures headers { IfOk result (λ d.
+        HasHeaders image.entry.now plan.now (made_of image.entry.now.source d)) }
+    ensures hashes { IfOk result (λ d.
+        HasHashes image.entry.now plan.now (made_of image.entry.now.source d)) }
+    ensures apart { OnOk result (IsApart image.entry.now plan.now) }
+    ensures fault { IfErr result (AreNoBytes image.entry.now plan.now) }
+{
+    // what every image is: one that was read from these bytes, and edited
+    let _source = image.source();
+    if !are_headers_apart(image, plan) {
+        return Err(LayoutFault::Overlap);
+    }
+    match difference_with_headers_apart(alloc, read, image, plan, strings) {
+        Ok(difference) => Ok(promised(image, plan, difference)),
+        Err(TableFault::NumberTooLarge) => Err(LayoutFault::NumberTooLarge),
+        Err(TableFault::Memory) => Err(LayoutFault::Memory),
+    }
 }
 
 /// What of the bytes of the file differs from the image's source, as `image_pieces` tells it, for a caller that has the
@@ -137,16 +183,7 @@ pub fn image_pieces_again<'data>(
     ensures apart { OnOk result (IsApart image.now plan.now) }
     ensures fault { IfErr result (AreNoBytes image.now plan.now) }
 {
-    // what every image is: one that was read from these bytes, and edited
-    let _source = image.source();
-    if !are_headers_apart(image, plan) {
-        return Err(LayoutFault::Overlap);
-    }
-    match difference_with_headers_apart(alloc, read, image, plan) {
-        Ok(difference) => Ok(promised(image, plan, difference)),
-        Err(TableFault::NumberTooLarge) => Err(LayoutFault::NumberTooLarge),
-        Err(TableFault::Memory) => Err(LayoutFault::Memory),
-    }
+    image_pieces_with(alloc, read, image, plan, None)
 }
 
 /// What of the bytes of the file to which an edited image is written by a plan, of which nothing went, differs from

@@ -21,4 +21,4 @@ mod versions;
 
 pub use crate::bytes::{image_bytes, image_bytes_again};
 pub use crate::counted::{CountedWrite, Sink, write_all_counted};
-pub use crate::difference::{image_pieces, image_pieces_again};
+pub use crate::difference::{image_pieces, image_pieces_again, image_pieces_with};

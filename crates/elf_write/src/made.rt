@@ -1,11 +1,11 @@
 //! The string table of the dynamic list, where it is made anew (gABI, String Table).
-ghost use Rattle.std.specs.Prelude.{◌≡◌, map, IfOk, IsTrue, MatchOption, Some};
+ghost use Rattle.std.specs.Prelude.{◌≡◌, map, IfOk, IfSome, IsTrue, MatchOption, Some};
 ghost use Rattle.elf_format.specs.declared.constants.TheConstants as constants;
 ghost use Rattle.elf_image.specs.ImageSeen.{section_kept};
 ghost use Rattle.elf_plan.specs.Kept.{link_of_type};
 ghost use Rattle.elf_plan.specs.Texts.{is_table_copied};
 ghost use Rattle.elf_sizes.specs.Inner.{link_from};
-ghost use Rattle.elf_sizes.specs.MadeTables.{IsMade};
+ghost use Rattle.elf_sizes.specs.MadeTables.{IsMade, IsMadeOfList};
 ghost use Rattle.elf_write.specs.Inner.{AreStrings, IsReady};
 
 use elf_image::constants::SHT_DYNAMIC;
@@ -79,6 +79,29 @@ pub(crate) fn made_strings<'a, 'data>(
     let number = number as usize;
     match strings_anew(alloc, read, image, number)? {
         Some(table) => Ok(Some(Made { number, table })),
+        None => Ok(None),
+    }
+}
+
+// The same, of which the table may be there already where it is made anew.
+pub(crate) fn strings_from<'a, 'data>(
+    alloc: Global,
+    read: &'a Builder<'data>,
+    image: &'a Builder<'data>,
+    strings: Option<Finished<'a>>,
+) -> Result<Option<Made<'a>>, AllocError>
+    requires ready { IsReady read.now image.now }
+    requires strings { IfSome strings (IsMadeOfList read.now image.now) }
+    ensures { IfOk result (AreStrings read.entry.now image.entry.now) }
+{
+    let Some(table) = strings else {
+        return made_strings(alloc, read, image);
+    };
+    match strings_number(image) {
+        Some(number) => Ok(Some(Made {
+            number: number as usize,
+            table,
+        })),
         None => Ok(None),
     }
 }

@@ -1,7 +1,7 @@
 //! What is made of an image before the contents of its sections: string table, headers and dynamic entries.
 ghost use Rattle.std.specs.Prelude.{◌≡◌, false, IfErr, IfOk};
 ghost use Rattle.elf_tables.specs.declared.fault.TableFault.TheVariants.{NumberTooLarge};
-ghost use Rattle.elf_write.specs.Inner.{IsPlanned};
+ghost use Rattle.elf_write.specs.Inner.{AreStrings, IsPlanned};
 ghost use Rattle.elf_write.specs.Numbers.{do_numbers_fit as do_all_fit};
 ghost use Rattle.elf_write.specs.PieceSteps.{IsPrepared};
 
@@ -37,6 +37,23 @@ pub(crate) fn prepare<'a, 'data>(
         fault ≡ NumberTooLarge → do_all_fit image.entry.now plan.now ≡ false) }
 {
     let made = made_strings(alloc, read, image)?;
+    prepare_with(alloc, read, image, plan, made)
+}
+
+// The same, with the string table that is made anew.
+pub(crate) fn prepare_with<'a, 'data>(
+    alloc: Global,
+    read: &'a Builder<'data>,
+    image: &'a Builder<'data>,
+    plan: &Plan,
+    made: Option<Made<'a>>,
+) -> Result<Prepared<'a>, TableFault>
+    requires planned { IsPlanned read.now image.now plan.now }
+    requires strings { AreStrings read.now image.now made }
+    ensures prepared { IfOk result (IsPrepared read.entry.now image.entry.now plan.now) }
+    ensures fault { IfErr result (λ fault.
+        fault ≡ NumberTooLarge → do_all_fit image.entry.now plan.now ≡ false) }
+{
     let raw = raw_entries(alloc, read, image, plan, &made)?;
     let header = file_header(image, plan);
     let headers = section_headers(alloc, read, image, plan, &made)?;

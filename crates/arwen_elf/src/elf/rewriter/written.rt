@@ -1,9 +1,10 @@
 //! The bytes that an image is written to.
-ghost use Rattle.std.specs.Prelude.{◌≡◌, false, true, IfErr, IfOk, IsOkAnd, IsTrue, OnOk};
+ghost use Rattle.std.specs.Prelude.{◌≡◌, false, true, IfErr, IfOk, IfSome, IsOkAnd, IsTrue, OnOk};
 ghost use Rattle.byte_store.specs.Composed.{IsDifference, made_of};
 ghost use Rattle.elf_plan.specs.Kept.{image_at_read};
 ghost use Rattle.elf_plan.specs.Plan.{IsPlan, resized};
-ghost use Rattle.elf_plan.specs.Refusals.{do_sizes_of_image_fit};
+ghost use Rattle.elf_plan.specs.Refusals.{do_sizes_of_image_fit, sizes_of_image};
+ghost use Rattle.elf_sizes.specs.MadeTables.{IsMadeOfList};
 ghost use Rattle.elf_written.specs.Whole.{IsWhole};
 ghost use Rattle.arwen_elf.specs.Written.{GetsImage, IsEditWritten, IsImageWritten, IsIo, IsNoDifference, IsNoEdit, IsNoImage, IsNotWritten, IsTold, MayNotWrite};
 
@@ -11,9 +12,11 @@ use crate::elf::rewriter::error::{ElfError, ModifyCause, Result};
 use crate::elf::rewriter::writer::Writer;
 use byte_store::Difference;
 use elf_image::{Builder, ElfFault};
-use elf_layout::lay_out_again;
+use elf_layout::{lay_out_again, lay_out_sized};
 use elf_plan::{LayoutFault, Plan, read_again};
-use elf_write::{CountedWrite, Sink, image_bytes_again, image_pieces_again, write_all_counted};
+use elf_sizes::{NewSizes, new_sizes_with_strings};
+use elf_tables::Finished;
+use elf_write::{CountedWrite, Sink, image_bytes_again, image_pieces_with, write_all_counted};
 use patch_bytes::ByteString;
 use std::alloc::Global;
 use std::fs;
@@ -54,24 +57,51 @@ fn edited_bytes(alloc: Global, image: &Builder<'_>) -> std::result::Result<Vec<u
     }
 }
 
-// What of the bytes of an edited image by a plan differs from its source, with the image that was read from this.
-fn pieces_by<'data>(
+// What of the bytes of an edited image by a plan differs from its source, with the image that was read from this. The
+// string table of the dynamic list may be there already, where it is made anew.
+fn pieces_by<'a, 'data>(
     alloc: Global,
-    read: &Builder<'data>,
-    image: &Builder<'data>,
+    read: &'a Builder<'data>,
+    image: &'a Builder<'data>,
     plan: &Plan,
+    strings: Option<Finished<'a>>,
 ) -> std::result::Result<Difference, LayoutFault>
     requires read { read.now ≡ image_at_read image.now }
     requires whole { IsWhole read.now image.now }
     requires planned { IsPlan (resized image.now) plan.now }
     requires sized { IsTrue (do_sizes_of_image_fit image.now) }
-    ensures makeable { IfOk result (λ d. IsDifference image.now.source d) }
+    requires strings { IfSome strings (IsMadeOfList read.now image.now) }
+    ensures makeable { IfOk result (λ d. IsDifference image.entry.now.source d) }
     ensures bytes { IfOk result (λ d.
-        IsEditWritten image.now (made_of image.now.source d)) }
-    ensures fault { IfErr result (IsNoEdit image.now) }
+        IsEditWritten image.entry.now (made_of image.entry.now.source d)) }
+    ensures fault { IfErr result (IsNoEdit image.entry.now) }
 {
-    match image_pieces_again(alloc, read, image, plan) {
+    match image_pieces_with(alloc, read, image, plan, strings) {
         Ok(difference) => Ok(difference),
+        Err(fault) => Err(fault),
+    }
+}
+
+// The same, by the new sizes of its sections.
+fn pieces_sized<'a, 'data>(
+    alloc: Global,
+    read: &'a Builder<'data>,
+    image: &'a Builder<'data>,
+    new: NewSizes<'a>,
+) -> std::result::Result<Difference, LayoutFault>
+    requires read { read.now ≡ image_at_read image.now }
+    requires whole { IsWhole read.now image.now }
+    requires sizes { new.sizes.items ≡ sizes_of_image image.now }
+    requires sized { IsTrue (do_sizes_of_image_fit image.now) }
+    requires strings { IfSome new.strings (IsMadeOfList read.now image.now) }
+    ensures makeable { IfOk result (λ d. IsDifference image.entry.now.source d) }
+    ensures bytes { IfOk result (λ d.
+        IsEditWritten image.entry.now (made_of image.entry.now.source d)) }
+    ensures fault { IfErr result (IsNoEdit image.entry.now) }
+{
+    let NewSizes { sizes, strings } = new;
+    match lay_out_sized(alloc, read, image, &sizes) {
+        Ok(plan) => pieces_by(alloc, read, image, &plan, strings),
         Err(fault) => Err(fault),
     }
 }
@@ -87,8 +117,8 @@ fn edited_pieces(alloc: Global, image: &Builder<'_>) -> std::result::Result<Diff
     let Ok(read) = read_again(alloc, image) else {
         return Err(LayoutFault::Memory);
     };
-    match lay_out_again(alloc, &read, image) {
-        Ok(plan) => pieces_by(alloc, &read, image, &plan),
+    match new_sizes_with_strings(alloc, &read, image) {
+        Ok(new) => pieces_sized(alloc, &read, image, new),
         Err(fault) => Err(fault),
     }
 }

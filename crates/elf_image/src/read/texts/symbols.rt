@@ -70,7 +70,7 @@ fn symbols<'data>(
 {
     let size = form.symbol_size();
     let count = bytes.len() / size;
-    let mut made = Vec::new(alloc);
+    let mut made = Vec::with_capacity(alloc, count)?;
     let mut rest = bytes;
     for i in 0..count {
         let (record, after) = rest.split_at(size);

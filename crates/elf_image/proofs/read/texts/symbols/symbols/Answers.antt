@@ -31,7 +31,7 @@ all_shown form room texts versions size bytes is_size = ap (λ n. symbols_from f
 
 pub returns-in_err-one : goal.returns-in_err-one
 returns-in_err-one c =
-    let e = err_from_is_err_and c.from_residual.result c.from_residual.ensures.1 in
+    let e = err_from_is_err_and c.from_residual-in_err-one.result c.from_residual-in_err-one.ensures.1 in
     let form : Form = c.args.form in
     let texts : Memory = memory_of c.args.texts.now in
     let versions : Option (List ℕ) = option_map borrowed c.args.versions in

@@ -2,7 +2,7 @@ use Rattle.std.proofs.Common.{◌≡◌, refl}
 use Rattle.std.specs.Ordering.{nat_cmp}
 use Rattle.std.proofs.lemmas.Iterator.Adapters.{YieldsList-from_rev_slice}
 use Rattle.std.proofs.lemmas.Iterator.Search.{cmp_from_yields_List}
-use Rattle.elf_tables.proofs.strings.from_their_ends.Goals as goal
+use Rattle.elf_tables.proofs.keyed.from_their_ends.Goals as goal
 
 pub returns : goal.returns
 returns c =

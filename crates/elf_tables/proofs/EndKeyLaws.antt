@@ -1,0 +1,134 @@
+-- The numbers of texts' ends, and the order that they tell.
+use Rattle.std.proofs.Common.{◌≡◌, ◌≢◌, ℕ, ◌+◌, ◌-◌, ◌*◌, ◌^◌, ◌<◌, ◌≤◌, zero, suc, List, [], ◌∷◌, length, get_or, reverse, refl, sym, subst, ap, ◌∙◌, inl, inr, arith}
+use Rattle.std.specs.Cmp.{nat_cmp_is}
+use Rattle.std.specs.Cmp.Lexicographic.{slice_cmp}
+use Rattle.std.specs.Ordering.{nat_cmp, ordering_then}
+use Rattle.std.specs.declared.cmp.Ordering.{Ordering}
+use Rattle.std.specs.declared.cmp.Ordering.TheVariants.{Equal, Greater, Less}
+use Rattle.std.proofs.Math.Nat.{mul-le-mul_right, pow-le-pow_right, pow-succ'}
+use Rattle.std.proofs.lemmas.Bool.{cases_lt, cases_order}
+use Rattle.std.proofs.lemmas.List.{get_or-reverse, get_or_past, length-reverse}
+use Rattle.patch_bytes.specs.Bytes.{AreBytes}
+use Rattle.elf_tables.specs.EndKeys.{end_key, front_number}
+
+bytes_behind : (x : ℕ) (xs : List ℕ) → AreBytes (x ∷ xs) → AreBytes xs
+bytes_behind x xs are = record { each = λ i. are.each (suc i) }
+
+pub AreBytes-reverse : (xs : List ℕ) → AreBytes xs → AreBytes (reverse xs)
+AreBytes-reverse xs are = record { each = λ i. elim (cases_lt i (length xs)) [
+  | inl within ↦ subst (λ (n : ℕ). n < 256) (sym (get_or-reverse xs i 0 within)) (are.each (length xs - 1 - i))
+  | inr past ↦ let long : length (reverse xs) ≤ i = omega (arith, length-reverse {A = ℕ}) in
+    subst (λ (n : ℕ). n < 256) (sym (get_or_past (reverse xs) i 0 long)) (omega arith)
+] }
+
+-- ## One byte more
+
+front_number-more : (n : ℕ) (xs : List ℕ) → front_number (suc n) xs ≡ front_number n xs * 256 + get_or xs n 0
+unfolding front_number
+front_number-more zero [] = refl
+front_number-more zero (x ∷ xs) = omega arith
+front_number-more (suc n) [] = refl
+front_number-more (suc n) (x ∷ xs) =
+    let inner : front_number (suc n) xs ≡ front_number n xs * 256 + get_or xs n 0 = front_number-more n xs in
+    let power : 256 ^ suc n ≡ 256 * 256 ^ n = pow-succ' 256 n in
+    let product : x * 256 ^ suc n ≡ x * (256 * 256 ^ n) = ap (λ p. x * p) power in
+    omega (arith, inner, product)
+
+pub front_number-below : (n : ℕ) (xs : List ℕ) → AreBytes xs → front_number n xs < 256 ^ n
+unfolding front_number
+front_number-below zero xs are = omega arith
+front_number-below (suc n) [] are =
+    let power : 256 ^ suc n ≡ 256 * 256 ^ n = pow-succ' 256 n in
+    let inner : front_number n [] < 256 ^ n = front_number-below n [] are in
+    omega (arith, power, inner)
+front_number-below (suc n) (x ∷ xs) are =
+    let power : 256 ^ suc n ≡ 256 * 256 ^ n = pow-succ' 256 n in
+    let inner : front_number n xs < 256 ^ n = front_number-below n xs (bytes_behind x xs are) in
+    let byte : x < 256 = are.each 0 in
+    let most : x * 256 ^ n ≤ 255 * 256 ^ n = mul-le-mul_right (256 ^ n) (omega arith) in
+    omega (arith, power, inner, most)
+
+-- ## Their order
+
+less_is : (x y : ℕ) → x < y → nat_cmp x y ≡ Less
+less_is x y h = sym (nat_cmp_is x y Less h)
+
+equal_is : (x y : ℕ) → x ≡ y → nat_cmp x y ≡ Equal
+equal_is x y h = sym (nat_cmp_is x y Equal h)
+
+greater_is : (x y : ℕ) → y < x → nat_cmp x y ≡ Greater
+greater_is x y h = sym (nat_cmp_is x y Greater h)
+
+-- the number of a list that begins with a smaller byte is smaller
+below_by_byte : (x y p f g : ℕ) → f < p → x < y → x * p + f < y * p + g
+below_by_byte x y p f g low h =
+    let room : suc x * p ≤ y * p = mul-le-mul_right p h in
+    omega (arith, room)
+
+-- where the first bytes are one, what lies behind decides
+by_rest : (x p f g : ℕ) → nat_cmp (x * p + f) (x * p + g) ≡ nat_cmp f g
+by_rest x p f g = elim (cases_order f g) [
+  | inl same ↦ equal_is (x * p + f) (x * p + g) (ap (λ k. x * p + k) same) ∙ sym (equal_is f g same)
+  | inr other ↦ elim other [
+    | inl below ↦ less_is (x * p + f) (x * p + g) (omega arith) ∙ sym (less_is f g below)
+    | inr above ↦ greater_is (x * p + f) (x * p + g) (omega arith) ∙ sym (greater_is f g above)
+  ]
+]
+
+-- a byte and what lies behind it
+by_byte : (x y p f g : ℕ) (o : Ordering) → f < p → g < p → x * p + f ≢ y * p + g → ((f ≢ g) → nat_cmp f g ≡ o)
+    → nat_cmp (x * p + f) (y * p + g) ≡ ordering_then (nat_cmp x y) o
+by_byte x y p f g o low high apart behind = elim (cases_order x y) [
+  | inl same ↦
+    let rest : nat_cmp f g ≡ o = behind (λ e. apart (ap (λ k. k * p + f) same ∙ ap (λ k. y * p + k) e)) in
+    ap (λ k. nat_cmp (k * p + f) (y * p + g)) same ∙ by_rest y p f g ∙ rest ∙ sym (ap (λ r. ordering_then r o) (equal_is x y same))
+  | inr other ↦ elim other [
+    | inl below ↦ less_is (x * p + f) (y * p + g) (below_by_byte x y p f g low below) ∙ sym (ap (λ r. ordering_then r o) (less_is x y below))
+    | inr above ↦ greater_is (x * p + f) (y * p + g) (below_by_byte y x p g f high above) ∙ sym (ap (λ r. ordering_then r o) (greater_is x y above))
+  ]
+]
+
+-- numbers that differ stand as their lists do
+pub front_number-cmp : (n : ℕ) (xs ys : List ℕ) → AreBytes xs → AreBytes ys → front_number n xs ≢ front_number n ys
+    → nat_cmp (front_number n xs) (front_number n ys) ≡ slice_cmp nat_cmp xs ys
+unfolding front_number
+front_number-cmp zero xs ys bytes others apart = absurd (apart refl)
+front_number-cmp (suc n) [] [] bytes others apart = absurd (apart refl)
+front_number-cmp (suc n) [] (y ∷ ys) bytes others apart = less_is 0 (y * 256 ^ n + front_number n ys) (omega arith)
+front_number-cmp (suc n) (x ∷ xs) [] bytes others apart = greater_is (x * 256 ^ n + front_number n xs) 0 (omega arith)
+front_number-cmp (suc n) (x ∷ xs) (y ∷ ys) bytes others apart =
+    by_byte x y (256 ^ n) (front_number n xs) (front_number n ys) (slice_cmp nat_cmp xs ys)
+    (front_number-below n xs (bytes_behind x xs bytes)) (front_number-below n ys (bytes_behind y ys others)) apart
+    (front_number-cmp n xs ys (bytes_behind x xs bytes) (bytes_behind y ys others))
+
+-- ## Texts
+
+-- texts whose ends have other numbers stand as these do
+pub end_key-cmp : (text other : List ℕ) → AreBytes text → AreBytes other → end_key text ≢ end_key other
+    → nat_cmp (end_key text) (end_key other) ≡ slice_cmp nat_cmp (reverse text) (reverse other)
+end_key-cmp text other bytes others apart = front_number-cmp 8 (reverse text) (reverse other) (AreBytes-reverse text bytes) (AreBytes-reverse other others) apart
+
+-- one byte more of a text, from its end
+pub end-more : (text : List ℕ) (back : ℕ) → front_number (back + 1) (reverse text) ≡ front_number back (reverse text) * 256 + get_or (reverse text) back 0
+end-more text back =
+    let one_more : back + 1 ≡ suc back = omega arith in
+    ap (λ n. front_number n (reverse text)) one_more ∙ front_number-more back (reverse text)
+
+pub end-low : (text : List ℕ) (back : ℕ) → AreBytes text → front_number back (reverse text) < 256 ^ back
+end-low text back bytes = front_number-below back (reverse text) (AreBytes-reverse text bytes)
+
+-- a byte more still fits 64 bits
+pub end-fits : (back key : ℕ) → back < 8 → key < 256 ^ back → key * 256 + 255 < 2 ^ 64
+end-fits back key within low =
+    let most : 256 ^ back ≤ 256 ^ 7 = pow-le-pow_right {n = 256} (omega arith) {i = back} {j = 7} (omega arith) in
+    omega (arith, most)
+
+-- ## Single bytes
+
+pub byte-within : (text : List ℕ) (back : ℕ) → back < length text → get_or text (length text - 1 - back) 0 ≡ get_or (reverse text) back 0
+byte-within text back within = sym (get_or-reverse text back 0 within)
+
+pub byte-past : (text : List ℕ) (back : ℕ) → length text ≤ back → 0 ≡ get_or (reverse text) back 0
+byte-past text back past =
+    let long : length (reverse text) ≤ back = omega (arith, length-reverse {A = ℕ}) in
+    sym (get_or_past (reverse text) back 0 long)

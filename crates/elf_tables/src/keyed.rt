@@ -1,0 +1,83 @@
+ghost use Rattle.std.specs.Prelude.{◌≡◌, reverse, slice_index};
+ghost use Rattle.std.specs.Cmp.Lexicographic.{slice_cmp};
+ghost use Rattle.std.specs.Ordering.{nat_cmp};
+ghost use Rattle.elf_tables.specs.EndKeys.{end_key as key_of_end};
+
+use std::cmp::Ordering;
+use std::marker::Model;
+
+// How two texts compare by their bytes, the last one first.
+fn from_their_ends(a: &[u8], b: &[u8]) -> Ordering
+    ensures { result ≡ slice_cmp nat_cmp (reverse a.now) (reverse b.now) }
+{
+    a.iter().rev().cmp(b.iter().rev())
+}
+
+// The byte of a text with so many behind it; 0 where it has none there.
+fn byte_before(text: &[u8], back: usize) -> u8
+    ensures { result ≡ slice_index (reverse text.now) back }
+{
+    if back < text.len() {
+        text[text.len() - 1 - back]
+    } else {
+        0
+    }
+}
+
+// A text's last 8 bytes as one number, the last byte the highest; 0 for those that it doesn't have.
+fn end_key(text: &[u8]) -> u64
+    ensures { result ≡ key_of_end text.now }
+{
+    let mut key = 0;
+    for back in 0..8 {
+        key = key * 256 + u64::from(byte_before(text, back));
+    }
+    key
+}
+
+// A text with the number of its end, by which most texts are told apart.
+#[derive(Drop)]
+pub(crate) struct Keyed<'t> {
+    key: u64,
+    text: &'t [u8],
+}
+
+impl<'t> Model for Keyed<'t> {
+    ghost use Rattle.std.specs.Prelude.{List, ℕ};
+    ghost use Rattle.elf_tables.specs.KeyedSeen.{IsKeyed};
+
+    ghost Value = { List ℕ };
+
+    ghost view = { λ k. k.text.now };
+
+    ghost invariant = { IsKeyed };
+}
+
+impl<'t> Keyed<'t> {
+    // A text with its number.
+    pub(crate) fn new(text: &'t [u8]) -> Self
+        ensures { result ≡ text.entry.now }
+    {
+        Keyed {
+            key: end_key(text),
+            text,
+        }
+    }
+
+    // The text.
+    pub(crate) fn text(&self) -> &'t [u8]
+        ensures { result.now ≡ self.now }
+    {
+        self.text
+    }
+
+    // How two texts compare by their bytes, the last one first.
+    pub(crate) fn from_their_ends(&self, other: &Keyed<'_>) -> Ordering
+        ensures { result ≡ slice_cmp nat_cmp (reverse self.now) (reverse other.now) }
+    {
+        if self.key != other.key {
+            return self.key.cmp(&other.key);
+        }
+        from_their_ends(self.text, other.text)
+    }
+}
