@@ -23,10 +23,11 @@ use Rattle.elf_plan.specs.Kept.{KeptSection, interpreter_number, is_numbered, ke
 use Rattle.elf_plan.specs.Memory.{Resized, SizedSection, sized_from, sized_sections}
 use Rattle.elf_plan.specs.Rounds.{added_flags, each_once, flags_for, sections_at}
 use Rattle.elf_plan.specs.Sizes.{new_sizes}
-use Rattle.elf_moves.specs.Following.{AreStarts, chosen_starts, do_any_move, do_any_stay, end_with, is_chosen, is_marked, is_split_at, keeps_at, keeps_section, keeps_section_at, kept_end_over, with_flags, with_once}
+use Rattle.elf_moves.specs.Following.{AreStarts, chosen_begins, chosen_starts, do_any_move, do_any_stay, end_with, is_chosen, is_marked, is_split_at, keeps_at, keeps_section, keeps_section_at, kept_end_over, with_flags, with_once}
 use Rattle.elf_moves.specs.declared.leaders.LeaderAt.{LeaderAt}
 use Rattle.elf_moves.specs.Inner.{AreLeaders, AreMarks, IsResized, Told, leader_seen, told}
 use Rattle.elf_moves.specs.declared.sections.SectionAt.{SectionAt}
+use Rattle.elf_moves.specs.declared.starts.Begin.{Begin}
 use Rattle.elf_moves.specs.declared.starts.Starts.{Starts}
 use Rattle.elf_moves.specs.Asked.{is_some_in}
 use Rattle.elf_moves.specs.InOrder.{is_in}
@@ -256,6 +257,35 @@ some_started moving marks sections part starts same =
     last_two true true false = refl
     last_two true false true = refl
     last_two true false false = refl
+
+-- a walk over those that begin in a range, told by what begins and by positions
+module _ {A : Type 0} (marks : List Bool) (moving : Bool) (part : Range) (step : A → ℕ → A) where
+  abbrev pub step_begin : A → Begin → A
+  step_begin a b = if is_in part b.start then step a b.position else a
+
+  abbrev pub step_chosen : A → ℕ → A
+  step_chosen a position = if is_chosen moving marks position then step a position else a
+
+  pub begins_as_positions : (xs : List SectionAt) (a : A) → fold step_begin a (chosen_begins moving marks xs) ≡ fold step_chosen a (positions_in xs part)
+  begins_as_positions [] a = refl
+  begins_as_positions (x ∷ xs) a =
+      by_tests (has_bytes_at x) (is_chosen moving marks x.position) (is_in part x.sh_offset) refl refl (λ b. begins_as_positions xs b)
+    where
+      by_tests : (b c n : Bool) → is_chosen moving marks x.position ≡ c → is_in part x.sh_offset ≡ n
+          → ((u : A) → fold step_begin u (chosen_begins moving marks xs) ≡ fold step_chosen u (positions_in xs part))
+          → fold step_begin a
+          (map (λ (s : SectionAt). let g : Begin = record { start = s.sh_offset; position = s.position } in g) (cond (b && c) (x ∷ filter (λ s. has_bytes_at s && is_chosen moving marks s.position) xs) (filter (λ s. has_bytes_at s && is_chosen moving marks s.position) xs)))
+          ≡ fold step_chosen a (map (λ (s : SectionAt). s.position) (cond (b && n) (x ∷ filter (begins_in part) xs) (filter (begins_in part) xs)))
+      by_tests false c n ce ne rest = rest a
+      by_tests true true true ce ne rest =
+          ap (λ (b : Bool). fold step_begin (if b then step a x.position else a) (chosen_begins moving marks xs)) ne
+          ∙ rest (step a x.position)
+          ∙ sym (ap (λ (b : Bool). fold step_chosen (if b then step a x.position else a) (positions_in xs part)) ce)
+      by_tests true true false ce ne rest =
+          ap (λ (b : Bool). fold step_begin (if b then step a x.position else a) (chosen_begins moving marks xs)) ne ∙ rest a
+      by_tests true false true ce ne rest =
+          rest a ∙ sym (ap (λ (b : Bool). fold step_chosen (if b then step a x.position else a) (positions_in xs part)) ce)
+      by_tests true false false ce ne rest = rest a
 
 module _ (r : Resized) (moved : List ℕ) (marks : List Bool) (are : AreSized r) (h : AreMarks r moved marks) (starts : Starts) (begin : AreStarts (sections_seen r.image) marks starts) where
   pub notes_move : (p : SegmentHeader) (ns : List KeptSection) → AreNotesOf r p ns → is_some_in starts.moving (file_part p) ≡ list_any (is_moved moved) ns

@@ -12,6 +12,7 @@ use Rattle.elf_plan.specs.Follow.{is_loaded_section}
 use Rattle.elf_plan.specs.Memory.{Resized}
 use Rattle.elf_plan.specs.Rounds.{flags_for}
 use Rattle.elf_moves.specs.declared.sections.SectionAt.{SectionAt}
+use Rattle.elf_moves.specs.declared.starts.Begin.{Begin}
 use Rattle.elf_moves.specs.declared.starts.Starts.{Starts}
 use Rattle.elf_moves.specs.Asked.{is_some_in}
 use Rattle.elf_moves.specs.Inner.{Told, itself, notes, section, table}
@@ -37,6 +38,11 @@ do_any_stay marks positions = list_any (λ position. not (is_marked marks positi
 -- where sections with bytes begin in the file, those that move or those that stay
 abbrev pub chosen_starts : Bool → List Bool → List SectionAt → List ℕ
 chosen_starts moving marks sections = map (λ (s : SectionAt). s.sh_offset) (filter (λ s. has_bytes_at s && is_chosen moving marks s.position) sections)
+
+-- the same with their positions
+abbrev pub chosen_begins : Bool → List Bool → List SectionAt → List Begin
+chosen_begins moving marks sections =
+    map (λ (s : SectionAt). let b : Begin = record { start = s.sh_offset; position = s.position } in b) (filter (λ s. has_bytes_at s && is_chosen moving marks s.position) sections)
 
 -- both of them, in order
 pub record AreStarts (sections : List SectionAt) (marks : List Bool) (starts : Starts) : Type 0 where

@@ -1,7 +1,7 @@
 //! Where sections begin in the file that move, and where those begin that stay.
 ghost use Rattle.std.specs.Prelude.{◌≡◌, IfOk};
 ghost use Rattle.elf_moves.specs.Asked.{is_some_in};
-ghost use Rattle.elf_moves.specs.Following.{AreStarts, chosen_starts as starts_chosen, is_chosen as is_of_those, is_marked as is_set_at};
+ghost use Rattle.elf_moves.specs.Following.{AreStarts, chosen_begins as begins_chosen, chosen_starts as starts_chosen, is_chosen as is_of_those, is_marked as is_set_at};
 ghost use Rattle.elf_moves.specs.InOrder.{AreInOrder};
 ghost use Rattle.elf_moves.specs.Sections.{sections_seen};
 
@@ -38,7 +38,49 @@ pub fn is_chosen(moving: bool, marks: &[bool], position: usize) -> bool
     }
 }
 
+/// Where a section begins that has bytes: an offset in the file, and its position among the sections.
+#[derive(Clone, Copy)]
+pub struct Begin {
+    /// The offset.
+    pub start: u64,
+    /// The position.
+    pub position: usize,
+}
+
 // Where those sections with bytes begin that move, or those that stay.
+fn chosen_begins(
+    alloc: Global,
+    sections: &[SectionAt],
+    marks: &[bool],
+    moving: bool,
+) -> Result<Vec<Begin>, AllocError>
+    ensures { IfOk result (λ made. made.items ≡ begins_chosen moving marks.now sections.now) }
+{
+    sections
+        .iter()
+        .filter(|s| s.has_bytes() && is_chosen(moving, marks, s.position))
+        .map(|s| Begin {
+            start: s.sh_offset,
+            position: s.position,
+        })
+        .collect(alloc)
+}
+
+/// Where those sections of an image begin that have bytes and move, or have bytes and stay, in the order of the sections.
+pub fn begins_of(
+    alloc: Global,
+    r: &Resizing<'_, '_>,
+    marks: &[bool],
+    moving: bool,
+) -> Result<Vec<Begin>, AllocError>
+    ensures { IfOk result (λ begins.
+        begins.items ≡ begins_chosen moving marks.now (sections_seen r.now.image)) }
+{
+    let sections = sections_of(alloc, r.image)?;
+    chosen_begins(alloc, &sections, marks, moving)
+}
+
+// Where those sections with bytes begin that move, or those that stay: the offsets alone.
 fn chosen_starts(
     alloc: Global,
     sections: &[SectionAt],
