@@ -1,14 +1,14 @@
 -- Where program headers go, and what is written of them.
-use Rattle.std.proofs.Common.{◌≡◌, ℕ, zero, suc, ◌+◌, ◌-◌, ◌*◌, ◌<◌, ◌^◌, max, Bool, true, false, not, ◌&&◌, ◌||◌, cond, List, [], ◌∷◌, ◌++◌, map, length, take, drop, get_or, refl, sym, ap, ◌∙◌, Option, Some, None, All, MatchOption, option_map, arith}
+use Rattle.std.proofs.Common.{◌≡◌, ℕ, zero, suc, ◌+◌, ◌-◌, ◌*◌, ◌<◌, ◌≤◌, ◌^◌, max, Bool, true, false, not, ◌&&◌, ◌||◌, ◌⊎◌, inl, inr, cond, List, [], ◌∷◌, ◌++◌, map, length, take, drop, get_or, refl, sym, ap, ◌∙◌, Option, Some, None, All, MatchOption, option_map, arith}
 use Rattle.std.specs.Prelude.{count_by, filter, fold, if◌then◌else◌, nat_le, nat_lt, ◌==◌}
 use Rattle.std.specs.List.{cons_option, flat_map, list_all, list_any, slice_get}
 use Rattle.std.specs.Option.{option_to_list}
 use Rattle.std.proofs.lemmas.Bool.{and_from, and_parts, and_right, eq-eqb, eqb-false, eqb-true, false_from_ne_true, lt-ltb, ltb-true, ne_eqb, true≢false}
-use Rattle.std.proofs.lemmas.List.{append-nil, append_assoc, at_drop_more, take_more}
+use Rattle.std.proofs.lemmas.List.{append-nil, append_assoc, at_drop_more, length-map, take_more}
 use Rattle.std.proofs.lemmas.List.Concat.{flat_map-append}
-use Rattle.std.proofs.lemmas.List.Elements.{All-head, All-tail}
+use Rattle.std.proofs.lemmas.List.Elements.{All-head, All-tail, All-weaker}
 use Rattle.std.proofs.lemmas.List.Folds.{list_all-append, list_all_more}
-use Rattle.std.proofs.lemmas.Option.{get_or_from_slice_get, slice_get_within}
+use Rattle.std.proofs.lemmas.Option.{get_or_from_slice_get, slice_get_cases, slice_get_within}
 use Rattle.std.proofs.lemmas.List.Sums.{sum_by-cons}
 use Rattle.patch_bytes.specs.declared.number.Wide.{Wide}
 use Rattle.patch_bytes.specs.declared.number.Wide.TheVariants.{W32, W64}
@@ -19,25 +19,29 @@ use Rattle.elf_format.specs.File.{is_loaded}
 use Rattle.elf_format.specs.declared.form.Form.{Form}
 use Rattle.elf_format.specs.Form.{by_class}
 use Rattle.elf_format.specs.Places.{Place, file_range}
+use Rattle.elf_format.specs.Placement.{file_part}
+use Rattle.elf_format.specs.declared.range.Range.{Range}
 use Rattle.elf_format.specs.Ranges.{end_of}
 use Rattle.elf_format.specs.Records.{segment_header_size}
 use Rattle.elf_format.specs.declared.records.SegmentHeader.{SegmentHeader}
 use Rattle.elf_plan.specs.Added.{added_loads, greatest, header_count}
-use Rattle.elf_plan.specs.Follow.{HeaderTable, Itself, Leader, Notes, OneSection, is_moved, leader_of}
-use Rattle.elf_plan.specs.Kept.{KeptSection}
-use Rattle.elf_plan.specs.Memory.{Resized}
+use Rattle.elf_plan.specs.Follow.{HeaderTable, Itself, Leader, Notes, OneSection, is_moved, leader_of, moved_notes, staying_notes}
+use Rattle.elf_plan.specs.Kept.{KeptSection, kept_sections}
+use Rattle.elf_plan.specs.Memory.{Resized, sized_sections}
 use Rattle.elf_plan.specs.Plan.{does_place_fit, does_plan_fit, does_segment_fit, layout_for}
 use Rattle.elf_plan.specs.Sizes.{fits_field}
-use Rattle.elf_plan.specs.Standing.{places, sections_offset, table_offset}
+use Rattle.elf_plan.specs.Standing.{place_in, places, sections_offset, table_offset}
 use Rattle.elf_plan.specs.Written.{Target, address_for, behind_last_load, first_in_file, led_to, places_of_kept, resized_table, target_at, targets_of, targets_of_notes, targets_over, written_from, written_segments}
 use Rattle.elf_layout.specs.declared.headings.Headings.{Headings}
 use Rattle.elf_layout.specs.declared.targets.TargetAt.{TargetAt}
 use Rattle.elf_layout.specs.declared.targets.Targets.{Targets}
 use Rattle.elf_moves.specs.Inner.{AreMarks, Told, notes, told}
 use Rattle.elf_layout.specs.Inner.{IsPastField, StandsTooFar}
-use Rattle.elf_moves.specs.Sections.{AreSized}
-use Rattle.elf_layout.specs.Targets.{IsMisfit, Span, added_behind, do_headings_fit, does_table_fit, fits_word, header_at, headings_at, headings_for, headings_found, headings_seen, is_led_well, is_physical_well, is_well_at, left_behind, sized_table, span_over, span_step, span_with, target_of_span, targets_at, targets_found, targets_seen}
-use Rattle.elf_moves.proofs.ForCallers.{AreThere, IsThere, any_move-is, leader-there, marked-is}
+use Rattle.elf_moves.specs.declared.starts.Begin.{Begin}
+use Rattle.elf_moves.specs.Following.{chosen_begins, is_chosen}
+use Rattle.elf_moves.specs.Sections.{AreSized, sections_seen}
+use Rattle.elf_layout.specs.Targets.{AreBegins, Begins, IsMisfit, Span, added_behind, do_headings_fit, does_table_fit, fits_word, header_at, headings_at, headings_for, headings_found, headings_seen, is_led_well, is_physical_well, is_well_at, left_behind, sized_table, span_over, span_step, span_with, target_of_span, targets_at, targets_found, targets_over_notes, targets_seen}
+use Rattle.elf_moves.proofs.ForCallers.{AreNotesOf, AreThere, IsThere, begins_as_positions, leader-there, length-kept, length-sized, marked-is}
 
 -- ## Several places
 
@@ -52,42 +56,119 @@ span-over : (ts : List Place) → option_to_list (option_map target_of_span (fol
 span-over [] = refl
 span-over (t ∷ ts) = ap (λ o. option_to_list (option_map target_of_span o)) (span_is t (end_of (file_range t)) ts)
 
-module _ (r : Resized) (moved : List ℕ) (marks : List Bool) (are : AreSized r) (h : AreMarks r moved marks) (all : List Place) where
+-- the place of one more section
+abbrev span_at : List Place → Option Span → ℕ → Option Span
+span_at all span position = elim (slice_get all position) [ Some t ↦ span_with span t | None ↦ span ]
+
+-- the same, if it is one that moves, or one that stays
+chosen_step : List Place → List Bool → Bool → Option Span → ℕ → Option Span
+chosen_step all marks moving span position = if is_chosen moving marks position then span_at all span position else span
+
+-- ## Notes that move
+
+-- notes have places: none moves, or some place is that of one that does
+record HasPlaceOf (all : List Place) (moves : KeptSection → Bool) (ns : List KeptSection) : Type 0 where
+  first : Place
+  rest : List Place
+  are : places_of_kept all (filter moves ns) ≡ first ∷ rest
+  some : list_any moves ns ≡ true
+
+record HasNone (all : List Place) (moves : KeptSection → Bool) (ns : List KeptSection) : Type 0 where
+  are : places_of_kept all (filter moves ns) ≡ []
+  none : list_any moves ns ≡ false
+
+places_or_none : (all : List Place) (moves : KeptSection → Bool) (ns : List KeptSection) → All (λ s. s.position < length all) ns → HasPlaceOf all moves ns ⊎ HasNone all moves ns
+places_or_none all moves [] within = inr (record { are = refl; none = refl })
+places_or_none all moves (s ∷ ns) within =
+    by_test (moves s) refl (slice_get_cases all s.position).1 (places_or_none all moves ns (All-tail (λ (x : KeptSection). x.position < length all) s ns within))
+    (All-head (λ (x : KeptSection). x.position < length all) s ns within)
+  where
+    by_test : (b : Bool) → moves s ≡ b → ((t : Place) × (s.position < length all) × (slice_get all s.position ≡ Some t) × (get_or all s.position t ≡ t)) ⊎ ((length all ≤ s.position) × (slice_get all s.position ≡ None))
+        → HasPlaceOf all moves ns ⊎ HasNone all moves ns → s.position < length all → HasPlaceOf all moves (s ∷ ns) ⊎ HasNone all moves (s ∷ ns)
+    by_test true is (inl found) rest inside = inl (record {
+      first = found.0;
+      rest = places_of_kept all (filter moves ns);
+      are = ap (λ (b : Bool). places_of_kept all (cond b (s ∷ filter moves ns) (filter moves ns))) is ∙ ap (λ (o : Option Place). cons_option o (places_of_kept all (filter moves ns))) found.2;
+      some = ap (λ (b : Bool). b || list_any moves ns) is;
+    })
+    by_test true is (inr past) rest inside = absurd (omega (arith, past.0, inside))
+    by_test false is place (inl some) inside = inl (record {
+      first = some.first;
+      rest = some.rest;
+      are = ap (λ (b : Bool). places_of_kept all (cond b (s ∷ filter moves ns) (filter moves ns))) is ∙ some.are;
+      some = ap (λ (b : Bool). b || list_any moves ns) is ∙ some.some;
+    })
+    by_test false is place (inr none) inside = inr (record {
+      are = ap (λ (b : Bool). places_of_kept all (cond b (s ∷ filter moves ns) (filter moves ns))) is ∙ none.are;
+      none = ap (λ (b : Bool). b || list_any moves ns) is ∙ none.none;
+    })
+
+module _ (r : Resized) (moved : List ℕ) (marks : List Bool) (are : AreSized r) (h : AreMarks r moved marks) (all : List Place) (long : length all ≡ length r.image.sections)
+    (begins : Begins) (begin : AreBegins r marks begins) where
   -- those that move, or those that stay
   abbrev chosen : Bool → KeptSection → Bool
   chosen moving s = if moving then is_moved moved s else not (is_moved moved s)
 
   span_kept : (moving : Bool) (ns : List KeptSection) (o : Option Span) → All (IsThere r) ns
-      → fold (span_step all marks moving) o (map (λ (s : KeptSection). s.position) ns) ≡ fold span_with o (places_of_kept all (filter (chosen moving) ns))
-  unfolding span_step
+      → fold (chosen_step all marks moving) o (map (λ (s : KeptSection). s.position) ns) ≡ fold span_with o (places_of_kept all (filter (chosen moving) ns))
+  unfolding chosen_step
   span_kept moving [] o there = refl
   span_kept moving (s ∷ ns) o there =
-      ap (λ b. fold (span_step all marks moving) (if (if moving then b else not b) then elim (slice_get all s.position) as (λ _. Option Span) [ Some t ↦ span_with o t | None ↦ o ] else o) (map (λ (s : KeptSection). s.position) ns))
+      ap (λ b. fold (chosen_step all marks moving) (if (if moving then b else not b) then elim (slice_get all s.position) as (λ _. Option Span) [ Some t ↦ span_with o t | None ↦ o ] else o) (map (λ (s : KeptSection). s.position) ns))
       (marked-is r moved marks are h s (All-head (IsThere r) s ns there))
       ∙ by_tests (chosen moving s) (slice_get all s.position) (λ x. span_kept moving ns x (All-tail (IsThere r) s ns there)) refl
     where
       by_tests : (b : Bool) (at : Option Place)
-          → ((x : Option Span) → fold (span_step all marks moving) x (map (λ (s : KeptSection). s.position) ns) ≡ fold span_with x (places_of_kept all (filter (chosen moving) ns)))
+          → ((x : Option Span) → fold (chosen_step all marks moving) x (map (λ (s : KeptSection). s.position) ns) ≡ fold span_with x (places_of_kept all (filter (chosen moving) ns)))
           → slice_get all s.position ≡ at
-          → fold (span_step all marks moving) (if b then elim at as (λ _. Option Span) [ Some t ↦ span_with o t | None ↦ o ] else o) (map (λ (s : KeptSection). s.position) ns)
+          → fold (chosen_step all marks moving) (if b then elim at as (λ _. Option Span) [ Some t ↦ span_with o t | None ↦ o ] else o) (map (λ (s : KeptSection). s.position) ns)
           ≡ fold span_with o (places_of_kept all (cond b (s ∷ filter (chosen moving) ns) (filter (chosen moving) ns)))
       by_tests false at rest is = rest o
       by_tests true None rest is = rest o ∙ ap (λ x. fold span_with o (cons_option x (places_of_kept all (filter (chosen moving) ns)))) (sym is)
       by_tests true (Some t) rest is = rest (span_with o t) ∙ ap (λ x. fold span_with o (cons_option x (places_of_kept all (filter (chosen moving) ns)))) (sym is)
 
-  spans_are : (moving : Bool) (ns : List KeptSection) → All (IsThere r) ns
-      → option_to_list (option_map target_of_span (span_over all marks moving (map (λ (s : KeptSection). s.position) ns))) ≡ targets_over (places_of_kept all (filter (chosen moving) ns))
-  spans_are moving ns there =
-      ap (λ o. option_to_list (option_map target_of_span o)) (span_kept moving ns None there) ∙ span-over (places_of_kept all (filter (chosen moving) ns))
+  module _ (p : SegmentHeader) (ns : List KeptSection) (these : AreNotesOf r p ns) where
+    spans_are : (moving : Bool) (found : List Begin) → found ≡ chosen_begins moving marks (sections_seen r.image)
+        → span_over all (file_part p) found ≡ fold span_with None (places_of_kept all (filter (chosen moving) ns))
+    unfolding span_step chosen_step
+    spans_are moving found same =
+        ap (fold (span_step all (file_part p)) None) same
+        ∙ begins_as_positions marks moving (file_part p) (span_at all) (sections_seen r.image) None
+        ∙ ap (fold (chosen_step all marks moving) None) (sym these.begin)
+        ∙ span_kept moving ns None these.there
 
-  notes_go : (ns : List KeptSection) → All (IsThere r) ns → targets_at all marks (notes (map (λ (s : KeptSection). s.position) ns)) ≡ targets_of_notes moved all ns
-  unfolding targets_at
-  notes_go ns there =
-      let ps : List ℕ = map (λ (s : KeptSection). s.position) ns in
-      ap (λ b. if b then option_to_list (option_map target_of_span (span_over all marks false ps)) ++ option_to_list (option_map target_of_span (span_over all marks true ps)) else [])
-      (any_move-is r moved marks are h ns there)
-      ∙ ap (λ l. if list_any (is_moved moved) ns then l ++ option_to_list (option_map target_of_span (span_over all marks true ps)) else []) (spans_are false ns there)
-      ∙ ap (λ l. if list_any (is_moved moved) ns then targets_over (places_of_kept all (filter (chosen false) ns)) ++ l else []) (spans_are true ns there)
+    within : All (λ s. s.position < length all) ns
+    within = All-weaker (IsThere r) (λ s. s.position < length all)
+        (λ s there. let inside : s.position < length (kept_sections r.image) = slice_get_within (kept_sections r.image) s.position s there in omega (arith, inside, length-kept r.image are.numbered, long))
+        ns these.there
+
+    notes_go : targets_at all begins (notes (file_part p)) ≡ targets_of_notes moved all ns
+    unfolding targets_at
+    notes_go =
+        ap (λ o. targets_over_notes o (span_over all (file_part p) begins.moving)) (spans_are false begins.staying begin.staying)
+        ∙ ap (targets_over_notes (fold span_with None (places_of_kept all (filter (chosen false) ns)))) (spans_are true begins.moving begin.moving)
+        ∙ by_places (places_or_none all (is_moved moved) ns within)
+      where
+        by_places : HasPlaceOf all (is_moved moved) ns ⊎ HasNone all (is_moved moved) ns
+            → targets_over_notes (fold span_with None (places_of_kept all (filter (chosen false) ns))) (fold span_with None (places_of_kept all (filter (chosen true) ns))) ≡ targets_of_notes moved all ns
+        by_places (inl some) =
+            let stay : List Place = places_of_kept all (filter (chosen false) ns) in
+            let ts : List Place = some.first ∷ some.rest in
+            let end : ℕ = end_of (file_range some.first) in
+            let span : Span = record { first = first_in_file some.first some.rest; end = greatest end (map (λ (t : Place). end_of (file_range t)) some.rest) } in
+            ap (λ (us : List Place). targets_over_notes (fold span_with None stay) (fold span_with None us)) some.are
+            ∙ ap (targets_over_notes (fold span_with None stay)) (span_is some.first end some.rest)
+            ∙ ap (λ (l : List Target). l ++ target_of_span span ∷ []) (span-over stay)
+            ∙ sym (ap (λ (us : List Place). targets_over stay ++ targets_over us) some.are)
+            ∙ sym (ap (λ (b : Bool). if b then targets_over stay ++ targets_over (places_of_kept all (filter (is_moved moved) ns)) else []) some.some)
+        by_places (inr none) =
+            ap (λ (ts : List Place). targets_over_notes (fold span_with None (places_of_kept all (filter (chosen false) ns))) (fold span_with None ts)) none.are
+            ∙ sym (ap (λ (b : Bool). if b then targets_over (places_of_kept all (staying_notes moved ns)) ++ targets_over (places_of_kept all (moved_notes moved ns)) else []) none.none)
+
+-- a place for each section
+as_many : (r : Resized) (moved : List ℕ) → AreSized r → length (places r moved) ≡ length r.image.sections
+unfolding places
+as_many r moved are = length-map (sized_sections r) (place_in r moved) ∙ length-sized r are
 
 one_goes : (o : Option Place) → option_to_list (option_map target_at o) ≡ map target_at (cons_option o [])
 one_goes None = refl
@@ -113,16 +194,16 @@ module _ (form : Form) (p alone : SegmentHeader) where
   abbrev AreFound : Option Headings → Targets → Type 0
   AreFound o found = MatchOption o (list_all (is_well_at form p) (targets_found found) ≡ false) (λ h. (headings_seen h ≡ headings_found form p alone (targets_found found)) × (list_all (is_well_at form p) (targets_found found) ≡ true))
 
-  pub headings_found-are : (all : List Place) (marks : List Bool) (size : ℕ) (k : Told) (o : Option Headings) (found : Targets) → AreFound o found
-      → targets_seen found ≡ targets_at all marks k → alone ≡ sized_table size p k → does_table_fit size k ≡ true
-      → MatchOption o (do_headings_fit form all marks size p k ≡ false) (λ h. (headings_seen h ≡ headings_for form all marks size p k) × (do_headings_fit form all marks size p k ≡ true))
+  pub headings_found-are : (all : List Place) (begins : Begins) (size : ℕ) (k : Told) (o : Option Headings) (found : Targets) → AreFound o found
+      → targets_seen found ≡ targets_at all begins k → alone ≡ sized_table size p k → does_table_fit size k ≡ true
+      → MatchOption o (do_headings_fit form all begins size p k ≡ false) (λ h. (headings_seen h ≡ headings_for form all begins size p k) × (do_headings_fit form all begins size p k ≡ true))
   unfolding headings_for do_headings_fit
-  headings_found-are all marks size k None found is same sized fits =
-      and_right (does_table_fit size k) (list_all (is_led_well form p) (targets_at all marks k))
+  headings_found-are all begins size k None found is same sized fits =
+      and_right (does_table_fit size k) (list_all (is_led_well form p) (targets_at all begins k))
       (sym (found_well found.first found.second ∙ ap (list_all (is_led_well form p)) same) ∙ is)
-  headings_found-are all marks size k (Some h) found is same sized fits = (
-    is.0 ∙ found_same found.first found.second ∙ ap (headings_at form p alone) same ∙ ap (λ q. headings_at form p q (targets_at all marks k)) sized,
-    and_from (does_table_fit size k) (list_all (is_led_well form p) (targets_at all marks k)) fits (sym (found_well found.first found.second ∙ ap (list_all (is_led_well form p)) same) ∙ is.1),
+  headings_found-are all begins size k (Some h) found is same sized fits = (
+    is.0 ∙ found_same found.first found.second ∙ ap (headings_at form p alone) same ∙ ap (λ q. headings_at form p q (targets_at all begins k)) sized,
+    and_from (does_table_fit size k) (list_all (is_led_well form p) (targets_at all begins k)) fits (sym (found_well found.first found.second ∙ ap (list_all (is_led_well form p)) same) ∙ is.1),
   )
 
 -- ## What is written of a program header
@@ -154,14 +235,14 @@ all_led_well form p (t ∷ ts) fits =
     (and_from (is_physical_well form p (address_for p t)) (fits_word t.part.size) w.0 w.1)
     (all_led_well form p ts f.1)
 
-module _ (r : Resized) (moved : List ℕ) (marks : List Bool) (are : AreSized r) (h : AreMarks r moved marks) (p : SegmentHeader) where
+module _ (r : Resized) (moved : List ℕ) (marks : List Bool) (are : AreSized r) (h : AreMarks r moved marks) (begins : Begins) (begin : AreBegins r marks begins) (p : SegmentHeader) where
   abbrev form : Form
   form = r.image.form
 
   abbrev table_bytes : ℕ
   table_bytes = header_count r moved * segment_header_size r.image.form
 
-  leader_goes : (l : Leader) → AreThere r l → targets_at (places r moved) marks (told l) ≡ (elim l as (λ _. List Target) [
+  leader_goes : (l : Leader) → AreThere r p l → targets_at (places r moved) begins (told p l) ≡ (elim l as (λ _. List Target) [
     | Itself ↦ []
     | HeaderTable ↦ []
     | OneSection s ↦ map target_at (places_of_kept (places r moved) (s ∷ []))
@@ -171,13 +252,13 @@ module _ (r : Resized) (moved : List ℕ) (marks : List Bool) (are : AreSized r)
   leader_goes Itself there = refl
   leader_goes HeaderTable there = refl
   leader_goes (OneSection s) there = one_goes (slice_get (places r moved) s.position)
-  leader_goes (Notes ns) there = notes_go r moved marks are h (places r moved) ns there
+  leader_goes (Notes ns) there = notes_go r moved marks are h (places r moved) (as_many r moved are) begins begin p ns there
 
-  targets-are : targets_at (places r moved) marks (told (leader_of r p)) ≡ targets_of r moved p
+  targets-are : targets_at (places r moved) begins (told p (leader_of r p)) ≡ targets_of r moved p
   unfolding targets_of
   targets-are = leader_goes (leader_of r p) (leader-there r p are)
 
-  table_sized : (l : Leader) → sized_table table_bytes p (told l) ≡ (elim l as (λ _. SegmentHeader) [ HeaderTable ↦ record p { p_filesz = table_bytes; p_memsz = table_bytes } | _ ↦ p ])
+  table_sized : (l : Leader) → sized_table table_bytes p (told p l) ≡ (elim l as (λ _. SegmentHeader) [ HeaderTable ↦ record p { p_filesz = table_bytes; p_memsz = table_bytes } | _ ↦ p ])
   table_sized Itself = refl
   table_sized HeaderTable = refl
   table_sized (OneSection s) = refl
@@ -187,15 +268,15 @@ module _ (r : Resized) (moved : List ℕ) (marks : List Bool) (are : AreSized r)
   headings_of_targets alone [] = refl
   headings_of_targets alone (t ∷ ts) = refl
 
-  written-is : headings_for form (places r moved) marks table_bytes p (told (leader_of r p)) ≡ written_from r moved p
+  written-is : headings_for form (places r moved) begins table_bytes p (told p (leader_of r p)) ≡ written_from r moved p
   unfolding headings_for
   written-is =
-      ap (headings_at form p (sized_table table_bytes p (told (leader_of r p)))) targets-are
+      ap (headings_at form p (sized_table table_bytes p (told p (leader_of r p)))) targets-are
       ∙ ap (λ q. headings_at form p q (targets_of r moved p)) (table_sized (leader_of r p))
       ∙ headings_of_targets (resized_table r moved p) (targets_of r moved p)
 
   -- what fits its fields was written well
-  table_fits : (l : Leader) → list_all (does_segment_fit form) (headings_at form p (sized_table table_bytes p (told l)) (targets_at (places r moved) marks (told l))) ≡ true → does_table_fit table_bytes (told l) ≡ true
+  table_fits : (l : Leader) → list_all (does_segment_fit form) (headings_at form p (sized_table table_bytes p (told p l)) (targets_at (places r moved) begins (told p l))) ≡ true → does_table_fit table_bytes (told p l) ≡ true
   unfolding targets_at
   table_fits Itself fits = refl
   table_fits HeaderTable fits = (parts_fit form (record p { p_filesz = table_bytes; p_memsz = table_bytes }) (and_parts (does_segment_fit form (record p { p_filesz = table_bytes; p_memsz = table_bytes })) true fits).0).1
@@ -206,14 +287,14 @@ module _ (r : Resized) (moved : List ℕ) (marks : List Bool) (are : AreSized r)
   targets_fit alone [] fits = refl
   targets_fit alone (t ∷ ts) fits = all_led_well form p (t ∷ ts) fits
 
-  fits-is : list_all (does_segment_fit form) (written_from r moved p) ≡ true → do_headings_fit form (places r moved) marks table_bytes p (told (leader_of r p)) ≡ true
+  fits-is : list_all (does_segment_fit form) (written_from r moved p) ≡ true → do_headings_fit form (places r moved) begins table_bytes p (told p (leader_of r p)) ≡ true
   unfolding do_headings_fit headings_for
   fits-is fits =
-      let k : Told = told (leader_of r p) in
-      let made : list_all (does_segment_fit form) (headings_at form p (sized_table table_bytes p k) (targets_at (places r moved) marks k)) ≡ true = ap (list_all (does_segment_fit form)) written-is ∙ fits in
-      and_from (does_table_fit table_bytes k) (list_all (is_led_well form p) (targets_at (places r moved) marks k))
+      let k : Told = told p (leader_of r p) in
+      let made : list_all (does_segment_fit form) (headings_at form p (sized_table table_bytes p k) (targets_at (places r moved) begins k)) ≡ true = ap (list_all (does_segment_fit form)) written-is ∙ fits in
+      and_from (does_table_fit table_bytes k) (list_all (is_led_well form p) (targets_at (places r moved) begins k))
       (table_fits (leader_of r p) made)
-      (targets_fit (sized_table table_bytes p k) (targets_at (places r moved) marks k) made)
+      (targets_fit (sized_table table_bytes p k) (targets_at (places r moved) begins k) made)
 
 -- ## Headers behind the last one that is loaded
 
@@ -257,19 +338,19 @@ plan_parts r moved rounds looked h =
 
 -- ## Steps of the walk over the program headers
 
-module _ (r : Resized) (moved : List ℕ) (marks : List Bool) (are : AreSized r) (h : AreMarks r moved marks) (form : Form) (all : List Place) (size : ℕ) (k : Told) (p : SegmentHeader)
-    (formed : form ≡ r.image.form) (stand : all ≡ places r moved) (sized : size ≡ header_count r moved * segment_header_size r.image.form) (lead : k ≡ told (leader_of r p)) where
-  pub heading_written : headings_for form all marks size p k ≡ written_from r moved p
+module _ (r : Resized) (moved : List ℕ) (marks : List Bool) (are : AreSized r) (h : AreMarks r moved marks) (begins : Begins) (begin : AreBegins r marks begins) (form : Form) (all : List Place) (size : ℕ) (k : Told) (p : SegmentHeader)
+    (formed : form ≡ r.image.form) (stand : all ≡ places r moved) (sized : size ≡ header_count r moved * segment_header_size r.image.form) (lead : k ≡ told p (leader_of r p)) where
+  pub heading_written : headings_for form all begins size p k ≡ written_from r moved p
   heading_written =
-      ap (λ f. headings_for f all marks size p k) formed ∙ ap (λ l. headings_for r.image.form l marks size p k) stand ∙ ap (λ n. headings_for r.image.form (places r moved) marks n p k) sized
-      ∙ ap (headings_for r.image.form (places r moved) marks (header_count r moved * segment_header_size r.image.form) p) lead ∙ written-is r moved marks are h p
+      ap (λ f. headings_for f all begins size p k) formed ∙ ap (λ l. headings_for r.image.form l begins size p k) stand ∙ ap (λ n. headings_for r.image.form (places r moved) begins n p k) sized
+      ∙ ap (headings_for r.image.form (places r moved) begins (header_count r moved * segment_header_size r.image.form) p) lead ∙ written-is r moved marks are h begins begin p
 
-  fit_same : do_headings_fit form all marks size p k ≡ do_headings_fit r.image.form (places r moved) marks (header_count r moved * segment_header_size r.image.form) p (told (leader_of r p))
+  fit_same : do_headings_fit form all begins size p k ≡ do_headings_fit r.image.form (places r moved) begins (header_count r moved * segment_header_size r.image.form) p (told p (leader_of r p))
   fit_same =
-      ap (λ f. do_headings_fit f all marks size p k) formed ∙ ap (λ l. do_headings_fit r.image.form l marks size p k) stand ∙ ap (λ n. do_headings_fit r.image.form (places r moved) marks n p k) sized
-      ∙ ap (do_headings_fit r.image.form (places r moved) marks (header_count r moved * segment_header_size r.image.form) p) lead
+      ap (λ f. do_headings_fit f all begins size p k) formed ∙ ap (λ l. do_headings_fit r.image.form l begins size p k) stand ∙ ap (λ n. do_headings_fit r.image.form (places r moved) begins n p k) sized
+      ∙ ap (do_headings_fit r.image.form (places r moved) begins (header_count r moved * segment_header_size r.image.form) p) lead
 
-  pub heading_past : (i : ℕ) → slice_get r.image.segments i ≡ Some p → do_headings_fit form all marks size p k ≡ false
+  pub heading_past : (i : ℕ) → slice_get r.image.segments i ≡ Some p → do_headings_fit form all begins size p k ≡ false
       → (rounds looked : ℕ) → does_plan_fit r.image.form (layout_for r rounds looked moved) ≡ false
   unfolding written_segments
   heading_past i there misfit rounds looked =
@@ -280,7 +361,7 @@ module _ (r : Resized) (moved : List ℕ) (marks : List Bool) (are : AreSized r)
       let fits : list_all (does_segment_fit r.image.form) (written_from r moved p) ≡ true =
       flat_all (does_segment_fit r.image.form) (written_from r moved) r.image.segments i p within at
       (behind_keeps (does_segment_fit r.image.form) (map (λ load. load.header) (added_loads r moved)) (flat_map (written_from r moved) r.image.segments) parts) in
-      true≢false (sym (fits-is r moved marks are h p fits) ∙ sym fit_same ∙ misfit))
+      true≢false (sym (fits-is r moved marks are h begins begin p fits) ∙ sym fit_same ∙ misfit))
 
 pub written-more : (r : Resized) (moved : List ℕ) (i : ℕ) (p : SegmentHeader) → slice_get r.image.segments i ≡ Some p
     → flat_map (written_from r moved) (take (i + 1) r.image.segments) ≡ flat_map (written_from r moved) (take i r.image.segments) ++ written_from r moved p

@@ -1,4 +1,4 @@
--- Where a program header goes, told by the positions of sections and the marks of those that move.
+-- Where a program header goes, told by where sections begin and by their positions.
 use Rattle.std.specs.Prelude.{ℕ, ◌≡◌, ◌+◌, ◌-◌, ◌^◌, max, List, [], ◌∷◌, ◌++◌, map, fold, Bool, true, false, ◌&&◌, not, Option, Some, None, nat_lt, ◌==◌, if◌then◌else◌}
 use Rattle.std.specs.List.{list_all, slice_get}
 use Rattle.std.specs.Option.{option_map, option_to_list}
@@ -15,7 +15,13 @@ use Rattle.elf_layout.specs.declared.targets.Spread.{Spread}
 use Rattle.elf_layout.specs.declared.targets.TargetAt.{TargetAt}
 use Rattle.elf_layout.specs.declared.targets.Targets.{Targets}
 use Rattle.elf_layout.specs.declared.headings.Headings.{Headings}
-use Rattle.elf_moves.specs.Following.{do_any_move, is_marked}
+use Rattle.elf_layout.specs.declared.targets.Notes.{Notes}
+use Rattle.elf_format.specs.declared.range.Range.{Range}
+use Rattle.elf_plan.specs.Memory.{Resized}
+use Rattle.elf_moves.specs.declared.starts.Begin.{Begin}
+use Rattle.elf_moves.specs.Following.{chosen_begins}
+use Rattle.elf_moves.specs.InOrder.{is_in}
+use Rattle.elf_moves.specs.Sections.{sections_seen}
 use Rattle.elf_moves.specs.Inner.{Told, itself, notes, section, table}
 
 abbrev pub target_seen : TargetAt → Target
@@ -39,33 +45,44 @@ abbrev pub span_with : Option Span → Place → Option Span
 span_with None t = Some (record { first = t; end = end_of (file_range t) })
 span_with (Some s) t = Some (record { first = if nat_lt t.sh_offset s.first.sh_offset then t else s.first; end = max s.end (end_of (file_range t)) })
 
--- the section at a position is one that moves, or one that stays
-abbrev pub is_chosen : Bool → List Bool → ℕ → Bool
-is_chosen moving marks position = if moving then is_marked marks position else not (is_marked marks position)
+-- the place of one more section, if it begins in a range
+unfoldable pub span_step : List Place → Range → Option Span → Begin → Option Span
+span_step all part span b =
+    if is_in part b.start then elim (slice_get all b.position) [ Some t ↦ span_with span t | None ↦ span ] else span
 
--- the place of one more section, if it is chosen
-unfoldable pub span_step : List Place → List Bool → Bool → Option Span → ℕ → Option Span
-span_step all marks moving span position =
-    if is_chosen moving marks position then elim (slice_get all position) [ Some t ↦ span_with span t | None ↦ span ] else span
-
--- the places of those sections that are chosen
-abbrev pub span_over : List Place → List Bool → Bool → List ℕ → Option Span
-span_over all marks moving positions = fold (span_step all marks moving) None positions
+-- the places of those sections that begin in a range
+abbrev pub span_over : List Place → Range → List Begin → Option Span
+span_over all part begins = fold (span_step all part) None begins
 
 abbrev pub target_of_span : Span → Target
 target_of_span s = record { part = range s.first.sh_offset (s.end - s.first.sh_offset); address = address_in_memory s.first }
 
 -- ## Of a leader
 
+-- where sections with bytes begin, those that stay and those that move
+pub record Begins : Type 0 where
+  pub staying : List Begin
+  pub moving : List Begin
+
+-- the same of an image with sections that are marked
+pub record AreBegins (r : Resized) (marks : List Bool) (begins : Begins) : Type 0 where
+  pub staying : begins.staying ≡ chosen_begins false marks (sections_seen r.image)
+  pub moving : begins.moving ≡ chosen_begins true marks (sections_seen r.image)
+
+abbrev pub begins_seen : Notes → Begins
+begins_seen n = record { staying = n.staying.items; moving = n.moving.items }
+
+-- where notes go of which some move
+abbrev pub targets_over_notes : Option Span → Option Span → List Target
+targets_over_notes staying None = []
+targets_over_notes staying (Some moving) = option_to_list (option_map target_of_span staying) ++ target_of_span moving ∷ []
+
 -- where a program header goes that goes by this
-unfoldable pub targets_at : List Place → List Bool → Told → List Target
-targets_at all marks itself = []
-targets_at all marks table = []
-targets_at all marks (section position) = option_to_list (option_map target_at (slice_get all position))
-targets_at all marks (notes positions) =
-    if do_any_move marks positions
-    then option_to_list (option_map target_of_span (span_over all marks false positions)) ++ option_to_list (option_map target_of_span (span_over all marks true positions))
-    else []
+unfoldable pub targets_at : List Place → Begins → Told → List Target
+targets_at all begins itself = []
+targets_at all begins table = []
+targets_at all begins (section position) = option_to_list (option_map target_at (slice_get all position))
+targets_at all begins (notes part) = targets_over_notes (span_over all part begins.staying) (span_over all part begins.moving)
 
 -- ## What is written
 
@@ -108,20 +125,20 @@ abbrev pub sized_table : ℕ → SegmentHeader → Told → SegmentHeader
 sized_table size p itself = p
 sized_table size p table = record p { p_filesz = size; p_memsz = size }
 sized_table size p (section position) = p
-sized_table size p (notes positions) = p
+sized_table size p (notes part) = p
 
 abbrev pub does_table_fit : ℕ → Told → Bool
 does_table_fit size itself = true
 does_table_fit size table = fits_word size
 does_table_fit size (section position) = true
-does_table_fit size (notes positions) = true
+does_table_fit size (notes part) = true
 
 -- what becomes of a program header that goes by this, where the table has that size
-unfoldable pub headings_for : Form → List Place → List Bool → ℕ → SegmentHeader → Told → List SegmentHeader
-headings_for form all marks size p told = headings_at form p (sized_table size p told) (targets_at all marks told)
+unfoldable pub headings_for : Form → List Place → Begins → ℕ → SegmentHeader → Told → List SegmentHeader
+headings_for form all begins size p told = headings_at form p (sized_table size p told) (targets_at all begins told)
 
-unfoldable pub do_headings_fit : Form → List Place → List Bool → ℕ → SegmentHeader → Told → Bool
-do_headings_fit form all marks size p told = does_table_fit size told && list_all (is_led_well form p) (targets_at all marks told)
+unfoldable pub do_headings_fit : Form → List Place → Begins → ℕ → SegmentHeader → Told → Bool
+do_headings_fit form all begins size p told = does_table_fit size told && list_all (is_led_well form p) (targets_at all begins told)
 
 -- ## Headers behind the last one that is loaded
 

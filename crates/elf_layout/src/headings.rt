@@ -5,9 +5,9 @@ ghost use Rattle.elf_plan.specs.PlanSeen.{place_seen};
 ghost use Rattle.elf_plan.specs.Sizes.{field_range};
 ghost use Rattle.elf_plan.specs.Written.{address_for as address_at, memory_size as size_in_memory, physical_for};
 ghost use Rattle.elf_moves.specs.Inner.{leader_seen};
-ghost use Rattle.elf_layout.specs.Targets.{IsMisfit, do_headings_fit, does_table_fit, fits_word, header_at, headings_for, headings_found, headings_seen, is_physical_well, is_well_at, sized_table, target_seen, targets_found};
+ghost use Rattle.elf_layout.specs.Targets.{IsMisfit, begins_seen, do_headings_fit, does_table_fit, fits_word, header_at, headings_for, headings_found, headings_seen, is_physical_well, is_well_at, sized_table, target_seen, targets_found};
 
-use crate::targets::{TargetAt, Targets, targets_of};
+use crate::targets::{Notes, TargetAt, Targets, targets_of};
 use elf_format::constants::{PT_DYNAMIC, PT_INTERP};
 use elf_format::form::Form;
 use elf_format::records::SegmentHeader;
@@ -204,19 +204,20 @@ fn at_targets(
 fn headings_of(
     form: Form,
     places: &[SectionPlace],
-    marks: &[bool],
+    notes: &Notes,
     size: u128,
     p: SegmentHeader,
     leader: &LeaderAt,
 ) -> Option<Headings>
-    ensures { let all = map place_seen places.now in let told = leader_seen leader.now in
-        MatchOption result (do_headings_fit form all marks.now size p told ≡ false)
-        (λ h. (headings_seen h ≡ headings_for form all marks.now size p told)
-        × (do_headings_fit form all marks.now size p told ≡ true)) }
+    ensures { let all = map place_seen places.now in let begins = begins_seen notes.now in
+        let told = leader_seen leader.now in
+        MatchOption result (do_headings_fit form all begins size p told ≡ false)
+        (λ h. (headings_seen h ≡ headings_for form all begins size p told)
+        × (do_headings_fit form all begins size p told ≡ true)) }
 {
     match table_or(p, leader, size) {
         None => None,
-        Some(alone) => at_targets(form, p, alone, targets_of(places, marks, leader)),
+        Some(alone) => at_targets(form, p, alone, targets_of(places, notes, leader)),
     }
 }
 
@@ -236,18 +237,19 @@ pub(crate) fn push_written(
     form: Form,
     made: &mut Vec<SegmentHeader>,
     places: &[SectionPlace],
-    marks: &[bool],
+    notes: &Notes,
     size: u128,
     p: SegmentHeader,
     leader: &LeaderAt,
 ) -> Result<(), LayoutFault>
-    ensures { let all = map place_seen places.now in let told = leader_seen leader.now in
+    ensures { let all = map place_seen places.now in let begins = begins_seen notes.now in
+        let told = leader_seen leader.now in
         MatchResult result
-        (λ _. (made.new.items ≡ made.old.items ++ headings_for form all marks.now size p told)
-        × (do_headings_fit form all marks.now size p told ≡ true))
-        (IsMisfit (do_headings_fit form all marks.now size p told)) }
+        (λ _. (made.new.items ≡ made.old.items ++ headings_for form all begins size p told)
+        × (do_headings_fit form all begins size p told ≡ true))
+        (IsMisfit (do_headings_fit form all begins size p told)) }
 {
-    let Some(headings) = headings_of(form, places, marks, size, p, leader) else {
+    let Some(headings) = headings_of(form, places, notes, size, p, leader) else {
         return Err(LayoutFault::NumberTooLarge);
     };
     match push_headings(made, headings) {

@@ -1,15 +1,19 @@
 //! Where a program header goes.
-ghost use Rattle.std.specs.Prelude.{◌≡◌, map, slice_get};
+ghost use Rattle.std.specs.Prelude.{◌≡◌, IfOk, map, slice_get};
 ghost use Rattle.std.specs.Option.{option_map};
 ghost use Rattle.elf_plan.specs.PlanSeen.{place_seen};
 ghost use Rattle.elf_plan.specs.Written.{address_in_memory, target_at as target_of_place};
 ghost use Rattle.elf_moves.specs.Inner.{leader_seen};
-ghost use Rattle.elf_layout.specs.Targets.{is_chosen as is_of_those, span_over, span_seen, span_step, span_with, target_of_span, target_seen, targets_at, targets_seen};
+ghost use Rattle.elf_moves.specs.InOrder.{is_in as lies_in};
+ghost use Rattle.elf_layout.specs.Targets.{AreBegins, begins_seen, span_over, span_seen, span_step, span_with, target_of_span, target_seen, targets_at, targets_over_notes, targets_seen};
 
 use elf_format::constants::SHF_ALLOC;
-use elf_moves::following::{any_moves, is_marked};
+use elf_format::range::Range;
 use elf_moves::leaders::LeaderAt;
+use elf_moves::resizing::Resizing;
+use elf_moves::starts::{Begin, begins_of};
 use elf_plan::SectionPlace;
+use std::alloc::{AllocError, Global};
 
 // Bytes of the file and, where what a program header goes by is loaded, an address.
 #[derive(Clone, Copy)]
@@ -24,6 +28,15 @@ pub(crate) struct TargetAt {
 pub(crate) struct Targets {
     pub(crate) first: Option<TargetAt>,
     pub(crate) second: Option<TargetAt>,
+}
+
+// Where sections with bytes begin, in the order of the sections.
+#[derive(Drop)]
+pub(crate) struct Notes {
+    // Those that stay.
+    pub(crate) staying: Vec<Begin>,
+    // Those that move.
+    pub(crate) moving: Vec<Begin>,
 }
 
 // Of several places the one that stands first in the file, and the end of the last.
@@ -102,51 +115,72 @@ fn widened(spread: Option<Spread>, place: SectionPlace) -> Spread
     }
 }
 
-// Whether the section at a position is one that moves, or one that stays.
-fn is_chosen(moving: bool, marks: &[bool], position: usize) -> bool
-    ensures { result ≡ is_of_those moving marks.now position }
+// Whether an offset lies in a range of the file.
+fn is_in(part: Range, offset: u64) -> bool
+    ensures { result ≡ lies_in part offset }
 {
-    if moving {
-        is_marked(marks, position)
-    } else {
-        !is_marked(marks, position)
-    }
+    part.start <= offset && u128::from(offset) < part.end()
 }
 
-// The place of one more section, if it is chosen.
+// The place of one more section, if it begins in a range.
 #[tactic(auto, unfolding(crate::specs::Targets::span_step))]
 fn widened_by(
     places: &[SectionPlace],
-    marks: &[bool],
-    moving: bool,
+    part: Range,
     spread: Option<Spread>,
-    position: usize,
+    begin: Begin,
 ) -> Option<Spread>
-    ensures { option_map span_seen result ≡ span_step (map place_seen places.now) marks.now moving
-        (option_map span_seen spread) position }
+    ensures { option_map span_seen result
+        ≡ span_step (map place_seen places.now) part (option_map span_seen spread) begin }
 {
-    if is_chosen(moving, marks, position) && position < places.len() {
-        Some(widened(spread, places[position]))
+    if is_in(part, begin.start) && begin.position < places.len() {
+        Some(widened(spread, places[begin.position]))
     } else {
         spread
     }
 }
 
-// The places of those sections that are chosen.
-fn spread_over(
-    places: &[SectionPlace],
-    marks: &[bool],
-    moving: bool,
-    positions: &[usize],
-) -> Option<Spread>
+// The places of those sections that begin in a range.
+fn spread_over(places: &[SectionPlace], part: Range, begins: &[Begin]) -> Option<Spread>
     ensures { option_map span_seen result
-        ≡ span_over (map place_seen places.now) marks.now moving positions.now }
+        ≡ span_over (map place_seen places.now) part begins.now }
 {
     let mut spread = None;
-    for position in positions {
-        spread = widened_by(places, marks, moving, spread, *position);
+    for begin in begins {
+        spread = widened_by(places, part, spread, *begin);
     }
     spread
+}
+
+// Where sections with bytes begin, those that stay and those that move.
+pub(crate) fn notes_of(
+    alloc: Global,
+    r: &Resizing<'_, '_>,
+    marks: &[bool],
+) -> Result<Notes, AllocError>
+    ensures { IfOk result (λ found. AreBegins r.now marks.now (begins_seen found)) }
+{
+    let staying = begins_of(alloc, r, marks, false)?;
+    let moving = begins_of(alloc, r, marks, true)?;
+    Ok(Notes { staying, moving })
+}
+
+// Where a program header goes that goes by notes.
+fn targets_of_notes(places: &[SectionPlace], notes: &Notes, part: Range) -> Targets
+    ensures { let all = map place_seen places.now in let begins = begins_seen notes.now in
+        targets_seen result ≡ targets_over_notes
+        (span_over all part begins.staying) (span_over all part begins.moving) }
+{
+    match spread_over(places, part, &notes.moving) {
+        None => Targets {
+            first: None,
+            second: None,
+        },
+        Some(moving) => Targets {
+            first: target_over_some(spread_over(places, part, &notes.staying)),
+            second: Some(target_over(moving)),
+        },
+    }
 }
 
 // Where a program header goes that goes by one section.
@@ -163,9 +197,9 @@ fn targets_of_section(places: &[SectionPlace], position: usize) -> Option<Target
 
 // Where a program header goes that goes by this.
 #[tactic(auto, unfolding(crate::specs::Targets::targets_at))]
-pub(crate) fn targets_of(places: &[SectionPlace], marks: &[bool], leader: &LeaderAt) -> Targets
-    ensures { targets_seen result
-        ≡ targets_at (map place_seen places.now) marks.now (leader_seen leader.now) }
+pub(crate) fn targets_of(places: &[SectionPlace], notes: &Notes, leader: &LeaderAt) -> Targets
+    ensures { targets_seen result ≡ targets_at
+        (map place_seen places.now) (begins_seen notes.now) (leader_seen leader.now) }
 {
     let nowhere = Targets {
         first: None,
@@ -178,15 +212,6 @@ pub(crate) fn targets_of(places: &[SectionPlace], marks: &[bool], leader: &Leade
             first: targets_of_section(places, *position),
             second: None,
         },
-        LeaderAt::Notes(notes) => {
-            if any_moves(marks, notes) {
-                Targets {
-                    first: target_over_some(spread_over(places, marks, false, notes)),
-                    second: target_over_some(spread_over(places, marks, true, notes)),
-                }
-            } else {
-                nowhere
-            }
-        }
+        LeaderAt::Notes(part) => targets_of_notes(places, notes, *part),
     }
 }

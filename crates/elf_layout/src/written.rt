@@ -11,6 +11,7 @@ ghost use Rattle.elf_layout.specs.Targets.{added_behind, left_behind as left_at}
 
 use crate::headings::push_written;
 use crate::standing::Standing;
+use crate::targets::notes_of;
 use elf_format::records::SegmentHeader;
 use elf_moves::leaders::LeaderAt;
 use elf_moves::reading::{form_of, sections_are_sized, segment_at};
@@ -97,10 +98,13 @@ fn all_written(
     sections_are_sized(r);
     let form = form_of(r);
     let size = headers as u128 * form.segment_header_size() as u128;
+    let Ok(notes) = notes_of(alloc, r, marks) else {
+        return Err(LayoutFault::Memory);
+    };
     let mut made = Vec::new(alloc);
     for i in 0..leaders.len() {
         let p = segment_at(r, i);
-        match push_written(form, &mut made, places, marks, size, p, &leaders[i]) {
+        match push_written(form, &mut made, places, &notes, size, p, &leaders[i]) {
             Ok(()) => {}
             Err(fault) => return Err(fault),
         }

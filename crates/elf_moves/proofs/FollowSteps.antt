@@ -1,15 +1,17 @@
 -- Which program headers are split and which keep their ranges, told by positions and marks; the flags that sections need.
 use Rattle.std.proofs.Common.{◌≡◌, ℕ, zero, suc, ◌+◌, ◌<◌, ◌≤◌, ◌*◌, max, Bool, true, false, not, ◌&&◌, ◌||◌, cond, List, [], ◌∷◌, ◌++◌, map, length, take, get_or, refl, sym, ap, ◌∙◌, subst, inl, inr, Option, Some, None, All, arith}
-use Rattle.std.specs.Prelude.{count_by, filter, find, fold, if◌then◌else◌, nat_le, slice_index, ◌==◌}
+use Rattle.std.specs.Prelude.{count_by, filter, find, fold, if◌then◌else◌, nat_le, slice_index, ◌==◌, IsPermutation}
 use Rattle.std.specs.List.{cons_option, list_any, slice_get}
 use Rattle.std.proofs.lemmas.Bool.{cases_lt, eq-eqb, eqb-false, eqb-true, ne_eqb, true≢false}
 use Rattle.std.proofs.lemmas.List.{append-nil, get_or-map, length-map, map-append, take_more}
 use Rattle.std.proofs.lemmas.List.Elements.{All-filter, All-head, All-tail, filter-append, filter_agree, filter_map-append}
+use Rattle.std.proofs.lemmas.List.Sorted.{list_any-IsPermutation}
 use Rattle.std.proofs.lemmas.List.Sums.{fold-append, length-filter}
 use Rattle.std.proofs.lemmas.Option.{get_or_from_slice_get, none-some, same_Some, slice_get-get_or, slice_get_past, slice_get_within}
 use Rattle.elf_format.specs.Image.{ImageSection, counted}
 use Rattle.elf_format.specs.Options.{first_there, is_one_of}
 use Rattle.elf_format.specs.Placement.{file_part}
+use Rattle.elf_format.specs.declared.range.Range.{Range}
 use Rattle.elf_format.specs.Ranges.{end_of}
 use Rattle.elf_format.specs.Records.{file_header_size, segment_header_size}
 use Rattle.elf_format.specs.declared.constants.TheConstants.{PT_DYNAMIC, PT_INTERP, PT_LOAD, PT_PHDR, SHT_DYNAMIC}
@@ -21,11 +23,17 @@ use Rattle.elf_plan.specs.Kept.{KeptSection, interpreter_number, is_numbered, ke
 use Rattle.elf_plan.specs.Memory.{Resized, SizedSection, sized_from, sized_sections}
 use Rattle.elf_plan.specs.Rounds.{added_flags, each_once, flags_for, sections_at}
 use Rattle.elf_plan.specs.Sizes.{new_sizes}
-use Rattle.elf_moves.specs.Following.{do_any_move, do_any_stay, end_with, is_marked, is_split_at, keeps_at, keeps_section, keeps_section_at, kept_end_over, with_flags, with_once}
+use Rattle.elf_moves.specs.Following.{AreStarts, chosen_begins, chosen_starts, do_any_move, do_any_stay, end_with, is_chosen, is_marked, is_split_at, keeps_at, keeps_section, keeps_section_at, kept_end_over, with_flags, with_once}
 use Rattle.elf_moves.specs.declared.leaders.LeaderAt.{LeaderAt}
 use Rattle.elf_moves.specs.Inner.{AreLeaders, AreMarks, IsResized, Told, leader_seen, told}
-use Rattle.elf_moves.specs.Sections.{AreSized}
-use Rattle.elf_moves.proofs.LeadingSteps.{IsReadAgain, again-seen, counted-at, length-counted}
+use Rattle.elf_moves.specs.declared.sections.SectionAt.{SectionAt}
+use Rattle.elf_moves.specs.declared.starts.Begin.{Begin}
+use Rattle.elf_moves.specs.declared.starts.Starts.{Starts}
+use Rattle.elf_moves.specs.Asked.{is_some_in}
+use Rattle.elf_moves.specs.InOrder.{is_in}
+use Rattle.elf_moves.specs.Sections.{AreSized, begins_in, has_bytes_at, positions_in, sections_seen}
+use Rattle.elf_moves.proofs.CountLaws.{any-picked, any_agree}
+use Rattle.elf_moves.proofs.LeadingSteps.{IsReadAgain, again-seen, counted-at, length-counted, notes_begin}
 use Rattle.elf_moves.proofs.SectionSteps.{kept-at, length-kept}
 
 -- ## Sections with their sizes
@@ -34,7 +42,7 @@ sized-is : (r : Resized) → IsResized r → IsReadAgain r → AreSized r
 unfolding new_sizes
 sized-is r h is =
     let numbered = is.edited.is_edit.sections.numbered in
-    record { numbered = numbered; sized = ap length h.sizes ∙ length-map (kept_sections r.image) _ ∙ length-kept r.image numbered }
+    record { numbered = numbered; sized = ap length h.sizes ∙ length-map (kept_sections r.image) _ ∙ length-kept r.image numbered; notes = λ p over. notes_begin r p is over }
 
 -- the same of what is seen of an image with sizes
 pub seen-sized : (x r : Resized) → x ≡ r → IsResized x → IsEdited x.image → AreSized r
@@ -150,11 +158,16 @@ flags-none r = refl
 abbrev pub IsThere : Resized → KeptSection → Type 0
 IsThere r s = slice_get (kept_sections r.image) s.position ≡ Some s
 
-abbrev pub AreThere : Resized → Leader → Type 0
-AreThere r Itself = Unit {0}
-AreThere r HeaderTable = Unit {0}
-AreThere r (OneSection s) = IsThere r s
-AreThere r (Notes ns) = All (IsThere r) ns
+-- notes stand in the image, and are those that begin in the bytes of the program header
+pub record AreNotesOf (r : Resized) (p : SegmentHeader) (ns : List KeptSection) : Type 0 where
+  pub there : All (IsThere r) ns
+  pub begin : map (λ (s : KeptSection). s.position) ns ≡ positions_in (sections_seen r.image) (file_part p)
+
+abbrev pub AreThere : Resized → SegmentHeader → Leader → Type 0
+AreThere r p Itself = Unit {0}
+AreThere r p HeaderTable = Unit {0}
+AreThere r p (OneSection s) = IsThere r s
+AreThere r p (Notes ns) = AreNotesOf r p ns
 
 all_there : (r : Resized) → AreSized r → All (IsThere r) (kept_sections r.image)
 all_there r are i d h =
@@ -163,41 +176,42 @@ all_there r are i d h =
     let position : (get_or (kept_sections r.image) i d).position ≡ i = ap (λ (s : KeptSection). s.position) at in
     ap (slice_get (kept_sections r.image)) position ∙ slice_get-get_or (kept_sections r.image) i d h
 
-led_there : (r : Resized) (test : KeptSection → Bool) (xs : List KeptSection) → All (IsThere r) xs → AreThere r (led_by_section (find test xs))
-led_there r test [] all = tt
-led_there r test (x ∷ xs) all = by_test (test x) (All-head (IsThere r) x xs all) (led_there r test xs (All-tail (IsThere r) x xs all))
-  where
-    by_test : (a : Bool) → IsThere r x → AreThere r (led_by_section (find test xs)) → AreThere r (led_by_section (cond a (Some x) (find test xs)))
-    by_test true here rest = here
-    by_test false here rest = rest
+module _ (r : Resized) (p : SegmentHeader) where
+  led_there : (test : KeptSection → Bool) (xs : List KeptSection) → All (IsThere r) xs → AreThere r p (led_by_section (find test xs))
+  led_there test [] all = tt
+  led_there test (x ∷ xs) all = by_test (test x) (All-head (IsThere r) x xs all) (led_there test xs (All-tail (IsThere r) x xs all))
+    where
+      by_test : (a : Bool) → IsThere r x → AreThere r p (led_by_section (find test xs)) → AreThere r p (led_by_section (cond a (Some x) (find test xs)))
+      by_test true here rest = here
+      by_test false here rest = rest
 
-either_there : (r : Resized) (a b : Option KeptSection) → AreThere r (led_by_section a) → AreThere r (led_by_section b) → AreThere r (led_by_section (first_there a b))
-either_there r None b ha hb = hb
-either_there r (Some s) b ha hb = ha
+  either_there : (a b : Option KeptSection) → AreThere r p (led_by_section a) → AreThere r p (led_by_section b) → AreThere r p (led_by_section (first_there a b))
+  either_there None b ha hb = hb
+  either_there (Some s) b ha hb = ha
 
-pub leader-there : (r : Resized) (p : SegmentHeader) → AreSized r → AreThere r (leader_of r p)
-unfolding leader_of
-leader-there r p are =
-    let xs : List KeptSection = kept_sections r.image in
-    let all : All (IsThere r) xs = all_there r are in
-    let over : List KeptSection = filter (is_just_over p) xs in
-    let all_over : All (IsThere r) over = All-filter (is_just_over p) (IsThere r) xs all in
-    by_type (p.p_type == PT_LOAD) (p.p_type == PT_PHDR) (p.p_type == PT_DYNAMIC) (p.p_type == PT_INTERP) (p.p_filesz == 0) (is_over_notes r p)
-    (kept_of_type SHT_DYNAMIC r.image) (find (is_numbered (interpreter_number r.read)) xs) (section_under r p) (notes_under r p)
-    (led_there r (λ s. s.section.sh_type == SHT_DYNAMIC) xs all) (led_there r (is_numbered (interpreter_number r.read)) xs all)
-    (either_there r (find (λ s. is_loaded_section s.section) over) (find (λ _. true) over) (led_there r (λ s. is_loaded_section s.section) over all_over) (led_there r (λ _. true) over all_over))
-    (All-filter (λ s. is_one_of (map (λ n. n.number) (sharers r p)) s.number) (IsThere r) xs all)
-  where
-    by_type : (loaded phdr dynamic interpreter empty over : Bool) (a b c : Option KeptSection) (ns : List KeptSection) → AreThere r (led_by_section a) → AreThere r (led_by_section b)
-        → AreThere r (led_by_section c) → All (IsThere r) ns
-        → AreThere r (if loaded then Itself else if phdr then HeaderTable else if dynamic then led_by_section a else if interpreter then led_by_section b else if empty then Itself else if over then Notes ns else led_by_section c)
-    by_type true phdr dynamic interpreter empty over a b c ns ha hb hc hn = tt
-    by_type false true dynamic interpreter empty over a b c ns ha hb hc hn = tt
-    by_type false false true interpreter empty over a b c ns ha hb hc hn = ha
-    by_type false false false true empty over a b c ns ha hb hc hn = hb
-    by_type false false false false true over a b c ns ha hb hc hn = tt
-    by_type false false false false false true a b c ns ha hb hc hn = hn
-    by_type false false false false false false a b c ns ha hb hc hn = hc
+  pub leader-there : AreSized r → AreThere r p (leader_of r p)
+  unfolding leader_of
+  leader-there are =
+      let xs : List KeptSection = kept_sections r.image in
+      let all : All (IsThere r) xs = all_there r are in
+      let over : List KeptSection = filter (is_just_over p) xs in
+      let all_over : All (IsThere r) over = All-filter (is_just_over p) (IsThere r) xs all in
+      by_type (p.p_type == PT_LOAD) (p.p_type == PT_PHDR) (p.p_type == PT_DYNAMIC) (p.p_type == PT_INTERP) (p.p_filesz == 0) (is_over_notes r p) refl
+      (kept_of_type SHT_DYNAMIC r.image) (find (is_numbered (interpreter_number r.read)) xs) (section_under r p) (notes_under r p)
+      (led_there (λ s. s.section.sh_type == SHT_DYNAMIC) xs all) (led_there (is_numbered (interpreter_number r.read)) xs all)
+      (either_there (find (λ s. is_loaded_section s.section) over) (find (λ _. true) over) (led_there (λ s. is_loaded_section s.section) over all_over) (led_there (λ _. true) over all_over))
+      (All-filter (λ s. is_one_of (map (λ n. n.number) (sharers r p)) s.number) (IsThere r) xs all) (are.notes p)
+    where
+      by_type : (loaded phdr dynamic interpreter empty over : Bool) → is_over_notes r p ≡ over → (a b c : Option KeptSection) (ns : List KeptSection) → AreThere r p (led_by_section a) → AreThere r p (led_by_section b)
+          → AreThere r p (led_by_section c) → All (IsThere r) ns → (is_over_notes r p ≡ true → map (λ (s : KeptSection). s.position) ns ≡ positions_in (sections_seen r.image) (file_part p))
+          → AreThere r p (if loaded then Itself else if phdr then HeaderTable else if dynamic then led_by_section a else if interpreter then led_by_section b else if empty then Itself else if over then Notes ns else led_by_section c)
+      by_type true phdr dynamic interpreter empty over is a b c ns ha hb hc hn begin = tt
+      by_type false true dynamic interpreter empty over is a b c ns ha hb hc hn begin = tt
+      by_type false false true interpreter empty over is a b c ns ha hb hc hn begin = ha
+      by_type false false false true empty over is a b c ns ha hb hc hn begin = hb
+      by_type false false false false true over is a b c ns ha hb hc hn begin = tt
+      by_type false false false false false true is a b c ns ha hb hc hn begin = record { there = hn; begin = begin is }
+      by_type false false false false false false is a b c ns ha hb hc hn begin = hc
 
 -- ## Marks
 
@@ -226,13 +240,70 @@ any_stay-is r moved marks are h (s ∷ ns) all =
 
 -- ## Splits
 
-parted-is : (r : Resized) (moved : List ℕ) (marks : List Bool) → AreSized r → AreMarks r moved marks → (l : Leader) → AreThere r l → is_split_at marks (told l) ≡ is_parted moved l
-parted-is r moved marks are h Itself there = refl
-parted-is r moved marks are h HeaderTable there = refl
-parted-is r moved marks are h (OneSection s) there = refl
-parted-is r moved marks are h (Notes ns) there =
-    ap (λ b. b && do_any_stay marks (map (λ (s : KeptSection). s.position) ns)) (any_move-is r moved marks are h ns there)
-    ∙ ap (λ b. list_any (is_moved moved) ns && b) (any_stay-is r moved marks are h ns there)
+-- one of those sections begins in a range that move, or of those that stay
+pub some_started : (moving : Bool) (marks : List Bool) (sections : List SectionAt) (part : Range) (starts : List ℕ) → IsPermutation (chosen_starts moving marks sections) starts
+    → list_any (is_in part) starts ≡ list_any (is_chosen moving marks) (positions_in sections part)
+some_started moving marks sections part starts same =
+    let chosen : SectionAt → Bool = λ s. is_chosen moving marks s.position in
+    sym (list_any-IsPermutation (is_in part) (chosen_starts moving marks sections) starts same)
+    ∙ any-picked (λ s. has_bytes_at s && chosen s) (λ (s : SectionAt). s.sh_offset) (is_in part) sections
+    ∙ any_agree (λ s. (has_bytes_at s && chosen s) && is_in part s.sh_offset) (λ s. (has_bytes_at s && is_in part s.sh_offset) && chosen s)
+    (λ s. last_two (has_bytes_at s) (chosen s) (is_in part s.sh_offset)) sections
+    ∙ sym (any-picked (begins_in part) (λ (s : SectionAt). s.position) (is_chosen moving marks) sections)
+  where
+    last_two : (a b c : Bool) → ((a && b) && c) ≡ ((a && c) && b)
+    last_two false b c = refl
+    last_two true true true = refl
+    last_two true true false = refl
+    last_two true false true = refl
+    last_two true false false = refl
+
+-- a walk over those that begin in a range, told by what begins and by positions
+module _ {A : Type 0} (marks : List Bool) (moving : Bool) (part : Range) (step : A → ℕ → A) where
+  abbrev pub step_begin : A → Begin → A
+  step_begin a b = if is_in part b.start then step a b.position else a
+
+  abbrev pub step_chosen : A → ℕ → A
+  step_chosen a position = if is_chosen moving marks position then step a position else a
+
+  pub begins_as_positions : (xs : List SectionAt) (a : A) → fold step_begin a (chosen_begins moving marks xs) ≡ fold step_chosen a (positions_in xs part)
+  begins_as_positions [] a = refl
+  begins_as_positions (x ∷ xs) a =
+      by_tests (has_bytes_at x) (is_chosen moving marks x.position) (is_in part x.sh_offset) refl refl (λ b. begins_as_positions xs b)
+    where
+      by_tests : (b c n : Bool) → is_chosen moving marks x.position ≡ c → is_in part x.sh_offset ≡ n
+          → ((u : A) → fold step_begin u (chosen_begins moving marks xs) ≡ fold step_chosen u (positions_in xs part))
+          → fold step_begin a
+          (map (λ (s : SectionAt). let g : Begin = record { start = s.sh_offset; position = s.position } in g) (cond (b && c) (x ∷ filter (λ s. has_bytes_at s && is_chosen moving marks s.position) xs) (filter (λ s. has_bytes_at s && is_chosen moving marks s.position) xs)))
+          ≡ fold step_chosen a (map (λ (s : SectionAt). s.position) (cond (b && n) (x ∷ filter (begins_in part) xs) (filter (begins_in part) xs)))
+      by_tests false c n ce ne rest = rest a
+      by_tests true true true ce ne rest =
+          ap (λ (b : Bool). fold step_begin (if b then step a x.position else a) (chosen_begins moving marks xs)) ne
+          ∙ rest (step a x.position)
+          ∙ sym (ap (λ (b : Bool). fold step_chosen (if b then step a x.position else a) (positions_in xs part)) ce)
+      by_tests true true false ce ne rest =
+          ap (λ (b : Bool). fold step_begin (if b then step a x.position else a) (chosen_begins moving marks xs)) ne ∙ rest a
+      by_tests true false true ce ne rest =
+          rest a ∙ sym (ap (λ (b : Bool). fold step_chosen (if b then step a x.position else a) (positions_in xs part)) ce)
+      by_tests true false false ce ne rest = rest a
+
+module _ (r : Resized) (moved : List ℕ) (marks : List Bool) (are : AreSized r) (h : AreMarks r moved marks) (starts : Starts) (begin : AreStarts (sections_seen r.image) marks starts) where
+  pub notes_move : (p : SegmentHeader) (ns : List KeptSection) → AreNotesOf r p ns → is_some_in starts.moving (file_part p) ≡ list_any (is_moved moved) ns
+  notes_move p ns these =
+      some_started true marks (sections_seen r.image) (file_part p) starts.moving.numbers.items begin.moving.same
+      ∙ ap (do_any_move marks) (sym these.begin) ∙ any_move-is r moved marks are h ns these.there
+
+  notes_stay : (p : SegmentHeader) (ns : List KeptSection) → AreNotesOf r p ns → is_some_in starts.staying (file_part p) ≡ list_any (λ s. not (is_moved moved s)) ns
+  notes_stay p ns these =
+      some_started false marks (sections_seen r.image) (file_part p) starts.staying.numbers.items begin.staying.same
+      ∙ ap (do_any_stay marks) (sym these.begin) ∙ any_stay-is r moved marks are h ns these.there
+
+  parted-is : (p : SegmentHeader) (l : Leader) → AreThere r p l → is_split_at starts (told p l) ≡ is_parted moved l
+  parted-is p Itself there = refl
+  parted-is p HeaderTable there = refl
+  parted-is p (OneSection s) there = refl
+  parted-is p (Notes ns) there =
+      ap (λ b. b && is_some_in starts.staying (file_part p)) (notes_move p ns there) ∙ ap (λ b. list_any (is_moved moved) ns && b) (notes_stay p ns there)
 
 count_by-map : {A B : Type 0} → (f : A → B) (q : B → Bool) (xs : List A) → length (filter q (map f xs)) ≡ length (filter (λ x. q (f x)) xs)
 count_by-map f q [] = refl
@@ -244,13 +315,13 @@ count_by-map {A} f q (x ∷ xs) = by_test (q (f x)) (count_by-map f q xs)
     by_test false e = e
 
 -- as many program headers are split as leaders tell
-pub splits-are : (r : Resized) (moved : List ℕ) (marks : List Bool) → AreSized r → AreMarks r moved marks → (ps : List SegmentHeader)
-    → count_by (is_split_at marks) (map (λ p. told (leader_of r p)) ps) ≡ count_by (is_split r moved) ps
+pub splits-are : (r : Resized) (moved : List ℕ) (marks : List Bool) → AreSized r → AreMarks r moved marks → (starts : Starts) → AreStarts (sections_seen r.image) marks starts
+    → (ps : List SegmentHeader) → count_by (is_split_at starts) (map (λ p. told p (leader_of r p)) ps) ≡ count_by (is_split r moved) ps
 unfolding is_split
-splits-are r moved marks are h ps =
-    sym (length-filter (is_split_at marks) (map (λ p. told (leader_of r p)) ps))
-    ∙ count_by-map (λ p. told (leader_of r p)) (is_split_at marks) ps
-    ∙ ap length (filter_agree (λ p. is_split_at marks (told (leader_of r p))) (λ p. is_parted moved (leader_of r p)) (λ p. parted-is r moved marks are h (leader_of r p) (leader-there r p are)) ps)
+splits-are r moved marks are h starts begin ps =
+    sym (length-filter (is_split_at starts) (map (λ p. told p (leader_of r p)) ps))
+    ∙ count_by-map (λ p. told p (leader_of r p)) (is_split_at starts) ps
+    ∙ ap length (filter_agree (λ p. is_split_at starts (told p (leader_of r p))) (λ p. is_parted moved (leader_of r p)) (λ p. parted-is r moved marks are h starts begin p (leader_of r p) (leader-there r p are)) ps)
     ∙ length-filter (λ p. is_parted moved (leader_of r p)) ps
 
 -- ## Ranges that are kept
@@ -291,7 +362,8 @@ and_regroup true b c d e = refl
 and_regroup false b c d e = refl
 
 -- a leader tells whether the program header keeps its range
-module _ (r : Resized) (moved : List ℕ) (marks : List Bool) (headers : ℕ) (are : AreSized r) (h : AreMarks r moved marks) (count : headers ≡ header_count r moved) (p : SegmentHeader) where
+module _ (r : Resized) (moved : List ℕ) (marks : List Bool) (starts : Starts) (headers : ℕ) (are : AreSized r) (h : AreMarks r moved marks)
+    (begin : AreStarts (sections_seen r.image) marks starts) (count : headers ≡ header_count r moved) (p : SegmentHeader) where
   section_keeps : (s : KeptSection) → IsThere r s → (not (is_marked marks s.position) && keeps_section_at r p s.position) ≡ keeps_section_range r moved p s
   unfolding keeps_section_at
   section_keeps s there =
@@ -311,7 +383,7 @@ module _ (r : Resized) (moved : List ℕ) (marks : List Bool) (headers : ℕ) (a
       (sym (ap (λ v. list_any (has_size p.p_filesz v) (sized_sections r)) zero_add
       ∙ one_sized p.p_filesz 0 s.position r.image.section_numbers r.image.sections r.sizes are.numbered are.sized within))
 
-  leader_keeps : (l : Leader) → AreThere r l → keeps_at r marks headers p (told l) ≡ (elim l as (λ _. Bool) [
+  leader_keeps : (l : Leader) → AreThere r p l → keeps_at r marks starts headers p (told p l) ≡ (elim l as (λ _. Bool) [
     | Itself ↦ true
     | HeaderTable ↦ p.p_filesz == header_count r moved * segment_header_size r.image.form && p.p_memsz == p.p_filesz
     | OneSection s ↦ keeps_section_range r moved p s
@@ -321,9 +393,9 @@ module _ (r : Resized) (moved : List ℕ) (marks : List Bool) (headers : ℕ) (a
   leader_keeps Itself there = refl
   leader_keeps HeaderTable there = ap (λ n. p.p_filesz == n * segment_header_size r.image.form && p.p_memsz == p.p_filesz) count
   leader_keeps (OneSection s) there = section_keeps s there
-  leader_keeps (Notes ns) there = ap not (any_move-is r moved marks are h ns there)
+  leader_keeps (Notes ns) there = ap not (notes_move r moved marks are h starts begin p ns there)
 
-  pub keeps-is : keeps_at r marks headers p (told (leader_of r p)) ≡ keeps_range r moved p
+  pub keeps-is : keeps_at r marks starts headers p (told p (leader_of r p)) ≡ keeps_range r moved p
   keeps-is = leader_keeps (leader_of r p) (leader-there r p are)
 
 -- ## The end of what stays
@@ -369,13 +441,13 @@ kept_end-none r moved = refl
 
 -- as many leaders as program headers
 pub leaders-length : (r : Resized) (leaders : List LeaderAt) → AreLeaders r leaders → length leaders ≡ length r.image.segments
-leaders-length r leaders are = sym (length-map leaders leader_seen) ∙ ap length are ∙ length-map r.image.segments (λ q. told (leader_of r q))
+leaders-length r leaders are = sym (length-map leaders leader_seen) ∙ ap length are ∙ length-map r.image.segments (λ q. told q (leader_of r q))
 
 -- the leader at a place is that of the program header there
 pub leader-at : (r : Resized) (leaders : List LeaderAt) → AreLeaders r leaders → (i : ℕ) (l : LeaderAt) (p : SegmentHeader) → l ≡ get_or leaders i l
-    → slice_get r.image.segments i ≡ Some p → leader_seen l ≡ told (leader_of r p)
+    → slice_get r.image.segments i ≡ Some p → leader_seen l ≡ told p (leader_of r p)
 leader-at r leaders are i l p is at =
-    let lead : SegmentHeader → Told = λ q. told (leader_of r q) in
+    let lead : SegmentHeader → Told = λ q. told q (leader_of r q) in
     let within : i < length r.image.segments = slice_get_within r.image.segments i p at in
     ap leader_seen is
     ∙ sym (get_or-map leader_seen leaders i l (leader_seen l) (omega (arith, leaders-length r leaders are, within)))

@@ -6,4 +6,5 @@ pub use Rattle.elf_moves.proofs.ImagesWithSizes.{resized_is}
 pub use Rattle.elf_moves.proofs.Positions.{moved_within}
 pub use Rattle.elf_moves.proofs.RoundSteps.{few_needed}
 -- what the positions and marks of leaders mean
-pub use Rattle.elf_moves.proofs.FollowSteps.{AreThere, IsThere, any_move-is, leader-at, leader-there, leaders-length, marked-is}
+pub use Rattle.elf_moves.proofs.FollowSteps.{AreNotesOf, AreThere, IsThere, begins_as_positions, leader-at, leader-there, leaders-length, length-sized, marked-is}
+pub use Rattle.elf_moves.proofs.SectionSteps.{length-kept}

@@ -2,18 +2,21 @@
 use Rattle.std.proofs.Common.{◌≡◌, ℕ, zero, suc, ◌+◌, ◌<◌, Bool, true, false, ◌&&◌, ◌||◌, cond, List, [], ◌∷◌, ◌++◌, map, length, drop, get_or, refl, sym, ap, ◌∙◌, subst, inl, inr, Option, Some, None, Ok, Err, All, option_map, arith}
 use Rattle.std.specs.Prelude.{count_by, filter, find, if◌then◌else◌, nat_le, position, slice_index, ◌==◌}
 use Rattle.std.specs.List.{list_all, position_from, slice_get}
-use Rattle.std.proofs.lemmas.Bool.{cases_lt, eq-eqb, ne_eqb, true≢false}
+use Rattle.std.proofs.lemmas.Bool.{and_parts, cases_lt, eq-eqb, leb-true, ne_eqb, true≢false}
 use Rattle.std.proofs.lemmas.Iterator.Adapters.{position_from-zero}
 use Rattle.std.proofs.lemmas.List.{drop-drop, get_or-append-add, get_or-drop, get_or_append_left, length-append, length-map}
-use Rattle.std.proofs.lemmas.List.Elements.{All-head, All-tail}
+use Rattle.std.proofs.lemmas.List.Elements.{All-cons, All-head, All-nil, All-tail}
 use Rattle.std.proofs.lemmas.List.Folds.{list_all-map}
 use Rattle.std.proofs.lemmas.List.Sums.{length-filter}
 use Rattle.std.proofs.lemmas.Option.{slice_get-get_or, slice_get_within, get_or_from_slice_get}
 use Rattle.patch_bytes.specs.Memory.{◌>>=◌}
-use Rattle.elf_format.specs.declared.constants.TheConstants.{PT_DYNAMIC, PT_GNU_PROPERTY, PT_INTERP, PT_LOAD, PT_NOTE, PT_PHDR, SHT_DYNAMIC}
+use Rattle.elf_format.specs.declared.constants.TheConstants.{PT_DYNAMIC, PT_GNU_PROPERTY, PT_INTERP, PT_LOAD, PT_NOTE, PT_PHDR, SHT_DYNAMIC, SHT_NOTE}
 use Rattle.elf_format.specs.File.{segment_of_type}
 use Rattle.elf_format.specs.Image.{Image, ImageSection, counted}
 use Rattle.elf_format.specs.Options.{first_there, is_one_of}
+use Rattle.elf_format.specs.Placement.{file_part}
+use Rattle.elf_format.specs.Places.{file_range, occupies_memory}
+use Rattle.elf_format.specs.Ranges.{lies_in}
 use Rattle.elf_format.specs.declared.records.SegmentHeader.{SegmentHeader}
 use Rattle.elf_image.specs.declared.segment.Segment.{Segment}
 use Rattle.elf_image.specs.Edited.{IsEdited}
@@ -22,14 +25,15 @@ use Rattle.elf_image.specs.Lookups.{has_interpreter, interpreter_position}
 use Rattle.elf_image.proofs.LookupSteps.{find-map}
 use Rattle.elf_image.proofs.ReadImageLaws.{read_images_hold_parts}
 use Rattle.elf_plan.specs.Follow.{Itself, Leader, Notes, HeaderTable, is_loaded_section, is_note_in, is_over_notes, leader_of, led_by_section, notes_under, section_under, sharers, shares_bytes}
-use Rattle.elf_plan.specs.Kept.{KeptSection, interpreter_number, is_numbered, kept_from, kept_of_type, kept_sections, stands_as_interpreter}
+use Rattle.elf_plan.specs.Kept.{KeptSection, interpreter_number, is_numbered, kept_from, kept_of_type, kept_sections, place_at_read, stands_as_interpreter}
 use Rattle.elf_plan.specs.Memory.{Resized}
 use Rattle.elf_moves.specs.declared.sections.SectionAt.{SectionAt}
 use Rattle.elf_moves.specs.declared.sections.Wanted.{Wanted}
-use Rattle.elf_moves.specs.declared.sections.Wanted.TheVariants.{LoadedOver, Numbered, OfType, Over}
+use Rattle.elf_moves.specs.declared.sections.Wanted.TheVariants.{Numbered, OfType}
 use Rattle.elf_moves.specs.Inner.{IsResized, Told, itself, notes, table, told}
-use Rattle.elf_moves.specs.Leading.{Looked, are_notes_in, interpreter_at, led_at, told_by_range, told_of, under_at}
-use Rattle.elf_moves.specs.Sections.{first_wanted, is_just_over_at, is_note_at, is_wanted, positions_at, section_at, sections_seen, shares_bytes_at}
+use Rattle.elf_moves.specs.Leading.{are_notes_in, interpreter_at, is_over_notes_at, led_at, looked_at, told_by_range, told_of, under_at}
+use Rattle.elf_moves.specs.Sections.{begins_in, first_at, first_wanted, is_just_over_at, is_note_at, is_wanted, place_at, positions_at, positions_in, section_at, sections_seen, shares_bytes_at}
+use Rattle.elf_moves.proofs.NoteLaws.{shares_begins}
 use Rattle.elf_moves.proofs.SectionSteps.{kept-at, length-kept}
 
 -- ## The interpreter's section
@@ -69,21 +73,21 @@ interpreter-number read long =
 
 -- ## One section
 
-led_by_found : (o : Option KeptSection) → led_at (option_map (λ (s : SectionAt). s.position) (option_map section_at o)) ≡ told (led_by_section o)
-led_by_found None = refl
-led_by_found (Some s) = refl
+led_by_found : (p : SegmentHeader) (o : Option KeptSection) → led_at (option_map (λ (s : SectionAt). s.position) (option_map section_at o)) ≡ told p (led_by_section o)
+led_by_found p None = refl
+led_by_found p (Some s) = refl
 
-first_found : (w : Wanted) (xs : List KeptSection) → led_at (first_wanted w (map section_at xs)) ≡ told (led_by_section (find (λ s. is_wanted w (section_at s)) xs))
-first_found w xs =
-    ap (λ o. led_at (option_map (λ (s : SectionAt). s.position) o)) (sym (find-map section_at (is_wanted w) xs)) ∙ led_by_found (find (λ s. is_wanted w (section_at s)) xs)
+first_found : (p : SegmentHeader) (w : Wanted) (xs : List KeptSection) → led_at (first_wanted w (map section_at xs)) ≡ told p (led_by_section (find (λ s. is_wanted w (section_at s)) xs))
+first_found p w xs =
+    ap (λ o. led_at (option_map (λ (s : SectionAt). s.position) o)) (sym (find-map section_at (is_wanted w) xs)) ∙ led_by_found p (find (λ s. is_wanted w (section_at s)) xs)
 
 find_none : (xs : List KeptSection) → find (λ _. false) xs ≡ None
 find_none [] = refl
 find_none (x ∷ xs) = find_none xs
 
-led_by_number : (number : Option ℕ) (xs : List KeptSection) → led_at (interpreter_at number (map section_at xs)) ≡ told (led_by_section (find (is_numbered number) xs))
-led_by_number None xs = ap (λ o. told (led_by_section o)) (sym (find_none xs))
-led_by_number (Some n) xs = first_found (Numbered n) xs
+led_by_number : (p : SegmentHeader) (number : Option ℕ) (xs : List KeptSection) → led_at (interpreter_at number (map section_at xs)) ≡ told p (led_by_section (find (is_numbered number) xs))
+led_by_number p None xs = ap (λ o. told p (led_by_section o)) (sym (find_none xs))
+led_by_number p (Some n) xs = first_found p (Numbered n) xs
 
 -- ## The section under a program header
 
@@ -104,22 +108,23 @@ find-any {A} p (x ∷ xs) = by_test (p x) (find-any p xs)
     by_test true e = refl
     by_test false e = e
 
-either_led : (a b : Option KeptSection)
+either_led : (p : SegmentHeader) (a b : Option KeptSection)
     → led_at (first_there (option_map (λ (s : SectionAt). s.position) (option_map section_at a)) (option_map (λ (s : SectionAt). s.position) (option_map section_at b)))
-    ≡ told (led_by_section (first_there a b))
-either_led None b = led_by_found b
-either_led (Some s) b = refl
+    ≡ told p (led_by_section (first_there a b))
+either_led p None b = led_by_found p b
+either_led p (Some s) b = refl
 
-under : (r : Resized) (p : SegmentHeader) → led_at (under_at p (sections_seen r.image)) ≡ told (led_by_section (section_under r p))
+under : (r : Resized) (p : SegmentHeader) → led_at (under_at p (sections_seen r.image)) ≡ told p (led_by_section (section_under r p))
 under r p =
     let xs : List KeptSection = kept_sections r.image in
+    let is_loaded : SectionAt → Bool = λ s. is_just_over_at p s && occupies_memory (place_at s) in
     let over : KeptSection → Bool = λ s. is_just_over_at p (section_at s) in
-    let loaded : KeptSection → Bool = λ s. is_wanted (LoadedOver p) (section_at s) in
-    ap (λ o. led_at (first_there (option_map (λ (s : SectionAt). s.position) o) (first_wanted (Over p) (map section_at xs)))) (sym (find-map section_at (is_wanted (LoadedOver p)) xs))
-    ∙ ap (λ o. led_at (first_there (option_map (λ (s : SectionAt). s.position) (option_map section_at (find loaded xs))) (option_map (λ (s : SectionAt). s.position) o))) (sym (find-map section_at (is_wanted (Over p)) xs))
-    ∙ either_led (find loaded xs) (find over xs)
-    ∙ ap (λ o. told (led_by_section (first_there o (find over xs)))) (sym (find-filter over (λ s. is_loaded_section s.section) xs))
-    ∙ ap (λ o. told (led_by_section (first_there (find (λ s. is_loaded_section s.section) (filter over xs)) o))) (sym (find-any over xs))
+    let loaded : KeptSection → Bool = λ s. is_loaded (section_at s) in
+    ap (λ o. led_at (first_there (option_map (λ (s : SectionAt). s.position) o) (first_at (is_just_over_at p) (map section_at xs)))) (sym (find-map section_at is_loaded xs))
+    ∙ ap (λ o. led_at (first_there (option_map (λ (s : SectionAt). s.position) (option_map section_at (find loaded xs))) (option_map (λ (s : SectionAt). s.position) o))) (sym (find-map section_at (is_just_over_at p) xs))
+    ∙ either_led p (find loaded xs) (find over xs)
+    ∙ ap (λ o. told p (led_by_section (first_there o (find over xs)))) (sym (find-filter over (λ s. is_loaded_section s.section) xs))
+    ∙ ap (λ o. told p (led_by_section (first_there (find (λ s. is_loaded_section s.section) (filter over xs)) o))) (sym (find-any over xs))
 
 -- ## Notes
 
@@ -272,46 +277,90 @@ notes_same r p is = filter_same (λ s. is_one_of (map (λ n. n.number) (sharers 
         ∙ ap test (get_or_from_slice_get r.read.sections m old old read_there)
         ∙ sym (ap test changed.1))
 
+-- the notes at read are loaded notes that the program header has all of
+notes_inside : (r : Resized) (p : SegmentHeader) → is_over_notes r p ≡ true → list_all (is_note_in p) (sharers r p) ≡ true
+notes_inside r p over =
+    (and_parts (is_one_of (PT_NOTE ∷ PT_GNU_PROPERTY ∷ []) p.p_type && nat_le 2 (length (sharers r p))) (list_all (is_note_in p) (sharers r p)) over).1
+
+all_pass : {A : Type 0} → (p q : A → Bool) (xs : List A) → list_all q (filter p xs) ≡ true → All (λ x. p x ≡ true → q x ≡ true) xs
+all_pass p q [] e = All-nil (λ x. p x ≡ true → q x ≡ true)
+all_pass {A} p q (x ∷ xs) e = by_test (p x) refl (λ f. all_pass p q xs f) e
+  where
+    by_test : (b : Bool) → p x ≡ b → (list_all q (filter p xs) ≡ true → All (λ y. p y ≡ true → q y ≡ true) xs)
+        → list_all q (cond b (x ∷ filter p xs) (filter p xs)) ≡ true → All (λ y. p y ≡ true → q y ≡ true) (x ∷ xs)
+    by_test true is others h =
+        let (here, rest) = and_parts (q x) (list_all q (filter p xs)) h in
+        All-cons (λ y. p y ≡ true → q y ≡ true) x xs (λ _. here) (others rest)
+    by_test false is others h = All-cons (λ y. p y ≡ true → q y ≡ true) x xs (λ g. absurd (true≢false (sym g ∙ is))) (others h)
+
+-- where a program header is over notes, those that are still there are the sections that begin in its bytes
+pub notes_begin : (r : Resized) (p : SegmentHeader) → IsReadAgain r → is_over_notes r p ≡ true → map (λ (s : KeptSection). s.position) (notes_under r p) ≡ positions_in (sections_seen r.image) (file_part p)
+notes_begin r p is over =
+    ap (map (λ (s : KeptSection). s.position)) (notes_same r p is ∙ filter_same (shares_bytes p) (λ s. begins_in (file_part p) (section_at s)) (kept_sections r.image) (λ i d h. at i d h))
+    ∙ sym (map-map section_at (λ (s : SectionAt). s.position) (filter (λ s. begins_in (file_part p) (section_at s)) (kept_sections r.image)))
+    ∙ sym (ap positions_at (filter-map section_at (begins_in (file_part p)) (kept_sections r.image)))
+  where
+    at : (i : ℕ) (d : KeptSection) → i < length (kept_sections r.image)
+        → shares_bytes p (get_or (kept_sections r.image) i d) ≡ begins_in (file_part p) (section_at (get_or (kept_sections r.image) i d))
+    at i d h =
+        let picked = is.edited.is_edit.sections in
+        let many : length (kept_sections r.image) ≡ length r.image.sections = length-kept r.image picked.numbered in
+        let within : i < length r.image.sections = omega (arith, many, h) in
+        let s : ImageSection = get_or r.image.sections i d.section in
+        let m : ℕ = slice_index r.image.section_numbers i in
+        let (old, there, changed) = picked.same i s (slice_get-get_or r.image.sections i d.section within) in
+        let read_there : slice_get r.read.sections m ≡ Some old = ap (λ (image : Image). slice_get image.sections m) is.same ∙ there in
+        let long : length r.read.section_numbers ≡ length r.read.sections = ap length is.numbers ∙ length-counted (length r.read.sections) in
+        let m_within : m < length r.read.sections = slice_get_within r.read.sections m old read_there in
+        let kept : get_or (kept_sections r.image) i d ≡ record { position = i; number = m; section = s } = kept-at r.image i d d.section picked.numbered within in
+        let k : KeptSection = get_or (kept_sections r.read) m d in
+        let k_is : k ≡ record { position = m; number = slice_index r.read.section_numbers m; section = old } =
+        kept-at r.read m d old long m_within ∙ ap (λ (t : ImageSection). let x : KeptSection = record { position = m; number = slice_index r.read.section_numbers m; section = t } in x) (get_or_from_slice_get r.read.sections m old old read_there) in
+        let k_within : m < length (kept_sections r.read) = omega (arith, length-kept r.read long, m_within) in
+        let note = all_pass (shares_bytes p) (is_note_in p) (kept_sections r.read) (notes_inside r p over) m d k_within in
+        let test : ImageSection → Bool = λ t. shares_bytes p (record { position = i; number = m; section = t }) in
+        subst (λ (x : KeptSection). shares_bytes p x ≡ begins_in (file_part p) (section_at x)) (sym kept)
+        (shares_begins p (section_at (record { position = i; number = m; section = s })) (λ shares.
+        let shares_old : shares_bytes p k ≡ true = ap (λ (x : KeptSection). shares_bytes p x) k_is ∙ sym (ap test changed.1) ∙ shares in
+        let inside : is_note_in p (record { position = m; number = slice_index r.read.section_numbers m; section = old }) ≡ true = ap (is_note_in p) (sym k_is) ∙ note shares_old in
+        let ends = (and_parts (old.sh_type == SHT_NOTE && is_loaded_section old) (lies_in (file_range (place_at_read old)) (file_part p)) inside).1 in
+        let first = (and_parts (nat_le p.p_offset old.sh_offset) (nat_le (old.sh_offset + old.sh_size) (p.p_offset + p.p_filesz)) ends).0 in
+        let same : s.sh_offset ≡ old.sh_offset = ap (λ (t : ImageSection). t.sh_offset) changed.1 in
+        omega (arith, same, leb-true p.p_offset old.sh_offset first)))
+
 -- ## All of them
 
-pub told-is : (r : Resized) (p : SegmentHeader) → IsReadAgain r
-    → told_of (record { read = sections_seen r.read; kept = sections_seen r.image; interpreter = interpreter_number r.read }) p ≡ told (leader_of r p)
-unfolding told_of told_by_range leader_of
-told-is r p is =
+pub told-is : (r : Resized) (p : SegmentHeader) → told_of (looked_at r) p ≡ told p (leader_of r p)
+unfolding told_of told_by_range is_over_notes_at leader_of
+told-is r p =
     let xs : List KeptSection = kept_sections r.image in
     by_type (p.p_type == PT_LOAD) (p.p_type == PT_PHDR) (p.p_type == PT_DYNAMIC) (p.p_type == PT_INTERP) (p.p_filesz == 0)
     (is_one_of (PT_NOTE ∷ PT_GNU_PROPERTY ∷ []) p.p_type && are_notes_in p (sections_seen r.read)) (is_over_notes r p) (over_notes r p)
-    _ _ _ _ (led_by_section (kept_of_type SHT_DYNAMIC r.image)) (led_by_section (find (is_numbered (interpreter_number r.read)) xs)) (led_by_section (section_under r p)) (notes_under r p)
-    (first_found (OfType SHT_DYNAMIC) xs) (led_by_number (interpreter_number r.read) xs)
-    (ap positions_at (filter-map section_at (shares_bytes_at p) xs) ∙ map-map section_at (λ (s : SectionAt). s.position) (filter (shares_bytes p) xs) ∙ ap (map (λ (s : KeptSection). s.position)) (sym (notes_same r p is)))
-    (under r p)
+    _ _ _ (led_by_section (kept_of_type SHT_DYNAMIC r.image)) (led_by_section (find (is_numbered (interpreter_number r.read)) xs)) (led_by_section (section_under r p)) (notes_under r p)
+    (first_found p (OfType SHT_DYNAMIC) xs) (led_by_number p (interpreter_number r.read) xs) (under r p)
   where
-    by_type : (loaded phdr dynamic interpreter empty a b : Bool) → a ≡ b → (x y under_it : Told) (ns : List ℕ) (ox oy over_it : Leader) (ks : List KeptSection)
-        → x ≡ told ox → y ≡ told oy → ns ≡ map (λ (s : KeptSection). s.position) ks → under_it ≡ told over_it
-        → (if loaded then itself else if phdr then table else if dynamic then x else if interpreter then y else if empty then itself else if a then notes ns else under_it)
-        ≡ told (if loaded then Itself else if phdr then HeaderTable else if dynamic then ox else if interpreter then oy else if empty then Itself else if b then Notes ks else over_it)
-    by_type true phdr dynamic interpreter empty a b e x y under_it ns ox oy over_it ks ex ey en eu = refl
-    by_type false true dynamic interpreter empty a b e x y under_it ns ox oy over_it ks ex ey en eu = refl
-    by_type false false true interpreter empty a b e x y under_it ns ox oy over_it ks ex ey en eu = ex
-    by_type false false false true empty a b e x y under_it ns ox oy over_it ks ex ey en eu = ey
-    by_type false false false false true a b e x y under_it ns ox oy over_it ks ex ey en eu = refl
-    by_type false false false false false true true e x y under_it ns ox oy over_it ks ex ey en eu = ap notes en
-    by_type false false false false false true false e x y under_it ns ox oy over_it ks ex ey en eu = absurd (true≢false e)
-    by_type false false false false false false true e x y under_it ns ox oy over_it ks ex ey en eu = absurd (true≢false (sym e))
-    by_type false false false false false false false e x y under_it ns ox oy over_it ks ex ey en eu = eu
+    by_type : (loaded phdr dynamic interpreter empty a b : Bool) → a ≡ b → (x y under_it : Told) (ox oy over_it : Leader) (ks : List KeptSection)
+        → x ≡ told p ox → y ≡ told p oy → under_it ≡ told p over_it
+        → (if loaded then itself else if phdr then table else if dynamic then x else if interpreter then y else if empty then itself else if a then notes (file_part p) else under_it)
+        ≡ told p (if loaded then Itself else if phdr then HeaderTable else if dynamic then ox else if interpreter then oy else if empty then Itself else if b then Notes ks else over_it)
+    by_type true phdr dynamic interpreter empty a b e x y under_it ox oy over_it ks ex ey eu = refl
+    by_type false true dynamic interpreter empty a b e x y under_it ox oy over_it ks ex ey eu = refl
+    by_type false false true interpreter empty a b e x y under_it ox oy over_it ks ex ey eu = ex
+    by_type false false false true empty a b e x y under_it ox oy over_it ks ex ey eu = ey
+    by_type false false false false true a b e x y under_it ox oy over_it ks ex ey eu = refl
+    by_type false false false false false true true e x y under_it ox oy over_it ks ex ey eu = refl
+    by_type false false false false false true false e x y under_it ox oy over_it ks ex ey eu = absurd (true≢false e)
+    by_type false false false false false false true e x y under_it ox oy over_it ks ex ey eu = absurd (true≢false (sym e))
+    by_type false false false false false false false e x y under_it ox oy over_it ks ex ey eu = eu
 
 pub map_same : {A B : Type 0} → (f g : A → B) → ((x : A) → f x ≡ g x) → (xs : List A) → map f xs ≡ map g xs
 map_same f g e [] = refl
 map_same f g e (x ∷ xs) = ap (λ y. y ∷ map f xs) (e x) ∙ ap (λ l. g x ∷ l) (map_same f g e xs)
 
 -- what each program header that is seen goes by
-pub leaders-are : (x r : Resized) → x ≡ r → IsResized x → IsEdited x.image → (l : Looked)
-    → l ≡ record { read = sections_seen r.read; kept = sections_seen r.image; interpreter = interpreter_number r.read }
-    → (segments : List Segment) → map segment_kept segments ≡ x.image.segments
-    → map (λ s. told_of l (segment_kept s)) segments ≡ map (λ p. told (leader_of r p)) r.image.segments
-leaders-are x r same h edited l looked segments seen =
-    sym (map-map segment_kept (told_of l) segments)
-    ∙ ap (map (told_of l)) (seen ∙ ap (λ (y : Resized). y.image.segments) same)
-    ∙ ap (λ (m : Looked). map (told_of m) r.image.segments) looked
-    ∙ map_same (told_of (record { read = sections_seen r.read; kept = sections_seen r.image; interpreter = interpreter_number r.read })) (λ p. told (leader_of r p))
-    (λ p. told-is r p (again-seen x r same h edited)) r.image.segments
+pub leaders-are : (r : Resized) (segments : List Segment) → map segment_kept segments ≡ r.image.segments
+    → map (λ s. told_of (looked_at r) (segment_kept s)) segments ≡ map (λ p. told p (leader_of r p)) r.image.segments
+leaders-are r segments seen =
+    sym (map-map segment_kept (told_of (looked_at r)) segments)
+    ∙ ap (map (told_of (looked_at r))) seen
+    ∙ map_same (told_of (looked_at r)) (λ p. told p (leader_of r p)) (λ p. told-is r p) r.image.segments

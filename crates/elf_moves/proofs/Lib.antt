@@ -1,11 +1,14 @@
+pub mod CountLaws
 pub mod FollowSteps
 pub mod ForCallers
 pub mod ImageSteps
 pub mod ImagesWithSizes
+pub mod KeyLaws
 pub mod LeadingSteps
 pub mod Marking
 pub mod MovedLaws
 pub mod MoverLaws
+pub mod NoteLaws
 pub mod OldOrder
 pub mod OrderSteps
 pub mod Positions

@@ -1,10 +1,12 @@
 -- Steps of walks over the sections of an image.
-use Rattle.std.proofs.Common.{◌≡◌, ℕ, zero, suc, ◌+◌, ◌<◌, List, [], ◌∷◌, ◌++◌, length, take, get_or, refl, sym, ap, ◌∙◌, arith}
+use Rattle.std.proofs.Common.{◌≡◌, ℕ, zero, suc, ◌+◌, ◌<◌, List, [], ◌∷◌, ◌++◌, length, map, take, get_or, refl, sym, ap, ◌∙◌, arith}
 use Rattle.std.specs.Prelude.{slice_index}
+use Rattle.std.specs.List.{AllByRecursion}
 use Rattle.std.proofs.lemmas.List.{get_or-map, length-map, take_more}
 use Rattle.elf_format.specs.Image.{Image, ImageSection}
 use Rattle.elf_plan.specs.Kept.{KeptSection, kept_from, kept_sections}
 use Rattle.elf_moves.specs.declared.sections.SectionAt.{SectionAt}
+use Rattle.elf_moves.specs.Keys.{Rise}
 use Rattle.elf_moves.specs.Sections.{section_at, sections_seen}
 
 -- ## The sections that are there
@@ -53,3 +55,19 @@ seen-more image made i x long h at so_far =
     ∙ ap section_at (kept-at image i d x long h ∙ ap (λ s. record { position = i; number = slice_index image.section_numbers i; section = s }) at) in
     ap (λ l. l ++ section_at d ∷ []) so_far
     ∙ sym (take_more (sections_seen image) i (section_at d) (omega arith) ∙ ap (λ y. take i (sections_seen image) ++ y ∷ []) here)
+
+-- ## Their order
+
+behind_from : (n k : ℕ) (ns : List ℕ) (ss : List ImageSection) → n < k → AllByRecursion (λ (t : SectionAt). n < t.position) (map section_at (kept_from k ns ss))
+behind_from n k [] ss h = tt
+behind_from n k (m ∷ ns) [] h = tt
+behind_from n k (m ∷ ns) (s ∷ ss) h = (h, behind_from n (k + 1) ns ss (omega (arith, h)))
+
+rise_from : (k : ℕ) (ns : List ℕ) (ss : List ImageSection) → Rise (map section_at (kept_from k ns ss))
+rise_from k [] ss = tt
+rise_from k (n ∷ ns) [] = tt
+rise_from k (n ∷ ns) (s ∷ ss) = (behind_from k (k + 1) ns ss (omega arith), rise_from (k + 1) ns ss)
+
+-- each stands behind those before it
+pub sections_rise : (image : Image) → Rise (sections_seen image)
+sections_rise image = rise_from 0 image.section_numbers image.sections

@@ -11,7 +11,13 @@ use Rattle.elf_plan.specs.Added.{greatest, keeps_range}
 use Rattle.elf_plan.specs.Follow.{is_loaded_section}
 use Rattle.elf_plan.specs.Memory.{Resized}
 use Rattle.elf_plan.specs.Rounds.{flags_for}
+use Rattle.elf_moves.specs.declared.sections.SectionAt.{SectionAt}
+use Rattle.elf_moves.specs.declared.starts.Begin.{Begin}
+use Rattle.elf_moves.specs.declared.starts.Starts.{Starts}
+use Rattle.elf_moves.specs.Asked.{is_some_in}
 use Rattle.elf_moves.specs.Inner.{Told, itself, notes, section, table}
+use Rattle.elf_moves.specs.InOrder.{AreInOrder}
+use Rattle.elf_moves.specs.Sections.{has_bytes_at}
 
 -- ## Marks
 
@@ -19,18 +25,36 @@ use Rattle.elf_moves.specs.Inner.{Told, itself, notes, section, table}
 abbrev pub is_marked : List Bool → ℕ → Bool
 is_marked marks position = slice_index_or marks position false
 
+-- it moves, or it stays
+abbrev pub is_chosen : Bool → List Bool → ℕ → Bool
+is_chosen moving marks position = if moving then is_marked marks position else not (is_marked marks position)
+
 abbrev pub do_any_move : List Bool → List ℕ → Bool
 do_any_move marks positions = list_any (is_marked marks) positions
 
 abbrev pub do_any_stay : List Bool → List ℕ → Bool
 do_any_stay marks positions = list_any (λ position. not (is_marked marks position)) positions
 
+-- where sections with bytes begin in the file, those that move or those that stay
+abbrev pub chosen_starts : Bool → List Bool → List SectionAt → List ℕ
+chosen_starts moving marks sections = map (λ (s : SectionAt). s.sh_offset) (filter (λ s. has_bytes_at s && is_chosen moving marks s.position) sections)
+
+-- the same with their positions
+abbrev pub chosen_begins : Bool → List Bool → List SectionAt → List Begin
+chosen_begins moving marks sections =
+    map (λ (s : SectionAt). let b : Begin = record { start = s.sh_offset; position = s.position } in b) (filter (λ s. has_bytes_at s && is_chosen moving marks s.position) sections)
+
+-- both of them, in order
+pub record AreStarts (sections : List SectionAt) (marks : List Bool) (starts : Starts) : Type 0 where
+  pub moving : AreInOrder (chosen_starts true marks sections) starts.moving.numbers.items
+  pub staying : AreInOrder (chosen_starts false marks sections) starts.staying.numbers.items
+
 -- a program header that goes by this is split
-abbrev pub is_split_at : List Bool → Told → Bool
-is_split_at marks itself = false
-is_split_at marks table = false
-is_split_at marks (section position) = false
-is_split_at marks (notes positions) = do_any_move marks positions && do_any_stay marks positions
+abbrev pub is_split_at : Starts → Told → Bool
+is_split_at starts itself = false
+is_split_at starts table = false
+is_split_at starts (section position) = false
+is_split_at starts (notes part) = is_some_in starts.moving part && is_some_in starts.staying part
 
 -- ## Flags
 
@@ -56,11 +80,11 @@ keeps_section_at r p position = elim (slice_get r.image.sections position) [
 ]
 
 -- a program header that goes by this keeps its range
-unfoldable pub keeps_at : Resized → List Bool → ℕ → SegmentHeader → Told → Bool
-keeps_at r marks headers p itself = true
-keeps_at r marks headers p table = p.p_filesz == headers * segment_header_size r.image.form && p.p_memsz == p.p_filesz
-keeps_at r marks headers p (section position) = not (is_marked marks position) && keeps_section_at r p position
-keeps_at r marks headers p (notes positions) = not (do_any_move marks positions)
+unfoldable pub keeps_at : Resized → List Bool → Starts → ℕ → SegmentHeader → Told → Bool
+keeps_at r marks starts headers p itself = true
+keeps_at r marks starts headers p table = p.p_filesz == headers * segment_header_size r.image.form && p.p_memsz == p.p_filesz
+keeps_at r marks starts headers p (section position) = not (is_marked marks position) && keeps_section_at r p position
+keeps_at r marks starts headers p (notes part) = not (is_some_in starts.moving part)
 
 -- the later of two ends, where the second counts
 unfoldable pub end_with : Bool → ℕ → ℕ → ℕ → ℕ

@@ -2,6 +2,9 @@
 use Rattle.std.specs.Prelude.{ℕ, ◌≡◌, ◌+◌, List, length, map, Bool, true}
 use Rattle.elf_format.specs.Image.{counted}
 use Rattle.elf_format.specs.Options.{is_one_of}
+use Rattle.elf_format.specs.Placement.{file_part}
+use Rattle.elf_format.specs.declared.range.Range.{Range}
+use Rattle.elf_format.specs.declared.records.SegmentHeader.{SegmentHeader}
 use Rattle.elf_blocks.specs.declared.fault.LayoutFault.{LayoutFault}
 use Rattle.elf_blocks.specs.declared.fault.LayoutFault.TheVariants as faults
 use Rattle.elf_plan.specs.Follow.{Itself, HeaderTable, Leader, Notes, OneSection, leader_of}
@@ -33,28 +36,29 @@ pub record AreMarks (r : Resized) (moved : List ℕ) (marks : List Bool) : Type 
 
 -- ## Leaders
 
--- a leader with the positions of sections in place of the sections
+-- A leader with the position of a section in place of the section, and with the bytes that the program header covers in place of
+-- the notes in them.
 pub data Told : Type 0 where
   itself : Told
   table : Told
   section : ℕ → Told
-  notes : List ℕ → Told
+  notes : Range → Told
 
-abbrev pub told : Leader → Told
-told Itself = itself
-told HeaderTable = table
-told (OneSection s) = section s.position
-told (Notes ns) = notes (map (λ s. s.position) ns)
+abbrev pub told : SegmentHeader → Leader → Told
+told p Itself = itself
+told p HeaderTable = table
+told p (OneSection s) = section s.position
+told p (Notes ns) = notes (file_part p)
 
 abbrev pub leader_seen : LeaderAt → Told
 leader_seen at.Itself = itself
 leader_seen at.HeaderTable = table
 leader_seen (at.OneSection position) = section position
-leader_seen (at.Notes positions) = notes positions.items
+leader_seen (at.Notes part) = notes part
 
 -- each leader is that of the program header at its place
 abbrev pub AreLeaders : Resized → List LeaderAt → Type 0
-AreLeaders r leaders = map leader_seen leaders ≡ map (λ p. told (leader_of r p)) r.image.segments
+AreLeaders r leaders = map leader_seen leaders ≡ map (λ p. told p (leader_of r p)) r.image.segments
 
 -- ## Rounds
 

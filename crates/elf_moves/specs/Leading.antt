@@ -3,11 +3,15 @@ use Rattle.std.specs.Prelude.{ℕ, List, [], ◌∷◌, filter, count_by, ◌&&�
 use Rattle.std.specs.List.{list_all}
 use Rattle.elf_format.specs.declared.constants.TheConstants.{PT_DYNAMIC, PT_GNU_PROPERTY, PT_INTERP, PT_LOAD, PT_NOTE, PT_PHDR, SHT_DYNAMIC}
 use Rattle.elf_format.specs.Options.{first_there, is_one_of}
+use Rattle.elf_format.specs.Placement.{file_part}
+use Rattle.elf_format.specs.Places.{occupies_memory}
 use Rattle.elf_format.specs.declared.records.SegmentHeader.{SegmentHeader}
+use Rattle.elf_plan.specs.Kept.{interpreter_number}
+use Rattle.elf_plan.specs.Memory.{Resized}
 use Rattle.elf_moves.specs.Inner.{Told, itself, notes, section, table}
 use Rattle.elf_moves.specs.declared.sections.SectionAt.{SectionAt}
-use Rattle.elf_moves.specs.declared.sections.Wanted.TheVariants.{LoadedOver, Numbered, OfType, Over}
-use Rattle.elf_moves.specs.Sections.{first_wanted, is_note_at, positions_at, shares_bytes_at}
+use Rattle.elf_moves.specs.declared.sections.Wanted.TheVariants.{Numbered, OfType}
+use Rattle.elf_moves.specs.Sections.{first_at, first_wanted, is_just_over_at, is_note_at, place_at, sections_seen, shares_bytes_at}
 
 -- What is looked at to find a leader: the sections at read and those that are there, and the number at read of the section with
 -- the interpreter's name.
@@ -15,6 +19,10 @@ pub record Looked : Type 0 where
   pub read : List SectionAt
   pub kept : List SectionAt
   pub interpreter : Option ℕ
+
+-- the same of an image
+abbrev pub looked_at : Resized → Looked
+looked_at r = record { read = sections_seen r.read; kept = sections_seen r.image; interpreter = interpreter_number r.read }
 
 -- one section, where there is one
 abbrev pub led_at : Option ℕ → Told
@@ -32,13 +40,17 @@ are_notes_in p sections = nat_le 2 (count_by (shares_bytes_at p) sections) && li
 
 -- the section that a program header is just over: of several one that is loaded
 abbrev pub under_at : SegmentHeader → List SectionAt → Option ℕ
-under_at p sections = first_there (first_wanted (LoadedOver p) sections) (first_wanted (Over p) sections)
+under_at p sections = first_there (first_at (λ s. is_just_over_at p s && occupies_memory (place_at s)) sections) (first_at (is_just_over_at p) sections)
+
+-- the program header is for notes or properties, and was over several notes and over no other section
+unfoldable pub is_over_notes_at : Looked → SegmentHeader → Bool
+is_over_notes_at l p = is_one_of (PT_NOTE ∷ PT_GNU_PROPERTY ∷ []) p.p_type && are_notes_in p l.read
 
 -- by the bytes of the file that a program header covers
 unfoldable pub told_by_range : Looked → SegmentHeader → Told
 told_by_range l p =
     if p.p_filesz == 0 then itself
-    else if is_one_of (PT_NOTE ∷ PT_GNU_PROPERTY ∷ []) p.p_type && are_notes_in p l.read then notes (positions_at (filter (shares_bytes_at p) l.kept))
+    else if is_over_notes_at l p then notes (file_part p)
     else led_at (under_at p l.kept)
 
 -- What a program header goes by.

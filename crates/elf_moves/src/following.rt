@@ -2,68 +2,38 @@
 ghost use Rattle.std.specs.Prelude.{◌≡◌, ◌<◌, ◌+◌, ◌^◌, OnOk, IfOk, count_by, length, map};
 ghost use Rattle.elf_image.specs.ImageSeen.{section_kept};
 ghost use Rattle.elf_plan.specs.Rounds.{added_flags, flags_for as needed_flags};
-ghost use Rattle.elf_moves.specs.Following.{do_any_move, do_any_stay, end_with, is_marked as is_set_at, is_split_at, keeps_at, keeps_section as keeps_with, keeps_section_at as keeps_place, with_flags, with_once};
+ghost use Rattle.elf_moves.specs.Following.{end_with, is_split_at, keeps_at, keeps_section as keeps_with, keeps_section_at as keeps_place, with_flags, with_once};
 ghost use Rattle.elf_moves.specs.Inner.{leader_seen};
 
 use crate::leaders::LeaderAt;
 use crate::reading::{form_of, sections_are_sized};
 use crate::resizing::Resizing;
+use crate::starts::{Starts, is_marked};
 use elf_format::constants::{PF_X, SHF_ALLOC, SHF_EXECINSTR, SHF_WRITE, SHT_NOTE};
 use elf_format::records::SegmentHeader;
 use elf_image::Section;
 use elf_plan::constants::{PF_R, PF_W};
 use std::alloc::{AllocError, Global};
 
-/// Whether the section at a position is marked.
-pub fn is_marked(marks: &[bool], position: usize) -> bool
-    ensures { result ≡ is_set_at marks.now position }
-{
-    position < marks.len() && marks[position]
-}
-
-/// Whether one of the sections at these positions moves.
-pub fn any_moves(marks: &[bool], positions: &[usize]) -> bool
-    ensures { result ≡ do_any_move marks.now positions.now }
-{
-    for position in positions {
-        if is_marked(marks, *position) {
-            return true;
-        }
-    }
-    false
-}
-
-// Whether one of the sections at these positions stays.
-pub(crate) fn any_stays(marks: &[bool], positions: &[usize]) -> bool
-    ensures { result ≡ do_any_stay marks.now positions.now }
-{
-    for position in positions {
-        if !is_marked(marks, *position) {
-            return true;
-        }
-    }
-    false
-}
-
 // Whether a program header that goes by this is split.
-fn is_split(marks: &[bool], leader: &LeaderAt) -> bool
-    ensures { result ≡ is_split_at marks.now (leader_seen leader.now) }
+fn is_split(starts: &Starts, leader: &LeaderAt) -> bool
+    ensures { result ≡ is_split_at starts.now (leader_seen leader.now) }
 {
     match leader {
         LeaderAt::Itself => false,
         LeaderAt::HeaderTable => false,
         LeaderAt::OneSection(_) => false,
-        LeaderAt::Notes(notes) => any_moves(marks, notes) && any_stays(marks, notes),
+        LeaderAt::Notes(part) => starts.does_any_move(*part) && starts.does_any_stay(*part),
     }
 }
 
 // How many program headers are split.
-pub(crate) fn count_split(marks: &[bool], leaders: &[LeaderAt]) -> usize
-    ensures { result ≡ count_by (is_split_at marks.now) (map leader_seen leaders.now) }
+pub(crate) fn count_split(starts: &Starts, leaders: &[LeaderAt]) -> usize
+    ensures { result ≡ count_by (is_split_at starts.now) (map leader_seen leaders.now) }
 {
     let mut count = 0usize;
     for leader in leaders {
-        if is_split(marks, leader) {
+        if is_split(starts, leader) {
             count += 1;
         }
     }
@@ -181,11 +151,12 @@ fn keeps_section_at(r: &Resizing<'_, '_>, p: SegmentHeader, position: usize) -> 
 fn keeps_range(
     r: &Resizing<'_, '_>,
     marks: &[bool],
+    starts: &Starts,
     headers: usize,
     p: SegmentHeader,
     leader: &LeaderAt,
 ) -> bool
-    ensures { result ≡ keeps_at r.now marks.now headers p (leader_seen leader.now) }
+    ensures { result ≡ keeps_at r.now marks.now starts.now headers p (leader_seen leader.now) }
 {
     match leader {
         LeaderAt::Itself => true,
@@ -196,7 +167,7 @@ fn keeps_range(
         LeaderAt::OneSection(position) => {
             !is_marked(marks, *position) && keeps_section_at(r, p, *position)
         }
-        LeaderAt::Notes(notes) => !any_moves(marks, notes),
+        LeaderAt::Notes(part) => !starts.does_any_move(*part),
     }
 }
 
@@ -216,14 +187,15 @@ fn later_end(keeps: bool, stop: u128, size: usize, end: u64) -> u64
 pub(crate) fn next_end(
     r: &Resizing<'_, '_>,
     marks: &[bool],
+    starts: &Starts,
     headers: usize,
     p: SegmentHeader,
     leader: &LeaderAt,
     end: u64,
 ) -> u64
-    ensures { result ≡ end_with (keeps_at r.now marks.now headers p (leader_seen leader.now))
-        (p.p_offset + p.p_filesz) (length r.now.image.source) end }
+    ensures { let keeps = keeps_at r.now marks.now starts.now headers p (leader_seen leader.now) in
+        result ≡ end_with keeps (p.p_offset + p.p_filesz) (length r.now.image.source) end }
 {
-    let keeps = keeps_range(r, marks, headers, p, leader);
+    let keeps = keeps_range(r, marks, starts, headers, p, leader);
     later_end(keeps, p.file_part().end(), r.image.source().len(), end)
 }

@@ -7,6 +7,8 @@ use crate::following::{count_flags, count_split, next_end};
 use crate::leading::{leaders_with, lists_of};
 use crate::reading::{form_of, sections_are_sized, segment_at};
 use crate::resizing::Resizing;
+use crate::starts::starts_of;
+use elf_format::range::Range;
 use std::alloc::{AllocError, Global};
 
 /// What a program header goes by; sections are told by their positions.
@@ -18,8 +20,8 @@ pub enum LeaderAt {
     HeaderTable,
     /// One section.
     OneSection(usize),
-    /// Several note sections.
-    Notes(Vec<usize>),
+    /// The note sections that begin in a range of the file.
+    Notes(Range),
 }
 
 /// What each program header goes by.
@@ -45,12 +47,13 @@ pub fn headers_needed(
 {
     sections_are_sized(r);
     let flags = count_flags(alloc, r, moved)?;
-    Ok(flags + count_split(marks, leaders))
+    let starts = starts_of(alloc, r, marks)?;
+    Ok(flags + count_split(&starts, leaders))
 }
 
 /// Where the file parts end that stay where they are, once so many program headers are written: an offset in the file.
 pub fn kept_end(
-    _alloc: Global,
+    alloc: Global,
     r: &Resizing<'_, '_>,
     leaders: &[LeaderAt],
     moved: &[usize],
@@ -63,9 +66,18 @@ pub fn kept_end(
     ensures { IfOk result (λ end. end ≡ end_of_kept r.now moved.now) }
 {
     sections_are_sized(r);
+    let starts = starts_of(alloc, r, marks)?;
     let mut end = form_of(r).file_header_size() as u64;
     for i in 0..leaders.len() {
-        end = next_end(r, marks, headers, segment_at(r, i), &leaders[i], end);
+        end = next_end(
+            r,
+            marks,
+            &starts,
+            headers,
+            segment_at(r, i),
+            &leaders[i],
+            end,
+        );
     }
     Ok(end)
 }

@@ -1,15 +1,20 @@
 //! What a program header goes by.
-ghost use Rattle.std.specs.Prelude.{◌≡◌, [], ◌∷◌, ◌++◌, IfOk, OnOk, map};
+ghost use Rattle.std.specs.Prelude.{◌≡◌, ◌==◌, false, [], ◌∷◌, ◌++◌, IfOk, OnOk, map};
+ghost use Rattle.elf_format.specs.Options.{is_one_of};
+ghost use Rattle.elf_format.specs.declared.constants.TheConstants.{PT_GNU_PROPERTY as GNU_PROPERTY, PT_NOTE as NOTE};
 ghost use Rattle.elf_image.specs.ImageSeen.{segment_kept};
 ghost use Rattle.elf_plan.specs.Kept.{interpreter_number as number_at_read};
+ghost use Rattle.elf_moves.specs.FileRanges.{AreFileRanges};
 ghost use Rattle.elf_moves.specs.Inner.{leader_seen};
-ghost use Rattle.elf_moves.specs.Leading.{led_at, interpreter_at, told_by_range, told_of, under_at};
-ghost use Rattle.elf_moves.specs.LookedSeen.{lists_seen};
+ghost use Rattle.elf_moves.specs.Leading.{Looked, interpreter_at, is_over_notes_at, led_at, looked_at, told_by_range, told_of, under_at};
+ghost use Rattle.elf_moves.specs.LookedUp.{AreLists};
 ghost use Rattle.elf_moves.specs.Sections.{sections_seen};
 
+use crate::file_ranges::{FileRanges, file_ranges_of};
+use crate::keys::{Key, first_just, keys_of};
 use crate::leaders::LeaderAt;
 use crate::resizing::Resizing;
-use crate::sections::{SectionAt, Wanted, first, is_over_notes, sections_of, sharing};
+use crate::sections::{SectionAt, Wanted, first, sections_of};
 use elf_format::constants::{
     PT_DYNAMIC, PT_GNU_PROPERTY, PT_INTERP, PT_LOAD, PT_NOTE, PT_PHDR, SHT_DYNAMIC,
 };
@@ -17,13 +22,19 @@ use elf_format::records::SegmentHeader;
 use elf_image::{Builder, Segment};
 use std::alloc::{AllocError, Global};
 
-// What is looked at to find leaders: the sections at read and those that are there, and the number at read of the section
-// with the interpreter's name.
+// What leaders are looked up in.
 #[derive(Drop)]
 pub(crate) struct Lists {
-    pub(crate) read: Vec<SectionAt>,
-    pub(crate) kept: Vec<SectionAt>,
+    // Where the first dynamic list stands.
+    pub(crate) dynamic: Option<usize>,
+    // Where the section stands that has the interpreter's name.
     pub(crate) interpreter: Option<usize>,
+    // The loaded sections by the bytes that they have.
+    pub(crate) loaded: Vec<Key>,
+    // All sections by the bytes that they have.
+    pub(crate) all: Vec<Key>,
+    // Where the sections at read begin and end.
+    pub(crate) read: FileRanges,
 }
 
 // The numbers of a program header.
@@ -40,24 +51,6 @@ pub(crate) fn numbers_of(p: &Segment<'_>) -> SegmentHeader
         p_memsz: p.p_memsz(),
         p_align: p.p_align(),
     }
-}
-
-// What is looked at to find the leaders of an image.
-pub(crate) fn lists_of(alloc: Global, r: &Resizing<'_, '_>) -> Result<Lists, AllocError>
-    ensures { IfOk result (λ lists. lists_seen lists ≡ record {
-      read = sections_seen r.now.read;
-      kept = sections_seen r.now.image;
-      interpreter = number_at_read r.now.read;
-    }) }
-{
-    let interpreter = interpreter_number(r.read);
-    let read = sections_of(alloc, r.read)?;
-    let kept = sections_of(alloc, r.image)?;
-    Ok(Lists {
-        read,
-        kept,
-        interpreter,
-    })
 }
 
 // The number at read of the section with the interpreter's name.
@@ -91,62 +84,92 @@ fn find_interpreter(number: Option<usize>, sections: &[SectionAt]) -> Option<usi
     }
 }
 
-// Where the section stands that has just the bytes of a program header, of several one that is loaded.
-fn find_under(p: SegmentHeader, sections: &[SectionAt]) -> Option<usize>
-    ensures { result ≡ under_at p sections.now }
+// Where the sections of a file begin and end.
+fn ranges_of(alloc: Global, read: &Builder<'_>) -> Result<FileRanges, AllocError>
+    ensures { IfOk result (AreFileRanges (sections_seen read.now)) }
 {
-    match first(sections, Wanted::LoadedOver(p)) {
+    let sections = sections_of(alloc, read)?;
+    file_ranges_of(alloc, &sections)
+}
+
+// What the leaders of an image are looked up in.
+pub(crate) fn lists_of(alloc: Global, r: &Resizing<'_, '_>) -> Result<Lists, AllocError>
+    ensures { IfOk result (AreLists (looked_at r.now)) }
+{
+    let number = interpreter_number(r.read);
+    let read = ranges_of(alloc, r.read)?;
+    let kept = sections_of(alloc, r.image)?;
+    let loaded = keys_of(alloc, &kept, true)?;
+    let all = keys_of(alloc, &kept, false)?;
+    let dynamic = first(&kept, Wanted::OfType(SHT_DYNAMIC));
+    let interpreter = find_interpreter(number, &kept);
+    Ok(Lists {
+        dynamic,
+        interpreter,
+        loaded,
+        all,
+        read,
+    })
+}
+
+// Where the section stands that has just the bytes of a program header, of several one that is loaded.
+fn find_under(lists: &Lists, p: SegmentHeader) -> Option<usize>
+    ensures { (looked : Looked) → AreLists looked lists.now → result ≡ under_at p looked.kept }
+{
+    match first_just(&lists.loaded, p.file_part()) {
         Some(position) => Some(position),
-        None => first(sections, Wanted::Over(p)),
+        None => first_just(&lists.all, p.file_part()),
     }
+}
+
+// Whether a program header is for notes or properties.
+fn is_for_notes(p: SegmentHeader) -> bool
+    ensures { result ≡ is_one_of (NOTE ∷ GNU_PROPERTY ∷ []) p.p_type }
+{
+    p.p_type == PT_NOTE || p.p_type == PT_GNU_PROPERTY
+}
+
+// Whether a program header is for notes or properties, and was over several notes and over no other section.
+fn is_over_notes(lists: &Lists, p: SegmentHeader) -> bool
+    requires { (p.p_filesz == 0) ≡ false }
+    ensures { (looked : Looked) → AreLists looked lists.now
+        → result ≡ is_over_notes_at looked p }
+{
+    is_for_notes(p) && lists.read.is_over_notes(p.file_part())
 }
 
 // What a program header goes by, by the bytes of the file that it covers.
 #[tactic(auto, unfolding(crate::specs::Leading::told_by_range))]
-fn leader_by_range(alloc: Global, lists: &Lists, p: SegmentHeader) -> Result<LeaderAt, AllocError>
-    ensures { IfOk result (λ leader. leader_seen leader ≡ told_by_range (lists_seen lists.now) p) }
+fn leader_by_range(lists: &Lists, p: SegmentHeader) -> LeaderAt
+    ensures { (looked : Looked) → AreLists looked lists.now
+        → leader_seen result ≡ told_by_range looked p }
 {
     if p.p_filesz == 0 {
-        return Ok(LeaderAt::Itself);
+        return LeaderAt::Itself;
     }
-    let of_notes = p.p_type == PT_NOTE || p.p_type == PT_GNU_PROPERTY;
-    if of_notes && is_over_notes(&lists.read, p) {
-        return Ok(LeaderAt::Notes(sharing(alloc, &lists.kept, p)?));
+    if is_over_notes(lists, p) {
+        return LeaderAt::Notes(p.file_part());
     }
-    Ok(led_by(find_under(p, &lists.kept)))
+    led_by(find_under(lists, p))
 }
 
 // What a program header goes by.
 #[tactic(auto, unfolding(crate::specs::Leading::told_of))]
-fn leader_of(alloc: Global, lists: &Lists, p: SegmentHeader) -> Result<LeaderAt, AllocError>
-    ensures { IfOk result (λ leader. leader_seen leader ≡ told_of (lists_seen lists.now) p) }
+fn leader_of(lists: &Lists, p: SegmentHeader) -> LeaderAt
+    ensures { (looked : Looked) → AreLists looked lists.now
+        → leader_seen result ≡ told_of looked p }
 {
     if p.p_type == PT_LOAD {
-        Ok(LeaderAt::Itself)
+        LeaderAt::Itself
     } else if p.p_type == PT_PHDR {
-        Ok(LeaderAt::HeaderTable)
+        LeaderAt::HeaderTable
     } else if p.p_type == PT_DYNAMIC {
-        Ok(led_by(first(&lists.kept, Wanted::OfType(SHT_DYNAMIC))))
+        led_by(lists.dynamic)
     } else if p.p_type == PT_INTERP {
-        Ok(led_by(find_interpreter(lists.interpreter, &lists.kept)))
+        led_by(lists.interpreter)
     } else {
-        leader_by_range(alloc, lists, p)
+        leader_by_range(lists, p)
     }
-}
-
-// Puts what a program header goes by behind others.
-fn push_leader(
-    alloc: Global,
-    made: &mut Vec<LeaderAt>,
-    lists: &Lists,
-    p: SegmentHeader,
-) -> Result<(), AllocError>
-    ensures { OnOk result (map leader_seen made.new.items
-        ≡ map leader_seen made.old.items ++ told_of (lists_seen lists.now) p ∷ []) }
-{
-    let leader = leader_of(alloc, lists, p)?;
-    made.push(leader)?;
-    Ok(())
 }
 
 // What each program header of an image goes by.
@@ -155,12 +178,12 @@ pub(crate) fn leaders_with(
     segments: &[Segment<'_>],
     lists: &Lists,
 ) -> Result<Vec<LeaderAt>, AllocError>
-    ensures { IfOk result (λ made. map leader_seen made.items
-        ≡ map (λ s. told_of (lists_seen lists.now) (segment_kept s)) segments.now) }
+    ensures { (looked : Looked) → AreLists looked lists.now → IfOk result (λ made.
+        map leader_seen made.items ≡ map (λ s. told_of looked (segment_kept s)) segments.now) }
 {
     let mut made = Vec::new(alloc);
     for segment in segments {
-        push_leader(alloc, &mut made, lists, numbers_of(segment))?;
+        made.push(leader_of(lists, numbers_of(segment)))?;
     }
     Ok(made)
 }

@@ -2,7 +2,9 @@
 #![tactic(auto)]
 
 mod blocks;
-pub mod following;
+mod file_ranges;
+mod following;
+mod keys;
 pub mod leaders;
 mod leading;
 pub mod marks;
@@ -10,9 +12,11 @@ pub mod moving;
 mod old_order;
 pub mod reading;
 pub mod resizing;
+pub mod rising;
 pub mod rounds;
 mod sections;
 mod settling;
+pub mod starts;
 
 pub use crate::moving::find_move_sections;
 pub use crate::resizing::Resizing;

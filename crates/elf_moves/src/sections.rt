@@ -1,11 +1,9 @@
 //! The sections of an image by the numbers that program headers are followed with.
-ghost use Rattle.std.specs.Prelude.{◌≡◌, ◌&&◌, IfOk, count_by, filter, nat_le};
-ghost use Rattle.std.specs.List.{list_all};
-ghost use Rattle.elf_moves.specs.Sections.{first_wanted, is_note_at, positions_at, sections_seen, shares_bytes_at};
+ghost use Rattle.std.specs.Prelude.{◌≡◌, IfOk};
+ghost use Rattle.elf_moves.specs.Sections.{first_wanted, sections_seen};
 
 use elf_format::constants::{SHF_ALLOC, SHT_NOBITS, SHT_NOTE, SHT_NULL};
 use elf_format::range::Range;
-use elf_format::records::SegmentHeader;
 use elf_image::Builder;
 use std::alloc::{AllocError, Global};
 
@@ -28,15 +26,11 @@ pub(crate) enum Wanted {
     OfType(u32),
     // The one with a number at read.
     Numbered(usize),
-    // One that is loaded, and has just the bytes of a program header.
-    LoadedOver(SegmentHeader),
-    // One that has just the bytes of a program header.
-    Over(SegmentHeader),
 }
 
 impl SectionAt {
     ghost use Rattle.elf_format.specs.Places.{file_range, occupies_memory};
-    ghost use Rattle.elf_moves.specs.Sections.{has_bytes_at, is_just_over_at, is_wanted, place_at};
+    ghost use Rattle.elf_moves.specs.Sections.{has_bytes_at, is_loaded_note_at, is_wanted, place_at};
 
     // Whether it takes memory.
     pub(crate) fn is_loaded(self) -> bool
@@ -46,14 +40,14 @@ impl SectionAt {
     }
 
     // Whether it has bytes in the file.
-    fn has_bytes(self) -> bool
+    pub(crate) fn has_bytes(self) -> bool
         ensures { result ≡ has_bytes_at self }
     {
         self.sh_type != SHT_NULL && self.sh_type != SHT_NOBITS && self.sh_size != 0
     }
 
     // The bytes of the file that it names.
-    fn file_range(self) -> Range
+    pub(crate) fn file_range(self) -> Range
         ensures { result ≡ file_range (place_at self) }
     {
         Range {
@@ -62,25 +56,11 @@ impl SectionAt {
         }
     }
 
-    // Whether its bytes are just those of the program header.
-    fn is_just_over(self, p: SegmentHeader) -> bool
-        ensures { result ≡ is_just_over_at p self }
+    // Whether it is a loaded note section.
+    pub(crate) fn is_loaded_note(self) -> bool
+        ensures { result ≡ is_loaded_note_at self }
     {
-        self.has_bytes() && self.sh_offset == p.p_offset && self.sh_size == p.p_filesz
-    }
-
-    // Whether it shares a byte of the file with the program header.
-    fn shares_bytes(self, p: SegmentHeader) -> bool
-        ensures { result ≡ shares_bytes_at p self }
-    {
-        self.has_bytes() && !self.file_range().is_apart(p.file_part())
-    }
-
-    // Whether it is a loaded note section that the program header has all of.
-    fn is_note(self, p: SegmentHeader) -> bool
-        ensures { result ≡ is_note_at p self }
-    {
-        self.sh_type == SHT_NOTE && self.is_loaded() && self.file_range().lies_in(p.file_part())
+        self.sh_type == SHT_NOTE && self.is_loaded()
     }
 
     // Whether it is of the kind that is wanted.
@@ -90,8 +70,6 @@ impl SectionAt {
         match wanted {
             Wanted::OfType(kind) => self.sh_type == kind,
             Wanted::Numbered(number) => number == self.number,
-            Wanted::LoadedOver(p) => self.is_just_over(p) && self.is_loaded(),
-            Wanted::Over(p) => self.is_just_over(p),
         }
     }
 }
@@ -128,38 +106,4 @@ pub(crate) fn first(sections: &[SectionAt], wanted: Wanted) -> Option<usize>
         }
     }
     None
-}
-
-// Whether two sections or more share bytes with the program header, and all that do are notes in it.
-pub(crate) fn is_over_notes(sections: &[SectionAt], p: SegmentHeader) -> bool
-    ensures { result ≡ (nat_le 2 (count_by (shares_bytes_at p) sections.now)
-        && list_all (is_note_at p) (filter (shares_bytes_at p) sections.now)) }
-{
-    let mut count = 0usize;
-    let mut all = true;
-    for section in sections {
-        if section.shares_bytes(p) {
-            count += 1;
-            all = all && section.is_note(p);
-        }
-    }
-    2 <= count && all
-}
-
-// The positions of the sections that share bytes with the program header.
-pub(crate) fn sharing(
-    alloc: Global,
-    sections: &[SectionAt],
-    p: SegmentHeader,
-) -> Result<Vec<usize>, AllocError>
-    ensures { IfOk result (λ made. made.items
-        ≡ positions_at (filter (shares_bytes_at p) sections.now)) }
-{
-    let mut made = Vec::new(alloc);
-    for section in sections {
-        if section.shares_bytes(p) {
-            made.push(section.position)?;
-        }
-    }
-    Ok(made)
 }

@@ -1,6 +1,6 @@
-use Rattle.std.proofs.Common.{◌≡◌, ◌*◌, ◌++◌, ℕ, List, map, sym, ap, ◌∙◌, arith}
+use Rattle.std.proofs.Common.{◌≡◌, get_or, ◌*◌, ◌++◌, ℕ, List, map, sym, ap, ◌∙◌, arith}
 use Rattle.std.specs.List.{flat_map}
-use Rattle.std.proofs.lemmas.List.{take_all}
+use Rattle.std.proofs.lemmas.List.{get_or_default, take_all}
 use Rattle.elf_format.specs.declared.records.SegmentHeader.{SegmentHeader}
 use Rattle.elf_format.specs.Places.{Place}
 use Rattle.elf_format.specs.Records.{segment_header_size}
@@ -9,8 +9,10 @@ use Rattle.elf_plan.specs.Follow.{leader_of}
 use Rattle.elf_plan.specs.Memory.{Resized}
 use Rattle.elf_plan.specs.PlanSeen.{place_seen}
 use Rattle.elf_plan.specs.Written.{written_from}
+use Rattle.elf_moves.specs.declared.leaders.LeaderAt.{LeaderAt}
+use Rattle.elf_moves.specs.declared.leaders.LeaderAt.TheVariants as at
 use Rattle.elf_moves.specs.Inner.{Told, leader_seen, told}
-use Rattle.elf_layout.specs.Targets.{do_headings_fit}
+use Rattle.elf_layout.specs.Targets.{Begins, begins_seen, do_headings_fit}
 use Rattle.elf_moves.proofs.ForCallers.{leader-at, leaders-length}
 use Rattle.elf_layout.proofs.WrittenSteps.{heading_past, heading_written, stands_too_far, written-more}
 use Rattle.elf_layout.proofs.written.all_written.Goals as goal
@@ -25,12 +27,14 @@ loop-i-preserved c =
     let p : SegmentHeader = c.segment_at-p.result in
     let all : List Place = map place_seen c.args.places.now in
     let size : ℕ = c.args.headers * c.segment_header_size.result in
-    let k : Told = leader_seen c.index-leaders-i.result in
-    let lead : k ≡ told (leader_of r p) = leader-at r c.args.leaders.now c.requires.leaders c.loop-i.i c.index-leaders-i.result p c.index-leaders-i.is c.segment_at-p.ensures in
+    let l : LeaderAt = get_or c.args.leaders.now c.loop-i.i at.Itself in
+    let k : Told = leader_seen l in
+    let begins : Begins = begins_seen c.in-Ok.notes in
+    let lead : k ≡ told p (leader_of r p) = leader-at r c.args.leaders.now c.requires.leaders c.loop-i.i l p (get_or_default c.args.leaders.now c.loop-i.i at.Itself l c.loop-i-test.true) c.segment_at-p.ensures in
     let sized : size ≡ header_count r moved * segment_header_size r.image.form =
     ap (λ n. n * c.segment_header_size.result) c.requires.headers ∙ ap (λ n. header_count r moved * n) (c.segment_header_size.ensures ∙ ap segment_header_size c.form_of-form.ensures) in
-    c.in-Ok.ensures.0
-    ∙ ap (λ l. c.loop-i.made.items ++ l) (heading_written r moved c.args.marks.now c.sections_are_sized.ensures c.requires.marks c.form_of-form.result all size k p c.form_of-form.ensures c.requires.places sized lead)
+    c.in-Ok-push_written.ensures.0
+    ∙ ap (λ l. c.loop-i.made.items ++ l) (heading_written r moved c.args.marks.now c.sections_are_sized.ensures c.requires.marks begins c.in-Ok.ensures c.form_of-form.result all size k p c.form_of-form.ensures c.requires.places sized lead)
     ∙ ap (λ l. l ++ written_from r moved p) c.loop-i.invariant ∙ sym (written-more r moved c.loop-i.i p c.segment_at-p.ensures)
 
 pub returns-in-Err-clause-fault : goal.returns-in-Err-clause-fault
@@ -40,12 +44,14 @@ returns-in-Err-clause-fault c =
     let p : SegmentHeader = c.segment_at-p.result in
     let all : List Place = map place_seen c.args.places.now in
     let size : ℕ = c.args.headers * c.segment_header_size.result in
-    let k : Told = leader_seen c.index-leaders-i.result in
-    let lead : k ≡ told (leader_of r p) = leader-at r c.args.leaders.now c.requires.leaders c.loop-i.i c.index-leaders-i.result p c.index-leaders-i.is c.segment_at-p.ensures in
+    let l : LeaderAt = get_or c.args.leaders.now c.loop-i.i at.Itself in
+    let k : Told = leader_seen l in
+    let begins : Begins = begins_seen c.in-Ok.notes in
+    let lead : k ≡ told p (leader_of r p) = leader-at r c.args.leaders.now c.requires.leaders c.loop-i.i l p (get_or_default c.args.leaders.now c.loop-i.i at.Itself l c.loop-i-test.true) c.segment_at-p.ensures in
     let sized : size ≡ header_count r moved * segment_header_size r.image.form =
     ap (λ n. n * c.segment_header_size.result) c.requires.headers ∙ ap (λ n. header_count r moved * n) (c.segment_header_size.ensures ∙ ap segment_header_size c.form_of-form.ensures) in
-    stands_too_far r moved (do_headings_fit c.form_of-form.result all c.args.marks.now size p k) c.in-Err.fault c.in-Err.ensures
-    (heading_past r moved c.args.marks.now c.sections_are_sized.ensures c.requires.marks c.form_of-form.result all size k p c.form_of-form.ensures c.requires.places sized lead c.loop-i.i c.segment_at-p.ensures)
+    stands_too_far r moved (do_headings_fit c.form_of-form.result all begins size p k) c.in-Err.fault c.in-Err.ensures
+    (heading_past r moved c.args.marks.now c.sections_are_sized.ensures c.requires.marks begins c.in-Ok.ensures c.form_of-form.result all size k p c.form_of-form.ensures c.requires.places sized lead c.loop-i.i c.segment_at-p.ensures)
 
 pub returns-clause-written : goal.returns-clause-written
 returns-clause-written c =

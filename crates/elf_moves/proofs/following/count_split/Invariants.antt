@@ -6,6 +6,6 @@ use Rattle.elf_moves.proofs.following.count_split.Given as goal
 
 abbrev pub invariant-loop-leader : goal.invariant-loop-leader
 invariant-loop-leader l = record {
-  counted : l.count ≡ count_by (λ (x : LeaderAt). is_split_at l.marks (leader_seen x)) (take l.leader-index l.leaders);
+  counted : l.count ≡ count_by (λ (x : LeaderAt). is_split_at l.starts (leader_seen x)) (take l.leader-index l.leaders);
   few : l.count ≤ l.leader-index;
 }

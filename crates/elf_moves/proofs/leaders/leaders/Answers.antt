@@ -1,13 +1,13 @@
-use Rattle.std.proofs.Common.{◌∙◌}
+use Rattle.std.proofs.Common.{ap, ◌∙◌}
+use Rattle.elf_plan.specs.Memory.{Resized}
 use Rattle.elf_moves.specs.Inner.{AreLeaders}
+use Rattle.elf_moves.specs.Leading.{looked_at}
 use Rattle.std.proofs.lemmas.Result.{IfOk-weaker}
-use Rattle.elf_moves.specs.LookedSeen.{lists_seen}
-use Rattle.elf_moves.specs.Seen.{resized_seen}
 use Rattle.elf_moves.proofs.LeadingSteps.{leaders-are}
 use Rattle.elf_moves.proofs.leaders.leaders.Goals as goal
 
 pub returns : goal.returns
 returns c =
-    let are = leaders-are (resized_seen c.r.inside) c.args.r.now c.r.view_is c.r.invariant c.source-source.ensures.edited (lists_seen c.in_ok-lists.lists) c.in_ok-lists.ensures
-    c.segments.result.now c.segments.ensures in
-    IfOk-weaker c.leaders_with.result _ (λ leaders. AreLeaders c.args.r.now leaders.items) (λ made h. h ∙ are) c.leaders_with.ensures
+    let seen = c.segments.ensures ∙ ap (λ (y : Resized). y.image.segments) c.r.view_is in
+    let are = leaders-are c.args.r.now c.segments.result.now seen in
+    IfOk-weaker c.leaders_with.result _ (λ leaders. AreLeaders c.args.r.now leaders.items) (λ made h. h ∙ are) (c.leaders_with.ensures (looked_at c.args.r.now) c.in_ok-lists.ensures)

@@ -1,9 +1,10 @@
 use Rattle.std.proofs.Common.{◌≡◌, map, take}
 use Rattle.elf_image.specs.ImageSeen.{segment_kept}
 use Rattle.elf_moves.specs.Inner.{leader_seen}
-use Rattle.elf_moves.specs.Leading.{told_of}
-use Rattle.elf_moves.specs.LookedSeen.{lists_seen}
+use Rattle.elf_moves.specs.Leading.{Looked, told_of}
+use Rattle.elf_moves.specs.LookedUp.{AreLists}
 use Rattle.elf_moves.proofs.leading.leaders_with.Given as goal
 
 abbrev pub invariant-loop-segment : goal.invariant-loop-segment
-invariant-loop-segment l = map leader_seen l.made.items ≡ map (λ s. told_of (lists_seen l.lists) (segment_kept s)) (take l.segment-index l.segments)
+invariant-loop-segment l =
+    (looked : Looked) → AreLists looked l.lists → map leader_seen l.made.items ≡ map (λ s. told_of looked (segment_kept s)) (take l.segment-index l.segments)

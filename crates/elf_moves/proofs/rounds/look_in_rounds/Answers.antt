@@ -24,7 +24,7 @@ overflow_add-count c =
     let r = c.args.r.now in
     let few_rounds = (few r c.loop-round.looked c.loop-round.count c.loop-round.invariant).1 in
     let many : length c.args.leaders.now ≡ length r.image.segments =
-    sym (length-map c.args.leaders.now leader_seen) ∙ ap length c.requires ∙ length-map r.image.segments (λ p. told (leader_of r p)) in
+    sym (length-map c.args.leaders.now leader_seen) ∙ ap length c.requires ∙ length-map r.image.segments (λ p. told p (leader_of r p)) in
     omega arith
 
 pub loop-round-preserved : goal.loop-round-preserved
