@@ -15,11 +15,13 @@ bytes_behind : (x : ℕ) (xs : List ℕ) → AreBytes (x ∷ xs) → AreBytes xs
 bytes_behind x xs are = record { each = λ i. are.each (suc i) }
 
 pub AreBytes-reverse : (xs : List ℕ) → AreBytes xs → AreBytes (reverse xs)
-AreBytes-reverse xs are = record { each = λ i. elim (cases_lt i (length xs)) [
-  | inl within ↦ subst (λ (n : ℕ). n < 256) (sym (get_or-reverse xs i 0 within)) (are.each (length xs - 1 - i))
-  | inr past ↦ let long : length (reverse xs) ≤ i = omega (arith, length-reverse {A = ℕ}) in
-    subst (λ (n : ℕ). n < 256) (sym (get_or_past (reverse xs) i 0 long)) (omega arith)
-] }
+AreBytes-reverse xs are = record {
+  each = λ i. elim (cases_lt i (length xs)) [
+    | inl within ↦ subst (λ (n : ℕ). n < 256) (sym (get_or-reverse xs i 0 within)) (are.each (length xs - 1 - i))
+    | inr past ↦ let long : length (reverse xs) ≤ i = omega (arith, length-reverse {A = ℕ}) in
+        subst (λ (n : ℕ). n < 256) (sym (get_or_past (reverse xs) i 0 long)) (omega arith)
+  ];
+}
 
 -- ## One byte more
 
@@ -80,8 +82,8 @@ by_byte : (x y p f g : ℕ) (o : Ordering) → f < p → g < p → x * p + f ≢
     → nat_cmp (x * p + f) (y * p + g) ≡ ordering_then (nat_cmp x y) o
 by_byte x y p f g o low high apart behind = elim (cases_order x y) [
   | inl same ↦
-    let rest : nat_cmp f g ≡ o = behind (λ e. apart (ap (λ k. k * p + f) same ∙ ap (λ k. y * p + k) e)) in
-    ap (λ k. nat_cmp (k * p + f) (y * p + g)) same ∙ by_rest y p f g ∙ rest ∙ sym (ap (λ r. ordering_then r o) (equal_is x y same))
+      let rest : nat_cmp f g ≡ o = behind (λ e. apart (ap (λ k. k * p + f) same ∙ ap (λ k. y * p + k) e)) in
+      ap (λ k. nat_cmp (k * p + f) (y * p + g)) same ∙ by_rest y p f g ∙ rest ∙ sym (ap (λ r. ordering_then r o) (equal_is x y same))
   | inr other ↦ elim other [
     | inl below ↦ less_is (x * p + f) (y * p + g) (below_by_byte x y p f g low below) ∙ sym (ap (λ r. ordering_then r o) (less_is x y below))
     | inr above ↦ greater_is (x * p + f) (y * p + g) (below_by_byte y x p g f high above) ∙ sym (ap (λ r. ordering_then r o) (greater_is x y above))
