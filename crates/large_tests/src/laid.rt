@@ -1,17 +1,7 @@
 use crate::made::{Counts, file};
 use elf_image::{Builder, ElfFault};
 use elf_layout::{LayoutFault, Plan, lay_out};
-use std::alloc::{AllocError, Global};
-use std::process::Abort;
-use std::test::Fail;
-
-// Adds the program header of the stack, once more where memory was refused.
-fn add_stack(image: &mut Builder<'_>, alloc: Global) -> Result<(), AllocError> {
-    match image.push_stack(alloc, 6) {
-        Err(_) => image.push_stack(alloc, 6),
-        done => done,
-    }
-}
+use std::alloc::Global;
 
 // Reads a file, once more where memory was refused.
 fn read<'data>(alloc: Global, bytes: &'data [u8]) -> Result<Builder<'data>, ElfFault> {
@@ -43,24 +33,51 @@ fn counted(alloc: Global, counts: Counts) -> Result<(usize, usize, usize), &'sta
     }
 }
 
-#[test]
-fn as_many_sections_as_there_can_be(rt: HostRuntime) {
-    let counts = Counts {
-        notes: 65_277,
-        headers: 2,
-        over: 10,
+// How many sections and program headers are read of a file.
+fn read_counts(alloc: Global, counts: Counts) -> Result<(usize, usize), &'static str> {
+    let Ok(bytes) = file(alloc, counts) else {
+        return Err("no memory");
     };
-    let found = counted(rt.alloc(), counts);
+    match read(alloc, &bytes) {
+        Ok(image) => Ok((image.sections().len(), image.segments().len())),
+        Err(_) => Err("not read"),
+    }
+}
+
+// As many sections as there can be, and few program headers.
+const SECTIONS: Counts = Counts {
+    notes: 65_277,
+    headers: 2,
+    over: 10,
+};
+
+// Many program headers over many notes.
+const HEADERS: Counts = Counts {
+    notes: 30_000,
+    headers: 60_000,
+    over: 10,
+};
+
+#[test]
+fn many_sections_are_read(rt: HostRuntime) {
+    let found = read_counts(rt.alloc(), SECTIONS);
+    assert_eq!(rt; found, Ok((65_279, 3)));
+}
+
+#[test]
+fn many_sections_are_laid_out(rt: HostRuntime) {
+    let found = counted(rt.alloc(), SECTIONS);
     assert_eq!(rt; found, Ok((65_279, 3, 1)));
 }
 
 #[test]
-fn many_headers_over_many_notes(rt: HostRuntime) {
-    let counts = Counts {
-        notes: 30_000,
-        headers: 60_000,
-        over: 10,
-    };
-    let found = counted(rt.alloc(), counts);
+fn many_headers_are_read(rt: HostRuntime) {
+    let found = read_counts(rt.alloc(), HEADERS);
+    assert_eq!(rt; found, Ok((30_002, 60_001)));
+}
+
+#[test]
+fn many_headers_are_laid_out(rt: HostRuntime) {
+    let found = counted(rt.alloc(), HEADERS);
     assert_eq!(rt; found, Ok((30_002, 60_001, 1)));
 }

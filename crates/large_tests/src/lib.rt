@@ -2,6 +2,6 @@
 #![tactic(auto)]
 
 #[cfg(test)]
-mod made;
-#[cfg(test)]
 mod laid;
+#[cfg(test)]
+mod made;

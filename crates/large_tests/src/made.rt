@@ -40,6 +40,11 @@ fn put_16(out: &mut Vec<u8>, n: u16) -> Result<(), AllocError> {
     out.extend_from_slice(&n.to_le_bytes())
 }
 
+// A count that has two bytes.
+fn put_count(out: &mut Vec<u8>, n: u64) -> Result<(), AllocError> {
+    put_16(out, u16::try_from(n).unwrap_or(u16::MAX))
+}
+
 fn put_32(out: &mut Vec<u8>, n: u32) -> Result<(), AllocError> {
     out.extend_from_slice(&n.to_le_bytes())
 }
@@ -72,10 +77,10 @@ fn put_header(out: &mut Vec<u8>, counts: Counts) -> Result<(), AllocError> {
 fn put_sizes(out: &mut Vec<u8>, counts: Counts) -> Result<(), AllocError> {
     put_16(out, 64)?;
     put_16(out, 56)?;
-    put_16(out, counts.segments() as u16)?;
+    put_count(out, counts.segments())?;
     put_16(out, 64)?;
-    put_16(out, counts.sections() as u16)?;
-    put_16(out, counts.sections().saturating_sub(1) as u16)
+    put_count(out, counts.sections())?;
+    put_count(out, counts.sections().saturating_sub(1))
 }
 
 // A program header at the address that is its offset.
