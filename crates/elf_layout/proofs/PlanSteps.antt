@@ -1,9 +1,7 @@
 -- What follows from the sections that move in the last round: a plan, or none.
-use Rattle.std.proofs.Common.{◌≡◌, ℕ, ◌+◌, ◌<◌, List, Bool, true, false, ◌&&◌, length, map, refl, sym, ap, subst, ◌∙◌}
-use Rattle.std.specs.Prelude.{All, IsTrue, nat_lt}
-use Rattle.std.specs.List.{list_all}
+use Rattle.std.proofs.Common.{◌≡◌, ℕ, ◌+◌, ◌<◌, List, true, false, length, map, refl, sym, ap, subst, ◌∙◌}
+use Rattle.std.specs.Prelude.{All}
 use Rattle.std.proofs.lemmas.Bool.{not_from_false}
-use Rattle.elf_format.specs.declared.constants.TheConstants.{PN_XNUM, SHN_LORESERVE}
 use Rattle.elf_format.specs.declared.records.SegmentHeader.{SegmentHeader}
 use Rattle.elf_format.specs.Places.{Place}
 use Rattle.elf_blocks.specs.declared.fault.LayoutFault.{LayoutFault}
@@ -12,7 +10,6 @@ use Rattle.elf_plan.specs.Memory.{Resized}
 use Rattle.elf_plan.specs.Plan.{IsPlan, IsTooLarge, Layout, does_plan_fit, layout_for}
 use Rattle.elf_plan.specs.PlanSeen.{place_seen}
 use Rattle.elf_plan.specs.Rounds.{AreRounds}
-use Rattle.elf_plan.specs.Sizes.{fits_field}
 use Rattle.elf_plan.specs.Standing.{places, table_offset}
 use Rattle.elf_plan.specs.Written.{written_segments}
 use Rattle.elf_moves.specs.declared.rounds.Rounds.{Rounds}

@@ -1,8 +1,5 @@
 -- What the steps of the layout hand to each other.
-use Rattle.std.specs.Prelude.{ℕ, ◌≡◌, List, length, map, Bool, false, ◌&&◌, IsTrue, nat_lt}
-use Rattle.std.specs.List.{list_all}
-use Rattle.elf_format.specs.declared.constants.TheConstants.{PN_XNUM, SHN_LORESERVE}
-use Rattle.elf_format.specs.declared.form.Form.{Form}
+use Rattle.std.specs.Prelude.{ℕ, ◌≡◌, List, map, false}
 use Rattle.elf_format.specs.declared.records.SegmentHeader.{SegmentHeader}
 use Rattle.elf_blocks.specs.declared.fault.LayoutFault.{LayoutFault}
 use Rattle.elf_blocks.specs.declared.fault.LayoutFault.TheVariants as faults
@@ -10,7 +7,6 @@ use Rattle.elf_plan.specs.Added.{added_loads}
 use Rattle.elf_plan.specs.Memory.{Resized}
 use Rattle.elf_plan.specs.Plan.{IsOverlapping, IsTooLarge, Layout, does_plan_fit, layout_for}
 use Rattle.elf_plan.specs.PlanSeen.{place_seen}
-use Rattle.elf_plan.specs.Sizes.{fits_field}
 use Rattle.elf_plan.specs.Standing.{places, sections_offset, table_offset}
 use Rattle.elf_plan.specs.Written.{written_segments}
 use Rattle.elf_moves.specs.declared.rounds.Rounds.{Rounds}
