@@ -132,7 +132,8 @@ pub fn image_pieces_with<'a, 'data>(
     ensures makeable { IfOk result (λ d. IsDifference image.entry.now.source d) }
     ensures written { IfOk result (λ d.
         IsWritten image.entry.now plan.now (made_of image.entry.now.source d)) }
-    ensures shows { IfOk result (λ d. ShowsFinal image.entry.now (made_of image.entry.now.source d)) }
+    ensures shows { IfOk result (λ d.
+        ShowsFinal image.entry.now (made_of image.entry.now.source d)) }
     ensures data { IfOk result (λ d.
         IsDataSeen (resized image.entry.now) plan.now (made_of image.entry.now.source d)) }
     ensures others { IfOk result (λ d.
