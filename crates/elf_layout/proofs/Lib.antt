@@ -5,6 +5,7 @@ pub mod GreatestSteps
 pub mod LoadSteps
 pub mod PlacesFit
 pub mod PlanSteps
+pub mod ReachLaws
 pub mod Planned
 pub mod SizedSections
 pub mod SpotSteps
