@@ -5,6 +5,7 @@
 //! - `= NAME` makes the file `file` a copy of the file NAME, and `= none` takes it away.
 //! - `> WORD WORD ..` does what these words of a command line ask. Printed are its own prints, the status, the
 //!   first line of the fault, the length of `file`, and each row of 16 bytes in which it changed.
+//! - `m WORD WORD ..` does the same, a command for ELF files by the function of its own module.
 //! - `? WORD WORD ..` only reads the words, and prints the command that they mean, or the status and the fault.
 //! - `h WORD WORD ..` only reads the words too, and prints all of the text that they are answered with.
 //! - `! WORD WORD ..` does it to the bytes of `file` alone. Printed are the rows that an edit would change, or that an
@@ -20,6 +21,7 @@
 mod calls;
 mod changes;
 mod library;
+mod modules;
 
 use arwen_cli::cli::{ArwenError, Command, execute, parse_line};
 use changes::print_changes;
@@ -48,6 +50,7 @@ fn step(rt: &HostRuntime, line: &str) -> io::Result<()> {
     match line.split_once(' ').unwrap_or((line, "")) {
         ("=", name) => copy(rt, name),
         (">", words) => run(rt, words),
+        ("m", words) => run_by_module(rt, words),
         ("?", words) => read(rt, words),
         ("h", words) => help(rt, words),
         ("!", words) => call(rt, words),
@@ -135,6 +138,42 @@ fn check_file(rt: &HostRuntime, before: &Option<Vec<u8>>) -> io::Result<()> {
         println!(rt; "refused memory, and changed the file")?;
     }
     Ok(())
+}
+
+/// Does what the words of a line ask by the module of its command, and prints what came of it and of the file.
+fn run_by_module(rt: &HostRuntime, words: &str) -> io::Result<()> {
+    let before = content(rt, FILE)?;
+    answer_by_module(rt, words, &before)?;
+    print_file(rt, &before)
+}
+
+/// Does it, and prints the status and the fault.
+fn answer_by_module(rt: &HostRuntime, words: &str, before: &Option<Vec<u8>>) -> io::Result<()> {
+    let words = words_of(rt, words)?;
+    let answer = done_by_module(rt, words.as_slice(), before);
+    tell_answer(rt, &answer)
+}
+
+/// Does it, once more where memory was refused.
+fn done_by_module(
+    rt: &HostRuntime,
+    words: &[&str],
+    before: &Option<Vec<u8>>,
+) -> Result<(), ArwenError> {
+    match modules::execute(rt, command_of(rt, words)?) {
+        Err(ArwenError::Memory) => done_by_module_again(rt, words, before),
+        answer => answer,
+    }
+}
+
+/// Does it once more, where the file is as it was.
+fn done_by_module_again(
+    rt: &HostRuntime,
+    words: &[&str],
+    before: &Option<Vec<u8>>,
+) -> Result<(), ArwenError> {
+    check_file(rt, before)?;
+    modules::execute(rt, command_of(rt, words)?)
 }
 
 /// Prints the status, and the first line of a fault.

@@ -2,6 +2,7 @@
 
 mod batches;
 mod errors;
+mod needed;
 mod prints;
 mod reads;
 mod refusals;
