@@ -5,7 +5,7 @@ ghost use Rattle.elf_plan.specs.PlanSeen.{place_seen};
 ghost use Rattle.elf_plan.specs.Sizes.{field_range};
 ghost use Rattle.elf_plan.specs.Written.{address_for as address_at, memory_size as size_in_memory, physical_for};
 ghost use Rattle.elf_moves.specs.Inner.{leader_seen};
-ghost use Rattle.elf_layout.specs.Targets.{IsMisfit, begins_seen, do_headings_fit, does_table_fit, fits_word, header_at, headings_for, headings_found, headings_seen, is_physical_well, is_well_at, sized_table, target_seen, targets_found};
+ghost use Rattle.elf_layout.specs.Targets.{AreNotes, IsMisfit, begins_seen, do_headings_fit, does_table_fit, fits_word, header_at, headings_for, headings_found, headings_seen, is_physical_well, is_well_at, sized_table, target_seen, targets_found};
 
 use crate::targets::{Notes, TargetAt, Targets, targets_of};
 use elf_format::constants::{PT_DYNAMIC, PT_INTERP};
@@ -209,6 +209,7 @@ fn headings_of(
     p: SegmentHeader,
     leader: &LeaderAt,
 ) -> Option<Headings>
+    requires { AreNotes (map place_seen places.now) notes.now }
     ensures { let all = map place_seen places.now in let begins = begins_seen notes.now in
         let told = leader_seen leader.now in
         MatchOption result (do_headings_fit form all begins size p told ≡ false)
@@ -242,6 +243,7 @@ pub(crate) fn push_written(
     p: SegmentHeader,
     leader: &LeaderAt,
 ) -> Result<(), LayoutFault>
+    requires { AreNotes (map place_seen places.now) notes.now }
     ensures { let all = map place_seen places.now in let begins = begins_seen notes.now in
         let told = leader_seen leader.now in
         MatchResult result

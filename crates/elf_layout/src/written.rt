@@ -98,7 +98,7 @@ fn all_written(
     sections_are_sized(r);
     let form = form_of(r);
     let size = headers as u128 * form.segment_header_size() as u128;
-    let Ok(notes) = notes_of(alloc, r, marks) else {
+    let Ok(notes) = notes_of(alloc, r, marks, places) else {
         return Err(LayoutFault::Memory);
     };
     let mut made = Vec::new(alloc);
