@@ -1,22 +1,23 @@
 -- Places of sections joined in any order are those that are found section by section.
-use Rattle.std.proofs.Common.{◌≡◌, ℕ, suc, ◌+◌, ◌<◌, ◌≤◌, max, Bool, true, false, ◌&&◌, ◌||◌, cond, List, [], ◌∷◌, map, refl, sym, ap, ◌∙◌, Option, Some, None, option_map, arith}
+use Rattle.std.proofs.Common.{◌≡◌, ℕ, suc, ◌+◌, ◌-◌, ◌<◌, ◌≤◌, max, Bool, true, false, ◌&&◌, ◌||◌, cond, List, [], ◌∷◌, map, refl, sym, ap, ◌∙◌, Option, Some, None, option_map, arith}
 use Rattle.std.specs.Prelude.{filter, fold, if◌then◌else◌, nat_lt, ◌==◌, IsPermutation}
 use Rattle.std.specs.List.{slice_get}
 use Rattle.std.proofs.lemmas.Bool.{le-ltb}
 use Rattle.std.proofs.lemmas.List.Sorted.{IsPermutation-map}
 use Rattle.elf_format.specs.Image.{Image, ImageSection}
 use Rattle.elf_format.specs.Places.{Place, file_range}
-use Rattle.elf_format.specs.Ranges.{end_of}
+use Rattle.elf_format.specs.Ranges.{end_of, range}
 use Rattle.elf_format.specs.declared.range.Range.{Range}
 use Rattle.elf_plan.specs.Kept.{kept_from}
+use Rattle.elf_plan.specs.Written.{Target, address_in_memory, target_at}
 use Rattle.elf_moves.specs.declared.sections.SectionAt.{SectionAt}
 use Rattle.elf_moves.specs.declared.starts.Begin.{Begin}
 use Rattle.elf_moves.specs.Following.{chosen_begins, is_chosen}
 use Rattle.elf_moves.specs.InOrder.{is_in}
 use Rattle.elf_moves.specs.Sections.{has_bytes_at, section_at, sections_seen}
 use Rattle.elf_layout.specs.declared.reaches.Reach.{Reach}
-use Rattle.elf_layout.specs.Reaches.{is_before, joined, joined_all, reach_in, reach_of_place}
-use Rattle.elf_layout.specs.Targets.{Span, span_of, span_over}
+use Rattle.elf_layout.specs.Reaches.{is_before, joined, joined_all, reach_at, reach_in, reach_of_place}
+use Rattle.elf_layout.specs.Targets.{Span, span_of, span_over, target_of_span}
 use Rattle.elf_layout.proofs.ReachLaws.{joined-none, joined_all-permutation}
 
 -- ## Section by section
@@ -145,3 +146,17 @@ module _ (all : List Place) (part : Range) where
       let bs : List Begin = chosen_begins moving marks (sections_seen image) in
       ap (span_of all) (joined_all-permutation (map (reach_in all part) bs) (map (reach_in all part) found) (IsPermutation-map (reach_in all part) bs found same))
       ∙ span_steps bs 0 None None tt (begins_rise moving marks 0 image.section_numbers image.sections)
+
+-- ## One section
+
+-- from one place to its own end
+pub one_place : (all : List Place) (position : ℕ) → option_map target_of_span (span_of all (reach_at all position)) ≡ option_map target_at (slice_get all position)
+one_place all position = by_place (slice_get all position) refl
+  where
+    by_place : (o : Option Place) → slice_get all position ≡ o
+        → option_map target_of_span (span_of all (elim o as (λ _. Option Reach) [ Some t ↦ Some (reach_of_place position t) | None ↦ None ])) ≡ option_map target_at o
+    by_place None is = refl
+    by_place (Some t) is =
+        ap (λ (o : Option Place). option_map target_of_span (option_map (λ (u : Place). let span : Span = record { first = u; end = end_of (file_range t) } in span) o)) is
+        ∙ ap (λ (n : ℕ). let target : Target = record { part = range t.sh_offset n; address = address_in_memory t } in Some target)
+        (let e : end_of (file_range t) - t.sh_offset ≡ t.sh_size = omega arith in e)

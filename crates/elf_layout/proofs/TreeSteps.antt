@@ -1,16 +1,16 @@
 -- A tree over where sections come to stand gives the joined places of those that begin in a range.
-use Rattle.std.proofs.Common.{◌≡◌, ℕ, zero, suc, ◌+◌, ◌-◌, ◌*◌, ◌<◌, ◌≤◌, Bool, true, false, ◌&&◌, ◌⊎◌, inl, inr, List, [], ◌∷◌, ◌++◌, map, length, take, get_or, refl, sym, ap, ◌∙◌, subst, Option, Some, None, arith}
+use Rattle.std.proofs.Common.{◌≡◌, ℕ, zero, suc, ◌+◌, ◌-◌, ◌*◌, ◌/◌, ◌%◌, ◌<◌, ◌≤◌, Bool, true, false, ◌&&◌, ◌⊎◌, inl, inr, List, [], ◌∷◌, ◌++◌, map, length, take, get_or, refl, sym, ap, ◌∙◌, subst, Option, Some, None, arith}
 use Rattle.std.specs.Prelude.{if◌then◌else◌, nat_le, nat_lt}
 use Rattle.std.proofs.lemmas.Bool.{cases_lt, le-leb, lt-leb, ltb-false, ltb-true}
-use Rattle.std.proofs.lemmas.List.{get_or-append_right, get_or_append_left, length-append}
+use Rattle.std.proofs.lemmas.List.{get_or-append_right, get_or_append_left, length-append, length-map, take-append-le, take_all}
 use Rattle.elf_format.specs.Places.{Place}
 use Rattle.elf_format.specs.Ranges.{end_of}
 use Rattle.elf_format.specs.declared.range.Range.{Range}
 use Rattle.elf_moves.specs.declared.starts.Begin.{Begin}
 use Rattle.elf_moves.specs.InOrder.{is_in}
 use Rattle.elf_layout.specs.declared.reaches.Reach.{Reach}
-use Rattle.elf_layout.specs.Reaches.{BeginBefore, JoinsTwo, joined, joined_all, over, reach_at, reach_in, reach_of_begin}
-use Rattle.elf_layout.proofs.ReachLaws.{joined-group, joined_all-cons, over_first, over_none}
+use Rattle.elf_layout.specs.Reaches.{BeginBefore, IsTree, IsTreeOver, JoinsTwo, joined, joined_all, over, reach_at, reach_in, reach_of_begin}
+use Rattle.elf_layout.proofs.ReachLaws.{joined-group, joined_all-cons, over_first, over_last, over_none}
 
 -- ## Entries that join two
 
@@ -35,6 +35,23 @@ halved n tree two (suc m) a low high left right lo hi le ri fits fit =
     ∙ ap (joined (joined x y)) (halved n tree two m (a + 1) (suc (suc low)) high (suc left) right (omega (arith, lo)) (omega (arith, hi)) (omega (arith, le)) (omega (arith, ri)) fits fit)
     ∙ ap (λ o. joined o (over tree (suc left) right)) (sym z)
     ∙ sym (over_first tree left right (omega (arith, le, ri)) fit)
+
+-- ## Steps of a walk
+
+pub first_more : (tree : List (Option Reach)) (low high : ℕ) → low < high → high ≤ length tree → joined (get_or tree low None) (over tree (low + 1) high) ≡ over tree low high
+first_more tree low high some fits =
+    ap (λ n. joined (get_or tree low None) (over tree n high)) (let e : low + 1 ≡ suc low = omega arith in e) ∙ sym (over_first tree low high some fits)
+
+pub last_more : (tree : List (Option Reach)) (low high : ℕ) → low < high → high ≤ length tree → joined (over tree low (high - 1)) (get_or tree (high - 1) None) ≡ over tree low high
+last_more tree low high some fits =
+    sym (over_last tree low (high - 1) (omega (arith, some)) (omega (arith, some, fits))) ∙ ap (over tree low) (let e : suc (high - 1) ≡ high = omega (arith, some) in e)
+
+pub halves : (n : ℕ) (tree : List (Option Reach)) (low high : ℕ) → IsTree n tree → low < high → high ≤ length tree → (low % 2 ≡ 1 → ⊥) → (high % 2 ≡ 1 → ⊥)
+    → over tree (n + low / 2) (n + high / 2) ≡ over tree low high
+halves n tree low high is some fits even also =
+    let long : length tree ≡ n + (n - 1) = is.long in
+    sym (halved n tree is.two (high / 2 - low / 2) (low / 2) low high (n + low / 2) (n + high / 2)
+    (omega (arith, even)) (omega (arith, some, even, also)) refl (omega (arith, some)) fits (omega (arith, some, fits, long, also)))
 
 -- one more
 pub joins_more : (n k : ℕ) (tree : List (Option Reach)) (x : Option Reach) → JoinsTwo n tree → length tree ≡ n + k → k + 1 < n
@@ -141,3 +158,34 @@ module _ (all : List Place) (part : Range) where
       → BeginBefore xs part.start low → BeginBefore xs (end_of part) high → over tree low high ≡ joined_all (map (reach_in all part) xs)
   over_range xs tree low high front a b =
       over_take (length xs) tree low high b.within ∙ ap (λ l. over l low high) front ∙ over_between xs low high (are_between xs low high a b)
+
+-- ## A tree that is made
+
+-- so many entries stand behind those of the sections
+pub record IsTreeUpTo (all : List Place) (begins : List Begin) (k : ℕ) (tree : List (Option Reach)) : Type 0 where
+  pub long : length tree ≡ length begins + k
+  pub front : take (length begins) tree ≡ map (reach_of_begin all) begins
+  pub two : JoinsTwo (length begins) tree
+
+pub tree_begun : (all : List Place) (begins : List Begin) (tree : List (Option Reach)) → tree ≡ map (reach_of_begin all) begins → IsTreeUpTo all begins 0 tree
+tree_begun all begins tree is =
+    let long : length tree ≡ length begins = ap length is ∙ length-map begins (reach_of_begin all) in
+    record {
+      long = omega (arith, long);
+      front = take_all (length begins) tree (omega (arith, long)) ∙ is;
+      two = record { joins = λ k h. absurd (omega (arith, h, long)) };
+    }
+
+pub tree_more : (all : List Place) (begins : List Begin) (k : ℕ) (tree : List (Option Reach)) (x : Option Reach) → IsTreeUpTo all begins k tree → k < length begins - 1
+    → x ≡ joined (get_or tree (2 * k) None) (get_or tree (2 * k + 1) None) → IsTreeUpTo all begins (k + 1) (tree ++ x ∷ [])
+tree_more all begins k tree x so within is = record {
+  long = omega (arith, length-append tree (x ∷ []), so.long);
+  front = take-append-le (length begins) tree (x ∷ []) (omega (arith, so.long)) ∙ so.front;
+  two = joins_more (length begins) k tree x so.two so.long (omega (arith, within)) is;
+}
+
+pub tree_done : (all : List Place) (begins : List Begin) (k : ℕ) (tree : List (Option Reach)) → IsTreeUpTo all begins k tree → k ≡ length begins - 1 → IsTreeOver all begins tree
+tree_done all begins k tree so e = record {
+  front = so.front;
+  is_tree = record { long = so.long ∙ ap (λ n. length begins + n) e; two = so.two };
+}

@@ -29,7 +29,7 @@ pub(crate) struct Reaches {
 }
 
 // Where the section at a position comes to stand.
-fn reach_at(places: &[SectionPlace], position: usize) -> Option<Reach>
+pub(crate) fn reach_at(places: &[SectionPlace], position: usize) -> Option<Reach>
     ensures { result ≡ reach_of (map place_seen places.now) position }
 {
     if position < places.len() {

@@ -1,12 +1,11 @@
 //! Where a program header goes.
-ghost use Rattle.std.specs.Prelude.{◌≡◌, IfOk, map, slice_get};
+ghost use Rattle.std.specs.Prelude.{◌≡◌, IfOk, map};
 ghost use Rattle.std.specs.Option.{option_map};
 ghost use Rattle.elf_plan.specs.PlanSeen.{place_seen};
-ghost use Rattle.elf_plan.specs.Written.{address_in_memory, target_at as target_of_place};
 ghost use Rattle.elf_moves.specs.Inner.{leader_seen};
 ghost use Rattle.elf_layout.specs.Targets.{AreBegins, AreNotes, begins_seen, span_of, span_over, target_of_span, target_seen, targets_at, targets_over_notes, targets_seen};
 
-use crate::reaches::{Reach, Reaches, reach_over, reaches_of};
+use crate::reaches::{Reach, Reaches, reach_at, reach_over, reaches_of};
 use elf_format::constants::SHF_ALLOC;
 use elf_format::range::Range;
 use elf_moves::leaders::LeaderAt;
@@ -38,34 +37,6 @@ pub(crate) struct Notes {
     pub(crate) moving: Reaches,
 }
 
-// The address of a place, where it is in memory.
-fn address_of(place: SectionPlace) -> Option<u64>
-    ensures { result ≡ address_in_memory (place_seen place) }
-{
-    if place.sh_flags & SHF_ALLOC != 0 {
-        Some(place.sh_addr)
-    } else {
-        None
-    }
-}
-
-// Where a program header goes that goes by one section.
-fn target_at(places: &[SectionPlace], position: usize) -> Option<TargetAt>
-    ensures { option_map target_seen result
-        ≡ option_map target_of_place (slice_get (map place_seen places.now) position) }
-{
-    if position < places.len() {
-        let place = places[position];
-        Some(TargetAt {
-            offset: place.sh_offset,
-            size: place.sh_size as u128,
-            address: address_of(place),
-        })
-    } else {
-        None
-    }
-}
-
 // From the first of several places to the end of the last.
 fn target_over(places: &[SectionPlace], reach: Option<Reach>) -> Option<TargetAt>
     ensures { option_map target_seen result
@@ -79,7 +50,11 @@ fn target_over(places: &[SectionPlace], reach: Option<Reach>) -> Option<TargetAt
     Some(TargetAt {
         offset: place.sh_offset,
         size: reach.end.saturating_sub(place.sh_offset as u128),
-        address: address_of(place),
+        address: if place.sh_flags & SHF_ALLOC != 0 {
+            Some(place.sh_addr)
+        } else {
+            None
+        },
     })
 }
 
@@ -118,7 +93,7 @@ fn targets_of_notes(places: &[SectionPlace], notes: &Notes, part: Range) -> Targ
 }
 
 // Where a program header goes that goes by this.
-#[tactic(auto, unfolding(crate::specs::Targets::targets_at))]
+#[tactic(auto, using(crate::proofs::SpanSteps::one_place), unfolding(crate::specs::Targets::targets_at))]
 pub(crate) fn targets_of(places: &[SectionPlace], notes: &Notes, leader: &LeaderAt) -> Targets
     requires { AreNotes (map place_seen places.now) notes.now }
     ensures { targets_seen result ≡ targets_at
@@ -132,7 +107,7 @@ pub(crate) fn targets_of(places: &[SectionPlace], notes: &Notes, leader: &Leader
         LeaderAt::Itself => nowhere,
         LeaderAt::HeaderTable => nowhere,
         LeaderAt::OneSection(position) => Targets {
-            first: target_at(places, *position),
+            first: target_over(places, reach_at(places, *position)),
             second: None,
         },
         LeaderAt::Notes(part) => targets_of_notes(places, notes, *part),

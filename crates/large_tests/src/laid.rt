@@ -49,6 +49,7 @@ const SECTIONS: Counts = Counts {
     notes: 65_277,
     headers: 2,
     over: 10,
+    do_move: false,
 };
 
 // Many program headers over many notes.
@@ -56,6 +57,15 @@ const HEADERS: Counts = Counts {
     notes: 30_000,
     headers: 60_000,
     over: 10,
+    do_move: false,
+};
+
+// Many program headers over many notes that move.
+const MOVING: Counts = Counts {
+    notes: 30_000,
+    headers: 60_000,
+    over: 10,
+    do_move: true,
 };
 
 #[test]
@@ -80,4 +90,10 @@ fn many_headers_are_read(rt: HostRuntime) {
 fn many_headers_are_laid_out(rt: HostRuntime) {
     let found = counted(rt.alloc(), HEADERS);
     assert_eq!(rt; found, Ok((30_002, 60_001, 1)));
+}
+
+#[test]
+fn many_headers_over_moving_notes_are_laid_out(rt: HostRuntime) {
+    let found = counted(rt.alloc(), MOVING);
+    assert_eq!(rt; found, Ok((30_002, 60_002, 1)));
 }

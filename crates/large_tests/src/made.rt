@@ -1,12 +1,14 @@
 //! Files with many note sections and many program headers over them.
 use std::alloc::{AllocError, Global};
 
-/// How many note sections a file has, how many program headers for notes, and over how many notes each is at least.
+/// How many note sections a file has, how many program headers for notes, over how many notes each is at least, and
+/// whether the notes lie in the table of program headers, so that they have to move.
 #[derive(Clone, Copy)]
 pub(crate) struct Counts {
     pub(crate) notes: u64,
     pub(crate) headers: u64,
     pub(crate) over: u64,
+    pub(crate) do_move: bool,
 }
 
 impl Counts {
@@ -20,19 +22,26 @@ impl Counts {
         self.notes.saturating_add(2)
     }
 
-    // Where the notes begin, of which each has four bytes.
-    fn start(self) -> u64 {
+    // Where the program headers end.
+    fn headers_end(self) -> u64 {
         self.segments().saturating_mul(56).saturating_add(64)
     }
 
-    // Where a note begins.
+    // Where a note begins, of which each has four bytes.
     fn note(self, i: u64) -> u64 {
-        self.start().saturating_add(i.saturating_mul(4))
+        let start = if self.do_move { 64 } else { self.headers_end() };
+        start.saturating_add(i.saturating_mul(4))
+    }
+
+    // Where the names begin.
+    fn names(self) -> u64 {
+        self.headers_end()
+            .saturating_add(self.notes.saturating_mul(4))
     }
 
     // Where the section headers begin.
     fn table(self) -> u64 {
-        self.note(self.notes).saturating_add(8)
+        self.names().saturating_add(8)
     }
 }
 
@@ -117,7 +126,7 @@ fn put_section(
 // One loaded segment, and program headers each over the notes from another one on.
 fn put_segments(out: &mut Vec<u8>, counts: Counts) -> Result<(), AllocError> {
     let end = counts.note(counts.notes);
-    put_segment(out, 1, 0, end)?;
+    put_segment(out, 1, 0, counts.names())?;
     for i in 0..counts.headers {
         let places = counts.notes.saturating_sub(counts.over).max(1);
         let start = counts.note(i % places);
@@ -132,7 +141,7 @@ fn put_sections(out: &mut Vec<u8>, counts: Counts) -> Result<(), AllocError> {
     for i in 0..counts.notes {
         put_section(out, 7, 2, counts.note(i), 4)?;
     }
-    put_section(out, 3, 0, counts.note(counts.notes), 1)
+    put_section(out, 3, 0, counts.names(), 1)
 }
 
 fn made(alloc: Global, counts: Counts) -> Result<Vec<u8>, AllocError> {
