@@ -1,8 +1,8 @@
 -- Places of sections joined in any order are those that are found section by section.
-use Rattle.std.proofs.Common.{◌≡◌, ℕ, suc, ◌+◌, ◌-◌, ◌<◌, ◌≤◌, max, Bool, true, false, ◌&&◌, ◌||◌, cond, List, [], ◌∷◌, map, refl, sym, ap, ◌∙◌, Option, Some, None, option_map, arith}
+use Rattle.std.proofs.Common.{◌≡◌, ℕ, suc, ◌+◌, ◌-◌, ◌<◌, ◌≤◌, max, Bool, true, false, ◌&&◌, ◌||◌, cond, List, [], ◌∷◌, map, refl, sym, ap, ◌∙◌, subst, Option, Some, None, option_map, arith}
 use Rattle.std.specs.Prelude.{filter, fold, if◌then◌else◌, nat_lt, ◌==◌, IsPermutation}
 use Rattle.std.specs.List.{slice_get}
-use Rattle.std.proofs.lemmas.Bool.{le-ltb}
+use Rattle.std.proofs.lemmas.Bool.{le-ltb, true≢false}
 use Rattle.std.proofs.lemmas.List.Sorted.{IsPermutation-map}
 use Rattle.elf_format.specs.Image.{Image, ImageSection}
 use Rattle.elf_format.specs.Places.{Place, file_range}
@@ -18,7 +18,7 @@ use Rattle.elf_moves.specs.Sections.{has_bytes_at, section_at, sections_seen}
 use Rattle.elf_layout.specs.declared.reaches.Reach.{Reach}
 use Rattle.elf_layout.specs.Reaches.{is_before, joined, joined_all, reach_at, reach_in, reach_of_place}
 use Rattle.elf_layout.specs.Targets.{Span, span_of, span_over, target_of_span}
-use Rattle.elf_layout.proofs.ReachLaws.{joined-none, joined_all-permutation}
+use Rattle.elf_layout.proofs.ReachLaws.{joined_all-permutation}
 
 -- ## Section by section
 
@@ -43,24 +43,20 @@ rise_from : (low high : ℕ) (bs : List Begin) → low ≤ high → DoRise high 
 rise_from low high [] h rise = tt
 rise_from low high (b ∷ bs) h rise = (omega (arith, h, rise.0), rise.1)
 
+abbrev begin_at : SectionAt → Begin
+begin_at s = record { start = s.sh_offset; position = s.position }
+
+rise_with : (b : Bool) (k : ℕ) (x : SectionAt) (rest : List SectionAt) → x.position ≡ k → DoRise (k + 1) (map begin_at rest) → DoRise k (map begin_at (cond b (x ∷ rest) rest))
+rise_with true k x rest e h = (omega (arith, e), subst (λ (n : ℕ). DoRise (n + 1) (map begin_at rest)) (sym e) h)
+rise_with false k x rest e h = rise_from k (k + 1) (map begin_at rest) (omega arith) h
+
 begins_rise : (moving : Bool) (marks : List Bool) (k : ℕ) (ns : List ℕ) (ss : List ImageSection) → DoRise k (chosen_begins moving marks (map section_at (kept_from k ns ss)))
 begins_rise moving marks k [] ss = tt
 begins_rise moving marks k (n ∷ ns) [] = tt
 begins_rise moving marks k (n ∷ ns) (s ∷ ss) =
-    by_test (has_bytes_at x && is_chosen moving marks k) (begins_rise moving marks (k + 1) ns ss)
-  where
-    x : SectionAt
-    x = section_at (record { position = k; number = n; section = s })
-
-    abbrev rest : List SectionAt
-    rest = filter (λ (t : SectionAt). has_bytes_at t && is_chosen moving marks t.position) (map section_at (kept_from (k + 1) ns ss))
-
-    begin_of : SectionAt → Begin
-    begin_of t = record { start = t.sh_offset; position = t.position }
-
-    by_test : (b : Bool) → DoRise (k + 1) (map begin_of rest) → DoRise k (map begin_of (cond b (x ∷ rest) rest))
-    by_test true h = (omega arith, h)
-    by_test false h = rise_from k (k + 1) (map begin_of rest) (omega arith) h
+    let x : SectionAt = section_at (record { position = k; number = n; section = s }) in
+    let rest : List SectionAt = filter (λ (t : SectionAt). has_bytes_at t && is_chosen moving marks t.position) (map section_at (kept_from (k + 1) ns ss)) in
+    rise_with (has_bytes_at x && is_chosen moving marks k) k x rest refl (begins_rise moving marks (k + 1) ns ss)
 
 -- ## Both ways
 
@@ -90,17 +86,14 @@ module _ (all : List Place) (part : Range) where
   shown_with low position t None None at h is = record { offset = refl; end = refl; there = at; below = omega arith }
   shown_with low position t None (Some s) at h is = absurd is
   shown_with low position t (Some r) None at h is = absurd is
-  shown_with low position t (Some r) (Some s) at h is = by_tests (is_before more r) (nat_lt t.sh_offset s.first.sh_offset) same
+  shown_with low position t (Some r) (Some s) at h is = by_tests (is_before (reach_of_place position t) r) (nat_lt t.sh_offset s.first.sh_offset) same
     where
-      more : Reach
-      more = reach_of_place position t
-
       or_false : (a b : Bool) → (a || (b && false)) ≡ a
       or_false true b = refl
       or_false false true = refl
       or_false false false = refl
 
-      same : is_before more r ≡ nat_lt t.sh_offset s.first.sh_offset
+      same : is_before (reach_of_place position t) r ≡ nat_lt t.sh_offset s.first.sh_offset
       same =
           ap (λ (c : Bool). nat_lt t.sh_offset r.offset || t.sh_offset == r.offset && c) (le-ltb position r.position (omega (arith, h, is.below)))
           ∙ or_false (nat_lt t.sh_offset r.offset) (t.sh_offset == r.offset)
@@ -108,12 +101,12 @@ module _ (all : List Place) (part : Range) where
 
       by_tests : (a b : Bool) → a ≡ b
           → DoesShow (position + 1)
-          (let f : Reach = if a then more else r in Some (record { offset = f.offset; position = f.position; end = max r.end more.end }))
+          (let f : Reach = if a then reach_of_place position t else r in Some (record { offset = f.offset; position = f.position; end = max r.end (end_of (file_range t)) }))
           (Some (record { first = if b then t else s.first; end = max s.end (end_of (file_range t)) }))
-      by_tests true true e = record { offset = refl; end = ap (λ n. max n more.end) is.end; there = at; below = omega arith }
-      by_tests true false e = absurd (cc)
-      by_tests false true e = absurd (cc)
-      by_tests false false e = record { offset = is.offset; end = ap (λ n. max n more.end) is.end; there = is.there; below = omega (arith, h, is.below) }
+      by_tests true true e = record { offset = refl; end = ap (λ n. max n (end_of (file_range t))) is.end; there = at; below = omega arith }
+      by_tests true false e = absurd (true≢false e)
+      by_tests false true e = absurd (true≢false (sym e))
+      by_tests false false e = record { offset = is.offset; end = ap (λ n. max n (end_of (file_range t))) is.end; there = is.there; below = omega (arith, h, is.below) }
 
   shown_step : (inside : Bool) (at : Option Place) (low position : ℕ) (o : Option Reach) (s : Option Span) → slice_get all position ≡ at → low ≤ position → DoesShow low o s
       → DoesShow (position + 1)

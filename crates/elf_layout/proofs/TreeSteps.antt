@@ -58,9 +58,6 @@ pub joins_more : (n k : ℕ) (tree : List (Option Reach)) (x : Option Reach) →
     → x ≡ joined (get_or tree (2 * k) None) (get_or tree (2 * k + 1) None) → JoinsTwo n (tree ++ x ∷ [])
 joins_more n k tree x two long within is = record { joins = λ j h. by_place j (omega (arith, h, length-append tree (x ∷ []), long)) (cases_lt j k) }
   where
-    more : List (Option Reach)
-    more = tree ++ x ∷ []
-
     old : (i : ℕ) → i < length tree → get_or (tree ++ x ∷ []) i None ≡ get_or tree i None
     old i h = get_or_append_left tree (x ∷ []) None i h
 
