@@ -17,7 +17,6 @@ use patch_bytes::Wide;
 use std::alloc::AllocError;
 
 // What becomes of a program header: one, or two.
-#[derive(Clone, Copy)]
 pub(crate) struct Headings {
     pub(crate) first: SegmentHeader,
     pub(crate) second: Option<SegmentHeader>,
@@ -183,15 +182,16 @@ fn at_targets(
         MatchOption result (well ≡ false)
         (λ h. (headings_seen h ≡ headings_found form p alone (targets_found targets)) × (well ≡ true)) }
 {
-    match targets.first {
-        None => match targets.second {
+    let Targets { first, second } = targets;
+    match first {
+        None => match second {
             None => Some(Headings {
                 first: alone,
                 second: None,
             }),
             Some(t) => at_one(form, p, t),
         },
-        Some(t) => match targets.second {
+        Some(t) => match second {
             None => at_one(form, p, t),
             Some(u) => at_two(form, p, t, u),
         },
@@ -226,8 +226,9 @@ fn headings_of(
 fn push_headings(made: &mut Vec<SegmentHeader>, headings: Headings) -> Result<(), AllocError>
     ensures { OnOk result (made.new.items ≡ made.old.items ++ headings_seen headings) }
 {
-    made.push(headings.first)?;
-    if let Some(second) = headings.second {
+    let Headings { first, second } = headings;
+    made.push(first)?;
+    if let Some(second) = second {
         made.push(second)?;
     }
     Ok(())

@@ -22,7 +22,6 @@ pub(crate) struct TargetAt {
 }
 
 // Where a program header goes: nowhere, to one place or to two.
-#[derive(Clone, Copy)]
 pub(crate) struct Targets {
     pub(crate) first: Option<TargetAt>,
     pub(crate) second: Option<TargetAt>,
@@ -99,13 +98,11 @@ pub(crate) fn targets_of(places: &[SectionPlace], notes: &Notes, leader: &Leader
     ensures { targets_seen result ≡ targets_at
         (map place_seen places.now) (begins_seen notes.now) (leader_seen leader.now) }
 {
-    let nowhere = Targets {
-        first: None,
-        second: None,
-    };
     match leader {
-        LeaderAt::Itself => nowhere,
-        LeaderAt::HeaderTable => nowhere,
+        LeaderAt::Itself | LeaderAt::HeaderTable => Targets {
+            first: None,
+            second: None,
+        },
         LeaderAt::OneSection(position) => Targets {
             first: target_over(places, reach_at(places, *position)),
             second: None,
