@@ -10,7 +10,6 @@ use Rattle.elf_format.specs.Ranges.{end_of, range}
 use Rattle.elf_format.specs.declared.range.Range.{Range}
 use Rattle.elf_plan.specs.Kept.{kept_from}
 use Rattle.elf_plan.specs.Written.{Target, address_in_memory, target_at}
-use Rattle.elf_moves.specs.declared.sections.SectionAt.{SectionAt}
 use Rattle.elf_moves.specs.declared.starts.Begin.{Begin}
 use Rattle.elf_moves.specs.Following.{chosen_begins, is_chosen}
 use Rattle.elf_moves.specs.InOrder.{is_in}
@@ -43,20 +42,17 @@ rise_from : (low high : ℕ) (bs : List Begin) → low ≤ high → DoRise high 
 rise_from low high [] h rise = tt
 rise_from low high (b ∷ bs) h rise = (omega (arith, h, rise.0), rise.1)
 
-abbrev begin_at : SectionAt → Begin
-begin_at s = record { start = s.sh_offset; position = s.position }
-
-rise_with : (b : Bool) (k : ℕ) (x : SectionAt) (rest : List SectionAt) → x.position ≡ k → DoRise (k + 1) (map begin_at rest) → DoRise k (map begin_at (cond b (x ∷ rest) rest))
-rise_with true k x rest e h = (omega (arith, e), subst (λ (n : ℕ). DoRise (n + 1) (map begin_at rest)) (sym e) h)
-rise_with false k x rest e h = rise_from k (k + 1) (map begin_at rest) (omega arith) h
+rise_with : {X : Type 0} (b : Bool) (k : ℕ) (f : X → Begin) (x : X) (rest : List X) → (f x).position ≡ k → DoRise (k + 1) (map f rest) → DoRise k (map f (cond b (x ∷ rest) rest))
+rise_with true k f x rest e h = (omega (arith, e), subst (λ (n : ℕ). DoRise (n + 1) (map f rest)) (sym e) h)
+rise_with false k f x rest e h = rise_from k (k + 1) (map f rest) (omega arith) h
 
 begins_rise : (moving : Bool) (marks : List Bool) (k : ℕ) (ns : List ℕ) (ss : List ImageSection) → DoRise k (chosen_begins moving marks (map section_at (kept_from k ns ss)))
 begins_rise moving marks k [] ss = tt
 begins_rise moving marks k (n ∷ ns) [] = tt
 begins_rise moving marks k (n ∷ ns) (s ∷ ss) =
-    let x : SectionAt = section_at (record { position = k; number = n; section = s }) in
-    let rest : List SectionAt = filter (λ (t : SectionAt). has_bytes_at t && is_chosen moving marks t.position) (map section_at (kept_from (k + 1) ns ss)) in
-    rise_with (has_bytes_at x && is_chosen moving marks k) k x rest refl (begins_rise moving marks (k + 1) ns ss)
+    rise_with (has_bytes_at (section_at (record { position = k; number = n; section = s })) && is_chosen moving marks k) k
+    _ (section_at (record { position = k; number = n; section = s })) (filter (λ t. has_bytes_at t && is_chosen moving marks t.position) (map section_at (kept_from (k + 1) ns ss)))
+    refl (begins_rise moving marks (k + 1) ns ss)
 
 -- ## Both ways
 

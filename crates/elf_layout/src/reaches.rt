@@ -76,10 +76,11 @@ fn tree_over(
     ensures { IfOk result (λ tree.
         IsTreeOver (map place_seen places.now) begins.now tree.items) }
 {
-    let mut tree: Vec<Option<Reach>> = begins
-        .iter()
-        .map(|b| reach_at(places, b.position))
-        .collect(alloc)?;
+    let mut tree = Vec::new(alloc);
+    for begin in begins {
+        let pushed = tree.push(reach_at(places, begin.position));
+        pushed?;
+    }
     let inner = begins.len().saturating_sub(1);
     for k in 0..inner {
         let next = joined(tree[2 * k], tree[2 * k + 1]);

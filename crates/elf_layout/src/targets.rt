@@ -2,6 +2,7 @@
 ghost use Rattle.std.specs.Prelude.{◌≡◌, IfOk, map};
 ghost use Rattle.std.specs.Option.{option_map};
 ghost use Rattle.elf_plan.specs.PlanSeen.{place_seen};
+ghost use Rattle.elf_plan.specs.Written.{address_in_memory};
 ghost use Rattle.elf_moves.specs.Inner.{leader_seen};
 ghost use Rattle.elf_layout.specs.Targets.{AreBegins, AreNotes, begins_seen, span_of, span_over, target_of_span, target_seen, targets_at, targets_over_notes, targets_seen};
 
@@ -36,25 +37,46 @@ pub(crate) struct Notes {
     pub(crate) moving: Reaches,
 }
 
+// The address of a place, where it is in memory.
+fn address_of(place: SectionPlace) -> Option<u64>
+    ensures { result ≡ address_in_memory (place_seen place) }
+{
+    if place.sh_flags & SHF_ALLOC != 0 {
+        Some(place.sh_addr)
+    } else {
+        None
+    }
+}
+
+// From a place to an end.
+fn target_from(place: SectionPlace, end: u128) -> TargetAt
+    ensures { target_seen result
+        ≡ target_of_span (record { first = place_seen place; end = end }) }
+{
+    let offset = u128::from(place.sh_offset);
+    let size = if end < offset { 0 } else { end - offset };
+    TargetAt {
+        offset: place.sh_offset,
+        size,
+        address: address_of(place),
+    }
+}
+
 // From the first of several places to the end of the last.
 fn target_over(places: &[SectionPlace], reach: Option<Reach>) -> Option<TargetAt>
     ensures { option_map target_seen result
         ≡ option_map target_of_span (span_of (map place_seen places.now) reach) }
 {
-    let reach = reach?;
-    if places.len() <= reach.position {
-        return None;
+    match reach {
+        None => None,
+        Some(reach) => {
+            if reach.position < places.len() {
+                Some(target_from(places[reach.position], reach.end))
+            } else {
+                None
+            }
+        }
     }
-    let place = places[reach.position];
-    Some(TargetAt {
-        offset: place.sh_offset,
-        size: reach.end.saturating_sub(place.sh_offset as u128),
-        address: if place.sh_flags & SHF_ALLOC != 0 {
-            Some(place.sh_addr)
-        } else {
-            None
-        },
-    })
 }
 
 // Where sections with bytes begin and where they come to stand, those that stay and those that move.

@@ -1,6 +1,5 @@
-use Rattle.std.proofs.Common.{ℕ, ◌≡◌, ◌+◌, ◌*◌, List, Option, None, ap, ◌∙◌, get_or, length, map, subst, sym, rules, arith}
-use Rattle.std.proofs.lemmas.Iterator.{items_from_collect, YieldsList-from_map, YieldsList-from_slice}
-use Rattle.std.proofs.lemmas.List.{get_or_read}
+use Rattle.std.proofs.Common.{ℕ, ◌≡◌, ◌+◌, ◌*◌, List, Option, None, ap, ◌∙◌, get_or, length, map, subst, sym, arith}
+use Rattle.std.proofs.lemmas.List.{get_or_read, take_all}
 use Rattle.elf_format.specs.Places.{Place}
 use Rattle.elf_plan.specs.PlanSeen.{place_seen}
 use Rattle.elf_layout.specs.declared.reaches.Reach.{Reach}
@@ -11,8 +10,8 @@ use Rattle.elf_layout.proofs.reaches.tree_over.Goals as goal
 pub loop-k-init : goal.loop-k-init
 loop-k-init c =
     let all : List Place = map place_seen c.args.places.now in
-    tree_begun all c.args.begins.now c.in_ok-tree.tree.items
-    (items_from_collect _ c.in_ok-tree.ensures.ran (YieldsList-from_map _ (reach_of_begin all) (YieldsList-from_slice c.args.begins.now cc) c.map.ensures.closure (λ x r q k. search rules)))
+    tree_begun all c.args.begins.now c.loop-begin.tree.items
+    (c.loop-begin.invariant ∙ ap (map (reach_of_begin all)) (take_all c.loop-begin.begin-index c.args.begins.now (omega arith)))
 
 pub loop-k-preserved : goal.loop-k-preserved
 loop-k-preserved c =
