@@ -1,5 +1,5 @@
 -- Places of sections joined in any order are those that are found section by section.
-use Rattle.std.proofs.Common.{◌≡◌, ℕ, suc, ◌+◌, ◌-◌, ◌<◌, ◌≤◌, max, Bool, true, false, ◌&&◌, ◌||◌, cond, List, [], ◌∷◌, map, refl, sym, ap, ◌∙◌, subst, Option, Some, None, option_map, arith}
+use Rattle.std.proofs.Common.{◌≡◌, ℕ, ◌+◌, ◌-◌, ◌<◌, ◌≤◌, max, Bool, true, false, ◌&&◌, ◌||◌, cond, List, [], ◌∷◌, map, refl, sym, ap, ◌∙◌, subst, Option, Some, None, option_map, arith}
 use Rattle.std.specs.Prelude.{filter, fold, if◌then◌else◌, nat_lt, ◌==◌, IsPermutation}
 use Rattle.std.specs.List.{slice_get}
 use Rattle.std.proofs.lemmas.Bool.{le-ltb, true≢false}
@@ -15,7 +15,7 @@ use Rattle.elf_moves.specs.Following.{chosen_begins, is_chosen}
 use Rattle.elf_moves.specs.InOrder.{is_in}
 use Rattle.elf_moves.specs.Sections.{has_bytes_at, section_at, sections_seen}
 use Rattle.elf_layout.specs.declared.reaches.Reach.{Reach}
-use Rattle.elf_layout.specs.Reaches.{is_before, joined, joined_all, reach_at, reach_in, reach_of_place}
+use Rattle.elf_layout.specs.Reaches.{is_before, joined, reach_at, reach_in, reach_of_place}
 use Rattle.elf_layout.specs.Targets.{Span, span_of, span_over, target_of_span}
 use Rattle.elf_layout.proofs.ReachLaws.{joined_all-permutation}
 

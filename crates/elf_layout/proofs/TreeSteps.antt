@@ -1,5 +1,5 @@
 -- A tree over where sections come to stand gives the joined places of those that begin in a range.
-use Rattle.std.proofs.Common.{◌≡◌, ℕ, zero, suc, ◌+◌, ◌-◌, ◌*◌, ◌/◌, ◌%◌, ◌<◌, ◌≤◌, Bool, true, false, ◌&&◌, ◌⊎◌, inl, inr, List, [], ◌∷◌, ◌++◌, map, length, take, get_or, refl, sym, ap, ◌∙◌, subst, Option, Some, None, arith}
+use Rattle.std.proofs.Common.{◌≡◌, ℕ, zero, suc, ◌+◌, ◌-◌, ◌*◌, ◌/◌, ◌%◌, ◌<◌, ◌≤◌, Bool, true, false, ◌&&◌, ◌⊎◌, inl, inr, List, [], ◌∷◌, ◌++◌, map, length, take, get_or, refl, sym, ap, ◌∙◌, subst, Option, None, arith}
 use Rattle.std.specs.Prelude.{if◌then◌else◌, nat_le, nat_lt}
 use Rattle.std.proofs.lemmas.Bool.{cases_lt, le-leb, lt-leb, ltb-false, ltb-true}
 use Rattle.std.proofs.lemmas.List.{get_or-append_right, get_or_append_left, length-append, length-map, take-append-le, take_all}
@@ -26,9 +26,9 @@ halved n tree two (suc m) a low high left right lo hi le ri fits fit =
     let rest : Option Reach = over tree (suc (suc low)) high in
     let inside : n + a < length tree = omega (arith, ri, fit) in
     let z : get_or tree left None ≡ joined x y =
-        ap (λ i. get_or tree i None) le ∙ two.joins a inside
-        ∙ ap (λ i. joined (get_or tree i None) (get_or tree (2 * a + 1) None)) (sym lo)
-        ∙ ap (λ i. joined x (get_or tree i None)) (let e : 2 * a + 1 ≡ suc low = omega (arith, lo) in e) in
+    ap (λ i. get_or tree i None) le ∙ two.joins a inside
+    ∙ ap (λ i. joined (get_or tree i None) (get_or tree (2 * a + 1) None)) (sym lo)
+    ∙ ap (λ i. joined x (get_or tree i None)) (let e : 2 * a + 1 ≡ suc low = omega (arith, lo) in e) in
     over_first tree low high (omega (arith, lo, hi)) fits
     ∙ ap (joined x) (over_first tree (suc low) high (omega (arith, lo, hi)) fits)
     ∙ sym (joined-group x y rest)

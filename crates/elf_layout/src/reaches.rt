@@ -54,8 +54,8 @@ fn joined(some: Option<Reach>, more: Option<Reach>) -> Option<Reach>
             None => some,
             Some(b) => {
                 let end = if a.end < b.end { b.end } else { a.end };
-                let is_before =
-                    b.offset < a.offset || b.offset == a.offset && b.position < a.position;
+                let is_before = b.offset < a.offset
+                    || b.offset == a.offset && b.position < a.position;
                 let first = if is_before { b } else { a };
                 Some(Reach {
                     offset: first.offset,
@@ -90,12 +90,7 @@ fn tree_over(
 }
 
 // What a tree says from one place on up to another, joined, where so many sections stand in front.
-fn reach_between(
-    tree: &[Option<Reach>],
-    count: usize,
-    low: usize,
-    high: usize,
-) -> Option<Reach>
+fn reach_between(tree: &[Option<Reach>], count: usize, low: usize, high: usize) -> Option<Reach>
     requires tree { IsTree count tree.now }
     requires high { high ≤ length tree.now }
     ensures { result ≡ over tree.now low high }
@@ -105,10 +100,7 @@ fn reach_between(
     } else if low % 2 == 1 {
         joined(tree[low], reach_between(tree, count, low + 1, high))
     } else if high % 2 == 1 {
-        joined(
-            reach_between(tree, count, low, high - 1),
-            tree[high - 1],
-        )
+        joined(reach_between(tree, count, low, high - 1), tree[high - 1])
     } else {
         reach_between(tree, count, count + low / 2, count + high / 2)
     }
@@ -123,11 +115,7 @@ fn count_before(begins: &[Begin], offset: u128) -> usize
 }
 
 // Where those come to stand that begin in a range.
-pub(crate) fn reach_over(
-    places: &[SectionPlace],
-    reaches: &Reaches,
-    part: Range,
-) -> Option<Reach>
+pub(crate) fn reach_over(places: &[SectionPlace], reaches: &Reaches, part: Range) -> Option<Reach>
     requires { AreJoined (map place_seen places.now) reaches.now }
     ensures { result
         ≡ joined_all (map (reach_in (map place_seen places.now) part) reaches.now.begins.items) }

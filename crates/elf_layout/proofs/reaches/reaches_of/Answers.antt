@@ -1,4 +1,4 @@
-use Rattle.std.proofs.Common.{List, Option, map, subst, rules}
+use Rattle.std.proofs.Common.{List, map, subst, rules}
 use Rattle.std.proofs.lemmas.List.Sorted.{IsNonDecreasingBy-from_sort_by_key}
 use Rattle.elf_plan.specs.PlanSeen.{place_seen}
 use Rattle.elf_moves.specs.declared.starts.Begin.{Begin}
