@@ -17,7 +17,7 @@ segment_kept p = p.numbers
 
 abbrev pub section_kept : Section → ImageSection
 section_kept s = record {
-  name = s.name;
+  name = s.name.bytes;
   kind = s.kind;
   sh_type = s.sh_type;
   sh_flags = s.sh_flags;
@@ -32,9 +32,9 @@ section_kept s = record {
 }
 
 abbrev pub symbol_kept : Symbol → NamedSymbol
-symbol_kept y = record { name = y.name; st_info = y.st_info; st_other = y.st_other; st_shndx = y.st_shndx; st_value = y.st_value; st_size = y.st_size; version = y.version }
+symbol_kept y = record { name = y.name.bytes; st_info = y.st_info; st_other = y.st_other; st_shndx = y.st_shndx; st_value = y.st_value; st_size = y.st_size; version = y.version }
 
 abbrev pub entry_kept : Dynamic → Entry
 entry_kept (kinds.Auto tag) = Auto tag
 entry_kept (kinds.Integer tag value) = Integer tag value
-entry_kept (kinds.Text tag text) = Text tag text
+entry_kept (kinds.Text tag text) = Text tag text.bytes
