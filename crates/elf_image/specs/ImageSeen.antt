@@ -1,4 +1,7 @@
 -- The parts of an image, seen without where their bytes lie.
+use Rattle.std.specs.Prelude.{ℕ, List, Option}
+use Rattle.std.specs.Option.{option_map}
+use Rattle.patch_bytes.specs.ByteString.{StringValue}
 use Rattle.elf_image.specs.declared.dynamic.Dynamic.{Dynamic}
 use Rattle.elf_image.specs.declared.dynamic.Dynamic.TheVariants as kinds
 use Rattle.elf_image.specs.declared.section.Section.{Section}
@@ -33,6 +36,10 @@ section_kept s = record {
 
 abbrev pub symbol_kept : Symbol → NamedSymbol
 symbol_kept y = record { name = y.name.bytes; st_info = y.st_info; st_other = y.st_other; st_shndx = y.st_shndx; st_value = y.st_value; st_size = y.st_size; version = y.version }
+
+-- the bytes of a text, where there is one
+abbrev pub text_kept : Option StringValue → Option (List ℕ)
+text_kept text = option_map (λ string. string.bytes) text
 
 abbrev pub entry_kept : Dynamic → Entry
 entry_kept (kinds.Auto tag) = Auto tag
