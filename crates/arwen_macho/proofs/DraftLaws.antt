@@ -1,5 +1,5 @@
 -- Lists of byte strings under edits, seen as the bytes of each.
-use Rattle.std.proofs.Common.{◌≡◌, ℕ, suc, ◌+◌, Bool, not, cond, List, [], ◌∷◌, ◌++◌, length, take, drop, get_or, set, map, Some, None, nat_lt, refl, sym, ap, ◌∙◌}
+use Rattle.std.proofs.Common.{◌≡◌, ℕ, suc, ◌+◌, Bool, not, cond, List, [], ◌∷◌, ◌++◌, length, take, drop, get_or, set, map, Option, Some, None, nat_lt, refl, sym, ap, ◌∙◌}
 use Rattle.std.specs.List.{concat, position, position_or_len, prefix_len, remove}
 use Rattle.std.proofs.lemmas.List.{drop-map, length-map, map-append, map-set, map_push, take-map}
 use Rattle.patch_bytes.specs.ByteString.{StringValue, bytes_of_each, owned_string}
@@ -30,9 +30,12 @@ prefix_len-bytes : (p : List ℕ → Bool) (strings : List StringValue) → pref
 prefix_len-bytes p [] = refl
 prefix_len-bytes p (s ∷ strings) = ap (λ (n : ℕ). cond (p s.bytes) (1 + n) 0) (prefix_len-bytes p strings)
 
-pub position-bytes : (p : List ℕ → Bool) (strings : List StringValue) → position p (bytes_of_each strings) ≡ position (λ x. p x.bytes) strings
-position-bytes p strings =
+same_position : (p : List ℕ → Bool) (strings : List StringValue) → position p (bytes_of_each strings) ≡ position (λ x. p x.bytes) strings
+same_position p strings =
     let here : position_or_len p (bytes_of_each strings) ≡ position_or_len (λ x. p x.bytes) strings = prefix_len-bytes (λ bytes. not (p bytes)) strings in
     let long : length (bytes_of_each strings) ≡ length strings = length-map strings (λ (x : StringValue). x.bytes) in
     ap (λ (n : ℕ). cond (nat_lt n (length (bytes_of_each strings))) (Some n) None) here
     ∙ ap (λ (n : ℕ). cond (nat_lt (position_or_len (λ x. p x.bytes) strings) n) (Some (position_or_len (λ x. p x.bytes) strings)) None) long
+
+pub position-bytes : (p : List ℕ → Bool) (strings : List StringValue) (place : Option ℕ) → position (λ x. p x.bytes) strings ≡ place → position p (bytes_of_each strings) ≡ place
+position-bytes p strings place is = same_position p strings ∙ is

@@ -72,7 +72,8 @@ fn dylib_at(order: ByteOrder2, commands: &[ByteString<'_>], place: usize) -> Dyl
 
 // The place of the first rpath command with this text.
 fn rpath_place(order: ByteOrder2, commands: &[ByteString<'_>], text: &str) -> Option<usize>
-    ensures { result ≡ position (is_rpath_named order text.now) (bytes_of_each commands.now) }
+    ensures { result
+        ≡ position (λ command. is_rpath_named order text.now command.bytes) commands.now }
 {
     commands
         .iter()
@@ -81,7 +82,7 @@ fn rpath_place(order: ByteOrder2, commands: &[ByteString<'_>], text: &str) -> Op
 
 // The place of the first command with the library's own name.
 fn id_place(order: ByteOrder2, commands: &[ByteString<'_>]) -> Option<usize>
-    ensures { result ≡ position (is_id order) (bytes_of_each commands.now) }
+    ensures { result ≡ position (λ command. is_id order command.bytes) commands.now }
 {
     commands
         .iter()
@@ -90,7 +91,8 @@ fn id_place(order: ByteOrder2, commands: &[ByteString<'_>]) -> Option<usize>
 
 // The place of the first command that loads the library of this name.
 fn library_place(order: ByteOrder2, commands: &[ByteString<'_>], text: &str) -> Option<usize>
-    ensures { result ≡ position (is_library_named order text.now) (bytes_of_each commands.now) }
+    ensures { result
+        ≡ position (λ command. is_library_named order text.now command.bytes) commands.now }
 {
     commands
         .iter()

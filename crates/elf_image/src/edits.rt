@@ -104,7 +104,9 @@ impl<'data> Builder<'data> {
         requires there { IsSome self.old.interpreter }
         requires nul { IsTrue (not (holds_nul (all_but_last bytes.bytes))) }
         ensures { self.new ≡ record self.old {
-          changed = true; interpreter = some bytes.entry.bytes } }
+          changed = true;
+          interpreter = some bytes.entry.bytes;
+        } }
     {
         self.interpreter = Some(bytes);
         self.changed = true;

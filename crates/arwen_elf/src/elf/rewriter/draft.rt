@@ -80,7 +80,8 @@ impl<'data> Draft<'data> {
     fn write_interpreter(&mut self, alloc: Global, bytes: &[u8]) -> Result<(), AllocError>
         ensures { IfOk result (λ _. self.new
             ≡ record self.old {
-              interpreter = some (owned_string (stored_with_nul bytes.now)) }) }
+              interpreter = some (owned_string (stored_with_nul bytes.now));
+            }) }
     {
         self.interpreter = Some(ByteString::owned(with_nul(alloc, bytes)?));
         Ok(())
