@@ -84,7 +84,7 @@ fn push_names(
     table: &Finished<'_>,
     order: ByteOrder2,
 ) -> Result<(), TableFault>
-    requires { list_all (λ name. is_some (place_of table.now name)) (bytes_of_each names.now) ≡ true }
+    requires { list_all (λ name. is_some (place_of table.now name.bytes)) names.now ≡ true }
     ensures { MatchResult result
         (λ _. (bytes.new.items ≡ bytes.old.items
         ++ chained (spelled_definition_name order) (λ name. 8)
@@ -125,8 +125,8 @@ fn push_definition(
     order: ByteOrder2,
     has_next: bool,
 ) -> Result<(), TableFault>
-    requires { list_all (λ name. is_some (place_of table.now name))
-        (bytes_of_each version.now.names.items)
+    requires { list_all (λ name. is_some (place_of table.now name.bytes))
+        version.now.names.items
         ≡ true }
     ensures { let placed = placed_definition table.now (definition_kept version.now) in
         MatchResult result
