@@ -1,6 +1,6 @@
 -- Lists of byte strings under edits, seen as the bytes of each.
-use Rattle.std.proofs.Common.{◌≡◌, ℕ, suc, ◌+◌, Bool, not, cond, List, [], ◌∷◌, ◌++◌, length, take, drop, get_or, set, map, Option, Some, None, nat_lt, refl, sym, ap, ◌∙◌}
-use Rattle.std.specs.List.{concat, position, position_or_len, prefix_len, remove}
+use Rattle.std.proofs.Common.{◌≡◌, ℕ, suc, ◌+◌, Bool, not, cond, List, [], ◌∷◌, ◌++◌, length, take, drop, set, map, Option, Some, None, nat_lt, refl, sym, ap, ◌∙◌}
+use Rattle.std.specs.List.{position, position_or_len, prefix_len, remove}
 use Rattle.std.proofs.lemmas.List.{drop-map, length-map, map-append, map-set, map_push, take-map}
 use Rattle.patch_bytes.specs.ByteString.{StringValue, bytes_of_each, owned_string}
 

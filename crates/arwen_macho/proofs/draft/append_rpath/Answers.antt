@@ -1,4 +1,4 @@
-use Rattle.std.proofs.Common.{ℕ, List, Result, Ok, sym, ap, ◌∙◌}
+use Rattle.std.proofs.Common.{ℕ, List, Result, Ok, ap, ◌∙◌}
 use Rattle.std.proofs.lemmas.Result.{err_from_is_err_and}
 use Rattle.patch_bytes.specs.ByteString.{bytes_of_each}
 use Rattle.arwen_macho.specs.Built.{rpath_built}

@@ -1,4 +1,4 @@
-use Rattle.std.proofs.Common.{◌≡◌, ℕ, List, Some, None, Ok, sym, ap, ◌∙◌}
+use Rattle.std.proofs.Common.{◌≡◌, ℕ, List, Some, None, Ok, ap, ◌∙◌}
 use Rattle.std.specs.List.{position}
 use Rattle.patch_bytes.specs.ByteString.{bytes_of_each}
 use Rattle.arwen_macho.specs.Call.Cause.{rpath_missing}
