@@ -66,7 +66,8 @@ pub(crate) fn laid_bytes<'data>(
     requires writing { (raw : List EntryNumbers) × IsWholeWriting
         (writing_of image.now plan.now headers.now (bytes_of_each contents.now) raw) }
     ensures { IfOk result (λ bytes. (raw : List EntryNumbers) → bytes.items
-        ≡ written_bytes (writing_of image.now plan.now headers.now (bytes_of_each contents.now) raw)) }
+        ≡ written_bytes
+        (writing_of image.now plan.now headers.now (bytes_of_each contents.now) raw)) }
 {
     let form = form_of(image);
     let Some(size) = file_size(form, plan) else {
@@ -96,7 +97,8 @@ pub(crate) fn laid_difference<'data>(
     requires writing { (raw : List EntryNumbers) × IsWholeWriting
         (writing_of image.now plan.now headers.now (bytes_of_each contents.now) raw) }
     ensures makes { IfOk result (λ d. (raw : List EntryNumbers) → made_of image.now.source d
-        ≡ written_bytes (writing_of image.now plan.now headers.now (bytes_of_each contents.now) raw)) }
+        ≡ written_bytes
+        (writing_of image.now plan.now headers.now (bytes_of_each contents.now) raw)) }
     ensures makeable { IfOk result (λ d. IsDifference image.now.source d) }
 {
     let form = form_of(image);

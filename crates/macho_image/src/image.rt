@@ -193,7 +193,8 @@ impl<'a> MachO<'a> {
     /// The load commands as byte strings that borrow from the file, in order, or an error where there is no
     /// memory for the list.
     pub fn commands(&self, alloc: Global) -> Result<Vec<ByteString<'_>>, AllocError>
-        ensures { IfOk result (λ commands. bytes_of_each commands.items ≡ commands_of self.now.bytes) }
+        ensures { IfOk result (λ commands.
+            bytes_of_each commands.items ≡ commands_of self.now.bytes) }
     {
         let mut commands = Vec::new(alloc);
         for i in 0..self.command_count() {
