@@ -6,8 +6,11 @@ pub mod LoadSteps
 pub mod PlacesFit
 pub mod PlanSteps
 pub mod Planned
+pub mod ReachLaws
 pub mod SizedSections
+pub mod SpanSteps
 pub mod SpotSteps
 pub mod StandingSteps
 pub mod TableSteps
+pub mod TreeSteps
 mod WrittenSteps

@@ -1,6 +1,6 @@
 -- Where program headers go, and what is written of them.
 use Rattle.std.proofs.Common.{◌≡◌, ℕ, zero, suc, ◌+◌, ◌-◌, ◌*◌, ◌<◌, ◌≤◌, ◌^◌, max, Bool, true, false, not, ◌&&◌, ◌||◌, ◌⊎◌, inl, inr, cond, List, [], ◌∷◌, ◌++◌, map, length, take, drop, get_or, refl, sym, ap, ◌∙◌, Option, Some, None, All, MatchOption, option_map, arith}
-use Rattle.std.specs.Prelude.{count_by, filter, fold, if◌then◌else◌, nat_lt, ◌==◌}
+use Rattle.std.specs.Prelude.{count_by, filter, fold, if◌then◌else◌, nat_lt, ◌==◌, IsPermutation}
 use Rattle.std.specs.List.{cons_option, flat_map, list_all, list_any, slice_get}
 use Rattle.std.specs.Option.{option_to_list}
 use Rattle.std.proofs.lemmas.Bool.{and_from, and_parts, and_right, eq-eqb, eqb-false, eqb-true, false_from_ne_true, lt-ltb, ltb-true, ne_eqb, true≢false}
@@ -39,7 +39,8 @@ use Rattle.elf_layout.specs.Inner.{IsPastField, StandsTooFar}
 use Rattle.elf_moves.specs.declared.starts.Begin.{Begin}
 use Rattle.elf_moves.specs.Following.{chosen_begins, is_chosen}
 use Rattle.elf_moves.specs.Sections.{AreSized, sections_seen}
-use Rattle.elf_layout.specs.Targets.{AreBegins, Begins, IsMisfit, Span, added_behind, do_headings_fit, does_table_fit, fits_word, header_at, headings_at, headings_for, headings_found, headings_seen, is_led_well, is_physical_well, is_well_at, left_behind, sized_table, span_over, span_step, span_with, target_of_span, targets_at, targets_found, targets_over_notes, targets_seen}
+use Rattle.elf_layout.specs.Targets.{AreBegins, Begins, IsMisfit, Span, added_behind, do_headings_fit, does_table_fit, fits_word, header_at, headings_at, headings_for, headings_found, headings_seen, is_led_well, is_physical_well, is_well_at, left_behind, sized_table, span_over, target_of_span, targets_at, targets_found, targets_over_notes, targets_seen}
+use Rattle.elf_layout.proofs.SpanSteps.{span_found, span_step, span_with}
 use Rattle.elf_moves.proofs.ForCallers.{AreNotesOf, AreThere, IsThere, begins_as_positions, leader-there, length-kept, length-sized, marked-is}
 
 -- ## Several places
@@ -127,11 +128,11 @@ module _ (r : Resized) (moved : List ℕ) (marks : List Bool) (are : AreSized r)
       by_tests true (Some t) rest is = rest (span_with o t) ∙ ap (λ x. fold span_with o (cons_option x (places_of_kept all (filter (chosen moving) ns)))) (sym is)
 
   module _ (p : SegmentHeader) (ns : List KeptSection) (these : AreNotesOf r p ns) where
-    spans_are : (moving : Bool) (found : List Begin) → found ≡ chosen_begins moving marks (sections_seen r.image)
+    spans_are : (moving : Bool) (found : List Begin) → IsPermutation (chosen_begins moving marks (sections_seen r.image)) found
         → span_over all (file_part p) found ≡ fold span_with None (places_of_kept all (filter (chosen moving) ns))
     unfolding span_step chosen_step
     spans_are moving found same =
-        ap (fold (span_step all (file_part p)) None) same
+        span_found all (file_part p) moving marks r.image found same
         ∙ begins_as_positions marks moving (file_part p) (span_at all) (sections_seen r.image) None
         ∙ ap (fold (chosen_step all marks moving) None) (sym these.begin)
         ∙ span_kept moving ns None these.there

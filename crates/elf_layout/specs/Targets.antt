@@ -1,17 +1,16 @@
 -- Where a program header goes, told by where sections begin and by their positions.
-use Rattle.std.specs.Prelude.{ℕ, ◌≡◌, ◌-◌, ◌^◌, max, List, [], ◌∷◌, ◌++◌, map, fold, Bool, true, false, ◌&&◌, Option, Some, None, nat_lt, ◌==◌, if◌then◌else◌}
+use Rattle.std.specs.Prelude.{ℕ, ◌≡◌, ◌-◌, ◌^◌, List, [], ◌∷◌, ◌++◌, map, IsPermutation, Bool, true, false, ◌&&◌, Option, Some, None, nat_lt, ◌==◌, if◌then◌else◌}
 use Rattle.std.specs.List.{list_all, slice_get}
 use Rattle.std.specs.Option.{option_map, option_to_list}
 use Rattle.elf_format.specs.declared.form.Form.{Form}
 use Rattle.elf_format.specs.File.{is_loaded}
-use Rattle.elf_format.specs.Places.{Place, file_range}
-use Rattle.elf_format.specs.Ranges.{end_of, range}
+use Rattle.elf_format.specs.Places.{Place}
+use Rattle.elf_format.specs.Ranges.{range}
 use Rattle.elf_blocks.specs.declared.fault.LayoutFault.{LayoutFault}
 use Rattle.elf_blocks.specs.declared.fault.LayoutFault.TheVariants as faults
 use Rattle.elf_format.specs.declared.records.SegmentHeader.{SegmentHeader}
-use Rattle.elf_plan.specs.PlanSeen.{place_seen}
 use Rattle.elf_plan.specs.Written.{Target, address_for, address_in_memory, led_to, physical_for, target_at}
-use Rattle.elf_layout.specs.declared.targets.Spread.{Spread}
+use Rattle.elf_layout.specs.declared.reaches.Reach.{Reach}
 use Rattle.elf_layout.specs.declared.targets.TargetAt.{TargetAt}
 use Rattle.elf_layout.specs.declared.targets.Targets.{Targets}
 use Rattle.elf_layout.specs.declared.headings.Headings.{Headings}
@@ -20,8 +19,8 @@ use Rattle.elf_format.specs.declared.range.Range.{Range}
 use Rattle.elf_plan.specs.Memory.{Resized}
 use Rattle.elf_moves.specs.declared.starts.Begin.{Begin}
 use Rattle.elf_moves.specs.Following.{chosen_begins}
-use Rattle.elf_moves.specs.InOrder.{is_in}
 use Rattle.elf_moves.specs.Sections.{sections_seen}
+use Rattle.elf_layout.specs.Reaches.{AreJoined, joined_all, reach_in}
 use Rattle.elf_moves.specs.Inner.{Told, itself, notes, section, table}
 
 abbrev pub target_seen : TargetAt → Target
@@ -37,22 +36,14 @@ pub record Span : Type 0 where
   pub first : Place
   pub end : ℕ
 
-abbrev pub span_seen : Spread → Span
-span_seen s = record { first = place_seen s.first; end = s.end }
-
--- one more place
-abbrev pub span_with : Option Span → Place → Option Span
-span_with None t = Some (record { first = t; end = end_of (file_range t) })
-span_with (Some s) t = Some (record { first = if nat_lt t.sh_offset s.first.sh_offset then t else s.first; end = max s.end (end_of (file_range t)) })
-
--- the place of one more section, if it begins in a range
-unfoldable pub span_step : List Place → Range → Option Span → Begin → Option Span
-span_step all part span b =
-    if is_in part b.start then elim (slice_get all b.position) [ Some t ↦ span_with span t | None ↦ span ] else span
+-- the same where they come to stand
+abbrev pub span_of : List Place → Option Reach → Option Span
+span_of all None = None
+span_of all (Some r) = option_map (λ (t : Place). let span : Span = record { first = t; end = r.end } in span) (slice_get all r.position)
 
 -- the places of those sections that begin in a range
 abbrev pub span_over : List Place → Range → List Begin → Option Span
-span_over all part begins = fold (span_step all part) None begins
+span_over all part begins = span_of all (joined_all (map (reach_in all part) begins))
 
 abbrev pub target_of_span : Span → Target
 target_of_span s = record { part = range s.first.sh_offset (s.end - s.first.sh_offset); address = address_in_memory s.first }
@@ -64,18 +55,26 @@ pub record Begins : Type 0 where
   pub staying : List Begin
   pub moving : List Begin
 
--- the same of an image with sections that are marked
+-- the same of an image with sections that are marked, in any order
 pub record AreBegins (r : Resized) (marks : List Bool) (begins : Begins) : Type 0 where
-  pub staying : begins.staying ≡ chosen_begins false marks (sections_seen r.image)
-  pub moving : begins.moving ≡ chosen_begins true marks (sections_seen r.image)
+  pub staying : IsPermutation (chosen_begins false marks (sections_seen r.image)) begins.staying
+  pub moving : IsPermutation (chosen_begins true marks (sections_seen r.image)) begins.moving
 
 abbrev pub begins_seen : Notes → Begins
-begins_seen n = record { staying = n.staying.items; moving = n.moving.items }
+begins_seen n = record { staying = n.staying.begins.items; moving = n.moving.begins.items }
+
+-- the same with where they come to stand
+pub record AreNotes (all : List Place) (notes : Notes) : Type 0 where
+  pub staying : AreJoined all notes.staying
+  pub moving : AreJoined all notes.moving
 
 -- where notes go of which some move
+abbrev pub both_targets : Option Target → Option Target → List Target
+both_targets staying None = []
+both_targets staying (Some moving) = option_to_list staying ++ moving ∷ []
+
 abbrev pub targets_over_notes : Option Span → Option Span → List Target
-targets_over_notes staying None = []
-targets_over_notes staying (Some moving) = option_to_list (option_map target_of_span staying) ++ target_of_span moving ∷ []
+targets_over_notes staying moving = both_targets (option_map target_of_span staying) (option_map target_of_span moving)
 
 -- where a program header goes that goes by this
 unfoldable pub targets_at : List Place → Begins → Told → List Target

@@ -1,11 +1,11 @@
 //! What becomes of a program header.
-ghost use Rattle.std.specs.Prelude.{◌≡◌, ◌+◌, ◌-◌, [], ◌∷◌, ◌++◌, ◌&&◌, MatchOption, MatchResult, OnOk, true, false, map};
+ghost use Rattle.std.specs.Prelude.{◌≡◌, [], ◌∷◌, ◌++◌, ◌&&◌, MatchOption, MatchResult, OnOk, true, false, map};
 ghost use Rattle.std.specs.List.{list_all};
 ghost use Rattle.elf_plan.specs.PlanSeen.{place_seen};
 ghost use Rattle.elf_plan.specs.Sizes.{field_range};
 ghost use Rattle.elf_plan.specs.Written.{address_for as address_at, memory_size as size_in_memory, physical_for};
 ghost use Rattle.elf_moves.specs.Inner.{leader_seen};
-ghost use Rattle.elf_layout.specs.Targets.{IsMisfit, begins_seen, do_headings_fit, does_table_fit, fits_word, header_at, headings_for, headings_found, headings_seen, is_physical_well, is_well_at, sized_table, target_seen, targets_found};
+ghost use Rattle.elf_layout.specs.Targets.{AreNotes, IsMisfit, begins_seen, do_headings_fit, does_table_fit, fits_word, header_at, headings_for, headings_found, headings_seen, is_physical_well, is_well_at, sized_table, target_seen, targets_found};
 
 use crate::targets::{Notes, TargetAt, Targets, targets_of};
 use elf_format::constants::{PT_DYNAMIC, PT_INTERP};
@@ -17,7 +17,6 @@ use patch_bytes::Wide;
 use std::alloc::AllocError;
 
 // What becomes of a program header: one, or two.
-#[derive(Clone, Copy)]
 pub(crate) struct Headings {
     pub(crate) first: SegmentHeader,
     pub(crate) second: Option<SegmentHeader>,
@@ -183,15 +182,16 @@ fn at_targets(
         MatchOption result (well ≡ false)
         (λ h. (headings_seen h ≡ headings_found form p alone (targets_found targets)) × (well ≡ true)) }
 {
-    match targets.first {
-        None => match targets.second {
+    let Targets { first, second } = targets;
+    match first {
+        None => match second {
             None => Some(Headings {
                 first: alone,
                 second: None,
             }),
             Some(t) => at_one(form, p, t),
         },
-        Some(t) => match targets.second {
+        Some(t) => match second {
             None => at_one(form, p, t),
             Some(u) => at_two(form, p, t, u),
         },
@@ -209,6 +209,7 @@ fn headings_of(
     p: SegmentHeader,
     leader: &LeaderAt,
 ) -> Option<Headings>
+    requires { AreNotes (map place_seen places.now) notes.now }
     ensures { let all = map place_seen places.now in let begins = begins_seen notes.now in
         let told = leader_seen leader.now in
         MatchOption result (do_headings_fit form all begins size p told ≡ false)
@@ -225,8 +226,9 @@ fn headings_of(
 fn push_headings(made: &mut Vec<SegmentHeader>, headings: Headings) -> Result<(), AllocError>
     ensures { OnOk result (made.new.items ≡ made.old.items ++ headings_seen headings) }
 {
-    made.push(headings.first)?;
-    if let Some(second) = headings.second {
+    let Headings { first, second } = headings;
+    made.push(first)?;
+    if let Some(second) = second {
         made.push(second)?;
     }
     Ok(())
@@ -242,6 +244,7 @@ pub(crate) fn push_written(
     p: SegmentHeader,
     leader: &LeaderAt,
 ) -> Result<(), LayoutFault>
+    requires { AreNotes (map place_seen places.now) notes.now }
     ensures { let all = map place_seen places.now in let begins = begins_seen notes.now in
         let told = leader_seen leader.now in
         MatchResult result

@@ -11,6 +11,7 @@ mod loose;
 mod memory;
 pub mod moving;
 mod places;
+mod reaches;
 mod sized;
 mod spots;
 mod standing;

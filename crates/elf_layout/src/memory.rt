@@ -4,7 +4,7 @@ ghost use Rattle.elf_format.specs.File.{is_loaded, loads_of};
 ghost use Rattle.elf_format.specs.Placement.{memory_part};
 ghost use Rattle.elf_format.specs.Ranges.{end_of};
 ghost use Rattle.elf_image.specs.ImageSeen.{segment_kept};
-ghost use Rattle.elf_plan.specs.Added.{alignment_at_read as align_at_read, default_page_size as page_size_of, greatest, load_alignment as align_of_loads, memory_end as end_of_memory};
+ghost use Rattle.elf_plan.specs.Added.{default_page_size as page_size_of, greatest, load_alignment as align_of_loads, memory_end as end_of_memory};
 ghost use Rattle.elf_plan.specs.Memory.{SizedSection, sized_sections};
 ghost use Rattle.elf_layout.specs.Numbers.{numbers_of};
 ghost use Rattle.elf_layout.specs.Spots.{end_at, has_memory, value_where};
@@ -115,25 +115,19 @@ fn default_page_size(machine: u16) -> u64
     }
 }
 
-// The greatest alignment of the loaded segments that were read, or the machine's pages where they tell none.
-fn alignment_at_read(r: &Resizing<'_, '_>) -> u64
-    ensures { result ≡ align_at_read r.now }
+// The page size that was set, or without one the greatest alignment of the loaded segments that were read, or the machine's
+// pages where they tell none.
+#[tactic(auto, unfolding(elf_plan::specs::Added::load_alignment))]
+pub(crate) fn load_alignment(r: &Resizing<'_, '_>) -> u64
+    ensures { result ≡ align_of_loads r.now }
 {
+    if let Some(size) = r.image.page_size() {
+        return u64::from(size);
+    }
     let found = greatest_align(r.read.segments());
     if found == 0 {
         default_page_size(r.read.header().e_machine)
     } else {
         found
-    }
-}
-
-// The page size that was set, or without one the alignment at read.
-#[tactic(auto, unfolding(elf_plan::specs::Added::load_alignment))]
-pub(crate) fn load_alignment(r: &Resizing<'_, '_>) -> u64
-    ensures { result ≡ align_of_loads r.now }
-{
-    match r.image.page_size() {
-        Some(size) => u64::from(size),
-        None => alignment_at_read(r),
     }
 }

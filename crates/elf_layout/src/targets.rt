@@ -1,17 +1,16 @@
 //! Where a program header goes.
-ghost use Rattle.std.specs.Prelude.{◌≡◌, IfOk, map, slice_get};
+ghost use Rattle.std.specs.Prelude.{◌≡◌, IfOk, map};
 ghost use Rattle.std.specs.Option.{option_map};
 ghost use Rattle.elf_plan.specs.PlanSeen.{place_seen};
-ghost use Rattle.elf_plan.specs.Written.{address_in_memory, target_at as target_of_place};
+ghost use Rattle.elf_plan.specs.Written.{address_in_memory};
 ghost use Rattle.elf_moves.specs.Inner.{leader_seen};
-ghost use Rattle.elf_moves.specs.InOrder.{is_in as lies_in};
-ghost use Rattle.elf_layout.specs.Targets.{AreBegins, begins_seen, span_over, span_seen, span_step, span_with, target_of_span, target_seen, targets_at, targets_over_notes, targets_seen};
+ghost use Rattle.elf_layout.specs.Targets.{AreBegins, AreNotes, begins_seen, span_of, span_over, target_of_span, target_seen, targets_at, targets_over_notes, targets_seen};
 
+use crate::reaches::{Reach, Reaches, reach_at, reach_over, reaches_of};
 use elf_format::constants::SHF_ALLOC;
 use elf_format::range::Range;
 use elf_moves::leaders::LeaderAt;
 use elf_moves::resizing::Resizing;
-use elf_moves::starts::{Begin, begins_of};
 use elf_plan::SectionPlace;
 use std::alloc::{AllocError, Global};
 
@@ -24,26 +23,18 @@ pub(crate) struct TargetAt {
 }
 
 // Where a program header goes: nowhere, to one place or to two.
-#[derive(Clone, Copy)]
 pub(crate) struct Targets {
     pub(crate) first: Option<TargetAt>,
     pub(crate) second: Option<TargetAt>,
 }
 
-// Where sections with bytes begin, in the order of the sections.
+// Where sections with bytes begin and where they come to stand.
 #[derive(Drop)]
 pub(crate) struct Notes {
     // Those that stay.
-    pub(crate) staying: Vec<Begin>,
+    pub(crate) staying: Reaches,
     // Those that move.
-    pub(crate) moving: Vec<Begin>,
-}
-
-// Of several places the one that stands first in the file, and the end of the last.
-#[derive(Clone, Copy)]
-pub(crate) struct Spread {
-    pub(crate) first: SectionPlace,
-    pub(crate) end: u128,
+    pub(crate) moving: Reaches,
 }
 
 // The address of a place, where it is in memory.
@@ -57,159 +48,85 @@ fn address_of(place: SectionPlace) -> Option<u64>
     }
 }
 
-// One place.
-fn target_at(place: SectionPlace) -> TargetAt
-    ensures { target_seen result ≡ target_of_place (place_seen place) }
+// From a place to an end.
+fn target_from(place: SectionPlace, end: u128) -> TargetAt
+    ensures { target_seen result
+        ≡ target_of_span (record { first = place_seen place; end = end }) }
 {
+    let offset = u128::from(place.sh_offset);
+    let size = if end < offset { 0 } else { end - offset };
     TargetAt {
         offset: place.sh_offset,
-        size: place.sh_size as u128,
+        size,
         address: address_of(place),
     }
 }
 
 // From the first of several places to the end of the last.
-fn target_over(spread: Spread) -> TargetAt
-    ensures { target_seen result ≡ target_of_span (span_seen spread) }
-{
-    let offset = spread.first.sh_offset as u128;
-    let size = if spread.end < offset {
-        0
-    } else {
-        spread.end - offset
-    };
-    TargetAt {
-        offset: spread.first.sh_offset,
-        size,
-        address: address_of(spread.first),
-    }
-}
-
-// Where several places go, if there are any.
-fn target_over_some(spread: Option<Spread>) -> Option<TargetAt>
+fn target_over(places: &[SectionPlace], reach: Option<Reach>) -> Option<TargetAt>
     ensures { option_map target_seen result
-        ≡ option_map target_of_span (option_map span_seen spread) }
+        ≡ option_map target_of_span (span_of (map place_seen places.now) reach) }
 {
-    match spread {
-        Some(spread) => Some(target_over(spread)),
+    match reach {
         None => None,
-    }
-}
-
-// One more place.
-fn widened(spread: Option<Spread>, place: SectionPlace) -> Spread
-    ensures { Some (span_seen result)
-        ≡ span_with (option_map span_seen spread) (place_seen place) }
-{
-    let end = place.sh_offset as u128 + place.sh_size as u128;
-    match spread {
-        None => Spread { first: place, end },
-        Some(spread) => Spread {
-            first: if place.sh_offset < spread.first.sh_offset {
-                place
+        Some(reach) => {
+            if reach.position < places.len() {
+                Some(target_from(places[reach.position], reach.end))
             } else {
-                spread.first
-            },
-            end: if spread.end < end { end } else { spread.end },
-        },
+                None
+            }
+        }
     }
 }
 
-// Whether an offset lies in a range of the file.
-fn is_in(part: Range, offset: u64) -> bool
-    ensures { result ≡ lies_in part offset }
-{
-    part.start <= offset && u128::from(offset) < part.end()
-}
-
-// The place of one more section, if it begins in a range.
-#[tactic(auto, unfolding(crate::specs::Targets::span_step))]
-fn widened_by(
-    places: &[SectionPlace],
-    part: Range,
-    spread: Option<Spread>,
-    begin: Begin,
-) -> Option<Spread>
-    ensures { option_map span_seen result
-        ≡ span_step (map place_seen places.now) part (option_map span_seen spread) begin }
-{
-    if is_in(part, begin.start) && begin.position < places.len() {
-        Some(widened(spread, places[begin.position]))
-    } else {
-        spread
-    }
-}
-
-// The places of those sections that begin in a range.
-fn spread_over(places: &[SectionPlace], part: Range, begins: &[Begin]) -> Option<Spread>
-    ensures { option_map span_seen result
-        ≡ span_over (map place_seen places.now) part begins.now }
-{
-    let mut spread = None;
-    for begin in begins {
-        spread = widened_by(places, part, spread, *begin);
-    }
-    spread
-}
-
-// Where sections with bytes begin, those that stay and those that move.
+// Where sections with bytes begin and where they come to stand, those that stay and those that move.
 pub(crate) fn notes_of(
     alloc: Global,
     r: &Resizing<'_, '_>,
     marks: &[bool],
+    places: &[SectionPlace],
 ) -> Result<Notes, AllocError>
-    ensures { IfOk result (λ found. AreBegins r.now marks.now (begins_seen found)) }
+    ensures begins { IfOk result (λ found. AreBegins r.now marks.now (begins_seen found)) }
+    ensures notes { IfOk result (AreNotes (map place_seen places.now)) }
 {
-    let staying = begins_of(alloc, r, marks, false)?;
-    let moving = begins_of(alloc, r, marks, true)?;
+    let staying = reaches_of(alloc, r, marks, places, false)?;
+    let moving = reaches_of(alloc, r, marks, places, true)?;
     Ok(Notes { staying, moving })
 }
 
 // Where a program header goes that goes by notes.
 fn targets_of_notes(places: &[SectionPlace], notes: &Notes, part: Range) -> Targets
+    requires { AreNotes (map place_seen places.now) notes.now }
     ensures { let all = map place_seen places.now in let begins = begins_seen notes.now in
         targets_seen result ≡ targets_over_notes
         (span_over all part begins.staying) (span_over all part begins.moving) }
 {
-    match spread_over(places, part, &notes.moving) {
+    match target_over(places, reach_over(places, &notes.moving, part)) {
         None => Targets {
             first: None,
             second: None,
         },
         Some(moving) => Targets {
-            first: target_over_some(spread_over(places, part, &notes.staying)),
-            second: Some(target_over(moving)),
+            first: target_over(places, reach_over(places, &notes.staying, part)),
+            second: Some(moving),
         },
     }
 }
 
-// Where a program header goes that goes by one section.
-fn targets_of_section(places: &[SectionPlace], position: usize) -> Option<TargetAt>
-    ensures { option_map target_seen result
-        ≡ option_map target_of_place (slice_get (map place_seen places.now) position) }
-{
-    if position < places.len() {
-        Some(target_at(places[position]))
-    } else {
-        None
-    }
-}
-
 // Where a program header goes that goes by this.
-#[tactic(auto, unfolding(crate::specs::Targets::targets_at))]
+#[tactic(auto, using(crate::proofs::SpanSteps::one_place), unfolding(crate::specs::Targets::targets_at))]
 pub(crate) fn targets_of(places: &[SectionPlace], notes: &Notes, leader: &LeaderAt) -> Targets
+    requires { AreNotes (map place_seen places.now) notes.now }
     ensures { targets_seen result ≡ targets_at
         (map place_seen places.now) (begins_seen notes.now) (leader_seen leader.now) }
 {
-    let nowhere = Targets {
-        first: None,
-        second: None,
-    };
     match leader {
-        LeaderAt::Itself => nowhere,
-        LeaderAt::HeaderTable => nowhere,
+        LeaderAt::Itself | LeaderAt::HeaderTable => Targets {
+            first: None,
+            second: None,
+        },
         LeaderAt::OneSection(position) => Targets {
-            first: targets_of_section(places, *position),
+            first: target_over(places, reach_at(places, *position)),
             second: None,
         },
         LeaderAt::Notes(part) => targets_of_notes(places, notes, *part),

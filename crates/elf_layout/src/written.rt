@@ -1,6 +1,5 @@
-ghost use Rattle.std.specs.Prelude.{◌≡◌, ◌∷◌, ◌++◌, IfErr, IfOk, OnOk, count_by, map, true};
-ghost use Rattle.std.specs.List.{flat_map, list_all};
-ghost use Rattle.elf_format.specs.File.{is_loaded};
+ghost use Rattle.std.specs.Prelude.{◌≡◌, ◌∷◌, ◌++◌, IfErr, IfOk, OnOk, map};
+ghost use Rattle.std.specs.List.{flat_map};
 ghost use Rattle.elf_plan.specs.Added.{header_count};
 ghost use Rattle.elf_plan.specs.PlanSeen.{place_seen};
 ghost use Rattle.elf_plan.specs.Standing.{places as places_of};
@@ -18,19 +17,6 @@ use elf_moves::reading::{form_of, sections_are_sized, segment_at};
 use elf_moves::resizing::Resizing;
 use elf_plan::{LayoutFault, SectionPlace};
 use std::alloc::{AllocError, Global};
-
-// How many program headers are loaded.
-fn count_loads(headers: &[SegmentHeader]) -> usize
-    ensures { result ≡ count_by is_loaded headers.now }
-{
-    let mut count = 0usize;
-    for p in headers {
-        if p.is_loaded() {
-            count += 1;
-        }
-    }
-    count
-}
 
 // How many of those behind a header are loaded, where so many are that are left.
 fn left_behind(p: SegmentHeader, left: usize) -> usize
@@ -69,7 +55,7 @@ fn with_loads(
     ensures { IfOk result (λ made. made.items ≡ behind_last_load loads.now headers.now) }
 {
     let mut made = Vec::new(alloc);
-    let mut left = count_loads(headers);
+    let mut left = headers.iter().filter(|p| p.is_loaded()).count();
     for p in headers {
         push_next(&mut made, *p, loads, left)?;
         left = left_behind(*p, left);
@@ -98,7 +84,7 @@ fn all_written(
     sections_are_sized(r);
     let form = form_of(r);
     let size = headers as u128 * form.segment_header_size() as u128;
-    let Ok(notes) = notes_of(alloc, r, marks) else {
+    let Ok(notes) = notes_of(alloc, r, marks, places) else {
         return Err(LayoutFault::Memory);
     };
     let mut made = Vec::new(alloc);

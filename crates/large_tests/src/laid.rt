@@ -19,6 +19,15 @@ fn plan(alloc: Global, image: &Builder<'_>) -> Result<Plan, LayoutFault> {
     }
 }
 
+// Adds a program header for the stack behind the others, where there is none, once more where memory was refused.
+fn add_header(alloc: Global, image: &mut Builder<'_>) {
+    for _ in 0..2 {
+        if image.stack().is_none() {
+            let _ = image.push_stack(alloc, 6);
+        }
+    }
+}
+
 // How many places, program headers and rounds the plan of a file has.
 fn counted(alloc: Global, counts: Counts) -> Result<(usize, usize, usize), &'static str> {
     let Ok(bytes) = file(alloc, counts) else {
@@ -27,9 +36,31 @@ fn counted(alloc: Global, counts: Counts) -> Result<(usize, usize, usize), &'sta
     let Ok(image) = read(alloc, &bytes) else {
         return Err("not read");
     };
-    match plan(alloc, &image) {
+    laid(alloc, &image)
+}
+
+// The same, with one more program header, for which notes have to move.
+fn counted_with_header(
+    alloc: Global,
+    counts: Counts,
+) -> Result<(usize, usize, usize), &'static str> {
+    let Ok(bytes) = file(alloc, counts) else {
+        return Err("no memory");
+    };
+    let Ok(mut image) = read(alloc, &bytes) else {
+        return Err("not read");
+    };
+    add_header(alloc, &mut image);
+    laid(alloc, &image)
+}
+
+// How many places, program headers and rounds the plan of an image has.
+fn laid(alloc: Global, image: &Builder<'_>) -> Result<(usize, usize, usize), &'static str> {
+    match plan(alloc, image) {
         Ok(plan) => Ok((plan.places().len(), plan.segments().len(), plan.rounds())),
-        Err(_) => Err("not laid out"),
+        Err(LayoutFault::Overlap) => Err("two blocks that never move overlap"),
+        Err(LayoutFault::NumberTooLarge) => Err("a number is too large"),
+        Err(LayoutFault::Memory) => Err("no memory"),
     }
 }
 
@@ -49,6 +80,7 @@ const SECTIONS: Counts = Counts {
     notes: 65_277,
     headers: 2,
     over: 10,
+    room: 0,
 };
 
 // Many program headers over many notes.
@@ -56,6 +88,15 @@ const HEADERS: Counts = Counts {
     notes: 30_000,
     headers: 60_000,
     over: 10,
+    room: 0,
+};
+
+// Fewer of them, which may become two each, and room for these.
+const MOVING: Counts = Counts {
+    notes: 30_000,
+    headers: 30_000,
+    over: 10,
+    room: 300_000,
 };
 
 #[test]
@@ -80,4 +121,12 @@ fn many_headers_are_read(rt: HostRuntime) {
 fn many_headers_are_laid_out(rt: HostRuntime) {
     let found = counted(rt.alloc(), HEADERS);
     assert_eq!(rt; found, Ok((30_002, 60_001, 1)));
+}
+
+// The table of program headers reaches over 14 notes with each header that it gains, and 25, 375 and 5,275 headers are
+// wanted until it reaches over all notes; then one is enough, of the segment that they move to.
+#[test]
+fn many_headers_over_moving_notes_are_laid_out(rt: HostRuntime) {
+    let found = counted_with_header(rt.alloc(), MOVING);
+    assert_eq!(rt; found, Ok((30_002, 30_003, 4)));
 }

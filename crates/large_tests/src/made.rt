@@ -1,12 +1,14 @@
 //! Files with many note sections and many program headers over them.
 use std::alloc::{AllocError, Global};
 
-/// How many note sections a file has, how many program headers for notes, and over how many notes each is at least.
+/// How many note sections a file has, how many program headers for notes, over how many notes each is at least, and how
+/// many bytes are loaded behind the notes.
 #[derive(Clone, Copy)]
 pub(crate) struct Counts {
     pub(crate) notes: u64,
     pub(crate) headers: u64,
     pub(crate) over: u64,
+    pub(crate) room: u64,
 }
 
 impl Counts {
@@ -30,9 +32,14 @@ impl Counts {
         self.start().saturating_add(i.saturating_mul(4))
     }
 
+    // Where the names begin.
+    fn names(self) -> u64 {
+        self.note(self.notes).saturating_add(self.room)
+    }
+
     // Where the section headers begin.
     fn table(self) -> u64 {
-        self.note(self.notes).saturating_add(8)
+        self.names().saturating_add(8)
     }
 }
 
@@ -117,7 +124,7 @@ fn put_section(
 // One loaded segment, and program headers each over the notes from another one on.
 fn put_segments(out: &mut Vec<u8>, counts: Counts) -> Result<(), AllocError> {
     let end = counts.note(counts.notes);
-    put_segment(out, 1, 0, end)?;
+    put_segment(out, 1, 0, counts.names())?;
     for i in 0..counts.headers {
         let places = counts.notes.saturating_sub(counts.over).max(1);
         let start = counts.note(i % places);
@@ -132,7 +139,7 @@ fn put_sections(out: &mut Vec<u8>, counts: Counts) -> Result<(), AllocError> {
     for i in 0..counts.notes {
         put_section(out, 7, 2, counts.note(i), 4)?;
     }
-    put_section(out, 3, 0, counts.note(counts.notes), 1)
+    put_section(out, 3, 0, counts.names(), 1)
 }
 
 fn made(alloc: Global, counts: Counts) -> Result<Vec<u8>, AllocError> {
@@ -140,6 +147,7 @@ fn made(alloc: Global, counts: Counts) -> Result<Vec<u8>, AllocError> {
     put_header(&mut out, counts)?;
     put_segments(&mut out, counts)?;
     put_zeros(&mut out, counts.notes.saturating_mul(4))?;
+    put_zeros(&mut out, counts.room)?;
     put_zeros(&mut out, 8)?;
     put_sections(&mut out, counts)?;
     Ok(out)
