@@ -6,7 +6,7 @@ use Rattle.elf_image.specs.Dynamic.{Entry}
 use Rattle.elf_image.specs.DynamicList.{IsListed, KeepsTables}
 use Rattle.elf_image.specs.File.{segment_of_type}
 use Rattle.elf_image.specs.Image.{Image, lists_tag}
-use Rattle.elf_image.specs.ImageSeen.{entry_kept}
+use Rattle.elf_image.specs.ImageSeen.{entry_kept, text_kept}
 use Rattle.elf_image.specs.Options.{first_there}
 use Rattle.elf_edits.specs.declared.constants.TheConstants.{STACK_FLAGS}
 use Rattle.elf_edits.specs.Edit.{all_but_last}
@@ -48,7 +48,7 @@ drafted d image = record image {
   header = record image.header { os_abi = unwrap_or d.os_abi image.header.os_abi };
   segments = with_page_size d.page_size (with_flags d.stack_flags image.segments);
   entries = first_there (entries_drafted d) image.entries;
-  interpreter = first_there d.interpreter image.interpreter;
+  interpreter = first_there (text_kept d.interpreter) image.interpreter;
   page_size = first_there d.page_size image.page_size;
 }
 
@@ -68,8 +68,8 @@ ListsEntries image = All IsListed (unwrap_or image.entries [])
 pub record IsDraftOf (image : Image) (d : Draft) : Type 0 where
   pub tables : IfSome (entries_drafted d) (KeepsTables image.entries)
   pub entries : IfSome (entries_drafted d) (All IsListed)
-  pub interpreter_there : IfSome d.interpreter (λ _. IsSome image.interpreter)
-  pub interpreter : IfSome d.interpreter (λ bytes. holds_nul (all_but_last bytes) ≡ false)
+  pub interpreter_there : IfSome (text_kept d.interpreter) (λ _. IsSome image.interpreter)
+  pub interpreter : IfSome (text_kept d.interpreter) (λ bytes. holds_nul (all_but_last bytes) ≡ false)
 
 -- a draft of an image that shows another one
 pub record OnlyShows (image shown : Image) (d : Draft) : Type 0 where

@@ -3,6 +3,7 @@ pub mod BuilderLemmas
 pub mod ChangeLaws
 pub mod CommitLaws
 pub mod ContainerLaws
+pub mod DraftLaws
 pub mod EditLaws
 pub mod EditedLaws
 pub mod FatHeldLaws

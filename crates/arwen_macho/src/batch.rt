@@ -1,4 +1,5 @@
 ghost use Rattle.std.specs.Prelude.{◌≡◌, IfOk, string_bytes};
+ghost use Rattle.patch_bytes.specs.ByteString.{bytes_of_each};
 ghost use Rattle.patch_bytes.specs.Bytes.{AreBytes};
 ghost use Rattle.arwen_macho.specs.declared.error.MachoError.TheVariants.{Memory};
 ghost use Rattle.arwen_macho.specs.Batch.{EditsAll, call_made, calls_of};
@@ -112,7 +113,8 @@ pub(crate) fn edit_all(
     commands: &mut Vec<ByteString<'_>>,
     edits: &[Edit<'_>],
 ) -> Result<(), MachoBatchError>
-    ensures { EditsAll ctx (calls_lent edits.now) commands.old.items commands.new.items result }
+    ensures { EditsAll ctx (calls_lent edits.now)
+        (bytes_of_each commands.old.items) (bytes_of_each commands.new.items) result }
 {
     for (index, edit) in edits.iter().enumerate() {
         if let Err(fault) = edit_commands(alloc, ctx, commands, *edit) {

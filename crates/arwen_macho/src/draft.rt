@@ -1,4 +1,5 @@
 ghost use Rattle.std.specs.Prelude.{◌≡◌, ◌+◌, ◌≤◌, ◌<◌, length, [], position, slice_index_or, slice_set, vec_len, IfSome};
+ghost use Rattle.patch_bytes.specs.ByteString.{bytes_of_each};
 ghost use Rattle.arwen_macho.specs.Built.{dylib_built, rpath_built};
 ghost use Rattle.arwen_macho.specs.Call.Call.{add_rpath, change_install_id, change_install_name, change_rpath, remove_rpath};
 ghost use Rattle.macho_image.specs.Command.{dylib_of};
@@ -62,16 +63,17 @@ fn names_library(order: ByteOrder2, text: &str, command: &[u8]) -> bool
 
 // The fields of the library command at a place.
 fn dylib_at(order: ByteOrder2, commands: &[ByteString<'_>], place: usize) -> DylibCommand
-    requires inside { place < length commands.now }
-    requires fixed { 24 ≤ length (slice_index_or commands.now place []) }
-    ensures { result ≡ dylib_of order (slice_index_or commands.now place []) }
+    requires inside { place < length (bytes_of_each commands.now) }
+    requires fixed { 24 ≤ length (slice_index_or (bytes_of_each commands.now) place []) }
+    ensures { result ≡ dylib_of order (slice_index_or (bytes_of_each commands.now) place []) }
 {
     dylib_of(order, commands[place].as_slice())
 }
 
 // The place of the first rpath command with this text.
 fn rpath_place(order: ByteOrder2, commands: &[ByteString<'_>], text: &str) -> Option<usize>
-    ensures { result ≡ position (is_rpath_named order text.now) commands.now }
+    ensures { result
+        ≡ position (λ command. is_rpath_named order text.now command.bytes) commands.now }
 {
     commands
         .iter()
@@ -80,7 +82,7 @@ fn rpath_place(order: ByteOrder2, commands: &[ByteString<'_>], text: &str) -> Op
 
 // The place of the first command with the library's own name.
 fn id_place(order: ByteOrder2, commands: &[ByteString<'_>]) -> Option<usize>
-    ensures { result ≡ position (is_id order) commands.now }
+    ensures { result ≡ position (λ command. is_id order command.bytes) commands.now }
 {
     commands
         .iter()
@@ -89,7 +91,8 @@ fn id_place(order: ByteOrder2, commands: &[ByteString<'_>]) -> Option<usize>
 
 // The place of the first command that loads the library of this name.
 fn library_place(order: ByteOrder2, commands: &[ByteString<'_>], text: &str) -> Option<usize>
-    ensures { result ≡ position (is_library_named order text.now) commands.now }
+    ensures { result
+        ≡ position (λ command. is_library_named order text.now command.bytes) commands.now }
 {
     commands
         .iter()
@@ -140,7 +143,8 @@ fn built_dylib(
 // Puts a built command in the place of another.
 fn replace(commands: &mut Vec<ByteString<'_>>, place: usize, built: Vec<u8>)
     requires { place < vec_len commands.old }
-    ensures { commands.new.items ≡ slice_set commands.old.items place built.items }
+    ensures { bytes_of_each commands.new.items
+        ≡ slice_set (bytes_of_each commands.old.items) place built.items }
 {
     commands[place] = ByteString::owned(built);
 }
@@ -152,7 +156,8 @@ fn append_rpath(
     commands: &mut Vec<ByteString<'_>>,
     new: &str,
 ) -> Result<(), MachoError>
-    ensures { Edits ctx (add_rpath new.now) commands.old.items commands.new.items result }
+    ensures { Edits ctx (add_rpath new.now)
+        (bytes_of_each commands.old.items) (bytes_of_each commands.new.items) result }
 {
     let built = built_rpath(alloc, ctx, new)?;
     commands.push(ByteString::owned(built))?;
@@ -168,7 +173,7 @@ fn replace_rpath(
     new: &str,
 ) -> Result<(), MachoError>
     ensures { Edits ctx (change_rpath old.now new.now)
-        commands.old.items commands.new.items result }
+        (bytes_of_each commands.old.items) (bytes_of_each commands.new.items) result }
 {
     let Some(place) = rpath_place(ctx.le, commands.as_slice(), old) else {
         return Err(missing_rpath(alloc, old));
@@ -185,7 +190,8 @@ fn drop_rpath(
     commands: &mut Vec<ByteString<'_>>,
     old: &str,
 ) -> Result<(), MachoError>
-    ensures { Edits ctx (remove_rpath old.now) commands.old.items commands.new.items result }
+    ensures { Edits ctx (remove_rpath old.now)
+        (bytes_of_each commands.old.items) (bytes_of_each commands.new.items) result }
 {
     let Some(place) = rpath_place(ctx.le, commands.as_slice(), old) else {
         return Err(missing_rpath(alloc, old));
@@ -201,7 +207,8 @@ fn replace_id(
     commands: &mut Vec<ByteString<'_>>,
     new: &str,
 ) -> Result<(), MachoError>
-    ensures { Edits ctx (change_install_id new.now) commands.old.items commands.new.items result }
+    ensures { Edits ctx (change_install_id new.now)
+        (bytes_of_each commands.old.items) (bytes_of_each commands.new.items) result }
 {
     let Some(place) = id_place(ctx.le, commands.as_slice()) else {
         return Err(MachoError::DylibIdMissing);
@@ -221,7 +228,7 @@ fn replace_library(
     new: &str,
 ) -> Result<(), MachoError>
     ensures { Edits ctx (change_install_name old.now new.now)
-        commands.old.items commands.new.items result }
+        (bytes_of_each commands.old.items) (bytes_of_each commands.new.items) result }
 {
     let Some(place) = library_place(ctx.le, commands.as_slice(), old) else {
         return Err(missing_library(alloc, old));
@@ -239,7 +246,8 @@ pub(crate) fn edit_commands(
     commands: &mut Vec<ByteString<'_>>,
     edit: Edit<'_>,
 ) -> Result<(), MachoError>
-    ensures { Edits ctx (call_of edit.entry) commands.old.items commands.new.items result }
+    ensures { Edits ctx (call_of edit.entry)
+        (bytes_of_each commands.old.items) (bytes_of_each commands.new.items) result }
 {
     match edit {
         Edit::AddRpath(new) => append_rpath(alloc, ctx, commands, new),

@@ -1,5 +1,6 @@
 ghost use Rattle.std.specs.Prelude.{◌≡◌, ◌+◌, ◌≤◌, ◌∷◌, [], nat_le, length, true, None, IsOk, IfOk, IfErr, OnErr, OnOk, MatchResult};
 ghost use Rattle.std.specs.List.{concat};
+ghost use Rattle.patch_bytes.specs.ByteString.{bytes_of_each};
 ghost use Rattle.macho_image.specs.Checks.{file_fault};
 ghost use Rattle.macho_image.specs.Commands.{first_content_of};
 ghost use Rattle.macho_image.specs.Form.{commands_end, ctx_of};
@@ -45,7 +46,7 @@ impl<'a> Model for SingleMachO<'a> {
 
 // The byte strings joined.
 fn joined(alloc: Global, commands: &[ByteString<'_>]) -> Result<Vec<u8>, AllocError>
-    ensures { IfOk result (λ area. area.items ≡ concat commands.now) }
+    ensures { IfOk result (λ area. area.items ≡ concat (bytes_of_each commands.now)) }
 {
     let mut area = Vec::new(alloc);
     for command in commands {
@@ -116,9 +117,11 @@ impl<'a> SingleMachO<'a> {
 
     // Another list of load commands, if there is room for it.
     fn fit_for(&self, alloc: Global, commands: &[ByteString<'_>]) -> Result<Fit, MachoError>
-        requires { KeepsContents (ctx_of self.now.state.old).le self.now.state.list commands.now }
-        ensures ok { IfOk result (IsFitFor self.now commands.now) }
-        ensures err { IfErr result (λ e. RefusesRoom self.now.state commands.now (cause_of e)) }
+        requires { KeepsContents (ctx_of self.now.state.old).le
+            self.now.state.list (bytes_of_each commands.now) }
+        ensures ok { IfOk result (IsFitFor self.now (bytes_of_each commands.now)) }
+        ensures err { IfErr result (λ e.
+            RefusesRoom self.now.state (bytes_of_each commands.now) (cause_of e)) }
     {
         let area = joined(alloc, commands)?;
         let end = header_size(self.inner.ctx().container) + area.len();

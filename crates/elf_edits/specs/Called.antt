@@ -33,7 +33,7 @@ pairs_of_map (pair ∷ pairs) = pairs_of_map pairs ++ pair_held pair ∷ []
 
 -- an answer of a probe
 abbrev pub answer_held : ProbeAnswer → Answer
-answer_held a = record { directory = a.directory; needed = a.needed; machine = a.machine }
+answer_held a = record { directory = a.directory.bytes; needed = a.needed.bytes; machine = a.machine }
 
 abbrev pub call_meant : EditCall → Edit
 call_meant calls.AddDebugEntry = AddDebugEntry

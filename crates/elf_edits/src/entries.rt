@@ -136,8 +136,8 @@ fn new_name<'d>(
     names: &HashMap<Vec<u8>, Vec<u8>>,
     name: &ByteString<'d>,
 ) -> Result<ByteString<'d>, AllocError>
-    ensures { IfOk result (λ made. made
-        ≡ unwrap_or (value_of (pairs_of_map names.now.entries) name.now) name.now) }
+    ensures { IfOk result (λ made. made.bytes
+        ≡ unwrap_or (value_of (pairs_of_map names.now.entries) name.now.bytes) name.now.bytes) }
 {
     match names.get(name.as_slice()) {
         None => name.try_clone(alloc),

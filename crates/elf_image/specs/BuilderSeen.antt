@@ -4,7 +4,7 @@ use Rattle.std.specs.Option.{option_map}
 use Rattle.elf_image.specs.declared.builder.Builder.TheInside.{Inside}
 use Rattle.elf_format.specs.Image.{Image}
 use Rattle.elf_image.specs.Edited.{IsEdited}
-use Rattle.elf_image.specs.ImageSeen.{definition_kept, entry_kept, needs_kept, section_kept, segment_kept, symbol_kept}
+use Rattle.elf_image.specs.ImageSeen.{definition_kept, entry_kept, needs_kept, section_kept, segment_kept, symbol_kept, text_kept}
 
 abbrev pub image_kept : Inside → Image
 image_kept b = record {
@@ -19,7 +19,7 @@ image_kept b = record {
   definitions = map definition_kept b.versions.definitions.items;
   needs = map needs_kept b.versions.needs.items;
   entries = option_map (λ list. map entry_kept list.items) b.dynamic;
-  interpreter = b.interpreter;
+  interpreter = text_kept b.interpreter;
   section_numbers = b.section_numbers.items;
   symbol_numbers = b.symbol_numbers.items;
   dynamic_symbol_numbers = b.dynamic_symbol_numbers.items;

@@ -1,4 +1,7 @@
 -- The parts of an image, seen without where their bytes lie.
+use Rattle.std.specs.Prelude.{ℕ, List, Option}
+use Rattle.std.specs.Option.{option_map}
+use Rattle.patch_bytes.specs.ByteString.{StringValue}
 use Rattle.elf_image.specs.declared.dynamic.Dynamic.{Dynamic}
 use Rattle.elf_image.specs.declared.dynamic.Dynamic.TheVariants as kinds
 use Rattle.elf_image.specs.declared.section.Section.{Section}
@@ -17,7 +20,7 @@ segment_kept p = p.numbers
 
 abbrev pub section_kept : Section → ImageSection
 section_kept s = record {
-  name = s.name;
+  name = s.name.bytes;
   kind = s.kind;
   sh_type = s.sh_type;
   sh_flags = s.sh_flags;
@@ -32,9 +35,13 @@ section_kept s = record {
 }
 
 abbrev pub symbol_kept : Symbol → NamedSymbol
-symbol_kept y = record { name = y.name; st_info = y.st_info; st_other = y.st_other; st_shndx = y.st_shndx; st_value = y.st_value; st_size = y.st_size; version = y.version }
+symbol_kept y = record { name = y.name.bytes; st_info = y.st_info; st_other = y.st_other; st_shndx = y.st_shndx; st_value = y.st_value; st_size = y.st_size; version = y.version }
+
+-- the bytes of a text, where there is one
+abbrev pub text_kept : Option StringValue → Option (List ℕ)
+text_kept text = option_map (λ string. string.bytes) text
 
 abbrev pub entry_kept : Dynamic → Entry
 entry_kept (kinds.Auto tag) = Auto tag
 entry_kept (kinds.Integer tag value) = Integer tag value
-entry_kept (kinds.Text tag text) = Text tag text
+entry_kept (kinds.Text tag text) = Text tag text.bytes

@@ -19,7 +19,7 @@ use Rattle.elf_image.specs.declared.read.Gathered.{Gathered}
 use Rattle.elf_image.specs.declared.read.Listed.{Listed}
 use Rattle.elf_image.specs.declared.read.Named.{Named}
 use Rattle.elf_image.specs.declared.read.Numbers.{Numbers}
-use Rattle.elf_image.specs.ImageSeen.{definition_kept, entry_kept, needs_kept, section_kept, segment_kept, symbol_kept}
+use Rattle.elf_image.specs.ImageSeen.{definition_kept, entry_kept, needs_kept, section_kept, segment_kept, symbol_kept, text_kept}
 
 -- the sections and symbols of an image
 pub record NamedParts : Type 0 where
@@ -110,7 +110,7 @@ image_gathered p g = record {
   definitions = map definition_kept g.listed.versions.definitions.items;
   needs = map needs_kept g.listed.versions.needs.items;
   entries = option_map (λ list. map entry_kept list.items) g.listed.dynamic;
-  interpreter = g.interpreter;
+  interpreter = text_kept g.interpreter;
   section_numbers = g.numbers.sections.items;
   symbol_numbers = g.numbers.symbols.items;
   dynamic_symbol_numbers = g.numbers.dynamic_symbols.items;

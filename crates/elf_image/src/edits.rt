@@ -102,8 +102,11 @@ impl<'data> Builder<'data> {
     /// nowhere. Takes no memory.
     pub fn set_interp(&mut self, bytes: ByteString<'data>)
         requires there { IsSome self.old.interpreter }
-        requires nul { IsTrue (not (holds_nul (all_but_last bytes))) }
-        ensures { self.new ≡ record self.old { changed = true; interpreter = some bytes.entry } }
+        requires nul { IsTrue (not (holds_nul (all_but_last bytes.bytes))) }
+        ensures { self.new ≡ record self.old {
+          changed = true;
+          interpreter = some bytes.entry.bytes;
+        } }
     {
         self.interpreter = Some(bytes);
         self.changed = true;

@@ -3,7 +3,7 @@ ghost use Rattle.std.specs.Prelude.{◌≡◌, ◌≢◌, Ok, Err, MatchResult, 
 ghost use Rattle.elf_format.specs.Image.{header_kept, image_of, interpreter_read};
 ghost use Rattle.elf_image.specs.ImageSteps.{AreNumbered, LinksRead, TextsRead, image_built, image_by_groups, image_gathered, listed_in, listed_kept, named_in, named_kept};
 ghost use Rattle.elf_image.specs.Edited.{IsEdited};
-ghost use Rattle.elf_image.specs.ImageSeen.{segment_kept};
+ghost use Rattle.elf_image.specs.ImageSeen.{segment_kept, text_kept};
 ghost use Rattle.elf_format.specs.Answers.{Gives, borrowed};
 ghost use Rattle.elf_format.specs.Stages.{last_rules};
 ghost use Rattle.elf_rules.specs.Read.{Passes, Reads, parts_seen};
@@ -223,7 +223,7 @@ fn image<'data>(
 
 // The interpreter's bytes.
 fn interpreter_kept<'data>(parts: &Headers<'data>) -> Option<ByteString<'data>>
-    ensures { result ≡ interpreter_read (parts_seen parts.now) }
+    ensures { text_kept result ≡ interpreter_read (parts_seen parts.now) }
 {
     Some(ByteString::borrowed(interpreter(parts)?))
 }

@@ -21,6 +21,7 @@ impl<'t> Model for Texts<'t> {
 
 impl<'t> Texts<'t> {
     ghost use Rattle.std.specs.Prelude.{◌≡◌, [], ◌∷◌, ◌++◌, map, OnOk};
+    ghost use Rattle.patch_bytes.specs.ByteString.{bytes_of_each};
     ghost use Rattle.elf_image.specs.ImageSeen.{definition_kept, entry_kept, name_kept, needs_kept, section_kept, symbol_kept};
     ghost use Rattle.elf_plan.specs.Texts.{texts_of_definitions, texts_of_entries, texts_of_entry, texts_of_needs, texts_of_symbols};
     ghost use Rattle.elf_sizes.specs.Inner.{staying_entries, unmarked_names, unmarked_needs, with_unmarked_names};
@@ -100,7 +101,7 @@ impl<'t> Texts<'t> {
 
     // Adds texts.
     fn push_all(&mut self, texts: &'t [ByteString<'_>]) -> Result<(), AllocError>
-        ensures { OnOk result (self.new ≡ self.old ++ texts.entry.now) }
+        ensures { OnOk result (self.new ≡ self.old ++ bytes_of_each texts.entry.now) }
     {
         for text in texts {
             self.push(text.as_slice())?;

@@ -41,7 +41,7 @@ fn push_need_name(
     order: ByteOrder2,
     has_next: bool,
 ) -> Result<(), TableFault>
-    requires { is_some (place_of table.now version.now.name) ≡ true }
+    requires { is_some (place_of table.now version.now.name.bytes) ≡ true }
     ensures { let placed = placed_name table.now (name_kept version.now) in MatchResult result
         (λ _. (bytes.new.items ≡ bytes.old.items
         ++ spelled_need_name order placed (if has_next then 16 else 0))
@@ -88,7 +88,7 @@ fn push_needs(
     order: ByteOrder2,
     has_next: bool,
 ) -> Result<(), TableFault>
-    requires file { is_some (place_of table.now needs.now.file) ≡ true }
+    requires file { is_some (place_of table.now needs.now.file.bytes) ≡ true }
     requires names { list_all (λ v. is_some (place_of table.now v.name))
         (map name_kept needs.now.versions.items)
         ≡ true }

@@ -1,5 +1,6 @@
 ghost use Rattle.std.specs.Prelude.{◌≡◌, ◌≢◌, ℕ, ◌<◌, ◌≤◌, ◌^◌, [], ◌∷◌, ◌++◌, true, false, is_some, length, map, nat_lt, Some, IfOk, MatchResult, OnOk, if◌then◌else◌};
 ghost use Rattle.std.specs.List.{AllByRecursion, list_all, list_any};
+ghost use Rattle.patch_bytes.specs.ByteString.{bytes_of_each};
 ghost use Rattle.patch_bytes.specs.declared.number.Wide.{Wide};
 ghost use Rattle.patch_bytes.specs.Memory.{memory_of};
 ghost use Rattle.elf_format.specs.Form.{records};
@@ -61,7 +62,7 @@ pub fn build_versym(
 
 // The hash of a defined version's own name.
 fn own_hash(names: &[ByteString<'_>]) -> u32
-    ensures { result ≡ gabi_hash (own_name names.now) }
+    ensures { result ≡ gabi_hash (own_name (bytes_of_each names.now)) }
 {
     match names.first() {
         Some(name) => sysv_hash(name.as_slice()),
@@ -83,12 +84,13 @@ fn push_names(
     table: &Finished<'_>,
     order: ByteOrder2,
 ) -> Result<(), TableFault>
-    requires { list_all (λ name. is_some (place_of table.now name)) names.now ≡ true }
+    requires { list_all (λ name. is_some (place_of table.now name.bytes)) names.now ≡ true }
     ensures { MatchResult result
         (λ _. (bytes.new.items ≡ bytes.old.items
         ++ chained (spelled_definition_name order) (λ name. 8)
-        (map (place_in table.now) names.now))
-        × AllByRecursion (λ place. place < 2 ^ 32) (map (place_in table.now) names.now))
+        (map (place_in table.now) (bytes_of_each names.now)))
+        × AllByRecursion (λ place. place < 2 ^ 32)
+        (map (place_in table.now) (bytes_of_each names.now)))
         (λ fault. fault ≢ NumberTooLarge) }
 {
     for (i, name) in names.iter().enumerate() {
@@ -123,7 +125,9 @@ fn push_definition(
     order: ByteOrder2,
     has_next: bool,
 ) -> Result<(), TableFault>
-    requires { list_all (λ name. is_some (place_of table.now name)) version.now.names.items ≡ true }
+    requires { list_all (λ name. is_some (place_of table.now name.bytes))
+        version.now.names.items
+        ≡ true }
     ensures { let placed = placed_definition table.now (definition_kept version.now) in
         MatchResult result
         (λ _. (bytes.new.items ≡ bytes.old.items

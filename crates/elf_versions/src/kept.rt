@@ -1,4 +1,5 @@
 ghost use Rattle.std.specs.Prelude.{◌≡◌, ◌≤◌, length, map};
+ghost use Rattle.patch_bytes.specs.ByteString.{bytes_of_each};
 ghost use Rattle.patch_bytes.specs.Memory.{memory_of, text_at};
 ghost use Rattle.elf_format.specs.declared.constants.TheConstants.{SHT_GNU_VERDEF as VERDEFS, SHT_GNU_VERNEED as VERNEEDS};
 ghost use Rattle.elf_format.specs.File.{section_of_type as first_section};
@@ -32,7 +33,8 @@ fn kept_texts<'data>(
     places: &[u32],
 ) -> Result<Vec<ByteString<'data>>, ViewFault>
     requires { length texts.now ≤ room }
-    ensures { Gives (λ v. v.items) result (each (text_at room (memory_of texts.now)) places.now) }
+    ensures { Gives (λ v. bytes_of_each v.items) result
+        (each (text_at room (memory_of texts.now)) places.now) }
 {
     let mut made = Vec::new(alloc);
     for place in places {

@@ -6,6 +6,7 @@ use Rattle.std.proofs.lemmas.Bool.{and_from, and_parts, eq-eqb}
 use Rattle.std.proofs.lemmas.List.{length-map}
 use Rattle.std.proofs.lemmas.List.Sums.{sum_by-cons}
 use Rattle.std.proofs.lemmas.List.Elements.{Contains-append_left, Contains-append_right}
+use Rattle.patch_bytes.specs.ByteString.{bytes_of_each}
 use Rattle.patch_bytes.specs.declared.number.ByteOrder2.{ByteOrder2}
 use Rattle.elf_format.specs.declared.constants.TheConstants.{SHT_DYNAMIC, SHT_DYNSYM, SHT_GNU_VERDEF, SHT_GNU_VERNEED, SHT_SYMTAB}
 use Rattle.elf_format.specs.Image.{Image}
@@ -53,7 +54,7 @@ pub told_definitions : (table : Strings) (ds : List VersionDef) → All (TellsDe
 told_definitions table ds all =
     let test : VersionDefinition → Bool = λ d. list_all (λ name. is_some (place_of table name)) d.names in
     map_tests definition_kept test ds
-    (all_tests (TellsDefinition table) (λ d. test (definition_kept d)) (λ d h. told_names table d.names.items h) ds all)
+    (all_tests (TellsDefinition table) (λ d. test (definition_kept d)) (λ d h. told_names table (bytes_of_each d.names.items) h) ds all)
 
 -- ## A table that is made anew
 
@@ -131,10 +132,10 @@ has_need table n = is_some (place_of table n.file) && list_all (has_name table) 
 told_need : (table : Strings) (n : VersionNeed) → TellsNeed table n → has_need table (needs_kept n) ≡ true
 unfolding has_name has_need
 told_need table n h =
-    and_from (is_some (place_of table n.file)) (list_all (has_name table) (map name_kept n.versions.items))
-    (told table n.file h.file)
+    and_from (is_some (place_of table n.file.bytes)) (list_all (has_name table) (map name_kept n.versions.items))
+    (told table n.file.bytes h.file)
     (map_tests name_kept (has_name table) n.versions.items
-    (all_tests (TellsName table) (λ v. is_some (place_of table v.name)) (λ v here. told table v.name here) n.versions.items h.versions))
+    (all_tests (TellsName table) (λ v. is_some (place_of table v.name.bytes)) (λ v here. told table v.name.bytes here) n.versions.items h.versions))
 
 pub told_needs : (table : Strings) (ns : List VersionNeed) → All (TellsNeed table) ns → has_needs_texts table (map needs_kept ns) ≡ true
 unfolding has_name has_need

@@ -43,10 +43,10 @@ text_at_place old now texts places i d text at more within here =
 -- the same of the name of a needed version
 pub name_at_place : (old now : Strings) (versions : List VersionNeedName) (records : List NeedNameNumbers) (i : ℕ) (r : NeedNameNumbers)
     (v : VersionNeedName) (text : List ℕ) → AreNamesAt old.bytes versions records
-    → HasMore old now → i < length versions → v ≡ get_or versions i v → text ≡ v.name → StandsAt now.bytes (get_or records i r).name text
+    → HasMore old now → i < length versions → v ≡ get_or versions i v → text ≡ v.name.bytes → StandsAt now.bytes (get_or records i r).name text
 name_at_place old now versions records i r v text at more within here same =
-    subst (λ (t : List ℕ). StandsAt now.bytes (get_or records i r).name t) (ap (λ (x : VersionNeedName). x.name) (sym here) ∙ sym same)
-    (subst (λ (bytes : List ℕ). StandsAt bytes (get_or records i r).name (get_or versions i v).name) (sym more.bytes) (at.each i v r within))
+    subst (λ (t : List ℕ). StandsAt now.bytes (get_or records i r).name t) (ap (λ (x : VersionNeedName). x.name.bytes) (sym here) ∙ sym same)
+    (subst (λ (bytes : List ℕ). StandsAt bytes (get_or records i r).name (get_or versions i v).name.bytes) (sym more.bytes) (at.each i v r within))
 
 -- the same of the texts of the versions needed of a library
 pub need_at_place : (old now : Strings) (needs : List VersionNeed) (records : List RawNeeds) (i : ℕ) (n : VersionNeed) (r : RawNeeds)
@@ -59,6 +59,6 @@ need_at_place old now needs records i n r at more within need numbers =
 
 pub need_more : (old now : Strings) → HasMore old now → (n : VersionNeed) → TellsNeed old n → TellsNeed now n
 need_more old now more n told = record {
-  file = more.had n.file told.file;
+  file = more.had n.file.bytes told.file;
   versions = λ i v within. more.had _ (told.versions i v within);
 }

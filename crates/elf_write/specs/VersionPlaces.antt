@@ -1,6 +1,7 @@
 -- Where the texts of version records stand in a string table that is copied.
 use Rattle.std.specs.Prelude.{ℕ, ◌≡◌, ◌<◌, ◌≤◌, List, [], length, get_or, IsSome, Some, None}
 use Rattle.std.specs.List.{All, slice_get}
+use Rattle.patch_bytes.specs.ByteString.{bytes_of_each}
 use Rattle.elf_format.specs.declared.records.NeedNameNumbers.{NeedNameNumbers}
 use Rattle.elf_format.specs.declared.versions.RawDefinition.{RawDefinition}
 use Rattle.elf_format.specs.declared.versions.RawNeeds.{RawNeeds}
@@ -31,11 +32,11 @@ pub record AreAt (strings : List ℕ) (texts : List (List ℕ)) (places : List �
 pub record AreDefinitionsAt (strings : List ℕ) (definitions : List VersionDef) (records : List RawDefinition) : Type 0 where
   pub count : length records ≡ length definitions
   pub each : (i : ℕ) (d : VersionDef) (r : RawDefinition) → i < length definitions
-      → AreAt strings (get_or definitions i d).names.items (get_or records i r).names.items
+      → AreAt strings (bytes_of_each (get_or definitions i d).names.items) (get_or records i r).names.items
 
 -- the table tells where all names of a defined version stand
 abbrev pub TellsDefinition : Strings → VersionDef → Type 0
-TellsDefinition table d = All (Tells table) d.names.items
+TellsDefinition table d = All (Tells table) (bytes_of_each d.names.items)
 
 -- the bytes of the section at a position, none without it
 abbrev pub content_in : List ImageSection → ℕ → List ℕ
@@ -47,11 +48,11 @@ content_in sections n = elim (slice_get sections n) [ Some s ↦ s.content | Non
 pub record AreNamesAt (strings : List ℕ) (versions : List VersionNeedName) (records : List NeedNameNumbers) : Type 0 where
   pub count : length records ≡ length versions
   pub each : (i : ℕ) (v : VersionNeedName) (r : NeedNameNumbers) → i < length versions
-      → StandsAt strings (get_or records i r).name (get_or versions i v).name
+      → StandsAt strings (get_or records i r).name (get_or versions i v).name.bytes
 
 -- the same of the versions needed of a library, and the library's name
 pub record IsNeedAt (strings : List ℕ) (need : VersionNeed) (numbers : RawNeeds) : Type 0 where
-  pub file : StandsAt strings numbers.file need.file
+  pub file : StandsAt strings numbers.file need.file.bytes
   pub versions : AreNamesAt strings need.versions.items numbers.versions.items
 
 -- library by library
@@ -61,11 +62,11 @@ pub record AreNeedsAt (strings : List ℕ) (needs : List VersionNeed) (records :
 
 -- the table tells where the name of a needed version stands
 abbrev pub TellsName : Strings → VersionNeedName → Type 0
-TellsName table v = Tells table v.name
+TellsName table v = Tells table v.name.bytes
 
 -- the table tells where all texts of the versions needed of a library stand
 pub record TellsNeed (table : Strings) (n : VersionNeed) : Type 0 where
-  pub file : Tells table n.file
+  pub file : Tells table n.file.bytes
   pub versions : All (TellsName table) n.versions.items
 
 -- the bytes show the needed versions of an image, their texts in this string table

@@ -1,5 +1,6 @@
 //! The bytes of an edited ELF file.
-ghost use Rattle.std.specs.Prelude.{◌≡◌, false, true, IfErr, IfOk, IsTrue, OnOk};
+ghost use Rattle.std.specs.Prelude.{◌≡◌, false, IfErr, IfOk, IsTrue, OnOk};
+ghost use Rattle.patch_bytes.specs.ByteString.{bytes_of_each};
 ghost use Rattle.elf_format.specs.Ranges.{apart, range};
 ghost use Rattle.elf_format.specs.Records.{file_header_size};
 ghost use Rattle.elf_tables.specs.declared.fault.TableFault.TheVariants.{NumberTooLarge};
@@ -77,7 +78,8 @@ fn laid_with<'data>(
     requires apart { AreHeadersApart image.now plan.now }
     requires prepared { IsPrepared read.now image.now plan.now prepared.now }
     requires contents { AreContents (resized image.now) plan.now prepared.now.made
-        prepared.now.raw.items (kept_sections image.now) plan.now.places contents.now }
+        prepared.now.raw.items (kept_sections image.now) plan.now.places
+        (bytes_of_each contents.now) }
     ensures { IfOk result (λ bytes. IsWholeWritten image.now plan.now bytes.items) }
 {
     let header = prepared.header;

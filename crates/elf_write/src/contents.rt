@@ -1,6 +1,7 @@
 //! The bytes of each section that is written.
-ghost use Rattle.std.specs.Prelude.{◌≡◌, ◌<◌, ◌==◌, IfOk, IsTrue, false, true, length};
+ghost use Rattle.std.specs.Prelude.{◌≡◌, ◌<◌, ◌==◌, IfOk, IsTrue, false, length};
 ghost use Rattle.std.specs.List.{list_all};
+ghost use Rattle.patch_bytes.specs.ByteString.{bytes_of_each};
 ghost use Rattle.elf_format.specs.Options.{is_some_and, list_at};
 ghost use Rattle.elf_records.specs.Fields.{do_fields_fit};
 ghost use Rattle.elf_records.specs.Spelled.{entry_fields};
@@ -36,7 +37,8 @@ pub(crate) fn contents<'a, 'data>(
     requires fit { IsTrue (list_all (λ e. do_fields_fit (entry_fields image.now.form e))
         raw.now) }
     ensures { IfOk result (λ contents. AreContents (resized image.entry.now) plan.now
-        made.entry.now raw.now (kept_sections image.entry.now) plan.now.places contents.items) }
+        made.entry.now raw.now (kept_sections image.entry.now) plan.now.places
+        (bytes_of_each contents.items)) }
 {
     let interpreter = interpreter_number(read);
     let mut contents = Vec::new(alloc);
@@ -83,7 +85,7 @@ fn form_of(image: &Builder<'_>) -> Form
 
 // The bytes of the interpreter's section.
 fn interpreter_content<'a, 'data>(image: &'a Builder<'data>) -> ByteString<'a>
-    ensures { result ≡ list_at (λ name. name) image.entry.now.interpreter }
+    ensures { result.bytes ≡ list_at (λ name. name) image.entry.now.interpreter }
 {
     match image.interp_data() {
         Some(name) => ByteString::borrowed(name),
@@ -98,7 +100,7 @@ fn strings_content<'a, 'data>(
     section: &'a Section<'data>,
     number: usize,
 ) -> ByteString<'a>
-    ensures { result ≡ made_or made.entry.now number section.entry.now.content.now }
+    ensures { result.bytes ≡ made_or made.entry.now number section.entry.now.content.now }
 {
     let Some(made) = made else {
         return ByteString::borrowed(section.content);
@@ -126,7 +128,8 @@ fn section_content<'a, 'data>(
         raw.now) }
     requires within { i < length image.now.sections }
     requires apart { is_some_and (λ n. n == i) (number_of_interpreter read.now) ≡ false }
-    ensures { IfOk result (IsBytesAt image.entry.now plan.now made.entry.now raw.now i) }
+    ensures { IfOk result (λ content.
+        IsBytesAt image.entry.now plan.now made.entry.now raw.now i content.bytes) }
 {
     let section = &image.sections()[i];
     match section.sh_type {

@@ -1,5 +1,6 @@
 //! What of the bytes of an edited ELF file differs from the bytes that were read.
 ghost use Rattle.std.specs.Prelude.{◌≡◌, false, IfErr, IfOk, IfSome, IsTrue, OnOk};
+ghost use Rattle.patch_bytes.specs.ByteString.{bytes_of_each};
 ghost use Rattle.byte_store.specs.Composed.{IsDifference, made_of};
 ghost use Rattle.elf_tables.specs.declared.fault.TableFault.TheVariants.{NumberTooLarge};
 ghost use Rattle.elf_plan.specs.Kept.{image_at_read, kept_sections};
@@ -42,7 +43,8 @@ fn differing_with<'data>(
     requires apart { AreHeadersApart image.now plan.now }
     requires prepared { IsPrepared read.now image.now plan.now prepared.now }
     requires contents { AreContents (resized image.now) plan.now prepared.now.made
-        prepared.now.raw.items (kept_sections image.now) plan.now.places contents.now }
+        prepared.now.raw.items (kept_sections image.now) plan.now.places
+        (bytes_of_each contents.now) }
     ensures written { IfOk result (λ d.
         IsWholeWritten image.now plan.now (made_of image.now.source d)) }
     ensures makeable { IfOk result (λ d. IsDifference image.now.source d) }

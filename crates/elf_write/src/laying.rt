@@ -1,5 +1,6 @@
 //! Headers, tables and contents laid over what stays of the file that was read.
 ghost use Rattle.std.specs.Prelude.{◌≡◌, ◌+◌, ◌*◌, ◌<◌, ◌≤◌, ◌^◌, length, All, IfOk, List, SomeIff};
+ghost use Rattle.patch_bytes.specs.ByteString.{bytes_of_each};
 ghost use Rattle.byte_store.specs.Composed.{IsDifference, made_of};
 ghost use Rattle.byte_store.specs.Known.{put_at};
 ghost use Rattle.byte_store.specs.Laid.{LiesIn, laid, patches_of};
@@ -63,9 +64,10 @@ pub(crate) fn laid_bytes<'data>(
     requires read { IsReady read.now image.now }
     requires header { header ≡ written_header image.now plan.now }
     requires writing { (raw : List EntryNumbers) × IsWholeWriting
-        (writing_of image.now plan.now headers.now contents.now raw) }
+        (writing_of image.now plan.now headers.now (bytes_of_each contents.now) raw) }
     ensures { IfOk result (λ bytes. (raw : List EntryNumbers) → bytes.items
-        ≡ written_bytes (writing_of image.now plan.now headers.now contents.now raw)) }
+        ≡ written_bytes
+        (writing_of image.now plan.now headers.now (bytes_of_each contents.now) raw)) }
 {
     let form = form_of(image);
     let Some(size) = file_size(form, plan) else {
@@ -93,9 +95,10 @@ pub(crate) fn laid_difference<'data>(
     requires read { IsReady read.now image.now }
     requires header { header ≡ written_header image.now plan.now }
     requires writing { (raw : List EntryNumbers) × IsWholeWriting
-        (writing_of image.now plan.now headers.now contents.now raw) }
+        (writing_of image.now plan.now headers.now (bytes_of_each contents.now) raw) }
     ensures makes { IfOk result (λ d. (raw : List EntryNumbers) → made_of image.now.source d
-        ≡ written_bytes (writing_of image.now plan.now headers.now contents.now raw)) }
+        ≡ written_bytes
+        (writing_of image.now plan.now headers.now (bytes_of_each contents.now) raw)) }
     ensures makeable { IfOk result (λ d. IsDifference image.now.source d) }
 {
     let form = form_of(image);

@@ -1,5 +1,6 @@
 //! The headers, tables and contents of a written file, as pieces at their places.
 ghost use Rattle.std.specs.Prelude.{◌≡◌, ◌++◌, length, IfOk, OnOk};
+ghost use Rattle.patch_bytes.specs.ByteString.{bytes_of_each};
 ghost use Rattle.byte_store.specs.Laid.{patches_of};
 ghost use Rattle.elf_format.specs.Places.{occupies_file as does_occupy_file};
 ghost use Rattle.elf_plan.specs.Kept.{image_at_read, interpreter_number as number_of_interpreter, kept_sections};
@@ -81,7 +82,7 @@ fn push_contents<'s>(
     requires contents { length contents.now ≡ length image.now.sections }
     ensures { OnOk result (patches_of pieces.new.items ≡ patches_of pieces.old.items
         ++ patches_of_sections (resized image.now) (kept_sections image.now)
-        plan.now.places contents.entry.now) }
+        plan.now.places (bytes_of_each contents.entry.now)) }
 {
     // the image has as many numbers of sections as sections
     let _source = image.source();
@@ -108,7 +109,7 @@ pub(crate) fn pieces<'s>(
     requires contents { length contents.now ≡ length image.now.sections }
     ensures { IfOk result (λ pieces. patches_of pieces.items
         ≡ header_patches plan.now spelled.entry.now ++ patches_of_sections (resized image.now)
-        (kept_sections image.now) plan.now.places contents.entry.now) }
+        (kept_sections image.now) plan.now.places (bytes_of_each contents.entry.now)) }
 {
     let mut pieces = header_pieces(alloc, plan, spelled)?;
     push_contents(&mut pieces, image, plan, contents, interpreter)?;

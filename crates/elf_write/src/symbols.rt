@@ -94,10 +94,10 @@ fn symbols_copied<'data>(
     requires ready { IsReady read.now image.now }
     requires at { IsSectionOfType SHT_DYNSYM image.now (section_kept section.now) }
     requires copied { table_made made.now section.now.sh_link ≡ None }
-    ensures sized { length result
+    ensures sized { length result.bytes
         ≡ length image.now.dynamic_symbols * symbol_size image.now.form }
     ensures symbols { AreSymbolsOf (strings_at image.now made.now section.now.sh_link)
-        (final read.now image.now).dynamic_symbols (symbols_in image.now.form result) }
+        (final read.now image.now).dynamic_symbols (symbols_in image.now.form result.bytes) }
 {
     ByteString::borrowed(section.content)
 }
@@ -134,10 +134,11 @@ fn symbols_anew<'data>(
     requires ready { IsReady read.now image.now }
     requires at { IsSectionOfType SHT_DYNSYM image.now (section_kept section.now) }
     requires table { IsMade read.now image.now section.now.sh_link table.now }
-    ensures sized { IfOk result (λ bytes. length bytes
+    ensures sized { IfOk result (λ content. length content.bytes
         ≡ length image.now.dynamic_symbols * symbol_size image.now.form) }
-    ensures symbols { IfOk result (λ bytes. AreSymbolsOf table.now.bytes
-        (final read.now image.now).dynamic_symbols (symbols_in image.now.form bytes)) }
+    ensures symbols { IfOk result (λ content. AreSymbolsOf table.now.bytes
+        (final read.now image.now).dynamic_symbols
+        (symbols_in image.now.form content.bytes)) }
 {
     show_symbols_fit(read, image, section, table, section.content);
     let form = Form {
@@ -160,12 +161,12 @@ pub(crate) fn symbols_content<'data>(
     requires ready { IsReady read.now image.now }
     requires strings { AreStrings read.now image.now made.now }
     requires at { IsSectionOfType SHT_DYNSYM image.now (section_kept section.now) }
-    ensures sized { IfOk result (λ bytes. length bytes
+    ensures sized { IfOk result (λ content. length content.bytes
         ≡ length image.now.dynamic_symbols * symbol_size image.now.form) }
-    ensures symbols { IfOk result (λ bytes. AreSymbolsOf
+    ensures symbols { IfOk result (λ content. AreSymbolsOf
         (strings_at image.now made.now section.now.sh_link)
         (final read.now image.now).dynamic_symbols
-        (symbols_in image.now.form bytes)) }
+        (symbols_in image.now.form content.bytes)) }
 {
     match table_made_for(made, section.sh_link) {
         None => Ok(symbols_copied(read, image, made, section)),

@@ -9,7 +9,7 @@ use Rattle.macho_image.specs.Image.{Image}
 
 -- the bytes as they are now: the edited copy, or where there is none the bytes as read
 abbrev pub image_of : Inside → Image
-image_of m = record { bytes = bytes_shown m.source m.edited; is_edited = is_some m.edited }
+image_of m = record { bytes = bytes_shown m.source.bytes m.edited; is_edited = is_some m.edited }
 
 -- no check of the bytes fails, and each kept field is what the bytes show
 pub record IsParsed (m : Inside) : Type 0 where

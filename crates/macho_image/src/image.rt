@@ -1,5 +1,6 @@
 ghost use Rattle.std.specs.Prelude.{◌≡◌, [], ◌≢◌, ◌<◌, ◌≤◌, ◌+◌, length, take, drop, map, slice_index_or, Option, Some, None, IfOk, IsOk, MatchResult, true};
 ghost use Rattle.std.specs.Option.{option_map};
+ghost use Rattle.patch_bytes.specs.ByteString.{bytes_of_each};
 ghost use Rattle.macho_image.specs.Checks.{file_fault};
 ghost use Rattle.macho_image.specs.Command.{IsCommand};
 ghost use Rattle.macho_image.specs.Commands.{commands_of, first_content_of, id_of, libs_of, load_commands_of, rpaths_of};
@@ -192,7 +193,8 @@ impl<'a> MachO<'a> {
     /// The load commands as byte strings that borrow from the file, in order, or an error where there is no
     /// memory for the list.
     pub fn commands(&self, alloc: Global) -> Result<Vec<ByteString<'_>>, AllocError>
-        ensures { IfOk result (λ commands. commands.items ≡ commands_of self.now.bytes) }
+        ensures { IfOk result (λ commands.
+            bytes_of_each commands.items ≡ commands_of self.now.bytes) }
     {
         let mut commands = Vec::new(alloc);
         for i in 0..self.command_count() {

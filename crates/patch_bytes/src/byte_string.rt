@@ -1,4 +1,4 @@
-ghost use Rattle.std.specs.Prelude.{◌≡◌, IfOk};
+ghost use Rattle.std.specs.Prelude.{◌≡◌, IsTrue, IsOk, IfOk};
 
 use std::alloc::{AllocError, Global};
 use std::marker::Model;
@@ -11,21 +11,21 @@ pub struct ByteString<'data> {
 }
 
 impl<'data> Model for ByteString<'data> {
-    ghost use Rattle.std.specs.Prelude.{List, ℕ};
-    ghost use Rattle.patch_bytes.specs.ByteString.{bytes_shown};
+    ghost use Rattle.patch_bytes.specs.ByteString.{StringValue, string_shown};
 
-    ghost Value = { List ℕ };
+    ghost Value = { StringValue };
 
-    ghost view = { λ s. bytes_shown s.source.now s.copy };
+    ghost view = { λ s. string_shown s.source.now s.copy };
 }
 
 impl<'data> ByteString<'data> {
     ghost use Rattle.std.specs.Borrow.{sem};
+    ghost use Rattle.patch_bytes.specs.ByteString.{borrowed_string, owned_string};
     ghost use Rattle.patch_bytes.specs.Lending.{LendsBytes};
 
     /// Bytes that stay where they are. Takes no memory.
     pub fn borrowed(bytes: &'data [u8]) -> Self
-        ensures { result ≡ bytes.entry.now }
+        ensures { result ≡ borrowed_string bytes.entry.now }
     {
         ByteString {
             source: bytes,
@@ -35,7 +35,7 @@ impl<'data> ByteString<'data> {
 
     /// Bytes that the string owns. Takes no memory.
     pub fn owned(bytes: Vec<u8>) -> Self
-        ensures { result ≡ bytes.items }
+        ensures { result ≡ owned_string bytes.items }
     {
         ByteString {
             source: &[],
@@ -45,7 +45,7 @@ impl<'data> ByteString<'data> {
 
     /// The bytes. Takes no memory.
     pub fn as_slice(&self) -> &[u8]
-        ensures { result.now ≡ self.now }
+        ensures { result.now ≡ self.now.bytes }
     {
         match &self.copy {
             None => self.source,
@@ -53,11 +53,19 @@ impl<'data> ByteString<'data> {
         }
     }
 
+    /// Whether the string owns its bytes. Takes no memory.
+    pub fn is_owned(&self) -> bool
+        ensures { result ≡ self.now.is_owned }
+    {
+        self.copy.is_some()
+    }
+
     /// The bytes to change: the first such call copies borrowed bytes, and is refused where there is no
     /// memory for that.
     pub fn to_mut(&mut self, alloc: Global) -> Result<&mut Vec<u8>, AllocError>
         ensures* lends { sem 𝓛 (LendsBytes self.entry result) }
-        ensures value { IfOk result (λ bytes. bytes.now.items ≡ self.old) }
+        ensures value { IfOk result (λ bytes. bytes.now.items ≡ self.old.bytes) }
+        ensures owned { IsTrue self.old.is_owned → IsOk result }
     {
         let copy = match self.copy.take() {
             Some(copy) => copy,

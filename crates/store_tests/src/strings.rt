@@ -19,6 +19,21 @@ fn changes_a_copy(rt: HostRuntime) {
     same_bytes(&rt, "string", string.as_slice(), b"a");
 }
 
+// Bytes are owned from the first change on.
+#[test]
+fn tells_what_it_owns(rt: HostRuntime) {
+    let string = ByteString::borrowed(b"a");
+    let copy = again!(&rt; changed_copy(rt.alloc(), &string)).expect(&rt, "memory");
+    same(&rt, "string", &string.is_owned(), &false);
+    same(&rt, "copy", &copy.is_owned(), &true);
+}
+
+#[test]
+fn owns_what_it_is_given(rt: HostRuntime) {
+    let string = ByteString::owned(copied(&rt, b"own"));
+    same(&rt, "string", &string.is_owned(), &true);
+}
+
 // Bytes that a string owns are lent without memory, also where each further growth is refused.
 #[test]
 fn lends_what_it_owns(rt: HostRuntime) {
@@ -33,6 +48,7 @@ fn lends_what_it_copied(rt: HostRuntime) {
     let string = ByteString::borrowed(b"a");
     let mut copy = again!(&rt; changed_copy(rt.alloc(), &string)).expect(&rt, "memory");
     same(&rt, "lent", &copy.to_mut(rt.alloc()).is_ok(), &true);
+    same(&rt, "lent again", &copy.to_mut(rt.alloc()).is_ok(), &true);
     same_bytes(&rt, "copy", copy.as_slice(), b"ab");
 }
 

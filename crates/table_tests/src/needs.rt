@@ -13,7 +13,7 @@ use std::alloc::AllocError;
 
 // Whether a table has the names of these versions.
 fn has_all(versions: &[VersionNeedName<'_>], table: &Finished<'_>) -> bool
-    ensures { result ≡ list_all (λ v. is_some (place_of table.now v.name)) versions.now }
+    ensures { result ≡ list_all (λ v. is_some (place_of table.now v.name.bytes)) versions.now }
 {
     versions.iter().all(|version| table.offset_of(version.name.as_slice()).is_some())
 }
@@ -21,16 +21,16 @@ fn has_all(versions: &[VersionNeedName<'_>], table: &Finished<'_>) -> bool
 // Whether a table has the name of a library and those of the versions needed of it.
 fn has_texts(needs: &VersionNeed<'_>, table: &Finished<'_>) -> bool
     ensures { result
-        ≡ (is_some (place_of table.now needs.now.file)
-        && list_all (λ v. is_some (place_of table.now v.name)) needs.now.versions.items) }
+        ≡ (is_some (place_of table.now needs.now.file.bytes)
+        && list_all (λ v. is_some (place_of table.now v.name.bytes)) needs.now.versions.items) }
 {
     table.offset_of(needs.file.as_slice()).is_some() && has_all(&needs.versions, table)
 }
 
 // Whether a table has the texts of each of these.
 fn has_each(records: &[VersionNeed<'_>], table: &Finished<'_>) -> bool
-    ensures { result ≡ list_all (λ n. is_some (place_of table.now n.file)
-        && list_all (λ v. is_some (place_of table.now v.name)) n.versions.items) records.now }
+    ensures { result ≡ list_all (λ n. is_some (place_of table.now n.file.bytes)
+        && list_all (λ v. is_some (place_of table.now v.name.bytes)) n.versions.items) records.now }
 {
     records.iter().all(|needs| has_texts(needs, table))
 }

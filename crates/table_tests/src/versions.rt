@@ -55,7 +55,7 @@ fn versions_of_symbols(rt: HostRuntime) {
 
 // Whether the table has these names.
 fn has_all(names: &[ByteString<'_>], table: &Finished<'_>) -> bool
-    ensures { result ≡ list_all (λ name. is_some (place_of table.now name)) names.now }
+    ensures { result ≡ list_all (λ name. is_some (place_of table.now name.bytes)) names.now }
 {
     names
         .iter()
@@ -65,7 +65,7 @@ fn has_all(names: &[ByteString<'_>], table: &Finished<'_>) -> bool
 // Whether the table has the names of each of these versions.
 fn has_each(records: &[VersionDef<'_>], table: &Finished<'_>) -> bool
     ensures { result
-        ≡ list_all (λ d. list_all (λ name. is_some (place_of table.now name)) d.names.items)
+        ≡ list_all (λ d. list_all (λ name. is_some (place_of table.now name.bytes)) d.names.items)
         records.now }
 {
     records.iter().all(|version| has_all(&version.names, table))

@@ -1,5 +1,6 @@
 ghost use Rattle.std.specs.Prelude.{IfOk};
 ghost use Rattle.std.specs.List.{All};
+ghost use Rattle.patch_bytes.specs.ByteString.{bytes_of_each};
 ghost use Rattle.elf_tables.specs.Strings.{StandsAt};
 ghost use Rattle.elf_write.specs.VersionPlaces.{AreAt, AreDefinitionsAt, HasMore, Tells, TellsDefinition};
 
@@ -32,9 +33,9 @@ fn place_texts<'t>(
     texts: &'t [ByteString<'_>],
     places: &[u32],
 ) -> Result<(), AllocError>
-    requires { AreAt table.old.bytes texts.now places.now }
+    requires { AreAt table.old.bytes (bytes_of_each texts.now) places.now }
     ensures more { IfOk result (λ _. HasMore table.old table.new) }
-    ensures told { IfOk result (λ _. All (Tells table.new) texts.entry.now) }
+    ensures told { IfOk result (λ _. All (Tells table.new) (bytes_of_each texts.entry.now)) }
 {
     for (i, text) in texts.iter().enumerate() {
         place_text(table, text.as_slice(), places[i])?;

@@ -1,12 +1,13 @@
 //! The parts of an image that edits wrote, before they are put in place.
 ghost use Rattle.std.specs.Prelude.{◌≡◌, [], false, IfOk, MatchResult, None as none, Some as some, map, option_map, unwrap_or};
+ghost use Rattle.patch_bytes.specs.ByteString.{owned_string};
 ghost use Rattle.elf_edits.specs.Abi.{with_nul as stored_with_nul};
 ghost use Rattle.elf_edits.specs.Called.{call_meant, edit_meant, texts_held};
 ghost use Rattle.elf_edits.specs.Cause.{facts_of, first_cause};
 ghost use Rattle.elf_edits.specs.Edit.{DeleteNeeded};
 ghost use Rattle.elf_edits.specs.Edited.{touches_rest};
 ghost use Rattle.elf_image.specs.Image.{Image};
-ghost use Rattle.elf_image.specs.ImageSeen.{entry_kept};
+ghost use Rattle.elf_image.specs.ImageSeen.{entry_kept, text_kept};
 ghost use Rattle.elf_image.specs.Options.{first_there};
 ghost use Rattle.arwen_elf.specs.Drafted.{CanPutEntries, CanPutInterpreter, IsDraftOf, ListsEntries, OnlyShows, Writes, drafted, entries_drafted, flags_now, with_entries_put, with_flags_put, with_interpreter_put, with_list, with_os_abi_put, with_page_size_put};
 
@@ -78,7 +79,9 @@ impl<'data> Draft<'data> {
     // Writes the interpreter's bytes.
     fn write_interpreter(&mut self, alloc: Global, bytes: &[u8]) -> Result<(), AllocError>
         ensures { IfOk result (λ _. self.new
-            ≡ record self.old { interpreter = some (stored_with_nul bytes.now) }) }
+            ≡ record self.old {
+              interpreter = some (owned_string (stored_with_nul bytes.now));
+            }) }
     {
         self.interpreter = Some(ByteString::owned(with_nul(alloc, bytes)?));
         Ok(())
@@ -250,8 +253,8 @@ fn put_os_abi(builder: &mut Builder<'_>, number: Option<u8>)
 }
 
 fn put_interpreter<'data>(builder: &mut Builder<'data>, bytes: Option<ByteString<'data>>)
-    requires { CanPutInterpreter builder.old bytes }
-    ensures { builder.new ≡ with_interpreter_put bytes.entry builder.old }
+    requires { CanPutInterpreter builder.old (text_kept bytes) }
+    ensures { builder.new ≡ with_interpreter_put (text_kept bytes.entry) builder.old }
 {
     if let Some(bytes) = bytes {
         builder.set_interp(bytes);

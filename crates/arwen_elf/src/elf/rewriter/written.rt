@@ -150,7 +150,7 @@ fn told_of(fault: LayoutFault) -> ElfError
 impl<'data> Writer<'data> {
     // The bytes of the file that is written, where nothing was edited those that were read, which takes no memory.
     fn written(&self, alloc: Global) -> Result<ByteString<'data>>
-        ensures bytes { IfOk result (IsImageWritten self.now) }
+        ensures bytes { IfOk result (λ file. IsImageWritten self.now file.bytes) }
         ensures fault { IfErr result (IsNoImage self.now) }
         ensures edited { IfErr result (λ _. self.now.changed ≡ true) }
     {

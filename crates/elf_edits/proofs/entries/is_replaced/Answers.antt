@@ -14,5 +14,5 @@ pub returns-in-Text : goal.returns-in-Text
 returns-in-Text c =
     c.contains_key.ensures
     ∙ ap (λ text. is_some (lookup (λ (k : Bytes). bytes_eq text k.items) c.args.names.now.entries)) c.as_slice.ensures
-    ∙ replaced_among c.args.names.now.entries c.in-Text.tag c.in-Text.val c.if-tag-eq-DT_NEEDED.true
+    ∙ replaced_among c.args.names.now.entries c.in-Text.tag c.in-Text.val.bytes c.if-tag-eq-DT_NEEDED.true
     ∙ sym (ap (λ (e : Dynamic). is_replaced (pairs_of_map c.args.names.now.entries) (entry_kept e)) c.in-Text.is)

@@ -14,5 +14,5 @@ pub returns-in-Text : goal.returns-in-Text
 returns-in-Text c =
     c.contains.ensures
     ∙ ap (λ text. list_any (λ (k : Bytes). bytes_eq text k.items) (keys c.args.names.now)) c.as_slice.ensures
-    ∙ needed_among (keys c.args.names.now) c.in-Text.tag c.in-Text.val c.if-tag-eq-DT_NEEDED.true
+    ∙ needed_among (keys c.args.names.now) c.in-Text.tag c.in-Text.val.bytes c.if-tag-eq-DT_NEEDED.true
     ∙ sym (ap (λ (e : Dynamic). needs_one_of (texts_held (keys c.args.names.now)) (entry_kept e)) c.in-Text.is)

@@ -30,7 +30,7 @@ push_needs-requires c =
     let within : c.loop-i.i < length (map needs_kept c.args.records.now) = omega (arith, length-map c.args.records.now needs_kept) in
     let known : has_texts (needs_kept v) ≡ true = subst (λ (m : VersionNeeds). has_texts m ≡ true) (kept_here c.args.records.now c.loop-i.i v (omega arith) c.index-records-i.is)
     (AllPass-from_list_all has_texts (map needs_kept c.args.records.now) c.requires c.loop-i.i (needs_kept v) within) in
-    let parts = and_parts (is_some (place_of c.args.names.now v.file)) (list_all (λ n. is_some (place_of c.args.names.now n.name)) (needs_kept v).versions) known in
+    let parts = and_parts (is_some (place_of c.args.names.now v.file.bytes)) (list_all (λ n. is_some (place_of c.args.names.now n.name)) (needs_kept v).versions) known in
     record { file = parts.0; names = parts.1 }
 
 pub returns-in_err-push_needs-clause-bytes : goal.returns-in_err-push_needs-clause-bytes

@@ -2,9 +2,10 @@ use Rattle.std.proofs.Common.{◌≡◌, ◌+◌, ◌<◌, ℕ, Bool, List, [], 
 use Rattle.std.specs.Prelude.{is_some}
 use Rattle.std.specs.List.{list_all}
 use Rattle.std.proofs.lemmas.List.{get_or-map, length-map}
-use Rattle.std.proofs.lemmas.List.Folds.{list_any_at}
+use Rattle.std.proofs.lemmas.List.Folds.{list_all-map, list_any_at}
 use Rattle.std.proofs.lemmas.List.Sums.{AllPass-from_list_all}
 use Rattle.std.proofs.lemmas.Result.{err_from_is_err_and}
+use Rattle.patch_bytes.specs.ByteString.{StringValue}
 use Rattle.patch_bytes.specs.Memory.{memory_of}
 use Rattle.elf_format.specs.Versions.{VersionDefinition}
 use Rattle.elf_format.specs.Views.{defined_versions}
@@ -26,7 +27,8 @@ push_definition-requires c =
     let v : VersionDef = c.index-records-i.result in
     let has_texts : VersionDefinition → Bool = λ d. list_all (λ name. is_some (place_of c.args.names.now name)) d.names in
     let within : c.loop-i.i < length (map definition_kept c.args.records.now) = omega (arith, length-map c.args.records.now definition_kept) in
-    subst (λ (d : VersionDefinition). has_texts d ≡ true) (kept_here c.args.records.now c.loop-i.i v (omega arith) c.index-records-i.is)
+    sym (list_all-map (λ name. is_some (place_of c.args.names.now name)) (λ (name : StringValue). name.bytes) v.names.items)
+    ∙ subst (λ (d : VersionDefinition). has_texts d ≡ true) (kept_here c.args.records.now c.loop-i.i v (omega arith) c.index-records-i.is)
     (AllPass-from_list_all has_texts (map definition_kept c.args.records.now) c.requires c.loop-i.i (definition_kept v) within)
 
 pub returns-in_err-push_definition-clause-bytes : goal.returns-in_err-push_definition-clause-bytes

@@ -3,6 +3,7 @@ use Rattle.std.proofs.Common.{◌≡◌, ◌≤◌, ◌*◌, ℕ, List, length, 
 use Rattle.std.specs.Prelude.{slice_index_or}
 use Rattle.std.proofs.lemmas.Bool.{ne_eqb}
 use Rattle.std.specs.List.{slice_get}
+use Rattle.patch_bytes.specs.ByteString.{StringValue}
 use Rattle.elf_format.specs.declared.constants.TheConstants.{SHT_DYNAMIC, SHT_DYNSYM, SHT_GNU_VERDEF, SHT_GNU_VERNEED, SHT_STRTAB}
 use Rattle.elf_format.specs.declared.form.Form.{Form}
 use Rattle.elf_format.specs.Image.{ImageSection}
@@ -71,8 +72,8 @@ returns-in_ok-bytes-in-6 c =
     place_there c.places.result.now c.args.plan.now.places c.args.i _ c.places.ensures
     (place_within c.places.result.now c.args.plan.now.places c.args.image.now.sections c.args.i c.places.ensures
     (places_long c.args.read.now c.args.image.now c.args.plan.now c.requires.planned) c.requires.within) in
-    let bytes : c.owned.result ≡ spelled_list c.args.image.now.form c.args.raw.now place.sh_size =
-    c.owned.ensures ∙ c.in_ok-bytes-in-6.ensures ∙ ap (λ (m : Form). spelled_list m c.args.raw.now place.sh_size) c.form_of.ensures in
+    let bytes : c.owned.result.bytes ≡ spelled_list c.args.image.now.form c.args.raw.now place.sh_size =
+    ap (λ (s : StringValue). s.bytes) c.owned.ensures ∙ c.in_ok-bytes-in-6.ensures ∙ ap (λ (m : Form). spelled_list m c.args.raw.now place.sh_size) c.form_of.ensures in
     subst (λ (b : List ℕ). IsBytesAt c.args.image.now c.args.plan.now c.args.made.now c.args.raw.now c.args.i b) (sym bytes)
     (list_at_place c.args.read.now c.args.image.now c.args.plan.now c.args.made.now c.args.raw.now c.requires.planned c.args.i s at
     c.requires.apart c.requires.raw c.in-6.is (place_seen place) place_at)
@@ -93,9 +94,9 @@ returns-in-11 c =
     let at : _ = section_there c.sections.result.now c.args.image.now.sections c.args.i c.index-sections-i.result c.sections.ensures
     c.requires.within c.index-sections-i.is in
     both_ok c.symbols_content.result _ _
-    (IsBytesAt c.args.image.now c.args.plan.now c.args.made.now c.args.raw.now c.args.i)
-    (symbols_at c.args.read.now c.args.image.now c.args.plan.now c.args.made.now c.args.raw.now c.requires.planned c.args.i s at
-    c.requires.apart c.in-11.is) c.symbols_content.ensures.sized c.symbols_content.ensures.symbols
+    (λ content. IsBytesAt c.args.image.now c.args.plan.now c.args.made.now c.args.raw.now c.args.i content.bytes)
+    (λ content. symbols_at c.args.read.now c.args.image.now c.args.plan.now c.args.made.now c.args.raw.now c.requires.planned c.args.i s at
+    c.requires.apart c.in-11.is content.bytes) c.symbols_content.ensures.sized c.symbols_content.ensures.symbols
 
 pub returns-in_ok-bytes-in-1879048189 : goal.returns-in_ok-bytes-in-1879048189
 returns-in_ok-bytes-in-1879048189 c =
@@ -103,7 +104,7 @@ returns-in_ok-bytes-in-1879048189 c =
     let at : _ = section_there c.sections.result.now c.args.image.now.sections c.args.i c.index-sections-i.result c.sections.ensures
     c.requires.within c.index-sections-i.is in
     subst (λ (bytes : List ℕ). IsBytesAt c.args.image.now c.args.plan.now c.args.made.now c.args.raw.now c.args.i bytes)
-    (sym c.owned-in-1879048189.ensures)
+    (sym (ap (λ (s : StringValue). s.bytes) c.owned-in-1879048189.ensures))
     (definitions_at c.args.read.now c.args.image.now c.args.plan.now c.args.made.now c.args.raw.now c.requires.planned c.args.i s at
     c.requires.apart c.in-1879048189.is c.in_ok-bytes-in-1879048189.bytes.items c.in_ok-bytes-in-1879048189.ensures.sized
     c.in_ok-bytes-in-1879048189.ensures.versions)
@@ -114,7 +115,7 @@ returns-in_ok-bytes-in-1879048190 c =
     let at : _ = section_there c.sections.result.now c.args.image.now.sections c.args.i c.index-sections-i.result c.sections.ensures
     c.requires.within c.index-sections-i.is in
     subst (λ (bytes : List ℕ). IsBytesAt c.args.image.now c.args.plan.now c.args.made.now c.args.raw.now c.args.i bytes)
-    (sym c.owned-in-1879048190.ensures)
+    (sym (ap (λ (s : StringValue). s.bytes) c.owned-in-1879048190.ensures))
     (needs_at c.args.read.now c.args.image.now c.args.plan.now c.args.made.now c.args.raw.now c.requires.planned c.args.i s at
     c.requires.apart c.in-1879048190.is c.in_ok-bytes-in-1879048190.bytes.items c.in_ok-bytes-in-1879048190.ensures.sized
     c.in_ok-bytes-in-1879048190.ensures.versions)
@@ -125,7 +126,7 @@ returns-in_default c =
     let at : _ = section_there c.sections.result.now c.args.image.now.sections c.args.i c.index-sections-i.result c.sections.ensures
     c.requires.within c.index-sections-i.is in
     subst (λ (bytes : List ℕ). IsBytesAt c.args.image.now c.args.plan.now c.args.made.now c.args.raw.now c.args.i bytes)
-    (sym c.borrowed.ensures)
+    (sym (ap (λ (s : StringValue). s.bytes) c.borrowed.ensures))
     (others_at c.args.read.now c.args.image.now c.args.plan.now c.args.made.now c.args.raw.now c.requires.planned c.args.i s at
     c.requires.apart (record {
       dynamic = ne_eqb s.sh_type SHT_DYNAMIC (λ (e : c.index-sections-i.result.sh_type ≡ SHT_DYNAMIC). omega (arith, e));

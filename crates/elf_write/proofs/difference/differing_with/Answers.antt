@@ -1,5 +1,6 @@
 use Rattle.std.proofs.Common.{◌∙◌, List, ap, subst, sym}
 use Rattle.byte_store.specs.Composed.{made_of}
+use Rattle.patch_bytes.specs.ByteString.{bytes_of_each}
 use Rattle.elf_format.specs.declared.records.EntryNumbers.{EntryNumbers}
 use Rattle.elf_format.specs.declared.records.SectionHeader.{SectionHeader}
 use Rattle.elf_written.specs.Writing.{IsWholeWriting, written_bytes}
@@ -11,17 +12,17 @@ pub laid_difference-requires-clause-writing : goal.laid_difference-requires-clau
 laid_difference-requires-clause-writing c =
     let p = c.requires.prepared in
     subst (λ (hs : List SectionHeader).
-    (raw : List EntryNumbers) × IsWholeWriting (writing_of c.args.image.now c.args.plan.now hs c.args.contents.now raw))
+    (raw : List EntryNumbers) × IsWholeWriting (writing_of c.args.image.now c.args.plan.now hs (bytes_of_each c.args.contents.now) raw))
     (sym c.deref.ensures.value)
     (are_written c.args.read.now c.args.image.now c.args.plan.now c.args.prepared.now.made c.args.prepared.now.raw.items
-    c.args.contents.now c.requires.planned c.requires.contents c.args.prepared.now.headers.items c.requires.apart p.raw p.headers p.fit)
+    (bytes_of_each c.args.contents.now) c.requires.planned c.requires.contents c.args.prepared.now.headers.items c.requires.apart p.raw p.headers p.fit)
 
 pub returns-clause-written : goal.returns-clause-written
 returns-clause-written c =
     let p = c.requires.prepared in
     is_whole_written c.args.read.now c.args.image.now c.args.plan.now c.args.prepared.now.made c.args.prepared.now.raw.items
-    c.args.contents.now c.requires.planned c.requires.contents c.args.prepared.now.headers.items
+    (bytes_of_each c.args.contents.now) c.requires.planned c.requires.contents c.args.prepared.now.headers.items
     (made_of c.args.image.now.source c.in_ok-difference.difference) c.requires.apart p.raw p.headers p.fit
     (c.in_ok-difference.ensures.makes c.args.prepared.now.raw.items
     ∙ ap (λ (hs : List SectionHeader).
-    written_bytes (writing_of c.args.image.now c.args.plan.now hs c.args.contents.now c.args.prepared.now.raw.items)) c.deref.ensures.value)
+    written_bytes (writing_of c.args.image.now c.args.plan.now hs (bytes_of_each c.args.contents.now) c.args.prepared.now.raw.items)) c.deref.ensures.value)

@@ -19,7 +19,7 @@ returns c = record {
   more = more-trans c.args.table.now c.place_text.new.table c.place_need_names.new.table c.in_ok-place_text.ensures.more
       c.in_ok-place_need_names.ensures.more;
   told = record {
-    file = c.in_ok-place_need_names.ensures.more.had c.args.need.now.file
+    file = c.in_ok-place_need_names.ensures.more.had c.args.need.now.file.bytes
         (subst (λ (text : List ℕ). Tells c.place_text.new.table text) c.as_slice.ensures c.in_ok-place_text.ensures.told);
     versions = subst (λ (l : List VersionNeedName). All (TellsName c.place_need_names.new.table) l) c.deref.ensures.value
         c.in_ok-place_need_names.ensures.told;

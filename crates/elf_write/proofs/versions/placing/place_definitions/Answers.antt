@@ -1,5 +1,6 @@
-use Rattle.std.proofs.Common.{ℕ, List, subst}
+use Rattle.std.proofs.Common.{List, subst, arith}
 use Rattle.std.specs.List.{All}
+use Rattle.patch_bytes.specs.ByteString.{StringValue, bytes_of_each}
 use Rattle.elf_write.specs.VersionPlaces.{Tells, TellsDefinition}
 use Rattle.elf_write.proofs.VersionsPlacing.{more-trans, up_to}
 use Rattle.elf_write.proofs.versions.placing.place_definitions.Goals as goal
@@ -11,5 +12,8 @@ loop-i-preserved c = record {
       c.index-definitions-i.result
       (λ y h k d within. c.in_ok-place_texts.ensures.more.had _ (h k d within)) c.loop-i.invariant.told c.loop-i-test.true
       c.index-definitions-i.is
-      (subst (λ (texts : List (List ℕ)). All (Tells c.place_texts.new.table) texts) c.deref.ensures.value c.in_ok-place_texts.ensures.told);
+      (subst (λ (texts : List StringValue). All (Tells c.place_texts.new.table) (bytes_of_each texts)) c.deref.ensures.value c.in_ok-place_texts.ensures.told);
 }
+
+pub returns-clause-told : goal.returns-clause-told
+returns-clause-told c k d within = c.loop-i.invariant.told k d (omega (arith, within))

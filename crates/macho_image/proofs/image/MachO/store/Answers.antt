@@ -34,7 +34,7 @@ invariant_of-self c =
     let inside : c.args.high ≤ length (image_of c.self.inside).bytes = rw shown c.requires.inside in
     let same = ap (λ (n : NewArea). n.copy) c.prepared.view_is ∙ c.requires.made_for.same_copy ∙ ap copy_for (sym c.self.view_is) in
     let taken : option_or c.prepared.inside.copy c.self.inside.edited ≡ _ = ap (option_or c.prepared.inside.copy) (sym c.take.ensures.value) ∙ sym c.or.ensures ∙ c.in-Some.is in
-    let copied : c.in-Some.bytes.items ≡ (image_of c.self.inside).bytes = items-copy c.self.inside.source c.self.inside.edited c.prepared.inside.copy c.in-Some.bytes same taken in
+    let copied : c.in-Some.bytes.items ≡ (image_of c.self.inside).bytes = items-copy c.self.inside.source.bytes c.self.inside.edited c.prepared.inside.copy c.in-Some.bytes same taken in
     let laid : c.lay_area.new.bytes ≡ with_area c.prepared.inside.ctx (image_of c.self.inside).bytes c.prepared.inside.count c.prepared.inside.area.items c.args.high = cc (c.lay_area.ensures, copied, c.deref_mut.ensures.value, c.deref.ensures.value) in
     let fit : AreaFits c.prepared.inside.ctx (image_of c.self.inside).bytes c.prepared.inside.area.items c.args.high = record { room = room; inside = inside } in
     let long : length c.lay_area.new.bytes ≡ c.in-Some.bytes.len = omega (arith, c.lay_area.auto.bytes, c.deref_mut.ensures.len) in
