@@ -3,13 +3,15 @@ use Rattle.std.proofs.Common.{◌≡◌, ◌≢◌, ◌∷◌, [], ◌≤◌, Li
 use Rattle.std.specs.Prelude.{option_and_then, option_map, slice_get}
 use Rattle.std.proofs.lemmas.List.{length-map}
 use Rattle.clap.specs.Lexer.{usize_max}
-use Rattle.arwen_commands.proofs.ForCallers.{meant_with-named, named-map}
-use Rattle.arwen_commands.specs.Meaning.{ElfMeaning, MachoMeaning, Meaning, elf_lines, macho_lines, of_elf, of_macho}
-use Rattle.arwen_commands.specs.Rows.{Given, Line, Named, Text, asked_by_words, asked_with, given_by, kind_of, line_named, meant_by, meant_with, named, named_of}
-use Rattle.arwen_commands.specs.ElfAsked.{TellsNoValue}
-use Rattle.arwen_commands.specs.Fault.{IsOfLine}
-use Rattle.arwen_commands.specs.declared.error.ArwenError.{ArwenError}
-use Rattle.arwen_commands.specs.declared.error.ArwenError.TheVariants as error
+use Rattle.command_words.proofs.ForCallers.{meant_with-named, named-map}
+use Rattle.elf_commands.specs.Meaning.{ElfMeaning, elf_lines}
+use Rattle.macho_commands.specs.Meaning.{MachoMeaning, macho_lines}
+use Rattle.arwen_commands.specs.Meaning.{Meaning, of_elf, of_macho}
+use Rattle.command_words.specs.Rows.{Given, Line, Named, Text, asked_by_words, asked_with, given_by, kind_of, line_named, meant_by, meant_with, named, named_of}
+use Rattle.elf_commands.specs.ElfAsked.{TellsNoValue}
+use Rattle.command_faults.specs.Fault.{IsOfLine}
+use Rattle.command_faults.specs.declared.error.ArwenError.{ArwenError}
+use Rattle.command_faults.specs.declared.error.ArwenError.TheVariants as error
 use Rattle.arwen_cli.specs.Line.{has_option, if_taken, meaning_of}
 use Rattle.arwen_cli.specs.Parser.{IsTaken, MeansBy, MeansTaken, is_table}
 use Rattle.arwen_cli.proofs.Named.{differs}

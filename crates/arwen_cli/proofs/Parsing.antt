@@ -1,8 +1,8 @@
 -- What the parser of lines gives, at a line that is written out.
 use Rattle.std.proofs.Common.{refl, ◌≡◌, ◌∷◌, [], ◌+◌, ◌<◌, ℕ, Option, Some, None, Box, List, false, ap, ap₂, ◌∙◌, get_or, inl, inr, length, map, sym, take}
 use Rattle.std.proofs.lemmas.List.{map_push, take_more}
-use Rattle.arwen_commands.specs.Rows.{row_shown}
-use Rattle.arwen_commands.specs.declared.rows.Row.{Row as TableRow}
+use Rattle.command_words.specs.Rows.{row_shown}
+use Rattle.command_words.specs.declared.rows.Row.{Row as TableRow}
 use Rattle.std.specs.Option.{option_map}
 use Rattle.std.specs.Box.{box_value}
 use Rattle.clap.specs.Walk.{Row, Text}

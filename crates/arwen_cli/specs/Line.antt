@@ -3,12 +3,14 @@ use Rattle.std.specs.Prelude.{◌==◌, Bool, false, List, [], ◌∷◌, Option
 use Rattle.std.specs.Prelude.{if◌then◌else◌, option_and_then, option_map}
 use Rattle.std.specs.List.{list_any}
 use Rattle.std.specs.Str.{bytes_eq}
-use Rattle.arwen_commands.specs.ElfEngine.{ElfMayFail}
-use Rattle.arwen_commands.specs.Engine.{MayFail}
-use Rattle.arwen_commands.specs.Fault.{IsOfLine}
-use Rattle.arwen_commands.specs.Meaning.{ElfMeaning, Meaning, elf_lines, macho_lines, of_elf, of_macho}
-use Rattle.arwen_commands.specs.Rows.{Text, meant_by}
-use Rattle.arwen_commands.specs.declared.error.ArwenError.{ArwenError}
+use Rattle.elf_commands.specs.ElfEngine.{ElfMayFail}
+use Rattle.macho_commands.specs.Engine.{MayFail}
+use Rattle.command_faults.specs.Fault.{IsOfLine}
+use Rattle.elf_commands.specs.Meaning.{ElfMeaning, elf_lines}
+use Rattle.arwen_commands.specs.Meaning.{Meaning, of_elf, of_macho}
+use Rattle.macho_commands.specs.Meaning.{macho_lines}
+use Rattle.command_words.specs.Rows.{Text, meant_by}
+use Rattle.command_faults.specs.declared.error.ArwenError.{ArwenError}
 
 -- ---- what words mean
 

@@ -10,14 +10,14 @@ use Rattle.clap.specs.declared.builder.command.Command.TheViews.{out-Command}
 use Rattle.clap.specs.declared.builder.action.ArgAction.TheVariants.{Append}
 use Rattle.clap.specs.declared.parser.matches.ArgMatches.{ArgMatches}
 use Rattle.clap.specs.Lexer.{usize_max}
-use Rattle.arwen_commands.specs.Rows.{Given, Kind, Line, Named, Text, meant_with, named, named_of, options}
-use Rattle.arwen_commands.specs.Rows.{path, path_alone, path_and_options, path_and_words, text}
-use Rattle.arwen_commands.specs.Rows.{text_and_path, texts, texts_and_path, words}
-use Rattle.arwen_commands.specs.Rows.{given_shown}
-use Rattle.arwen_commands.specs.declared.rows.Values.{Values}
+use Rattle.command_words.specs.Rows.{Given, Kind, Line, Named, Text, meant_with, named, named_of, options}
+use Rattle.command_words.specs.Rows.{path, path_alone, path_and_options, path_and_words, text}
+use Rattle.command_words.specs.Rows.{text_and_path, texts, texts_and_path, words}
+use Rattle.command_words.specs.Rows.{given_shown}
+use Rattle.command_words.specs.declared.rows.Values.{Values}
 use Rattle.std.specs.Borrow.{Bor}
-use Rattle.arwen_commands.specs.declared.error.ArwenError.{ArwenError}
-use Rattle.arwen_commands.specs.declared.error.ArwenError.TheVariants.{Memory}
+use Rattle.command_faults.specs.declared.error.ArwenError.{ArwenError}
+use Rattle.command_faults.specs.declared.error.ArwenError.TheVariants.{Memory}
 
 -- ---- the commands
 

@@ -1,15 +1,1 @@
-pub mod Edits
-pub mod ElfWords
-pub mod Engine
-pub mod Fault
-pub mod Groups
-pub mod KeyValue
 pub mod Meaning
-pub mod Prints
-pub mod Rows
-pub mod Stores
-pub mod ElfAsked
-pub mod ElfEngine
-pub mod ElfStores
-pub mod Shrinking
-pub mod ShrinkRuns

@@ -1,8 +1,11 @@
 //! What the words of a line mean.
 ghost use Rattle.std.specs.Prelude.{◌≡◌, None, Some, codes, false, IfErr, IfOk, MatchResult, map};
-ghost use Rattle.arwen_commands.specs.Fault.{IsOfLine, status_of};
-ghost use Rattle.arwen_commands.specs.Meaning.{Meaning, elf_lines, elf_shown, macho_lines};
-ghost use Rattle.arwen_commands.specs.Meaning.{macho_shown, shown};
+ghost use Rattle.command_faults.specs.Fault.{IsOfLine, status_of};
+ghost use Rattle.arwen_commands.specs.Meaning.{Meaning};
+ghost use Rattle.elf_commands.specs.Meaning.{elf_lines, elf_shown};
+ghost use Rattle.macho_commands.specs.Meaning.{macho_lines};
+ghost use Rattle.macho_commands.specs.Meaning.{macho_shown};
+ghost use Rattle.arwen_commands.specs.Meaning.{shown};
 ghost use Rattle.arwen_cli.specs.Line.{has_option, meaning_of};
 ghost use Rattle.arwen_cli.specs.Parser.{MayRefuse, MayRefuseTaken, MeansBy, MeansTaken};
 

@@ -3,8 +3,8 @@ ghost use Rattle.std.specs.Prelude.{◌≡◌, ◌<◌, [], Some, false, IfOk, I
 ghost use Rattle.std.specs.Prelude.{unwrap_or};
 ghost use Rattle.clap.specs.Words.{all_of, app_of, fault_of, first_of, found_of, kind_of, new_app, rows_of};
 ghost use Rattle.clap.specs.Words.{rule_of, with_rule, with_subcommand};
-ghost use Rattle.arwen_commands.specs.Fault.{IsOfLine};
-ghost use Rattle.arwen_commands.specs.Rows.{given_shown, kind_shown, row_shown, texts};
+ghost use Rattle.command_faults.specs.Fault.{IsOfLine};
+ghost use Rattle.command_words.specs.Rows.{given_shown, kind_shown, row_shown, texts};
 ghost use Rattle.arwen_cli.specs.Parser.{IsTaken, Matches, MatchesBy, RefusesNone, MayRefuseFound, MayRefuseValues, first_id, found_by};
 ghost use Rattle.arwen_cli.specs.Parser.{found_values, has_globals, is_table, leaf_app, leaf_of, line_app};
 ghost use Rattle.arwen_cli.specs.Parser.{option_rule, options_id, path_id, second_id, taken_shown, top_app, value_rule};

@@ -2,10 +2,10 @@
 use Rattle.std.proofs.Common.{List, Bor, Some, codes, map, sym, ap, ◌∙◌, subst}
 use Rattle.std.specs.Option.{option_map}
 use Rattle.std.proofs.lemmas.Result.{IfErr-weaker, IfOk-weaker, err_from_is_err_and}
-use Rattle.arwen_commands.specs.ElfAsked.{command_meant}
-use Rattle.arwen_commands.specs.Fault.{IsOfLine}
-use Rattle.arwen_commands.specs.Meaning.{elf_lines}
-use Rattle.arwen_commands.specs.Rows.{Named, Text, given_shown, meant_with}
+use Rattle.elf_commands.specs.ElfAsked.{command_meant}
+use Rattle.command_faults.specs.Fault.{IsOfLine}
+use Rattle.elf_commands.specs.Meaning.{elf_lines}
+use Rattle.command_words.specs.Rows.{Named, Text, given_shown, meant_with}
 use Rattle.arwen_cli.specs.Parser.{IsTaken}
 use Rattle.arwen_cli.proofs.Meanings.{found_meaning, no_meaning, of_line, of_memory}
 use Rattle.arwen_cli.proofs.cli.line.parse_elf.Goals as goal

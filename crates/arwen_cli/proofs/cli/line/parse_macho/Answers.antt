@@ -2,8 +2,8 @@
 use Rattle.std.proofs.Common.{List, Bor, codes, map, sym, ap, ◌∙◌, subst}
 use Rattle.std.specs.Option.{option_map}
 use Rattle.std.proofs.lemmas.Result.{IfErr-weaker, IfOk-weaker, err_from_is_err_and}
-use Rattle.arwen_commands.specs.Meaning.{macho_lines, macho_shown}
-use Rattle.arwen_commands.specs.Rows.{Named, Text, given_shown}
+use Rattle.macho_commands.specs.Meaning.{macho_lines, macho_shown}
+use Rattle.command_words.specs.Rows.{Named, Text, given_shown}
 use Rattle.arwen_cli.specs.Parser.{IsTaken}
 use Rattle.arwen_cli.proofs.Meanings.{no_meaning}
 use Rattle.arwen_cli.proofs.cli.line.parse_macho.Goals as goal

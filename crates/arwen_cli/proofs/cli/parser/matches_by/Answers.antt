@@ -3,7 +3,7 @@ use Rattle.std.proofs.Common.{List, Bor, map, sym, ap, ◌∙◌}
 use Rattle.std.proofs.lemmas.Result.{IfErr-weaker, IfOk-weaker}
 use Rattle.clap.specs.Walk.{Text}
 use Rattle.clap.specs.Words.{App, fault_of, is_simple_and_free, subcommand_of}
-use Rattle.arwen_commands.specs.Rows.{row_shown}
+use Rattle.command_words.specs.Rows.{row_shown}
 use Rattle.arwen_cli.proofs.Table.{table_simple}
 use Rattle.arwen_cli.proofs.cli.parser.matches_by.Goals as goal
 

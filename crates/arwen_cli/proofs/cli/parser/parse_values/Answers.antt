@@ -3,7 +3,7 @@ use Rattle.std.proofs.Common.{map, sym, ap, ◌∙◌}
 use Rattle.std.proofs.lemmas.Result.{IfErr-weaker, IfOk-weaker, err_from_is_err_and}
 use Rattle.clap.specs.Walk.{rows_of}
 use Rattle.clap.specs.Words.{found_of}
-use Rattle.arwen_commands.specs.Rows.{row_shown}
+use Rattle.command_words.specs.Rows.{row_shown}
 use Rattle.arwen_cli.specs.Parser.{taken_in}
 use Rattle.arwen_cli.proofs.Parsing.{by_parts, no_command, some≢none}
 use Rattle.arwen_cli.proofs.cli.parser.parse_values.Goals as goal

@@ -1,6 +1,6 @@
 use Rattle.std.proofs.Common.{◌≡◌, map, take}
 use Rattle.clap.specs.Words.{app_of}
-use Rattle.arwen_commands.specs.Rows.{row_shown}
+use Rattle.command_words.specs.Rows.{row_shown}
 use Rattle.arwen_cli.specs.Parser.{line_app}
 use Rattle.arwen_cli.proofs.cli.parser.table_line.Given as goal
 

@@ -1,6 +1,0 @@
-use Rattle.std.proofs.Common.{◌≡◌, map, drop}
-use Rattle.arwen_commands.specs.Rows.{named, row_shown}
-use Rattle.arwen_commands.proofs.rows.find_row.Given as goal
-
-abbrev pub invariant-loop-row : goal.invariant-loop-row
-invariant-loop-row l = named (map row_shown l.rows) l.name ≡ named (map row_shown (drop l.row-index l.rows)) l.name

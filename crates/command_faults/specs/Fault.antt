@@ -1,0 +1,80 @@
+-- What the program answers when it does not do what was asked.
+use Rattle.std.specs.Prelude.{ℕ, ⊤}
+use Rattle.arwen_elf.specs.declared.elf.rewriter.error.ElfError.{ElfError}
+use Rattle.arwen_elf.specs.declared.elf.rewriter.error.ElfError.TheVariants as elf
+use Rattle.arwen_elf.specs.declared.elf.rewriter.batch.ElfBatchError.{ElfBatchError}
+use Rattle.arwen_macho.specs.declared.error.MachoError.{MachoError}
+use Rattle.arwen_macho.specs.declared.error.MachoError.TheVariants as macho
+use Rattle.arwen_macho.specs.declared.batch.MachoBatchError.{MachoBatchError}
+use Rattle.byte_store.specs.declared.reading.ReadError.{ReadError}
+use Rattle.byte_store.specs.declared.reading.ReadError.TheVariants as read
+use Rattle.byte_store.specs.declared.difference.ReplaceError.{ReplaceError}
+use Rattle.byte_store.specs.declared.difference.ReplaceError.TheVariants as replace
+use Rattle.command_words.specs.declared.edits.EditsError.{EditsError}
+use Rattle.command_words.specs.declared.edits.EditsError.TheVariants as edits
+use Rattle.command_faults.specs.declared.error.ArwenError.{ArwenError}
+use Rattle.command_faults.specs.declared.error.FaultLine.{FaultLine}
+use Rattle.command_faults.specs.declared.error.ArwenError.TheVariants.{Edits, Elf, ElfBatch, Io, Line, Macho, MachoBatch, Memory}
+
+-- the status that the program ends with
+abbrev pub status_of : ArwenError → ℕ
+status_of (Line text status) = status
+status_of (Edits fault) = 2
+status_of _ = 1
+
+-- the error of a line that means no command, or want of memory
+abbrev pub IsOfLine : ArwenError → Type 0
+IsOfLine (Line text status) = ⊤
+IsOfLine Memory = ⊤
+IsOfLine _ = ⊥
+
+-- the error of reading or writing a file, or want of memory
+abbrev pub IsOfFile : ArwenError → Type 0
+IsOfFile (Io e) = ⊤
+IsOfFile Memory = ⊤
+IsOfFile _ = ⊥
+
+-- the program's answer for a refused edit: want of memory is its own
+abbrev pub answer_to : MachoError → ArwenError
+answer_to macho.Memory = Memory
+answer_to fault = Macho fault
+
+-- the program's answer for a fault of an ELF file, in the same way
+abbrev pub answer_to_elf : ElfError → ArwenError
+answer_to_elf elf.Memory = Memory
+answer_to_elf fault = Elf fault
+
+-- the program's answer for a refused batch
+abbrev pub answer_by_fault : MachoBatchError → MachoError → ArwenError
+answer_by_fault batch macho.Memory = Memory
+answer_by_fault batch _ = MachoBatch batch
+
+abbrev pub answer_to_batch : MachoBatchError → ArwenError
+answer_to_batch batch = answer_by_fault batch batch.fault
+
+-- the same of a refused batch of edits of an ELF file
+abbrev pub answer_to_elf_fault : ElfBatchError → ElfError → ArwenError
+answer_to_elf_fault batch elf.Memory = Memory
+answer_to_elf_fault batch _ = ElfBatch batch
+
+abbrev pub answer_to_elf_batch : ElfBatchError → ArwenError
+answer_to_elf_batch batch = answer_to_elf_fault batch batch.fault
+
+-- the program's answer for bytes that were not replaced
+abbrev pub answer_to_replaced : ReplaceError → ArwenError
+answer_to_replaced replace.Memory = Memory
+answer_to_replaced (replace.Write e) = Io e.error
+
+-- the program's answer for words that were not read as edits
+abbrev pub answer_to_words : EditsError → ArwenError
+answer_to_words edits.Memory = Memory
+answer_to_words (edits.Fault fault) = Edits fault
+
+-- the program's answer for bytes that were not read
+abbrev pub answer_to_read : ReadError → ArwenError
+answer_to_read read.Memory = Memory
+answer_to_read (read.Io e) = Io e
+
+-- the fault that a line of text tells
+abbrev pub fault_told : FaultLine → ArwenError
+fault_told line = line.error.now

@@ -1,0 +1,4 @@
+pub mod EditGroups
+pub mod ForCallers
+pub mod RowLemmas
+pub mod WordLemmas

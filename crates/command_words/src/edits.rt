@@ -1,0 +1,186 @@
+//! The words of several edits on one line, whatever kind of file they are of.
+ghost use Rattle.std.specs.Prelude.{◌≡◌, IfOk, map, option_map, string_bytes};
+ghost use Rattle.command_words.specs.Groups.{fault_at, other_words as wrong_words};
+ghost use Rattle.command_words.specs.Rows.{given_shown, given_without_path, kind_shown};
+ghost use Rattle.command_words.specs.declared.edits.EditsError.TheVariants.{Memory};
+
+use crate::rows::{Form, Values};
+use std::alloc::{AllocError, AllocFailed, Global};
+use std::fmt;
+use thiserror::Error;
+
+/// What is wrong with a group of words.
+#[derive(Clone, Copy, Debug, PartialEq, Eq, Error)]
+pub enum EditKind {
+    /// The group has no word.
+    #[error("Empty")]
+    Empty,
+    /// Its first word names no edit.
+    #[error("UnknownEdit")]
+    UnknownEdit,
+    /// The edit takes another number of words.
+    #[error("WrongWords")]
+    WrongWords,
+    /// A word has no `=` between a key and its value.
+    #[error("KeyValue")]
+    KeyValue,
+    /// A word is no decimal number of 32 bits.
+    #[error("Number")]
+    Number,
+}
+
+/// The first faulty group of an edit list, and what is wrong with it.
+#[derive(Clone, Copy, Debug, PartialEq, Eq)]
+pub struct EditFault {
+    /// The group, counted from 0.
+    pub group: usize,
+    /// What is wrong with it.
+    pub kind: EditKind,
+    /// The word of the group that is wrong, counted from 0: the edit's name, or the first word that
+    /// is missing or too many.
+    pub word: usize,
+    /// How many words the edit takes behind its name; 0 where no edit is named.
+    pub takes: usize,
+}
+
+impl fmt::Display for EditFault {
+    fn fmt<W: fmt::Write>(&self, f: &mut fmt::Formatter<W>) -> fmt::Result {
+        let group = self.group;
+        let kind = self.kind;
+        let word = self.word;
+        let takes = self.takes;
+        match kind {
+            EditKind::Empty => write!(f, "group {group}: {kind}: no edit stands there"),
+            EditKind::UnknownEdit => {
+                write!(f, "group {group}: {kind}: its first word names no edit")
+            }
+            EditKind::WrongWords if word > takes => {
+                write!(
+                    f,
+                    "group {group}: {kind}: word {word} is too many, the edit takes {takes}"
+                )
+            }
+            EditKind::WrongWords => {
+                write!(
+                    f,
+                    "group {group}: {kind}: word {word} is missing, the edit takes {takes}"
+                )
+            }
+            _ => write!(f, "group {group}: {kind}: word {word}"),
+        }
+    }
+}
+
+/// Why words were not read as edits.
+#[derive(Debug, Drop, Error)]
+pub enum EditsError {
+    /// They are no list of edits.
+    #[error("Fault")]
+    Fault(EditFault),
+    /// There was no memory.
+    #[error("out of memory")]
+    Memory,
+}
+
+impl From<AllocError> for EditsError {
+    ghost from_gives = { λ _ answer. answer ≡ Memory };
+
+    fn from(_error: AllocError) -> EditsError {
+        EditsError::Memory
+    }
+}
+
+impl<T: Drop> From<AllocFailed<T>> for EditsError {
+    ghost from_gives = { λ _ answer. answer ≡ Memory };
+
+    fn from(_error: AllocFailed<T>) -> EditsError {
+        EditsError::Memory
+    }
+}
+
+/// The error of the group of this number that names no edit: of this kind, at its first word.
+pub fn no_edit(group: usize, kind: EditKind) -> EditsError
+    ensures { result ≡ EditsError.Fault
+        (record { group = group; kind = kind; word = 0; takes = 0 }) }
+{
+    EditsError::Fault(EditFault {
+        group,
+        kind,
+        word: 0,
+        takes: 0,
+    })
+}
+
+/// The error of the group of this number with another number of words than its edit takes: at the first
+/// word that is missing or too many.
+pub fn other_words(group: usize, form: &Form, words: &[&str]) -> EditsError
+    ensures { result ≡ EditsError.Fault (fault_at group
+        (wrong_words (kind_shown form.now) (map (λ w. w.now) words.now))) }
+{
+    let takes = form.word_count();
+    EditsError::Fault(EditFault {
+        group,
+        kind: EditKind::WrongWords,
+        word: words.len().min(takes) + 1,
+        takes,
+    })
+}
+
+/// The values that the words of a group are, with an empty path; `None` where there are too many words or
+/// too few. Error: `AllocError`.
+pub fn values_without_path(
+    alloc: Global,
+    form: &Form,
+    words: &[&str],
+) -> Result<Option<Values>, AllocError>
+    ensures { IfOk result (λ values. option_map given_shown values
+        ≡ given_without_path (kind_shown form.now) (map (λ w. w.now) words.now)) }
+{
+    let path = String::new(alloc);
+    match (form, words) {
+        (Form::Path, []) => Ok(Some(Values::Path(path))),
+        (Form::Text(_), [word]) => {
+            let value = String::from_str(alloc, word)?;
+            Ok(Some(Values::Text(value, path)))
+        }
+        (Form::Texts(..), [first, second]) => {
+            let first = String::from_str(alloc, first)?;
+            let second = String::from_str(alloc, second)?;
+            Ok(Some(Values::Texts(first, second, path)))
+        }
+        (Form::Words(_), words) => Ok(Some(Values::Words(path, copies(alloc, words)?))),
+        (Form::Options(_), []) => Ok(Some(Values::Options(path, Vec::new(alloc)))),
+        _ => Ok(None),
+    }
+}
+
+/// The same words, owned. Error: `AllocError`.
+pub fn copies(alloc: Global, words: &[&str]) -> Result<Vec<String>, AllocError>
+    ensures { IfOk result (λ copies.
+        map string_bytes copies.items ≡ map (λ word. word.now) words.now) }
+{
+    let mut copies = Vec::with_capacity(alloc, words.len())?;
+    for word in words {
+        copies.push(String::from_str(alloc, word)?)?;
+    }
+    Ok(copies)
+}
+
+/// The same words, lent. Error: `AllocError`.
+pub fn words_of<'a>(alloc: Global, words: &'a [String]) -> Result<Vec<&'a str>, AllocError>
+    ensures { IfOk result (λ texts.
+        map (λ text. text.now) texts.items ≡ map string_bytes words.now) }
+{
+    let mut texts = Vec::with_capacity(alloc, words.len())?;
+    for word in words {
+        texts.push(word.as_str())?;
+    }
+    Ok(texts)
+}
+
+/// The same text. Error: `AllocError`.
+pub fn copied(alloc: Global, text: &String) -> Result<String, AllocError>
+    ensures { IfOk result (λ copy. string_bytes copy ≡ string_bytes text.now) }
+{
+    String::from_str(alloc, text.as_str())
+}

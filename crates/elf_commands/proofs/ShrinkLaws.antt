@@ -1,0 +1,231 @@
+-- What comes of run paths that shrink.
+use Rattle.std.proofs.Common.{◌≡◌, ◌+◌, [], ◌∷◌, ◌∙◌, Bool, ℕ, List, Option, Some, None, Result, Ok, Err, true, false, map, refl, sym, ap, subst, inl, inr}
+use Rattle.std.specs.Io.KnownBytes.{Appends}
+use Rattle.std.specs.declared.alloc.Global.{Global}
+use Rattle.std.specs.declared.vec.Vec.{Vec}
+use Rattle.byte_store.specs.Composed.{IsNotMade, made_of}
+use Rattle.byte_store.specs.Known.{Becomes, IsAll, Stays}
+use Rattle.byte_store.specs.declared.composed.Difference.{Difference}
+use Rattle.byte_store.specs.declared.difference.ReplaceError.{ReplaceError}
+use Rattle.byte_store.specs.declared.difference.ReplaceError.TheVariants as replace
+use Rattle.elf_edits.specs.Batch.{Refusal, answer_at, run, run_from, then_on}
+use Rattle.elf_edits.specs.Cause.{Cause}
+use Rattle.elf_edits.specs.Edit.{Answer, Edit, ShrinkRunPath}
+use Rattle.elf_edits.specs.Edited.{step}
+use Rattle.elf_edits.specs.Laws.{BatchesAreTheirEdits, EditsShow}
+use Rattle.elf_image.specs.Image.{Image, image_of, shown}
+use Rattle.elf_image.specs.ReadImage.{ReadImagesHoldParts}
+use Rattle.arwen_elf.specs.Causes.{RefusesRead}
+use Rattle.arwen_elf.specs.Told.{IsRefusedAt, IsRefusedFor, Refuses, RefusesAt, cause_told}
+use Rattle.arwen_elf.specs.WriterSeen.{ShowsBothViews}
+use Rattle.arwen_elf.specs.Written.{IsImageWritten, IsNoImage}
+use Rattle.arwen_elf.specs.declared.elf.rewriter.error.ElfError.{ElfError}
+use Rattle.arwen_elf.specs.declared.elf.rewriter.error.ElfError.TheVariants as elf
+use Rattle.elf_commands.specs.ElfAsked.{one, shrinking}
+use Rattle.elf_commands.specs.ElfEngine.{IsElfEdited, LeavesElf, Makes, MayFailAs, RunsElf, TellsEdit, TellsRun}
+use Rattle.elf_commands.specs.ElfAsked.{elf_asked}
+use Rattle.command_faults.specs.Fault.{answer_to_elf, answer_to_replaced}
+use Rattle.elf_commands.specs.Meaning.{elf_shown}
+use Rattle.command_words.specs.Rows.{Text}
+use Rattle.elf_commands.specs.ShrinkRuns.{AreChanged, AreFoundIn, FailsShrink, IsQuiet, IsShrunkBy, RunsCommand, ShrinksStore, TellsCommand, TellsRemoved, TellsShrink, TellsShrunk}
+use Rattle.elf_commands.specs.Shrinking.{AreFound, Finding}
+use Rattle.elf_commands.specs.declared.command.ElfCommand.{ElfCommand}
+use Rattle.elf_commands.specs.declared.command.ElfCommand.TheVariants as command
+use Rattle.elf_commands.specs.declared.elf.shrink_rpath.Args.{Args}
+use Rattle.command_faults.specs.declared.error.ArwenError.{ArwenError}
+use Rattle.command_faults.specs.declared.error.ArwenError.TheVariants.{Edits, Elf, ElfBatch, Io, Line, Macho, MachoBatch, Memory}
+use Rattle.elf_commands.proofs.ElfOutcomes.{edited_to, leaves_pieces, made_of_edits, one_refused, source_is, tells_no_image}
+
+-- ## One edit as a batch
+
+pub ran_once : (edit : Edit) (image made : Image) → step edit image ≡ Ok made → run (edit ∷ []) image ≡ Ok made
+unfolding run_from
+ran_once edit image made is = ap (λ (r : Result Image Cause). then_on (answer_at 0 r) (run_from (0 + 1) [])) is
+
+refused_for : (edit : Edit) (image : Image) (o : Option Cause) → IsRefusedFor o (step edit image) → IsRefusedAt 0 o (run (edit ∷ []) image)
+unfolding run_from
+refused_for edit image None refuses = refuses
+refused_for edit image (Some cause) refuses = ap (λ (r : Result Image Cause). then_on (answer_at 0 r) (run_from (0 + 1) [])) refuses
+
+refused_once : (edit : Edit) (image : Image) (e : ElfError) → Refuses e (step edit image) → RefusesAt 0 e (run (edit ∷ []) image)
+refused_once edit image elf.Memory refuses = tt
+refused_once edit image (elf.Modify cause) refuses = refused_for edit image (cause_told cause) refuses
+refused_once edit image (elf.Parse fault) refuses = refuses
+refused_once edit image (elf.Io e) refuses = refuses
+refused_once edit image (elf.Write fault) refuses = refuses
+refused_once edit image elf.InvalidDtNeededEncoding refuses = refuses
+
+-- ## What errors tell
+
+pub tells_unread : (edit : Edit) (file : List ℕ) (e : ElfError) → RefusesRead e (image_of file) → TellsEdit (one edit) file (answer_to_elf e)
+tells_unread edit file elf.Memory refuses = tt
+tells_unread edit file (elf.Parse fault) refuses = inl refuses
+tells_unread edit file (elf.Modify cause) refuses = absurd refuses
+tells_unread edit file (elf.Io e) refuses = absurd refuses
+tells_unread edit file (elf.Write fault) refuses = absurd refuses
+tells_unread edit file elf.InvalidDtNeededEncoding refuses = absurd refuses
+
+pub tells_unshrunk : (edit : Edit) (file : List ℕ) (read : Image) (e : ElfError) → image_of file ≡ Ok read → Refuses e (step edit read) → TellsEdit (one edit) file (answer_to_elf e)
+tells_unshrunk edit file read e is refuses = one_refused edit file read 0 e is (refused_once edit read e refuses)
+
+pub tells_unmade : (edit : Edit) (file : List ℕ) (read made : Image) (e : ElfError) → image_of file ≡ Ok read → step edit read ≡ Ok made → IsNoImage made e → TellsEdit (one edit) file (answer_to_elf e)
+tells_unmade edit file read made e is makes none =
+    tells_no_image (one edit) (edit ∷ []) file made e refl (made_of_edits (edit ∷ []) file read made is (ran_once edit read made makes)) none
+
+-- ## Over bytes
+
+pub quiet_shrink : {W : Type 0} (edit : Edit) (file : List ℕ) (w : W) (e : ElfError) → TellsEdit (one edit) file (answer_to_elf e) → TellsShrink edit file w w (answer_to_elf e)
+quiet_shrink edit file w elf.Memory tells = (refl, tells)
+quiet_shrink edit file w (elf.Parse fault) tells = (refl, tells)
+quiet_shrink edit file w (elf.Modify cause) tells = (refl, tells)
+quiet_shrink edit file w (elf.Io e) tells = (refl, tells)
+quiet_shrink edit file w (elf.Write fault) tells = (refl, tells)
+quiet_shrink edit file w elf.InvalidDtNeededEncoding tells = (refl, tells)
+
+pub shrunk_bytes : EditsShow → BatchesAreTheirEdits → (edit : Edit) (file : List ℕ) (read made : Image) (answer : Option (Vec ℕ Global)) → image_of file ≡ Ok read → ShowsBothViews file read
+    → step edit read ≡ Ok made → AreChanged made answer → IsElfEdited (one edit) file answer
+shrunk_bytes edits_show batches edit file read made answer is views makes are = by_mark made.changed refl
+  where
+    runs : run (edit ∷ []) read ≡ Ok made
+    runs = ran_once edit read made makes
+
+    by_mark : (mark : Bool) → made.changed ≡ mark → IsElfEdited (one edit) file answer
+    by_mark true other =
+        let (new, is_new, written) = are.other other in
+        let P : Option (Vec ℕ Global) → Type 0 = λ o. IsElfEdited (one edit) file o in
+        subst P (sym is_new)
+        (edited_to edits_show batches (one edit) (edit ∷ []) file read made new refl is views runs other
+        (record { unchanged = λ same. absurd (cc); edited = λ _. written }))
+    by_mark false same =
+        let P : Option (Vec ℕ Global) → Type 0 = λ o. IsElfEdited (one edit) file o in
+        subst P (sym (are.same same)) (record {
+          edits = edit ∷ [];
+          are = refl;
+          edited = record {
+            made = made;
+            makes = made_of_edits (edit ∷ []) file read made is runs;
+            unchanged = λ _. refl;
+            changed = λ other. absurd (cc);
+          };
+          shows = λ new is_new. absurd (cc);
+        })
+
+-- ## Over a store
+
+pub leaves_shrunk : EditsShow → ReadImagesHoldParts → (edit : Edit) (file : List ℕ) (read made : Image) (d : Difference) → image_of file ≡ Ok read → step edit read ≡ Ok made
+    → IsImageWritten made (made_of made.source d) → LeavesElf (one edit) file (made_of file d)
+leaves_shrunk edits_show hold_parts edit file read made d is makes written =
+    let runs = ran_once edit read made makes in
+    leaves_pieces (one edit) (edit ∷ []) file read made d refl is runs (source_is edits_show hold_parts (edit ∷ []) file read made is runs) written
+
+pub source_of_shrunk : EditsShow → ReadImagesHoldParts → (edit : Edit) (file : List ℕ) (read made : Image) → image_of file ≡ Ok read → step edit read ≡ Ok made → made.source ≡ file
+source_of_shrunk edits_show hold_parts edit file read made is makes = source_is edits_show hold_parts (edit ∷ []) file read made is (ran_once edit read made makes)
+
+-- answers for the image that a file has
+pub found_in : (finds : Finding) (file : List ℕ) (read : Image) (answers : List Answer) → image_of file ≡ Ok read → AreFound finds (shown read) answers → AreFoundIn finds file answers
+found_in finds file read answers is found image other =
+    let same : read ≡ image = let e : Ok read ≡ Ok image = sym is ∙ other in cc in
+    let P : Image → Type 0 = λ i. AreFound finds (shown i) answers in
+    subst P same found
+
+-- an error of a file that has no image comes with no answers
+none_found : (finds : Finding) (file : List ℕ) (e : ElfError) → RefusesRead e (image_of file) → (e ≡ elf.Memory → ⊥) → AreFoundIn finds file []
+none_found finds file elf.Memory refuses other image is = absurd (other refl)
+none_found finds file (elf.Parse fault) refuses other image is = let e : Ok image ≡ Err fault = sym is ∙ refuses in absurd (cc)
+none_found finds file (elf.Modify cause) refuses other image is = absurd refuses
+none_found finds file (elf.Io e) refuses other image is = absurd refuses
+none_found finds file (elf.Write fault) refuses other image is = absurd refuses
+none_found finds file elf.InvalidDtNeededEncoding refuses other image is = absurd refuses
+
+pub unread_shrunk : (finds : Finding) (prefixes : List Text) (file : List ℕ) (e : ElfError) → RefusesRead e (image_of file) → TellsShrunk finds prefixes file (answer_to_elf e)
+unread_shrunk finds prefixes file elf.Memory refuses = tt
+unread_shrunk finds prefixes file (elf.Parse fault) refuses =
+    ([], none_found finds file (elf.Parse fault) refuses (λ same. absurd (cc)), tells_unread (ShrinkRunPath prefixes []) file (elf.Parse fault) refuses)
+unread_shrunk finds prefixes file (elf.Modify cause) refuses = absurd refuses
+unread_shrunk finds prefixes file (elf.Io e) refuses = absurd refuses
+unread_shrunk finds prefixes file (elf.Write fault) refuses = absurd refuses
+unread_shrunk finds prefixes file elf.InvalidDtNeededEncoding refuses = absurd refuses
+
+-- an error of the edit by the answers that were found
+pub told_shrunk : (finds : Finding) (prefixes : List Text) (file : List ℕ) (answers : List Answer) (e : ElfError) → AreFoundIn finds file answers
+    → TellsEdit (one (ShrinkRunPath prefixes answers)) file (answer_to_elf e) → TellsShrunk finds prefixes file (answer_to_elf e)
+told_shrunk finds prefixes file answers elf.Memory found tells = tt
+told_shrunk finds prefixes file answers (elf.Parse fault) found tells = (answers, found, tells)
+told_shrunk finds prefixes file answers (elf.Modify cause) found tells = (answers, found, tells)
+told_shrunk finds prefixes file answers (elf.Io e) found tells = (answers, found, tells)
+told_shrunk finds prefixes file answers (elf.Write fault) found tells = (answers, found, tells)
+told_shrunk finds prefixes file answers elf.InvalidDtNeededEncoding found tells = (answers, found, tells)
+
+-- the difference was made, and the lines were told
+pub shrinks_store : (finds : Finding) (prefixes : List Text) (old new said told : Option (List ℕ)) (loaded : List ℕ) (d : Difference) (text : Text) → IsAll old loaded
+    → IsShrunkBy finds prefixes loaded d text → Becomes (λ source. made_of source d) old new → Appends said told text → ShrinksStore finds prefixes old new said told
+shrinks_store finds prefixes old new said told loaded d text all shrunk becomes gets file known =
+    let P : List ℕ → Type 0 = λ l. IsShrunkBy finds prefixes l d text in
+    record { difference = d; text = text; shrunk = subst P (all file known) shrunk; made = becomes file known; gets = gets }
+
+-- nothing was written
+pub shrink_refused : (finds : Finding) (prefixes : List Text) (old : Option (List ℕ)) (loaded : List ℕ) (e : ArwenError) → IsAll old loaded → TellsShrunk finds prefixes loaded e
+    → FailsShrink finds prefixes old old e
+shrink_refused finds prefixes old loaded (Io e) all tells = inl refl
+shrink_refused finds prefixes old loaded Memory all tells = (refl, λ file known. tt)
+shrink_refused finds prefixes old loaded (Edits wrong) all tells =
+    let P : List ℕ → Type 0 = λ l. TellsShrunk finds prefixes l (Edits wrong) in (refl, λ file known. subst P (all file known) tells)
+shrink_refused finds prefixes old loaded (Elf e) all tells =
+    let P : List ℕ → Type 0 = λ l. TellsShrunk finds prefixes l (Elf e) in (refl, λ file known. subst P (all file known) tells)
+shrink_refused finds prefixes old loaded (ElfBatch e) all tells =
+    let P : List ℕ → Type 0 = λ l. TellsShrunk finds prefixes l (ElfBatch e) in (refl, λ file known. subst P (all file known) tells)
+shrink_refused finds prefixes old loaded (Line text status) all tells =
+    let P : List ℕ → Type 0 = λ l. TellsShrunk finds prefixes l (Line text status) in (refl, λ file known. subst P (all file known) tells)
+shrink_refused finds prefixes old loaded (Macho e) all tells =
+    let P : List ℕ → Type 0 = λ l. TellsShrunk finds prefixes l (Macho e) in (refl, λ file known. subst P (all file known) tells)
+shrink_refused finds prefixes old loaded (MachoBatch e) all tells =
+    let P : List ℕ → Type 0 = λ l. TellsShrunk finds prefixes l (MachoBatch e) in (refl, λ file known. subst P (all file known) tells)
+
+-- the difference was not made
+pub shrink_failed : {S : Type 0} (finds : Finding) (prefixes : List Text) (contents : S → Option (List ℕ)) (old new : S) (loaded : List ℕ) (d : Difference) (text : Text) (e : ReplaceError)
+    → IsAll (contents old) loaded → IsShrunkBy finds prefixes loaded d text → IsNotMade contents d old new e → FailsShrink finds prefixes (contents old) (contents new) (answer_to_replaced e)
+shrink_failed finds prefixes contents old new loaded d text replace.Memory all shrunk same = (ap contents same, λ file known. tt)
+shrink_failed finds prefixes contents old new loaded d text (replace.Write e) all shrunk part = inr (λ file known.
+    let P : List ℕ → Type 0 = λ l. IsShrunkBy finds prefixes l d text in
+    record { difference = d; text = text; shrunk = subst P (all file known) shrunk; left = e.left; part = part })
+
+-- such an error is one that the command may have
+pub shrink_may_fail : (finds : Finding) (prefixes : List Text) (file : List ℕ) (e : ArwenError) → TellsShrunk finds prefixes file e → MayFailAs (shrinking prefixes) e
+shrink_may_fail finds prefixes file Memory tells = tt
+shrink_may_fail finds prefixes file (Io e) tells = tt
+shrink_may_fail finds prefixes file (Edits wrong) tells = let (answers, found, tells) = tells in (file, (answers, tells))
+shrink_may_fail finds prefixes file (Elf e) tells = let (answers, found, tells) = tells in (file, (answers, tells))
+shrink_may_fail finds prefixes file (ElfBatch e) tells = let (answers, found, tells) = tells in (file, (answers, tells))
+shrink_may_fail finds prefixes file (Line text status) tells = let (answers, found, tells) = tells in (file, (answers, tells))
+shrink_may_fail finds prefixes file (Macho e) tells = let (answers, found, tells) = tells in (file, (answers, tells))
+shrink_may_fail finds prefixes file (MachoBatch e) tells = let (answers, found, tells) = tells in (file, (answers, tells))
+
+pub replaced_may_fail : (prefixes : List Text) (e : ReplaceError) → MayFailAs (shrinking prefixes) (answer_to_replaced e)
+replaced_may_fail prefixes replace.Memory = tt
+replaced_may_fail prefixes (replace.Write e) = tt
+
+pub replaced_is_quiet : {W : Type 0} (old new : W) (e : ReplaceError) → IsQuiet old new (answer_to_replaced e)
+replaced_is_quiet old new replace.Memory = tt
+replaced_is_quiet old new (replace.Write e) = tt
+
+pub refused_is_quiet : {W : Type 0} (w : W) (e : ArwenError) → IsQuiet w w e
+refused_is_quiet w Memory = tt
+refused_is_quiet w (Io e) = tt
+refused_is_quiet w (Edits wrong) = refl
+refused_is_quiet w (Elf e) = refl
+refused_is_quiet w (ElfBatch e) = refl
+refused_is_quiet w (Line text status) = refl
+refused_is_quiet w (Macho e) = refl
+refused_is_quiet w (MachoBatch e) = refl
+
+-- ## Any command
+
+pub others_run : (asked : ElfCommand) → ((args : Args) → asked ≡ command.ShrinkRpath args → ⊥) → (found : List Answer) (file : List ℕ) (answer : Option (Vec ℕ Global)) (old new : Option (List ℕ))
+    → RunsElf (elf_shown asked) (elf_asked (elf_shown asked)) file answer old new → RunsCommand (elf_shown asked) found file answer old new
+others_run (command.ShrinkRpath args) other found file answer old new runs = absurd (other args refl)
+others_run asked other found file answer old new runs = runs
+
+pub others_tell : {W : Type 0} (asked : ElfCommand) → ((args : Args) → asked ≡ command.ShrinkRpath args → ⊥) → (found : List Answer) (file : List ℕ) (old new : W) (e : ArwenError)
+    → TellsRun (elf_asked (elf_shown asked)) file old new e → TellsCommand (elf_shown asked) found file old new e
+others_tell (command.ShrinkRpath args) other found file old new e tells = absurd (other args refl)
+others_tell asked other found file old new e tells = tells

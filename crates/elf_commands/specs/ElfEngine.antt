@@ -1,0 +1,159 @@
+-- What edits make of the bytes of an ELF file, and why they make none.
+use Rattle.std.specs.Prelude.{ℕ, ◌≡◌, ◌⊎◌, List, [], ◌∷◌, Option, Some, None, Ok, Err, false, true, ⊤}
+use Rattle.std.specs.declared.alloc.Global.{Global}
+use Rattle.std.specs.declared.vec.Vec.{Vec}
+use Rattle.arwen_elf.specs.Told.{RefusesAt}
+use Rattle.arwen_elf.specs.Written.{IsEditWritten, IsImageWritten, IsNoImage}
+use Rattle.arwen_elf.specs.declared.elf.rewriter.batch.ElfBatchError.{ElfBatchError}
+use Rattle.arwen_elf.specs.declared.elf.rewriter.error.ElfError.{ElfError}
+use Rattle.arwen_elf.specs.declared.elf.rewriter.error.ElfError.TheVariants as elf
+use Rattle.elf_edits.specs.Batch.{run}
+use Rattle.elf_edits.specs.Edit.{Answer, Edit}
+use Rattle.elf_edits.specs.Laws.{viewed}
+use Rattle.elf_edits.specs.declared.call.ElfEdit.{ElfEdit}
+use Rattle.elf_image.specs.Image.{Image, image_of, shown}
+use Rattle.elf_image.specs.Views.{View, dynamic_symbol_count, loader_view, section_view}
+use Rattle.elf_plan.specs.Kept.{image_at_read}
+use Rattle.elf_written.specs.Final.{final_view}
+use Rattle.elf_commands.specs.ElfAsked.{ElfAsked, answered, asks_edits, elf_asked, one, printing, several, shrinking}
+use Rattle.elf_commands.specs.ElfWords.{edits_meant}
+use Rattle.command_faults.specs.Fault.{answer_to_elf, answer_to_elf_batch}
+use Rattle.elf_commands.specs.Meaning.{ElfMeaning}
+use Rattle.elf_commands.specs.Prints.{PrintMayFail, Prints, TellsElf}
+use Rattle.command_faults.specs.declared.error.ArwenError.{ArwenError}
+use Rattle.command_faults.specs.declared.error.ArwenError.TheVariants.{Edits, Elf, ElfBatch, Io, Memory}
+
+-- ---- what is written
+
+-- The image that edits make of a file.
+pub record Makes (edits : List Edit) (file : List ℕ) (made : Image) : Type 0 where
+  pub read : Image
+  pub is_read : image_of file ≡ Ok read
+  pub runs : run edits read ≡ Ok made
+
+-- An answer to edits of a file: no bytes where its image is as it was, else those of the edited image.
+pub record IsEditedBy (edits : List Edit) (file : List ℕ) (answer : Option (Vec ℕ Global)) : Type 0 where
+  pub made : Image
+  pub makes : Makes edits file made
+  pub unchanged : made.changed ≡ false → answer ≡ None
+  pub changed : made.changed ≡ true
+      → (new : Vec ℕ Global) × (answer ≡ Some new) × IsEditWritten made new.items
+
+-- The bytes that edits leave of a file: those of the image that they make of it.
+pub record IsEditedTo (edits : List Edit) (file new : List ℕ) : Type 0 where
+  pub made : Image
+  pub makes : Makes edits file made
+  pub written : IsImageWritten made new
+
+-- New bytes of a file show its edits, by their section headers and to a loader that knows their program headers alone: what
+-- the section headers of the old bytes show, after one edit and the next, in the final form of the image that shows it.
+pub record ShowsEdits (edits : List Edit) (file new : List ℕ) : Type 0 where
+  pub old : View
+  pub was_shown : section_view file ≡ Some old
+  pub image : Image
+  pub is_edited : shown image ≡ viewed image.header.e_machine edits old
+  pub by_sections : section_view new ≡ Some (final_view (image_at_read image) image)
+  pub by_loader : loader_view new (dynamic_symbol_count new) ≡ Some (final_view (image_at_read image) image)
+
+-- ---- which answer tells why there are no bytes; want of memory may be answered in any case
+
+-- an edit with this number is refused
+pub record IsRefusedAt (edits : List Edit) (file : List ℕ) (index : ℕ) (e : ElfError) : Type 0 where
+  pub read : Image
+  pub is_read : image_of file ≡ Ok read
+  pub refused : RefusesAt index e (run edits read)
+
+-- the edited image has no bytes
+pub record IsNotWritten (edits : List Edit) (file : List ℕ) (e : ElfError) : Type 0 where
+  pub made : Image
+  pub makes : Makes edits file made
+  pub none : IsNoImage made e
+
+-- the first rule that the file breaks
+abbrev pub IsUnread : List ℕ → ElfError → Type 0
+IsUnread file (elf.Parse fault) = image_of file ≡ Err fault
+IsUnread file e = ⊥
+
+-- an error of a file
+abbrev pub TellsElfOf : ElfAsked → List ℕ → ElfError → Type 0
+TellsElfOf a file elf.Memory = ⊥
+TellsElfOf (one edit) file e =
+    IsUnread file e ⊎ (((index : ℕ) × IsRefusedAt (edit ∷ []) file index e) ⊎ IsNotWritten (edit ∷ []) file e)
+TellsElfOf (several (Ok edits)) file e = IsUnread file e ⊎ IsNotWritten edits file e
+TellsElfOf a file e = ⊥
+
+-- an error of one of several edits
+abbrev pub TellsBatchOf : ElfAsked → List ℕ → ElfBatchError → Type 0
+TellsBatchOf (several (Ok edits)) file e = IsRefusedAt edits file e.index e.fault
+TellsBatchOf a file e = ⊥
+
+abbrev pub TellsEdit : ElfAsked → List ℕ → ArwenError → Type 0
+TellsEdit a file Memory = ⊤
+TellsEdit a file (Edits wrong) = a ≡ several (Err wrong)
+TellsEdit a file (Elf e) = TellsElfOf a file e
+TellsEdit a file (ElfBatch e) = TellsBatchOf a file e
+TellsEdit a file e = ⊥
+
+-- ---- a run over bytes
+
+-- edits that are asked for
+abbrev pub AreEditsAsked : ElfAsked → List Edit → Type 0
+AreEditsAsked (one edit) edits = edits ≡ edit ∷ []
+AreEditsAsked (several read) edits = read ≡ Ok edits
+AreEditsAsked (shrinking prefixes) edits = ⊥
+AreEditsAsked printing edits = ⊥
+
+-- new bytes, or none, are what the edits make that a command asks for
+pub record IsElfEdited (a : ElfAsked) (file : List ℕ) (answer : Option (Vec ℕ Global)) : Type 0 where
+  pub edits : List Edit
+  pub are : AreEditsAsked a edits
+  pub edited : IsEditedBy edits file answer
+  pub shows : (new : Vec ℕ Global) → answer ≡ Some new → ShowsEdits edits file new.items
+
+-- the bytes that a command that edits leaves
+pub record LeavesElf (a : ElfAsked) (file new : List ℕ) : Type 0 where
+  pub edits : List Edit
+  pub are : AreEditsAsked a edits
+  pub left : IsEditedTo edits file new
+
+-- the bytes that there are after an answer
+abbrev pub bytes_left : List ℕ → Option (Vec ℕ Global) → List ℕ
+bytes_left file None = file
+bytes_left file (Some new) = new.items
+
+-- what a run answers, and what a writer gets
+abbrev pub RunsElf : ElfMeaning → ElfAsked → List ℕ → Option (Vec ℕ Global) → Option (List ℕ) → Option (List ℕ) → Type 0
+RunsElf meaning printing file answer old new = (answer ≡ None) × Prints meaning (image_of file) old new
+RunsElf meaning (shrinking prefixes) file answer old new = (answer ≡ None) × Prints meaning (image_of file) old new
+RunsElf meaning a file answer old new = IsElfEdited a file answer × (new ≡ old)
+
+-- the edits of a command; none of one that prints, or asks first what is found
+abbrev pub AreAskedIf : ElfAsked → Option (Vec ElfEdit Global) → Type 0
+AreAskedIf a (Some edits) = AreEditsAsked a (edits_meant edits.items)
+AreAskedIf a None = asks_edits a ≡ false
+
+-- an error tells the outcome of each file, since no file was looked at
+abbrev pub TellsEachFile : ElfAsked → ArwenError → Type 0
+TellsEachFile a e = (file : List ℕ) → TellsEdit a file e
+
+-- an error of a run; only a writer that fails may have got something
+abbrev pub TellsRun : {W : Type 0} → ElfAsked → List ℕ → W → W → ArwenError → Type 0
+TellsRun printing file old new e = TellsElf (image_of file) old new e
+TellsRun (shrinking prefixes) file old new e = TellsElf (image_of file) old new e
+TellsRun a file old new e = (new ≡ old) × TellsEdit a file e
+
+-- a refused edit as it is answered to a command: of several it is told which one is refused
+abbrev pub elf_refusal : ElfAsked → ElfBatchError → ArwenError
+elf_refusal (several read) e = answer_to_elf_batch e
+elf_refusal a e = answer_to_elf e.fault
+
+-- ---- why a command may fail. No clause can say that a file can be read or written
+
+abbrev pub MayFailAs : ElfAsked → ArwenError → Type 0
+MayFailAs printing e = PrintMayFail e
+MayFailAs a Memory = ⊤
+MayFailAs a (Io e) = ⊤
+MayFailAs a e = (file : List ℕ) × ((found : List Answer) × TellsEdit (answered found a) file e)
+
+abbrev pub ElfMayFail : ElfMeaning → ArwenError → Type 0
+ElfMayFail meaning e = MayFailAs (elf_asked meaning) e

@@ -1,0 +1,45 @@
+-- What commands for ELF files make of the bytes of a store, where they are known.
+use Rattle.std.specs.Prelude.{ℕ, ◌≡◌, ◌⊎◌, List, Option, Some, false, ⊤}
+use Rattle.byte_store.specs.Known.{Stays}
+use Rattle.byte_store.specs.Composed.{made_of, owned_patches}
+use Rattle.byte_store.specs.Fault.{IsLeft}
+use Rattle.byte_store.specs.declared.composed.Difference.{Difference}
+use Rattle.byte_store.specs.declared.writing.Left.{Left}
+use Rattle.elf_commands.specs.ElfAsked.{ElfAsked, printing, shrinking}
+use Rattle.elf_edits.specs.Edit.{Edit}
+use Rattle.elf_image.specs.Image.{Image}
+use Rattle.elf_commands.specs.ElfEngine.{AreEditsAsked, LeavesElf, Makes, TellsEdit}
+use Rattle.command_faults.specs.declared.error.ArwenError.{ArwenError}
+use Rattle.command_faults.specs.declared.error.ArwenError.TheVariants.{Io}
+
+-- known bytes become those that the edits leave that are asked for; those of a command that prints, or asks first what is found, stay
+abbrev pub IsElfPatched : ElfAsked → Option (List ℕ) → Option (List ℕ) → Type 0
+IsElfPatched printing old new = Stays old new
+IsElfPatched (shrinking prefixes) old new = Stays old new
+IsElfPatched a old new = (file : List ℕ) → old ≡ Some file
+    → (made : List ℕ) × LeavesElf a file made × (new ≡ Some made)
+
+-- A run of writes that failed: it was to turn a file into what the edits make of it.
+pub record IsElfTorn (a : ElfAsked) (file : List ℕ) (old new : Option (List ℕ)) : Type 0 where
+  pub difference : Difference
+  pub leaves : LeavesElf a file (made_of file difference)
+  pub left : Left
+  pub part : IsLeft left difference.growth.items (owned_patches difference.pieces.items) old new
+
+-- The edits that are asked for find nothing to change in a file.
+pub record ChangesNothing (a : ElfAsked) (file : List ℕ) : Type 0 where
+  pub edits : List Edit
+  pub are : AreEditsAsked a edits
+  pub made : Image
+  pub makes : Makes edits file made
+  pub same : made.changed ≡ false
+
+-- what an error leaves and tells: only a write that failed changes bytes, where the command was accepted
+abbrev pub FailsElf : ElfAsked → Option (List ℕ) → Option (List ℕ) → ArwenError → Type 0
+FailsElf a old new (Io e) = Stays old new ⊎ ((file : List ℕ) → old ≡ Some file → IsElfTorn a file old new)
+FailsElf a old new e = Stays old new × ((file : List ℕ) → old ≡ Some file → TellsEdit a file e)
+
+-- what the error of a command tells of the bytes at its path; one of reading or writing them tells nothing
+abbrev pub TellsElfPath : ElfAsked → Option (List ℕ) → ArwenError → Type 0
+TellsElfPath a known (Io e) = ⊤
+TellsElfPath a known e = (file : List ℕ) → known ≡ Some file → TellsEdit a file e

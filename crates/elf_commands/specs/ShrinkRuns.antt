@@ -1,0 +1,119 @@
+-- What a command makes of a file whose run paths shrink, what it tells, and why it makes nothing.
+use Rattle.std.specs.Prelude.{ℕ, ◌≡◌, ◌⊎◌, List, map, Option, Some, None, Ok, Result, true, false, ⊤}
+use Rattle.std.specs.Io.KnownBytes.{Appends}
+use Rattle.std.specs.declared.alloc.Global.{Global}
+use Rattle.std.specs.declared.vec.Vec.{Vec}
+use Rattle.byte_store.specs.Known.{Stays}
+use Rattle.byte_store.specs.Composed.{made_of, owned_patches}
+use Rattle.byte_store.specs.Fault.{IsLeft}
+use Rattle.byte_store.specs.declared.writing.Left.{Left}
+use Rattle.byte_store.specs.declared.composed.Difference.{Difference}
+use Rattle.elf_edits.specs.Edit.{Answer, Edit, ShrinkRunPath}
+use Rattle.elf_edits.specs.Edited.{removed_by, step}
+use Rattle.elf_edits.specs.ShrunkSeen.{removal_meant}
+use Rattle.elf_edits.specs.declared.shrink.Removed.{Removed}
+use Rattle.elf_format.specs.declared.fault.ElfFault.{ElfFault}
+use Rattle.elf_image.specs.Image.{Image, image_of, shown}
+use Rattle.arwen_elf.specs.Written.{IsEditWritten}
+use Rattle.elf_commands.specs.ElfAsked.{elf_asked, one}
+use Rattle.elf_commands.specs.ElfEngine.{IsElfEdited, LeavesElf, RunsElf, TellsEdit, TellsRun}
+use Rattle.elf_commands.specs.Meaning.{ElfMeaning, shrink_elf}
+use Rattle.command_words.specs.Rows.{Text}
+use Rattle.elf_commands.specs.Shrinking.{AreFound, Finding, removal_lines}
+use Rattle.command_faults.specs.declared.error.ArwenError.{ArwenError}
+use Rattle.command_faults.specs.declared.error.ArwenError.TheVariants.{Io, Memory}
+
+-- the lines of just the directories that an edit takes out of the run paths of the file that was read
+abbrev pub TellsRemoved : Edit → Result Image ElfFault → Text → Type 0
+TellsRemoved edit read text = (image : Image) × (read ≡ Ok image) × (text ≡ removal_lines (removed_by edit image))
+
+-- a writer gets these lines
+abbrev pub GetsRemoved : Edit → Result Image ElfFault → Option (List ℕ) → Option (List ℕ) → Type 0
+GetsRemoved edit read old new = (text : Text) × TellsRemoved edit read text × Appends old new text
+
+-- an image with run paths that shrink, and the directories that went
+pub record Steps (edit : Edit) (old new : Image) (removed : Vec Removed Global) : Type 0 where
+  pub makes : step edit old ≡ Ok new
+  pub are : map removal_meant removed.items ≡ removed_by edit old
+
+-- new bytes of an image that was changed, and none of one that wasn't
+pub record AreChanged (made : Image) (answer : Option (Vec ℕ Global)) : Type 0 where
+  pub same : made.changed ≡ false → answer ≡ None
+  pub other : made.changed ≡ true → (new : Vec ℕ Global) × (answer ≡ Some new) × IsEditWritten made new.items
+
+-- ---- over bytes
+
+-- new bytes, or none, are those with shrunk run paths, and a writer gets the lines
+abbrev pub RunsShrink : Edit → List ℕ → Option (Vec ℕ Global) → Option (List ℕ) → Option (List ℕ) → Type 0
+RunsShrink edit file answer old new = IsElfEdited (one edit) file answer × GetsRemoved edit (image_of file) old new
+
+-- an error: the writer failed once the new bytes were there; or the edit is refused, and the writer got nothing
+abbrev pub TellsShrink : {W : Type 0} → Edit → List ℕ → W → W → ArwenError → Type 0
+TellsShrink edit file old new (Io e) = (answer : Option (Vec ℕ Global)) × IsElfEdited (one edit) file answer
+TellsShrink edit file old new e = (new ≡ old) × TellsEdit (one edit) file e
+
+-- ---- over a store
+
+-- the answers are those that may be found for the run paths of a file that is accepted
+abbrev pub AreFoundIn : Finding → List ℕ → List Answer → Type 0
+AreFoundIn finds file answers = (image : Image) → image_of file ≡ Ok image → AreFound finds (shown image) answers
+
+-- what is made of a file and told of it, by answers that may be found
+pub record IsShrunkBy (finds : Finding) (prefixes : List Text) (file : List ℕ) (d : Difference) (text : Text) : Type 0 where
+  pub answers : List Answer
+  pub found : AreFoundIn finds file answers
+  pub leaves : LeavesElf (one (ShrinkRunPath prefixes answers)) file (made_of file d)
+  pub told : TellsRemoved (ShrinkRunPath prefixes answers) (image_of file) text
+
+-- an error by some such answers; want of memory may come before there are any
+abbrev pub TellsShrunk : Finding → List Text → List ℕ → ArwenError → Type 0
+TellsShrunk finds prefixes file Memory = ⊤
+TellsShrunk finds prefixes file e = (answers : List Answer) × AreFoundIn finds file answers
+    × TellsEdit (one (ShrinkRunPath prefixes answers)) file e
+
+-- known bytes are made others by such a difference, and a writer got the lines
+pub record IsShrunkIn (finds : Finding) (prefixes : List Text) (file : List ℕ) (new said told : Option (List ℕ)) : Type 0 where
+  pub difference : Difference
+  pub text : Text
+  pub shrunk : IsShrunkBy finds prefixes file difference text
+  pub made : new ≡ Some (made_of file difference)
+  pub gets : Appends said told text
+
+abbrev pub ShrinksStore : Finding → List Text → Option (List ℕ) → Option (List ℕ) → Option (List ℕ) → Option (List ℕ) → Type 0
+ShrinksStore finds prefixes old new said told = (file : List ℕ) → old ≡ Some file → IsShrunkIn finds prefixes file new said told
+
+-- a run of writes that failed: it was to make such a difference
+pub record IsShrinkTorn (finds : Finding) (prefixes : List Text) (file : List ℕ) (old new : Option (List ℕ)) : Type 0 where
+  pub difference : Difference
+  pub text : Text
+  pub shrunk : IsShrunkBy finds prefixes file difference text
+  pub left : Left
+  pub part : IsLeft left difference.growth.items (owned_patches difference.pieces.items) old new
+
+-- what an error leaves and tells: only a write that failed changes bytes, where the edit was accepted
+abbrev pub FailsShrink : Finding → List Text → Option (List ℕ) → Option (List ℕ) → ArwenError → Type 0
+FailsShrink finds prefixes old new (Io e) = Stays old new ⊎ ((file : List ℕ) → old ≡ Some file → IsShrinkTorn finds prefixes file old new)
+FailsShrink finds prefixes old new e = Stays old new × ((file : List ℕ) → old ≡ Some file → TellsShrunk finds prefixes file e)
+
+-- lines are told only once nothing is refused any more
+abbrev pub IsQuiet : {W : Type 0} → W → W → ArwenError → Type 0
+IsQuiet old new (Io e) = ⊤
+IsQuiet old new Memory = ⊤
+IsQuiet old new e = new ≡ old
+
+-- what an error tells of the bytes at a path; one of reading or writing them tells nothing
+abbrev pub TellsShrunkPath : Finding → List Text → Option (List ℕ) → ArwenError → Type 0
+TellsShrunkPath finds prefixes known (Io e) = ⊤
+TellsShrunkPath finds prefixes known e = (file : List ℕ) → known ≡ Some file → TellsShrunk finds prefixes file e
+
+-- ---- any command
+
+-- what a run makes and prints, where these answers are handed in
+abbrev pub RunsCommand : ElfMeaning → List Answer → List ℕ → Option (Vec ℕ Global) → Option (List ℕ) → Option (List ℕ) → Type 0
+RunsCommand (shrink_elf path prefixes) found file answer old new = RunsShrink (ShrinkRunPath prefixes found) file answer old new
+RunsCommand meaning found file answer old new = RunsElf meaning (elf_asked meaning) file answer old new
+
+-- an error of a run
+abbrev pub TellsCommand : {W : Type 0} → ElfMeaning → List Answer → List ℕ → W → W → ArwenError → Type 0
+TellsCommand (shrink_elf path prefixes) found file old new e = TellsShrink (ShrinkRunPath prefixes found) file old new e
+TellsCommand meaning found file old new e = TellsRun (elf_asked meaning) file old new e

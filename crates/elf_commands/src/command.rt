@@ -1,0 +1,290 @@
+//! What is asked of an ELF file, with its values.
+use crate::elf::{
+    add_debug_tag, add_needed, add_rpath, apply as apply_elf, clear_execstack, force_rpath,
+    no_default_lib, print_execstack, print_interpreter, print_needed, print_os_abi, print_rpath,
+    print_soname, remove_needed, remove_rpath, replace_needed, set_execstack, set_interpreter,
+    set_os_abi, set_page_size, set_rpath, set_soname, shrink_rpath,
+};
+use crate::elf_values::{bytes_of, number_of, pairs_copied, pairs_of, texts_of};
+use command_faults::ArwenError;
+use command_words::{Values, copied};
+use elf_edits::ElfEdit;
+use std::alloc::{AllocError, Global};
+
+/// What is asked of an ELF file.
+#[derive(Debug, Drop)]
+pub enum ElfCommand {
+    /// Add an entry for a debugger.
+    AddDebugTag(add_debug_tag::Args),
+    /// Take the permission to run from the stack.
+    ClearExecStack(clear_execstack::Args),
+    /// Make every DT_RUNPATH a DT_RPATH.
+    ForceRpath(force_rpath::Args),
+    /// Leave out the default directories of libraries.
+    NoDefaultLib(no_default_lib::Args),
+    /// Remove the run path.
+    RemoveRpath(remove_rpath::Args),
+    /// Give the stack the permission to run.
+    SetExecStack(set_execstack::Args),
+    /// Add a directory to the run path.
+    AddRpath(add_rpath::Args),
+    /// Set the run path.
+    SetRpath(set_rpath::Args),
+    /// Set the interpreter.
+    SetInterpreter(set_interpreter::Args),
+    /// Set the ABI byte.
+    SetOsAbi(set_os_abi::Args),
+    /// Set the library's own name.
+    SetSoname(set_soname::Args),
+    /// Set the page size.
+    SetPageSize(set_page_size::Args),
+    /// Add needed libraries.
+    AddNeeded(add_needed::Args),
+    /// Remove needed libraries.
+    RemoveNeeded(remove_needed::Args),
+    /// Replace needed libraries, all at once.
+    ReplaceNeeded(replace_needed::Args),
+    /// Several of these edits, all or none.
+    Apply(apply_elf::Args),
+    /// Leave directories out of the run path.
+    ShrinkRpath(shrink_rpath::Args),
+    /// Print the run path.
+    PrintRpath(print_rpath::Args),
+    /// Print the needed libraries.
+    PrintNeeded(print_needed::Args),
+    /// Print the library's own name.
+    PrintSoname(print_soname::Args),
+    /// Print the interpreter.
+    PrintInterpreter(print_interpreter::Args),
+    /// Print the ABI byte.
+    PrintOsAbi(print_os_abi::Args),
+    /// Print whether the stack may be run.
+    PrintExecStack(print_execstack::Args),
+}
+
+impl ElfCommand {
+    ghost use Rattle.std.specs.Prelude.{◌≡◌, Some as some, IfErr, IfOk, map, option_map, string_bytes};
+    ghost use Rattle.elf_edits.specs.Called.{edit_meant};
+    ghost use Rattle.elf_commands.specs.ElfAsked.{TellsNoValue, command_meant, elf_asked, elf_edit_asked, is_printing};
+    ghost use Rattle.elf_commands.specs.Meaning.{elf_file_of, elf_lines, elf_shown};
+    ghost use Rattle.command_words.specs.Rows.{given_shown, meant_with, options, path, text, words as words_given};
+
+    /// The command of a name with its values; `None` where no command of that name takes such
+    /// values. Errors: `Line` where a value is not what the command takes, `Memory`.
+    pub fn with_values(
+        alloc: Global,
+        name: &str,
+        values: Values,
+    ) -> Result<Option<ElfCommand>, ArwenError>
+        ensures ok { IfOk result (λ command. option_map command_meant command
+            ≡ meant_with elf_lines name.now (given_shown values)) }
+        ensures err { IfErr result
+            (TellsNoValue (meant_with elf_lines name.now (given_shown values))) }
+    {
+        match values {
+            Values::Path(file) => Ok(ElfCommand::with_path(name, file)),
+            Values::Text(value, file) => ElfCommand::with_text(alloc, name, value, file),
+            Values::Texts(..) => Ok(None),
+            Values::Words(file, words) => ElfCommand::with_words(alloc, name, file, words),
+            Values::Options(file, values) => Ok(ElfCommand::with_options(name, file, values)),
+        }
+    }
+
+    /// The command of a name that takes the path alone.
+    fn with_path(name: &str, path_to_binary: String) -> Option<ElfCommand>
+        ensures { option_map command_meant result
+            ≡ meant_with elf_lines name.now (path (string_bytes path_to_binary)) }
+    {
+        Some(match name {
+            add_debug_tag::NAME => ElfCommand::AddDebugTag(add_debug_tag::Args { path_to_binary }),
+            clear_execstack::NAME => ElfCommand::ClearExecStack(clear_execstack::Args {
+                path_to_binary,
+            }),
+            force_rpath::NAME => ElfCommand::ForceRpath(force_rpath::Args { path_to_binary }),
+            no_default_lib::NAME => ElfCommand::NoDefaultLib(no_default_lib::Args {
+                path_to_binary,
+            }),
+            remove_rpath::NAME => ElfCommand::RemoveRpath(remove_rpath::Args { path_to_binary }),
+            set_execstack::NAME => ElfCommand::SetExecStack(set_execstack::Args { path_to_binary }),
+            print_rpath::NAME => ElfCommand::PrintRpath(print_rpath::Args { path_to_binary }),
+            print_needed::NAME => ElfCommand::PrintNeeded(print_needed::Args { path_to_binary }),
+            print_soname::NAME => ElfCommand::PrintSoname(print_soname::Args { path_to_binary }),
+            print_interpreter::NAME => ElfCommand::PrintInterpreter(print_interpreter::Args {
+                path_to_binary,
+            }),
+            print_os_abi::NAME => ElfCommand::PrintOsAbi(print_os_abi::Args { path_to_binary }),
+            print_execstack::NAME => ElfCommand::PrintExecStack(print_execstack::Args {
+                path_to_binary,
+            }),
+            _ => return None,
+        })
+    }
+
+    /// The command of a name that takes a text and the path.
+    fn with_text(
+        alloc: Global,
+        name: &str,
+        value: String,
+        path_to_binary: String,
+    ) -> Result<Option<ElfCommand>, ArwenError>
+        ensures ok { IfOk result (λ command. option_map command_meant command ≡ meant_with elf_lines
+            name.now (text (string_bytes value) (string_bytes path_to_binary))) }
+        ensures err { IfErr result (TellsNoValue (meant_with elf_lines
+            name.now (text (string_bytes value) (string_bytes path_to_binary)))) }
+    {
+        Ok(Some(match name {
+            add_rpath::NAME => ElfCommand::AddRpath(add_rpath::Args {
+                new_rpath: value,
+                path_to_binary,
+            }),
+            set_rpath::NAME => ElfCommand::SetRpath(set_rpath::Args {
+                new_rpath: value,
+                path_to_binary,
+            }),
+            set_interpreter::NAME => ElfCommand::SetInterpreter(set_interpreter::Args {
+                interpreter: value,
+                path_to_binary,
+            }),
+            set_os_abi::NAME => ElfCommand::SetOsAbi(set_os_abi::Args {
+                os_abi: value,
+                path_to_binary,
+            }),
+            set_soname::NAME => ElfCommand::SetSoname(set_soname::Args {
+                soname: value,
+                path_to_binary,
+            }),
+            set_page_size::NAME => ElfCommand::SetPageSize(set_page_size::Args {
+                page_size: number_of(alloc, value.as_str())?,
+                path_to_binary,
+            }),
+            _ => return Ok(None),
+        }))
+    }
+
+    /// The command of a name that takes the path and any number of words.
+    fn with_words(
+        alloc: Global,
+        name: &str,
+        path_to_binary: String,
+        words: Vec<String>,
+    ) -> Result<Option<ElfCommand>, ArwenError>
+        ensures ok { IfOk result (λ command. option_map command_meant command ≡ meant_with elf_lines
+            name.now (words_given (string_bytes path_to_binary) (map string_bytes words.items))) }
+        ensures err { IfErr result (TellsNoValue (meant_with elf_lines
+            name.now (words_given (string_bytes path_to_binary) (map string_bytes words.items)))) }
+    {
+        Ok(Some(match name {
+            add_needed::NAME => ElfCommand::AddNeeded(add_needed::Args {
+                path_to_binary,
+                dt_needed: words,
+            }),
+            remove_needed::NAME => ElfCommand::RemoveNeeded(remove_needed::Args {
+                path_to_binary,
+                dt_needed: words,
+            }),
+            replace_needed::NAME => ElfCommand::ReplaceNeeded(replace_needed::Args {
+                path_to_binary,
+                dt_needed: pairs_of(alloc, words.as_slice())?,
+            }),
+            apply_elf::NAME => ElfCommand::Apply(apply_elf::Args {
+                path_to_binary,
+                edits: words,
+            }),
+            _ => return Ok(None),
+        }))
+    }
+
+    /// The command of a name that takes the path and the values of an option.
+    fn with_options(name: &str, path_to_binary: String, values: Vec<String>) -> Option<ElfCommand>
+        ensures { option_map command_meant result ≡ meant_with elf_lines name.now
+            (options (string_bytes path_to_binary) (map string_bytes values.items)) }
+    {
+        match name {
+            shrink_rpath::NAME => Some(ElfCommand::ShrinkRpath(shrink_rpath::Args {
+                path_to_binary,
+                allowed_rpath_prefixes: values,
+            })),
+            _ => None,
+        }
+    }
+
+    /// The edit that the command asks for; `None` for `apply`, which asks for several, for
+    /// `shrink-rpath`, which asks for one by what is found, and for a command that prints.
+    pub(crate) fn edit(&self, alloc: Global) -> Result<Option<ElfEdit>, AllocError>
+        ensures { IfOk result (λ edit.
+            option_map edit_meant edit ≡ elf_edit_asked (elf_shown self.now)) }
+    {
+        Ok(Some(match self {
+            ElfCommand::AddDebugTag(_) => ElfEdit::AddDebugTag,
+            ElfCommand::ClearExecStack(_) => ElfEdit::ClearExecStack,
+            ElfCommand::ForceRpath(_) => ElfEdit::ForceRpath,
+            ElfCommand::NoDefaultLib(_) => ElfEdit::NoDefaultLib,
+            ElfCommand::RemoveRpath(_) => ElfEdit::RemoveRpath,
+            ElfCommand::SetExecStack(_) => ElfEdit::SetExecStack,
+            ElfCommand::AddRpath(args) => ElfEdit::AddRpath(bytes_of(alloc, &args.new_rpath)?),
+            ElfCommand::SetRpath(args) => ElfEdit::SetRpath(bytes_of(alloc, &args.new_rpath)?),
+            ElfCommand::SetInterpreter(args) => {
+                ElfEdit::SetInterpreter(bytes_of(alloc, &args.interpreter)?)
+            }
+            ElfCommand::SetOsAbi(args) => ElfEdit::SetOsAbi(copied(alloc, &args.os_abi)?),
+            ElfCommand::SetSoname(args) => ElfEdit::SetSoname(bytes_of(alloc, &args.soname)?),
+            ElfCommand::SetPageSize(args) => ElfEdit::SetPageSize(args.page_size),
+            ElfCommand::AddNeeded(args) => {
+                ElfEdit::AddNeeded(texts_of(alloc, args.dt_needed.as_slice())?)
+            }
+            ElfCommand::RemoveNeeded(args) => {
+                ElfEdit::RemoveNeeded(texts_of(alloc, args.dt_needed.as_slice())?)
+            }
+            ElfCommand::ReplaceNeeded(args) => {
+                ElfEdit::ReplaceNeeded(pairs_copied(alloc, args.dt_needed.as_slice())?)
+            }
+            _ => return Ok(None),
+        }))
+    }
+
+    /// Whether the command prints, and edits nothing.
+    pub fn is_print(&self) -> bool
+        ensures { result ≡ is_printing (elf_asked (elf_shown self.now)) }
+    {
+        match self {
+            ElfCommand::PrintRpath(_)
+            | ElfCommand::PrintNeeded(_)
+            | ElfCommand::PrintSoname(_)
+            | ElfCommand::PrintInterpreter(_)
+            | ElfCommand::PrintOsAbi(_)
+            | ElfCommand::PrintExecStack(_) => true,
+            _ => false,
+        }
+    }
+
+    /// The file that is edited or read.
+    pub fn path_to_binary(&self) -> &str
+        ensures { result.now ≡ elf_file_of (elf_shown self.now) }
+    {
+        match self {
+            ElfCommand::AddDebugTag(args) => args.path_to_binary.as_str(),
+            ElfCommand::ClearExecStack(args) => args.path_to_binary.as_str(),
+            ElfCommand::ForceRpath(args) => args.path_to_binary.as_str(),
+            ElfCommand::NoDefaultLib(args) => args.path_to_binary.as_str(),
+            ElfCommand::RemoveRpath(args) => args.path_to_binary.as_str(),
+            ElfCommand::SetExecStack(args) => args.path_to_binary.as_str(),
+            ElfCommand::AddRpath(args) => args.path_to_binary.as_str(),
+            ElfCommand::SetRpath(args) => args.path_to_binary.as_str(),
+            ElfCommand::SetInterpreter(args) => args.path_to_binary.as_str(),
+            ElfCommand::SetOsAbi(args) => args.path_to_binary.as_str(),
+            ElfCommand::SetSoname(args) => args.path_to_binary.as_str(),
+            ElfCommand::SetPageSize(args) => args.path_to_binary.as_str(),
+            ElfCommand::AddNeeded(args) => args.path_to_binary.as_str(),
+            ElfCommand::RemoveNeeded(args) => args.path_to_binary.as_str(),
+            ElfCommand::ReplaceNeeded(args) => args.path_to_binary.as_str(),
+            ElfCommand::Apply(args) => args.path_to_binary.as_str(),
+            ElfCommand::ShrinkRpath(args) => args.path_to_binary.as_str(),
+            ElfCommand::PrintRpath(args) => args.path_to_binary.as_str(),
+            ElfCommand::PrintNeeded(args) => args.path_to_binary.as_str(),
+            ElfCommand::PrintSoname(args) => args.path_to_binary.as_str(),
+            ElfCommand::PrintInterpreter(args) => args.path_to_binary.as_str(),
+            ElfCommand::PrintOsAbi(args) => args.path_to_binary.as_str(),
+            ElfCommand::PrintExecStack(args) => args.path_to_binary.as_str(),
+        }
+    }
+}

@@ -1,0 +1,26 @@
+//! `clear-exec-stack`.
+ghost use Rattle.std.specs.Prelude.{IfErr};
+ghost use Rattle.elf_commands.specs.ElfEngine.{ElfMayFail};
+ghost use Rattle.elf_commands.specs.Meaning.{elf_shown};
+
+use crate::command::ElfCommand;
+use crate::elf::edit_file;
+use command_faults::ArwenError;
+use std::rt::Files;
+
+/// The word that names the command.
+pub const NAME: &str = "clear-exec-stack";
+
+/// Take the permission to run from the stack (GNU extension, PT_GNU_STACK).
+#[derive(Debug, Drop)]
+pub struct Args {
+    /// Path to the file to change.
+    pub path_to_binary: String,
+}
+
+/// Edits the file.
+pub fn execute<R: Files + AllocGlobal>(rt: &R, args: Args) -> Result<(), ArwenError>
+    ensures { IfErr result (λ e. ElfMayFail (elf_shown (ElfCommand.ClearExecStack args)) e) }
+{
+    edit_file(rt, &ElfCommand::ClearExecStack(args))
+}

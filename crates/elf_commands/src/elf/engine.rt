@@ -1,0 +1,191 @@
+//! What is made of a file's bytes, and printed of them.
+ghost use Rattle.std.specs.Prelude.{◌≡◌, None, IfOk, IfErr, map};
+ghost use Rattle.elf_edits.specs.Called.{answer_held};
+ghost use Rattle.elf_commands.specs.ShrinkRuns.{RunsCommand, TellsCommand};
+ghost use Rattle.std.specs.Io.KnownBytes.{Appends};
+ghost use Rattle.byte_store.specs.Composed.{IsDifference, made_of};
+ghost use Rattle.arwen_elf.specs.Written.{IsNoDifference};
+ghost use Rattle.elf_commands.specs.ElfStores.{ChangesNothing};
+ghost use Rattle.arwen_elf.specs.Causes.{FailsPrint};
+ghost use Rattle.elf_image.specs.Image.{image_of, shown};
+ghost use Rattle.elf_commands.specs.ElfAsked.{elf_asked};
+ghost use Rattle.elf_commands.specs.ElfEngine.{AreAskedIf, AreEditsAsked, IsElfEdited, LeavesElf, RunsElf, TellsEachFile, TellsEdit, TellsRun, bytes_left, elf_refusal};
+ghost use Rattle.elf_commands.specs.ElfWords.{edits_meant};
+ghost use Rattle.elf_commands.specs.Meaning.{elf_shown};
+ghost use Rattle.elf_commands.specs.Prints.{Prints, TellsElf, printed};
+
+use crate::command::ElfCommand;
+use crate::elf::shrinking::run_shrink;
+use crate::elf_words::parse_elf_edits;
+use arwen_elf::elf::{ElfBatchError, ElfContainer, ElfError, ProbeAnswer};
+use byte_store::Difference;
+use command_faults::ArwenError;
+use command_words::words_of;
+use elf_edits::ElfEdit;
+use elf_edits::laws::{batches_are_their_edits, edits_show};
+use elf_image::laws::read_images_hold_parts;
+use std::alloc::Global;
+use std::io::Write;
+
+/// The bytes of a file after a command, or `None` where it stays as it was, as it does after each
+/// command that prints and where an edit changed nothing. New bytes show the edits, to a loader that
+/// knows the program headers alone too. What is printed goes to `out`, in one write: a file or a want of
+/// memory that is refused leaves `out` as it was. Of `apply` the words are read before the bytes are
+/// looked at. Of `shrink-rpath` the answers are handed in as `probe`, which no other command looks at: the
+/// first one for a directory and a library counts, and `out` gets a line for each directory that went.
+pub fn run_elf<W: Write>(
+    alloc: Global,
+    bytes: &[u8],
+    command: &ElfCommand,
+    probe: &[ProbeAnswer<'_>],
+    out: &mut W,
+) -> Result<Option<Vec<u8>>, ArwenError>
+    ensures ran { IfOk result (λ new. RunsCommand (elf_shown command.now)
+        (map answer_held probe.now) bytes.now new (W.contents out.old) (W.contents out.new)) }
+    ensures err { IfErr result (TellsCommand (elf_shown command.now)
+        (map answer_held probe.now) bytes.now out.old out.new) }
+{
+    match command {
+        ElfCommand::ShrinkRpath(args) => run_shrink(alloc, bytes, args, probe, out),
+        _ => run_unprobed(alloc, bytes, command, out),
+    }
+}
+
+/// The same of a command that asks for no answers.
+fn run_unprobed<W: Write>(
+    alloc: Global,
+    bytes: &[u8],
+    command: &ElfCommand,
+    out: &mut W,
+) -> Result<Option<Vec<u8>>, ArwenError>
+    ensures ran { IfOk result (λ new. RunsElf (elf_shown command.now)
+        (elf_asked (elf_shown command.now)) bytes.now new
+        (W.contents out.old) (W.contents out.new)) }
+    ensures err { IfErr result
+        (TellsRun (elf_asked (elf_shown command.now)) bytes.now out.old out.new) }
+{
+    match edits_asked(alloc, command)? {
+        Some(edits) => edited(alloc, bytes, command, edits.as_slice()),
+        None => {
+            print_bytes(alloc, bytes, command, out)?;
+            Ok(None)
+        }
+    }
+}
+
+/// The edits that a command asks for; `None` where it prints.
+pub(crate) fn edits_asked(
+    alloc: Global,
+    command: &ElfCommand,
+) -> Result<Option<Vec<ElfEdit>>, ArwenError>
+    ensures ok { IfOk result (AreAskedIf (elf_asked (elf_shown command.now))) }
+    ensures err { IfErr result (TellsEachFile (elf_asked (elf_shown command.now))) }
+{
+    if let ElfCommand::Apply(args) = command {
+        let words = words_of(alloc, args.edits.as_slice())?;
+        return Ok(Some(parse_elf_edits(alloc, words.as_slice())?));
+    }
+    let Some(edit) = command.edit(alloc)? else {
+        return Ok(None);
+    };
+    let mut edits = Vec::new(alloc);
+    edits.push(edit)?;
+    Ok(Some(edits))
+}
+
+/// The bytes of a file after the edits that a command asks for, or `None` where they change nothing.
+pub(crate) fn edited(
+    alloc: Global,
+    bytes: &[u8],
+    command: &ElfCommand,
+    edits: &[ElfEdit],
+) -> Result<Option<Vec<u8>>, ArwenError>
+    requires { AreEditsAsked (elf_asked (elf_shown command.now)) (edits_meant edits.now) }
+    ensures ok { IfOk result (IsElfEdited (elf_asked (elf_shown command.now)) bytes.now) }
+    ensures left { IfOk result (λ new. LeavesElf (elf_asked (elf_shown command.now)) bytes.now
+        (bytes_left bytes.now new)) }
+    ensures err { IfErr result (TellsEdit (elf_asked (elf_shown command.now)) bytes.now) }
+{
+    edits_show();
+    batches_are_their_edits();
+    read_images_hold_parts();
+    let mut elf = ElfContainer::parse(alloc, bytes)?;
+    if let Err(error) = elf.apply(alloc, edits) {
+        return Err(refusal(command, error));
+    }
+    if !elf.inner.builder().changed() {
+        return Ok(None);
+    }
+    Ok(Some(elf.image_bytes(alloc)?))
+}
+
+/// What of the bytes of a file differs after the edits that a command asks for.
+pub(crate) fn edited_pieces(
+    alloc: Global,
+    bytes: &[u8],
+    command: &ElfCommand,
+    edits: &[ElfEdit],
+) -> Result<Difference, ArwenError>
+    requires { AreEditsAsked (elf_asked (elf_shown command.now)) (edits_meant edits.now) }
+    ensures makeable { IfOk result (λ d. IsDifference bytes.now d) }
+    ensures left { IfOk result (λ d. LeavesElf (elf_asked (elf_shown command.now)) bytes.now
+        (made_of bytes.now d)) }
+    ensures err { IfErr result (TellsEdit (elf_asked (elf_shown command.now)) bytes.now) }
+    ensures idle { ChangesNothing (elf_asked (elf_shown command.now)) bytes.now
+        → IfOk result (IsNoDifference bytes.now) }
+{
+    edits_show();
+    read_images_hold_parts();
+    let mut elf = ElfContainer::parse(alloc, bytes)?;
+    if let Err(error) = elf.apply(alloc, edits) {
+        return Err(refusal(command, error));
+    }
+    Ok(elf.image_pieces(alloc)?)
+}
+
+/// A refused edit as it is answered to a command. Of several it is told which one is refused.
+fn refusal(command: &ElfCommand, error: ElfBatchError) -> ArwenError
+    ensures { result ≡ elf_refusal (elf_asked (elf_shown command.now)) error }
+{
+    match command {
+        ElfCommand::Apply(_) => ArwenError::from(error),
+        _ => ArwenError::from(error.fault),
+    }
+}
+
+/// Prints what a command asks of a file's bytes; nothing where it edits.
+pub(crate) fn print_bytes<W: Write>(
+    alloc: Global,
+    bytes: &[u8],
+    command: &ElfCommand,
+    out: &mut W,
+) -> Result<(), ArwenError>
+    ensures printed { IfOk result (λ _. Prints (elf_shown command.now) (image_of bytes.now)
+        (W.contents out.old) (W.contents out.new)) }
+    ensures err { IfErr result (λ e. TellsElf (image_of bytes.now) out.old out.new e) }
+{
+    let elf = ElfContainer::parse(alloc, bytes)?;
+    Ok(print_asked(alloc, &elf, command, out)?)
+}
+
+/// Prints what a command asks of a file; nothing where it edits.
+fn print_asked<W: Write>(
+    alloc: Global,
+    elf: &ElfContainer<'_>,
+    command: &ElfCommand,
+    out: &mut W,
+) -> Result<(), ElfError>
+    ensures printed { IfOk result (λ _. Appends (W.contents out.old) (W.contents out.new)
+        (printed (elf_shown command.now) (shown elf.now.inner))) }
+    ensures err { IfErr result (λ e. FailsPrint out.old out.new e) }
+{
+    match command {
+        ElfCommand::PrintRpath(_) => elf.print_runpath(alloc, out),
+        ElfCommand::PrintNeeded(_) => elf.print_needed(alloc, out),
+        ElfCommand::PrintSoname(_) => elf.print_soname(alloc, out),
+        ElfCommand::PrintInterpreter(_) => elf.print_interpreter(alloc, out),
+        ElfCommand::PrintOsAbi(_) => elf.print_os_abi(alloc, out),
+        ElfCommand::PrintExecStack(_) => elf.print_exec_stack(out),
+        _ => Ok(()),
+    }
+}

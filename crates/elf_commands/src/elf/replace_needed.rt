@@ -1,0 +1,28 @@
+//! `replace-needed`.
+ghost use Rattle.std.specs.Prelude.{IfErr};
+ghost use Rattle.elf_commands.specs.ElfEngine.{ElfMayFail};
+ghost use Rattle.elf_commands.specs.Meaning.{elf_shown};
+
+use crate::command::ElfCommand;
+use crate::elf::edit_file;
+use command_faults::ArwenError;
+use std::rt::Files;
+
+/// The word that names the command.
+pub const NAME: &str = "replace-needed";
+
+/// Replace needed libraries, all at once (gABI, Dynamic Section, DT_NEEDED).
+#[derive(Debug, Drop)]
+pub struct Args {
+    /// Path to the file to change.
+    pub path_to_binary: String,
+    /// Pairs of an old and a new name; of a repeated old name the last pair counts.
+    pub dt_needed: Vec<(String, String)>,
+}
+
+/// Edits the file.
+pub fn execute<R: Files + AllocGlobal>(rt: &R, args: Args) -> Result<(), ArwenError>
+    ensures { IfErr result (λ e. ElfMayFail (elf_shown (ElfCommand.ReplaceNeeded args)) e) }
+{
+    edit_file(rt, &ElfCommand::ReplaceNeeded(args))
+}

@@ -1,0 +1,28 @@
+//! `set-os-abi`.
+ghost use Rattle.std.specs.Prelude.{IfErr};
+ghost use Rattle.elf_commands.specs.ElfEngine.{ElfMayFail};
+ghost use Rattle.elf_commands.specs.Meaning.{elf_shown};
+
+use crate::command::ElfCommand;
+use crate::elf::edit_file;
+use command_faults::ArwenError;
+use std::rt::Files;
+
+/// The word that names the command.
+pub const NAME: &str = "set-os-abi";
+
+/// Set the ABI byte (gABI, ELF Identification, EI_OSABI).
+#[derive(Debug, Drop)]
+pub struct Args {
+    /// Name of the ABI.
+    pub os_abi: String,
+    /// Path to the file to change.
+    pub path_to_binary: String,
+}
+
+/// Edits the file.
+pub fn execute<R: Files + AllocGlobal>(rt: &R, args: Args) -> Result<(), ArwenError>
+    ensures { IfErr result (λ e. ElfMayFail (elf_shown (ElfCommand.SetOsAbi args)) e) }
+{
+    edit_file(rt, &ElfCommand::SetOsAbi(args))
+}

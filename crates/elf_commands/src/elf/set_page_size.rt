@@ -1,0 +1,28 @@
+//! `set-page-size`.
+ghost use Rattle.std.specs.Prelude.{IfErr};
+ghost use Rattle.elf_commands.specs.ElfEngine.{ElfMayFail};
+ghost use Rattle.elf_commands.specs.Meaning.{elf_shown};
+
+use crate::command::ElfCommand;
+use crate::elf::edit_file;
+use command_faults::ArwenError;
+use std::rt::Files;
+
+/// The word that names the command.
+pub const NAME: &str = "set-page-size";
+
+/// Set the page size (gABI, Program Header, p_align of each PT_LOAD).
+#[derive(Debug, Drop)]
+pub struct Args {
+    /// Page size in bytes, a power of two from 1,024 on.
+    pub page_size: u32,
+    /// Path to the file to change.
+    pub path_to_binary: String,
+}
+
+/// Edits the file.
+pub fn execute<R: Files + AllocGlobal>(rt: &R, args: Args) -> Result<(), ArwenError>
+    ensures { IfErr result (λ e. ElfMayFail (elf_shown (ElfCommand.SetPageSize args)) e) }
+{
+    edit_file(rt, &ElfCommand::SetPageSize(args))
+}

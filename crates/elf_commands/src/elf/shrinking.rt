@@ -1,0 +1,199 @@
+//! Run paths that shrink, in bytes and in stores.
+ghost use Rattle.std.specs.Prelude.{◌≡◌, false, true, IfErr, IfOk, OnOk, length, map, string_bytes};
+ghost use Rattle.byte_store.specs.Composed.{IsDifference};
+ghost use Rattle.byte_store.specs.Known.{HasLength, IsAll};
+ghost use Rattle.elf_edits.specs.Called.{answer_held};
+ghost use Rattle.elf_edits.specs.Edit.{ShrinkRunPath};
+ghost use Rattle.arwen_elf.specs.Told.{Refuses};
+ghost use Rattle.arwen_elf.specs.Written.{IsNoImage};
+ghost use Rattle.elf_edits.specs.Edited.{step};
+ghost use Rattle.elf_commands.specs.ElfAsked.{shrinking};
+ghost use Rattle.elf_commands.specs.ElfEngine.{MayFailAs};
+ghost use Rattle.elf_commands.specs.ShrinkRuns.{AreChanged, FailsShrink, IsQuiet, IsShrunkBy, RunsShrink, ShrinksStore, Steps, TellsShrink, TellsShrunk, TellsShrunkPath};
+
+use crate::elf::load_elf;
+use crate::elf::notes::Notes;
+use crate::elf::probing::{FileProbe, Probe, answers_of, removal_text};
+use crate::elf::shrink_rpath::Args;
+use crate::elf_values::texts_of;
+use arwen_elf::elf::{ElfContainer, ElfError, ProbeAnswer, Removed};
+use byte_store::{Difference, Opens, RuntimeFiles, Store, make_difference};
+use command_faults::ArwenError;
+use elf_edits::laws::{batches_are_their_edits, edits_show};
+use elf_image::laws::read_images_hold_parts;
+use std::alloc::Global;
+use std::io::Write;
+use std::rt::Files;
+
+/// What of a file's bytes differs once its run paths have shrunk, and the lines that tell what went.
+#[derive(Drop)]
+struct Shrunk {
+    difference: Difference,
+    text: String,
+}
+
+/// An image with run paths that shrink, and the directories that went.
+fn shrunk_with<'a>(
+    alloc: Global,
+    mut elf: ElfContainer<'a>,
+    prefixes: &[String],
+    probe: &[ProbeAnswer<'_>],
+) -> Result<(ElfContainer<'a>, Vec<Removed>), ElfError>
+    ensures ok { IfOk result (λ made. Steps (ShrinkRunPath (map string_bytes prefixes.now)
+        (map answer_held probe.now)) elf.entry.inner made.0.inner made.1) }
+    ensures err { IfErr result (λ e. Refuses e (step (ShrinkRunPath (map string_bytes prefixes.now)
+        (map answer_held probe.now)) elf.entry.inner)) }
+{
+    let prefixes = texts_of(alloc, prefixes)?;
+    let removed = elf.shrink_rpath(alloc, prefixes.as_slice(), probe)?;
+    Ok((elf, removed))
+}
+
+/// The bytes of an image; `None` where it is as it was read.
+fn changed_bytes(alloc: Global, elf: &ElfContainer<'_>) -> Result<Option<Vec<u8>>, ElfError>
+    ensures ok { IfOk result (AreChanged elf.now.inner) }
+    ensures err { IfErr result (IsNoImage elf.now.inner) }
+{
+    if !elf.inner.builder().changed() {
+        return Ok(None);
+    }
+    Ok(Some(elf.image_bytes(alloc)?))
+}
+
+/// The bytes of a file after `shrink-rpath`, or `None` where it stays as it was. What was found for the
+/// pairs of `Writer::elf_shrink_questions` is handed in. Once the new bytes are there, the lines of the
+/// directories that went go to `out`, in one write.
+pub(crate) fn run_shrink<W: Write>(
+    alloc: Global,
+    bytes: &[u8],
+    args: &Args,
+    probe: &[ProbeAnswer<'_>],
+    out: &mut W,
+) -> Result<Option<Vec<u8>>, ArwenError>
+    ensures ran { IfOk result (λ new. RunsShrink (ShrinkRunPath
+        (map string_bytes args.now.allowed_rpath_prefixes.items) (map answer_held probe.now))
+        bytes.now new (W.contents out.old) (W.contents out.new)) }
+    ensures err { IfErr result (TellsShrink (ShrinkRunPath
+        (map string_bytes args.now.allowed_rpath_prefixes.items) (map answer_held probe.now))
+        bytes.now out.old out.new) }
+{
+    edits_show();
+    batches_are_their_edits();
+    let elf = ElfContainer::parse(alloc, bytes)?;
+    let prefixes = args.allowed_rpath_prefixes.as_slice();
+    let (elf, removed) = shrunk_with(alloc, elf, prefixes, probe)?;
+    let new = changed_bytes(alloc, &elf)?;
+    let text = removal_text(alloc, removed.as_slice())?;
+    out.write_all(text.as_bytes())?;
+    Ok(new)
+}
+
+/// What of a file's bytes differs after `shrink-rpath`, by what is found.
+fn shrunk_pieces<P: Probe>(
+    alloc: Global,
+    bytes: &[u8],
+    prefixes: &[String],
+    probe: &P,
+) -> Result<Shrunk, ArwenError>
+    ensures makeable { IfOk result (λ made. IsDifference bytes.now made.difference) }
+    ensures shrunk { IfOk result (λ made. IsShrunkBy (P.may_find probe.now)
+        (map string_bytes prefixes.now) bytes.now made.difference (string_bytes made.text)) }
+    ensures err { IfErr result (TellsShrunk (P.may_find probe.now)
+        (map string_bytes prefixes.now) bytes.now) }
+{
+    edits_show();
+    read_images_hold_parts();
+    let elf = ElfContainer::parse(alloc, bytes)?;
+    let answers = answers_of(alloc, &elf, probe)?;
+    let (elf, removed) = shrunk_with(alloc, elf, prefixes, answers.as_slice())?;
+    let difference = elf.image_pieces(alloc)?;
+    let text = removal_text(alloc, removed.as_slice())?;
+    Ok(Shrunk { difference, text })
+}
+
+/// Shrinks the run paths of the bytes of a store in their place, which are read whole, as `edit_store` edits
+/// them. The probe says what stands in their directories. Once what differs is known, the lines of the
+/// directories that went go to `out`, in one write, and then the blocks that differ are written.
+pub fn shrink_store<S: Store, P: Probe, W: Write>(
+    alloc: Global,
+    store: &mut S,
+    args: &Args,
+    probe: &P,
+    out: &mut W,
+) -> Result<(), ArwenError>
+    ensures shrunk { OnOk result (ShrinksStore (P.may_find probe.now)
+        (map string_bytes args.now.allowed_rpath_prefixes.items) (S.contents store.old)
+        (S.contents store.new) (W.contents out.old) (W.contents out.new)) }
+    ensures err { IfErr result (λ e. MayFailAs
+        (shrinking (map string_bytes args.now.allowed_rpath_prefixes.items)) e) }
+    ensures left { IfErr result (FailsShrink (P.may_find probe.now)
+        (map string_bytes args.now.allowed_rpath_prefixes.items)
+        (S.contents store.old) (S.contents store.new)) }
+    ensures quiet { IfErr result (IsQuiet out.old out.new) }
+{
+    let bytes = load_elf(alloc, store)?;
+    let prefixes = args.allowed_rpath_prefixes.as_slice();
+    shrink_loaded(alloc, store, bytes.as_slice(), prefixes, probe, out)
+}
+
+/// Shrinks the run paths in a store that has these bytes.
+fn shrink_loaded<S: Store, P: Probe, W: Write>(
+    alloc: Global,
+    store: &mut S,
+    bytes: &[u8],
+    prefixes: &[String],
+    probe: &P,
+    out: &mut W,
+) -> Result<(), ArwenError>
+    requires whole { IsAll (S.contents store.old) bytes.now }
+    requires length { HasLength (S.contents store.old) (length bytes.now) }
+    ensures shrunk { OnOk result (ShrinksStore (P.may_find probe.now)
+        (map string_bytes prefixes.now) (S.contents store.old)
+        (S.contents store.new) (W.contents out.old) (W.contents out.new)) }
+    ensures err { IfErr result (λ e. MayFailAs (shrinking (map string_bytes prefixes.now)) e) }
+    ensures left { IfErr result (FailsShrink (P.may_find probe.now)
+        (map string_bytes prefixes.now) (S.contents store.old) (S.contents store.new)) }
+    ensures quiet { IfErr result (IsQuiet out.old out.new) }
+{
+    let shrunk = shrunk_pieces(alloc, bytes, prefixes, probe)?;
+    out.write_all(shrunk.text.as_bytes())?;
+    Ok(make_difference(alloc, store, bytes.len() as u64, &shrunk.difference)?)
+}
+
+/// Shrinks the run paths of the store at the command's path, as `shrink_store` does, and hands the store
+/// back.
+pub fn shrink_path<'p, O: Opens<'p>, P: Probe, W: Write>(
+    alloc: Global,
+    files: &O,
+    args: &'p Args,
+    probe: &P,
+    out: &mut W,
+) -> Result<O::Opened, ArwenError>
+    ensures shrunk { IfOk result (λ store. ShrinksStore (P.may_find probe.now)
+        (map string_bytes args.now.allowed_rpath_prefixes.items)
+        (O.contents files.now (string_bytes args.now.path_to_binary))
+        (O.Opened.contents store) (W.contents out.old) (W.contents out.new)) }
+    ensures err { IfErr result (λ e. MayFailAs
+        (shrinking (map string_bytes args.now.allowed_rpath_prefixes.items)) e) }
+    ensures tells { IfErr result (TellsShrunkPath (P.may_find probe.now)
+        (map string_bytes args.now.allowed_rpath_prefixes.items)
+        (O.contents files.now (string_bytes args.now.path_to_binary))) }
+{
+    let mut store = files.open(args.path_to_binary.as_str())?;
+    shrink_store(alloc, &mut store, args, probe, out)?;
+    Ok(store)
+}
+
+/// Shrinks the run paths of a file in its place. What it tells goes to the standard error.
+pub(crate) fn shrink_file<R: Files + Eprint + AllocGlobal>(
+    rt: &R,
+    args: &Args,
+) -> Result<(), ArwenError>
+    ensures { IfErr result (λ e. MayFailAs
+        (shrinking (map string_bytes args.now.allowed_rpath_prefixes.items)) e) }
+{
+    let files = RuntimeFiles { files: rt };
+    let probe = FileProbe { files: rt };
+    shrink_path(rt.alloc(), &files, args, &probe, &mut Notes { to: rt })?;
+    Ok(())
+}

@@ -1,0 +1,13 @@
+//! The commands for ELF files: what each asks for, what it does to the bytes of a file or prints of them,
+//! and the file itself.
+#![tactic(auto)]
+
+mod command;
+pub mod elf;
+mod elf_values;
+mod elf_words;
+mod tables;
+
+pub use command::ElfCommand;
+pub use elf_words::parse_elf_edits;
+pub use tables::{elf_edit_table, elf_table};

@@ -1,0 +1,152 @@
+-- Of a file that is too long its first bytes tell as much as the whole; and pieces that are made of fronts.
+use Rattle.std.proofs.Common.{◌≡◌, ◌≤◌, ◌<◌, ◌+◌, ◌-◌, ◌^◌, ◌⊎◌, inl, inr, if◌then◌else◌, ℕ, Bool, true, false, List, [], ◌∷◌, ◌++◌, length, take, drop, Option, Some, Ok, Err, get_or, refl, sym, ap, ◌∙◌, subst, arith}
+use Rattle.std.specs.Str.{bytes_eq}
+use Rattle.std.proofs.lemmas.Slice.Eq.{bytes_eq-Decides}
+use Rattle.byte_store.specs.declared.pieces.Piece.{Piece}
+use Rattle.byte_store.specs.Fault.{BecomesLaid}
+use Rattle.byte_store.specs.Known.{Becomes, IsFirst, Stays, put_at}
+use Rattle.byte_store.specs.Laid.{laid, patches_of}
+use Rattle.arwen_macho.specs.declared.front.Front.{Front}
+use Rattle.arwen_macho.specs.Fronts.{fronts_on}
+use Rattle.macho_commands.specs.Stores.{ArePiecesOf, FailsPatch, LaysOn, Patched, Torn}
+use Rattle.macho_commands.specs.Meaning.{MachoMeaning}
+use Rattle.command_faults.specs.declared.error.ArwenError.{ArwenError}
+use Rattle.command_faults.specs.declared.error.ArwenError.TheVariants.{Edits, Elf, ElfBatch, Io, Line, Macho, MachoBatch, Memory}
+use Rattle.std.proofs.lemmas.Bool.{cases_lt, cond-true, lt-ltb}
+use Rattle.std.proofs.lemmas.List.{drop-drop, drop_more, length-drop, length-take-le, take_all, take-append-drop}
+use Rattle.macho_image.specs.Checks.{file_fault}
+use Rattle.macho_image.specs.Fat.{table_fault}
+use Rattle.macho_image.specs.declared.format.MachFault.TheVariants.{TooLong}
+use Rattle.arwen_macho.specs.Found.{begins_fat, container_found, fat_found, found_fault}
+use Rattle.arwen_macho.specs.Found.Found.{fault}
+use Rattle.macho_commands.specs.Engine.{Asked, Outcome, ShowsEdited, Tells, Writes, asked, edited_file, outcome, outcome_of}
+use Rattle.macho_commands.specs.Engine.Asked.{one, several}
+use Rattle.macho_commands.specs.Engine.Outcome.{bytes, no_file, refused, refused_batch}
+
+long_table : (file : List ℕ) → 2 ^ 32 ≤ length file → table_fault file ≡ Some TooLong
+unfolding table_fault
+long_table file long = cond-true _ _ _ (lt-ltb (2 ^ 32 - 1) (length file) (omega arith))
+
+long_thin : (file : List ℕ) → 2 ^ 32 ≤ length file → file_fault file ≡ Some TooLong
+unfolding file_fault
+long_thin file long = cond-true _ _ _ (lt-ltb (2 ^ 32 - 1) (length file) (omega arith))
+
+long_fat : (file : List ℕ) → 2 ^ 32 ≤ length file → fat_found file ≡ Some (fault TooLong)
+unfolding fat_found
+long_fat file long = rw (long_table file long) refl
+
+-- a file of 4 GiB and more is found to be too long, whatever it holds
+pub found_long : (file : List ℕ) → 2 ^ 32 ≤ length file → container_found file ≡ Some (fault TooLong)
+unfolding container_found
+found_long file long = either_way (begins_fat file)
+  where
+    either_way : (fat : Bool) → (if fat then fat_found file else found_fault (file_fault file)) ≡ Some (fault TooLong)
+    either_way true = long_fat file long
+    either_way false = ap found_fault (long_thin file long)
+
+-- so its first 4 GiB have the same outcome
+long_outcome : (a : Asked) (first file : List ℕ) → container_found first ≡ Some (fault TooLong) → container_found file ≡ Some (fault TooLong) → outcome_of a first ≡ outcome_of a file
+long_outcome (one call) first file one_long all_long = rw (one_long, all_long) refl
+long_outcome (several (Ok calls)) first file one_long all_long = rw (one_long, all_long) refl
+long_outcome (several (Err wrong)) first file one_long all_long = refl
+
+pub first_outcome : (a : Asked) (file : List ℕ) → outcome_of a (take (2 ^ 32) file) ≡ outcome_of a file
+first_outcome a file = elim (cases_lt (length file) (2 ^ 32)) [
+  | inl short ↦ ap (outcome_of a) (take_all (2 ^ 32) file (omega arith))
+  | inr long ↦
+      let first : length (take (2 ^ 32) file) ≡ 2 ^ 32 = length-take-le (2 ^ 32) file long in
+      long_outcome a (take (2 ^ 32) file) file (found_long (take (2 ^ 32) file) (omega arith)) (found_long file long)
+]
+
+-- and no new bytes
+long_makes_none : (a : Asked) (file new : List ℕ) → container_found file ≡ Some (fault TooLong) → outcome_of a file ≡ bytes new → ⊥
+long_makes_none (one call) file new long makes =
+    let e : no_file (fault TooLong) ≡ bytes new = ap (edited_file refused (call ∷ []) file) (sym long) ∙ makes in cc
+long_makes_none (several (Ok calls)) file new long makes =
+    let e : no_file (fault TooLong) ≡ bytes new = ap (edited_file refused_batch calls file) (sym long) ∙ makes in cc
+long_makes_none (several (Err wrong)) file new long makes = cc
+
+-- where the first 4 GiB of a file get new bytes, they are all of it
+pub whole_of_first : (a : Asked) (file new : List ℕ) → outcome_of a (take (2 ^ 32) file) ≡ bytes new → take (2 ^ 32) file ≡ file
+whole_of_first a file new makes = elim (cases_lt (length file) (2 ^ 32)) [
+  | inl short ↦ take_all (2 ^ 32) file (omega arith)
+  | inr long ↦
+      let first : length (take (2 ^ 32) file) ≡ 2 ^ 32 = length-take-le (2 ^ 32) file long in
+      absurd (long_makes_none a (take (2 ^ 32) file) new (found_long (take (2 ^ 32) file) (omega arith)) makes)
+]
+
+-- ---- pieces that are made of fronts
+
+-- a part over held in which it stands
+pub stands : (at : ℕ) (part held : List ℕ) → bytes_eq (take (length part) (take (length held - at) (drop at held))) part ≡ true → put_at at part held ≡ held
+stands at part held is =
+    let rest : List ℕ = drop at held in
+    let all : take (length held - at) rest ≡ rest = take_all (length held - at) rest (omega (arith, length-drop at held)) in
+    let same : take (length part) rest ≡ part = ap (take (length part)) (sym all) ∙ (bytes_eq-Decides (take (length part) (take (length held - at) rest)) part).0 is in
+    ap (λ (xs : List ℕ). take at held ++ (xs ++ drop (at + length part) held)) (sym same)
+    ∙ ap (λ (xs : List ℕ). take at held ++ (take (length part) rest ++ xs)) (sym (drop-drop (length part) at held))
+    ∙ ap (λ (xs : List ℕ). take at held ++ xs) (take-append-drop (length part) rest)
+    ∙ take-append-drop at held
+
+-- a further piece is laid last
+laid-push : (pieces : List Piece) (piece : Piece) (file : List ℕ) → laid (patches_of (pieces ++ piece ∷ [])) file ≡ put_at piece.offset piece.bytes.now (laid (patches_of pieces) file)
+laid-push [] piece file = refl
+laid-push (p ∷ pieces) piece file = laid-push pieces piece (put_at p.offset p.bytes.now file)
+
+pub lays_on : (old new : List Piece) (piece : Piece) (before after : List ℕ) → new ≡ old ++ piece ∷ [] → after ≡ put_at piece.offset piece.bytes.now before → LaysOn old new before after
+lays_on old new piece before after grown put file is =
+    ap (λ (l : List Piece). laid (patches_of l) file) grown
+    ∙ laid-push old piece file
+    ∙ ap (put_at piece.offset piece.bytes.now) is
+    ∙ sym put
+
+-- the fronts from one on, over what those behind it make
+pub fronts_from : (fronts : List Front) (i left : ℕ) (front : Front) (file held after : List ℕ) → left ≡ i + 1 → i < length fronts → get_or fronts i front ≡ front → held ≡ fronts_on (drop left fronts) file → after ≡ put_at front.offset front.bytes.items held → after ≡ fronts_on (drop i fronts) file
+fronts_from fronts i left front file held after next below is made put =
+    put
+    ∙ ap (put_at front.offset front.bytes.items) made
+    ∙ ap (λ (k : ℕ). put_at front.offset front.bytes.items (fronts_on (drop k fronts) file)) next
+    ∙ ap (λ (f : Front). put_at f.offset f.bytes.items (fronts_on (drop (i + 1) fronts) file)) (sym is)
+    ∙ sym (ap (λ (l : List Front). fronts_on l file) (drop_more fronts i front below))
+
+-- ---- a run over a store, of which the first 4 GiB were read
+
+pub read_outcome : (a : Asked) (old : Option (List ℕ)) (loaded file : List ℕ) → IsFirst (2 ^ 32) old loaded → old ≡ Some file → outcome_of a loaded ≡ outcome_of a file
+read_outcome a old loaded file first known = ap (outcome_of a) (first file known) ∙ first_outcome a file
+
+pub read_whole : (a : Asked) (old : Option (List ℕ)) (loaded file made : List ℕ) → IsFirst (2 ^ 32) old loaded → old ≡ Some file → outcome_of a loaded ≡ bytes made → loaded ≡ file
+read_whole a old loaded file made first known makes =
+    first file known ∙ whole_of_first a file made (ap (outcome_of a) (sym (first file known)) ∙ makes)
+
+pub refused_store : (meaning : MachoMeaning) (old mid : Option (List ℕ)) (loaded : List ℕ) (e : ArwenError) → IsFirst (2 ^ 32) old loaded → Stays old mid → Tells (outcome meaning loaded) e → FailsPatch meaning old mid e
+refused_store meaning old mid loaded Memory first kept tells = (kept, λ file known. tt)
+refused_store meaning old mid loaded (Io e) first kept tells = absurd tells
+refused_store meaning old mid loaded (Macho e) first kept tells =
+    (kept, λ file known. let P : Outcome → Type 0 = λ o. Tells o (Macho e) in subst P (read_outcome (asked meaning) old loaded file first known) tells)
+refused_store meaning old mid loaded (MachoBatch e) first kept tells =
+    (kept, λ file known. let P : Outcome → Type 0 = λ o. Tells o (MachoBatch e) in subst P (read_outcome (asked meaning) old loaded file first known) tells)
+refused_store meaning old mid loaded (Edits e) first kept tells =
+    (kept, λ file known. let P : Outcome → Type 0 = λ o. Tells o (Edits e) in subst P (read_outcome (asked meaning) old loaded file first known) tells)
+refused_store meaning old mid loaded (Elf e) first kept tells = absurd tells
+refused_store meaning old mid loaded (ElfBatch e) first kept tells = absurd tells
+refused_store meaning old mid loaded (Line text status) first kept tells = absurd tells
+
+pub patched_store : (meaning : MachoMeaning) (old mid new : Option (List ℕ)) (loaded : List ℕ) (fronts : List Front) (pieces : List Piece) → IsFirst (2 ^ 32) old loaded → Stays old mid → Writes meaning loaded fronts → ArePiecesOf loaded fronts pieces → Becomes (laid (patches_of pieces)) mid new → Patched meaning old new
+patched_store meaning old mid new loaded fronts pieces first kept writes are becomes file known =
+    let Shown : List ℕ → Type 0 = λ l. ShowsEdited (asked meaning) l (laid (patches_of pieces) l) in
+    let Made : List ℕ → Type 0 = λ l. ShowsEdited (asked meaning) loaded l in
+    let whole : loaded ≡ file = read_whole (asked meaning) old loaded file (fronts_on fronts loaded) first known writes.is in (
+      laid (patches_of pieces) file,
+      ap (outcome meaning) (sym whole) ∙ writes.is ∙ ap (λ (l : List ℕ). bytes l) (sym are.same ∙ ap (laid (patches_of pieces)) whole),
+      becomes file (kept ∙ known),
+      subst Shown whole (subst Made (sym are.same) writes.shows),
+    )
+
+pub torn_store : (meaning : MachoMeaning) (old mid new : Option (List ℕ)) (loaded : List ℕ) (fronts : List Front) (pieces : List Piece) → IsFirst (2 ^ 32) old loaded → Stays old mid → Writes meaning loaded fronts → ArePiecesOf loaded fronts pieces → Stays mid new ⊎ BecomesLaid (patches_of pieces) mid new → Stays old new ⊎ Torn meaning old new
+torn_store meaning old mid new loaded fronts pieces first kept writes are (inl stays) = inl (stays ∙ kept)
+torn_store meaning old mid new loaded fronts pieces first kept writes are (inr laid_first) = inr (λ file known.
+    let whole : loaded ≡ file = read_whole (asked meaning) old loaded file (fronts_on fronts loaded) first known writes.is in (
+      patches_of pieces,
+      ap (outcome meaning) (sym whole) ∙ writes.is ∙ ap (λ (l : List ℕ). bytes l) (sym are.same ∙ ap (laid (patches_of pieces)) whole),
+      (laid_first.0, laid_first.1 file (kept ∙ known)),
+    ))

@@ -1,0 +1,4 @@
+pub mod Edits
+pub mod Engine
+pub mod Meaning
+pub mod Stores

@@ -1,0 +1,97 @@
+//! The bytes that fronts change, and writing them into a store.
+ghost use Rattle.std.specs.Prelude.{◌≡◌, ◌+◌, ◌≤◌, ◌⊎◌, All, IfErr, IfOk, IsOk, IsTrue, OnErr, OnOk, length};
+ghost use Rattle.byte_store.specs.Fault.{BecomesLaid};
+ghost use Rattle.byte_store.specs.Known.{Becomes, HasLength, Stays, put_at};
+ghost use Rattle.byte_store.specs.Laid.{LiesIn, laid, patches_of};
+ghost use Rattle.arwen_macho.specs.Fronts.{LiesIn as IsInside};
+ghost use Rattle.macho_commands.specs.Stores.{ArePiecesOf, LaysOn, LiesOn};
+ghost use Rattle.command_faults.specs.declared.error.ArwenError.TheVariants.{Memory};
+
+use arwen_macho::macho::Front;
+use byte_store::{Piece, Store, write_pieces};
+use command_faults::ArwenError;
+use std::alloc::Global;
+use std::io;
+
+/// The fronts that change bytes, in the order in which they are laid, from the last one back. The bytes
+/// get them all.
+pub(crate) fn changes_of<'a>(
+    alloc: Global,
+    bytes: &mut [u8],
+    fronts: &'a [Front],
+) -> Result<Vec<Piece<'a>>, ArwenError>
+    requires { All (IsInside (length bytes.old)) fronts.now }
+    ensures ok { IfOk result (λ pieces. ArePiecesOf bytes.old fronts.now pieces.items) }
+    ensures err { IfErr result (λ e. e ≡ Memory) }
+{
+    let mut pieces = Vec::with_capacity(alloc, fronts.len())?;
+    let mut left = fronts.len();
+    while left > 0 {
+        left -= 1;
+        lay_change(&mut pieces, bytes, &fronts[left])?;
+    }
+    Ok(pieces)
+}
+
+/// Writes a front over the bytes, and puts it behind the pieces, where it changes any.
+fn lay_change<'a>(
+    pieces: &mut Vec<Piece<'a>>,
+    bytes: &mut [u8],
+    front: &'a Front,
+) -> Result<(), ArwenError>
+    requires { IsInside (length bytes.old) front.now }
+    ensures bytes { OnOk result
+        (bytes.new ≡ put_at front.now.offset front.now.bytes.items bytes.old) }
+    ensures laid { OnOk result (LaysOn pieces.old.items pieces.new.items bytes.old bytes.new) }
+    ensures inside { OnOk result (LiesOn (length bytes.old) pieces.old.items pieces.new.items) }
+    ensures err { IfErr result (λ e. e ≡ Memory) }
+{
+    let part = front.bytes.as_slice();
+    if stands_in(bytes, front.offset, part) {
+        return Ok(());
+    }
+    pieces.push(Piece {
+        offset: front.offset as u64,
+        bytes: part,
+    })?;
+    put(bytes, front.offset, part);
+    Ok(())
+}
+
+/// Whether a part stands at a position.
+fn stands_in(bytes: &[u8], at: usize, part: &[u8]) -> bool
+    requires { at + length part.now ≤ length bytes.now }
+    ensures { IsTrue result → put_at at part.now bytes.now ≡ bytes.now }
+{
+    &bytes[at..][..part.len()] == part
+}
+
+/// Writes a part over the bytes from a position on.
+fn put(bytes: &mut [u8], at: usize, part: &[u8])
+    requires { at + length part.now ≤ length bytes.old }
+    ensures { bytes.new ≡ put_at at part.now bytes.old }
+{
+    bytes[at..at + part.len()].copy_from_slice(part);
+}
+
+/// Writes pieces over the bytes of a store that has so many. It is opened for writing where there are
+/// any.
+pub(crate) fn write_changes_of<S: Store>(
+    store: &mut S,
+    len: u64,
+    pieces: &[Piece<'_>],
+) -> io::Result<()>
+    requires old { HasLength (S.contents store.old) len }
+    requires inside { All (LiesIn len) (patches_of pieces.now) }
+    ensures ok { OnOk result
+        (Becomes (laid (patches_of pieces.now)) (S.contents store.old) (S.contents store.new)) }
+    ensures err { OnErr result (Stays (S.contents store.old) (S.contents store.new)
+        ⊎ BecomesLaid (patches_of pieces.now) (S.contents store.old) (S.contents store.new)) }
+    ensures idle { length pieces.now ≡ 0 → IsOk result × (store.new ≡ store.old) }
+{
+    if pieces.is_empty() {
+        return Ok(());
+    }
+    store.open_for_writing()?;
+    write_pieces(store, len, pieces)
+}

@@ -1,0 +1,170 @@
+//! What is asked of a Mach-O file, with its values.
+ghost use Rattle.std.specs.Prelude.{◌≡◌, IfOk, string_bytes};
+
+use crate::{add, apply, change, delete, install_id, install_name};
+use arwen_macho::macho::MachoEdit;
+use command_words::{Values, copied};
+use std::alloc::{AllocError, Global};
+
+/// What is asked of a Mach-O file.
+#[derive(Debug, Drop)]
+pub enum MachoCommand {
+    /// Remove a run path.
+    DeleteRpath(delete::Args),
+    /// Put a run path in the place of another.
+    ChangeRpath(change::Args),
+    /// Add a run path.
+    AddRpath(add::Args),
+    /// Put a library's name in the place of another.
+    ChangeInstallName(install_name::Args),
+    /// Give a library another id.
+    ChangeInstallId(install_id::Args),
+    /// Several of these edits, all or none.
+    Apply(apply::Args),
+}
+
+impl MachoCommand {
+    ghost use Rattle.std.specs.Prelude.{◌≡◌, ◌∷◌, IfOk, map, option_map, string_bytes};
+    ghost use Rattle.arwen_macho.specs.Batch.{call_made};
+    ghost use Rattle.macho_commands.specs.Edits.{edit_asked};
+    ghost use Rattle.macho_commands.specs.Meaning.{file_of, macho_lines, macho_shown};
+    ghost use Rattle.command_words.specs.Rows.{given_shown, meant_with, text, texts, words as words_given};
+
+    /// The command of a name with its values; `None` where no command of that name takes such
+    /// values.
+    pub fn with_values(name: &str, values: Values) -> Option<MachoCommand>
+        ensures { option_map macho_shown result
+            ≡ meant_with macho_lines name.now (given_shown values) }
+    {
+        match values {
+            Values::Path(_) => None,
+            Values::Text(value, path) => MachoCommand::with_text(name, value, path),
+            Values::Texts(old, new, path) => MachoCommand::with_texts(name, old, new, path),
+            Values::Words(path, words) => MachoCommand::with_words(name, path, words),
+            Values::Options(..) => None,
+        }
+    }
+
+    /// The command of a name that takes a text and the path.
+    fn with_text(name: &str, value: String, path_to_binary: String) -> Option<MachoCommand>
+        ensures { option_map macho_shown result ≡ meant_with macho_lines name.now
+            (text (string_bytes value) (string_bytes path_to_binary)) }
+    {
+        match name {
+            delete::NAME => Some(MachoCommand::DeleteRpath(delete::Args {
+                rpath_to_remove: value,
+                path_to_binary,
+            })),
+            add::NAME => Some(MachoCommand::AddRpath(add::Args {
+                new_rpath: value,
+                path_to_binary,
+            })),
+            install_id::NAME => Some(MachoCommand::ChangeInstallId(install_id::Args {
+                new_install_id: value,
+                path_to_binary,
+            })),
+            _ => None,
+        }
+    }
+
+    /// The command of a name that takes two texts and the path.
+    fn with_texts(
+        name: &str,
+        old: String,
+        new: String,
+        path_to_binary: String,
+    ) -> Option<MachoCommand>
+        ensures { option_map macho_shown result ≡ meant_with macho_lines name.now
+            (texts (string_bytes old) (string_bytes new) (string_bytes path_to_binary)) }
+    {
+        match name {
+            change::NAME => Some(MachoCommand::ChangeRpath(change::Args {
+                old_rpath: old,
+                new_rpath: new,
+                path_to_binary,
+            })),
+            install_name::NAME => Some(MachoCommand::ChangeInstallName(install_name::Args {
+                old_install_name: old,
+                new_install_name: new,
+                path_to_binary,
+            })),
+            _ => None,
+        }
+    }
+
+    /// The command of a name that takes the path and any number of words.
+    fn with_words(name: &str, path_to_binary: String, words: Vec<String>) -> Option<MachoCommand>
+        ensures { option_map macho_shown result ≡ meant_with macho_lines name.now
+            (words_given (string_bytes path_to_binary) (map string_bytes words.items)) }
+    {
+        match name {
+            apply::NAME => Some(MachoCommand::Apply(apply::Args {
+                path_to_binary,
+                edits: words,
+            })),
+            _ => None,
+        }
+    }
+
+    /// The edit that the command asks for; `None` for `apply`, which asks for several.
+    pub(crate) fn edit(&self, alloc: Global) -> Result<Option<MachoEdit>, AllocError>
+        ensures { IfOk result (λ edit.
+            option_map call_made edit ≡ edit_asked (macho_shown self.now)) }
+    {
+        match self {
+            MachoCommand::DeleteRpath(args) => {
+                let old = copied(alloc, &args.rpath_to_remove)?;
+                Ok(Some(MachoEdit::RemoveRpath(old)))
+            }
+            MachoCommand::ChangeRpath(args) => {
+                let (old, new) = both_copied(alloc, &args.old_rpath, &args.new_rpath)?;
+                Ok(Some(MachoEdit::ChangeRpath(old, new)))
+            }
+            MachoCommand::AddRpath(args) => {
+                let new = copied(alloc, &args.new_rpath)?;
+                Ok(Some(MachoEdit::AddRpath(new)))
+            }
+            MachoCommand::ChangeInstallName(args) => {
+                let (old, new) = both_copied(
+                    alloc,
+                    &args.old_install_name,
+                    &args.new_install_name,
+                )?;
+                Ok(Some(MachoEdit::ChangeInstallName(old, new)))
+            }
+            MachoCommand::ChangeInstallId(args) => {
+                let new = copied(alloc, &args.new_install_id)?;
+                Ok(Some(MachoEdit::ChangeInstallId(new)))
+            }
+            MachoCommand::Apply(_) => Ok(None),
+        }
+    }
+
+    /// The file that is edited.
+    pub fn path_to_binary(&self) -> &str
+        ensures { result.now ≡ file_of (macho_shown self.now) }
+    {
+        match self {
+            MachoCommand::DeleteRpath(args) => args.path_to_binary.as_str(),
+            MachoCommand::ChangeRpath(args) => args.path_to_binary.as_str(),
+            MachoCommand::AddRpath(args) => args.path_to_binary.as_str(),
+            MachoCommand::ChangeInstallName(args) => args.path_to_binary.as_str(),
+            MachoCommand::ChangeInstallId(args) => args.path_to_binary.as_str(),
+            MachoCommand::Apply(args) => args.path_to_binary.as_str(),
+        }
+    }
+}
+
+/// The same two texts.
+fn both_copied(
+    alloc: Global,
+    first: &String,
+    second: &String,
+) -> Result<(String, String), AllocError>
+    ensures { IfOk result (λ copies. (string_bytes copies.0 ≡ string_bytes first.now)
+        × (string_bytes copies.1 ≡ string_bytes second.now)) }
+{
+    let first = copied(alloc, first)?;
+    let second = copied(alloc, second)?;
+    Ok((first, second))
+}

@@ -1,0 +1,152 @@
+//! New bytes of old ones.
+ghost use Rattle.std.specs.Prelude.{◌≡◌, ◌∷◌, [], Ok, IfOk, IfErr, OnOk};
+ghost use Rattle.arwen_macho.specs.Batch.{calls_of};
+ghost use Rattle.macho_commands.specs.Engine.{AreAsked, MayFail, Outcome, ShowsEdited};
+ghost use Rattle.macho_commands.specs.Engine.{Tells, TellsAsked, Writes};
+ghost use Rattle.macho_commands.specs.Engine.{asked, outcome, refused_answer};
+ghost use Rattle.macho_commands.specs.Meaning.{file_of, macho_shown};
+ghost use Rattle.macho_commands.specs.Stores.{FailsPatch, Patched, TellsPath};
+ghost use Rattle.command_faults.specs.declared.error.ArwenError.TheVariants.{Memory};
+
+use crate::changes::{changes_of, write_changes_of};
+use crate::command::MachoCommand;
+use crate::edits::parse_macho_edits;
+use crate::{add, apply, change, delete, install_id, install_name};
+use arwen_macho::macho::{Front, MachoBatchError, MachoContainer, MachoEdit, lay_fronts};
+use byte_store::{Opens, RuntimeFiles, Store, load_up_to};
+use command_faults::{ArwenError, MOST_BYTES};
+use command_words::words_of;
+use std::alloc::Global;
+use std::rt::Files;
+
+/// The bytes of a file after a command: a parse accepts them again, and finds the edited load commands. Of
+/// `apply` the words are read before the bytes are looked at.
+pub fn run_macho(alloc: Global, bytes: &[u8], command: &MachoCommand) -> Result<Vec<u8>, ArwenError>
+    ensures ok { IfOk result (λ new.
+        outcome (macho_shown command.now) bytes.now ≡ Outcome.bytes new.items) }
+    ensures shows { IfOk result (λ new.
+        ShowsEdited (asked (macho_shown command.now)) bytes.now new.items) }
+    ensures err { IfErr result (λ e. Tells (outcome (macho_shown command.now) bytes.now) e) }
+{
+    let fronts = fronts_of(alloc, bytes, command)?;
+    let mut new = Vec::from_slice(alloc, bytes)?;
+    lay_fronts(&mut new, fronts);
+    Ok(new)
+}
+
+/// What a command writes over the bytes of a file. Its edits are read before the bytes are looked at.
+fn fronts_of(alloc: Global, bytes: &[u8], command: &MachoCommand) -> Result<Vec<Front>, ArwenError>
+    ensures ok { IfOk result (λ fronts.
+        Writes (macho_shown command.now) bytes.now fronts.items) }
+    ensures err { IfErr result (λ e. Tells (outcome (macho_shown command.now) bytes.now) e) }
+{
+    let edits = edits_asked(alloc, command)?;
+    let macho = MachoContainer::parse(alloc, bytes)?;
+    match macho.fronts(alloc, &edits) {
+        Ok(fronts) => Ok(fronts),
+        Err(error) => Err(refusal(command, error)),
+    }
+}
+
+/// A refused edit as it is answered to a command. Of several it is told which one is refused.
+fn refusal(command: &MachoCommand, error: MachoBatchError) -> ArwenError
+    ensures { result ≡ refused_answer (asked (macho_shown command.now)) error }
+{
+    match command {
+        MachoCommand::Apply(_) => ArwenError::from(error),
+        _ => ArwenError::from(error.fault),
+    }
+}
+
+/// The edits that a command asks for.
+fn edits_asked(alloc: Global, command: &MachoCommand) -> Result<Vec<MachoEdit>, ArwenError>
+    ensures ok { IfOk result (λ edits.
+        AreAsked (asked (macho_shown command.now)) (calls_of edits.items)) }
+    ensures err { IfErr result (λ e. TellsAsked (asked (macho_shown command.now)) e) }
+{
+    if let MachoCommand::Apply(args) = command {
+        let words = words_of(alloc, args.edits.as_slice())?;
+        return Ok(parse_macho_edits(alloc, words.as_slice())?);
+    }
+    match command.edit(alloc)? {
+        Some(edit) => alone(alloc, edit),
+        None => Ok(Vec::new(alloc)),
+    }
+}
+
+/// One edit as a list.
+fn alone(alloc: Global, edit: MachoEdit) -> Result<Vec<MachoEdit>, ArwenError>
+    ensures ok { IfOk result (λ edits. edits.items ≡ edit ∷ []) }
+    ensures err { IfErr result (λ e. e ≡ Memory) }
+{
+    let mut edits = Vec::new(alloc);
+    edits.push(edit)?;
+    Ok(edits)
+}
+
+/// Edits the bytes of a store in their place. Its first `MOST_BYTES` are read; bytes that change are
+/// written, after all that may be refused or wants memory, and nothing is cut. An edit that changes no
+/// byte does not open the store for writing. A refusal, and an error of a read, leave the bytes as they
+/// were; a write that fails leaves the first of the bytes that were to be written, in order.
+pub fn patch_store<S: Store>(
+    alloc: Global,
+    store: &mut S,
+    command: &MachoCommand,
+) -> Result<(), ArwenError>
+    ensures patched { OnOk result
+        (Patched (macho_shown command.now) (S.contents store.old) (S.contents store.new)) }
+    ensures err { IfErr result (λ e. MayFail (macho_shown command.now) e) }
+    ensures left { IfErr result (λ e.
+        FailsPatch (macho_shown command.now) (S.contents store.old) (S.contents store.new) e) }
+{
+    let mut bytes = load_up_to(alloc, store, MOST_BYTES)?;
+    let fronts = fronts_of(alloc, bytes.as_slice(), command)?;
+    let pieces = changes_of(alloc, &mut bytes, fronts.as_slice())?;
+    write_changes_of(store, bytes.len() as u64, pieces.as_slice())?;
+    Ok(())
+}
+
+/// Edits the bytes of the store at the command's path, as `patch_store` does, and hands the store back.
+pub fn patch_path<'p, O: Opens<'p>>(
+    alloc: Global,
+    files: &O,
+    command: &'p MachoCommand,
+) -> Result<O::Opened, ArwenError>
+    ensures patched { IfOk result (λ store. Patched (macho_shown command.now)
+        (O.contents files.now (file_of (macho_shown command.now)))
+        (O.Opened.contents store)) }
+    ensures err { IfErr result (λ e. MayFail (macho_shown command.now) e) }
+    ensures tells { IfErr result (λ e. TellsPath (macho_shown command.now)
+        (O.contents files.now (file_of (macho_shown command.now))) e) }
+{
+    let mut store = files.open(command.path_to_binary())?;
+    patch_store(alloc, &mut store, command)?;
+    Ok(store)
+}
+
+/// Edits a file in its place.
+pub(crate) fn patch_file<R: Files + AllocGlobal>(
+    rt: &R,
+    command: &MachoCommand,
+) -> Result<(), ArwenError>
+    ensures { IfErr result (λ e. MayFail (macho_shown command.now) e) }
+{
+    let files = RuntimeFiles { files: rt };
+    patch_path(rt.alloc(), &files, command)?;
+    Ok(())
+}
+
+/// Edits a Mach-O file in its place. Only bytes that change are written, and only after all of them
+/// exist, so a refused edit leaves the file as it was.
+pub fn macho_execute<R: Files + AllocGlobal>(rt: &R, macho: MachoCommand) -> Result<(), ArwenError>
+    ensures { IfErr result (λ e. MayFail (macho_shown macho) e) }
+{
+    match macho {
+        MachoCommand::DeleteRpath(args) => delete::execute(rt, args),
+        MachoCommand::ChangeRpath(args) => change::execute(rt, args),
+        MachoCommand::AddRpath(args) => add::execute(rt, args),
+        MachoCommand::ChangeInstallName(args) => install_name::execute(rt, args),
+        MachoCommand::ChangeInstallId(args) => install_id::execute(rt, args),
+        MachoCommand::Apply(args) => apply::execute(rt, args),
+    }
+}

@@ -1,0 +1,102 @@
+//! The commands for Mach-O files, as help shows them.
+ghost use Rattle.std.specs.Prelude.{◌≡◌, map};
+ghost use Rattle.command_words.specs.Rows.{named_of, row_shown};
+ghost use Rattle.macho_commands.specs.Meaning.{macho_lines};
+
+use crate::{add, apply, change, delete, install_id, install_name};
+use command_words::{Form, Row, Value};
+
+/// What help says of `apply` below its values.
+const EDITS: &str = "Edits:
+  delete-rpath <OLD>
+  change-rpath <OLD> <NEW>
+  add-rpath <NEW>
+  change-install-name <OLD> <NEW>
+  change-install-id <NEW>
+
+Example:
+  arwen macho apply libgreet.dylib add-rpath /opt/lib + delete-rpath /usr/local/lib
+";
+
+/// The commands for Mach-O files.
+pub static MACHO_ROWS: [Row; 6] = [
+    Row {
+        name: delete::NAME,
+        about: "Remove a run path",
+        form: Form::Text(Value {
+            name: "OLD",
+            help: "Run path to remove",
+        }),
+        is_edit: true,
+        more: "",
+    },
+    Row {
+        name: change::NAME,
+        about: "Put a run path in the place of another",
+        form: Form::Texts(
+            Value {
+                name: "OLD",
+                help: "Run path to replace",
+            },
+            Value {
+                name: "NEW",
+                help: "Run path to put in its place",
+            },
+        ),
+        is_edit: true,
+        more: "",
+    },
+    Row {
+        name: add::NAME,
+        about: "Add a run path",
+        form: Form::Text(Value {
+            name: "NEW",
+            help: "Run path to add",
+        }),
+        is_edit: true,
+        more: "",
+    },
+    Row {
+        name: install_name::NAME,
+        about: "Put a library name in the place of another",
+        form: Form::Texts(
+            Value {
+                name: "OLD",
+                help: "Library name to replace",
+            },
+            Value {
+                name: "NEW",
+                help: "Library name to put in its place",
+            },
+        ),
+        is_edit: true,
+        more: "",
+    },
+    Row {
+        name: install_id::NAME,
+        about: "Change the install id of a shared library",
+        form: Form::Text(Value {
+            name: "NEW",
+            help: "New install id",
+        }),
+        is_edit: true,
+        more: "",
+    },
+    Row {
+        name: apply::NAME,
+        about: "Make several edits, all or none",
+        form: Form::Words(Value {
+            name: "EDIT",
+            help: "Edits without their file, with a word + between two",
+        }),
+        is_edit: false,
+        more: EDITS,
+    },
+];
+
+/// The commands for Mach-O files, as a slice.
+pub fn macho_table() -> &'static [Row]
+    ensures { map row_shown result.now ≡ map named_of macho_lines }
+{
+    MACHO_ROWS.as_slice()
+}
