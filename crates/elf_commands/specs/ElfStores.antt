@@ -1,5 +1,5 @@
 -- What commands for ELF files make of the bytes of a store, where they are known.
-use Rattle.std.specs.Prelude.{ℕ, ◌≡◌, ◌⊎◌, List, Option, Some, false, ⊤}
+use Rattle.std.specs.Prelude.{ℕ, ◌≡◌, ◌≤◌, ◌⊎◌, length, List, Option, Some, false, ⊤}
 use Rattle.byte_store.specs.Known.{Stays}
 use Rattle.byte_store.specs.Composed.{made_of, owned_patches}
 use Rattle.byte_store.specs.Fault.{IsLeft}
@@ -33,6 +33,12 @@ pub record ChangesNothing (a : ElfAsked) (file : List ℕ) : Type 0 where
   pub made : Image
   pub makes : Makes edits file made
   pub same : made.changed ≡ false
+
+-- A difference that changes nothing of so many bytes.
+pub record IsNothing (old_length : ℕ) (d : Difference) : Type 0 where
+  pub growth : length d.growth.items ≡ 0
+  pub pieces : length d.pieces.items ≡ 0
+  pub end : old_length ≤ d.new_length
 
 -- what an error leaves and tells: only a write that failed changes bytes, where the command was accepted
 abbrev pub FailsElf : ElfAsked → Option (List ℕ) → Option (List ℕ) → ArwenError → Type 0

@@ -1,5 +1,5 @@
 //! The bytes that fronts change, and writing them into a store.
-ghost use Rattle.std.specs.Prelude.{◌≡◌, ◌+◌, ◌≤◌, ◌⊎◌, All, IfErr, IfOk, IsOk, IsTrue, OnErr, OnOk, length};
+ghost use Rattle.std.specs.Prelude.{◌≡◌, ◌+◌, ◌≤◌, ◌⊎◌, All, IfErr, IfOk, IsTrue, OnErr, OnOk, length};
 ghost use Rattle.byte_store.specs.Fault.{BecomesLaid};
 ghost use Rattle.byte_store.specs.Known.{Becomes, HasLength, Stays, put_at};
 ghost use Rattle.byte_store.specs.Laid.{LiesIn, laid, patches_of};
@@ -74,8 +74,8 @@ fn put(bytes: &mut [u8], at: usize, part: &[u8])
     bytes[at..at + part.len()].copy_from_slice(part);
 }
 
-/// Writes pieces over the bytes of a store that has so many. It is opened for writing where there are
-/// any.
+/// Writes pieces over the bytes of a store that has so many. It is opened for writing also where there are
+/// none.
 pub(crate) fn write_changes_of<S: Store>(
     store: &mut S,
     len: u64,
@@ -87,11 +87,9 @@ pub(crate) fn write_changes_of<S: Store>(
         (Becomes (laid (patches_of pieces.now)) (S.contents store.old) (S.contents store.new)) }
     ensures err { OnErr result (Stays (S.contents store.old) (S.contents store.new)
         ⊎ BecomesLaid (patches_of pieces.now) (S.contents store.old) (S.contents store.new)) }
-    ensures idle { length pieces.now ≡ 0 → IsOk result × (store.new ≡ store.old) }
+    ensures idle { length pieces.now ≡ 0 → Stays (S.contents store.old) (S.contents store.new) }
+    ensures opens { length pieces.now ≡ 0 → OnOk result (IsTrue (S.is_writable store.new)) }
 {
-    if pieces.is_empty() {
-        return Ok(());
-    }
     store.open_for_writing()?;
     write_pieces(store, len, pieces)
 }

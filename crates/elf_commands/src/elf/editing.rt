@@ -1,16 +1,20 @@
 //! Edits of the bytes of stores.
-ghost use Rattle.std.specs.Prelude.{◌≡◌, IfErr, IfOk, OnOk, length};
-ghost use Rattle.byte_store.specs.Known.{HasLength, IsAll};
+ghost use Rattle.std.specs.Prelude.{◌≡◌, ◌+◌, ◌<◌, ◌≤◌, ◌^◌, All, IfErr, IfOk, IsTrue, OnOk, length};
+ghost use Rattle.byte_store.specs.Composed.{IsNotMade, made_of, owned_patches};
+ghost use Rattle.byte_store.specs.Known.{Becomes, HasLength, IsAll, Stays};
+ghost use Rattle.byte_store.specs.Laid.{LiesIn};
 ghost use Rattle.elf_commands.specs.ElfAsked.{elf_asked};
 ghost use Rattle.elf_commands.specs.ElfEngine.{AreEditsAsked, ElfMayFail};
-ghost use Rattle.elf_commands.specs.ElfStores.{ChangesNothing, FailsElf, IsElfPatched, TellsElfPath};
+ghost use Rattle.elf_commands.specs.ElfStores.{ChangesNothing, FailsElf, IsElfPatched, IsNothing, TellsElfPath};
 ghost use Rattle.elf_commands.specs.ElfWords.{edits_meant};
 ghost use Rattle.elf_commands.specs.Meaning.{elf_file_of, elf_shown};
 
 use crate::command::ElfCommand;
 use crate::elf::engine::{edited_pieces, edits_asked};
 use crate::elf::load_elf;
-use byte_store::{Opens, RuntimeFiles, Store, make_difference};
+use byte_store::{
+    Difference, Left, Opens, ReplaceError, RuntimeFiles, Store, WriteError, make_difference,
+};
 use command_faults::ArwenError;
 use elf_edits::ElfEdit;
 use std::alloc::Global;
@@ -18,9 +22,10 @@ use std::rt::Files;
 
 /// Edits the bytes of a store in their place, which are read whole, as `print_store` reads them. Only blocks
 /// that differ are written, after all that may be refused or wants memory, and no second copy of the bytes is
-/// made; an edit that changes nothing does not open the store for writing. A refusal, and an error of a read,
-/// leave the bytes as they were; a write that fails leaves what `make_difference` says. A command that prints,
-/// or that asks first what is found, leaves the store as it is.
+/// made; an edit that changes nothing opens the store for writing too, and writes nothing, so that a file that
+/// may not be written is refused whatever an edit finds in it. A refusal, and an error of a read, leave the bytes
+/// as they were; a write that fails leaves what `make_difference` says. A command that prints, or that asks first
+/// what is found, leaves the store as it is.
 pub fn edit_store<S: Store>(
     alloc: Global,
     store: &mut S,
@@ -39,8 +44,8 @@ pub fn edit_store<S: Store>(
     edit_loaded(alloc, store, bytes.as_slice(), command, edits.as_slice())
 }
 
-/// Makes the edits that a command asks for in a store that has these bytes. Edits that find nothing to change
-/// leave the very store, which is not opened for writing.
+/// Makes the edits that a command asks for in a store that has these bytes. Where the edits find nothing to
+/// change, it is opened for writing and keeps its bytes.
 fn edit_loaded<S: Store>(
     alloc: Global,
     store: &mut S,
@@ -57,10 +62,55 @@ fn edit_loaded<S: Store>(
     ensures left { IfErr result (FailsElf (elf_asked (elf_shown command.now))
         (S.contents store.old) (S.contents store.new)) }
     ensures idle { ChangesNothing (elf_asked (elf_shown command.now)) bytes.now
-        → OnOk result (store.new ≡ store.old) }
+        → OnOk result (Stays (S.contents store.old) (S.contents store.new)) }
+    ensures opens { ChangesNothing (elf_asked (elf_shown command.now)) bytes.now
+        → OnOk result (IsTrue (S.is_writable store.new)) }
 {
     let difference = edited_pieces(alloc, bytes, command, edits)?;
-    Ok(make_difference(alloc, store, bytes.len() as u64, &difference)?)
+    Ok(make_opened(alloc, store, bytes.len() as u64, &difference)?)
+}
+
+/// Makes a difference in a store that has so many bytes, as `make_difference` does; one that changes nothing
+/// opens the store for writing too.
+pub(crate) fn make_opened<S: Store>(
+    alloc: Global,
+    store: &mut S,
+    old_length: u64,
+    difference: &Difference,
+) -> Result<(), ReplaceError>
+    requires old { HasLength (S.contents store.old) old_length }
+    requires fits { old_length + length difference.now.growth.items < 2 ^ 64 }
+    requires inside { All (LiesIn (old_length + length difference.now.growth.items))
+        (owned_patches difference.now.pieces.items) }
+    requires end { difference.now.new_length ≤ old_length + length difference.now.growth.items }
+    ensures ok { OnOk result (Becomes (λ source. made_of source difference.now)
+        (S.contents store.old) (S.contents store.new)) }
+    ensures err { IfErr result (IsNotMade S.contents difference.now store.old store.new) }
+    ensures idle { IsNothing old_length difference.now
+        → OnOk result (Stays (S.contents store.old) (S.contents store.new)) }
+    ensures opens { IsNothing old_length difference.now
+        → OnOk result (IsTrue (S.is_writable store.new)) }
+{
+    if !is_nothing(old_length, difference) {
+        return make_difference(alloc, store, old_length, difference);
+    }
+    match store.open_for_writing() {
+        Ok(()) => Ok(()),
+        Err(error) => Err(ReplaceError::Write(WriteError {
+            left: Left::Old,
+            error,
+        })),
+    }
+}
+
+/// Whether a difference changes nothing of so many bytes.
+fn is_nothing(old_length: u64, difference: &Difference) -> bool
+    ensures yes { IsTrue result → IsNothing old_length difference.now }
+    ensures no { IsNothing old_length difference.now → IsTrue result }
+{
+    difference.growth.is_empty()
+        && difference.pieces.is_empty()
+        && old_length <= difference.new_length as u64
 }
 
 /// Edits the bytes of the store at the command's path, as `edit_store` does, and hands the store back.

@@ -11,13 +11,14 @@ ghost use Rattle.elf_commands.specs.ElfAsked.{shrinking};
 ghost use Rattle.elf_commands.specs.ElfEngine.{MayFailAs};
 ghost use Rattle.elf_commands.specs.ShrinkRuns.{AreChanged, FailsShrink, IsQuiet, IsShrunkBy, RunsShrink, ShrinksStore, Steps, TellsShrink, TellsShrunk, TellsShrunkPath};
 
+use crate::elf::editing::make_opened;
 use crate::elf::load_elf;
 use crate::elf::notes::Notes;
 use crate::elf::probing::{FileProbe, Probe, answers_of, removal_text};
 use crate::elf::shrink_rpath::Args;
 use crate::elf_values::texts_of;
 use arwen_elf::elf::{ElfContainer, ElfError, ProbeAnswer, Removed};
-use byte_store::{Difference, Opens, RuntimeFiles, Store, make_difference};
+use byte_store::{Difference, Opens, RuntimeFiles, Store};
 use command_faults::ArwenError;
 use elf_edits::laws::{batches_are_their_edits, edits_show};
 use elf_image::laws::read_images_hold_parts;
@@ -113,7 +114,8 @@ fn shrunk_pieces<P: Probe>(
 
 /// Shrinks the run paths of the bytes of a store in their place, which are read whole, as `edit_store` edits
 /// them. The probe says what stands in their directories. Once what differs is known, the lines of the
-/// directories that went go to `out`, in one write, and then the blocks that differ are written.
+/// directories that went go to `out`, in one write, and then the blocks that differ are written. Where nothing
+/// went, the store is opened for writing too.
 pub fn shrink_store<S: Store, P: Probe, W: Write>(
     alloc: Global,
     store: &mut S,
@@ -157,7 +159,7 @@ fn shrink_loaded<S: Store, P: Probe, W: Write>(
 {
     let shrunk = shrunk_pieces(alloc, bytes, prefixes, probe)?;
     out.write_all(shrunk.text.as_bytes())?;
-    Ok(make_difference(alloc, store, bytes.len() as u64, &shrunk.difference)?)
+    Ok(make_opened(alloc, store, bytes.len() as u64, &shrunk.difference)?)
 }
 
 /// Shrinks the run paths of the store at the command's path, as `shrink_store` does, and hands the store
