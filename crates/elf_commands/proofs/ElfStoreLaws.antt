@@ -1,6 +1,5 @@
 -- What edits that fail leave of the bytes of a store.
-use Rattle.std.proofs.Common.{◌≡◌, ◌≤◌, ℕ, List, Option, Some, ap, length, subst, inl, inr}
-use Rattle.arwen_elf.specs.Written.{IsNoDifference}
+use Rattle.std.proofs.Common.{◌≡◌, ℕ, List, Option, Some, ap, subst, inl, inr}
 use Rattle.byte_store.specs.Composed.{IsNotMade, made_of}
 use Rattle.byte_store.specs.Known.{IsAll, Stays}
 use Rattle.byte_store.specs.declared.composed.Difference.{Difference}
@@ -8,7 +7,7 @@ use Rattle.byte_store.specs.declared.difference.ReplaceError.{ReplaceError}
 use Rattle.byte_store.specs.declared.difference.ReplaceError.TheVariants as replace
 use Rattle.elf_commands.specs.ElfAsked.{ElfAsked}
 use Rattle.elf_commands.specs.ElfEngine.{LeavesElf, TellsEachFile}
-use Rattle.elf_commands.specs.ElfStores.{FailsElf, IsNothing}
+use Rattle.elf_commands.specs.ElfStores.{FailsElf}
 use Rattle.command_faults.specs.Fault.{answer_to_replaced}
 use Rattle.command_faults.specs.declared.error.ArwenError.{ArwenError}
 use Rattle.command_faults.specs.declared.error.ArwenError.TheVariants.{Edits, Elf, ElfBatch, Io, Line, Macho, MachoBatch, Memory}
@@ -38,11 +37,3 @@ elf_failed a contents old new loaded d (replace.Write e) all leaves part = inr (
   left = e.left;
   part = part;
 })
-
--- what differs of bytes to which nothing is done
-pub no_difference : (bytes : List ℕ) (d : Difference) → IsNoDifference bytes d → IsNothing (length bytes) d
-no_difference bytes d none = record {
-  growth = ap length none.no_growth;
-  pieces = ap length none.no_pieces;
-  end = subst (λ k. k ≤ d.new_length) none.as_long (omega arith);
-}

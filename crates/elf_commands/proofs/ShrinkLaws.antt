@@ -1,14 +1,14 @@
 -- What comes of run paths that shrink.
-use Rattle.std.proofs.Common.{◌≡◌, ◌+◌, [], ◌∷◌, ◌∙◌, Bool, ℕ, List, Option, Some, None, Result, Ok, Err, true, false, map, refl, sym, ap, subst, inl, inr}
+use Rattle.std.proofs.Common.{◌≡◌, ◌+◌, [], ◌∷◌, ◌∙◌, Bool, ℕ, List, Option, Some, None, Result, Ok, Err, true, false, refl, sym, ap, subst, inl, inr}
 use Rattle.std.specs.Io.KnownBytes.{Appends}
 use Rattle.std.specs.declared.alloc.Global.{Global}
 use Rattle.std.specs.declared.vec.Vec.{Vec}
 use Rattle.byte_store.specs.Composed.{IsNotMade, made_of}
-use Rattle.byte_store.specs.Known.{Becomes, IsAll, Stays}
+use Rattle.byte_store.specs.Known.{Becomes, IsAll}
 use Rattle.byte_store.specs.declared.composed.Difference.{Difference}
 use Rattle.byte_store.specs.declared.difference.ReplaceError.{ReplaceError}
 use Rattle.byte_store.specs.declared.difference.ReplaceError.TheVariants as replace
-use Rattle.elf_edits.specs.Batch.{Refusal, answer_at, run, run_from, then_on}
+use Rattle.elf_edits.specs.Batch.{answer_at, run, run_from, then_on}
 use Rattle.elf_edits.specs.Cause.{Cause}
 use Rattle.elf_edits.specs.Edit.{Answer, Edit, ShrinkRunPath}
 use Rattle.elf_edits.specs.Edited.{step}
@@ -22,12 +22,12 @@ use Rattle.arwen_elf.specs.Written.{IsImageWritten, IsNoImage}
 use Rattle.arwen_elf.specs.declared.elf.rewriter.error.ElfError.{ElfError}
 use Rattle.arwen_elf.specs.declared.elf.rewriter.error.ElfError.TheVariants as elf
 use Rattle.elf_commands.specs.ElfAsked.{one, shrinking}
-use Rattle.elf_commands.specs.ElfEngine.{IsElfEdited, LeavesElf, Makes, MayFailAs, RunsElf, TellsEdit, TellsRun}
+use Rattle.elf_commands.specs.ElfEngine.{IsElfEdited, LeavesElf, MayFailAs, RunsElf, TellsEdit, TellsRun}
 use Rattle.elf_commands.specs.ElfAsked.{elf_asked}
 use Rattle.command_faults.specs.Fault.{answer_to_elf, answer_to_replaced}
 use Rattle.elf_commands.specs.Meaning.{elf_shown}
 use Rattle.command_words.specs.Rows.{Text}
-use Rattle.elf_commands.specs.ShrinkRuns.{AreChanged, AreFoundIn, FailsShrink, IsQuiet, IsShrunkBy, RunsCommand, ShrinksStore, TellsCommand, TellsRemoved, TellsShrink, TellsShrunk}
+use Rattle.elf_commands.specs.ShrinkRuns.{AreChanged, AreFoundIn, FailsShrink, IsQuiet, IsShrunkBy, RunsCommand, ShrinksStore, TellsCommand, TellsShrink, TellsShrunk}
 use Rattle.elf_commands.specs.Shrinking.{AreFound, Finding}
 use Rattle.elf_commands.specs.declared.command.ElfCommand.{ElfCommand}
 use Rattle.elf_commands.specs.declared.command.ElfCommand.TheVariants as command

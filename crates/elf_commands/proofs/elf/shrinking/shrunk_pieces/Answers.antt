@@ -1,4 +1,4 @@
-use Rattle.std.proofs.Common.{List, ℕ, map, ap, sym, subst, string_bytes, ◌∙◌}
+use Rattle.std.proofs.Common.{List, ℕ, map, ap, subst, string_bytes, ◌∙◌}
 use Rattle.std.proofs.lemmas.Result.{err_from_is_err_and}
 use Rattle.byte_store.specs.Composed.{IsDifference}
 use Rattle.arwen_elf.specs.Told.{Refuses}
