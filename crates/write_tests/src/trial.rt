@@ -26,7 +26,7 @@ pub struct TrialWriter {
 
 impl TrialWriter {
     /// A writer that holds nothing.
-    pub fn new(plan: Plan) -> Self {
+    pub(crate) fn new(plan: Plan) -> Self {
         TrialWriter {
             plan,
             held: [0; 16],
@@ -37,7 +37,7 @@ impl TrialWriter {
     }
 
     /// What it took.
-    pub fn bytes(&self) -> &[u8] {
+    pub(crate) fn bytes(&self) -> &[u8] {
         self.held.get(..self.length).unwrap_or(&[])
     }
 
