@@ -12,9 +12,9 @@ use Rattle.macho_image.specs.Prepared.{IsMadeFor}
 use Rattle.macho_image.proofs.ForCallers.{area_fault-concat, cut-concat, found, length-cut}
 use Rattle.arwen_macho.specs.declared.change.Change.{Change}
 use Rattle.arwen_macho.specs.Change.{IsChangeOf, changed_file, list_of}
-use Rattle.arwen_macho.specs.Held.{Held, image_held}
-use Rattle.arwen_macho.specs.State.{State, available, end_of, laid_bytes}
-use Rattle.arwen_macho.specs.Whole.{IsState, IsWhole, KeepsContents}
+use Rattle.macho_edits.specs.Held.{Held, image_held}
+use Rattle.macho_edits.specs.State.{State, available, end_of, laid_bytes}
+use Rattle.macho_edits.specs.Whole.{IsState, IsWhole, KeepsContents}
 use Rattle.arwen_macho.proofs.StateLaws.{available-le, counted, laid_shows, next_is, relaid}
 
 -- the state that the change leaves is one

@@ -1,16 +1,16 @@
 -- What the container of either shape takes over from the shape that it holds.
 use Rattle.std.proofs.Common.{◌≡◌, ℕ, Bool, List, [], ◌∷◌, ◌++◌, Option, Some, None, Result, Ok, Err, IsOk, ap, sym, refl, ◌∙◌, subst}
-use Rattle.arwen_macho.specs.declared.batch.MachoBatchError.{MachoBatchError}
+use Rattle.macho_edits.specs.declared.batch.MachoBatchError.{MachoBatchError}
 use Rattle.arwen_macho.specs.declared.macho.MachoType.{MachoType}
 use Rattle.arwen_macho.specs.declared.macho.MachoType.TheVariants.{Fat, SingleArch}
-use Rattle.arwen_macho.specs.Batch.{RefusesAt, StepsBatch}
-use Rattle.arwen_macho.specs.Call.{Call, Cause}
+use Rattle.macho_edits.specs.Batch.{RefusesAt, StepsBatch}
+use Rattle.macho_edits.specs.Call.{Call, Cause}
 use Rattle.arwen_macho.specs.Container.{AnswersAll, AnswersBatch, TakesBatch, as_fat, as_thin, container_step, left_by, left_by_all}
 use Rattle.arwen_macho.specs.FatHeld.{FatHeld, FatStepsBatch}
 use Rattle.arwen_macho.specs.FatState.{FatState, fat_step}
-use Rattle.arwen_macho.specs.Held.{Held, is_edited_by}
-use Rattle.arwen_macho.specs.Refused.{cause_of}
-use Rattle.arwen_macho.specs.State.{Refusal, State, step}
+use Rattle.macho_edits.specs.Held.{Held, is_edited_by}
+use Rattle.macho_edits.specs.Refused.{cause_of}
+use Rattle.macho_edits.specs.State.{Refusal, State, step}
 
 -- a refusal at an index
 refuses_thin_at : (index : ℕ) (found : Option Cause) (flag : Bool) (answer : Result State Refusal) → RefusesAt index found answer → RefusesAt index found (as_thin flag answer)

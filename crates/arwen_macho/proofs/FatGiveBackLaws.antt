@@ -4,14 +4,14 @@ use Rattle.std.specs.List.{All, AllZip}
 use Rattle.std.proofs.lemmas.List.Elements.{All-cons, All-head, All-nil, All-tail}
 use Rattle.macho_image.specs.declared.fat.FatArch.{FatArch}
 use Rattle.macho_image.specs.Fat.{slice_of}
-use Rattle.arwen_macho.specs.Call.{Call}
-use Rattle.arwen_macho.specs.Call.Call.{add_rpath, remove_rpath}
+use Rattle.macho_edits.specs.Call.{Call}
+use Rattle.macho_edits.specs.Call.Call.{add_rpath, remove_rpath}
 use Rattle.arwen_macho.specs.FatHeld.{IsFatState, IsSlice}
 use Rattle.arwen_macho.specs.FatLaws.{FatGivesBack, FatRemoveGivesBack, FatShorterFits, GiveBack, IsShortened, PadsAreZeros, Shortens}
 use Rattle.arwen_macho.specs.FatState.{FatState, Slice, fat_laid_bytes, fat_step, joined_step, bytes_laid_over, put_at, step_slices}
 use Rattle.arwen_macho.specs.Laws.{GivesBack, LacksRpath}
-use Rattle.arwen_macho.specs.State.{Refusal, State, laid_bytes, step}
-use Rattle.arwen_macho.specs.Whole.{TextsAreBytes}
+use Rattle.macho_edits.specs.State.{Refusal, State, laid_bytes, step}
+use Rattle.macho_edits.specs.Whole.{TextsAreBytes}
 use Rattle.arwen_macho.proofs.FatLaws.{fat_laid_shows}
 use Rattle.arwen_macho.proofs.FatStepLaws.{fat_step_ok}
 use Rattle.arwen_macho.proofs.GiveBackLaws.{remove_gives_back}

@@ -9,7 +9,7 @@ use Rattle.macho_image.specs.declared.fat.FatArch.{FatArch}
 use Rattle.macho_image.specs.Fat.{archs_of}
 use Rattle.arwen_macho.specs.declared.change.Change.{Change}
 use Rattle.arwen_macho.specs.declared.fat.FatMachoContainer.TheInside.{Inside}
-use Rattle.arwen_macho.specs.Call.{Call}
+use Rattle.macho_edits.specs.Call.{Call}
 use Rattle.arwen_macho.specs.FatChange.{AreChangesOf, AreStepOf, changed_slices, fat_changed}
 use Rattle.arwen_macho.specs.FatHeld.{FatHeld, IsFatState, first_fat_held}
 use Rattle.arwen_macho.specs.FatHeldBy.{IsFatHeld, fat_held_of}

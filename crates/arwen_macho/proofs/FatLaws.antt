@@ -18,7 +18,7 @@ use Rattle.arwen_macho.specs.FatState.{FatState, Slice, fat_laid_bytes, bytes_la
 use Rattle.arwen_macho.specs.Found.{ARCHIVE, Found, fat_found, found_fault, found_first, slice_found, slices_found}
 use Rattle.arwen_macho.specs.Found.Found.{archive}
 use Rattle.arwen_macho.specs.Shown.{Shows}
-use Rattle.arwen_macho.specs.State.{laid_bytes}
+use Rattle.macho_edits.specs.State.{laid_bytes}
 use Rattle.arwen_macho.proofs.StateLaws.{laid_shows}
 use Rattle.arwen_macho.specs.FatHeld.{IsFatState}
 use Rattle.arwen_macho.specs.FatShown.{FatShows, IsOutside}

@@ -9,16 +9,16 @@ use Rattle.macho_image.specs.declared.fat.FatArch.{FatArch}
 use Rattle.macho_image.specs.Checks.{file_fault}
 use Rattle.macho_image.specs.Fat.{archs_of, slice_of, table_fault}
 use Rattle.arwen_macho.specs.declared.change.Change.{Change}
-use Rattle.arwen_macho.specs.declared.error.MachoError.{MachoError}
-use Rattle.arwen_macho.specs.declared.error.MachoError.TheVariants.{CommandBuilderError, DylibIdMissing, DylibNameMissing, Memory, NoRoom, Parsing, RpathMissing, UnixArchive}
-use Rattle.arwen_macho.specs.Batch.{RefusesAt}
-use Rattle.arwen_macho.specs.Call.{Call, Cause}
+use Rattle.macho_edits.specs.declared.error.MachoError.{MachoError}
+use Rattle.macho_edits.specs.declared.error.MachoError.TheVariants.{CommandBuilderError, DylibIdMissing, DylibNameMissing, Memory, NoRoom, Parsing, RpathMissing, UnixArchive}
+use Rattle.macho_edits.specs.Batch.{RefusesAt}
+use Rattle.macho_edits.specs.Call.{Call, Cause}
 use Rattle.arwen_macho.specs.Change.{IsChangeOf, changed_file}
 use Rattle.arwen_macho.specs.FatHeld.{IsSlice}
 use Rattle.arwen_macho.specs.FatState.{FatState, Slice, fat_laid_bytes, fat_step, first_fat_state, first_slice, joined_step, bytes_laid_over, put_at, step_slices, with_slices}
 use Rattle.arwen_macho.specs.Found.{Finds, Found, fat_found, found_fault, found_first, slice_found, slices_found}
-use Rattle.arwen_macho.specs.State.{Refusal, State, first_state, laid_bytes, step}
-use Rattle.arwen_macho.specs.Whole.{IsState}
+use Rattle.macho_edits.specs.State.{Refusal, State, first_state, laid_bytes, step}
+use Rattle.macho_edits.specs.Whole.{IsState}
 use Rattle.arwen_macho.proofs.ChangeLaws.{changed_is}
 use Rattle.arwen_macho.proofs.StateLaws.{first_is, first_laid, laid_shows}
 use Rattle.arwen_macho.specs.FatChange.{changed_slice, changed_slices, held_slice}

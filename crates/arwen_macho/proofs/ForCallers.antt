@@ -6,4 +6,4 @@ pub use Rattle.arwen_macho.proofs.LeadLaws.{first_bytes}
 -- every state of a file has bytes that are accepted and show it, and batches lead from state to state
 pub use Rattle.arwen_macho.proofs.StatesLaws.{file_bytes_show, fresh_is_state, shows_step, step_is_state}
 -- a header that the bytes hold tells their counts
-pub use Rattle.arwen_macho.proofs.PatchLemmas.{held_ncmds, held_sizeofcmds}
+pub use Rattle.macho_edits.proofs.ForCallers.{held_ncmds, held_sizeofcmds}

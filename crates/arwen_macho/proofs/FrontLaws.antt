@@ -9,9 +9,9 @@ use Rattle.macho_image.proofs.ForCallers.{drop-with_area_high}
 use Rattle.arwen_macho.specs.declared.change.Change.{Change}
 use Rattle.arwen_macho.specs.Change.{IsChangeOf, changed_file}
 use Rattle.arwen_macho.specs.FatState.{Slice, bytes_laid_over, put_at}
-use Rattle.arwen_macho.specs.Held.{Held}
-use Rattle.arwen_macho.specs.State.{laid_bytes}
-use Rattle.arwen_macho.specs.Whole.{IsState}
+use Rattle.macho_edits.specs.Held.{Held}
+use Rattle.macho_edits.specs.State.{laid_bytes}
+use Rattle.macho_edits.specs.Whole.{IsState}
 use Rattle.arwen_macho.proofs.ChangeLaws.{change_bytes, change_inside, change_room, changed_is}
 use Rattle.arwen_macho.proofs.StateLaws.{laid_shows}
 use Rattle.arwen_macho.specs.FatSlice.{HeldSlice, IsReadyIn, changed_macho, changed_machos, front_of, fronts_over, slice_held}

@@ -14,14 +14,14 @@ use Rattle.macho_image.specs.declared.format.Ctx.{Ctx}
 use Rattle.macho_image.specs.Command.{cmd_of, text_of}
 use Rattle.macho_image.specs.Form.{ctx_of}
 use Rattle.macho_image.proofs.ForCallers.{length-header_with, with_area-parts}
-use Rattle.arwen_macho.specs.Built.{built_size, rpath_built}
-use Rattle.arwen_macho.specs.Call.{Cause}
-use Rattle.arwen_macho.specs.Call.Call.{add_rpath, remove_rpath}
-use Rattle.arwen_macho.specs.Edited.{list_with_last, edited_list, is_rpath_named}
+use Rattle.macho_edits.specs.Built.{built_size, rpath_built}
+use Rattle.macho_edits.specs.Call.{Cause}
+use Rattle.macho_edits.specs.Call.Call.{add_rpath, remove_rpath}
+use Rattle.macho_edits.specs.Edited.{list_with_last, edited_list, is_rpath_named}
 use Rattle.arwen_macho.specs.Laws.{BatchGivesBack, GivesBack, LacksRpath, RemoveGivesBack, pad_taken, taken_size}
-use Rattle.arwen_macho.specs.State.{Refusal, State, answer_at, available, edited_by, end_of, fitted_state, laid_bytes, step, then_on}
-use Rattle.arwen_macho.specs.Whole.{IsState}
-use Rattle.arwen_macho.proofs.BuiltLaws.{HoldsText-rpath_built, built_size-above, length-built_rpath, rpath_built-at_ok}
+use Rattle.macho_edits.specs.State.{Refusal, State, answer_at, available, edited_by, end_of, fitted_state, laid_bytes, step, then_on}
+use Rattle.macho_edits.specs.Whole.{IsState}
+use Rattle.macho_edits.proofs.ForCallers.{HoldsText-rpath_built, built_size-above, length-built_rpath, rpath_built-at_ok}
 use Rattle.arwen_macho.proofs.StateLaws.{edited_by-more, edited_by-one, step-fits}
 
 -- zeros that grew over bytes that were zeros

@@ -11,10 +11,10 @@ use Rattle.patch_bytes.specs.Bytes.{AreBytes}
 use Rattle.arwen_macho.specs.declared.change.Change.{Change}
 use Rattle.arwen_macho.specs.declared.macho.SingleMachO.TheInside.{Inside}
 use Rattle.arwen_macho.specs.Change.{IsChangeOf, changed_file}
-use Rattle.arwen_macho.specs.Held.{Held, first_held}
+use Rattle.macho_edits.specs.Held.{Held, first_held}
 use Rattle.arwen_macho.specs.HeldBy.{IsHeld, held_of}
-use Rattle.arwen_macho.specs.State.{available, end_of, first_state, laid_bytes}
-use Rattle.arwen_macho.specs.Whole.{IsState}
+use Rattle.macho_edits.specs.State.{available, end_of, first_state, laid_bytes}
+use Rattle.macho_edits.specs.Whole.{IsState}
 use Rattle.arwen_macho.proofs.ChangeLaws.{available_shown, change_bytes, changed_held, changed_is}
 use Rattle.arwen_macho.proofs.StateLaws.{first_is, first_laid, laid_shows}
 

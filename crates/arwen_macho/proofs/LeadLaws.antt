@@ -9,7 +9,7 @@ use Rattle.arwen_macho.specs.declared.change.Change.{Change}
 use Rattle.arwen_macho.specs.declared.fat.FatMachoContainer.TheInside.{Inside}
 use Rattle.arwen_macho.specs.declared.front.Front.{Front}
 use Rattle.arwen_macho.specs.declared.macho.MachoType.TheVariants.{Fat, SingleArch}
-use Rattle.arwen_macho.specs.Call.{Call}
+use Rattle.macho_edits.specs.Call.{Call}
 use Rattle.arwen_macho.specs.Change.{changed_file}
 use Rattle.arwen_macho.specs.Container.{as_fat, as_thin, container_bytes, container_step, first_container}
 use Rattle.arwen_macho.specs.FatChange.{fat_changed}
@@ -19,9 +19,9 @@ use Rattle.arwen_macho.specs.FatSlice.{HeldSlice, IsReadyIn, IsStepIn, front_of,
 use Rattle.arwen_macho.specs.FatState.{Slice, fat_laid_bytes, fat_step, put_at}
 use Rattle.arwen_macho.specs.Found.{begins_fat, container_found, fat_found, found_fault}
 use Rattle.arwen_macho.specs.Fronts.{IsFrontAt, IsFrontOf, LeadOn, LiesIn, fronts_on}
-use Rattle.arwen_macho.specs.Held.{Held, first_held, is_edited_by}
-use Rattle.arwen_macho.specs.State.{laid_bytes, step}
-use Rattle.arwen_macho.specs.Whole.{IsState}
+use Rattle.macho_edits.specs.Held.{Held, first_held, is_edited_by}
+use Rattle.macho_edits.specs.State.{laid_bytes, step}
+use Rattle.macho_edits.specs.Whole.{IsState}
 use Rattle.arwen_macho.proofs.ChangeLaws.{change_inside}
 use Rattle.arwen_macho.proofs.FatHeldLaws.{changes_are, fronts_over_laid, ready_of}
 use Rattle.arwen_macho.proofs.FatLaws.{fat_laid_shows, none_fault}

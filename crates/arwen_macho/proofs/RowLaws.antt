@@ -7,10 +7,10 @@ use Rattle.macho_image.specs.Command.{contents_of, least_size, symtab_content, t
 use Rattle.macho_image.specs.Fat.{archs_of}
 use Rattle.macho_image.specs.Form.{ctx_of, form_of}
 use Rattle.macho_image.specs.Image.{with_area}
-use Rattle.arwen_macho.specs.Built.{built_dylib, built_rpath, built_size, dylib_built, rpath_built}
-use Rattle.arwen_macho.specs.Edited.{edited_list, is_id, is_library_named, is_rpath_named}
+use Rattle.macho_edits.specs.Built.{built_dylib, built_rpath, built_size, dylib_built, rpath_built}
+use Rattle.macho_edits.specs.Edited.{edited_list, is_id, is_library_named, is_rpath_named}
 use Rattle.arwen_macho.specs.Rows as rows
-use Rattle.arwen_macho.specs.State.{first_state, fitted_state, laid_bytes, step}
+use Rattle.macho_edits.specs.State.{first_state, fitted_state, laid_bytes, step}
 use Rattle.arwen_macho.specs.Container.{container_step}
 use Rattle.arwen_macho.specs.FatState.{fat_laid_bytes, fat_step, first_fat_state}
 

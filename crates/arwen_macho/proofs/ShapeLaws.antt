@@ -15,10 +15,10 @@ use Rattle.arwen_macho.specs.ContainerShown.{ShowsFile}
 use Rattle.arwen_macho.specs.FatHeld.{FatHeld}
 use Rattle.arwen_macho.specs.FatShown.{FatShows}
 use Rattle.arwen_macho.specs.Found.{begins_fat, container_found, fat_found}
-use Rattle.arwen_macho.specs.Held.{Held}
+use Rattle.macho_edits.specs.Held.{Held}
 use Rattle.arwen_macho.specs.Shown.{Shows}
-use Rattle.arwen_macho.specs.State.{State, laid_bytes}
-use Rattle.arwen_macho.specs.Whole.{IsState}
+use Rattle.macho_edits.specs.State.{State, laid_bytes}
+use Rattle.macho_edits.specs.Whole.{IsState}
 use Rattle.std.specs.List.{concat}
 use Rattle.arwen_macho.proofs.FatLaws.{accepted_parts}
 

@@ -6,13 +6,13 @@ use Rattle.std.proofs.lemmas.List.{length-append}
 use Rattle.macho_image.specs.declared.format.Ctx.{Ctx}
 use Rattle.macho_image.specs.Command.{dylib_of}
 use Rattle.macho_image.specs.Form.{ctx_of}
-use Rattle.arwen_macho.specs.Built.{dylib_built, rpath_built}
-use Rattle.arwen_macho.specs.Call.{Call, Cause}
-use Rattle.arwen_macho.specs.Call.Call.{add_rpath, change_install_id, change_install_name, change_rpath, remove_rpath}
-use Rattle.arwen_macho.specs.Call.Cause.{no_room}
-use Rattle.arwen_macho.specs.Edited.{edited_list, is_id, is_library_named, is_rpath_named}
+use Rattle.macho_edits.specs.Built.{dylib_built, rpath_built}
+use Rattle.macho_edits.specs.Call.{Call, Cause}
+use Rattle.macho_edits.specs.Call.Call.{add_rpath, change_install_id, change_install_name, change_rpath, remove_rpath}
+use Rattle.macho_edits.specs.Call.Cause.{no_room}
+use Rattle.macho_edits.specs.Edited.{edited_list, is_id, is_library_named, is_rpath_named}
 use Rattle.arwen_macho.specs.Laws.{ChangesAt, LastDecides, MiddleMayOverflow, ShorterFits}
-use Rattle.arwen_macho.specs.State.{Refusal, State, answer_at, available, edited_by, end_of, step, then_on}
+use Rattle.macho_edits.specs.State.{Refusal, State, answer_at, available, edited_by, end_of, step, then_on}
 use Rattle.arwen_macho.proofs.StateLaws.{edited_by-one, step-fits, step-no_room}
 
 -- a shorter command in the place of another makes a list no longer

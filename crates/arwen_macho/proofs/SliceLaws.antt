@@ -5,7 +5,7 @@ use Rattle.std.proofs.lemmas.Bool.{cases_lt, lt-ltb}
 use Rattle.macho_image.specs.declared.fat.FatArch.{FatArch}
 use Rattle.macho_image.specs.Fat.{share_byte, slice_of}
 use Rattle.arwen_macho.specs.FatState.{Slice, bytes_laid_over, put_at}
-use Rattle.arwen_macho.specs.State.{laid_bytes}
+use Rattle.macho_edits.specs.State.{laid_bytes}
 use Rattle.arwen_macho.specs.FatShown.{IsOutside}
 use Rattle.arwen_macho.proofs.PutLaws.{get_or-put_at, length-put_at, put_at_comm, slice-put_at, slice-put_at_apart, take-put_at}
 

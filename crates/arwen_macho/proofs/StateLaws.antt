@@ -15,13 +15,13 @@ use Rattle.macho_image.specs.Commands.{commands_of, first_content_of, least}
 use Rattle.macho_image.specs.Form.{area_of, ctx_of, header_size, sizeofcmds_of}
 use Rattle.macho_image.specs.Image.{with_area}
 use Rattle.macho_image.proofs.ForCallers.{area_fault-concat, commands_of-with_area, concat-commands_of, ctx_of-with_area, cut-concat, file_fault-with_area, first_content_of-with_area, found, length-with_area, with_area-same, with_area-with_area}
-use Rattle.arwen_macho.specs.Call.{Call, Cause}
-use Rattle.arwen_macho.specs.Call.Cause.{no_room}
-use Rattle.arwen_macho.specs.Edited.{edited_list}
-use Rattle.arwen_macho.specs.State.{Refusal, State, answer_at, available, edited_by, end_of, first_state, fitted_state, laid_bytes, step, then_on}
+use Rattle.macho_edits.specs.Call.{Call, Cause}
+use Rattle.macho_edits.specs.Call.Cause.{no_room}
+use Rattle.macho_edits.specs.Edited.{edited_list}
+use Rattle.macho_edits.specs.State.{Refusal, State, answer_at, available, edited_by, end_of, first_state, fitted_state, laid_bytes, step, then_on}
 use Rattle.arwen_macho.specs.Shown.{Shows}
-use Rattle.arwen_macho.specs.Whole.{IsState, IsWhole, KeepsContents, TextsAreBytes}
-use Rattle.arwen_macho.proofs.EditLaws.{edited_keeps}
+use Rattle.macho_edits.specs.Whole.{IsState, IsWhole, KeepsContents, TextsAreBytes}
+use Rattle.macho_edits.proofs.ForCallers.{edited_keeps}
 
 -- the least of a number and others is at most that number
 pub least-le : (n : ℕ) (xs : List ℕ) → least n xs ≤ n

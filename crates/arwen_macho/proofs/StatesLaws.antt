@@ -9,16 +9,16 @@ use Rattle.macho_image.specs.Checks.{file_fault}
 use Rattle.macho_image.specs.Form.{ctx_of}
 use Rattle.arwen_macho.specs.declared.macho.MachoType.{MachoType}
 use Rattle.arwen_macho.specs.declared.macho.MachoType.TheVariants.{Fat, SingleArch}
-use Rattle.arwen_macho.specs.Call.{Call}
+use Rattle.macho_edits.specs.Call.{Call}
 use Rattle.arwen_macho.specs.Container.{as_fat, as_thin, container_step}
 use Rattle.arwen_macho.specs.ContainerShown.{IsFileState, StepShows}
 use Rattle.arwen_macho.specs.FatHeld.{FatHeld, IsFatState, IsSlice, first_fat_held}
 use Rattle.arwen_macho.specs.FatState.{FatState, Slice, fat_laid_bytes, fat_step, joined_step, step_slices, with_slices}
 use Rattle.arwen_macho.specs.FileLaws.{FatBytesShow, FileBytesShow, FreshHasItsBytes, FreshIsState, StepIsState, ThinBytesShow}
 use Rattle.arwen_macho.specs.Found.{begins_fat, container_found, fat_found, found_fault}
-use Rattle.arwen_macho.specs.Held.{Held, first_held, is_edited_by}
-use Rattle.arwen_macho.specs.State.{Refusal, State, available, edited_by, end_of, fitted_state, laid_bytes, step}
-use Rattle.arwen_macho.specs.Whole.{IsState, KeepsContents, TextsAreBytes}
+use Rattle.macho_edits.specs.Held.{Held, first_held, is_edited_by}
+use Rattle.macho_edits.specs.State.{Refusal, State, available, edited_by, end_of, fitted_state, laid_bytes, step}
+use Rattle.macho_edits.specs.Whole.{IsState, KeepsContents, TextsAreBytes}
 use Rattle.arwen_macho.proofs.FatLaws.{fat_laid_shows, none_fault}
 use Rattle.arwen_macho.proofs.FatStepLaws.{first_fat_is}
 use Rattle.arwen_macho.proofs.LeadLaws.{first_bytes}

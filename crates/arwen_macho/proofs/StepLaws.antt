@@ -6,12 +6,12 @@ use Rattle.macho_image.specs.Commands.{commands_of}
 use Rattle.macho_image.specs.Form.{ctx_of}
 use Rattle.arwen_macho.specs.declared.change.Change.{Change}
 use Rattle.arwen_macho.specs.declared.macho.SingleMachO.TheInside.{Inside}
-use Rattle.arwen_macho.specs.Batch.{RefusesAt}
-use Rattle.arwen_macho.specs.Call.{Call, Cause}
+use Rattle.macho_edits.specs.Batch.{RefusesAt}
+use Rattle.macho_edits.specs.Call.{Call, Cause}
 use Rattle.arwen_macho.specs.Change.{IsChangeOf, RefusesRoom, changed_file, list_of}
-use Rattle.arwen_macho.specs.Held.{Held, RefusesStep}
+use Rattle.macho_edits.specs.Held.{Held, RefusesStep}
 use Rattle.arwen_macho.specs.HeldBy.{IsHeld, held_of}
-use Rattle.arwen_macho.specs.State.{Refusal, State, edited_by, step}
+use Rattle.macho_edits.specs.State.{Refusal, State, edited_by, step}
 use Rattle.arwen_macho.proofs.StateLaws.{laid_shows, step-fits, step-no_room, step-refused}
 
 -- a change of the drafted list is the step

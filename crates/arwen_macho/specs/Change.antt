@@ -6,11 +6,11 @@ use Rattle.macho_image.specs.Form.{ctx_of}
 use Rattle.macho_image.specs.Prepared.{IsMadeFor, copy_for}
 use Rattle.arwen_macho.specs.declared.change.Change.{Change}
 use Rattle.arwen_macho.specs.declared.change.Fit.{Fit}
-use Rattle.arwen_macho.specs.Call.{Call, Cause}
-use Rattle.arwen_macho.specs.Call.Cause.{no_room}
-use Rattle.arwen_macho.specs.Held.{Held, image_held}
-use Rattle.arwen_macho.specs.State.{State, available, end_of, laid_bytes, step}
-use Rattle.arwen_macho.specs.Whole.{KeepsContents}
+use Rattle.macho_edits.specs.Call.{Call, Cause}
+use Rattle.macho_edits.specs.Call.Cause.{no_room}
+use Rattle.macho_edits.specs.Held.{Held, image_held}
+use Rattle.macho_edits.specs.State.{State, available, end_of, laid_bytes, step}
+use Rattle.macho_edits.specs.Whole.{KeepsContents}
 
 -- the list of load commands that a change brings
 abbrev pub list_of : Held → Change → List (List ℕ)

@@ -2,18 +2,18 @@
 use Rattle.std.specs.Prelude.{ℕ, ◌≡◌, Bool, List, [], ◌∷◌, Result, Ok, Err, map, MatchResult, IsOk, ⊤, if◌then◌else◌}
 use Rattle.std.specs.declared.alloc.Global.{Global}
 use Rattle.std.specs.declared.vec.Vec.{Vec}
-use Rattle.arwen_macho.specs.declared.batch.MachoBatchError.{MachoBatchError}
-use Rattle.arwen_macho.specs.declared.batch.MachoEdit.{MachoEdit}
-use Rattle.arwen_macho.specs.declared.error.MachoError.{MachoError}
+use Rattle.macho_edits.specs.declared.batch.MachoBatchError.{MachoBatchError}
+use Rattle.macho_edits.specs.declared.batch.MachoEdit.{MachoEdit}
+use Rattle.macho_edits.specs.declared.error.MachoError.{MachoError}
 use Rattle.arwen_macho.specs.declared.macho.MachoType.{MachoType}
 use Rattle.arwen_macho.specs.declared.macho.MachoType.TheVariants.{Fat, SingleArch}
-use Rattle.arwen_macho.specs.Batch.{RefusedAt, calls_of}
-use Rattle.arwen_macho.specs.Call.{Call}
+use Rattle.macho_edits.specs.Batch.{RefusedAt, calls_of}
+use Rattle.macho_edits.specs.Call.{Call}
 use Rattle.arwen_macho.specs.FatHeld.{first_fat_held}
 use Rattle.arwen_macho.specs.FatState.{FatState, fat_laid_bytes, fat_step}
 use Rattle.arwen_macho.specs.Found.{begins_fat}
-use Rattle.arwen_macho.specs.Held.{RefusedBy, first_held, is_edited_by}
-use Rattle.arwen_macho.specs.State.{Refusal, State, laid_bytes, step}
+use Rattle.macho_edits.specs.Held.{RefusedBy, first_held, is_edited_by}
+use Rattle.macho_edits.specs.State.{Refusal, State, laid_bytes, step}
 
 -- a file as it was parsed
 abbrev pub first_container : List ℕ → MachoType

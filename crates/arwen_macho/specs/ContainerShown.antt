@@ -7,8 +7,8 @@ use Rattle.arwen_macho.specs.FatHeld.{IsFatState}
 use Rattle.arwen_macho.specs.FatShown.{FatShows}
 use Rattle.arwen_macho.specs.Found.{begins_fat, container_found}
 use Rattle.arwen_macho.specs.Shown.{Shows}
-use Rattle.arwen_macho.specs.State.{Refusal}
-use Rattle.arwen_macho.specs.Whole.{IsState}
+use Rattle.macho_edits.specs.State.{Refusal}
+use Rattle.macho_edits.specs.Whole.{IsState}
 
 -- whether a file is fat
 abbrev pub is_fat_file : MachoType → Bool

@@ -1,15 +1,15 @@
 -- What a container holds of a fat file, and what holds of every such state.
 use Rattle.std.specs.Prelude.{ℕ, ◌≡◌, ◌∷◌, [], Bool, false, List, map, All, None, Result, Ok, MatchResult}
 use Rattle.macho_image.specs.Fat.{archs_of, slice_of}
-use Rattle.arwen_macho.specs.declared.batch.MachoBatchError.{MachoBatchError}
-use Rattle.arwen_macho.specs.declared.error.MachoError.{MachoError}
-use Rattle.arwen_macho.specs.Batch.{RefusedAt}
-use Rattle.arwen_macho.specs.Call.{Call}
+use Rattle.macho_edits.specs.declared.batch.MachoBatchError.{MachoBatchError}
+use Rattle.macho_edits.specs.declared.error.MachoError.{MachoError}
+use Rattle.macho_edits.specs.Batch.{RefusedAt}
+use Rattle.macho_edits.specs.Call.{Call}
 use Rattle.arwen_macho.specs.FatState.{FatState, Slice, fat_step, first_fat_state}
 use Rattle.arwen_macho.specs.Found.{fat_found}
-use Rattle.arwen_macho.specs.Held.{RefusedBy, is_edited_by}
-use Rattle.arwen_macho.specs.State.{Refusal}
-use Rattle.arwen_macho.specs.Whole.{IsState}
+use Rattle.macho_edits.specs.Held.{RefusedBy, is_edited_by}
+use Rattle.macho_edits.specs.State.{Refusal}
+use Rattle.macho_edits.specs.Whole.{IsState}
 
 -- the state, and whether its bytes are a copy that was edited
 pub record FatHeld : Type 0 where

@@ -2,13 +2,13 @@
 use Rattle.std.specs.Prelude.{ℕ, ◌≡◌, ◌≤◌, ◌↔◌, All, List, [], ◌∷◌, length, replicate, get_or, IsOkAnd, Ok, ⊤}
 use Rattle.std.specs.List.{AllZip}
 use Rattle.patch_bytes.specs.Bytes.{AreBytes}
-use Rattle.arwen_macho.specs.Call.{Call}
-use Rattle.arwen_macho.specs.Call.Call.{add_rpath, remove_rpath}
+use Rattle.macho_edits.specs.Call.{Call}
+use Rattle.macho_edits.specs.Call.Call.{add_rpath, remove_rpath}
 use Rattle.arwen_macho.specs.FatHeld.{IsFatState}
 use Rattle.arwen_macho.specs.FatState.{FatState, Slice, fat_laid_bytes, fat_step}
 use Rattle.arwen_macho.specs.Laws.{ChangesAt, GivesBack, LacksRpath, pad_taken, taken_size}
 use Rattle.macho_image.specs.Form.{ctx_of}
-use Rattle.arwen_macho.specs.State.{State, step}
+use Rattle.macho_edits.specs.State.{State, step}
 
 -- no rpath command of any slice has this text
 abbrev pub LackRpath : FatState → List ℕ → Type 0

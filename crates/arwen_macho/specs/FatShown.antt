@@ -5,7 +5,7 @@ use Rattle.macho_image.specs.Fat.{archs_of, slice_of}
 use Rattle.arwen_macho.specs.FatState.{FatState}
 use Rattle.arwen_macho.specs.Found.{fat_found}
 use Rattle.arwen_macho.specs.Shown.{Shows}
-use Rattle.arwen_macho.specs.State.{laid_bytes}
+use Rattle.macho_edits.specs.State.{laid_bytes}
 
 -- a position at which no byte of a slice lies
 abbrev pub IsOutside : ℕ → FatArch → Type 0

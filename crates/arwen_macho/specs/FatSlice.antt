@@ -5,15 +5,15 @@ use Rattle.std.specs.declared.alloc.Global.{Global}
 use Rattle.std.specs.declared.vec.Vec.{Vec}
 use Rattle.macho_image.specs.declared.fat.FatArch.{FatArch}
 use Rattle.macho_image.specs.Fat.{slice_of}
-use Rattle.arwen_macho.specs.declared.batch.MachoBatchError.{MachoBatchError}
+use Rattle.macho_edits.specs.declared.batch.MachoBatchError.{MachoBatchError}
 use Rattle.arwen_macho.specs.declared.change.Change.{Change}
-use Rattle.arwen_macho.specs.Batch.{RefusedAt}
-use Rattle.arwen_macho.specs.Call.{Call}
+use Rattle.macho_edits.specs.Batch.{RefusedAt}
+use Rattle.macho_edits.specs.Call.{Call}
 use Rattle.arwen_macho.specs.Change.{IsChangeOf, IsStepOf, changed_file}
 use Rattle.arwen_macho.specs.FatState.{Slice, put_at, step_slices}
-use Rattle.arwen_macho.specs.Held.{Held, first_held}
-use Rattle.arwen_macho.specs.State.{Refusal, laid_bytes}
-use Rattle.arwen_macho.specs.Whole.{IsState}
+use Rattle.macho_edits.specs.Held.{Held, first_held}
+use Rattle.macho_edits.specs.State.{Refusal, laid_bytes}
+use Rattle.macho_edits.specs.Whole.{IsState}
 
 -- a slice under edits: its record in the table, and its file
 pub record HeldSlice : Type 0 where

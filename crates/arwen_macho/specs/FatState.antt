@@ -2,8 +2,8 @@
 use Rattle.std.specs.Prelude.{ℕ, ◌+◌, List, [], ◌∷◌, ◌++◌, length, take, drop, map, Result, Ok, Err}
 use Rattle.macho_image.specs.declared.fat.FatArch.{FatArch}
 use Rattle.macho_image.specs.Fat.{archs_of, slice_of}
-use Rattle.arwen_macho.specs.Call.{Call}
-use Rattle.arwen_macho.specs.State.{Refusal, State, first_state, laid_bytes, step}
+use Rattle.macho_edits.specs.Call.{Call}
+use Rattle.macho_edits.specs.State.{Refusal, State, first_state, laid_bytes, step}
 
 -- a slice: its record in the table, and its state
 pub record Slice : Type 0 where

@@ -2,7 +2,7 @@
 use Rattle.std.specs.Prelude.{ℕ, ◌≡◌, All, List, None, Ok}
 use Rattle.patch_bytes.specs.Bytes.{AreBytes}
 use Rattle.arwen_macho.specs.declared.macho.MachoType.{MachoType}
-use Rattle.arwen_macho.specs.Call.{Call}
+use Rattle.macho_edits.specs.Call.{Call}
 use Rattle.arwen_macho.specs.Container.{container_bytes, container_step, first_container}
 use Rattle.arwen_macho.specs.ContainerShown.{IsFileState, ShowsFile}
 use Rattle.arwen_macho.specs.FatHeld.{IsFatState}
@@ -10,8 +10,8 @@ use Rattle.arwen_macho.specs.FatShown.{FatShows}
 use Rattle.arwen_macho.specs.FatState.{FatState, fat_laid_bytes}
 use Rattle.arwen_macho.specs.Found.{container_found}
 use Rattle.arwen_macho.specs.Shown.{Shows}
-use Rattle.arwen_macho.specs.State.{State, laid_bytes}
-use Rattle.arwen_macho.specs.Whole.{IsState, TextsAreBytes}
+use Rattle.macho_edits.specs.State.{State, laid_bytes}
+use Rattle.macho_edits.specs.Whole.{IsState, TextsAreBytes}
 
 -- a file as it was parsed has the bytes that were read, in a state that edits can lead to
 abbrev pub FreshHasItsBytes : Type 0

@@ -6,15 +6,15 @@ use Rattle.std.specs.declared.vec.Vec.{Vec}
 use Rattle.arwen_macho.specs.declared.change.Change.{Change}
 use Rattle.arwen_macho.specs.declared.front.Front.{Front}
 use Rattle.arwen_macho.specs.declared.macho.MachoType.{MachoType}
-use Rattle.arwen_macho.specs.Call.{Call}
+use Rattle.macho_edits.specs.Call.{Call}
 use Rattle.arwen_macho.specs.Change.{IsStepOf, changed_file}
 use Rattle.arwen_macho.specs.Container.{container_bytes, container_step}
 use Rattle.arwen_macho.specs.FatHeld.{FatHeld, IsFatState}
 use Rattle.arwen_macho.specs.FatSlice.{HeldSlice}
 use Rattle.arwen_macho.specs.FatState.{fat_laid_bytes, fat_step, put_at}
-use Rattle.arwen_macho.specs.Held.{Held}
-use Rattle.arwen_macho.specs.State.{Refusal, laid_bytes, step}
-use Rattle.arwen_macho.specs.Whole.{IsState}
+use Rattle.macho_edits.specs.Held.{Held}
+use Rattle.macho_edits.specs.State.{Refusal, laid_bytes, step}
+use Rattle.macho_edits.specs.Whole.{IsState}
 
 -- bytes with fronts over them, the first one last
 abbrev pub fronts_on : List Front → List ℕ → List ℕ

@@ -2,9 +2,9 @@
 use Rattle.std.specs.Prelude.{◌≡◌}
 use Rattle.macho_image.specs.Commands.{commands_of}
 use Rattle.arwen_macho.specs.declared.macho.SingleMachO.TheInside.{Inside}
-use Rattle.arwen_macho.specs.Held.{Held}
-use Rattle.arwen_macho.specs.State.{laid_bytes}
-use Rattle.arwen_macho.specs.Whole.{IsState}
+use Rattle.macho_edits.specs.Held.{Held}
+use Rattle.macho_edits.specs.State.{laid_bytes}
+use Rattle.macho_edits.specs.Whole.{IsState}
 
 -- the bytes as read, the commands of the bytes now, and the furthest end
 abbrev pub held_of : Inside → Held

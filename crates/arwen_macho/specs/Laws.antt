@@ -3,13 +3,13 @@ use Rattle.std.specs.Prelude.{ℕ, ◌≡◌, ◌≤◌, ◌<◌, ◌-◌, ◌�
 use Rattle.macho_image.specs.declared.format.Ctx.{Ctx}
 use Rattle.macho_image.specs.Command.{dylib_of}
 use Rattle.macho_image.specs.Form.{ctx_of}
-use Rattle.arwen_macho.specs.Built.{dylib_built, rpath_built}
-use Rattle.arwen_macho.specs.Call.{Call}
-use Rattle.arwen_macho.specs.Call.Call.{add_rpath, change_install_id, change_install_name, change_rpath, remove_rpath}
-use Rattle.arwen_macho.specs.Call.Cause.{no_room}
-use Rattle.arwen_macho.specs.Edited.{is_id, is_library_named, is_rpath_named}
-use Rattle.arwen_macho.specs.State.{State, available, edited_by, end_of, laid_bytes, step}
-use Rattle.arwen_macho.specs.Whole.{IsState}
+use Rattle.macho_edits.specs.Built.{dylib_built, rpath_built}
+use Rattle.macho_edits.specs.Call.{Call}
+use Rattle.macho_edits.specs.Call.Call.{add_rpath, change_install_id, change_install_name, change_rpath, remove_rpath}
+use Rattle.macho_edits.specs.Call.Cause.{no_room}
+use Rattle.macho_edits.specs.Edited.{is_id, is_library_named, is_rpath_named}
+use Rattle.macho_edits.specs.State.{State, available, edited_by, end_of, laid_bytes, step}
+use Rattle.macho_edits.specs.Whole.{IsState}
 
 -- no rpath command of the list has this text
 abbrev pub LacksRpath : State → List ℕ → Type 0

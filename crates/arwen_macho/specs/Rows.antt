@@ -9,15 +9,15 @@ use Rattle.macho_image.specs.declared.format.Ctx.{Ctx}
 use Rattle.macho_image.specs.Checks.{file_fault}
 use Rattle.macho_image.specs.Commands.{first_content_of, rpaths_of}
 use Rattle.macho_image.specs.Form.{ctx_of, form}
-use Rattle.arwen_macho.specs.declared.batch.MachoBatchError.{MachoBatchError}
-use Rattle.arwen_macho.specs.declared.error.MachoError.TheVariants.{NoRoom}
-use Rattle.arwen_macho.specs.Built.{built_dylib, built_rpath, dylib_built, rpath_built}
-use Rattle.arwen_macho.specs.Call.{Call, Cause}
-use Rattle.arwen_macho.specs.Call.Call.{add_rpath, change_install_id, change_install_name, change_rpath, remove_rpath}
-use Rattle.arwen_macho.specs.Call.Cause.{name_missing, no_room, nul_inside, rpath_missing}
+use Rattle.macho_edits.specs.declared.batch.MachoBatchError.{MachoBatchError}
+use Rattle.macho_edits.specs.declared.error.MachoError.TheVariants.{NoRoom}
+use Rattle.macho_edits.specs.Built.{built_dylib, built_rpath, dylib_built, rpath_built}
+use Rattle.macho_edits.specs.Call.{Call, Cause}
+use Rattle.macho_edits.specs.Call.Call.{add_rpath, change_install_id, change_install_name, change_rpath, remove_rpath}
+use Rattle.macho_edits.specs.Call.Cause.{name_missing, no_room, nul_inside, rpath_missing}
 use Rattle.arwen_macho.specs.Container.{AnswersAll, container_bytes, first_container, left_by_all}
-use Rattle.arwen_macho.specs.Edited.{edited_list}
-use Rattle.arwen_macho.specs.State.{State, first_state, laid_bytes, step}
+use Rattle.macho_edits.specs.Edited.{edited_list}
+use Rattle.macho_edits.specs.State.{State, first_state, laid_bytes, step}
 
 -- the four forms of a header
 abbrev pub narrow_little : Ctx

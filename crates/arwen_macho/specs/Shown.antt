@@ -3,7 +3,7 @@ use Rattle.std.specs.Prelude.{ℕ, ◌≡◌, List, length, None}
 use Rattle.macho_image.specs.Checks.{file_fault}
 use Rattle.macho_image.specs.Commands.{commands_of, first_content_of}
 use Rattle.macho_image.specs.Form.{ctx_of}
-use Rattle.arwen_macho.specs.State.{State}
+use Rattle.macho_edits.specs.State.{State}
 
 -- no check of them fails; they have the form of the bytes as read, the state's list of load commands, the
 -- same first content, and as many bytes as were read

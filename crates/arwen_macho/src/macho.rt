@@ -4,16 +4,16 @@ ghost use Rattle.patch_bytes.specs.ByteString.{bytes_of_each};
 ghost use Rattle.macho_image.specs.Checks.{file_fault};
 ghost use Rattle.macho_image.specs.Commands.{first_content_of};
 ghost use Rattle.macho_image.specs.Form.{commands_end, ctx_of};
-ghost use Rattle.arwen_macho.specs.Call.Call.{add_rpath, change_install_id, change_install_name, change_rpath, remove_rpath};
+ghost use Rattle.macho_edits.specs.Call.Call.{add_rpath, change_install_id, change_install_name, change_rpath, remove_rpath};
 
-pub use crate::batch::{MachoBatchError, MachoEdit};
-use crate::batch::{edit_all, lend_all};
+pub use macho_edits::batch::{MachoBatchError, MachoEdit};
+use macho_edits::batch::{edit_all, lend_all};
 use crate::change::{Change, Fit};
-use crate::draft::Edit;
-pub use crate::error::MachoError;
+use macho_edits::draft::Edit;
+pub use macho_edits::error::MachoError;
 pub use crate::fat::{FatMacho, FatMachoContainer};
 pub use crate::front::{Front, lay_fronts};
-use crate::room::{available, commands_end, fits};
+use macho_edits::room::{available, commands_end, fits};
 pub use macho_image::{
     CommandVariant, Ctx, Dylib, DylibCommand, FatArch, Header, LoadCommand, LoadCommandHeader,
     MachFault, MachO, RpathCommand,
@@ -33,7 +33,7 @@ pub struct SingleMachO<'a> {
 }
 
 impl<'a> Model for SingleMachO<'a> {
-    ghost use Rattle.arwen_macho.specs.Held.{Held};
+    ghost use Rattle.macho_edits.specs.Held.{Held};
 
     ghost Value = { Held };
 
@@ -56,16 +56,16 @@ fn joined(alloc: Global, commands: &[ByteString<'_>]) -> Result<Vec<u8>, AllocEr
 }
 
 impl<'a> SingleMachO<'a> {
-    ghost use Rattle.arwen_macho.specs.Batch.{StepsBatch, ThinRefuses, calls_of};
+    ghost use Rattle.macho_edits.specs.Batch.{StepsBatch, ThinRefuses, calls_of};
     ghost use Rattle.arwen_macho.specs.Change.{IsChangeOf, IsFitFor, IsStepFit, IsStepOf, RefusesRoom, change_with, changed_file, front_fit};
-    ghost use Rattle.arwen_macho.specs.Edit.{AreTexts, call_of, calls_lent};
+    ghost use Rattle.macho_edits.specs.Edit.{AreTexts, call_of, calls_lent};
     ghost use Rattle.arwen_macho.specs.Found.{Finds, found_fault};
     ghost use Rattle.arwen_macho.specs.Fronts.{IsFrontAt, LeadThin, StepIsThin};
-    ghost use Rattle.arwen_macho.specs.Held.{StepsOnce, first_held, image_held};
-    ghost use Rattle.arwen_macho.specs.Refused.{cause_of};
+    ghost use Rattle.macho_edits.specs.Held.{StepsOnce, first_held, image_held};
+    ghost use Rattle.macho_edits.specs.Refused.{cause_of};
     ghost use Rattle.arwen_macho.specs.Shown.{Shows};
-    ghost use Rattle.arwen_macho.specs.State.{laid_bytes};
-    ghost use Rattle.arwen_macho.specs.Whole.{IsState, KeepsContents, TextsAreBytes};
+    ghost use Rattle.macho_edits.specs.State.{laid_bytes};
+    ghost use Rattle.macho_edits.specs.Whole.{IsState, KeepsContents, TextsAreBytes};
 
     /// Parses a thin file. It is refused by the first check that fails, or where there is no memory.
     pub fn parse(alloc: Global, bytes: &'a [u8]) -> Result<SingleMachO<'a>, MachoError>
@@ -335,13 +335,13 @@ impl<'a> Model for MachoContainer<'a> {
 }
 
 impl<'a> MachoContainer<'a> {
-    ghost use Rattle.arwen_macho.specs.Batch.{calls_of};
+    ghost use Rattle.macho_edits.specs.Batch.{calls_of};
     ghost use Rattle.arwen_macho.specs.Container.{AnswersEach, FileRefuses, LeavesEach, TakesBatch, TakesOnce, all_calls, container_bytes, container_step, first_container, is_edited_file};
     ghost use Rattle.arwen_macho.specs.ContainerShown.{ShowsFile, StepShows};
-    ghost use Rattle.arwen_macho.specs.Edit.{AreTexts, call_of, calls_lent};
+    ghost use Rattle.macho_edits.specs.Edit.{AreTexts, call_of, calls_lent};
     ghost use Rattle.arwen_macho.specs.Found.{Finds, container_found};
     ghost use Rattle.arwen_macho.specs.Fronts.{LeadFile};
-    ghost use Rattle.arwen_macho.specs.Whole.{TextsAreBytes};
+    ghost use Rattle.macho_edits.specs.Whole.{TextsAreBytes};
 
     /// Parses a file, which is fat where it begins with the magic of fat files. It is refused by the first
     /// check that fails, or where there is no memory.

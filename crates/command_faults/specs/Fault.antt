@@ -3,9 +3,9 @@ use Rattle.std.specs.Prelude.{ℕ, ⊤}
 use Rattle.arwen_elf.specs.declared.elf.rewriter.error.ElfError.{ElfError}
 use Rattle.arwen_elf.specs.declared.elf.rewriter.error.ElfError.TheVariants as elf
 use Rattle.arwen_elf.specs.declared.elf.rewriter.batch.ElfBatchError.{ElfBatchError}
-use Rattle.arwen_macho.specs.declared.error.MachoError.{MachoError}
-use Rattle.arwen_macho.specs.declared.error.MachoError.TheVariants as macho
-use Rattle.arwen_macho.specs.declared.batch.MachoBatchError.{MachoBatchError}
+use Rattle.macho_edits.specs.declared.error.MachoError.{MachoError}
+use Rattle.macho_edits.specs.declared.error.MachoError.TheVariants as macho
+use Rattle.macho_edits.specs.declared.batch.MachoBatchError.{MachoBatchError}
 use Rattle.byte_store.specs.declared.reading.ReadError.{ReadError}
 use Rattle.byte_store.specs.declared.reading.ReadError.TheVariants as read
 use Rattle.byte_store.specs.declared.difference.ReplaceError.{ReplaceError}

@@ -1,18 +1,18 @@
 -- The program's answers to errors of the library tell the outcome.
 use Rattle.std.proofs.Common.{◌≡◌, ◌∷◌, [], Option, Some, None, Result, Ok, Err, List, ℕ, length, refl, sym, ap, ◌∙◌, subst}
 use Rattle.std.specs.List.{All}
-use Rattle.arwen_macho.specs.declared.batch.MachoBatchError.{MachoBatchError}
-use Rattle.arwen_macho.specs.declared.commands.CommandBuilderError.TheVariants.{CStrError, ScrollError, Memory as builder_memory}
-use Rattle.arwen_macho.specs.declared.error.MachoError.{MachoError}
-use Rattle.arwen_macho.specs.declared.error.MachoError.TheVariants.{CommandBuilderError, DylibIdMissing, DylibNameMissing, Memory, NoRoom, Parsing, RpathMissing, UnixArchive}
+use Rattle.macho_edits.specs.declared.batch.MachoBatchError.{MachoBatchError}
+use Rattle.macho_edits.specs.declared.commands.CommandBuilderError.TheVariants.{CStrError, ScrollError, Memory as builder_memory}
+use Rattle.macho_edits.specs.declared.error.MachoError.{MachoError}
+use Rattle.macho_edits.specs.declared.error.MachoError.TheVariants.{CommandBuilderError, DylibIdMissing, DylibNameMissing, Memory, NoRoom, Parsing, RpathMissing, UnixArchive}
 use Rattle.arwen_macho.specs.declared.front.Front.{Front}
 use Rattle.arwen_macho.specs.declared.macho.MachoType.{MachoType}
-use Rattle.arwen_macho.specs.Batch.{RefusesAt}
-use Rattle.arwen_macho.specs.Call.{Call, Cause}
+use Rattle.macho_edits.specs.Batch.{RefusesAt}
+use Rattle.macho_edits.specs.Call.{Call, Cause}
 use Rattle.arwen_macho.specs.Found.{container_found}
-use Rattle.arwen_macho.specs.Held.{RefusesStep}
-use Rattle.arwen_macho.specs.Refused.{cause_of}
-use Rattle.arwen_macho.specs.State.{Refusal}
+use Rattle.macho_edits.specs.Held.{RefusesStep}
+use Rattle.macho_edits.specs.Refused.{cause_of}
+use Rattle.macho_edits.specs.State.{Refusal}
 use Rattle.macho_commands.specs.Engine.{AreAsked, Asked, Tells, TellsBatch, TellsMacho, Writes, asked, outcome_of, refused_answer, written}
 use Rattle.macho_commands.specs.Engine.Asked.{one, several}
 use Rattle.macho_commands.specs.Engine.Outcome.{bytes, refused, refused_batch}

@@ -1,6 +1,6 @@
 -- What the words of several edits of a Mach-O file on one line mean.
 use Rattle.std.specs.Prelude.{List, Option, Some, None, Result, Ok, Err}
-use Rattle.arwen_macho.specs.Call.{Call}
+use Rattle.macho_edits.specs.Call.{Call}
 use Rattle.command_words.specs.Groups.{Wrong, edits_by, group_edit, no_edit}
 use Rattle.macho_commands.specs.Meaning.{MachoMeaning, apply, edit, macho_lines}
 use Rattle.command_words.specs.Rows.{Text}

@@ -1,18 +1,18 @@
 -- What a command makes of a file's bytes.
 use Rattle.std.specs.Prelude.{ℕ, ◌≡◌, List, [], ◌∷◌, length, All, Option, Some, None, Result, Ok, Err, ⊤}
-use Rattle.arwen_macho.specs.declared.batch.MachoBatchError.{MachoBatchError}
-use Rattle.arwen_macho.specs.declared.error.MachoError.{MachoError}
-use Rattle.arwen_macho.specs.declared.error.MachoError.TheVariants.{Parsing, UnixArchive}
+use Rattle.macho_edits.specs.declared.batch.MachoBatchError.{MachoBatchError}
+use Rattle.macho_edits.specs.declared.error.MachoError.{MachoError}
+use Rattle.macho_edits.specs.declared.error.MachoError.TheVariants.{Parsing, UnixArchive}
 use Rattle.arwen_macho.specs.declared.front.Front.{Front}
 use Rattle.arwen_macho.specs.declared.macho.MachoType.{MachoType}
-use Rattle.arwen_macho.specs.Call.{Call}
+use Rattle.macho_edits.specs.Call.{Call}
 use Rattle.arwen_macho.specs.Container.{container_bytes, container_step, first_container}
 use Rattle.arwen_macho.specs.ContainerShown.{ShowsFile}
 use Rattle.arwen_macho.specs.Found.{Found, container_found}
 use Rattle.arwen_macho.specs.Found.Found.{archive, fault}
 use Rattle.arwen_macho.specs.Fronts.{LiesIn, fronts_on}
-use Rattle.arwen_macho.specs.Refused.{cause_of}
-use Rattle.arwen_macho.specs.State.{Refusal}
+use Rattle.macho_edits.specs.Refused.{cause_of}
+use Rattle.macho_edits.specs.State.{Refusal}
 use Rattle.command_words.specs.declared.edits.EditFault.{EditFault}
 use Rattle.command_faults.specs.declared.error.ArwenError.{ArwenError}
 use Rattle.command_faults.specs.declared.error.ArwenError.TheVariants.{Edits, Elf, ElfBatch, Io, Line, Macho, MachoBatch, Memory}

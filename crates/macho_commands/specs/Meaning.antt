@@ -1,8 +1,8 @@
 -- What a command for Mach-O files asks for, with its texts as bytes.
 use Rattle.std.specs.Prelude.{◌∷◌, [], List, codes, false, map, string_bytes, true}
-use Rattle.arwen_macho.specs.Call.{Call}
-use Rattle.arwen_macho.specs.Call.Call.{add_rpath, change_install_id, change_install_name}
-use Rattle.arwen_macho.specs.Call.Call.{change_rpath, remove_rpath}
+use Rattle.macho_edits.specs.Call.{Call}
+use Rattle.macho_edits.specs.Call.Call.{add_rpath, change_install_id, change_install_name}
+use Rattle.macho_edits.specs.Call.Call.{change_rpath, remove_rpath}
 use Rattle.command_words.specs.Rows.{Asks, Line, Text, by_text, by_texts, by_words}
 use Rattle.macho_commands.specs.declared.command.MachoCommand.{MachoCommand}
 use Rattle.macho_commands.specs.declared.command.MachoCommand.TheVariants as macho

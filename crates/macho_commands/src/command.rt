@@ -25,7 +25,7 @@ pub enum MachoCommand {
 
 impl MachoCommand {
     ghost use Rattle.std.specs.Prelude.{◌≡◌, ◌∷◌, IfOk, map, option_map, string_bytes};
-    ghost use Rattle.arwen_macho.specs.Batch.{call_made};
+    ghost use Rattle.macho_edits.specs.Batch.{call_made};
     ghost use Rattle.macho_commands.specs.Edits.{edit_asked};
     ghost use Rattle.macho_commands.specs.Meaning.{file_of, macho_lines, macho_shown};
     ghost use Rattle.command_words.specs.Rows.{given_shown, meant_with, text, texts, words as words_given};

@@ -1,6 +1,6 @@
 //! The words of several edits of a Mach-O file on one line.
 ghost use Rattle.std.specs.Prelude.{◌≡◌, Ok, IfOk, IfErr, map, option_and_then, option_map};
-ghost use Rattle.arwen_macho.specs.Batch.{call_made, calls_of};
+ghost use Rattle.macho_edits.specs.Batch.{call_made, calls_of};
 ghost use Rattle.command_words.specs.Groups.{TellsFault, TellsWrong};
 ghost use Rattle.command_words.specs.Rows.{given_without_path, kind_shown, meant_with};
 ghost use Rattle.macho_commands.specs.Edits.{edit_asked, edits_of, macho_group_edit, one_edit};

@@ -1,6 +1,6 @@
 //! New bytes of old ones.
 ghost use Rattle.std.specs.Prelude.{◌≡◌, ◌∷◌, [], Ok, IfOk, IfErr, OnOk};
-ghost use Rattle.arwen_macho.specs.Batch.{calls_of};
+ghost use Rattle.macho_edits.specs.Batch.{calls_of};
 ghost use Rattle.macho_commands.specs.Engine.{AreAsked, MayFail, Outcome, ShowsEdited};
 ghost use Rattle.macho_commands.specs.Engine.{Tells, TellsAsked, Writes};
 ghost use Rattle.macho_commands.specs.Engine.{asked, outcome, refused_answer};

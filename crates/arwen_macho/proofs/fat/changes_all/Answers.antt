@@ -2,13 +2,13 @@ use Rattle.std.proofs.Common.{◌<◌, ◌+◌, ℕ, List, length, take, drop, m
 use Rattle.std.specs.List.{AllZip}
 use Rattle.std.proofs.lemmas.Result.{err_from_is_err_and}
 use Rattle.arwen_macho.specs.declared.change.Change.{Change}
-use Rattle.arwen_macho.specs.Batch.{RefusesAt}
-use Rattle.arwen_macho.specs.Edit.{calls_lent}
-use Rattle.arwen_macho.specs.Call.{Call}
+use Rattle.macho_edits.specs.Batch.{RefusesAt}
+use Rattle.macho_edits.specs.Edit.{calls_lent}
+use Rattle.macho_edits.specs.Call.{Call}
 use Rattle.arwen_macho.specs.FatSlice.{HeldSlice, IsStepIn, slice_held}
 use Rattle.arwen_macho.specs.FatState.{step_slices}
-use Rattle.arwen_macho.specs.Refused.{cause_of}
-use Rattle.arwen_macho.specs.State.{step}
+use Rattle.macho_edits.specs.Refused.{cause_of}
+use Rattle.macho_edits.specs.State.{step}
 use Rattle.arwen_macho.proofs.CommitLaws.{AllZip_more, split_at}
 use Rattle.arwen_macho.proofs.FatStepLaws.{refuses_batch}
 use Rattle.arwen_macho.proofs.fat.changes_all.Goals as goal

@@ -1,6 +1,6 @@
 use Rattle.std.proofs.Common.{take}
 use Rattle.std.specs.List.{AllZip}
-use Rattle.arwen_macho.specs.Edit.{calls_lent}
+use Rattle.macho_edits.specs.Edit.{calls_lent}
 use Rattle.arwen_macho.specs.FatSlice.{IsStepIn}
 use Rattle.arwen_macho.proofs.fat.changes_all.Given as goal
 

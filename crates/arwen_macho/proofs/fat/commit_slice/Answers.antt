@@ -2,9 +2,9 @@ use Rattle.std.proofs.Common.{◌≡◌, length, ap, sym, ◌∙◌, subst, arit
 use Rattle.std.proofs.lemmas.List.{length-take-le}
 use Rattle.arwen_macho.specs.Change.{IsChangeOf, changed_file}
 use Rattle.arwen_macho.specs.FatSlice.{HeldSlice}
-use Rattle.arwen_macho.specs.Held.{Held}
-use Rattle.arwen_macho.specs.State.{laid_bytes}
-use Rattle.arwen_macho.specs.Whole.{IsState}
+use Rattle.macho_edits.specs.Held.{Held}
+use Rattle.macho_edits.specs.State.{laid_bytes}
+use Rattle.macho_edits.specs.Whole.{IsState}
 use Rattle.arwen_macho.proofs.ChangeLaws.{change_inside}
 use Rattle.arwen_macho.proofs.FrontLaws.{same_length}
 use Rattle.arwen_macho.proofs.fat.commit_slice.Goals as goal

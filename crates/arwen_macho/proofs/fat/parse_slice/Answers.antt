@@ -4,7 +4,7 @@ use Rattle.std.proofs.lemmas.Result.{err_from_is_err_and}
 use Rattle.macho_image.specs.Checks.{file_fault}
 use Rattle.macho_image.specs.Fat.{slice_of}
 use Rattle.arwen_macho.specs.Found.{ARCHIVE, Finds, found_fault}
-use Rattle.arwen_macho.specs.Held.{Held, first_held}
+use Rattle.macho_edits.specs.Held.{Held, first_held}
 use Rattle.arwen_macho.proofs.FatLaws.{archive_found, plain_found, slice_between}
 use Rattle.arwen_macho.proofs.fat.parse_slice.Goals as goal
 

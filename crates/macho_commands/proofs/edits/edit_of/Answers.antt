@@ -1,7 +1,7 @@
 -- A command that asks for no edit names none.
 use Rattle.std.proofs.Common.{sym, ap, ◌∙◌}
 use Rattle.std.specs.Prelude.{option_map}
-use Rattle.arwen_macho.specs.Batch.{call_made}
+use Rattle.macho_edits.specs.Batch.{call_made}
 use Rattle.macho_commands.specs.Edits.{one_edit}
 use Rattle.command_words.specs.Groups.{no_edit}
 use Rattle.command_words.proofs.ForCallers.{fault_told}

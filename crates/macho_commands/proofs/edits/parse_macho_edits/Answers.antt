@@ -4,10 +4,10 @@ use Rattle.std.proofs.lemmas.List.{length_push}
 use Rattle.std.proofs.lemmas.Result.{err_from_is_err_and}
 use Rattle.std.proofs.lemmas.Iterator.Consumers.{YieldsList-end, YieldsList-turn}
 use Rattle.std.proofs.lemmas.Iterator.Splits.{YieldsList-from_slice_split}
-use Rattle.arwen_macho.specs.Batch.{call_made, calls_of}
+use Rattle.macho_edits.specs.Batch.{call_made, calls_of}
 use Rattle.macho_commands.specs.Edits.{macho_group_edit}
 use Rattle.command_words.specs.Groups.{TellsWrong}
-use Rattle.arwen_macho.specs.declared.batch.MachoEdit.{MachoEdit}
+use Rattle.macho_edits.specs.declared.batch.MachoEdit.{MachoEdit}
 use Rattle.command_words.proofs.ForCallers.{IsReadTo, all_read, fault_read, groups_of, is_plus_word, none_read, one_read, pushed, texts}
 use Rattle.macho_commands.proofs.edits.parse_macho_edits.Goals as goal
 

@@ -1,5 +1,5 @@
 use Rattle.std.proofs.Common.{◌≡◌, length}
-use Rattle.arwen_macho.specs.Batch.{calls_of}
+use Rattle.macho_edits.specs.Batch.{calls_of}
 use Rattle.macho_commands.specs.Edits.{macho_group_edit}
 use Rattle.command_words.proofs.ForCallers.{IsReadTo}
 use Rattle.macho_commands.proofs.edits.parse_macho_edits.Given as goal

@@ -1,13 +1,13 @@
 use Rattle.std.proofs.Common.{ℕ, List, arith, subst}
 use Rattle.std.proofs.lemmas.Result.{err_from_is_err_and}
 use Rattle.patch_bytes.specs.Bytes.{AreBytes}
-use Rattle.arwen_macho.specs.declared.batch.MachoEdit.{MachoEdit}
+use Rattle.macho_edits.specs.declared.batch.MachoEdit.{MachoEdit}
 use Rattle.arwen_macho.specs.declared.macho.MachoType.{MachoType}
-use Rattle.arwen_macho.specs.Batch.{RefusesAt, calls_of}
+use Rattle.macho_edits.specs.Batch.{RefusesAt, calls_of}
 use Rattle.arwen_macho.specs.Container.{container_bytes, container_step}
 use Rattle.arwen_macho.specs.ContainerShown.{StepShows}
 use Rattle.arwen_macho.specs.Fronts.{LeadOn}
-use Rattle.arwen_macho.specs.Refused.{cause_of}
+use Rattle.macho_edits.specs.Refused.{cause_of}
 use Rattle.arwen_macho.proofs.ForCallers.{first_bytes}
 use Rattle.macho_commands.specs.Engine.{Asked, asked}
 use Rattle.macho_commands.specs.Meaning.{macho_shown}

@@ -1,12 +1,12 @@
 use Rattle.std.proofs.Common.{◌≡◌, [], List, length, Ok, refl, sym, subst}
 use Rattle.std.proofs.lemmas.Bool.{eqb-true}
 use Rattle.std.proofs.lemmas.List.{nil_from_length}
-use Rattle.arwen_macho.specs.declared.batch.MachoEdit.{MachoEdit}
-use Rattle.arwen_macho.specs.Batch.{calls_of}
+use Rattle.macho_edits.specs.declared.batch.MachoEdit.{MachoEdit}
+use Rattle.macho_edits.specs.Batch.{calls_of}
 use Rattle.arwen_macho.specs.FatHeld.{FatHeld}
 use Rattle.arwen_macho.specs.FatHeldBy.{fat_held_of}
 use Rattle.arwen_macho.specs.FatState.{fat_step}
-use Rattle.arwen_macho.specs.Held.{is_edited_by}
+use Rattle.macho_edits.specs.Held.{is_edited_by}
 use Rattle.arwen_macho.proofs.FatStepLaws.{fat_step-nil}
 use Rattle.arwen_macho.proofs.StateLaws.{step-nil}
 use Rattle.arwen_macho.proofs.fat.FatMachoContainer.apply.Goals as goal

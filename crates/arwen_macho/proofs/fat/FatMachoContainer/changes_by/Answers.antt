@@ -2,16 +2,16 @@ use Rattle.std.proofs.Common.{List, map, Vec, Global, subst}
 use Rattle.std.specs.List.{AllZip}
 use Rattle.std.proofs.lemmas.Result.{IfErr-weaker, IfOk-weaker}
 use Rattle.arwen_macho.specs.declared.change.Change.{Change}
-use Rattle.arwen_macho.specs.declared.batch.MachoBatchError.{MachoBatchError}
-use Rattle.arwen_macho.specs.Batch.{RefusesAt}
-use Rattle.arwen_macho.specs.Edit.{calls_lent}
-use Rattle.arwen_macho.specs.Call.{Call}
+use Rattle.macho_edits.specs.declared.batch.MachoBatchError.{MachoBatchError}
+use Rattle.macho_edits.specs.Batch.{RefusesAt}
+use Rattle.macho_edits.specs.Edit.{calls_lent}
+use Rattle.macho_edits.specs.Call.{Call}
 use Rattle.arwen_macho.specs.FatChange.{AreStepOf}
 use Rattle.arwen_macho.specs.FatHeld.{FatHeld}
 use Rattle.arwen_macho.specs.FatHeldBy.{fat_held_of}
 use Rattle.arwen_macho.specs.FatSlice.{HeldSlice, IsStepIn, slice_held}
 use Rattle.arwen_macho.specs.FatState.{fat_step, step_slices}
-use Rattle.arwen_macho.specs.Refused.{cause_of}
+use Rattle.macho_edits.specs.Refused.{cause_of}
 use Rattle.arwen_macho.proofs.FatHeldLaws.{changes_are}
 use Rattle.arwen_macho.proofs.FatStepLaws.{fat_batch_refused}
 use Rattle.arwen_macho.proofs.fat.FatMachoContainer.changes_by.Goals as goal

@@ -1,6 +1,6 @@
 use Rattle.std.proofs.Common.{◌∷◌, []}
-use Rattle.arwen_macho.specs.Edit.{call_of}
-use Rattle.arwen_macho.specs.Refused.{cause_of}
+use Rattle.macho_edits.specs.Edit.{call_of}
+use Rattle.macho_edits.specs.Refused.{cause_of}
 use Rattle.arwen_macho.specs.FatState.{fat_step}
 use Rattle.arwen_macho.proofs.StepLaws.{refuses_step}
 use Rattle.arwen_macho.proofs.fat.FatMachoContainer.edit.Goals as goal

@@ -1,6 +1,6 @@
 use Rattle.std.proofs.Common.{◌≡◌, ap}
 use Rattle.arwen_macho.specs.declared.macho.MachoContainer.TheInside.{Inside}
-use Rattle.arwen_macho.specs.Batch.{calls_of}
+use Rattle.macho_edits.specs.Batch.{calls_of}
 use Rattle.arwen_macho.proofs.ContainerLaws.{takes_fat, takes_thin}
 use Rattle.arwen_macho.proofs.macho.MachoContainer.apply.Goals.{in-Fat, in-SingleArch}
 use Rattle.arwen_macho.proofs.macho.MachoContainer.apply.Goals as goal

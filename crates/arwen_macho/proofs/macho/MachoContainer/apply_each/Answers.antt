@@ -3,11 +3,11 @@ use Rattle.std.proofs.Common.{◌≡◌, ◌+◌, List, [], ◌∷◌, ◌++◌,
 use Rattle.std.proofs.lemmas.List.{map_more, take_all}
 use Rattle.std.specs.declared.alloc.Global.{Global}
 use Rattle.std.specs.declared.vec.Vec.{Vec}
-use Rattle.arwen_macho.specs.declared.batch.MachoBatchError.{MachoBatchError}
-use Rattle.arwen_macho.specs.declared.batch.MachoEdit.{MachoEdit}
+use Rattle.macho_edits.specs.declared.batch.MachoBatchError.{MachoBatchError}
+use Rattle.macho_edits.specs.declared.batch.MachoEdit.{MachoEdit}
 use Rattle.arwen_macho.specs.declared.macho.MachoType.{MachoType}
-use Rattle.arwen_macho.specs.Batch.{calls_of}
-use Rattle.arwen_macho.specs.Call.{Call}
+use Rattle.macho_edits.specs.Batch.{calls_of}
+use Rattle.macho_edits.specs.Call.{Call}
 use Rattle.arwen_macho.specs.Container.{AnswersAll, AnswersBatch, TakesBatch, all_calls, container_step, left_by, left_by_all}
 use Rattle.arwen_macho.proofs.ContainerLaws.{answers_more, left_more, taken_is}
 use Rattle.arwen_macho.proofs.macho.MachoContainer.apply_each.Goals as goal

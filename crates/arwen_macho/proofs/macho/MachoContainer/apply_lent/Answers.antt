@@ -1,6 +1,6 @@
 use Rattle.std.proofs.Common.{◌≡◌, ap}
 use Rattle.arwen_macho.specs.declared.macho.MachoContainer.TheInside.{Inside}
-use Rattle.arwen_macho.specs.Edit.{calls_lent}
+use Rattle.macho_edits.specs.Edit.{calls_lent}
 use Rattle.arwen_macho.proofs.ContainerLaws.{takes_fat, takes_thin}
 use Rattle.arwen_macho.proofs.macho.MachoContainer.apply_lent.Goals.{in-Fat, in-SingleArch}
 use Rattle.arwen_macho.proofs.macho.MachoContainer.apply_lent.Goals as goal

@@ -1,16 +1,16 @@
 use Rattle.std.proofs.Common.{List, Vec, Global, ◌∙◌, sym, subst}
 use Rattle.std.proofs.lemmas.Result.{IfErr-weaker, IfOk-weaker}
-use Rattle.arwen_macho.specs.declared.batch.MachoBatchError.{MachoBatchError}
+use Rattle.macho_edits.specs.declared.batch.MachoBatchError.{MachoBatchError}
 use Rattle.arwen_macho.specs.declared.front.Front.{Front}
 use Rattle.arwen_macho.specs.declared.macho.MachoType.{MachoType}
-use Rattle.arwen_macho.specs.Batch.{RefusesAt, calls_of}
-use Rattle.arwen_macho.specs.Call.{Call}
+use Rattle.macho_edits.specs.Batch.{RefusesAt, calls_of}
+use Rattle.macho_edits.specs.Call.{Call}
 use Rattle.arwen_macho.specs.Container.{container_bytes, container_step}
 use Rattle.arwen_macho.specs.ContainerShown.{StepShows}
 use Rattle.arwen_macho.specs.FatState.{fat_laid_bytes, fat_step}
 use Rattle.arwen_macho.specs.Fronts.{LeadOn, StepIsFat, StepIsThin}
-use Rattle.arwen_macho.specs.Refused.{cause_of}
-use Rattle.arwen_macho.specs.State.{laid_bytes, step}
+use Rattle.macho_edits.specs.Refused.{cause_of}
+use Rattle.macho_edits.specs.State.{laid_bytes, step}
 use Rattle.arwen_macho.proofs.ContainerLaws.{refused_fat, refused_thin}
 use Rattle.arwen_macho.proofs.LeadLaws.{lead_on_fat, lead_on_thin}
 use Rattle.arwen_macho.proofs.StatesLaws.{fat_shows_step, on_ok-weaker, thin_shows_step}

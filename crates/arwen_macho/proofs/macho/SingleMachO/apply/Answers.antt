@@ -1,11 +1,11 @@
 use Rattle.std.proofs.Common.{◌≡◌, [], List, length, Ok, refl, sym, subst}
 use Rattle.std.proofs.lemmas.Bool.{eqb-true}
 use Rattle.std.proofs.lemmas.List.{nil_from_length}
-use Rattle.arwen_macho.specs.declared.batch.MachoEdit.{MachoEdit}
-use Rattle.arwen_macho.specs.Batch.{calls_of}
-use Rattle.arwen_macho.specs.Held.{Held, is_edited_by}
+use Rattle.macho_edits.specs.declared.batch.MachoEdit.{MachoEdit}
+use Rattle.macho_edits.specs.Batch.{calls_of}
+use Rattle.macho_edits.specs.Held.{Held, is_edited_by}
 use Rattle.arwen_macho.specs.HeldBy.{held_of}
-use Rattle.arwen_macho.specs.State.{step}
+use Rattle.macho_edits.specs.State.{step}
 use Rattle.arwen_macho.proofs.StateLaws.{step-nil}
 use Rattle.arwen_macho.proofs.macho.SingleMachO.apply.Goals as goal
 

@@ -1,8 +1,8 @@
 use Rattle.std.proofs.Common.{ℕ, List, sym, ◌∙◌, subst}
-use Rattle.arwen_macho.specs.Held.{Held}
+use Rattle.macho_edits.specs.Held.{Held}
 use Rattle.arwen_macho.specs.HeldBy.{held_of}
 use Rattle.arwen_macho.specs.Shown.{Shows}
-use Rattle.arwen_macho.specs.Whole.{IsState}
+use Rattle.macho_edits.specs.Whole.{IsState}
 use Rattle.arwen_macho.proofs.StateLaws.{laid_shows}
 use Rattle.arwen_macho.proofs.macho.SingleMachO.bytes.Goals as goal
 

@@ -2,7 +2,7 @@ use Rattle.std.proofs.Common.{◌≡◌, ◌≤◌, ◌+◌, ℕ, List, length, 
 use Rattle.macho_image.specs.Checks.{area_fault}
 use Rattle.macho_image.specs.Form.{ctx_of, header_size}
 use Rattle.arwen_macho.specs.Change.{IsChangeOf, change_with}
-use Rattle.arwen_macho.specs.Held.{Held}
+use Rattle.macho_edits.specs.Held.{Held}
 use Rattle.arwen_macho.specs.HeldBy.{held_of}
 use Rattle.arwen_macho.proofs.ChangeLaws.{change_fault, change_inside, change_room}
 use Rattle.arwen_macho.proofs.macho.SingleMachO.change_with.Goals as goal

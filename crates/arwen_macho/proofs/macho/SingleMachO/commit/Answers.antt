@@ -1,7 +1,7 @@
 use Rattle.std.proofs.Common.{◌≤◌, ◌+◌, ℕ, List, length, ap, sym, ◌∙◌, subst}
 use Rattle.macho_image.specs.Form.{ctx_of, header_size}
 use Rattle.arwen_macho.specs.Change.{IsChangeOf, changed_file}
-use Rattle.arwen_macho.specs.Held.{Held}
+use Rattle.macho_edits.specs.Held.{Held}
 use Rattle.arwen_macho.specs.HeldBy.{held_of}
 use Rattle.arwen_macho.proofs.ChangeLaws.{change_inside, change_room}
 use Rattle.arwen_macho.proofs.HeldLaws.{changed_fields}

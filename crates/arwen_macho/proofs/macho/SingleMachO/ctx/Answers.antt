@@ -1,6 +1,6 @@
 use Rattle.std.proofs.Common.{◌≡◌, ap, ◌∙◌, subst}
 use Rattle.macho_image.specs.Form.{ctx_of}
-use Rattle.arwen_macho.specs.Held.{Held}
+use Rattle.macho_edits.specs.Held.{Held}
 use Rattle.arwen_macho.specs.HeldBy.{held_of}
 use Rattle.arwen_macho.proofs.StateLaws.{laid_shows}
 use Rattle.arwen_macho.proofs.macho.SingleMachO.ctx.Goals as goal

@@ -1,7 +1,7 @@
 use Rattle.std.proofs.Common.{◌∷◌, []}
-use Rattle.arwen_macho.specs.Edit.{call_of}
-use Rattle.arwen_macho.specs.Refused.{cause_of}
-use Rattle.arwen_macho.specs.State.{step}
+use Rattle.macho_edits.specs.Edit.{call_of}
+use Rattle.macho_edits.specs.Refused.{cause_of}
+use Rattle.macho_edits.specs.State.{step}
 use Rattle.arwen_macho.proofs.StepLaws.{refuses_step}
 use Rattle.arwen_macho.proofs.macho.SingleMachO.edit.Goals as goal
 

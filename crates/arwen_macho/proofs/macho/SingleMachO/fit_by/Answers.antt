@@ -3,14 +3,14 @@ use Rattle.std.proofs.lemmas.List.{length-map}
 use Rattle.std.proofs.lemmas.Result.{err_from_is_err_and}
 use Rattle.patch_bytes.specs.ByteString.{bytes_of_each}
 use Rattle.macho_image.specs.Form.{ctx_of}
-use Rattle.arwen_macho.specs.Batch.{RefusesAt}
-use Rattle.arwen_macho.specs.Edit.{call_of, calls_lent}
+use Rattle.macho_edits.specs.Batch.{RefusesAt}
+use Rattle.macho_edits.specs.Edit.{call_of, calls_lent}
 use Rattle.arwen_macho.specs.Change.{change_with}
-use Rattle.arwen_macho.specs.Held.{Held}
+use Rattle.macho_edits.specs.Held.{Held}
 use Rattle.arwen_macho.specs.HeldBy.{held_of}
-use Rattle.arwen_macho.specs.Refused.{cause_of}
-use Rattle.arwen_macho.specs.State.{Refusal, edited_by, step}
-use Rattle.arwen_macho.specs.Whole.{KeepsContents}
+use Rattle.macho_edits.specs.Refused.{cause_of}
+use Rattle.macho_edits.specs.State.{Refusal, edited_by, step}
+use Rattle.macho_edits.specs.Whole.{KeepsContents}
 use Rattle.arwen_macho.proofs.StateLaws.{edited_by_keeps}
 use Rattle.arwen_macho.proofs.StepLaws.{edited_by_is, step_changed, step_refused_batch, step_unfit}
 use Rattle.arwen_macho.proofs.macho.SingleMachO.fit_by.Goals as goal

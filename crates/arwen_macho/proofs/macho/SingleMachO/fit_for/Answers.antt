@@ -8,12 +8,12 @@ use Rattle.macho_image.specs.Commands.{first_content_of}
 use Rattle.macho_image.specs.Form.{commands_end, ctx_of}
 use Rattle.macho_image.specs.Prepared.{IsMadeFor}
 use Rattle.arwen_macho.specs.declared.change.Fit.{Fit}
-use Rattle.arwen_macho.specs.Call.Cause.{no_room}
+use Rattle.macho_edits.specs.Call.Cause.{no_room}
 use Rattle.arwen_macho.specs.Change.{IsChangeOf, RefusesRoom, change_with, list_of}
-use Rattle.arwen_macho.specs.Held.{Held, image_held}
+use Rattle.macho_edits.specs.Held.{Held, image_held}
 use Rattle.arwen_macho.specs.HeldBy.{held_of}
-use Rattle.arwen_macho.specs.State.{available, end_of}
-use Rattle.arwen_macho.specs.Whole.{KeepsContents}
+use Rattle.macho_edits.specs.State.{available, end_of}
+use Rattle.macho_edits.specs.Whole.{KeepsContents}
 use Rattle.arwen_macho.proofs.ChangeLaws.{change_of, kept_count}
 use Rattle.arwen_macho.proofs.HeldLaws.{available_is, end_is, ends_inside}
 use Rattle.arwen_macho.proofs.macho.SingleMachO.fit_for.Goals as goal

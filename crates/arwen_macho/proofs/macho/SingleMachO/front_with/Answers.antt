@@ -3,9 +3,9 @@ use Rattle.std.proofs.lemmas.Result.{IfOk-weaker}
 use Rattle.macho_image.specs.Form.{ctx_of, header_size}
 use Rattle.macho_image.specs.Image.{with_area}
 use Rattle.arwen_macho.specs.Change.{IsChangeOf, change_with, changed_file}
-use Rattle.arwen_macho.specs.Held.{Held}
+use Rattle.macho_edits.specs.Held.{Held}
 use Rattle.arwen_macho.specs.HeldBy.{held_of}
-use Rattle.arwen_macho.specs.State.{laid_bytes}
+use Rattle.macho_edits.specs.State.{laid_bytes}
 use Rattle.arwen_macho.proofs.ChangeLaws.{change_bytes, change_inside, change_room}
 use Rattle.arwen_macho.proofs.macho.SingleMachO.front_with.Goals as goal
 

@@ -1,14 +1,14 @@
 use Rattle.std.proofs.Common.{◌∷◌, [], ◌++◌, List, ap, sym, ◌∙◌, subst}
 use Rattle.std.specs.List.{All}
-use Rattle.arwen_macho.specs.declared.draft.Edit.{Edit}
+use Rattle.macho_edits.specs.declared.draft.Edit.{Edit}
 use Rattle.arwen_macho.specs.declared.front.Front.{Front}
-use Rattle.arwen_macho.specs.Batch.{calls_of}
-use Rattle.arwen_macho.specs.Call.{Call}
-use Rattle.arwen_macho.specs.Edit.{calls_lent}
+use Rattle.macho_edits.specs.Batch.{calls_of}
+use Rattle.macho_edits.specs.Call.{Call}
+use Rattle.macho_edits.specs.Edit.{calls_lent}
 use Rattle.arwen_macho.specs.Fronts.{IsFrontAt, LeadOn}
-use Rattle.arwen_macho.specs.Held.{Held}
-use Rattle.arwen_macho.specs.State.{laid_bytes, step}
-use Rattle.arwen_macho.specs.Whole.{IsState, TextsAreBytes}
+use Rattle.macho_edits.specs.Held.{Held}
+use Rattle.macho_edits.specs.State.{laid_bytes, step}
+use Rattle.macho_edits.specs.Whole.{IsState, TextsAreBytes}
 use Rattle.arwen_macho.proofs.LeadLaws.{lead_thin}
 use Rattle.arwen_macho.proofs.StatesLaws.{step_thin}
 use Rattle.arwen_macho.proofs.macho.SingleMachO.fronts.Goals as goal

@@ -1,7 +1,0 @@
-use Rattle.std.proofs.Common.{refl}
-use Rattle.std.specs.Prelude.{slice_set}
-use Rattle.arwen_macho.proofs.DraftLaws.{replaced}
-use Rattle.arwen_macho.proofs.draft.replace.Goals as goal
-
-pub returns : goal.returns
-returns c = replaced c.args.commands.now.items (slice_set c.args.commands.now.items c.args.place c.owned.result) c.args.place c.owned.result c.args.built.items refl c.owned.ensures

@@ -1,7 +1,0 @@
-use Rattle.std.proofs.Common.{◌≡◌, drop, slice_get}
-use Rattle.std.specs.List.{filter_map}
-use Rattle.arwen_macho.specs.Patched.{as_load_dylib}
-use Rattle.arwen_macho.proofs.patcher.find_dylib_command.Given as goal
-
-abbrev pub invariant-loop-command : goal.invariant-loop-command
-invariant-loop-command l = slice_get (filter_map as_load_dylib (drop l.command-index l.commands)) l.left ≡ slice_get (filter_map as_load_dylib l.commands) l.index
