@@ -12,8 +12,8 @@ use Rattle.elf_written.specs.Laws.{ShowsFinal}
 use Rattle.elf_written.specs.Stays.{AreOthersSeen, IsDataSeen}
 use Rattle.elf_written.specs.Writing.{AreHeadersApart, IsWritten}
 use Rattle.elf_write.specs.Counted.{Stops}
-use Rattle.elf_write.specs.Numbers.{do_numbers_fit}
-use Rattle.elf_write.specs.Seen.{HasHashes, HasHeaders, IsApart}
+use Rattle.elf_contents.specs.Numbers.{do_numbers_fit}
+use Rattle.elf_contents.specs.Seen.{HasHashes, HasHeaders, IsApart}
 use Rattle.arwen_elf.specs.declared.elf.rewriter.error.ElfError.{ElfError}
 use Rattle.arwen_elf.specs.declared.elf.rewriter.error.ElfError.TheVariants.{Io, Memory, Modify, Write}
 use Rattle.arwen_elf.specs.declared.elf.rewriter.error.ModifyCause.TheVariants.{Overlap}

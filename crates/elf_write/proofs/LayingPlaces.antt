@@ -23,9 +23,9 @@ use Rattle.elf_plan.specs.Plan.{resized}
 use Rattle.elf_written.specs.Base.{base, base_byte, is_rewritten, old_places, values_from}
 use Rattle.elf_written.proofs.BaseBytes.{length-segments}
 use Rattle.elf_written.proofs.Laying.{length-values, value-at}
-use Rattle.elf_write.specs.Inner.{IsReady}
+use Rattle.elf_contents.specs.Inner.{IsReady}
 use Rattle.elf_write.specs.LayingSteps.{IsCleared, TakesFrom, is_in_load, is_in_range, is_rewritten_at, rewritten_places}
-use Rattle.elf_write.proofs.ReadFacts.{ReadFacts, read_facts}
+use Rattle.elf_contents.proofs.ForCallers.{ReadFacts, read_facts}
 
 -- ## Program headers
 

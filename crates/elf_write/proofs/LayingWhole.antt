@@ -29,7 +29,7 @@ use Rattle.elf_written.specs.Writing.{IsWholeWriting, Writing, patch, patches, p
 use Rattle.elf_written.proofs.Laying.{length-values}
 use Rattle.elf_written.proofs.Patches.{patches_lie}
 use Rattle.elf_written.proofs.WholeFacts.{lengths, read_facts}
-use Rattle.elf_write.specs.Inner.{writing_of}
+use Rattle.elf_contents.specs.Inner.{writing_of}
 use Rattle.elf_write.specs.declared.spelled.SpelledHeaders.{SpelledHeaders}
 use Rattle.elf_write.specs.LayingSteps.{AreHeadersSpelled, DoHeadersFit, content_patches, header_patches, is_data_at}
 use Rattle.elf_write.specs.PieceSteps.{IsOverBase}

@@ -37,12 +37,11 @@ use Rattle.elf_written.proofs.ApartInFile.{plans_are_apart_in_file}
 use Rattle.elf_written.proofs.DataSeen.{written_files_keep_data, written_files_keep_hashes, written_files_keep_others}
 use Rattle.elf_written.proofs.FileParts.{written_files_have_parts}
 use Rattle.elf_written.proofs.ReadAgain.{written_files_are_read, written_files_show}
-use Rattle.elf_write.specs.declared.made.Made.{Made}
-use Rattle.elf_write.specs.Inner.{AreContents, AreHeaders, ArePromised, AreRaw, IsMadeContent, IsPlanned, IsWholeWritten, strings_at, writing_of}
-use Rattle.elf_write.specs.Numbers.{do_records_fit}
-use Rattle.elf_write.specs.Seen.{IsWritingTo}
-use Rattle.elf_write.proofs.NamesTable.{linked_at, names_at, names_typed, shows_none, shows_texts}
-use Rattle.elf_write.proofs.ReadFacts.{ReadFacts, SectionRead, are_numbered, kept-at, kept_is, length-numbered, read_facts, section_read}
+use Rattle.elf_contents.specs.declared.made.Made.{Made}
+use Rattle.elf_contents.specs.Inner.{AreContents, AreHeaders, ArePromised, AreRaw, IsMadeContent, IsPlanned, IsWholeWritten, strings_at, writing_of}
+use Rattle.elf_contents.specs.Numbers.{do_records_fit}
+use Rattle.elf_contents.specs.Seen.{IsWritingTo}
+use Rattle.elf_contents.proofs.ForCallers.{ReadFacts, SectionRead, are_numbered, kept-at, kept_is, length-numbered, linked_at, names_at, names_typed, read_facts, section_read, shows_none, shows_texts}
 
 -- the content at a position
 record ContentAt (r : Resized) (plan : Layout) (made : Option Made) (raw : List EntryNumbers) (ps : List Place) (cs : List (List ℕ)) (i : ℕ) (k : KeptSection) : Type 0 where

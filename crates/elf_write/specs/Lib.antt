@@ -1,13 +1,4 @@
-pub mod FitSteps
-pub mod HeaderSteps
-pub mod EntrySteps
-pub mod Inner
 pub mod LayingSteps
-pub mod PieceSteps
-pub mod Numbers
 pub mod Refused
-pub mod SymbolSteps
 pub mod Counted
-pub mod ContentSteps
-pub mod VersionPlaces
-pub mod Seen
+pub mod PieceSteps

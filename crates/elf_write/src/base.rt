@@ -6,7 +6,7 @@ ghost use Rattle.elf_image.specs.ImageSeen.{segment_kept};
 ghost use Rattle.elf_plan.specs.Kept.{image_at_read, interpreter_number as number_of_interpreter, kept_sections};
 ghost use Rattle.elf_plan.specs.Plan.{resized};
 ghost use Rattle.elf_written.specs.Base.{base, has_position, old_places as places_rewritten};
-ghost use Rattle.elf_write.specs.Inner.{IsReady};
+ghost use Rattle.elf_contents.specs.Inner.{IsReady};
 ghost use Rattle.elf_write.specs.LayingSteps.{IsCleared, TakesFrom, is_in_load, is_in_range, rewritten_places};
 
 use crate::data::{interpreter_number, is_rewritten};

@@ -12,15 +12,15 @@ ghost use Rattle.elf_written.specs.Laws.{ShowsFinal};
 ghost use Rattle.elf_written.specs.Stays.{AreOthersSeen, IsDataSeen};
 ghost use Rattle.elf_written.specs.Whole.{IsWhole};
 ghost use Rattle.elf_written.specs.Writing.{AreHeadersApart, IsWritten};
-ghost use Rattle.elf_write.specs.Inner.{AreContents, ArePromised, IsPlanned, IsWholeWritten};
-ghost use Rattle.elf_write.specs.Numbers.{do_numbers_fit as do_all_fit};
-ghost use Rattle.elf_write.specs.PieceSteps.{IsPrepared};
+ghost use Rattle.elf_contents.specs.Inner.{AreContents, ArePromised, IsPlanned, IsWholeWritten};
+ghost use Rattle.elf_contents.specs.Numbers.{do_numbers_fit as do_all_fit};
+ghost use Rattle.elf_contents.specs.PreparedSteps.{IsPrepared};
 ghost use Rattle.elf_write.specs.Refused.{AreNoBytes};
-ghost use Rattle.elf_write.specs.Seen.{HasHashes, HasHeaders, IsApart};
+ghost use Rattle.elf_contents.specs.Seen.{HasHashes, HasHeaders, IsApart};
 
-use crate::contents::contents;
+use elf_contents::contents::contents;
 use crate::laying::laid_bytes;
-use crate::prepared::{Prepared, prepare};
+use elf_contents::prepared::{Prepared, prepare};
 use elf_format::form::Form;
 use elf_format::range::Range;
 use elf_image::Builder;
@@ -31,7 +31,7 @@ use patch_bytes::ByteString;
 use std::alloc::{AllocError, Global};
 
 // Where the program header table stands in the file that is written.
-#[tactic(auto, using(crate::proofs::PlanCounts::plan_counts))]
+#[tactic(auto, using(elf_contents::proofs::ForCallers::plan_counts))]
 fn table_range(image: &Builder<'_>, plan: &Plan) -> Range
     requires { IsPlan (resized image.now) plan.now }
     ensures { result ≡ written_table (resized image.now) plan.now }

@@ -8,7 +8,7 @@ ghost use Rattle.elf_format.specs.Records.{section_header_size};
 ghost use Rattle.elf_format.specs.declared.records.EntryNumbers.{EntryNumbers};
 ghost use Rattle.elf_written.specs.Headers.{written_header};
 ghost use Rattle.elf_written.specs.Writing.{IsWholeWriting, written_bytes};
-ghost use Rattle.elf_write.specs.Inner.{IsReady, writing_of};
+ghost use Rattle.elf_contents.specs.Inner.{IsReady, writing_of};
 
 use crate::base::{base_bytes, form_of};
 use crate::data::interpreter_number;

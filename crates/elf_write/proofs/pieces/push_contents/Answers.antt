@@ -7,7 +7,7 @@ use Rattle.elf_plan.specs.Kept.{kept_sections}
 use Rattle.elf_plan.specs.Plan.{resized}
 use Rattle.elf_plan.specs.PlanSeen.{place_seen}
 use Rattle.elf_write.specs.LayingSteps.{content_patches}
-use Rattle.elf_write.proofs.ContentsAll.{long_held}
+use Rattle.elf_contents.proofs.ForCallers.{long_held}
 use Rattle.elf_write.proofs.LayingWhole.{IsAt, left-next, pushed-all, pushed-next}
 use Rattle.elf_write.proofs.pieces.push_contents.Goals as goal
 

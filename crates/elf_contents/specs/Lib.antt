@@ -1,0 +1,10 @@
+pub mod FitSteps
+pub mod HeaderSteps
+pub mod EntrySteps
+pub mod Inner
+pub mod PreparedSteps
+pub mod Numbers
+pub mod SymbolSteps
+pub mod ContentSteps
+pub mod VersionPlaces
+pub mod Seen

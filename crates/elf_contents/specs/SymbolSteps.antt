@@ -1,0 +1,34 @@
+-- The steps of spelling the dynamic symbols (gABI, Symbol Table).
+use Rattle.std.specs.Prelude.{ℕ, List, length, Bool, Option, Some, None, ◌==◌, if◌then◌else◌, unwrap_or}
+use Rattle.elf_format.specs.declared.form.Form.{Form}
+use Rattle.elf_format.specs.declared.records.SymbolNumbers.{SymbolNumbers}
+use Rattle.elf_format.specs.Views.{NamedSymbol}
+use Rattle.elf_records.specs.Fields.{do_fields_fit}
+use Rattle.elf_records.specs.Spelled.{spelled_symbol, symbol_fields}
+use Rattle.elf_tables.specs.Strings.{Strings, place_of}
+use Rattle.elf_contents.specs.declared.made.Made.{Made}
+
+-- the string table that is made anew for that number
+abbrev pub table_made : Option Made → ℕ → Option Strings
+table_made None number = None
+table_made (Some m) number = if m.number == number then Some m.table else None
+
+-- the numbers of a symbol whose name stands at a place
+abbrev pub symbol_with : ℕ → NamedSymbol → SymbolNumbers
+symbol_with place y = record { st_name = place; st_info = y.st_info; st_other = y.st_other; st_shndx = y.st_shndx; st_value = y.st_value; st_size = y.st_size }
+
+-- where a string table tells a name; no name is at 0 (gABI, Symbol Table, st_name)
+abbrev pub place_of_name : Strings → List ℕ → ℕ
+place_of_name table name = if length name == 0 then 0 else unwrap_or (place_of table name) 0
+
+-- the same, its name where a string table tells it
+abbrev pub symbol_in : Strings → NamedSymbol → SymbolNumbers
+symbol_in table y = symbol_with (place_of_name table y.name) y
+
+-- each of these numbers fits its field
+unfoldable pub does_symbol_fit : Form → Strings → NamedSymbol → Bool
+does_symbol_fit form table y = do_fields_fit (symbol_fields form (symbol_in table y))
+
+-- the record of a symbol
+unfoldable pub symbol_bytes : Form → Strings → NamedSymbol → List ℕ
+symbol_bytes form table y = spelled_symbol form (symbol_in table y)

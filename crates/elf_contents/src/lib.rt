@@ -1,0 +1,12 @@
+//! What stands in an edited ELF file: the numbers of its headers and of its dynamic entries, and the bytes of each section's
+//! content, by the plan that says where everything goes.
+#![tactic(auto)]
+
+pub mod contents;
+mod entries;
+mod fits;
+mod headers;
+pub mod made;
+pub mod prepared;
+mod symbols;
+mod versions;

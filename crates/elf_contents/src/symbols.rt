@@ -1,0 +1,175 @@
+//! The bytes of the dynamic symbols (gABI, Symbol Table).
+ghost use Rattle.std.specs.Prelude.{◌≡◌, ◌++◌, ◌*◌, IfOk, IsTrue, OnOk, flat_map, length, map, option_map};
+ghost use Rattle.std.specs.List.{list_all};
+ghost use Rattle.elf_format.specs.declared.constants.TheConstants.{SHT_DYNSYM};
+ghost use Rattle.elf_format.specs.Records.{symbol_size, symbols_in};
+ghost use Rattle.elf_image.specs.ImageSeen.{section_kept, symbol_kept};
+ghost use Rattle.elf_sizes.specs.MadeTables.{IsMade};
+ghost use Rattle.elf_written.specs.Contents.{AreSymbolsOf};
+ghost use Rattle.elf_written.specs.Final.{final};
+ghost use Rattle.elf_contents.specs.Inner.{AreStrings, IsReady, IsSectionOfType, strings_at};
+ghost use Rattle.elf_contents.specs.SymbolSteps.{does_symbol_fit, place_of_name, symbol_bytes, symbol_in, table_made};
+
+use crate::made::Made;
+use elf_image::records::SymbolNumbers;
+use elf_image::{Builder, Form, Section, Symbol};
+use elf_records::spelled::push_symbol;
+use elf_tables::Finished;
+use patch_bytes::ByteString;
+use std::alloc::{AllocError, Global};
+
+// The string table that is made anew for a number.
+fn table_made_for<'m, 't>(made: &'m Option<Made<'t>>, number: u32) -> Option<&'m Finished<'t>>
+    ensures { option_map (λ table. table.now) result ≡ table_made made.entry.now number }
+{
+    match made {
+        Some(made) if made.number == number as usize => Some(&made.table),
+        _ => None,
+    }
+}
+
+// Where a name stands in a string table; 0 where there is none.
+fn symbol_name_place(name: &[u8], table: &Finished<'_>) -> u32
+    ensures { result ≡ place_of_name table.now name.now }
+{
+    if name.is_empty() {
+        return 0;
+    }
+    table.offset_of(name).unwrap_or(0)
+}
+
+// The numbers of a symbol, with where its name stands in a string table.
+fn symbol_numbers(symbol: &Symbol<'_>, table: &Finished<'_>) -> SymbolNumbers
+    ensures { result ≡ symbol_in table.now (symbol_kept symbol.now) }
+{
+    SymbolNumbers {
+        st_name: symbol_name_place(symbol.name.as_slice(), table),
+        st_info: symbol.st_info,
+        st_other: symbol.st_other,
+        st_shndx: symbol.st_shndx,
+        st_value: symbol.st_value,
+        st_size: symbol.st_size,
+    }
+}
+
+// Appends the record of a symbol.
+#[tactic(auto, unfolding(crate::specs::SymbolSteps::does_symbol_fit, crate::specs::SymbolSteps::symbol_bytes))]
+fn push_named_symbol(
+    bytes: &mut Vec<u8>,
+    form: Form,
+    symbol: &Symbol<'_>,
+    table: &Finished<'_>,
+) -> Result<(), AllocError>
+    requires { IsTrue (does_symbol_fit form table.now (symbol_kept symbol.now)) }
+    ensures { OnOk result (bytes.new.items
+        ≡ bytes.old.items ++ symbol_bytes form table.now (symbol_kept symbol.now)) }
+{
+    push_symbol(bytes, form, symbol_numbers(symbol, table))
+}
+
+// Appends the records of symbols.
+fn push_symbols(
+    bytes: &mut Vec<u8>,
+    form: Form,
+    symbols: &[Symbol<'_>],
+    table: &Finished<'_>,
+) -> Result<(), AllocError>
+    requires { IsTrue (list_all (does_symbol_fit form table.now) (map symbol_kept symbols.now)) }
+    ensures { OnOk result (bytes.new.items ≡ bytes.old.items
+        ++ flat_map (symbol_bytes form table.now) (map symbol_kept symbols.now)) }
+{
+    for symbol in symbols {
+        push_named_symbol(bytes, form, symbol, table)?;
+    }
+    Ok(())
+}
+
+// The section of dynamic symbols as it was read; its names stand in a string table that is copied.
+fn symbols_copied<'data>(
+    read: &Builder<'data>,
+    image: &Builder<'data>,
+    made: &Option<Made<'_>>,
+    section: &Section<'data>,
+) -> ByteString<'data>
+    requires ready { IsReady read.now image.now }
+    requires at { IsSectionOfType SHT_DYNSYM image.now (section_kept section.now) }
+    requires copied { table_made made.now section.now.sh_link ≡ None }
+    ensures sized { length result.bytes
+        ≡ length image.now.dynamic_symbols * symbol_size image.now.form }
+    ensures symbols { AreSymbolsOf (strings_at image.now made.now section.now.sh_link)
+        (final read.now image.now).dynamic_symbols (symbols_in image.now.form result.bytes) }
+{
+    ByteString::borrowed(section.content)
+}
+
+// The numbers of each symbol fit their fields, since they were read from a section with these bytes. So the records that are
+// spelled anew show the symbols.
+fn show_symbols_fit(
+    read: &Builder<'_>,
+    image: &Builder<'_>,
+    section: &Section<'_>,
+    table: &Finished<'_>,
+    content: &[u8],
+)
+    requires ready { IsReady read.now image.now }
+    requires at { IsSectionOfType SHT_DYNSYM image.now (section_kept section.now) }
+    requires table { IsMade read.now image.now section.now.sh_link table.now }
+    requires content { content.now ≡ (section_kept section.now).content }
+    ensures fit { IsTrue (list_all (does_symbol_fit image.now.form table.now)
+        image.now.dynamic_symbols) }
+    ensures symbols { AreSymbolsOf table.now.bytes (final read.now image.now).dynamic_symbols
+        (symbols_in image.now.form
+        (flat_map (symbol_bytes image.now.form table.now) image.now.dynamic_symbols)) }
+{}
+
+// The dynamic symbols spelled anew, their names in this string table.
+#[tactic(auto, using(crate::proofs::SymbolsGiven::anew_sized))]
+fn symbols_anew<'data>(
+    alloc: Global,
+    read: &Builder<'data>,
+    image: &Builder<'data>,
+    section: &Section<'data>,
+    table: &Finished<'_>,
+) -> Result<ByteString<'data>, AllocError>
+    requires ready { IsReady read.now image.now }
+    requires at { IsSectionOfType SHT_DYNSYM image.now (section_kept section.now) }
+    requires table { IsMade read.now image.now section.now.sh_link table.now }
+    ensures sized { IfOk result (λ content. length content.bytes
+        ≡ length image.now.dynamic_symbols * symbol_size image.now.form) }
+    ensures symbols { IfOk result (λ content. AreSymbolsOf table.now.bytes
+        (final read.now image.now).dynamic_symbols
+        (symbols_in image.now.form content.bytes)) }
+{
+    show_symbols_fit(read, image, section, table, section.content);
+    let form = Form {
+        wide: image.class(),
+        order: image.order(),
+    };
+    let mut bytes = Vec::new(alloc);
+    push_symbols(&mut bytes, form, image.dynamic_symbols(), table)?;
+    Ok(ByteString::owned(bytes))
+}
+
+// The bytes of a section of dynamic symbols: as they were read, unless their names stand in a string table that is made anew.
+pub(crate) fn symbols_content<'data>(
+    alloc: Global,
+    read: &Builder<'data>,
+    image: &Builder<'data>,
+    made: &Option<Made<'_>>,
+    section: &Section<'data>,
+) -> Result<ByteString<'data>, AllocError>
+    requires ready { IsReady read.now image.now }
+    requires strings { AreStrings read.now image.now made.now }
+    requires at { IsSectionOfType SHT_DYNSYM image.now (section_kept section.now) }
+    ensures sized { IfOk result (λ content. length content.bytes
+        ≡ length image.now.dynamic_symbols * symbol_size image.now.form) }
+    ensures symbols { IfOk result (λ content. AreSymbolsOf
+        (strings_at image.now made.now section.now.sh_link)
+        (final read.now image.now).dynamic_symbols
+        (symbols_in image.now.form content.bytes)) }
+{
+    match table_made_for(made, section.sh_link) {
+        None => Ok(symbols_copied(read, image, made, section)),
+        Some(table) => symbols_anew(alloc, read, image, section, table),
+    }
+}
