@@ -1,9 +1,3 @@
 pub mod ReadSteps
 pub mod PrintSteps
-pub mod DraftLaws
-pub mod StackLaws
-pub mod HeldLaws
-pub mod TakenLaws
 pub mod WholeLaws
-pub mod BatchSteps
-pub mod ShrinkLaws

@@ -17,11 +17,11 @@ use Rattle.elf_edits.specs.Edit.{AddDebugEntry, AddNeeded, AddRunPath, ClearExec
 use Rattle.elf_edits.specs.Edited.{edited_image, edited_interpreter, edited_page_size, edited_segments, step, with_align, with_load_align, with_run, with_stack_changed, without_run}
 use Rattle.elf_plan.specs.Kept.{image_at_read}
 use Rattle.elf_written.specs.Whole.{AreAllKept, IsWhole}
-use Rattle.arwen_elf.specs.declared.elf.rewriter.batch.ElfBatchError.{ElfBatchError}
-use Rattle.arwen_elf.specs.declared.elf.rewriter.error.ElfError.{ElfError}
+use Rattle.elf_apply.specs.declared.batch.ElfBatchError.{ElfBatchError}
+use Rattle.elf_apply.specs.declared.error.ElfError.{ElfError}
 use Rattle.arwen_elf.specs.Held.{IsAllThere}
-use Rattle.arwen_elf.specs.Taken.{Takes, TakesBatch, TakesEdit, TakesInPlace}
-use Rattle.arwen_elf.specs.Told.{Refuses, TellsCause}
+use Rattle.elf_apply.specs.Taken.{Takes, TakesBatch, TakesEdit, TakesInPlace}
+use Rattle.elf_apply.specs.Told.{Refuses, TellsCause}
 
 -- ## The page size
 

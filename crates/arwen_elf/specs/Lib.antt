@@ -1,12 +1,7 @@
 pub mod Reads
 pub mod WriterSeen
 pub mod Held
-pub mod Causes
 pub mod PageSizes
 pub mod Prints
-pub mod Told
-pub mod StackLent
-pub mod Taken
-pub mod Drafted
 pub mod Contained
 pub mod Written

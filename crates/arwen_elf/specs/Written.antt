@@ -14,9 +14,9 @@ use Rattle.elf_written.specs.Writing.{AreHeadersApart, IsWritten}
 use Rattle.elf_write.specs.Counted.{Stops}
 use Rattle.elf_contents.specs.Numbers.{do_numbers_fit}
 use Rattle.elf_contents.specs.Seen.{HasHashes, HasHeaders, IsApart}
-use Rattle.arwen_elf.specs.declared.elf.rewriter.error.ElfError.{ElfError}
-use Rattle.arwen_elf.specs.declared.elf.rewriter.error.ElfError.TheVariants.{Io, Memory, Modify, Write}
-use Rattle.arwen_elf.specs.declared.elf.rewriter.error.ModifyCause.TheVariants.{Overlap}
+use Rattle.elf_apply.specs.declared.error.ElfError.{ElfError}
+use Rattle.elf_apply.specs.declared.error.ElfError.TheVariants.{Io, Memory, Modify, Write}
+use Rattle.elf_apply.specs.declared.error.ModifyCause.TheVariants.{Overlap}
 
 -- A file to which an edited image is written by a plan of it: it shows the image in its final form, to a loader too; data of the program
 -- stands at its address, and so does every other byte that isn't written anew; headers and sections are those of the plan, hash tables

@@ -1,8 +1,8 @@
 -- What the program answers when it does not do what was asked.
 use Rattle.std.specs.Prelude.{ℕ, ⊤}
-use Rattle.arwen_elf.specs.declared.elf.rewriter.error.ElfError.{ElfError}
-use Rattle.arwen_elf.specs.declared.elf.rewriter.error.ElfError.TheVariants as elf
-use Rattle.arwen_elf.specs.declared.elf.rewriter.batch.ElfBatchError.{ElfBatchError}
+use Rattle.elf_apply.specs.declared.error.ElfError.{ElfError}
+use Rattle.elf_apply.specs.declared.error.ElfError.TheVariants as elf
+use Rattle.elf_apply.specs.declared.batch.ElfBatchError.{ElfBatchError}
 use Rattle.macho_edits.specs.declared.error.MachoError.{MachoError}
 use Rattle.macho_edits.specs.declared.error.MachoError.TheVariants as macho
 use Rattle.macho_edits.specs.declared.batch.MachoBatchError.{MachoBatchError}

@@ -10,13 +10,13 @@ use Rattle.elf_edits.specs.Cause.{Cause}
 use Rattle.elf_edits.specs.Edit.{Edit}
 use Rattle.elf_edits.specs.Edited.{step}
 use Rattle.elf_edits.specs.Laws.{BatchesAreTheirEdits, EditsShow, viewed}
-use Rattle.arwen_elf.specs.Causes.{FailsPrint}
-use Rattle.arwen_elf.specs.Told.{RefusesAt, RefusesBatch}
+use Rattle.elf_apply.specs.Causes.{FailsPrint}
+use Rattle.elf_apply.specs.Told.{RefusesAt, RefusesBatch}
 use Rattle.arwen_elf.specs.WriterSeen.{ShowsBothViews}
 use Rattle.arwen_elf.specs.Written.{IsEditWritten, IsImageWritten, IsNoImage}
-use Rattle.arwen_elf.specs.declared.elf.rewriter.batch.ElfBatchError.{ElfBatchError}
-use Rattle.arwen_elf.specs.declared.elf.rewriter.error.ElfError.{ElfError}
-use Rattle.arwen_elf.specs.declared.elf.rewriter.error.ElfError.TheVariants as elf
+use Rattle.elf_apply.specs.declared.batch.ElfBatchError.{ElfBatchError}
+use Rattle.elf_apply.specs.declared.error.ElfError.{ElfError}
+use Rattle.elf_apply.specs.declared.error.ElfError.TheVariants as elf
 use Rattle.elf_commands.specs.ElfAsked.{ElfAsked, one, printing, several, shrinking}
 use Rattle.elf_commands.specs.ElfStores.{ChangesNothing}
 use Rattle.byte_store.specs.Composed.{made_of}

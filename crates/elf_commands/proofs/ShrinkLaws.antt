@@ -15,12 +15,12 @@ use Rattle.elf_edits.specs.Edited.{step}
 use Rattle.elf_edits.specs.Laws.{BatchesAreTheirEdits, EditsShow}
 use Rattle.elf_image.specs.Image.{Image, image_of, shown}
 use Rattle.elf_image.specs.ReadImage.{ReadImagesHoldParts}
-use Rattle.arwen_elf.specs.Causes.{RefusesRead}
-use Rattle.arwen_elf.specs.Told.{IsRefusedAt, IsRefusedFor, Refuses, RefusesAt, cause_told}
+use Rattle.elf_apply.specs.Causes.{RefusesRead}
+use Rattle.elf_apply.specs.Told.{IsRefusedAt, IsRefusedFor, Refuses, RefusesAt, cause_told}
 use Rattle.arwen_elf.specs.WriterSeen.{ShowsBothViews}
 use Rattle.arwen_elf.specs.Written.{IsImageWritten, IsNoImage}
-use Rattle.arwen_elf.specs.declared.elf.rewriter.error.ElfError.{ElfError}
-use Rattle.arwen_elf.specs.declared.elf.rewriter.error.ElfError.TheVariants as elf
+use Rattle.elf_apply.specs.declared.error.ElfError.{ElfError}
+use Rattle.elf_apply.specs.declared.error.ElfError.TheVariants as elf
 use Rattle.elf_commands.specs.ElfAsked.{one, shrinking}
 use Rattle.elf_commands.specs.ElfEngine.{IsElfEdited, LeavesElf, MayFailAs, RunsElf, TellsEdit, TellsRun}
 use Rattle.elf_commands.specs.ElfAsked.{elf_asked}

@@ -2,11 +2,11 @@
 use Rattle.std.specs.Prelude.{ℕ, ◌≡◌, ◌⊎◌, List, [], ◌∷◌, Option, Some, None, Ok, Err, false, true, ⊤}
 use Rattle.std.specs.declared.alloc.Global.{Global}
 use Rattle.std.specs.declared.vec.Vec.{Vec}
-use Rattle.arwen_elf.specs.Told.{RefusesAt}
+use Rattle.elf_apply.specs.Told.{RefusesAt}
 use Rattle.arwen_elf.specs.Written.{IsEditWritten, IsImageWritten, IsNoImage}
-use Rattle.arwen_elf.specs.declared.elf.rewriter.batch.ElfBatchError.{ElfBatchError}
-use Rattle.arwen_elf.specs.declared.elf.rewriter.error.ElfError.{ElfError}
-use Rattle.arwen_elf.specs.declared.elf.rewriter.error.ElfError.TheVariants as elf
+use Rattle.elf_apply.specs.declared.batch.ElfBatchError.{ElfBatchError}
+use Rattle.elf_apply.specs.declared.error.ElfError.{ElfError}
+use Rattle.elf_apply.specs.declared.error.ElfError.TheVariants as elf
 use Rattle.elf_edits.specs.Batch.{run}
 use Rattle.elf_edits.specs.Edit.{Answer, Edit}
 use Rattle.elf_edits.specs.Laws.{viewed}

@@ -2,12 +2,12 @@
 ghost use Rattle.std.specs.Prelude.{◌≡◌, ◌∷◌, [], IfOk, IsOk};
 ghost use Rattle.elf_edits.specs.Called.{pairs_of_map, texts_held};
 ghost use Rattle.elf_edits.specs.Edit.{AddDebugEntry, AddNeeded, AddRunPath, ClearExecStack, DeleteNeeded, DeleteRunPath, NoDefaultLibrary, ReplaceNeeded, SetExecStack, SetInterpreter, SetOsAbi, SetPageSize, SetRunPath, SetSoname, UseRpath};
-ghost use Rattle.arwen_elf.specs.Taken.{RemovedAre, edits_meant, shrink_meant};
+ghost use Rattle.elf_apply.specs.Taken.{RemovedAre, edits_meant, shrink_meant};
 ghost use Rattle.arwen_elf.specs.Contained.{BatchTaken, EditTaken, InPlaceTaken};
 
 use crate::elf::container::ElfContainer;
-use crate::elf::rewriter::batch::ElfBatchError;
-use crate::elf::rewriter::error::Result;
+use elf_apply::batch::ElfBatchError;
+use elf_apply::error::Result;
 use elf_edits::{ElfEdit, ProbeAnswer, Removed};
 use std::alloc::Global;
 use std::collections::HashMap;

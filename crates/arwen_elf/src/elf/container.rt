@@ -3,13 +3,13 @@ ghost use Rattle.std.specs.Io.KnownBytes.{Appends};
 ghost use Rattle.byte_store.specs.Composed.{IsDifference, made_of};
 ghost use Rattle.elf_image.specs.Image.{image_of, shown};
 ghost use Rattle.elf_image.specs.Answers.{borrowed};
-ghost use Rattle.arwen_elf.specs.Causes.{FailsPrint, FailsWrite, RefusesRead};
+ghost use Rattle.elf_apply.specs.Causes.{FailsPrint, FailsWrite, RefusesRead};
 ghost use Rattle.arwen_elf.specs.PageSizes.{page_size_for};
 ghost use Rattle.arwen_elf.specs.Prints.{before_nul as bytes_before_nul, cut_at_colons as parts_between_colons, directories_shown, line_if, line_of, printed_exec_stack, printed_interpreter, printed_needed, printed_os_abi, printed_runpath, printed_soname};
 ghost use Rattle.arwen_elf.specs.WriterSeen.{ShowsBothViews};
 ghost use Rattle.arwen_elf.specs.Written.{GetsImage, IsImageWritten, IsIo, IsNoDifference, IsNoImage, IsNotWritten, MayNotWrite};
 
-use crate::elf::rewriter::error::{ElfError, Result};
+use elf_apply::error::{ElfError, Result};
 use crate::elf::rewriter::writer::Writer;
 use bstr::ByteSlice;
 use byte_store::Difference;

@@ -6,7 +6,7 @@ ghost use Rattle.std.specs.Io.KnownBytes.{Appends};
 ghost use Rattle.byte_store.specs.Composed.{IsDifference, made_of};
 ghost use Rattle.arwen_elf.specs.Written.{IsNoDifference};
 ghost use Rattle.elf_commands.specs.ElfStores.{ChangesNothing};
-ghost use Rattle.arwen_elf.specs.Causes.{FailsPrint};
+ghost use Rattle.elf_apply.specs.Causes.{FailsPrint};
 ghost use Rattle.elf_image.specs.Image.{image_of, shown};
 ghost use Rattle.elf_commands.specs.ElfAsked.{elf_asked};
 ghost use Rattle.elf_commands.specs.ElfEngine.{AreAskedIf, AreEditsAsked, IsElfEdited, LeavesElf, RunsElf, TellsEachFile, TellsEdit, TellsRun, bytes_left, elf_refusal};

@@ -4,7 +4,7 @@ ghost use Rattle.byte_store.specs.Composed.{IsDifference};
 ghost use Rattle.byte_store.specs.Known.{HasLength, IsAll};
 ghost use Rattle.elf_edits.specs.Called.{answer_held};
 ghost use Rattle.elf_edits.specs.Edit.{ShrinkRunPath};
-ghost use Rattle.arwen_elf.specs.Told.{Refuses};
+ghost use Rattle.elf_apply.specs.Told.{Refuses};
 ghost use Rattle.arwen_elf.specs.Written.{IsNoImage};
 ghost use Rattle.elf_edits.specs.Edited.{step};
 ghost use Rattle.elf_commands.specs.ElfAsked.{shrinking};

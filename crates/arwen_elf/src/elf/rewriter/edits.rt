@@ -7,11 +7,11 @@ ghost use Rattle.elf_edits.specs.Entries.{shrink_questions as all_questions};
 ghost use Rattle.elf_edits.specs.ShrunkSeen.{pair_lent};
 ghost use Rattle.elf_image.specs.Image.{shown};
 ghost use Rattle.arwen_elf.specs.Reads.{entries_shown};
-ghost use Rattle.arwen_elf.specs.Taken.{AnswersEach, LeavesEach, RemovedAre, TakesBatch, TakesEdit, TakesInPlace, batches_meant, edits_meant, shrink_meant};
+ghost use Rattle.elf_apply.specs.Taken.{AnswersEach, LeavesEach, RemovedAre, TakesBatch, TakesEdit, TakesInPlace, batches_meant, edits_meant, shrink_meant};
 
-use crate::elf::rewriter::batch::ElfBatchError;
-use crate::elf::rewriter::error::ElfError;
-use crate::elf::rewriter::steps;
+use elf_apply::batch::ElfBatchError;
+use elf_apply::error::ElfError;
+use elf_apply::steps;
 use crate::elf::rewriter::writer::Writer;
 use elf_edits::{EditCall, ElfEdit, ProbeAnswer, Removed, shrink_questions};
 use std::alloc::{AllocError, Global};

@@ -4,13 +4,13 @@ ghost use Rattle.elf_image.specs.ImageSeen.{entry_kept};
 ghost use Rattle.elf_image.specs.Answers.{borrowed};
 ghost use Rattle.elf_plan.specs.Kept.{image_at_read};
 ghost use Rattle.elf_written.specs.Whole.{IsWhole};
-ghost use Rattle.arwen_elf.specs.Causes.{RefusesRead};
+ghost use Rattle.elf_apply.specs.Causes.{RefusesRead};
 ghost use Rattle.arwen_elf.specs.PageSizes.{page_size_for, page_size_of};
 ghost use Rattle.arwen_elf.specs.Reads.{entries_shown, text_if, first_of, needed_shown, runpath_shown, searched_shown, soname_shown, texts_tagged};
 ghost use Rattle.arwen_elf.specs.WriterSeen.{ShowsBothViews, needed_left};
 
-use crate::elf::rewriter::error::ElfError;
-use crate::elf::rewriter::ext::BuilderExt;
+use elf_apply::error::ElfError;
+use elf_apply::ext::BuilderExt;
 use crate::elf::rewriter::machines::{
     EM_AARCH64, EM_ALPHA, EM_IA_64, EM_LOONGARCH, EM_PPC, EM_PPC64, EM_SPARC, EM_SPARCV9, EM_TILEGX,
 };

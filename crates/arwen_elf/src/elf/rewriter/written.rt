@@ -8,7 +8,7 @@ ghost use Rattle.elf_sizes.specs.MadeTables.{IsMadeOfList};
 ghost use Rattle.elf_written.specs.Whole.{IsWhole};
 ghost use Rattle.arwen_elf.specs.Written.{GetsImage, IsEditWritten, IsImageWritten, IsIo, IsNoDifference, IsNoEdit, IsNoImage, IsNotWritten, IsTold, MayNotWrite};
 
-use crate::elf::rewriter::error::{ElfError, ModifyCause, Result};
+use elf_apply::error::{ElfError, ModifyCause, Result};
 use crate::elf::rewriter::writer::Writer;
 use byte_store::Difference;
 use elf_image::{Builder, ElfFault};

@@ -2,7 +2,7 @@ use Rattle.std.proofs.Common.{List, â„•, map, ap, subst, string_bytes, String, â
 use Rattle.std.specs.declared.alloc.Global.{Global}
 use Rattle.std.specs.Io.KnownBytes.{Appends}
 use Rattle.std.proofs.lemmas.Result.{err_from_is_err_and}
-use Rattle.arwen_elf.specs.Told.{Refuses}
+use Rattle.elf_apply.specs.Told.{Refuses}
 use Rattle.elf_edits.specs.Called.{answer_held}
 use Rattle.elf_edits.specs.Edit.{Edit, ShrinkRunPath}
 use Rattle.elf_edits.specs.Edited.{step}

@@ -1,7 +1,7 @@
 use Rattle.std.proofs.Common.{List, ℕ, map, ap, subst, string_bytes, ◌∙◌}
 use Rattle.std.proofs.lemmas.Result.{err_from_is_err_and}
 use Rattle.byte_store.specs.Composed.{IsDifference}
-use Rattle.arwen_elf.specs.Told.{Refuses}
+use Rattle.elf_apply.specs.Told.{Refuses}
 use Rattle.elf_edits.specs.declared.shrink.ProbeAnswer.{ProbeAnswer}
 use Rattle.elf_edits.specs.Called.{answer_held}
 use Rattle.elf_edits.specs.Edit.{Edit, ShrinkRunPath}

@@ -7,9 +7,9 @@ use Rattle.elf_image.specs.Image.{Image}
 use Rattle.elf_edits.specs.declared.call.ElfEdit.{ElfEdit}
 use Rattle.elf_edits.specs.Batch.{run}
 use Rattle.elf_edits.specs.Edit.{Edit}
-use Rattle.arwen_elf.specs.declared.elf.rewriter.batch.ElfBatchError.{ElfBatchError}
-use Rattle.arwen_elf.specs.Taken.{AnswersAll, AnswersBatch, TakesBatch, batches_meant, edits_meant, left_upon, left_upon_all}
-use Rattle.arwen_elf.proofs.BatchSteps.{answers_more, left_more, taken_is}
+use Rattle.elf_apply.specs.declared.batch.ElfBatchError.{ElfBatchError}
+use Rattle.elf_apply.specs.Taken.{AnswersAll, AnswersBatch, TakesBatch, batches_meant, edits_meant, left_upon, left_upon_all}
+use Rattle.elf_apply.proofs.ForCallers.{answers_more, left_more, taken_is}
 use Rattle.arwen_elf.proofs.elf.rewriter.writer.Writer.apply_each.Goals as goal
 
 pub loop-batch-preserved : goal.loop-batch-preserved

@@ -1,6 +1,6 @@
 use Rattle.std.proofs.Common.{◌≡◌, ◌≤◌, length, take}
 use Rattle.std.specs.Vec.{vec_capacity, vec_len}
-use Rattle.arwen_elf.specs.Taken.{AnswersAll, batches_meant, left_upon_all}
+use Rattle.elf_apply.specs.Taken.{AnswersAll, batches_meant, left_upon_all}
 use Rattle.arwen_elf.proofs.elf.rewriter.writer.Writer.apply_each.Given as goal
 
 -- each batch so far has its answer, and the image is what they leave

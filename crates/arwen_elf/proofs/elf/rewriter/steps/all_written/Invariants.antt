@@ -1,9 +1,0 @@
-use Rattle.std.proofs.Common.{take}
-use Rattle.elf_edits.specs.Decided.{all_edited}
-use Rattle.arwen_elf.specs.Drafted.{OnlyShows}
-use Rattle.arwen_elf.specs.Taken.{edits_meant}
-use Rattle.arwen_elf.proofs.elf.rewriter.steps.all_written.Given as goal
-
--- the edits so far are written
-abbrev pub invariant-loop-edit : goal.invariant-loop-edit
-invariant-loop-edit l = OnlyShows l.builder (all_edited (edits_meant (take l.edit-index l.edits)) l.builder) l.draft

@@ -1,8 +1,0 @@
-use Rattle.std.proofs.Common.{◌≡◌, drop}
-use Rattle.elf_edits.specs.Decided.{first_refusal}
-use Rattle.arwen_elf.specs.Taken.{edits_meant}
-use Rattle.arwen_elf.proofs.elf.rewriter.steps.first_refusal.Given as goal
-
--- the first refused edit of those that are left is that of all
-abbrev pub invariant-loop-index : goal.invariant-loop-index
-invariant-loop-index l = first_refusal l.facts l.index (edits_meant (drop l.index l.edits)) ≡ first_refusal l.facts 0 (edits_meant l.edits)

@@ -1,9 +1,0 @@
-use Rattle.std.proofs.Common.{refl}
-use Rattle.arwen_elf.proofs.HeldLaws.{lists_entries}
-use Rattle.arwen_elf.proofs.elf.rewriter.steps.known.Goals as goal
-
-pub returns-clause-same : goal.returns-clause-same
-returns-clause-same c = refl
-
-pub returns-clause-lists : goal.returns-clause-lists
-returns-clause-lists c = lists_entries c.args.builder.now c.source-source.ensures.edited

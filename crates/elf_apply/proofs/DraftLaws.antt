@@ -1,0 +1,541 @@
+-- What a draft shows once an edit wrote to it, and once it is put in place.
+use Rattle.std.proofs.Common.{◌≡◌, ℕ, Bool, true, false, not, ◌||◌, List, [], ◌∷◌, map, refl, sym, ap, subst, ◌∙◌, Option, Some, None, is_some, option_map, Result, Ok, Err}
+use Rattle.std.specs.Prelude.{All, IfOk, IfSome, IsSome, MatchResult, is_none, if◌then◌else◌, ◌==◌, unwrap_or}
+use Rattle.std.proofs.lemmas.Bool.{cond-true, cond-false, or_parts}
+use Rattle.patch_bytes.specs.ByteString.{StringValue, owned_string}
+use Rattle.elf_format.specs.declared.constants.TheConstants.{PT_GNU_STACK, PT_LOAD}
+use Rattle.elf_format.specs.declared.records.SegmentHeader.{SegmentHeader}
+use Rattle.elf_image.specs.Dynamic.{Entry}
+use Rattle.elf_image.specs.DynamicList.{IsListed, KeepsTables, tables_of}
+use Rattle.elf_image.specs.File.{segment_of_type}
+use Rattle.elf_image.specs.Image.{Image}
+use Rattle.elf_image.specs.ImageSeen.{entry_kept, text_kept}
+use Rattle.elf_image.specs.Options.{first_there}
+use Rattle.elf_image.specs.Segments.{with_stack_added, with_stack_flags}
+use Rattle.elf_edits.specs.declared.constants.TheConstants.{STACK_FLAGS}
+use Rattle.elf_edits.specs.declared.list.NewList.{NewList}
+use Rattle.elf_edits.specs.Abi.{abi_number, lowered, with_nul}
+use Rattle.elf_edits.specs.Cause.{NoDynamic, NoInterpreter, UnknownAbi, cause_if, facts_of, first_cause}
+use Rattle.elf_edits.specs.Edit.{Edit, AddDebugEntry, AddNeeded, AddRunPath, ClearExecStack, DeleteNeeded, DeleteRunPath, NoDefaultLibrary, ReplaceNeeded, SetExecStack, SetInterpreter, SetOsAbi, SetPageSize, SetRunPath, SetSoname, ShrinkRunPath, UseRpath, UseRunpath, all_but_last}
+use Rattle.elf_edits.specs.Edited.{edited_image, is_list_with, touches_rest, with_align, with_load_align, with_run, with_stack_changed, without_run}
+use Rattle.elf_edits.specs.Entries.{edited_entries, retagged, touches_entries, with_tag}
+use Rattle.elf_image.specs.Image.{entry_tag, lists_tag}
+use Rattle.elf_image.specs.declared.dynamic.Dynamic.{Dynamic}
+use Rattle.std.specs.declared.alloc.Global.{Global}
+use Rattle.std.specs.declared.vec.Vec.{Vec}
+use Rattle.elf_edits.specs.Texts.{holds_nul}
+use Rattle.elf_edits.proofs.ForCallers.{IsFree, is_free, lists_again, stands_not, stored_whole, untouched}
+use Rattle.elf_apply.specs.declared.draft.Draft.{Draft}
+use Rattle.elf_apply.specs.Drafted.{CanPutEntries, CanPutInterpreter, changed_if, IsDraftOf, ListsEntries, OnlyShows, Writes, drafted, entries_drafted, flags_now, is_written, stack_flags_of, with_entries_put, with_flags, with_flags_put, with_interpreter_put, with_list, with_retagged, with_os_abi_put, with_page_size, with_page_size_put}
+
+pub by_test : {P : Type 0} (b : Bool) → (b ≡ true → P) → (b ≡ false → P) → P
+by_test true then_so else_so = then_so refl
+by_test false then_so else_so = else_so refl
+
+pub or_true : (b : Bool) → (b || true) ≡ true
+or_true true = refl
+or_true false = refl
+
+pub or_false : (b : Bool) → (b || false) ≡ b
+or_false true = refl
+or_false false = refl
+
+-- an image with other parts
+unfoldable pub image_with : Bool → ℕ → List SegmentHeader → Option (List Entry) → Option (List ℕ) → Option ℕ → Image → Image
+image_with changed abi segments entries interpreter size image = record image {
+  changed = changed;
+  header = record image.header { os_abi = abi };
+  segments = segments;
+  entries = entries;
+  interpreter = interpreter;
+  page_size = size;
+}
+
+-- ## Nothing and something written
+
+pub nothing_written : (image : Image) → OnlyShows image image (record { entries = None; interpreter = None; os_abi = None; stack_flags = None; page_size = None })
+unfolding drafted image_with
+nothing_written image = record {
+  shows = ap (λ changed. image_with changed image.header.os_abi image.segments image.entries image.interpreter image.page_size image) (or_false image.changed);
+  draft = record { tables = tt; entries = tt; interpreter_there = tt; interpreter = tt };
+}
+
+written_marks : (changed before after : Bool) → after ≡ true → (changed || after) ≡ ((changed || before) || true)
+written_marks changed before after h = ap (λ b. changed || b) h ∙ or_true changed ∙ sym (or_true (changed || before))
+
+-- ## Edits of something else than the list
+
+kept_list : (o : Option (List Entry)) → option_map (λ es. es) o ≡ o
+kept_list None = refl
+kept_list (Some es) = refl
+
+interpreter_edit : (bytes : List ℕ) (image : Image) → edited_image (SetInterpreter bytes) image ≡ image_with (image.changed || true) image.header.os_abi image.segments image.entries (Some (with_nul bytes)) image.page_size image
+unfolding edited_image edited_entries image_with
+interpreter_edit bytes image = ap (λ o. image_with (image.changed || true) image.header.os_abi image.segments o (Some (with_nul bytes)) image.page_size image) (kept_list image.entries)
+
+os_abi_edit : (name : List ℕ) (image : Image) → edited_image (SetOsAbi name) image ≡ image_with (image.changed || true) (unwrap_or (abi_number name) image.header.os_abi) image.segments image.entries image.interpreter image.page_size image
+unfolding edited_image edited_entries image_with
+os_abi_edit name image = ap (λ o. image_with (image.changed || true) (unwrap_or (abi_number name) image.header.os_abi) image.segments o image.interpreter image.page_size image) (kept_list image.entries)
+
+pub page_size_edit : (size : ℕ) (image : Image) → edited_image (SetPageSize size) image ≡ image_with (image.changed || true) image.header.os_abi (with_load_align size image.segments) image.entries image.interpreter (Some size) image
+unfolding edited_image edited_entries image_with
+page_size_edit size image = ap (λ o. image_with (image.changed || true) image.header.os_abi (with_load_align size image.segments) o image.interpreter (Some size) image) (kept_list image.entries)
+
+cleared_edit : (image : Image) → edited_image ClearExecStack image ≡ image_with (image.changed || true) image.header.os_abi (with_stack_changed without_run image.segments) image.entries image.interpreter image.page_size image
+unfolding edited_image edited_entries image_with
+cleared_edit image = ap (λ o. image_with (image.changed || true) image.header.os_abi (with_stack_changed without_run image.segments) o image.interpreter image.page_size image) (kept_list image.entries)
+
+set_edit : (image : Image) → edited_image SetExecStack image ≡ image_with (image.changed || true) image.header.os_abi (with_stack_changed with_run image.segments) image.entries image.interpreter image.page_size image
+unfolding edited_image edited_entries image_with
+set_edit image = ap (λ o. image_with (image.changed || true) image.header.os_abi (with_stack_changed with_run image.segments) o image.interpreter image.page_size image) (kept_list image.entries)
+
+-- ## The interpreter
+
+not_false_is : (b : Bool) → not b ≡ false → b ≡ true
+not_false_is true h = refl
+not_false_is false h = cc
+
+pub is_there : {A : Type 0} (o : Option A) → is_some o ≡ true → IsSome o
+is_there o h = h
+
+pub interpreter_written : (bytes : List ℕ) (image : Image) (d : Draft) → IsFree (SetInterpreter bytes) (facts_of image) → IsDraftOf image d → Writes (SetInterpreter bytes) image d (record d { interpreter = Some (owned_string (with_nul bytes)) })
+unfolding drafted edited_image image_with
+interpreter_written bytes image d free is = record {
+  shows = ap (λ changed. image_with changed (unwrap_or d.os_abi image.header.os_abi) (with_page_size d.page_size (with_flags d.stack_flags image.segments)) (first_there (entries_drafted d) image.entries) (Some (with_nul bytes)) (first_there d.page_size image.page_size) image)
+      (written_marks image.changed (is_written d) (is_written (record d { interpreter = Some (owned_string (with_nul bytes)) })) marked)
+      ∙ sym (interpreter_edit bytes (drafted d image));
+  draft = record {
+    tables = is.tables;
+    entries = is.entries;
+    interpreter_there = is_there image.interpreter there;
+    interpreter = stored_whole bytes (or_parts (holds_nul (all_but_last bytes)) false free.texts).0;
+  };
+}
+  where
+    marked : is_written (record d { interpreter = Some (owned_string (with_nul bytes)) }) ≡ true
+    marked = ap (λ b. b || is_some d.entries) (or_true ((is_some d.stack_flags || is_some d.page_size) || is_some d.os_abi))
+
+    there : is_some image.interpreter ≡ true
+    there = not_false_is (is_some image.interpreter) (stands_not (not (is_some image.interpreter)) NoInterpreter free.interpreter)
+
+-- ## The ABI byte
+
+named : (number : Option ℕ) → is_none number ≡ false → (n : ℕ) × (number ≡ Some n)
+named None h = absurd (cc)
+named (Some n) h = (n, refl)
+
+pub os_abi_written : (name : List ℕ) (number : Option ℕ) (image : Image) (d : Draft) → IsFree (SetOsAbi name) (facts_of image) → IsDraftOf image d → number ≡ abi_number name → Writes (SetOsAbi name) image d (record d { os_abi = number })
+unfolding drafted edited_image image_with
+os_abi_written name number image d free is same =
+    let found = named (abi_number name) (stands_not (is_none (abi_number name)) (UnknownAbi (lowered name)) free.own) in
+    subst (λ (o : Option ℕ). Writes (SetOsAbi name) image d (record d { os_abi = o })) (sym (same ∙ found.1)) (by_number found.0 found.1)
+  where
+    marked : (n : ℕ) → is_written (record d { os_abi = Some n }) ≡ true
+    marked n = ap (λ b. (b || is_some d.interpreter) || is_some d.entries) (or_true (is_some d.stack_flags || is_some d.page_size))
+
+    by_number : (n : ℕ) → abi_number name ≡ Some n → Writes (SetOsAbi name) image d (record d { os_abi = Some n })
+    by_number n is_named = record {
+      shows =
+          ap (λ changed. image_with changed n (with_page_size d.page_size (with_flags d.stack_flags image.segments)) (first_there (entries_drafted d) image.entries) (first_there (text_kept d.interpreter) image.interpreter) (first_there d.page_size image.page_size) image)
+          (written_marks image.changed (is_written d) (is_written (record d { os_abi = Some n })) (marked n))
+          ∙ ap (λ o. image_with ((image.changed || is_written d) || true) (unwrap_or o (unwrap_or d.os_abi image.header.os_abi)) (with_page_size d.page_size (with_flags d.stack_flags image.segments)) (first_there (entries_drafted d) image.entries) (first_there (text_kept d.interpreter) image.interpreter) (first_there d.page_size image.page_size) image)
+          (sym is_named)
+          ∙ sym (os_abi_edit name (drafted d image));
+      draft = record { tables = is.tables; entries = is.entries; interpreter_there = is.interpreter_there; interpreter = is.interpreter };
+    }
+
+-- ## The page size
+
+aligned_again : (size old : ℕ) (segments : List SegmentHeader) → map (with_align size) (map (with_align old) segments) ≡ map (with_align size) segments
+aligned_again size old [] = refl
+aligned_again size old (p ∷ ps) =
+    ap (λ align. record p { p_align = align } ∷ map (with_align size) (map (with_align old) ps)) (last_counts (p.p_type == PT_LOAD) size old p.p_align)
+    ∙ ap (λ l. with_align size p ∷ l) (aligned_again size old ps)
+  where
+    last_counts : (b : Bool) (x y z : ℕ) → (if b then x else if b then y else z) ≡ (if b then x else z)
+    last_counts true x y z = refl
+    last_counts false x y z = refl
+
+aligned_last : (size : ℕ) (old : Option ℕ) (segments : List SegmentHeader) → with_load_align size segments ≡ with_load_align size (with_page_size old segments)
+aligned_last size None segments = refl
+aligned_last size (Some old) segments = sym (aligned_again size old segments)
+
+pub page_size_written : (size : ℕ) (image : Image) (d : Draft) → IsDraftOf image d → Writes (SetPageSize size) image d (record d { page_size = Some size })
+unfolding drafted edited_image image_with
+page_size_written size image d is = record {
+  shows =
+      ap (λ changed. image_with changed (unwrap_or d.os_abi image.header.os_abi) (with_load_align size (with_flags d.stack_flags image.segments)) (first_there (entries_drafted d) image.entries) (first_there (text_kept d.interpreter) image.interpreter) (Some size) image)
+      (written_marks image.changed (is_written d) (is_written (record d { page_size = Some size })) marked)
+      ∙ ap (λ segments. image_with ((image.changed || is_written d) || true) (unwrap_or d.os_abi image.header.os_abi) segments (first_there (entries_drafted d) image.entries) (first_there (text_kept d.interpreter) image.interpreter) (Some size) image)
+      (aligned_last size d.page_size (with_flags d.stack_flags image.segments))
+      ∙ sym (page_size_edit size (drafted d image));
+  draft = record { tables = is.tables; entries = is.entries; interpreter_there = is.interpreter_there; interpreter = is.interpreter };
+}
+  where
+    marked : is_written (record d { page_size = Some size }) ≡ true
+    marked = ap (λ b. ((b || is_some d.os_abi) || is_some d.interpreter) || is_some d.entries) (or_true (is_some d.stack_flags))
+
+-- ## The stack
+
+set_at_first : (b : Bool) (change : ℕ → ℕ) (p : SegmentHeader) (ps : List SegmentHeader) → with_stack_changed change ps ≡ with_stack_changed (λ _. change (stack_flags_of ps)) ps
+    → (if b then record p { p_flags = change p.p_flags } ∷ ps else p ∷ with_stack_changed change ps)
+    ≡ (if b then record p { p_flags = change (unwrap_or (option_map (λ (q : SegmentHeader). q.p_flags) (if b then Some p else segment_of_type PT_GNU_STACK ps)) STACK_FLAGS) } ∷ ps
+    else p ∷ with_stack_changed (λ _. change (unwrap_or (option_map (λ (q : SegmentHeader). q.p_flags) (if b then Some p else segment_of_type PT_GNU_STACK ps)) STACK_FLAGS)) ps)
+set_at_first true change p ps rest = refl
+set_at_first false change p ps rest = ap (λ l. p ∷ l) rest
+
+set_to_changed : (change : ℕ → ℕ) (segments : List SegmentHeader) → with_stack_changed change segments ≡ with_stack_changed (λ _. change (stack_flags_of segments)) segments
+unfolding with_stack_changed
+set_to_changed change [] = refl
+set_to_changed change (p ∷ ps) = set_at_first (p.p_type == PT_GNU_STACK) change p ps (set_to_changed change ps)
+
+changed_again : (change : ℕ → ℕ) (flags : ℕ) (segments : List SegmentHeader) → with_stack_changed change (with_stack_changed (λ _. flags) segments) ≡ with_stack_changed (λ _. change flags) segments
+unfolding with_stack_changed
+changed_again change flags [] = refl
+changed_again change flags (p ∷ ps) = by_test (p.p_type == PT_GNU_STACK)
+    (λ holds.
+    ap (with_stack_changed change) (cond-true (p.p_type == PT_GNU_STACK) (record p { p_flags = flags } ∷ ps) (p ∷ with_stack_changed (λ _. flags) ps) holds)
+    ∙ cond-true (p.p_type == PT_GNU_STACK) (record p { p_flags = change flags } ∷ ps) (record p { p_flags = flags } ∷ with_stack_changed change ps) holds
+    ∙ sym (cond-true (p.p_type == PT_GNU_STACK) (record p { p_flags = change flags } ∷ ps) (p ∷ with_stack_changed (λ _. change flags) ps) holds))
+    (λ fails.
+    ap (with_stack_changed change) (cond-false (p.p_type == PT_GNU_STACK) (record p { p_flags = flags } ∷ ps) (p ∷ with_stack_changed (λ _. flags) ps) fails)
+    ∙ cond-false (p.p_type == PT_GNU_STACK) (record p { p_flags = change p.p_flags } ∷ with_stack_changed (λ _. flags) ps) (p ∷ with_stack_changed change (with_stack_changed (λ _. flags) ps)) fails
+    ∙ ap (λ l. p ∷ l) (changed_again change flags ps)
+    ∙ sym (cond-false (p.p_type == PT_GNU_STACK) (record p { p_flags = change flags } ∷ ps) (p ∷ with_stack_changed (λ _. change flags) ps) fails))
+
+aligned_at_first : (b : Bool) (change : ℕ → ℕ) (size : ℕ) (p : SegmentHeader) (ps : List SegmentHeader) → with_stack_changed change (map (with_align size) ps) ≡ map (with_align size) (with_stack_changed change ps)
+    → (if b then record (with_align size p) { p_flags = change p.p_flags } ∷ map (with_align size) ps else with_align size p ∷ with_stack_changed change (map (with_align size) ps))
+    ≡ map (with_align size) (if b then record p { p_flags = change p.p_flags } ∷ ps else p ∷ with_stack_changed change ps)
+aligned_at_first true change size p ps rest = refl
+aligned_at_first false change size p ps rest = ap (λ l. with_align size p ∷ l) rest
+
+changed_aligned : (change : ℕ → ℕ) (size : ℕ) (segments : List SegmentHeader) → with_stack_changed change (map (with_align size) segments) ≡ map (with_align size) (with_stack_changed change segments)
+unfolding with_stack_changed
+changed_aligned change size [] = refl
+changed_aligned change size (p ∷ ps) = aligned_at_first (p.p_type == PT_GNU_STACK) change size p ps (changed_aligned change size ps)
+
+flags_set : (change : ℕ → ℕ) (old : Option ℕ) (segments : List SegmentHeader) → with_stack_changed change (with_flags old segments) ≡ with_flags (Some (change (unwrap_or old (stack_flags_of segments)))) segments
+flags_set change None segments = set_to_changed change segments
+flags_set change (Some flags) segments = changed_again change flags segments
+
+sized_flags_set : (change : ℕ → ℕ) (size : Option ℕ) (segments : List SegmentHeader) → with_page_size size (with_stack_changed change segments) ≡ with_stack_changed change (with_page_size size segments)
+sized_flags_set change None segments = refl
+sized_flags_set change (Some size) segments = sym (changed_aligned change size segments)
+
+module _ (image : Image) (d : Draft) (change : ℕ → ℕ) where
+  new_flags : ℕ
+  new_flags = change (flags_now d image.segments)
+
+  after : Draft
+  after = record d { stack_flags = Some new_flags }
+
+  -- the image with the stack's flags changed
+  flags_changed : Image
+  flags_changed = record (drafted d image) { changed = (drafted d image).changed || true; segments = with_stack_changed change (drafted d image).segments }
+
+  flags_drafted : drafted after image ≡ flags_changed
+  unfolding drafted image_with after flags_changed new_flags
+  flags_drafted =
+      ap (λ changed. image_with changed (unwrap_or d.os_abi image.header.os_abi) (with_page_size d.page_size (with_flags (Some new_flags) image.segments)) (first_there (entries_drafted d) image.entries) (first_there (text_kept d.interpreter) image.interpreter) (first_there d.page_size image.page_size) image)
+      (written_marks image.changed (is_written d) true refl)
+      ∙ ap (λ segments. image_with ((image.changed || is_written d) || true) (unwrap_or d.os_abi image.header.os_abi) segments (first_there (entries_drafted d) image.entries) (first_there (text_kept d.interpreter) image.interpreter) (first_there d.page_size image.page_size) image)
+      (ap (with_page_size d.page_size) (sym (flags_set change d.stack_flags image.segments)) ∙ sized_flags_set change d.page_size (with_flags d.stack_flags image.segments))
+
+pub stack_cleared : (image : Image) (d : Draft) → IsDraftOf image d → Writes ClearExecStack image d (record d { stack_flags = Some (without_run (flags_now d image.segments)) })
+unfolding image_with after flags_changed new_flags
+stack_cleared image d is = record {
+  shows = flags_drafted image d without_run ∙ sym (cleared_edit (drafted d image));
+  draft = record { tables = is.tables; entries = is.entries; interpreter_there = is.interpreter_there; interpreter = is.interpreter };
+}
+
+pub stack_set : (image : Image) (d : Draft) → IsDraftOf image d → Writes SetExecStack image d (record d { stack_flags = Some (with_run (flags_now d image.segments)) })
+unfolding image_with after flags_changed new_flags
+stack_set image d is = record {
+  shows = flags_drafted image d with_run ∙ sym (set_edit (drafted d image));
+  draft = record { tables = is.tables; entries = is.entries; interpreter_there = is.interpreter_there; interpreter = is.interpreter };
+}
+
+-- ## The dynamic list
+
+not_both : {P : Type 0} → true ≡ false → P
+not_both h = absurd (cc)
+
+-- an edit of the list leaves all else
+pub rest_stays : (edit : Edit) → touches_rest edit ≡ false → (image : Image) → edited_image edit image ≡ record image {
+  changed = image.changed || is_list_with (touches_entries image.header.e_machine edit) image.entries;
+  entries = option_map (edited_entries image.header.e_machine edit) image.entries;
+}
+unfolding edited_image
+rest_stays AddDebugEntry h image = refl
+rest_stays DeleteRunPath h image = refl
+rest_stays (SetRunPath text) h image = refl
+rest_stays (AddRunPath texts) h image = refl
+rest_stays UseRunpath h image = refl
+rest_stays UseRpath h image = refl
+rest_stays (DeleteNeeded names) h image = refl
+rest_stays (ReplaceNeeded pairs) h image = refl
+rest_stays (AddNeeded names) h image = refl
+rest_stays (SetSoname text) h image = refl
+rest_stays NoDefaultLibrary h image = refl
+rest_stays (ShrinkRunPath prefixes answers) h image = refl
+rest_stays (SetInterpreter bytes) h image = not_both h
+rest_stays (SetOsAbi name) h image = not_both h
+rest_stays ClearExecStack h image = not_both h
+rest_stays SetExecStack h image = not_both h
+rest_stays (SetPageSize size) h image = not_both h
+
+-- and has a list
+there : (task : List ℕ) (image : Image) → cause_if (not (is_some image.entries)) (NoDynamic task) ≡ None → is_some image.entries ≡ true
+there task image h = not_false_is (is_some image.entries) (stands_not (not (is_some image.entries)) (NoDynamic task) h)
+
+list_there : (edit : Edit) (image : Image) → touches_rest edit ≡ false → IsFree edit (facts_of image) → is_some image.entries ≡ true
+list_there AddDebugEntry image h free = there _ image free.list
+list_there DeleteRunPath image h free = there _ image free.list
+list_there (SetRunPath text) image h free = there _ image free.list
+list_there (AddRunPath texts) image h free = there _ image free.list
+list_there UseRunpath image h free = there _ image free.list
+list_there UseRpath image h free = there _ image free.list
+list_there (DeleteNeeded names) image h free = there _ image free.list
+list_there (ReplaceNeeded pairs) image h free = there _ image free.list
+list_there (AddNeeded names) image h free = there _ image free.list
+list_there (SetSoname text) image h free = there _ image free.list
+list_there NoDefaultLibrary image h free = there _ image free.list
+list_there (ShrinkRunPath prefixes answers) image h free = there _ image free.list
+list_there (SetInterpreter bytes) image h free = not_both h
+list_there (SetOsAbi name) image h free = not_both h
+list_there ClearExecStack image h free = not_both h
+list_there SetExecStack image h free = not_both h
+list_there (SetPageSize size) image h free = not_both h
+
+pub listed_in : (edit : Edit) (image : Image) → touches_rest edit ≡ false → IsFree edit (facts_of image) → (es : List Entry) × (image.entries ≡ Some es)
+listed_in edit image h free = by_list image.entries (list_there edit image h free)
+  where
+    by_list : (o : Option (List Entry)) → is_some o ≡ true → (es : List Entry) × (o ≡ Some es)
+    by_list None k = absurd (cc)
+    by_list (Some es) k = (es, refl)
+
+-- the list with what was written
+module _ (image : Image) (d : Draft) where
+  now_listed : Option (List Entry)
+  now_listed = first_there (entries_drafted d) image.entries
+
+  -- what is known of it
+  record IsNow (read es : List Entry) : Type 0 where
+    now : now_listed ≡ Some es
+    listed : All IsListed es
+    tables : tables_of es ≡ tables_of read
+
+  is_now : (read : List Entry) → image.entries ≡ Some read → ListsEntries image → IsDraftOf image d → (es : List Entry) × IsNow read es
+  unfolding now_listed
+  is_now read is_read listed is =
+      let found = by_draft (entries_drafted d) is.tables is.entries in
+      (found.0, record { now = found.1; listed = found.2; tables = found.3 })
+    where
+      by_draft : (o : Option (List Entry)) → IfSome o (KeepsTables image.entries) → IfSome o (All IsListed) → (es : List Entry) × (first_there o image.entries ≡ Some es) × All IsListed es × (tables_of es ≡ tables_of read)
+      by_draft None t l = (read, is_read, subst (λ (o : Option (List Entry)). All IsListed (unwrap_or o [])) is_read listed, refl)
+      by_draft (Some es) t l = (es, refl, l, subst (λ (o : Option (List Entry)). KeepsTables o es) is_read t)
+
+-- two parts of an image
+same_two : (c c' : Bool) (e e' : Option (List Entry)) (abi : ℕ) (segments : List SegmentHeader) (interpreter : Option (List ℕ)) (size : Option ℕ) (image : Image) → c ≡ c' → e ≡ e'
+    → image_with c abi segments e interpreter size image ≡ image_with c' abi segments e' interpreter size image
+same_two c c' e e' abi segments interpreter size image changed entries = cc
+
+pub list_written : (edit : Edit) (image : Image) (d : Draft) (made : NewList) → touches_rest edit ≡ false → IsFree edit (facts_of image) → ListsEntries image → IsDraftOf image d
+    → ((machine : ℕ) → map entry_kept made.entries.items ≡ edited_entries machine edit (unwrap_or (first_there (entries_drafted d) image.entries) []))
+    → ((machine : ℕ) → made.is_touched ≡ touches_entries machine edit (unwrap_or (first_there (entries_drafted d) image.entries) []))
+    → Writes edit image d (with_list made d)
+unfolding drafted image_with now_listed
+list_written edit image d made kind free listed is list touched =
+    let read = listed_in edit image kind free in
+    let now = is_now image d read.0 read.1 listed is in
+    by_test made.is_touched
+    (λ holds. subst (λ (x : Draft). Writes edit image d x) (sym (cond-true made.is_touched (record d { entries = Some made.entries }) d holds)) (when_touched read.0 now.0 read.1 now.1 holds))
+    (λ fails. subst (λ (x : Draft). Writes edit image d x) (sym (cond-false made.is_touched (record d { entries = Some made.entries }) d fails)) (when_untouched read.0 now.0 now.1 fails))
+  where
+    machine : ℕ
+    machine = image.header.e_machine
+
+    new : Draft
+    new = record d { entries = Some made.entries }
+
+    -- what the edit makes, by the list with what was written
+    edited_parts : edited_image edit (drafted d image) ≡ image_with ((image.changed || is_written d) || is_list_with (touches_entries machine edit) (now_listed image d)) (unwrap_or d.os_abi image.header.os_abi)
+        (with_page_size d.page_size (with_flags d.stack_flags image.segments)) (option_map (edited_entries machine edit) (now_listed image d)) (first_there (text_kept d.interpreter) image.interpreter) (first_there d.page_size image.page_size) image
+    edited_parts = rest_stays edit kind (drafted d image)
+
+    when_touched : (read es : List Entry) → image.entries ≡ Some read → IsNow image d read es → made.is_touched ≡ true → Writes edit image d new
+    when_touched read es there now holds =
+        let here : unwrap_or (first_there (entries_drafted d) image.entries) [] ≡ es = ap (λ o. unwrap_or o []) now.now in
+        let made_is : map entry_kept made.entries.items ≡ edited_entries machine edit es = list machine ∙ ap (edited_entries machine edit) here in
+        let again = lists_again machine edit es free.texts now.listed in
+        let marked : is_list_with (touches_entries machine edit) (now_listed image d) ≡ true = ap (is_list_with (touches_entries machine edit)) now.now ∙ sym (ap (touches_entries machine edit) here) ∙ sym (touched machine) ∙ holds in
+        record {
+          shows =
+              same_two (image.changed || is_written new) ((image.changed || is_written d) || is_list_with (touches_entries machine edit) (now_listed image d))
+              (Some (map entry_kept made.entries.items)) (option_map (edited_entries machine edit) (now_listed image d))
+              (unwrap_or d.os_abi image.header.os_abi) (with_page_size d.page_size (with_flags d.stack_flags image.segments)) (first_there (text_kept d.interpreter) image.interpreter) (first_there d.page_size image.page_size) image
+              (written_marks image.changed (is_written d) (is_written new) (or_true (((is_some d.stack_flags || is_some d.page_size) || is_some d.os_abi) || is_some d.interpreter)) ∙ sym (ap (λ b. (image.changed || is_written d) || b) marked))
+              (ap Some made_is ∙ sym (ap (option_map (edited_entries machine edit)) now.now))
+              ∙ sym edited_parts;
+          draft = record {
+            tables = subst (λ (o : Option (List Entry)). KeepsTables o (map entry_kept made.entries.items)) (sym there) (ap tables_of made_is ∙ again.tables ∙ now.tables);
+            entries = subst (λ (l : List Entry). All IsListed l) (sym made_is) again.listed;
+            interpreter_there = is.interpreter_there;
+            interpreter = is.interpreter;
+          };
+        }
+
+    when_untouched : (read es : List Entry) → IsNow image d read es → made.is_touched ≡ false → Writes edit image d d
+    when_untouched read es now fails =
+        let here : unwrap_or (first_there (entries_drafted d) image.entries) [] ≡ es = ap (λ o. unwrap_or o []) now.now in
+        let not_touched : touches_entries machine edit es ≡ false = sym (ap (touches_entries machine edit) here) ∙ sym (touched machine) ∙ fails in
+        let marked : is_list_with (touches_entries machine edit) (now_listed image d) ≡ false = ap (is_list_with (touches_entries machine edit)) now.now ∙ not_touched in
+        record {
+          shows =
+              same_two (image.changed || is_written d) ((image.changed || is_written d) || is_list_with (touches_entries machine edit) (now_listed image d))
+              (now_listed image d) (option_map (edited_entries machine edit) (now_listed image d))
+              (unwrap_or d.os_abi image.header.os_abi) (with_page_size d.page_size (with_flags d.stack_flags image.segments)) (first_there (text_kept d.interpreter) image.interpreter) (first_there d.page_size image.page_size) image
+              (sym (or_false (image.changed || is_written d)) ∙ sym (ap (λ b. (image.changed || is_written d) || b) marked))
+              (now.now ∙ sym (ap Some (untouched machine edit es not_touched)) ∙ sym (ap (option_map (edited_entries machine edit)) now.now))
+              ∙ sym edited_parts;
+          draft = is;
+        }
+
+-- ## Each edit, as it is called
+
+-- an edit that is called by this one
+as_called : (edit : Edit) (called : Edit) (image : Image) (old new : Draft) → called ≡ edit → Writes edit image old new → Writes called image old new
+as_called edit called image old new same wrote = subst (λ (e : Edit). Writes e image old new) (sym same) wrote
+
+free_as : (edit : Edit) (called : Edit) (image : Image) → called ≡ edit → first_cause called (facts_of image) ≡ None → IsFree edit (facts_of image)
+free_as edit called image same none = is_free edit (facts_of image) (ap (λ (e : Edit). first_cause e (facts_of image)) (sym same) ∙ none)
+
+pub interpreter_noted : {E : Type 0} (r : Result (Unit {0}) E) (called : Edit) (bytes : List ℕ) (image : Image) (old new : Draft) → called ≡ SetInterpreter bytes → first_cause called (facts_of image) ≡ None → IsDraftOf image old
+    → IfOk r (λ _. new ≡ record old { interpreter = Some (owned_string (with_nul bytes)) }) → IfOk r (λ _. Writes called image old new)
+interpreter_noted (Ok done) called bytes image old new same none is put =
+    as_called (SetInterpreter bytes) called image old new same
+    (subst (λ (d : Draft). Writes (SetInterpreter bytes) image old d) (sym put) (interpreter_written bytes image old (free_as (SetInterpreter bytes) called image same none) is))
+interpreter_noted (Err e) called bytes image old new same none is put = tt
+
+pub os_abi_noted : (called : Edit) (name : List ℕ) (number : Option ℕ) (image : Image) (d : Draft) → called ≡ SetOsAbi name → first_cause called (facts_of image) ≡ None → IsDraftOf image d → number ≡ abi_number name
+    → Writes called image d (record d { os_abi = number })
+os_abi_noted called name number image d same none is number_is =
+    as_called (SetOsAbi name) called image d (record d { os_abi = number }) same (os_abi_written name number image d (free_as (SetOsAbi name) called image same none) is number_is)
+
+pub cleared_noted : (called : Edit) (flags : ℕ) (image : Image) (d : Draft) → called ≡ ClearExecStack → IsDraftOf image d → flags ≡ flags_now d image.segments → Writes called image d (record d { stack_flags = Some (without_run flags) })
+cleared_noted called flags image d same is flags_are =
+    as_called ClearExecStack called image d (record d { stack_flags = Some (without_run flags) }) same
+    (subst (λ (n : ℕ). Writes ClearExecStack image d (record d { stack_flags = Some (without_run n) })) (sym flags_are) (stack_cleared image d is))
+
+pub set_noted : (called : Edit) (flags : ℕ) (image : Image) (d : Draft) → called ≡ SetExecStack → IsDraftOf image d → flags ≡ flags_now d image.segments → Writes called image d (record d { stack_flags = Some (with_run flags) })
+set_noted called flags image d same is flags_are =
+    as_called SetExecStack called image d (record d { stack_flags = Some (with_run flags) }) same
+    (subst (λ (n : ℕ). Writes SetExecStack image d (record d { stack_flags = Some (with_run n) })) (sym flags_are) (stack_set image d is))
+
+pub page_size_noted : (called : Edit) (size : ℕ) (image : Image) (d : Draft) → called ≡ SetPageSize size → IsDraftOf image d → Writes called image d (record d { page_size = Some size })
+page_size_noted called size image d same is = as_called (SetPageSize size) called image d (record d { page_size = Some size }) same (page_size_written size image d is)
+
+-- ## Putting it in place
+
+marks_if : {A : Type 0} (part : Option A) (old : Bool) → changed_if part old ≡ (old || is_some part)
+marks_if None old = sym (or_false old)
+marks_if (Some x) old = sym (or_true old)
+
+or_each : (c a b d e f : Bool) → (((((c || a) || b) || d) || e) || f) ≡ (c || ((((a || b) || d) || e) || f))
+or_each true a b d e f = refl
+or_each false a b d e f = refl
+
+-- a text is kept where there is one
+kept_there : (o : Option StringValue) → is_some (text_kept o) ≡ is_some o
+kept_there None = refl
+kept_there (Some text) = refl
+
+-- part by part, all of it is put in place
+pub put_together : (d : Draft) (image : Image) → with_entries_put d.entries (with_interpreter_put (text_kept d.interpreter) (with_os_abi_put d.os_abi (with_page_size_put d.page_size (with_flags_put d.stack_flags image)))) ≡ drafted d image
+unfolding drafted image_with
+put_together d image =
+    ap (λ changed. image_with changed (unwrap_or d.os_abi image.header.os_abi) (with_page_size d.page_size (with_flags d.stack_flags image.segments)) (first_there (entries_drafted d) image.entries) (first_there (text_kept d.interpreter) image.interpreter) (first_there d.page_size image.page_size) image) marked
+  where
+    flagged : Bool
+    flagged = changed_if d.stack_flags image.changed
+
+    marked : changed_if d.entries (changed_if (text_kept d.interpreter) (changed_if d.os_abi (changed_if d.page_size (changed_if d.stack_flags image.changed)))) ≡ (image.changed || is_written d)
+    marked =
+        marks_if d.entries (changed_if (text_kept d.interpreter) (changed_if d.os_abi (changed_if d.page_size (changed_if d.stack_flags image.changed))))
+        ∙ ap (λ b. b || is_some d.entries) (marks_if (text_kept d.interpreter) (changed_if d.os_abi (changed_if d.page_size (changed_if d.stack_flags image.changed)))
+        ∙ ap (λ b. b || is_some (text_kept d.interpreter)) (marks_if d.os_abi (changed_if d.page_size (changed_if d.stack_flags image.changed))
+        ∙ ap (λ b. b || is_some d.os_abi) (marks_if d.page_size (changed_if d.stack_flags image.changed)
+        ∙ ap (λ b. b || is_some d.page_size) (marks_if d.stack_flags image.changed))))
+        ∙ or_each image.changed (is_some d.stack_flags) (is_some d.page_size) (is_some d.os_abi) (is_some (text_kept d.interpreter)) (is_some d.entries)
+        ∙ ap (λ b. image.changed || ((((is_some d.stack_flags || is_some d.page_size) || is_some d.os_abi) || b) || is_some d.entries)) (kept_there d.interpreter)
+
+-- the flags of a stack that is there, and one that is added
+flags_at_first : (b : Bool) (flags : ℕ) (p : SegmentHeader) (ps : List SegmentHeader) → with_stack_flags flags ps ≡ with_stack_changed (λ _. flags) ps
+    → (if b then record p { p_flags = flags } ∷ ps else p ∷ with_stack_flags flags ps) ≡ (if b then record p { p_flags = flags } ∷ ps else p ∷ with_stack_changed (λ _. flags) ps)
+flags_at_first true flags p ps rest = refl
+flags_at_first false flags p ps rest = ap (λ l. p ∷ l) rest
+
+pub flags_there : (flags : ℕ) (segments : List SegmentHeader) → is_some (segment_of_type PT_GNU_STACK segments) ≡ true → with_stack_flags flags segments ≡ with_stack_changed (λ _. flags) segments
+unfolding with_stack_flags with_stack_changed
+flags_there flags [] h = absurd (cc)
+flags_there flags (p ∷ ps) h = by_test (p.p_type == PT_GNU_STACK)
+    (λ holds. cond-true (p.p_type == PT_GNU_STACK) (record p { p_flags = flags } ∷ ps) (p ∷ with_stack_flags flags ps) holds ∙ sym (cond-true (p.p_type == PT_GNU_STACK) (record p { p_flags = flags } ∷ ps) (p ∷ with_stack_changed (λ _. flags) ps) holds))
+    (λ fails. flags_at_first (p.p_type == PT_GNU_STACK) flags p ps (flags_there flags ps (sym (ap is_some (cond-false (p.p_type == PT_GNU_STACK) (Some p) (segment_of_type PT_GNU_STACK ps) fails)) ∙ h)))
+
+pub flags_added : (flags : ℕ) (segments : List SegmentHeader) → segment_of_type PT_GNU_STACK segments ≡ None → with_stack_added flags segments ≡ with_stack_changed (λ _. flags) segments
+unfolding with_stack_changed
+flags_added flags [] h = refl
+flags_added flags (p ∷ ps) h = by_test (p.p_type == PT_GNU_STACK)
+    (λ holds. let some : Some p ≡ None = sym (cond-true (p.p_type == PT_GNU_STACK) (Some p) (segment_of_type PT_GNU_STACK ps) holds) ∙ h in absurd (cc))
+    (λ fails.
+    ap (λ l. p ∷ l) (flags_added flags ps (sym (cond-false (p.p_type == PT_GNU_STACK) (Some p) (segment_of_type PT_GNU_STACK ps) fails) ∙ h))
+    ∙ sym (cond-false (p.p_type == PT_GNU_STACK) (record p { p_flags = flags } ∷ ps) (p ∷ with_stack_changed (λ _. flags) ps) fails))
+
+-- what the question for a stack tells of the image's program headers
+pub found_there : {A B : Type 0} (f : A → B) (r : Option A) (o : Option B) → option_map f r ≡ o → is_some r ≡ true → is_some o ≡ true
+found_there f None o e h = absurd (cc)
+found_there f (Some x) o e h = ap is_some (sym e)
+
+pub not_found : {A B : Type 0} (f : A → B) (r : Option A) (o : Option B) → option_map f r ≡ o → is_some r ≡ false → o ≡ None
+not_found f None o e h = sym e
+not_found f (Some x) o e h = absurd (cc)
+
+pub pushed : {E : Type 0} (r : Result (Unit {0}) E) (flags : ℕ) (old new : Image) → segment_of_type PT_GNU_STACK old.segments ≡ None
+    → MatchResult r (λ _. new ≡ record old { changed = true; segments = with_stack_added flags old.segments }) (λ _. new ≡ old)
+    → MatchResult r (λ _. new ≡ with_flags_put (Some flags) old) (λ _. new ≡ old)
+pushed (Ok x) flags old new none h = h ∙ ap (λ (l : List SegmentHeader). record old { changed = true; segments = l }) (flags_added flags old.segments none)
+pushed (Err e) flags old new none h = h
+
+-- what was written may be put in place, also after other parts were
+pub can_put_interpreter : (d : Draft) (old now : Image) → IsDraftOf old d → now.interpreter ≡ old.interpreter → CanPutInterpreter now (text_kept d.interpreter)
+can_put_interpreter d old now is same = record { there = subst (λ (o : Option (List ℕ)). IfSome (text_kept d.interpreter) (λ _. IsSome o)) (sym same) is.interpreter_there; whole = is.interpreter }
+
+listed_each : (o : Option (Vec Dynamic Global)) (P : List Entry → Type 0) → IfSome (option_map (λ l. map entry_kept l.items) o) P → IfSome o (λ l. P (map entry_kept l.items))
+listed_each None P h = h
+listed_each (Some l) P h = h
+
+pub can_put_entries : (d : Draft) (old now : Image) → IsDraftOf old d → now.entries ≡ old.entries → CanPutEntries now d.entries
+can_put_entries d old now is same = record {
+  tables = listed_each d.entries (KeepsTables now.entries) (subst (λ (o : Option (List Entry)). IfSome (entries_drafted d) (KeepsTables o)) (sym same) is.tables);
+  entries = listed_each d.entries (All IsListed) is.entries;
+}
+
+-- entries with a tag, and without
+pub retagged_some : (old new : ℕ) (image : Image) (found : Bool) → found ≡ lists_tag old (unwrap_or image.entries []) → found ≡ true → record image { changed = true; entries = option_map (retagged old new) image.entries } ≡ with_retagged old new image
+retagged_some old new image found is holds = ap (λ b. record image { changed = b; entries = option_map (retagged old new) image.entries }) (sym (or_true image.changed) ∙ ap (λ b. image.changed || b) (sym holds ∙ is))
+
+none_retagged : (old new : ℕ) (es : List Entry) → lists_tag old es ≡ false → retagged old new es ≡ es
+none_retagged old new [] none = refl
+none_retagged old new (e ∷ es) none =
+    let parts = or_parts (entry_tag e == old) (lists_tag old es) none in
+    ap (λ x. x ∷ retagged old new es) (cond-false (entry_tag e == old) (with_tag new e) e parts.0) ∙ ap (λ l. e ∷ l) (none_retagged old new es parts.1)
+
+pub retagged_none : (old new : ℕ) (image : Image) (found : Bool) → found ≡ lists_tag old (unwrap_or image.entries []) → found ≡ false → image ≡ with_retagged old new image
+retagged_none old new image found is fails =
+    sym (ap (λ b. record image { changed = image.changed || b; entries = option_map (retagged old new) image.entries }) (sym is ∙ fails)
+    ∙ ap (λ b. record image { changed = b; entries = option_map (retagged old new) image.entries }) (or_false image.changed)
+    ∙ ap (λ (o : Option (List Entry)). record image { changed = image.changed; entries = o }) (by_list image.entries (sym is ∙ fails)))
+  where
+    by_list : (o : Option (List Entry)) → lists_tag old (unwrap_or o []) ≡ false → option_map (retagged old new) o ≡ o
+    by_list None h = refl
+    by_list (Some es) h = ap Some (none_retagged old new es h)

@@ -1,0 +1,7 @@
+pub mod DraftLaws
+pub mod StackLaws
+pub mod HeldLaws
+pub mod TakenLaws
+pub mod BatchSteps
+pub mod ShrinkLaws
+pub mod ForCallers

@@ -1,0 +1,26 @@
+-- Part by part, what was written is put in place.
+use Rattle.std.proofs.Common.{ap, ◌∙◌}
+use Rattle.elf_image.specs.Image.{Image}
+use Rattle.elf_image.specs.ImageSeen.{text_kept}
+use Rattle.elf_apply.specs.Drafted.{with_entries_put, with_interpreter_put, with_os_abi_put, with_page_size_put}
+use Rattle.elf_apply.proofs.DraftLaws.{can_put_entries, can_put_interpreter, put_together}
+use Rattle.elf_apply.proofs.draft.Draft.put_in_place.Goals as goal
+
+pub put_interpreter-requires : goal.put_interpreter-requires
+put_interpreter-requires c =
+    can_put_interpreter c.args.self c.args.builder.now c.put_os_abi.new.builder c.requires
+    (ap (λ (i : Image). i.interpreter) c.put_os_abi.ensures ∙ ap (λ (i : Image). i.interpreter) c.put_page_size.ensures ∙ ap (λ (i : Image). i.interpreter) c.in_ok-put_stack_flags.ensures)
+
+pub put_entries-requires : goal.put_entries-requires
+put_entries-requires c =
+    can_put_entries c.args.self c.args.builder.now c.put_interpreter.new.builder c.requires
+    (ap (λ (i : Image). i.entries) c.put_interpreter.ensures ∙ ap (λ (i : Image). i.entries) c.put_os_abi.ensures ∙ ap (λ (i : Image). i.entries) c.put_page_size.ensures ∙ ap (λ (i : Image). i.entries) c.in_ok-put_stack_flags.ensures)
+
+pub returns : goal.returns
+returns c =
+    c.put_entries.ensures
+    ∙ ap (with_entries_put c.args.self.entries) (c.put_interpreter.ensures
+    ∙ ap (with_interpreter_put (text_kept c.args.self.interpreter)) (c.put_os_abi.ensures
+    ∙ ap (with_os_abi_put c.args.self.os_abi) (c.put_page_size.ensures
+    ∙ ap (with_page_size_put c.args.self.page_size) c.in_ok-put_stack_flags.ensures)))
+    ∙ put_together c.args.self c.args.builder.now

@@ -1,0 +1,5 @@
+pub mod Causes
+pub mod Told
+pub mod StackLent
+pub mod Taken
+pub mod Drafted

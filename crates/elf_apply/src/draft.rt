@@ -1,0 +1,271 @@
+//! The parts of an image that edits wrote, before they are put in place.
+ghost use Rattle.std.specs.Prelude.{◌≡◌, [], false, IfOk, MatchResult, None as none, Some as some, map, option_map, unwrap_or};
+ghost use Rattle.patch_bytes.specs.ByteString.{owned_string};
+ghost use Rattle.elf_edits.specs.Abi.{with_nul as stored_with_nul};
+ghost use Rattle.elf_edits.specs.Called.{call_meant, edit_meant, texts_held};
+ghost use Rattle.elf_edits.specs.Cause.{facts_of, first_cause};
+ghost use Rattle.elf_edits.specs.Edit.{DeleteNeeded};
+ghost use Rattle.elf_edits.specs.Edited.{touches_rest};
+ghost use Rattle.elf_image.specs.Image.{Image};
+ghost use Rattle.elf_image.specs.ImageSeen.{entry_kept, text_kept};
+ghost use Rattle.elf_image.specs.Options.{first_there};
+ghost use Rattle.elf_apply.specs.Drafted.{CanPutEntries, CanPutInterpreter, IsDraftOf, ListsEntries, OnlyShows, Writes, drafted, entries_drafted, flags_now, with_entries_put, with_flags_put, with_interpreter_put, with_list, with_os_abi_put, with_page_size_put};
+
+use elf_edits::abi::{abi_number, with_nul};
+use elf_edits::constants::STACK_FLAGS;
+use elf_edits::{EditCall, ElfEdit, NewList, edited, edited_by, without_names};
+use elf_image::constants::PF_X;
+use elf_image::{Builder, Dynamic};
+use patch_bytes::ByteString;
+use std::alloc::{AllocError, Global};
+
+// The parts of an image that edits wrote; the others stay as they are.
+#[derive(Drop)]
+pub(crate) struct Draft<'data> {
+    entries: Option<Vec<Dynamic<'data>>>,
+    interpreter: Option<ByteString<'data>>,
+    os_abi: Option<u8>,
+    stack_flags: Option<u32>,
+    page_size: Option<u32>,
+}
+
+impl<'data> Draft<'data> {
+    // No part was written yet.
+    pub(crate) fn new() -> Draft<'data>
+        ensures { (image : Image) → OnlyShows image image result }
+    {
+        Draft {
+            entries: None,
+            interpreter: None,
+            os_abi: None,
+            stack_flags: None,
+            page_size: None,
+        }
+    }
+
+    // The dynamic list with what was written; there is none without one.
+    fn list<'s>(&'s self, builder: &'s Builder<'data>) -> &'s [Dynamic<'data>]
+        ensures { map entry_kept result.now
+            ≡ unwrap_or (first_there (entries_drafted self.now) builder.now.entries) [] }
+    {
+        match &self.entries {
+            Some(list) => list.as_slice(),
+            None => builder.dynamic_data().unwrap_or_default(),
+        }
+    }
+
+    // Notes a list that an edit made, where the edit wrote something.
+    fn note_list(&mut self, made: NewList<'data>)
+        ensures { self.new ≡ with_list made.entry self.old }
+    {
+        if made.is_touched {
+            self.entries = Some(made.entries);
+        }
+    }
+
+    // The stack's flags with what was written, else those of a program header that is added for it.
+    fn flags(&self, builder: &Builder<'data>) -> u32
+        ensures { result ≡ flags_now self.now builder.now.segments }
+    {
+        if let Some(flags) = self.stack_flags {
+            return flags;
+        }
+        match builder.stack() {
+            Some(segment) => segment.p_flags(),
+            None => STACK_FLAGS,
+        }
+    }
+
+    // Writes the interpreter's bytes.
+    fn write_interpreter(&mut self, alloc: Global, bytes: &[u8]) -> Result<(), AllocError>
+        ensures { IfOk result (λ _. self.new
+            ≡ record self.old {
+              interpreter = some (owned_string (stored_with_nul bytes.now));
+            }) }
+    {
+        self.interpreter = Some(ByteString::owned(with_nul(alloc, bytes)?));
+        Ok(())
+    }
+
+    // Writes what an edit of the dynamic list makes.
+    fn write_list(
+        &mut self,
+        alloc: Global,
+        builder: &Builder<'data>,
+        call: &EditCall<'_>,
+    ) -> Result<(), AllocError>
+        requires list { touches_rest (call_meant call.now) ≡ false }
+        requires free { first_cause (call_meant call.now) (facts_of builder.now) ≡ none }
+        requires listed { ListsEntries builder.now }
+        requires draft { IsDraftOf builder.now self.old }
+        ensures { IfOk result (λ _. Writes (call_meant call.now) builder.now self.old self.new) }
+    {
+        let made = edited(alloc, call, self.list(builder))?;
+        self.note_list(made);
+        Ok(())
+    }
+
+    // Writes what an edit makes, against which no cause stands.
+    #[tactic(none)]
+    pub(crate) fn write(
+        &mut self,
+        alloc: Global,
+        builder: &Builder<'data>,
+        call: &EditCall<'_>,
+    ) -> Result<(), AllocError>
+        requires free { first_cause (call_meant call.now) (facts_of builder.now) ≡ none }
+        requires listed { ListsEntries builder.now }
+        requires draft { IsDraftOf builder.now self.old }
+        ensures { IfOk result (λ _. Writes (call_meant call.now) builder.now self.old self.new) }
+    {
+        match call {
+            EditCall::SetInterpreter(bytes) => self.write_interpreter(alloc, bytes),
+            EditCall::SetOsAbi(name) => {
+                self.os_abi = abi_number(name);
+                Ok(())
+            }
+            EditCall::ClearExecStack => {
+                let flags = self.flags(builder);
+                self.stack_flags = Some(flags - (flags & PF_X));
+                Ok(())
+            }
+            EditCall::SetExecStack => {
+                self.stack_flags = Some(self.flags(builder) | PF_X);
+                Ok(())
+            }
+            EditCall::SetPageSize(size) => {
+                self.page_size = Some(*size);
+                Ok(())
+            }
+            edit_of_list => self.write_list(alloc, builder, edit_of_list),
+        }
+    }
+
+    // Writes the list without needed libraries of these names.
+    pub(crate) fn write_without(
+        &mut self,
+        alloc: Global,
+        builder: &Builder<'data>,
+        names: &[Vec<u8>],
+    ) -> Result<(), AllocError>
+        requires free { first_cause (DeleteNeeded (texts_held names.now)) (facts_of builder.now)
+            ≡ none }
+        requires listed { ListsEntries builder.now }
+        requires draft { IsDraftOf builder.now self.old }
+        ensures { IfOk result (λ _. Writes (DeleteNeeded (texts_held names.now)) builder.now
+            self.old self.new) }
+    {
+        let made = without_names(alloc, names, self.list(builder))?;
+        self.note_list(made);
+        Ok(())
+    }
+
+    // The same of an edit of a batch.
+    #[tactic(none)]
+    pub(crate) fn write_edit(
+        &mut self,
+        alloc: Global,
+        builder: &Builder<'data>,
+        edit: &ElfEdit,
+    ) -> Result<(), AllocError>
+        requires free { first_cause (edit_meant edit.now) (facts_of builder.now) ≡ none }
+        requires listed { ListsEntries builder.now }
+        requires draft { IsDraftOf builder.now self.old }
+        ensures { IfOk result (λ _. Writes (edit_meant edit.now) builder.now self.old self.new) }
+    {
+        if let Some(call) = edit.lend() {
+            return self.write(alloc, builder, &call);
+        }
+        let made = edited_by(alloc, edit, self.list(builder))?;
+        self.note_list(made);
+        Ok(())
+    }
+
+    // Puts what was written in place. There is want of memory only where a program header is added for the stack,
+    // which comes first; the image then is as it was.
+    pub(crate) fn put_in_place(
+        self,
+        alloc: Global,
+        builder: &mut Builder<'data>,
+    ) -> Result<(), AllocError>
+        requires { IsDraftOf builder.old self }
+        ensures { MatchResult result (λ _. builder.new ≡ drafted self.entry builder.old)
+            (λ _. builder.new ≡ builder.old) }
+    {
+        let Draft {
+            entries,
+            interpreter,
+            os_abi,
+            stack_flags,
+            page_size,
+        } = self;
+        put_stack_flags(alloc, builder, stack_flags)?;
+        put_page_size(builder, page_size);
+        put_os_abi(builder, os_abi);
+        put_interpreter(builder, interpreter);
+        put_entries(builder, entries);
+        Ok(())
+    }
+}
+
+// Puts the stack's flags in place.
+fn put_stack_flags(
+    alloc: Global,
+    builder: &mut Builder<'_>,
+    flags: Option<u32>,
+) -> Result<(), AllocError>
+    ensures { MatchResult result (λ _. builder.new ≡ with_flags_put flags builder.old)
+        (λ _. builder.new ≡ builder.old) }
+{
+    match flags {
+        None => Ok(()),
+        Some(flags) => put_flags(alloc, builder, flags),
+    }
+}
+
+// Puts these flags of the stack in place, with a program header for it where there is none.
+fn put_flags(alloc: Global, builder: &mut Builder<'_>, flags: u32) -> Result<(), AllocError>
+    ensures { MatchResult result (λ _. builder.new ≡ with_flags_put (some flags) builder.old)
+        (λ _. builder.new ≡ builder.old) }
+{
+    if builder.stack().is_some() {
+        builder.set_stack_flags(flags);
+        Ok(())
+    } else {
+        builder.push_stack(alloc, flags)
+    }
+}
+
+fn put_page_size(builder: &mut Builder<'_>, size: Option<u32>)
+    ensures { builder.new ≡ with_page_size_put size builder.old }
+{
+    if let Some(size) = size {
+        builder.set_load_align(size);
+    }
+}
+
+fn put_os_abi(builder: &mut Builder<'_>, number: Option<u8>)
+    ensures { builder.new ≡ with_os_abi_put number builder.old }
+{
+    if let Some(number) = number {
+        builder.set_os_abi(number);
+    }
+}
+
+fn put_interpreter<'data>(builder: &mut Builder<'data>, bytes: Option<ByteString<'data>>)
+    requires { CanPutInterpreter builder.old (text_kept bytes) }
+    ensures { builder.new ≡ with_interpreter_put (text_kept bytes.entry) builder.old }
+{
+    if let Some(bytes) = bytes {
+        builder.set_interp(bytes);
+    }
+}
+
+fn put_entries<'data>(builder: &mut Builder<'data>, list: Option<Vec<Dynamic<'data>>>)
+    requires { CanPutEntries builder.old list }
+    ensures { builder.new ≡ with_entries_put list.entry builder.old }
+{
+    if let Some(list) = list {
+        builder.set_dynamic(list);
+    }
+}

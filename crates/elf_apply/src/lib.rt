@@ -1,0 +1,10 @@
+//! Edits carried out upon the image of an ELF file: one, or a batch of which all are made or none; and what an edit that is
+//! refused tells.
+#![tactic(auto)]
+
+pub mod batch;
+mod draft;
+pub mod error;
+pub mod ext;
+pub mod steps;
+mod told;
