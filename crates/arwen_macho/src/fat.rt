@@ -12,12 +12,12 @@ ghost use Rattle.arwen_macho.specs.Found.{ARCHIVE, Finds, found_fault, slice_fou
 ghost use Rattle.arwen_macho.specs.Fronts.{AreFrontsOf};
 ghost use Rattle.macho_edits.specs.Whole.{TextsAreBytes};
 
-use macho_edits::batch::{MachoBatchError, MachoEdit, lend_all};
 use crate::change::Change;
-use macho_edits::draft::Edit;
-use macho_edits::error::MachoError;
 use crate::front::{Front, put};
 use crate::macho::SingleMachO;
+use macho_edits::batch::{MachoBatchError, MachoEdit, lend_all};
+use macho_edits::draft::Edit;
+use macho_edits::error::MachoError;
 use macho_image::{FatArch, fat_archs};
 use std::alloc::{AllocError, Global};
 use std::marker::Model;

@@ -6,13 +6,13 @@ ghost use Rattle.macho_image.specs.Commands.{first_content_of};
 ghost use Rattle.macho_image.specs.Form.{commands_end, ctx_of};
 ghost use Rattle.macho_edits.specs.Call.Call.{add_rpath, change_install_id, change_install_name, change_rpath, remove_rpath};
 
-pub use macho_edits::batch::{MachoBatchError, MachoEdit};
-use macho_edits::batch::{edit_all, lend_all};
 use crate::change::{Change, Fit};
-use macho_edits::draft::Edit;
-pub use macho_edits::error::MachoError;
 pub use crate::fat::{FatMacho, FatMachoContainer};
 pub use crate::front::{Front, lay_fronts};
+pub use macho_edits::batch::{MachoBatchError, MachoEdit};
+use macho_edits::batch::{edit_all, lend_all};
+use macho_edits::draft::Edit;
+pub use macho_edits::error::MachoError;
 use macho_edits::room::{available, commands_end, fits};
 pub use macho_image::{
     CommandVariant, Ctx, Dylib, DylibCommand, FatArch, Header, LoadCommand, LoadCommandHeader,

@@ -78,11 +78,7 @@ fn written_without<'data>(
 }
 
 /// Drops the needed libraries of these names (gABI, Dynamic Section, `DT_NEEDED`). Errors as of `edit`.
-pub fn delete_needed(
-    builder: &mut Builder<'_>,
-    alloc: Global,
-    names: &[Vec<u8>],
-) -> Result<()>
+pub fn delete_needed(builder: &mut Builder<'_>, alloc: Global, names: &[Vec<u8>]) -> Result<()>
     ensures { TakesEdit (DeleteNeeded (texts_held names.now)) builder.old builder.new result }
 {
     if let Some(cause) = removal_cause(names, &image_facts(builder)) {

@@ -18,8 +18,8 @@ ghost use Rattle.elf_contents.specs.PreparedSteps.{IsPrepared};
 ghost use Rattle.elf_write.specs.Refused.{AreNoBytes};
 ghost use Rattle.elf_contents.specs.Seen.{HasHashes, HasHeaders, IsApart};
 
-use elf_contents::contents::contents;
 use crate::laying::laid_bytes;
+use elf_contents::contents::contents;
 use elf_contents::prepared::{Prepared, prepare};
 use elf_format::form::Form;
 use elf_format::range::Range;

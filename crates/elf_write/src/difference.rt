@@ -18,11 +18,11 @@ ghost use Rattle.elf_write.specs.Refused.{AreNoBytes};
 ghost use Rattle.elf_contents.specs.Seen.{HasHashes, HasHeaders, IsApart};
 
 use crate::bytes::are_headers_apart;
-use elf_contents::contents::contents;
 use crate::laying::laid_difference;
+use byte_store::Difference;
+use elf_contents::contents::contents;
 use elf_contents::made::strings_from;
 use elf_contents::prepared::{Prepared, prepare_with};
-use byte_store::Difference;
 use elf_image::Builder;
 use elf_plan::laws::{plans_are_apart, plans_show_notes};
 use elf_plan::{LayoutFault, Plan, read_again};

@@ -9,10 +9,10 @@ ghost use Rattle.arwen_elf.specs.Prints.{before_nul as bytes_before_nul, cut_at_
 ghost use Rattle.arwen_elf.specs.WriterSeen.{ShowsBothViews};
 ghost use Rattle.arwen_elf.specs.Written.{GetsImage, IsImageWritten, IsIo, IsNoDifference, IsNoImage, IsNotWritten, MayNotWrite};
 
-use elf_apply::error::{ElfError, Result};
 use crate::elf::rewriter::writer::Writer;
 use bstr::ByteSlice;
 use byte_store::Difference;
+use elf_apply::error::{ElfError, Result};
 use elf_image::constants::PF_X;
 use elf_write::CountedWrite;
 use std::alloc::{AllocError, Global};

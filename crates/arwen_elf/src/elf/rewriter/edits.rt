@@ -9,10 +9,10 @@ ghost use Rattle.elf_image.specs.Image.{shown};
 ghost use Rattle.arwen_elf.specs.Reads.{entries_shown};
 ghost use Rattle.elf_apply.specs.Taken.{AnswersEach, LeavesEach, RemovedAre, TakesBatch, TakesEdit, TakesInPlace, batches_meant, edits_meant, shrink_meant};
 
+use crate::elf::rewriter::writer::Writer;
 use elf_apply::batch::ElfBatchError;
 use elf_apply::error::ElfError;
 use elf_apply::steps;
-use crate::elf::rewriter::writer::Writer;
 use elf_edits::{EditCall, ElfEdit, ProbeAnswer, Removed, shrink_questions};
 use std::alloc::{AllocError, Global};
 use std::collections::{HashMap, HashSet};

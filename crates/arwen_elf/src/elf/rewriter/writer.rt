@@ -9,11 +9,11 @@ ghost use Rattle.arwen_elf.specs.PageSizes.{page_size_for, page_size_of};
 ghost use Rattle.arwen_elf.specs.Reads.{entries_shown, text_if, first_of, needed_shown, runpath_shown, searched_shown, soname_shown, texts_tagged};
 ghost use Rattle.arwen_elf.specs.WriterSeen.{ShowsBothViews, needed_left};
 
-use elf_apply::error::ElfError;
-use elf_apply::ext::BuilderExt;
 use crate::elf::rewriter::machines::{
     EM_AARCH64, EM_ALPHA, EM_IA_64, EM_LOONGARCH, EM_PPC, EM_PPC64, EM_SPARC, EM_SPARCV9, EM_TILEGX,
 };
+use elf_apply::error::ElfError;
+use elf_apply::ext::BuilderExt;
 use elf_image::constants::{DT_NEEDED, DT_RPATH, DT_RUNPATH, DT_SONAME, EM_MIPS};
 use elf_image::{Builder, Dynamic, Header};
 use std::alloc::Global;

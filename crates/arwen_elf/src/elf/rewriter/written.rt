@@ -8,9 +8,9 @@ ghost use Rattle.elf_sizes.specs.MadeTables.{IsMadeOfList};
 ghost use Rattle.elf_written.specs.Whole.{IsWhole};
 ghost use Rattle.arwen_elf.specs.Written.{GetsImage, IsEditWritten, IsImageWritten, IsIo, IsNoDifference, IsNoEdit, IsNoImage, IsNotWritten, IsTold, MayNotWrite};
 
-use elf_apply::error::{ElfError, ModifyCause, Result};
 use crate::elf::rewriter::writer::Writer;
 use byte_store::Difference;
+use elf_apply::error::{ElfError, ModifyCause, Result};
 use elf_image::{Builder, ElfFault};
 use elf_layout::{lay_out_again, lay_out_sized};
 use elf_plan::{LayoutFault, Plan, read_again};
