@@ -14,7 +14,7 @@ use Rattle.elf_plan.specs.Standing.{places, table_offset}
 use Rattle.elf_plan.specs.Written.{written_segments}
 use Rattle.elf_moves.specs.declared.rounds.Rounds.{Rounds}
 use Rattle.elf_layout.specs.declared.standing.Standing.{Standing}
-use Rattle.elf_moves.specs.Inner.{IsEnded}
+use Rattle.elf_moves.specs.Led.{IsEnded}
 use Rattle.elf_layout.specs.Inner.{AreParts, AreWritten, HasNoPlan, IsStanding, StandsTooFar}
 use Rattle.elf_moves.proofs.ForCallers.{moved_within}
 

@@ -8,7 +8,8 @@ use Rattle.elf_plan.specs.Plan.{IsOverlapping, IsPlan, IsTooLarge, Layout, most_
 use Rattle.elf_plan.specs.Refusals.{IsNoPlan, IsStuckAsked}
 use Rattle.elf_plan.specs.Rounds.{IsAsked}
 use Rattle.elf_plan.proofs.RoundLaws.{rounds_are_asked, rounds_end}
-use Rattle.elf_moves.specs.Inner.{IsNoEnd, IsResized}
+use Rattle.elf_moves.specs.Inner.{IsResized}
+use Rattle.elf_moves.specs.Led.{IsNoEnd}
 use Rattle.elf_layout.specs.Inner.{HasNoPlan}
 use Rattle.elf_moves.proofs.ForCallers.{resized_is}
 

@@ -34,7 +34,8 @@ use Rattle.elf_plan.specs.Written.{Target, address_for, behind_last_load, first_
 use Rattle.elf_layout.specs.declared.headings.Headings.{Headings}
 use Rattle.elf_layout.specs.declared.targets.TargetAt.{TargetAt}
 use Rattle.elf_layout.specs.declared.targets.Targets.{Targets}
-use Rattle.elf_moves.specs.Inner.{AreMarks, Told, notes, told}
+use Rattle.elf_moves.specs.Inner.{AreMarks}
+use Rattle.elf_moves.specs.Led.{Told, notes, told}
 use Rattle.elf_layout.specs.Inner.{IsPastField, StandsTooFar}
 use Rattle.elf_moves.specs.declared.starts.Begin.{Begin}
 use Rattle.elf_moves.specs.Following.{chosen_begins, is_chosen}

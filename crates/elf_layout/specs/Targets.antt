@@ -21,7 +21,7 @@ use Rattle.elf_moves.specs.declared.starts.Begin.{Begin}
 use Rattle.elf_moves.specs.Following.{chosen_begins}
 use Rattle.elf_moves.specs.Sections.{sections_seen}
 use Rattle.elf_layout.specs.Reaches.{AreJoined, joined_all, reach_in}
-use Rattle.elf_moves.specs.Inner.{Told, itself, notes, section, table}
+use Rattle.elf_moves.specs.Led.{Told, itself, notes, section, table}
 
 abbrev pub target_seen : TargetAt → Target
 target_seen t = record { part = range t.offset t.size; address = t.address }

@@ -4,7 +4,7 @@ ghost use Rattle.std.specs.List.{list_all};
 ghost use Rattle.elf_plan.specs.PlanSeen.{place_seen};
 ghost use Rattle.elf_plan.specs.Sizes.{field_range};
 ghost use Rattle.elf_plan.specs.Written.{address_for as address_at, memory_size as size_in_memory, physical_for};
-ghost use Rattle.elf_moves.specs.Inner.{leader_seen};
+ghost use Rattle.elf_moves.specs.Led.{leader_seen};
 ghost use Rattle.elf_layout.specs.Targets.{AreNotes, IsMisfit, begins_seen, do_headings_fit, does_table_fit, fits_word, header_at, headings_for, headings_found, headings_seen, is_physical_well, is_well_at, sized_table, target_seen, targets_found};
 
 use crate::targets::{Notes, TargetAt, Targets, targets_of};

@@ -4,7 +4,8 @@ ghost use Rattle.elf_plan.specs.Added.{header_count};
 ghost use Rattle.elf_plan.specs.PlanSeen.{place_seen};
 ghost use Rattle.elf_plan.specs.Standing.{places as places_of};
 ghost use Rattle.elf_plan.specs.Written.{behind_last_load, written_from};
-ghost use Rattle.elf_moves.specs.Inner.{AreLeaders, AreMarks};
+ghost use Rattle.elf_moves.specs.Inner.{AreMarks};
+ghost use Rattle.elf_moves.specs.Led.{AreLeaders};
 ghost use Rattle.elf_layout.specs.Inner.{AreWritten, IsStanding, StandsTooFar};
 ghost use Rattle.elf_layout.specs.Targets.{added_behind, left_behind as left_at};
 

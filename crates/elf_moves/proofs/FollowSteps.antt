@@ -25,7 +25,8 @@ use Rattle.elf_plan.specs.Rounds.{added_flags, each_once, flags_for, sections_at
 use Rattle.elf_plan.specs.Sizes.{new_sizes}
 use Rattle.elf_moves.specs.Following.{AreStarts, chosen_begins, chosen_starts, do_any_move, do_any_stay, end_with, is_chosen, is_marked, is_split_at, keeps_at, keeps_section, keeps_section_at, kept_end_over, with_flags, with_once}
 use Rattle.elf_moves.specs.declared.leaders.LeaderAt.{LeaderAt}
-use Rattle.elf_moves.specs.Inner.{AreLeaders, AreMarks, IsResized, Told, leader_seen, told}
+use Rattle.elf_moves.specs.Inner.{AreMarks, IsResized}
+use Rattle.elf_moves.specs.Led.{AreLeaders, Told, leader_seen, told}
 use Rattle.elf_moves.specs.declared.sections.SectionAt.{SectionAt}
 use Rattle.elf_moves.specs.declared.starts.Begin.{Begin}
 use Rattle.elf_moves.specs.declared.starts.Starts.{Starts}

@@ -30,7 +30,8 @@ use Rattle.elf_plan.specs.Memory.{Resized}
 use Rattle.elf_moves.specs.declared.sections.SectionAt.{SectionAt}
 use Rattle.elf_moves.specs.declared.sections.Wanted.{Wanted}
 use Rattle.elf_moves.specs.declared.sections.Wanted.TheVariants.{Numbered, OfType}
-use Rattle.elf_moves.specs.Inner.{IsResized, Told, itself, notes, table, told}
+use Rattle.elf_moves.specs.Inner.{IsResized}
+use Rattle.elf_moves.specs.Led.{Told, itself, notes, table, told}
 use Rattle.elf_moves.specs.Leading.{are_notes_in, interpreter_at, is_over_notes_at, led_at, looked_at, told_by_range, told_of, under_at}
 use Rattle.elf_moves.specs.Sections.{begins_in, first_at, first_wanted, is_just_over_at, is_note_at, is_wanted, place_at, positions_at, positions_in, section_at, sections_seen, shares_bytes_at}
 use Rattle.elf_moves.proofs.NoteLaws.{shares_begins}

@@ -12,7 +12,8 @@ use Rattle.elf_plan.specs.Plan.{most_added}
 use Rattle.elf_plan.specs.Rounds.{AreRounds, do_move, headers_needed, leads_to}
 use Rattle.elf_plan.proofs.HeaderLaws.{headers_needed-le}
 use Rattle.elf_plan.proofs.RoundLaws.{rounds_end}
-use Rattle.elf_moves.specs.Inner.{IsNoEnd, IsStuckAt}
+use Rattle.elf_moves.specs.Inner.{IsStuckAt}
+use Rattle.elf_moves.specs.Led.{IsNoEnd}
 
 -- Rounds lead to a number of entries; the next one is of that count.
 pub record AreSoFar (r : Resized) (looked count : ℕ) : Type 0 where

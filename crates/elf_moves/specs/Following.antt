@@ -15,7 +15,7 @@ use Rattle.elf_moves.specs.declared.sections.SectionAt.{SectionAt}
 use Rattle.elf_moves.specs.declared.starts.Begin.{Begin}
 use Rattle.elf_moves.specs.declared.starts.Starts.{Starts}
 use Rattle.elf_moves.specs.Asked.{is_some_in}
-use Rattle.elf_moves.specs.Inner.{Told, itself, notes, section, table}
+use Rattle.elf_moves.specs.Led.{Told, itself, notes, section, table}
 use Rattle.elf_moves.specs.InOrder.{AreInOrder}
 use Rattle.elf_moves.specs.Sections.{has_bytes_at}
 

@@ -8,7 +8,7 @@ use Rattle.elf_format.specs.Places.{occupies_memory}
 use Rattle.elf_format.specs.declared.records.SegmentHeader.{SegmentHeader}
 use Rattle.elf_plan.specs.Kept.{interpreter_number}
 use Rattle.elf_plan.specs.Memory.{Resized}
-use Rattle.elf_moves.specs.Inner.{Told, itself, notes, section, table}
+use Rattle.elf_moves.specs.Led.{Told, itself, notes, section, table}
 use Rattle.elf_moves.specs.declared.sections.SectionAt.{SectionAt}
 use Rattle.elf_moves.specs.declared.sections.Wanted.TheVariants.{Numbered, OfType}
 use Rattle.elf_moves.specs.Sections.{first_at, first_wanted, is_just_over_at, is_note_at, place_at, sections_seen, shares_bytes_at}

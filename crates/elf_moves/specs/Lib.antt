@@ -4,6 +4,7 @@ pub mod FileRanges
 pub mod Following
 pub mod ImageBlocks
 pub mod Inner
+pub mod Led
 pub mod InOrder
 pub mod Keys
 pub mod Leading

@@ -3,7 +3,7 @@ ghost use Rattle.std.specs.Prelude.{◌≡◌, ◌<◌, ◌+◌, ◌^◌, OnOk, 
 ghost use Rattle.elf_image.specs.ImageSeen.{section_kept};
 ghost use Rattle.elf_plan.specs.Rounds.{added_flags, flags_for as needed_flags};
 ghost use Rattle.elf_moves.specs.Following.{end_with, is_split_at, keeps_at, keeps_section as keeps_with, keeps_section_at as keeps_place, with_flags, with_once};
-ghost use Rattle.elf_moves.specs.Inner.{leader_seen};
+ghost use Rattle.elf_moves.specs.Led.{leader_seen};
 
 use crate::leaders::LeaderAt;
 use crate::reading::{form_of, sections_are_sized};

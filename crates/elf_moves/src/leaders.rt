@@ -1,7 +1,8 @@
 ghost use Rattle.std.specs.Prelude.{◌≡◌, IfOk};
 ghost use Rattle.elf_plan.specs.Added.{header_count, kept_end as end_of_kept};
 ghost use Rattle.elf_plan.specs.Rounds.{headers_needed as needed};
-ghost use Rattle.elf_moves.specs.Inner.{AreLeaders, AreMarks};
+ghost use Rattle.elf_moves.specs.Inner.{AreMarks};
+ghost use Rattle.elf_moves.specs.Led.{AreLeaders};
 
 use crate::following::{count_flags, count_split, next_end};
 use crate::leading::{leaders_with, lists_of};

@@ -5,7 +5,7 @@ ghost use Rattle.elf_format.specs.declared.constants.TheConstants.{PT_GNU_PROPER
 ghost use Rattle.elf_image.specs.ImageSeen.{segment_kept};
 ghost use Rattle.elf_plan.specs.Kept.{interpreter_number as number_at_read};
 ghost use Rattle.elf_moves.specs.FileRanges.{AreFileRanges};
-ghost use Rattle.elf_moves.specs.Inner.{leader_seen};
+ghost use Rattle.elf_moves.specs.Led.{leader_seen};
 ghost use Rattle.elf_moves.specs.Leading.{Looked, interpreter_at, is_over_notes_at, led_at, looked_at, told_by_range, told_of, under_at};
 ghost use Rattle.elf_moves.specs.LookedUp.{AreLists};
 ghost use Rattle.elf_moves.specs.Sections.{sections_seen};

@@ -1,6 +1,7 @@
 ghost use Rattle.std.specs.Prelude.{◌≡◌, IfErr, IfOk, IsTrue};
 ghost use Rattle.elf_plan.specs.Rounds.{do_move, headers_needed as needed};
-ghost use Rattle.elf_moves.specs.Inner.{AreLeaders, IsEnded, IsNoEnd, IsStuckAt};
+ghost use Rattle.elf_moves.specs.Inner.{IsStuckAt};
+ghost use Rattle.elf_moves.specs.Led.{AreLeaders, IsEnded, IsNoEnd};
 
 use crate::leaders::{LeaderAt, headers_needed};
 use crate::marks::marks_of;

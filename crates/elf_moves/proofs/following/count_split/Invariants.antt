@@ -1,6 +1,6 @@
 use Rattle.std.proofs.Common.{◌≡◌, ◌≤◌, count_by, take}
 use Rattle.elf_moves.specs.Following.{is_split_at}
-use Rattle.elf_moves.specs.Inner.{leader_seen}
+use Rattle.elf_moves.specs.Led.{leader_seen}
 use Rattle.elf_moves.specs.declared.leaders.LeaderAt.{LeaderAt}
 use Rattle.elf_moves.proofs.following.count_split.Given as goal
 

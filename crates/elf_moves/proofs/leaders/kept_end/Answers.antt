@@ -7,7 +7,7 @@ use Rattle.elf_plan.specs.Memory.{Resized}
 use Rattle.elf_moves.specs.declared.leaders.LeaderAt.{LeaderAt}
 use Rattle.elf_moves.specs.declared.leaders.LeaderAt.TheVariants as at
 use Rattle.elf_moves.specs.Following.{end_with, keeps_at, kept_end_over}
-use Rattle.elf_moves.specs.Inner.{Told}
+use Rattle.elf_moves.specs.Led.{Told}
 use Rattle.elf_moves.proofs.FollowSteps.{keeps-is, kept_end-all, kept_end-more, kept_end-none, leader-at, leaders-length}
 use Rattle.elf_moves.proofs.leaders.kept_end.Goals as goal
 

@@ -1,6 +1,6 @@
 use Rattle.std.proofs.Common.{ap, ◌∙◌}
 use Rattle.elf_plan.specs.Memory.{Resized}
-use Rattle.elf_moves.specs.Inner.{AreLeaders}
+use Rattle.elf_moves.specs.Led.{AreLeaders}
 use Rattle.elf_moves.specs.Leading.{looked_at}
 use Rattle.std.proofs.lemmas.Result.{IfOk-weaker}
 use Rattle.elf_moves.proofs.LeadingSteps.{leaders-are}

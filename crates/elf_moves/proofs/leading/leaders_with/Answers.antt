@@ -4,7 +4,7 @@ use Rattle.elf_format.specs.declared.records.SegmentHeader.{SegmentHeader}
 use Rattle.elf_image.specs.declared.segment.Segment.{Segment}
 use Rattle.elf_image.specs.ImageSeen.{segment_kept}
 use Rattle.elf_moves.specs.declared.leaders.LeaderAt.{LeaderAt}
-use Rattle.elf_moves.specs.Inner.{Told, leader_seen}
+use Rattle.elf_moves.specs.Led.{Told, leader_seen}
 use Rattle.elf_moves.specs.Leading.{told_of}
 use Rattle.elf_moves.proofs.leading.leaders_with.Goals as goal
 

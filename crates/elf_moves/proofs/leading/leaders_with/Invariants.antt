@@ -1,6 +1,6 @@
 use Rattle.std.proofs.Common.{◌≡◌, map, take}
 use Rattle.elf_image.specs.ImageSeen.{segment_kept}
-use Rattle.elf_moves.specs.Inner.{leader_seen}
+use Rattle.elf_moves.specs.Led.{leader_seen}
 use Rattle.elf_moves.specs.Leading.{Looked, told_of}
 use Rattle.elf_moves.specs.LookedUp.{AreLists}
 use Rattle.elf_moves.proofs.leading.leaders_with.Given as goal

@@ -2,7 +2,7 @@ use Rattle.std.proofs.Common.{◌≡◌, length, ap, sym, ◌∙◌, arith}
 use Rattle.std.proofs.lemmas.List.{length-map}
 use Rattle.std.proofs.lemmas.Result.{err_from_is_err_and}
 use Rattle.elf_plan.specs.Follow.{leader_of}
-use Rattle.elf_moves.specs.Inner.{leader_seen, told}
+use Rattle.elf_moves.specs.Led.{leader_seen, told}
 use Rattle.elf_moves.proofs.RoundSteps.{ended, ended_by, few, nearer, none_so_far, one_more}
 use Rattle.elf_moves.proofs.rounds.look_in_rounds.Goals as goal
 
