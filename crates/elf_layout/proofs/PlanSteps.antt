@@ -12,11 +12,11 @@ use Rattle.elf_plan.specs.PlanSeen.{place_seen}
 use Rattle.elf_plan.specs.Rounds.{AreRounds}
 use Rattle.elf_plan.specs.Standing.{places, table_offset}
 use Rattle.elf_plan.specs.Written.{written_segments}
-use Rattle.elf_moves.specs.declared.rounds.Rounds.{Rounds}
+use Rattle.elf_leaders.specs.declared.rounds.Rounds.{Rounds}
 use Rattle.elf_layout.specs.declared.standing.Standing.{Standing}
-use Rattle.elf_moves.specs.Led.{IsEnded}
+use Rattle.elf_leaders.specs.Led.{IsEnded}
 use Rattle.elf_layout.specs.Inner.{AreParts, AreWritten, HasNoPlan, IsStanding, StandsTooFar}
-use Rattle.elf_moves.proofs.ForCallers.{moved_within}
+use Rattle.elf_leaders.proofs.ForCallers.{moved_within}
 
 abbrev pub made : List Place → List SegmentHeader → ℕ → ℕ → ℕ → ℕ → Layout
 made places segments e_phoff e_shoff rounds looked =

@@ -35,14 +35,14 @@ use Rattle.elf_layout.specs.declared.headings.Headings.{Headings}
 use Rattle.elf_layout.specs.declared.targets.TargetAt.{TargetAt}
 use Rattle.elf_layout.specs.declared.targets.Targets.{Targets}
 use Rattle.elf_moves.specs.Inner.{AreMarks}
-use Rattle.elf_moves.specs.Led.{Told, notes, told}
+use Rattle.elf_leaders.specs.Led.{Told, notes, told}
 use Rattle.elf_layout.specs.Inner.{IsPastField, StandsTooFar}
-use Rattle.elf_moves.specs.declared.starts.Begin.{Begin}
-use Rattle.elf_moves.specs.Following.{chosen_begins, is_chosen}
-use Rattle.elf_moves.specs.Sections.{AreSized, sections_seen}
+use Rattle.elf_leaders.specs.declared.starts.Begin.{Begin}
+use Rattle.elf_leaders.specs.Following.{chosen_begins, is_chosen}
+use Rattle.elf_leaders.specs.Sections.{AreSized, sections_seen}
 use Rattle.elf_layout.specs.Targets.{AreBegins, Begins, IsMisfit, Span, added_behind, do_headings_fit, does_table_fit, fits_word, header_at, headings_at, headings_for, headings_found, headings_seen, is_led_well, is_physical_well, is_well_at, left_behind, sized_table, span_over, target_of_span, targets_at, targets_found, targets_over_notes, targets_seen}
 use Rattle.elf_layout.proofs.SpanSteps.{span_found, span_step, span_with}
-use Rattle.elf_moves.proofs.ForCallers.{AreNotesOf, AreThere, IsThere, begins_as_positions, leader-there, length-kept, length-sized, marked-is}
+use Rattle.elf_leaders.proofs.ForCallers.{AreNotesOf, AreThere, IsThere, begins_as_positions, leader-there, length-kept, length-sized, marked-is}
 
 -- ## Several places
 

@@ -9,7 +9,7 @@ use Rattle.elf_plan.specs.Plan.{IsOverlapping, IsTooLarge, Layout, does_plan_fit
 use Rattle.elf_plan.specs.PlanSeen.{place_seen}
 use Rattle.elf_plan.specs.Standing.{places, sections_offset, table_offset}
 use Rattle.elf_plan.specs.Written.{written_segments}
-use Rattle.elf_moves.specs.declared.rounds.Rounds.{Rounds}
+use Rattle.elf_leaders.specs.declared.rounds.Rounds.{Rounds}
 use Rattle.elf_layout.specs.declared.standing.Standing.{Standing}
 
 -- ## Where everything stands

@@ -17,11 +17,11 @@ use Rattle.elf_layout.specs.declared.headings.Headings.{Headings}
 use Rattle.elf_layout.specs.declared.targets.Notes.{Notes}
 use Rattle.elf_format.specs.declared.range.Range.{Range}
 use Rattle.elf_plan.specs.Memory.{Resized}
-use Rattle.elf_moves.specs.declared.starts.Begin.{Begin}
-use Rattle.elf_moves.specs.Following.{chosen_begins}
-use Rattle.elf_moves.specs.Sections.{sections_seen}
+use Rattle.elf_leaders.specs.declared.starts.Begin.{Begin}
+use Rattle.elf_leaders.specs.Following.{chosen_begins}
+use Rattle.elf_leaders.specs.Sections.{sections_seen}
 use Rattle.elf_layout.specs.Reaches.{AreJoined, joined_all, reach_in}
-use Rattle.elf_moves.specs.Led.{Told, itself, notes, section, table}
+use Rattle.elf_leaders.specs.Led.{Told, itself, notes, section, table}
 
 abbrev pub target_seen : TargetAt → Target
 target_seen t = record { part = range t.offset t.size; address = t.address }

@@ -2,13 +2,13 @@
 ghost use Rattle.std.specs.Prelude.{◌≡◌, ◌≤◌, IfOk, IsPermutation, length, map};
 ghost use Rattle.std.specs.List.Sorted.{IsNonDecreasingBy};
 ghost use Rattle.elf_plan.specs.PlanSeen.{place_seen};
-ghost use Rattle.elf_moves.specs.Following.{chosen_begins};
-ghost use Rattle.elf_moves.specs.Sections.{sections_seen};
+ghost use Rattle.elf_leaders.specs.Following.{chosen_begins};
+ghost use Rattle.elf_leaders.specs.Sections.{sections_seen};
 ghost use Rattle.elf_layout.specs.Reaches.{AreJoined, BeginBefore, IsTree, IsTreeOver, joined as joined_of, joined_all, over, reach_at as reach_of, reach_in, start_of};
 
 use elf_format::range::Range;
+use elf_leaders::starts::{Begin, begins_of};
 use elf_moves::resizing::Resizing;
-use elf_moves::starts::{Begin, begins_of};
 use elf_plan::SectionPlace;
 use std::alloc::{AllocError, Global};
 

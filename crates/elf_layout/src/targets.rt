@@ -3,13 +3,13 @@ ghost use Rattle.std.specs.Prelude.{◌≡◌, IfOk, map};
 ghost use Rattle.std.specs.Option.{option_map};
 ghost use Rattle.elf_plan.specs.PlanSeen.{place_seen};
 ghost use Rattle.elf_plan.specs.Written.{address_in_memory};
-ghost use Rattle.elf_moves.specs.Led.{leader_seen};
+ghost use Rattle.elf_leaders.specs.Led.{leader_seen};
 ghost use Rattle.elf_layout.specs.Targets.{AreBegins, AreNotes, begins_seen, span_of, span_over, target_of_span, target_seen, targets_at, targets_over_notes, targets_seen};
 
 use crate::reaches::{Reach, Reaches, reach_at, reach_over, reaches_of};
 use elf_format::constants::SHF_ALLOC;
 use elf_format::range::Range;
-use elf_moves::leaders::LeaderAt;
+use elf_leaders::leaders::LeaderAt;
 use elf_moves::resizing::Resizing;
 use elf_plan::SectionPlace;
 use std::alloc::{AllocError, Global};

@@ -1,10 +1,6 @@
--- For callers: what the crate above may cite of the sections that move and of what program headers go by.
+-- For callers: what the crates above may cite of the sections that move.
 
--- an image with its sizes
-pub use Rattle.elf_moves.proofs.ImagesWithSizes.{resized_is}
--- sections that move are sections of the image, and few program headers more are needed
-pub use Rattle.elf_moves.proofs.Positions.{moved_within}
-pub use Rattle.elf_moves.proofs.RoundSteps.{few_needed}
--- what the positions and marks of leaders mean
-pub use Rattle.elf_moves.proofs.FollowSteps.{AreNotesOf, AreThere, IsThere, begins_as_positions, leader-at, leader-there, leaders-length, length-sized, marked-is}
-pub use Rattle.elf_moves.proofs.SectionSteps.{length-kept}
+-- an image with its sizes, and when two blocks of it overlap that can't move
+pub use Rattle.elf_moves.proofs.ImagesWithSizes.{resized_is, stuck_at}
+-- how three numbers are compared one after the other
+pub use Rattle.elf_moves.proofs.OrderSteps.{by_three_total, cmp_equal, cmp_less}

@@ -1,13 +1,4 @@
-pub mod Asked
 pub mod BlockSteps
-pub mod FileRanges
-pub mod Following
 pub mod ImageBlocks
 pub mod Inner
-pub mod Led
-pub mod InOrder
-pub mod Keys
-pub mod Leading
-pub mod LookedUp
-pub mod Sections
 pub mod Seen

@@ -36,8 +36,8 @@ pub fn find_move_sections(
     find_moved(alloc, &r, added)
 }
 
-// The same, for an image with its new sizes.
-pub(crate) fn find_moved(
+/// The same, for an image with its new sizes. Errors: `Overlap` where two blocks overlap of which none can move; `Memory`.
+pub fn find_moved(
     alloc: Global,
     r: &Resizing<'_, '_>,
     added: usize,

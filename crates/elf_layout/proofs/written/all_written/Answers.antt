@@ -9,11 +9,11 @@ use Rattle.elf_plan.specs.Follow.{leader_of}
 use Rattle.elf_plan.specs.Memory.{Resized}
 use Rattle.elf_plan.specs.PlanSeen.{place_seen}
 use Rattle.elf_plan.specs.Written.{written_from}
-use Rattle.elf_moves.specs.declared.leaders.LeaderAt.{LeaderAt}
-use Rattle.elf_moves.specs.declared.leaders.LeaderAt.TheVariants as at
-use Rattle.elf_moves.specs.Led.{Told, leader_seen, told}
+use Rattle.elf_leaders.specs.declared.leaders.LeaderAt.{LeaderAt}
+use Rattle.elf_leaders.specs.declared.leaders.LeaderAt.TheVariants as at
+use Rattle.elf_leaders.specs.Led.{Told, leader_seen, told}
 use Rattle.elf_layout.specs.Targets.{Begins, begins_seen, do_headings_fit}
-use Rattle.elf_moves.proofs.ForCallers.{leader-at, leaders-length}
+use Rattle.elf_leaders.proofs.ForCallers.{leader-at, leaders-length}
 use Rattle.elf_layout.proofs.WrittenSteps.{heading_past, heading_written, stands_too_far, written-more}
 use Rattle.elf_layout.proofs.written.all_written.Goals as goal
 

@@ -1,0 +1,9 @@
+pub mod CountLaws
+pub mod FollowSteps
+pub mod KeyLaws
+pub mod LeadingSteps
+pub mod NoteLaws
+pub mod Positions
+pub mod RoundSteps
+pub mod SectionSteps
+pub mod ForCallers

@@ -1,0 +1,9 @@
+pub mod Asked
+pub mod FileRanges
+pub mod Following
+pub mod Led
+pub mod InOrder
+pub mod Keys
+pub mod Leading
+pub mod LookedUp
+pub mod Sections
