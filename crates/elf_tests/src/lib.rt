@@ -1,5 +1,5 @@
-//! Tests of the ELF side: how files are read, what the plain readers show of them, and what is printed. They
-//! stand apart, so that a proof of what they test does not wait for them.
+//! Tests of the writer and the container of an ELF file: what they read and print, and what they refuse. They stand apart, so
+//! that a proof of what they test does not wait for them.
 #![tactic(auto)]
 
 // What a call answers that changes nothing. It is made twice, and what it answers first counts where that is not want of
@@ -13,17 +13,5 @@ macro_rules! again {
 
 #[cfg(test)]
 mod elf;
-#[cfg(test)]
-mod faults;
-#[cfg(test)]
-mod image_edits;
-#[cfg(test)]
-mod listing;
-#[cfg(test)]
-mod plain;
-#[cfg(test)]
-mod read;
-#[cfg(test)]
-mod samples;
 #[cfg(test)]
 mod support;

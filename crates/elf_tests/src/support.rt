@@ -2,7 +2,6 @@
 
 use arwen_elf::elf::ElfError;
 use elf_image::ElfFault;
-use elf_plain::ViewFault;
 use std::alloc::{AllocError, Global};
 use std::fmt;
 use std::process::Abort;
@@ -26,12 +25,6 @@ impl Refusal for AllocError {
 impl Refusal for ElfFault {
     fn is_memory(&self) -> bool {
         matches!(self, ElfFault::Memory)
-    }
-}
-
-impl Refusal for ViewFault {
-    fn is_memory(&self) -> bool {
-        matches!(self, ViewFault::Memory)
     }
 }
 
@@ -107,4 +100,12 @@ pub(crate) fn changed_once(
 // The same, asked for again where there was no memory.
 pub(crate) fn changed(rt: &impl Runtime, file: &[u8], changes: &[(usize, &[u8])]) -> Vec<u8> {
     again!(rt; changed_once(rt.alloc(), file, changes)).expect(rt, "memory")
+}
+
+// Puts bytes behind lines as text, a character each.
+pub(crate) fn push_bytes(lines: &mut String, bytes: &[u8]) -> Result<(), AllocError> {
+    for byte in bytes {
+        lines.push(char::from(*byte))?;
+    }
+    Ok(())
 }

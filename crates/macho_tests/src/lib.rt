@@ -1,5 +1,5 @@
-//! Tests of the Mach-O side: how files are read, kept and edited, thin and fat. They stand apart, so that a
-//! proof of what they test does not wait for them.
+//! Tests of the Mach-O side: how files are kept and edited, thin and fat. They stand apart, so that a proof of what they test
+//! does not wait for them.
 #![tactic(auto)]
 
 // What a call answers that changes nothing. It is made twice, and what it answers first counts where that is not want of
@@ -14,14 +14,6 @@ macro_rules! again {
 #[cfg(test)]
 mod containers;
 #[cfg(test)]
-mod edits;
-#[cfg(test)]
 mod fat;
-#[cfg(test)]
-mod fat_table;
-#[cfg(test)]
-mod image;
-#[cfg(test)]
-mod store;
 #[cfg(test)]
 mod support;

@@ -1,6 +1,5 @@
 //! What the tests share: calls that are refused memory, and comparisons.
 
-use arwen_macho::commands::CommandBuilderError;
 use arwen_macho::macho::{MachoBatchError, MachoError};
 use macho_image::MachFault;
 use std::alloc::AllocError;
@@ -26,12 +25,6 @@ impl Refusal for AllocError {
 impl Refusal for MachFault {
     fn is_memory(&self) -> bool {
         matches!(self, MachFault::Memory)
-    }
-}
-
-impl Refusal for CommandBuilderError {
-    fn is_memory(&self) -> bool {
-        matches!(self, CommandBuilderError::Memory)
     }
 }
 
@@ -86,12 +79,6 @@ pub(crate) fn text_of<T: fmt::Debug>(rt: &impl Runtime, value: &T) -> String {
 // Compares what `Debug` prints of a value with a text.
 pub(crate) fn shows<T: fmt::Debug>(rt: &impl Runtime, value: &T, text: &str) {
     same(rt, "shown", &text_of(rt, value).as_str(), &text);
-}
-
-// Compares what `Display` prints of a value with a text.
-pub(crate) fn prints<T: fmt::Display>(rt: &impl Runtime, value: &T, text: &str) {
-    let printed = again!(rt; format!(in rt.alloc(); "{value}")).expect(rt, "memory");
-    same(rt, "printed", &printed.as_str(), &text);
 }
 
 // Puts bytes at a place, as far as they lie in the file.

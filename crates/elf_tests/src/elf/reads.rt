@@ -1,8 +1,7 @@
 //! What is read of a file.
 
 use super::{LIBRARY, PROGRAM};
-use crate::listing::push_bytes;
-use crate::support::{Runtime, changed, same, same_text};
+use crate::support::{Runtime, changed, push_bytes, same, same_text};
 use arwen_elf::elf::{BuilderExt, ElfContainer, ElfError, Writer};
 use std::alloc::{AllocError, Global};
 use std::fmt::Write;

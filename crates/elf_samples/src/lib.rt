@@ -1,7 +1,8 @@
-//! Small libraries for tests.
+//! Small ELF files for tests.
+#![tactic(auto)]
 
-// A library with a program header for all of it and one for its list: 64 bits, low byte first.
-pub(crate) const SMALL: &[u8] = b"\
+/// A library with a program header for all of it and one for its list: 64 bits, low byte first.
+pub const SMALL: &[u8] = b"\
     \x7fELF\x02\x01\x01\0\0\0\0\0\0\0\0\0\x03\0>\0\x01\0\0\0\
     \0\0\0\0\0\0\0\0@\0\0\0\0\0\0\0`\x01\0\0\0\0\0\0\
     \0\0\0\0@\08\0\x02\0@\0\x04\0\x03\0\x01\0\0\0\x06\0\0\0\
@@ -29,8 +30,8 @@ pub(crate) const SMALL: &[u8] = b"\
     \x1c\0\0\0\0\0\0\0\0\0\0\0\0\0\0\0\x01\0\0\0\0\0\0\0\
     \0\0\0\0\0\0\0\0";
 
-// The same in 32 bits, high byte first.
-pub(crate) const TWIN: &[u8] = b"\
+/// The same in 32 bits, high byte first.
+pub const TWIN: &[u8] = b"\
     \x7fELF\x01\x02\x01\0\0\0\0\0\0\0\0\0\0\x03\0>\0\0\0\x01\
     \0\0\0\0\0\0\04\0\0\0\xcc\0\0\0\0\04\0\x20\0\x02\0(\
     \0\x04\0\x03\0\0\0\x01\0\0\0\0\0\0\0\0\0\0\0\0\0\0\0\xb0\
@@ -48,8 +49,8 @@ pub(crate) const TWIN: &[u8] = b"\
     \0\0\0\0\0\0\0\xb0\0\0\0\x1c\0\0\0\0\0\0\0\0\0\0\0\x01\
     \0\0\0\0";
 
-// A library with an interpreter, three symbols and versions: 32 bits, high byte first.
-pub(crate) const VERSIONED: &[u8] = b"\
+/// A library with an interpreter, three symbols and versions: 32 bits, high byte first.
+pub const VERSIONED: &[u8] = b"\
     \x7fELF\x01\x02\x01\0\0\0\0\0\0\0\0\0\0\x03\0>\0\0\0\x01\
     \0\0\0\0\0\0\04\0\0\x03p\0\0\0\0\04\0\x20\0\x07\0(\
     \0\x13\0\x12\0\0\0\x06\0\0\04\0\x01\04\0\x01\04\0\0\0\xe0\
@@ -120,8 +121,8 @@ pub(crate) const VERSIONED: &[u8] = b"\
     \0\0\0\0\0\0\0\0\0\0\x02\xd0\0\0\0\xa0\0\0\0\0\0\0\0\0\
     \0\0\0\x01\0\0\0\0";
 
-// A library made by GNU ld 2.40, with both hash tables, two versions of its own and one needed.
-pub(crate) const LINKED: &[u8] = b"\
+/// A library made by GNU ld 2.40, with both hash tables, two versions of its own and one needed.
+pub const LINKED: &[u8] = b"\
     \x7fELF\x02\x01\x01\0\0\0\0\0\0\0\0\0\x03\0>\0\x01\0\0\0\
     \0\0\0\0\0\0\0\0@\0\0\0\0\0\0\0\xd8\x05\0\0\0\0\0\0\
     \0\0\0\0@\08\0\x04\0@\0\x11\0\x10\0\x01\0\0\0\x05\0\0\0\
@@ -230,3 +231,19 @@ pub(crate) const LINKED: &[u8] = b"\
     \x01\0\0\0\x03\0\0\0\0\0\0\0\0\0\0\0\0\0\0\0\0\0\0\0\
     G\x05\0\0\0\0\0\0\x8a\0\0\0\0\0\0\0\0\0\0\0\0\0\0\0\
     \x01\0\0\0\0\0\0\0\0\0\0\0\0\0\0\0";
+
+/// A program with the interpreter `/ld` and a stack that may be run: 32 bits, high byte first.
+pub const PROGRAM: &[u8] = b"\
+    \x7fELF\x01\x02\x01\x06\0\0\0\0\0\0\0\0\0\x02\0\x02\0\0\0\x01\
+    \0\0\0\0\0\0\04\0\0\0\xac\0\0\0\0\04\0\x20\0\x03\0(\
+    \0\x03\0\x02\0\0\0\x01\0\0\0\0\0\x01\0\0\0\x01\0\0\0\0\0\x98\
+    \0\0\0\x98\0\0\0\x05\0\0\x20\0\0\0\0\x03\0\0\0\x94\0\x01\0\x94\
+    \0\x01\0\x94\0\0\0\x04\0\0\0\x04\0\0\0\x04\0\0\0\x01dt\xe5Q\
+    \0\0\0\0\0\0\0\0\0\0\0\0\0\0\0\0\0\0\0\0\0\0\0\x07\
+    \0\0\0\x10/ld\0\0.interp\0.shstrt\
+    ab\0\0\0\0\0\0\0\0\0\0\0\0\0\0\0\0\0\0\0\0\0\0\
+    \0\0\0\0\0\0\0\0\0\0\0\0\0\0\0\0\0\0\0\0\0\0\0\x01\
+    \0\0\0\x01\0\0\0\x02\0\x01\0\x94\0\0\0\x94\0\0\0\x04\0\0\0\0\
+    \0\0\0\0\0\0\0\x01\0\0\0\0\0\0\0\x09\0\0\0\x03\0\0\0\0\
+    \0\0\0\0\0\0\0\x98\0\0\0\x13\0\0\0\0\0\0\0\0\0\0\0\x01\
+    \0\0\0\0";

@@ -1,7 +1,7 @@
 //! Small changes in a small library, and the faults that they give.
-use crate::samples::{LINKED, SMALL};
 use crate::support::{Runtime, changed, same};
 use elf_image::{Builder, ElfFault};
+use elf_samples::{LINKED, SMALL};
 
 // Compares the fault of a file, which is none where it is read.
 fn expect_fault(rt: &impl Runtime, what: &str, file: &[u8], want: Option<ElfFault>) {

@@ -1,7 +1,6 @@
 //! Tables of fat files: which are accepted, and what they show.
 
-use crate::fat::push_number;
-use crate::support::{Runtime, put, same};
+use crate::support::{Runtime, push_number, put, same};
 use macho_image::fat::{FatArch, fat_archs, is_fat};
 use macho_image::format::MachFault;
 use std::alloc::{AllocError, Global};

@@ -5,11 +5,10 @@ ghost use Rattle.elf_format.specs.declared.constants.TheConstants.{PT_GNU_STACK 
 ghost use Rattle.elf_image.specs.DynamicList.{tag_at as tag_listed};
 ghost use Rattle.elf_image.specs.File.{segment_of_type};
 
-use crate::elf::PROGRAM;
-use crate::samples::SMALL;
 use crate::support::{Runtime, same};
 use elf_image::Builder;
 use elf_image::constants::{DT_NEEDED, DT_RPATH, DT_RUNPATH};
+use elf_samples::{PROGRAM, SMALL};
 
 // The image of a file.
 fn image(rt: &impl Runtime, file: &'static [u8]) -> Builder<'static> {

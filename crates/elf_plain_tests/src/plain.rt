@@ -1,9 +1,9 @@
 //! The plain readers, run on small libraries.
 
 use crate::listing::{Part, lines};
-use crate::samples::{LINKED, SMALL, TWIN, VERSIONED};
 use crate::support::{Runtime, changed, same, same_text};
 use elf_plain::{ViewFault, loader_view, section_view};
+use elf_samples::{LINKED, SMALL, TWIN, VERSIONED};
 use std::alloc::Global;
 
 // A part of what a file shows through its section headers.

@@ -3,15 +3,16 @@ ghost use Rattle.std.specs.Prelude.{◌≡◌, IfOk};
 ghost use Rattle.macho_image.specs.Form.{header_of};
 
 use crate::support::{Runtime, copied, prints, same, shows};
-use arwen_macho::commands::{
+use macho_edits::batch::MachoBatchError;
+use macho_edits::commands::{
     CommandBuilderError, DlibCommandBuilder, NulInside, RpathCommandBuilder,
 };
-use arwen_macho::macho::{MachoBatchError, MachoError};
-use arwen_macho::patcher::{
+use macho_edits::error::MachoError;
+use macho_edits::patcher::{
     HeaderContainer, find_dylib_command, find_dylib_id, find_rpath_command, fits, insert_command,
     remove_load_command,
 };
-use arwen_macho::utils::{align_to_arch, padding_size};
+use macho_edits::utils::{align_to_arch, padding_size};
 use macho_image::{
     CommandVariant, Ctx, Dylib, DylibCommand, LoadCommand, MachFault, MachO, RpathCommand,
 };
@@ -320,7 +321,7 @@ fn expect_opened(rt: &impl Runtime, header: HeaderContainer, buffer: &[u8], file
 }
 
 // Puts a command of 16 bytes in at 64.
-#[tactic(auto, using(arwen_macho::proofs::ForCallers::held_ncmds, arwen_macho::proofs::ForCallers::held_sizeofcmds))]
+#[tactic(auto, using(macho_edits::proofs::ForCallers::held_ncmds, macho_edits::proofs::ForCallers::held_sizeofcmds))]
 fn insert_at_64(
     rt: &HostRuntime,
     header: &mut HeaderContainer,
@@ -349,7 +350,7 @@ fn inserts_command(rt: HostRuntime) -> Result<(), Fail> {
 }
 
 // Takes the command of 16 bytes out that is at 64.
-#[tactic(auto, using(arwen_macho::proofs::ForCallers::held_ncmds, arwen_macho::proofs::ForCallers::held_sizeofcmds))]
+#[tactic(auto, using(macho_edits::proofs::ForCallers::held_ncmds, macho_edits::proofs::ForCallers::held_sizeofcmds))]
 fn remove_at_64(
     rt: &HostRuntime,
     header: &mut HeaderContainer,

@@ -1,15 +1,13 @@
 //! The reader, run on small libraries and on changes of them.
-mod faults;
-mod views;
 
-use crate::listing::{push_bytes, push_text, push_word};
-use crate::samples::{SMALL, TWIN, VERSIONED};
 use crate::support::{Runtime, same, same_text};
+use crate::texts::{push_bytes, push_text, push_word};
 use elf_format::constants::SHT_DYNSYM;
 use elf_image::{
     Builder, Dynamic, ElfFault, Section, Segment, Symbol, VersionDef, VersionId, VersionNeed,
     machine_of,
 };
+use elf_samples::{SMALL, TWIN, VERSIONED};
 use std::alloc::{AllocError, Global};
 use std::fmt::Write;
 

@@ -1,5 +1,4 @@
 //! The reader beside the plain reader: both show the same.
-use crate::samples::{LINKED, SMALL, TWIN, VERSIONED};
 use crate::support::same;
 use elf_image::constants::{
     DT_SYMTAB, DT_VERDEF, DT_VERDEFNUM, DT_VERNEED, DT_VERNEEDNUM, DT_VERSYM, PT_GNU_STACK,
@@ -9,6 +8,7 @@ use elf_image::{
 };
 use elf_plain::view::{EntryView, ShownDefinition, ShownName, ShownNeeds, ShownSymbol, ShownView};
 use elf_plain::{ViewFault, section_view};
+use elf_samples::{LINKED, SMALL, TWIN, VERSIONED};
 use patch_bytes::ByteString;
 use std::alloc::{AllocError, Global};
 

@@ -1,0 +1,96 @@
+//! What the tests share: calls that are refused memory, and comparisons.
+
+use macho_edits::batch::MachoBatchError;
+use macho_edits::commands::CommandBuilderError;
+use macho_edits::error::MachoError;
+use macho_image::MachFault;
+use std::alloc::AllocError;
+use std::fmt;
+use std::process::Abort;
+
+// The runtime that a test is given.
+pub(crate) trait Runtime: Abort + AllocGlobal {}
+
+impl<R: Abort + AllocGlobal> Runtime for R {}
+
+// An error that can be want of memory.
+pub(crate) trait Refusal: Drop {
+    fn is_memory(&self) -> bool;
+}
+
+impl Refusal for AllocError {
+    fn is_memory(&self) -> bool {
+        true
+    }
+}
+
+impl Refusal for MachFault {
+    fn is_memory(&self) -> bool {
+        matches!(self, MachFault::Memory)
+    }
+}
+
+impl Refusal for CommandBuilderError {
+    fn is_memory(&self) -> bool {
+        matches!(self, CommandBuilderError::Memory)
+    }
+}
+
+impl Refusal for MachoError {
+    fn is_memory(&self) -> bool {
+        matches!(self, MachoError::Memory)
+    }
+}
+
+impl Refusal for MachoBatchError {
+    fn is_memory(&self) -> bool {
+        self.fault.is_memory()
+    }
+}
+
+// Whether an answer is want of memory.
+pub(crate) fn wants_memory<T, E: Refusal>(answer: &Result<T, E>) -> bool {
+    match answer {
+        Ok(_) => false,
+        Err(error) => error.is_memory(),
+    }
+}
+
+// The first answer of a call, or the second where the first is want of memory. The second is not, then.
+pub(crate) fn granted<T: Drop, E: Refusal>(
+    rt: &impl Abort,
+    first: Result<T, E>,
+    second: Result<T, E>,
+) -> Result<T, E> {
+    if !wants_memory(&first) {
+        return first;
+    }
+    assert!(rt; !wants_memory(&second), "refused memory twice");
+    second
+}
+
+// Compares.
+pub(crate) fn same<T: PartialEq + fmt::Debug>(rt: &impl Abort, what: &str, found: &T, want: &T) {
+    assert_eq!(rt; found, want, "{what}");
+}
+
+// A copy of bytes.
+pub(crate) fn copied(rt: &impl Runtime, bytes: &[u8]) -> Vec<u8> {
+    again!(rt; Vec::from_slice(rt.alloc(), bytes)).expect(rt, "memory")
+}
+
+// What `Debug` prints of a value.
+pub(crate) fn text_of<T: fmt::Debug>(rt: &impl Runtime, value: &T) -> String {
+    again!(rt; format!(in rt.alloc(); "{value:?}")).expect(rt, "memory")
+}
+
+// Compares what `Debug` prints of a value with a text.
+pub(crate) fn shows<T: fmt::Debug>(rt: &impl Runtime, value: &T, text: &str) {
+    same(rt, "shown", &text_of(rt, value).as_str(), &text);
+}
+
+// Compares what `Display` prints of a value with a text.
+pub(crate) fn prints<T: fmt::Display>(rt: &impl Runtime, value: &T, text: &str) {
+    let printed = again!(rt; format!(in rt.alloc(); "{value}")).expect(rt, "memory");
+    same(rt, "printed", &printed.as_str(), &text);
+}
