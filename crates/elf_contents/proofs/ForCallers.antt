@@ -6,6 +6,7 @@ pub use Rattle.elf_contents.proofs.PlanCounts.{plan_counts}
 -- contents that are those of an image are as long as the plan says
 pub use Rattle.elf_contents.proofs.ContentsAll.{long_held}
 -- which texts a string table of an image shows
-pub use Rattle.elf_contents.proofs.NamesTable.{linked_at, names_at, names_typed, shows_none, shows_texts}
+pub use Rattle.elf_contents.proofs.NamesTable.{linked_at, names_at, names_typed, shows_none}
+unfoldable pub use Rattle.elf_contents.proofs.NamesTable.{shows_texts}
 -- what is known of a file that was read, and of one of its sections
 pub use Rattle.elf_contents.proofs.ReadFacts.{ReadFacts, SectionRead, are_numbered, kept-at, kept_is, length-numbered, read_facts, section_read}
