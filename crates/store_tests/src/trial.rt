@@ -18,8 +18,8 @@ fn room(alloc: Global, count: usize) -> Result<Vec<u8>, AllocError>
     }
 }
 
-/// A copy of bytes, with room behind it.
-pub fn copy(alloc: Global, bytes: &[u8]) -> Result<Vec<u8>, AllocError>
+// A copy of bytes, with room behind it.
+pub(crate) fn copy(alloc: Global, bytes: &[u8]) -> Result<Vec<u8>, AllocError>
     ensures { IfOk result (λ copied. copied.items ≡ bytes.now) }
 {
     let mut copied = room(alloc, bytes.len())?;
@@ -27,33 +27,33 @@ pub fn copy(alloc: Global, bytes: &[u8]) -> Result<Vec<u8>, AllocError>
     Ok(copied)
 }
 
-/// What goes wrong. Calls are those of `write_at`, counted from 0; 99 is never reached.
+// What goes wrong. Calls are those of `write_at`, counted from 0; 99 is never reached.
 #[derive(Clone, Copy)]
-pub struct Plan {
-    /// This write fails.
-    pub fails_at: usize,
-    /// A write takes so many bytes at most.
-    pub takes: usize,
-    /// So many interruptions come before each write.
-    pub interruptions: usize,
-    /// Setting the length fails.
-    pub keeps_length: bool,
-    /// Opening for writing fails.
-    pub stays_closed: bool,
+pub(crate) struct Plan {
+    // This write fails.
+    pub(crate) fails_at: usize,
+    // A write takes so many bytes at most.
+    pub(crate) takes: usize,
+    // So many interruptions come before each write.
+    pub(crate) interruptions: usize,
+    // Setting the length fails.
+    pub(crate) keeps_length: bool,
+    // Opening for writing fails.
+    pub(crate) stays_closed: bool,
 }
 
-/// A store in memory that follows a plan, and counts its writes.
+// A store in memory that follows a plan, and counts its writes.
 #[derive(Drop)]
-pub struct TrialStore {
-    pub inner: MemoryStore,
-    pub plan: Plan,
-    pub writes: usize,
-    pub interrupted: usize,
+pub(crate) struct TrialStore {
+    pub(crate) inner: MemoryStore,
+    pub(crate) plan: Plan,
+    pub(crate) writes: usize,
+    pub(crate) interrupted: usize,
 }
 
 impl TrialStore {
-    /// A store with the bytes `abcdef` that is open for writing.
-    pub fn open(rt: &impl Runtime, plan: Plan) -> TrialStore
+    // A store with the bytes `abcdef` that is open for writing.
+    pub(crate) fn open(rt: &impl Runtime, plan: Plan) -> TrialStore
         ensures open { result.inner.is_open ≡ true }
         ensures plan { result.plan ≡ plan }
         ensures fresh { (result.writes ≡ 0) × (result.interrupted ≡ 0) }
@@ -63,8 +63,8 @@ impl TrialStore {
         store
     }
 
-    /// A store with these bytes that is not open for writing.
-    pub fn closed(rt: &impl Runtime, bytes: &[u8], plan: Plan) -> TrialStore
+    // A store with these bytes that is not open for writing.
+    pub(crate) fn closed(rt: &impl Runtime, bytes: &[u8], plan: Plan) -> TrialStore
         ensures plan { result.plan ≡ plan }
         ensures fresh { (result.writes ≡ 0) × (result.interrupted ≡ 0) }
     {
