@@ -1,0 +1,4 @@
+pub mod PlacementApart
+pub mod PlacementSteps
+pub mod PlacementHeld
+pub mod PlacementClear
