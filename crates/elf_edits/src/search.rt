@@ -5,7 +5,7 @@ ghost use Rattle.std.specs.Prelude.{◌++◌, ◌∷◌, [], ◌==◌, filter, n
 ghost use Rattle.elf_image.specs.Options.{is_some_and};
 ghost use Rattle.elf_edits.specs.Called.{answer_held, texts_held};
 ghost use Rattle.elf_edits.specs.Shrunk.{is_absolute as begins_with_slash, is_allowed as allowed_by, is_found_in as found_in, machine_found, reason_of as why, shrunk, stays as may_stay};
-ghost use Rattle.elf_edits.specs.ShrunkSeen.{going, judged_by, machine_in, reason_meant, removal_meant};
+ghost use Rattle.elf_edits.specs.ShrunkSeen.{going, judged_by, machine_in, removal_meant};
 ghost use Rattle.elf_edits.specs.Texts.{directories_in, joined};
 
 use crate::constants::{COLON, SLASH};
@@ -101,17 +101,6 @@ fn stays(s: &Searching<'_>, directory: &[u8]) -> bool
     !is_absolute(directory) || (is_allowed(s.prefixes, directory) && is_found_in(s, directory))
 }
 
-// Why a directory goes.
-fn reason_of(s: &Searching<'_>, directory: &[u8]) -> Reason
-    ensures { reason_meant result ≡ why (judged_by s.now) directory.now }
-{
-    if is_allowed(s.prefixes, directory) {
-        Reason::NoLibrary
-    } else {
-        Reason::Prefix
-    }
-}
-
 // Puts a directory that goes to the others, with its reason.
 fn note_removal(
     alloc: Global,
@@ -127,7 +116,11 @@ fn note_removal(
               (judged_by s.now) directory.now;
         } ∷ []) }
 {
-    let reason = reason_of(s, directory);
+    let reason = if is_allowed(s.prefixes, directory) {
+        Reason::NoLibrary
+    } else {
+        Reason::Prefix
+    };
     let directory = Vec::from_slice(alloc, directory)?;
     removed.push(Removed { directory, reason })?;
     Ok(())

@@ -20,22 +20,7 @@ use elf_image::constants::{DT_RPATH, DT_RUNPATH};
 use patch_bytes::ByteString;
 use std::alloc::{AllocError, Global};
 
-// A run path without the directories that go, which are put to the others that went.
-fn shrunk_text(
-    alloc: Global,
-    s: &Searching<'_>,
-    text: &[u8],
-    removed: &mut Vec<Removed>,
-) -> Result<Vec<u8>, AllocError>
-    ensures text { IfOk result (λ made. made.items ≡ shrunk (judged_by s.now) text.now) }
-    ensures gone { OnOk result (map removal_meant removed.new.items
-        ≡ map removal_meant removed.old.items ++ removed_from (judged_by s.now) text.now) }
-{
-    let parts = directories(alloc, text)?;
-    shrunk_parts(alloc, s, parts.as_slice(), removed)
-}
-
-// An entry with its text shrunk.
+// An entry with its text shrunk: without the directories that go, which are put to the others that went.
 fn shrunk_text_entry<'d>(
     alloc: Global,
     s: &Searching<'_>,
@@ -50,7 +35,8 @@ fn shrunk_text_entry<'d>(
 {
     match entry {
         Dynamic::Text { tag, val } => {
-            let val = ByteString::owned(shrunk_text(alloc, s, val.as_slice(), removed)?);
+            let parts = directories(alloc, val.as_slice())?;
+            let val = ByteString::owned(shrunk_parts(alloc, s, parts.as_slice(), removed)?);
             Ok(Dynamic::Text { tag: *tag, val })
         }
         other => copied(alloc, other),
