@@ -1,11 +1,11 @@
 //! A layout beside one that is found slowly.
-use crate::plain::{Piece, Plain, plain_of};
-use crate::slow::{Found, Slow, lay_out_slowly};
-use crate::standing::{Spot, spot_at};
 use elf_format::records::SegmentHeader;
 use elf_image::Builder;
 use elf_layout::{LayoutFault, Plan, SectionPlace, lay_out, sizes_of};
 use elf_plan::read_again;
+use slow_layout::plain::{Piece, Plain, plain_of};
+use slow_layout::slow::{Found, Slow, lay_out_slowly};
+use slow_layout::standing::{Spot, spot_at};
 use std::alloc::{AllocError, Global};
 
 /// A section stands where it was found.

@@ -5,14 +5,8 @@
 //! and below it for each file what came of it.
 #![tactic(auto)]
 
-mod blocks;
 mod compared;
 mod edits;
-mod following;
-mod plain;
-mod slow;
-mod standing;
-mod written;
 
 use arwen_elf::elf::{ElfError, Writer};
 use std::alloc::{AllocError, Global};

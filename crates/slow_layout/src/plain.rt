@@ -10,12 +10,15 @@ use std::alloc::{AllocError, Global};
 
 /// A section with its new size.
 #[derive(Clone, Copy)]
-pub(crate) struct Part {
-    pub(crate) position: usize,
+pub struct Part {
+    /// Where it stands among the sections of the edited image, from 0.
+    pub position: usize,
     /// Its number at read.
     pub(crate) number: usize,
-    pub(crate) sh_type: u32,
-    pub(crate) sh_flags: u64,
+    /// Its type (gABI, Sections).
+    pub sh_type: u32,
+    /// Its flags (gABI, Sections).
+    pub sh_flags: u64,
     pub(crate) link: u32,
     pub(crate) address: u128,
     pub(crate) offset: u128,
@@ -66,17 +69,25 @@ impl Part {
     }
 }
 
-/// A program header.
+/// A program header (gABI, Program Header).
 #[derive(Clone, Copy)]
-pub(crate) struct Piece {
-    pub(crate) p_type: u32,
-    pub(crate) p_flags: u32,
-    pub(crate) offset: u128,
-    pub(crate) address: u128,
-    pub(crate) physical: u128,
-    pub(crate) in_file: u128,
-    pub(crate) in_memory: u128,
-    pub(crate) align: u128,
+pub struct Piece {
+    /// Its type.
+    pub p_type: u32,
+    /// Its flags.
+    pub p_flags: u32,
+    /// Where its bytes begin in the file.
+    pub offset: u128,
+    /// Where they are loaded.
+    pub address: u128,
+    /// Its physical address.
+    pub physical: u128,
+    /// How many bytes it has in the file.
+    pub in_file: u128,
+    /// How many bytes it has in memory.
+    pub in_memory: u128,
+    /// Its alignment.
+    pub align: u128,
 }
 
 impl Piece {
@@ -109,9 +120,10 @@ impl Piece {
 
 /// The image that was read, the edited one and the new sizes.
 #[derive(Drop)]
-pub(crate) struct Plain {
+pub struct Plain {
     pub(crate) read_parts: Vec<Part>,
-    pub(crate) parts: Vec<Part>,
+    /// The sections of the edited image.
+    pub parts: Vec<Part>,
     pub(crate) read_pieces: Vec<Piece>,
     pub(crate) pieces: Vec<Piece>,
     pub(crate) facts: Facts,
@@ -268,8 +280,8 @@ fn facts_of(image: &Builder<'_>, interpreter: Option<usize>, strings: Option<usi
     }
 }
 
-/// Reads them out.
-pub(crate) fn plain_of(
+/// Reads them out: of the image as it was read, and of the edited one with the new sizes of its sections in bytes.
+pub fn plain_of(
     alloc: Global,
     read: &Builder<'_>,
     image: &Builder<'_>,

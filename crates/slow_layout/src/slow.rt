@@ -10,18 +10,25 @@ use std::alloc::{AllocError, Global};
 
 /// Where everything goes.
 #[derive(Drop)]
-pub(crate) struct Slow {
-    pub(crate) standing: Standing,
-    pub(crate) pieces: Vec<Piece>,
-    pub(crate) rounds: usize,
-    pub(crate) looked: usize,
+pub struct Slow {
+    /// Where sections and tables stand.
+    pub standing: Standing,
+    /// The program headers that are written.
+    pub pieces: Vec<Piece>,
+    /// How many rounds were gone through.
+    pub rounds: usize,
+    /// With how many program headers more the last one was.
+    pub looked: usize,
 }
 
 /// What comes of a look.
 #[derive(Drop)]
-pub(crate) enum Found {
+pub enum Found {
+    /// Everything stands there.
     Plan(Slow),
+    /// Two blocks overlap that can't move.
     Overlap,
+    /// A number doesn't fit its field.
     TooLarge,
     /// What the slow way finds isn't what the definitions say.
     Wrong,
@@ -195,7 +202,7 @@ fn found_in(
 }
 
 /// Looks in rounds for where everything goes.
-pub(crate) fn lay_out_slowly(alloc: Global, plain: &Plain) -> Result<Found, AllocError> {
+pub fn lay_out_slowly(alloc: Global, plain: &Plain) -> Result<Found, AllocError> {
     let most = plain.pieces.len().saturating_add(6);
     let mut looked = 0;
     for round in 1..most {

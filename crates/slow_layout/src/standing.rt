@@ -10,20 +10,27 @@ use std::alloc::{AllocError, Global};
 
 /// Where a section stands.
 #[derive(Clone, Copy)]
-pub(crate) struct Spot {
-    pub(crate) position: usize,
-    pub(crate) offset: u128,
-    pub(crate) address: u128,
-    pub(crate) size: u128,
+pub struct Spot {
+    /// Its position among the sections of the edited image, from 0.
+    pub position: usize,
+    /// Where its bytes begin in the file.
+    pub offset: u128,
+    /// Its address.
+    pub address: u128,
+    /// Its size in bytes.
+    pub size: u128,
 }
 
 /// Where all of it stands.
 #[derive(Drop)]
-pub(crate) struct Standing {
+pub struct Standing {
     pub(crate) loads: Vec<Piece>,
-    pub(crate) spots: Vec<Spot>,
-    pub(crate) e_phoff: u128,
-    pub(crate) e_shoff: u128,
+    /// Where each section stands.
+    pub spots: Vec<Spot>,
+    /// Where the program header table begins in the file.
+    pub e_phoff: u128,
+    /// Where the section header table begins in the file.
+    pub e_shoff: u128,
 }
 
 /// The next multiple of a number.
@@ -205,7 +212,7 @@ fn add_others(standing: &mut Standing, plain: &Plain, end: u128) -> Result<(), A
 }
 
 /// Where the section at a position stands.
-pub(crate) fn spot_at(spots: &[Spot], position: usize) -> Option<Spot> {
+pub fn spot_at(spots: &[Spot], position: usize) -> Option<Spot> {
     for spot in spots {
         if spot.position == position {
             return Some(*spot);
