@@ -1,18 +1,20 @@
 -- A table that grows text by text: what it holds, and how long it still gets.
-use Rattle.std.proofs.Common.{◌≡◌, ℕ, ◌+◌, ◌<◌, ◌≤◌, ◌^◌, Bool, true, false, cond, List, [], ◌∷◌, ◌++◌, length, drop, take, get_or, refl, sym, subst, ap, ◌∙◌, nat_eq, Option, Some, None, add-zero, lit≤, arith}
+use Rattle.std.proofs.Common.{◌≡◌, ℕ, zero, suc, ◌+◌, ◌<◌, ◌≤◌, ◌^◌, Bool, true, false, cond, List, [], ◌∷◌, ◌++◌, length, drop, take, get_or, refl, sym, subst, ap, ◌∙◌, nat_eq, Option, Some, None, add-zero, lit≤, arith}
 use Rattle.std.specs.Prelude.{◌||◌, IfSome, is_some, sum_by, slice_get}
 use Rattle.std.specs.Borrow.{Bor}
 use Rattle.std.specs.Cmp.Lexicographic.{bytes_decides}
 use Rattle.std.specs.List.{ends_with, list_any}
+use Rattle.std.specs.List.Sorted.{IsSortedBy}
 use Rattle.std.specs.Map.{lookup}
 use Rattle.std.specs.Str.{bytes_eq}
 use Rattle.std.proofs.lemmas.Bool.{cond-false, cond-true, true≢false}
-use Rattle.std.proofs.lemmas.List.{append-nil, drop_all, drop_more, length-append, take_all}
+use Rattle.std.proofs.lemmas.List.{append-nil, drop_all, drop_more, get_or_default, length-append, take_all}
 use Rattle.std.proofs.lemmas.Option.{same_Some}
 use Rattle.std.proofs.lemmas.List.Folds.{list_any_more}
 use Rattle.std.proofs.lemmas.List.Sums.{sum_by-cons}
 use Rattle.elf_tables.specs.Strings.{PlacesStand, StandsAt, Strings, holds_nul, place_of, size_of_text}
-use Rattle.elf_tables.specs.StringSteps.{IsLaid, PutsText, StandsWith, appended, by_bytes, laid_length}
+use Rattle.elf_tables.specs.StringSteps.{AreTold, IsLaid, PutsText, StandsWith, appended, by_bytes, is_before, laid_length}
+use Rattle.elf_tables.proofs.LaidPairs.{by_bytes-behind, eq-itself, last_again, lookup-behind, lookup-front, told_behind, told_push}
 use Rattle.elf_tables.proofs.StandingTexts.{stands-at-more, stands-first, stands-from}
 use Rattle.elf_tables.proofs.TableLaws.{appended-here, appended-shared}
 use Rattle.elf_tables.proofs.TextLists.{by_test}
@@ -41,6 +43,28 @@ lookup-by_bytes text (e ∷ es) = ap (λ o. cond (bytes_eq text e.0.now) (Some e
 -- the places after one more text was put into them
 unfoldable pub PutsPlace : List (List ℕ × ℕ) → List (List ℕ × ℕ) → List ℕ → ℕ → Type 0
 PutsPlace old new text place = (q : List ℕ) → lookup (bytes_eq q) new ≡ cond (bytes_eq text q) (Some place) (lookup (bytes_eq q) old)
+
+-- a pair put behind the others, of which those with the same text tell the same place
+pub puts-behind-pairs : (old : List (List ℕ × ℕ)) (text : List ℕ) (place : ℕ) → ((p : ℕ) → lookup (bytes_eq text) old ≡ Some p → p ≡ place)
+    → PutsPlace old (old ++ (text, place) ∷ []) text place
+unfolding PutsPlace
+puts-behind-pairs old text place same q = told_behind old text place same q
+
+-- the same where other pairs stand behind
+pub puts-joined : (old new behind : List (List ℕ × ℕ)) (text : List ℕ) (place : ℕ) → PutsPlace old new text place → PutsPlace (old ++ behind) (new ++ behind) text place
+unfolding PutsPlace
+puts-joined old new behind text place puts q = by_test (bytes_eq text q)
+    (λ yes.
+    lookup-front (bytes_eq q) new behind place (puts q ∙ cond-true (bytes_eq text q) (Some place) (lookup (bytes_eq q) old) yes)
+    ∙ sym (cond-true (bytes_eq text q) (Some place) (lookup (bytes_eq q) (old ++ behind)) yes))
+    (λ no.
+    same-joined q (lookup (bytes_eq q) old) refl (puts q ∙ cond-false (bytes_eq text q) (Some place) (lookup (bytes_eq q) old) no)
+    ∙ sym (cond-false (bytes_eq text q) (Some place) (lookup (bytes_eq q) (old ++ behind)) no))
+  where
+    same-joined : (q : List ℕ) (o : Option ℕ) → lookup (bytes_eq q) old ≡ o → lookup (bytes_eq q) new ≡ lookup (bytes_eq q) old
+        → lookup (bytes_eq q) (new ++ behind) ≡ lookup (bytes_eq q) (old ++ behind)
+    same-joined q None e same = lookup-behind (bytes_eq q) new behind (same ∙ e) ∙ sym (lookup-behind (bytes_eq q) old behind e)
+    same-joined q (Some v) e same = lookup-front (bytes_eq q) new behind v (same ∙ e) ∙ sym (lookup-front (bytes_eq q) old behind v e)
 
 pub puts-from : (old new : List (Bor (List ℕ) × ℕ)) (text : List ℕ) (place : ℕ)
     → ((q : List ℕ) → lookup (λ key. bytes_eq q key.now) new ≡ cond (bytes_eq text q) (Some place) (lookup (λ key. bytes_eq q key.now) old))
@@ -109,6 +133,8 @@ pub record Growing (ts : List (List ℕ)) (i : ℕ) (bytes last : List ℕ) (pla
   pub stand : (q : List ℕ) (p : ℕ) → lookup (bytes_eq q) (by_bytes entries) ≡ Some p → StandsAt bytes p q
   pub known : (q : List ℕ) → is_some (lookup (bytes_eq q) (by_bytes entries)) ≡ list_any (bytes_eq q) (take i ts)
   pub long : length bytes + sum_by size_of_text (appended last (drop i ts)) ≡ laid_length ts
+  pub told : AreTold (by_bytes entries)
+  pub before : (k : ℕ) (d : List ℕ) → k + 1 ≡ i → (get_or ts k d ≡ last) × (lookup (bytes_eq last) (by_bytes entries) ≡ Some place)
 
 pub growing-start : (ts : List (List ℕ)) (bytes : List ℕ) (entries : List (Bor (List ℕ) × ℕ)) → bytes ≡ 0 ∷ [] → entries ≡ [] → Growing ts 0 bytes [] 0 entries
 growing-start ts bytes entries one none =
@@ -119,6 +145,8 @@ growing-start ts bytes entries one none =
       stand = λ q p e. absurd (none_some p e);
       known = λ q. refl;
       long = refl;
+      told = λ k d within. absurd (omega (arith, within));
+      before = λ k d e. absurd (omega (arith, e));
     }))
   where
     none_some : (p : ℕ) → None ≡ Some p → ⊥
@@ -139,19 +167,47 @@ still_left last text bytes more ts i n d within e size long = by_test (ends_with
     let some : length more ≡ length text + 1 = size ∙ cond-false (ends_with nat_eq last text) 0 (length text + 1) here in
     omega (arith, some, left-here last text ts i d within e here, length-append bytes more))
 
-pub growing-more : (ts : List (List ℕ)) (i : ℕ) (bytes new last text d : List ℕ) (place at : ℕ) (old es : List (Bor (List ℕ) × ℕ)) → Growing ts i bytes last place old
-    → i < length ts → get_or ts i d ≡ text → holds_nul text ≡ false → PutsText bytes new last text at → PutsPlace (by_bytes old) (by_bytes es) text at
-    → Growing ts (i + 1) new text at es
-growing-more ts i bytes new last text d place at old es so_far within e none puts told =
-    let stands : StandsAt (bytes ++ puts.more) at text = stands-from (bytes ++ puts.more) at text none (subst (λ (l : List ℕ). StandsWith l at text) puts.grown puts.stands) in
+-- a text that was put into the table already is the last one, so it stands at the same place
+same_place : (ts : List (List ℕ)) (i : ℕ) (bytes last text d : List ℕ) (place at : ℕ) (old : List (Bor (List ℕ) × ℕ)) → Growing ts i bytes last place old
+    → IsSortedBy is_before ts → i < length ts → get_or ts i d ≡ text → (last ≡ text → at ≡ place) → (p : ℕ) → lookup (bytes_eq text) (by_bytes old) ≡ Some p → p ≡ at
+same_place ts i bytes last text d place at old so_far sorted within e same p told =
+    let again : list_any (bytes_eq text) (take i ts) ≡ true = sym (so_far.known text) ∙ ap is_some told in
+    let (k, next) = before_of i again in
+    let itself : last ≡ text = last_again ts i k last text d sorted within e next (so_far.before k d next).0 again in
+    let there : lookup (bytes_eq text) (by_bytes old) ≡ Some place = subst (λ (t : List ℕ). lookup (bytes_eq t) (by_bytes old) ≡ Some place) itself (so_far.before k d next).1 in
+    same_Some p place (sym told ∙ there) ∙ sym (same itself)
+  where
+    before_of : (n : ℕ) → list_any (bytes_eq text) (take n ts) ≡ true → (k : ℕ) × (k + 1 ≡ n)
+    before_of zero again = absurd (true≢false (sym again))
+    before_of (suc n) again = (n, omega arith)
+
+pub growing-more : (ts : List (List ℕ)) (i : ℕ) (bytes new last d : List ℕ) (text : Bor (List ℕ)) (place at : ℕ) (old es : List (Bor (List ℕ) × ℕ)) → Growing ts i bytes last place old
+    → IsSortedBy is_before ts → i < length ts → get_or ts i d ≡ text.now → holds_nul text.now ≡ false → PutsText bytes new last text.now at → (last ≡ text.now → at ≡ place)
+    → es ≡ old ++ (text, at) ∷ [] → Growing ts (i + 1) new text.now at es
+unfolding PutsPlace
+growing-more ts i bytes new last d text place at old es so_far sorted within e none puts again more =
+    let same : (p : ℕ) → lookup (bytes_eq text.now) (by_bytes old) ≡ Some p → p ≡ at = same_place ts i bytes last text.now d place at old so_far sorted within e again in
+    let pairs : by_bytes es ≡ by_bytes old ++ (text.now, at) ∷ [] = by_bytes-behind old es text at more in
+    let told : PutsPlace (by_bytes old) (by_bytes es) text.now at =
+    subst (λ (l : List (List ℕ × ℕ)). PutsPlace (by_bytes old) l text.now at) (sym pairs) (puts-behind-pairs (by_bytes old) text.now at same) in
+    let stands : StandsAt (bytes ++ puts.more) at text.now = stands-from (bytes ++ puts.more) at text.now none (subst (λ (l : List ℕ). StandsWith l at text.now) puts.grown puts.stands) in
     record {
       fits = puts.fits;
       first = ap (λ l. slice_get l 0) puts.grown ∙ first_kept bytes puts.more so_far.first;
       last_stands = puts.stands;
-      stand = λ q p found. subst (λ (l : List ℕ). StandsAt l p q) (sym puts.grown) (stand_step bytes puts.more (by_bytes old) (by_bytes es) text at so_far.stand told stands q p found);
-      known = known_step (by_bytes old) (by_bytes es) ts i d text at within e so_far.known told;
-      long = ap (λ l. length l + sum_by size_of_text (appended text (drop (i + 1) ts))) puts.grown ∙ still_left last text bytes puts.more ts i (laid_length ts) d within e puts.size so_far.long;
+      stand = λ q p found. subst (λ (l : List ℕ). StandsAt l p q) (sym puts.grown) (stand_step bytes puts.more (by_bytes old) (by_bytes es) text.now at so_far.stand told stands q p found);
+      known = known_step (by_bytes old) (by_bytes es) ts i d text.now at within e so_far.known told;
+      long = ap (λ l. length l + sum_by size_of_text (appended text.now (drop (i + 1) ts))) puts.grown ∙ still_left last text.now bytes puts.more ts i (laid_length ts) d within e puts.size so_far.long;
+      told = subst AreTold (sym pairs) (told_push (by_bytes old) text.now at so_far.told same);
+      before = λ k f next.
+          let here : k ≡ i = omega (arith, next) in (
+            subst (λ (n : ℕ). get_or ts n f ≡ text.now) (sym here) (get_or_default ts i f d within ∙ e),
+            itself_told (by_bytes old) (by_bytes es) text.now at told,
+          );
     }
+  where
+    itself_told : (old new : List (List ℕ × ℕ)) (text : List ℕ) (at : ℕ) → PutsPlace old new text at → lookup (bytes_eq text) new ≡ Some at
+    itself_told old new text at puts = puts text ∙ cond-true (bytes_eq text text) (Some at) (lookup (bytes_eq text) old) (eq-itself text)
 
 -- a text that doesn't fit makes the whole too long
 pub growing-too_long : (ts : List (List ℕ)) (i : ℕ) (bytes last text d : List ℕ) (place : ℕ) (entries : List (Bor (List ℕ) × ℕ)) → Growing ts i bytes last place entries

@@ -9,3 +9,4 @@ pub mod ChainingSteps
 pub mod NeedsSteps
 pub mod PlacingSteps
 pub mod EndKeyLaws
+pub mod LaidPairs

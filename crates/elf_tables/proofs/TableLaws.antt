@@ -9,9 +9,9 @@ use Rattle.std.proofs.lemmas.Bool.{and_from, and_parts, cond-false, cond-true, t
 use Rattle.std.proofs.lemmas.List.{get_or-map, length-map}
 use Rattle.std.proofs.lemmas.List.Sorted.{Contains-permutation, IsPermutation-sym, sorted_far}
 use Rattle.elf_tables.specs.Strings.{IsTableOf, Strings, distinct, size_of_text, stands_alone, table_length}
-use Rattle.elf_tables.specs.StringSteps.{IsLaid, appended, laid_length}
+use Rattle.elf_tables.specs.StringSteps.{IsLaid, appended, laid_length, is_before}
 use Rattle.elf_tables.proofs.TextLists.{Contains-from_Holds, Holds, HoldsOnce, Holds-behind, Holds-cases, Holds-distinct, Holds-filter, Holds-first, Holds-from_Contains, Holds-from_any, Holds-nothing, HoldsOnce-cons, HoldsOnce-distinct, HoldsOnce-filter, HoldsOnce-nil, any_from_Holds, by_test, distinct-held, filter-held, same_or_apart, sum_by-same_texts}
-use Rattle.elf_tables.proofs.TextOrder.{IsEnd, IsEnd-empty, IsEnd-from, IsEnd-refl, NotBefore, between_texts, end_not_before, end_of_empty, ends_with-from, is_before, is_before-NotBefore, is_before-order}
+use Rattle.elf_tables.proofs.TextOrder.{IsEnd, IsEnd-empty, IsEnd-from, IsEnd-refl, NotBefore, between_texts, end_not_before, end_of_empty, ends_with-from, is_before-NotBefore, is_before-order}
 
 -- ## Texts in their order
 

@@ -1,9 +1,10 @@
 -- Texts that end others, and their order by their bytes from the end.
-use Rattle.std.proofs.Common.{◌≡◌, ℕ, ◌-◌, Bool, true, false, List, [], ◌∷◌, ◌++◌, length, drop, take, reverse, refl, sym, ap, ◌∙◌, subst, nat_eq, arith}
+use Rattle.std.proofs.Common.{◌≡◌, ℕ, ◌-◌, true, false, List, [], ◌∷◌, ◌++◌, length, drop, take, reverse, refl, sym, ap, ◌∙◌, subst, nat_eq, arith}
 use Rattle.std.specs.Cmp.{IsStrictWeakOrder}
 use Rattle.std.specs.Cmp.Lexicographic.{bytes_decides, nat_list_cmp_total, slice_cmp}
 use Rattle.std.specs.List.{ends_with}
 use Rattle.std.specs.Ordering.{is_lt, nat_cmp}
+use Rattle.elf_tables.specs.StringSteps.{is_before}
 use Rattle.std.proofs.lemmas.Bool.{true≢false}
 use Rattle.std.proofs.lemmas.Bool.Decides.{nat_tests}
 use Rattle.std.proofs.lemmas.List.{append-nil, reverse-append, reverse-reverse, take-append-drop}
@@ -105,10 +106,6 @@ end_not_before text end above h =
     let turned : reverse text ≡ reverse end ++ reverse front = ap reverse h.is ∙ reverse-append front end in
     let none : reverse front ≡ [] = begin_above (reverse end) (reverse front) (subst (λ (l : List ℕ). is_lt (slice_cmp nat_cmp (reverse end) l) ≡ false) turned above) in
     h.is ∙ ap (λ l. l ++ end) (sym (reverse-reverse front) ∙ ap reverse none)
-
--- the order in which a sort puts texts, those that end others behind them
-abbrev pub is_before : List ℕ → List ℕ → Bool
-is_before text other = is_lt (slice_cmp nat_cmp (reverse other) (reverse text))
 
 pub is_before-order : {A : Type 0} (text_of : A → List ℕ) → IsStrictWeakOrder (λ (x : A) (y : A). is_before (text_of x) (text_of y))
 is_before-order {A} text_of =

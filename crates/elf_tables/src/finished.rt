@@ -1,7 +1,10 @@
-ghost use Rattle.std.specs.Prelude.{◌↔◌, IsTrue};
+ghost use Rattle.std.specs.Prelude.{◌↔◌, ◌≡◌, Some, IfSome, IsTrue};
+ghost use Rattle.std.specs.Map.{lookup};
+ghost use Rattle.std.specs.Str.{bytes_eq};
 ghost use Rattle.elf_tables.specs.Strings.{StandsAt as StandsThere};
-ghost use Rattle.elf_tables.specs.StringSteps.{StandsWith};
+ghost use Rattle.elf_tables.specs.StringSteps.{AreTold, StandsWith, by_bytes};
 
+use crate::keyed::from_their_ends;
 use std::alloc::{AllocError, Global};
 use std::collections::HashMap;
 use std::marker::Model;
@@ -35,19 +38,79 @@ fn does_stand(bytes: &[u8], place: u32, text: &[u8]) -> bool
 #[derive(Drop)]
 pub struct Finished<'t> {
     pub(crate) bytes: Vec<u8>,
-    pub(crate) places: HashMap<&'t [u8], u32>,
+    // The texts that the table was made of and where each stands, in the order in which they were laid.
+    pub(crate) laid: Vec<(&'t [u8], u32)>,
+    // Which of these each text is, in the order in which the texts were added.
+    pub(crate) order: Vec<u32>,
+    // The texts that were placed, and where.
+    pub(crate) placed: HashMap<&'t [u8], u32>,
 }
 
 impl<'t> Model for Finished<'t> {
+    ghost use Rattle.std.specs.Prelude.{◌++◌};
     ghost use Rattle.elf_tables.specs.Strings.{PlacesStand, Strings};
-    ghost use Rattle.elf_tables.specs.StringSteps.{by_bytes};
+    ghost use Rattle.elf_tables.specs.StringSteps.{AreTold, by_bytes};
 
     ghost Value = { Strings };
 
-    ghost view = { λ f. record { bytes = f.bytes.items; places = by_bytes f.places.entries } };
+    ghost view = { λ f. record {
+      bytes = f.bytes.items;
+      places = by_bytes f.placed.entries ++ by_bytes f.laid.items;
+    } };
 
-    ghost invariant = { λ f. PlacesStand
-        (record { bytes = f.bytes.items; places = by_bytes f.places.entries }) };
+    ghost invariant = { λ f. PlacesStand (record {
+      bytes = f.bytes.items;
+      places = by_bytes f.placed.entries ++ by_bytes f.laid.items;
+    }) × AreTold (by_bytes f.laid.items) };
+}
+
+// Where a text was laid, which is looked for from the first on.
+fn place_from_first(laid: &[(&[u8], u32)], text: &[u8]) -> Option<u32>
+    ensures { result ≡ lookup (bytes_eq text.now) (by_bytes laid.now) }
+{
+    for pair in laid {
+        if text == pair.0 {
+            return Some(pair.1);
+        }
+    }
+    None
+}
+
+// The place at a position, where that text was laid there.
+fn place_at(laid: &[(&[u8], u32)], i: usize, text: &[u8]) -> Option<u32>
+    requires { AreTold (by_bytes laid.now) }
+    ensures { IfSome result (λ place.
+        lookup (bytes_eq text.now) (by_bytes laid.now) ≡ Some place) }
+{
+    if i < laid.len() && text == laid[i].0 {
+        return Some(laid[i].1);
+    }
+    None
+}
+
+// Where a text was laid. They stand in their order from their ends, so it is found there, unless it wasn't laid.
+fn laid_place(laid: &[(&[u8], u32)], text: &[u8]) -> Option<u32>
+    requires { AreTold (by_bytes laid.now) }
+    ensures { result ≡ lookup (bytes_eq text.now) (by_bytes laid.now) }
+{
+    if let Ok(i) = laid.binary_search_by(|pair| from_their_ends(text, pair.0)) {
+        if let Some(place) = place_at(laid, i, text) {
+            return Some(place);
+        }
+    }
+    place_from_first(laid, text)
+}
+
+// Where the text was laid that was added behind so many others, if it is that one.
+fn place_of_nth(laid: &[(&[u8], u32)], order: &[u32], nth: usize, text: &[u8]) -> Option<u32>
+    requires { AreTold (by_bytes laid.now) }
+    ensures { IfSome result (λ place.
+        lookup (bytes_eq text.now) (by_bytes laid.now) ≡ Some place) }
+{
+    if nth < order.len() {
+        return place_at(laid, order[nth] as usize, text);
+    }
+    None
 }
 
 impl<'t> Finished<'t> {
@@ -62,7 +125,9 @@ impl<'t> Finished<'t> {
     {
         Finished {
             bytes,
-            places: HashMap::new(alloc),
+            laid: Vec::new(alloc),
+            order: Vec::new(alloc),
+            placed: HashMap::new(alloc),
         }
     }
 
@@ -78,7 +143,7 @@ impl<'t> Finished<'t> {
         if !does_stand(&self.bytes, offset, text) {
             return Ok(false);
         }
-        self.places.insert(text, offset)?;
+        self.placed.insert(text, offset)?;
         Ok(true)
     }
 
@@ -90,11 +155,28 @@ impl<'t> Finished<'t> {
     }
 
     /// Where a text stands in the table, with a NUL behind it, or `None` for one that wasn't added or placed. Takes
-    /// no memory.
+    /// no memory. A text that was added is searched for among the sorted texts.
     pub fn offset_of(&self, text: &[u8]) -> Option<u32>
         ensures place { result ≡ place_of self.now text.now }
         ensures stands { IfSome result (λ place. StandsAt self.now.bytes place text.now) }
     {
-        self.places.get(text).copied()
+        match self.placed.get(text).copied() {
+            Some(place) => Some(place),
+            None => laid_place(&self.laid, text),
+        }
+    }
+
+    /// The same, for a caller that knows behind how many others the text was added: if it was, it is found at once. The answer is
+    /// the same whatever the number. Takes no memory.
+    pub fn offset_of_nth(&self, nth: usize, text: &[u8]) -> Option<u32>
+        ensures place { result ≡ place_of self.now text.now }
+        ensures stands { IfSome result (λ place. StandsAt self.now.bytes place text.now) }
+    {
+        if self.placed.is_empty() {
+            if let Some(place) = place_of_nth(&self.laid, &self.order, nth, text) {
+                return Some(place);
+            }
+        }
+        self.offset_of(text)
     }
 }

@@ -6,8 +6,11 @@ ghost use Rattle.elf_tables.specs.EndKeys.{end_key as key_of_end};
 use std::cmp::Ordering;
 use std::marker::Model;
 
+// The last of the numbers that are told of the order of texts.
+pub(crate) const MOST_NTH: usize = 0xffff_ffff;
+
 // How two texts compare by their bytes, the last one first.
-fn from_their_ends(a: &[u8], b: &[u8]) -> Ordering
+pub(crate) fn from_their_ends(a: &[u8], b: &[u8]) -> Ordering
     ensures { result ≡ slice_cmp nat_cmp (reverse a.now) (reverse b.now) }
 {
     a.iter().rev().cmp(b.iter().rev())
@@ -40,6 +43,8 @@ fn end_key(text: &[u8]) -> u64
 pub(crate) struct Keyed<'t> {
     key: u64,
     text: &'t [u8],
+    // Which of the texts of its table it is, in the order in which they were added.
+    nth: u32,
 }
 
 impl<'t> Model for Keyed<'t> {
@@ -54,14 +59,20 @@ impl<'t> Model for Keyed<'t> {
 }
 
 impl<'t> Keyed<'t> {
-    // A text with its number.
-    pub(crate) fn new(text: &'t [u8]) -> Self
+    // A text with its number, of which so many were added before it.
+    pub(crate) fn new(text: &'t [u8], before: usize) -> Self
         ensures { result ≡ text.entry.now }
     {
         Keyed {
             key: end_key(text),
             text,
+            nth: before.min(MOST_NTH) as u32,
         }
+    }
+
+    // How many texts were added before it.
+    pub(crate) fn nth(&self) -> usize {
+        self.nth as usize
     }
 
     // The text.

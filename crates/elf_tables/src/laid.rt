@@ -1,13 +1,14 @@
-ghost use Rattle.std.specs.Prelude.{◌≡◌, ◌≤◌, ◌<◌, ◌^◌, ◌+◌, false, length, nat_eq, MatchResult};
+ghost use Rattle.std.specs.Prelude.{◌≡◌, ◌≤◌, ◌<◌, ◌^◌, ◌+◌, false, length, nat_eq, IfOk, MatchResult};
 ghost use Rattle.std.specs.List.{ends_with};
+ghost use Rattle.std.specs.List.Sorted.{IsSortedBy};
 ghost use Rattle.elf_tables.specs.declared.fault.TableFault.TheVariants.{NumberTooLarge};
 ghost use Rattle.elf_tables.specs.Strings.{HoldNoNul};
-ghost use Rattle.elf_tables.specs.StringSteps.{IsLaid, PutsText, StandsWith, laid_length};
+ghost use Rattle.elf_tables.specs.StringSteps.{IsLaid, PutsText, is_before, StandsWith, laid_length};
 
 use crate::fault::TableFault;
 use crate::finished::Finished;
-use crate::keyed::Keyed;
-use std::alloc::Global;
+use crate::keyed::{Keyed, MOST_NTH};
+use std::alloc::{AllocError, Global};
 use std::collections::HashMap;
 
 // How many bytes a table may have: each has an offset of 32 bits.
@@ -17,10 +18,11 @@ const MOST_BYTES: usize = 0x1_0000_0000;
 fn put_text(bytes: &mut Vec<u8>, last: &[u8], place: u32, text: &[u8]) -> Result<u32, TableFault>
     requires fits { length bytes.old.items ≤ 2 ^ 32 }
     requires last_stands { StandsWith bytes.old.items place last.now }
-    ensures { MatchResult result
+    ensures puts { MatchResult result
         (PutsText bytes.old.items bytes.new.items last.now text.now)
         (λ fault. fault ≡ NumberTooLarge → (ends_with nat_eq last.now text.now ≡ false)
         × (2 ^ 32 < length bytes.old.items + (length text.now + 1))) }
+    ensures same { IfOk result (λ at. last.now ≡ text.now → at ≡ place) }
 {
     if last.ends_with(text) {
         return Ok(place + (last.len() - text.len()) as u32);
@@ -34,23 +36,44 @@ fn put_text(bytes: &mut Vec<u8>, last: &[u8], place: u32, text: &[u8]) -> Result
     Ok(end as u32)
 }
 
+// For each text, in the order in which they were added, which of the texts in their order from their ends it is.
+fn order_of(alloc: Global, texts: &[Keyed<'_>]) -> Result<Vec<u32>, AllocError>
+    ensures { IfOk result (λ order. length order.items ≡ length texts.now) }
+{
+    let mut order = Vec::new(alloc);
+    order.resize(texts.len(), 0)?;
+    for (i, keyed) in texts.iter().enumerate() {
+        let nth = keyed.nth();
+        if nth < order.len() {
+            order[nth] = i.min(MOST_NTH) as u32;
+        }
+    }
+    Ok(order)
+}
+
 // The table of texts in an order in which each stands behind those that end with it. Each stands within the one
 // before it where it ends that one.
 pub(crate) fn lay<'t>(alloc: Global, texts: &[Keyed<'t>]) -> Result<Finished<'t>, TableFault>
-    requires { HoldNoNul texts.now }
+    requires none { HoldNoNul texts.now }
+    requires sorted { IsSortedBy is_before texts.now }
     ensures { MatchResult result
         (IsLaid texts.now)
         (λ fault. fault ≡ NumberTooLarge → 2 ^ 32 < laid_length texts.now) }
 {
     let mut bytes = Vec::from_slice(alloc, &[0])?;
-    let mut places = HashMap::with_capacity(alloc, texts.len())?;
+    let mut laid = Vec::with_capacity(alloc, texts.len())?;
     let mut last: &[u8] = &[];
     let mut place = 0;
     for keyed in texts {
         let text = keyed.text();
         place = put_text(&mut bytes, last, place, text)?;
-        places.insert(text, place)?;
+        laid.push((text, place))?;
         last = text;
     }
-    Ok(Finished { bytes, places })
+    Ok(Finished {
+        bytes,
+        laid,
+        order: order_of(alloc, texts)?,
+        placed: HashMap::new(alloc),
+    })
 }

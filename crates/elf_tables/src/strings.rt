@@ -42,7 +42,7 @@ impl<'t> StringTable<'t> {
         ensures ok { OnOk result (self.new ≡ self.old ++ text.entry.now ∷ []) }
         ensures err { OnErr result (self.new ≡ self.old) }
     {
-        self.texts.push(Keyed::new(text))?;
+        self.texts.push(Keyed::new(text, self.texts.len()))?;
         Ok(())
     }
 

@@ -1,4 +1,6 @@
-use Rattle.std.proofs.Common.{◌≡◌, ◌≤◌, ◌+◌, ◌++◌, ◌∷◌, [], ℕ, List, length, sym, ap, ◌∙◌, append_assoc, arith, rules}
+use Rattle.std.proofs.Common.{◌≡◌, ◌≤◌, ◌+◌, ◌++◌, ◌∷◌, [], ℕ, List, length, sym, subst, ap, ◌∙◌, append_assoc, arith, rules}
+use Rattle.std.proofs.lemmas.Bool.{true≢false}
+use Rattle.elf_tables.proofs.TextOrder.{IsEnd, IsEnd-refl, ends_with-from}
 use Rattle.elf_tables.proofs.StandingTexts.{puts-behind, puts-shared, stands-within}
 use Rattle.elf_tables.proofs.laid.put_text.Goals as goal
 
@@ -8,12 +10,21 @@ overflow_cast-result c = omega (arith, stands-within c.args.bytes.now.items c.ar
 pub overflow_add-result : goal.overflow_add-result
 overflow_add-result c = omega (arith, stands-within c.args.bytes.now.items c.args.place c.args.last.now c.requires.last_stands)
 
-pub returns-then-ends_with : goal.returns-then-ends_with
-returns-then-ends_with c =
+pub returns-then-ends_with-clause-puts : goal.returns-then-ends_with-clause-puts
+returns-then-ends_with-clause-puts c =
     puts-shared c.args.bytes.now.items c.args.last.now c.args.text.now c.args.place c.requires.fits c.requires.last_stands (sym c.ends_with.ensures.value ∙ c.if-ends_with.true)
 
-pub returns : goal.returns
-returns c =
+pub returns-then-ends_with-clause-same : goal.returns-then-ends_with-clause-same
+returns-then-ends_with-clause-same c same = omega (arith, ap (λ (t : List ℕ). length t) same)
+
+-- a text ends itself, so another was put
+pub returns-clause-same : goal.returns-clause-same
+returns-clause-same c same =
+    let ends : IsEnd c.args.last.now c.args.text.now = subst (IsEnd c.args.last.now) same (IsEnd-refl c.args.last.now) in
+    absurd (true≢false (sym (ends_with-from c.args.last.now c.args.text.now ends) ∙ sym c.ends_with.ensures.value ∙ c.if-ends_with.false))
+
+pub returns-clause-puts : goal.returns-clause-puts
+returns-clause-puts c =
     let bytes : List ℕ = c.args.bytes.now.items in
     let at : c.len-end.result ≡ length bytes = search rules in
     let grown : c.push.new.self.items ≡ bytes ++ (c.args.text.now ++ 0 ∷ []) =

@@ -1,18 +1,36 @@
-use Rattle.std.proofs.Common.{ap, sym, subst, ◌∙◌}
+use Rattle.std.proofs.Common.{◌≡◌, Some, None, ℕ, List, ap, sym, subst, ◌∙◌}
 use Rattle.std.specs.Map.{lookup}
 use Rattle.std.specs.Str.{bytes_eq}
 use Rattle.elf_tables.specs.Strings.{PlacesStand}
+use Rattle.elf_tables.specs.StringSteps.{by_bytes}
+use Rattle.elf_tables.proofs.LaidPairs.{lookup-behind, lookup-front}
 use Rattle.elf_tables.proofs.LaySteps.{lookup-by_bytes, told_stands}
 use Rattle.elf_tables.proofs.finished.Finished.offset_of.Goals as goal
 
-told : goal.returns-clause-place
-told c =
-    c.copied.ensures ∙ c.get.ensures.value ∙ sym (lookup-by_bytes c.args.text.now c.self.inside.places.entries)
-    ∙ ap (λ table. lookup (bytes_eq c.args.text.now) table.places) c.self.view_is
+-- the text was placed
+pub returns-in-Some-clause-place : goal.returns-in-Some-clause-place
+returns-in-Some-clause-place c =
+    let text : List ℕ = c.args.text.now in
+    let placed : lookup (bytes_eq text) (by_bytes c.self.inside.placed.entries) ≡ Some c.in-Some.place =
+    lookup-by_bytes text c.self.inside.placed.entries ∙ sym c.get.ensures.value ∙ sym c.copied.ensures ∙ c.in-Some.is in
+    sym (lookup-front (bytes_eq text) (by_bytes c.self.inside.placed.entries) (by_bytes c.self.inside.laid.items) c.in-Some.place placed)
+    ∙ ap (λ table. lookup (bytes_eq text) table.places) c.self.view_is
 
-pub returns-clause-place : goal.returns-clause-place
-unfolding told
-returns-clause-place c = told c
+-- it was laid, or it isn't there
+pub returns-in-None-clause-place : goal.returns-in-None-clause-place
+returns-in-None-clause-place c =
+    let text : List ℕ = c.args.text.now in
+    let placed : lookup (bytes_eq text) (by_bytes c.self.inside.placed.entries) ≡ None =
+    lookup-by_bytes text c.self.inside.placed.entries ∙ sym c.get.ensures.value ∙ sym c.copied.ensures ∙ c.in-None.is in
+    c.laid_place.ensures
+    ∙ ap (λ laid. lookup (bytes_eq text) (by_bytes laid)) c.deref.ensures.value
+    ∙ sym (lookup-behind (bytes_eq text) (by_bytes c.self.inside.placed.entries) (by_bytes c.self.inside.laid.items) placed)
+    ∙ ap (λ table. lookup (bytes_eq text) table.places) c.self.view_is
 
-pub returns-clause-stands : goal.returns-clause-stands
-returns-clause-stands c = told_stands c.copied.result c.args.self.now c.args.text.now (subst PlacesStand c.self.view_is c.self.invariant) (told c)
+pub returns-in-Some-clause-stands : goal.returns-in-Some-clause-stands
+returns-in-Some-clause-stands c =
+    told_stands (Some c.in-Some.place) c.args.self.now c.args.text.now (subst PlacesStand c.self.view_is c.self.invariant.0) (returns-in-Some-clause-place c)
+
+pub returns-in-None-clause-stands : goal.returns-in-None-clause-stands
+returns-in-None-clause-stands c =
+    told_stands c.laid_place.result c.args.self.now c.args.text.now (subst PlacesStand c.self.view_is c.self.invariant.0) (returns-in-None-clause-place c)

@@ -7,15 +7,26 @@ use Rattle.std.proofs.lemmas.List.Sorted.{All-permutation, answers_always}
 use Rattle.std.proofs.lemmas.Result.{MatchResult-weaker}
 use Rattle.elf_tables.specs.Strings.{holds_nul}
 use Rattle.elf_tables.proofs.TableLaws.{Falls, falls_from_sorted, laid_length-sorted, table_of_laid}
-use Rattle.elf_tables.proofs.TextOrder.{is_before, is_before-order}
+use Rattle.elf_tables.specs.StringSteps.{is_before}
+use Rattle.elf_tables.proofs.TextOrder.{is_before-order}
 use Rattle.elf_tables.proofs.strings.StringTable.finish.Goals as goal
 
-pub lay-requires : goal.lay-requires
-lay-requires c =
+pub lay-requires-clause-none : goal.lay-requires-clause-none
+lay-requires-clause-none c =
     let old : List (List ℕ) = c.self.inside.texts.items in
     let new : List (List ℕ) = c.sort_unstable_by.new.self.items in
     subst (λ (l : List (List ℕ)). All (λ text. holds_nul text ≡ false) l) (sym c.as_slice.ensures.value)
     (All-permutation (λ text. holds_nul text ≡ false) old new c.sort_unstable_by.ensures.permutation c.self.invariant)
+
+-- the texts are sorted by their order from their ends
+pub lay-requires-clause-sorted : goal.lay-requires-clause-sorted
+lay-requires-clause-sorted c =
+    let new : List (List ℕ) = c.sort_unstable_by.new.self.items in
+    let sorted : IsSortedBy is_before new =
+    c.sort_unstable_by.ensures.sorted is_before (is_before-order (λ (t : List ℕ). t))
+    (answers_always _ (λ a r. is_lt r ≡ is_before a.0.now a.1.0.now) _ (λ f a r g k.
+    let e : r ≡ slice_cmp nat_cmp (reverse a.1.0.now) (reverse a.0.now) = search rules in ap is_lt e)) in
+    subst (IsSortedBy is_before) (sym c.as_slice.ensures.value) sorted
 
 pub returns-clause-table : goal.returns-clause-table
 returns-clause-table c =
