@@ -13,7 +13,7 @@ ghost use Rattle.elf_contents.specs.EntrySteps.{numbers_with, places_behind as p
 ghost use Rattle.elf_contents.specs.Inner.{AreRaw, AreStrings, IsPlanned, IsReady};
 
 mod tables;
-mod texts;
+pub(crate) mod texts;
 
 use self::tables::table_value;
 use self::texts::{text_places, texts_of};

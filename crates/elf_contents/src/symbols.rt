@@ -10,6 +10,7 @@ ghost use Rattle.elf_written.specs.Final.{final};
 ghost use Rattle.elf_contents.specs.Inner.{AreStrings, IsReady, IsSectionOfType, strings_at};
 ghost use Rattle.elf_contents.specs.SymbolSteps.{does_symbol_fit, place_of_name, symbol_bytes, symbol_in, table_made};
 
+use crate::entries::texts::texts_of;
 use crate::made::Made;
 use elf_image::records::SymbolNumbers;
 use elf_image::{Builder, Form, Section, Symbol};
@@ -28,22 +29,22 @@ fn table_made_for<'m, 't>(made: &'m Option<Made<'t>>, number: u32) -> Option<&'m
     }
 }
 
-// Where a name stands in a string table; 0 where there is none.
-fn symbol_name_place(name: &[u8], table: &Finished<'_>) -> u32
+// Where a name stands in a string table, to which it was added behind so many others; 0 where there is none.
+fn symbol_name_place(name: &[u8], table: &Finished<'_>, nth: usize) -> u32
     ensures { result ≡ place_of_name table.now name.now }
 {
     if name.is_empty() {
         return 0;
     }
-    table.offset_of(name).unwrap_or(0)
+    table.offset_of_nth(nth, name).unwrap_or(0)
 }
 
-// The numbers of a symbol, with where its name stands in a string table.
-fn symbol_numbers(symbol: &Symbol<'_>, table: &Finished<'_>) -> SymbolNumbers
+// The numbers of a symbol, with where its name stands in a string table, to which it was added behind so many others.
+fn symbol_numbers(symbol: &Symbol<'_>, table: &Finished<'_>, nth: usize) -> SymbolNumbers
     ensures { result ≡ symbol_in table.now (symbol_kept symbol.now) }
 {
     SymbolNumbers {
-        st_name: symbol_name_place(symbol.name.as_slice(), table),
+        st_name: symbol_name_place(symbol.name.as_slice(), table, nth),
         st_info: symbol.st_info,
         st_other: symbol.st_other,
         st_shndx: symbol.st_shndx,
@@ -59,27 +60,31 @@ fn push_named_symbol(
     form: Form,
     symbol: &Symbol<'_>,
     table: &Finished<'_>,
+    nth: usize,
 ) -> Result<(), AllocError>
     requires { IsTrue (does_symbol_fit form table.now (symbol_kept symbol.now)) }
     ensures { OnOk result (bytes.new.items
         ≡ bytes.old.items ++ symbol_bytes form table.now (symbol_kept symbol.now)) }
 {
-    push_symbol(bytes, form, symbol_numbers(symbol, table))
+    push_symbol(bytes, form, symbol_numbers(symbol, table, nth))
 }
 
-// Appends the records of symbols.
+// Appends the records of symbols, whose names were added behind so many other texts.
 fn push_symbols(
     bytes: &mut Vec<u8>,
     form: Form,
     symbols: &[Symbol<'_>],
     table: &Finished<'_>,
+    before: usize,
 ) -> Result<(), AllocError>
     requires { IsTrue (list_all (does_symbol_fit form table.now) (map symbol_kept symbols.now)) }
     ensures { OnOk result (bytes.new.items ≡ bytes.old.items
         ++ flat_map (symbol_bytes form table.now) (map symbol_kept symbols.now)) }
 {
+    let mut nth = before;
     for symbol in symbols {
-        push_named_symbol(bytes, form, symbol, table)?;
+        push_named_symbol(bytes, form, symbol, table, nth)?;
+        nth = nth.saturating_add(1);
     }
     Ok(())
 }
@@ -145,8 +150,16 @@ fn symbols_anew<'data>(
         wide: image.class(),
         order: image.order(),
     };
-    let mut bytes = Vec::new(alloc);
-    push_symbols(&mut bytes, form, image.dynamic_symbols(), table)?;
+    // the texts of the dynamic list were added before the names of the symbols
+    let texts = texts_of(alloc, image.dynamic_data().unwrap_or_default())?;
+    let mut bytes = Vec::with_capacity(alloc, section.content.len())?;
+    push_symbols(
+        &mut bytes,
+        form,
+        image.dynamic_symbols(),
+        table,
+        texts.len(),
+    )?;
     Ok(ByteString::owned(bytes))
 }
 

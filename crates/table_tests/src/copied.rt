@@ -1,6 +1,6 @@
 //! String tables that are copied: which texts are placed at which offsets.
 
-use crate::support::{Runtime, granted, same, same_bytes, wants_memory};
+use crate::support::{Runtime, granted, same, same_bytes, table_of, wants_memory};
 use elf_tables::Finished;
 
 // A text, an offset, and whether it is placed there.
@@ -122,4 +122,17 @@ fn a_text_placed_twice(rt: HostRuntime) {
     same(&rt, "once", &place(&rt, &mut table, b"", 0), &true);
     same(&rt, "twice", &place(&rt, &mut table, b"", 2), &true);
     same(&rt, "place", &table.offset_of(b""), &Some(2));
+}
+
+// A text of a table that was made is placed where it stands a second time.
+#[test]
+fn placed_in_a_table_that_was_made(rt: HostRuntime) {
+    let mut table = table_of(&rt, &[b"abc", b"xbc", b"bc"]);
+    same_bytes(&rt, "bytes", table.bytes(), b"\0xbc\0abc\0");
+    same(&rt, "laid", &table.offset_of_nth(2, b"bc"), &Some(6));
+    same(&rt, "no place", &place(&rt, &mut table, b"bc", 3), &false);
+    same(&rt, "is placed", &place(&rt, &mut table, b"bc", 2), &true);
+    same(&rt, "placed", &table.offset_of(b"bc"), &Some(2));
+    same(&rt, "placed, by number", &table.offset_of_nth(2, b"bc"), &Some(2));
+    same(&rt, "another", &table.offset_of_nth(0, b"abc"), &Some(5));
 }

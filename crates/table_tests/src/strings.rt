@@ -1,6 +1,7 @@
 //! String tables of a few texts: their bytes, and where each text stands.
 
 use crate::support::{Runtime, same, same_bytes, table_of};
+use elf_tables::Finished;
 
 // Texts, the table's bytes, where each text stands, and texts that it tells no place of.
 #[derive(Clone, Copy)]
@@ -17,10 +18,26 @@ fn follow(rt: &impl Runtime, row: &Row) {
     same_bytes(rt, "bytes", table.bytes(), row.bytes);
     for (text, place) in row.texts.iter().zip(row.places) {
         same(rt, "place", &table.offset_of(text), &Some(*place));
+        told_by_any_number(rt, &table, row, text, Some(*place));
     }
     for text in row.others {
         same(rt, "no place", &table.offset_of(text), &None);
+        told_by_any_number(rt, &table, row, text, None);
     }
+}
+
+// A text has its place, or none, behind however many others it is said to have been added.
+fn told_by_any_number(
+    rt: &impl Runtime,
+    table: &Finished<'_>,
+    row: &Row,
+    text: &[u8],
+    place: Option<u32>,
+) {
+    for nth in 0..row.texts.len() + 2 {
+        same(rt, "place by number", &table.offset_of_nth(nth, text), &place);
+    }
+    same(rt, "place by no number", &table.offset_of_nth(usize::MAX, text), &place);
 }
 
 #[test]

@@ -21,7 +21,7 @@ use elf_tables::Finished;
 use std::alloc::{AllocError, Global};
 
 // The texts of entries, in order.
-pub(super) fn texts_of<'a>(
+pub(crate) fn texts_of<'a>(
     alloc: Global,
     entries: &'a [Dynamic<'_>],
 ) -> Result<Vec<&'a [u8]>, AllocError>
