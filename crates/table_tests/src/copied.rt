@@ -133,6 +133,11 @@ fn placed_in_a_table_that_was_made(rt: HostRuntime) {
     same(&rt, "no place", &place(&rt, &mut table, b"bc", 3), &false);
     same(&rt, "is placed", &place(&rt, &mut table, b"bc", 2), &true);
     same(&rt, "placed", &table.offset_of(b"bc"), &Some(2));
-    same(&rt, "placed, by number", &table.offset_of_nth(2, b"bc"), &Some(2));
+    same(
+        &rt,
+        "placed, by number",
+        &table.offset_of_nth(2, b"bc"),
+        &Some(2),
+    );
     same(&rt, "another", &table.offset_of_nth(0, b"abc"), &Some(5));
 }

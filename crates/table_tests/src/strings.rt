@@ -35,9 +35,19 @@ fn told_by_any_number(
     place: Option<u32>,
 ) {
     for nth in 0..row.texts.len() + 2 {
-        same(rt, "place by number", &table.offset_of_nth(nth, text), &place);
+        same(
+            rt,
+            "place by number",
+            &table.offset_of_nth(nth, text),
+            &place,
+        );
     }
-    same(rt, "place by no number", &table.offset_of_nth(usize::MAX, text), &place);
+    same(
+        rt,
+        "place by no number",
+        &table.offset_of_nth(usize::MAX, text),
+        &place,
+    );
 }
 
 #[test]
