@@ -9,3 +9,4 @@ pub mod EntriesKept
 pub mod Kept
 pub mod LookupSteps
 pub mod CopySteps
+pub mod SymbolLists

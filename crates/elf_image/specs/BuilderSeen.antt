@@ -4,6 +4,7 @@ use Rattle.std.specs.Option.{option_map}
 use Rattle.elf_image.specs.declared.builder.Builder.TheInside.{Inside}
 use Rattle.elf_format.specs.Image.{Image}
 use Rattle.elf_image.specs.Edited.{IsEdited}
+use Rattle.elf_image.specs.SymbolsRead.{AreSymbolsOfFile}
 use Rattle.elf_image.specs.ImageSeen.{definition_kept, entry_kept, needs_kept, section_kept, segment_kept, symbol_kept, text_kept}
 
 abbrev pub image_kept : Inside → Image
@@ -14,8 +15,8 @@ image_kept b = record {
   header = b.header;
   segments = map segment_kept b.segments.items;
   sections = map section_kept b.sections.items;
-  symbols = map symbol_kept b.symbols.items;
-  dynamic_symbols = map symbol_kept b.dynamic_symbols.items;
+  symbols = map symbol_kept b.lists.symbols.value.items;
+  dynamic_symbols = map symbol_kept b.lists.dynamic_symbols.value.items;
   definitions = map definition_kept b.versions.definitions.items;
   needs = map needs_kept b.versions.needs.items;
   entries = option_map (λ list. map entry_kept list.items) b.dynamic;
@@ -26,6 +27,6 @@ image_kept b = record {
   page_size = b.page_size;
 }
 
--- what a builder holds is an image that was read, and edited
+-- what a builder holds is an image that was read, and edited, with the symbols that were read
 abbrev pub IsKept : Inside → Type 0
-IsKept b = IsEdited (image_kept b)
+IsKept b = IsEdited (image_kept b) × AreSymbolsOfFile b.source.now b.lists_read

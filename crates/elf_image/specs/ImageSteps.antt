@@ -35,7 +35,7 @@ named_in p = do
   Some (record { sections = sections; symbols = symbols; dynamic_symbols = dynamic_symbols })
 
 abbrev pub named_kept : Named → NamedParts
-named_kept n = record { sections = map section_kept n.sections.items; symbols = map symbol_kept n.symbols.items; dynamic_symbols = map symbol_kept n.dynamic_symbols.items }
+named_kept n = record { sections = map section_kept n.sections.items; symbols = map symbol_kept n.lists.symbols.value.items; dynamic_symbols = map symbol_kept n.lists.dynamic_symbols.value.items }
 
 -- its dynamic list and versions
 pub record ListedParts : Type 0 where
@@ -81,8 +81,8 @@ image_built p n l = image_with p (named_kept n) (listed_kept l)
 -- the numbers at read of sections and symbols: those from 0 on
 pub record AreNumbered (named : Named) (numbers : Numbers) : Type 0 where
   pub sections : numbers.sections.items ≡ counted (length named.sections.items)
-  pub symbols : numbers.symbols.items ≡ counted (length named.symbols.items)
-  pub dynamic_symbols : numbers.dynamic_symbols.items ≡ counted (length named.dynamic_symbols.items)
+  pub symbols : numbers.symbols.items ≡ counted (length named.lists.symbols.value.items)
+  pub dynamic_symbols : numbers.dynamic_symbols.items ≡ counted (length named.lists.dynamic_symbols.value.items)
 
 -- the image, group by group
 unfoldable pub image_by_groups : Parts → Option Image
@@ -105,8 +105,8 @@ image_gathered p g = record {
   header = header_kept p.opened.header;
   segments = map segment_kept g.segments.items;
   sections = map section_kept g.named.sections.items;
-  symbols = map symbol_kept g.named.symbols.items;
-  dynamic_symbols = map symbol_kept g.named.dynamic_symbols.items;
+  symbols = map symbol_kept g.named.lists.symbols.value.items;
+  dynamic_symbols = map symbol_kept g.named.lists.dynamic_symbols.value.items;
   definitions = map definition_kept g.listed.versions.definitions.items;
   needs = map needs_kept g.listed.versions.needs.items;
   entries = option_map (λ list. map entry_kept list.items) g.listed.dynamic;

@@ -14,6 +14,7 @@ pub use Rattle.elf_format.specs.Image
 pub use Rattle.elf_format.specs.ReadNumbers
 pub use Rattle.elf_format.specs.Answers
 pub mod ImageSeen
+pub mod SymbolsRead
 pub mod BuilderSeen
 pub mod DynamicTag
 pub mod DynamicList

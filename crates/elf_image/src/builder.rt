@@ -7,6 +7,7 @@ use crate::dynamic::Dynamic;
 use crate::section::Section;
 use crate::segment;
 use crate::symbol::Symbol;
+use crate::symbol_lists::SymbolLists;
 use crate::version::Versions;
 use elf_format::form::Form;
 use elf_format::header::Header;
@@ -28,8 +29,7 @@ pub struct Builder<'data> {
     pub(crate) header: Header,
     pub(crate) segments: Vec<Segment<'data>>,
     pub(crate) sections: Vec<Section<'data>>,
-    pub(crate) symbols: Vec<Symbol<'data>>,
-    pub(crate) dynamic_symbols: Vec<Symbol<'data>>,
+    pub(crate) lists: SymbolLists<'data>,
     pub(crate) versions: Versions<'data>,
     pub(crate) dynamic: Option<Vec<Dynamic<'data>>>,
     pub(crate) interpreter: Option<ByteString<'data>>,
@@ -38,6 +38,8 @@ pub struct Builder<'data> {
     pub(crate) symbol_numbers: Vec<usize>,
     pub(crate) dynamic_symbol_numbers: Vec<usize>,
     pub(crate) page_size: Option<u32>,
+    // The symbols as they were read, for images that are read again.
+    pub(crate) lists_read: SymbolLists<'data>,
 }
 
 impl<'data> Model for Builder<'data> {
@@ -98,7 +100,7 @@ impl<'data> Builder<'data> {
     pub fn symbols(&self) -> &[Symbol<'data>]
         ensures { map symbol_kept result.now ≡ self.now.symbols }
     {
-        self.symbols.as_slice()
+        self.lists.symbols.as_slice()
     }
 
     /// The symbols for a loader with their versions (gABI, Symbol Table, `SHT_DYNSYM`); none without that
@@ -106,7 +108,7 @@ impl<'data> Builder<'data> {
     pub fn dynamic_symbols(&self) -> &[Symbol<'data>]
         ensures { map symbol_kept result.now ≡ self.now.dynamic_symbols }
     {
-        self.dynamic_symbols.as_slice()
+        self.lists.dynamic_symbols.as_slice()
     }
 
     /// The versions that the file defines and needs (GNU symbol versioning). Takes no memory.

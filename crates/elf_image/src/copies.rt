@@ -1,14 +1,14 @@
-//! Copies of an image: what is borrowed is lent again, what is owned copied.
+//! Copies of an image: what is borrowed is lent again, symbols are shared, what else is owned is copied.
 ghost use Rattle.std.specs.Prelude.{◌≡◌, map, IfOk};
 ghost use Rattle.elf_image.specs.Copies.{AreNumbersOf, listed_seen, named_seen};
-ghost use Rattle.elf_image.specs.ImageSeen.{entry_kept, section_kept, symbol_kept};
+ghost use Rattle.elf_image.specs.ImageSeen.{entry_kept, section_kept};
 ghost use Rattle.elf_image.specs.ImageSteps.{listed_kept, named_kept};
 
 use crate::builder::Builder;
 use crate::dynamic::Dynamic;
 use crate::read::{Listed, Named, Numbers};
 use crate::section::Section;
-use crate::symbol::Symbol;
+use crate::symbol_lists::SymbolLists;
 use crate::version::Versions;
 use patch_bytes::ByteString;
 use std::alloc::{AllocError, Global};
@@ -18,7 +18,7 @@ impl<'data> Builder<'data> {
     pub fn try_clone(&self, alloc: Global) -> Result<Builder<'data>, AllocError>
         ensures { IfOk result (λ copy. copy ≡ self.now) }
     {
-        let named = copied_named(alloc, &self.sections, &self.symbols, &self.dynamic_symbols)?;
+        let named = copied_named(alloc, &self.sections, &self.lists)?;
         let listed = copied_listed(alloc, &self.dynamic, &self.versions)?;
         let interpreter = copied_interpreter(alloc, &self.interpreter)?;
         let numbers = copied_numbers(
@@ -35,8 +35,7 @@ impl<'data> Builder<'data> {
             header: self.header,
             segments,
             sections: named.sections,
-            symbols: named.symbols,
-            dynamic_symbols: named.dynamic_symbols,
+            lists: named.lists,
             versions: listed.versions,
             dynamic: listed.dynamic,
             interpreter,
@@ -44,28 +43,23 @@ impl<'data> Builder<'data> {
             symbol_numbers: numbers.symbols,
             dynamic_symbol_numbers: numbers.dynamic_symbols,
             page_size: self.page_size,
+            lists_read: self.lists_read.share()?,
         })
     }
 }
 
-// The same sections and symbols.
+// The same sections, and the same symbols, which are shared.
 fn copied_named<'data>(
     alloc: Global,
     sections: &[Section<'data>],
-    symbols: &[Symbol<'data>],
-    dynamic_symbols: &[Symbol<'data>],
+    lists: &SymbolLists<'data>,
 ) -> Result<Named<'data>, AllocError>
-    ensures { IfOk result (λ copies.
-        named_kept copies ≡ named_seen sections.now symbols.now dynamic_symbols.now) }
+    ensures { IfOk result (λ copies. named_kept copies ≡ named_seen sections.now
+        lists.now.symbols.value.items lists.now.dynamic_symbols.value.items) }
 {
     let sections = copied_sections(alloc, sections)?;
-    let symbols = copied_symbols(alloc, symbols)?;
-    let dynamic_symbols = copied_symbols(alloc, dynamic_symbols)?;
-    Ok(Named {
-        sections,
-        symbols,
-        dynamic_symbols,
-    })
+    let lists = lists.share()?;
+    Ok(Named { sections, lists })
 }
 
 // The same dynamic list and versions.
@@ -137,29 +131,6 @@ fn copied_sections<'data>(
             sh_addralign: section.sh_addralign,
             sh_entsize: section.sh_entsize,
             content: section.content,
-        })?;
-    }
-    Ok(made)
-}
-
-// The same symbols.
-fn copied_symbols<'data>(
-    alloc: Global,
-    symbols: &[Symbol<'data>],
-) -> Result<Vec<Symbol<'data>>, AllocError>
-    ensures { IfOk result (λ copies. map symbol_kept copies.items ≡ map symbol_kept symbols.now) }
-{
-    let mut made = Vec::with_capacity(alloc, symbols.len())?;
-    for symbol in symbols {
-        let name = symbol.name.try_clone(alloc)?;
-        made.push(Symbol {
-            name,
-            st_info: symbol.st_info,
-            st_other: symbol.st_other,
-            st_shndx: symbol.st_shndx,
-            st_value: symbol.st_value,
-            st_size: symbol.st_size,
-            version: symbol.version,
         })?;
     }
     Ok(made)

@@ -13,6 +13,7 @@ mod read;
 pub mod section;
 pub mod segment;
 pub mod symbol;
+mod symbol_lists;
 
 pub use crate::builder::{Builder, Segment};
 pub use crate::dynamic::Dynamic;

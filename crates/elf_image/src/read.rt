@@ -1,9 +1,10 @@
 //! The reader: the read rules in their order, each in time in proportion to what it looks at.
-ghost use Rattle.std.specs.Prelude.{◌≡◌, ◌≢◌, Ok, Err, MatchResult, All, map, IfOk};
+ghost use Rattle.std.specs.Prelude.{◌≡◌, ◌≢◌, Ok, Err, MatchResult, All, map, IfOk, IfSome};
 ghost use Rattle.elf_format.specs.Image.{header_kept, image_of, interpreter_read};
 ghost use Rattle.elf_image.specs.ImageSteps.{AreNumbered, LinksRead, TextsRead, image_built, image_by_groups, image_gathered, listed_in, listed_kept, named_in, named_kept};
 ghost use Rattle.elf_image.specs.Edited.{IsEdited};
 ghost use Rattle.elf_image.specs.ImageSeen.{segment_kept, text_kept};
+ghost use Rattle.elf_image.specs.SymbolsRead.{AreSymbolsOfFile, AreSymbolsRead};
 ghost use Rattle.elf_format.specs.Answers.{Gives, borrowed};
 ghost use Rattle.elf_format.specs.Stages.{last_rules};
 ghost use Rattle.elf_rules.specs.Read.{Passes, Reads, parts_seen};
@@ -19,9 +20,9 @@ use crate::dynamic::Dynamic;
 use crate::read::texts::entries::entries;
 use crate::read::texts::interpreter;
 use crate::read::texts::sections::sections;
-use crate::read::texts::symbols::{dynamic_symbols, static_symbols};
+use crate::read::texts::symbols::{dynamic_list, static_list};
 use crate::section::Section;
-use crate::symbol::Symbol;
+use crate::symbol_lists::SymbolLists;
 use crate::version::Versions;
 use elf_format::fault::ElfFault;
 use elf_format::header::Header;
@@ -90,8 +91,7 @@ fn kinds(
 #[derive(Drop)]
 pub(crate) struct Named<'data> {
     pub(crate) sections: Vec<Section<'data>>,
-    pub(crate) symbols: Vec<Symbol<'data>>,
-    pub(crate) dynamic_symbols: Vec<Symbol<'data>>,
+    pub(crate) lists: SymbolLists<'data>,
 }
 
 // The dynamic list of an image, and its versions.
@@ -109,25 +109,30 @@ pub(crate) struct Numbers {
     pub(crate) dynamic_symbols: Vec<usize>,
 }
 
-// The sections and symbols, absent where a name isn't there.
+// The sections and symbols, absent where a name isn't there. The symbols may be known.
 #[tactic(auto, unfolding(crate::specs::ImageSteps::named_in))]
 fn named_parts<'data>(
     alloc: Global,
     parts: &Headers<'data>,
     raw: &[EntryNumbers],
     kinds: &[SectionData],
+    known: Option<&SymbolLists<'data>>,
 ) -> Result<Named<'data>, ViewFault>
     requires kinds { kinds.now ≡ map (data_of (parts_seen parts.now)) parts.now.sections.items }
     requires raw { raw.now ≡ entries_of (parts_seen parts.now) }
-    ensures { Gives named_kept result (named_in (parts_seen parts.now)) }
+    requires known { IfSome known (λ lists. AreSymbolsRead (parts_seen parts.now) lists.now) }
+    ensures named { Gives named_kept result (named_in (parts_seen parts.now)) }
+    ensures lists { IfOk result (λ named. AreSymbolsRead (parts_seen parts.now) named.lists) }
 {
     let sections = sections(alloc, parts, kinds)?;
-    let symbols = static_symbols(alloc, parts)?;
-    let dynamic_symbols = dynamic_symbols(alloc, parts, raw)?;
+    let symbols = static_list(alloc, parts, known)?;
+    let dynamic_symbols = dynamic_list(alloc, parts, raw, known)?;
     Ok(Named {
         sections,
-        symbols,
-        dynamic_symbols,
+        lists: SymbolLists {
+            symbols,
+            dynamic_symbols,
+        },
     })
 }
 
@@ -160,8 +165,8 @@ fn numbers_at_read(alloc: Global, named: &Named<'_>) -> Result<Numbers, AllocErr
 {
     Ok(Numbers {
         sections: counted(alloc, named.sections.len())?,
-        symbols: counted(alloc, named.symbols.len())?,
-        dynamic_symbols: counted(alloc, named.dynamic_symbols.len())?,
+        symbols: counted(alloc, named.lists.symbols.len())?,
+        dynamic_symbols: counted(alloc, named.lists.dynamic_symbols.len())?,
     })
 }
 
@@ -173,6 +178,8 @@ pub(crate) struct Gathered<'data> {
     listed: Listed<'data>,
     interpreter: Option<ByteString<'data>>,
     numbers: Numbers,
+    // The symbols once more.
+    read: SymbolLists<'data>,
 }
 
 // These parts together.
@@ -182,11 +189,13 @@ fn gather<'data>(
     named: Named<'data>,
     listed: Listed<'data>,
     numbers: Numbers,
+    read: SymbolLists<'data>,
 ) -> Gathered<'data>
     requires segments { map segment_kept segments.items ≡ parts.now.segments.items }
     requires numbered { AreNumbered named numbers }
-    ensures { image_gathered (parts_seen parts.now) result
+    ensures image { image_gathered (parts_seen parts.now) result
         ≡ image_built (parts_seen parts.now) named.entry listed.entry }
+    ensures read { result.read ≡ read.entry }
 {
     Gathered {
         segments,
@@ -194,6 +203,7 @@ fn gather<'data>(
         listed,
         interpreter: interpreter_kept(parts),
         numbers,
+        read,
     }
 }
 
@@ -206,19 +216,23 @@ fn image<'data>(
     kinds: &[SectionData],
     defined: &DefinitionWalk,
     needed: &NeedWalk,
+    known: Option<&SymbolLists<'data>>,
 ) -> Result<Gathered<'data>, ViewFault>
     requires kinds { kinds.now ≡ map (data_of (parts_seen parts.now)) parts.now.sections.items }
     requires raw { raw.now ≡ entries_of (parts_seen parts.now) }
     requires defined { AreDefinitions (parts_seen parts.now) defined.now }
     requires needed { AreNeeds (parts_seen parts.now) needed.now }
-    ensures { Gives (image_gathered (parts_seen parts.now)) result
+    requires known { IfSome known (λ lists. AreSymbolsRead (parts_seen parts.now) lists.now) }
+    ensures image { Gives (image_gathered (parts_seen parts.now)) result
         (image_by_groups (parts_seen parts.now)) }
+    ensures lists { IfOk result (λ made. AreSymbolsRead (parts_seen parts.now) made.read) }
 {
-    let named = named_parts(alloc, parts, raw, kinds)?;
+    let named = named_parts(alloc, parts, raw, kinds, known)?;
+    let read = named.lists.share()?;
     let listed = listed_parts(alloc, parts, raw, defined, needed)?;
     let numbers = numbers_at_read(alloc, &named)?;
     let segments = segments(alloc, &parts.segments)?;
-    Ok(gather(parts, segments, named, listed, numbers))
+    Ok(gather(parts, segments, named, listed, numbers, read))
 }
 
 // The interpreter's bytes.
@@ -257,15 +271,18 @@ fn image_or_fault<'data>(
     kinds: &[SectionData],
     defined: &DefinitionWalk,
     needed: &NeedWalk,
+    known: Option<&SymbolLists<'data>>,
 ) -> Result<Gathered<'data>, ElfFault>
     requires kinds { kinds.now ≡ map (data_of (parts_seen parts.now)) parts.now.sections.items }
     requires raw { raw.now ≡ entries_of (parts_seen parts.now) }
     requires defined { AreDefinitions (parts_seen parts.now) defined.now }
     requires needed { AreNeeds (parts_seen parts.now) needed.now }
-    ensures { Reads (image_gathered (parts_seen parts.now)) result
+    requires known { IfSome known (λ lists. AreSymbolsRead (parts_seen parts.now) lists.now) }
+    ensures image { Reads (image_gathered (parts_seen parts.now)) result
         (there_or BadText (image_by_groups (parts_seen parts.now))) }
+    ensures lists { IfOk result (λ made. AreSymbolsRead (parts_seen parts.now) made.read) }
 {
-    match image(alloc, parts, raw, kinds, defined, needed) {
+    match image(alloc, parts, raw, kinds, defined, needed, known) {
         Ok(image) => Ok(image),
         Err(ViewFault::Absent) => Err(ElfFault::BadText),
         Err(ViewFault::Memory) => Err(ElfFault::Memory),
@@ -292,21 +309,26 @@ fn image_and_last<'data>(
     parts: &Headers<'data>,
     raw: &[EntryNumbers],
     kinds: &[SectionData],
+    known: Option<&SymbolLists<'data>>,
 ) -> Result<Gathered<'data>, ElfFault>
     requires kinds { kinds.now ≡ map (data_of (parts_seen parts.now)) parts.now.sections.items }
     requires raw { raw.now ≡ entries_of (parts_seen parts.now) }
-    ensures { TextsRead (image_gathered (parts_seen parts.now)) (parts_seen parts.now) result }
+    requires known { IfSome known (λ lists. AreSymbolsRead (parts_seen parts.now) lists.now) }
+    ensures image { TextsRead (image_gathered (parts_seen parts.now)) (parts_seen parts.now)
+        result }
+    ensures lists { IfOk result (λ made. AreSymbolsRead (parts_seen parts.now) made.read) }
 {
     let defined = walk_definitions(alloc, parts)?;
     let needed = walk_needs(alloc, parts)?;
-    let image = image_or_fault(alloc, parts, raw, kinds, &defined, &needed)?;
+    let image = image_or_fault(alloc, parts, raw, kinds, &defined, &needed, known)?;
     check_last(alloc, parts, &defined, &needed)?;
     Ok(image)
 }
 
 // The image that has these parts.
 fn builder<'data>(parts: &Headers<'data>, gathered: Gathered<'data>) -> Builder<'data>
-    requires { IsEdited (image_gathered (parts_seen parts.now) gathered) }
+    requires edited { IsEdited (image_gathered (parts_seen parts.now) gathered) }
+    requires lists { AreSymbolsOfFile parts.now.file.now gathered.read }
     ensures { result ≡ image_gathered (parts_seen parts.now) gathered.entry }
 {
     Builder {
@@ -316,8 +338,7 @@ fn builder<'data>(parts: &Headers<'data>, gathered: Gathered<'data>) -> Builder<
         header: header(parts.header),
         segments: gathered.segments,
         sections: gathered.named.sections,
-        symbols: gathered.named.symbols,
-        dynamic_symbols: gathered.named.dynamic_symbols,
+        lists: gathered.named.lists,
         versions: gathered.listed.versions,
         dynamic: gathered.listed.dynamic,
         interpreter: gathered.interpreter,
@@ -325,7 +346,27 @@ fn builder<'data>(parts: &Headers<'data>, gathered: Gathered<'data>) -> Builder<
         symbol_numbers: gathered.numbers.symbols,
         dynamic_symbol_numbers: gathered.numbers.dynamic_symbols,
         page_size: None,
+        lists_read: gathered.read,
     }
+}
+
+// The image of a file, or the fault of the first read rule that doesn't hold. Its symbols may be known.
+fn image_of_file<'data>(
+    alloc: Global,
+    bytes: &'data [u8],
+    known: Option<&SymbolLists<'data>>,
+) -> Result<Builder<'data>, ElfFault>
+    requires { IfSome known (λ lists. AreSymbolsOfFile bytes.now lists.now) }
+    ensures { MatchResult result
+        (λ b. image_of bytes.entry.now ≡ Ok b)
+        (λ e. e ≢ ElfFault.Memory → image_of bytes.entry.now ≡ Err e) }
+{
+    let parts = read_headers(alloc, bytes)?;
+    check_placement(alloc, &parts)?;
+    let raw = raw_entries(alloc, &parts)?;
+    let kinds = linked_kinds(alloc, &parts, &raw)?;
+    let gathered = image_and_last(alloc, &parts, &raw, &kinds, known)?;
+    Ok(builder(&parts, gathered))
 }
 
 impl<'data> Builder<'data> {
@@ -336,11 +377,18 @@ impl<'data> Builder<'data> {
             (λ b. image_of bytes.entry.now ≡ Ok b)
             (λ e. e ≢ ElfFault.Memory → image_of bytes.entry.now ≡ Err e) }
     {
-        let parts = read_headers(alloc, bytes)?;
-        check_placement(alloc, &parts)?;
-        let raw = raw_entries(alloc, &parts)?;
-        let kinds = linked_kinds(alloc, &parts, &raw)?;
-        let gathered = image_and_last(alloc, &parts, &raw, &kinds)?;
-        Ok(builder(&parts, gathered))
+        image_of_file(alloc, bytes, None)
+    }
+
+    /// The image as its source was read, before any edit. Its symbols are shared with this image, so that none is
+    /// read again. Error: `AllocError`.
+    pub fn read_again(&self, alloc: Global) -> Result<Builder<'data>, AllocError>
+        ensures { IfOk result (λ read. image_of self.now.source ≡ Ok read) }
+    {
+        match image_of_file(alloc, self.source, Some(&self.lists_read)) {
+            Ok(read) => Ok(read),
+            Err(ElfFault::Memory) => Err(AllocError),
+            Err(_) => unreachable!(),
+        }
     }
 }

@@ -178,6 +178,15 @@ fn shown_by_copy(alloc: Global, file: &[u8], what: What) -> Result<String, ElfFa
     Ok(lines_of(alloc, &image, what)?)
 }
 
+// The same of the image that is read once more, after an edit.
+fn shown_again(alloc: Global, file: &[u8], what: What) -> Result<String, ElfFault> {
+    let mut image = Builder::read(alloc, file)?;
+    image.set_os_abi(97);
+    let read = image.read_again(alloc)?;
+    drop(image);
+    Ok(lines_of(alloc, &read, what)?)
+}
+
 // Compares what the image of a file shows.
 fn expect(rt: &impl Runtime, file: &[u8], what: What, want: &str) {
     let found = again!(rt; shown(rt.alloc(), file, what)).expect(rt, "an image");
@@ -438,5 +447,20 @@ fn machines(rt: HostRuntime) {
     ];
     for (file, want) in rows {
         same(&rt, "machine", &machine_of(file), &want);
+    }
+}
+
+fn expect_again(rt: &impl Runtime, file: &[u8], what: What, want: &str) {
+    let found = again!(rt; shown_again(rt.alloc(), file, what)).expect(rt, "an image once more");
+    same_text(rt, "an image once more", &found, want);
+}
+
+#[test]
+fn reads_again_after_an_edit(rt: HostRuntime) {
+    for (what, want) in PARTS {
+        expect_again(&rt, VERSIONED, what, want);
+    }
+    for (what, want) in LISTS {
+        expect_again(&rt, VERSIONED, what, want);
     }
 }

@@ -1,7 +1,7 @@
 ghost use Rattle.std.specs.Prelude.{◌≡◌, IfOk};
 ghost use Rattle.elf_plan.specs.Kept.{image_at_read};
 
-use elf_image::{Builder, ElfFault};
+use elf_image::Builder;
 use std::alloc::{AllocError, Global};
 
 /// The image as its source was read, before any edit. Takes memory as a read does.
@@ -11,9 +11,5 @@ pub fn read_again<'data>(
 ) -> Result<Builder<'data>, AllocError>
     ensures { IfOk result (λ read. read ≡ image_at_read image.now) }
 {
-    match Builder::read(alloc, image.source()) {
-        Ok(read) => Ok(read),
-        Err(ElfFault::Memory) => Err(AllocError),
-        Err(_) => unreachable!(),
-    }
+    image.read_again(alloc)
 }

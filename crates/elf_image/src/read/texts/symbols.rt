@@ -1,15 +1,17 @@
-ghost use Rattle.std.specs.Prelude.{◌≡◌, ◌≤◌, ◌<◌, ◌*◌, ◌^◌, length, map, option_map};
+ghost use Rattle.std.specs.Prelude.{◌≡◌, ◌≤◌, ◌<◌, ◌*◌, ◌^◌, IfSome, length, map, option_map};
 ghost use Rattle.patch_bytes.specs.Memory.{memory_of};
 ghost use Rattle.elf_format.specs.declared.constants.TheConstants.{SHT_DYNSYM as DYNSYM, SHT_GNU_VERSYM as VERSYMS, SHT_SYMTAB as SYMTAB};
 ghost use Rattle.elf_format.specs.File.{section_bytes as bytes_of_section, section_of_type as first_section};
 ghost use Rattle.elf_format.specs.Image.{dynamic_symbols_read, static_symbols as static_ones};
 ghost use Rattle.elf_image.specs.ImageSeen.{symbol_kept};
+ghost use Rattle.elf_image.specs.SymbolsRead.{AreSymbolsRead};
 ghost use Rattle.elf_format.specs.Answers.{Gives, borrowed};
 ghost use Rattle.elf_rules.specs.Read.{parts_seen};
 ghost use Rattle.elf_format.specs.Rules.{raw_entries};
 ghost use Rattle.elf_image.specs.TextSteps.{named_symbol, symbols_shown, version_at};
 
 use crate::symbol::Symbol;
+use crate::symbol_lists::{SymbolLists, shared};
 use elf_format::constants::{SHT_DYNSYM, SHT_GNU_VERSYM, SHT_SYMTAB};
 use elf_format::form::Form;
 use elf_format::lookups::{bytes_of, linked_section, section_bytes, section_of_type};
@@ -22,6 +24,7 @@ use elf_rules::headers::Headers;
 use elf_versions::texts::dynamic_texts;
 use patch_bytes::ByteString;
 use std::alloc::Global;
+use std::rc::Rc;
 
 // The version of the symbol at a position, where there are versions.
 fn version(form: Form, versions: Option<&[u8]>, i: usize) -> Option<VersionId>
@@ -83,7 +86,7 @@ fn symbols<'data>(
 }
 
 // The static symbols (gABI, Symbol Table); they have no versions.
-pub(crate) fn static_symbols<'data>(
+fn static_symbols<'data>(
     alloc: Global,
     parts: &Headers<'data>,
 ) -> Result<Vec<Symbol<'data>>, ViewFault>
@@ -108,7 +111,7 @@ fn version_bytes<'data>(parts: &Headers<'data>) -> Option<&'data [u8]>
 }
 
 // The dynamic symbols, with versions where there is a section of them.
-pub(crate) fn dynamic_symbols<'data>(
+fn dynamic_symbols<'data>(
     alloc: Global,
     parts: &Headers<'data>,
     raw: &[EntryNumbers],
@@ -124,4 +127,40 @@ pub(crate) fn dynamic_symbols<'data>(
     let bytes = section_bytes(parts.file, section);
     let versions = version_bytes(parts);
     symbols(alloc, parts.form, parts.file.len(), texts, bytes, versions)
+}
+
+// The static symbols, which may be known.
+pub(crate) fn static_list<'data>(
+    alloc: Global,
+    parts: &Headers<'data>,
+    known: Option<&SymbolLists<'data>>,
+) -> Result<Rc<Vec<Symbol<'data>>>, ViewFault>
+    requires known { IfSome known (λ lists. AreSymbolsRead (parts_seen parts.now) lists.now) }
+    ensures { Gives (λ list. map symbol_kept list.value.items) result
+        (static_ones (parts_seen parts.now) (first_section SYMTAB parts.now.sections.items)) }
+{
+    if let Some(lists) = known {
+        return Ok(lists.symbols.clone()?);
+    }
+    let read = static_symbols(alloc, parts)?;
+    Ok(shared(alloc, read)?)
+}
+
+// The dynamic symbols, which may be known.
+pub(crate) fn dynamic_list<'data>(
+    alloc: Global,
+    parts: &Headers<'data>,
+    raw: &[EntryNumbers],
+    known: Option<&SymbolLists<'data>>,
+) -> Result<Rc<Vec<Symbol<'data>>>, ViewFault>
+    requires raw { raw.now ≡ raw_entries (parts_seen parts.now) }
+    requires known { IfSome known (λ lists. AreSymbolsRead (parts_seen parts.now) lists.now) }
+    ensures { Gives (λ list. map symbol_kept list.value.items) result (dynamic_symbols_read
+        (parts_seen parts.now) (first_section DYNSYM parts.now.sections.items)) }
+{
+    if let Some(lists) = known {
+        return Ok(lists.dynamic_symbols.clone()?);
+    }
+    let read = dynamic_symbols(alloc, parts, raw)?;
+    Ok(shared(alloc, read)?)
 }

@@ -10,6 +10,8 @@ use Rattle.elf_image.proofs.builder.Builder.set_dynamic.Goals as goal
 
 pub invariant_of-self : goal.invariant_of-self
 invariant_of-self c =
-    let new : List Entry = map entry_kept c.args.list.items in
-    with_entries (image_kept c.self.inside) (Some new) c.self.invariant
-    (λ read h. entries_set read (image_kept c.self.inside).entries new h (subst (λ (i : Image). KeepsTables i.entries new) (sym c.self.view_is) c.requires.tables) c.requires.entries)
+    let new : List Entry = map entry_kept c.args.list.items in (
+      with_entries (image_kept c.self.inside) (Some new) c.self.invariant.0
+          (λ read h. entries_set read (image_kept c.self.inside).entries new h (subst (λ (i : Image). KeepsTables i.entries new) (sym c.self.view_is) c.requires.tables) c.requires.entries),
+      c.self.invariant.1,
+    )

@@ -11,6 +11,8 @@ use Rattle.elf_image.proofs.builder.Builder.set_load_align.Goals as goal
 pub invariant_of-self : goal.invariant_of-self
 invariant_of-self c =
     let old : List SegmentHeader = map segment_kept c.self.inside.segments.items in
-    let changes : with_load_align c.args.size old ≡ map segment_kept c.align_loads.new.segments.items = ap (λ n. with_load_align n old) (sym c.from.ensures) ∙ sym c.align_loads.ensures in
-    with_segments (image_kept c.self.inside) (Some c.args.size) (map segment_kept c.align_loads.new.segments.items) c.self.invariant
-    (λ read h. subst (λ (ps : List SegmentHeader). AreSegments (Some c.args.size) read ps) changes (segments_aligned c.self.inside.page_size c.args.size read old h))
+    let changes : with_load_align c.args.size old ≡ map segment_kept c.align_loads.new.segments.items = ap (λ n. with_load_align n old) (sym c.from.ensures) ∙ sym c.align_loads.ensures in (
+      with_segments (image_kept c.self.inside) (Some c.args.size) (map segment_kept c.align_loads.new.segments.items) c.self.invariant.0
+          (λ read h. subst (λ (ps : List SegmentHeader). AreSegments (Some c.args.size) read ps) changes (segments_aligned c.self.inside.page_size c.args.size read old h)),
+      c.self.invariant.1,
+    )

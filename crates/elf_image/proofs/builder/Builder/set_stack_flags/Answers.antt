@@ -9,6 +9,8 @@ use Rattle.elf_image.proofs.builder.Builder.set_stack_flags.Goals as goal
 
 pub invariant_of-self : goal.invariant_of-self
 invariant_of-self c =
-    let old : List SegmentHeader = map segment_kept c.self.inside.segments.items in
-    with_segments (image_kept c.self.inside) c.self.inside.page_size (map segment_kept c.flag_stack.new.segments.items) c.self.invariant
-    (λ read h. subst (λ (ps : List SegmentHeader). AreSegments c.self.inside.page_size read ps) (sym c.flag_stack.ensures) (segments_flagged c.self.inside.page_size c.args.flags read old h))
+    let old : List SegmentHeader = map segment_kept c.self.inside.segments.items in (
+      with_segments (image_kept c.self.inside) c.self.inside.page_size (map segment_kept c.flag_stack.new.segments.items) c.self.invariant.0
+          (λ read h. subst (λ (ps : List SegmentHeader). AreSegments c.self.inside.page_size read ps) (sym c.flag_stack.ensures) (segments_flagged c.self.inside.page_size c.args.flags read old h)),
+      c.self.invariant.1,
+    )

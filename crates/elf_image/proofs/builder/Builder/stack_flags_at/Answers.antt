@@ -26,9 +26,11 @@ pub invariant_of-self-lent : goal.invariant_of-self-lent
 invariant_of-self-lent c w =
     let old : List SegmentHeader = map segment_kept c.self.inside.segments.items in
     let found = sym (position-map segment_kept is_stack c.self.inside.segments.items) ∙ ap (λ (i : Image). position is_stack i.segments) c.self.view_is ∙ c.requires in
-    let changes = flags_set segment_kept c.self.inside.segments.items c.args.at c.index_mut.result.now c.index_mut.ensures.value found (with_flags c.index_mut.result.now w) w refl in
-    with_segments (image_kept c.self.inside) c.self.inside.page_size (map segment_kept (slice_set c.self.inside.segments.items c.args.at (with_flags c.index_mut.result.now w))) c.self.invariant
-    (λ read h. subst (λ (ps : List SegmentHeader). AreSegments c.self.inside.page_size read ps) (sym changes) (segments_flagged c.self.inside.page_size w read old h))
+    let changes = flags_set segment_kept c.self.inside.segments.items c.args.at c.index_mut.result.now c.index_mut.ensures.value found (with_flags c.index_mut.result.now w) w refl in (
+      with_segments (image_kept c.self.inside) c.self.inside.page_size (map segment_kept (slice_set c.self.inside.segments.items c.args.at (with_flags c.index_mut.result.now w))) c.self.invariant.0
+          (λ read h. subst (λ (ps : List SegmentHeader). AreSegments c.self.inside.page_size read ps) (sym changes) (segments_flagged c.self.inside.page_size w read old h)),
+      c.self.invariant.1,
+    )
 
 pub returns : goal.returns
 returns c =

@@ -1,5 +1,5 @@
 -- Each stage's refusal is the answer, and the image where none refuses.
-use Rattle.std.proofs.Common.{◌≡◌, ◌∙◌, Ok, Result, ap, sym}
+use Rattle.std.proofs.Common.{◌≡◌, ◌∙◌, ℕ, List, Ok, Result, ap, subst, sym}
 use Rattle.std.proofs.lemmas.Result.{err_from_is_err_and}
 use Rattle.elf_format.specs.declared.fault.ElfFault.{ElfFault}
 use Rattle.elf_format.specs.Image.{Image, image_of}
@@ -7,9 +7,12 @@ use Rattle.elf_format.specs.Stages.{link_rules, parts_read}
 use Rattle.elf_rules.specs.Read.{parts_seen}
 use Rattle.elf_format.specs.Rules.{checked, placement_rules}
 use Rattle.elf_image.specs.ImageSteps.{image_gathered}
+use Rattle.elf_format.specs.File.{Parts}
+use Rattle.elf_image.specs.SymbolsRead.{AreSymbolsOfFile, AreSymbolsRead}
+use Rattle.elf_image.proofs.SymbolLists.{lists_of_file, of_what_is_there, source_is_file}
 use Rattle.elf_image.proofs.EditedLaws.{read_is_edited}
 use Rattle.elf_image.proofs.ReadSteps.{links_refused, no_image, open_refused, placement_refused, refused_is, texts_read}
-use Rattle.elf_image.proofs.builder.Builder.read.Goals as goal
+use Rattle.elf_image.proofs.read.image_of_file.Goals as goal
 
 pub returns-in_err-parts : goal.returns-in_err-parts
 returns-in_err-parts c =
@@ -32,13 +35,24 @@ pub returns-in_err-gathered : goal.returns-in_err-gathered
 returns-in_err-gathered c =
     let e = err_from_is_err_and c.from_residual-in_err-gathered.result c.from_residual-in_err-gathered.ensures.1 in
     rw (e.1, e.2) (no_image c.args.bytes.now (parts_seen c.in_ok-parts.parts) c.in_ok-parts.ensures c.in_ok-check_placement.ensures c.in_ok-kinds.ensures.0
-    (image_gathered (parts_seen c.in_ok-parts.parts)) c.in_err-gathered.field-0.0 c.in_err-gathered.ensures)
+    (image_gathered (parts_seen c.in_ok-parts.parts)) c.in_err-gathered.field-0.0 c.in_err-gathered.ensures.image)
+
+pub image_and_last-requires-clause-known : goal.image_and_last-requires-clause-known
+image_and_last-requires-clause-known c =
+    of_what_is_there (λ lists. AreSymbolsOfFile c.args.bytes.now lists.now) (λ lists. AreSymbolsRead (parts_seen c.in_ok-parts.parts) lists.now) c.args.known
+    (λ lists are. are (parts_seen c.in_ok-parts.parts) c.in_ok-parts.ensures) c.requires
 
 pub builder-requires : goal.builder-requires
 builder-requires c =
-    read_is_edited c.args.bytes.now (image_gathered (parts_seen c.in_ok-parts.parts) c.in_ok-gathered.gathered)
-    (texts_read c.args.bytes.now (parts_seen c.in_ok-parts.parts) c.in_ok-parts.ensures c.in_ok-check_placement.ensures c.in_ok-kinds.ensures.0
-    (image_gathered (parts_seen c.in_ok-parts.parts)) c.in_ok-gathered.gathered c.in_ok-gathered.ensures)
+    let parts : Parts = parts_seen c.in_ok-parts.parts in
+    let image : Image = image_gathered parts c.in_ok-gathered.gathered in
+    let read : image_of c.args.bytes.now ≡ Ok image = texts_read c.args.bytes.now parts c.in_ok-parts.ensures c.in_ok-check_placement.ensures c.in_ok-kinds.ensures.0
+    (image_gathered parts) c.in_ok-gathered.gathered c.in_ok-gathered.ensures.image in
+    record {
+      edited = read_is_edited c.args.bytes.now image read;
+      lists = subst (λ (file : List ℕ). AreSymbolsOfFile file c.in_ok-gathered.gathered.read) (sym (source_is_file c.args.bytes.now image read))
+          (lists_of_file c.args.bytes.now parts c.in_ok-gathered.gathered.read c.in_ok-parts.ensures c.in_ok-gathered.ensures.lists);
+    }
 
 answer_of : Image → Result Image ElfFault
 answer_of i = Ok i
@@ -47,5 +61,5 @@ pub returns : goal.returns
 unfolding answer_of
 returns c =
     let read : image_of c.args.bytes.now ≡ Ok (image_gathered (parts_seen c.in_ok-parts.parts) c.in_ok-gathered.gathered) = texts_read c.args.bytes.now (parts_seen c.in_ok-parts.parts) c.in_ok-parts.ensures c.in_ok-check_placement.ensures c.in_ok-kinds.ensures.0
-    (image_gathered (parts_seen c.in_ok-parts.parts)) c.in_ok-gathered.gathered c.in_ok-gathered.ensures in
+    (image_gathered (parts_seen c.in_ok-parts.parts)) c.in_ok-gathered.gathered c.in_ok-gathered.ensures.image in
     read ∙ ap answer_of (sym c.builder.ensures)
