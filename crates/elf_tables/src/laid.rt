@@ -3,7 +3,7 @@ ghost use Rattle.std.specs.List.{ends_with};
 ghost use Rattle.std.specs.List.Sorted.{IsSortedBy};
 ghost use Rattle.elf_tables.specs.declared.fault.TableFault.TheVariants.{NumberTooLarge};
 ghost use Rattle.elf_tables.specs.Strings.{HoldNoNul};
-ghost use Rattle.elf_tables.specs.StringSteps.{IsLaid, PutsText, is_before, StandsWith, laid_length};
+ghost use Rattle.elf_tables.specs.StringSteps.{AreTold, AreToldOf, IsLaid, PutsText, by_bytes, is_before, StandsWith, laid_length};
 
 use crate::fault::TableFault;
 use crate::finished::Finished;
@@ -51,6 +51,26 @@ fn order_of(alloc: Global, texts: &[Keyed<'_>]) -> Result<Vec<u32>, AllocError>
     Ok(order)
 }
 
+// The texts with their places in another order, as far as that names some that were laid.
+fn in_order<'t>(
+    alloc: Global,
+    order: &[u32],
+    laid: &[(&'t [u8], u32)],
+) -> Result<Vec<(&'t [u8], u32)>, AllocError>
+    requires { AreTold (by_bytes laid.now) }
+    ensures { IfOk result (λ made. AreToldOf (by_bytes laid.now) (by_bytes made.items)) }
+{
+    let mut made = Vec::with_capacity(alloc, order.len())?;
+    for i in order {
+        let i = *i as usize;
+        if i >= laid.len() {
+            return Ok(made);
+        }
+        made.push(laid[i])?;
+    }
+    Ok(made)
+}
+
 // The table of texts in an order in which each stands behind those that end with it. Each stands within the one
 // before it where it ends that one.
 pub(crate) fn lay<'t>(alloc: Global, texts: &[Keyed<'t>]) -> Result<Finished<'t>, TableFault>
@@ -70,10 +90,12 @@ pub(crate) fn lay<'t>(alloc: Global, texts: &[Keyed<'t>]) -> Result<Finished<'t>
         laid.push((text, place))?;
         last = text;
     }
+    let order = order_of(alloc, texts)?;
+    let added = in_order(alloc, &order, &laid)?;
     Ok(Finished {
         bytes,
         laid,
-        order: order_of(alloc, texts)?,
+        added,
         placed: HashMap::new(alloc),
     })
 }

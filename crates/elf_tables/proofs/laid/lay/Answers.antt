@@ -2,7 +2,7 @@ use Rattle.std.proofs.Common.{◌≡◌, ℕ, List, ◌++◌, get_or, false, sub
 use Rattle.std.specs.Borrow.{Bor}
 use Rattle.std.proofs.lemmas.Result.{err_from_is_err_and}
 use Rattle.elf_tables.specs.Strings.{PlacesStand, holds_nul}
-use Rattle.elf_tables.specs.StringSteps.{AreTold, IsLaid, by_bytes}
+use Rattle.elf_tables.specs.StringSteps.{AreTold, AreToldOf, IsLaid, by_bytes}
 use Rattle.elf_tables.proofs.LaySteps.{growing-all, growing-more, growing-start, growing-too_long}
 use Rattle.elf_tables.proofs.laid.lay.Goals as goal
 
@@ -32,8 +32,10 @@ invariant_of-result c =
     let P : List (Bor (List ℕ) × ℕ) → Type 0 = λ es. PlacesStand (record {
       bytes = c.loop-keyed.bytes.items;
       places = by_bytes es ++ by_bytes c.loop-keyed.laid.items;
-    }) × AreTold (by_bytes c.loop-keyed.laid.items) in
-    subst P (sym c.new.ensures.empty) (c.loop-keyed.invariant.stand, c.loop-keyed.invariant.told)
+    }) × AreTold (by_bytes c.loop-keyed.laid.items) × AreToldOf (by_bytes c.loop-keyed.laid.items) (by_bytes c.in_ok-added.added.items) in
+    let added : AreToldOf (by_bytes c.loop-keyed.laid.items) (by_bytes c.in_ok-added.added.items) =
+    subst (λ (l : List (Bor (List ℕ) × ℕ)). AreToldOf (by_bytes l) (by_bytes c.in_ok-added.added.items)) c.deref-2.ensures.value c.in_ok-added.ensures in
+    subst P (sym c.new.ensures.empty) (c.loop-keyed.invariant.stand, c.loop-keyed.invariant.told, added)
 
 pub returns : goal.returns
 returns c =
