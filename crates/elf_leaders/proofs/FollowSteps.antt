@@ -18,7 +18,7 @@ use Rattle.elf_format.specs.declared.constants.TheConstants.{PT_DYNAMIC, PT_INTE
 use Rattle.elf_format.specs.declared.records.SegmentHeader.{SegmentHeader}
 use Rattle.elf_image.specs.Edited.{IsEdited}
 use Rattle.elf_plan.specs.Added.{header_count, keeps_range, keeps_section_range, kept_end}
-use Rattle.elf_plan.specs.Follow.{HeaderTable, Itself, Leader, Notes, OneSection, is_loaded_section, is_moved, is_parted, is_split, leader_of, led_by_section, notes_under, section_under, is_just_over, is_over_notes, sharers}
+use Rattle.elf_plan.specs.Follow.{HeaderTable, Itself, Leader, Notes, OneSection, is_loaded_section, is_moved, is_parted, is_split, leader_of, led_by_section, notes_under, section_or_table, section_under, is_just_over, is_over_notes, sharers}
 use Rattle.elf_plan.specs.Kept.{KeptSection, interpreter_number, is_numbered, kept_from, kept_of_type, kept_sections}
 use Rattle.elf_plan.specs.Memory.{Resized, SizedSection, sized_from, sized_sections}
 use Rattle.elf_plan.specs.Rounds.{added_flags, each_once, flags_for, sections_at}
@@ -190,6 +190,10 @@ module _ (r : Resized) (p : SegmentHeader) where
   either_there None b ha hb = hb
   either_there (Some s) b ha hb = ha
 
+  or_table_there : (o : Option KeptSection) → AreThere r p (led_by_section o) → AreThere r p (section_or_table o)
+  or_table_there None h = tt
+  or_table_there (Some s) h = h
+
   pub leader-there : AreSized r → AreThere r p (leader_of r p)
   unfolding leader_of
   leader-there are =
@@ -205,9 +209,9 @@ module _ (r : Resized) (p : SegmentHeader) where
     where
       by_type : (loaded phdr dynamic interpreter empty over : Bool) → is_over_notes r p ≡ over → (a b c : Option KeptSection) (ns : List KeptSection) → AreThere r p (led_by_section a) → AreThere r p (led_by_section b)
           → AreThere r p (led_by_section c) → All (IsThere r) ns → (is_over_notes r p ≡ true → map (λ (s : KeptSection). s.position) ns ≡ positions_in (sections_seen r.image) (file_part p))
-          → AreThere r p (if loaded then Itself else if phdr then HeaderTable else if dynamic then led_by_section a else if interpreter then led_by_section b else if empty then Itself else if over then Notes ns else led_by_section c)
+          → AreThere r p (if loaded then Itself else if phdr then section_or_table c else if dynamic then led_by_section a else if interpreter then led_by_section b else if empty then Itself else if over then Notes ns else led_by_section c)
       by_type true phdr dynamic interpreter empty over is a b c ns ha hb hc hn begin = tt
-      by_type false true dynamic interpreter empty over is a b c ns ha hb hc hn begin = tt
+      by_type false true dynamic interpreter empty over is a b c ns ha hb hc hn begin = or_table_there c hc
       by_type false false true interpreter empty over is a b c ns ha hb hc hn begin = ha
       by_type false false false true empty over is a b c ns ha hb hc hn begin = hb
       by_type false false false false true over is a b c ns ha hb hc hn begin = tt

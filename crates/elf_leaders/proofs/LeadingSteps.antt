@@ -24,7 +24,7 @@ use Rattle.elf_image.specs.ImageSeen.{segment_kept}
 use Rattle.elf_image.specs.Lookups.{has_interpreter, interpreter_position}
 use Rattle.elf_image.proofs.LookupSteps.{find-map}
 use Rattle.elf_image.proofs.ReadImageLaws.{read_images_hold_parts}
-use Rattle.elf_plan.specs.Follow.{Itself, Leader, Notes, HeaderTable, is_loaded_section, is_note_in, is_over_notes, leader_of, led_by_section, notes_under, section_under, sharers, shares_bytes}
+use Rattle.elf_plan.specs.Follow.{Itself, Leader, Notes, is_loaded_section, is_note_in, is_over_notes, leader_of, led_by_section, notes_under, section_or_table, section_under, sharers, shares_bytes}
 use Rattle.elf_plan.specs.Kept.{KeptSection, interpreter_number, is_numbered, kept_from, kept_of_type, kept_sections, place_at_read, stands_as_interpreter}
 use Rattle.elf_plan.specs.Memory.{Resized}
 use Rattle.elf_leaders.specs.declared.sections.SectionAt.{SectionAt}
@@ -32,7 +32,7 @@ use Rattle.elf_leaders.specs.declared.sections.Wanted.{Wanted}
 use Rattle.elf_leaders.specs.declared.sections.Wanted.TheVariants.{Numbered, OfType}
 use Rattle.elf_moves.specs.Inner.{IsResized}
 use Rattle.elf_leaders.specs.Led.{Told, itself, notes, table, told}
-use Rattle.elf_leaders.specs.Leading.{are_notes_in, interpreter_at, is_over_notes_at, led_at, looked_at, told_by_range, told_of, under_at}
+use Rattle.elf_leaders.specs.Leading.{are_notes_in, interpreter_at, is_over_notes_at, led_at, looked_at, section_or_table_at, told_by_range, told_of, under_at}
 use Rattle.elf_leaders.specs.Sections.{begins_in, first_at, first_wanted, is_just_over_at, is_note_at, is_wanted, place_at, positions_at, positions_in, section_at, sections_seen, shares_bytes_at}
 use Rattle.elf_leaders.proofs.NoteLaws.{shares_begins}
 use Rattle.elf_leaders.proofs.SectionSteps.{kept-at, length-kept}
@@ -109,23 +109,36 @@ find-any {A} p (x ∷ xs) = by_test (p x) (find-any p xs)
     by_test true e = refl
     by_test false e = e
 
-either_led : (p : SegmentHeader) (a b : Option KeptSection)
-    → led_at (first_there (option_map (λ (s : SectionAt). s.position) (option_map section_at a)) (option_map (λ (s : SectionAt). s.position) (option_map section_at b)))
-    ≡ told p (led_by_section (first_there a b))
-either_led p None b = led_by_found p b
-either_led p (Some s) b = refl
+either_at : (a b : Option KeptSection)
+    → first_there (option_map (λ (s : SectionAt). s.position) (option_map section_at a)) (option_map (λ (s : SectionAt). s.position) (option_map section_at b))
+    ≡ option_map (λ (s : SectionAt). s.position) (option_map section_at (first_there a b))
+either_at None b = refl
+either_at (Some s) b = refl
 
-under : (r : Resized) (p : SegmentHeader) → led_at (under_at p (sections_seen r.image)) ≡ told p (led_by_section (section_under r p))
+-- where it stands
+under : (r : Resized) (p : SegmentHeader) → under_at p (sections_seen r.image) ≡ option_map (λ (s : SectionAt). s.position) (option_map section_at (section_under r p))
 under r p =
     let xs : List KeptSection = kept_sections r.image in
     let is_loaded : SectionAt → Bool = λ s. is_just_over_at p s && occupies_memory (place_at s) in
     let over : KeptSection → Bool = λ s. is_just_over_at p (section_at s) in
     let loaded : KeptSection → Bool = λ s. is_loaded (section_at s) in
-    ap (λ o. led_at (first_there (option_map (λ (s : SectionAt). s.position) o) (first_at (is_just_over_at p) (map section_at xs)))) (sym (find-map section_at is_loaded xs))
-    ∙ ap (λ o. led_at (first_there (option_map (λ (s : SectionAt). s.position) (option_map section_at (find loaded xs))) (option_map (λ (s : SectionAt). s.position) o))) (sym (find-map section_at (is_just_over_at p) xs))
-    ∙ either_led p (find loaded xs) (find over xs)
-    ∙ ap (λ o. told p (led_by_section (first_there o (find over xs)))) (sym (find-filter over (λ s. is_loaded_section s.section) xs))
-    ∙ ap (λ o. told p (led_by_section (first_there (find (λ s. is_loaded_section s.section) (filter over xs)) o))) (sym (find-any over xs))
+    ap (λ o. first_there (option_map (λ (s : SectionAt). s.position) o) (first_at (is_just_over_at p) (map section_at xs))) (sym (find-map section_at is_loaded xs))
+    ∙ ap (λ o. first_there (option_map (λ (s : SectionAt). s.position) (option_map section_at (find loaded xs))) (option_map (λ (s : SectionAt). s.position) o)) (sym (find-map section_at (is_just_over_at p) xs))
+    ∙ either_at (find loaded xs) (find over xs)
+    ∙ ap (λ o. option_map (λ (s : SectionAt). s.position) (option_map section_at (first_there o (find over xs)))) (sym (find-filter over (λ s. is_loaded_section s.section) xs))
+    ∙ ap (λ o. option_map (λ (s : SectionAt). s.position) (option_map section_at (first_there (find (λ s. is_loaded_section s.section) (filter over xs)) o))) (sym (find-any over xs))
+
+led_under : (r : Resized) (p : SegmentHeader) → led_at (under_at p (sections_seen r.image)) ≡ told p (led_by_section (section_under r p))
+led_under r p = ap led_at (under r p) ∙ led_by_found p (section_under r p)
+
+table_found : (p : SegmentHeader) (o : Option KeptSection)
+    → section_or_table_at (option_map (λ (s : SectionAt). s.position) (option_map section_at o)) ≡ told p (section_or_table o)
+table_found p None = refl
+table_found p (Some s) = refl
+
+-- where there is none, the program header table
+table_or_under : (r : Resized) (p : SegmentHeader) → section_or_table_at (under_at p (sections_seen r.image)) ≡ told p (section_or_table (section_under r p))
+table_or_under r p = ap section_or_table_at (under r p) ∙ table_found p (section_under r p)
 
 -- ## Notes
 
@@ -337,22 +350,22 @@ told-is r p =
     let xs : List KeptSection = kept_sections r.image in
     by_type (p.p_type == PT_LOAD) (p.p_type == PT_PHDR) (p.p_type == PT_DYNAMIC) (p.p_type == PT_INTERP) (p.p_filesz == 0)
     (is_one_of (PT_NOTE ∷ PT_GNU_PROPERTY ∷ []) p.p_type && are_notes_in p (sections_seen r.read)) (is_over_notes r p) (over_notes r p)
-    _ _ _ (led_by_section (kept_of_type SHT_DYNAMIC r.image)) (led_by_section (find (is_numbered (interpreter_number r.read)) xs)) (led_by_section (section_under r p)) (notes_under r p)
-    (first_found p (OfType SHT_DYNAMIC) xs) (led_by_number p (interpreter_number r.read) xs) (under r p)
+    _ _ _ _ (section_or_table (section_under r p)) (led_by_section (kept_of_type SHT_DYNAMIC r.image)) (led_by_section (find (is_numbered (interpreter_number r.read)) xs)) (led_by_section (section_under r p)) (notes_under r p)
+    (table_or_under r p) (first_found p (OfType SHT_DYNAMIC) xs) (led_by_number p (interpreter_number r.read) xs) (led_under r p)
   where
-    by_type : (loaded phdr dynamic interpreter empty a b : Bool) → a ≡ b → (x y under_it : Told) (ox oy over_it : Leader) (ks : List KeptSection)
-        → x ≡ told p ox → y ≡ told p oy → under_it ≡ told p over_it
-        → (if loaded then itself else if phdr then table else if dynamic then x else if interpreter then y else if empty then itself else if a then notes (file_part p) else under_it)
-        ≡ told p (if loaded then Itself else if phdr then HeaderTable else if dynamic then ox else if interpreter then oy else if empty then Itself else if b then Notes ks else over_it)
-    by_type true phdr dynamic interpreter empty a b e x y under_it ox oy over_it ks ex ey eu = refl
-    by_type false true dynamic interpreter empty a b e x y under_it ox oy over_it ks ex ey eu = refl
-    by_type false false true interpreter empty a b e x y under_it ox oy over_it ks ex ey eu = ex
-    by_type false false false true empty a b e x y under_it ox oy over_it ks ex ey eu = ey
-    by_type false false false false true a b e x y under_it ox oy over_it ks ex ey eu = refl
-    by_type false false false false false true true e x y under_it ox oy over_it ks ex ey eu = refl
-    by_type false false false false false true false e x y under_it ox oy over_it ks ex ey eu = absurd (true≢false e)
-    by_type false false false false false false true e x y under_it ox oy over_it ks ex ey eu = absurd (true≢false (sym e))
-    by_type false false false false false false false e x y under_it ox oy over_it ks ex ey eu = eu
+    by_type : (loaded phdr dynamic interpreter empty a b : Bool) → a ≡ b → (t x y under_it : Told) (ot ox oy over_it : Leader) (ks : List KeptSection)
+        → t ≡ told p ot → x ≡ told p ox → y ≡ told p oy → under_it ≡ told p over_it
+        → (if loaded then itself else if phdr then t else if dynamic then x else if interpreter then y else if empty then itself else if a then notes (file_part p) else under_it)
+        ≡ told p (if loaded then Itself else if phdr then ot else if dynamic then ox else if interpreter then oy else if empty then Itself else if b then Notes ks else over_it)
+    by_type true phdr dynamic interpreter empty a b e t x y under_it ot ox oy over_it ks et ex ey eu = refl
+    by_type false true dynamic interpreter empty a b e t x y under_it ot ox oy over_it ks et ex ey eu = et
+    by_type false false true interpreter empty a b e t x y under_it ot ox oy over_it ks et ex ey eu = ex
+    by_type false false false true empty a b e t x y under_it ot ox oy over_it ks et ex ey eu = ey
+    by_type false false false false true a b e t x y under_it ot ox oy over_it ks et ex ey eu = refl
+    by_type false false false false false true true e t x y under_it ot ox oy over_it ks et ex ey eu = refl
+    by_type false false false false false true false e t x y under_it ot ox oy over_it ks et ex ey eu = absurd (true≢false e)
+    by_type false false false false false false true e t x y under_it ot ox oy over_it ks et ex ey eu = absurd (true≢false (sym e))
+    by_type false false false false false false false e t x y under_it ot ox oy over_it ks et ex ey eu = eu
 
 pub map_same : {A B : Type 0} → (f g : A → B) → ((x : A) → f x ≡ g x) → (xs : List A) → map f xs ≡ map g xs
 map_same f g e [] = refl

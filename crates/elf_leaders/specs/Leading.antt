@@ -29,6 +29,11 @@ abbrev pub led_at : Option ℕ → Told
 led_at (Some position) = section position
 led_at None = itself
 
+-- one section, or where there is none the program header table
+abbrev pub section_or_table_at : Option ℕ → Told
+section_or_table_at (Some position) = section position
+section_or_table_at None = table
+
 -- the section with the interpreter's name
 abbrev pub interpreter_at : Option ℕ → List SectionAt → Option ℕ
 interpreter_at None sections = None
@@ -57,7 +62,7 @@ told_by_range l p =
 unfoldable pub told_of : Looked → SegmentHeader → Told
 told_of l p =
     if p.p_type == PT_LOAD then itself
-    else if p.p_type == PT_PHDR then table
+    else if p.p_type == PT_PHDR then section_or_table_at (under_at p l.kept)
     else if p.p_type == PT_DYNAMIC then led_at (first_wanted (OfType SHT_DYNAMIC) l.kept)
     else if p.p_type == PT_INTERP then led_at (interpreter_at l.interpreter l.kept)
     else told_by_range l p

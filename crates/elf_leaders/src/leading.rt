@@ -6,7 +6,7 @@ ghost use Rattle.elf_image.specs.ImageSeen.{segment_kept};
 ghost use Rattle.elf_plan.specs.Kept.{interpreter_number as number_at_read};
 ghost use Rattle.elf_leaders.specs.FileRanges.{AreFileRanges};
 ghost use Rattle.elf_leaders.specs.Led.{leader_seen};
-ghost use Rattle.elf_leaders.specs.Leading.{Looked, interpreter_at, is_over_notes_at, led_at, looked_at, told_by_range, told_of, under_at};
+ghost use Rattle.elf_leaders.specs.Leading.{Looked, interpreter_at, is_over_notes_at, led_at, looked_at, section_or_table_at, told_by_range, told_of, under_at};
 ghost use Rattle.elf_leaders.specs.LookedUp.{AreLists};
 ghost use Rattle.elf_leaders.specs.Sections.{sections_seen};
 
@@ -71,6 +71,16 @@ fn led_by(position: Option<usize>) -> LeaderAt
     match position {
         Some(position) => LeaderAt::OneSection(position),
         None => LeaderAt::Itself,
+    }
+}
+
+// One section, or the program header table.
+fn section_or_table(position: Option<usize>) -> LeaderAt
+    ensures { leader_seen result ≡ section_or_table_at position }
+{
+    match position {
+        Some(position) => LeaderAt::OneSection(position),
+        None => LeaderAt::HeaderTable,
     }
 }
 
@@ -162,7 +172,7 @@ fn leader_of(lists: &Lists, p: SegmentHeader) -> LeaderAt
     if p.p_type == PT_LOAD {
         LeaderAt::Itself
     } else if p.p_type == PT_PHDR {
-        LeaderAt::HeaderTable
+        section_or_table(find_under(lists, p))
     } else if p.p_type == PT_DYNAMIC {
         led_by(lists.dynamic)
     } else if p.p_type == PT_INTERP {

@@ -15,7 +15,7 @@ use Rattle.elf_format.specs.Ranges.{apart, lies_in, range}
 use Rattle.elf_plan.specs.Added.{added_loads}
 use Rattle.elf_plan.specs.Apart.{are_notes_shown, did_show_note, is_for_notes, is_loaded_note, is_note_shown, is_shown_by, shows_its_notes, shows_place}
 use Rattle.elf_plan.specs.ApartLaws.{PlansShowNotes}
-use Rattle.elf_plan.specs.Follow.{HeaderTable, Itself, Leader, Notes, OneSection, has_bytes, is_just_over, is_loaded_section, is_moved, is_note_in, is_over_notes, leader_by_range, leader_of, led_by_section, moved_notes, notes_under, section_under, sharers, shares_bytes, staying_notes}
+use Rattle.elf_plan.specs.Follow.{Itself, Leader, Notes, OneSection, has_bytes, is_just_over, is_loaded_section, is_moved, is_note_in, is_over_notes, leader_by_range, leader_of, led_by_section, moved_notes, notes_under, section_or_table, section_under, sharers, shares_bytes, staying_notes}
 use Rattle.elf_plan.specs.Kept.{KeptSection, interpreter_number, is_numbered, kept_of_type, kept_sections, place_at_read}
 use Rattle.elf_plan.specs.Memory.{Resized, sized_sections}
 use Rattle.elf_plan.specs.Plan.{Layout, layout_for, resized}
@@ -118,7 +118,7 @@ module _ (r : Resized) (facts : AreFacts r) (moved : List ℕ) where
   kind : SegmentHeader → ℕ → Leader
   kind p type =
       if type == PT_LOAD then Itself
-      else if type == PT_PHDR then HeaderTable
+      else if type == PT_PHDR then section_or_table (section_under r p)
       else if type == PT_DYNAMIC then led_by_section (kept_of_type SHT_DYNAMIC r.image)
       else if type == PT_INTERP then led_by_section (find (is_numbered (interpreter_number r.read)) (kept_sections r.image))
       else leader_by_range r p

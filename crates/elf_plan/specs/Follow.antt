@@ -45,6 +45,11 @@ abbrev pub led_by_section : Option KeptSection → Leader
 led_by_section (Some s) = OneSection s
 led_by_section None = Itself
 
+-- what a PT_PHDR goes by: the section that it is just over, or where there is none the program header table
+abbrev pub section_or_table : Option KeptSection → Leader
+section_or_table (Some s) = OneSection s
+section_or_table None = HeaderTable
+
 -- ## Several note sections
 
 -- the section shares a byte of the file with the program header
@@ -82,7 +87,7 @@ leader_by_range r p =
 unfoldable pub leader_of : Resized → SegmentHeader → Leader
 leader_of r p =
     if p.p_type == PT_LOAD then Itself
-    else if p.p_type == PT_PHDR then HeaderTable
+    else if p.p_type == PT_PHDR then section_or_table (section_under r p)
     else if p.p_type == PT_DYNAMIC then led_by_section (kept_of_type SHT_DYNAMIC r.image)
     else if p.p_type == PT_INTERP then led_by_section (find (is_numbered (interpreter_number r.read)) (kept_sections r.image))
     else leader_by_range r p

@@ -6,7 +6,7 @@ use Rattle.elf_format.specs.Dynamic.{Auto, Text}
 use Rattle.elf_format.specs.Image.{Image, ImageSection}
 use Rattle.elf_image.specs.Segments.{added_stack}
 use Rattle.elf_plan.specs.Memory.{Resized}
-use Rattle.elf_plan.specs.Plan.{IsOverlapping, IsPlan}
+use Rattle.elf_plan.specs.Plan.{IsOverlapping, IsPlan, Layout}
 use Rattle.elf_plan.specs.RowParts.{after_edit, image_of_parts, names_section, no_place, null_section, place, section, segment}
 
 -- ## A program with an interpreter behind its program headers
@@ -96,3 +96,35 @@ pub record NoteRows : Type 0 where
     rounds = 2;
     looked = 2;
   })
+
+-- ## A program header for the program header table
+
+-- a PT_PHDR over so many bytes at an offset; a section that isn't loaded stands at 330, data before it
+abbrev pub tabled : ℕ → ℕ → Image
+tabled offset size = image_of_parts 616 360 3 (segment 1 6 0 0 320 4096 ∷ segment 6 4 offset 64 size 8 ∷ [])
+    (null_section ∷ section (codes ".data") kinds.Opaque 1 3 288 32 0 1 ∷ record (section (codes ".comment") kinds.Opaque 1 0 330 4 0 1) { sh_addr = 0 }
+    ∷ names_section 334 26 ∷ [])
+    None None
+
+abbrev pub tabled_stack : ℕ → ℕ → Resized
+tabled_stack offset size =
+    after_edit (tabled offset size) (record (tabled offset size) { segments = segment 1 6 0 0 320 4096 ∷ segment 6 4 offset 64 size 8 ∷ added_stack 7 ∷ [] })
+
+-- the plan, by what becomes of the PT_PHDR
+abbrev pub tabled_plan : SegmentHeader → Layout
+tabled_plan header = record {
+  places = no_place ∷ place 1 3 288 288 32 ∷ place 1 0 0 320 4 ∷ place 3 0 0 324 26 ∷ [];
+  segments = segment 1 6 0 0 320 4096 ∷ header ∷ added_stack 7 ∷ [];
+  e_phoff = 64;
+  e_shoff = 352;
+  rounds = 1;
+  looked = 0;
+}
+
+pub record TableRows : Type 0 where
+  -- one just over the section goes where that goes
+  pub over_section : IsPlan (tabled_stack 330 4) (tabled_plan (segment 6 4 320 64 4 8))
+  -- one over the table has the size of three entries
+  pub over_table : IsPlan (tabled_stack 64 112) (tabled_plan (segment 6 4 64 64 168 8))
+  -- as has one over no byte
+  pub over_nothing : IsPlan (tabled_stack 330 0) (tabled_plan (segment 6 4 330 64 168 8))

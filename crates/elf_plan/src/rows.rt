@@ -1,6 +1,6 @@
 //! Small images, edited, and where everything of them goes. The functions do nothing: the contract of each is computed.
 ghost use Rattle.elf_plan.specs.AgainRows.{AgainRows};
-ghost use Rattle.elf_plan.specs.Rows.{HighRows, NoteRows, StartRows};
+ghost use Rattle.elf_plan.specs.Rows.{HighRows, NoteRows, StartRows, TableRows};
 ghost use Rattle.elf_plan.specs.SmallRows.{SectionRows, SmallRows};
 
 /// A small library with a longer run path, a name, a program header more.
@@ -31,4 +31,9 @@ pub fn again_rows()
 /// Several notes under one program header, some of which move.
 pub fn note_rows()
     ensures { NoteRows }
+{}
+
+/// A program header for the program header table, over a section and over none.
+pub fn table_rows()
+    ensures { TableRows }
 {}

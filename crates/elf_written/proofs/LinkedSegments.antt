@@ -12,7 +12,7 @@ use Rattle.elf_format.specs.File.{is_loaded}
 use Rattle.elf_format.specs.Places.{Place}
 use Rattle.elf_image.specs.Edited.{AreKept}
 use Rattle.elf_image.specs.Segments.{added_stack}
-use Rattle.elf_plan.specs.Follow.{HeaderTable, Itself, Leader, Notes, OneSection, leader_by_range, leader_of, led_by_section}
+use Rattle.elf_plan.specs.Follow.{HeaderTable, Itself, Leader, Notes, OneSection, leader_by_range, leader_of, led_by_section, section_or_table, section_under}
 use Rattle.elf_plan.specs.Kept.{KeptSection, interpreter_number, is_numbered, kept_of_type, kept_sections}
 use Rattle.elf_plan.specs.Memory.{Resized}
 use Rattle.elf_plan.specs.Plan.{IsPlan, Layout, layout_for}
@@ -35,10 +35,10 @@ is_notes HeaderTable = false
 is_notes (OneSection s) = false
 is_notes (Notes notes) = true
 
-abbrev by_type : ℕ → Leader → Leader → Leader → Leader
-by_type n dynamic interpreter other =
+abbrev by_type : ℕ → Leader → Leader → Leader → Leader → Leader
+by_type n table dynamic interpreter other =
     if n == PT_LOAD then Itself
-    else if n == PT_PHDR then HeaderTable
+    else if n == PT_PHDR then table
     else if n == PT_DYNAMIC then dynamic
     else if n == PT_INTERP then interpreter
     else other
@@ -47,20 +47,27 @@ led_plainly : (o : Option KeptSection) → is_notes (led_by_section o) ≡ false
 led_plainly None = refl
 led_plainly (Some s) = refl
 
+table_plainly : (o : Option KeptSection) → is_notes (section_or_table o) ≡ false
+table_plainly None = refl
+table_plainly (Some s) = refl
+
 module _ (r : Resized) where
+  table_leader : SegmentHeader → Leader
+  table_leader p = section_or_table (section_under r p)
+
   dynamic_leader : Leader
   dynamic_leader = led_by_section (kept_of_type SHT_DYNAMIC r.image)
 
   interpreter_leader : Leader
   interpreter_leader = led_by_section (find (is_numbered (interpreter_number r.read)) (kept_sections r.image))
 
-  leader_is : (p : SegmentHeader) → leader_of r p ≡ by_type p.p_type dynamic_leader interpreter_leader (leader_by_range r p)
-  unfolding leader_of dynamic_leader interpreter_leader
+  leader_is : (p : SegmentHeader) → leader_of r p ≡ by_type p.p_type (table_leader p) dynamic_leader interpreter_leader (leader_by_range r p)
+  unfolding leader_of table_leader dynamic_leader interpreter_leader
   leader_is p = refl
 
   leader_at : (p : SegmentHeader) (type : ℕ) → p.p_type ≡ type
-      → leader_of r p ≡ by_type type dynamic_leader interpreter_leader (leader_by_range r p)
-  leader_at p type h = leader_is p ∙ ap (λ n. by_type n dynamic_leader interpreter_leader (leader_by_range r p)) h
+      → leader_of r p ≡ by_type type (table_leader p) dynamic_leader interpreter_leader (leader_by_range r p)
+  leader_at p type h = leader_is p ∙ ap (λ n. by_type n (table_leader p) dynamic_leader interpreter_leader (leader_by_range r p)) h
 
   -- a program header of these types isn't over several notes
   plain-dynamic : (p : SegmentHeader) → p.p_type ≡ PT_DYNAMIC → is_notes (leader_of r p) ≡ false
@@ -73,7 +80,8 @@ module _ (r : Resized) where
       ap is_notes (leader_at p PT_INTERP h) ∙ led_plainly (find (is_numbered (interpreter_number r.read)) (kept_sections r.image))
 
   plain-table : (p : SegmentHeader) → p.p_type ≡ PT_PHDR → is_notes (leader_of r p) ≡ false
-  plain-table p h = ap is_notes (leader_at p PT_PHDR h)
+  unfolding table_leader
+  plain-table p h = ap is_notes (leader_at p PT_PHDR h) ∙ table_plainly (section_under r p)
 
 -- ## What becomes of it
 

@@ -20,7 +20,7 @@ use Rattle.elf_format.specs.Places.{Place, is_set, occupies_memory}
 use Rattle.elf_format.specs.Rules.{dynamic_section_agrees, file_of, is_dynamic_section_right, is_interpreter_right}
 use Rattle.elf_format.specs.Views.{interpreter_section}
 use Rattle.elf_image.specs.Edited.{as_kept}
-use Rattle.elf_plan.specs.Follow.{HeaderTable, Itself, Leader, OneSection, is_loaded_section, leader_by_range, leader_of, led_by_section}
+use Rattle.elf_plan.specs.Follow.{Itself, Leader, OneSection, is_loaded_section, leader_by_range, leader_of, led_by_section, section_or_table, section_under}
 use Rattle.elf_plan.specs.Kept.{KeptSection, image_at_read, interpreter_number, is_numbered, kept_of_type, kept_sections, stands_as_interpreter}
 use Rattle.elf_plan.specs.Memory.{Resized}
 use Rattle.elf_plan.specs.Plan.{resized}
@@ -40,7 +40,7 @@ module _ (r : Resized) (p : SegmentHeader) where
   leader_by : ℕ → Leader
   leader_by type =
       if type == PT_LOAD then Itself
-      else if type == PT_PHDR then HeaderTable
+      else if type == PT_PHDR then section_or_table (section_under r p)
       else if type == PT_DYNAMIC then led_by_section (kept_of_type SHT_DYNAMIC r.image)
       else if type == PT_INTERP then led_by_section (find (is_numbered (interpreter_number r.read)) (kept_sections r.image))
       else leader_by_range r p

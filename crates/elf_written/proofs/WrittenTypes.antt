@@ -12,7 +12,7 @@ use Rattle.elf_format.specs.Options.{is_one_of}
 use Rattle.elf_format.specs.Places.{Place}
 use Rattle.elf_image.specs.Edited.{AreKept, as_kept}
 use Rattle.elf_image.specs.Segments.{added_stack}
-use Rattle.elf_plan.specs.Follow.{HeaderTable, Itself, Leader, Notes, OneSection, is_note_in, is_over_notes, leader_by_range, leader_of, led_by_section, notes_under, section_under, sharers}
+use Rattle.elf_plan.specs.Follow.{HeaderTable, Itself, Leader, Notes, OneSection, is_note_in, is_over_notes, leader_by_range, leader_of, led_by_section, notes_under, section_or_table, section_under, sharers}
 use Rattle.elf_plan.specs.Kept.{KeptSection, image_at_read, interpreter_number, is_numbered, kept_of_type, kept_sections}
 use Rattle.elf_plan.specs.Memory.{Resized}
 use Rattle.elf_plan.specs.Plan.{Layout, layout_for, resized}
@@ -137,6 +137,11 @@ unfolding IsSingle
 led-single None = tt
 led-single (Some s) = tt
 
+table-single : (o : Option KeptSection) → IsSingle (section_or_table o)
+unfolding IsSingle
+table-single None = tt
+table-single (Some s) = tt
+
 module _ (r : Resized) (moved : List ℕ) where
   -- only a program header for notes or properties goes by several sections
   range-single : (p : SegmentHeader) → is_one_of (PT_NOTE ∷ PT_GNU_PROPERTY ∷ []) p.p_type ≡ false → IsSingle (leader_by_range r p)
@@ -157,9 +162,10 @@ module _ (r : Resized) (moved : List ℕ) where
       let name : Leader = led_by_section (find (is_numbered (interpreter_number r.read)) (kept_sections r.image)) in
       let a : Leader = if p.p_type == PT_INTERP then name else leader_by_range r p in
       let b : Leader = if p.p_type == PT_DYNAMIC then list else a in
-      let c : Leader = if p.p_type == PT_PHDR then HeaderTable else b in
+      let table : Leader = section_or_table (section_under r p) in
+      let c : Leader = if p.p_type == PT_PHDR then table else b in
       cond_both (p.p_type == PT_LOAD) Itself c IsSingle (λ _. tt) (λ _.
-      cond_both (p.p_type == PT_PHDR) HeaderTable b IsSingle (λ _. tt) (λ _.
+      cond_both (p.p_type == PT_PHDR) table b IsSingle (λ _. table-single (section_under r p)) (λ _.
       cond_both (p.p_type == PT_DYNAMIC) list a IsSingle (λ _. led-single (kept_of_type SHT_DYNAMIC r.image)) (λ _.
       cond_both (p.p_type == PT_INTERP) name (leader_by_range r p) IsSingle
       (λ _. led-single (find (is_numbered (interpreter_number r.read)) (kept_sections r.image))) (λ _. range-single p other))))

@@ -72,6 +72,13 @@ fn led_by(part: Option<Part>) -> Leader {
     }
 }
 
+fn section_or_table(part: Option<Part>) -> Leader {
+    match part {
+        Some(part) => Leader::OneSection(part),
+        None => Leader::HeaderTable,
+    }
+}
+
 /// The first section of a type.
 fn first_of_type(plain: &Plain, sh_type: u32) -> Option<Part> {
     for part in &plain.parts {
@@ -95,7 +102,7 @@ fn interpreter(plain: &Plain) -> Option<Part> {
 pub(crate) fn leader_of(alloc: Global, plain: &Plain, piece: &Piece) -> Result<Leader, AllocError> {
     match piece.p_type {
         PT_LOAD => Ok(Leader::Itself),
-        PT_PHDR => Ok(Leader::HeaderTable),
+        PT_PHDR => Ok(section_or_table(section_under(plain, piece))),
         PT_DYNAMIC => Ok(led_by(first_of_type(plain, SHT_DYNAMIC))),
         PT_INTERP => Ok(led_by(interpreter(plain))),
         _ if piece.in_file == 0 => Ok(Leader::Itself),
