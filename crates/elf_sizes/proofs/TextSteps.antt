@@ -71,6 +71,29 @@ next_past some next text past others =
     ∙ all_found text others
     ∙ ap (λ (l : List (Bor (List ℕ))). is_subsequence (map (λ t. t.now) l) others) (sym none)
 
+found_or_not : (b : Bool) (x y : Bool) → x ≡ false → y ≡ false → (elim b as (λ _. Bool) [ true ↦ x | _ ↦ y ]) ≡ false
+found_or_not true x y hx hy = hx
+found_or_not false x y hx hy = hy
+
+-- more texts aren't left of fewer
+pub too_few : (ts us : List (List ℕ)) → length us < length ts → is_subsequence ts us ≡ false
+unfolding is_subsequence
+too_few [] us fewer = absurd (omega (arith, fewer))
+too_few (t ∷ ts) [] fewer = refl
+too_few (t ∷ ts) (u ∷ us) fewer =
+    found_or_not (bytes_eq t u) (is_subsequence ts us) (is_subsequence (t ∷ ts) us) (too_few ts us (omega (arith, fewer))) (too_few (t ∷ ts) us (omega (arith, fewer)))
+
+-- fewer texts are to be looked at than are to be found
+pub subsequence_too_long : (some all : List (Bor (List ℕ))) (next i : ℕ) → length all - i < length some - next
+    → is_subsequence (map (λ t. t.now) (drop next some)) (map (λ t. t.now) (drop i all)) ≡ is_subsequence (map (λ t. t.now) some) (map (λ t. t.now) all)
+    → false ≡ is_subsequence (map (λ t. t.now) some) (map (λ t. t.now) all)
+subsequence_too_long some all next i fewer same =
+    let xs : List (List ℕ) = map (λ t. t.now) (drop next some) in
+    let ys : List (List ℕ) = map (λ t. t.now) (drop i all) in
+    let long : length xs ≡ length some - next = length-map (drop next some) (λ (t : Bor (List ℕ)). t.now) ∙ length-drop next some in
+    let short : length ys ≡ length all - i = length-map (drop i all) (λ (t : Bor (List ℕ)). t.now) ∙ length-drop i all in
+    sym (too_few xs ys (omega (arith, fewer, long, short))) ∙ same
+
 -- all texts were looked at: they are all found where none is left
 pub subsequence_at_end : (some all : List (Bor (List ℕ))) (next i : ℕ) → next ≤ length some → length all ≤ i
     → is_subsequence (map (λ t. t.now) (drop next some)) (map (λ t. t.now) (drop i all)) ≡ is_subsequence (map (λ t. t.now) some) (map (λ t. t.now) all)

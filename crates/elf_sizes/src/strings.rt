@@ -31,8 +31,13 @@ fn is_subsequence(some: &[&[u8]], all: &[&[u8]]) -> bool
         (map (λ text. text.now) all.now) }
 {
     let mut next = 0;
+    let mut left = all.len();
     for text in all {
+        if some.len() - next > left {
+            return false;
+        }
         next = next_after(some, next, *text);
+        left -= 1;
     }
     next == some.len()
 }
@@ -88,6 +93,8 @@ pub(crate) fn made_for<'a, 'data>(
     if is_subsequence(now.as_slice(), at_read.as_slice()) {
         return Ok(None);
     }
+    // their room may serve the table
+    drop(at_read);
     let table = table_of(alloc, now.as_slice())?;
     Ok(Some(table))
 }

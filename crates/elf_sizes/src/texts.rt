@@ -55,6 +55,7 @@ impl<'t> Texts<'t> {
         ensures { OnOk result (self.new
             ≡ self.old ++ texts_of_symbols (map symbol_kept symbols.entry.now)) }
     {
+        self.list.reserve(symbols.len())?;
         for symbol in symbols {
             self.push(symbol.name.as_slice())?;
         }

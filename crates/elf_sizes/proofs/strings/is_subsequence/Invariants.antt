@@ -1,4 +1,4 @@
-use Rattle.std.proofs.Common.{◌≡◌, ◌≤◌, drop, length, map}
+use Rattle.std.proofs.Common.{◌≡◌, ◌≤◌, ◌+◌, drop, length, map}
 use Rattle.elf_plan.specs.Texts.{is_subsequence}
 use Rattle.elf_sizes.proofs.strings.is_subsequence.Given as goal
 
@@ -6,5 +6,6 @@ use Rattle.elf_sizes.proofs.strings.is_subsequence.Given as goal
 abbrev pub invariant-loop-text : goal.invariant-loop-text
 invariant-loop-text l =
     (l.next ≤ length l.some)
+    × (l.left + l.text-index ≡ length l.all)
     × (is_subsequence (map (λ text. text.now) (drop l.next l.some)) (map (λ text. text.now) (drop l.text-index l.all))
     ≡ is_subsequence (map (λ text. text.now) l.some) (map (λ text. text.now) l.all))
