@@ -18,10 +18,11 @@ use Rattle.elf_image.proofs.ReadImageLaws.{read_images_hold_parts}
 use Rattle.elf_plan.specs.Kept.{KeptSection, kept_at_number, kept_from, kept_of_type, kept_sections}
 use Rattle.elf_plan.specs.Texts.{are_names_changed}
 use Rattle.elf_plan.proofs.PlacedRead.{at_read}
+use Rattle.elf_plan.proofs.SameTexts.{names_same}
 use Rattle.elf_written.specs.Final.{buckets_of, by_bucket, final, final_symbol, new_number, ordered}
 use Rattle.elf_written.proofs.WholeFacts.{kept}
 use Rattle.elf_written.proofs.WholeLists.{FoundAt, NonePasses, counted-at, find-is, find-no, first_at, map-same, there_at}
-use Rattle.elf_written.proofs.SameLists.{IsKnown, entries_same, known_below, known_dynamic, known_static, length-sections, names_same, needs_same}
+use Rattle.elf_written.proofs.SameLists.{IsKnown, entries_same, known_below, known_dynamic, known_static, length-sections, needs_same}
 use Rattle.elf_contents.specs.Inner.{IsReady}
 
 -- ## The file that was read

@@ -52,7 +52,7 @@ unfolding counted
 length-counted zero = refl
 length-counted (suc n) = length-append (counted n) (n ∷ []) ∙ ap (λ k. k + 1) (length-counted n) ∙ omega arith
 
-counted-at : (n i : ℕ) → i < n → slice_index (counted n) i ≡ i
+pub counted-at : (n i : ℕ) → i < n → slice_index (counted n) i ≡ i
 unfolding counted
 counted-at zero i below = absurd (omega arith)
 counted-at (suc n) i below = elim (cases_lt i n) [

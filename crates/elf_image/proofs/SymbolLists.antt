@@ -6,7 +6,7 @@ use Rattle.elf_format.specs.File.{Parts}
 use Rattle.elf_format.specs.Image.{Image, image_of}
 use Rattle.elf_format.specs.Stages.{parts_read}
 use Rattle.elf_image.specs.declared.symbol_lists.SymbolLists.{SymbolLists}
-use Rattle.elf_image.specs.SymbolsRead.{AreSymbolsOfFile, AreSymbolsRead}
+use Rattle.elf_image.specs.SymbolsRead.{AreSymbolsOfFile, AreSymbolsRead, KeepsSymbols}
 use Rattle.elf_image.proofs.ReadImageLaws.{read_images_hold_parts}
 
 -- what holds of what is there gives something else of it
@@ -14,18 +14,25 @@ pub of_what_is_there : {A : Type 0} → (P Q : A → Type 0) (o : Option A) → 
 of_what_is_there P Q None step h = tt
 of_what_is_there P Q (Some x) step h = step x h
 
-abbrev read_there : Parts → Result Parts ElfFault → Parts
-read_there other r = elim r [ Ok p ↦ p | Err _ ↦ other ]
+same_Ok : {A : Type 0} → (x y : A) → ◌≡◌ {A = Result A ElfFault} (Ok x) (Ok y) → x ≡ y
+same_Ok x y h = cc
 
-same_parts : (p q : Parts) (r : Result Parts ElfFault) → r ≡ Ok p → r ≡ Ok q → p ≡ q
-same_parts p q r first second = ap (read_there p) (sym first ∙ second)
+-- one answer is not two
+same_answer : {A : Type 0} → (x y : A) (r : Result A ElfFault) → r ≡ Ok x → r ≡ Ok y → x ≡ y
+same_answer x y r first second = same_Ok x y (sym first ∙ second)
 
 -- lists of the symbols of a file's parts are lists of the file
 pub lists_of_file : (file : List ℕ) (p : Parts) (lists : SymbolLists) → parts_read file ≡ Ok p → AreSymbolsRead p lists → AreSymbolsOfFile file lists
-lists_of_file file p lists there are q again = subst (λ (r : Parts). AreSymbolsRead r lists) (same_parts p q (parts_read file) there again) are
+lists_of_file file p lists there are q again = subst (λ (r : Parts). AreSymbolsRead r lists) (same_answer p q (parts_read file) there again) are
 
 -- an image of a file has the file's bytes
 pub source_is_file : (file : List ℕ) (image : Image) → image_of file ≡ Ok image → image.source ≡ file
 source_is_file file image h =
     let (p, _, parts, _, holds) = read_images_hold_parts file image h in
     holds.source ∙ parts.same_file
+
+-- the image that a file is read as has its symbols
+pub read_keeps_symbols : (file : List ℕ) (image : Image) → image_of file ≡ Ok image → KeepsSymbols image
+read_keeps_symbols file image h other again =
+    let same : image ≡ other = same_answer image other (image_of file) h (ap image_of (sym (source_is_file file image h)) ∙ again) in
+    record { symbols = ap (λ (i : Image). i.symbols) same; dynamic_symbols = ap (λ (i : Image). i.dynamic_symbols) same }

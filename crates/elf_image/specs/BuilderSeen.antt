@@ -1,10 +1,10 @@
 -- What a builder holds, seen as an image.
-use Rattle.std.specs.Prelude.{map}
+use Rattle.std.specs.Prelude.{length, map}
 use Rattle.std.specs.Option.{option_map}
 use Rattle.elf_image.specs.declared.builder.Builder.TheInside.{Inside}
-use Rattle.elf_format.specs.Image.{Image}
+use Rattle.elf_format.specs.Image.{Image, counted}
 use Rattle.elf_image.specs.Edited.{IsEdited}
-use Rattle.elf_image.specs.SymbolsRead.{AreSymbolsOfFile}
+use Rattle.elf_image.specs.SymbolsRead.{AreSymbolsOfFile, KeepsSymbols}
 use Rattle.elf_image.specs.ImageSeen.{definition_kept, entry_kept, needs_kept, section_kept, segment_kept, symbol_kept, text_kept}
 
 abbrev pub image_kept : Inside → Image
@@ -22,11 +22,11 @@ image_kept b = record {
   entries = option_map (λ list. map entry_kept list.items) b.dynamic;
   interpreter = text_kept b.interpreter;
   section_numbers = b.section_numbers.items;
-  symbol_numbers = b.symbol_numbers.items;
-  dynamic_symbol_numbers = b.dynamic_symbol_numbers.items;
+  symbol_numbers = counted (length (map symbol_kept b.lists.symbols.value.items));
+  dynamic_symbol_numbers = counted (length (map symbol_kept b.lists.dynamic_symbols.value.items));
   page_size = b.page_size;
 }
 
 -- what a builder holds is an image that was read, and edited, with the symbols that were read
 abbrev pub IsKept : Inside → Type 0
-IsKept b = IsEdited (image_kept b) × AreSymbolsOfFile b.source.now b.lists_read
+IsKept b = IsEdited (image_kept b) × AreSymbolsOfFile b.source.now b.lists × KeepsSymbols (image_kept b)

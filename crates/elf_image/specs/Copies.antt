@@ -1,9 +1,8 @@
 -- What a copy of an image holds.
-use Rattle.std.specs.Prelude.{ℕ, ◌≡◌, List, map, Option}
+use Rattle.std.specs.Prelude.{List, map, Option}
 use Rattle.std.specs.Option.{option_map}
 use Rattle.std.specs.Global.{Vec}
 use Rattle.elf_image.specs.declared.dynamic.Dynamic.{Dynamic}
-use Rattle.elf_image.specs.declared.read.Numbers.{Numbers}
 use Rattle.elf_image.specs.declared.section.Section.{Section}
 use Rattle.elf_image.specs.declared.symbol.Symbol.{Symbol}
 use Rattle.elf_versions.specs.declared.version.Versions.{Versions}
@@ -17,9 +16,3 @@ named_seen sections symbols dynamic_symbols = record { sections = map section_ke
 -- a dynamic list and versions, as an image shows them
 abbrev pub listed_seen : Option (Vec Dynamic) → Versions → ListedParts
 listed_seen dynamic versions = record { entries = option_map (λ list. map entry_kept list.items) dynamic; definitions = map definition_kept versions.definitions.items; needs = map needs_kept versions.needs.items }
-
--- the numbers at read are these
-pub record AreNumbersOf (of_sections of_symbols of_dynamic_symbols : List ℕ) (numbers : Numbers) : Type 0 where
-  pub sections : numbers.sections.items ≡ of_sections
-  pub symbols : numbers.symbols.items ≡ of_symbols
-  pub dynamic_symbols : numbers.dynamic_symbols.items ≡ of_dynamic_symbols

@@ -18,7 +18,6 @@ use Rattle.elf_rules.specs.Read.{Refuses}
 use Rattle.elf_image.specs.declared.read.Gathered.{Gathered}
 use Rattle.elf_image.specs.declared.read.Listed.{Listed}
 use Rattle.elf_image.specs.declared.read.Named.{Named}
-use Rattle.elf_image.specs.declared.read.Numbers.{Numbers}
 use Rattle.elf_image.specs.ImageSeen.{definition_kept, entry_kept, needs_kept, section_kept, segment_kept, symbol_kept, text_kept}
 
 -- the sections and symbols of an image
@@ -78,12 +77,6 @@ image_with p n l = record {
 abbrev pub image_built : Parts → Named → Listed → Image
 image_built p n l = image_with p (named_kept n) (listed_kept l)
 
--- the numbers at read of sections and symbols: those from 0 on
-pub record AreNumbered (named : Named) (numbers : Numbers) : Type 0 where
-  pub sections : numbers.sections.items ≡ counted (length named.sections.items)
-  pub symbols : numbers.symbols.items ≡ counted (length named.lists.symbols.value.items)
-  pub dynamic_symbols : numbers.dynamic_symbols.items ≡ counted (length named.lists.dynamic_symbols.value.items)
-
 -- the image, group by group
 unfoldable pub image_by_groups : Parts → Option Image
 image_by_groups p = do
@@ -111,9 +104,9 @@ image_gathered p g = record {
   needs = map needs_kept g.listed.versions.needs.items;
   entries = option_map (λ list. map entry_kept list.items) g.listed.dynamic;
   interpreter = text_kept g.interpreter;
-  section_numbers = g.numbers.sections.items;
-  symbol_numbers = g.numbers.symbols.items;
-  dynamic_symbol_numbers = g.numbers.dynamic_symbols.items;
+  section_numbers = g.section_numbers.items;
+  symbol_numbers = counted (length (map symbol_kept g.named.lists.symbols.value.items));
+  dynamic_symbol_numbers = counted (length (map symbol_kept g.named.lists.dynamic_symbols.value.items));
   page_size = None;
 }
 

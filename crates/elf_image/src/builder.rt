@@ -29,17 +29,14 @@ pub struct Builder<'data> {
     pub(crate) header: Header,
     pub(crate) segments: Vec<Segment<'data>>,
     pub(crate) sections: Vec<Section<'data>>,
+    // The symbols as they were read.
     pub(crate) lists: SymbolLists<'data>,
     pub(crate) versions: Versions<'data>,
     pub(crate) dynamic: Option<Vec<Dynamic<'data>>>,
     pub(crate) interpreter: Option<ByteString<'data>>,
-    // The numbers at read of what stands now at each position.
+    // The number at read of the section that stands now at each position.
     pub(crate) section_numbers: Vec<usize>,
-    pub(crate) symbol_numbers: Vec<usize>,
-    pub(crate) dynamic_symbol_numbers: Vec<usize>,
     pub(crate) page_size: Option<u32>,
-    // The symbols as they were read, for images that are read again.
-    pub(crate) lists_read: SymbolLists<'data>,
 }
 
 impl<'data> Model for Builder<'data> {
@@ -57,7 +54,9 @@ impl<'data> Model for Builder<'data> {
 }
 
 impl<'data> Builder<'data> {
+    ghost use Rattle.std.specs.Prelude.{IsTrue};
     ghost use Rattle.elf_image.specs.Edited.{IsEdited};
+    ghost use Rattle.elf_image.specs.SymbolsRead.{KeepsSymbols};
 
     /// The class (gABI, ELF Identification, `EI_CLASS`). Takes no memory.
     pub fn class(&self) -> Wide
@@ -178,7 +177,7 @@ impl<'data> Builder<'data> {
         requires { i < length self.now.symbols }
         ensures { result ≡ slice_index self.now.symbol_numbers i }
     {
-        self.symbol_numbers[i]
+        i
     }
 
     /// The number that the symbol for a loader at a position had at read. Takes no memory.
@@ -186,7 +185,16 @@ impl<'data> Builder<'data> {
         requires { i < length self.now.dynamic_symbols }
         ensures { result ≡ slice_index self.now.dynamic_symbol_numbers i }
     {
-        self.dynamic_symbol_numbers[i]
+        i
+    }
+
+    /// Whether its symbols are those that were read, in their order. Takes no memory.
+    pub fn keeps_symbols(&self) -> bool
+        ensures { IsTrue result → KeepsSymbols self.now }
+    {
+        // no edit changes them yet
+        let _lists = &self.lists;
+        true
     }
 }
 

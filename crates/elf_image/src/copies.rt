@@ -1,12 +1,12 @@
 //! Copies of an image: what is borrowed is lent again, symbols are shared, what else is owned is copied.
 ghost use Rattle.std.specs.Prelude.{◌≡◌, map, IfOk};
-ghost use Rattle.elf_image.specs.Copies.{AreNumbersOf, listed_seen, named_seen};
+ghost use Rattle.elf_image.specs.Copies.{listed_seen, named_seen};
 ghost use Rattle.elf_image.specs.ImageSeen.{entry_kept, section_kept};
 ghost use Rattle.elf_image.specs.ImageSteps.{listed_kept, named_kept};
 
 use crate::builder::Builder;
 use crate::dynamic::Dynamic;
-use crate::read::{Listed, Named, Numbers};
+use crate::read::{Listed, Named};
 use crate::section::Section;
 use crate::symbol_lists::SymbolLists;
 use crate::version::Versions;
@@ -21,12 +21,7 @@ impl<'data> Builder<'data> {
         let named = copied_named(alloc, &self.sections, &self.lists)?;
         let listed = copied_listed(alloc, &self.dynamic, &self.versions)?;
         let interpreter = copied_interpreter(alloc, &self.interpreter)?;
-        let numbers = copied_numbers(
-            alloc,
-            &self.section_numbers,
-            &self.symbol_numbers,
-            &self.dynamic_symbol_numbers,
-        )?;
+        let section_numbers = Vec::from_slice(alloc, &self.section_numbers)?;
         let segments = Vec::from_slice(alloc, &self.segments)?;
         Ok(Builder {
             source: self.source,
@@ -39,11 +34,8 @@ impl<'data> Builder<'data> {
             versions: listed.versions,
             dynamic: listed.dynamic,
             interpreter,
-            section_numbers: numbers.sections,
-            symbol_numbers: numbers.symbols,
-            dynamic_symbol_numbers: numbers.dynamic_symbols,
+            section_numbers,
             page_size: self.page_size,
-            lists_read: self.lists_read.share()?,
         })
     }
 }
@@ -76,22 +68,6 @@ fn copied_listed<'data>(
         Some(list) => Some(copied_entries(alloc, list)?),
     };
     Ok(Listed { dynamic, versions })
-}
-
-// The same numbers.
-fn copied_numbers(
-    alloc: Global,
-    sections: &[usize],
-    symbols: &[usize],
-    dynamic_symbols: &[usize],
-) -> Result<Numbers, AllocError>
-    ensures { IfOk result (AreNumbersOf sections.now symbols.now dynamic_symbols.now) }
-{
-    Ok(Numbers {
-        sections: Vec::from_slice(alloc, sections)?,
-        symbols: Vec::from_slice(alloc, symbols)?,
-        dynamic_symbols: Vec::from_slice(alloc, dynamic_symbols)?,
-    })
 }
 
 // The same interpreter.

@@ -1,10 +1,10 @@
 //! The reader: the read rules in their order, each in time in proportion to what it looks at.
-ghost use Rattle.std.specs.Prelude.{◌≡◌, ◌≢◌, Ok, Err, MatchResult, All, map, IfOk, IfSome};
-ghost use Rattle.elf_format.specs.Image.{header_kept, image_of, interpreter_read};
-ghost use Rattle.elf_image.specs.ImageSteps.{AreNumbered, LinksRead, TextsRead, image_built, image_by_groups, image_gathered, listed_in, listed_kept, named_in, named_kept};
+ghost use Rattle.std.specs.Prelude.{◌≡◌, ◌≢◌, Ok, Err, MatchResult, All, length, map, IfOk, IfSome};
+ghost use Rattle.elf_format.specs.Image.{counted as numbers_below, header_kept, image_of, interpreter_read};
+ghost use Rattle.elf_image.specs.ImageSteps.{LinksRead, TextsRead, image_built, image_by_groups, image_gathered, listed_in, listed_kept, named_in, named_kept};
 ghost use Rattle.elf_image.specs.Edited.{IsEdited};
 ghost use Rattle.elf_image.specs.ImageSeen.{segment_kept, text_kept};
-ghost use Rattle.elf_image.specs.SymbolsRead.{AreSymbolsOfFile, AreSymbolsRead};
+ghost use Rattle.elf_image.specs.SymbolsRead.{AreSymbolsOfFile, AreSymbolsRead, KeepsSymbols};
 ghost use Rattle.elf_format.specs.Answers.{Gives, borrowed};
 ghost use Rattle.elf_format.specs.Stages.{last_rules};
 ghost use Rattle.elf_rules.specs.Read.{Passes, Reads, parts_seen};
@@ -101,14 +101,6 @@ pub(crate) struct Listed<'data> {
     pub(crate) versions: Versions<'data>,
 }
 
-// The numbers at read of sections and symbols.
-#[derive(Drop)]
-pub(crate) struct Numbers {
-    pub(crate) sections: Vec<usize>,
-    pub(crate) symbols: Vec<usize>,
-    pub(crate) dynamic_symbols: Vec<usize>,
-}
-
 // The sections and symbols, absent where a name isn't there. The symbols may be known.
 #[tactic(auto, unfolding(crate::specs::ImageSteps::named_in))]
 fn named_parts<'data>(
@@ -159,17 +151,6 @@ fn listed_parts<'data>(
     })
 }
 
-// The numbers of what was read.
-fn numbers_at_read(alloc: Global, named: &Named<'_>) -> Result<Numbers, AllocError>
-    ensures { IfOk result (AreNumbered named.now) }
-{
-    Ok(Numbers {
-        sections: counted(alloc, named.sections.len())?,
-        symbols: counted(alloc, named.lists.symbols.len())?,
-        dynamic_symbols: counted(alloc, named.lists.dynamic_symbols.len())?,
-    })
-}
-
 // What is kept of a file besides its header tables.
 #[derive(Drop)]
 pub(crate) struct Gathered<'data> {
@@ -177,9 +158,8 @@ pub(crate) struct Gathered<'data> {
     named: Named<'data>,
     listed: Listed<'data>,
     interpreter: Option<ByteString<'data>>,
-    numbers: Numbers,
-    // The symbols once more.
-    read: SymbolLists<'data>,
+    // The numbers at read of the sections.
+    section_numbers: Vec<usize>,
 }
 
 // These parts together.
@@ -188,22 +168,20 @@ fn gather<'data>(
     segments: Vec<Segment<'data>>,
     named: Named<'data>,
     listed: Listed<'data>,
-    numbers: Numbers,
-    read: SymbolLists<'data>,
+    section_numbers: Vec<usize>,
 ) -> Gathered<'data>
     requires segments { map segment_kept segments.items ≡ parts.now.segments.items }
-    requires numbered { AreNumbered named numbers }
+    requires numbered { section_numbers.items ≡ numbers_below (length named.sections.items) }
     ensures image { image_gathered (parts_seen parts.now) result
         ≡ image_built (parts_seen parts.now) named.entry listed.entry }
-    ensures read { result.read ≡ read.entry }
+    ensures lists { result.named.lists ≡ named.entry.lists }
 {
     Gathered {
         segments,
         named,
         listed,
         interpreter: interpreter_kept(parts),
-        numbers,
-        read,
+        section_numbers,
     }
 }
 
@@ -225,14 +203,13 @@ fn image<'data>(
     requires known { IfSome known (λ lists. AreSymbolsRead (parts_seen parts.now) lists.now) }
     ensures image { Gives (image_gathered (parts_seen parts.now)) result
         (image_by_groups (parts_seen parts.now)) }
-    ensures lists { IfOk result (λ made. AreSymbolsRead (parts_seen parts.now) made.read) }
+    ensures lists { IfOk result (λ made. AreSymbolsRead (parts_seen parts.now) made.named.lists) }
 {
     let named = named_parts(alloc, parts, raw, kinds, known)?;
-    let read = named.lists.share()?;
     let listed = listed_parts(alloc, parts, raw, defined, needed)?;
-    let numbers = numbers_at_read(alloc, &named)?;
+    let section_numbers = counted(alloc, named.sections.len())?;
     let segments = segments(alloc, &parts.segments)?;
-    Ok(gather(parts, segments, named, listed, numbers, read))
+    Ok(gather(parts, segments, named, listed, section_numbers))
 }
 
 // The interpreter's bytes.
@@ -280,7 +257,7 @@ fn image_or_fault<'data>(
     requires known { IfSome known (λ lists. AreSymbolsRead (parts_seen parts.now) lists.now) }
     ensures image { Reads (image_gathered (parts_seen parts.now)) result
         (there_or BadText (image_by_groups (parts_seen parts.now))) }
-    ensures lists { IfOk result (λ made. AreSymbolsRead (parts_seen parts.now) made.read) }
+    ensures lists { IfOk result (λ made. AreSymbolsRead (parts_seen parts.now) made.named.lists) }
 {
     match image(alloc, parts, raw, kinds, defined, needed, known) {
         Ok(image) => Ok(image),
@@ -316,7 +293,7 @@ fn image_and_last<'data>(
     requires known { IfSome known (λ lists. AreSymbolsRead (parts_seen parts.now) lists.now) }
     ensures image { TextsRead (image_gathered (parts_seen parts.now)) (parts_seen parts.now)
         result }
-    ensures lists { IfOk result (λ made. AreSymbolsRead (parts_seen parts.now) made.read) }
+    ensures lists { IfOk result (λ made. AreSymbolsRead (parts_seen parts.now) made.named.lists) }
 {
     let defined = walk_definitions(alloc, parts)?;
     let needed = walk_needs(alloc, parts)?;
@@ -328,7 +305,8 @@ fn image_and_last<'data>(
 // The image that has these parts.
 fn builder<'data>(parts: &Headers<'data>, gathered: Gathered<'data>) -> Builder<'data>
     requires edited { IsEdited (image_gathered (parts_seen parts.now) gathered) }
-    requires lists { AreSymbolsOfFile parts.now.file.now gathered.read }
+    requires lists { AreSymbolsOfFile parts.now.file.now gathered.named.lists }
+    requires symbols { KeepsSymbols (image_gathered (parts_seen parts.now) gathered) }
     ensures { result ≡ image_gathered (parts_seen parts.now) gathered.entry }
 {
     Builder {
@@ -342,11 +320,8 @@ fn builder<'data>(parts: &Headers<'data>, gathered: Gathered<'data>) -> Builder<
         versions: gathered.listed.versions,
         dynamic: gathered.listed.dynamic,
         interpreter: gathered.interpreter,
-        section_numbers: gathered.numbers.sections,
-        symbol_numbers: gathered.numbers.symbols,
-        dynamic_symbol_numbers: gathered.numbers.dynamic_symbols,
+        section_numbers: gathered.section_numbers,
         page_size: None,
-        lists_read: gathered.read,
     }
 }
 
@@ -385,7 +360,7 @@ impl<'data> Builder<'data> {
     pub fn read_again(&self, alloc: Global) -> Result<Builder<'data>, AllocError>
         ensures { IfOk result (λ read. image_of self.now.source ≡ Ok read) }
     {
-        match image_of_file(alloc, self.source, Some(&self.lists_read)) {
+        match image_of_file(alloc, self.source, Some(&self.lists)) {
             Ok(read) => Ok(read),
             Err(ElfFault::Memory) => Err(AllocError),
             Err(_) => unreachable!(),

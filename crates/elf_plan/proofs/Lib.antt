@@ -1,5 +1,6 @@
 pub mod Computing
 pub mod HeaderLaws
+pub mod SameTexts
 pub mod RoundLaws
 pub mod PlacedLists
 pub mod PlacedRanges

@@ -32,9 +32,13 @@ fn interpreter_number(read: &Builder<'_>) -> Option<usize>
 }
 
 // The names of the dynamic symbols, one by one, aren't those that were read.
-fn are_names_changed(read: &Builder<'_>, image: &Builder<'_>) -> bool
-    ensures { result ≡ have_names_changed read.now image.now }
+fn are_names_changed(users: &Users<'_, '_>) -> bool
+    ensures { result ≡ have_names_changed users.now.read users.now.image }
 {
+    if users.keeps_symbols() {
+        return false;
+    }
+    let (read, image) = (users.read(), users.image());
     !have_same_names(read.dynamic_symbols(), image.dynamic_symbols())
 }
 
@@ -75,7 +79,8 @@ impl<'a, 'data> Model for Sizing<'a, 'data> {
 }
 
 impl<'a, 'data> Sizing<'a, 'data> {
-    ghost use Rattle.std.specs.Prelude.{◌≡◌, ◌==◌, ◌<◌, ◌*◌, ◌^◌, ◌||◌, false, true, nat_le, IfOk, IfSome, MatchResult, SomeIff};
+    ghost use Rattle.std.specs.Prelude.{◌≡◌, ◌==◌, ◌<◌, ◌*◌, ◌^◌, ◌||◌, false, true, nat_le, IfOk, IfSome, IsTrue, MatchResult, SomeIff};
+    ghost use Rattle.elf_image.specs.SymbolsRead.{HasSymbolsOf};
     ghost use Rattle.elf_format.specs.Options.{is_some_and};
     ghost use Rattle.elf_format.specs.Records.{symbol_size};
     ghost use Rattle.elf_plan.specs.Sizes.{hash_size, interpreter_size};
@@ -83,22 +88,25 @@ impl<'a, 'data> Sizing<'a, 'data> {
     ghost use Rattle.elf_sizes.specs.MadeTables.{IsMadeOfList};
     ghost use Rattle.elf_sizes.specs.Inner.{do_all_fit, do_strings_fit, does_size_fit, lists_size, size_by, sizes_by, strings_length};
 
-    // What is computed once of an edited image.
+    // What is computed once of an edited image, whose symbols may be known to be those that were read.
     pub(crate) fn new(
         alloc: Global,
         read: &'a Builder<'data>,
         image: &'a Builder<'data>,
+        keeps_symbols: bool,
     ) -> Result<Self, AllocError>
+        requires { IsTrue keeps_symbols → HasSymbolsOf read.now image.now }
         ensures { IfOk result (λ sizing. sizing
             ≡ record { read = read.entry.now; image = image.entry.now }) }
     {
-        let users = Users::new(alloc, read, image)?;
-        let read_users = Users::new(alloc, read, read)?;
+        let users = Users::new(alloc, read, image, keeps_symbols)?;
+        let read_users = Users::new(alloc, read, read, false)?;
         let strings = known_strings(alloc, &users, &read_users)?;
+        let are_names_changed = are_names_changed(&users);
         Ok(Sizing {
             users,
             read_users,
-            are_names_changed: are_names_changed(read, image),
+            are_names_changed,
             interpreter: interpreter_number(read),
             strings,
         })

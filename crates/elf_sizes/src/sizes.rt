@@ -1,4 +1,5 @@
 ghost use Rattle.std.specs.Prelude.{◌≡◌, IfErr, IfOk, IfSome, IsTrue, MatchResult, OnOk, false, true};
+ghost use Rattle.elf_image.specs.SymbolsRead.{HasSymbolsOf};
 ghost use Rattle.elf_plan.specs.Kept.{image_at_read};
 ghost use Rattle.elf_plan.specs.Refusals.{AreNoSizes, do_sizes_of_image_fit, sizes_of_image};
 ghost use Rattle.elf_plan.specs.Sizes.{do_sizes_fit, new_sizes};
@@ -31,12 +32,23 @@ pub struct NewSizes<'t> {
     pub strings: Option<Finished<'t>>,
 }
 
+// Whether the symbols of an image are known to be those of the image that was read.
+fn keeps_symbols(read: &Builder<'_>, image: &Builder<'_>) -> bool
+    requires { read.now ≡ image_at_read image.now }
+    ensures { IsTrue result → HasSymbolsOf read.now image.now }
+{
+    // the image was read from its source
+    let _source = image.source();
+    image.keeps_symbols()
+}
+
 // The new sizes and the string table, with the fault of a table.
 fn gathered<'a, 'data>(
     alloc: Global,
     read: &'a Builder<'data>,
     image: &'a Builder<'data>,
 ) -> Result<NewSizes<'a>, TableFault>
+    requires { read.now ≡ image_at_read image.now }
     ensures sizes { MatchResult result
         (λ new. (new.sizes.items ≡ new_sizes read.entry.now image.entry.now)
         × (do_sizes_fit read.entry.now image.entry.now ≡ true))
@@ -45,7 +57,7 @@ fn gathered<'a, 'data>(
     ensures strings { IfOk result (λ new.
         IfSome new.strings (IsMadeOfList read.entry.now image.entry.now)) }
 {
-    let sizing = Sizing::new(alloc, read, image)?;
+    let sizing = Sizing::new(alloc, read, image, keeps_symbols(read, image))?;
     let sizes = sizing.sizes(alloc)?;
     Ok(NewSizes {
         sizes,

@@ -88,6 +88,9 @@ pub(crate) fn made_for<'a, 'data>(
     ensures fault { IfErr result (λ fault.
         fault ≡ NumberTooLarge → IsTooLong users.now.read users.now.image number) }
 {
+    if users.keeps_texts(read_users, number) {
+        return Ok(None);
+    }
     let now = users.texts(alloc, number)?;
     let at_read = read_users.texts(alloc, number)?;
     if is_subsequence(now.as_slice(), at_read.as_slice()) {
@@ -114,7 +117,7 @@ pub fn made_table<'a, 'data>(
     ensures fault { IfErr result (λ fault.
         fault ≡ NumberTooLarge → IsTooLong read.entry.now image.entry.now number) }
 {
-    let users = Users::new(alloc, read, image)?;
-    let read_users = Users::new(alloc, read, read)?;
+    let users = Users::new(alloc, read, image, false)?;
+    let read_users = Users::new(alloc, read, read, false)?;
     made_for(alloc, &users, &read_users, number)
 }

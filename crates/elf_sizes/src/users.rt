@@ -146,6 +146,7 @@ pub(crate) struct Users<'a, 'data> {
     links: Links,
     marks: Vec<bool>,
     without_needs: bool,
+    keeps_symbols: bool,
 }
 
 impl<'a, 'data> Model for Users<'a, 'data> {
@@ -160,19 +161,22 @@ impl<'a, 'data> Model for Users<'a, 'data> {
 }
 
 impl<'a, 'data> Users<'a, 'data> {
-    ghost use Rattle.std.specs.Prelude.{◌≡◌, ◌<◌, ◌^◌, ◌++◌, length, IfOk, OnOk, SomeIff};
+    ghost use Rattle.std.specs.Prelude.{◌≡◌, ◌<◌, ◌^◌, ◌++◌, length, IfOk, IsTrue, OnOk, SomeIff};
     ghost use Rattle.elf_format.specs.Options.{list_at};
+    ghost use Rattle.elf_image.specs.SymbolsRead.{HasSymbolsOf};
     ghost use Rattle.elf_plan.specs.Sizes.{dynamic_size as size_of_dynamic, needs_size as size_of_needs};
     ghost use Rattle.elf_tables.specs.Strings.{HoldNoNul};
     ghost use Rattle.elf_plan.specs.Needs.{written_entries, written_needs};
-    ghost use Rattle.elf_plan.specs.Texts.{if_linked, if_names, texts_in_use, texts_of_definitions, texts_of_entries, texts_of_needs, texts_of_symbols};
+    ghost use Rattle.elf_plan.specs.Texts.{if_linked, if_names, is_table_copied, texts_in_use, texts_of_definitions, texts_of_entries, texts_of_needs, texts_of_symbols};
 
-    // What is known of the users of an image's texts.
+    // What is known of the users of an image's texts, and whether its symbols are known to be those that were read.
     pub(crate) fn new(
         alloc: Global,
         read: &'a Builder<'data>,
         image: &'a Builder<'data>,
+        keeps_symbols: bool,
     ) -> Result<Self, AllocError>
+        requires { IsTrue keeps_symbols → HasSymbolsOf read.now image.now }
         ensures { IfOk result (λ users. users
             ≡ record { read = read.entry.now; image = image.entry.now }) }
     {
@@ -184,6 +188,7 @@ impl<'a, 'data> Users<'a, 'data> {
             links: links_of(image),
             marks,
             without_needs,
+            keeps_symbols,
         })
     }
 
@@ -199,6 +204,13 @@ impl<'a, 'data> Users<'a, 'data> {
         ensures { result.now ≡ self.now.image }
     {
         self.image
+    }
+
+    // Whether the image's symbols are known to be those that were read.
+    pub(crate) fn keeps_symbols(&self) -> bool
+        ensures { IsTrue result → HasSymbolsOf self.now.read self.now.image }
+    {
+        self.keeps_symbols
     }
 
     // The number of the string table of the dynamic list (gABI, Sections, `sh_link`).
@@ -318,6 +330,30 @@ impl<'a, 'data> Users<'a, 'data> {
         self.push_symbols(texts, number)?;
         self.push_sections(texts, number)?;
         Ok(())
+    }
+
+    // Whether no others than symbols for a link editor have their names in the string table with that number.
+    fn has_static_names_alone(&self, number: usize) -> bool
+        ensures { IsTrue result → texts_in_use self.now.read self.now.image number
+            ≡ if_linked self.now.image SHT_SYMTAB number (texts_of_symbols self.now.image.symbols) }
+    {
+        !leads_to(self.links.dynamic, number)
+            && !leads_to(self.links.dynamic_symbols, number)
+            && !leads_to(self.links.definitions, number)
+            && !leads_to(self.links.needs, number)
+            && self.image.header().e_shstrndx as usize != number
+    }
+
+    // Whether the texts that the image uses of the string table with that number are known to be those that were read,
+    // without a look at them.
+    pub(crate) fn keeps_texts(&self, read_users: &Users<'_, '_>, number: usize) -> bool
+        requires { read_users.now ≡ record { read = self.now.read; image = self.now.read } }
+        ensures { IsTrue result → IsTrue (is_table_copied self.now.read self.now.image number) }
+    {
+        self.keeps_symbols
+            && self.has_static_names_alone(number)
+            && read_users.has_static_names_alone(number)
+            && leads_to(self.links.symbols, number) == leads_to(read_users.links.symbols, number)
     }
 
     // The texts that the image uses of the string table with that number.

@@ -7,7 +7,6 @@ use Rattle.std.specs.Option.{option_map}
 use Rattle.std.proofs.lemmas.Bool.{and_parts, eqb-true}
 use Rattle.std.proofs.lemmas.Bool.Decides.{nat_tests}
 use Rattle.std.proofs.lemmas.Option.{none-some, same_Some}
-use Rattle.std.proofs.lemmas.Slice.Eq.{bytes_eq-Decides}
 use Rattle.patch_bytes.specs.Memory.{◌>>=◌}
 use Rattle.elf_format.specs.declared.constants.TheConstants.{DT_VERNEED, DT_VERNEEDNUM, SHN_LORESERVE, SHT_DYNSYM, SHT_SYMTAB}
 use Rattle.elf_format.specs.declared.records.SectionHeader.{SectionHeader}
@@ -22,23 +21,10 @@ use Rattle.elf_format.specs.Versions.{VersionName, VersionNeeds}
 use Rattle.elf_format.specs.Views.{NamedSymbol}
 use Rattle.elf_image.specs.ReadImage.{AreDynamicSymbols, AreStaticSymbols}
 use Rattle.elf_plan.specs.Needs.{do_needs_stay, is_empty, is_version_dropped, is_version_used, lists_needs, staying_names, staying_needs, with_staying_names, written_entries, written_needs}
-use Rattle.elf_plan.specs.Texts.{are_names_changed, are_same_texts, texts_of_symbols}
 use Rattle.elf_plan.proofs.PlacedLists.{Has, all-at, filter-from, find-at, slice_get-at}
 use Rattle.elf_written.proofs.WholeLists.{filter-same, map-same}
 
--- ## Names
-
-same_texts : (ts : List (List ℕ)) → are_same_texts ts ts ≡ true
-same_texts [] = refl
-same_texts (t ∷ ts) =
-    ap (λ (b : Bool). elim b as (λ _. Bool) [ true ↦ are_same_texts ts ts | _ ↦ false ]) ((bytes_eq-Decides t t).1 refl) ∙ same_texts ts
-
 module _ (read image : Image) (same : image.dynamic_symbols ≡ read.dynamic_symbols) where
-  pub names_same : are_names_changed read image ≡ false
-  names_same =
-      ap (λ (ys : List NamedSymbol). not (are_same_texts (texts_of_symbols read.dynamic_symbols) (texts_of_symbols ys))) same
-      ∙ ap not (same_texts (texts_of_symbols read.dynamic_symbols))
-
   -- ## Needed versions
 
   none_dropped : (index : ℕ) → is_version_dropped read image index ≡ false

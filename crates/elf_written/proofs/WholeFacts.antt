@@ -34,8 +34,9 @@ use Rattle.elf_plan.proofs.ApartSections.{at-sized, sized_of}
 use Rattle.elf_plan.proofs.PlacedLists.{slice_get-at}
 use Rattle.elf_plan.proofs.PlacedPlaces.{keeps_kind}
 use Rattle.elf_plan.proofs.PlacedRead.{at_read}
+use Rattle.elf_plan.proofs.SameTexts.{names_same}
 use Rattle.elf_written.proofs.WholeLists.{FoundAt, NonePasses, counted-at, find-is, find-no, first_at, map-same, same_items, there_at}
-use Rattle.elf_written.proofs.SameLists.{IsKnown, entries_same, known_below, known_dynamic, known_static, length-sections, names_same, needs_same}
+use Rattle.elf_written.proofs.SameLists.{IsKnown, entries_same, known_below, known_dynamic, known_static, length-sections, needs_same}
 
 -- ## The file that was read
 

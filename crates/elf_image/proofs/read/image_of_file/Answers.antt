@@ -9,7 +9,7 @@ use Rattle.elf_format.specs.Rules.{checked, placement_rules}
 use Rattle.elf_image.specs.ImageSteps.{image_gathered}
 use Rattle.elf_format.specs.File.{Parts}
 use Rattle.elf_image.specs.SymbolsRead.{AreSymbolsOfFile, AreSymbolsRead}
-use Rattle.elf_image.proofs.SymbolLists.{lists_of_file, of_what_is_there, source_is_file}
+use Rattle.elf_image.proofs.SymbolLists.{lists_of_file, of_what_is_there, read_keeps_symbols, source_is_file}
 use Rattle.elf_image.proofs.EditedLaws.{read_is_edited}
 use Rattle.elf_image.proofs.ReadSteps.{links_refused, no_image, open_refused, placement_refused, refused_is, texts_read}
 use Rattle.elf_image.proofs.read.image_of_file.Goals as goal
@@ -50,8 +50,9 @@ builder-requires c =
     (image_gathered parts) c.in_ok-gathered.gathered c.in_ok-gathered.ensures.image in
     record {
       edited = read_is_edited c.args.bytes.now image read;
-      lists = subst (λ (file : List ℕ). AreSymbolsOfFile file c.in_ok-gathered.gathered.read) (sym (source_is_file c.args.bytes.now image read))
-          (lists_of_file c.args.bytes.now parts c.in_ok-gathered.gathered.read c.in_ok-parts.ensures c.in_ok-gathered.ensures.lists);
+      lists = subst (λ (file : List ℕ). AreSymbolsOfFile file c.in_ok-gathered.gathered.named.lists) (sym (source_is_file c.args.bytes.now image read))
+          (lists_of_file c.args.bytes.now parts c.in_ok-gathered.gathered.named.lists c.in_ok-parts.ensures c.in_ok-gathered.ensures.lists);
+      symbols = read_keeps_symbols c.args.bytes.now image read;
     }
 
 answer_of : Image → Result Image ElfFault

@@ -13,4 +13,5 @@ invariant_of-result c = record {
   entries = written_staying c.args.read.now c.args.image.now c.in_ok-marks.marks.items c.is_without_needs-without_needs.result c.in_ok-marks.ensures
       (c.is_without_needs-without_needs.ensures
       ∙ ap (λ (m : List Bool). not (is_empty c.args.image.now.needs) && is_empty (unmarked_needs m c.args.image.now.needs)) c.deref.ensures.value);
+  symbols = c.requires;
 }
