@@ -1,9 +1,10 @@
 -- What readers do step by step: what was made so far, and what is still to be made of the rest.
 use Rattle.std.proofs.Common.{◌≡◌, ◌≤◌, ◌<◌, ℕ, zero, suc, ◌+◌, List, [], ◌∷◌, ◌++◌, length, take, drop, get_or, refl, sym, ap, ◌∙◌, subst, inl, inr, Option, Some, None, arith}
 use Rattle.std.specs.List.{slice_get}
-use Rattle.std.proofs.lemmas.List.{append-nil, append_assoc, drop_all, drop_more, take_more}
+use Rattle.std.proofs.lemmas.List.{append-nil, append_assoc, drop_all, drop_more}
 use Rattle.std.proofs.lemmas.Option.{slice_get-get_or, slice_get_past}
-use Rattle.std.proofs.lemmas.Bool.{cases_lt}
+use Rattle.std.proofs.lemmas.Bool.{cases_lt, eqb-true}
+use Rattle.memchr.specs.Find.{Nowhere, Passes, is_byte}
 use Rattle.patch_bytes.specs.Memory.{◌>>=◌, memory_of, text_at}
 use Rattle.patch_bytes.proofs.MemoryLaws.{some_bind}
 use Rattle.elf_format.specs.declared.view_fault.ViewFault.{ViewFault}
@@ -71,27 +72,23 @@ text_at-in (suc room) a xs long =
       | inr past ↦ ap (λ o. o >>= (after room xs a)) (slice_get_past xs a past) ∙ ap text_in (sym (drop_all a xs past))
     ]
 
-pub text_goes : (xs : List ℕ) (i : ℕ) (whole : Option (List ℕ)) → i < length xs → (get_or xs i 0 ≡ 0 → ⊥)
-    → with_front (take i xs) (text_in (drop i xs)) ≡ whole → with_front (take (i + 1) xs) (text_in (drop (i + 1) xs)) ≡ whole
+-- the first byte that is 0 ends the text
+pub text_found : (xs : List ℕ) (k : ℕ) → k < length xs → Passes (is_byte 0) xs k → Nowhere (Passes (is_byte 0) xs) 0 k → text_in xs ≡ Some (take k xs)
 unfolding text_in
-text_goes xs i whole less nonzero so_far = by_byte (get_or xs i 0) refl
-  where
-    by_byte : (b : ℕ) → get_or xs i 0 ≡ b → with_front (take (i + 1) xs) (text_in (drop (i + 1) xs)) ≡ whole
-    by_byte zero e = absurd (nonzero e)
-    by_byte (suc b) e =
-        ap (λ l. with_front l (text_in (drop (i + 1) xs))) (take_more xs i 0 less ∙ ap (λ c. take i xs ++ c ∷ []) e)
-        ∙ sym (with_front-cons (take i xs) (suc b) (text_in (drop (i + 1) xs)))
-        ∙ sym (ap (λ l. with_front (take i xs) (text_in l)) (drop_more xs i 0 less ∙ ap (λ c. c ∷ drop (i + 1) xs) e)) ∙ so_far
+text_found [] k less here before = absurd (omega arith)
+text_found (zero ∷ xs) zero less here before = refl
+text_found (zero ∷ xs) (suc k) less here before = absurd (before 0 (omega arith) (omega arith) refl)
+text_found (suc b ∷ xs) zero less here before = let is_zero : suc b ≡ 0 = eqb-true (suc b) 0 here in absurd (omega arith)
+text_found (suc b ∷ xs) (suc k) less here before =
+    ap (λ o. o >>= (λ rest. Some (suc b ∷ rest))) (text_found xs k (omega arith) here (λ i low high. before (suc i) (omega arith) (omega arith)))
 
-pub text_ends : (xs : List ℕ) (i : ℕ) (whole : Option (List ℕ)) → i < length xs → get_or xs i 0 ≡ 0
-    → with_front (take i xs) (text_in (drop i xs)) ≡ whole → whole ≡ Some (take i xs)
+-- with no byte that is 0 there is no text
+pub text_missing : (xs : List ℕ) → Nowhere (Passes (is_byte 0) xs) 0 (length xs) → text_in xs ≡ None
 unfolding text_in
-text_ends xs i whole less e so_far =
-    sym so_far ∙ ap (λ l. with_front (take i xs) (text_in l)) (drop_more xs i 0 less ∙ ap (λ c. c ∷ drop (i + 1) xs) e) ∙ ap Some (append-nil (take i xs))
-
-pub text_missing : (xs : List ℕ) (i : ℕ) (whole : Option (List ℕ)) → length xs ≤ i → with_front (take i xs) (text_in (drop i xs)) ≡ whole → whole ≡ None
-unfolding text_in
-text_missing xs i whole past so_far = sym so_far ∙ ap (λ l. with_front (take i xs) (text_in l)) (drop_all i xs past)
+text_missing [] none = refl
+text_missing (zero ∷ xs) none = absurd (none 0 (omega arith) (omega arith) refl)
+text_missing (suc b ∷ xs) none =
+    ap (λ o. o >>= (λ rest. Some (suc b ∷ rest))) (text_missing xs (λ i low high. none (suc i) (omega arith) (omega arith)))
 
 -- elements that stand for none
 abbrev pub no_symbol : SymbolNumbers

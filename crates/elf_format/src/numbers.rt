@@ -8,12 +8,13 @@ use crate::constants::VERSYM_HIDDEN;
 use crate::form::Form;
 use crate::records::{EntryNumbers, FileHeader, SectionHeader, SegmentHeader, SymbolNumbers};
 use crate::version_id::VersionId;
+use byteorder::{BigEndian, ByteOrder, LittleEndian};
 use patch_bytes::{ByteOrder2, Wide};
 
-// The number that eight bytes at most spell, the lowest first.
-fn low_first(bytes: &[u8]) -> u64
+// The number that eight bytes at most spell byte by byte, the lowest first.
+fn low_by_byte(bytes: &[u8]) -> u64
     requires { length bytes.now ≤ 8 }
-    ensures value { result ≡ low_first_value bytes.now }
+    ensures { result ≡ low_first_value bytes.now }
 {
     let mut number = 0;
     for i in 0..bytes.len() {
@@ -22,16 +23,44 @@ fn low_first(bytes: &[u8]) -> u64
     number
 }
 
-// The number that eight bytes at most spell, the highest first.
-fn high_first(bytes: &[u8]) -> u64
+// The same, the highest first.
+fn high_by_byte(bytes: &[u8]) -> u64
     requires { length bytes.now ≤ 8 }
-    ensures value { result ≡ high_first_value bytes.now }
+    ensures { result ≡ high_first_value bytes.now }
 {
     let mut number = 0;
     for byte in bytes {
         number = number * 256 + *byte as u64;
     }
     number
+}
+
+// The number that eight bytes at most spell, the lowest first: at once where they are a whole field.
+fn low_first(bytes: &[u8]) -> u64
+    requires { length bytes.now ≤ 8 }
+    ensures { result ≡ low_first_value bytes.now }
+{
+    match bytes.len() {
+        1 => bytes[0] as u64,
+        2 => LittleEndian::read_u16(bytes) as u64,
+        4 => LittleEndian::read_u32(bytes) as u64,
+        8 => LittleEndian::read_u64(bytes),
+        _ => low_by_byte(bytes),
+    }
+}
+
+// The same, the highest first.
+fn high_first(bytes: &[u8]) -> u64
+    requires { length bytes.now ≤ 8 }
+    ensures { result ≡ high_first_value bytes.now }
+{
+    match bytes.len() {
+        1 => bytes[0] as u64,
+        2 => BigEndian::read_u16(bytes) as u64,
+        4 => BigEndian::read_u32(bytes) as u64,
+        8 => BigEndian::read_u64(bytes),
+        _ => high_by_byte(bytes),
+    }
 }
 
 /// The bytes of a field at a position, as far as they are there. Takes no memory.

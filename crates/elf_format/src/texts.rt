@@ -3,6 +3,7 @@ ghost use Rattle.patch_bytes.specs.Memory.{memory_of, text_at};
 ghost use Rattle.elf_format.specs.Answers.{Gives, borrowed};
 
 use crate::view_fault::ViewFault;
+use memchr::memchr;
 
 /// The text from a place on, up to its NUL (gABI, String Table); `Absent` without it. Takes no memory.
 pub fn text(room: usize, bytes: &[u8], place: u64) -> Result<&[u8], ViewFault>
@@ -13,10 +14,8 @@ pub fn text(room: usize, bytes: &[u8], place: u64) -> Result<&[u8], ViewFault>
         return Err(ViewFault::Absent);
     }
     let rest = &bytes[place as usize..];
-    for (i, byte) in rest.iter().enumerate() {
-        if *byte == 0 {
-            return Ok(&rest[..i]);
-        }
+    match memchr(0, rest) {
+        Some(end) => Ok(&rest[..end]),
+        None => Err(ViewFault::Absent),
     }
-    Err(ViewFault::Absent)
 }

@@ -10,7 +10,7 @@ pub returns-in-Little : goal.returns-in-Little
 unfolding number_at
 returns-in-Little c =
     let are : AreBytes c.args.bytes.now = record { each = λ i. omega (arith, c.type_inv.bytes i) } in
-    let is : c.low_first.result ≡ number_at Little c.args.place.1 c.args.place.0 c.args.bytes.now = c.low_first.ensures.value ∙ ap low_first_value c.part-field.ensures in
+    let is : c.low_first.result ≡ number_at Little c.args.place.1 c.args.place.0 c.args.bytes.now = c.low_first.ensures ∙ ap low_first_value c.part-field.ensures in
     let below : number_at Little c.args.place.1 c.args.place.0 c.args.bytes.now < 256 ^ c.args.place.1 = number_at-below Little c.args.place.1 c.args.place.0 c.args.bytes.now are in
     record { value = rw c.in-Little.is is; below = subst (λ n. n < 256 ^ c.args.place.1) (sym is) below }
 
@@ -18,6 +18,6 @@ pub returns-in-Big : goal.returns-in-Big
 unfolding number_at
 returns-in-Big c =
     let are : AreBytes c.args.bytes.now = record { each = λ i. omega (arith, c.type_inv.bytes i) } in
-    let is : c.high_first.result ≡ number_at Big c.args.place.1 c.args.place.0 c.args.bytes.now = c.high_first.ensures.value ∙ ap high_first_value c.part-field.ensures in
+    let is : c.high_first.result ≡ number_at Big c.args.place.1 c.args.place.0 c.args.bytes.now = c.high_first.ensures ∙ ap high_first_value c.part-field.ensures in
     let below : number_at Big c.args.place.1 c.args.place.0 c.args.bytes.now < 256 ^ c.args.place.1 = number_at-below Big c.args.place.1 c.args.place.0 c.args.bytes.now are in
     record { value = rw c.in-Big.is is; below = subst (λ n. n < 256 ^ c.args.place.1) (sym is) below }

@@ -1,8 +1,8 @@
--- A text runs to the first NUL, which the loop looks for.
+-- A text runs to the first NUL.
 use Rattle.std.proofs.Common.{◌≡◌, ◌≤◌, ◌+◌, ◌-◌, List, ℕ, length, take, drop, sym, ap, ◌∙◌, arith}
 use Rattle.std.proofs.lemmas.List.{drop_all, take_rest}
 use Rattle.patch_bytes.specs.Memory.{memory_of, text_at}
-use Rattle.elf_format.proofs.ReadingSteps.{text_at-in, text_ends, text_goes, text_in, text_missing}
+use Rattle.elf_format.proofs.ReadingSteps.{text_at-in, text_found, text_in, text_missing}
 use Rattle.elf_format.proofs.texts.text.Goals as goal
 
 -- the text of what lies from the place on
@@ -14,17 +14,13 @@ unfolding text_in
 returns-then-place-bytes c =
     text_at-in c.args.room c.args.place c.args.bytes.now (omega arith) ∙ ap text_in (drop_all c.args.place c.args.bytes.now c.if-place-bytes.true)
 
-pub returns-then-byte-eq0 : goal.returns-then-byte-eq0
-returns-then-byte-eq0 c =
+pub returns-in-Some : goal.returns-in-Some
+returns-in-Some c =
     let rest : List ℕ = take (length c.args.bytes.now - c.args.place) (drop c.args.place c.args.bytes.now) in
-    text_of_rest c.args.room c.args.place c.args.bytes.now (omega arith) ∙ text_ends rest c.loop-i.i (text_in rest) c.loop-i-test.true c.if-byte-eq0.true c.loop-i.invariant
+    let found = c.in-Some.ensures in
+    text_of_rest c.args.room c.args.place c.args.bytes.now (omega arith) ∙ text_found rest c.in-Some.end found.0.high found.1 found.0.before
 
-pub loop-i-preserved : goal.loop-i-preserved
-loop-i-preserved c =
+pub returns-in-None : goal.returns-in-None
+returns-in-None c =
     let rest : List ℕ = take (length c.args.bytes.now - c.args.place) (drop c.args.place c.args.bytes.now) in
-    text_goes rest c.loop-i.i (text_in rest) c.loop-i-test.true c.if-byte-eq0.false c.loop-i.invariant
-
-pub returns : goal.returns
-returns c =
-    let rest : List ℕ = take (length c.args.bytes.now - c.args.place) (drop c.args.place c.args.bytes.now) in
-    text_of_rest c.args.room c.args.place c.args.bytes.now (omega arith) ∙ text_missing rest c.loop-i.i (text_in rest) c.loop-i-test.false c.loop-i.invariant
+    text_of_rest c.args.room c.args.place c.args.bytes.now (omega arith) ∙ text_missing rest c.in-None.ensures

@@ -1,7 +1,7 @@
 -- A byte more keeps the number below 2^64.
 use Rattle.std.proofs.Common.{◌-◌, arith, get_or, length}
 use Rattle.elf_format.proofs.NumberSteps.{one_more_fits}
-use Rattle.elf_format.proofs.numbers.low_first.Goals as goal
+use Rattle.elf_format.proofs.numbers.low_by_byte.Goals as goal
 
 pub overflow_mul-number : goal.overflow_mul-number
 overflow_mul-number c =

@@ -1,7 +1,7 @@
 -- A byte more keeps the number below 2^64, and is its lowest.
 use Rattle.std.proofs.Common.{arith, get_or}
 use Rattle.elf_format.proofs.NumberSteps.{high_first_value-more, one_more_below, one_more_fits}
-use Rattle.elf_format.proofs.numbers.high_first.Goals as goal
+use Rattle.elf_format.proofs.numbers.high_by_byte.Goals as goal
 
 pub overflow_mul-number : goal.overflow_mul-number
 overflow_mul-number c =
