@@ -464,3 +464,22 @@ fn reads_again_after_an_edit(rt: HostRuntime) {
         expect_again(&rt, VERSIONED, what, want);
     }
 }
+
+// Whether an image says that its symbols are those that were read, before and after an edit.
+fn are_symbols_kept(alloc: Global, file: &[u8]) -> Result<(bool, bool), ElfFault> {
+    let mut image = Builder::read(alloc, file)?;
+    let before = image.keeps_symbols();
+    image.set_os_abi(97);
+    Ok((before, image.keeps_symbols()))
+}
+
+fn expect_symbols_kept(rt: &impl Runtime, file: &[u8]) {
+    let kept = again!(rt; are_symbols_kept(rt.alloc(), file)).expect(rt, "an image");
+    same(rt, "symbols kept", &kept, &(true, true));
+}
+
+#[test]
+fn keeps_symbols(rt: HostRuntime) {
+    expect_symbols_kept(&rt, VERSIONED);
+    expect_symbols_kept(&rt, SMALL);
+}
