@@ -36,6 +36,13 @@ impl<'t> StringTable<'t> {
         }
     }
 
+    /// Gives room for so many texts more, so that adding them takes no more memory. The texts stay as they are.
+    pub fn reserve(&mut self, count: usize) -> Result<(), AllocError>
+        ensures { self.new ≡ self.old }
+    {
+        self.texts.reserve(count)
+    }
+
     /// Adds a text, which has no NUL in it.
     pub fn add(&mut self, text: &'t [u8]) -> Result<(), AllocError>
         requires { holds_nul text.now ≡ false }
