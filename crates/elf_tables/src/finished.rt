@@ -40,8 +40,8 @@ pub struct Finished<'t> {
     pub(crate) bytes: Vec<u8>,
     // The texts that the table was made of and where each stands, in the order in which they were laid.
     pub(crate) laid: Vec<(&'t [u8], u32)>,
-    // For each text, in the order in which they were added, which of those that were laid it is. Where that is wrong,
-    // a text is searched for.
+    // For each text, in the order in which they were added, which of those that were laid it is, as far as that is
+    // known.
     pub(crate) order: Vec<u32>,
     // The texts that were placed, and where.
     pub(crate) placed: HashMap<&'t [u8], u32>,

@@ -56,24 +56,24 @@ fn length_of(texts: &[Keyed<'_>]) -> usize
     ensures { result ≡ min (laid_length texts.now) (2 ^ 32) }
 {
     let mut length: usize = 1;
-    let mut last: &[u8] = &[];
+    let mut before: &[u8] = &[];
     for keyed in texts {
         let text = keyed.text();
-        if !last.ends_with(text) {
+        if !before.ends_with(text) {
             length = (length + text.len() + 1).min(MOST_BYTES);
         }
-        last = text;
+        before = text;
     }
     length
 }
 
 // A table of no text, with room for so many bytes.
 fn begun(alloc: Global, room: usize) -> Result<Vec<u8>, AllocError>
-    ensures { IfOk result (λ bytes. bytes.items ≡ 0 ∷ []) }
+    ensures { IfOk result (λ table. table.items ≡ 0 ∷ []) }
 {
-    let mut bytes = Vec::with_capacity(alloc, room)?;
-    bytes.push(0)?;
-    Ok(bytes)
+    let mut table = Vec::with_capacity(alloc, room)?;
+    table.push(0)?;
+    Ok(table)
 }
 
 // The table of texts in an order in which each stands behind those that end with it. Each stands within the one

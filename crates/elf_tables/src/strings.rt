@@ -36,7 +36,7 @@ impl<'t> StringTable<'t> {
         }
     }
 
-    /// Gives room for so many texts more, so that adding them takes no more memory. The texts stay as they are.
+    /// Gives room for so many texts more, before they are added. The texts stay as they are, also where memory is refused.
     pub fn reserve(&mut self, count: usize) -> Result<(), AllocError>
         ensures { self.new ≡ self.old }
     {
