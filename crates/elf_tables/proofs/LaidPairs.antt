@@ -13,7 +13,7 @@ use Rattle.std.proofs.lemmas.List.Elements.{All-push}
 use Rattle.std.proofs.lemmas.List.Sorted.{sorted_far}
 use Rattle.std.proofs.lemmas.Map.Text.{is_eq-slice_cmp}
 use Rattle.std.proofs.lemmas.Option.{none-some}
-use Rattle.elf_tables.specs.StringSteps.{AreTold, AreToldOf, by_bytes, is_before}
+use Rattle.elf_tables.specs.StringSteps.{AreTold, by_bytes, is_before}
 use Rattle.elf_tables.proofs.TextLists.{Contains-from_Holds, Holds-from_any, by_test}
 use Rattle.elf_tables.proofs.TextOrder.{is_before-order}
 
@@ -138,28 +138,15 @@ abbrev shown_pair : Bor (List ℕ) × ℕ → List ℕ × ℕ
 shown_pair entry = (entry.0.now, entry.1)
 
 -- the pair at a position tells of its text what was laid
-told_there : (laid : List (List ℕ × ℕ)) (pairs : List (Bor (List ℕ) × ℕ)) (i : ℕ) (d : Bor (List ℕ) × ℕ) → AreToldOf laid (by_bytes pairs) → i < length pairs
-    → lookup (bytes_eq (get_or pairs i d).0.now) laid ≡ Some (get_or pairs i d).1
-told_there laid pairs i d told within =
-    let at : get_or (by_bytes pairs) i (shown_pair d) ≡ shown_pair (get_or pairs i d) = get_or-map shown_pair pairs i d (shown_pair d) within in
-    subst (λ (p : List ℕ × ℕ). lookup (bytes_eq p.0) laid ≡ Some p.1) at (told i (shown_pair d) (omega (arith, length-map pairs shown_pair)))
+told_there : (laid : List (Bor (List ℕ) × ℕ)) (i : ℕ) (d : Bor (List ℕ) × ℕ) → AreTold (by_bytes laid) → i < length laid
+    → lookup (bytes_eq (get_or laid i d).0.now) (by_bytes laid) ≡ Some (get_or laid i d).1
+told_there laid i d told within =
+    let at : get_or (by_bytes laid) i (shown_pair d) ≡ shown_pair (get_or laid i d) = get_or-map shown_pair laid i d (shown_pair d) within in
+    subst (λ (p : List ℕ × ℕ). lookup (bytes_eq p.0) (by_bytes laid) ≡ Some p.1) at (told i (shown_pair d) (omega (arith, length-map laid shown_pair)))
 
 -- so it tells that of each text that is the same
-pub told_at : (text : List ℕ) (laid : List (List ℕ × ℕ)) (pairs : List (Bor (List ℕ) × ℕ)) (i : ℕ) (d : Bor (List ℕ) × ℕ) → AreToldOf laid (by_bytes pairs) → i < length pairs
-    → bytes_eq text (get_or pairs i d).0.now ≡ true → lookup (bytes_eq text) laid ≡ Some (get_or pairs i d).1
-told_at text laid pairs i d told within itself =
-    let e : text ≡ (get_or pairs i d).0.now = (bytes_decides text (get_or pairs i d).0.now).0 itself in
-    subst (λ (t : List ℕ). lookup (bytes_eq t) laid ≡ Some (get_or pairs i d).1) (sym e) (told_there laid pairs i d told within)
-
--- ## Pairs in another order
-
-pub none_told : (laid : List (List ℕ × ℕ)) → AreToldOf laid (by_bytes [])
-none_told laid k d within = absurd (omega (arith, within))
-
--- one more of those that were laid
-pub told_more : (laid pairs new : List (Bor (List ℕ) × ℕ)) (i : ℕ) (d : Bor (List ℕ) × ℕ) → AreTold (by_bytes laid) → AreToldOf (by_bytes laid) (by_bytes pairs) → i < length laid
-    → new ≡ pairs ++ get_or laid i d ∷ [] → AreToldOf (by_bytes laid) (by_bytes new)
-told_more laid pairs new i d told before within is =
-    let pushed : by_bytes new ≡ by_bytes pairs ++ shown_pair (get_or laid i d) ∷ [] = ap by_bytes is ∙ map-append shown_pair pairs (get_or laid i d ∷ []) in
-    subst (λ (ps : List (List ℕ × ℕ)). AreToldOf (by_bytes laid) ps) (sym pushed)
-    (All-push (λ (pair : List ℕ × ℕ). lookup (bytes_eq pair.0) (by_bytes laid) ≡ Some pair.1) (by_bytes pairs) (shown_pair (get_or laid i d)) before (told_there (by_bytes laid) laid i d told within))
+pub told_at : (text : List ℕ) (laid : List (Bor (List ℕ) × ℕ)) (i : ℕ) (d : Bor (List ℕ) × ℕ) → AreTold (by_bytes laid) → i < length laid
+    → bytes_eq text (get_or laid i d).0.now ≡ true → lookup (bytes_eq text) (by_bytes laid) ≡ Some (get_or laid i d).1
+told_at text laid i d told within itself =
+    let e : text ≡ (get_or laid i d).0.now = (bytes_decides text (get_or laid i d).0.now).0 itself in
+    subst (λ (t : List ℕ). lookup (bytes_eq t) (by_bytes laid) ≡ Some (get_or laid i d).1) (sym e) (told_there laid i d told within)

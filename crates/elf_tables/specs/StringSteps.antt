@@ -22,13 +22,9 @@ laid_length texts = 1 + sum_by size_of_text (appended [] texts)
 abbrev pub by_bytes : List (Bor (List ℕ) × ℕ) → List (List ℕ × ℕ)
 by_bytes entries = map (λ entry. (entry.0.now, entry.1)) entries
 
--- each of these pairs tells of its text what the first of those that were laid with this text tells
-abbrev pub AreToldOf : List (List ℕ × ℕ) → List (List ℕ × ℕ) → Type 0
-AreToldOf laid pairs = All (λ pair. lookup (bytes_eq pair.0) laid ≡ Some pair.1) pairs
-
 -- each of these pairs tells of its text what the first of them with this text tells
 abbrev pub AreTold : List (List ℕ × ℕ) → Type 0
-AreTold pairs = AreToldOf pairs pairs
+AreTold pairs = All (λ pair. lookup (bytes_eq pair.0) pairs ≡ Some pair.1) pairs
 
 -- the order in which texts are laid, those that end others behind them
 abbrev pub is_before : List ℕ → List ℕ → Bool

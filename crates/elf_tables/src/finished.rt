@@ -1,8 +1,8 @@
-ghost use Rattle.std.specs.Prelude.{ℕ, ◌↔◌, ◌≡◌, List, Some, IfSome, IsTrue};
+ghost use Rattle.std.specs.Prelude.{◌↔◌, ◌≡◌, Some, IfSome, IsTrue};
 ghost use Rattle.std.specs.Map.{lookup};
 ghost use Rattle.std.specs.Str.{bytes_eq};
 ghost use Rattle.elf_tables.specs.Strings.{StandsAt as StandsThere};
-ghost use Rattle.elf_tables.specs.StringSteps.{AreTold, AreToldOf, StandsWith, by_bytes};
+ghost use Rattle.elf_tables.specs.StringSteps.{AreTold, StandsWith, by_bytes};
 
 use crate::keyed::from_their_ends;
 use std::alloc::{AllocError, Global};
@@ -40,8 +40,9 @@ pub struct Finished<'t> {
     pub(crate) bytes: Vec<u8>,
     // The texts that the table was made of and where each stands, in the order in which they were laid.
     pub(crate) laid: Vec<(&'t [u8], u32)>,
-    // The same texts with their places, in the order in which they were added, as far as that is known.
-    pub(crate) added: Vec<(&'t [u8], u32)>,
+    // For each text, in the order in which they were added, which of those that were laid it is, as far as that is
+    // known.
+    pub(crate) order: Vec<u32>,
     // The texts that were placed, and where.
     pub(crate) placed: HashMap<&'t [u8], u32>,
 }
@@ -49,7 +50,7 @@ pub struct Finished<'t> {
 impl<'t> Model for Finished<'t> {
     ghost use Rattle.std.specs.Prelude.{◌++◌};
     ghost use Rattle.elf_tables.specs.Strings.{PlacesStand, Strings};
-    ghost use Rattle.elf_tables.specs.StringSteps.{AreTold, AreToldOf, by_bytes};
+    ghost use Rattle.elf_tables.specs.StringSteps.{AreTold, by_bytes};
 
     ghost Value = { Strings };
 
@@ -61,8 +62,7 @@ impl<'t> Model for Finished<'t> {
     ghost invariant = { λ f. PlacesStand (record {
       bytes = f.bytes.items;
       places = by_bytes f.placed.entries ++ by_bytes f.laid.items;
-    }) × AreTold (by_bytes f.laid.items)
-        × AreToldOf (by_bytes f.laid.items) (by_bytes f.added.items) };
+    }) × AreTold (by_bytes f.laid.items) };
 }
 
 // Where a text was laid, which is looked for from the first on.
@@ -77,13 +77,24 @@ fn place_from_first(laid: &[(&[u8], u32)], text: &[u8]) -> Option<u32>
     None
 }
 
-// The place at a position of pairs that tell what was laid, where that text is there.
-fn place_at(pairs: &[(&[u8], u32)], i: usize, text: &[u8]) -> Option<u32>
-    ensures { (laid : List (List ℕ × ℕ)) → AreToldOf laid (by_bytes pairs.now)
-        → IfSome result (λ place. lookup (bytes_eq text.now) laid ≡ Some place) }
+// The place at a position of what was laid, where that text is there.
+fn place_at(laid: &[(&[u8], u32)], i: usize, text: &[u8]) -> Option<u32>
+    requires { AreTold (by_bytes laid.now) }
+    ensures { IfSome result (λ place. lookup (bytes_eq text.now) (by_bytes laid.now) ≡ Some place) }
 {
-    if i < pairs.len() && text == pairs[i].0 {
-        return Some(pairs[i].1);
+    if i < laid.len() && text == laid[i].0 {
+        return Some(laid[i].1);
+    }
+    None
+}
+
+// Where a text was laid that was added behind so many others, where the order tells of it.
+fn place_of_nth(laid: &[(&[u8], u32)], order: &[u32], nth: usize, text: &[u8]) -> Option<u32>
+    requires { AreTold (by_bytes laid.now) }
+    ensures { IfSome result (λ place. lookup (bytes_eq text.now) (by_bytes laid.now) ≡ Some place) }
+{
+    if nth < order.len() {
+        return place_at(laid, order[nth] as usize, text);
     }
     None
 }
@@ -114,7 +125,7 @@ impl<'t> Finished<'t> {
         Finished {
             bytes,
             laid: Vec::new(alloc),
-            added: Vec::new(alloc),
+            order: Vec::new(alloc),
             placed: HashMap::new(alloc),
         }
     }
@@ -161,7 +172,7 @@ impl<'t> Finished<'t> {
         ensures stands { IfSome result (λ place. StandsAt self.now.bytes place text.now) }
     {
         if self.placed.is_empty() {
-            if let Some(place) = place_at(&self.added, nth, text) {
+            if let Some(place) = place_of_nth(&self.laid, &self.order, nth, text) {
                 return Some(place);
             }
         }

@@ -1,9 +1,9 @@
-ghost use Rattle.std.specs.Prelude.{◌≡◌, ◌≤◌, ◌<◌, ◌^◌, ◌+◌, false, length, nat_eq, IfOk, MatchResult};
+ghost use Rattle.std.specs.Prelude.{◌≡◌, ◌≤◌, ◌<◌, ◌^◌, ◌+◌, [], ◌∷◌, false, length, min, nat_eq, IfOk, MatchResult};
 ghost use Rattle.std.specs.List.{ends_with};
 ghost use Rattle.std.specs.List.Sorted.{IsSortedBy};
 ghost use Rattle.elf_tables.specs.declared.fault.TableFault.TheVariants.{NumberTooLarge};
 ghost use Rattle.elf_tables.specs.Strings.{HoldNoNul};
-ghost use Rattle.elf_tables.specs.StringSteps.{AreTold, AreToldOf, IsLaid, PutsText, by_bytes, is_before, StandsWith, laid_length};
+ghost use Rattle.elf_tables.specs.StringSteps.{IsLaid, PutsText, is_before, StandsWith, laid_length};
 
 use crate::fault::TableFault;
 use crate::finished::Finished;
@@ -51,24 +51,29 @@ fn order_of(alloc: Global, texts: &[Keyed<'_>]) -> Result<Vec<u32>, AllocError>
     Ok(order)
 }
 
-// The texts with their places in another order, as far as that names some that were laid.
-fn in_order<'t>(
-    alloc: Global,
-    order: &[u32],
-    laid: &[(&'t [u8], u32)],
-) -> Result<Vec<(&'t [u8], u32)>, AllocError>
-    requires { AreTold (by_bytes laid.now) }
-    ensures { IfOk result (λ made. AreToldOf (by_bytes laid.now) (by_bytes made.items)) }
+// How many bytes the table of these texts has, or the most that one may have where that is less.
+fn length_of(texts: &[Keyed<'_>]) -> usize
+    ensures { result ≡ min (laid_length texts.now) (2 ^ 32) }
 {
-    let mut made = Vec::with_capacity(alloc, order.len())?;
-    for i in order {
-        let i = *i as usize;
-        if i >= laid.len() {
-            return Ok(made);
+    let mut length: usize = 1;
+    let mut before: &[u8] = &[];
+    for keyed in texts {
+        let text = keyed.text();
+        if !before.ends_with(text) {
+            length = (length + text.len() + 1).min(MOST_BYTES);
         }
-        made.push(laid[i])?;
+        before = text;
     }
-    Ok(made)
+    length
+}
+
+// A table of no text, with room for so many bytes.
+fn begun(alloc: Global, room: usize) -> Result<Vec<u8>, AllocError>
+    ensures { IfOk result (λ table. table.items ≡ 0 ∷ []) }
+{
+    let mut table = Vec::with_capacity(alloc, room)?;
+    table.push(0)?;
+    Ok(table)
 }
 
 // The table of texts in an order in which each stands behind those that end with it. Each stands within the one
@@ -80,7 +85,7 @@ pub(crate) fn lay<'t>(alloc: Global, texts: &[Keyed<'t>]) -> Result<Finished<'t>
         (IsLaid texts.now)
         (λ fault. fault ≡ NumberTooLarge → 2 ^ 32 < laid_length texts.now) }
 {
-    let mut bytes = Vec::from_slice(alloc, &[0])?;
+    let mut bytes = begun(alloc, length_of(texts))?;
     let mut laid = Vec::with_capacity(alloc, texts.len())?;
     let mut last: &[u8] = &[];
     let mut place = 0;
@@ -91,11 +96,10 @@ pub(crate) fn lay<'t>(alloc: Global, texts: &[Keyed<'t>]) -> Result<Finished<'t>
         last = text;
     }
     let order = order_of(alloc, texts)?;
-    let added = in_order(alloc, &order, &laid)?;
     Ok(Finished {
         bytes,
         laid,
-        added,
+        order,
         placed: HashMap::new(alloc),
     })
 }

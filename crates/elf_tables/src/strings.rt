@@ -36,6 +36,13 @@ impl<'t> StringTable<'t> {
         }
     }
 
+    /// Gives room for so many texts more, before they are added. The texts stay as they are, also where memory is refused.
+    pub fn reserve(&mut self, count: usize) -> Result<(), AllocError>
+        ensures { self.new ≡ self.old }
+    {
+        self.texts.reserve(count)
+    }
+
     /// Adds a text, which has no NUL in it.
     pub fn add(&mut self, text: &'t [u8]) -> Result<(), AllocError>
         requires { holds_nul text.now ≡ false }

@@ -61,9 +61,10 @@ fn add<'t>(
     again!(rt; table.add(text))
 }
 
-// The table of these texts.
+// The table of these texts, of which half have room before they are added.
 fn finished<'t>(rt: &impl Runtime, texts: &[&'t [u8]]) -> Result<Finished<'t>, TableFault> {
     let mut table = StringTable::new(rt.alloc());
+    again!(rt; table.reserve(texts.len() / 2))?;
     for text in texts {
         add(rt, &mut table, text)?;
     }

@@ -2,12 +2,12 @@ use Rattle.std.proofs.Common.{◌≡◌, ℕ, List, ◌++◌, get_or, false, sub
 use Rattle.std.specs.Borrow.{Bor}
 use Rattle.std.proofs.lemmas.Result.{err_from_is_err_and}
 use Rattle.elf_tables.specs.Strings.{PlacesStand, holds_nul}
-use Rattle.elf_tables.specs.StringSteps.{AreTold, AreToldOf, IsLaid, by_bytes}
+use Rattle.elf_tables.specs.StringSteps.{AreTold, IsLaid, by_bytes}
 use Rattle.elf_tables.proofs.LaySteps.{growing-all, growing-more, growing-start, growing-too_long}
 use Rattle.elf_tables.proofs.laid.lay.Goals as goal
 
 pub loop-keyed-init : goal.loop-keyed-init
-loop-keyed-init c = growing-start c.args.texts.now c.in_ok-bytes.bytes.items c.in_ok-laid.laid.items c.in_ok-bytes.ensures.items c.in_ok-laid.ensures.items
+loop-keyed-init c = growing-start c.args.texts.now c.in_ok-bytes.bytes.items c.in_ok-laid.laid.items c.in_ok-bytes.ensures c.in_ok-laid.ensures.items
 
 pub returns-in_err-place : goal.returns-in_err-place
 returns-in_err-place c =
@@ -32,10 +32,8 @@ invariant_of-result c =
     let P : List (Bor (List ℕ) × ℕ) → Type 0 = λ es. PlacesStand (record {
       bytes = c.loop-keyed.bytes.items;
       places = by_bytes es ++ by_bytes c.loop-keyed.laid.items;
-    }) × AreTold (by_bytes c.loop-keyed.laid.items) × AreToldOf (by_bytes c.loop-keyed.laid.items) (by_bytes c.in_ok-added.added.items) in
-    let added : AreToldOf (by_bytes c.loop-keyed.laid.items) (by_bytes c.in_ok-added.added.items) =
-    subst (λ (l : List (Bor (List ℕ) × ℕ)). AreToldOf (by_bytes l) (by_bytes c.in_ok-added.added.items)) c.deref-2.ensures.value c.in_ok-added.ensures in
-    subst P (sym c.new.ensures.empty) (c.loop-keyed.invariant.stand, c.loop-keyed.invariant.told, added)
+    }) × AreTold (by_bytes c.loop-keyed.laid.items) in
+    subst P (sym c.new.ensures.empty) (c.loop-keyed.invariant.stand, c.loop-keyed.invariant.told)
 
 pub returns : goal.returns
 returns c =

@@ -5,7 +5,7 @@ use Rattle.std.specs.Map.{lookup}
 use Rattle.std.specs.Str.{bytes_eq}
 use Rattle.std.proofs.lemmas.List.{nil_from_length}
 use Rattle.elf_tables.specs.Strings.{PlacesStand}
-use Rattle.elf_tables.specs.StringSteps.{AreToldOf, by_bytes}
+use Rattle.elf_tables.specs.StringSteps.{by_bytes}
 use Rattle.elf_tables.proofs.LaySteps.{told_stands}
 use Rattle.elf_tables.proofs.finished.Finished.offset_of_nth.Goals as goal
 
@@ -14,9 +14,9 @@ returns-in-Some-clause-place c =
     let text : List ℕ = c.args.text.now in
     let none : c.self.inside.placed.entries ≡ [] = nil_from_length c.self.inside.placed.entries (c.is_empty.ensures.0 c.if-is_empty.true) in
     let P : List (Bor (List ℕ) × ℕ) → Type 0 = λ es. Some c.in-Some.place ≡ lookup (bytes_eq text) (by_bytes es ++ by_bytes c.self.inside.laid.items) in
-    let told : AreToldOf (by_bytes c.self.inside.laid.items) (by_bytes c.deref.result.now) =
-    subst (λ (l : List (Bor (List ℕ) × ℕ)). AreToldOf (by_bytes c.self.inside.laid.items) (by_bytes l)) (sym c.deref.ensures.value) c.self.invariant.2 in
-    subst P (sym none) (sym (c.in-Some.ensures (by_bytes c.self.inside.laid.items) told))
+    let told : lookup (bytes_eq text) (by_bytes c.self.inside.laid.items) ≡ Some c.in-Some.place =
+    subst (λ (l : List (Bor (List ℕ) × ℕ)). lookup (bytes_eq text) (by_bytes l) ≡ Some c.in-Some.place) c.deref.ensures.value c.in-Some.ensures in
+    subst P (sym none) (sym told)
     ∙ ap (λ table. lookup (bytes_eq text) table.places) c.self.view_is
 
 pub returns-in-Some-clause-stands : goal.returns-in-Some-clause-stands

@@ -3,7 +3,7 @@ use Rattle.std.proofs.Common.{◌++◌, List, ℕ, Some, subst, sym}
 use Rattle.std.specs.Borrow.{Bor}
 use Rattle.std.proofs.lemmas.Map.Text.{hash_map_updates_str}
 use Rattle.elf_tables.specs.Strings.{IsPlaced, PlacesStand, StandsAt, Strings}
-use Rattle.elf_tables.specs.StringSteps.{AreTold, AreToldOf, by_bytes}
+use Rattle.elf_tables.specs.StringSteps.{AreTold, by_bytes}
 use Rattle.elf_tables.proofs.LaySteps.{PutsPlace, puts-from, puts-joined}
 use Rattle.elf_tables.proofs.PlacingSteps.{is-placed, placed-stand}
 use Rattle.elf_tables.proofs.finished.Finished.place.Goals as goal
@@ -18,7 +18,7 @@ pub invariant_of-self : goal.invariant_of-self
 invariant_of-self c =
     let laid : List (List ℕ × ℕ) = by_bytes c.self.inside.laid.items in
     let P : List (Bor (List ℕ) × ℕ) → Type 0 = λ es. PlacesStand (record { bytes = c.self.inside.bytes.items; places = by_bytes es ++ laid })
-    × AreTold laid × AreToldOf laid (by_bytes c.self.inside.added.items) in
+    × AreTold laid in
     subst P (sym c.in_err-insert.ensures.err) c.self.invariant
 
 pub returns-in_err-insert-clause-stands : goal.returns-in_err-insert-clause-stands
@@ -47,7 +47,7 @@ stand c =
     c.self.invariant.0 (puts c) here
 
 pub invariant_of-self-2 : goal.invariant_of-self-2
-invariant_of-self-2 c = (stand c, c.self.invariant.1, c.self.invariant.2)
+invariant_of-self-2 c = (stand c, c.self.invariant.1)
 
 pub returns-clause-ok : goal.returns-clause-ok
 returns-clause-ok c =
