@@ -67,6 +67,7 @@ fn table_of<'t>(alloc: Global, texts: &[&'t [u8]]) -> Result<Finished<'t>, Table
     ensures stands { IfOk result PlacesStand }
 {
     let mut table = StringTable::new(alloc);
+    table.reserve(texts.len())?;
     for text in texts {
         table.add(*text)?;
     }
