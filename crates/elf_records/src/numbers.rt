@@ -5,34 +5,37 @@ ghost use Rattle.elf_records.specs.Fields.{fields, halves, words};
 use patch_bytes::ByteOrder2;
 use std::alloc::AllocError;
 
-// The bytes of a number of two bytes.
+// The bytes of a number of two bytes. It is turned as a whole, which takes one instruction, and not byte by byte.
 pub(crate) fn half_bytes(order: ByteOrder2, number: u16) -> [u8; 2]
     ensures { result ≡ bytes_of order 2 number }
 {
-    match order {
-        ByteOrder2::Little => number.to_le_bytes(),
-        ByteOrder2::Big => number.to_be_bytes(),
-    }
+    let turned = match order {
+        ByteOrder2::Little => number.swap_bytes(),
+        ByteOrder2::Big => number,
+    };
+    turned.to_be_bytes()
 }
 
 // The bytes of a number of four bytes.
 pub(crate) fn word_bytes(order: ByteOrder2, number: u32) -> [u8; 4]
     ensures { result ≡ bytes_of order 4 number }
 {
-    match order {
-        ByteOrder2::Little => number.to_le_bytes(),
-        ByteOrder2::Big => number.to_be_bytes(),
-    }
+    let turned = match order {
+        ByteOrder2::Little => number.swap_bytes(),
+        ByteOrder2::Big => number,
+    };
+    turned.to_be_bytes()
 }
 
 // The bytes of a number of eight bytes.
 pub(crate) fn long_bytes(order: ByteOrder2, number: u64) -> [u8; 8]
     ensures { result ≡ bytes_of order 8 number }
 {
-    match order {
-        ByteOrder2::Little => number.to_le_bytes(),
-        ByteOrder2::Big => number.to_be_bytes(),
-    }
+    let turned = match order {
+        ByteOrder2::Little => number.swap_bytes(),
+        ByteOrder2::Big => number,
+    };
+    turned.to_be_bytes()
 }
 
 /// Appends numbers of two bytes. Where memory is refused some of them may be there already.

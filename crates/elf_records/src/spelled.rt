@@ -1,6 +1,6 @@
 //! Each record is appended to bytes, as its class and byte order have it. The caller sees that each number fits its field:
 //! in a 32-bit file addresses, offsets and sizes have 32 bits.
-ghost use Rattle.std.specs.Prelude.{◌≡◌, ◌++◌, map, IsTrue, OnOk};
+ghost use Rattle.std.specs.Prelude.{◌≡◌, [], ◌∷◌, ◌++◌, map, IsTrue, OnOk};
 ghost use Rattle.elf_records.specs.Fields.{do_fields_fit, does_field_fit, field_seen, fields};
 ghost use Rattle.elf_records.specs.Spelled.{class_number as number_of_class, class_word as word_of_class, entry_fields, file_header_fields, header_fields, identification_fields, order_number as number_of_order, narrow_segment_fields, narrow_symbol_fields, section_fields, segment_fields, symbol_fields, wide_segment_fields, wide_symbol_fields};
 ghost use Rattle.elf_records.specs.Spelled.{spelled_entry, spelled_file_header, spelled_section_header, spelled_segment_header, spelled_symbol};
@@ -115,34 +115,43 @@ fn section_numbers(form: Form, s: SectionHeader) -> [Field; 10]
     ]
 }
 
-// The bytes of a symbol of a 32-bit file.
-fn narrow_symbol(order: ByteOrder2, y: SymbolNumbers) -> [u8; 16]
-    requires { IsTrue (do_fields_fit (narrow_symbol_fields y)) }
-    ensures { result ≡ fields order (narrow_symbol_fields y) }
+// The four bytes of a symbol that are no word: what it is, how it is seen, its section.
+fn kind_bytes(order: ByteOrder2, y: SymbolNumbers) -> [u8; 4]
+    ensures { result ≡ fields order ((1, y.st_info) ∷ (1, y.st_other) ∷ (2, y.st_shndx) ∷ []) }
 {
-    let name = word_bytes(order, y.st_name);
-    let value = word_bytes(order, y.st_value as u32);
-    let size = word_bytes(order, y.st_size as u32);
     let section = half_bytes(order, y.st_shndx);
-    [
-        name[0], name[1], name[2], name[3], value[0], value[1], value[2], value[3], size[0],
-        size[1], size[2], size[3], y.st_info, y.st_other, section[0], section[1],
-    ]
+    [y.st_info, y.st_other, section[0], section[1]]
 }
 
-// The bytes of a symbol of a 64-bit file.
-fn wide_symbol(order: ByteOrder2, y: SymbolNumbers) -> [u8; 24]
-    ensures { result ≡ fields order (wide_symbol_fields y) }
+// Appends a symbol of a 32-bit file.
+fn push_narrow_symbol(
+    bytes: &mut Vec<u8>,
+    order: ByteOrder2,
+    y: SymbolNumbers,
+) -> Result<(), AllocError>
+    requires { IsTrue (do_fields_fit (narrow_symbol_fields y)) }
+    ensures { OnOk result (bytes.new.items
+        ≡ bytes.old.items ++ fields order (narrow_symbol_fields y)) }
 {
-    let name = word_bytes(order, y.st_name);
-    let section = half_bytes(order, y.st_shndx);
-    let value = long_bytes(order, y.st_value);
-    let size = long_bytes(order, y.st_size);
-    [
-        name[0], name[1], name[2], name[3], y.st_info, y.st_other, section[0], section[1],
-        value[0], value[1], value[2], value[3], value[4], value[5], value[6], value[7], size[0],
-        size[1], size[2], size[3], size[4], size[5], size[6], size[7],
-    ]
+    bytes.extend_from_slice(&word_bytes(order, y.st_name))?;
+    bytes.extend_from_slice(&word_bytes(order, y.st_value as u32))?;
+    bytes.extend_from_slice(&word_bytes(order, y.st_size as u32))?;
+    bytes.extend_from_slice(&kind_bytes(order, y))
+}
+
+// Appends a symbol of a 64-bit file.
+fn push_wide_symbol(
+    bytes: &mut Vec<u8>,
+    order: ByteOrder2,
+    y: SymbolNumbers,
+) -> Result<(), AllocError>
+    ensures { OnOk result (bytes.new.items
+        ≡ bytes.old.items ++ fields order (wide_symbol_fields y)) }
+{
+    bytes.extend_from_slice(&word_bytes(order, y.st_name))?;
+    bytes.extend_from_slice(&kind_bytes(order, y))?;
+    bytes.extend_from_slice(&long_bytes(order, y.st_value))?;
+    bytes.extend_from_slice(&long_bytes(order, y.st_size))
 }
 
 /// Appends a symbol, its name by where it stands in a string table (gABI, Symbol Table).
@@ -151,8 +160,8 @@ pub fn push_symbol(bytes: &mut Vec<u8>, form: Form, symbol: SymbolNumbers) -> Re
     ensures { OnOk result (bytes.new.items ≡ bytes.old.items ++ spelled_symbol form symbol) }
 {
     match form.wide {
-        Wide::W32 => bytes.extend_from_slice(&narrow_symbol(form.order, symbol)),
-        Wide::W64 => bytes.extend_from_slice(&wide_symbol(form.order, symbol)),
+        Wide::W32 => push_narrow_symbol(bytes, form.order, symbol),
+        Wide::W64 => push_wide_symbol(bytes, form.order, symbol),
     }
 }
 
