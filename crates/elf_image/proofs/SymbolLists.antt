@@ -6,7 +6,7 @@ use Rattle.elf_format.specs.File.{Parts}
 use Rattle.elf_format.specs.Image.{Image, image_of}
 use Rattle.elf_format.specs.Stages.{parts_read}
 use Rattle.elf_image.specs.declared.symbol_lists.SymbolLists.{SymbolLists}
-use Rattle.elf_image.specs.SymbolsRead.{AreSymbolsOfFile, AreSymbolsRead, KeepsSymbols}
+use Rattle.elf_image.specs.SymbolsRead.{AreSymbolsOf, AreSymbolsOfFile, AreSymbolsRead, KeepsSymbols}
 use Rattle.elf_image.proofs.ReadImageLaws.{read_images_hold_parts}
 
 -- what holds of what is there gives something else of it
@@ -21,18 +21,22 @@ same_Ok x y h = cc
 same_answer : {A : Type 0} → (x y : A) (r : Result A ElfFault) → r ≡ Ok x → r ≡ Ok y → x ≡ y
 same_answer x y r first second = same_Ok x y (sym first ∙ second)
 
--- lists of the symbols of a file's parts are lists of the file
-pub lists_of_file : (file : List ℕ) (p : Parts) (lists : SymbolLists) → parts_read file ≡ Ok p → AreSymbolsRead p lists → AreSymbolsOfFile file lists
-lists_of_file file p lists there are q again = subst (λ (r : Parts). AreSymbolsRead r lists) (same_answer p q (parts_read file) there again) are
-
 -- an image of a file has the file's bytes
 pub source_is_file : (file : List ℕ) (image : Image) → image_of file ≡ Ok image → image.source ≡ file
 source_is_file file image h =
     let (p, _, parts, _, holds) = read_images_hold_parts file image h in
     holds.source ∙ parts.same_file
 
--- the image that a file is read as has its symbols
-pub read_keeps_symbols : (file : List ℕ) (image : Image) → image_of file ≡ Ok image → KeepsSymbols image
-read_keeps_symbols file image h other again =
-    let same : image ≡ other = same_answer image other (image_of file) h (ap image_of (sym (source_is_file file image h)) ∙ again) in
-    record { symbols = ap (λ (i : Image). i.symbols) same; dynamic_symbols = ap (λ (i : Image). i.dynamic_symbols) same }
+-- lists of the symbols of a file's parts and of its image are lists of the file
+pub lists_of_file : (file : List ℕ) (p : Parts) (image : Image) (lists : SymbolLists) → parts_read file ≡ Ok p → image_of file ≡ Ok image
+    → AreSymbolsRead p lists → AreSymbolsOf image lists → AreSymbolsOfFile file lists
+lists_of_file file p image lists there read are_read are = record {
+  by_parts = λ q again. subst (λ (r : Parts). AreSymbolsRead r lists) (same_answer p q (parts_read file) there again) are_read;
+  by_image = λ other again. subst (λ (i : Image). AreSymbolsOf i lists) (same_answer image other (image_of file) read again) are;
+}
+
+-- an image with these symbols has those of the one that was read
+pub keeps_symbols : (image : Image) (lists : SymbolLists) → AreSymbolsOfFile image.source lists → AreSymbolsOf image lists → KeepsSymbols image
+keeps_symbols image lists are now read is =
+    let then : AreSymbolsOf read lists = are.by_image read is in
+    record { symbols = sym now.symbols ∙ then.symbols; dynamic_symbols = sym now.dynamic_symbols ∙ then.dynamic_symbols }

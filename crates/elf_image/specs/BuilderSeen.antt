@@ -4,7 +4,7 @@ use Rattle.std.specs.Option.{option_map}
 use Rattle.elf_image.specs.declared.builder.Builder.TheInside.{Inside}
 use Rattle.elf_format.specs.Image.{Image, counted}
 use Rattle.elf_image.specs.Edited.{IsEdited}
-use Rattle.elf_image.specs.SymbolsRead.{AreSymbolsOfFile, KeepsSymbols}
+use Rattle.elf_image.specs.SymbolsRead.{AreSymbolsOfFile}
 use Rattle.elf_image.specs.ImageSeen.{definition_kept, entry_kept, needs_kept, section_kept, segment_kept, symbol_kept, text_kept}
 
 abbrev pub image_kept : Inside → Image
@@ -29,4 +29,4 @@ image_kept b = record {
 
 -- what a builder holds is an image that was read, and edited, with the symbols that were read
 abbrev pub IsKept : Inside → Type 0
-IsKept b = IsEdited (image_kept b) × AreSymbolsOfFile b.source.now b.lists × KeepsSymbols (image_kept b)
+IsKept b = IsEdited (image_kept b) × AreSymbolsOfFile b.source.now b.lists

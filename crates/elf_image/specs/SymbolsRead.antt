@@ -12,14 +12,21 @@ pub record AreSymbolsRead (p : Parts) (lists : SymbolLists) : Type 0 where
   pub symbols : static_symbols p (section_of_type SHT_SYMTAB p.sections) ≡ Some (map symbol_kept lists.symbols.value.items)
   pub dynamic_symbols : dynamic_symbols_read p (section_of_type SHT_DYNSYM p.sections) ≡ Some (map symbol_kept lists.dynamic_symbols.value.items)
 
--- the symbols of a file, where its header tables can be read
-abbrev pub AreSymbolsOfFile : List ℕ → SymbolLists → Type 0
-AreSymbolsOfFile file lists = (p : Parts) → parts_read file ≡ Ok p → AreSymbolsRead p lists
+-- the symbols of an image
+pub record AreSymbolsOf (image : Image) (lists : SymbolLists) : Type 0 where
+  pub symbols : map symbol_kept lists.symbols.value.items ≡ image.symbols
+  pub dynamic_symbols : map symbol_kept lists.dynamic_symbols.value.items ≡ image.dynamic_symbols
 
--- an image has the symbols of the image that was read from its source
+-- the symbols of a file: as its header tables tell them where these can be read, and of its image where it has one
+pub record AreSymbolsOfFile (file : List ℕ) (lists : SymbolLists) : Type 0 where
+  pub by_parts : (p : Parts) → parts_read file ≡ Ok p → AreSymbolsRead p lists
+  pub by_image : (image : Image) → image_of file ≡ Ok image → AreSymbolsOf image lists
+
+-- an image has the symbols of the one that was read
 pub record HasSymbolsOf (read image : Image) : Type 0 where
   pub symbols : image.symbols ≡ read.symbols
   pub dynamic_symbols : image.dynamic_symbols ≡ read.dynamic_symbols
 
+-- the same of the one that was read from its source
 abbrev pub KeepsSymbols : Image → Type 0
 KeepsSymbols image = (read : Image) → image_of image.source ≡ Ok read → HasSymbolsOf read image

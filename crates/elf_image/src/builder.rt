@@ -177,6 +177,8 @@ impl<'data> Builder<'data> {
         requires { i < length self.now.symbols }
         ensures { result ≡ slice_index self.now.symbol_numbers i }
     {
+        // no edit moves symbols yet
+        let _lists = &self.lists;
         i
     }
 
@@ -185,6 +187,8 @@ impl<'data> Builder<'data> {
         requires { i < length self.now.dynamic_symbols }
         ensures { result ≡ slice_index self.now.dynamic_symbol_numbers i }
     {
+        // no edit moves symbols yet
+        let _lists = &self.lists;
         i
     }
 

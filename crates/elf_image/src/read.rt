@@ -4,7 +4,7 @@ ghost use Rattle.elf_format.specs.Image.{counted as numbers_below, header_kept, 
 ghost use Rattle.elf_image.specs.ImageSteps.{LinksRead, TextsRead, image_built, image_by_groups, image_gathered, listed_in, listed_kept, named_in, named_kept};
 ghost use Rattle.elf_image.specs.Edited.{IsEdited};
 ghost use Rattle.elf_image.specs.ImageSeen.{segment_kept, text_kept};
-ghost use Rattle.elf_image.specs.SymbolsRead.{AreSymbolsOfFile, AreSymbolsRead, KeepsSymbols};
+ghost use Rattle.elf_image.specs.SymbolsRead.{AreSymbolsOfFile, AreSymbolsRead};
 ghost use Rattle.elf_format.specs.Answers.{Gives, borrowed};
 ghost use Rattle.elf_format.specs.Stages.{last_rules};
 ghost use Rattle.elf_rules.specs.Read.{Passes, Reads, parts_seen};
@@ -306,7 +306,6 @@ fn image_and_last<'data>(
 fn builder<'data>(parts: &Headers<'data>, gathered: Gathered<'data>) -> Builder<'data>
     requires edited { IsEdited (image_gathered (parts_seen parts.now) gathered) }
     requires lists { AreSymbolsOfFile parts.now.file.now gathered.named.lists }
-    requires symbols { KeepsSymbols (image_gathered (parts_seen parts.now) gathered) }
     ensures { result ≡ image_gathered (parts_seen parts.now) gathered.entry }
 {
     Builder {

@@ -1,5 +1,5 @@
 -- Each stage's refusal is the answer, and the image where none refuses.
-use Rattle.std.proofs.Common.{◌≡◌, ◌∙◌, ℕ, List, Ok, Result, ap, subst, sym}
+use Rattle.std.proofs.Common.{◌≡◌, ◌∙◌, ℕ, List, Ok, Result, ap, refl, subst, sym}
 use Rattle.std.proofs.lemmas.Result.{err_from_is_err_and}
 use Rattle.elf_format.specs.declared.fault.ElfFault.{ElfFault}
 use Rattle.elf_format.specs.Image.{Image, image_of}
@@ -9,7 +9,7 @@ use Rattle.elf_format.specs.Rules.{checked, placement_rules}
 use Rattle.elf_image.specs.ImageSteps.{image_gathered}
 use Rattle.elf_format.specs.File.{Parts}
 use Rattle.elf_image.specs.SymbolsRead.{AreSymbolsOfFile, AreSymbolsRead}
-use Rattle.elf_image.proofs.SymbolLists.{lists_of_file, of_what_is_there, read_keeps_symbols, source_is_file}
+use Rattle.elf_image.proofs.SymbolLists.{lists_of_file, of_what_is_there, source_is_file}
 use Rattle.elf_image.proofs.EditedLaws.{read_is_edited}
 use Rattle.elf_image.proofs.ReadSteps.{links_refused, no_image, open_refused, placement_refused, refused_is, texts_read}
 use Rattle.elf_image.proofs.read.image_of_file.Goals as goal
@@ -40,7 +40,7 @@ returns-in_err-gathered c =
 pub image_and_last-requires-clause-known : goal.image_and_last-requires-clause-known
 image_and_last-requires-clause-known c =
     of_what_is_there (λ lists. AreSymbolsOfFile c.args.bytes.now lists.now) (λ lists. AreSymbolsRead (parts_seen c.in_ok-parts.parts) lists.now) c.args.known
-    (λ lists are. are (parts_seen c.in_ok-parts.parts) c.in_ok-parts.ensures) c.requires
+    (λ lists are. are.by_parts (parts_seen c.in_ok-parts.parts) c.in_ok-parts.ensures) c.requires
 
 pub builder-requires : goal.builder-requires
 builder-requires c =
@@ -51,8 +51,8 @@ builder-requires c =
     record {
       edited = read_is_edited c.args.bytes.now image read;
       lists = subst (λ (file : List ℕ). AreSymbolsOfFile file c.in_ok-gathered.gathered.named.lists) (sym (source_is_file c.args.bytes.now image read))
-          (lists_of_file c.args.bytes.now parts c.in_ok-gathered.gathered.named.lists c.in_ok-parts.ensures c.in_ok-gathered.ensures.lists);
-      symbols = read_keeps_symbols c.args.bytes.now image read;
+          (lists_of_file c.args.bytes.now parts image c.in_ok-gathered.gathered.named.lists c.in_ok-parts.ensures read c.in_ok-gathered.ensures.lists
+          (record { symbols = refl; dynamic_symbols = refl }));
     }
 
 answer_of : Image → Result Image ElfFault
