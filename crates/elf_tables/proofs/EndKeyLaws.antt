@@ -1,6 +1,5 @@
 -- The numbers of texts' ends, and the order that they tell.
-use Rattle.std.proofs.Common.{◌≡◌, ◌≢◌, ℕ, ◌+◌, ◌-◌, ◌*◌, ◌^◌, ◌<◌, ◌≤◌, zero, suc, List, [], ◌∷◌, length, drop, get_or, reverse, refl, sym, subst, ap, ◌∙◌, inl, inr, arith}
-use Rattle.std.specs.Prelude.{slice_index}
+use Rattle.std.proofs.Common.{◌≡◌, ◌≢◌, ℕ, ◌+◌, ◌-◌, ◌*◌, ◌^◌, ◌<◌, ◌≤◌, zero, suc, List, [], ◌∷◌, length, get_or, reverse, refl, sym, subst, ap, ◌∙◌, inl, inr, arith}
 use Rattle.std.specs.Cmp.{nat_cmp_is}
 use Rattle.std.specs.Cmp.Lexicographic.{slice_cmp}
 use Rattle.std.specs.Ordering.{nat_cmp, ordering_then}
@@ -8,8 +7,7 @@ use Rattle.std.specs.declared.cmp.Ordering.{Ordering}
 use Rattle.std.specs.declared.cmp.Ordering.TheVariants.{Equal, Greater, Less}
 use Rattle.std.proofs.Math.Nat.{mul-le-mul_right, pow-le-pow_right, pow-succ'}
 use Rattle.std.proofs.lemmas.Bool.{cases_lt, cases_order}
-use Rattle.std.proofs.lemmas.List.{get_or-drop, get_or-reverse, get_or_past, length-reverse}
-use Rattle.byteorder.specs.Endian.{little_from}
+use Rattle.std.proofs.lemmas.List.{get_or-reverse, get_or_past, length-reverse}
 use Rattle.patch_bytes.specs.Bytes.{AreBytes}
 use Rattle.elf_tables.specs.EndKeys.{end_key, front_number}
 
@@ -136,18 +134,3 @@ pub byte-past : (text : List ℕ) (back : ℕ) → length text ≤ back → 0 �
 byte-past text back past =
     let long : length (reverse text) ≤ back = omega (arith, length-reverse {A = ℕ}) in
     sym (get_or_past (reverse text) back 0 long)
-
--- ## The last 8 bytes at once
-
--- the last bytes, so many, are those from some place on of the last 8
-pub end-little : (text : List ℕ) (n k : ℕ) → n + k ≡ 8 → 8 ≤ length text → front_number k (reverse text) ≡ little_from n k (drop (length text - 8) text)
-unfolding front_number
-end-little text n zero e long = refl
-end-little text n (suc k) e long =
-    let last : List ℕ = drop (length text - 8) text in
-    let rest : front_number k (reverse text) ≡ little_from (suc n) k last = end-little text (suc n) k (omega (arith, e)) long in
-    let low : k < length text = omega (arith, e, long) in
-    let place : length text - 1 - k ≡ length text - 8 + n = omega (arith, e, long) in
-    let byte : get_or (reverse text) k 0 ≡ slice_index last n =
-    get_or-reverse text k 0 low ∙ ap (λ i. get_or text i 0) place ∙ sym (get_or-drop (length text - 8) text n 0) in
-    omega (arith, front_number-more k (reverse text), rest, byte)

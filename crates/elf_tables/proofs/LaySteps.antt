@@ -1,14 +1,13 @@
 -- A table that grows text by text: what it holds, and how long it still gets.
-use Rattle.std.proofs.Common.{◌≡◌, ℕ, zero, suc, ◌+◌, ◌<◌, ◌≤◌, ◌^◌, Bool, true, false, cond, List, [], ◌∷◌, ◌++◌, length, drop, take, get_or, refl, sym, subst, ap, ◌∙◌, nat_eq, Option, Some, None, add-zero, lit≤, inl, inr, arith}
-use Rattle.std.specs.Prelude.{◌||◌, IfSome, is_some, min, sum_by, slice_get}
+use Rattle.std.proofs.Common.{◌≡◌, ℕ, zero, suc, ◌+◌, ◌<◌, ◌≤◌, ◌^◌, Bool, true, false, cond, List, [], ◌∷◌, ◌++◌, length, drop, take, get_or, refl, sym, subst, ap, ◌∙◌, nat_eq, Option, Some, None, add-zero, lit≤, arith}
+use Rattle.std.specs.Prelude.{◌||◌, IfSome, is_some, sum_by, slice_get}
 use Rattle.std.specs.Borrow.{Bor}
 use Rattle.std.specs.Cmp.Lexicographic.{bytes_decides}
 use Rattle.std.specs.List.{ends_with, list_any}
 use Rattle.std.specs.List.Sorted.{IsSortedBy}
 use Rattle.std.specs.Map.{lookup}
 use Rattle.std.specs.Str.{bytes_eq}
-use Rattle.std.proofs.Math.Nat.{min-eq_left, min-eq_right, min-le_right}
-use Rattle.std.proofs.lemmas.Bool.{cases_lt, cond-false, cond-true, true≢false}
+use Rattle.std.proofs.lemmas.Bool.{cond-false, cond-true, true≢false}
 use Rattle.std.proofs.lemmas.List.{append-nil, drop_all, drop_more, get_or_default, length-append, take_all}
 use Rattle.std.proofs.lemmas.Option.{same_Some}
 use Rattle.std.proofs.lemmas.List.Folds.{list_any_more}
@@ -230,44 +229,3 @@ growing-all ts i bytes last place entries so_far past =
       first = so_far.first;
       stand = so_far.stand;
     }
-
--- ## Its length alone
-
--- the length of the table of the first texts, as far as it counts
-pub record Counted (ts : List (List ℕ)) (i : ℕ) (last : List ℕ) (n : ℕ) : Type 0 where
-  pub fits : n ≤ 2 ^ 32
-  pub whole : min (n + sum_by size_of_text (appended last (drop i ts))) (2 ^ 32) ≡ min (laid_length ts) (2 ^ 32)
-
-pub counted-start : (ts : List (List ℕ)) → Counted ts 0 [] 1
-counted-start ts = record { fits = lit≤ tt; whole = refl }
-
--- a text that ends the one before it takes no bytes
-pub counted-shared : (ts : List (List ℕ)) (i n : ℕ) (last text d : List ℕ) → Counted ts i last n → i < length ts → get_or ts i d ≡ text → ends_with nat_eq last text ≡ true
-    → Counted ts (i + 1) text n
-counted-shared ts i n last text d so_far within e ends = record {
-  fits = so_far.fits;
-  whole = ap (λ left. min (n + left) (2 ^ 32)) (sym (left-shared last text ts i d within e ends)) ∙ so_far.whole;
-}
-
-pub counted-here : (ts : List (List ℕ)) (i n : ℕ) (last text d : List ℕ) → Counted ts i last n → i < length ts → get_or ts i d ≡ text → ends_with nat_eq last text ≡ false
-    → Counted ts (i + 1) text (min (n + length text + 1) (2 ^ 32))
-counted-here ts i n last text d so_far within e ends = record {
-  fits = min-le_right (n + length text + 1) (2 ^ 32);
-  whole =
-      let part : sum_by size_of_text (appended last (drop i ts)) ≡ (length text + 1) + sum_by size_of_text (appended text (drop (i + 1) ts)) = left-here last text ts i d within e ends in
-      capped (n + length text + 1) (sum_by size_of_text (appended text (drop (i + 1) ts)))
-      ∙ ap (λ k. min k (2 ^ 32)) (omega (arith, part))
-      ∙ so_far.whole;
-}
-  where
-    capped : (m left : ℕ) → min (min m (2 ^ 32) + left) (2 ^ 32) ≡ min (m + left) (2 ^ 32)
-    capped m left = elim (cases_lt m (2 ^ 32)) [
-      | inl low ↦ ap (λ k. min (k + left) (2 ^ 32)) (min-eq_left (omega arith))
-      | inr high ↦ ap (λ k. min (k + left) (2 ^ 32)) (min-eq_right high) ∙ min-eq_right (omega arith) ∙ sym (min-eq_right (omega arith))
-    ]
-
-pub counted-all : (ts : List (List ℕ)) (i n : ℕ) (last : List ℕ) → Counted ts i last n → length ts ≤ i → n ≡ min (laid_length ts) (2 ^ 32)
-counted-all ts i n last so_far past =
-    sym (min-eq_left so_far.fits)
-    ∙ ap (λ k. min k (2 ^ 32)) (sym (add-zero n) ∙ ap (λ l. n + sum_by size_of_text (appended last l)) (sym (drop_all i ts past)))
-    ∙ so_far.whole

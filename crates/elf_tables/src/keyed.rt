@@ -3,7 +3,6 @@ ghost use Rattle.std.specs.Cmp.Lexicographic.{slice_cmp};
 ghost use Rattle.std.specs.Ordering.{nat_cmp};
 ghost use Rattle.elf_tables.specs.EndKeys.{end_key as key_of_end};
 
-use byteorder::{ByteOrder, LittleEndian};
 use std::cmp::Ordering;
 use std::marker::Model;
 
@@ -28,8 +27,8 @@ fn byte_before(text: &[u8], back: usize) -> u8
     }
 }
 
-// A text's last 8 bytes as one number, read one by one.
-fn short_key(text: &[u8]) -> u64
+// A text's last 8 bytes as one number, the last byte the highest; 0 for those that it doesn't have.
+fn end_key(text: &[u8]) -> u64
     ensures { result ≡ key_of_end text.now }
 {
     let mut key = 0;
@@ -37,16 +36,6 @@ fn short_key(text: &[u8]) -> u64
         key = key * 256 + u64::from(byte_before(text, back));
     }
     key
-}
-
-// A text's last 8 bytes as one number, the last byte the highest; 0 for those that it doesn't have.
-fn end_key(text: &[u8]) -> u64
-    ensures { result ≡ key_of_end text.now }
-{
-    if text.len() < 8 {
-        return short_key(text);
-    }
-    LittleEndian::read_u64(&text[text.len() - 8..])
 }
 
 // A text with the number of its end, by which most texts are told apart.

@@ -1,4 +1,4 @@
-ghost use Rattle.std.specs.Prelude.{◌≡◌, ◌≤◌, ◌<◌, ◌^◌, ◌+◌, [], ◌∷◌, false, length, min, nat_eq, IfOk, MatchResult};
+ghost use Rattle.std.specs.Prelude.{◌≡◌, ◌≤◌, ◌<◌, ◌^◌, ◌+◌, [], ◌∷◌, false, length, nat_eq, IfOk, MatchResult};
 ghost use Rattle.std.specs.List.{ends_with};
 ghost use Rattle.std.specs.List.Sorted.{IsSortedBy};
 ghost use Rattle.elf_tables.specs.declared.fault.TableFault.TheVariants.{NumberTooLarge};
@@ -13,6 +13,9 @@ use std::collections::HashMap;
 
 // How many bytes a table may have: each has an offset of 32 bits.
 const MOST_BYTES: usize = 0x1_0000_0000;
+
+// How many bytes of room a table is given at once at most.
+const MOST_ROOM: usize = 0x200_0000;
 
 // Puts a text into a table, where `last` stands at a place, and tells where the text stands.
 fn put_text(bytes: &mut Vec<u8>, last: &[u8], place: u32, text: &[u8]) -> Result<u32, TableFault>
@@ -51,28 +54,24 @@ fn order_of(alloc: Global, texts: &[Keyed<'_>]) -> Result<Vec<u32>, AllocError>
     Ok(order)
 }
 
-// How many bytes the table of these texts has, or the most that one may have where that is less.
-fn length_of(texts: &[Keyed<'_>]) -> usize
-    ensures { result ≡ min (laid_length texts.now) (2 ^ 32) }
+// How many bytes of room a table of these texts is given at first: as many as it has if no two share an end, but no
+// more than a bound.
+fn room_for(texts: &[Keyed<'_>]) -> usize
+    ensures { result ≤ 2 ^ 25 }
 {
-    let mut length: usize = 1;
-    let mut before: &[u8] = &[];
+    let mut room: usize = 1;
     for keyed in texts {
-        let text = keyed.text();
-        if !before.ends_with(text) {
-            length = (length + text.len() + 1).min(MOST_BYTES);
-        }
-        before = text;
+        room = (room + keyed.text().len() + 1).min(MOST_ROOM);
     }
-    length
+    room
 }
 
-// A table of no text, with room for so many bytes.
+// A table of no text, with so much room, or none where that is refused: it grows with its texts.
 fn begun(alloc: Global, room: usize) -> Result<Vec<u8>, AllocError>
     ensures { IfOk result (λ table. table.items ≡ 0 ∷ []) }
 {
-    let mut table = Vec::with_capacity(alloc, room)?;
-    table.push(0)?;
+    let mut table = Vec::from_slice(alloc, &[0])?;
+    let _ = table.reserve(room);
     Ok(table)
 }
 
@@ -85,8 +84,9 @@ pub(crate) fn lay<'t>(alloc: Global, texts: &[Keyed<'t>]) -> Result<Finished<'t>
         (IsLaid texts.now)
         (λ fault. fault ≡ NumberTooLarge → 2 ^ 32 < laid_length texts.now) }
 {
-    let mut bytes = begun(alloc, length_of(texts))?;
+    let order = order_of(alloc, texts)?;
     let mut laid = Vec::with_capacity(alloc, texts.len())?;
+    let mut bytes = begun(alloc, room_for(texts))?;
     let mut last: &[u8] = &[];
     let mut place = 0;
     for keyed in texts {
@@ -95,7 +95,6 @@ pub(crate) fn lay<'t>(alloc: Global, texts: &[Keyed<'t>]) -> Result<Finished<'t>
         laid.push((text, place))?;
         last = text;
     }
-    let order = order_of(alloc, texts)?;
     Ok(Finished {
         bytes,
         laid,
