@@ -12,7 +12,7 @@ use Rattle.elf_format.specs.Options.{is_one_of, is_some_and}
 use Rattle.elf_format.specs.Records.{symbol_size}
 use Rattle.elf_format.specs.Views.{NamedSymbol}
 use Rattle.elf_tables.specs.Strings.{table_length}
-use Rattle.elf_plan.specs.Kept.{interpreter_number}
+use Rattle.elf_plan.specs.Kept.{interpreter_number, link_of_type}
 use Rattle.elf_plan.specs.Sizes.{definitions_size, dynamic_size, gnu_table_size, hash_size, interpreter_size, needs_size}
 use Rattle.elf_plan.specs.Texts.{is_table_copied, texts_in_use}
 use Rattle.elf_format.specs.Versions.{VersionName, VersionNeeds}
@@ -57,6 +57,18 @@ is_of_needs e = is_one_of (DT_VERNEED ∷ DT_VERNEEDNUM ∷ []) (entry_tag e)
 -- the entries that stay, where those of needed versions may go
 abbrev pub staying_entries : Bool → List Entry → List Entry
 staying_entries without entries = filter (λ e. not (without && is_of_needs e)) entries
+
+-- ## String tables
+
+-- the one section of a type links to the string table with that number
+abbrev pub is_linked : Image → ℕ → ℕ → Bool
+is_linked image type number = is_some_and (λ link. link == number) (link_of_type type image)
+
+-- no others than symbols for a link editor have their names there
+abbrev pub are_static_names_alone : Image → ℕ → Bool
+are_static_names_alone image number =
+    not (is_linked image SHT_DYNAMIC number) && not (is_linked image SHT_DYNSYM number) && not (is_linked image SHT_GNU_VERDEF number)
+    && not (is_linked image SHT_GNU_VERNEED number) && not (image.header.e_shstrndx == number)
 
 -- ## Sizes, by a section's number at read and the section alone
 

@@ -167,6 +167,7 @@ impl<'a, 'data> Users<'a, 'data> {
     ghost use Rattle.elf_plan.specs.Sizes.{dynamic_size as size_of_dynamic, needs_size as size_of_needs};
     ghost use Rattle.elf_tables.specs.Strings.{HoldNoNul};
     ghost use Rattle.elf_plan.specs.Needs.{written_entries, written_needs};
+    ghost use Rattle.elf_sizes.specs.Inner.{are_static_names_alone};
     ghost use Rattle.elf_plan.specs.Texts.{if_linked, if_names, is_table_copied, texts_in_use, texts_of_definitions, texts_of_entries, texts_of_needs, texts_of_symbols};
 
     // What is known of the users of an image's texts, and whether its symbols are known to be those that were read.
@@ -334,8 +335,7 @@ impl<'a, 'data> Users<'a, 'data> {
 
     // Whether no others than symbols for a link editor have their names in the string table with that number.
     fn has_static_names_alone(&self, number: usize) -> bool
-        ensures { IsTrue result → texts_in_use self.now.read self.now.image number
-            ≡ if_linked self.now.image SHT_SYMTAB number (texts_of_symbols self.now.image.symbols) }
+        ensures { result ≡ are_static_names_alone self.now.image number }
     {
         !leads_to(self.links.dynamic, number)
             && !leads_to(self.links.dynamic_symbols, number)
@@ -350,10 +350,13 @@ impl<'a, 'data> Users<'a, 'data> {
         requires { read_users.now ≡ record { read = self.now.read; image = self.now.read } }
         ensures { IsTrue result → IsTrue (is_table_copied self.now.read self.now.image number) }
     {
-        self.keeps_symbols
-            && self.has_static_names_alone(number)
-            && read_users.has_static_names_alone(number)
-            && leads_to(self.links.symbols, number) == leads_to(read_users.links.symbols, number)
+        if !self.keeps_symbols {
+            return false;
+        }
+        if !self.has_static_names_alone(number) || !read_users.has_static_names_alone(number) {
+            return false;
+        }
+        leads_to(self.links.symbols, number) == leads_to(read_users.links.symbols, number)
     }
 
     // The texts that the image uses of the string table with that number.
