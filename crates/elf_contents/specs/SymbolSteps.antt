@@ -21,9 +21,13 @@ symbol_with place y = record { st_name = place; st_info = y.st_info; st_other = 
 abbrev pub place_of_name : Strings → List ℕ → ℕ
 place_of_name table name = if length name == 0 then 0 else unwrap_or (place_of table name) 0
 
--- the same, its name where a string table tells it
+-- the same of a symbol's name
+abbrev pub place_in : Strings → NamedSymbol → ℕ
+place_in table y = place_of_name table y.name
+
+-- the numbers of a symbol whose name stands where a string table tells it
 abbrev pub symbol_in : Strings → NamedSymbol → SymbolNumbers
-symbol_in table y = symbol_with (place_of_name table y.name) y
+symbol_in table y = symbol_with (place_in table y) y
 
 -- each of these numbers fits its field
 unfoldable pub does_symbol_fit : Form → Strings → NamedSymbol → Bool

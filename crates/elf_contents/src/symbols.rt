@@ -8,7 +8,7 @@ ghost use Rattle.elf_sizes.specs.MadeTables.{IsMade};
 ghost use Rattle.elf_written.specs.Contents.{AreSymbolsOf};
 ghost use Rattle.elf_written.specs.Final.{final};
 ghost use Rattle.elf_contents.specs.Inner.{AreStrings, IsReady, IsSectionOfType, strings_at};
-ghost use Rattle.elf_contents.specs.SymbolSteps.{does_symbol_fit, place_of_name, symbol_bytes, symbol_in, table_made};
+ghost use Rattle.elf_contents.specs.SymbolSteps.{does_symbol_fit, place_in, place_of_name, symbol_bytes, symbol_with, table_made};
 
 use crate::entries::texts::texts_of;
 use crate::made::Made;
@@ -39,12 +39,32 @@ fn symbol_name_place(name: &[u8], table: &Finished<'_>, nth: usize) -> u32
     table.offset_of_nth(nth, name).unwrap_or(0)
 }
 
-// The numbers of a symbol, with where its name stands in a string table, to which it was added behind so many others.
-fn symbol_numbers(symbol: &Symbol<'_>, table: &Finished<'_>, nth: usize) -> SymbolNumbers
-    ensures { result ≡ symbol_in table.now (symbol_kept symbol.now) }
+// Where the names of symbols stand in a string table, to which they were added behind so many other texts. The names lie here and
+// there in memory: a loop that does nothing else waits for several of them at a time.
+fn name_places(
+    alloc: Global,
+    symbols: &[Symbol<'_>],
+    table: &Finished<'_>,
+    before: usize,
+) -> Result<Vec<u32>, AllocError>
+    ensures { IfOk result (λ places.
+        places.items ≡ map (λ s. place_in table.now (symbol_kept s)) symbols.now) }
+{
+    let mut places = Vec::with_capacity(alloc, symbols.len())?;
+    let mut nth = before;
+    for symbol in symbols {
+        places.push(symbol_name_place(symbol.name.as_slice(), table, nth))?;
+        nth = nth.saturating_add(1);
+    }
+    Ok(places)
+}
+
+// The numbers of a symbol whose name stands at a place.
+fn symbol_numbers(symbol: &Symbol<'_>, st_name: u32) -> SymbolNumbers
+    ensures { result ≡ symbol_with st_name (symbol_kept symbol.now) }
 {
     SymbolNumbers {
-        st_name: symbol_name_place(symbol.name.as_slice(), table, nth),
+        st_name,
         st_info: symbol.st_info,
         st_other: symbol.st_other,
         st_shndx: symbol.st_shndx,
@@ -53,38 +73,41 @@ fn symbol_numbers(symbol: &Symbol<'_>, table: &Finished<'_>, nth: usize) -> Symb
     }
 }
 
-// Appends the record of a symbol.
+// Appends the record of a symbol whose name stands at this place of a string table.
 #[tactic(auto, unfolding(crate::specs::SymbolSteps::does_symbol_fit, crate::specs::SymbolSteps::symbol_bytes))]
 fn push_named_symbol(
     bytes: &mut Vec<u8>,
     form: Form,
     symbol: &Symbol<'_>,
-    table: &Finished<'_>,
-    nth: usize,
+    _table: &Finished<'_>,
+    place: u32,
 ) -> Result<(), AllocError>
-    requires { IsTrue (does_symbol_fit form table.now (symbol_kept symbol.now)) }
+    requires placed { place ≡ place_in _table.now (symbol_kept symbol.now) }
+    requires fits { IsTrue (does_symbol_fit form _table.now (symbol_kept symbol.now)) }
     ensures { OnOk result (bytes.new.items
-        ≡ bytes.old.items ++ symbol_bytes form table.now (symbol_kept symbol.now)) }
+        ≡ bytes.old.items ++ symbol_bytes form _table.now (symbol_kept symbol.now)) }
 {
-    push_symbol(bytes, form, symbol_numbers(symbol, table, nth))
+    push_symbol(bytes, form, symbol_numbers(symbol, place))
 }
 
-// Appends the records of symbols, whose names were added behind so many other texts.
+// Appends the records of symbols, whose names stand at these places of a string table.
 fn push_symbols(
     bytes: &mut Vec<u8>,
     form: Form,
     symbols: &[Symbol<'_>],
     table: &Finished<'_>,
-    before: usize,
+    places: &[u32],
 ) -> Result<(), AllocError>
-    requires { IsTrue (list_all (does_symbol_fit form table.now) (map symbol_kept symbols.now)) }
+    requires placed { places.now ≡ map (λ s. place_in table.now (symbol_kept s)) symbols.now }
+    requires fit { IsTrue (list_all (does_symbol_fit form table.now)
+        (map symbol_kept symbols.now)) }
     ensures { OnOk result (bytes.new.items ≡ bytes.old.items
         ++ flat_map (symbol_bytes form table.now) (map symbol_kept symbols.now)) }
 {
-    let mut nth = before;
+    let mut nth = 0;
     for symbol in symbols {
-        push_named_symbol(bytes, form, symbol, table, nth)?;
-        nth = nth.saturating_add(1);
+        push_named_symbol(bytes, form, symbol, table, places[nth])?;
+        nth += 1;
     }
     Ok(())
 }
@@ -152,14 +175,10 @@ fn symbols_anew<'data>(
     };
     // the texts of the dynamic list were added before the names of the symbols
     let texts = texts_of(alloc, image.dynamic_data().unwrap_or_default())?;
+    let symbols = image.dynamic_symbols();
+    let places = name_places(alloc, symbols, table, texts.len())?;
     let mut bytes = Vec::with_capacity(alloc, section.content.len())?;
-    push_symbols(
-        &mut bytes,
-        form,
-        image.dynamic_symbols(),
-        table,
-        texts.len(),
-    )?;
+    push_symbols(&mut bytes, form, symbols, table, &places)?;
     Ok(ByteString::owned(bytes))
 }
 
