@@ -7,7 +7,7 @@ use Rattle.arwen_elf.specs.Reads.{entries_shown}
 use Rattle.elf_edits.specs.Edit.{Answer}
 use Rattle.elf_edits.specs.Entries.{shrink_questions}
 use Rattle.elf_edits.specs.Shrunk.{NoLibrary, Prefix, Reason, Removal}
-use Rattle.elf_image.specs.Machine.{machine_of}
+use Rattle.elf_format.specs.Machine.{machine_of}
 use Rattle.elf_image.specs.Views.{View}
 use Rattle.command_words.specs.Rows.{Text}
 

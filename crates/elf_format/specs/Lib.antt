@@ -1,4 +1,5 @@
 pub mod Form
+pub mod Machine
 pub mod Records
 pub mod Ranges
 pub mod Options

@@ -1,3 +1,7 @@
+ghost use Rattle.elf_format.specs.Image.{header_kept};
+
+use crate::records::FileHeader;
+
 /// What the file header says (gABI, ELF Header). Offsets count bytes from the file's start.
 #[derive(Clone, Copy, Debug, PartialEq, Eq)]
 pub struct Header {
@@ -19,4 +23,25 @@ pub struct Header {
     pub e_shoff: u64,
     /// The number of the section that has the names of all sections.
     pub e_shstrndx: u16,
+}
+
+impl Header {
+    ghost use Rattle.std.specs.Prelude.{◌≡◌};
+
+    /// What a file header says besides the sizes and counts of the two tables.
+    pub fn of(read: FileHeader) -> Self
+        ensures { result ≡ header_kept read }
+    {
+        Header {
+            os_abi: read.os_abi,
+            abi_version: read.abi_version,
+            e_type: read.e_type,
+            e_machine: read.e_machine,
+            e_entry: read.e_entry,
+            e_flags: read.e_flags,
+            e_phoff: read.e_phoff,
+            e_shoff: read.e_shoff,
+            e_shstrndx: read.e_shstrndx,
+        }
+    }
 }

@@ -10,6 +10,7 @@ pub mod form;
 pub mod header;
 pub mod laws;
 pub mod lookups;
+pub mod machine;
 pub mod numbers;
 pub mod opening;
 pub mod range;

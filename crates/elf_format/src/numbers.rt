@@ -1,6 +1,7 @@
-ghost use Rattle.std.specs.Prelude.{◌≡◌, ◌≤◌, ◌<◌, ◌^◌, length};
+ghost use Rattle.std.specs.Prelude.{◌≡◌, ◌≤◌, ◌<◌, ◌^◌, length, IfOk};
 ghost use Rattle.patch_bytes.specs.Number.{field, high_first_value, low_first_value, number_at};
 ghost use Rattle.elf_format.specs.Form.{field_of};
+ghost use Rattle.elf_format.specs.Image.{counted as numbers_below};
 ghost use Rattle.elf_format.specs.Versions.{version_id};
 ghost use Rattle.elf_format.specs.Records.{entry_numbers, file_header, section_header, segment_header, symbol_numbers};
 
@@ -10,6 +11,7 @@ use crate::records::{EntryNumbers, FileHeader, SectionHeader, SegmentHeader, Sym
 use crate::version_id::VersionId;
 use byteorder::{BigEndian, ByteOrder, LittleEndian};
 use patch_bytes::{ByteOrder2, Wide};
+use std::alloc::{AllocError, Global};
 
 // The number that eight bytes at most spell byte by byte, the lowest first.
 fn low_by_byte(bytes: &[u8]) -> u64
@@ -240,4 +242,16 @@ pub fn read_version_id(form: Form, bytes: &[u8]) -> VersionId
         index: number % VERSYM_HIDDEN,
         hidden: number >= VERSYM_HIDDEN,
     }
+}
+
+/// The numbers from 0 on, as many as that: those of the sections or symbols of a file.
+#[tactic(auto, unfolding(crate::specs::Image::counted))]
+pub fn counted(alloc: Global, count: usize) -> Result<Vec<usize>, AllocError>
+    ensures { IfOk result (λ v. v.items ≡ numbers_below count) }
+{
+    let mut made = Vec::with_capacity(alloc, count)?;
+    for i in 0..count {
+        made.push(i)?;
+    }
+    Ok(made)
 }

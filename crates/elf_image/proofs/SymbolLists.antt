@@ -6,7 +6,7 @@ use Rattle.elf_format.specs.File.{Parts}
 use Rattle.elf_format.specs.Image.{Image, image_of}
 use Rattle.elf_format.specs.Stages.{parts_read}
 use Rattle.elf_image.specs.declared.symbol_lists.SymbolLists.{SymbolLists}
-use Rattle.elf_image.specs.SymbolsRead.{AreSymbolsOf, AreSymbolsOfFile, AreSymbolsRead, KeepsSymbols}
+use Rattle.elf_image.specs.SymbolsRead.{AreSymbolsOfImage, AreSymbolsOfFile, AreSymbolsRead, KeepsSymbols}
 use Rattle.elf_image.proofs.ReadImageLaws.{read_images_hold_parts}
 
 -- what holds of what is there gives something else of it
@@ -29,14 +29,14 @@ source_is_file file image h =
 
 -- lists of the symbols of a file's parts and of its image are lists of the file
 pub lists_of_file : (file : List ℕ) (p : Parts) (image : Image) (lists : SymbolLists) → parts_read file ≡ Ok p → image_of file ≡ Ok image
-    → AreSymbolsRead p lists → AreSymbolsOf image lists → AreSymbolsOfFile file lists
+    → AreSymbolsRead p lists → AreSymbolsOfImage image lists → AreSymbolsOfFile file lists
 lists_of_file file p image lists there read are_read are = record {
   by_parts = λ q again. subst (λ (r : Parts). AreSymbolsRead r lists) (same_answer p q (parts_read file) there again) are_read;
-  by_image = λ other again. subst (λ (i : Image). AreSymbolsOf i lists) (same_answer image other (image_of file) read again) are;
+  by_image = λ other again. subst (λ (i : Image). AreSymbolsOfImage i lists) (same_answer image other (image_of file) read again) are;
 }
 
 -- an image with these symbols has those of the one that was read
-pub keeps_symbols : (image : Image) (lists : SymbolLists) → AreSymbolsOfFile image.source lists → AreSymbolsOf image lists → KeepsSymbols image
+pub keeps_symbols : (image : Image) (lists : SymbolLists) → AreSymbolsOfFile image.source lists → AreSymbolsOfImage image lists → KeepsSymbols image
 keeps_symbols image lists are now read is =
-    let then : AreSymbolsOf read lists = are.by_image read is in
+    let then : AreSymbolsOfImage read lists = are.by_image read is in
     record { symbols = sym now.symbols ∙ then.symbols; dynamic_symbols = sym now.dynamic_symbols ∙ then.dynamic_symbols }

@@ -23,7 +23,6 @@ pub mod LendingFlags
 pub mod Lending
 pub mod Edited
 pub mod ReadImage
-pub mod Machine
 pub mod Lookups
 pub mod ImageSteps
 pub mod Copies

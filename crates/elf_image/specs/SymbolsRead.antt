@@ -13,14 +13,14 @@ pub record AreSymbolsRead (p : Parts) (lists : SymbolLists) : Type 0 where
   pub dynamic_symbols : dynamic_symbols_read p (section_of_type SHT_DYNSYM p.sections) ≡ Some (map symbol_kept lists.dynamic_symbols.value.items)
 
 -- the symbols of an image
-pub record AreSymbolsOf (image : Image) (lists : SymbolLists) : Type 0 where
+pub record AreSymbolsOfImage (image : Image) (lists : SymbolLists) : Type 0 where
   pub symbols : map symbol_kept lists.symbols.value.items ≡ image.symbols
   pub dynamic_symbols : map symbol_kept lists.dynamic_symbols.value.items ≡ image.dynamic_symbols
 
 -- the symbols of a file: as its header tables tell them where these can be read, and of its image where it has one
 pub record AreSymbolsOfFile (file : List ℕ) (lists : SymbolLists) : Type 0 where
   pub by_parts : (p : Parts) → parts_read file ≡ Ok p → AreSymbolsRead p lists
-  pub by_image : (image : Image) → image_of file ≡ Ok image → AreSymbolsOf image lists
+  pub by_image : (image : Image) → image_of file ≡ Ok image → AreSymbolsOfImage image lists
 
 -- an image has the symbols of the one that was read
 pub record HasSymbolsOf (read image : Image) : Type 0 where

@@ -1,5 +1,4 @@
 ghost use Rattle.std.specs.Prelude.{◌≡◌, ◌<◌, length, map, slice_index, IfOk, option_map};
-ghost use Rattle.elf_format.specs.Image.{counted as numbers_below};
 ghost use Rattle.elf_image.specs.ImageSeen.{definition_kept, entry_kept, needs_kept, section_kept, segment_kept, symbol_kept};
 ghost use Rattle.elf_format.specs.Answers.{borrowed};
 
@@ -200,16 +199,4 @@ impl<'data> Builder<'data> {
         let _lists = &self.lists;
         true
     }
-}
-
-// The numbers from 0 on, as many as that.
-#[tactic(auto, unfolding(elf_format::specs::Image::counted))]
-pub(crate) fn counted(alloc: Global, count: usize) -> Result<Vec<usize>, AllocError>
-    ensures { IfOk result (λ v. v.items ≡ numbers_below count) }
-{
-    let mut made = Vec::with_capacity(alloc, count)?;
-    for i in 0..count {
-        made.push(i)?;
-    }
-    Ok(made)
 }

@@ -8,7 +8,6 @@ pub mod dynamic;
 mod edits;
 pub mod laws;
 mod lookups;
-pub mod machine;
 mod read;
 pub mod section;
 pub mod segment;
@@ -17,9 +16,9 @@ mod symbol_lists;
 
 pub use crate::builder::{Builder, Segment};
 pub use crate::dynamic::Dynamic;
-pub use crate::machine::machine_of;
 pub use crate::section::Section;
 pub use crate::symbol::Symbol;
+pub use elf_format::machine::machine_of;
 pub use elf_format::{
     ElfFault, Form, Header, SectionData, VersionId, constants, laws as format_laws, records,
 };

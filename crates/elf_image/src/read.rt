@@ -1,6 +1,6 @@
 //! The reader: the read rules in their order, each in time in proportion to what it looks at.
 ghost use Rattle.std.specs.Prelude.{◌≡◌, ◌≢◌, Ok, Err, MatchResult, All, length, map, IfOk, IfSome};
-ghost use Rattle.elf_format.specs.Image.{counted as numbers_below, header_kept, image_of, interpreter_read};
+ghost use Rattle.elf_format.specs.Image.{counted as numbers_below, image_of, interpreter_read};
 ghost use Rattle.elf_image.specs.ImageSteps.{LinksRead, TextsRead, image_built, image_by_groups, image_gathered, listed_in, listed_kept, named_in, named_kept};
 ghost use Rattle.elf_image.specs.Edited.{IsEdited};
 ghost use Rattle.elf_image.specs.ImageSeen.{segment_kept, text_kept};
@@ -15,10 +15,9 @@ ghost use Rattle.elf_versions.specs.WalkSteps.{AreDefinitions, AreNeeds};
 
 pub(crate) mod texts;
 
-use crate::builder::{Builder, Segment, counted};
+use crate::builder::{Builder, Segment};
 use crate::dynamic::Dynamic;
 use crate::read::texts::entries::entries;
-use crate::read::texts::interpreter;
 use crate::read::texts::sections::sections;
 use crate::read::texts::symbols::{dynamic_list, static_list};
 use crate::section::Section;
@@ -26,7 +25,9 @@ use crate::symbol_lists::SymbolLists;
 use crate::version::Versions;
 use elf_format::fault::ElfFault;
 use elf_format::header::Header;
-use elf_format::records::{EntryNumbers, FileHeader, SegmentHeader};
+use elf_format::lookups::interpreter;
+use elf_format::numbers::counted;
+use elf_format::records::{EntryNumbers, SegmentHeader};
 use elf_format::section_data::SectionData;
 use elf_format::view_fault::ViewFault;
 use elf_placement::placement::{check_placement, header_table_loaded};
@@ -38,23 +39,6 @@ use elf_versions::rule::are_versions_right;
 use elf_versions::walks::{DefinitionWalk, NeedWalk, walk_definitions, walk_needs};
 use patch_bytes::ByteString;
 use std::alloc::{AllocError, Global};
-
-// What the file header says besides the tables' sizes.
-fn header(read: FileHeader) -> Header
-    ensures { result ≡ header_kept read }
-{
-    Header {
-        os_abi: read.os_abi,
-        abi_version: read.abi_version,
-        e_type: read.e_type,
-        e_machine: read.e_machine,
-        e_entry: read.e_entry,
-        e_flags: read.e_flags,
-        e_phoff: read.e_phoff,
-        e_shoff: read.e_shoff,
-        e_shstrndx: read.e_shstrndx,
-    }
-}
 
 // The program headers.
 fn segments<'data>(
@@ -212,11 +196,12 @@ fn image<'data>(
     Ok(gather(parts, segments, named, listed, section_numbers))
 }
 
-// The interpreter's bytes.
+// The bytes of the interpreter's section, where there is a PT_INTERP.
 fn interpreter_kept<'data>(parts: &Headers<'data>) -> Option<ByteString<'data>>
     ensures { text_kept result ≡ interpreter_read (parts_seen parts.now) }
 {
-    Some(ByteString::borrowed(interpreter(parts)?))
+    let bytes = interpreter(parts.file, &parts.segments, &parts.sections)?;
+    Some(ByteString::borrowed(bytes))
 }
 
 // The rules on versions and on where the program header table stands.
@@ -312,7 +297,7 @@ fn builder<'data>(parts: &Headers<'data>, gathered: Gathered<'data>) -> Builder<
         source: parts.file,
         changed: false,
         form: parts.form,
-        header: header(parts.header),
+        header: Header::of(parts.header),
         segments: gathered.segments,
         sections: gathered.named.sections,
         lists: gathered.named.lists,

@@ -1,8 +1,8 @@
 ghost use Rattle.std.specs.Prelude.{◌≡◌};
-ghost use Rattle.elf_image.specs.Machine.{machine_of as machine_told};
+ghost use Rattle.elf_format.specs.Machine.{machine_of as machine_told};
 
-use elf_format::numbers::half_at;
-use elf_format::opening::{form, has_magic};
+use crate::numbers::half_at;
+use crate::opening::{form, has_magic};
 
 /// The machine that a file is for (gABI, ELF Header, `e_machine`), by its first 20 bytes alone and in their own
 /// byte order: `None` where they aren't there, or where magic, class, byte order or version aren't those of an
