@@ -18,25 +18,29 @@ use Rattle.elf_layout.specs.Numbers.{numbers_of}
 pub numbered : (image : Image) → IsEdited image → length image.section_numbers ≡ length image.sections
 numbered image e = e.is_edit.sections.numbered
 
--- the numbers of a section and its size, where both are there
-abbrev pub both : Option ImageSection → Option ℕ → Option SectionNumbers
-both None size = None
-both (Some s) None = None
-both (Some s) (Some size) = Some (numbers_of (record { kept = record { position = 0; number = 0; section = s }; size = size }))
+-- the numbers of a section at a position and its size, where both are there
+abbrev pub both : ℕ → Option ImageSection → Option ℕ → Option SectionNumbers
+both p None size = None
+both p (Some s) None = None
+both p (Some s) (Some size) = Some (numbers_of (record { kept = record { position = p; number = 0; section = s }; size = size }))
 
-both_none : (s : Option ImageSection) → both s None ≡ None
-both_none None = refl
-both_none (Some s) = refl
+both_none : (p : ℕ) (s : Option ImageSection) → both p s None ≡ None
+both_none p None = refl
+both_none p (Some s) = refl
 
 -- what stands at a position
 pub sized_get : (p : ℕ) (ns : List ℕ) (ss : List ImageSection) (sizes : List ℕ) (i : ℕ) → length ns ≡ length ss
-    → option_map numbers_of (slice_get (sized_from (kept_from p ns ss) sizes) i) ≡ both (slice_get ss i) (slice_get sizes i)
+    → option_map numbers_of (slice_get (sized_from (kept_from p ns ss) sizes) i) ≡ both (p + i) (slice_get ss i) (slice_get sizes i)
 sized_get p [] [] sizes i same = refl
 sized_get p [] (s ∷ ss) sizes i same = let no : ⊥ = omega arith in absurd no
 sized_get p (n ∷ ns) [] sizes i same = refl
-sized_get p (n ∷ ns) (s ∷ ss) [] i same = sym (both_none (slice_get (s ∷ ss) i))
-sized_get p (n ∷ ns) (s ∷ ss) (size ∷ sizes) zero same = refl
-sized_get p (n ∷ ns) (s ∷ ss) (size ∷ sizes) (suc i) same = sized_get (p + 1) ns ss sizes i (omega arith)
+sized_get p (n ∷ ns) (s ∷ ss) [] i same = sym (both_none (p + i) (slice_get (s ∷ ss) i))
+sized_get p (n ∷ ns) (s ∷ ss) (size ∷ sizes) zero same =
+    let at : p ≡ p + 0 = omega arith in
+    ap (λ (q : ℕ). both q (Some s) (Some size)) at
+sized_get p (n ∷ ns) (s ∷ ss) (size ∷ sizes) (suc i) same =
+    let at : p + 1 + i ≡ p + suc i = omega arith in
+    sized_get (p + 1) ns ss sizes i (omega arith) ∙ ap (λ (q : ℕ). both q (slice_get ss i) (slice_get sizes i)) at
 
 pub sized_length : (p : ℕ) (ns : List ℕ) (ss : List ImageSection) (sizes : List ℕ) → length ns ≡ length ss → length sizes ≡ length ss
     → length (sized_from (kept_from p ns ss) sizes) ≡ length ss
@@ -78,23 +82,25 @@ position_at p (n ∷ ns) (x ∷ ss) (size ∷ sizes) (suc i) s found =
 -- ## What is found in the lists of the code
 
 module _ (r : Resized) (e : IsEdited r.image) (found : List Section) (seen : map section_kept found ≡ r.image.sections) (i : ℕ) where
-  here : option_map numbers_of (slice_get (sized_sections r) i) ≡ both (option_map section_kept (slice_get found i)) (slice_get r.sizes i)
+  here : option_map numbers_of (slice_get (sized_sections r) i) ≡ both i (option_map section_kept (slice_get found i)) (slice_get r.sizes i)
   here =
+      let at : 0 + i ≡ i = omega arith in
       sized_get 0 r.image.section_numbers r.image.sections r.sizes i (numbered r.image e)
-      ∙ ap (λ (o : Option ImageSection). both o (slice_get r.sizes i))
+      ∙ ap (λ (q : ℕ). both q (slice_get r.image.sections i) (slice_get r.sizes i)) at
+      ∙ ap (λ (o : Option ImageSection). both i o (slice_get r.sizes i))
       (ap (λ (l : List ImageSection). slice_get l i) (sym seen) ∙ slice_get-map section_kept found i)
 
   pub none_found : length found ≤ i → None ≡ option_map numbers_of (slice_get (sized_sections r) i)
   none_found past =
-      sym (here ∙ ap (λ (o : Option Section). both (option_map section_kept o) (slice_get r.sizes i)) (slice_get_past found i past))
+      sym (here ∙ ap (λ (o : Option Section). both i (option_map section_kept o) (slice_get r.sizes i)) (slice_get_past found i past))
 
   pub none_sized : length r.sizes ≤ i → None ≡ option_map numbers_of (slice_get (sized_sections r) i)
   none_sized past =
-      sym (here ∙ ap (λ (o : Option ℕ). both (option_map section_kept (slice_get found i)) o) (slice_get_past r.sizes i past)
-      ∙ both_none (option_map section_kept (slice_get found i)))
+      sym (here ∙ ap (λ (o : Option ℕ). both i (option_map section_kept (slice_get found i)) o) (slice_get_past r.sizes i past)
+      ∙ both_none i (option_map section_kept (slice_get found i)))
 
   pub some_found : (x : Section) (size : ℕ) → slice_get found i ≡ Some x → slice_get r.sizes i ≡ Some size
-      → both (Some (section_kept x)) (Some size) ≡ option_map numbers_of (slice_get (sized_sections r) i)
+      → both i (Some (section_kept x)) (Some size) ≡ option_map numbers_of (slice_get (sized_sections r) i)
   some_found x size at_section at_size =
-      sym (here ∙ ap (λ (o : Option Section). both (option_map section_kept o) (slice_get r.sizes i)) at_section
-      ∙ ap (λ (o : Option ℕ). both (Some (section_kept x)) o) at_size)
+      sym (here ∙ ap (λ (o : Option Section). both i (option_map section_kept o) (slice_get r.sizes i)) at_section
+      ∙ ap (λ (o : Option ℕ). both i (Some (section_kept x)) o) at_size)

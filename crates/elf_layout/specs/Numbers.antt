@@ -12,4 +12,5 @@ numbers_of s = record {
   sh_size = s.kept.section.sh_size;
   sh_addralign = s.kept.section.sh_addralign;
   size = s.size;
+  position = s.kept.position;
 }

@@ -26,13 +26,14 @@ struct LoosePlace {
     end: u64,
 }
 
-// Whether a section has bytes in the file, and takes no memory.
+// Whether a section has bytes in the file, and takes no memory. The reserved one without bytes is none of these.
 fn is_loose(section: SectionNumbers) -> bool
     ensures { (s : SizedSection) → section ≡ numbers_of s → result ≡ is_loose_section s }
 {
     section.sh_type != SHT_NULL
         && section.sh_type != SHT_NOBITS
         && section.sh_flags & SHF_ALLOC == 0
+        && !(section.position == 0 && section.size == 0)
 }
 
 // Where a section stands behind others, if it isn't loaded; `None` where it ends past the last offset of 64 bits.

@@ -15,6 +15,7 @@ pub(crate) struct SectionNumbers {
     pub(crate) sh_size: u64,
     pub(crate) sh_addralign: u64,
     pub(crate) size: u64,
+    pub(crate) position: usize,
 }
 
 // The section at a position; `None` where there is none.
@@ -35,6 +36,7 @@ pub(crate) fn sized_at(r: &Resizing<'_, '_>, position: usize) -> Option<SectionN
         sh_size: section.sh_size,
         sh_addralign: section.sh_addralign,
         size: r.sizes[position],
+        position,
     })
 }
 

@@ -3,7 +3,7 @@ use Rattle.std.proofs.Common.{◌≡◌, ℕ, suc, ◌+◌, ◌≤◌, Bool, tru
 use Rattle.std.specs.Prelude.{◌==◌, filter, if◌then◌else◌}
 use Rattle.std.specs.Int.{next_multiple_of}
 use Rattle.std.specs.List.{slice_get}
-use Rattle.std.proofs.lemmas.Bool.{and_parts, cases_eq, eq-eqb, eqb-true, false≢true, not-true, true≢false}
+use Rattle.std.proofs.lemmas.Bool.{cases_eq, eq-eqb, eqb-true, false≢true, true≢false}
 use Rattle.std.proofs.lemmas.Option.{same_Some}
 use Rattle.elf_format.specs.Options.{is_one_of}
 use Rattle.elf_format.specs.Places.{occupies_file}
@@ -15,6 +15,7 @@ use Rattle.elf_plan.specs.Rounds.{added_flags, each_once, flags_for, sections_at
 use Rattle.elf_plan.specs.Standing.{LooseSpot, content_end, is_loose, loose_from, loose_spot_of, loose_spots, loose_start, place_in, spot_of, stands_at}
 use Rattle.elf_plan.proofs.ApartLists.{Each, Pairs, any-at, each-all, each-append, each-at, each-filter, each-from, each-more, find-at, find-misses, pairs-filter}
 use Rattle.elf_plan.proofs.ApartMemory.{spots_from-distance}
+use Rattle.elf_plan.proofs.LooseParts.{loose_parts}
 use Rattle.elf_plan.proofs.ApartPlaces.{loose_place, place_by, place_is, spot_found}
 use Rattle.elf_plan.proofs.ApartSections.{IsMoved, all_spots, file_behind, first_load, memory_behind, moved_has_spot, sections_move, sized-at, sized_of, spot_at, spots-each, with_flags}
 
@@ -148,8 +149,7 @@ module _ (r : Resized) (sized : sized_sections r ≡ map (sized_of r) (kept_sect
             let (u, at_u, loose) = each-at IsLooseSpot (loose_spots r moved) loose_each i x at in
             let at_t : slice_get (sized_sections r) t.kept.position ≡ Some u = subst (λ (n : ℕ). slice_get (sized_sections r) n ≡ Some u) (eqb-true x.position t.kept.position same) at_u in
             let is_t : t ≡ u = same_Some t u (sym placed ∙ at_t) in
-            let parts = and_parts (occupies_file (place_at_read u.kept.section)) (not (is_loaded_section u.kept.section)) loose in
-            absurd (false≢true (sym (not-true (is_loaded_section u.kept.section) parts.1) ∙ ap (λ (s : SizedSection). is_loaded_section s.kept.section) (sym is_t) ∙ loaded))
+            absurd (false≢true (sym (loose_parts u loose).1 ∙ ap (λ (s : SizedSection). is_loaded_section s.kept.section) (sym is_t) ∙ loaded))
 
     -- a loaded section with something in it that doesn't move keeps its offset and its address
     pub stays_where_it_was : (t : SizedSection) → IsPlaced t → is_loaded_section t.kept.section ≡ true → (t.size == 0) ≡ false → is_one_of moved t.kept.position ≡ false

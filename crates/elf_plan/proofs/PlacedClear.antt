@@ -19,6 +19,7 @@ use Rattle.elf_plan.proofs.PlacedRead.{ReadsPlaced}
 use Rattle.elf_plan.proofs.PlacedSections.{is_kept}
 use Rattle.elf_plan.proofs.PlacedAdded.{StandsBefore, added_apart, is_added}
 use Rattle.elf_plan.proofs.PlacedSegments.{before_memory_end, load_cases, section_before_memory_end}
+use Rattle.elf_plan.proofs.LooseParts.{loose_parts}
 use Rattle.elf_plan.proofs.PlacedPlaces.{StandsAdded, StandsOn, keeps_kind, same_memory, stands}
 
 -- a section on one side of the end
@@ -156,8 +157,7 @@ module _ (r : Resized) (moved : List ℕ) (reads : ReadsPlaced r)
   not_behind : (s : SizedSection) → Has s (sized_sections r) → is_uninitialized (place_in r moved s) ≡ true → is_loose s ≡ true → ⊥
   not_behind s here bare loose =
       let type : s.kept.section.sh_type ≡ SHT_NOBITS = sym (keeps_kind r moved s here).type ∙ (uninitialized_is (place_in r moved s) bare).0 in
-      both_ways (occupies_file (place_at_read s.kept.section)) (no_file (place_at_read s.kept.section) type)
-      (and_parts (occupies_file (place_at_read s.kept.section)) (not (occupies_memory (place_at_read s.kept.section))) loose).0
+      both_ways (occupies_file (place_at_read s.kept.section)) (no_file (place_at_read s.kept.section) type) (loose_parts s loose).0
 
   section_clear : (s : SizedSection) → Has s (sized_sections r) → is_uninitialized (place_in r moved s) ≡ true → (q : SegmentHeader)
       → Has q (loads_of (written_segments r moved))

@@ -28,7 +28,8 @@ use Rattle.elf_plan.proofs.PlacedWritten.{type_was}
 use Rattle.elf_plan.proofs.PlacedCount.{length-written}
 use Rattle.elf_plan.proofs.PlacedSegments.{added_before_segments_end, added_written, before_kept_end, end_before_sections, header_before_kept_end, kept_before_segments_end, load_before_segments_end, load_written, segments_before_end, spot_before_end, table_behind}
 use Rattle.elf_plan.proofs.PlacedStays.{behind_header, kept_in, stay_apart_in_file, table_apart, table_kept_in}
-use Rattle.elf_plan.proofs.PlacedPlaces.{StandsAdded, StandsStored, keeps_kind, not_loose_loaded, same_file, same_memory, standing, stands, stays_empty, stored_stands}
+use Rattle.elf_plan.proofs.LooseParts.{not_loose_loaded}
+use Rattle.elf_plan.proofs.PlacedPlaces.{StandsAdded, StandsStored, keeps_kind, same_file, same_memory, standing, stands, stays_empty, stored_stands}
 
 -- a segment that has a place's bytes, at its distance
 holds_from : (p : SegmentHeader) (x : Place) → p.p_offset ≤ x.sh_offset → x.sh_offset + x.sh_size ≤ p.p_offset + p.p_filesz
@@ -93,7 +94,7 @@ module _ (r : Resized) (moved : List ℕ) (looked : ℕ) (reads : ReadsPlaced r)
         elim (cases_Bool (s.size == 0)) [
           | inl empty ↦ omega (arith, stays_empty r moved s on was empty, (keeps_kind r moved s here).size, eqb-true s.size 0 empty)
           | inr some ↦
-              let is = standing r moved s here on (not_loose_loaded r moved s on.not_loose was) was some in
+              let is = standing r moved s here on (not_loose_loaded s on.not_loose was some) was some in
               omega (arith, stored_ends_kept s is, kept_before_segments_end r moved reads, segments_before_end r moved reads)
         ]
   ]

@@ -15,6 +15,7 @@ use Rattle.elf_plan.proofs.PlacedLists.{Has, filter-at, filter-from, find-at, fi
 use Rattle.elf_plan.proofs.PlacedSections.{same_section}
 use Rattle.elf_plan.proofs.PlacedAdded.{IsMovedTo, moved_to, stays}
 use Rattle.elf_plan.proofs.PlacedStays.{StaysStored}
+use Rattle.elf_plan.proofs.LooseParts.{loose_parts}
 
 -- ## Sections behind the segments
 
@@ -183,8 +184,7 @@ module _ (r : Resized) (moved : List ℕ) where
   -- one that isn't loaded isn't stored
   loose_not_stored : (s : SizedSection) → is_loose s ≡ true → occupies_memory (place_at_read s.kept.section) ≡ true → ⊥
   loose_not_stored s loose takes =
-      let both = and_parts (occupies_file (place_at_read s.kept.section)) (not (occupies_memory (place_at_read s.kept.section))) loose in
-      both_ways (occupies_memory (place_at_read s.kept.section)) (not-true (occupies_memory (place_at_read s.kept.section)) both.1) takes
+      both_ways (occupies_memory (place_at_read s.kept.section)) (loose_parts s loose).1 takes
 
   -- one that stays with bytes keeps its offset
   stays_filled : (s : SizedSection) → Has s (sized_sections r) → StandsOn s → occupies_memory (place_at_read s.kept.section) ≡ true
@@ -222,17 +222,6 @@ module _ (r : Resized) (moved : List ℕ) where
       ∙ ap (λ (b : Bool). if occupies_file (place_at_read s.kept.section) && b then min old (content_end r moved) else old) empty
       ∙ ap (λ (b : Bool). if b && true then min old (content_end r moved) else old) stored in
       omega (arith, at)
-
-  -- with bytes in the file and not behind the segments, it is loaded
-  pub not_loose_loaded : (s : SizedSection) → is_loose s ≡ false → occupies_file (place_at_read s.kept.section) ≡ true
-      → occupies_memory (place_at_read s.kept.section) ≡ true
-  not_loose_loaded s not_loose_is stored = by_tests (occupies_file (place_at_read s.kept.section))
-      (occupies_memory (place_at_read s.kept.section)) not_loose_is stored
-    where
-      by_tests : (a b : Bool) → (a && not b) ≡ false → a ≡ true → b ≡ true
-      by_tests true true h e = refl
-      by_tests true false h e = absurd (both_ways true h refl)
-      by_tests false b h e = absurd (both_ways false refl e)
 
   pub standing : (s : SizedSection) → Has s (sized_sections r) → StandsOn s → occupies_memory (place_at_read s.kept.section) ≡ true
       → occupies_file (place_at_read s.kept.section) ≡ true → (s.size == 0) ≡ false → StandsStored s

@@ -104,6 +104,15 @@ small_marked = image_of_parts 672 352 4 (small_load ∷ small_list ∷ [])
 abbrev pub small_marked_again : Resized
 small_marked_again = after_edit small_marked (record small_marked { changed = true })
 
+-- the library with a damaged reserved section header, number 0: it has a type, the alignment of a page, and so many bytes
+abbrev pub small_damaged : ℕ → Image
+small_damaged size = image_of_parts 608 352 3 (small_load ∷ small_list ∷ [])
+    (section [] kinds.Opaque 1 0 0 size 0 4096 ∷ small_strings ∷ small_dynamic ∷ names_section 320 28 ∷ [])
+    (Some small_entries) None
+
+abbrev pub small_damaged_again : ℕ → Resized
+small_damaged_again size = after_edit (small_damaged size) (record (small_damaged size) { changed = true })
+
 pub record SmallRows : Type 0 where
   -- without an edit
   pub sizes : new_sizes small_image small_image ≡ 0 ∷ 14 ∷ 80 ∷ 28 ∷ []
@@ -136,4 +145,13 @@ pub record SectionRows : Type 0 where
   pub empty_last : IsPlan small_marked_again (record (small_plan 14) {
     places = no_place ∷ place 3 2 176 176 14 ∷ place 6 3 240 240 80 ∷ place 1 2 4096 354 0 ∷ place 3 0 0 320 34 ∷ [];
     e_shoff = 360;
+  })
+  -- the reserved section without bytes stays at the file's start, whatever type and alignment it has
+  pub reserved_stays : IsPlan (small_damaged_again 0) (record (small_plan 14) {
+    places = place 1 0 0 0 0 ∷ place 3 2 176 176 14 ∷ place 6 3 240 240 80 ∷ place 3 0 0 320 28 ∷ [];
+  })
+  -- with bytes it is placed behind the segments, as any that isn't loaded
+  pub reserved_with_bytes : IsPlan (small_damaged_again 5) (record (small_plan 14) {
+    places = place 1 0 0 4096 5 ∷ place 3 2 176 176 14 ∷ place 6 3 240 240 80 ∷ place 3 0 0 4101 28 ∷ [];
+    e_shoff = 4136;
   })

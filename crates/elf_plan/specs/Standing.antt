@@ -34,9 +34,13 @@ loose_start r moved =
 
 -- ## The sections that aren't loaded
 
+-- the reserved section header, number 0 (gABI, Special Section Indexes, SHN_UNDEF), without bytes: it is none that could be placed
+abbrev pub is_reserved : SizedSection → Bool
+is_reserved s = s.kept.position == 0 && s.size == 0
+
 -- the section has bytes in the file, and takes no memory
 abbrev pub is_loose : SizedSection → Bool
-is_loose s = occupies_file (place_at_read s.kept.section) && not (is_loaded_section s.kept.section)
+is_loose s = occupies_file (place_at_read s.kept.section) && not (is_loaded_section s.kept.section) && not (is_reserved s)
 
 -- Where a section that isn't loaded comes to stand in the file.
 pub record LooseSpot : Type 0 where

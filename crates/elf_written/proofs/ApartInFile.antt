@@ -1,4 +1,4 @@
--- In each plan of an edited image headers, tables and sections share no byte of the file; what isn't loaded stands behind all segments.
+-- In each plan of an edited image headers, tables and sections share no byte of the file; what isn't loaded and has bytes stands behind all segments.
 use Rattle.std.proofs.Common.{◌≡◌, ◌≤◌, ◌<◌, ◌⊎◌, ℕ, ◌+◌, ◌*◌, true, false, eqb, List, ◌∷◌, ◌++◌, Bool, map, length, refl, sym, ap, ◌∙◌, subst, inl, inr, Option, Some, None, arith}
 use Rattle.std.specs.Prelude.{◌&&◌, not, filter, is_some, if◌then◌else◌, IsTrue}
 use Rattle.std.specs.List.{list_all, list_any, slice_get}
@@ -16,7 +16,7 @@ use Rattle.elf_image.specs.Edited.{IsEdited}
 use Rattle.elf_plan.specs.Added.{header_count, kept_end}
 use Rattle.elf_plan.specs.Blocks.{have_causes, stay_apart}
 use Rattle.elf_plan.specs.FilePlaced.{written_headers, written_table}
-use Rattle.elf_plan.specs.Kept.{kept_sections, place_at_read}
+use Rattle.elf_plan.specs.Kept.{kept_sections}
 use Rattle.elf_plan.specs.Memory.{Resized, SizedSection, blocks_with, sized_sections, table_load, table_size_with}
 use Rattle.elf_plan.specs.Plan.{IsPlan, Layout, layout_for, resized}
 use Rattle.elf_plan.specs.Rounds.{are_in_old_order, do_move, headers_needed, sections_at}
@@ -29,7 +29,8 @@ use Rattle.elf_plan.proofs.ApartSections.{sized-at, sized_of}
 use Rattle.elf_plan.proofs.PlacedCount.{length-written}
 use Rattle.elf_plan.proofs.PlacedFile.{are_held, headers_clear, stored_are_apart}
 use Rattle.elf_plan.proofs.PlacedLists.{Has, pairs-two, slice_get-at}
-use Rattle.elf_plan.proofs.PlacedPlaces.{same_file, same_memory}
+use Rattle.elf_plan.proofs.LooseParts.{filled_loose}
+use Rattle.elf_plan.proofs.PlacedPlaces.{keeps_kind, same_file, same_memory}
 use Rattle.elf_plan.proofs.PlacedRanges.{lies_in-at}
 use Rattle.elf_plan.proofs.PlacedRead.{ReadsPlaced, reads_placed}
 use Rattle.elf_plan.proofs.PlacedSegments.{before_kept_end, end_before_sections, header_before_kept_end, kept_before_segments_end, load_before_segments_end, loose_before_end, segments_before_loose, spot_before_end}
@@ -37,11 +38,11 @@ use Rattle.elf_plan.proofs.PlacedStays.{table_kept_in}
 use Rattle.elf_written.specs.Laws.{PlansAreApartInFile, section_table}
 use Rattle.elf_written.proofs.LooseFacts.{LooseAt, LooseBefore, loose_at, loose_behind, loose_pairs}
 
--- the section header table stands behind each loaded segment, and so does a section of the file that isn't loaded
+-- the section header table stands behind each loaded segment, and so does a section of the file that has bytes and isn't loaded
 pub record StandsBehind (plan : Layout) : Type 0 where
   pub table : (i : ℕ) (p : SegmentHeader) → slice_get (loads_of plan.segments) i ≡ Some p → end_of (file_part p) ≤ plan.e_shoff
   pub sections : (i j : ℕ) (p : SegmentHeader) (s : Place) → slice_get (loads_of plan.segments) i ≡ Some p → slice_get plan.places j ≡ Some s
-      → occupies_memory s ≡ false → IsTrue (occupies_file s) → end_of (file_part p) ≤ s.sh_offset
+      → occupies_memory s ≡ false → IsTrue (occupies_file s) → eqb s.sh_size 0 ≡ false → end_of (file_part p) ≤ s.sh_offset
 
 module _ (r : Resized) (moved : List ℕ) (looked : ℕ) (reads : ReadsPlaced r) (clear : stay_apart moved (blocks_with r looked) ≡ true)
     (enough : headers_needed r moved ≤ looked) (sized : sized_sections r ≡ map (sized_of r) (kept_sections r.image))
@@ -75,13 +76,12 @@ module _ (r : Resized) (moved : List ℕ) (looked : ℕ) (reads : ReadsPlaced r)
 
   -- ## Where each section ends
 
-  -- a section of the file that isn't loaded stands behind the segments
+  -- a section of the file that has bytes and isn't loaded stands behind the segments
   behind_of : (s : SizedSection) → Has s (sized_sections r) → occupies_file (place_in r moved s) ≡ true
-      → occupies_memory (place_in r moved s) ≡ false → LooseAt r moved s
-  behind_of s here there bare = loose_at r moved looked sized move s here
-      (and_from (occupies_file (place_at_read s.kept.section)) (not (occupies_memory (place_at_read s.kept.section)))
-      (sym (same_file r moved s here) ∙ there)
-      (not_from_false (occupies_memory (place_at_read s.kept.section)) (sym (same_memory r moved s here) ∙ bare)))
+      → occupies_memory (place_in r moved s) ≡ false → eqb (place_in r moved s).sh_size 0 ≡ false → LooseAt r moved s
+  behind_of s here there bare some = loose_at r moved looked sized move s here
+      (filled_loose s (sym (same_file r moved s here) ∙ there) (sym (same_memory r moved s here) ∙ bare)
+      (ap (λ (n : ℕ). eqb n 0) (sym (keeps_kind r moved s here).size) ∙ some))
 
   -- one with bytes in the file is empty, or stored in a segment, or it stands behind them
   kind_of : (s : SizedSection) → Has s (sized_sections r) → occupies_file (place_in r moved s) ≡ true
@@ -93,7 +93,7 @@ module _ (r : Resized) (moved : List ℕ) (looked : ℕ) (reads : ReadsPlaced r)
         | inr some ↦ elim (cases_Bool (occupies_memory x)) [
           | inl takes ↦ inr (inl (and_from (occupies_memory x && occupies_file x) (not (eqb x.sh_size 0))
               (and_from (occupies_memory x) (occupies_file x) takes there) (not_from_false (eqb x.sh_size 0) some)))
-          | inr bare ↦ inr (inr (behind_of s here there bare))
+          | inr bare ↦ inr (inr (behind_of s here there bare some))
         ]
       ]
 
@@ -306,10 +306,12 @@ module _ (r : Resized) (moved : List ℕ) (looked : ℕ) (reads : ReadsPlaced r)
 
   -- ## Behind the segments
 
-  loose_behind_loads : Each (λ x. occupies_memory x ≡ false → occupies_file x ≡ true → segments_end r moved ≤ x.sh_offset) (places r moved)
-  loose_behind_loads = places_each (λ x. occupies_memory x ≡ false → occupies_file x ≡ true → segments_end r moved ≤ x.sh_offset)
-      (λ i s at bare there.
-      omega (arith, segments_before_loose r moved reads, loose_begins s (behind_of s (slice_get-at (sized_sections r) i s at) there bare)))
+  abbrev IsBehindIfFilled : Place → Type 0
+  IsBehindIfFilled x = occupies_memory x ≡ false → occupies_file x ≡ true → eqb x.sh_size 0 ≡ false → segments_end r moved ≤ x.sh_offset
+
+  loose_behind_loads : Each IsBehindIfFilled (places r moved)
+  loose_behind_loads = places_each IsBehindIfFilled (λ i s at bare there some.
+      omega (arith, segments_before_loose r moved reads, loose_begins s (behind_of s (slice_get-at (sized_sections r) i s at) there bare some)))
 
   load_end : (i : ℕ) (p : SegmentHeader) → slice_get (loads_of (written_segments r moved)) i ≡ Some p → end_of (file_part p) ≤ segments_end r moved
   load_end i p at = load_before_segments_end r moved reads p (slice_get-at (loads_of (written_segments r moved)) i p at)
@@ -319,10 +321,9 @@ module _ (r : Resized) (moved : List ℕ) (looked : ℕ) (reads : ReadsPlaced r)
   all_stands_behind rounds = record {
     table = λ i p at.
         omega (arith, load_end i p at, segments_before_loose r moved reads, loose_before_end r moved reads, end_before_sections r moved reads);
-    sections = λ i j p x at at_x bare there.
+    sections = λ i j p x at at_x bare there some.
         let begins : segments_end r moved ≤ x.sh_offset =
-        each-at (λ y. occupies_memory y ≡ false → occupies_file y ≡ true → segments_end r moved ≤ y.sh_offset) (places r moved)
-        loose_behind_loads j x at_x bare there in
+        each-at IsBehindIfFilled (places r moved) loose_behind_loads j x at_x bare there some in
         omega (arith, load_end i p at, begins);
   }
 

@@ -2,15 +2,16 @@
 use Rattle.std.proofs.Common.{◌≡◌, ◌≤◌, ℕ, ◌+◌, true, List, [], ◌∷◌, map, refl, sym, ap, ◌∙◌, inl, inr, Option, Some, None, arith}
 use Rattle.std.specs.Prelude.{◌&&◌, ◌==◌, filter, not}
 use Rattle.std.specs.Int.{next_multiple_of}
-use Rattle.std.proofs.lemmas.Bool.{and_parts, both_ways, eq-eqb, eqb-true, not-true}
+use Rattle.std.proofs.lemmas.Bool.{and_parts, both_ways, eq-eqb, eqb-true}
 use Rattle.elf_format.specs.declared.constants.TheConstants.{SHT_NULL}
-use Rattle.elf_format.specs.Places.{Place, occupies_file, occupies_memory}
+use Rattle.elf_format.specs.Places.{Place, occupies_memory}
 use Rattle.elf_plan.specs.Added.{Spot, alignment_of}
 use Rattle.elf_plan.specs.Kept.{kept_sections, place_at_read}
 use Rattle.elf_plan.specs.Memory.{Resized, SizedSection, is_uninitialized_of_threads, sized_sections, takes_memory}
 use Rattle.elf_plan.specs.Rounds.{do_move}
 use Rattle.elf_plan.specs.Standing.{LooseSpot, is_loose, loose_from, loose_spot_of, loose_spots, loose_start, place_in, spot_of, stands_at, stays_at}
 use Rattle.elf_plan.proofs.ApartSections.{sized_of}
+use Rattle.elf_plan.proofs.LooseParts.{loose_parts}
 use Rattle.elf_plan.proofs.PlacedLists.{Has, Pairs, filter-at, filter-from, find-at, find-none, has_cases, has_here, has_none, has_there, pairs-more, pairs-none}
 use Rattle.elf_plan.proofs.PlacedSections.{at_position, same_section}
 use Rattle.elf_written.proofs.MovedFacts.{spot_takes}
@@ -99,9 +100,8 @@ loose_there end (t ∷ ts) s h =
 takes_not_loose : (s : SizedSection) → is_loose s ≡ true → takes_memory s.kept.section ≡ true → ⊥
 takes_not_loose s loose takes =
     let place : Place = place_at_read s.kept.section in
-    let both = and_parts (occupies_file place) (not (occupies_memory place)) loose in
     let first = and_parts (occupies_memory place && not (place.sh_type == SHT_NULL)) (not (is_uninitialized_of_threads s.kept.section)) takes in
-    both_ways (occupies_memory place) (not-true (occupies_memory place) both.1)
+    both_ways (occupies_memory place) (loose_parts s loose).1
     (and_parts (occupies_memory place) (not (place.sh_type == SHT_NULL)) first.0).0
 
 module _ (r : Resized) (moved : List ℕ) where

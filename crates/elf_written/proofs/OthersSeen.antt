@@ -2,7 +2,7 @@
 use Rattle.std.proofs.Common.{◌≡◌, ◌≤◌, ◌<◌, ℕ, zero, suc, ◌+◌, ◌-◌, Bool, true, false, eqb, List, [], ◌∷◌, ◌++◌, map, length, drop, get_or, refl, sym, ap, ◌∙◌, subst, inl, inr, Some, arith}
 use Rattle.std.specs.Prelude.{◌==◌, ◌&&◌, ◌||◌, not, nat_le, nat_lt, ◌*◌, slice_index, if◌then◌else◌, filter}
 use Rattle.std.specs.List.{flat_map, list_all, list_any, slice_get}
-use Rattle.std.proofs.lemmas.Bool.{and_from, and_parts, cases_Bool, cond-true, eq-eqb, false≢true, leb-true, ltb-true, not_from_false, or_parts}
+use Rattle.std.proofs.lemmas.Bool.{and_from, and_parts, cases_Bool, cond-true, eq-eqb, eqb-true, false≢true, leb-true, ltb-true, not_from_false, or_parts}
 use Rattle.std.proofs.lemmas.Bool.Decides.{nat_tests}
 use Rattle.std.proofs.lemmas.List.{get_or-drop, get_or-take}
 use Rattle.std.proofs.lemmas.List.Folds.{list_any-append}
@@ -28,7 +28,7 @@ use Rattle.elf_plan.specs.Kept.{KeptSection, kept_sections, place_at_read}
 use Rattle.elf_plan.specs.Memory.{Resized}
 use Rattle.elf_plan.specs.Plan.{Layout, layout_for, resized}
 use Rattle.elf_plan.specs.Written.{written_segments}
-use Rattle.elf_plan.proofs.ApartBlocks.{apart-before}
+use Rattle.elf_plan.proofs.ApartBlocks.{apart-before, apart-from_empty}
 use Rattle.elf_plan.proofs.ApartFacts.{bare}
 use Rattle.elf_plan.proofs.ApartLists.{Each, all-at, any-from, at-map, each-append, each-at, map-at}
 use Rattle.elf_plan.proofs.ApartRead.{edited_facts}
@@ -232,10 +232,13 @@ module _ (w : Writing) (is : IsWholeWriting w) (i : ℕ) (p : SegmentHeader) (po
   section_apart : (j : ℕ) (k : KeptSection) (x : Place) → slice_get (kept_sections w.image) j ≡ Some k → slice_get w.plan.places j ≡ Some x
       → occupies_file x ≡ true → is_data r k ≡ false → apart one (file_range x) ≡ true
   section_apart j k x at_k at_x there no_data = elim (cases_Bool (occupies_memory x)) [
-    | inr unloaded ↦
-        let behind : now.load.p_offset + now.load.p_filesz ≤ x.sh_offset =
-        (stands_behind w.image w.plan is.edited is.planned).sections now.index j now.load x now.here at_x unloaded there in
-        apart-before one (file_range x) (omega (arith, ends, behind, now.offset, now.size))
+    | inr unloaded ↦ elim (cases_Bool (eqb x.sh_size 0)) [
+      | inl empty ↦ apart-from_empty one (file_range x) (eqb-true x.sh_size 0 empty)
+      | inr some ↦
+          let behind : now.load.p_offset + now.load.p_filesz ≤ x.sh_offset =
+          (stands_behind w.image w.plan is.edited is.planned).sections now.index j now.load x now.here at_x unloaded there some in
+          apart-before one (file_range x) (omega (arith, ends, behind, now.offset, now.size))
+    ]
     | inl takes ↦
         let same = same_kind w is j k x at_k at_x in
         let rewritten = and_from (is_loaded_section k.section && occupies_file (place_at_read k.section)) (not (is_data r k))

@@ -1,4 +1,6 @@
 //! Where everything stands once some sections move.
+ghost use Rattle.std.specs.Prelude.{◌≡◌, ◌==◌, find};
+
 use crate::blocks::table_load;
 use crate::following::{Leader, added_flags, count_moved, is_moved, leader_of};
 use crate::plain::{Part, Piece, Plain};
@@ -178,7 +180,8 @@ fn add_load(
 fn add_loose(standing: &mut Standing, plain: &Plain, start: u128) -> Result<u128, AllocError> {
     let mut end = start;
     for part in &plain.parts {
-        if part.is_in_file() && !part.is_loaded() {
+        let is_reserved = part.position == 0 && part.size == 0;
+        if part.is_in_file() && !part.is_loaded() && !is_reserved {
             let offset = next_multiple(end, part.align);
             let (position, address, size) = (part.position, part.address, part.size);
             standing.spots.push(Spot {
@@ -211,8 +214,10 @@ fn add_others(standing: &mut Standing, plain: &Plain, end: u128) -> Result<(), A
     Ok(())
 }
 
-/// Where the section at a position stands.
-pub fn spot_at(spots: &[Spot], position: usize) -> Option<Spot> {
+/// Where the section at a position stands, by the first spot for it; `None` where there is none.
+pub fn spot_at(spots: &[Spot], position: usize) -> Option<Spot>
+    ensures { result ≡ find (λ s. s.position == position) spots.now }
+{
     for spot in spots {
         if spot.position == position {
             return Some(*spot);

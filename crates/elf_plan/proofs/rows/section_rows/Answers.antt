@@ -9,4 +9,6 @@ unfolding computing
 returns c = record {
   closes_up = record { before = []; moved = []; ended = record { lead = refl; move = refl; enough = refl }; counted = refl; follows = refl; fits = refl };
   empty_last = record { before = []; moved = []; ended = record { lead = refl; move = refl; enough = refl }; counted = refl; follows = refl; fits = refl };
+  reserved_stays = record { before = []; moved = []; ended = record { lead = refl; move = refl; enough = refl }; counted = refl; follows = refl; fits = refl };
+  reserved_with_bytes = record { before = []; moved = []; ended = record { lead = refl; move = refl; enough = refl }; counted = refl; follows = refl; fits = refl };
 }
