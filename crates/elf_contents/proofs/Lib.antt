@@ -2,6 +2,7 @@ pub mod ReadFacts
 pub mod OthersCopied
 pub mod SymbolsSpelled
 pub mod SymbolsRead
+pub mod NamesInOrder
 pub mod SymbolsMade
 pub mod SymbolsGiven
 pub mod HeadersLists

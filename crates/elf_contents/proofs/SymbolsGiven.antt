@@ -5,19 +5,22 @@ use Rattle.std.specs.List.{flat_map, list_all}
 use Rattle.std.proofs.lemmas.Bool.{eqb-true}
 use Rattle.std.proofs.lemmas.Option.{none-some, same_Some, slice_get_within}
 use Rattle.patch_bytes.specs.Bytes.{AreBytes}
-use Rattle.elf_format.specs.declared.constants.TheConstants.{SHT_DYNSYM}
+use Rattle.elf_format.specs.declared.constants.TheConstants.{SHT_DYNAMIC, SHT_DYNSYM}
+use Rattle.elf_format.specs.Options.{list_at}
 use Rattle.elf_format.specs.Image.{Image, ImageSection}
 use Rattle.elf_format.specs.Records.{symbol_size, symbols_in}
 use Rattle.elf_format.specs.Views.{NamedSymbol}
+use Rattle.elf_plan.specs.Kept.{link_of_type}
+use Rattle.elf_plan.specs.Texts.{texts_of_entries}
 use Rattle.elf_sizes.specs.MadeTables.{IsMade}
 use Rattle.elf_tables.specs.Strings.{Strings}
 use Rattle.elf_written.specs.Contents.{AreSymbolsOf}
 use Rattle.elf_written.specs.Final.{final}
 use Rattle.elf_contents.specs.declared.made.Made.{Made}
 use Rattle.elf_contents.specs.Inner.{AreStrings, IsReady, IsSectionOfType, content_read, strings_at}
-use Rattle.elf_contents.specs.SymbolSteps.{does_symbol_fit, symbol_bytes, table_made}
+use Rattle.elf_contents.specs.SymbolSteps.{HasNames, does_symbol_fit, symbol_bytes, table_made}
 use Rattle.elf_contents.proofs.ReadFacts.{ReadFacts, SectionRead, final_is, read_facts, section_read}
-use Rattle.elf_contents.proofs.SymbolsMade.{anew, fits, length-spelled}
+use Rattle.elf_contents.proofs.SymbolsMade.{anew, fits, length-spelled, named_in_order}
 use Rattle.elf_contents.proofs.SymbolsRead.{copied, sized}
 
 -- ## Which table
@@ -41,6 +44,16 @@ is_made read image (Some m) number table are h = by_test (m.number == number) re
     by_test true e there =
         subst (λ (n : ℕ). IsMade read image n table) (eqb-true m.number number e)
         (subst (λ (t : Strings). IsMade read image m.number t) (same_Some m.table table there) (are.anew m refl).1)
+    by_test false e there = absurd (none-some table there)
+
+-- the dynamic list links to it
+pub is_listed : (read image : Image) (made : Option Made) (number : ℕ) (table : Strings) → AreStrings read image made
+    → table_made made number ≡ Some table → link_of_type SHT_DYNAMIC image ≡ Some number
+is_listed read image None number table are h = absurd (none-some table h)
+is_listed read image (Some m) number table are h = by_test (m.number == number) refl h
+  where
+    by_test : (b : Bool) → (m.number == number) ≡ b → (if b then Some m.table else None) ≡ Some table → link_of_type SHT_DYNAMIC image ≡ Some number
+    by_test true e there = (are.anew m refl).0 ∙ ap Some (eqb-true m.number number e)
     by_test false e there = absurd (none-some table there)
 
 -- ## The section
@@ -75,6 +88,12 @@ module _ (read image : Image) (section : ImageSection) (is : IsReady read image)
       (sym (strings_copied image made section.sh_link none))
       (subst (λ (x : ImageSection). AreSymbolsOf (content_read image x.sh_link) image.dynamic_symbols (symbols_in image.form x.content))
       same (copied read image is f of.position at typed)))
+
+  pub symbols_named : (table : Strings) → IsMade read image section.sh_link table → link_of_type SHT_DYNAMIC image ≡ Some section.sh_link
+      → HasNames table (length (list_at texts_of_entries image.entries)) image.dynamic_symbols
+  symbols_named table made listed =
+      named_in_order read image is f of.position at typed table (subst (λ (x : ImageSection). IsMade read image x.sh_link table) (sym same) made)
+      (listed ∙ ap (λ (x : ImageSection). Some x.sh_link) (sym same))
 
   module _ (table : Strings) (made : IsMade read image section.sh_link table) (are : AreBytes section.content) where
     made_there : IsMade read image at.section.sh_link table

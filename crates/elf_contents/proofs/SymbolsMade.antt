@@ -1,5 +1,5 @@
 -- The dynamic symbols spelled anew, their names in a string table that is made anew.
-use Rattle.std.proofs.Common.{◌≡◌, ◌<◌, ℕ, ◌+◌, ◌*◌, ◌/◌, ◌^◌, Bool, true, false, List, [], ◌∷◌, ◌++◌, get_or, length, map, refl, sym, ap, ◌∙◌, subst, Option, Some, arith}
+use Rattle.std.proofs.Common.{◌≡◌, ◌<◌, ℕ, ◌+◌, ◌*◌, ◌/◌, ◌^◌, Bool, true, false, List, [], ◌∷◌, ◌++◌, append_assoc, get_or, length, map, refl, sym, ap, ◌∙◌, subst, Option, Some, arith}
 use Rattle.std.specs.Prelude.{◌==◌, IsSome, if◌then◌else◌, option_map, unwrap_or}
 use Rattle.std.specs.List.{Contains, flat_map, list_all, slice_get}
 use Rattle.std.proofs.Math.Nat.{mul-div_left}
@@ -37,11 +37,13 @@ use Rattle.elf_tables.specs.StringSteps.{StandsWith}
 use Rattle.elf_tables.specs.Strings.{StandsAt, Strings, place_of}
 use Rattle.elf_tables.proofs.StandingTexts.{stands-from}
 use Rattle.elf_written.specs.Contents.{AreSymbolsOf, IsSymbolOf}
+use Rattle.elf_written.specs.Final.{final}
 use Rattle.elf_written.proofs.TextsRead.{text_inside}
 use Rattle.elf_written.proofs.WholeLists.{all-each, there_at}
 use Rattle.elf_contents.specs.Inner.{IsReady}
-use Rattle.elf_contents.specs.SymbolSteps.{does_symbol_fit, place_of_name, symbol_bytes, symbol_in, symbol_with}
-use Rattle.elf_contents.proofs.ReadFacts.{Nowhere, ReadFacts, SectionRead, There, type_at}
+use Rattle.elf_contents.specs.SymbolSteps.{HasNames, does_symbol_fit, place_of_name, symbol_bytes, symbol_in, symbol_with}
+use Rattle.elf_contents.proofs.NamesInOrder.{names_behind}
+use Rattle.elf_contents.proofs.ReadFacts.{Nowhere, ReadFacts, SectionRead, There, final_is, type_at}
 use Rattle.elf_contents.proofs.SymbolsRead.{count, each_symbol, is_one, link_was, record_at, symbol_read, symbol_size-positive}
 
 -- ## Numbers that fit their fields
@@ -137,6 +139,9 @@ names_within a names c d e g name there =
     (Contains-append_left (a ++ names) c name
     (Contains-append_right a names name there))))
 
+in_two : (a b c d e f : List (List ℕ)) → a ++ b ++ c ++ d ++ e ++ f ≡ a ++ (b ++ (c ++ d ++ e ++ f))
+in_two a b c d e f = simp append_assoc
+
 module _ (read image : Image) (is : IsReady read image) (f : ReadFacts read image) (i : ℕ) (at : SectionRead read image f.parts i)
     (typed : at.section.sh_type ≡ SHT_DYNSYM) (table : Strings) (made : IsMade read image at.section.sh_link table) where
   -- the dynamic symbols link to that table
@@ -171,6 +176,26 @@ module _ (read image : Image) (is : IsReady read image) (f : ReadFacts read imag
       (subst (λ (l : List (List ℕ)). Contains l y.name) (sym names_linked)
       (contains_at (texts_of_symbols image.dynamic_symbols) j y.name
       (slice_get-map (λ (z : NamedSymbol). z.name) image.dynamic_symbols j ∙ ap (option_map (λ (z : NamedSymbol). z.name)) y_at)))
+
+  -- behind the texts of the dynamic list, where that links to it too
+  pub named_in_order : link_of_type SHT_DYNAMIC image ≡ Some at.section.sh_link → HasNames table (length (list_at texts_of_entries image.entries)) image.dynamic_symbols
+  unfolding texts_in_use final
+  named_in_order listed =
+      let number : ℕ = at.section.sh_link in
+      let front : List (List ℕ) = list_at texts_of_entries image.entries in
+      let written : List (List ℕ) = list_at texts_of_entries (written_entries read image) in
+      let defined : List (List ℕ) = if_linked image SHT_GNU_VERDEF number (texts_of_definitions image.definitions) in
+      let needed : List (List ℕ) = if_linked image SHT_GNU_VERNEED number (texts_of_needs (written_needs read image)) in
+      let static : List (List ℕ) = if_linked image SHT_SYMTAB number (texts_of_symbols image.symbols) in
+      let sections : List (List ℕ) = if_names image number in
+      let first : if_linked image SHT_DYNAMIC number written ≡ front =
+      ap (λ (o : Option ℕ). if is_some_and (λ link. link == number) o then written else []) listed
+      ∙ ap (λ (b : Bool). if b then written else []) (eq-eqb number number refl)
+      ∙ ap (list_at texts_of_entries) (final_is read image is).entries in
+      names_behind table (texts_in_use read image number) front (defined ++ needed ++ static ++ sections) image.dynamic_symbols made.holds.in_order
+      (ap (λ (l : List (List ℕ)). l ++ if_linked image SHT_DYNSYM number (texts_of_symbols image.dynamic_symbols) ++ defined ++ needed ++ static ++ sections) first
+      ∙ ap (λ (l : List (List ℕ)). front ++ l ++ defined ++ needed ++ static ++ sections) names_linked
+      ∙ in_two front (texts_of_symbols image.dynamic_symbols) defined needed static sections)
 
   -- and stand where it tells, no name at 0
   name_stands : (name : List ℕ) → IsSome (place_of table name) → StandsAt table.bytes (place_of_name table name) name

@@ -1,5 +1,5 @@
 -- The steps of spelling the dynamic symbols (gABI, Symbol Table).
-use Rattle.std.specs.Prelude.{ℕ, List, length, Bool, Option, Some, None, ◌==◌, if◌then◌else◌, unwrap_or}
+use Rattle.std.specs.Prelude.{ℕ, ◌+◌, ◌≡◌, ◌≤◌, List, length, slice_get, slice_index, Bool, Option, Some, None, ◌==◌, if◌then◌else◌, unwrap_or}
 use Rattle.elf_format.specs.declared.form.Form.{Form}
 use Rattle.elf_format.specs.declared.records.SymbolNumbers.{SymbolNumbers}
 use Rattle.elf_format.specs.Views.{NamedSymbol}
@@ -20,6 +20,15 @@ symbol_with place y = record { st_name = place; st_info = y.st_info; st_other = 
 -- where a string table tells a name; no name is at 0 (gABI, Symbol Table, st_name)
 abbrev pub place_of_name : Strings → List ℕ → ℕ
 place_of_name table name = if length name == 0 then 0 else unwrap_or (place_of table name) 0
+
+-- the place of a symbol's name, where a table has it there
+abbrev pub place_of_named : NamedSymbol → ℕ → ℕ
+place_of_named y place = if length y.name == 0 then 0 else place
+
+-- behind so many texts a table was made of the names of these symbols
+pub record HasNames (table : Strings) (before : ℕ) (ys : List NamedSymbol) : Type 0 where
+  pub many : before + length ys ≤ length table.in_order
+  pub each : (i : ℕ) (y : NamedSymbol) → slice_get ys i ≡ Some y → place_of table y.name ≡ Some (slice_index table.in_order (before + i))
 
 -- the same of a symbol's name
 abbrev pub place_in : Strings → NamedSymbol → ℕ

@@ -1,14 +1,17 @@
 //! The bytes of the dynamic symbols (gABI, Symbol Table).
-ghost use Rattle.std.specs.Prelude.{◌≡◌, ◌++◌, ◌*◌, IfOk, IsTrue, OnOk, flat_map, length, map, option_map};
+ghost use Rattle.std.specs.Prelude.{◌≡◌, ◌++◌, ◌*◌, IfOk, IsTrue, OnOk, Some, flat_map, length, map, option_map};
 ghost use Rattle.std.specs.List.{list_all};
-ghost use Rattle.elf_format.specs.declared.constants.TheConstants.{SHT_DYNSYM};
+ghost use Rattle.elf_format.specs.declared.constants.TheConstants.{SHT_DYNAMIC, SHT_DYNSYM};
+ghost use Rattle.elf_format.specs.Options.{list_at};
 ghost use Rattle.elf_format.specs.Records.{symbol_size, symbols_in};
 ghost use Rattle.elf_image.specs.ImageSeen.{section_kept, symbol_kept};
+ghost use Rattle.elf_plan.specs.Kept.{link_of_type};
+ghost use Rattle.elf_plan.specs.Texts.{texts_of_entries};
 ghost use Rattle.elf_sizes.specs.MadeTables.{IsMade};
 ghost use Rattle.elf_written.specs.Contents.{AreSymbolsOf};
 ghost use Rattle.elf_written.specs.Final.{final};
 ghost use Rattle.elf_contents.specs.Inner.{AreStrings, IsReady, IsSectionOfType, strings_at};
-ghost use Rattle.elf_contents.specs.SymbolSteps.{does_symbol_fit, place_in, place_of_name, symbol_bytes, symbol_with, table_made};
+ghost use Rattle.elf_contents.specs.SymbolSteps.{HasNames, does_symbol_fit, place_of_named, symbol_bytes, symbol_with, table_made};
 
 use crate::entries::texts::texts_of;
 use crate::made::Made;
@@ -29,34 +32,15 @@ fn table_made_for<'m, 't>(made: &'m Option<Made<'t>>, number: u32) -> Option<&'m
     }
 }
 
-// Where a name stands in a string table, to which it was added behind so many others; 0 where there is none.
-fn symbol_name_place(name: &[u8], table: &Finished<'_>, nth: usize) -> u32
-    ensures { result ≡ place_of_name table.now name.now }
+// Where a symbol's name stands, if a string table has it at a place: no name stands at 0.
+fn name_place(symbol: &Symbol<'_>, place: u32) -> u32
+    ensures { result ≡ place_of_named (symbol_kept symbol.now) place }
 {
-    if name.is_empty() {
-        return 0;
+    if symbol.name.as_slice().is_empty() {
+        0
+    } else {
+        place
     }
-    table.offset_of_nth(nth, name).unwrap_or(0)
-}
-
-// Where the names of symbols stand in a string table, to which they were added behind so many other texts. The names lie here and
-// there in memory: a loop that does nothing else waits for several of them at a time.
-fn name_places(
-    alloc: Global,
-    symbols: &[Symbol<'_>],
-    table: &Finished<'_>,
-    before: usize,
-) -> Result<Vec<u32>, AllocError>
-    ensures { IfOk result (λ places.
-        places.items ≡ map (λ s. place_in table.now (symbol_kept s)) symbols.now) }
-{
-    let mut places = Vec::with_capacity(alloc, symbols.len())?;
-    let mut nth = before;
-    for symbol in symbols {
-        places.push(symbol_name_place(symbol.name.as_slice(), table, nth))?;
-        nth = nth.saturating_add(1);
-    }
-    Ok(places)
 }
 
 // The numbers of a symbol whose name stands at a place.
@@ -73,43 +57,39 @@ fn symbol_numbers(symbol: &Symbol<'_>, st_name: u32) -> SymbolNumbers
     }
 }
 
-// Appends the record of a symbol whose name stands at this place of a string table.
-#[tactic(auto, unfolding(crate::specs::SymbolSteps::does_symbol_fit, crate::specs::SymbolSteps::symbol_bytes))]
-fn push_named_symbol(
-    bytes: &mut Vec<u8>,
-    form: Form,
-    symbol: &Symbol<'_>,
-    _table: &Finished<'_>,
-    place: u32,
-) -> Result<(), AllocError>
-    requires placed { place ≡ place_in _table.now (symbol_kept symbol.now) }
-    requires fits { IsTrue (does_symbol_fit form _table.now (symbol_kept symbol.now)) }
-    ensures { OnOk result (bytes.new.items
-        ≡ bytes.old.items ++ symbol_bytes form _table.now (symbol_kept symbol.now)) }
-{
-    push_symbol(bytes, form, symbol_numbers(symbol, place))
-}
-
-// Appends the records of symbols, whose names stand at these places of a string table.
+// Appends the records of symbols, whose names were added to a string table behind so many other texts.
 fn push_symbols(
     bytes: &mut Vec<u8>,
     form: Form,
     symbols: &[Symbol<'_>],
     table: &Finished<'_>,
-    places: &[u32],
+    before: usize,
 ) -> Result<(), AllocError>
-    requires placed { places.now ≡ map (λ s. place_in table.now (symbol_kept s)) symbols.now }
+    requires named { HasNames table.now before (map symbol_kept symbols.now) }
     requires fit { IsTrue (list_all (does_symbol_fit form table.now)
         (map symbol_kept symbols.now)) }
     ensures { OnOk result (bytes.new.items ≡ bytes.old.items
         ++ flat_map (symbol_bytes form table.now) (map symbol_kept symbols.now)) }
 {
-    let mut nth = 0;
+    let places = table.in_order();
+    let mut nth = before;
     for symbol in symbols {
-        push_named_symbol(bytes, form, symbol, table, places[nth])?;
+        let place = name_place(symbol, places[nth]);
+        push_symbol(bytes, form, symbol_numbers(symbol, place))?;
         nth += 1;
     }
     Ok(())
+}
+
+// How many texts the dynamic list has. They are the first of those that its string table is made of.
+fn count_texts(alloc: Global, image: &Builder<'_>) -> Result<usize, AllocError>
+    ensures { IfOk result (λ count. count ≡ length (list_at texts_of_entries image.now.entries)) }
+{
+    let Some(entries) = image.dynamic_data() else {
+        return Ok(0);
+    };
+    let texts = texts_of(alloc, entries)?;
+    Ok(texts.len())
 }
 
 // The section of dynamic symbols as it was read; its names stand in a string table that is copied.
@@ -162,6 +142,7 @@ fn symbols_anew<'data>(
     requires ready { IsReady read.now image.now }
     requires at { IsSectionOfType SHT_DYNSYM image.now (section_kept section.now) }
     requires table { IsMade read.now image.now section.now.sh_link table.now }
+    requires listed { link_of_type SHT_DYNAMIC image.now ≡ Some section.now.sh_link }
     ensures sized { IfOk result (λ content. length content.bytes
         ≡ length image.now.dynamic_symbols * symbol_size image.now.form) }
     ensures symbols { IfOk result (λ content. AreSymbolsOf table.now.bytes
@@ -173,12 +154,9 @@ fn symbols_anew<'data>(
         wide: image.class(),
         order: image.order(),
     };
-    // the texts of the dynamic list were added before the names of the symbols
-    let texts = texts_of(alloc, image.dynamic_data().unwrap_or_default())?;
-    let symbols = image.dynamic_symbols();
-    let places = name_places(alloc, symbols, table, texts.len())?;
+    let before = count_texts(alloc, image)?;
     let mut bytes = Vec::with_capacity(alloc, section.content.len())?;
-    push_symbols(&mut bytes, form, symbols, table, &places)?;
+    push_symbols(&mut bytes, form, image.dynamic_symbols(), table, before)?;
     Ok(ByteString::owned(bytes))
 }
 

@@ -1,6 +1,5 @@
 -- Texts with their places, one pair put behind others.
-use Rattle.std.proofs.Common.{Equal, Greater, Less, Ordering, ◌≡◌, ℕ, ◌+◌, ◌≤◌, ◌<◌, Bool, true, false, cond, List, [], ◌∷◌, ◌++◌, length, drop, take, get_or, reverse, refl, sym, subst, ap, ◌∙◌, Option, Some, None, arith}
-use Rattle.std.specs.Borrow.{Bor}
+use Rattle.std.proofs.Common.{Equal, Greater, Less, Ordering, ◌≡◌, ℕ, zero, suc, ◌+◌, ◌≤◌, ◌<◌, Bool, true, false, cond, List, [], ◌∷◌, ◌++◌, length, drop, take, get_or, reverse, refl, sym, subst, ap, ◌∙◌, Option, Some, None, arith}
 use Rattle.std.specs.Cmp.Lexicographic.{bytes_decides, nat_list_cmp_total, slice_cmp}
 use Rattle.std.specs.List.{list_any}
 use Rattle.std.specs.List.Sorted.{IsSortedBy}
@@ -8,12 +7,12 @@ use Rattle.std.specs.Map.{lookup}
 use Rattle.std.specs.Ordering.{is_eq, is_lt, nat_cmp, ordering_reverse}
 use Rattle.std.specs.Str.{bytes_eq}
 use Rattle.std.proofs.lemmas.Bool.{cond-false, cond-true, true≢false}
-use Rattle.std.proofs.lemmas.List.{drop_all, drop_more, get_or-map, get_or-take, get_or_default, length-map, length-take-le, map-append, reverse-reverse}
+use Rattle.std.proofs.lemmas.List.{drop_all, drop_more, get_or-take, get_or_default, length-take-le, reverse-reverse}
 use Rattle.std.proofs.lemmas.List.Elements.{All-push}
 use Rattle.std.proofs.lemmas.List.Sorted.{sorted_far}
 use Rattle.std.proofs.lemmas.Map.Text.{is_eq-slice_cmp}
 use Rattle.std.proofs.lemmas.Option.{none-some}
-use Rattle.elf_tables.specs.StringSteps.{AreTold, by_bytes, is_before}
+use Rattle.elf_tables.specs.StringSteps.{AreTold, Numbered, is_before, with_places}
 use Rattle.elf_tables.proofs.TextLists.{Contains-from_Holds, Holds-from_any, by_test}
 use Rattle.elf_tables.proofs.TextOrder.{is_before-order}
 
@@ -114,39 +113,76 @@ last_again ts i k last text d sorted within here before at again =
     (subst (λ (t : List ℕ). is_before last t ≡ false) there (subst (λ (t : List ℕ). is_before t (get_or ts j d) ≡ false) at first))
     (subst (λ (t : List ℕ). is_before text t ≡ false) at (subst (λ (t : List ℕ). is_before t (get_or ts k d) ≡ false) here second))
 
--- ## Pairs of slices
+-- ## Texts with their places
 
-pub by_bytes-behind : (old new : List (Bor (List ℕ) × ℕ)) (text : Bor (List ℕ)) (place : ℕ) → new ≡ old ++ (text, place) ∷ [] → by_bytes new ≡ by_bytes old ++ (text.now, place) ∷ []
-by_bytes-behind old new text place e = ap by_bytes e ∙ map-append (λ (entry : Bor (List ℕ) × ℕ). (entry.0.now, entry.1)) old ((text, place) ∷ [])
+without_places : (ks : List Numbered) → with_places ks [] ≡ []
+without_places [] = refl
+without_places (k ∷ ks) = refl
+
+pub with_places-drop : (ks : List Numbered) (places : List ℕ) (i : ℕ) (d : Numbered) (e : ℕ) → i < length ks → i < length places
+    → with_places (drop i ks) (drop i places) ≡ ((get_or ks i d).text, get_or places i e) ∷ with_places (drop (i + 1) ks) (drop (i + 1) places)
+with_places-drop ks places i d e low within =
+    ap (λ (l : List Numbered). with_places l (drop i places)) (drop_more ks i d low)
+    ∙ ap (λ (l : List ℕ). with_places (get_or ks i d ∷ drop (i + 1) ks) l) (drop_more places i e within)
+
+with_places-suc : (ks : List Numbered) (places : List ℕ) (i : ℕ) (d : Numbered) (place : ℕ) → i < length ks → length places ≡ i
+    → with_places (take (suc i) ks) (places ++ place ∷ []) ≡ with_places (take i ks) places ++ ((get_or ks i d).text, place) ∷ []
+with_places-suc [] places i d place low many = absurd (omega arith)
+with_places-suc (k ∷ ks) [] zero d place low many = refl
+with_places-suc (k ∷ ks) [] (suc i) d place low many = absurd (omega (arith, many))
+with_places-suc (k ∷ ks) (p ∷ places) zero d place low many = absurd (omega (arith, many))
+with_places-suc (k ∷ ks) (p ∷ places) (suc i) d place low many =
+    ap (λ (l : List (List ℕ × ℕ)). (k.text, p) ∷ l) (with_places-suc ks places i d place (omega arith) (omega (arith, many)))
+
+-- one text more with its place
+pub with_places-more : (ks : List Numbered) (places : List ℕ) (i : ℕ) (d : Numbered) (place : ℕ) → i < length ks → length places ≡ i
+    → with_places (take (i + 1) ks) (places ++ place ∷ []) ≡ with_places (take i ks) places ++ ((get_or ks i d).text, place) ∷ []
+with_places-more ks places i d place low many =
+    let next : i + 1 ≡ suc i = omega arith in
+    ap (λ (n : ℕ). with_places (take n ks) (places ++ place ∷ [])) next ∙ with_places-suc ks places i d place low many
+
+with_places-at : (ks : List Numbered) (places : List ℕ) (i : ℕ) (d : Numbered) (e : ℕ) (f : List ℕ × ℕ) → i < length ks → i < length places
+    → (i < length (with_places ks places)) × (get_or (with_places ks places) i f ≡ ((get_or ks i d).text, get_or places i e))
+with_places-at [] places i d e f low within = absurd (omega arith)
+with_places-at (k ∷ ks) [] i d e f low within = absurd (omega arith)
+with_places-at (k ∷ ks) (p ∷ places) zero d e f low within = (omega arith, refl)
+with_places-at (k ∷ ks) (p ∷ places) (suc i) d e f low within =
+    let rest = with_places-at ks places i d e f (omega arith) (omega arith) in
+    (omega (arith, rest.0), rest.1)
 
 -- what is left of the pairs tells what all do, where those before have another text
-pub looked-on : (text : List ℕ) (laid : List (Bor (List ℕ) × ℕ)) (i : ℕ) (d : Bor (List ℕ) × ℕ) → i < length laid → bytes_eq text (get_or laid i d).0.now ≡ false
-    → lookup (bytes_eq text) (by_bytes (drop (i + 1) laid)) ≡ lookup (bytes_eq text) (by_bytes (drop i laid))
-looked-on text laid i d within other =
-    sym (ap (λ l. lookup (bytes_eq text) (by_bytes l)) (drop_more laid i d within) ∙ cond-false (bytes_eq text (get_or laid i d).0.now) (Some (get_or laid i d).1) (lookup (bytes_eq text) (by_bytes (drop (i + 1) laid))) other)
+pub looked-on : (text : List ℕ) (ks : List Numbered) (places : List ℕ) (i : ℕ) (d : Numbered) (e : ℕ) → i < length ks → i < length places
+    → bytes_eq text (get_or ks i d).text ≡ false
+    → lookup (bytes_eq text) (with_places (drop (i + 1) ks) (drop (i + 1) places)) ≡ lookup (bytes_eq text) (with_places (drop i ks) (drop i places))
+looked-on text ks places i d e low within other =
+    sym (ap (lookup (bytes_eq text)) (with_places-drop ks places i d e low within)
+    ∙ cond-false (bytes_eq text (get_or ks i d).text) (Some (get_or places i e)) (lookup (bytes_eq text) (with_places (drop (i + 1) ks) (drop (i + 1) places))) other)
 
-pub looked-here : (text : List ℕ) (laid : List (Bor (List ℕ) × ℕ)) (i : ℕ) (d : Bor (List ℕ) × ℕ) → i < length laid → bytes_eq text (get_or laid i d).0.now ≡ true
-    → lookup (bytes_eq text) (by_bytes (drop i laid)) ≡ Some (get_or laid i d).1
-looked-here text laid i d within itself =
-    ap (λ l. lookup (bytes_eq text) (by_bytes l)) (drop_more laid i d within) ∙ cond-true (bytes_eq text (get_or laid i d).0.now) (Some (get_or laid i d).1) (lookup (bytes_eq text) (by_bytes (drop (i + 1) laid))) itself
+pub looked-here : (text : List ℕ) (ks : List Numbered) (places : List ℕ) (i : ℕ) (d : Numbered) (e : ℕ) → i < length ks → i < length places
+    → bytes_eq text (get_or ks i d).text ≡ true
+    → lookup (bytes_eq text) (with_places (drop i ks) (drop i places)) ≡ Some (get_or places i e)
+looked-here text ks places i d e low within itself =
+    ap (lookup (bytes_eq text)) (with_places-drop ks places i d e low within)
+    ∙ cond-true (bytes_eq text (get_or ks i d).text) (Some (get_or places i e)) (lookup (bytes_eq text) (with_places (drop (i + 1) ks) (drop (i + 1) places))) itself
 
-pub looked-all : (text : List ℕ) (laid : List (Bor (List ℕ) × ℕ)) (i : ℕ) → length laid ≤ i → lookup (bytes_eq text) (by_bytes (drop i laid)) ≡ None
-looked-all text laid i past = ap (λ l. lookup (bytes_eq text) (by_bytes l)) (drop_all i laid past)
+-- no pairs are left, where no texts are or no places
+pub looked-texts : (text : List ℕ) (ks : List Numbered) (places : List ℕ) (i : ℕ) → length ks ≤ i → lookup (bytes_eq text) (with_places (drop i ks) (drop i places)) ≡ None
+looked-texts text ks places i past = ap (λ (l : List Numbered). lookup (bytes_eq text) (with_places l (drop i places))) (drop_all i ks past)
 
--- the text of a pair of slices, with its place
-abbrev shown_pair : Bor (List ℕ) × ℕ → List ℕ × ℕ
-shown_pair entry = (entry.0.now, entry.1)
+pub looked-places : (text : List ℕ) (ks : List Numbered) (places : List ℕ) (i : ℕ) → length places ≤ i → lookup (bytes_eq text) (with_places (drop i ks) (drop i places)) ≡ None
+looked-places text ks places i past =
+    ap (λ (l : List ℕ). lookup (bytes_eq text) (with_places (drop i ks) l)) (drop_all i places past) ∙ ap (lookup (bytes_eq text)) (without_places (drop i ks))
 
 -- the pair at a position tells of its text what was laid
-told_there : (laid : List (Bor (List ℕ) × ℕ)) (i : ℕ) (d : Bor (List ℕ) × ℕ) → AreTold (by_bytes laid) → i < length laid
-    → lookup (bytes_eq (get_or laid i d).0.now) (by_bytes laid) ≡ Some (get_or laid i d).1
-told_there laid i d told within =
-    let at : get_or (by_bytes laid) i (shown_pair d) ≡ shown_pair (get_or laid i d) = get_or-map shown_pair laid i d (shown_pair d) within in
-    subst (λ (p : List ℕ × ℕ). lookup (bytes_eq p.0) (by_bytes laid) ≡ Some p.1) at (told i (shown_pair d) (omega (arith, length-map laid shown_pair)))
+told_there : (ks : List Numbered) (places : List ℕ) (i : ℕ) (d : Numbered) (e : ℕ) → AreTold (with_places ks places) → i < length ks → i < length places
+    → lookup (bytes_eq (get_or ks i d).text) (with_places ks places) ≡ Some (get_or places i e)
+told_there ks places i d e told low within =
+    let at = with_places-at ks places i d e ([], 0) low within in
+    subst (λ (p : List ℕ × ℕ). lookup (bytes_eq p.0) (with_places ks places) ≡ Some p.1) at.1 (told i ([], 0) at.0)
 
 -- so it tells that of each text that is the same
-pub told_at : (text : List ℕ) (laid : List (Bor (List ℕ) × ℕ)) (i : ℕ) (d : Bor (List ℕ) × ℕ) → AreTold (by_bytes laid) → i < length laid
-    → bytes_eq text (get_or laid i d).0.now ≡ true → lookup (bytes_eq text) (by_bytes laid) ≡ Some (get_or laid i d).1
-told_at text laid i d told within itself =
-    let e : text ≡ (get_or laid i d).0.now = (bytes_decides text (get_or laid i d).0.now).0 itself in
-    subst (λ (t : List ℕ). lookup (bytes_eq t) (by_bytes laid) ≡ Some (get_or laid i d).1) (sym e) (told_there laid i d told within)
+pub told_at : (text : List ℕ) (ks : List Numbered) (places : List ℕ) (i : ℕ) (d : Numbered) (e : ℕ) → AreTold (with_places ks places) → i < length ks → i < length places
+    → bytes_eq text (get_or ks i d).text ≡ true → lookup (bytes_eq text) (with_places ks places) ≡ Some (get_or places i e)
+told_at text ks places i d e told low within itself =
+    let same : text ≡ (get_or ks i d).text = (bytes_decides text (get_or ks i d).text).0 itself in
+    subst (λ (t : List ℕ). lookup (bytes_eq t) (with_places ks places) ≡ Some (get_or places i e)) (sym same) (told_there ks places i d e told low within)

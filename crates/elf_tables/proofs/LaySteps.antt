@@ -8,13 +8,13 @@ use Rattle.std.specs.List.Sorted.{IsSortedBy}
 use Rattle.std.specs.Map.{lookup}
 use Rattle.std.specs.Str.{bytes_eq}
 use Rattle.std.proofs.lemmas.Bool.{cond-false, cond-true, true≢false}
-use Rattle.std.proofs.lemmas.List.{append-nil, drop_all, drop_more, get_or_default, length-append, take_all}
+use Rattle.std.proofs.lemmas.List.{append-nil, drop_all, drop_more, get_or_default, length-append, length-map, take_all}
 use Rattle.std.proofs.lemmas.Option.{same_Some}
 use Rattle.std.proofs.lemmas.List.Folds.{list_any_more}
 use Rattle.std.proofs.lemmas.List.Sums.{sum_by-cons}
 use Rattle.elf_tables.specs.Strings.{PlacesStand, StandsAt, Strings, holds_nul, place_of, size_of_text}
-use Rattle.elf_tables.specs.StringSteps.{AreTold, IsLaid, PutsText, StandsWith, appended, by_bytes, is_before, laid_length}
-use Rattle.elf_tables.proofs.LaidPairs.{by_bytes-behind, eq-itself, last_again, lookup-behind, lookup-front, told_behind, told_push}
+use Rattle.elf_tables.specs.StringSteps.{AreLaid, AreTold, Numbered, PutsText, StandsWith, appended, by_bytes, is_before, laid_length, texts_in, with_places}
+use Rattle.elf_tables.proofs.LaidPairs.{eq-itself, last_again, lookup-behind, lookup-front, told_behind, told_push}
 use Rattle.elf_tables.proofs.StandingTexts.{stands-at-more, stands-first, stands-from}
 use Rattle.elf_tables.proofs.TableLaws.{appended-here, appended-shared}
 use Rattle.elf_tables.proofs.TextLists.{by_test}
@@ -126,19 +126,19 @@ told_stands (Some place) table text stand e = stand text place (sym e)
 -- ## The whole table
 
 -- the table of the first texts, the last of which stands at a place
-pub record Growing (ts : List (List ℕ)) (i : ℕ) (bytes last : List ℕ) (place : ℕ) (entries : List (Bor (List ℕ) × ℕ)) : Type 0 where
+pub record Growing (ts : List (List ℕ)) (i : ℕ) (bytes last : List ℕ) (place : ℕ) (pairs : List (List ℕ × ℕ)) : Type 0 where
   pub fits : length bytes ≤ 2 ^ 32
   pub first : slice_get bytes 0 ≡ Some 0
   pub last_stands : StandsWith bytes place last
-  pub stand : (q : List ℕ) (p : ℕ) → lookup (bytes_eq q) (by_bytes entries) ≡ Some p → StandsAt bytes p q
-  pub known : (q : List ℕ) → is_some (lookup (bytes_eq q) (by_bytes entries)) ≡ list_any (bytes_eq q) (take i ts)
+  pub stand : (q : List ℕ) (p : ℕ) → lookup (bytes_eq q) pairs ≡ Some p → StandsAt bytes p q
+  pub known : (q : List ℕ) → is_some (lookup (bytes_eq q) pairs) ≡ list_any (bytes_eq q) (take i ts)
   pub long : length bytes + sum_by size_of_text (appended last (drop i ts)) ≡ laid_length ts
-  pub told : AreTold (by_bytes entries)
-  pub before : (k : ℕ) (d : List ℕ) → k + 1 ≡ i → (get_or ts k d ≡ last) × (lookup (bytes_eq last) (by_bytes entries) ≡ Some place)
+  pub told : AreTold pairs
+  pub before : (k : ℕ) (d : List ℕ) → k + 1 ≡ i → (get_or ts k d ≡ last) × (lookup (bytes_eq last) pairs ≡ Some place)
 
-pub growing-start : (ts : List (List ℕ)) (bytes : List ℕ) (entries : List (Bor (List ℕ) × ℕ)) → bytes ≡ 0 ∷ [] → entries ≡ [] → Growing ts 0 bytes [] 0 entries
-growing-start ts bytes entries one none =
-    subst (λ (l : List ℕ). Growing ts 0 l [] 0 entries) (sym one) (subst (λ (es : List (Bor (List ℕ) × ℕ)). Growing ts 0 (0 ∷ []) [] 0 es) (sym none) (record {
+pub growing-start : (ts : List (List ℕ)) (bytes : List ℕ) (pairs : List (List ℕ × ℕ)) → bytes ≡ 0 ∷ [] → pairs ≡ [] → Growing ts 0 bytes [] 0 pairs
+growing-start ts bytes pairs one none =
+    subst (λ (l : List ℕ). Growing ts 0 l [] 0 pairs) (sym one) (subst (λ (es : List (List ℕ × ℕ)). Growing ts 0 (0 ∷ []) [] 0 es) (sym none) (record {
       fits = lit≤ tt;
       first = refl;
       last_stands = stands-first;
@@ -168,41 +168,40 @@ still_left last text bytes more ts i n d within e size long = by_test (ends_with
     omega (arith, some, left-here last text ts i d within e here, length-append bytes more))
 
 -- a text that was put into the table already is the last one, so it stands at the same place
-same_place : (ts : List (List ℕ)) (i : ℕ) (bytes last text d : List ℕ) (place at : ℕ) (old : List (Bor (List ℕ) × ℕ)) → Growing ts i bytes last place old
-    → IsSortedBy is_before ts → i < length ts → get_or ts i d ≡ text → (last ≡ text → at ≡ place) → (p : ℕ) → lookup (bytes_eq text) (by_bytes old) ≡ Some p → p ≡ at
+same_place : (ts : List (List ℕ)) (i : ℕ) (bytes last text d : List ℕ) (place at : ℕ) (old : List (List ℕ × ℕ)) → Growing ts i bytes last place old
+    → IsSortedBy is_before ts → i < length ts → get_or ts i d ≡ text → (last ≡ text → at ≡ place) → (p : ℕ) → lookup (bytes_eq text) (old) ≡ Some p → p ≡ at
 same_place ts i bytes last text d place at old so_far sorted within e same p told =
     let again : list_any (bytes_eq text) (take i ts) ≡ true = sym (so_far.known text) ∙ ap is_some told in
     let (k, next) = before_of i again in
     let itself : last ≡ text = last_again ts i k last text d sorted within e next (so_far.before k d next).0 again in
-    let there : lookup (bytes_eq text) (by_bytes old) ≡ Some place = subst (λ (t : List ℕ). lookup (bytes_eq t) (by_bytes old) ≡ Some place) itself (so_far.before k d next).1 in
+    let there : lookup (bytes_eq text) (old) ≡ Some place = subst (λ (t : List ℕ). lookup (bytes_eq t) (old) ≡ Some place) itself (so_far.before k d next).1 in
     same_Some p place (sym told ∙ there) ∙ sym (same itself)
   where
     before_of : (n : ℕ) → list_any (bytes_eq text) (take n ts) ≡ true → (k : ℕ) × (k + 1 ≡ n)
     before_of zero again = absurd (true≢false (sym again))
     before_of (suc n) again = (n, omega arith)
 
-pub growing-more : (ts : List (List ℕ)) (i : ℕ) (bytes new last d : List ℕ) (text : Bor (List ℕ)) (place at : ℕ) (old es : List (Bor (List ℕ) × ℕ)) → Growing ts i bytes last place old
-    → IsSortedBy is_before ts → i < length ts → get_or ts i d ≡ text.now → holds_nul text.now ≡ false → PutsText bytes new last text.now at → (last ≡ text.now → at ≡ place)
-    → es ≡ old ++ (text, at) ∷ [] → Growing ts (i + 1) new text.now at es
+pub growing-more : (ts : List (List ℕ)) (i : ℕ) (bytes new last d text : List ℕ) (place at : ℕ) (old pairs : List (List ℕ × ℕ)) → Growing ts i bytes last place old
+    → IsSortedBy is_before ts → i < length ts → get_or ts i d ≡ text → holds_nul text ≡ false → PutsText bytes new last text at → (last ≡ text → at ≡ place)
+    → pairs ≡ old ++ (text, at) ∷ [] → Growing ts (i + 1) new text at pairs
 unfolding PutsPlace
-growing-more ts i bytes new last d text place at old es so_far sorted within e none puts again more =
-    let same : (p : ℕ) → lookup (bytes_eq text.now) (by_bytes old) ≡ Some p → p ≡ at = same_place ts i bytes last text.now d place at old so_far sorted within e again in
-    let pairs : by_bytes es ≡ by_bytes old ++ (text.now, at) ∷ [] = by_bytes-behind old es text at more in
-    let told : PutsPlace (by_bytes old) (by_bytes es) text.now at =
-    subst (λ (l : List (List ℕ × ℕ)). PutsPlace (by_bytes old) l text.now at) (sym pairs) (puts-behind-pairs (by_bytes old) text.now at same) in
-    let stands : StandsAt (bytes ++ puts.more) at text.now = stands-from (bytes ++ puts.more) at text.now none (subst (λ (l : List ℕ). StandsWith l at text.now) puts.grown puts.stands) in
+growing-more ts i bytes new last d text place at old pairs so_far sorted within e none puts again more =
+    let same : (p : ℕ) → lookup (bytes_eq text) old ≡ Some p → p ≡ at = same_place ts i bytes last text d place at old so_far sorted within e again in
+    let told : PutsPlace old pairs text at =
+    subst (λ (l : List (List ℕ × ℕ)). PutsPlace old l text at) (sym more) (puts-behind-pairs old text at same) in
+    let stands : StandsAt (bytes ++ puts.more) at text = stands-from (bytes ++ puts.more) at text none (subst (λ (l : List ℕ). StandsWith l at text) puts.grown puts.stands) in
     record {
       fits = puts.fits;
       first = ap (λ l. slice_get l 0) puts.grown ∙ first_kept bytes puts.more so_far.first;
       last_stands = puts.stands;
-      stand = λ q p found. subst (λ (l : List ℕ). StandsAt l p q) (sym puts.grown) (stand_step bytes puts.more (by_bytes old) (by_bytes es) text.now at so_far.stand told stands q p found);
-      known = known_step (by_bytes old) (by_bytes es) ts i d text.now at within e so_far.known told;
-      long = ap (λ l. length l + sum_by size_of_text (appended text.now (drop (i + 1) ts))) puts.grown ∙ still_left last text.now bytes puts.more ts i (laid_length ts) d within e puts.size so_far.long;
-      told = subst AreTold (sym pairs) (told_push (by_bytes old) text.now at so_far.told same);
+      stand = λ q p found. subst (λ (l : List ℕ). StandsAt l p q) (sym puts.grown) (stand_step bytes puts.more old pairs text at so_far.stand told stands q p found);
+      known = known_step old pairs ts i d text at within e so_far.known told;
+      long = ap (λ l. length l + sum_by size_of_text (appended text (drop (i + 1) ts))) puts.grown ∙ still_left last text bytes puts.more ts i (laid_length ts) d within e puts.size so_far.long;
+      told = subst AreTold (sym more) (told_push old text at so_far.told same);
       before = λ k f next.
           let here : k ≡ i = omega (arith, next) in (
-            subst (λ (n : ℕ). get_or ts n f ≡ text.now) (sym here) (get_or_default ts i f d within ∙ e),
-            itself_told (by_bytes old) (by_bytes es) text.now at told,
+            subst (λ (n : ℕ). get_or ts n f ≡ text) (sym here) (get_or_default ts i f d within ∙ e),
+            itself_told old pairs text at told,
           );
     }
   where
@@ -210,22 +209,29 @@ growing-more ts i bytes new last d text place at old es so_far sorted within e n
     itself_told old new text at puts = puts text ∙ cond-true (bytes_eq text text) (Some at) (lookup (bytes_eq text) old) (eq-itself text)
 
 -- a text that doesn't fit makes the whole too long
-pub growing-too_long : (ts : List (List ℕ)) (i : ℕ) (bytes last text d : List ℕ) (place : ℕ) (entries : List (Bor (List ℕ) × ℕ)) → Growing ts i bytes last place entries
+pub growing-too_long : (ts : List (List ℕ)) (i : ℕ) (bytes last text d : List ℕ) (place : ℕ) (pairs : List (List ℕ × ℕ)) → Growing ts i bytes last place pairs
     → i < length ts → get_or ts i d ≡ text → ends_with nat_eq last text ≡ false → 2 ^ 32 < length bytes + (length text + 1) → 2 ^ 32 < laid_length ts
-growing-too_long ts i bytes last text d place entries so_far within e ends long =
+growing-too_long ts i bytes last text d place pairs so_far within e ends long =
     let whole : length bytes + sum_by size_of_text (appended last (drop i ts)) ≡ laid_length ts = so_far.long in
     let part : sum_by size_of_text (appended last (drop i ts)) ≡ (length text + 1) + sum_by size_of_text (appended text (drop (i + 1) ts)) = left-here last text ts i d within e ends in
     omega (arith, whole, part, long)
 
-pub growing-all : (ts : List (List ℕ)) (i : ℕ) (bytes last : List ℕ) (place : ℕ) (entries : List (Bor (List ℕ) × ℕ)) → Growing ts i bytes last place entries
-    → length ts ≤ i → IsLaid ts (record { bytes = bytes; places = by_bytes entries })
-growing-all ts i bytes last place entries so_far past =
+-- where all were put, the table is laid
+pub growing-all : (ks : List Numbered) (i : ℕ) (bytes last : List ℕ) (place : ℕ) (places : List ℕ) → Growing (texts_in ks) i bytes last place (with_places (take i ks) places)
+    → length places ≡ i → length ks ≡ i → AreLaid ks bytes places
+growing-all ks i bytes last place places so_far many whole =
+    let ts : List (List ℕ) = texts_in ks in
+    let past : length ts ≤ i = omega (arith, length-map ks (λ (k : Numbered). k.text), whole) in
+    let all : with_places (take i ks) places ≡ with_places ks places = ap (λ (l : List Numbered). with_places l places) (take_all i ks (omega (arith, whole))) in
     let long : length bytes ≡ laid_length ts =
     sym (add-zero (length bytes)) ∙ ap (λ l. length bytes + sum_by size_of_text (appended last l)) (sym (drop_all i ts past)) ∙ so_far.long in
     record {
-      known = λ q. so_far.known q ∙ ap (list_any (bytes_eq q)) (take_all i ts past);
+      known = λ q.
+          ap (λ (l : List (List ℕ × ℕ)). is_some (lookup (bytes_eq q) l)) (sym all) ∙ so_far.known q ∙ ap (list_any (bytes_eq q)) (take_all i ts past);
       long = long;
       fits = subst (λ (n : ℕ). n ≤ 2 ^ 32) long so_far.fits;
       first = so_far.first;
-      stand = so_far.stand;
+      stand = λ q p found. so_far.stand q p (ap (lookup (bytes_eq q)) all ∙ found);
+      told = subst AreTold all so_far.told;
+      many = many ∙ sym whole;
     }

@@ -10,3 +10,4 @@ pub mod NeedsSteps
 pub mod PlacingSteps
 pub mod EndKeyLaws
 pub mod LaidPairs
+pub mod OrderedPlaces

@@ -63,10 +63,10 @@ stands-whole table place text stands =
 some_place : (o : Option ℕ) (place : ℕ) → o ≡ Some place → IsSome o
 some_place o place e = subst (λ (p : Option ℕ). IsSome p) (sym e) refl
 
-pub is-placed : (bytes : List ℕ) (old new : List (List ℕ × ℕ)) (text : List ℕ) (place : ℕ) → PutsPlace old new text place
-    → IsPlaced (record { bytes = bytes; places = old }) (record { bytes = bytes; places = new }) text place
+pub is-placed : (bytes in_order : List ℕ) (old new : List (List ℕ × ℕ)) (text : List ℕ) (place : ℕ) → PutsPlace old new text place
+    → IsPlaced (record { bytes = bytes; places = old; in_order = in_order }) (record { bytes = bytes; places = new; in_order = in_order }) text place
 unfolding PutsPlace
-is-placed bytes old new text place puts =
+is-placed bytes in_order old new text place puts =
     let here : lookup (bytes_eq text) new ≡ Some place = puts text ∙ cond-true (bytes_eq text text) (Some place) (lookup (bytes_eq text) old) ((bytes_decides text text).1 refl) in
     record {
       bytes = refl;
@@ -77,9 +77,11 @@ is-placed bytes old new text place puts =
       had = λ other some. by_test (bytes_eq text other)
           (λ same. some_place (lookup (bytes_eq other) new) place (puts other ∙ cond-true (bytes_eq text other) (Some place) (lookup (bytes_eq other) old) same))
           (λ no. subst (λ (o : Option ℕ). IsSome o) (sym (puts other ∙ cond-false (bytes_eq text other) (Some place) (lookup (bytes_eq other) old) no)) some);
+      in_order = refl;
     }
 
 -- what is told of places is right, also of the one more
-pub placed-stand : (bytes : List ℕ) (old new : List (List ℕ × ℕ)) (text : List ℕ) (place : ℕ) → PlacesStand (record { bytes = bytes; places = old }) → PutsPlace old new text place
-    → StandsAt bytes place text → PlacesStand (record { bytes = bytes; places = new })
-placed-stand bytes old new text place stand puts here = stand_shared bytes old new text place stand puts here
+pub placed-stand : (bytes in_order : List ℕ) (old new : List (List ℕ × ℕ)) (text : List ℕ) (place : ℕ)
+    → PlacesStand (record { bytes = bytes; places = old; in_order = in_order }) → PutsPlace old new text place
+    → StandsAt bytes place text → PlacesStand (record { bytes = bytes; places = new; in_order = in_order })
+placed-stand bytes in_order old new text place stand puts here = stand_shared bytes old new text place stand puts here

@@ -1,5 +1,5 @@
 -- The length of a table of texts that stand in their order from their ends.
-use Rattle.std.proofs.Common.{◌≡◌, ◌≢◌, ℕ, ◌+◌, ◌<◌, true, false, List, [], ◌∷◌, length, get_or, refl, sym, subst, ap, ◌∙◌, inl, inr, suc, nat_eq, map, ◌≤◌, ◌^◌, arith}
+use Rattle.std.proofs.Common.{◌≡◌, ◌≢◌, ℕ, ◌+◌, ◌<◌, true, false, List, [], ◌∷◌, length, get_or, refl, sym, subst, ap, ◌∙◌, inl, inr, suc, nat_eq, map, ◌≤◌, ◌^◌, Some, arith}
 use Rattle.std.specs.Prelude.{◌||◌, not, filter}
 use Rattle.std.specs.Cmp.Lexicographic.{bytes_decides}
 use Rattle.std.specs.List.{ends_with, list_all}
@@ -8,8 +8,8 @@ use Rattle.std.specs.Str.{bytes_eq}
 use Rattle.std.proofs.lemmas.Bool.{and_from, and_parts, cond-false, cond-true, true≢false}
 use Rattle.std.proofs.lemmas.List.{get_or-map, length-map}
 use Rattle.std.proofs.lemmas.List.Sorted.{Contains-permutation, IsPermutation-sym, sorted_far}
-use Rattle.elf_tables.specs.Strings.{IsTableOf, Strings, distinct, size_of_text, stands_alone, table_length}
-use Rattle.elf_tables.specs.StringSteps.{IsLaid, appended, laid_length, is_before}
+use Rattle.elf_tables.specs.Strings.{IsTableOf, Strings, distinct, place_of, size_of_text, stands_alone, table_length}
+use Rattle.elf_tables.specs.StringSteps.{IsLaid, Numbered, appended, is_before, laid_length, texts_in}
 use Rattle.elf_tables.proofs.TextLists.{Contains-from_Holds, Holds, HoldsOnce, Holds-behind, Holds-cases, Holds-distinct, Holds-filter, Holds-first, Holds-from_Contains, Holds-from_any, Holds-nothing, HoldsOnce-cons, HoldsOnce-distinct, HoldsOnce-filter, HoldsOnce-nil, any_from_Holds, by_test, distinct-held, filter-held, same_or_apart, sum_by-same_texts}
 use Rattle.elf_tables.proofs.TextOrder.{IsEnd, IsEnd-empty, IsEnd-from, IsEnd-refl, NotBefore, between_texts, end_not_before, end_of_empty, ends_with-from, is_before-NotBefore, is_before-order}
 
@@ -40,7 +40,7 @@ pub falls_from_sorted : (ts : List (List ℕ)) → IsSortedBy is_before ts → F
 falls_from_sorted ts sorted = falls_from_places ts (λ i j d order within.
     is_before-NotBefore (get_or ts j d) (get_or ts i d) (sorted_far is_before (is_before-order (λ t. t)) ts sorted i j d (omega arith) within))
 
-sorted-map : {A : Type 0} (f : A → List ℕ) (ys : List A) → IsSortedBy (λ x y. is_before (f x) (f y)) ys → IsSortedBy is_before (map f ys)
+pub sorted-map : {A : Type 0} (f : A → List ℕ) (ys : List A) → IsSortedBy (λ x y. is_before (f x) (f y)) ys → IsSortedBy is_before (map f ys)
 sorted-map f [] sorted k d low high = absurd (omega arith)
 sorted-map f (y ∷ ys) sorted k d low high =
     let within : k + 1 < length (y ∷ ys) = omega (arith, length-map (y ∷ ys) f) in
@@ -204,14 +204,17 @@ laid_length-sorted texts ts moved falls =
 
 -- ## The table of the texts
 
-pub table_of_laid : (texts ts : List (List ℕ)) (table : Strings) → IsPermutation texts ts → Falls ts → IsLaid ts table → IsTableOf texts table × (table_length texts ≤ 2 ^ 32)
-table_of_laid texts ts table moved falls laid =
+pub table_of_laid : (texts : List (List ℕ)) (ks : List Numbered) (table : Strings) → IsPermutation texts (texts_in ks) → Falls (texts_in ks) → IsLaid ks table
+    → map Some table.in_order ≡ map (place_of table) texts → IsTableOf texts table × (table_length texts ≤ 2 ^ 32)
+table_of_laid texts ks table moved falls laid in_order =
+    let ts : List (List ℕ) = texts_in ks in
     let long : laid_length ts ≡ table_length texts = laid_length-sorted texts ts moved falls in (
       record {
         added = λ text h. laid.known text ∙ any_from_Holds ts text (Holds-from_Contains ts text (Contains-permutation texts ts text moved h));
         others = λ text h. Contains-permutation ts texts text (IsPermutation-sym texts ts moved) (Contains-from_Holds ts text (Holds-from_any ts text (sym (laid.known text) ∙ h)));
         long = laid.long ∙ long;
         first = laid.first;
+        in_order = in_order;
       },
       subst (λ (n : ℕ). n ≤ 2 ^ 32) long laid.fits,
     )

@@ -1,5 +1,5 @@
 -- String tables (gABI, String Table): texts that each end with a NUL, told by where they begin.
-use Rattle.std.specs.Prelude.{ℕ, ◌+◌, ◌<◌, ◌≡◌, ◌≢◌, List, [], ◌∷◌, ◌++◌, length, Bool, ◌&&◌, ◌||◌, not, Option, Some, IsSome, Contains, All, false, nat_eq, ◌==◌, filter, sum_by, slice_get, if◌then◌else◌}
+use Rattle.std.specs.Prelude.{ℕ, ◌+◌, ◌<◌, ◌≡◌, ◌≢◌, List, [], ◌∷◌, ◌++◌, length, Bool, ◌&&◌, ◌||◌, not, Option, Some, IsSome, Contains, All, false, nat_eq, ◌==◌, filter, map, sum_by, slice_get, if◌then◌else◌}
 use Rattle.std.specs.Map.{lookup}
 use Rattle.std.specs.List.{ends_with, list_all, list_any}
 use Rattle.std.specs.Str.{bytes_eq}
@@ -38,10 +38,12 @@ size_of_text text = length text + 1
 unfoldable pub table_length : List (List ℕ) → ℕ
 table_length texts = 1 + sum_by size_of_text (filter (stands_alone texts) (distinct texts))
 
--- A finished table: its bytes, and its texts with where each stands.
+-- A finished table: its bytes, its texts with where each stands, and where those stand that were added, one by one in the order in
+-- which they were.
 pub record Strings : Type 0 where
   pub bytes : List ℕ
   pub places : List (List ℕ × ℕ)
+  pub in_order : List ℕ
 
 -- where a text stands in a table, as the table tells it
 abbrev pub place_of : Strings → List ℕ → Option ℕ
@@ -58,6 +60,7 @@ pub record IsPlaced (old new : Strings) (text : List ℕ) (place : ℕ) : Type 0
   pub others : (other : List ℕ) → other ≢ text → place_of new other ≡ place_of old other
   -- each text that had a place has one
   pub had : (other : List ℕ) → IsSome (place_of old other) → IsSome (place_of new other)
+  pub in_order : new.in_order ≡ old.in_order
 
 -- the table holds these texts, no others, and no byte more than they need
 pub record IsTableOf (texts : List (List ℕ)) (table : Strings) : Type 0 where
@@ -66,3 +69,5 @@ pub record IsTableOf (texts : List (List ℕ)) (table : Strings) : Type 0 where
   pub long : length table.bytes ≡ table_length texts
   -- the text at 0 is empty
   pub first : slice_get table.bytes 0 ≡ Some 0
+  -- the places of the texts, one by one
+  pub in_order : map Some table.in_order ≡ map (place_of table) texts

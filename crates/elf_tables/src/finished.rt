@@ -2,9 +2,9 @@ ghost use Rattle.std.specs.Prelude.{◌↔◌, ◌≡◌, Some, IfSome, IsTrue};
 ghost use Rattle.std.specs.Map.{lookup};
 ghost use Rattle.std.specs.Str.{bytes_eq};
 ghost use Rattle.elf_tables.specs.Strings.{StandsAt as StandsThere};
-ghost use Rattle.elf_tables.specs.StringSteps.{AreTold, StandsWith, by_bytes};
+ghost use Rattle.elf_tables.specs.StringSteps.{AreTold, StandsWith, with_places};
 
-use crate::keyed::from_their_ends;
+use crate::keyed::Keyed;
 use std::alloc::{AllocError, Global};
 use std::collections::HashMap;
 use std::marker::Model;
@@ -38,11 +38,12 @@ fn does_stand(bytes: &[u8], place: u32, text: &[u8]) -> bool
 #[derive(Drop)]
 pub struct Finished<'t> {
     pub(crate) bytes: Vec<u8>,
-    // The texts that the table was made of and where each stands, in the order in which they were laid.
-    pub(crate) laid: Vec<(&'t [u8], u32)>,
-    // For each text, in the order in which they were added, which of those that were laid it is, as far as that is
-    // known.
-    pub(crate) order: Vec<u32>,
+    // The texts that the table was made of, in the order in which they were laid.
+    pub(crate) texts: Vec<Keyed<'t>>,
+    // Where each of them stands.
+    pub(crate) places: Vec<u32>,
+    // The same in the order in which they were added.
+    pub(crate) in_order: Vec<u32>,
     // The texts that were placed, and where.
     pub(crate) placed: HashMap<&'t [u8], u32>,
 }
@@ -50,66 +51,59 @@ pub struct Finished<'t> {
 impl<'t> Model for Finished<'t> {
     ghost use Rattle.std.specs.Prelude.{◌++◌};
     ghost use Rattle.elf_tables.specs.Strings.{PlacesStand, Strings};
-    ghost use Rattle.elf_tables.specs.StringSteps.{AreTold, by_bytes};
+    ghost use Rattle.elf_tables.specs.StringSteps.{AreTold, by_bytes, with_places};
 
     ghost Value = { Strings };
 
     ghost view = { λ f. record {
       bytes = f.bytes.items;
-      places = by_bytes f.placed.entries ++ by_bytes f.laid.items;
+      places = by_bytes f.placed.entries ++ with_places f.texts.items f.places.items;
+      in_order = f.in_order.items;
     } };
 
     ghost invariant = { λ f. PlacesStand (record {
       bytes = f.bytes.items;
-      places = by_bytes f.placed.entries ++ by_bytes f.laid.items;
-    }) × AreTold (by_bytes f.laid.items) };
+      places = by_bytes f.placed.entries ++ with_places f.texts.items f.places.items;
+      in_order = f.in_order.items;
+    }) × AreTold (with_places f.texts.items f.places.items) };
 }
 
 // Where a text was laid, which is looked for from the first on.
-fn place_from_first(laid: &[(&[u8], u32)], text: &[u8]) -> Option<u32>
-    ensures { result ≡ lookup (bytes_eq text.now) (by_bytes laid.now) }
+fn place_from_first(texts: &[Keyed<'_>], places: &[u32], text: &[u8]) -> Option<u32>
+    ensures { result ≡ lookup (bytes_eq text.now) (with_places texts.now places.now) }
 {
-    for pair in laid {
-        if text == pair.0 {
-            return Some(pair.1);
+    for i in 0..texts.len().min(places.len()) {
+        if text == texts[i].text() {
+            return Some(places[i]);
         }
     }
     None
 }
 
 // The place at a position of what was laid, where that text is there.
-fn place_at(laid: &[(&[u8], u32)], i: usize, text: &[u8]) -> Option<u32>
-    requires { AreTold (by_bytes laid.now) }
-    ensures { IfSome result (λ place. lookup (bytes_eq text.now) (by_bytes laid.now) ≡ Some place) }
+fn place_at(texts: &[Keyed<'_>], places: &[u32], i: usize, text: &[u8]) -> Option<u32>
+    requires { AreTold (with_places texts.now places.now) }
+    ensures { IfSome result (λ place.
+        lookup (bytes_eq text.now) (with_places texts.now places.now) ≡ Some place) }
 {
-    if i < laid.len() && text == laid[i].0 {
-        return Some(laid[i].1);
-    }
-    None
-}
-
-// Where a text was laid that was added behind so many others, where the order tells of it.
-fn place_of_nth(laid: &[(&[u8], u32)], order: &[u32], nth: usize, text: &[u8]) -> Option<u32>
-    requires { AreTold (by_bytes laid.now) }
-    ensures { IfSome result (λ place. lookup (bytes_eq text.now) (by_bytes laid.now) ≡ Some place) }
-{
-    if nth < order.len() {
-        return place_at(laid, order[nth] as usize, text);
+    if i < texts.len() && i < places.len() && text == texts[i].text() {
+        return Some(places[i]);
     }
     None
 }
 
 // Where a text was laid. They stand in their order from their ends, so it is found there, unless it wasn't laid.
-fn laid_place(laid: &[(&[u8], u32)], text: &[u8]) -> Option<u32>
-    requires { AreTold (by_bytes laid.now) }
-    ensures { result ≡ lookup (bytes_eq text.now) (by_bytes laid.now) }
+fn laid_place(texts: &[Keyed<'_>], places: &[u32], text: &[u8]) -> Option<u32>
+    requires { AreTold (with_places texts.now places.now) }
+    ensures { result ≡ lookup (bytes_eq text.now) (with_places texts.now places.now) }
 {
-    if let Ok(i) = laid.binary_search_by(|pair| from_their_ends(text, pair.0)) {
-        if let Some(place) = place_at(laid, i, text) {
+    let wanted = Keyed::new(text, 0);
+    if let Ok(i) = texts.binary_search_by(|keyed| wanted.from_their_ends(keyed)) {
+        if let Some(place) = place_at(texts, places, i, text) {
             return Some(place);
         }
     }
-    place_from_first(laid, text)
+    place_from_first(texts, places, text)
 }
 
 impl<'t> Finished<'t> {
@@ -119,13 +113,14 @@ impl<'t> Finished<'t> {
     /// A table of these bytes that was made elsewhere and is copied: it tells no place until a text is placed. Takes no
     /// memory.
     pub fn copied(bytes: Vec<u8>, alloc: Global) -> Self
-        ensures made { result ≡ record { bytes = bytes.items; places = [] } }
+        ensures made { result ≡ record { bytes = bytes.items; places = []; in_order = [] } }
         ensures stands { PlacesStand result }
     {
         Finished {
             bytes,
-            laid: Vec::new(alloc),
-            order: Vec::new(alloc),
+            texts: Vec::new(alloc),
+            places: Vec::new(alloc),
+            in_order: Vec::new(alloc),
             placed: HashMap::new(alloc),
         }
     }
@@ -161,21 +156,15 @@ impl<'t> Finished<'t> {
     {
         match self.placed.get(text).copied() {
             Some(place) => Some(place),
-            None => laid_place(&self.laid, text),
+            None => laid_place(&self.texts, &self.places, text),
         }
     }
 
-    /// The same, for a caller that knows behind how many others the text was added: if it was, it is found at once. The answer is
-    /// the same whatever the number. Takes no memory.
-    pub fn offset_of_nth(&self, nth: usize, text: &[u8]) -> Option<u32>
-        ensures place { result ≡ place_of self.now text.now }
-        ensures stands { IfSome result (λ place. StandsAt self.now.bytes place text.now) }
+    /// Where the texts that were added stand, in the order in which they were added; none of a table that is copied. Takes no
+    /// memory.
+    pub fn in_order(&self) -> &[u32]
+        ensures { result.now ≡ self.now.in_order }
     {
-        if self.placed.is_empty() {
-            if let Some(place) = place_of_nth(&self.laid, &self.order, nth, text) {
-                return Some(place);
-            }
-        }
-        self.offset_of(text)
+        self.in_order.as_slice()
     }
 }

@@ -6,9 +6,6 @@ ghost use Rattle.elf_tables.specs.EndKeys.{end_key as key_of_end};
 use std::cmp::Ordering;
 use std::marker::Model;
 
-// The last of the numbers that are told of the order of texts.
-pub(crate) const MOST_NTH: usize = 0xffff_ffff;
-
 // How two texts compare by their bytes, the last one first.
 pub(crate) fn from_their_ends(a: &[u8], b: &[u8]) -> Ordering
     ensures { result ≡ slice_cmp nat_cmp (reverse a.now) (reverse b.now) }
@@ -43,48 +40,50 @@ fn end_key(text: &[u8]) -> u64
 pub(crate) struct Keyed<'t> {
     key: u64,
     text: &'t [u8],
-    // Which of the texts of its table it is, in the order in which they were added.
-    nth: u32,
+    // How many texts were added to its table before it.
+    nth: usize,
 }
 
 impl<'t> Model for Keyed<'t> {
-    ghost use Rattle.std.specs.Prelude.{List, ℕ};
-    ghost use Rattle.elf_tables.specs.KeyedSeen.{IsKeyed};
+    ghost use Rattle.elf_tables.specs.KeyedSeen.{IsKeyed, numbered_seen};
+    ghost use Rattle.elf_tables.specs.StringSteps.{Numbered};
 
-    ghost Value = { List ℕ };
+    ghost Value = { Numbered };
 
-    ghost view = { λ k. k.text.now };
+    ghost view = { numbered_seen };
 
     ghost invariant = { IsKeyed };
 }
 
 impl<'t> Keyed<'t> {
-    // A text with its number, of which so many were added before it.
-    pub(crate) fn new(text: &'t [u8], before: usize) -> Self
-        ensures { result ≡ text.entry.now }
+    // A text with its number, before which so many were added.
+    pub(crate) fn new(text: &'t [u8], nth: usize) -> Self
+        ensures { result ≡ record { text = text.entry.now; nth = nth } }
     {
         Keyed {
             key: end_key(text),
             text,
-            nth: before.min(MOST_NTH) as u32,
+            nth,
         }
     }
 
     // How many texts were added before it.
-    pub(crate) fn nth(&self) -> usize {
-        self.nth as usize
+    pub(crate) fn nth(&self) -> usize
+        ensures { result ≡ self.now.nth }
+    {
+        self.nth
     }
 
     // The text.
     pub(crate) fn text(&self) -> &'t [u8]
-        ensures { result.now ≡ self.now }
+        ensures { result.now ≡ self.now.text }
     {
         self.text
     }
 
     // How two texts compare by their bytes, the last one first.
     pub(crate) fn from_their_ends(&self, other: &Keyed<'_>) -> Ordering
-        ensures { result ≡ slice_cmp nat_cmp (reverse self.now) (reverse other.now) }
+        ensures { result ≡ slice_cmp nat_cmp (reverse self.now.text) (reverse other.now.text) }
     {
         if self.key != other.key {
             return self.key.cmp(&other.key);

@@ -1,13 +1,13 @@
-ghost use Rattle.std.specs.Prelude.{◌≡◌, ◌≤◌, ◌<◌, ◌^◌, ◌+◌, [], ◌∷◌, false, length, nat_eq, IfOk, MatchResult};
+ghost use Rattle.std.specs.Prelude.{◌≡◌, ◌≤◌, ◌<◌, ◌^◌, ◌+◌, [], ◌∷◌, All, false, length, nat_eq, IfOk, MatchResult};
 ghost use Rattle.std.specs.List.{ends_with};
 ghost use Rattle.std.specs.List.Sorted.{IsSortedBy};
 ghost use Rattle.elf_tables.specs.declared.fault.TableFault.TheVariants.{NumberTooLarge};
 ghost use Rattle.elf_tables.specs.Strings.{HoldNoNul};
-ghost use Rattle.elf_tables.specs.StringSteps.{IsLaid, PutsText, is_before, StandsWith, laid_length};
+ghost use Rattle.elf_tables.specs.StringSteps.{AreLaid, AreOrdered, IsLaid, PutsText, StandsWith, is_before, laid_length, texts_in};
 
 use crate::fault::TableFault;
 use crate::finished::Finished;
-use crate::keyed::{Keyed, MOST_NTH};
+use crate::keyed::Keyed;
 use std::alloc::{AllocError, Global};
 use std::collections::HashMap;
 
@@ -39,21 +39,6 @@ fn put_text(bytes: &mut Vec<u8>, last: &[u8], place: u32, text: &[u8]) -> Result
     Ok(end as u32)
 }
 
-// For each text, in the order in which they were added, which of the texts in their order from their ends it is.
-fn order_of(alloc: Global, texts: &[Keyed<'_>]) -> Result<Vec<u32>, AllocError>
-    ensures { IfOk result (λ order. length order.items ≡ length texts.now) }
-{
-    let mut order = Vec::new(alloc);
-    order.resize(texts.len(), 0)?;
-    for (i, keyed) in texts.iter().enumerate() {
-        let nth = keyed.nth();
-        if nth < order.len() {
-            order[nth] = i.min(MOST_NTH) as u32;
-        }
-    }
-    Ok(order)
-}
-
 // How many bytes of room a table of these texts is given at first: as many as it has if no two share an end, but no
 // more than a bound.
 fn room_for(texts: &[Keyed<'_>]) -> usize
@@ -75,30 +60,67 @@ fn begun(alloc: Global, room: usize) -> Result<Vec<u8>, AllocError>
     Ok(table)
 }
 
-// The table of texts in an order in which each stands behind those that end with it. Each stands within the one
-// before it where it ends that one.
-pub(crate) fn lay<'t>(alloc: Global, texts: &[Keyed<'t>]) -> Result<Finished<'t>, TableFault>
-    requires none { HoldNoNul texts.now }
-    requires sorted { IsSortedBy is_before texts.now }
+// The bytes of a table, and where each of its texts stands in them.
+#[derive(Drop)]
+struct Laid {
+    bytes: Vec<u8>,
+    places: Vec<u32>,
+}
+
+// The bytes of texts in an order in which each stands behind those that end with it. Each stands within the one before it
+// where it ends that one.
+fn lay_bytes(alloc: Global, texts: &[Keyed<'_>]) -> Result<Laid, TableFault>
+    requires none { HoldNoNul (texts_in texts.now) }
+    requires sorted { IsSortedBy is_before (texts_in texts.now) }
     ensures { MatchResult result
-        (IsLaid texts.now)
-        (λ fault. fault ≡ NumberTooLarge → 2 ^ 32 < laid_length texts.now) }
+        (λ laid. AreLaid texts.now laid.bytes.items laid.places.items)
+        (λ fault. fault ≡ NumberTooLarge → 2 ^ 32 < laid_length (texts_in texts.now)) }
 {
-    let order = order_of(alloc, texts)?;
-    let mut laid = Vec::with_capacity(alloc, texts.len())?;
+    let mut places = Vec::with_capacity(alloc, texts.len())?;
     let mut bytes = begun(alloc, room_for(texts))?;
     let mut last: &[u8] = &[];
     let mut place = 0;
     for keyed in texts {
         let text = keyed.text();
         place = put_text(&mut bytes, last, place, text)?;
-        laid.push((text, place))?;
+        places.push(place)?;
         last = text;
     }
+    Ok(Laid { bytes, places })
+}
+
+// The places of texts by their numbers, which are those of the order in which they were added.
+fn in_order(alloc: Global, texts: &[Keyed<'_>], places: &[u32]) -> Result<Vec<u32>, AllocError>
+    requires many { length places.now ≡ length texts.now }
+    requires numbered { All (λ k. k.nth < length texts.now) texts.now }
+    ensures { IfOk result (λ order.
+        AreOrdered texts.now places.now order.items (length texts.now)) }
+{
+    let mut order = Vec::new(alloc);
+    order.resize(texts.len(), 0)?;
+    for i in 0..texts.len() {
+        order[texts[i].nth()] = places[i];
+    }
+    Ok(order)
+}
+
+// The table of texts in an order in which each stands behind those that end with it.
+pub(crate) fn lay<'t>(alloc: Global, texts: Vec<Keyed<'t>>) -> Result<Finished<'t>, TableFault>
+    requires none { HoldNoNul (texts_in texts.items) }
+    requires sorted { IsSortedBy is_before (texts_in texts.items) }
+    requires numbered { All (λ k. k.nth < length texts.items) texts.items }
+    ensures { MatchResult result
+        (IsLaid texts.entry.items)
+        (λ fault. fault ≡ NumberTooLarge
+        → 2 ^ 32 < laid_length (texts_in texts.entry.items)) }
+{
+    let laid = lay_bytes(alloc, texts.as_slice())?;
+    let in_order = in_order(alloc, texts.as_slice(), laid.places.as_slice())?;
     Ok(Finished {
-        bytes,
-        laid,
-        order,
+        bytes: laid.bytes,
+        texts,
+        places: laid.places,
+        in_order,
         placed: HashMap::new(alloc),
     })
 }

@@ -14,12 +14,13 @@ pub struct StringTable<'t> {
 impl<'t> Model for StringTable<'t> {
     ghost use Rattle.std.specs.Prelude.{List, ℕ};
     ghost use Rattle.elf_tables.specs.Strings.{HoldNoNul};
+    ghost use Rattle.elf_tables.specs.StringSteps.{AreInOrder, texts_in};
 
     ghost Value = { List (List ℕ) };
 
-    ghost view = { λ s. s.texts.items };
+    ghost view = { λ s. texts_in s.texts.items };
 
-    ghost invariant = { λ s. HoldNoNul s.texts.items };
+    ghost invariant = { λ s. HoldNoNul (texts_in s.texts.items) × AreInOrder s.texts.items };
 }
 
 impl<'t> StringTable<'t> {
@@ -54,7 +55,8 @@ impl<'t> StringTable<'t> {
     }
 
     /// The table of these texts, which is as short as their common ends allow. `NumberTooLarge` where it has more
-    /// than 2 to the 32 bytes, so that the last of them has an offset past 32 bits.
+    /// than 2 to the 32 bytes, so that the last of them has an offset past 32 bits. The finished table also tells where each text
+    /// stands, in the order in which they were added.
     pub fn finish(self, alloc: Global) -> Result<Finished<'t>, TableFault>
         ensures table { MatchResult result
             (λ table. IsTableOf self.entry table × (table_length self.entry ≤ 2 ^ 32))
@@ -63,6 +65,6 @@ impl<'t> StringTable<'t> {
     {
         let mut texts = self.texts;
         texts.sort_unstable_by(|a, b| b.from_their_ends(a));
-        lay(alloc, texts.as_slice())
+        lay(alloc, texts)
     }
 }

@@ -129,15 +129,11 @@ fn a_text_placed_twice(rt: HostRuntime) {
 fn placed_in_a_table_that_was_made(rt: HostRuntime) {
     let mut table = table_of(&rt, &[b"abc", b"xbc", b"bc"]);
     same_bytes(&rt, "bytes", table.bytes(), b"\0xbc\0abc\0");
-    same(&rt, "laid", &table.offset_of_nth(2, b"bc"), &Some(6));
+    same(&rt, "laid", &table.offset_of(b"bc"), &Some(6));
+    same(&rt, "in order", &table.in_order().get(2).copied(), &Some(6));
     same(&rt, "no place", &place(&rt, &mut table, b"bc", 3), &false);
     same(&rt, "is placed", &place(&rt, &mut table, b"bc", 2), &true);
     same(&rt, "placed", &table.offset_of(b"bc"), &Some(2));
-    same(
-        &rt,
-        "placed, by number",
-        &table.offset_of_nth(2, b"bc"),
-        &Some(2),
-    );
-    same(&rt, "another", &table.offset_of_nth(0, b"abc"), &Some(5));
+    same(&rt, "as added", &table.in_order().get(2).copied(), &Some(6));
+    same(&rt, "another", &table.offset_of(b"abc"), &Some(5));
 }

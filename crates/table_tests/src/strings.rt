@@ -1,7 +1,6 @@
 //! String tables of a few texts: their bytes, and where each text stands.
 
 use crate::support::{Runtime, same, same_bytes, table_of};
-use elf_tables::Finished;
 
 // Texts, the table's bytes, where each text stands, and texts that it tells no place of.
 #[derive(Clone, Copy)]
@@ -12,42 +11,20 @@ struct Row {
     others: &'static [&'static [u8]],
 }
 
-// A table is made of the texts, and asked for them and for others.
+// A table is made of the texts, and asked for them and for others, and for the places of all that were added, in order.
 fn follow(rt: &impl Runtime, row: &Row) {
     let table = table_of(rt, row.texts);
     same_bytes(rt, "bytes", table.bytes(), row.bytes);
     for (text, place) in row.texts.iter().zip(row.places) {
         same(rt, "place", &table.offset_of(text), &Some(*place));
-        told_by_any_number(rt, &table, row, text, Some(*place));
     }
     for text in row.others {
         same(rt, "no place", &table.offset_of(text), &None);
-        told_by_any_number(rt, &table, row, text, None);
     }
-}
-
-// A text has its place, or none, behind however many others it is said to have been added.
-fn told_by_any_number(
-    rt: &impl Runtime,
-    table: &Finished<'_>,
-    row: &Row,
-    text: &[u8],
-    place: Option<u32>,
-) {
-    for nth in 0..row.texts.len() + 2 {
-        same(
-            rt,
-            "place by number",
-            &table.offset_of_nth(nth, text),
-            &place,
-        );
+    same(rt, "count", &table.in_order().len(), &row.places.len());
+    for (found, place) in table.in_order().iter().zip(row.places) {
+        same(rt, "place in order", found, place);
     }
-    same(
-        rt,
-        "place by no number",
-        &table.offset_of_nth(usize::MAX, text),
-        &place,
-    );
 }
 
 #[test]

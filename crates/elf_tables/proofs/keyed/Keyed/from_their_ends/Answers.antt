@@ -3,6 +3,7 @@ use Rattle.std.proofs.Common.{◌≡◌, ℕ, List, ap, sym, reverse, ◌∙◌}
 use Rattle.std.specs.Cmp.Lexicographic.{slice_cmp}
 use Rattle.std.specs.Ordering.{nat_cmp}
 use Rattle.elf_tables.specs.EndKeys.{end_key}
+use Rattle.elf_tables.specs.StringSteps.{Numbered}
 use Rattle.elf_tables.proofs.EndKeyLaws.{end_key-cmp}
 use Rattle.elf_tables.proofs.keyed.Keyed.from_their_ends.Goals as goal
 
@@ -16,5 +17,5 @@ returns-then-self-other c =
     ∙ ap (λ k. nat_cmp k c.other.inside.key) c.self.invariant.key
     ∙ ap (λ k. nat_cmp (end_key text) k) c.other.invariant.key
     ∙ as_ends
-    ∙ ap (λ l. slice_cmp nat_cmp (reverse l) (reverse other)) c.self.view_is
-    ∙ ap (λ l. slice_cmp nat_cmp (reverse c.args.self.now) (reverse l)) c.other.view_is
+    ∙ ap (λ (k : Numbered). slice_cmp nat_cmp (reverse k.text) (reverse other)) c.self.view_is
+    ∙ ap (λ (k : Numbered). slice_cmp nat_cmp (reverse c.args.self.now.text) (reverse k.text)) c.other.view_is
