@@ -1,7 +1,7 @@
 pub mod HashSteps
 pub mod KeptSteps
-pub mod KeptTexts
 pub mod NeedSteps
 pub mod SizeSteps
 pub mod TextSteps
+pub mod OtherSteps
 pub mod WholeTexts

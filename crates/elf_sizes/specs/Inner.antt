@@ -64,12 +64,6 @@ staying_entries without entries = filter (λ e. not (without && is_of_needs e)) 
 abbrev pub is_linked : Image → ℕ → ℕ → Bool
 is_linked image type number = is_some_and (λ link. link == number) (link_of_type type image)
 
--- no others than symbols for a link editor have their names there
-abbrev pub are_static_names_alone : Image → ℕ → Bool
-are_static_names_alone image number =
-    not (is_linked image SHT_DYNAMIC number) && not (is_linked image SHT_DYNSYM number) && not (is_linked image SHT_GNU_VERDEF number)
-    && not (is_linked image SHT_GNU_VERNEED number) && not (image.header.e_shstrndx == number)
-
 -- ## Sizes, by a section's number at read and the section alone
 
 -- a number fits a field of a class (gABI, Data Representation)

@@ -1,4 +1,5 @@
 pub mod Inner
+pub mod OtherTexts
 pub mod Seen
 pub mod UsersSeen
 pub mod SizingSeen

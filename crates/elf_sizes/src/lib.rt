@@ -3,6 +3,7 @@
 
 mod kinds;
 mod known;
+mod others;
 mod sizes;
 mod strings;
 mod tables;

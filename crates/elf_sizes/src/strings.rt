@@ -3,13 +3,14 @@ ghost use Rattle.std.specs.Prelude.{◌≡◌, ℕ, ◌≤◌, ◌<◌, ◌^◌,
 ghost use Rattle.elf_tables.specs.declared.fault.TableFault.TheVariants.{NumberTooLarge};
 ghost use Rattle.elf_tables.specs.Strings.{HoldNoNul, IsTableOf, PlacesStand, table_length};
 ghost use Rattle.elf_image.specs.ImageSeen.{symbol_kept};
-ghost use Rattle.elf_plan.specs.Texts.{are_same_texts, is_subsequence as is_subsequence_of, is_table_copied, texts_of_symbols};
+ghost use Rattle.elf_plan.specs.Texts.{are_same_texts, is_subsequence as is_subsequence_of, is_table_copied, texts_in_use, texts_of_symbols};
 ghost use Rattle.elf_sizes.specs.MadeTables.{IsMade, IsTooLong};
 
+use crate::texts::Texts;
 use crate::users::Users;
 use elf_image::{Builder, Symbol};
 use elf_tables::{Finished, StringTable, TableFault};
-use std::alloc::Global;
+use std::alloc::{AllocError, Global};
 
 // How many of the first texts are found once another text was looked at, where `next` of them were before.
 fn next_after(some: &[&[u8]], next: usize, text: &[u8]) -> usize
@@ -26,7 +27,7 @@ fn next_after(some: &[&[u8]], next: usize, text: &[u8]) -> usize
 }
 
 // Whether the first texts are the second with some left out.
-fn is_subsequence(some: &[&[u8]], all: &[&[u8]]) -> bool
+pub(crate) fn is_subsequence(some: &[&[u8]], all: &[&[u8]]) -> bool
     ensures { result ≡ is_subsequence_of (map (λ text. text.now) some.now)
         (map (λ text. text.now) all.now) }
 {
@@ -74,6 +75,20 @@ fn table_of<'t>(alloc: Global, texts: &[&'t [u8]]) -> Result<Finished<'t>, Table
     table.finish(alloc)
 }
 
+// Whether the texts are those that an image uses of the string table with that number, with some left out.
+fn are_among_read(
+    alloc: Global,
+    texts: &Texts<'_>,
+    read_users: &Users<'_, '_>,
+    number: usize,
+) -> Result<bool, AllocError>
+    ensures { IfOk result (λ are. are ≡ is_subsequence_of texts.now
+        (texts_in_use read_users.now.read read_users.now.image number)) }
+{
+    let at_read = read_users.texts(alloc, number)?;
+    Ok(is_subsequence(texts.as_slice(), at_read.as_slice()))
+}
+
 // The string table with that number at read, where it is made anew, for the users of the image's texts and of the texts
 // that were read.
 pub(crate) fn made_for<'a, 'data>(
@@ -89,16 +104,14 @@ pub(crate) fn made_for<'a, 'data>(
     ensures fault { IfErr result (λ fault.
         fault ≡ NumberTooLarge → IsTooLong users.now.read users.now.image number) }
 {
-    if users.keeps_texts(read_users, number) {
+    let told = users.told_copied(alloc, read_users, number)?;
+    if let Some(true) = told {
         return Ok(None);
     }
     let now = users.texts(alloc, number)?;
-    let at_read = read_users.texts(alloc, number)?;
-    if is_subsequence(now.as_slice(), at_read.as_slice()) {
+    if told.is_none() && are_among_read(alloc, &now, read_users, number)? {
         return Ok(None);
     }
-    // their room may serve the table
-    drop(at_read);
     let table = table_of(alloc, now.as_slice())?;
     Ok(Some(table))
 }

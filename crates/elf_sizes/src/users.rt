@@ -8,6 +8,7 @@ ghost use Rattle.elf_sizes.specs.Seen.{AreLinks};
 ghost use Rattle.elf_format.specs.Image.{lists_tag as is_tag_listed};
 ghost use Rattle.elf_image.specs.ImageSeen.{entry_kept, section_kept};
 
+use crate::others::{Others, told_of};
 use crate::texts::Texts;
 use crate::versions::{are_needs_gone, count_staying, dropped_marks, grown, needs_size};
 use elf_image::constants::{
@@ -161,13 +162,13 @@ impl<'a, 'data> Model for Users<'a, 'data> {
 }
 
 impl<'a, 'data> Users<'a, 'data> {
-    ghost use Rattle.std.specs.Prelude.{◌≡◌, ◌<◌, ◌^◌, ◌++◌, length, IfOk, IsTrue, OnOk, SomeIff};
+    ghost use Rattle.std.specs.Prelude.{◌≡◌, ◌<◌, ◌^◌, ◌++◌, length, IfOk, IfSome, IsTrue, OnOk, SomeIff};
     ghost use Rattle.elf_format.specs.Options.{list_at};
     ghost use Rattle.elf_image.specs.SymbolsRead.{HasSymbolsOf};
     ghost use Rattle.elf_plan.specs.Sizes.{dynamic_size as size_of_dynamic, needs_size as size_of_needs};
     ghost use Rattle.elf_tables.specs.Strings.{HoldNoNul};
     ghost use Rattle.elf_plan.specs.Needs.{written_entries, written_needs};
-    ghost use Rattle.elf_sizes.specs.Inner.{are_static_names_alone};
+    ghost use Rattle.elf_sizes.specs.OtherTexts.{HasNamesOf, others_in_use};
     ghost use Rattle.elf_plan.specs.Texts.{if_linked, if_names, is_table_copied, texts_in_use, texts_of_definitions, texts_of_entries, texts_of_needs, texts_of_symbols};
 
     // What is known of the users of an image's texts, and whether its symbols are known to be those that were read.
@@ -333,30 +334,56 @@ impl<'a, 'data> Users<'a, 'data> {
         Ok(())
     }
 
-    // Whether no others than symbols for a link editor have their names in the string table with that number.
-    fn has_static_names_alone(&self, number: usize) -> bool
-        ensures { result ≡ are_static_names_alone self.now.image number }
+    // The texts that the image uses of that string table, but for the names of symbols.
+    fn others(&self, alloc: Global, number: usize) -> Result<Others<'a>, AllocError>
+        ensures { IfOk result (λ others. others ≡ others_in_use self.now number) }
     {
-        !leads_to(self.links.dynamic, number)
-            && !leads_to(self.links.dynamic_symbols, number)
-            && !leads_to(self.links.definitions, number)
-            && !leads_to(self.links.needs, number)
-            && self.image.header().e_shstrndx as usize != number
+        let mut list = Texts::new(alloc);
+        self.push_dynamic(&mut list, number)?;
+        let mut versions = Texts::new(alloc);
+        self.push_definitions(&mut versions, number)?;
+        self.push_needs(&mut versions, number)?;
+        let mut sections = Texts::new(alloc);
+        self.push_sections(&mut sections, number)?;
+        Ok(Others {
+            list,
+            versions,
+            sections,
+        })
     }
 
-    // Whether the texts that the image uses of the string table with that number are known to be those that were read,
-    // without a look at them.
-    pub(crate) fn keeps_texts(&self, read_users: &Users<'_, '_>, number: usize) -> bool
+    // Whether the names of symbols in that string table are known to be those that stood there at read.
+    fn keeps_names(&self, read_users: &Users<'_, '_>, number: usize) -> bool
         requires { read_users.now ≡ record { read = self.now.read; image = self.now.read } }
-        ensures { IsTrue result → IsTrue (is_table_copied self.now.read self.now.image number) }
+        ensures { IsTrue result → HasNamesOf self.now.read self.now.image number }
     {
-        if !self.keeps_symbols {
+        let (now, at_read) = (self.links, read_users.links);
+        if leads_to(now.symbols, number) != leads_to(at_read.symbols, number) {
             return false;
         }
-        if !self.has_static_names_alone(number) || !read_users.has_static_names_alone(number) {
+        if leads_to(now.dynamic_symbols, number) != leads_to(at_read.dynamic_symbols, number) {
             return false;
         }
-        leads_to(self.links.symbols, number) == leads_to(read_users.links.symbols, number)
+        self.keeps_symbols
+    }
+
+    // Whether that string table is copied, where it can be told without a look at the names of symbols.
+    pub(crate) fn told_copied(
+        &self,
+        alloc: Global,
+        read_users: &Users<'_, '_>,
+        number: usize,
+    ) -> Result<Option<bool>, AllocError>
+        requires { read_users.now ≡ record { read = self.now.read; image = self.now.read } }
+        ensures { IfOk result (λ told. IfSome told (λ is.
+            is ≡ is_table_copied self.now.read self.now.image number)) }
+    {
+        if !self.keeps_names(read_users, number) {
+            return Ok(None);
+        }
+        let now = self.others(alloc, number)?;
+        let at_read = read_users.others(alloc, number)?;
+        Ok(told_of(&now, &at_read))
     }
 
     // The texts that the image uses of the string table with that number.
