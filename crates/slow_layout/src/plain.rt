@@ -1,4 +1,8 @@
 //! An edited image as plain records, each number in 128 bits.
+ghost use Rattle.std.specs.Prelude.{◌≡◌, IfOk, map, slice_get, unwrap_or};
+ghost use Rattle.elf_image.specs.ImageSeen.{section_kept, segment_kept};
+ghost use Rattle.slow_layout.specs.Plain.{AreParts, IsPlain, part_with, piece_with};
+
 use elf_format::constants::{
     PF_X, PT_INTERP, PT_LOAD, SHF_ALLOC, SHF_EXECINSTR, SHF_TLS, SHF_WRITE, SHT_DYNAMIC,
     SHT_DYNSYM, SHT_NOBITS, SHT_NOTE, SHT_NULL, SHT_PROGBITS,
@@ -175,7 +179,9 @@ impl Facts {
     }
 }
 
-fn part_of(section: &Section<'_>, position: usize, number: usize, size: u64) -> Part {
+fn part_of(section: &Section<'_>, position: usize, number: usize, size: u64) -> Part
+    ensures { result ≡ part_with (section_kept section.now) position number size }
+{
     Part {
         position,
         number,
@@ -190,7 +196,9 @@ fn part_of(section: &Section<'_>, position: usize, number: usize, size: u64) -> 
     }
 }
 
-fn piece_of(segment: &Segment<'_>) -> Piece {
+fn piece_of(segment: &Segment<'_>) -> Piece
+    ensures { result ≡ piece_with (segment_kept segment.now) }
+{
     Piece {
         p_type: segment.p_type(),
         p_flags: segment.p_flags(),
@@ -203,38 +211,37 @@ fn piece_of(segment: &Segment<'_>) -> Piece {
     }
 }
 
-fn pieces_of(alloc: Global, image: &Builder<'_>) -> Result<Vec<Piece>, AllocError> {
+fn pieces_of(alloc: Global, segments: &[Segment<'_>]) -> Result<Vec<Piece>, AllocError>
+    ensures { IfOk result (λ pieces.
+        pieces.items ≡ map piece_with (map segment_kept segments.now)) }
+{
     let mut pieces = Vec::new(alloc);
-    for segment in image.segments() {
+    for segment in segments {
         pieces.push(piece_of(segment))?;
     }
     Ok(pieces)
 }
 
-/// The number that the section at a position had, of so many.
-fn number_at(image: &Builder<'_>, position: usize, count: usize) -> usize {
-    for number in 0..count {
-        if matches!(image.section_position(number), Some(at) if at == position) {
-            return number;
-        }
+/// The size that is told for a position, or a section's own where none is.
+fn size_at(sizes: &[u64], position: usize, own: u64) -> u64
+    ensures { result ≡ unwrap_or (slice_get sizes.now position) own }
+{
+    match sizes.get(position) {
+        Some(size) => *size,
+        None => own,
     }
-    count
 }
 
-/// The sections of an image, of which so many were read, with these sizes.
-fn parts_of(
-    alloc: Global,
-    image: &Builder<'_>,
-    count: usize,
-    sizes: &[u64],
-) -> Result<Vec<Part>, AllocError> {
+/// The sections of an image, with these sizes.
+fn parts_of(alloc: Global, image: &Builder<'_>, sizes: &[u64]) -> Result<Vec<Part>, AllocError>
+    ensures { IfOk result (λ parts. AreParts image.now sizes.now parts.items) }
+{
+    let sections = image.sections();
     let mut parts = Vec::new(alloc);
-    for (position, section) in image.sections().iter().enumerate() {
-        let size = match sizes.get(position) {
-            Some(size) => *size,
-            None => section.sh_size,
-        };
-        let number = number_at(image, position, count);
+    for position in 0..sections.len() {
+        let section = &sections[position];
+        let size = size_at(sizes, position, section.sh_size);
+        let number = image.read_section(position);
         parts.push(part_of(section, position, number, size))?;
     }
     Ok(parts)
@@ -286,12 +293,13 @@ pub fn plain_of(
     read: &Builder<'_>,
     image: &Builder<'_>,
     sizes: &[u64],
-) -> Result<Plain, AllocError> {
-    let count = read.sections().len();
-    let read_parts = parts_of(alloc, read, count, &[])?;
-    let parts = parts_of(alloc, image, count, sizes)?;
-    let read_pieces = pieces_of(alloc, read)?;
-    let pieces = pieces_of(alloc, image)?;
+) -> Result<Plain, AllocError>
+    ensures { IfOk result (IsPlain read.now image.now sizes.now) }
+{
+    let read_parts = parts_of(alloc, read, &[])?;
+    let parts = parts_of(alloc, image, sizes)?;
+    let read_pieces = pieces_of(alloc, read.segments())?;
+    let pieces = pieces_of(alloc, image.segments())?;
     let interpreter = interpreter_of(&read_parts, &read_pieces);
     let strings = match link_of(&parts, SHT_DYNAMIC) {
         Some(number) => Some(number),
