@@ -38,6 +38,7 @@ fn high_by_byte(bytes: &[u8]) -> u64
 }
 
 // The number that eight bytes at most spell, the lowest first: at once where they are a whole field.
+#[inline(always)]
 fn low_first(bytes: &[u8]) -> u64
     requires { length bytes.now ≤ 8 }
     ensures { result ≡ low_first_value bytes.now }
@@ -52,6 +53,7 @@ fn low_first(bytes: &[u8]) -> u64
 }
 
 // The same, the highest first.
+#[inline(always)]
 fn high_first(bytes: &[u8]) -> u64
     requires { length bytes.now ≤ 8 }
     ensures { result ≡ high_first_value bytes.now }
@@ -66,6 +68,7 @@ fn high_first(bytes: &[u8]) -> u64
 }
 
 /// The bytes of a field at a position, as far as they are there. Takes no memory.
+#[inline(always)]
 pub fn part(bytes: &[u8], position: usize, width: usize) -> &[u8]
     ensures { result.now ≡ field width position bytes.now }
 {
@@ -80,6 +83,7 @@ pub fn part(bytes: &[u8], position: usize, width: usize) -> &[u8]
 }
 
 // The number in a field, as far as its bytes are there.
+#[inline(always)]
 fn number_in(order: ByteOrder2, bytes: &[u8], place: (usize, usize)) -> u64
     requires { place.1 ≤ 8 }
     ensures value { result ≡ number_at order place.1 place.0 bytes.now }
@@ -94,6 +98,7 @@ fn number_in(order: ByteOrder2, bytes: &[u8], place: (usize, usize)) -> u64
 
 /// The number in a field that has one place in 32-bit files and another in 64-bit files, each as its position
 /// and its width in bytes; 0 past the end.
+#[inline(always)]
 pub fn long(form: Form, bytes: &[u8], narrow: (usize, usize), wide: (usize, usize)) -> u64
     requires narrow { narrow.1 ≤ 8 }
     requires wide { wide.1 ≤ 8 }
@@ -106,6 +111,7 @@ pub fn long(form: Form, bytes: &[u8], narrow: (usize, usize), wide: (usize, usiz
 }
 
 // The same for a field of four bytes, of two and of one.
+#[inline(always)]
 fn word(form: Form, bytes: &[u8], narrow: usize, wide: usize) -> u32
     ensures { result ≡ field_of form (narrow, 4) (wide, 4) bytes.now }
 {
@@ -116,6 +122,7 @@ fn word(form: Form, bytes: &[u8], narrow: usize, wide: usize) -> u32
 }
 
 /// The number in a field of two bytes that has one position in 32-bit files and another in 64-bit files.
+#[inline(always)]
 pub fn half(form: Form, bytes: &[u8], narrow: usize, wide: usize) -> u16
     ensures { result ≡ field_of form (narrow, 2) (wide, 2) bytes.now }
 {
@@ -125,6 +132,7 @@ pub fn half(form: Form, bytes: &[u8], narrow: usize, wide: usize) -> u16
     }
 }
 
+#[inline(always)]
 fn single(form: Form, bytes: &[u8], narrow: usize, wide: usize) -> u8
     ensures { result ≡ field_of form (narrow, 1) (wide, 1) bytes.now }
 {
