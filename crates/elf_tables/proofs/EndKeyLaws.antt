@@ -1,15 +1,18 @@
 -- The numbers of texts' ends, and the order that they tell.
-use Rattle.std.proofs.Common.{◌≡◌, ◌≢◌, ℕ, ◌+◌, ◌-◌, ◌*◌, ◌^◌, ◌<◌, ◌≤◌, zero, suc, List, [], ◌∷◌, length, get_or, reverse, refl, sym, subst, ap, ◌∙◌, inl, inr, arith}
+use Rattle.std.proofs.Common.{◌≡◌, ◌≢◌, ℕ, ◌+◌, ◌-◌, ◌*◌, ◌^◌, ◌<◌, ◌≤◌, zero, suc, List, [], ◌∷◌, ◌++◌, drop, length, get_or, reverse, nat_eq, false, refl, sym, subst, ap, ◌∙◌, inl, inr, arith}
+use Rattle.std.specs.List.{ends_with}
 use Rattle.std.specs.Cmp.{nat_cmp_is}
 use Rattle.std.specs.Cmp.Lexicographic.{slice_cmp}
 use Rattle.std.specs.Ordering.{nat_cmp, ordering_then}
 use Rattle.std.specs.declared.cmp.Ordering.{Ordering}
 use Rattle.std.specs.declared.cmp.Ordering.TheVariants.{Equal, Greater, Less}
 use Rattle.std.proofs.Math.Nat.{mul-le-mul_right, pow-le-pow_right, pow-succ'}
-use Rattle.std.proofs.lemmas.Bool.{cases_lt, cases_order}
-use Rattle.std.proofs.lemmas.List.{get_or-reverse, get_or_past, length-reverse}
+use Rattle.std.proofs.lemmas.Bool.{cases_lt, cases_order, false_from_ne_true}
+use Rattle.std.proofs.lemmas.List.{get_or-drop, get_or-reverse, get_or_past, length-reverse, reverse-append}
 use Rattle.patch_bytes.specs.Bytes.{AreBytes}
+use Rattle.byteorder.specs.Endian.{little_from, little_number}
 use Rattle.elf_tables.specs.EndKeys.{end_key, front_number}
+use Rattle.elf_tables.proofs.TextOrder.{IsEnd, IsEnd-from}
 
 bytes_behind : (x : ℕ) (xs : List ℕ) → AreBytes (x ∷ xs) → AreBytes xs
 bytes_behind x xs are = record { each = λ i. are.each (suc i) }
@@ -134,3 +137,39 @@ pub byte-past : (text : List ℕ) (back : ℕ) → length text ≤ back → 0 �
 byte-past text back past =
     let long : length (reverse text) ≤ back = omega (arith, length-reverse {A = ℕ}) in
     sym (get_or_past (reverse text) back 0 long)
+
+-- ## Ends that are read at once
+
+-- the last bytes of a text, so many, as a number that is read the lowest first
+end_read : (text : List ℕ) (i n : ℕ) → 8 ≤ length text → i + n ≡ 8 → little_from i n (drop (length text - 8) text) ≡ front_number n (reverse text)
+unfolding front_number
+end_read text i zero long is = refl
+end_read text i (suc n) long is =
+    let place : length text - 8 + i ≡ length text - 1 - n = omega (arith, is, long) in
+    let byte : get_or (drop (length text - 8) text) i 0 ≡ get_or (reverse text) n 0 =
+    get_or-drop (length text - 8) text i 0 ∙ ap (λ k. get_or text k 0) place ∙ byte-within text n (omega (arith, is, long)) in
+    let inner : little_from (suc i) n (drop (length text - 8) text) ≡ front_number n (reverse text) = end_read text (suc i) n long (omega (arith, is)) in
+    let more : front_number (suc n) (reverse text) ≡ front_number n (reverse text) * 256 + get_or (reverse text) n 0 = front_number-more n (reverse text) in
+    omega (arith, byte, inner, more)
+
+pub end_key-read : (text : List ℕ) → 8 ≤ length text → little_number 8 (drop (length text - 8) text) ≡ end_key text
+end_key-read text long = end_read text 0 8 long refl
+
+-- ## Ends of ends
+
+front_number-append : (n : ℕ) (xs ys : List ℕ) → n ≤ length xs → front_number n (xs ++ ys) ≡ front_number n xs
+unfolding front_number
+front_number-append zero xs ys long = refl
+front_number-append (suc n) [] ys long = absurd (omega arith)
+front_number-append (suc n) (x ∷ xs) ys long = ap (λ f. x * 256 ^ n + f) (front_number-append n xs ys (omega arith))
+
+-- a text that ends another, and has 8 bytes, has the number of its end
+pub end_key-of_end : (text end : List ℕ) → IsEnd text end → 8 ≤ length end → end_key end ≡ end_key text
+end_key-of_end text end h long =
+    let whole : reverse text ≡ reverse end ++ reverse h.front = ap reverse h.is ∙ reverse-append h.front end in
+    let enough : 8 ≤ length (reverse end) = omega (arith, length-reverse {A = ℕ}) in
+    sym (ap (front_number 8) whole ∙ front_number-append 8 (reverse end) (reverse h.front) enough)
+
+-- a text with 8 bytes and another number ends no such text
+pub no_end-of_keys : (text end : List ℕ) → 8 ≤ length end → end_key end ≢ end_key text → ends_with nat_eq text end ≡ false
+no_end-of_keys text end long apart = false_from_ne_true (ends_with nat_eq text end) (λ ends. apart (end_key-of_end text end (IsEnd-from text end ends) long))

@@ -1,8 +1,10 @@
-ghost use Rattle.std.specs.Prelude.{◌≡◌, reverse, slice_index};
+ghost use Rattle.std.specs.Prelude.{◌≡◌, nat_eq, reverse, slice_index};
+ghost use Rattle.std.specs.List.{ends_with};
 ghost use Rattle.std.specs.Cmp.Lexicographic.{slice_cmp};
 ghost use Rattle.std.specs.Ordering.{nat_cmp};
 ghost use Rattle.elf_tables.specs.EndKeys.{end_key as key_of_end};
 
+use byteorder::{ByteOrder, LittleEndian};
 use std::cmp::Ordering;
 use std::marker::Model;
 
@@ -24,8 +26,8 @@ fn byte_before(text: &[u8], back: usize) -> u8
     }
 }
 
-// A text's last 8 bytes as one number, the last byte the highest; 0 for those that it doesn't have.
-fn end_key(text: &[u8]) -> u64
+// A text's last 8 bytes as one number, the last byte the highest, byte by byte; 0 for those that it doesn't have.
+fn end_key_by_byte(text: &[u8]) -> u64
     ensures { result ≡ key_of_end text.now }
 {
     let mut key = 0;
@@ -33,6 +35,16 @@ fn end_key(text: &[u8]) -> u64
         key = key * 256 + u64::from(byte_before(text, back));
     }
     key
+}
+
+// The same, at once where the text has 8 bytes.
+fn end_key(text: &[u8]) -> u64
+    ensures { result ≡ key_of_end text.now }
+{
+    if text.len() < 8 {
+        return end_key_by_byte(text);
+    }
+    LittleEndian::read_u64(&text[text.len() - 8..])
 }
 
 // A text with the number of its end, by which most texts are told apart.
@@ -89,5 +101,11 @@ impl<'t> Keyed<'t> {
             return self.key.cmp(&other.key);
         }
         from_their_ends(self.text, other.text)
+    }
+    // Whether a text ends another. Most are told apart by the numbers of their ends.
+    pub(crate) fn ends(&self, other: &Keyed<'_>) -> bool
+        ensures { result ≡ ends_with nat_eq other.now.text self.now.text }
+    {
+        (self.text.len() < 8 || self.key == other.key) && other.text.ends_with(self.text)
     }
 }

@@ -17,18 +17,24 @@ const MOST_BYTES: usize = 0x1_0000_0000;
 // How many bytes of room a table is given at once at most.
 const MOST_ROOM: usize = 0x200_0000;
 
-// Puts a text into a table, where `last` stands at a place, and tells where the text stands.
-fn put_text(bytes: &mut Vec<u8>, last: &[u8], place: u32, text: &[u8]) -> Result<u32, TableFault>
+// Puts a text into a table, where the text of `last` stands at a place, and tells where the text stands.
+fn put_text(
+    bytes: &mut Vec<u8>,
+    last: &Keyed<'_>,
+    place: u32,
+    keyed: &Keyed<'_>,
+) -> Result<u32, TableFault>
     requires fits { length bytes.old.items ≤ 2 ^ 32 }
-    requires last_stands { StandsWith bytes.old.items place last.now }
+    requires last_stands { StandsWith bytes.old.items place last.now.text }
     ensures puts { MatchResult result
-        (PutsText bytes.old.items bytes.new.items last.now text.now)
-        (λ fault. fault ≡ NumberTooLarge → (ends_with nat_eq last.now text.now ≡ false)
-        × (2 ^ 32 < length bytes.old.items + (length text.now + 1))) }
-    ensures same { IfOk result (λ at. last.now ≡ text.now → at ≡ place) }
+        (PutsText bytes.old.items bytes.new.items last.now.text keyed.now.text)
+        (λ fault. fault ≡ NumberTooLarge → (ends_with nat_eq last.now.text keyed.now.text ≡ false)
+        × (2 ^ 32 < length bytes.old.items + (length keyed.now.text + 1))) }
+    ensures same { IfOk result (λ at. last.now.text ≡ keyed.now.text → at ≡ place) }
 {
-    if last.ends_with(text) {
-        return Ok(place + (last.len() - text.len()) as u32);
+    let text = keyed.text();
+    if keyed.ends(last) {
+        return Ok(place + (last.text().len() - text.len()) as u32);
     }
     let end = bytes.len();
     if text.len() >= MOST_BYTES - end {
@@ -68,8 +74,13 @@ struct Laid {
 }
 
 // The bytes of texts in an order in which each stands behind those that end with it. Each stands within the one before it
-// where it ends that one.
-fn lay_bytes(alloc: Global, texts: &[Keyed<'_>]) -> Result<Laid, TableFault>
+// where it ends that one; the first of them behind an empty text.
+fn lay_bytes<'k, 't>(
+    alloc: Global,
+    texts: &'k [Keyed<'t>],
+    empty: &'k Keyed<'t>,
+) -> Result<Laid, TableFault>
+    requires empty { empty.now.text ≡ [] }
     requires none { HoldNoNul (texts_in texts.now) }
     requires sorted { IsSortedBy is_before (texts_in texts.now) }
     ensures { MatchResult result
@@ -78,13 +89,12 @@ fn lay_bytes(alloc: Global, texts: &[Keyed<'_>]) -> Result<Laid, TableFault>
 {
     let mut places = Vec::with_capacity(alloc, texts.len())?;
     let mut bytes = begun(alloc, room_for(texts))?;
-    let mut last: &[u8] = &[];
+    let mut last = empty;
     let mut place = 0;
     for keyed in texts {
-        let text = keyed.text();
-        place = put_text(&mut bytes, last, place, text)?;
+        place = put_text(&mut bytes, last, place, keyed)?;
         places.push(place)?;
-        last = text;
+        last = keyed;
     }
     Ok(Laid { bytes, places })
 }
@@ -114,7 +124,8 @@ pub(crate) fn lay<'t>(alloc: Global, texts: Vec<Keyed<'t>>) -> Result<Finished<'
         (λ fault. fault ≡ NumberTooLarge
         → 2 ^ 32 < laid_length (texts_in texts.entry.items)) }
 {
-    let laid = lay_bytes(alloc, texts.as_slice())?;
+    let empty: Keyed<'t> = Keyed::new(&[], 0);
+    let laid = lay_bytes(alloc, texts.as_slice(), &empty)?;
     let in_order = in_order(alloc, texts.as_slice(), laid.places.as_slice())?;
     Ok(Finished {
         bytes: laid.bytes,

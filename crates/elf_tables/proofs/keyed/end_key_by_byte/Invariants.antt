@@ -1,6 +1,6 @@
 use Rattle.std.proofs.Common.{◌≡◌, reverse}
 use Rattle.elf_tables.specs.EndKeys.{front_number}
-use Rattle.elf_tables.proofs.keyed.end_key.Given as goal
+use Rattle.elf_tables.proofs.keyed.end_key_by_byte.Given as goal
 
 -- the number of the bytes so far
 abbrev pub invariant-loop-back : goal.invariant-loop-back
