@@ -30,3 +30,4 @@ pub mod VersionsFew
 pub mod VersionsCopied
 pub mod VersionsShown
 pub mod ForCallers
+pub mod NoSymbol

@@ -36,11 +36,7 @@ fn table_made_for<'m, 't>(made: &'m Option<Made<'t>>, number: u32) -> Option<&'m
 fn name_place(symbol: &Symbol<'_>, place: u32) -> u32
     ensures { result ≡ place_of_named (symbol_kept symbol.now) place }
 {
-    if symbol.name.as_slice().is_empty() {
-        0
-    } else {
-        place
-    }
+    if symbol.name.is_empty() { 0 } else { place }
 }
 
 // The numbers of a symbol whose name stands at a place.

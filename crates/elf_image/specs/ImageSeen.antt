@@ -35,7 +35,7 @@ section_kept s = record {
 }
 
 abbrev pub symbol_kept : Symbol → NamedSymbol
-symbol_kept y = record { name = y.name.bytes; st_info = y.st_info; st_other = y.st_other; st_shndx = y.st_shndx; st_value = y.st_value; st_size = y.st_size; version = y.version }
+symbol_kept y = record { name = y.name.now; st_info = y.st_info; st_other = y.st_other; st_shndx = y.st_shndx; st_value = y.st_value; st_size = y.st_size; version = y.version }
 
 -- the bytes of a text, where there is one
 abbrev pub text_kept : Option StringValue → Option (List ℕ)

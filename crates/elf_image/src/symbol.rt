@@ -1,11 +1,10 @@
 use elf_format::version_id::VersionId;
-use patch_bytes::ByteString;
 
 /// A symbol (gABI, Symbol Table).
-#[derive(Debug, Drop)]
+#[derive(Clone, Copy, Debug)]
 pub struct Symbol<'data> {
     /// Its name, empty for none.
-    pub name: ByteString<'data>,
+    pub name: &'data [u8],
     /// Binding in the upper four bits, type in the lower.
     pub st_info: u8,
     /// Visibility.

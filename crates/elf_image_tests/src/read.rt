@@ -87,7 +87,7 @@ fn push_sections(lines: &mut String, sections: &[Section<'_>]) -> Result<(), All
 
 // A symbol's name, numbers and version, as text.
 fn push_symbol(lines: &mut String, symbol: &Symbol<'_>) -> Result<(), AllocError> {
-    push_bytes(lines, symbol.name.as_slice())?;
+    push_bytes(lines, symbol.name)?;
     let (info, other, section) = (symbol.st_info, symbol.st_other, symbol.st_shndx);
     let (value, size, version) = (symbol.st_value, symbol.st_size, symbol.version);
     write!(

@@ -43,7 +43,7 @@ fn symbols(
     let mut made = Vec::new(alloc);
     for symbol in list {
         made.push(ShownSymbol {
-            name: text(alloc, &symbol.name)?,
+            name: Vec::from_slice(alloc, symbol.name)?,
             st_info: symbol.st_info,
             st_other: symbol.st_other,
             st_shndx: symbol.st_shndx,

@@ -48,28 +48,28 @@ unfolding is_subsequence
 all_found u us = refl
 
 -- the text at a place is the one that is looked at
-pub next_found : (some : List (Bor (List ℕ))) (next : ℕ) (d : Bor (List ℕ)) (text : List ℕ) → next < length some → bytes_eq (get_or some next d).now text ≡ true
-    → (others : List (List ℕ)) → is_subsequence (map (λ t. t.now) (drop next some)) (text ∷ others) ≡ is_subsequence (map (λ t. t.now) (drop (next + 1) some)) others
-next_found some next d text within same others =
-    ap (λ (l : List (Bor (List ℕ))). is_subsequence (map (λ t. t.now) l) (text ∷ others)) (drop_more some next d within)
-    ∙ text_found (get_or some next d).now (map (λ t. t.now) (drop (next + 1) some)) text others same
+pub next_found : (some : List (List ℕ)) (next : ℕ) (text : List ℕ) → next < length some → bytes_eq (get_or some next []) text ≡ true
+    → (others : List (List ℕ)) → is_subsequence (drop next some) (text ∷ others) ≡ is_subsequence (drop (next + 1) some) others
+next_found some next text within same others =
+    ap (λ (l : List (List ℕ)). is_subsequence l (text ∷ others)) (drop_more some next [] within)
+    ∙ text_found (get_or some next []) (drop (next + 1) some) text others same
 
 -- it is another one
-pub next_passed : (some : List (Bor (List ℕ))) (next : ℕ) (d : Bor (List ℕ)) (text : List ℕ) → next < length some → bytes_eq (get_or some next d).now text ≡ false
-    → (others : List (List ℕ)) → is_subsequence (map (λ t. t.now) (drop next some)) (text ∷ others) ≡ is_subsequence (map (λ t. t.now) (drop next some)) others
-next_passed some next d text within other others =
-    ap (λ (l : List (Bor (List ℕ))). is_subsequence (map (λ t. t.now) l) (text ∷ others)) (drop_more some next d within)
-    ∙ (text_passed (get_or some next d).now (map (λ t. t.now) (drop (next + 1) some)) text others other
-    ∙ ap (λ (l : List (Bor (List ℕ))). is_subsequence (map (λ t. t.now) l) others) (sym (drop_more some next d within)))
+pub next_passed : (some : List (List ℕ)) (next : ℕ) (text : List ℕ) → next < length some → bytes_eq (get_or some next []) text ≡ false
+    → (others : List (List ℕ)) → is_subsequence (drop next some) (text ∷ others) ≡ is_subsequence (drop next some) others
+next_passed some next text within other others =
+    ap (λ (l : List (List ℕ)). is_subsequence l (text ∷ others)) (drop_more some next [] within)
+    ∙ (text_passed (get_or some next []) (drop (next + 1) some) text others other
+    ∙ ap (λ (l : List (List ℕ)). is_subsequence l others) (sym (drop_more some next [] within)))
 
 -- no text is left to be found
-pub next_past : (some : List (Bor (List ℕ))) (next : ℕ) (text : List ℕ) → next ≡ length some
-    → (others : List (List ℕ)) → is_subsequence (map (λ t. t.now) (drop next some)) (text ∷ others) ≡ is_subsequence (map (λ t. t.now) (drop next some)) others
+pub next_past : (some : List (List ℕ)) (next : ℕ) (text : List ℕ) → next ≡ length some
+    → (others : List (List ℕ)) → is_subsequence (drop next some) (text ∷ others) ≡ is_subsequence (drop next some) others
 next_past some next text past others =
     let none : drop next some ≡ [] = drop_all next some (omega arith) in
-    ap (λ (l : List (Bor (List ℕ))). is_subsequence (map (λ t. t.now) l) (text ∷ others)) none
+    ap (λ (l : List (List ℕ)). is_subsequence l (text ∷ others)) none
     ∙ all_found text others
-    ∙ ap (λ (l : List (Bor (List ℕ))). is_subsequence (map (λ t. t.now) l) others) (sym none)
+    ∙ ap (λ (l : List (List ℕ)). is_subsequence l others) (sym none)
 
 found_or_not : (b : Bool) (x y : Bool) → x ≡ false → y ≡ false → (elim b as (λ _. Bool) [ true ↦ x | _ ↦ y ]) ≡ false
 found_or_not true x y hx hy = hx
@@ -84,24 +84,18 @@ too_few (t ∷ ts) (u ∷ us) fewer =
     found_or_not (bytes_eq t u) (is_subsequence ts us) (is_subsequence (t ∷ ts) us) (too_few ts us (omega (arith, fewer))) (too_few (t ∷ ts) us (omega (arith, fewer)))
 
 -- fewer texts are to be looked at than are to be found
-pub subsequence_too_long : (some all : List (Bor (List ℕ))) (next i : ℕ) → length all - i < length some - next
-    → is_subsequence (map (λ t. t.now) (drop next some)) (map (λ t. t.now) (drop i all)) ≡ is_subsequence (map (λ t. t.now) some) (map (λ t. t.now) all)
-    → false ≡ is_subsequence (map (λ t. t.now) some) (map (λ t. t.now) all)
+pub subsequence_too_long : (some all : List (List ℕ)) (next i : ℕ) → length all - i < length some - next
+    → is_subsequence (drop next some) (drop i all) ≡ is_subsequence some all → false ≡ is_subsequence some all
 subsequence_too_long some all next i fewer same =
-    let xs : List (List ℕ) = map (λ t. t.now) (drop next some) in
-    let ys : List (List ℕ) = map (λ t. t.now) (drop i all) in
-    let long : length xs ≡ length some - next = length-map (drop next some) (λ (t : Bor (List ℕ)). t.now) ∙ length-drop next some in
-    let short : length ys ≡ length all - i = length-map (drop i all) (λ (t : Bor (List ℕ)). t.now) ∙ length-drop i all in
-    sym (too_few xs ys (omega (arith, fewer, long, short))) ∙ same
+    sym (too_few (drop next some) (drop i all) (omega (arith, fewer, length-drop next some, length-drop i all))) ∙ same
 
 -- all texts were looked at: they are all found where none is left
-pub subsequence_at_end : (some all : List (Bor (List ℕ))) (next i : ℕ) → next ≤ length some → length all ≤ i
-    → is_subsequence (map (λ t. t.now) (drop next some)) (map (λ t. t.now) (drop i all)) ≡ is_subsequence (map (λ t. t.now) some) (map (λ t. t.now) all)
-    → nat_eq next (length some) ≡ is_subsequence (map (λ t. t.now) some) (map (λ t. t.now) all)
+pub subsequence_at_end : (some all : List (List ℕ)) (next i : ℕ) → next ≤ length some → length all ≤ i
+    → is_subsequence (drop next some) (drop i all) ≡ is_subsequence some all → nat_eq next (length some) ≡ is_subsequence some all
 subsequence_at_end some all next i within past same =
-    let left : List (List ℕ) = map (λ t. t.now) (drop next some) in
-    let long : length left ≡ length some - next = length-map (drop next some) (λ (t : Bor (List ℕ)). t.now) ∙ length-drop next some in
-    let end : is_subsequence left [] ≡ is_subsequence left (map (λ t. t.now) (drop i all)) = ap (λ (l : List (Bor (List ℕ))). is_subsequence left (map (λ t. t.now) l)) (sym (drop_all i all past)) in
+    let left : List (List ℕ) = drop next some in
+    let long : length left ≡ length some - next = length-drop next some in
+    let end : is_subsequence left [] ≡ is_subsequence left (drop i all) = ap (λ (l : List (List ℕ)). is_subsequence left l) (sym (drop_all i all past)) in
     elim (cases_lt next (length some)) [
       | inl less ↦ ne_eqb next (length some) (λ e. absurd (omega arith)) ∙ sym (some_left left (omega arith)) ∙ end ∙ same
       | inr all_there ↦ eq-eqb next (length some) (omega arith) ∙ sym (none_left left (omega arith)) ∙ end ∙ same

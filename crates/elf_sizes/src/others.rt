@@ -19,17 +19,16 @@ pub(crate) struct Others<'t> {
 fn count(texts: &Others<'_>) -> u128
     ensures { result ≡ count_of texts.now }
 {
-    let (list, versions) = (texts.list.as_slice(), texts.versions.as_slice());
-    list.len() as u128 + versions.len() as u128 + texts.sections.as_slice().len() as u128
+    texts.list.len() as u128 + texts.versions.len() as u128 + texts.sections.len() as u128
 }
 
 // Whether there are as many of each kind.
 fn have_same_counts(now: &Others<'_>, at_read: &Others<'_>) -> bool
     ensures { IsTrue result → HaveSameCounts now.now at_read.now }
 {
-    now.list.as_slice().len() == at_read.list.as_slice().len()
-        && now.versions.as_slice().len() == at_read.versions.as_slice().len()
-        && now.sections.as_slice().len() == at_read.sections.as_slice().len()
+    now.list.len() == at_read.list.len()
+        && now.versions.len() == at_read.versions.len()
+        && now.sections.len() == at_read.sections.len()
 }
 
 // Whether the texts of each kind are those at read, some left out.
@@ -38,9 +37,9 @@ fn are_of_read(now: &Others<'_>, at_read: &Others<'_>) -> bool
         && is_subsequence_of now.now.versions at_read.now.versions
         && is_subsequence_of now.now.sections at_read.now.sections) }
 {
-    is_subsequence(now.list.as_slice(), at_read.list.as_slice())
-        && is_subsequence(now.versions.as_slice(), at_read.versions.as_slice())
-        && is_subsequence(now.sections.as_slice(), at_read.sections.as_slice())
+    is_subsequence(&now.list, &at_read.list)
+        && is_subsequence(&now.versions, &at_read.versions)
+        && is_subsequence(&now.sections, &at_read.sections)
 }
 
 // Whether the texts now are those at read with some left out, whatever names of symbols stand among both: told where there

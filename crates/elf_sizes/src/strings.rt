@@ -9,36 +9,37 @@ ghost use Rattle.elf_sizes.specs.MadeTables.{IsMade, IsTooLong};
 use crate::texts::Texts;
 use crate::users::Users;
 use elf_image::{Builder, Symbol};
-use elf_tables::{Finished, StringTable, TableFault};
+use elf_tables::{Finished, TableFault};
 use std::alloc::{AllocError, Global};
 
 // How many of the first texts are found once another text was looked at, where `next` of them were before.
-fn next_after(some: &[&[u8]], next: usize, text: &[u8]) -> usize
+fn next_after(some: &Texts<'_>, next: usize, text: &[u8]) -> usize
     requires { next ≤ length some.now }
     ensures within { result ≤ length some.now }
     ensures same { (others : List (List ℕ))
-        → is_subsequence_of (map (λ t. t.now) (drop next some.now)) (text.now ∷ others)
-        ≡ is_subsequence_of (map (λ t. t.now) (drop result some.now)) others }
+        → is_subsequence_of (drop next some.now) (text.now ∷ others)
+        ≡ is_subsequence_of (drop result some.now) others }
 {
     if next == some.len() {
         return next;
     }
-    if some[next] == text { next + 1 } else { next }
+    if some.text(next) == text {
+        next + 1
+    } else {
+        next
+    }
 }
 
 // Whether the first texts are the second with some left out.
-pub(crate) fn is_subsequence(some: &[&[u8]], all: &[&[u8]]) -> bool
-    ensures { result ≡ is_subsequence_of (map (λ text. text.now) some.now)
-        (map (λ text. text.now) all.now) }
+pub(crate) fn is_subsequence(some: &Texts<'_>, all: &Texts<'_>) -> bool
+    ensures { result ≡ is_subsequence_of some.now all.now }
 {
     let mut next = 0;
-    let mut left = all.len();
-    for text in all {
-        if some.len() - next > left {
+    for i in 0..all.len() {
+        if some.len() - next > all.len() - i {
             return false;
         }
-        next = next_after(some, next, *text);
-        left -= 1;
+        next = next_after(some, next, all.text(i));
     }
     next == some.len()
 }
@@ -52,27 +53,11 @@ pub(crate) fn have_same_names(left: &[Symbol<'_>], right: &[Symbol<'_>]) -> bool
         return false;
     }
     for i in 0..left.len() {
-        if left[i].name.as_slice() != right[i].name.as_slice() {
+        if left[i].name != right[i].name {
             return false;
         }
     }
     true
-}
-
-// The string table of these texts (gABI, String Table). `NumberTooLarge` where it is longer than 2 to the 32 bytes.
-fn table_of<'t>(alloc: Global, texts: &[&'t [u8]]) -> Result<Finished<'t>, TableFault>
-    requires { HoldNoNul (map (λ text. text.now) texts.now) }
-    ensures table { let list = map (λ text. text.now) texts.now in MatchResult result
-        (λ table. IsTableOf list table × (table_length list ≤ 2 ^ 32))
-        (λ fault. fault ≡ NumberTooLarge → 2 ^ 32 < table_length list) }
-    ensures stands { IfOk result PlacesStand }
-{
-    let mut table = StringTable::new(alloc);
-    table.reserve(texts.len())?;
-    for text in texts {
-        table.add(*text)?;
-    }
-    table.finish(alloc)
 }
 
 // Whether the texts are those that an image uses of the string table with that number, with some left out.
@@ -86,7 +71,7 @@ fn are_among_read(
         (texts_in_use read_users.now.read read_users.now.image number)) }
 {
     let at_read = read_users.texts(alloc, number)?;
-    Ok(is_subsequence(texts.as_slice(), at_read.as_slice()))
+    Ok(is_subsequence(texts, &at_read))
 }
 
 // The string table with that number at read, where it is made anew, for the users of the image's texts and of the texts
@@ -112,7 +97,7 @@ pub(crate) fn made_for<'a, 'data>(
     if told.is_none() && are_among_read(alloc, &now, read_users, number)? {
         return Ok(None);
     }
-    let table = table_of(alloc, now.as_slice())?;
+    let table = now.finish(alloc)?;
     Ok(Some(table))
 }
 

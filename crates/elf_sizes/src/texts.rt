@@ -1,26 +1,29 @@
 //! The texts that stand in a string table, as they are gathered.
 use crate::versions::{does_need_stay, is_marked, is_of_needs};
 use elf_image::{Dynamic, Section, Symbol, VersionDef, VersionNeed, VersionNeedName};
+use elf_tables::{Finished, StringTable, TableFault};
 use patch_bytes::ByteString;
 use std::alloc::{AllocError, Global};
 use std::marker::Model;
 
-// Texts in the order of their users. A text that two use stands there twice.
+// Texts in the order of their users, of which a string table can be made. A text that two use stands there twice.
 #[derive(Drop)]
 pub(crate) struct Texts<'t> {
-    list: Vec<&'t [u8]>,
+    list: StringTable<'t>,
 }
 
 impl<'t> Model for Texts<'t> {
-    ghost use Rattle.std.specs.Prelude.{List, ℕ, map};
+    ghost use Rattle.std.specs.Prelude.{List, ℕ};
 
     ghost Value = { List (List ℕ) };
 
-    ghost view = { λ s. map (λ text. text.now) s.list.items };
+    ghost view = { λ s. s.list };
 }
 
 impl<'t> Texts<'t> {
-    ghost use Rattle.std.specs.Prelude.{◌≡◌, [], ◌∷◌, ◌++◌, map, OnOk};
+    ghost use Rattle.std.specs.Prelude.{◌≡◌, ◌≤◌, ◌<◌, ◌^◌, [], ◌∷◌, ◌++◌, get_or, length, map, IfOk, MatchResult, OnOk};
+    ghost use Rattle.elf_tables.specs.declared.fault.TableFault.TheVariants.{NumberTooLarge};
+    ghost use Rattle.elf_tables.specs.Strings.{HoldNoNul, IsTableOf, PlacesStand, table_length};
     ghost use Rattle.patch_bytes.specs.ByteString.{bytes_of_each};
     ghost use Rattle.elf_image.specs.ImageSeen.{definition_kept, entry_kept, name_kept, needs_kept, section_kept, symbol_kept};
     ghost use Rattle.elf_plan.specs.Texts.{texts_of_definitions, texts_of_entries, texts_of_entry, texts_of_needs, texts_of_symbols};
@@ -31,23 +34,41 @@ impl<'t> Texts<'t> {
         ensures { result ≡ [] }
     {
         Texts {
-            list: Vec::new(alloc),
+            list: StringTable::new(alloc),
         }
     }
 
-    // The texts, in order. Takes no memory.
-    pub(crate) fn as_slice(&self) -> &[&'t [u8]]
-        ensures { map (λ text. text.now) result.now ≡ self.now }
+    // How many there are. Takes no memory.
+    pub(crate) fn len(&self) -> usize
+        ensures { result ≡ length self.now }
     {
-        self.list.as_slice()
+        self.list.len()
+    }
+
+    // The text at a place among them. Takes no memory.
+    pub(crate) fn text(&self, i: usize) -> &'t [u8]
+        requires { i < length self.now }
+        ensures { result.now ≡ get_or self.now i [] }
+    {
+        self.list.text(i)
+    }
+
+    // The string table of these texts (gABI, String Table). `NumberTooLarge` where it is longer than 2 to the 32 bytes.
+    pub(crate) fn finish(self, alloc: Global) -> Result<Finished<'t>, TableFault>
+        requires { HoldNoNul self }
+        ensures table { MatchResult result
+            (λ table. IsTableOf self.entry table × (table_length self.entry ≤ 2 ^ 32))
+            (λ fault. fault ≡ NumberTooLarge → 2 ^ 32 < table_length self.entry) }
+        ensures stands { IfOk result PlacesStand }
+    {
+        self.list.finish(alloc)
     }
 
     // Adds a text.
     fn push(&mut self, text: &'t [u8]) -> Result<(), AllocError>
         ensures { OnOk result (self.new ≡ self.old ++ text.entry.now ∷ []) }
     {
-        self.list.push(text)?;
-        Ok(())
+        self.list.add(text)
     }
 
     // Adds the names of symbols.
@@ -57,7 +78,7 @@ impl<'t> Texts<'t> {
     {
         self.list.reserve(symbols.len())?;
         for symbol in symbols {
-            self.push(symbol.name.as_slice())?;
+            self.push(symbol.name)?;
         }
         Ok(())
     }

@@ -1,4 +1,6 @@
 //! What the tests share: calls that are refused memory, comparisons, and string tables of given texts.
+ghost use Rattle.std.specs.Prelude.{◌≡◌, OnOk};
+ghost use Rattle.elf_tables.specs.Strings.{HoldNoNul};
 
 use elf_tables::{Finished, StringTable, TableFault};
 use std::alloc::AllocError;
@@ -36,7 +38,9 @@ pub(crate) fn wants_memory<T, E: Refusal>(answer: &Result<T, E>) -> bool {
 }
 
 // The answer of a call that is made once more, which is not refused memory again.
-pub(crate) fn granted<T, E: Refusal>(rt: &impl Abort, answer: Result<T, E>) -> Result<T, E> {
+pub(crate) fn granted<T, E: Refusal>(rt: &impl Abort, answer: Result<T, E>) -> Result<T, E>
+    ensures { result ≡ answer }
+{
     assert!(rt; !wants_memory(&answer), "refused memory twice");
     answer
 }
@@ -52,13 +56,15 @@ pub(crate) fn same_bytes(rt: &impl Abort, what: &str, found: &[u8], want: &[u8])
 }
 
 // Adds a text that has no NUL.
-fn add<'t>(
-    rt: &impl Runtime,
-    table: &mut StringTable<'t>,
-    text: &'t [u8],
-) -> Result<(), AllocError> {
+fn add<'t>(rt: &impl Runtime, table: &mut StringTable<'t>, text: &'t [u8]) -> Result<(), AllocError>
+    requires { HoldNoNul table.old }
+    ensures { OnOk result (HoldNoNul table.new) }
+{
     assert!(rt; !text.contains(&0), "a NUL");
-    again!(rt; table.add(text))
+    if table.add(text).is_ok() {
+        return Ok(());
+    }
+    granted(rt, table.add(text))
 }
 
 // The table of these texts, of which half have room before they are added.

@@ -22,7 +22,6 @@ use elf_format::version_id::VersionId;
 use elf_format::view_fault::ViewFault;
 use elf_rules::headers::Headers;
 use elf_versions::texts::dynamic_texts;
-use patch_bytes::ByteString;
 use std::alloc::Global;
 use std::rc::Rc;
 
@@ -48,7 +47,7 @@ fn symbol<'data>(
 {
     let name = text(room, texts, numbers.st_name as u64)?;
     Ok(Symbol {
-        name: ByteString::borrowed(name),
+        name,
         st_info: numbers.st_info,
         st_other: numbers.st_other,
         st_shndx: numbers.st_shndx,

@@ -1,11 +1,13 @@
 -- All texts were looked at, or fewer are left than are to be found.
-use Rattle.std.proofs.Common.{arith}
+use Rattle.std.proofs.Common.{◌≡◌, length, nat_eq, ap, ◌∙◌, arith}
 use Rattle.elf_sizes.proofs.TextSteps.{subsequence_at_end, subsequence_too_long}
 use Rattle.elf_sizes.proofs.strings.is_subsequence.Goals as goal
 
-pub returns-then-some-next : goal.returns-then-some-next
-returns-then-some-next c =
-    subsequence_too_long c.args.some.now c.args.all.now c.loop-text.next c.loop-text.text-index (omega (arith, c.loop-text.invariant.1)) c.loop-text.invariant.2
+pub returns-then-len-next : goal.returns-then-len-next
+returns-then-len-next c =
+    subsequence_too_long c.args.some.now c.args.all.now c.loop-i.next c.loop-i.i (omega (arith, c.if-len-next.true, c.len.ensures, c.len-in-loop-i.ensures)) c.loop-i.invariant.1
 
 pub returns : goal.returns
-returns c = subsequence_at_end c.args.some.now c.args.all.now c.loop-text.next c.loop-text.text-index c.loop-text.invariant.0 (omega arith) c.loop-text.invariant.2
+returns c =
+    ap (λ n. nat_eq c.loop-i.next n) c.len-2.ensures
+    ∙ subsequence_at_end c.args.some.now c.args.all.now c.loop-i.next c.loop-i.i c.loop-i.invariant.0 (omega (arith, c.len-i-end.ensures)) c.loop-i.invariant.1

@@ -1,10 +1,10 @@
-use Rattle.std.proofs.Common.{◌≡◌, ◌<◌, ℕ, List, false, map, reverse, subst, ap, ◌∙◌, rules}
+use Rattle.std.proofs.Common.{◌≡◌, ◌<◌, ℕ, List, false, map, reverse, subst, sym, ap, ◌∙◌, rules}
 use Rattle.std.specs.Cmp.Lexicographic.{slice_cmp}
 use Rattle.std.specs.List.Sorted.{IsPermutation, IsSortedBy}
 use Rattle.std.specs.Ordering.{is_lt, nat_cmp}
 use Rattle.std.proofs.lemmas.List.Sorted.{All-permutation, IsPermutation-map, answers_always}
 use Rattle.std.proofs.lemmas.Result.{MatchResult-weaker}
-use Rattle.elf_tables.specs.Strings.{holds_nul}
+use Rattle.elf_tables.specs.Strings.{HoldNoNul, holds_nul}
 use Rattle.elf_tables.specs.StringSteps.{Numbered, is_before, texts_in}
 use Rattle.elf_tables.proofs.OrderedPlaces.{in_order_of, numbered_below}
 use Rattle.elf_tables.proofs.TableLaws.{Falls, falls_from_sorted, laid_length-sorted, sorted-map, table_of_laid}
@@ -19,7 +19,8 @@ pub lay-requires-clause-none : goal.lay-requires-clause-none
 lay-requires-clause-none c =
     let old : List Numbered = c.self.inside.texts.items in
     let new : List Numbered = c.sort_unstable_by.new.self.items in
-    All-permutation (λ text. holds_nul text ≡ false) (texts_in old) (texts_in new) (moved old new c.sort_unstable_by.ensures.permutation) c.self.invariant.0
+    All-permutation (λ text. holds_nul text ≡ false) (texts_in old) (texts_in new) (moved old new c.sort_unstable_by.ensures.permutation)
+    (subst HoldNoNul (sym c.self.view_is) c.requires)
 
 -- the texts are sorted by their order from their ends
 pub lay-requires-clause-sorted : goal.lay-requires-clause-sorted
@@ -32,7 +33,7 @@ lay-requires-clause-sorted c =
 
 pub lay-requires-clause-numbered : goal.lay-requires-clause-numbered
 lay-requires-clause-numbered c =
-    numbered_below c.self.inside.texts.items c.sort_unstable_by.new.self.items c.self.invariant.1 c.sort_unstable_by.ensures.permutation
+    numbered_below c.self.inside.texts.items c.sort_unstable_by.new.self.items c.self.invariant c.sort_unstable_by.ensures.permutation
 
 pub returns-clause-table : goal.returns-clause-table
 returns-clause-table c =
@@ -47,7 +48,7 @@ returns-clause-table c =
     subst (λ (l : List (List ℕ)). IsPermutation l (texts_in new)) c.self.view_is (moved old new c.sort_unstable_by.ensures.permutation) in
     MatchResult-weaker c.lay.result c.lay.ensures
     (λ table is_laid. table_of_laid c.args.self new table shuffled falls is_laid
-    (in_order_of old new table c.self.invariant.1 c.sort_unstable_by.ensures.permutation is_laid ∙ ap (map _) c.self.view_is))
+    (in_order_of old new table c.self.invariant c.sort_unstable_by.ensures.permutation is_laid ∙ ap (map _) c.self.view_is))
     (λ fault too_long large. subst (λ (n : ℕ). 4294967296 < n) (laid_length-sorted c.args.self (texts_in new) shuffled falls) (too_long large))
 
 pub returns-clause-stands : goal.returns-clause-stands
