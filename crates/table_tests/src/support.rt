@@ -74,6 +74,10 @@ fn finished<'t>(rt: &impl Runtime, texts: &[&'t [u8]]) -> Result<Finished<'t>, T
     for text in texts {
         add(rt, &mut table, text)?;
     }
+    assert!(rt; table.len() == texts.len(), "as many texts as were added");
+    for i in 0..texts.len() {
+        same_bytes(rt, "a text that was added", table.text(i), texts[i]);
+    }
     table.finish(rt.alloc())
 }
 
