@@ -1,6 +1,5 @@
 pub mod ReadFacts
 pub mod OthersCopied
-pub mod SymbolsSpelled
 pub mod SymbolsRead
 pub mod NamesInOrder
 pub mod SymbolsMade
@@ -30,4 +29,3 @@ pub mod VersionsFew
 pub mod VersionsCopied
 pub mod VersionsShown
 pub mod ForCallers
-pub mod NoSymbol

@@ -1,17 +1,19 @@
 -- The names of symbols among the texts that a string table is made of, and the records that are spelled with their places.
-use Rattle.std.proofs.Common.{◌≡◌, ℕ, ◌+◌, ◌<◌, true, List, [], ◌∷◌, ◌++◌, append_assoc, drop, get_or, length, map, sym, ap, ◌∙◌, Some, arith}
-use Rattle.std.specs.Prelude.{◌==◌, if◌then◌else◌, option_map, slice_get, slice_index, unwrap_or}
+use Rattle.std.proofs.Common.{◌≡◌, ℕ, ◌+◌, ◌<◌, true, List, [], ◌++◌, append_assoc, drop, get_or, length, map, sym, ap, ◌∙◌, Some, arith}
+use Rattle.std.specs.Prelude.{◌==◌, if◌then◌else◌, slice_get, slice_index, unwrap_or}
 use Rattle.std.specs.List.{flat_map}
-use Rattle.std.proofs.lemmas.List.{drop_more, get_or-append-add, get_or-map, get_or_append_left, length-append, length-map}
-use Rattle.std.proofs.lemmas.Option.{get_or_from_slice_get, slice_get-get_or, slice_get-map, slice_get_within}
+use Rattle.std.proofs.lemmas.List.{get_or-append-add, get_or-map, get_or_append_left, length-append, length-map}
+use Rattle.std.proofs.lemmas.Option.{get_or_from_slice_get, slice_get_within}
 use Rattle.elf_format.specs.declared.form.Form.{Form}
 use Rattle.elf_format.specs.declared.records.SymbolNumbers.{SymbolNumbers}
 use Rattle.elf_format.specs.Views.{NamedSymbol}
 use Rattle.elf_plan.specs.Texts.{texts_of_symbols}
+use Rattle.elf_sizes.proofs.SymbolSteps.{rest_at}
 use Rattle.elf_records.specs.Fields.{do_fields_fit}
 use Rattle.elf_records.specs.Spelled.{spelled_symbol, symbol_fields}
 use Rattle.elf_tables.specs.Strings.{Strings, place_of}
-use Rattle.elf_contents.specs.SymbolSteps.{HasNames, does_symbol_fit, place_in, place_of_named, symbol_bytes, symbol_in, symbol_with}
+use Rattle.elf_contents.specs.SymbolSteps.{HasNames, does_symbol_fit, place_in, place_of_named, symbol_bytes, symbol_in}
+use Rattle.elf_symbols.specs.SymbolsShown.{symbol_with}
 
 -- the texts of a table at a position stand at the place that the table's order tells there
 told_at : (table : Strings) (texts : List (List ℕ)) (j : ℕ) → map Some table.in_order ≡ map (place_of table) texts → j < length texts
@@ -52,15 +54,13 @@ pub placed_in : (table : Strings) (y : NamedSymbol) (place : ℕ) → place_of t
 placed_in table y place told = ap (λ (n : ℕ). if length y.name == 0 then 0 else n) (sym (ap (λ o. unwrap_or o 0) told))
 
 -- the numbers that are spelled for a symbol, by the place that is next in the table's order
-pub placed_next : {A : Type 0} (table : Strings) (kept : A → NamedSymbol) (xs : List A) (before i nth place : ℕ) (x : A) (places : List ℕ) (numbers : SymbolNumbers)
-    → HasNames table before (map kept xs) → i < length xs → x ≡ get_or xs i x → nth ≡ before + i → places ≡ table.in_order
-    → place ≡ place_of_named (kept x) (slice_index places nth) → numbers ≡ symbol_with place (kept x) → numbers ≡ symbol_in table (kept x)
-placed_next {A} table kept xs before i nth place x places numbers named low is next own placed spelled =
-    let at : slice_get (map kept xs) i ≡ Some (kept x) =
-    slice_get-map kept xs i ∙ ap (option_map kept) (slice_get-get_or xs i x low ∙ ap Some (sym is)) in
-    let told : place_of table (kept x).name ≡ Some (slice_index places nth) =
-    named.each i (kept x) at ∙ ap (λ (n : ℕ). Some (slice_index table.in_order n)) (sym next) ∙ ap (λ (l : List ℕ). Some (slice_index l nth)) (sym own) in
-    spelled ∙ ap (λ (n : ℕ). symbol_with n (kept x)) (placed ∙ placed_in table (kept x) (slice_index places nth) told)
+pub placed_next : (table : Strings) (ys : List NamedSymbol) (before i nth place : ℕ) (y : NamedSymbol) (places : List ℕ) (numbers : SymbolNumbers)
+    → HasNames table before ys → slice_get ys i ≡ Some y → nth ≡ before + i → places ≡ table.in_order
+    → place_of_named y (slice_index places nth) ≡ place → symbol_with place y ≡ numbers → numbers ≡ symbol_in table y
+placed_next table ys before i nth place y places numbers named at next own placed spelled =
+    let told : place_of table y.name ≡ Some (slice_index places nth) =
+    named.each i y at ∙ ap (λ (n : ℕ). Some (slice_index table.in_order n)) (sym next) ∙ ap (λ (l : List ℕ). Some (slice_index l nth)) (sym own) in
+    sym spelled ∙ ap (λ (n : ℕ). symbol_with n y) (sym placed ∙ placed_in table y (slice_index places nth) told)
 
 -- a symbol whose numbers fit, as these are
 pub placed_fits : (form : Form) (table : Strings) (y : NamedSymbol) (numbers : SymbolNumbers) → does_symbol_fit form table y ≡ true → numbers ≡ symbol_in table y
@@ -69,15 +69,14 @@ unfolding does_symbol_fit
 placed_fits form table y numbers fits is = ap (λ (n : SymbolNumbers). do_fields_fit (symbol_fields form n)) is ∙ fits
 
 -- one record more, and those that are left
-pub record_more : {A : Type 0} (form : Form) (table : Strings) (kept : A → NamedSymbol) (xs : List A) (i : ℕ) (x : A) (old new all : List ℕ) (n : SymbolNumbers)
-    → i < length xs → x ≡ get_or xs i x → n ≡ symbol_in table (kept x) → new ≡ old ++ spelled_symbol form n
-    → old ++ flat_map (symbol_bytes form table) (map kept (drop i xs)) ≡ all → new ++ flat_map (symbol_bytes form table) (map kept (drop (i + 1) xs)) ≡ all
+pub record_more : (form : Form) (table : Strings) (ys : List NamedSymbol) (i : ℕ) (y : NamedSymbol) (old new all : List ℕ) (n : SymbolNumbers)
+    → slice_get ys i ≡ Some y → n ≡ symbol_in table y → new ≡ old ++ spelled_symbol form n
+    → old ++ flat_map (symbol_bytes form table) (drop i ys) ≡ all → new ++ flat_map (symbol_bytes form table) (drop (i + 1) ys) ≡ all
 unfolding symbol_bytes
-record_more {A} form table kept xs i x old new all n low is numbers grown so_far =
-    let rest : List ℕ = flat_map (symbol_bytes form table) (map kept (drop (i + 1) xs)) in
-    let next : drop i xs ≡ x ∷ drop (i + 1) xs = drop_more xs i x low ∙ ap (λ (y : A). y ∷ drop (i + 1) xs) (sym is) in
+record_more form table ys i y old new all n at numbers grown so_far =
+    let rest : List ℕ = flat_map (symbol_bytes form table) (drop (i + 1) ys) in
     ap (λ (l : List ℕ). l ++ rest) grown
     ∙ append_assoc old (spelled_symbol form n) rest
     ∙ ap (λ (m : SymbolNumbers). old ++ (spelled_symbol form m ++ rest)) numbers
-    ∙ ap (λ (l : List A). old ++ flat_map (symbol_bytes form table) (map kept l)) (sym next)
+    ∙ ap (λ (l : List NamedSymbol). old ++ flat_map (symbol_bytes form table) l) (sym (rest_at ys i y at))
     ∙ so_far

@@ -41,7 +41,8 @@ use Rattle.elf_written.specs.Final.{final}
 use Rattle.elf_written.proofs.TextsRead.{text_inside}
 use Rattle.elf_written.proofs.WholeLists.{all-each, there_at}
 use Rattle.elf_contents.specs.Inner.{IsReady}
-use Rattle.elf_contents.specs.SymbolSteps.{HasNames, does_symbol_fit, place_of_name, symbol_bytes, symbol_in, symbol_with}
+use Rattle.elf_contents.specs.SymbolSteps.{HasNames, does_symbol_fit, place_of_name, symbol_bytes, symbol_in}
+use Rattle.elf_symbols.specs.SymbolsShown.{symbol_with}
 use Rattle.elf_contents.proofs.NamesInOrder.{names_behind}
 use Rattle.elf_contents.proofs.ReadFacts.{Nowhere, ReadFacts, SectionRead, There, final_is, type_at}
 use Rattle.elf_contents.proofs.SymbolsRead.{count, each_symbol, is_one, link_was, record_at, symbol_read, symbol_size-positive}

@@ -5,6 +5,7 @@ use Rattle.elf_format.specs.declared.records.SymbolNumbers.{SymbolNumbers}
 use Rattle.elf_format.specs.Views.{NamedSymbol}
 use Rattle.elf_records.specs.Fields.{do_fields_fit}
 use Rattle.elf_records.specs.Spelled.{spelled_symbol, symbol_fields}
+use Rattle.elf_symbols.specs.SymbolsShown.{symbol_with}
 use Rattle.elf_tables.specs.Strings.{Strings, place_of}
 use Rattle.elf_contents.specs.declared.made.Made.{Made}
 
@@ -12,10 +13,6 @@ use Rattle.elf_contents.specs.declared.made.Made.{Made}
 abbrev pub table_made : Option Made → ℕ → Option Strings
 table_made None number = None
 table_made (Some m) number = if m.number == number then Some m.table else None
-
--- the numbers of a symbol whose name stands at a place
-abbrev pub symbol_with : ℕ → NamedSymbol → SymbolNumbers
-symbol_with place y = record { st_name = place; st_info = y.st_info; st_other = y.st_other; st_shndx = y.st_shndx; st_value = y.st_value; st_size = y.st_size }
 
 -- where a string table tells a name; no name is at 0 (gABI, Symbol Table, st_name)
 abbrev pub place_of_name : Strings → List ℕ → ℕ

@@ -1,12 +1,13 @@
 //! The file header and the section headers that are written (gABI, ELF Header, Sections).
-ghost use Rattle.std.specs.Prelude.{◌≡◌, ◌<◌, ◌≤◌, ◌^◌, false, length, map, IfErr, IfOk, IfNone, IfSome, IsSome, Some};
+ghost use Rattle.std.specs.Prelude.{◌≡◌, ◌<◌, ◌≤◌, ◌^◌, false, length, option_map, slice_get, IfErr, IfOk, IfNone, IfSome, IsSome, Some};
 ghost use Rattle.elf_format.specs.Answers.{Gives};
-ghost use Rattle.elf_image.specs.ImageSeen.{section_kept, symbol_kept};
+ghost use Rattle.elf_image.specs.ImageSeen.{section_kept};
 ghost use Rattle.elf_plan.specs.Kept.{image_at_read, kept_sections};
 ghost use Rattle.elf_plan.specs.Plan.{IsPlan, resized};
 ghost use Rattle.elf_plan.specs.PlanSeen.{place_seen};
 ghost use Rattle.elf_tables.specs.declared.fault.TableFault.TheVariants.{NumberTooLarge};
 ghost use Rattle.elf_tables.specs.Strings.{place_of};
+ghost use Rattle.elf_written.specs.Final.{is_local as is_local_symbol};
 ghost use Rattle.elf_written.specs.Headers.{Reads, behind_locals as behind_all, written_header};
 ghost use Rattle.elf_contents.specs.HeaderSteps.{IsHeaderAt, IsKnown, header_by, headers_read, info_by};
 ghost use Rattle.elf_contents.specs.Inner.{AreHeaders, AreStrings, IsPlanned, content_read, strings_at};
@@ -19,7 +20,7 @@ use elf_format::opening::{open, sections};
 use elf_format::records::{FileHeader, SectionHeader};
 use elf_format::view_fault::ViewFault;
 use elf_image::constants::{SHT_DYNSYM, SHT_GNU_VERDEF, SHT_GNU_VERNEED, SHT_SYMTAB};
-use elf_image::{Builder, Section, Symbol};
+use elf_image::{Builder, Section, Symbols};
 use elf_plan::{Plan, SectionPlace};
 use elf_tables::TableFault;
 use std::alloc::Global;
@@ -71,13 +72,22 @@ struct Known {
     headers: Vec<SectionHeader>,
 }
 
+// Whether the symbol at a position is local (gABI, Symbol Table, `st_info`).
+#[inline(always)]
+fn is_local(symbols: &Symbols<'_>, i: usize) -> bool
+    requires { i < length symbols.now }
+    ensures { option_map is_local_symbol (slice_get symbols.now i) ≡ Some result }
+{
+    symbols.numbers(i, 0).st_info / 16 == 0
+}
+
 // One past the last local symbol, 0 where there is none (gABI, Sections, sh_info of symbol tables).
-fn behind_locals(symbols: &[Symbol<'_>]) -> usize
-    ensures { result ≡ behind_all (map symbol_kept symbols.now) }
+fn behind_locals(symbols: &Symbols<'_>) -> usize
+    ensures { result ≡ behind_all symbols.now }
 {
     let mut behind = 0;
     for i in 0..symbols.len() {
-        if symbols[i].st_info / 16 == 0 {
+        if is_local(symbols, i) {
             behind = i + 1;
         }
     }

@@ -1,22 +1,21 @@
 //! The bytes of the dynamic symbols (gABI, Symbol Table).
-ghost use Rattle.std.specs.Prelude.{◌≡◌, ◌++◌, ◌*◌, IfOk, IsTrue, OnOk, Some, flat_map, length, map, option_map};
-ghost use Rattle.std.specs.List.{list_all};
+ghost use Rattle.std.specs.Prelude.{◌≡◌, ◌++◌, ◌*◌, ◌<◌, IfOk, IsTrue, OnOk, Some, flat_map, length, option_map};
+ghost use Rattle.std.specs.List.{list_all, slice_get};
 ghost use Rattle.elf_format.specs.declared.constants.TheConstants.{SHT_DYNAMIC, SHT_DYNSYM};
 ghost use Rattle.elf_format.specs.Options.{list_at};
 ghost use Rattle.elf_format.specs.Records.{symbol_size, symbols_in};
-ghost use Rattle.elf_image.specs.ImageSeen.{section_kept, symbol_kept};
+ghost use Rattle.elf_image.specs.ImageSeen.{section_kept};
 ghost use Rattle.elf_plan.specs.Kept.{link_of_type};
 ghost use Rattle.elf_plan.specs.Texts.{texts_of_entries};
 ghost use Rattle.elf_sizes.specs.MadeTables.{IsMade};
 ghost use Rattle.elf_written.specs.Contents.{AreSymbolsOf};
 ghost use Rattle.elf_written.specs.Final.{final};
 ghost use Rattle.elf_contents.specs.Inner.{AreStrings, IsReady, IsSectionOfType, strings_at};
-ghost use Rattle.elf_contents.specs.SymbolSteps.{HasNames, does_symbol_fit, place_of_named, symbol_bytes, symbol_with, table_made};
+ghost use Rattle.elf_contents.specs.SymbolSteps.{HasNames, does_symbol_fit, place_of_named, symbol_bytes, table_made};
 
 use crate::entries::texts::texts_of;
 use crate::made::Made;
-use elf_image::records::SymbolNumbers;
-use elf_image::{Builder, Form, Section, Symbol};
+use elf_image::{Builder, Form, Section, Symbols};
 use elf_records::spelled::push_symbol;
 use elf_tables::Finished;
 use patch_bytes::ByteString;
@@ -32,46 +31,33 @@ fn table_made_for<'m, 't>(made: &'m Option<Made<'t>>, number: u32) -> Option<&'m
     }
 }
 
-// Where a symbol's name stands, if a string table has it at a place: no name stands at 0.
-fn name_place(symbol: &Symbol<'_>, place: u32) -> u32
-    ensures { result ≡ place_of_named (symbol_kept symbol.now) place }
+// Where the name of the symbol at a position stands, if a string table has it at a place: no name stands at 0.
+#[inline(always)]
+fn name_place(symbols: &Symbols<'_>, i: usize, place: u32) -> u32
+    requires { i < length symbols.now }
+    ensures { option_map (λ y. place_of_named y place) (slice_get symbols.now i) ≡ Some result }
 {
-    if symbol.name.is_empty() { 0 } else { place }
-}
-
-// The numbers of a symbol whose name stands at a place.
-fn symbol_numbers(symbol: &Symbol<'_>, st_name: u32) -> SymbolNumbers
-    ensures { result ≡ symbol_with st_name (symbol_kept symbol.now) }
-{
-    SymbolNumbers {
-        st_name,
-        st_info: symbol.st_info,
-        st_other: symbol.st_other,
-        st_shndx: symbol.st_shndx,
-        st_value: symbol.st_value,
-        st_size: symbol.st_size,
-    }
+    if symbols.has_name(i) { place } else { 0 }
 }
 
 // Appends the records of symbols, whose names were added to a string table behind so many other texts.
 fn push_symbols(
     bytes: &mut Vec<u8>,
     form: Form,
-    symbols: &[Symbol<'_>],
+    symbols: &Symbols<'_>,
     table: &Finished<'_>,
     before: usize,
 ) -> Result<(), AllocError>
-    requires named { HasNames table.now before (map symbol_kept symbols.now) }
-    requires fit { IsTrue (list_all (does_symbol_fit form table.now)
-        (map symbol_kept symbols.now)) }
-    ensures { OnOk result (bytes.new.items ≡ bytes.old.items
-        ++ flat_map (symbol_bytes form table.now) (map symbol_kept symbols.now)) }
+    requires named { HasNames table.now before symbols.now }
+    requires fit { IsTrue (list_all (does_symbol_fit form table.now) symbols.now) }
+    ensures { OnOk result (bytes.new.items
+        ≡ bytes.old.items ++ flat_map (symbol_bytes form table.now) symbols.now) }
 {
     let places = table.in_order();
     let mut nth = before;
-    for symbol in symbols {
-        let place = name_place(symbol, places[nth]);
-        push_symbol(bytes, form, symbol_numbers(symbol, place))?;
+    for i in 0..symbols.len() {
+        let place = name_place(symbols, i, places[nth]);
+        push_symbol(bytes, form, symbols.numbers(i, place))?;
         nth += 1;
     }
     Ok(())

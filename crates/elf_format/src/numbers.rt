@@ -143,6 +143,7 @@ fn single(form: Form, bytes: &[u8], narrow: usize, wide: usize) -> u8
 }
 
 /// The number in a field of four bytes that has one position in files of both classes.
+#[inline(always)]
 pub fn word_at(form: Form, bytes: &[u8], position: usize) -> u32
     ensures { result ≡ field_of form (position, 4) (position, 4) bytes.now }
 {
@@ -215,6 +216,7 @@ pub fn read_section_header(form: Form, bytes: &[u8]) -> SectionHeader
 }
 
 /// The symbol that bytes hold (gABI, Symbol Table).
+#[inline(always)]
 #[tactic(auto, unfolding(crate::specs::Records::symbol_numbers))]
 pub fn read_symbol_numbers(form: Form, bytes: &[u8]) -> SymbolNumbers
     ensures { result ≡ symbol_numbers form bytes.now }

@@ -5,7 +5,7 @@ use Rattle.elf_image.specs.declared.builder.Builder.TheInside.{Inside}
 use Rattle.elf_format.specs.Image.{Image, counted}
 use Rattle.elf_image.specs.Edited.{IsEdited}
 use Rattle.elf_image.specs.SymbolsRead.{AreSymbolsOfFile}
-use Rattle.elf_image.specs.ImageSeen.{definition_kept, entry_kept, needs_kept, section_kept, segment_kept, symbol_kept, text_kept}
+use Rattle.elf_image.specs.ImageSeen.{definition_kept, entry_kept, needs_kept, section_kept, segment_kept, text_kept}
 
 abbrev pub image_kept : Inside → Image
 image_kept b = record {
@@ -15,15 +15,15 @@ image_kept b = record {
   header = b.header;
   segments = map segment_kept b.segments.items;
   sections = map section_kept b.sections.items;
-  symbols = map symbol_kept b.lists.symbols.value.items;
-  dynamic_symbols = map symbol_kept b.lists.dynamic_symbols.value.items;
+  symbols = b.lists.symbols;
+  dynamic_symbols = b.lists.dynamic_symbols;
   definitions = map definition_kept b.versions.definitions.items;
   needs = map needs_kept b.versions.needs.items;
   entries = option_map (λ list. map entry_kept list.items) b.dynamic;
   interpreter = text_kept b.interpreter;
   section_numbers = b.section_numbers.items;
-  symbol_numbers = counted (length (map symbol_kept b.lists.symbols.value.items));
-  dynamic_symbol_numbers = counted (length (map symbol_kept b.lists.dynamic_symbols.value.items));
+  symbol_numbers = counted (length b.lists.symbols);
+  dynamic_symbol_numbers = counted (length b.lists.dynamic_symbols);
   page_size = b.page_size;
 }
 

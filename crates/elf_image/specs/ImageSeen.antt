@@ -6,13 +6,13 @@ use Rattle.elf_image.specs.declared.dynamic.Dynamic.{Dynamic}
 use Rattle.elf_image.specs.declared.dynamic.Dynamic.TheVariants as kinds
 use Rattle.elf_image.specs.declared.section.Section.{Section}
 use Rattle.elf_image.specs.declared.segment.Segment.{Segment}
-use Rattle.elf_image.specs.declared.symbol.Symbol.{Symbol}
 use Rattle.elf_format.specs.Dynamic.{Auto, Entry, Integer, Text}
 use Rattle.elf_format.specs.Image.{ImageSection}
 use Rattle.elf_format.specs.declared.records.SegmentHeader.{SegmentHeader}
-use Rattle.elf_format.specs.Views.{NamedSymbol}
 -- the versions of a file are seen so below
 pub use Rattle.elf_versions.specs.VersionsSeen.{definition_kept, name_kept, needs_kept}
+-- and so its symbols
+pub use Rattle.elf_symbols.specs.SymbolKept.{symbol_kept}
 
 -- the numbers of a program header
 abbrev pub segment_kept : Segment → SegmentHeader
@@ -33,9 +33,6 @@ section_kept s = record {
   sh_entsize = s.sh_entsize;
   content = s.content.now;
 }
-
-abbrev pub symbol_kept : Symbol → NamedSymbol
-symbol_kept y = record { name = y.name.now; st_info = y.st_info; st_other = y.st_other; st_shndx = y.st_shndx; st_value = y.st_value; st_size = y.st_size; version = y.version }
 
 -- the bytes of a text, where there is one
 abbrev pub text_kept : Option StringValue → Option (List ℕ)

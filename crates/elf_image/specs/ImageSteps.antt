@@ -18,7 +18,7 @@ use Rattle.elf_rules.specs.Read.{Refuses}
 use Rattle.elf_image.specs.declared.read.Gathered.{Gathered}
 use Rattle.elf_image.specs.declared.read.Listed.{Listed}
 use Rattle.elf_image.specs.declared.read.Named.{Named}
-use Rattle.elf_image.specs.ImageSeen.{definition_kept, entry_kept, needs_kept, section_kept, segment_kept, symbol_kept, text_kept}
+use Rattle.elf_image.specs.ImageSeen.{definition_kept, entry_kept, needs_kept, section_kept, segment_kept, text_kept}
 
 -- the sections and symbols of an image
 pub record NamedParts : Type 0 where
@@ -34,7 +34,7 @@ named_in p = do
   Some (record { sections = sections; symbols = symbols; dynamic_symbols = dynamic_symbols })
 
 abbrev pub named_kept : Named → NamedParts
-named_kept n = record { sections = map section_kept n.sections.items; symbols = map symbol_kept n.lists.symbols.value.items; dynamic_symbols = map symbol_kept n.lists.dynamic_symbols.value.items }
+named_kept n = record { sections = map section_kept n.sections.items; symbols = n.lists.symbols; dynamic_symbols = n.lists.dynamic_symbols }
 
 -- its dynamic list and versions
 pub record ListedParts : Type 0 where
@@ -98,15 +98,15 @@ image_gathered p g = record {
   header = header_kept p.opened.header;
   segments = map segment_kept g.segments.items;
   sections = map section_kept g.named.sections.items;
-  symbols = map symbol_kept g.named.lists.symbols.value.items;
-  dynamic_symbols = map symbol_kept g.named.lists.dynamic_symbols.value.items;
+  symbols = g.named.lists.symbols;
+  dynamic_symbols = g.named.lists.dynamic_symbols;
   definitions = map definition_kept g.listed.versions.definitions.items;
   needs = map needs_kept g.listed.versions.needs.items;
   entries = option_map (λ list. map entry_kept list.items) g.listed.dynamic;
   interpreter = text_kept g.interpreter;
   section_numbers = g.section_numbers.items;
-  symbol_numbers = counted (length (map symbol_kept g.named.lists.symbols.value.items));
-  dynamic_symbol_numbers = counted (length (map symbol_kept g.named.lists.dynamic_symbols.value.items));
+  symbol_numbers = counted (length g.named.lists.symbols);
+  dynamic_symbol_numbers = counted (length g.named.lists.dynamic_symbols);
   page_size = None;
 }
 

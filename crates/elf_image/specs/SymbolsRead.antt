@@ -1,21 +1,27 @@
--- The symbols of a file, as lists hold them that images share.
-use Rattle.std.specs.Prelude.{ℕ, ◌≡◌, List, map, Some, Ok}
+-- The symbols of a file, as an image has them.
+use Rattle.std.specs.Prelude.{ℕ, ◌≡◌, List, Option, Some, Ok}
+use Rattle.patch_bytes.specs.Memory.{◌>>=◌}
 use Rattle.elf_format.specs.declared.constants.TheConstants.{SHT_DYNSYM, SHT_SYMTAB}
 use Rattle.elf_format.specs.File.{Parts, section_of_type}
 use Rattle.elf_format.specs.Image.{Image, dynamic_symbols_read, image_of, static_symbols}
 use Rattle.elf_format.specs.Stages.{parts_read}
 use Rattle.elf_image.specs.declared.symbol_lists.SymbolLists.{SymbolLists}
-use Rattle.elf_image.specs.ImageSeen.{symbol_kept}
 
--- the symbols of the file that has these parts
-pub record AreSymbolsRead (p : Parts) (lists : SymbolLists) : Type 0 where
-  pub symbols : static_symbols p (section_of_type SHT_SYMTAB p.sections) ≡ Some (map symbol_kept lists.symbols.value.items)
-  pub dynamic_symbols : dynamic_symbols_read p (section_of_type SHT_DYNSYM p.sections) ≡ Some (map symbol_kept lists.dynamic_symbols.value.items)
+-- the lists of symbols of the file that has these parts
+unfoldable pub lists_read : Parts → Option SymbolLists
+lists_read p = do
+  symbols ← static_symbols p (section_of_type SHT_SYMTAB p.sections)
+  dynamic_symbols ← dynamic_symbols_read p (section_of_type SHT_DYNSYM p.sections)
+  Some (record { symbols = symbols; dynamic_symbols = dynamic_symbols })
+
+-- these are they
+abbrev pub AreSymbolsRead : Parts → SymbolLists → Type 0
+AreSymbolsRead p lists = lists_read p ≡ Some lists
 
 -- the symbols of an image
 pub record AreSymbolsOfImage (image : Image) (lists : SymbolLists) : Type 0 where
-  pub symbols : map symbol_kept lists.symbols.value.items ≡ image.symbols
-  pub dynamic_symbols : map symbol_kept lists.dynamic_symbols.value.items ≡ image.dynamic_symbols
+  pub symbols : lists.symbols ≡ image.symbols
+  pub dynamic_symbols : lists.dynamic_symbols ≡ image.dynamic_symbols
 
 -- the symbols of a file: as its header tables tell them where these can be read, and of its image where it has one
 pub record AreSymbolsOfFile (file : List ℕ) (lists : SymbolLists) : Type 0 where

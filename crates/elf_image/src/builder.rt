@@ -1,15 +1,15 @@
 ghost use Rattle.std.specs.Prelude.{◌≡◌, ◌<◌, length, map, slice_index, IfOk, option_map};
-ghost use Rattle.elf_image.specs.ImageSeen.{definition_kept, entry_kept, needs_kept, section_kept, segment_kept, symbol_kept};
+ghost use Rattle.elf_image.specs.ImageSeen.{definition_kept, entry_kept, needs_kept, section_kept, segment_kept};
 ghost use Rattle.elf_format.specs.Answers.{borrowed};
 
 use crate::dynamic::Dynamic;
 use crate::section::Section;
 use crate::segment;
-use crate::symbol::Symbol;
 use crate::symbol_lists::SymbolLists;
 use crate::version::Versions;
 use elf_format::form::Form;
 use elf_format::header::Header;
+use elf_symbols::Symbols;
 use patch_bytes::{ByteOrder2, ByteString, Wide};
 use std::alloc::{AllocError, Global};
 use std::marker::Model;
@@ -95,18 +95,18 @@ impl<'data> Builder<'data> {
 
     /// The symbols for a link editor (gABI, Symbol Table, `SHT_SYMTAB`); none without that section. Takes no
     /// memory.
-    pub fn symbols(&self) -> &[Symbol<'data>]
-        ensures { map symbol_kept result.now ≡ self.now.symbols }
+    pub fn symbols(&self) -> &Symbols<'data>
+        ensures { result.now ≡ self.now.symbols }
     {
-        self.lists.symbols.as_slice()
+        &self.lists.symbols
     }
 
     /// The symbols for a loader with their versions (gABI, Symbol Table, `SHT_DYNSYM`); none without that
     /// section. Takes no memory.
-    pub fn dynamic_symbols(&self) -> &[Symbol<'data>]
-        ensures { map symbol_kept result.now ≡ self.now.dynamic_symbols }
+    pub fn dynamic_symbols(&self) -> &Symbols<'data>
+        ensures { result.now ≡ self.now.dynamic_symbols }
     {
-        self.lists.dynamic_symbols.as_slice()
+        &self.lists.dynamic_symbols
     }
 
     /// The versions that the file defines and needs (GNU symbol versioning). Takes no memory.

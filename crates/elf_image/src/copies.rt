@@ -1,14 +1,13 @@
-//! Copies of an image: what is borrowed is lent again, symbols are shared, what else is owned is copied.
+//! Copies of an image: what is borrowed is lent again, what is owned is copied.
 ghost use Rattle.std.specs.Prelude.{◌≡◌, map, IfOk};
-ghost use Rattle.elf_image.specs.Copies.{listed_seen, named_seen};
+ghost use Rattle.elf_image.specs.Copies.{listed_seen};
 ghost use Rattle.elf_image.specs.ImageSeen.{entry_kept, section_kept};
-ghost use Rattle.elf_image.specs.ImageSteps.{listed_kept, named_kept};
+ghost use Rattle.elf_image.specs.ImageSteps.{listed_kept};
 
 use crate::builder::Builder;
 use crate::dynamic::Dynamic;
-use crate::read::{Listed, Named};
+use crate::read::Listed;
 use crate::section::Section;
-use crate::symbol_lists::SymbolLists;
 use crate::version::Versions;
 use patch_bytes::ByteString;
 use std::alloc::{AllocError, Global};
@@ -18,7 +17,7 @@ impl<'data> Builder<'data> {
     pub fn try_clone(&self, alloc: Global) -> Result<Builder<'data>, AllocError>
         ensures { IfOk result (λ copy. copy ≡ self.now) }
     {
-        let named = copied_named(alloc, &self.sections, &self.lists)?;
+        let sections = copied_sections(alloc, &self.sections)?;
         let listed = copied_listed(alloc, &self.dynamic, &self.versions)?;
         let interpreter = copied_interpreter(alloc, &self.interpreter)?;
         let section_numbers = Vec::from_slice(alloc, &self.section_numbers)?;
@@ -29,8 +28,8 @@ impl<'data> Builder<'data> {
             form: self.form,
             header: self.header,
             segments,
-            sections: named.sections,
-            lists: named.lists,
+            sections,
+            lists: self.lists.same(),
             versions: listed.versions,
             dynamic: listed.dynamic,
             interpreter,
@@ -38,20 +37,6 @@ impl<'data> Builder<'data> {
             page_size: self.page_size,
         })
     }
-}
-
-// The same sections, and the same symbols, which are shared.
-fn copied_named<'data>(
-    alloc: Global,
-    sections: &[Section<'data>],
-    lists: &SymbolLists<'data>,
-) -> Result<Named<'data>, AllocError>
-    ensures { IfOk result (λ copies. named_kept copies ≡ named_seen sections.now
-        lists.now.symbols.value.items lists.now.dynamic_symbols.value.items) }
-{
-    let sections = copied_sections(alloc, sections)?;
-    let lists = lists.share()?;
-    Ok(Named { sections, lists })
 }
 
 // The same dynamic list and versions.

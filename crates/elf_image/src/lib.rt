@@ -11,15 +11,14 @@ mod lookups;
 mod read;
 pub mod section;
 pub mod segment;
-pub mod symbol;
 mod symbol_lists;
 
 pub use crate::builder::{Builder, Segment};
 pub use crate::dynamic::Dynamic;
 pub use crate::section::Section;
-pub use crate::symbol::Symbol;
 pub use elf_format::machine::machine_of;
 pub use elf_format::{
     ElfFault, Form, Header, SectionData, VersionId, constants, laws as format_laws, records,
 };
+pub use elf_symbols::{Symbol, Symbols};
 pub use elf_versions::version::{self, VersionDef, VersionNeed, VersionNeedName, Versions};

@@ -19,7 +19,7 @@ use crate::builder::{Builder, Segment};
 use crate::dynamic::Dynamic;
 use crate::read::texts::entries::entries;
 use crate::read::texts::sections::sections;
-use crate::read::texts::symbols::{dynamic_list, static_list};
+use crate::read::texts::symbols::symbol_lists;
 use crate::section::Section;
 use crate::symbol_lists::SymbolLists;
 use crate::version::Versions;
@@ -101,15 +101,10 @@ fn named_parts<'data>(
     ensures lists { IfOk result (λ named. AreSymbolsRead (parts_seen parts.now) named.lists) }
 {
     let sections = sections(alloc, parts, kinds)?;
-    let symbols = static_list(alloc, parts, known)?;
-    let dynamic_symbols = dynamic_list(alloc, parts, raw, known)?;
-    Ok(Named {
-        sections,
-        lists: SymbolLists {
-            symbols,
-            dynamic_symbols,
-        },
-    })
+    let Some(lists) = symbol_lists(parts, raw, known) else {
+        return Err(ViewFault::Absent);
+    };
+    Ok(Named { sections, lists })
 }
 
 // The dynamic list and the versions, absent where a text isn't there.

@@ -19,4 +19,6 @@ mod read;
 #[cfg(test)]
 mod support;
 #[cfg(test)]
+mod symbols;
+#[cfg(test)]
 mod texts;

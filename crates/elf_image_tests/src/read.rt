@@ -4,8 +4,8 @@ use crate::support::{Runtime, same, same_text};
 use crate::texts::{push_bytes, push_text, push_word};
 use elf_format::constants::SHT_DYNSYM;
 use elf_image::{
-    Builder, Dynamic, ElfFault, Section, Segment, Symbol, VersionDef, VersionId, VersionNeed,
-    machine_of,
+    Builder, Dynamic, ElfFault, Section, Segment, Symbol, Symbols, VersionDef, VersionId,
+    VersionNeed, machine_of,
 };
 use elf_samples::{SMALL, TWIN, VERSIONED};
 use std::alloc::{AllocError, Global};
@@ -96,9 +96,9 @@ fn push_symbol(lines: &mut String, symbol: &Symbol<'_>) -> Result<(), AllocError
     )
 }
 
-fn push_symbols(lines: &mut String, symbols: &[Symbol<'_>]) -> Result<(), AllocError> {
-    for symbol in symbols {
-        push_symbol(lines, symbol)?;
+fn push_symbols(lines: &mut String, symbols: &Symbols<'_>) -> Result<(), AllocError> {
+    for i in 0..symbols.len() {
+        push_symbol(lines, &symbols.get(i))?;
     }
     Ok(())
 }

@@ -4,7 +4,7 @@ use elf_image::constants::{
     DT_SYMTAB, DT_VERDEF, DT_VERDEFNUM, DT_VERNEED, DT_VERNEEDNUM, DT_VERSYM, PT_GNU_STACK,
 };
 use elf_image::{
-    Builder, Dynamic, ElfFault, Segment, Symbol, VersionDef, VersionNeed, VersionNeedName,
+    Builder, Dynamic, ElfFault, Segment, Symbols, VersionDef, VersionNeed, VersionNeedName,
 };
 use elf_plain::view::{EntryView, ShownDefinition, ShownName, ShownNeeds, ShownSymbol, ShownView};
 use elf_plain::{ViewFault, section_view};
@@ -37,11 +37,12 @@ fn entries(alloc: Global, list: &[Dynamic<'_>]) -> Result<Vec<EntryView>, AllocE
 
 fn symbols(
     alloc: Global,
-    list: &[Symbol<'_>],
+    list: &Symbols<'_>,
     with_versions: bool,
 ) -> Result<Vec<ShownSymbol>, AllocError> {
     let mut made = Vec::new(alloc);
-    for symbol in list {
+    for i in 0..list.len() {
+        let symbol = list.get(i);
         made.push(ShownSymbol {
             name: Vec::from_slice(alloc, symbol.name)?,
             st_info: symbol.st_info,

@@ -1,14 +1,13 @@
 //! Whether a string table is copied, and the table where it is made anew.
-ghost use Rattle.std.specs.Prelude.{◌≡◌, ℕ, ◌≤◌, ◌<◌, ◌^◌, List, ◌∷◌, drop, length, map, IfErr, IfOk, IsTrue, MatchOption, MatchResult};
+ghost use Rattle.std.specs.Prelude.{◌≡◌, ℕ, ◌≤◌, ◌<◌, ◌^◌, List, ◌∷◌, drop, length, IfErr, IfOk, IsTrue, MatchOption, MatchResult};
 ghost use Rattle.elf_tables.specs.declared.fault.TableFault.TheVariants.{NumberTooLarge};
 ghost use Rattle.elf_tables.specs.Strings.{HoldNoNul, IsTableOf, PlacesStand, table_length};
-ghost use Rattle.elf_image.specs.ImageSeen.{symbol_kept};
 ghost use Rattle.elf_plan.specs.Texts.{are_same_texts, is_subsequence as is_subsequence_of, is_table_copied, texts_in_use, texts_of_symbols};
 ghost use Rattle.elf_sizes.specs.MadeTables.{IsMade, IsTooLong};
 
 use crate::texts::Texts;
 use crate::users::Users;
-use elf_image::{Builder, Symbol};
+use elf_image::{Builder, Symbols};
 use elf_tables::{Finished, TableFault};
 use std::alloc::{AllocError, Global};
 
@@ -45,15 +44,14 @@ pub(crate) fn is_subsequence(some: &Texts<'_>, all: &Texts<'_>) -> bool
 }
 
 // Whether the symbols have the same names, one by one.
-pub(crate) fn have_same_names(left: &[Symbol<'_>], right: &[Symbol<'_>]) -> bool
-    ensures { result ≡ are_same_texts (texts_of_symbols (map symbol_kept left.now))
-        (texts_of_symbols (map symbol_kept right.now)) }
+pub(crate) fn have_same_names(left: &Symbols<'_>, right: &Symbols<'_>) -> bool
+    ensures { result ≡ are_same_texts (texts_of_symbols left.now) (texts_of_symbols right.now) }
 {
     if left.len() != right.len() {
         return false;
     }
     for i in 0..left.len() {
-        if left[i].name != right[i].name {
+        if left.name(i) != right.name(i) {
             return false;
         }
     }

@@ -1,5 +1,5 @@
 //! The sizes of hash tables that are made anew.
-ghost use Rattle.std.specs.Prelude.{◌≡◌, ◌<◌, ◌≤◌, ◌*◌, ◌^◌, ◌+◌, count_by, drop, map, option_map, unwrap_or, SomeIff};
+ghost use Rattle.std.specs.Prelude.{◌≡◌, ◌<◌, ◌≤◌, ◌*◌, ◌^◌, ◌+◌, count_by, drop, option_map, unwrap_or, SomeIff};
 ghost use Rattle.patch_bytes.specs.Memory.{memory_of};
 ghost use Rattle.patch_bytes.specs.Number.{word_size};
 ghost use Rattle.elf_format.specs.Hashes.{gnu_header, word_of_table};
@@ -9,7 +9,7 @@ ghost use Rattle.elf_sizes.specs.Inner.{gnu_size_with as size_of_gnu};
 
 use crate::versions::grown;
 use elf_format::numbers::word_at;
-use elf_image::{Form, Symbol};
+use elf_image::{Form, Symbol, Symbols};
 use patch_bytes::Wide;
 
 // The number of buckets that a gABI hash table had, 0 where it isn't there (gABI, Hash Table).
@@ -63,37 +63,27 @@ fn is_found(symbol: &Symbol<'_>) -> bool
     symbol.st_shndx != 0 && symbol.st_info / 16 != 0
 }
 
-// How many symbols a look-up may find.
-fn count_found(symbols: &[Symbol<'_>]) -> usize
-    ensures { result ≡ count_by is_found_symbol (map symbol_kept symbols.now) }
+// How many symbols a look-up may find, without the first, which is never one.
+fn count_found(symbols: &Symbols<'_>) -> usize
+    ensures { result ≡ count_by is_found_symbol (drop 1 symbols.now) }
 {
     let mut count = 0;
-    for symbol in symbols {
-        if is_found(symbol) {
+    for i in 1..symbols.len() {
+        if is_found(&symbols.get(i)) {
             count += 1;
         }
     }
     count
 }
 
-// The same without the first symbol, which is never one.
-fn count_found_behind(symbols: &[Symbol<'_>]) -> usize
-    ensures { result ≡ count_by is_found_symbol (drop 1 (map symbol_kept symbols.now)) }
-{
-    if symbols.is_empty() {
-        return 0;
-    }
-    count_found(&symbols[1..])
-}
-
 // The size of a GNU hash table of these symbols; as it was where its four numbers aren't there. `None` where it is past
 // 64 bits.
-pub(crate) fn gnu_size(form: Form, content: &[u8], old: u64, symbols: &[Symbol<'_>]) -> Option<u64>
-    ensures { let size = size_of_gnu form content.now old (map symbol_kept symbols.now) in
+pub(crate) fn gnu_size(form: Form, content: &[u8], old: u64, symbols: &Symbols<'_>) -> Option<u64>
+    ensures { let size = size_of_gnu form content.now old symbols.now in
         SomeIff result (size < 2 ^ 64) size }
 {
     match gnu_front(form, content) {
-        Some(front) => grown(front, 0, 4, count_found_behind(symbols)),
+        Some(front) => grown(front, 0, 4, count_found(symbols)),
         None => Some(old),
     }
 }

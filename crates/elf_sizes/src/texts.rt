@@ -1,6 +1,6 @@
 //! The texts that stand in a string table, as they are gathered.
 use crate::versions::{does_need_stay, is_marked, is_of_needs};
-use elf_image::{Dynamic, Section, Symbol, VersionDef, VersionNeed, VersionNeedName};
+use elf_image::{Dynamic, Section, Symbols, VersionDef, VersionNeed, VersionNeedName};
 use elf_tables::{Finished, StringTable, TableFault};
 use patch_bytes::ByteString;
 use std::alloc::{AllocError, Global};
@@ -25,7 +25,7 @@ impl<'t> Texts<'t> {
     ghost use Rattle.elf_tables.specs.declared.fault.TableFault.TheVariants.{NumberTooLarge};
     ghost use Rattle.elf_tables.specs.Strings.{HoldNoNul, IsTableOf, PlacesStand, table_length};
     ghost use Rattle.patch_bytes.specs.ByteString.{bytes_of_each};
-    ghost use Rattle.elf_image.specs.ImageSeen.{definition_kept, entry_kept, name_kept, needs_kept, section_kept, symbol_kept};
+    ghost use Rattle.elf_image.specs.ImageSeen.{definition_kept, entry_kept, name_kept, needs_kept, section_kept};
     ghost use Rattle.elf_plan.specs.Texts.{texts_of_definitions, texts_of_entries, texts_of_entry, texts_of_needs, texts_of_symbols};
     ghost use Rattle.elf_sizes.specs.Inner.{staying_entries, unmarked_names, unmarked_needs, with_unmarked_names};
 
@@ -72,13 +72,12 @@ impl<'t> Texts<'t> {
     }
 
     // Adds the names of symbols.
-    pub(crate) fn push_symbols(&mut self, symbols: &'t [Symbol<'_>]) -> Result<(), AllocError>
-        ensures { OnOk result (self.new
-            ≡ self.old ++ texts_of_symbols (map symbol_kept symbols.entry.now)) }
+    pub(crate) fn push_symbols(&mut self, symbols: &'t Symbols<'_>) -> Result<(), AllocError>
+        ensures { OnOk result (self.new ≡ self.old ++ texts_of_symbols symbols.entry.now) }
     {
         self.list.reserve(symbols.len())?;
-        for symbol in symbols {
-            self.push(symbol.name)?;
+        for i in 0..symbols.len() {
+            self.push(symbols.name(i))?;
         }
         Ok(())
     }

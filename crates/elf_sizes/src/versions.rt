@@ -1,12 +1,13 @@
 //! The needed versions that stay, and the entries of the dynamic list that stay with them.
-ghost use Rattle.std.specs.Prelude.{◌≡◌, ℕ, ◌&&◌, false, ◌+◌, ◌*◌, ◌<◌, ◌^◌, length, map, not, IfOk, SomeIff, if◌then◌else◌};
-ghost use Rattle.elf_image.specs.ImageSeen.{definition_kept, entry_kept, name_kept, needs_kept, symbol_kept};
+ghost use Rattle.std.specs.Prelude.{◌≡◌, ℕ, ◌&&◌, ◌==◌, false, ◌+◌, ◌*◌, ◌<◌, ◌^◌, length, map, not, IfOk, SomeIff, if◌then◌else◌};
+ghost use Rattle.elf_format.specs.Options.{is_some_and};
+ghost use Rattle.elf_image.specs.ImageSeen.{definition_kept, entry_kept, name_kept, needs_kept};
 ghost use Rattle.elf_plan.specs.Needs.{is_empty, is_version_used};
 ghost use Rattle.elf_plan.specs.Sizes.{definitions_size as size_of_definitions, needs_size as size_of_needs};
 ghost use Rattle.elf_sizes.specs.Inner.{is_of_needs as is_entry_of_needs, is_unmarked, marked, staying_entries, unmarked_names, unmarked_needs};
 
 use elf_image::constants::{DT_VERNEED, DT_VERNEEDNUM};
-use elf_image::{Dynamic, Symbol, VersionDef, VersionNeed, VersionNeedName};
+use elf_image::{Dynamic, Symbols, VersionDef, VersionId, VersionNeed, VersionNeedName};
 use std::alloc::{AllocError, Global};
 
 // How many marks there are: one for each index that a version may have.
@@ -19,27 +20,35 @@ pub(crate) fn is_marked(marks: &[bool], index: u16) -> bool
     (index as usize) < marks.len() && marks[index as usize]
 }
 
-// Gives each version that a symbol has this mark.
-fn mark_versions(marks: &mut [bool], symbols: &[Symbol<'_>], mark: bool)
+// Gives a version, where there is one, this mark.
+fn mark_version(marks: &mut [bool], version: Option<VersionId>, mark: bool)
     requires { length marks.old ≡ INDICES }
     ensures { (index : ℕ) → marked marks.new index
-        ≡ (if is_version_used (map symbol_kept symbols.now) index then mark
+        ≡ (if is_some_and (λ v. v.index == index) version then mark else marked marks.old index) }
+{
+    if let Some(version) = version {
+        marks[version.index as usize] = mark;
+    }
+}
+
+// Gives each version that a symbol has this mark.
+fn mark_versions(marks: &mut [bool], symbols: &Symbols<'_>, mark: bool)
+    requires { length marks.old ≡ INDICES }
+    ensures { (index : ℕ) → marked marks.new index
+        ≡ (if is_version_used symbols.now index then mark
         else marked marks.old index) }
 {
-    for symbol in symbols {
-        if let Some(version) = symbol.version {
-            marks[version.index as usize] = mark;
-        }
+    for i in 0..symbols.len() {
+        mark_version(marks, symbols.get(i).version, mark);
     }
 }
 
 // Marks the versions that some symbol had, and none has now.
-fn mark_dropped(marks: &mut [bool], read: &[Symbol<'_>], now: &[Symbol<'_>])
+fn mark_dropped(marks: &mut [bool], read: &Symbols<'_>, now: &Symbols<'_>)
     requires long { length marks.old ≡ INDICES }
     requires none { (index : ℕ) → marked marks.old index ≡ false }
     ensures { (index : ℕ) → marked marks.new index
-        ≡ (is_version_used (map symbol_kept read.now) index
-        && not (is_version_used (map symbol_kept now.now) index)) }
+        ≡ (is_version_used read.now index && not (is_version_used now.now index)) }
 {
     mark_versions(marks, read, true);
     mark_versions(marks, now, false);
@@ -56,12 +65,11 @@ fn no_marks(alloc: Global, count: usize) -> Result<Vec<bool>, AllocError>
 // The marks of the versions that some symbol had, and none has now.
 pub(crate) fn dropped_marks(
     alloc: Global,
-    read: &[Symbol<'_>],
-    now: &[Symbol<'_>],
+    read: &Symbols<'_>,
+    now: &Symbols<'_>,
 ) -> Result<Vec<bool>, AllocError>
     ensures { IfOk result (λ marks. (index : ℕ) → marked marks.items index
-        ≡ (is_version_used (map symbol_kept read.now) index
-        && not (is_version_used (map symbol_kept now.now) index))) }
+        ≡ (is_version_used read.now index && not (is_version_used now.now index))) }
 {
     let mut marks = no_marks(alloc, INDICES)?;
     mark_dropped(&mut marks, read, now);

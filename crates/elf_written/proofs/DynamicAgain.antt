@@ -17,7 +17,7 @@ use Rattle.elf_format.specs.Rules.{dynamic_texts_of, file_of, linked_texts, text
 use Rattle.elf_format.specs.Versions.{version_id}
 use Rattle.elf_format.specs.Views.{NamedSymbol}
 use Rattle.elf_image.specs.ReadImage.{AreDynamicSymbols, AreSymbolsOf}
-use Rattle.elf_image.specs.TextSteps.{kept_as}
+use Rattle.elf_symbols.specs.SymbolsShown.{kept_as}
 use Rattle.elf_plan.specs.Kept.{image_at_read}
 use Rattle.elf_written.specs.Again.{HasWrittenParts, written_parts}
 use Rattle.elf_written.specs.Contents.{AreSymbolsOf as AreWrittenSymbols, IsSymbolOf as IsWrittenSymbol}

@@ -17,7 +17,7 @@ use Rattle.elf_format.specs.Records.{symbols_in}
 use Rattle.elf_format.specs.Rules.{file_of, text_users, texts_of}
 use Rattle.elf_format.specs.Views.{NamedSymbol, named_symbols, names_of}
 use Rattle.elf_image.specs.ReadImage.{AreStaticSymbols, AreSymbolsOf, IsSymbolOf}
-use Rattle.elf_image.specs.TextSteps.{kept_as}
+use Rattle.elf_symbols.specs.SymbolsShown.{kept_as}
 use Rattle.elf_plan.specs.Kept.{image_at_read}
 use Rattle.elf_written.specs.Again.{HasWrittenParts, written_parts}
 use Rattle.elf_written.specs.Writing.{IsWholeWriting, Writing, written_bytes}

@@ -1,5 +1,5 @@
 -- All texts were looked at, or fewer are left than are to be found.
-use Rattle.std.proofs.Common.{◌≡◌, length, nat_eq, ap, ◌∙◌, arith}
+use Rattle.std.proofs.Common.{nat_eq, ap, ◌∙◌, arith}
 use Rattle.elf_sizes.proofs.TextSteps.{subsequence_at_end, subsequence_too_long}
 use Rattle.elf_sizes.proofs.strings.is_subsequence.Goals as goal
 

@@ -1,13 +1,12 @@
 -- At each position stands what had its number.
-use Rattle.std.proofs.Common.{ap, sym, subst, ◌∙◌, ◌<◌, length, map}
+use Rattle.std.proofs.Common.{ap, sym, subst, ◌∙◌, ◌<◌, length}
 use Rattle.std.specs.Prelude.{slice_index}
 use Rattle.elf_format.specs.Image.{Image}
-use Rattle.elf_image.specs.ImageSeen.{symbol_kept}
 use Rattle.elf_image.proofs.EditedLaws.{counted-at}
 use Rattle.elf_image.proofs.builder.Builder.read_dynamic_symbol.Goals as goal
 
 pub returns : goal.returns
 returns c =
-    sym (counted-at (length (map symbol_kept c.self.inside.lists.dynamic_symbols.value.items)) c.args.i
+    sym (counted-at (length c.self.inside.lists.dynamic_symbols) c.args.i
     (subst (λ (image : Image). c.args.i < length image.dynamic_symbols) (sym c.self.view_is) c.requires))
     ∙ ap (λ (image : Image). slice_index image.dynamic_symbol_numbers c.args.i) c.self.view_is

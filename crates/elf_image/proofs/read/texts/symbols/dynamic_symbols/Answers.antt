@@ -1,14 +1,12 @@
 -- The symbols of the one section of dynamic symbols.
-use Rattle.std.proofs.Common.{List, Option, Some, map, sym, ap, subst, ◌∙◌}
+use Rattle.std.proofs.Common.{Option, Some, sym, ap, ◌∙◌, length}
 use Rattle.std.specs.Prelude.{option_map}
 use Rattle.patch_bytes.specs.Memory.{memory_of}
 use Rattle.elf_format.specs.declared.constants.TheConstants.{SHT_DYNSYM}
 use Rattle.elf_format.specs.File.{Parts, section_of_type}
-use Rattle.elf_image.specs.ImageSeen.{symbol_kept}
-use Rattle.elf_format.specs.Answers.{Gives, borrowed}
-use Rattle.elf_rules.specs.Read.{parts_seen}
+use Rattle.elf_format.specs.Answers.{borrowed}
 use Rattle.elf_format.specs.declared.records.SectionHeader.{SectionHeader}
-use Rattle.elf_format.specs.Views.{NamedSymbol}
+use Rattle.elf_rules.specs.Read.{parts_seen}
 use Rattle.elf_versions.proofs.KeptSteps.{none_found}
 use Rattle.elf_image.proofs.TextSteps.{dynamic_none, dynamic_some}
 use Rattle.elf_image.proofs.read.texts.symbols.dynamic_symbols.Goals as goal
@@ -16,14 +14,13 @@ use Rattle.elf_image.proofs.read.texts.symbols.dynamic_symbols.Goals as goal
 pub returns-in_default : goal.returns-in_default
 returns-in_default c =
     let o : Option SectionHeader = section_of_type SHT_DYNSYM c.args.parts.now.sections.items in
-    dynamic_none (parts_seen c.args.parts.now) o (none_found c.section_of_type.result o c.in_default.not-Some (c.section_of_type.ensures ∙ ap (section_of_type SHT_DYNSYM) c.deref.ensures.value))
-    ∙ ap (λ l. Some (map symbol_kept l)) (sym c.new.ensures.items)
+    ap Some c.none.ensures ∙ sym (dynamic_none (parts_seen c.args.parts.now) o
+    (none_found c.section_of_type.result o c.in_default.not-Some (c.section_of_type.ensures ∙ ap (section_of_type SHT_DYNSYM) c.deref.ensures.value)))
 
 pub returns : goal.returns
 returns c =
     let p : Parts = parts_seen c.args.parts.now in
-    subst (λ (o : Option (List NamedSymbol)). Gives (λ v. map symbol_kept v.items) c.symbols.result o)
-    (dynamic_some p (section_of_type SHT_DYNSYM p.sections) c.in-Some.section (memory_of c.dynamic_texts-texts.result.now)
+    c.read.ensures (length c.args.parts.now.file.now) c.dynamic_texts-texts.ensures.short
+    ∙ dynamic_some p (section_of_type SHT_DYNSYM p.sections) c.in-Some.section (memory_of c.dynamic_texts-texts.result.now)
     (c.in-Some.ensures ∙ ap (section_of_type SHT_DYNSYM) c.deref.ensures.value) c.dynamic_texts-texts.ensures.value
-    c.section_bytes-bytes.result.now (option_map borrowed c.version_bytes-versions.result) c.section_bytes-bytes.ensures.value c.version_bytes-versions.ensures)
-    c.symbols.ensures
+    c.section_bytes.result.now (option_map borrowed c.version_bytes-versions.result) c.section_bytes.ensures.value c.version_bytes-versions.ensures

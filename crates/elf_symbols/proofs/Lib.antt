@@ -1,0 +1,3 @@
+pub mod NameSteps
+pub mod ShownSteps
+pub mod SeenSteps

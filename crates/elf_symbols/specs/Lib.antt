@@ -1,0 +1,3 @@
+pub mod SymbolsShown
+pub mod SymbolKept
+pub mod SymbolsSeen
