@@ -7,14 +7,16 @@ The libraries are linked by gcc into bench/made, which git ignores: a small one,
 symbols, and two with 50,000 and 500,000 dynamic symbols, the larger of 300 MB too. Each is edited twice: by a run path
 that fits where the old one stands, and by a long one, which moves the strings. Each timed run works on a fresh
 copy, made outside the timed part. The times are medians of N runs (5), or of five times as many of the small library,
-whose edit takes a millisecond, and all runs of one call stand side by side: each round times every program once. `cp --reflink=never` writes onto a file that is there already. The
-peak is the largest resident size of the runs; it says nothing for the small library.
+whose edit takes a millisecond, and all runs of one call stand side by side: each round times every program once.
+`cp --reflink=never` writes onto a file that is there already. The peak is the largest resident size of the runs; it
+says nothing for the small library.
 
 The targets: a run path that fits takes, in 300 MB with few symbols, at most 0.7 times the time of cp, and with
 500,000 symbols at most half the time of patchelf; one that moves the strings takes no longer than patchelf; an edit of the
-small library takes no longer than patchelf and at most 1.5 ms; memory is at most 2.2 times the file; and
-from 50,000 to 500,000 symbols the time for each byte of the file doesn't grow to more than 1.5 times. The status is 1 where one is missed, 2
-where a program is missing or fails. A target whose tool is not there is named as not checked.
+small library takes no longer than patchelf, and at most 1.5 ms, which is what patchelf took where that was set (on a
+slower machine, where patchelf takes longer, its time alone counts); memory is at most 2.2 times the file; and from
+50,000 to 500,000 symbols the time for each byte of the file doesn't grow to more than 1.5 times. The status is 1 where
+one is missed, 2 where a program is missing or fails. A target whose tool is not there is named as not checked.
 """
 
 import argparse
@@ -149,7 +151,8 @@ def compare(edit, options, tool, speeds):
     if patchelf:
         ratios.append(("to patchelf", arwen / patchelf, most_tool))
     if most_time:
-        ratios.append(("ms", arwen * 1000, most_time * 1000))
+        is_slow = patchelf is not None and patchelf > most_time
+        ratios.append(("ms", arwen * 1000, None if is_slow else most_time * 1000))
     if most_memory:
         ratios.append(("peak to size", peak / size, most_memory))
     kind = "fits" if run_path == FITS else "moves"
