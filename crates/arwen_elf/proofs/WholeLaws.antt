@@ -15,8 +15,8 @@ use Rattle.elf_edits.specs.Cause.{Cause, cause}
 use Rattle.elf_edits.specs.declared.constants.TheConstants.{STACK_FLAGS}
 use Rattle.elf_edits.specs.Edit.{AddDebugEntry, AddNeeded, AddRunPath, ClearExecStack, DeleteNeeded, DeleteRunPath, Edit, NoDefaultLibrary, ReplaceNeeded, SetExecStack, SetInterpreter, SetOsAbi, SetPageSize, SetRunPath, SetSoname, ShrinkRunPath, UseRpath, UseRunpath}
 use Rattle.elf_edits.specs.Edited.{edited_image, edited_interpreter, edited_page_size, edited_segments, step, with_align, with_load_align, with_run, with_stack_changed, without_run}
-use Rattle.elf_plan.specs.Kept.{image_at_read}
-use Rattle.elf_written.specs.Whole.{AreAllKept, IsWhole}
+use Rattle.elf_layout_plan.specs.Kept.{image_at_read}
+use Rattle.elf_write_spec.specs.Whole.{AreAllKept, IsWhole}
 use Rattle.elf_apply.specs.declared.batch.ElfBatchError.{ElfBatchError}
 use Rattle.elf_apply.specs.declared.error.ElfError.{ElfError}
 use Rattle.arwen_elf.specs.Held.{IsAllThere}

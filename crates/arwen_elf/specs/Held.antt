@@ -1,7 +1,7 @@
 -- The image that a writer holds: its edits take nothing of it away.
 use Rattle.std.specs.Prelude.{◌≡◌, Ok}
 use Rattle.elf_image.specs.Image.{Image, image_of}
-use Rattle.elf_written.specs.Whole.{IsWhole}
+use Rattle.elf_write_spec.specs.Whole.{IsWhole}
 use Rattle.arwen_elf.specs.declared.elf.rewriter.writer.Writer.TheInside as writer
 
 -- what was read from the image's source is all there in it

@@ -4,16 +4,16 @@ use Rattle.std.specs.Io.KnownBytes.{Appends}
 use Rattle.byte_store.specs.declared.composed.Difference.{Difference}
 use Rattle.elf_format.specs.declared.fault.ElfFault.TheVariants.{NumberTooLarge}
 use Rattle.elf_image.specs.Image.{Image}
-use Rattle.elf_blocks.specs.declared.fault.LayoutFault.{LayoutFault}
-use Rattle.elf_blocks.specs.declared.fault.LayoutFault.TheVariants as layout
-use Rattle.elf_plan.specs.Plan.{IsOverlapping, IsPlan, Layout, resized}
+use Rattle.elf_layout_plan.specs.declared.fault.LayoutFault.{LayoutFault}
+use Rattle.elf_layout_plan.specs.declared.fault.LayoutFault.TheVariants as layout
+use Rattle.elf_layout_plan.specs.Plan.{IsOverlapping, IsPlan, Layout, resized}
 use Rattle.elf_layout.specs.Refused.{IsNoLayout}
-use Rattle.elf_written.specs.Laws.{ShowsFinal}
-use Rattle.elf_written.specs.Stays.{AreOthersSeen, IsDataSeen}
-use Rattle.elf_written.specs.Writing.{AreHeadersApart, IsWritten}
+use Rattle.elf_write_spec.specs.Laws.{ShowsFinal}
+use Rattle.elf_write_spec.specs.Stays.{AreOthersSeen, IsDataSeen}
+use Rattle.elf_write_spec.specs.Writing.{AreHeadersApart, IsWritten}
 use Rattle.elf_write.specs.Counted.{Stops}
-use Rattle.elf_contents.specs.Numbers.{do_numbers_fit}
-use Rattle.elf_contents.specs.Seen.{HasHashes, HasHeaders, IsApart}
+use Rattle.elf_write_contents.specs.Numbers.{do_numbers_fit}
+use Rattle.elf_write_contents.specs.Seen.{HasHashes, HasHeaders, IsApart}
 use Rattle.elf_apply.specs.declared.error.ElfError.{ElfError}
 use Rattle.elf_apply.specs.declared.error.ElfError.TheVariants.{Io, Memory, Modify, Write}
 use Rattle.elf_apply.specs.declared.error.ModifyCause.TheVariants.{Overlap}

@@ -13,8 +13,8 @@ use Rattle.elf_edits.specs.Laws.{viewed}
 use Rattle.elf_edits.specs.declared.call.ElfEdit.{ElfEdit}
 use Rattle.elf_image.specs.Image.{Image, image_of, shown}
 use Rattle.elf_image.specs.Views.{View, dynamic_symbol_count, loader_view, section_view}
-use Rattle.elf_plan.specs.Kept.{image_at_read}
-use Rattle.elf_written.specs.Final.{final_view}
+use Rattle.elf_layout_plan.specs.Kept.{image_at_read}
+use Rattle.elf_write_spec.specs.Final.{final_view}
 use Rattle.elf_commands.specs.ElfAsked.{ElfAsked, answered, asks_edits, elf_asked, one, printing, several, shrinking}
 use Rattle.elf_commands.specs.ElfWords.{edits_meant}
 use Rattle.command_faults.specs.Fault.{answer_to_elf, answer_to_elf_batch}

@@ -20,7 +20,7 @@ use Rattle.elf_format.specs.Views.{NamedSymbol, named_symbols, names_of}
 use Rattle.elf_format.proofs.ImageShows.{image_from}
 use Rattle.elf_format.proofs.Accepted.{accepted}
 use Rattle.elf_image.specs.ReadImage.{AreDynamicSymbols, AreSectionsOf, AreStaticSymbols, AreSymbolsOf, HoldsParts, IsSectionOf, IsSymbolOf, ReadImagesHoldParts, section_with}
-use Rattle.elf_symbols.specs.SymbolsShown.{kept_as}
+use Rattle.elf_image_symbols.specs.SymbolsShown.{kept_as}
 
 -- ## Values that are there one by one
 

@@ -3,7 +3,7 @@ use Rattle.std.specs.Prelude.{map, Option}
 use Rattle.std.specs.Option.{option_map}
 use Rattle.std.specs.Global.{Vec}
 use Rattle.elf_image.specs.declared.dynamic.Dynamic.{Dynamic}
-use Rattle.elf_versions.specs.declared.version.Versions.{Versions}
+use Rattle.elf_image_versions.specs.declared.version.Versions.{Versions}
 use Rattle.elf_image.specs.ImageSeen.{definition_kept, entry_kept, needs_kept}
 use Rattle.elf_image.specs.ImageSteps.{ListedParts}
 

@@ -10,9 +10,9 @@ use Rattle.elf_format.specs.Dynamic.{Auto, Entry, Integer, Text}
 use Rattle.elf_format.specs.Image.{ImageSection}
 use Rattle.elf_format.specs.declared.records.SegmentHeader.{SegmentHeader}
 -- the versions of a file are seen so below
-pub use Rattle.elf_versions.specs.VersionsSeen.{definition_kept, name_kept, needs_kept}
+pub use Rattle.elf_image_versions.specs.VersionsSeen.{definition_kept, name_kept, needs_kept}
 -- and so its symbols
-pub use Rattle.elf_symbols.specs.SymbolKept.{symbol_kept}
+pub use Rattle.elf_image_symbols.specs.SymbolKept.{symbol_kept}
 
 -- the numbers of a program header
 abbrev pub segment_kept : Segment → SegmentHeader

@@ -9,7 +9,7 @@ use crate::symbol_lists::SymbolLists;
 use crate::version::Versions;
 use elf_format::form::Form;
 use elf_format::header::Header;
-use elf_symbols::Symbols;
+use elf_image_symbols::Symbols;
 use patch_bytes::{ByteOrder2, ByteString, Wide};
 use std::alloc::{AllocError, Global};
 use std::marker::Model;

@@ -20,5 +20,5 @@ pub use elf_format::machine::machine_of;
 pub use elf_format::{
     ElfFault, Form, Header, SectionData, VersionId, constants, laws as format_laws, records,
 };
-pub use elf_symbols::{Symbol, Symbols};
-pub use elf_versions::version::{self, VersionDef, VersionNeed, VersionNeedName, Versions};
+pub use elf_image_symbols::{Symbol, Symbols};
+pub use elf_image_versions::version::{self, VersionDef, VersionNeed, VersionNeedName, Versions};

@@ -7,11 +7,11 @@ ghost use Rattle.elf_image.specs.ImageSeen.{segment_kept, text_kept};
 ghost use Rattle.elf_image.specs.SymbolsRead.{AreSymbolsOfFile, AreSymbolsRead};
 ghost use Rattle.elf_format.specs.Answers.{Gives, borrowed};
 ghost use Rattle.elf_format.specs.Stages.{last_rules};
-ghost use Rattle.elf_rules.specs.Read.{Passes, Reads, parts_seen};
+ghost use Rattle.elf_image_rules.specs.Read.{Passes, Reads, parts_seen};
 ghost use Rattle.elf_format.specs.Rules.{checked, data_of, raw_entries as entries_of, there_or};
 ghost use Rattle.elf_format.specs.declared.fault.ElfFault.TheVariants.{BadText};
-ghost use Rattle.elf_rules.specs.LinkSteps.{IsChecked};
-ghost use Rattle.elf_versions.specs.WalkSteps.{AreDefinitions, AreNeeds};
+ghost use Rattle.elf_image_rules.specs.LinkSteps.{IsChecked};
+ghost use Rattle.elf_image_versions.specs.WalkSteps.{AreDefinitions, AreNeeds};
 
 pub(crate) mod texts;
 
@@ -30,13 +30,13 @@ use elf_format::numbers::counted;
 use elf_format::records::{EntryNumbers, SegmentHeader};
 use elf_format::section_data::SectionData;
 use elf_format::view_fault::ViewFault;
-use elf_placement::placement::{check_placement, header_table_loaded};
-use elf_rules::dynamic::{check_links, raw_entries};
-use elf_rules::headers::{Headers, read_headers};
-use elf_rules::linked::{Checked, are_tables_linked, check_relocations, kind_of};
-use elf_versions::kept::{definitions, needs};
-use elf_versions::rule::are_versions_right;
-use elf_versions::walks::{DefinitionWalk, NeedWalk, walk_definitions, walk_needs};
+use elf_image_placement::placement::{check_placement, header_table_loaded};
+use elf_image_rules::dynamic::{check_links, raw_entries};
+use elf_image_rules::headers::{Headers, read_headers};
+use elf_image_rules::linked::{Checked, are_tables_linked, check_relocations, kind_of};
+use elf_image_versions::kept::{definitions, needs};
+use elf_image_versions::rule::are_versions_right;
+use elf_image_versions::walks::{DefinitionWalk, NeedWalk, walk_definitions, walk_needs};
 use patch_bytes::ByteString;
 use std::alloc::{AllocError, Global};
 

@@ -1,7 +1,7 @@
 //! The lists of symbols of an image.
 ghost use Rattle.std.specs.Prelude.{◌≡◌};
 
-use elf_symbols::Symbols;
+use elf_image_symbols::Symbols;
 
 // The symbols for a link editor and those for a loader.
 #[derive(Debug, Drop)]

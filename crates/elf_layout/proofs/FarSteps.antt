@@ -12,11 +12,11 @@ use Rattle.elf_format.specs.declared.form.Form.{Form}
 use Rattle.elf_format.specs.Form.{by_class}
 use Rattle.elf_format.specs.Places.{Place}
 use Rattle.elf_format.specs.Records.{segment_header_size}
-use Rattle.elf_plan.specs.Added.{AddedLoad, Spot, added_loads, greatest, header_count, kept_end}
-use Rattle.elf_plan.specs.Memory.{Resized, SizedSection, table_load}
-use Rattle.elf_plan.specs.Plan.{does_place_fit, does_plan_fit, layout_for}
-use Rattle.elf_plan.specs.Sizes.{fits_field}
-use Rattle.elf_plan.specs.Standing.{LooseSpot, content_end, loose_spot_of, loose_spots, loose_start, next_table, place_in, places, spot_of, stands_at, stays_at, sections_offset, segments_end, table_offset}
+use Rattle.elf_layout_plan.specs.Added.{AddedLoad, Spot, added_loads, greatest, header_count, kept_end}
+use Rattle.elf_layout_plan.specs.Memory.{Resized, SizedSection, table_load}
+use Rattle.elf_layout_plan.specs.Plan.{does_place_fit, does_plan_fit, layout_for}
+use Rattle.elf_layout_plan.specs.Sizes.{fits_field}
+use Rattle.elf_layout_plan.specs.Standing.{LooseSpot, content_end, loose_spot_of, loose_spots, loose_start, next_table, place_in, places, spot_of, stands_at, stays_at, sections_offset, segments_end, table_offset}
 use Rattle.elf_layout.specs.Inner.{IsPastField}
 use Rattle.elf_layout.proofs.LoadSteps.{end_in_file}
 

@@ -10,10 +10,10 @@ use Rattle.std.proofs.lemmas.List.Concat.{flat_map-append}
 use Rattle.std.proofs.lemmas.List.Folds.{find-append}
 use Rattle.std.proofs.lemmas.Option.{slice_get-map}
 use Rattle.elf_format.specs.Places.{Place}
-use Rattle.elf_plan.specs.Added.{AddedLoad, Spot, added_loads, alignment_of, kept_end, load_alignment, loads_from, memory_end, spots_from}
-use Rattle.elf_plan.specs.Memory.{Resized, SizedSection, sized_sections}
-use Rattle.elf_plan.specs.Rounds.{added_flags, each_once, flags_for, sections_at}
-use Rattle.elf_plan.specs.Standing.{loose_spot_of, place_in, places, stands_at}
+use Rattle.elf_layout_plan.specs.Added.{AddedLoad, Spot, added_loads, alignment_of, kept_end, load_alignment, loads_from, memory_end, spots_from}
+use Rattle.elf_layout_plan.specs.Memory.{Resized, SizedSection, sized_sections}
+use Rattle.elf_layout_plan.specs.Rounds.{added_flags, each_once, flags_for, sections_at}
+use Rattle.elf_layout_plan.specs.Standing.{loose_spot_of, place_in, places, stands_at}
 use Rattle.elf_layout.specs.declared.spots.At.{At}
 use Rattle.elf_layout.specs.Inner.{IsPastField}
 use Rattle.elf_layout.specs.Spots.{IsFar, aligned, end_behind, start_of_load, with_flags}

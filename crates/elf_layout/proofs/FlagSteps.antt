@@ -5,8 +5,8 @@ use Rattle.std.specs.List.{cons_option, list_any}
 use Rattle.std.proofs.lemmas.Bool.{cases_eq, eq-eqb, ne_eqb}
 use Rattle.std.proofs.lemmas.List.{append-nil, map-append, take_all, take_more}
 use Rattle.std.proofs.lemmas.List.Elements.{filter-append, filter_map-append}
-use Rattle.elf_plan.specs.Memory.{Resized, SizedSection, sized_sections}
-use Rattle.elf_plan.specs.Rounds.{added_flags, each_once, flags_for, sections_at}
+use Rattle.elf_layout_plan.specs.Memory.{Resized, SizedSection, sized_sections}
+use Rattle.elf_layout_plan.specs.Rounds.{added_flags, each_once, flags_for, sections_at}
 use Rattle.elf_layout.specs.Spots.{with_flag}
 
 abbrev pub others : ℕ → List ℕ → List ℕ

@@ -3,7 +3,7 @@ use Rattle.std.proofs.Common.{◌≡◌, ℕ, ◌+◌, ◌<◌, ◌≤◌, List,
 use Rattle.std.specs.Prelude.{filter, max, slice_get, option_map}
 use Rattle.std.proofs.lemmas.List.{drop_all, get_or_default}
 use Rattle.std.proofs.lemmas.Option.{slice_get-get_or, slice_get-map}
-use Rattle.elf_plan.specs.Added.{greatest}
+use Rattle.elf_layout_plan.specs.Added.{greatest}
 use Rattle.elf_image.specs.declared.segment.Segment.{Segment}
 use Rattle.elf_image.specs.ImageSeen.{segment_kept}
 use Rattle.elf_layout.specs.Spots.{value_where}

@@ -8,10 +8,10 @@ use Rattle.std.proofs.lemmas.List.Sums.{fold-append}
 use Rattle.elf_format.specs.Placement.{file_part, memory_part}
 use Rattle.elf_format.specs.Ranges.{end_of}
 use Rattle.elf_format.specs.declared.records.SegmentHeader.{SegmentHeader}
-use Rattle.elf_plan.specs.Added.{AddedLoad, Spot, added_loads, greatest, kept_end, load_alignment, loads_from, memory_end, size_of_spots, spots_from}
-use Rattle.elf_plan.specs.Memory.{Resized, SizedSection}
-use Rattle.elf_plan.specs.Rounds.{added_flags, sections_at}
-use Rattle.elf_plan.specs.Standing.{segments_end}
+use Rattle.elf_layout_plan.specs.Added.{AddedLoad, Spot, added_loads, greatest, kept_end, load_alignment, loads_from, memory_end, size_of_spots, spots_from}
+use Rattle.elf_layout_plan.specs.Memory.{Resized, SizedSection}
+use Rattle.elf_layout_plan.specs.Rounds.{added_flags, sections_at}
+use Rattle.elf_layout_plan.specs.Standing.{segments_end}
 use Rattle.elf_layout.specs.declared.spots.At.{At}
 use Rattle.elf_layout.specs.Spots.{behind_spots, end_behind, load_here, start_of_load, with_flags, with_spots}
 use Rattle.elf_layout.proofs.SpotSteps.{behind_grows, with_spots-append}

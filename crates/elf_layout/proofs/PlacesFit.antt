@@ -4,9 +4,9 @@ use Rattle.std.specs.List.{list_all}
 use Rattle.std.proofs.lemmas.List.{length-map}
 use Rattle.std.proofs.lemmas.List.Folds.{list_all-map}
 use Rattle.elf_format.specs.declared.form.Form.{Form}
-use Rattle.elf_plan.specs.declared.plan.SectionPlace.{SectionPlace}
-use Rattle.elf_plan.specs.Plan.{does_place_fit}
-use Rattle.elf_plan.specs.PlanSeen.{place_seen}
+use Rattle.elf_layout_plan.specs.declared.plan.SectionPlace.{SectionPlace}
+use Rattle.elf_layout_plan.specs.Plan.{does_place_fit}
+use Rattle.elf_layout_plan.specs.PlanSeen.{place_seen}
 
 pub all_places_fit : (form : Form) (places : List SectionPlace)
     → list_all (does_place_fit form) (map place_seen places) ≡ list_all (λ s. does_place_fit form (place_seen s)) places

@@ -4,19 +4,19 @@ use Rattle.std.specs.Prelude.{All}
 use Rattle.std.proofs.lemmas.Bool.{not_from_false}
 use Rattle.elf_format.specs.declared.records.SegmentHeader.{SegmentHeader}
 use Rattle.elf_format.specs.Places.{Place}
-use Rattle.elf_blocks.specs.declared.fault.LayoutFault.{LayoutFault}
-use Rattle.elf_blocks.specs.declared.fault.LayoutFault.TheVariants as faults
-use Rattle.elf_plan.specs.Memory.{Resized}
-use Rattle.elf_plan.specs.Plan.{IsPlan, IsTooLarge, Layout, does_plan_fit, layout_for}
-use Rattle.elf_plan.specs.PlanSeen.{place_seen}
-use Rattle.elf_plan.specs.Rounds.{AreRounds}
-use Rattle.elf_plan.specs.Standing.{places, table_offset}
-use Rattle.elf_plan.specs.Written.{written_segments}
-use Rattle.elf_leaders.specs.declared.rounds.Rounds.{Rounds}
+use Rattle.elf_layout_plan.specs.declared.fault.LayoutFault.{LayoutFault}
+use Rattle.elf_layout_plan.specs.declared.fault.LayoutFault.TheVariants as faults
+use Rattle.elf_layout_plan.specs.Memory.{Resized}
+use Rattle.elf_layout_plan.specs.Plan.{IsPlan, IsTooLarge, Layout, does_plan_fit, layout_for}
+use Rattle.elf_layout_plan.specs.PlanSeen.{place_seen}
+use Rattle.elf_layout_plan.specs.Rounds.{AreRounds}
+use Rattle.elf_layout_plan.specs.Standing.{places, table_offset}
+use Rattle.elf_layout_plan.specs.Written.{written_segments}
+use Rattle.elf_layout_segments.specs.declared.rounds.Rounds.{Rounds}
 use Rattle.elf_layout.specs.declared.standing.Standing.{Standing}
-use Rattle.elf_leaders.specs.Led.{IsEnded}
+use Rattle.elf_layout_segments.specs.Led.{IsEnded}
 use Rattle.elf_layout.specs.Inner.{AreParts, AreWritten, HasNoPlan, IsStanding, StandsTooFar}
-use Rattle.elf_leaders.proofs.ForCallers.{moved_within}
+use Rattle.elf_layout_segments.proofs.ForCallers.{moved_within}
 
 abbrev pub made : List Place → List SegmentHeader → ℕ → ℕ → ℕ → ℕ → Layout
 made places segments e_phoff e_shoff rounds looked =

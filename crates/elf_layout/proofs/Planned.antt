@@ -1,17 +1,17 @@
 -- A plan for an image with its sizes is one for the image, and so is none.
 use Rattle.std.proofs.Common.{◌≡◌, ◌+◌, ◌≤◌, subst, sym, arith}
 use Rattle.elf_format.specs.Image.{Image}
-use Rattle.elf_blocks.specs.declared.fault.LayoutFault.{LayoutFault}
-use Rattle.elf_blocks.specs.declared.fault.LayoutFault.TheVariants as faults
-use Rattle.elf_plan.specs.Memory.{Resized}
-use Rattle.elf_plan.specs.Plan.{IsOverlapping, IsPlan, IsTooLarge, Layout, most_added, resized}
-use Rattle.elf_plan.specs.Refusals.{IsNoPlan, IsStuckAsked}
-use Rattle.elf_plan.specs.Rounds.{IsAsked}
-use Rattle.elf_plan.proofs.RoundLaws.{rounds_are_asked, rounds_end}
-use Rattle.elf_moves.specs.Inner.{IsResized}
-use Rattle.elf_leaders.specs.Led.{IsNoEnd}
+use Rattle.elf_layout_plan.specs.declared.fault.LayoutFault.{LayoutFault}
+use Rattle.elf_layout_plan.specs.declared.fault.LayoutFault.TheVariants as faults
+use Rattle.elf_layout_plan.specs.Memory.{Resized}
+use Rattle.elf_layout_plan.specs.Plan.{IsOverlapping, IsPlan, IsTooLarge, Layout, most_added, resized}
+use Rattle.elf_layout_plan.specs.Refusals.{IsNoPlan, IsStuckAsked}
+use Rattle.elf_layout_plan.specs.Rounds.{IsAsked}
+use Rattle.elf_layout_plan.proofs.RoundLaws.{rounds_are_asked, rounds_end}
+use Rattle.elf_layout_moves.specs.Inner.{IsResized}
+use Rattle.elf_layout_segments.specs.Led.{IsNoEnd}
 use Rattle.elf_layout.specs.Inner.{HasNoPlan}
-use Rattle.elf_moves.proofs.ForCallers.{resized_is}
+use Rattle.elf_layout_moves.proofs.ForCallers.{resized_is}
 
 pub plan_is : (r : Resized) → IsResized r → (plan : Layout) → IsPlan r plan → IsPlan (resized r.image) plan
 plan_is r is plan p = let P : Resized → Type 0 = λ s. IsPlan s plan in subst P (sym (resized_is r is)) p

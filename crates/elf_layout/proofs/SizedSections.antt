@@ -7,11 +7,11 @@ use Rattle.elf_image.specs.declared.section.Section.{Section}
 use Rattle.elf_image.specs.ImageSeen.{section_kept}
 use Rattle.elf_format.specs.Image.{Image, ImageSection}
 use Rattle.elf_image.specs.Edited.{IsEdited}
-use Rattle.elf_plan.specs.Kept.{kept_from, kept_sections}
-use Rattle.elf_plan.specs.Memory.{Resized, SizedSection, sized_from, sized_sections}
-use Rattle.elf_plan.specs.Sizes.{new_sizes}
+use Rattle.elf_layout_plan.specs.Kept.{kept_from, kept_sections}
+use Rattle.elf_layout_plan.specs.Memory.{Resized, SizedSection, sized_from, sized_sections}
+use Rattle.elf_layout_plan.specs.Sizes.{new_sizes}
 use Rattle.elf_layout.specs.declared.sized.SectionNumbers.{SectionNumbers}
-use Rattle.elf_moves.specs.Inner.{IsResized}
+use Rattle.elf_layout_moves.specs.Inner.{IsResized}
 use Rattle.elf_layout.specs.Numbers.{numbers_of}
 
 -- each section has a number at read

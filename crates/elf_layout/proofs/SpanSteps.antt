@@ -8,12 +8,12 @@ use Rattle.elf_format.specs.Image.{Image, ImageSection}
 use Rattle.elf_format.specs.Places.{Place, file_range}
 use Rattle.elf_format.specs.Ranges.{end_of, range}
 use Rattle.elf_format.specs.declared.range.Range.{Range}
-use Rattle.elf_plan.specs.Kept.{kept_from}
-use Rattle.elf_plan.specs.Written.{Target, address_in_memory, target_at}
-use Rattle.elf_leaders.specs.declared.starts.Begin.{Begin}
-use Rattle.elf_leaders.specs.Following.{chosen_begins, is_chosen}
-use Rattle.elf_leaders.specs.InOrder.{is_in}
-use Rattle.elf_leaders.specs.Sections.{has_bytes_at, section_at, sections_seen}
+use Rattle.elf_layout_plan.specs.Kept.{kept_from}
+use Rattle.elf_layout_plan.specs.Written.{Target, address_in_memory, target_at}
+use Rattle.elf_layout_segments.specs.declared.starts.Begin.{Begin}
+use Rattle.elf_layout_segments.specs.Following.{chosen_begins, is_chosen}
+use Rattle.elf_layout_segments.specs.InOrder.{is_in}
+use Rattle.elf_layout_segments.specs.Sections.{has_bytes_at, section_at, sections_seen}
 use Rattle.elf_layout.specs.declared.reaches.Reach.{Reach}
 use Rattle.elf_layout.specs.Reaches.{is_before, joined, reach_at, reach_in, reach_of_place}
 use Rattle.elf_layout.specs.Targets.{Span, span_of, span_over, target_of_span}

@@ -4,9 +4,9 @@ use Rattle.std.specs.Prelude.{◌==◌, option_map, slice_get, filter}
 use Rattle.std.specs.List.{cons_option}
 use Rattle.std.proofs.lemmas.Bool.{eq-eqb, ne_eqb}
 use Rattle.std.proofs.lemmas.List.Elements.{filter-append, filter_map-append}
-use Rattle.elf_plan.specs.Added.{Spot, spots_from}
-use Rattle.elf_plan.specs.Memory.{Resized, SizedSection, sized_sections}
-use Rattle.elf_plan.specs.Rounds.{flags_for, sections_at}
+use Rattle.elf_layout_plan.specs.Added.{Spot, spots_from}
+use Rattle.elf_layout_plan.specs.Memory.{Resized, SizedSection, sized_sections}
+use Rattle.elf_layout_plan.specs.Rounds.{flags_for, sections_at}
 use Rattle.elf_layout.specs.declared.sized.SectionNumbers.{SectionNumbers}
 use Rattle.elf_layout.specs.declared.spots.At.{At}
 use Rattle.elf_layout.specs.Numbers.{numbers_of}

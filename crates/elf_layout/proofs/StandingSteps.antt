@@ -10,14 +10,14 @@ use Rattle.std.proofs.lemmas.Option.{slice_get-get_or, slice_get_within}
 use Rattle.elf_format.specs.Image.{ImageSection}
 use Rattle.elf_format.specs.Places.{Place}
 use Rattle.elf_format.specs.Records.{segment_header_size}
-use Rattle.elf_plan.specs.Added.{Spot, added_loads, alignment_of, greatest, header_count}
-use Rattle.elf_plan.specs.Kept.{kept_from}
-use Rattle.elf_plan.specs.Memory.{Resized, SizedSection, sized_from, sized_sections, table_load}
-use Rattle.elf_plan.specs.Standing.{LooseSpot, content_end, is_loose, loose_from, loose_spot_of, loose_spots, loose_start, next_table, place_in, places, sections_offset, segments_end, spot_of, table_offset}
-use Rattle.elf_blocks.specs.declared.fault.LayoutFault.{LayoutFault}
-use Rattle.elf_blocks.specs.declared.fault.LayoutFault.TheVariants as faults
-use Rattle.elf_plan.specs.declared.plan.SectionPlace.{SectionPlace}
-use Rattle.elf_plan.specs.PlanSeen.{place_seen}
+use Rattle.elf_layout_plan.specs.Added.{Spot, added_loads, alignment_of, greatest, header_count}
+use Rattle.elf_layout_plan.specs.Kept.{kept_from}
+use Rattle.elf_layout_plan.specs.Memory.{Resized, SizedSection, sized_from, sized_sections, table_load}
+use Rattle.elf_layout_plan.specs.Standing.{LooseSpot, content_end, is_loose, loose_from, loose_spot_of, loose_spots, loose_start, next_table, place_in, places, sections_offset, segments_end, spot_of, table_offset}
+use Rattle.elf_layout_plan.specs.declared.fault.LayoutFault.{LayoutFault}
+use Rattle.elf_layout_plan.specs.declared.fault.LayoutFault.TheVariants as faults
+use Rattle.elf_layout_plan.specs.declared.plan.SectionPlace.{SectionPlace}
+use Rattle.elf_layout_plan.specs.PlanSeen.{place_seen}
 use Rattle.elf_layout.specs.Inner.{IsStanding, StandsTooFar}
 use Rattle.elf_layout.specs.declared.standing.Behind.{Behind}
 use Rattle.elf_layout.specs.declared.standing.Standing.{Standing}

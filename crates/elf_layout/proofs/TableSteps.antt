@@ -10,9 +10,9 @@ use Rattle.elf_format.specs.Ranges.{lies_in}
 use Rattle.elf_format.specs.declared.range.Range.{Range}
 use Rattle.elf_format.specs.declared.records.SegmentHeader.{SegmentHeader}
 use Rattle.std.specs.Int.{next_multiple_of}
-use Rattle.elf_plan.specs.Added.{alignment_of}
-use Rattle.elf_plan.specs.Memory.{SizedSection, loaded_over}
-use Rattle.elf_plan.specs.Standing.{is_loose}
+use Rattle.elf_layout_plan.specs.Added.{alignment_of}
+use Rattle.elf_layout_plan.specs.Memory.{SizedSection, loaded_over}
+use Rattle.elf_layout_plan.specs.Standing.{is_loose}
 use Rattle.elf_layout.specs.Loose.{has_all, loose_end, loose_next, loose_offset, loose_offsets}
 
 pub drop_there : {X : Type 0} (xs : List X) (i : ℕ) (x : X) → slice_get xs i ≡ Some x → drop i xs ≡ x ∷ drop (i + 1) xs

@@ -6,8 +6,8 @@ use Rattle.std.proofs.lemmas.List.{get_or-append_right, get_or_append_left, leng
 use Rattle.elf_format.specs.Places.{Place}
 use Rattle.elf_format.specs.Ranges.{end_of}
 use Rattle.elf_format.specs.declared.range.Range.{Range}
-use Rattle.elf_leaders.specs.declared.starts.Begin.{Begin}
-use Rattle.elf_leaders.specs.InOrder.{is_in}
+use Rattle.elf_layout_segments.specs.declared.starts.Begin.{Begin}
+use Rattle.elf_layout_segments.specs.InOrder.{is_in}
 use Rattle.elf_layout.specs.declared.reaches.Reach.{Reach}
 use Rattle.elf_layout.specs.Reaches.{BeginBefore, IsTree, IsTreeOver, JoinsTwo, joined, joined_all, over, reach_at, reach_in, reach_of_begin}
 use Rattle.elf_layout.proofs.ReachLaws.{joined-group, joined_all-cons, over_first, over_last, over_none}

@@ -13,8 +13,8 @@ use Rattle.std.proofs.lemmas.List.Sums.{sum_by-cons}
 use Rattle.patch_bytes.specs.declared.number.Wide.{Wide}
 use Rattle.patch_bytes.specs.declared.number.Wide.TheVariants.{W32, W64}
 use Rattle.elf_format.specs.declared.constants.TheConstants.{PN_XNUM, SHN_LORESERVE}
-use Rattle.elf_blocks.specs.declared.fault.LayoutFault.{LayoutFault}
-use Rattle.elf_blocks.specs.declared.fault.LayoutFault.TheVariants as faults
+use Rattle.elf_layout_plan.specs.declared.fault.LayoutFault.{LayoutFault}
+use Rattle.elf_layout_plan.specs.declared.fault.LayoutFault.TheVariants as faults
 use Rattle.elf_format.specs.File.{is_loaded}
 use Rattle.elf_format.specs.declared.form.Form.{Form}
 use Rattle.elf_format.specs.Form.{by_class}
@@ -23,26 +23,26 @@ use Rattle.elf_format.specs.Placement.{file_part}
 use Rattle.elf_format.specs.Ranges.{end_of}
 use Rattle.elf_format.specs.Records.{segment_header_size}
 use Rattle.elf_format.specs.declared.records.SegmentHeader.{SegmentHeader}
-use Rattle.elf_plan.specs.Added.{added_loads, greatest, header_count}
-use Rattle.elf_plan.specs.Follow.{HeaderTable, Itself, Leader, Notes, OneSection, is_moved, leader_of, moved_notes, staying_notes}
-use Rattle.elf_plan.specs.Kept.{KeptSection, kept_sections}
-use Rattle.elf_plan.specs.Memory.{Resized, sized_sections}
-use Rattle.elf_plan.specs.Plan.{does_place_fit, does_plan_fit, does_segment_fit, layout_for}
-use Rattle.elf_plan.specs.Sizes.{fits_field}
-use Rattle.elf_plan.specs.Standing.{place_in, places, sections_offset, table_offset}
-use Rattle.elf_plan.specs.Written.{Target, address_for, behind_last_load, first_in_file, led_to, places_of_kept, resized_table, target_at, targets_of, targets_of_notes, targets_over, written_from, written_segments}
+use Rattle.elf_layout_plan.specs.Added.{added_loads, greatest, header_count}
+use Rattle.elf_layout_plan.specs.Follow.{HeaderTable, Itself, Leader, Notes, OneSection, is_moved, leader_of, moved_notes, staying_notes}
+use Rattle.elf_layout_plan.specs.Kept.{KeptSection, kept_sections}
+use Rattle.elf_layout_plan.specs.Memory.{Resized, sized_sections}
+use Rattle.elf_layout_plan.specs.Plan.{does_place_fit, does_plan_fit, does_segment_fit, layout_for}
+use Rattle.elf_layout_plan.specs.Sizes.{fits_field}
+use Rattle.elf_layout_plan.specs.Standing.{place_in, places, sections_offset, table_offset}
+use Rattle.elf_layout_plan.specs.Written.{Target, address_for, behind_last_load, first_in_file, led_to, places_of_kept, resized_table, target_at, targets_of, targets_of_notes, targets_over, written_from, written_segments}
 use Rattle.elf_layout.specs.declared.headings.Headings.{Headings}
 use Rattle.elf_layout.specs.declared.targets.TargetAt.{TargetAt}
 use Rattle.elf_layout.specs.declared.targets.Targets.{Targets}
-use Rattle.elf_moves.specs.Inner.{AreMarks}
-use Rattle.elf_leaders.specs.Led.{Told, notes, told}
+use Rattle.elf_layout_moves.specs.Inner.{AreMarks}
+use Rattle.elf_layout_segments.specs.Led.{Told, notes, told}
 use Rattle.elf_layout.specs.Inner.{IsPastField, StandsTooFar}
-use Rattle.elf_leaders.specs.declared.starts.Begin.{Begin}
-use Rattle.elf_leaders.specs.Following.{chosen_begins, is_chosen}
-use Rattle.elf_leaders.specs.Sections.{AreSized, sections_seen}
+use Rattle.elf_layout_segments.specs.declared.starts.Begin.{Begin}
+use Rattle.elf_layout_segments.specs.Following.{chosen_begins, is_chosen}
+use Rattle.elf_layout_segments.specs.Sections.{AreSized, sections_seen}
 use Rattle.elf_layout.specs.Targets.{AreBegins, Begins, IsMisfit, Span, added_behind, do_headings_fit, does_table_fit, fits_word, header_at, headings_at, headings_for, headings_found, headings_seen, is_led_well, is_physical_well, is_well_at, left_behind, sized_table, span_over, target_of_span, targets_at, targets_found, targets_over_notes, targets_seen}
 use Rattle.elf_layout.proofs.SpanSteps.{span_found, span_step, span_with}
-use Rattle.elf_leaders.proofs.ForCallers.{AreNotesOf, AreThere, IsThere, begins_as_positions, leader-there, length-kept, length-sized, marked-is}
+use Rattle.elf_layout_segments.proofs.ForCallers.{AreNotesOf, AreThere, IsThere, begins_as_positions, leader-there, length-kept, length-sized, marked-is}
 
 -- ## Several places
 

@@ -1,15 +1,15 @@
 -- What the steps of the layout hand to each other.
 use Rattle.std.specs.Prelude.{ℕ, ◌≡◌, List, map, false}
 use Rattle.elf_format.specs.declared.records.SegmentHeader.{SegmentHeader}
-use Rattle.elf_blocks.specs.declared.fault.LayoutFault.{LayoutFault}
-use Rattle.elf_blocks.specs.declared.fault.LayoutFault.TheVariants as faults
-use Rattle.elf_plan.specs.Added.{added_loads}
-use Rattle.elf_plan.specs.Memory.{Resized}
-use Rattle.elf_plan.specs.Plan.{IsOverlapping, IsTooLarge, Layout, does_plan_fit, layout_for}
-use Rattle.elf_plan.specs.PlanSeen.{place_seen}
-use Rattle.elf_plan.specs.Standing.{places, sections_offset, table_offset}
-use Rattle.elf_plan.specs.Written.{written_segments}
-use Rattle.elf_leaders.specs.declared.rounds.Rounds.{Rounds}
+use Rattle.elf_layout_plan.specs.declared.fault.LayoutFault.{LayoutFault}
+use Rattle.elf_layout_plan.specs.declared.fault.LayoutFault.TheVariants as faults
+use Rattle.elf_layout_plan.specs.Added.{added_loads}
+use Rattle.elf_layout_plan.specs.Memory.{Resized}
+use Rattle.elf_layout_plan.specs.Plan.{IsOverlapping, IsTooLarge, Layout, does_plan_fit, layout_for}
+use Rattle.elf_layout_plan.specs.PlanSeen.{place_seen}
+use Rattle.elf_layout_plan.specs.Standing.{places, sections_offset, table_offset}
+use Rattle.elf_layout_plan.specs.Written.{written_segments}
+use Rattle.elf_layout_segments.specs.declared.rounds.Rounds.{Rounds}
 use Rattle.elf_layout.specs.declared.standing.Standing.{Standing}
 
 -- ## Where everything stands

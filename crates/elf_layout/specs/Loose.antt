@@ -1,8 +1,8 @@
 -- Where sections stand that aren't loaded, the header tables, and every section, as the code keeps it.
 use Rattle.std.specs.Prelude.{ℕ, ◌+◌, ◌*◌, ◌^◌, ◌≡◌, ◌≤◌, ◌⊎◌, min, List, [], ◌∷◌, map, Bool, ◌&&◌, Option, Some, None, is_some, slice_get, if◌then◌else◌, ◌==◌}
 use Rattle.std.specs.Int.{next_multiple_of}
-use Rattle.elf_blocks.specs.declared.fault.LayoutFault.{LayoutFault}
-use Rattle.elf_blocks.specs.declared.fault.LayoutFault.TheVariants as faults
+use Rattle.elf_layout_plan.specs.declared.fault.LayoutFault.{LayoutFault}
+use Rattle.elf_layout_plan.specs.declared.fault.LayoutFault.TheVariants as faults
 use Rattle.elf_format.specs.File.{is_loaded}
 use Rattle.elf_format.specs.Placement.{file_part}
 use Rattle.elf_format.specs.declared.range.Range.{Range}
@@ -10,11 +10,11 @@ use Rattle.elf_format.specs.Ranges.{lies_in}
 use Rattle.elf_format.specs.declared.records.SegmentHeader.{SegmentHeader}
 use Rattle.elf_format.specs.Places.{Place, occupies_file}
 use Rattle.elf_format.specs.Records.{segment_header_size}
-use Rattle.elf_plan.specs.Added.{alignment_of}
-use Rattle.elf_plan.specs.Kept.{place_at_read}
-use Rattle.elf_plan.specs.Memory.{Resized, SizedSection, sized_sections, table_load}
-use Rattle.elf_plan.specs.PlanSeen.{place_seen}
-use Rattle.elf_plan.specs.Standing.{is_loose, next_table, stands_at}
+use Rattle.elf_layout_plan.specs.Added.{alignment_of}
+use Rattle.elf_layout_plan.specs.Kept.{place_at_read}
+use Rattle.elf_layout_plan.specs.Memory.{Resized, SizedSection, sized_sections, table_load}
+use Rattle.elf_layout_plan.specs.PlanSeen.{place_seen}
+use Rattle.elf_layout_plan.specs.Standing.{is_loose, next_table, stands_at}
 use Rattle.elf_layout.specs.declared.spots.At.{At}
 use Rattle.elf_layout.specs.declared.standing.Behind.{Behind}
 

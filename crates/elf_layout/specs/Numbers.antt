@@ -1,5 +1,5 @@
 -- The numbers of a section that its place hangs on.
-use Rattle.elf_plan.specs.Memory.{SizedSection}
+use Rattle.elf_layout_plan.specs.Memory.{SizedSection}
 use Rattle.elf_layout.specs.declared.sized.SectionNumbers.{SectionNumbers}
 
 -- what the code keeps of a section with its new size

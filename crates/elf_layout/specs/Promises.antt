@@ -3,12 +3,12 @@ use Rattle.std.specs.Prelude.{ℕ, ◌≡◌, IsTrue}
 use Rattle.std.specs.List.{slice_get}
 use Rattle.std.specs.Prelude.{Some}
 use Rattle.elf_format.specs.Image.{Image}
-use Rattle.elf_plan.specs.Apart.{are_notes_shown, is_memory_apart}
-use Rattle.elf_plan.specs.ApartLaws.{HasPlaceAt}
-use Rattle.elf_plan.specs.FilePlaced.{IsPlacedInFile}
-use Rattle.elf_plan.specs.Kept.{KeptSection, kept_sections}
-use Rattle.elf_plan.specs.Memory.{priority_of}
-use Rattle.elf_plan.specs.Plan.{Layout, resized}
+use Rattle.elf_layout_plan.specs.Apart.{are_notes_shown, is_memory_apart}
+use Rattle.elf_layout_plan.specs.ApartLaws.{HasPlaceAt}
+use Rattle.elf_layout_plan.specs.FilePlaced.{IsPlacedInFile}
+use Rattle.elf_layout_plan.specs.Kept.{KeptSection, kept_sections}
+use Rattle.elf_layout_plan.specs.Memory.{priority_of}
+use Rattle.elf_layout_plan.specs.Plan.{Layout, resized}
 
 -- Everything stands in the file as the read rules ask; headers and sections share no address; notes are shown as they were; what
 -- can't move stands at the address at which it was read.

@@ -5,8 +5,8 @@ use Rattle.std.specs.List.Sorted.{IsNonDecreasingBy}
 use Rattle.elf_format.specs.Places.{Place, file_range}
 use Rattle.elf_format.specs.Ranges.{end_of}
 use Rattle.elf_format.specs.declared.range.Range.{Range}
-use Rattle.elf_leaders.specs.declared.starts.Begin.{Begin}
-use Rattle.elf_leaders.specs.InOrder.{is_in}
+use Rattle.elf_layout_segments.specs.declared.starts.Begin.{Begin}
+use Rattle.elf_layout_segments.specs.InOrder.{is_in}
 use Rattle.elf_layout.specs.declared.reaches.Reach.{Reach}
 use Rattle.elf_layout.specs.declared.reaches.Reaches.{Reaches}
 

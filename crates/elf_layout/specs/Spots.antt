@@ -4,10 +4,10 @@ use Rattle.std.specs.Int.{next_multiple_of}
 use Rattle.std.specs.List.{list_any}
 use Rattle.elf_format.specs.Placement.{file_part}
 use Rattle.elf_format.specs.Ranges.{end_of}
-use Rattle.elf_plan.specs.Added.{AddedLoad, Spot, added_loads, alignment_of, load_at}
-use Rattle.elf_plan.specs.Memory.{Resized, SizedSection, sized_sections, takes_memory}
-use Rattle.elf_plan.specs.Rounds.{flags_for, sections_at}
-use Rattle.elf_plan.specs.Standing.{segments_end}
+use Rattle.elf_layout_plan.specs.Added.{AddedLoad, Spot, added_loads, alignment_of, load_at}
+use Rattle.elf_layout_plan.specs.Memory.{Resized, SizedSection, sized_sections, takes_memory}
+use Rattle.elf_layout_plan.specs.Rounds.{flags_for, sections_at}
+use Rattle.elf_layout_plan.specs.Standing.{segments_end}
 use Rattle.elf_layout.specs.declared.added.Added.{Added}
 use Rattle.elf_layout.specs.declared.spots.At.{At}
 

@@ -6,22 +6,22 @@ use Rattle.elf_format.specs.declared.form.Form.{Form}
 use Rattle.elf_format.specs.File.{is_loaded}
 use Rattle.elf_format.specs.Places.{Place}
 use Rattle.elf_format.specs.Ranges.{range}
-use Rattle.elf_blocks.specs.declared.fault.LayoutFault.{LayoutFault}
-use Rattle.elf_blocks.specs.declared.fault.LayoutFault.TheVariants as faults
+use Rattle.elf_layout_plan.specs.declared.fault.LayoutFault.{LayoutFault}
+use Rattle.elf_layout_plan.specs.declared.fault.LayoutFault.TheVariants as faults
 use Rattle.elf_format.specs.declared.records.SegmentHeader.{SegmentHeader}
-use Rattle.elf_plan.specs.Written.{Target, address_for, address_in_memory, led_to, physical_for, target_at}
+use Rattle.elf_layout_plan.specs.Written.{Target, address_for, address_in_memory, led_to, physical_for, target_at}
 use Rattle.elf_layout.specs.declared.reaches.Reach.{Reach}
 use Rattle.elf_layout.specs.declared.targets.TargetAt.{TargetAt}
 use Rattle.elf_layout.specs.declared.targets.Targets.{Targets}
 use Rattle.elf_layout.specs.declared.headings.Headings.{Headings}
 use Rattle.elf_layout.specs.declared.targets.Notes.{Notes}
 use Rattle.elf_format.specs.declared.range.Range.{Range}
-use Rattle.elf_plan.specs.Memory.{Resized}
-use Rattle.elf_leaders.specs.declared.starts.Begin.{Begin}
-use Rattle.elf_leaders.specs.Following.{chosen_begins}
-use Rattle.elf_leaders.specs.Sections.{sections_seen}
+use Rattle.elf_layout_plan.specs.Memory.{Resized}
+use Rattle.elf_layout_segments.specs.declared.starts.Begin.{Begin}
+use Rattle.elf_layout_segments.specs.Following.{chosen_begins}
+use Rattle.elf_layout_segments.specs.Sections.{sections_seen}
 use Rattle.elf_layout.specs.Reaches.{AreJoined, joined_all, reach_in}
-use Rattle.elf_leaders.specs.Led.{Told, itself, notes, section, table}
+use Rattle.elf_layout_segments.specs.Led.{Told, itself, notes, section, table}
 
 abbrev pub target_seen : TargetAt → Target
 target_seen t = record { part = range t.offset t.size; address = t.address }

@@ -1,8 +1,8 @@
 // Segments that are added for sections that move.
 ghost use Rattle.std.specs.Prelude.{◌≡◌, ◌+◌, ◌<◌, ◌^◌, ◌%◌, IfSome, IfNone, IfOk, IfErr, OnOk, OnSome};
 ghost use Rattle.std.specs.List.{flat_map};
-ghost use Rattle.elf_plan.specs.Added.{added_loads, kept_end as end_of_kept};
-ghost use Rattle.elf_plan.specs.Rounds.{added_flags as flags_added};
+ghost use Rattle.elf_layout_plan.specs.Added.{added_loads, kept_end as end_of_kept};
+ghost use Rattle.elf_layout_plan.specs.Rounds.{added_flags as flags_added};
 ghost use Rattle.elf_layout.specs.Inner.{StandsTooFar};
 ghost use Rattle.elf_layout.specs.Spots.{IsAdded, IsFar, load_here, none_yet, start_of_load, with_spots};
 
@@ -12,8 +12,8 @@ use crate::sized::section_count;
 use crate::spots::{At, place_sections, round_up};
 use elf_format::constants::PT_LOAD;
 use elf_format::records::SegmentHeader;
-use elf_moves::resizing::Resizing;
-use elf_plan::LayoutFault;
+use elf_layout_moves::resizing::Resizing;
+use elf_layout_plan::LayoutFault;
 use std::alloc::{AllocError, Global};
 
 // The segments that are added, and where the last segment of all ends in the file.

@@ -1,12 +1,12 @@
 // The sets of flags of loaded segments that are added.
 ghost use Rattle.std.specs.Prelude.{◌≡◌, IfOk, OnOk, option_map, slice_get};
-ghost use Rattle.elf_plan.specs.Memory.{sized_sections};
-ghost use Rattle.elf_plan.specs.Rounds.{added_flags as flags_added, flags_for as flags_of};
+ghost use Rattle.elf_layout_plan.specs.Memory.{sized_sections};
+ghost use Rattle.elf_layout_plan.specs.Rounds.{added_flags as flags_added, flags_for as flags_of};
 ghost use Rattle.elf_layout.specs.Spots.{with_flag};
 
 use crate::sized::sized_at;
 use crate::spots::flags_for;
-use elf_moves::resizing::Resizing;
+use elf_layout_moves::resizing::Resizing;
 use std::alloc::{AllocError, Global};
 
 // The flags that the section at a position needs.

@@ -1,18 +1,18 @@
 //! What becomes of a program header.
 ghost use Rattle.std.specs.Prelude.{◌≡◌, [], ◌∷◌, ◌++◌, ◌&&◌, MatchOption, MatchResult, OnOk, true, false, map};
 ghost use Rattle.std.specs.List.{list_all};
-ghost use Rattle.elf_plan.specs.PlanSeen.{place_seen};
-ghost use Rattle.elf_plan.specs.Sizes.{field_range};
-ghost use Rattle.elf_plan.specs.Written.{address_for as address_at, memory_size as size_in_memory, physical_for};
-ghost use Rattle.elf_leaders.specs.Led.{leader_seen};
+ghost use Rattle.elf_layout_plan.specs.PlanSeen.{place_seen};
+ghost use Rattle.elf_layout_plan.specs.Sizes.{field_range};
+ghost use Rattle.elf_layout_plan.specs.Written.{address_for as address_at, memory_size as size_in_memory, physical_for};
+ghost use Rattle.elf_layout_segments.specs.Led.{leader_seen};
 ghost use Rattle.elf_layout.specs.Targets.{AreNotes, IsMisfit, begins_seen, do_headings_fit, does_table_fit, fits_word, header_at, headings_for, headings_found, headings_seen, is_physical_well, is_well_at, sized_table, target_seen, targets_found};
 
 use crate::targets::{Notes, TargetAt, Targets, targets_of};
 use elf_format::constants::{PT_DYNAMIC, PT_INTERP};
 use elf_format::form::Form;
 use elf_format::records::SegmentHeader;
-use elf_leaders::leaders::LeaderAt;
-use elf_plan::{LayoutFault, SectionPlace};
+use elf_layout_segments::leaders::LeaderAt;
+use elf_layout_plan::{LayoutFault, SectionPlace};
 use patch_bytes::Wide;
 use std::alloc::AllocError;
 

@@ -21,5 +21,5 @@ mod written;
 
 pub use crate::layout::{lay_out, lay_out_again, lay_out_sized};
 pub use crate::moving::{find_move_sections, move_sections};
-pub use elf_plan::{LayoutFault, Plan, SectionPlace};
-pub use elf_sizes::sizes_of;
+pub use elf_layout_plan::{LayoutFault, Plan, SectionPlace};
+pub use elf_layout_sizes::sizes_of;

@@ -1,15 +1,15 @@
 ghost use Rattle.std.specs.Prelude.{◌≡◌};
 ghost use Rattle.std.specs.List.{list_all};
-ghost use Rattle.elf_plan.specs.Plan.{does_place_fit as place_fits, does_segment_fit as segment_fits};
-ghost use Rattle.elf_plan.specs.PlanSeen.{parts_seen, place_seen};
-ghost use Rattle.elf_plan.specs.Sizes.{fits_field};
-ghost use Rattle.elf_plan.specs.Plan.{does_plan_fit as parts_fit};
+ghost use Rattle.elf_layout_plan.specs.Plan.{does_place_fit as place_fits, does_segment_fit as segment_fits};
+ghost use Rattle.elf_layout_plan.specs.PlanSeen.{parts_seen, place_seen};
+ghost use Rattle.elf_layout_plan.specs.Sizes.{fits_field};
+ghost use Rattle.elf_layout_plan.specs.Plan.{does_plan_fit as parts_fit};
 
 use elf_format::constants::{PN_XNUM, SHN_LORESERVE};
 use elf_format::form::Form;
 use elf_format::records::SegmentHeader;
 use elf_image::Builder;
-use elf_plan::{PlanParts, SectionPlace};
+use elf_layout_plan::{PlanParts, SectionPlace};
 use patch_bytes::Wide;
 
 // Whether a number fits a field for addresses, offsets and sizes.
@@ -55,7 +55,7 @@ fn do_segments_fit(form: Form, segments: &[SegmentHeader]) -> bool
 
 // Whether each number of a plan fits its field, and there are no more sections and program headers than plain numbering has
 // (gABI, ELF Header, e_phnum and e_shnum).
-#[tactic(auto, using(crate::proofs::PlacesFit::all_places_fit, crate::proofs::PlacesFit::as_many), unfolding(elf_plan::specs::Plan::does_plan_fit))]
+#[tactic(auto, using(crate::proofs::PlacesFit::all_places_fit, crate::proofs::PlacesFit::as_many), unfolding(elf_layout_plan::specs::Plan::does_plan_fit))]
 pub(crate) fn do_parts_fit(image: &Builder<'_>, parts: &PlanParts) -> bool
     ensures { result ≡ parts_fit image.now.form (parts_seen parts.now) }
 {

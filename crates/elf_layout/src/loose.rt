@@ -1,15 +1,15 @@
 // Sections that aren't loaded, one behind the other.
 ghost use Rattle.std.specs.Prelude.{◌≡◌, ◌≤◌, ◌^◌, IfOk, IfErr, IfSome, IfNone};
-ghost use Rattle.elf_plan.specs.Memory.{SizedSection, sized_sections};
-ghost use Rattle.elf_plan.specs.Standing.{is_loose as is_loose_section};
+ghost use Rattle.elf_layout_plan.specs.Memory.{SizedSection, sized_sections};
+ghost use Rattle.elf_layout_plan.specs.Standing.{is_loose as is_loose_section};
 ghost use Rattle.elf_layout.specs.Loose.{IsLooseFault, loose_end, loose_offset, loose_offsets, loose_next};
 ghost use Rattle.elf_layout.specs.Numbers.{numbers_of};
 
 use crate::sized::{SectionNumbers, section_count, section_here};
 use crate::spots::round_up;
 use elf_format::constants::{SHF_ALLOC, SHT_NOBITS, SHT_NULL};
-use elf_moves::resizing::Resizing;
-use elf_plan::LayoutFault;
+use elf_layout_moves::resizing::Resizing;
+use elf_layout_plan::LayoutFault;
 use std::alloc::Global;
 
 // The offset of each section that isn't loaded, by position, and where the last of them ends.

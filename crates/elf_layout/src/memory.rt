@@ -4,16 +4,16 @@ ghost use Rattle.elf_format.specs.File.{is_loaded, loads_of};
 ghost use Rattle.elf_format.specs.Placement.{memory_part};
 ghost use Rattle.elf_format.specs.Ranges.{end_of};
 ghost use Rattle.elf_image.specs.ImageSeen.{segment_kept};
-ghost use Rattle.elf_plan.specs.Added.{default_page_size as page_size_of, greatest, load_alignment as align_of_loads, memory_end as end_of_memory};
-ghost use Rattle.elf_plan.specs.Memory.{SizedSection, sized_sections};
+ghost use Rattle.elf_layout_plan.specs.Added.{default_page_size as page_size_of, greatest, load_alignment as align_of_loads, memory_end as end_of_memory};
+ghost use Rattle.elf_layout_plan.specs.Memory.{SizedSection, sized_sections};
 ghost use Rattle.elf_layout.specs.Numbers.{numbers_of};
 ghost use Rattle.elf_layout.specs.Spots.{end_at, has_memory, value_where};
 
 use crate::sized::{SectionNumbers, section_count, sized_at};
 use elf_format::constants::{EM_MIPS, PT_LOAD, SHF_ALLOC, SHF_TLS, SHT_NOBITS, SHT_NULL};
 use elf_image::Segment;
-use elf_moves::resizing::Resizing;
-use elf_plan::constants::{
+use elf_layout_moves::resizing::Resizing;
+use elf_layout_plan::constants::{
     EM_AARCH64, EM_ALPHA, EM_IA_64, EM_LOONGARCH, EM_PPC, EM_PPC64, EM_SPARC, EM_SPARCV9, EM_TILEGX,
 };
 
@@ -117,7 +117,7 @@ fn default_page_size(machine: u16) -> u64
 
 // The page size that was set, or without one the greatest alignment of the loaded segments that were read, or the machine's
 // pages where they tell none.
-#[tactic(auto, unfolding(elf_plan::specs::Added::load_alignment))]
+#[tactic(auto, unfolding(elf_layout_plan::specs::Added::load_alignment))]
 pub(crate) fn load_alignment(r: &Resizing<'_, '_>) -> u64
     ensures { result ≡ align_of_loads r.now }
 {

@@ -1,14 +1,14 @@
 ghost use Rattle.std.specs.Prelude.{◌≡◌, ◌+◌, ◌≤◌, IfErr, IfOk};
-ghost use Rattle.elf_blocks.specs.declared.fault.LayoutFault.TheVariants.{Overlap};
+ghost use Rattle.elf_layout_plan.specs.declared.fault.LayoutFault.TheVariants.{Overlap};
 ghost use Rattle.elf_layout.specs.Promises.{IsPromised};
-ghost use Rattle.elf_plan.specs.Plan.{IsPlan, most_added, resized};
-ghost use Rattle.elf_plan.specs.Refusals.{IsNoPlan, IsStuckAsked, sizes_of_image};
-ghost use Rattle.elf_plan.specs.Rounds.{IsAsked};
+ghost use Rattle.elf_layout_plan.specs.Plan.{IsPlan, most_added, resized};
+ghost use Rattle.elf_layout_plan.specs.Refusals.{IsNoPlan, IsStuckAsked, sizes_of_image};
+ghost use Rattle.elf_layout_plan.specs.Rounds.{IsAsked};
 
 use crate::layout::{plan_from, promised};
 use elf_image::Builder;
-pub use elf_moves::find_move_sections;
-use elf_plan::{LayoutFault, Plan, read_again};
+pub use elf_layout_moves::find_move_sections;
+use elf_layout_plan::{LayoutFault, Plan, read_again};
 use std::alloc::Global;
 
 /// Where everything goes. `Overlap` where two blocks of memory overlap that can't move, with a number of program headers

@@ -1,16 +1,16 @@
 // The place of each section.
 ghost use Rattle.std.specs.Prelude.{◌≡◌, ◌≤◌, ◌^◌, IfOk, IfErr, IfSome, IfNone, map, slice_get};
-ghost use Rattle.elf_plan.specs.Memory.{SizedSection};
-ghost use Rattle.elf_plan.specs.PlanSeen.{place_seen};
-ghost use Rattle.elf_plan.specs.Standing.{stands_at};
+ghost use Rattle.elf_layout_plan.specs.Memory.{SizedSection};
+ghost use Rattle.elf_layout_plan.specs.PlanSeen.{place_seen};
+ghost use Rattle.elf_layout_plan.specs.Standing.{stands_at};
 ghost use Rattle.elf_layout.specs.Loose.{IsPlaceFault, kept_for, offset_stays, place_by, places_by};
 ghost use Rattle.elf_layout.specs.Numbers.{numbers_of};
 
 use crate::sized::{SectionNumbers, section_count, section_here};
 use crate::spots::At;
 use elf_format::constants::{SHT_NOBITS, SHT_NULL};
-use elf_moves::resizing::Resizing;
-use elf_plan::{LayoutFault, SectionPlace};
+use elf_layout_moves::resizing::Resizing;
+use elf_layout_plan::{LayoutFault, SectionPlace};
 use std::alloc::Global;
 
 // What is kept for a position.

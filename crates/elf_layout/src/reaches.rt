@@ -1,15 +1,15 @@
 //! Where sections come to stand that begin in a range of the file: the first of them, and the end of the last.
 ghost use Rattle.std.specs.Prelude.{◌≡◌, ◌≤◌, IfOk, IsPermutation, length, map};
 ghost use Rattle.std.specs.List.Sorted.{IsNonDecreasingBy};
-ghost use Rattle.elf_plan.specs.PlanSeen.{place_seen};
-ghost use Rattle.elf_leaders.specs.Following.{chosen_begins};
-ghost use Rattle.elf_leaders.specs.Sections.{sections_seen};
+ghost use Rattle.elf_layout_plan.specs.PlanSeen.{place_seen};
+ghost use Rattle.elf_layout_segments.specs.Following.{chosen_begins};
+ghost use Rattle.elf_layout_segments.specs.Sections.{sections_seen};
 ghost use Rattle.elf_layout.specs.Reaches.{AreJoined, BeginBefore, IsTree, IsTreeOver, joined as joined_of, joined_all, over, reach_at as reach_of, reach_in, start_of};
 
 use elf_format::range::Range;
-use elf_leaders::starts::{Begin, begins_of};
-use elf_moves::resizing::Resizing;
-use elf_plan::SectionPlace;
+use elf_layout_segments::starts::{Begin, begins_of};
+use elf_layout_moves::resizing::Resizing;
+use elf_layout_plan::SectionPlace;
 use std::alloc::{AllocError, Global};
 
 // Where the first of several sections comes to stand in the file, its position, and where the last of them ends.

@@ -1,9 +1,9 @@
 // The numbers of sections, with their new sizes.
 ghost use Rattle.std.specs.Prelude.{◌≡◌, ◌<◌, length, option_map, slice_get};
-ghost use Rattle.elf_plan.specs.Memory.{sized_sections};
+ghost use Rattle.elf_layout_plan.specs.Memory.{sized_sections};
 ghost use Rattle.elf_layout.specs.Numbers.{numbers_of};
 
-use elf_moves::resizing::Resizing;
+use elf_layout_moves::resizing::Resizing;
 
 // The numbers of a section that its place hangs on, and its new size.
 #[derive(Clone, Copy)]

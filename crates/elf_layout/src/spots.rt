@@ -1,16 +1,16 @@
 // Where sections that move come to stand, one behind the other.
 ghost use Rattle.std.specs.Prelude.{◌≡◌, ◌+◌, ◌<◌, ◌≤◌, ◌^◌, ◌∷◌, [], IfSome, IfNone, OnSome};
 ghost use Rattle.std.specs.Int.{next_multiple_of};
-ghost use Rattle.elf_plan.specs.Added.{spots_from};
-ghost use Rattle.elf_plan.specs.Memory.{SizedSection};
-ghost use Rattle.elf_plan.specs.Rounds.{flags_for as flags_of};
+ghost use Rattle.elf_layout_plan.specs.Added.{spots_from};
+ghost use Rattle.elf_layout_plan.specs.Memory.{SizedSection};
+ghost use Rattle.elf_layout_plan.specs.Rounds.{flags_for as flags_of};
 ghost use Rattle.elf_layout.specs.Numbers.{numbers_of};
 ghost use Rattle.elf_layout.specs.Spots.{behind_spots, end_behind, spot_behind, with_at, with_flags, with_spots};
 
 use crate::sized::{SectionNumbers, sized_at};
 use elf_format::constants::{PF_X, SHF_EXECINSTR, SHF_WRITE, SHT_NOTE};
-use elf_moves::resizing::Resizing;
-use elf_plan::constants::{PF_R, PF_W};
+use elf_layout_moves::resizing::Resizing;
+use elf_layout_plan::constants::{PF_R, PF_W};
 
 // A place in the file and in memory. The address may be past 64 bits.
 #[derive(Clone, Copy)]

@@ -1,6 +1,6 @@
 ghost use Rattle.std.specs.Prelude.{◌≡◌, IfErr, IfOk};
-ghost use Rattle.elf_plan.specs.Added.{header_count, kept_end as end_of_kept};
-ghost use Rattle.elf_moves.specs.Inner.{AreMarks};
+ghost use Rattle.elf_layout_plan.specs.Added.{header_count, kept_end as end_of_kept};
+ghost use Rattle.elf_layout_moves.specs.Inner.{AreMarks};
 ghost use Rattle.elf_layout.specs.Inner.{IsStanding, StandsTooFar};
 ghost use Rattle.elf_layout.specs.Loose.{IsBehind, IsBehindFault};
 
@@ -10,8 +10,8 @@ use crate::places::place_all;
 use crate::spots::At;
 use crate::tables::{next_table, place_table};
 use elf_format::records::SegmentHeader;
-use elf_moves::resizing::Resizing;
-use elf_plan::{LayoutFault, SectionPlace};
+use elf_layout_moves::resizing::Resizing;
+use elf_layout_plan::{LayoutFault, SectionPlace};
 use std::alloc::Global;
 
 // Where the sections stand and the two header tables, and the segments that are added.

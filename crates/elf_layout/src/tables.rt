@@ -2,13 +2,13 @@
 ghost use Rattle.std.specs.Prelude.{◌≡◌, ◌+◌, ◌*◌, ◌<◌, ◌≤◌, ◌^◌, IfSome, IfNone, is_some, map};
 ghost use Rattle.elf_format.specs.Records.{segment_header_size};
 ghost use Rattle.elf_image.specs.ImageSeen.{segment_kept};
-ghost use Rattle.elf_plan.specs.Memory.{loaded_over, table_load};
-ghost use Rattle.elf_plan.specs.Standing.{next_table as table_next};
+ghost use Rattle.elf_layout_plan.specs.Memory.{loaded_over, table_load};
+ghost use Rattle.elf_layout_plan.specs.Standing.{next_table as table_next};
 ghost use Rattle.elf_layout.specs.Loose.{has_all, start_behind, table_behind};
 
 use elf_format::constants::PT_LOAD;
 use elf_image::{Builder, Segment};
-use elf_moves::resizing::Resizing;
+use elf_layout_moves::resizing::Resizing;
 use patch_bytes::Wide;
 
 // A table's offset, and the end of all that stands before what comes next.

@@ -1,17 +1,17 @@
 //! Where a program header goes.
 ghost use Rattle.std.specs.Prelude.{◌≡◌, IfOk, map};
 ghost use Rattle.std.specs.Option.{option_map};
-ghost use Rattle.elf_plan.specs.PlanSeen.{place_seen};
-ghost use Rattle.elf_plan.specs.Written.{address_in_memory};
-ghost use Rattle.elf_leaders.specs.Led.{leader_seen};
+ghost use Rattle.elf_layout_plan.specs.PlanSeen.{place_seen};
+ghost use Rattle.elf_layout_plan.specs.Written.{address_in_memory};
+ghost use Rattle.elf_layout_segments.specs.Led.{leader_seen};
 ghost use Rattle.elf_layout.specs.Targets.{AreBegins, AreNotes, begins_seen, span_of, span_over, target_of_span, target_seen, targets_at, targets_over_notes, targets_seen};
 
 use crate::reaches::{Reach, Reaches, reach_at, reach_over, reaches_of};
 use elf_format::constants::SHF_ALLOC;
 use elf_format::range::Range;
-use elf_leaders::leaders::LeaderAt;
-use elf_moves::resizing::Resizing;
-use elf_plan::SectionPlace;
+use elf_layout_segments::leaders::LeaderAt;
+use elf_layout_moves::resizing::Resizing;
+use elf_layout_plan::SectionPlace;
 use std::alloc::{AllocError, Global};
 
 // Bytes of the file and, where what a program header goes by is loaded, an address.

@@ -1,11 +1,11 @@
 ghost use Rattle.std.specs.Prelude.{◌≡◌, ◌∷◌, ◌++◌, IfErr, IfOk, OnOk, map};
 ghost use Rattle.std.specs.List.{flat_map};
-ghost use Rattle.elf_plan.specs.Added.{header_count};
-ghost use Rattle.elf_plan.specs.PlanSeen.{place_seen};
-ghost use Rattle.elf_plan.specs.Standing.{places as places_of};
-ghost use Rattle.elf_plan.specs.Written.{behind_last_load, written_from};
-ghost use Rattle.elf_moves.specs.Inner.{AreMarks};
-ghost use Rattle.elf_leaders.specs.Led.{AreLeaders};
+ghost use Rattle.elf_layout_plan.specs.Added.{header_count};
+ghost use Rattle.elf_layout_plan.specs.PlanSeen.{place_seen};
+ghost use Rattle.elf_layout_plan.specs.Standing.{places as places_of};
+ghost use Rattle.elf_layout_plan.specs.Written.{behind_last_load, written_from};
+ghost use Rattle.elf_layout_moves.specs.Inner.{AreMarks};
+ghost use Rattle.elf_layout_segments.specs.Led.{AreLeaders};
 ghost use Rattle.elf_layout.specs.Inner.{AreWritten, IsStanding, StandsTooFar};
 ghost use Rattle.elf_layout.specs.Targets.{added_behind, left_behind as left_at};
 
@@ -13,10 +13,10 @@ use crate::headings::push_written;
 use crate::standing::Standing;
 use crate::targets::notes_of;
 use elf_format::records::SegmentHeader;
-use elf_leaders::leaders::LeaderAt;
-use elf_leaders::reading::{form_of, sections_are_sized, segment_at};
-use elf_moves::resizing::Resizing;
-use elf_plan::{LayoutFault, SectionPlace};
+use elf_layout_segments::leaders::LeaderAt;
+use elf_layout_segments::reading::{form_of, sections_are_sized, segment_at};
+use elf_layout_moves::resizing::Resizing;
+use elf_layout_plan::{LayoutFault, SectionPlace};
 use std::alloc::{AllocError, Global};
 
 // How many of those behind a header are loaded, where so many are that are left.

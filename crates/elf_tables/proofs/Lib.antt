@@ -1,3 +1,12 @@
+pub mod FieldLaws
+pub mod ForCallers
+pub mod FileHeaderBack
+pub mod SegmentHeaderBack
+pub mod SectionHeaderBack
+pub mod SymbolBack
+pub mod EntryBack
+pub mod FilesOpened
+pub mod TableBack
 pub mod TextOrder
 pub mod TextLists
 pub mod TableLaws

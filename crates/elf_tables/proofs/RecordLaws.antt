@@ -16,7 +16,7 @@ use Rattle.elf_format.specs.declared.form.Form.{Form}
 use Rattle.elf_format.specs.Form.{by_class, fixed_field}
 use Rattle.elf_format.specs.Versions.{Step, is_whole_walk, values_of, walked}
 use Rattle.elf_format.specs.Views.{whole_chain}
-use Rattle.elf_records.specs.Fields.{fields, widths}
+use Rattle.elf_tables.specs.Fields.{fields, widths}
 use Rattle.elf_tables.specs.VersionRecords.{chained, next_behind}
 
 -- ## Numbers end to end

@@ -1,3 +1,6 @@
+pub mod Fields
+pub mod Spelled
+pub mod ReadBack
 pub mod Strings
 pub mod StringSteps
 pub mod EndKeys

@@ -6,7 +6,7 @@ use Rattle.elf_format.specs.declared.constants.TheConstants.{VERSYM_HIDDEN}
 use Rattle.elf_format.specs.declared.version_id.VersionId.{VersionId}
 use Rattle.elf_format.specs.Hashes.{gabi_hash}
 use Rattle.elf_format.specs.Versions.{VersionDefinition, VersionName, VersionNeeds}
-pub use Rattle.elf_records.specs.Fields.{fields, halves, words}
+pub use Rattle.elf_tables.specs.Fields.{fields, halves, words}
 use Rattle.elf_tables.specs.Strings.{Strings, place_of}
 
 -- how far behind a record of so many bytes the next one stands, 0 where there is none

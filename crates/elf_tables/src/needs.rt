@@ -13,8 +13,8 @@ use crate::fault::TableFault;
 use crate::finished::Finished;
 use crate::hash::sysv_hash;
 use crate::versions::next_distance;
+use crate::{push_halves, push_words};
 use elf_image::{VersionNeed, VersionNeedName};
-use elf_records::{push_halves, push_words};
 use patch_bytes::ByteOrder2;
 use std::alloc::{AllocError, Global};
 

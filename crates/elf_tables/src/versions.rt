@@ -16,9 +16,9 @@ ghost use Rattle.elf_tables.specs.VersionSteps.{DefinitionFits};
 use crate::fault::TableFault;
 use crate::finished::Finished;
 use crate::hash::sysv_hash;
+use crate::{push_halves, push_words};
 use elf_image::constants::VERSYM_HIDDEN;
 use elf_image::{VersionDef, VersionId};
-use elf_records::{push_halves, push_words};
 use patch_bytes::{ByteOrder2, ByteString};
 use std::alloc::{AllocError, Global};
 

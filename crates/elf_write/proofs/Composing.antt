@@ -16,15 +16,15 @@ use Rattle.elf_format.specs.declared.records.SegmentHeader.{SegmentHeader}
 use Rattle.elf_format.specs.File.{loads_of}
 use Rattle.elf_format.specs.Placement.{file_part}
 use Rattle.elf_format.specs.Ranges.{range}
-use Rattle.elf_plan.specs.FilePlaced.{written_size}
-use Rattle.elf_plan.specs.Memory.{Resized}
-use Rattle.elf_plan.specs.Plan.{resized}
-use Rattle.elf_plan.proofs.ApartBlocks.{apart-before, apart-behind, or-false}
-use Rattle.elf_plan.proofs.ApartLists.{Each}
-use Rattle.elf_written.specs.Base.{base, base_byte, does_byte_stay, has_position, old_places}
-use Rattle.elf_written.specs.Writing.{IsWholeWriting, Writing, patches, written_bytes}
-use Rattle.elf_written.proofs.Laying.{AreApart, StandsIn, range_of, value-at}
-use Rattle.elf_written.proofs.Patches.{keeps_base, length-written, patches_stand}
+use Rattle.elf_layout_plan.specs.FilePlaced.{written_size}
+use Rattle.elf_layout_plan.specs.Memory.{Resized}
+use Rattle.elf_layout_plan.specs.Plan.{resized}
+use Rattle.elf_layout_plan.proofs.ApartBlocks.{apart-before, apart-behind, or-false}
+use Rattle.elf_layout_plan.proofs.ApartLists.{Each}
+use Rattle.elf_write_spec.specs.Base.{base, base_byte, does_byte_stay, has_position, old_places}
+use Rattle.elf_write_spec.specs.Writing.{IsWholeWriting, Writing, patches, written_bytes}
+use Rattle.elf_write_spec.proofs.Laying.{AreApart, StandsIn, range_of, value-at}
+use Rattle.elf_write_spec.proofs.Patches.{keeps_base, length-written, patches_stand}
 use Rattle.elf_write.specs.LayingSteps.{is_in_load}
 use Rattle.elf_write.specs.PieceSteps.{IsOverBase, load_spans, span_in}
 

@@ -17,15 +17,15 @@ use Rattle.elf_format.specs.Rules.{is_file_kind, names_are_texts, no_extended_nu
 use Rattle.elf_image.specs.Edited.{IsEdited}
 use Rattle.elf_image.specs.ImageSeen.{section_kept}
 use Rattle.elf_image.specs.declared.section.Section.{Section}
-use Rattle.elf_plan.specs.Kept.{KeptSection, image_at_read, interpreter_number, kept_from, kept_sections, place_at_read}
-use Rattle.elf_plan.specs.Memory.{Resized}
-use Rattle.elf_plan.specs.Plan.{resized}
-use Rattle.elf_written.specs.Base.{base, base_byte, is_rewritten, old_places, values_from}
-use Rattle.elf_written.proofs.BaseBytes.{length-segments}
-use Rattle.elf_written.proofs.Laying.{length-values, value-at}
-use Rattle.elf_contents.specs.Inner.{IsReady}
+use Rattle.elf_layout_plan.specs.Kept.{KeptSection, image_at_read, interpreter_number, kept_from, kept_sections, place_at_read}
+use Rattle.elf_layout_plan.specs.Memory.{Resized}
+use Rattle.elf_layout_plan.specs.Plan.{resized}
+use Rattle.elf_write_spec.specs.Base.{base, base_byte, is_rewritten, old_places, values_from}
+use Rattle.elf_write_spec.proofs.BaseBytes.{length-segments}
+use Rattle.elf_write_spec.proofs.Laying.{length-values, value-at}
+use Rattle.elf_write_contents.specs.Inner.{IsReady}
 use Rattle.elf_write.specs.LayingSteps.{IsCleared, TakesFrom, is_in_load, is_in_range, is_rewritten_at, rewritten_places}
-use Rattle.elf_contents.proofs.ForCallers.{ReadFacts, read_facts}
+use Rattle.elf_write_contents.proofs.ForCallers.{ReadFacts, read_facts}
 
 -- ## Program headers
 

@@ -13,23 +13,23 @@ use Rattle.elf_format.specs.declared.records.SectionHeader.{SectionHeader}
 use Rattle.elf_format.specs.Image.{Image}
 use Rattle.elf_format.specs.Places.{Place, occupies_file}
 use Rattle.elf_format.specs.Records.{section_header_size}
-use Rattle.elf_records.specs.Spelled.{spelled_file_header, spelled_segment_header}
+use Rattle.elf_tables.specs.Spelled.{spelled_file_header, spelled_segment_header}
 use Rattle.elf_image.specs.declared.section.Section.{Section}
 use Rattle.elf_image.specs.Edited.{IsEdited}
 use Rattle.elf_image.specs.ImageSeen.{section_kept}
-use Rattle.elf_plan.specs.declared.plan.SectionPlace.{SectionPlace}
-use Rattle.elf_plan.specs.FilePlaced.{written_size}
-use Rattle.elf_plan.specs.Kept.{KeptSection, image_at_read, interpreter_number, kept_sections}
-use Rattle.elf_plan.specs.Memory.{Resized}
-use Rattle.elf_plan.specs.Plan.{Layout, resized}
-use Rattle.elf_plan.specs.PlanSeen.{place_seen}
-use Rattle.elf_written.specs.Base.{base, base_byte, is_data}
-use Rattle.elf_written.specs.Headers.{written_header}
-use Rattle.elf_written.specs.Writing.{IsWholeWriting, Writing, patch, patches, patches_of_headers, patches_of_section, patches_of_sections, written_bytes}
-use Rattle.elf_written.proofs.Laying.{length-values}
-use Rattle.elf_written.proofs.Patches.{patches_lie}
-use Rattle.elf_written.proofs.WholeFacts.{lengths, read_facts}
-use Rattle.elf_contents.specs.Inner.{writing_of}
+use Rattle.elf_layout_plan.specs.declared.plan.SectionPlace.{SectionPlace}
+use Rattle.elf_layout_plan.specs.FilePlaced.{written_size}
+use Rattle.elf_layout_plan.specs.Kept.{KeptSection, image_at_read, interpreter_number, kept_sections}
+use Rattle.elf_layout_plan.specs.Memory.{Resized}
+use Rattle.elf_layout_plan.specs.Plan.{Layout, resized}
+use Rattle.elf_layout_plan.specs.PlanSeen.{place_seen}
+use Rattle.elf_write_spec.specs.Base.{base, base_byte, is_data}
+use Rattle.elf_write_spec.specs.Headers.{written_header}
+use Rattle.elf_write_spec.specs.Writing.{IsWholeWriting, Writing, patch, patches, patches_of_headers, patches_of_section, patches_of_sections, written_bytes}
+use Rattle.elf_write_spec.proofs.Laying.{length-values}
+use Rattle.elf_write_spec.proofs.Patches.{patches_lie}
+use Rattle.elf_write_spec.proofs.WholeFacts.{lengths, read_facts}
+use Rattle.elf_write_contents.specs.Inner.{writing_of}
 use Rattle.elf_write.specs.declared.spelled.SpelledHeaders.{SpelledHeaders}
 use Rattle.elf_write.specs.LayingSteps.{AreHeadersSpelled, DoHeadersFit, content_patches, header_patches, is_data_at}
 use Rattle.elf_write.specs.PieceSteps.{IsOverBase}

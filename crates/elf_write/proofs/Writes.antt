@@ -19,29 +19,29 @@ use Rattle.elf_format.specs.Options.{is_one_of, list_at}
 use Rattle.elf_format.specs.Places.{Place}
 use Rattle.elf_format.specs.Records.{symbols_in}
 use Rattle.elf_format.specs.Rules.{text_users}
-use Rattle.elf_records.specs.Fields.{do_fields_fit}
-use Rattle.elf_records.specs.Spelled.{entry_fields}
-use Rattle.elf_plan.specs.Kept.{KeptSection, kept_sections}
-use Rattle.elf_plan.specs.Memory.{Resized}
-use Rattle.elf_plan.specs.Plan.{Layout, resized}
-use Rattle.elf_plan.specs.Texts.{is_table_copied}
-use Rattle.elf_written.specs.Base.{is_interpreter}
-use Rattle.elf_written.specs.Contents.{AreDefinitionsIn, AreEntriesOf, AreNeedsIn, AreSymbolsOf, IsContent, content_at_number, spelled_list}
-use Rattle.elf_written.specs.Final.{final}
-use Rattle.elf_written.specs.Headers.{IsHeaderOf, written_header}
-use Rattle.elf_written.specs.Whole.{IsWhole}
-use Rattle.elf_written.specs.Writing.{AreHeadersApart, AreSectionsWritten, IsWholeWriting, written_bytes}
-use Rattle.elf_written.proofs.WholeFacts.{kept}
-use Rattle.elf_plan.specs.ApartLaws.{PlansAreApart, PlansShowNotes}
-use Rattle.elf_written.proofs.ApartInFile.{plans_are_apart_in_file}
-use Rattle.elf_written.proofs.DataSeen.{written_files_keep_data, written_files_keep_hashes, written_files_keep_others}
-use Rattle.elf_written.proofs.FileParts.{written_files_have_parts}
-use Rattle.elf_written.proofs.ReadAgain.{written_files_are_read, written_files_show}
-use Rattle.elf_contents.specs.declared.made.Made.{Made}
-use Rattle.elf_contents.specs.Inner.{AreContents, AreHeaders, ArePromised, AreRaw, IsMadeContent, IsPlanned, IsWholeWritten, strings_at, writing_of}
-use Rattle.elf_contents.specs.Numbers.{do_records_fit}
-use Rattle.elf_contents.specs.Seen.{IsWritingTo}
-use Rattle.elf_contents.proofs.ForCallers.{ReadFacts, SectionRead, are_numbered, kept-at, kept_is, length-numbered, linked_at, names_at, names_typed, read_facts, section_read, shows_none, shows_texts}
+use Rattle.elf_tables.specs.Fields.{do_fields_fit}
+use Rattle.elf_tables.specs.Spelled.{entry_fields}
+use Rattle.elf_layout_plan.specs.Kept.{KeptSection, kept_sections}
+use Rattle.elf_layout_plan.specs.Memory.{Resized}
+use Rattle.elf_layout_plan.specs.Plan.{Layout, resized}
+use Rattle.elf_layout_plan.specs.Texts.{is_table_copied}
+use Rattle.elf_write_spec.specs.Base.{is_interpreter}
+use Rattle.elf_write_spec.specs.Contents.{AreDefinitionsIn, AreEntriesOf, AreNeedsIn, AreSymbolsOf, IsContent, content_at_number, spelled_list}
+use Rattle.elf_write_spec.specs.Final.{final}
+use Rattle.elf_write_spec.specs.Headers.{IsHeaderOf, written_header}
+use Rattle.elf_write_spec.specs.Whole.{IsWhole}
+use Rattle.elf_write_spec.specs.Writing.{AreHeadersApart, AreSectionsWritten, IsWholeWriting, written_bytes}
+use Rattle.elf_write_spec.proofs.WholeFacts.{kept}
+use Rattle.elf_layout_plan.specs.ApartLaws.{PlansAreApart, PlansShowNotes}
+use Rattle.elf_write_spec.proofs.ApartInFile.{plans_are_apart_in_file}
+use Rattle.elf_write_spec.proofs.DataSeen.{written_files_keep_data, written_files_keep_hashes, written_files_keep_others}
+use Rattle.elf_write_spec.proofs.FileParts.{written_files_have_parts}
+use Rattle.elf_write_spec.proofs.ReadAgain.{written_files_are_read, written_files_show}
+use Rattle.elf_write_contents.specs.declared.made.Made.{Made}
+use Rattle.elf_write_contents.specs.Inner.{AreContents, AreHeaders, ArePromised, AreRaw, IsMadeContent, IsPlanned, IsWholeWritten, strings_at, writing_of}
+use Rattle.elf_write_contents.specs.Numbers.{do_records_fit}
+use Rattle.elf_write_contents.specs.Seen.{IsWritingTo}
+use Rattle.elf_write_contents.proofs.ForCallers.{ReadFacts, SectionRead, are_numbered, kept-at, kept_is, length-numbered, linked_at, names_at, names_typed, read_facts, section_read, shows_none, shows_texts}
 
 -- the content at a position
 record ContentAt (r : Resized) (plan : Layout) (made : Option Made) (raw : List EntryNumbers) (ps : List Place) (cs : List (List ℕ)) (i : ℕ) (k : KeptSection) : Type 0 where

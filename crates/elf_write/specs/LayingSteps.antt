@@ -12,15 +12,15 @@ use Rattle.elf_format.specs.File.{loads_of}
 use Rattle.elf_format.specs.Options.{is_some_and}
 use Rattle.elf_format.specs.Placement.{file_part}
 use Rattle.elf_format.specs.Places.{Place, file_range, occupies_file}
-use Rattle.elf_records.specs.Fields.{do_fields_fit}
-use Rattle.elf_records.specs.Spelled.{file_header_fields, section_fields, segment_fields}
-use Rattle.elf_records.specs.Spelled.{spelled_file_header, spelled_section_header, spelled_segment_header}
-use Rattle.elf_plan.specs.Follow.{is_loaded_section}
-use Rattle.elf_plan.specs.Kept.{KeptSection, place_at_read}
-use Rattle.elf_plan.specs.Memory.{Resized}
-use Rattle.elf_plan.specs.Plan.{Layout}
-use Rattle.elf_written.specs.Base.{has_position, is_opaque, is_rewritten}
-use Rattle.elf_written.specs.Writing.{patch}
+use Rattle.elf_tables.specs.Fields.{do_fields_fit}
+use Rattle.elf_tables.specs.Spelled.{file_header_fields, section_fields, segment_fields}
+use Rattle.elf_tables.specs.Spelled.{spelled_file_header, spelled_section_header, spelled_segment_header}
+use Rattle.elf_layout_plan.specs.Follow.{is_loaded_section}
+use Rattle.elf_layout_plan.specs.Kept.{KeptSection, place_at_read}
+use Rattle.elf_layout_plan.specs.Memory.{Resized}
+use Rattle.elf_layout_plan.specs.Plan.{Layout}
+use Rattle.elf_write_spec.specs.Base.{has_position, is_opaque, is_rewritten}
+use Rattle.elf_write_spec.specs.Writing.{patch}
 use Rattle.elf_write.specs.declared.spelled.SpelledHeaders.{SpelledHeaders}
 
 -- ## Bytes by their positions

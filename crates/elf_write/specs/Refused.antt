@@ -1,11 +1,11 @@
 -- Which fault is answered when.
 use Rattle.std.specs.Prelude.{◌≡◌, false}
 use Rattle.elf_format.specs.Image.{Image}
-use Rattle.elf_blocks.specs.declared.fault.LayoutFault.{LayoutFault}
-use Rattle.elf_blocks.specs.declared.fault.LayoutFault.TheVariants as faults
-use Rattle.elf_plan.specs.Plan.{Layout}
-use Rattle.elf_written.specs.Writing.{AreHeadersApart}
-use Rattle.elf_contents.specs.Numbers.{do_numbers_fit}
+use Rattle.elf_layout_plan.specs.declared.fault.LayoutFault.{LayoutFault}
+use Rattle.elf_layout_plan.specs.declared.fault.LayoutFault.TheVariants as faults
+use Rattle.elf_layout_plan.specs.Plan.{Layout}
+use Rattle.elf_write_spec.specs.Writing.{AreHeadersApart}
+use Rattle.elf_write_contents.specs.Numbers.{do_numbers_fit}
 
 -- No bytes: the file header and the program header table share some of the file; or a number doesn't fit its field.
 abbrev pub AreNoBytes : Image → Layout → LayoutFault → Type 0

@@ -3,10 +3,10 @@ ghost use Rattle.std.specs.Prelude.{◌≡◌, ◌*◌, ◌++◌, ◌<◌, lengt
 ghost use Rattle.elf_format.specs.Ranges.{range};
 ghost use Rattle.elf_format.specs.Records.{segment_header_size};
 ghost use Rattle.elf_image.specs.ImageSeen.{segment_kept};
-ghost use Rattle.elf_plan.specs.Kept.{image_at_read, interpreter_number as number_of_interpreter, kept_sections};
-ghost use Rattle.elf_plan.specs.Plan.{resized};
-ghost use Rattle.elf_written.specs.Base.{base, has_position, old_places as places_rewritten};
-ghost use Rattle.elf_contents.specs.Inner.{IsReady};
+ghost use Rattle.elf_layout_plan.specs.Kept.{image_at_read, interpreter_number as number_of_interpreter, kept_sections};
+ghost use Rattle.elf_layout_plan.specs.Plan.{resized};
+ghost use Rattle.elf_write_spec.specs.Base.{base, has_position, old_places as places_rewritten};
+ghost use Rattle.elf_write_contents.specs.Inner.{IsReady};
 ghost use Rattle.elf_write.specs.LayingSteps.{IsCleared, TakesFrom, is_in_load, is_in_range, rewritten_places};
 
 use crate::data::{interpreter_number, is_rewritten};

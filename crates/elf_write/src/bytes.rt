@@ -4,34 +4,34 @@ ghost use Rattle.patch_bytes.specs.ByteString.{bytes_of_each};
 ghost use Rattle.elf_format.specs.Ranges.{apart, range};
 ghost use Rattle.elf_format.specs.Records.{file_header_size};
 ghost use Rattle.elf_tables.specs.declared.fault.TableFault.TheVariants.{NumberTooLarge};
-ghost use Rattle.elf_plan.specs.FilePlaced.{written_table};
-ghost use Rattle.elf_plan.specs.Kept.{image_at_read, kept_sections};
-ghost use Rattle.elf_plan.specs.Plan.{IsPlan, resized};
-ghost use Rattle.elf_plan.specs.Refusals.{do_sizes_of_image_fit};
-ghost use Rattle.elf_written.specs.Laws.{ShowsFinal};
-ghost use Rattle.elf_written.specs.Stays.{AreOthersSeen, IsDataSeen};
-ghost use Rattle.elf_written.specs.Whole.{IsWhole};
-ghost use Rattle.elf_written.specs.Writing.{AreHeadersApart, IsWritten};
-ghost use Rattle.elf_contents.specs.Inner.{AreContents, ArePromised, IsPlanned, IsWholeWritten};
-ghost use Rattle.elf_contents.specs.Numbers.{do_numbers_fit as do_all_fit};
-ghost use Rattle.elf_contents.specs.PreparedSteps.{IsPrepared};
+ghost use Rattle.elf_layout_plan.specs.FilePlaced.{written_table};
+ghost use Rattle.elf_layout_plan.specs.Kept.{image_at_read, kept_sections};
+ghost use Rattle.elf_layout_plan.specs.Plan.{IsPlan, resized};
+ghost use Rattle.elf_layout_plan.specs.Refusals.{do_sizes_of_image_fit};
+ghost use Rattle.elf_write_spec.specs.Laws.{ShowsFinal};
+ghost use Rattle.elf_write_spec.specs.Stays.{AreOthersSeen, IsDataSeen};
+ghost use Rattle.elf_write_spec.specs.Whole.{IsWhole};
+ghost use Rattle.elf_write_spec.specs.Writing.{AreHeadersApart, IsWritten};
+ghost use Rattle.elf_write_contents.specs.Inner.{AreContents, ArePromised, IsPlanned, IsWholeWritten};
+ghost use Rattle.elf_write_contents.specs.Numbers.{do_numbers_fit as do_all_fit};
+ghost use Rattle.elf_write_contents.specs.PreparedSteps.{IsPrepared};
 ghost use Rattle.elf_write.specs.Refused.{AreNoBytes};
-ghost use Rattle.elf_contents.specs.Seen.{HasHashes, HasHeaders, IsApart};
+ghost use Rattle.elf_write_contents.specs.Seen.{HasHashes, HasHeaders, IsApart};
 
 use crate::laying::laid_bytes;
-use elf_contents::contents::contents;
-use elf_contents::prepared::{Prepared, prepare};
+use elf_write_contents::contents::contents;
+use elf_write_contents::prepared::{Prepared, prepare};
 use elf_format::form::Form;
 use elf_format::range::Range;
 use elf_image::Builder;
-use elf_plan::laws::{plans_are_apart, plans_show_notes};
-use elf_plan::{LayoutFault, Plan, read_again};
+use elf_layout_plan::laws::{plans_are_apart, plans_show_notes};
+use elf_layout_plan::{LayoutFault, Plan, read_again};
 use elf_tables::TableFault;
 use patch_bytes::ByteString;
 use std::alloc::{AllocError, Global};
 
 // Where the program header table stands in the file that is written.
-#[tactic(auto, using(elf_contents::proofs::ForCallers::plan_counts))]
+#[tactic(auto, using(elf_write_contents::proofs::ForCallers::plan_counts))]
 fn table_range(image: &Builder<'_>, plan: &Plan) -> Range
     requires { IsPlan (resized image.now) plan.now }
     ensures { result ≡ written_table (resized image.now) plan.now }

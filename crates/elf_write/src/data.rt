@@ -2,7 +2,7 @@
 ghost use Rattle.std.specs.Prelude.{◌≡◌, ◌==◌};
 ghost use Rattle.elf_format.specs.Options.{is_some_and};
 ghost use Rattle.elf_image.specs.ImageSeen.{section_kept};
-ghost use Rattle.elf_plan.specs.Kept.{interpreter_number as number_of_interpreter};
+ghost use Rattle.elf_layout_plan.specs.Kept.{interpreter_number as number_of_interpreter};
 ghost use Rattle.elf_write.specs.LayingSteps.{is_data_at, is_rewritten_at};
 
 use elf_format::SectionData;

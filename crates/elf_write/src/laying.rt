@@ -6,9 +6,9 @@ ghost use Rattle.byte_store.specs.Known.{put_at};
 ghost use Rattle.byte_store.specs.Laid.{LiesIn, laid, patches_of};
 ghost use Rattle.elf_format.specs.Records.{section_header_size};
 ghost use Rattle.elf_format.specs.declared.records.EntryNumbers.{EntryNumbers};
-ghost use Rattle.elf_written.specs.Headers.{written_header};
-ghost use Rattle.elf_written.specs.Writing.{IsWholeWriting, written_bytes};
-ghost use Rattle.elf_contents.specs.Inner.{IsReady, writing_of};
+ghost use Rattle.elf_write_spec.specs.Headers.{written_header};
+ghost use Rattle.elf_write_spec.specs.Writing.{IsWholeWriting, written_bytes};
+ghost use Rattle.elf_write_contents.specs.Inner.{IsReady, writing_of};
 
 use crate::base::{base_bytes, form_of};
 use crate::data::interpreter_number;
@@ -19,7 +19,7 @@ use byte_store::{Difference, Piece};
 use elf_format::Form;
 use elf_format::records::{FileHeader, SectionHeader};
 use elf_image::Builder;
-use elf_plan::Plan;
+use elf_layout_plan::Plan;
 use patch_bytes::ByteString;
 use std::alloc::{AllocError, Global};
 

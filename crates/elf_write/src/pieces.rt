@@ -3,10 +3,10 @@ ghost use Rattle.std.specs.Prelude.{◌≡◌, ◌++◌, length, IfOk, OnOk};
 ghost use Rattle.patch_bytes.specs.ByteString.{bytes_of_each};
 ghost use Rattle.byte_store.specs.Laid.{patches_of};
 ghost use Rattle.elf_format.specs.Places.{occupies_file as does_occupy_file};
-ghost use Rattle.elf_plan.specs.Kept.{image_at_read, interpreter_number as number_of_interpreter, kept_sections};
-ghost use Rattle.elf_plan.specs.Plan.{resized};
-ghost use Rattle.elf_plan.specs.PlanSeen.{place_seen};
-ghost use Rattle.elf_written.specs.Writing.{patches_of_sections};
+ghost use Rattle.elf_layout_plan.specs.Kept.{image_at_read, interpreter_number as number_of_interpreter, kept_sections};
+ghost use Rattle.elf_layout_plan.specs.Plan.{resized};
+ghost use Rattle.elf_layout_plan.specs.PlanSeen.{place_seen};
+ghost use Rattle.elf_write_spec.specs.Writing.{patches_of_sections};
 ghost use Rattle.elf_write.specs.LayingSteps.{content_patches, header_patches};
 
 use crate::data::is_data;
@@ -14,7 +14,7 @@ use crate::spelled::SpelledHeaders;
 use byte_store::Piece;
 use elf_format::constants::{SHT_NOBITS, SHT_NULL};
 use elf_image::Builder;
-use elf_plan::{Plan, SectionPlace};
+use elf_layout_plan::{Plan, SectionPlace};
 use patch_bytes::ByteString;
 use std::alloc::{AllocError, Global};
 

@@ -3,8 +3,8 @@ ghost use Rattle.std.specs.Prelude.{◌≡◌, All, IfOk, List, map, ℕ};
 ghost use Rattle.byte_store.specs.Composed.{IsDifference, made_of};
 ghost use Rattle.byte_store.specs.Laid.{LiesIn, patches_of};
 ghost use Rattle.elf_image.specs.ImageSeen.{segment_kept};
-ghost use Rattle.elf_plan.specs.Plan.{resized};
-ghost use Rattle.elf_contents.specs.Inner.{IsReady};
+ghost use Rattle.elf_layout_plan.specs.Plan.{resized};
+ghost use Rattle.elf_write_contents.specs.Inner.{IsReady};
 ghost use Rattle.elf_write.specs.PieceSteps.{IsOverBase, load_spans, span_in};
 
 use crate::base::{old_places, within};

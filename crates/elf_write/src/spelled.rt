@@ -1,14 +1,14 @@
 //! The bytes of the file header and of the two header tables.
 ghost use Rattle.std.specs.Prelude.{◌≡◌, IfOk, IsTrue};
 ghost use Rattle.std.specs.List.{flat_map, list_all};
-ghost use Rattle.elf_records.specs.Fields.{do_fields_fit};
-ghost use Rattle.elf_records.specs.Spelled.{file_header_fields, section_fields, segment_fields, spelled_file_header, spelled_section_header, spelled_segment_header};
+ghost use Rattle.elf_tables.specs.Fields.{do_fields_fit};
+ghost use Rattle.elf_tables.specs.Spelled.{file_header_fields, section_fields, segment_fields, spelled_file_header, spelled_section_header, spelled_segment_header};
 ghost use Rattle.elf_write.specs.LayingSteps.{AreHeadersSpelled, DoHeadersFit};
 
 use elf_format::Form;
 use elf_format::records::{FileHeader, SectionHeader, SegmentHeader};
-use elf_plan::Plan;
-use elf_records::spelled::{push_file_header, push_section_header, push_segment_header};
+use elf_layout_plan::Plan;
+use elf_tables::spelled::{push_file_header, push_section_header, push_segment_header};
 use std::alloc::{AllocError, Global};
 
 // The bytes of the file header and of the two header tables.

@@ -2,8 +2,8 @@ ghost use Rattle.std.specs.Prelude.{◌≡◌, ◌∷◌, [], Ok, IfOk, MatchRes
 ghost use Rattle.elf_image.specs.Image.{image_of, shown};
 ghost use Rattle.elf_image.specs.ImageSeen.{entry_kept};
 ghost use Rattle.elf_image.specs.Answers.{borrowed};
-ghost use Rattle.elf_plan.specs.Kept.{image_at_read};
-ghost use Rattle.elf_written.specs.Whole.{IsWhole};
+ghost use Rattle.elf_layout_plan.specs.Kept.{image_at_read};
+ghost use Rattle.elf_write_spec.specs.Whole.{IsWhole};
 ghost use Rattle.elf_apply.specs.Causes.{RefusesRead};
 ghost use Rattle.arwen_elf.specs.PageSizes.{page_size_for, page_size_of};
 ghost use Rattle.arwen_elf.specs.Reads.{entries_shown, text_if, first_of, needed_shown, runpath_shown, searched_shown, soname_shown, texts_tagged};

@@ -1,11 +1,11 @@
 //! The bytes that an image is written to.
 ghost use Rattle.std.specs.Prelude.{◌≡◌, false, true, IfErr, IfOk, IfSome, IsOkAnd, IsTrue, OnOk};
 ghost use Rattle.byte_store.specs.Composed.{IsDifference, made_of};
-ghost use Rattle.elf_plan.specs.Kept.{image_at_read};
-ghost use Rattle.elf_plan.specs.Plan.{IsPlan, resized};
-ghost use Rattle.elf_plan.specs.Refusals.{do_sizes_of_image_fit, sizes_of_image};
-ghost use Rattle.elf_sizes.specs.MadeTables.{IsMadeOfList};
-ghost use Rattle.elf_written.specs.Whole.{IsWhole};
+ghost use Rattle.elf_layout_plan.specs.Kept.{image_at_read};
+ghost use Rattle.elf_layout_plan.specs.Plan.{IsPlan, resized};
+ghost use Rattle.elf_layout_plan.specs.Refusals.{do_sizes_of_image_fit, sizes_of_image};
+ghost use Rattle.elf_layout_sizes.specs.MadeTables.{IsMadeOfList};
+ghost use Rattle.elf_write_spec.specs.Whole.{IsWhole};
 ghost use Rattle.arwen_elf.specs.Written.{GetsImage, IsEditWritten, IsImageWritten, IsIo, IsNoDifference, IsNoEdit, IsNoImage, IsNotWritten, IsTold, MayNotWrite};
 
 use crate::elf::rewriter::writer::Writer;
@@ -13,8 +13,8 @@ use byte_store::Difference;
 use elf_apply::error::{ElfError, ModifyCause, Result};
 use elf_image::{Builder, ElfFault};
 use elf_layout::{lay_out_again, lay_out_sized};
-use elf_plan::{LayoutFault, Plan, read_again};
-use elf_sizes::{NewSizes, new_sizes_with_strings};
+use elf_layout_plan::{LayoutFault, Plan, read_again};
+use elf_layout_sizes::{NewSizes, new_sizes_with_strings};
 use elf_tables::Finished;
 use elf_write::{CountedWrite, Sink, image_bytes_again, image_pieces_with, write_all_counted};
 use patch_bytes::ByteString;

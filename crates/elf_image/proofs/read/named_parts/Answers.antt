@@ -2,8 +2,8 @@
 use Rattle.std.proofs.Common.{sym, map}
 use Rattle.elf_image.specs.ImageSeen.{section_kept}
 use Rattle.elf_image.specs.SymbolsRead.{lists_read}
-use Rattle.elf_rules.specs.Read.{parts_seen}
-use Rattle.elf_versions.proofs.KeptSteps.{none_found}
+use Rattle.elf_image_rules.specs.Read.{parts_seen}
+use Rattle.elf_image_versions.proofs.KeptSteps.{none_found}
 use Rattle.elf_image.proofs.SymbolLists.{named_missing, named_there}
 use Rattle.elf_image.proofs.read.named_parts.Goals as goal
 

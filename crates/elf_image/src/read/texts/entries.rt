@@ -8,7 +8,7 @@ ghost use Rattle.elf_image.specs.ImageSeen.{entry_kept};
 ghost use Rattle.elf_format.specs.Options.{each};
 ghost use Rattle.elf_format.specs.Answers.{Gives};
 ghost use Rattle.elf_format.specs.Seen.{entry_seen};
-ghost use Rattle.elf_rules.specs.Read.{parts_seen};
+ghost use Rattle.elf_image_rules.specs.Read.{parts_seen};
 ghost use Rattle.elf_format.specs.Rules.{raw_entries};
 
 use crate::dynamic::Dynamic;
@@ -17,8 +17,8 @@ use elf_format::entries::{ShownEntry, show_entry};
 use elf_format::lookups::section_of_type;
 use elf_format::records::EntryNumbers;
 use elf_format::view_fault::ViewFault;
-use elf_rules::headers::Headers;
-use elf_versions::texts::dynamic_texts;
+use elf_image_rules::headers::Headers;
+use elf_image_versions::texts::dynamic_texts;
 use patch_bytes::ByteString;
 use std::alloc::Global;
 

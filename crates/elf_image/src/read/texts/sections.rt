@@ -5,7 +5,7 @@ ghost use Rattle.elf_format.specs.Image.{section_read};
 ghost use Rattle.elf_image.specs.ImageSeen.{section_kept};
 ghost use Rattle.elf_format.specs.Options.{each};
 ghost use Rattle.elf_format.specs.Answers.{Gives};
-ghost use Rattle.elf_rules.specs.Read.{parts_seen};
+ghost use Rattle.elf_image_rules.specs.Read.{parts_seen};
 ghost use Rattle.elf_format.specs.Rules.{data_of, texts_of};
 ghost use Rattle.elf_image.specs.TextSteps.{named_section};
 
@@ -15,7 +15,7 @@ use elf_format::records::SectionHeader;
 use elf_format::section_data::SectionData;
 use elf_format::texts::text;
 use elf_format::view_fault::ViewFault;
-use elf_rules::headers::Headers;
+use elf_image_rules::headers::Headers;
 use patch_bytes::ByteString;
 use std::alloc::Global;
 

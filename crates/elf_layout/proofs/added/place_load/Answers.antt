@@ -1,5 +1,5 @@
 use Rattle.std.proofs.Common.{◌≡◌, ◌-◌, ◌≤◌, ◌^◌, ◌∙◌, ℕ, inr, sym, ap, subst, arith}
-use Rattle.elf_plan.specs.Added.{size_of_spots, spots_from}
+use Rattle.elf_layout_plan.specs.Added.{size_of_spots, spots_from}
 use Rattle.elf_format.specs.declared.constants.TheConstants.{PT_LOAD}
 use Rattle.elf_format.specs.declared.records.SegmentHeader.{SegmentHeader}
 use Rattle.elf_layout.specs.declared.spots.At.{At}

@@ -3,7 +3,7 @@ use Rattle.std.specs.List.{flat_map}
 use Rattle.std.proofs.lemmas.List.{drop_all, drop_more}
 use Rattle.elf_format.specs.Placement.{file_part, memory_part}
 use Rattle.elf_format.specs.Ranges.{end_of}
-use Rattle.elf_plan.specs.Added.{AddedLoad, added_loads}
+use Rattle.elf_layout_plan.specs.Added.{AddedLoad, added_loads}
 use Rattle.elf_layout.specs.declared.spots.At.{At}
 use Rattle.elf_layout.specs.Spots.{IsFar, load_here, with_spots}
 use Rattle.elf_layout.proofs.LoadSteps.{ArePlacedLoads, header_of, load_of, loads_all, loads_behind, loads_end, loads_more, loads_start, next_load, spots_of}

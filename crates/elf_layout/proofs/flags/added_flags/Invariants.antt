@@ -1,5 +1,5 @@
 use Rattle.std.proofs.Common.{◌≡◌, take}
-use Rattle.elf_plan.specs.Rounds.{each_once}
+use Rattle.elf_layout_plan.specs.Rounds.{each_once}
 use Rattle.elf_layout.proofs.FlagSteps.{flags_of_all}
 use Rattle.elf_layout.proofs.flags.added_flags.Given as goal
 

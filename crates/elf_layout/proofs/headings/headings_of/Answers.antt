@@ -1,6 +1,6 @@
 use Rattle.std.proofs.Common.{map}
-use Rattle.elf_plan.specs.PlanSeen.{place_seen}
-use Rattle.elf_leaders.specs.Led.{leader_seen}
+use Rattle.elf_layout_plan.specs.PlanSeen.{place_seen}
+use Rattle.elf_layout_segments.specs.Led.{leader_seen}
 use Rattle.elf_layout.specs.Targets.{begins_seen}
 use Rattle.elf_layout.proofs.WrittenSteps.{headings_found-are}
 use Rattle.elf_layout.proofs.headings.headings_of.Goals as goal

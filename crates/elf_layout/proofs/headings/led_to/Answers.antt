@@ -2,7 +2,7 @@ use Rattle.std.proofs.Common.{ℕ, ap, sym, ◌∙◌, ◌&&◌}
 use Rattle.std.proofs.lemmas.Bool.{and_from, and_left, and_right}
 use Rattle.elf_format.specs.declared.form.Form.{Form}
 use Rattle.elf_format.specs.declared.records.SegmentHeader.{SegmentHeader}
-use Rattle.elf_plan.specs.Written.{memory_size, physical_for}
+use Rattle.elf_layout_plan.specs.Written.{memory_size, physical_for}
 use Rattle.elf_layout.specs.declared.targets.TargetAt.{TargetAt}
 use Rattle.elf_layout.specs.Targets.{fits_word, header_at, is_physical_well, is_well_at}
 use Rattle.elf_layout.proofs.headings.led_to.Goals as goal

@@ -1,7 +1,7 @@
 use Rattle.std.proofs.Common.{◌≡◌, length, ap, sym, ◌∙◌, arith}
 use Rattle.std.proofs.lemmas.List.{length-map}
 use Rattle.elf_image.specs.ImageSeen.{segment_kept}
-use Rattle.elf_leaders.proofs.ForCallers.{few_needed}
+use Rattle.elf_layout_segments.proofs.ForCallers.{few_needed}
 use Rattle.elf_layout.proofs.layout.headers_for.Goals as goal
 
 pub overflow_add-result : goal.overflow_add-result

@@ -1,8 +1,8 @@
 use Rattle.std.proofs.Common.{◌<◌, ℕ, List, length, ap, sym, subst, ◌∙◌}
 use Rattle.std.specs.Prelude.{All}
-use Rattle.elf_plan.specs.Plan.{IsPlan, Layout}
-use Rattle.elf_plan.specs.PlanSeen.{parts_seen}
-use Rattle.elf_plan.specs.Plan.{does_plan_fit}
+use Rattle.elf_layout_plan.specs.Plan.{IsPlan, Layout}
+use Rattle.elf_layout_plan.specs.PlanSeen.{parts_seen}
+use Rattle.elf_layout_plan.specs.Plan.{does_plan_fit}
 use Rattle.elf_layout.proofs.PlanSteps.{ended_within, not_planned, planned}
 use Rattle.elf_layout.proofs.layout.plan_after.Goals as goal
 

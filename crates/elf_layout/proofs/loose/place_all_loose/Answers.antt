@@ -1,6 +1,6 @@
 use Rattle.std.proofs.Common.{ℕ, List, arith}
 use Rattle.std.specs.Prelude.{slice_get}
-use Rattle.elf_plan.specs.Memory.{SizedSection, sized_sections}
+use Rattle.elf_layout_plan.specs.Memory.{SizedSection, sized_sections}
 use Rattle.elf_layout.proofs.SpotSteps.{found_some}
 use Rattle.elf_layout.proofs.TableSteps.{loose_all, loose_far, loose_more}
 use Rattle.elf_layout.proofs.loose.place_all_loose.Goals as goal

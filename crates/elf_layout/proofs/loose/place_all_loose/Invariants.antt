@@ -1,4 +1,4 @@
-use Rattle.elf_plan.specs.Memory.{sized_sections}
+use Rattle.elf_layout_plan.specs.Memory.{sized_sections}
 use Rattle.elf_layout.proofs.TableSteps.{ArePlacedLoose}
 use Rattle.elf_layout.proofs.loose.place_all_loose.Given as goal
 

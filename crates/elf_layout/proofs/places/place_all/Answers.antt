@@ -3,9 +3,9 @@ use Rattle.std.specs.Prelude.{option_map, slice_get}
 use Rattle.std.proofs.lemmas.List.{map_push}
 use Rattle.std.proofs.lemmas.Option.{slice_get-map}
 use Rattle.elf_format.specs.Places.{Place}
-use Rattle.elf_plan.specs.Memory.{SizedSection, sized_sections}
-use Rattle.elf_plan.specs.PlanSeen.{place_seen}
-use Rattle.elf_plan.specs.declared.plan.SectionPlace.{SectionPlace}
+use Rattle.elf_layout_plan.specs.Memory.{SizedSection, sized_sections}
+use Rattle.elf_layout_plan.specs.PlanSeen.{place_seen}
+use Rattle.elf_layout_plan.specs.declared.plan.SectionPlace.{SectionPlace}
 use Rattle.elf_layout.specs.declared.spots.At.{At}
 use Rattle.elf_layout.specs.Loose.{kept_for, place_by}
 use Rattle.elf_layout.proofs.SpotSteps.{found_some, own_position}

@@ -1,7 +1,7 @@
 use Rattle.std.proofs.Common.{map}
 use Rattle.std.specs.Prelude.{slice_get}
-use Rattle.elf_plan.specs.Memory.{sized_sections}
-use Rattle.elf_plan.specs.PlanSeen.{place_seen}
+use Rattle.elf_layout_plan.specs.Memory.{sized_sections}
+use Rattle.elf_layout_plan.specs.PlanSeen.{place_seen}
 use Rattle.elf_layout.specs.Loose.{kept_for, place_by}
 use Rattle.elf_layout.proofs.TableSteps.{ArePlacedAll}
 use Rattle.elf_layout.proofs.places.place_all.Given as goal

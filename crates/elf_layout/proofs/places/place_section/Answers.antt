@@ -1,5 +1,5 @@
 use Rattle.std.proofs.Common.{◌∙◌, ℕ, Option, None, sym, ap}
-use Rattle.elf_plan.specs.Standing.{stands_at}
+use Rattle.elf_layout_plan.specs.Standing.{stands_at}
 use Rattle.elf_layout.specs.declared.sized.SectionNumbers.{SectionNumbers}
 use Rattle.elf_layout.specs.declared.spots.At.{At}
 use Rattle.elf_layout.specs.Loose.{place_by}

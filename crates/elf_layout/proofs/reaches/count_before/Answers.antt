@@ -1,7 +1,7 @@
 use Rattle.std.proofs.Common.{List, rules}
 use Rattle.std.specs.Prelude.{nat_lt}
 use Rattle.std.proofs.lemmas.List.Sorted.{IsPartitionPoint-from_clause, IsPartitionedBy-ltb}
-use Rattle.elf_leaders.specs.declared.starts.Begin.{Begin}
+use Rattle.elf_layout_segments.specs.declared.starts.Begin.{Begin}
 use Rattle.elf_layout.specs.Reaches.{start_of}
 use Rattle.elf_layout.proofs.reaches.count_before.Goals as goal
 

@@ -1,7 +1,7 @@
 use Rattle.std.proofs.Common.{ℕ, List, Option, ap, ◌∙◌, subst, map}
 use Rattle.elf_format.specs.Ranges.{end_of}
-use Rattle.elf_plan.specs.PlanSeen.{place_seen}
-use Rattle.elf_leaders.specs.declared.starts.Begin.{Begin}
+use Rattle.elf_layout_plan.specs.PlanSeen.{place_seen}
+use Rattle.elf_layout_segments.specs.declared.starts.Begin.{Begin}
 use Rattle.elf_layout.specs.declared.reaches.Reach.{Reach}
 use Rattle.elf_layout.specs.Reaches.{BeginBefore, over}
 use Rattle.elf_layout.proofs.TreeSteps.{over_range}

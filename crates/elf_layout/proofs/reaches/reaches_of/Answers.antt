@@ -1,7 +1,7 @@
 use Rattle.std.proofs.Common.{List, map, subst, rules}
 use Rattle.std.proofs.lemmas.List.Sorted.{IsNonDecreasingBy-from_sort_by_key}
-use Rattle.elf_plan.specs.PlanSeen.{place_seen}
-use Rattle.elf_leaders.specs.declared.starts.Begin.{Begin}
+use Rattle.elf_layout_plan.specs.PlanSeen.{place_seen}
+use Rattle.elf_layout_segments.specs.declared.starts.Begin.{Begin}
 use Rattle.elf_layout.specs.Reaches.{IsTreeOver, start_of}
 use Rattle.elf_layout.proofs.reaches.reaches_of.Goals as goal
 

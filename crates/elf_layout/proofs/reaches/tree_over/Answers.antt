@@ -1,7 +1,7 @@
 use Rattle.std.proofs.Common.{ℕ, ◌≡◌, ◌+◌, ◌*◌, List, Option, None, ap, ◌∙◌, get_or, length, map, subst, sym, arith}
 use Rattle.std.proofs.lemmas.List.{get_or_read, take_all}
 use Rattle.elf_format.specs.Places.{Place}
-use Rattle.elf_plan.specs.PlanSeen.{place_seen}
+use Rattle.elf_layout_plan.specs.PlanSeen.{place_seen}
 use Rattle.elf_layout.specs.declared.reaches.Reach.{Reach}
 use Rattle.elf_layout.specs.Reaches.{joined, reach_of_begin}
 use Rattle.elf_layout.proofs.TreeSteps.{IsTreeUpTo, tree_begun, tree_done, tree_more}

@@ -1,5 +1,5 @@
 use Rattle.std.proofs.Common.{◌≡◌, map, take}
-use Rattle.elf_plan.specs.PlanSeen.{place_seen}
+use Rattle.elf_layout_plan.specs.PlanSeen.{place_seen}
 use Rattle.elf_layout.specs.Reaches.{reach_of_begin}
 use Rattle.elf_layout.proofs.TreeSteps.{IsTreeUpTo}
 use Rattle.elf_layout.proofs.reaches.tree_over.Given as goal

@@ -2,8 +2,8 @@ use Rattle.std.proofs.Common.{◌≡◌, ◌∙◌, List, length, sym, ap, subst
 use Rattle.std.proofs.lemmas.List.{length-map}
 use Rattle.elf_format.specs.Image.{ImageSection}
 use Rattle.elf_image.specs.ImageSeen.{section_kept}
-use Rattle.elf_plan.specs.Memory.{Resized, sized_sections}
-use Rattle.elf_moves.specs.Seen.{resized_seen}
+use Rattle.elf_layout_plan.specs.Memory.{Resized, sized_sections}
+use Rattle.elf_layout_moves.specs.Seen.{resized_seen}
 use Rattle.elf_layout.proofs.SizedSections.{count_sized}
 use Rattle.elf_layout.proofs.sized.section_count.Goals as goal
 

@@ -1,6 +1,6 @@
 use Rattle.std.proofs.Common.{◌≡◌, ◌≤◌, ◌^◌, ◌∙◌, None, sym, ap, subst}
 use Rattle.std.specs.Prelude.{slice_get}
-use Rattle.elf_plan.specs.Memory.{sized_sections}
+use Rattle.elf_layout_plan.specs.Memory.{sized_sections}
 use Rattle.elf_layout.specs.declared.spots.At.{At}
 use Rattle.elf_layout.specs.Spots.{with_at}
 use Rattle.elf_layout.proofs.SpotSteps.{behind_none, behind_one, found_none, found_some, one_missing, one_other, one_there, own_position, spots_none, spots_one}

@@ -2,7 +2,7 @@ use Rattle.std.proofs.Common.{◌≡◌, ◌∙◌, List, Option, refl, ap}
 use Rattle.std.specs.List.{flat_map}
 use Rattle.std.proofs.lemmas.List.{take_at}
 use Rattle.std.proofs.lemmas.Result.{err_from_is_err_and}
-use Rattle.elf_plan.specs.Added.{added_loads}
+use Rattle.elf_layout_plan.specs.Added.{added_loads}
 use Rattle.elf_layout.specs.declared.spots.At.{At}
 use Rattle.elf_layout.specs.Spots.{none_yet, with_spots}
 use Rattle.elf_layout.proofs.StandingSteps.{all_stands, behind_fault}

@@ -1,7 +1,7 @@
 use Rattle.std.proofs.Common.{◌≤◌, ◌^◌, ℕ, inl, arith}
 use Rattle.patch_bytes.specs.Number.{word_size}
-use Rattle.elf_plan.specs.Memory.{sized_sections}
-use Rattle.elf_plan.specs.Standing.{next_table}
+use Rattle.elf_layout_plan.specs.Memory.{sized_sections}
+use Rattle.elf_layout_plan.specs.Standing.{next_table}
 use Rattle.elf_layout.specs.Loose.{content_behind, start_behind}
 use Rattle.elf_layout.proofs.FarSteps.{next_above}
 use Rattle.elf_layout.proofs.TableSteps.{loose_grows}

@@ -1,7 +1,7 @@
 use Rattle.std.proofs.Common.{◌≡◌, drop, map}
 use Rattle.std.specs.Prelude.{is_some}
 use Rattle.elf_image.specs.ImageSeen.{segment_kept}
-use Rattle.elf_plan.specs.Memory.{loaded_over}
+use Rattle.elf_layout_plan.specs.Memory.{loaded_over}
 use Rattle.elf_layout.proofs.tables.is_range_loaded.Given as goal
 
 abbrev pub invariant-loop-segment : goal.invariant-loop-segment

@@ -4,16 +4,16 @@ use Rattle.std.proofs.lemmas.List.{get_or_default, take_all}
 use Rattle.elf_format.specs.declared.records.SegmentHeader.{SegmentHeader}
 use Rattle.elf_format.specs.Places.{Place}
 use Rattle.elf_format.specs.Records.{segment_header_size}
-use Rattle.elf_plan.specs.Added.{header_count}
-use Rattle.elf_plan.specs.Follow.{leader_of}
-use Rattle.elf_plan.specs.Memory.{Resized}
-use Rattle.elf_plan.specs.PlanSeen.{place_seen}
-use Rattle.elf_plan.specs.Written.{written_from}
-use Rattle.elf_leaders.specs.declared.leaders.LeaderAt.{LeaderAt}
-use Rattle.elf_leaders.specs.declared.leaders.LeaderAt.TheVariants as at
-use Rattle.elf_leaders.specs.Led.{Told, leader_seen, told}
+use Rattle.elf_layout_plan.specs.Added.{header_count}
+use Rattle.elf_layout_plan.specs.Follow.{leader_of}
+use Rattle.elf_layout_plan.specs.Memory.{Resized}
+use Rattle.elf_layout_plan.specs.PlanSeen.{place_seen}
+use Rattle.elf_layout_plan.specs.Written.{written_from}
+use Rattle.elf_layout_segments.specs.declared.leaders.LeaderAt.{LeaderAt}
+use Rattle.elf_layout_segments.specs.declared.leaders.LeaderAt.TheVariants as at
+use Rattle.elf_layout_segments.specs.Led.{Told, leader_seen, told}
 use Rattle.elf_layout.specs.Targets.{Begins, begins_seen, do_headings_fit}
-use Rattle.elf_leaders.proofs.ForCallers.{leader-at, leaders-length}
+use Rattle.elf_layout_segments.proofs.ForCallers.{leader-at, leaders-length}
 use Rattle.elf_layout.proofs.WrittenSteps.{heading_past, heading_written, stands_too_far, written-more}
 use Rattle.elf_layout.proofs.written.all_written.Goals as goal
 

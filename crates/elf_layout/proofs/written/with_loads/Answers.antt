@@ -1,7 +1,7 @@
 use Rattle.std.proofs.Common.{◌++◌, List, ap, sym, ◌∙◌}
 use Rattle.std.proofs.lemmas.List.{append-nil, at_drop_all}
 use Rattle.elf_format.specs.declared.records.SegmentHeader.{SegmentHeader}
-use Rattle.elf_plan.specs.Written.{behind_last_load}
+use Rattle.elf_layout_plan.specs.Written.{behind_last_load}
 use Rattle.elf_layout.proofs.WrittenSteps.{behind-more, behind-nothing}
 use Rattle.elf_layout.proofs.written.with_loads.Goals as goal
 

@@ -1,6 +1,6 @@
 use Rattle.std.proofs.Common.{◌≡◌, ◌++◌, count_by, drop}
 use Rattle.elf_format.specs.File.{is_loaded}
-use Rattle.elf_plan.specs.Written.{behind_last_load}
+use Rattle.elf_layout_plan.specs.Written.{behind_last_load}
 use Rattle.elf_layout.proofs.written.with_loads.Given as goal
 
 abbrev pub invariant-loop-p : goal.invariant-loop-p

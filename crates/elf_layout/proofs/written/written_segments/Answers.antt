@@ -1,6 +1,6 @@
 use Rattle.std.proofs.Common.{map, ap, ◌∙◌}
-use Rattle.elf_plan.specs.Added.{added_loads}
-use Rattle.elf_plan.specs.Written.{behind_last_load, written_segments}
+use Rattle.elf_layout_plan.specs.Added.{added_loads}
+use Rattle.elf_layout_plan.specs.Written.{behind_last_load, written_segments}
 use Rattle.elf_layout.proofs.written.written_segments.Goals as goal
 
 pub returns-in-Ok-clause-written : goal.returns-in-Ok-clause-written

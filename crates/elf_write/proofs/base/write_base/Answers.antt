@@ -1,7 +1,7 @@
 use Rattle.std.proofs.Common.{◌∙◌, map, ap}
 use Rattle.elf_format.specs.Image.{Image}
 use Rattle.elf_image.specs.ImageSeen.{segment_kept}
-use Rattle.elf_plan.specs.Plan.{resized}
+use Rattle.elf_layout_plan.specs.Plan.{resized}
 use Rattle.elf_write.proofs.LayingPlaces.{based_by}
 use Rattle.elf_write.proofs.base.write_base.Goals as goal
 

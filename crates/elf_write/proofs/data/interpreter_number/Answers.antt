@@ -2,7 +2,7 @@
 use Rattle.std.proofs.Common.{ℕ, Option, Some, ap, sym, ◌∙◌}
 use Rattle.std.specs.Prelude.{slice_index}
 use Rattle.patch_bytes.specs.Memory.{◌>>=◌}
-use Rattle.elf_sizes.proofs.KeptSteps.{number_by_position}
+use Rattle.elf_layout_sizes.proofs.KeptSteps.{number_by_position}
 use Rattle.elf_write.proofs.data.interpreter_number.Goals as goal
 
 pub returns : goal.returns

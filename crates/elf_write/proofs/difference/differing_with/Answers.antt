@@ -3,8 +3,8 @@ use Rattle.byte_store.specs.Composed.{made_of}
 use Rattle.patch_bytes.specs.ByteString.{bytes_of_each}
 use Rattle.elf_format.specs.declared.records.EntryNumbers.{EntryNumbers}
 use Rattle.elf_format.specs.declared.records.SectionHeader.{SectionHeader}
-use Rattle.elf_written.specs.Writing.{IsWholeWriting, written_bytes}
-use Rattle.elf_contents.specs.Inner.{writing_of}
+use Rattle.elf_write_spec.specs.Writing.{IsWholeWriting, written_bytes}
+use Rattle.elf_write_contents.specs.Inner.{writing_of}
 use Rattle.elf_write.proofs.Writes.{are_written, is_whole_written}
 use Rattle.elf_write.proofs.difference.differing_with.Goals as goal
 

@@ -3,7 +3,7 @@ use Rattle.std.proofs.Common.{◌∙◌, List, ℕ, ap, drop, length, subst, sym
 use Rattle.std.proofs.lemmas.List.{length-map, take_at}
 use Rattle.byte_store.specs.Laid.{LiesIn, patches_of}
 use Rattle.patch_bytes.specs.ByteString.{StringValue, bytes_of_each}
-use Rattle.elf_plan.specs.Plan.{resized}
+use Rattle.elf_layout_plan.specs.Plan.{resized}
 use Rattle.elf_write.proofs.LayingWhole.{IsFileOf, all_lie, as_many, headers_fit, laid-whole, length-based}
 use Rattle.elf_write.proofs.laying.laid_bytes.Goals as goal
 

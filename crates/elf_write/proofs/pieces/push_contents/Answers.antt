@@ -2,12 +2,12 @@ use Rattle.std.proofs.Common.{◌≡◌, ◌<◌, ◌∙◌, ℕ, List, length, 
 use Rattle.std.proofs.lemmas.List.{get_or-map, length-map}
 use Rattle.byte_store.specs.Laid.{patches_of}
 use Rattle.patch_bytes.specs.ByteString.{StringValue, bytes_of_each}
-use Rattle.elf_plan.specs.declared.plan.SectionPlace.{SectionPlace}
-use Rattle.elf_plan.specs.Kept.{kept_sections}
-use Rattle.elf_plan.specs.Plan.{resized}
-use Rattle.elf_plan.specs.PlanSeen.{place_seen}
+use Rattle.elf_layout_plan.specs.declared.plan.SectionPlace.{SectionPlace}
+use Rattle.elf_layout_plan.specs.Kept.{kept_sections}
+use Rattle.elf_layout_plan.specs.Plan.{resized}
+use Rattle.elf_layout_plan.specs.PlanSeen.{place_seen}
 use Rattle.elf_write.specs.LayingSteps.{content_patches}
-use Rattle.elf_contents.proofs.ForCallers.{long_held}
+use Rattle.elf_write_contents.proofs.ForCallers.{long_held}
 use Rattle.elf_write.proofs.LayingWhole.{IsAt, left-next, pushed-all, pushed-next}
 use Rattle.elf_write.proofs.pieces.push_contents.Goals as goal
 

@@ -3,7 +3,7 @@ use Rattle.byte_store.specs.Composed.{made_of}
 use Rattle.byte_store.specs.Laid.{patches_of}
 use Rattle.elf_format.specs.Image.{Image}
 use Rattle.elf_image.specs.ImageSeen.{segment_kept}
-use Rattle.elf_plan.specs.Plan.{resized}
+use Rattle.elf_layout_plan.specs.Plan.{resized}
 use Rattle.elf_write.proofs.Composing.{composed_of}
 use Rattle.elf_write.proofs.spans.differing.Goals as goal
 

@@ -1,6 +1,6 @@
 use Rattle.std.proofs.Common.{◌≡◌, take}
 use Rattle.std.specs.List.{flat_map}
-use Rattle.elf_records.specs.Spelled.{spelled_segment_header}
+use Rattle.elf_tables.specs.Spelled.{spelled_segment_header}
 use Rattle.elf_write.proofs.spelled.segment_table.Given as goal
 
 -- the bytes of the program headers so far

@@ -8,11 +8,11 @@ use Rattle.elf_format.specs.File.{Parts, section_of_type}
 use Rattle.elf_image.specs.ImageSeen.{entry_kept}
 use Rattle.elf_format.specs.Options.{each}
 use Rattle.elf_format.specs.Answers.{Fails}
-use Rattle.elf_rules.specs.Read.{parts_seen}
+use Rattle.elf_image_rules.specs.Read.{parts_seen}
 use Rattle.elf_format.specs.declared.records.EntryNumbers.{EntryNumbers}
 use Rattle.elf_format.specs.declared.records.SectionHeader.{SectionHeader}
 use Rattle.elf_format.specs.Rules.{file_of}
-use Rattle.elf_versions.proofs.KeptSteps.{none_found}
+use Rattle.elf_image_versions.proofs.KeptSteps.{none_found}
 use Rattle.elf_image.proofs.TextSteps.{entries_fail, entries_none, entries_some}
 use Rattle.elf_image.proofs.read.texts.entries.entries.Goals as goal
 

@@ -1,0 +1,64 @@
+-- How the blocks of an image are found: what the steps hand to each other.
+use Rattle.std.specs.Prelude.{ℕ, ◌+◌, ◌-◌, ◌≡◌, List, [], ◌∷◌, length, map, filter, find, drop, Bool, false, Option, Some, ◌==◌, ◌&&◌, ◌||◌, if◌then◌else◌, slice_index}
+use Rattle.std.specs.Option.{option_map}
+use Rattle.patch_bytes.specs.Memory.{◌>>=◌}
+use Rattle.elf_format.specs.declared.constants.TheConstants.{SHT_DYNSYM, SHT_GNU_HASH, SHT_GNU_VERDEF, SHT_GNU_VERNEED, SHT_GNU_VERSYM, SHT_HASH, SHT_NOTE, SHT_STRTAB}
+use Rattle.elf_format.specs.Image.{Image, ImageSection}
+use Rattle.elf_format.specs.Options.{is_one_of, is_some_and}
+use Rattle.elf_format.specs.declared.records.SegmentHeader.{SegmentHeader}
+use Rattle.elf_layout_plan.specs.Blocks.{Block}
+use Rattle.elf_layout_plan.specs.Kept.{KeptSection, kept_from, stands_as_interpreter}
+use Rattle.elf_layout_plan.specs.Memory.{Resized, SizedSection, is_stray, section_block, sized_from, takes_memory}
+
+-- each section has a number at read
+abbrev pub AreNumbered : Image → Type 0
+AreNumbered image = length image.section_numbers ≡ length image.sections
+
+-- the address of what starts at an offset, in a loaded segment
+abbrev pub address_of : ℕ → Option SegmentHeader → Option ℕ
+address_of offset load = option_map (λ p. p.p_vaddr + offset - p.p_offset) load
+
+-- the sections from a position on
+abbrev pub kept_behind : Image → ℕ → List KeptSection
+kept_behind image k = kept_from k (drop k image.section_numbers) (drop k image.sections)
+
+-- the number at read of the first of them that stands where the interpreter's program header says
+abbrev pub number_from : Image → SegmentHeader → ℕ → Option ℕ
+number_from image p k = find (λ s. stands_as_interpreter p s.section) (kept_behind image k) >>= λ s. Some s.number
+
+-- what the first of them of a type links to
+abbrev pub link_from : Image → ℕ → ℕ → Option ℕ
+link_from image type k = find (λ s. s.section.sh_type == type) (kept_behind image k) >>= λ s. Some s.section.sh_link
+
+-- a section at a position, with its number at read and its new size
+abbrev pub sized_at : ℕ → ℕ → ImageSection → ℕ → SizedSection
+sized_at position number s size = record { kept = record { position = position; number = number; section = s }; size = size }
+
+-- a section that was empty can't stand where it stood
+abbrev pub is_section_stray : Image → ImageSection → ℕ → Bool
+is_section_stray image s size = is_stray (record { read = image; image = image; sizes = [] }) (sized_at 0 0 s size)
+
+-- every section of the type can move
+abbrev pub is_movable_type : ℕ → Bool
+is_movable_type type = is_one_of (SHT_NOTE ∷ SHT_DYNSYM ∷ SHT_HASH ∷ SHT_GNU_HASH ∷ SHT_GNU_VERSYM ∷ SHT_GNU_VERDEF ∷ SHT_GNU_VERNEED ∷ []) type
+
+-- how readily a section moves that had a number at read, by the numbers of the interpreter's and of the dynamic strings
+abbrev pub priority_with : Option ℕ → Option ℕ → ImageSection → ℕ → ℕ
+priority_with interpreter strings s number =
+    if is_some_and (λ n. n == number) interpreter then 1
+    else if is_movable_type s.sh_type || s.sh_type == SHT_STRTAB && is_some_and (λ n. n == number) strings then 2 else 0
+
+-- the block of the section at a position
+abbrev pub made_block : Resized → Option ℕ → Option ℕ → ℕ → ImageSection → Block
+made_block r interpreter strings position s = record {
+  start = s.sh_addr;
+  size = slice_index r.sizes position;
+  priority = priority_with interpreter strings s (slice_index r.image.section_numbers position);
+  section = Some position;
+  is_stray = is_section_stray r.image s (slice_index r.sizes position);
+  is_load_start = false;
+}
+
+-- the blocks of the sections from a position on
+abbrev pub section_blocks_from : Resized → ℕ → List Block
+section_blocks_from r k = map (section_block r) (filter (λ s. takes_memory s.kept.section) (sized_from (kept_behind r.image k) (drop k r.sizes)))

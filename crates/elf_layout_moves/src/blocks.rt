@@ -1,0 +1,420 @@
+// The blocks of memory that an image takes.
+ghost use Rattle.std.specs.Prelude.{◌≡◌, ◌&&◌, ◌+◌, ◌*◌, ◌^◌, ◌<◌, ◌≤◌, ◌∷◌, ◌++◌, [], IfOk, IsTrue, OnOk, ◌==◌, None, Some, false, true, filter, length, slice_get, map, option_map, slice_index};
+ghost use Rattle.std.specs.List.{flat_map, list_any};
+ghost use Rattle.elf_format.specs.File.{is_loaded, loads_of, segment_of_type};
+ghost use Rattle.elf_format.specs.declared.constants.TheConstants.{PT_INTERP as INTERP};
+ghost use Rattle.elf_format.specs.Image.{ImageSection};
+ghost use Rattle.elf_format.specs.Options.{is_some_and, list_at};
+ghost use Rattle.elf_format.specs.Placement.{file_part, shows_at};
+ghost use Rattle.elf_format.specs.Ranges.{lies_in, range};
+ghost use Rattle.elf_format.specs.Records.{segment_header_size};
+ghost use Rattle.elf_image.specs.ImageSeen.{section_kept, segment_kept};
+ghost use Rattle.elf_layout_plan.specs.Kept.{dynamic_strings_number, interpreter_number, link_of_type, stands_as_interpreter};
+ghost use Rattle.elf_layout_plan.specs.Memory.{blocks_with, edge_blocks, fixed_block, header_blocks, loaded_over, takes_memory};
+ghost use Rattle.elf_layout_moves.specs.ImageBlocks.{AreNumbered, address_of, is_movable_type, is_section_stray, made_block, number_from, priority_with, section_blocks_from};
+
+use crate::resizing::Resizing;
+use elf_format::constants::{
+    PT_INTERP, PT_LOAD, SHF_ALLOC, SHF_TLS, SHT_DYNAMIC, SHT_DYNSYM, SHT_GNU_HASH, SHT_GNU_VERDEF,
+    SHT_GNU_VERNEED, SHT_GNU_VERSYM, SHT_HASH, SHT_NOBITS, SHT_NOTE, SHT_NULL, SHT_PROGBITS,
+    SHT_STRTAB,
+};
+use elf_format::form::Form;
+use elf_image::{Builder, Section, Segment};
+use std::alloc::{AllocError, Global};
+use std::marker::Model;
+
+// A range of memory that something takes, with how readily it moves and which section's it is.
+#[derive(Clone, Copy)]
+pub(crate) struct MemoryBlock {
+    pub(crate) start: u128,
+    pub(crate) size: u128,
+    pub(crate) priority: u8,
+    pub(crate) section: Option<usize>,
+    pub(crate) is_stray: bool,
+    pub(crate) is_load_start: bool,
+}
+
+impl Model for MemoryBlock {
+    ghost use Rattle.elf_layout_plan.specs.Blocks.{Block};
+
+    ghost Value = { Block };
+
+    ghost view = { λ b. record {
+      start = b.start;
+      size = b.size;
+      priority = b.priority;
+      section = b.section;
+      is_stray = b.is_stray;
+      is_load_start = b.is_load_start;
+    } };
+
+    ghost inverse = { λ b. record {
+      start = b.start;
+      size = b.size;
+      priority = b.priority;
+      section = b.section;
+      is_stray = b.is_stray;
+      is_load_start = b.is_load_start;
+    } };
+}
+
+// A block that never moves and is no section.
+fn fixed(start: u128, size: u128) -> MemoryBlock
+    ensures { result ≡ fixed_block start size }
+{
+    MemoryBlock {
+        start,
+        size,
+        priority: 0,
+        section: None,
+        is_stray: false,
+        is_load_start: false,
+    }
+}
+
+// The start of a loaded segment.
+fn load_start(start: u128) -> MemoryBlock
+    ensures { result ≡ record (fixed_block start 0) { is_load_start = true } }
+{
+    MemoryBlock {
+        start,
+        size: 0,
+        priority: 0,
+        section: None,
+        is_stray: false,
+        is_load_start: true,
+    }
+}
+
+// How the numbers of an image are spelled.
+fn form_of(image: &Builder<'_>) -> Form
+    ensures { result ≡ image.now.form }
+{
+    Form {
+        wide: image.class(),
+        order: image.order(),
+    }
+}
+
+// Whether a range of the file lies in the file part of a loaded segment.
+fn is_loaded_part(p: &Segment<'_>, start: u64, size: u128) -> bool
+    requires { size < 2 ^ 80 }
+    ensures value { result ≡ (is_loaded (segment_kept p.now)
+        && lies_in (range start size) (file_part (segment_kept p.now))) }
+    ensures behind { IsTrue result → (segment_kept p.now).p_offset ≤ start }
+{
+    p.p_type() == PT_LOAD
+        && p.p_offset() <= start
+        && u128::from(start) + size <= u128::from(p.p_offset()) + u128::from(p.p_filesz())
+}
+
+// The address of a range of the file, by the first loaded segment whose file part has all of it.
+fn address_in(segments: &[Segment<'_>], start: u64, size: u128) -> Option<u128>
+    requires { size < 2 ^ 80 }
+    ensures { result ≡ address_of start
+        (loaded_over (range start size) (map segment_kept segments.now)) }
+{
+    for p in segments {
+        if is_loaded_part(p, start, size) {
+            return Some(u128::from(p.p_vaddr()) + u128::from(start) - u128::from(p.p_offset()));
+        }
+    }
+    None
+}
+
+// Puts a block that never moves behind others, where it has an address.
+fn push_at(made: &mut Vec<MemoryBlock>, start: Option<u128>, size: u128) -> Result<(), AllocError>
+    ensures { OnOk result (made.new.items
+        ≡ made.old.items ++ list_at (λ address. fixed_block address size ∷ []) start) }
+{
+    if let Some(address) = start {
+        made.push(fixed(address, size))?;
+    }
+    Ok(())
+}
+
+// How many bytes the program header table had at read.
+fn table_size_at_read(read: &Builder<'_>) -> u128
+    ensures value { result ≡ length read.now.segments * segment_header_size read.now.form }
+    ensures small { result < 2 ^ 80 }
+{
+    read.segments().len() as u128 * form_of(read).segment_header_size() as u128
+}
+
+// How many bytes it has with so many entries more than the image has segments.
+fn table_size(image: &Builder<'_>, added: usize) -> u128
+    ensures { result
+        ≡ (length image.now.segments + added) * segment_header_size image.now.form }
+{
+    let count = image.segments().len() as u128 + added as u128;
+    count * form_of(image).segment_header_size() as u128
+}
+
+// Puts the file header and the program header table behind other blocks, each where a loaded segment had all of it at read.
+fn push_headers(
+    made: &mut Vec<MemoryBlock>,
+    r: &Resizing<'_, '_>,
+    added: usize,
+) -> Result<(), AllocError>
+    ensures { OnOk result (made.new.items ≡ made.old.items ++ header_blocks r.now added) }
+{
+    let segments = r.read.segments();
+    let size = form_of(r.read).file_header_size() as u128;
+    push_at(made, address_in(segments, 0, size), size)?;
+    let start = r.read.header().e_phoff;
+    let table = address_in(segments, start, table_size_at_read(r.read));
+    push_at(made, table, table_size(r.image, added))
+}
+
+// Puts the start of a loaded segment behind other blocks, and where its file part and its memory end.
+fn push_edges(made: &mut Vec<MemoryBlock>, p: &Segment<'_>) -> Result<(), AllocError>
+    ensures { OnOk result (made.new.items
+        ≡ made.old.items ++ edge_blocks (segment_kept p.now)) }
+{
+    let start = u128::from(p.p_vaddr());
+    made.push(load_start(start))?;
+    made.push(fixed(start + u128::from(p.p_filesz()), 0))?;
+    made.push(fixed(start + u128::from(p.p_memsz()), 0))?;
+    Ok(())
+}
+
+// The same of each loaded segment.
+fn push_all_edges(made: &mut Vec<MemoryBlock>, segments: &[Segment<'_>]) -> Result<(), AllocError>
+    ensures { OnOk result (made.new.items ≡ made.old.items
+        ++ flat_map edge_blocks (loads_of (map segment_kept segments.now))) }
+{
+    for p in segments {
+        if p.p_type() == PT_LOAD {
+            push_edges(made, p)?;
+        }
+    }
+    Ok(())
+}
+
+// Whether a segment shows a range of the file at an address.
+fn is_shown_by(p: &Segment<'_>, offset: u64, size: u64, address: u64) -> bool
+    ensures { result ≡ shows_at (segment_kept p.now) (range offset size) address }
+{
+    p.p_offset() <= offset
+        && u128::from(offset) + u128::from(size)
+            <= u128::from(p.p_offset()) + u128::from(p.p_filesz())
+        && u128::from(address) + u128::from(p.p_offset())
+            == u128::from(p.p_vaddr()) + u128::from(offset)
+}
+
+// Whether some loaded segment shows it.
+fn is_shown(segments: &[Segment<'_>], offset: u64, size: u64, address: u64) -> bool
+    ensures { result ≡ list_any (λ p. shows_at p (range offset size) address)
+        (loads_of (map segment_kept segments.now)) }
+{
+    for p in segments {
+        if p.p_type() == PT_LOAD && is_shown_by(p, offset, size, address) {
+            return true;
+        }
+    }
+    false
+}
+
+// Whether a section of the file was empty, and can't stand with its new size where it stood.
+fn is_stray_at(image: &Builder<'_>, section: &Section<'_>, size: u64) -> bool
+    ensures { result ≡ is_section_stray image.now (section_kept section.now) size }
+{
+    let (offset, address) = (section.sh_offset, section.sh_addr);
+    section.sh_type != SHT_NULL
+        && section.sh_type != SHT_NOBITS
+        && section.sh_size == 0
+        && size != 0
+        && (!is_shown(image.segments(), offset, size, address)
+            || offset < form_of(image).file_header_size() as u64)
+}
+
+// Whether a section takes memory of its own.
+fn is_in_memory(section: &Section<'_>) -> bool
+    ensures { result ≡ takes_memory (section_kept section.now) }
+{
+    section.sh_flags & SHF_ALLOC != 0
+        && section.sh_type != SHT_NULL
+        && !(section.sh_type == SHT_NOBITS && section.sh_flags & SHF_TLS != 0)
+}
+
+// The program header of the interpreter.
+fn interpreter_segment<'a, 'data>(segments: &'a [Segment<'data>]) -> Option<&'a Segment<'data>>
+    ensures { option_map (λ p. segment_kept p.now) result
+        ≡ segment_of_type INTERP (map segment_kept segments.now) }
+{
+    segments
+        .iter()
+        .find(|segment| segment.p_type() == PT_INTERP)
+}
+
+// Whether a section stands where the interpreter's program header says.
+fn is_interpreter(p: &Segment<'_>, section: &Section<'_>) -> bool
+    ensures { result
+        ≡ stands_as_interpreter (segment_kept p.now) (section_kept section.now) }
+{
+    section.sh_type == SHT_PROGBITS
+        && section.sh_offset == p.p_offset()
+        && section.sh_addr == p.p_vaddr()
+        && section.sh_size == p.p_filesz()
+}
+
+// The number at read of the first such section.
+fn number_at(read: &Builder<'_>, p: &Segment<'_>) -> Option<usize>
+    requires { AreNumbered read.now }
+    ensures { result ≡ number_from read.now (segment_kept p.now) 0 }
+{
+    for position in 0..read.sections().len() {
+        if is_interpreter(p, &read.sections()[position]) {
+            return Some(read.read_section(position));
+        }
+    }
+    None
+}
+
+// The number of the section with the interpreter's name.
+fn number_of_interpreter(read: &Builder<'_>) -> Option<usize>
+    requires { AreNumbered read.now }
+    ensures { result ≡ interpreter_number read.now }
+{
+    let segment = interpreter_segment(read.segments())?;
+    number_at(read, segment)
+}
+
+// The number of the section that the first of a type links to.
+fn link_of(image: &Builder<'_>, kind: u32) -> Option<usize>
+    requires { AreNumbered image.now }
+    ensures { result ≡ link_of_type kind image.now }
+{
+    for position in 0..image.sections().len() {
+        let section = &image.sections()[position];
+        if section.sh_type == kind {
+            return Some(section.sh_link as usize);
+        }
+    }
+    None
+}
+
+// The number of the section with the dynamic strings.
+fn number_of_strings(image: &Builder<'_>) -> Option<usize>
+    requires { AreNumbered image.now }
+    ensures { result ≡ dynamic_strings_number image.now }
+{
+    match link_of(image, SHT_DYNAMIC) {
+        Some(number) => Some(number),
+        None => link_of(image, SHT_DYNSYM),
+    }
+}
+
+// Whether a number is that of a section, where there is one.
+fn is_numbered(number: Option<usize>, own: usize) -> bool
+    ensures { result ≡ is_some_and (λ n. n == own) number }
+{
+    match number {
+        Some(n) => n == own,
+        None => false,
+    }
+}
+
+// Whether every section of a type can move.
+fn is_table(kind: u32) -> bool
+    ensures { result ≡ is_movable_type kind }
+{
+    [
+        SHT_NOTE,
+        SHT_DYNSYM,
+        SHT_HASH,
+        SHT_GNU_HASH,
+        SHT_GNU_VERSYM,
+        SHT_GNU_VERDEF,
+        SHT_GNU_VERNEED,
+    ]
+    .iter()
+    .any(|other| *other == kind)
+}
+
+// How readily a section moves that had this number at read.
+fn priority_at(
+    section: &Section<'_>,
+    number: usize,
+    interpreter: Option<usize>,
+    strings: Option<usize>,
+) -> u8
+    ensures { result ≡ priority_with interpreter strings (section_kept section.now) number }
+{
+    if is_numbered(interpreter, number) {
+        1
+    } else if is_table(section.sh_type)
+        || section.sh_type == SHT_STRTAB && is_numbered(strings, number)
+    {
+        2
+    } else {
+        0
+    }
+}
+
+// The block of the section at a position.
+fn block_at(
+    r: &Resizing<'_, '_>,
+    position: usize,
+    interpreter: Option<usize>,
+    strings: Option<usize>,
+) -> MemoryBlock
+    requires within { position < length r.now.image.sections }
+    requires sized { position < length r.now.sizes }
+    ensures { (s : ImageSection) → slice_get r.now.image.sections position ≡ Some s
+        → result ≡ made_block r.now interpreter strings position s }
+{
+    let section = &r.image.sections()[position];
+    let number = r.image.read_section(position);
+    let size = r.sizes[position];
+    MemoryBlock {
+        start: u128::from(section.sh_addr),
+        size: u128::from(size),
+        priority: priority_at(section, number, interpreter, strings),
+        section: Some(position),
+        is_stray: is_stray_at(r.image, section, size),
+        is_load_start: false,
+    }
+}
+
+// Puts the blocks of the sections that take memory behind other blocks.
+fn push_sections(
+    made: &mut Vec<MemoryBlock>,
+    r: &Resizing<'_, '_>,
+    interpreter: Option<usize>,
+    strings: Option<usize>,
+) -> Result<(), AllocError>
+    requires numbered { AreNumbered r.now.image }
+    requires sized { length r.now.sizes ≡ length r.now.image.sections }
+    requires interpreter { interpreter ≡ interpreter_number r.now.read }
+    requires strings { strings ≡ dynamic_strings_number r.now.image }
+    ensures { OnOk result (made.new.items ≡ made.old.items ++ section_blocks_from r.now 0) }
+{
+    for position in 0..r.image.sections().len() {
+        if is_in_memory(&r.image.sections()[position]) {
+            made.push(block_at(r, position, interpreter, strings))?;
+        }
+    }
+    Ok(())
+}
+
+// Every block of an image, with a program header table of so many entries more than it has segments.
+pub(crate) fn blocks_of(
+    alloc: Global,
+    r: &Resizing<'_, '_>,
+    added: usize,
+) -> Result<Vec<MemoryBlock>, AllocError>
+    requires read { AreNumbered r.now.read }
+    requires numbered { AreNumbered r.now.image }
+    requires sized { length r.now.sizes ≡ length r.now.image.sections }
+    ensures { IfOk result (λ made. made.items ≡ blocks_with r.now added) }
+{
+    let mut made = Vec::new(alloc);
+    push_headers(&mut made, r, added)?;
+    push_all_edges(&mut made, r.image.segments())?;
+    let interpreter = number_of_interpreter(r.read);
+    let strings = number_of_strings(r.image);
+    push_sections(&mut made, r, interpreter, strings)?;
+    Ok(made)
+}

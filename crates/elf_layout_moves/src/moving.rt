@@ -1,0 +1,58 @@
+ghost use Rattle.std.specs.Prelude.{◌≡◌, IfErr, IfOk, IsTrue, OnOk, false};
+ghost use Rattle.elf_layout_plan.specs.Plan.{resized};
+ghost use Rattle.elf_layout_plan.specs.Refusals.{IsStuckBy, sizes_of_image};
+ghost use Rattle.elf_layout_plan.specs.Rounds.{do_move, is_stuck_with};
+
+use crate::blocks::blocks_of;
+use crate::old_order::in_old_order;
+use crate::resizing::Resizing;
+use crate::settling::settled;
+use elf_image::Builder;
+use elf_layout_plan::{LayoutFault, read_again};
+use std::alloc::Global;
+
+/// The positions of the sections that move with a program header table `added` entries longer than the image's segments, in
+/// the order in which they stood in memory. `Overlap` where two blocks of memory overlap that can't move.
+pub fn find_move_sections(
+    alloc: Global,
+    image: &Builder<'_>,
+    sizes: &[u64],
+    added: usize,
+) -> Result<Vec<usize>, LayoutFault>
+    requires { sizes.now ≡ sizes_of_image image.now }
+    ensures found { IfOk result (λ moved.
+        IsTrue (do_move (resized image.now) added moved.items)) }
+    ensures free { OnOk result (is_stuck_with (resized image.now) added ≡ false) }
+    ensures fault { IfErr result (IsStuckBy image.now added) }
+{
+    let Ok(read) = read_again(alloc, image) else {
+        return Err(LayoutFault::Memory);
+    };
+    let r = Resizing {
+        read: &read,
+        image,
+        sizes,
+    };
+    find_moved(alloc, &r, added)
+}
+
+/// The same, for an image with its new sizes. Errors: `Overlap` where two blocks overlap of which none can move; `Memory`.
+pub fn find_moved(
+    alloc: Global,
+    r: &Resizing<'_, '_>,
+    added: usize,
+) -> Result<Vec<usize>, LayoutFault>
+    ensures found { IfOk result (λ moved. IsTrue (do_move r.now added moved.items)) }
+    ensures free { OnOk result (is_stuck_with r.now added ≡ false) }
+    ensures fault { IfErr result (IsStuckBy r.now.image added) }
+{
+    let (_read, _image) = (r.read.source(), r.image.source());
+    let Ok(blocks) = blocks_of(alloc, r, added) else {
+        return Err(LayoutFault::Memory);
+    };
+    let moved = settled(alloc, &blocks)?;
+    let Ok(found) = in_old_order(alloc, r, &moved) else {
+        return Err(LayoutFault::Memory);
+    };
+    Ok(found)
+}

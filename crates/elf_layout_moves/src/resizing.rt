@@ -1,0 +1,25 @@
+use elf_image::Builder;
+use std::marker::Model;
+
+/// An edited image with the new sizes of its sections, and the image that was read from the same bytes.
+#[derive(Drop)]
+pub struct Resizing<'a, 'data> {
+    /// The image that was read.
+    pub read: &'a Builder<'data>,
+    /// The edited image.
+    pub image: &'a Builder<'data>,
+    /// The new size of each of its sections, in bytes.
+    pub sizes: &'a [u64],
+}
+
+impl<'a, 'data> Model for Resizing<'a, 'data> {
+    ghost use Rattle.elf_layout_plan.specs.Memory.{Resized};
+    ghost use Rattle.elf_layout_moves.specs.Inner.{IsResized};
+    ghost use Rattle.elf_layout_moves.specs.Seen.{resized_seen};
+
+    ghost Value = { Resized };
+
+    ghost view = { resized_seen };
+
+    ghost invariant = { λ s. IsResized (resized_seen s) };
+}

@@ -1,0 +1,11 @@
+-- Each row is computed.
+use Rattle.std.specs.Prelude.{[], ◌∷◌}
+use Rattle.std.proofs.Common.{refl}
+use Rattle.elf_layout_plan.proofs.Computing.{computing}
+use Rattle.elf_layout_plan.proofs.rows.high_rows.Goals as goal
+
+pub returns : goal.returns
+unfolding computing
+returns c = record {
+  plan = record { before = (1 ∷ []) ∷ []; moved = 1 ∷ []; ended = record { lead = refl; move = refl; enough = refl }; counted = refl; follows = refl; fits = refl };
+}

@@ -1,0 +1,128 @@
+-- The loaded segments that are added for sections that move: where they stand, and where their sections stand in them.
+use Rattle.std.specs.Prelude.{ℕ, ◌+◌, ◌-◌, ◌*◌, ◌%◌, max, List, [], ◌∷◌, length, map, filter, fold, Bool, true, ◌&&◌, not, Some, None, nat_le, ◌==◌, if◌then◌else◌}
+use Rattle.std.specs.Int.{next_multiple_of}
+use Rattle.std.specs.List.{list_any}
+use Rattle.elf_format.specs.declared.constants.TheConstants.{EM_MIPS, PT_LOAD}
+use Rattle.elf_layout_plan.specs.declared.constants.TheConstants.{EM_AARCH64, EM_ALPHA, EM_IA_64, EM_LOONGARCH, EM_PPC, EM_PPC64, EM_SPARC, EM_SPARCV9, EM_TILEGX}
+use Rattle.elf_format.specs.File.{loads_of}
+use Rattle.elf_format.specs.Options.{is_one_of}
+use Rattle.elf_format.specs.Placement.{file_part, memory_part}
+use Rattle.elf_format.specs.Ranges.{end_of}
+use Rattle.elf_format.specs.declared.records.SegmentHeader.{SegmentHeader}
+use Rattle.elf_format.specs.Records.{file_header_size, segment_header_size}
+use Rattle.elf_layout_plan.specs.Follow.{HeaderTable, Itself, Notes, OneSection, is_loaded_section, is_moved, leader_of}
+use Rattle.elf_layout_plan.specs.Kept.{KeptSection}
+use Rattle.elf_layout_plan.specs.Memory.{Resized, SizedSection, sized_sections, takes_memory}
+use Rattle.elf_layout_plan.specs.Rounds.{added_flags, flags_for, headers_needed, sections_at}
+
+-- the greatest of a number and others
+abbrev pub greatest : ℕ → List ℕ → ℕ
+greatest n ns = fold max n ns
+
+-- ## The end of what stays in the file
+
+-- how many program headers are written
+abbrev pub header_count : Resized → List ℕ → ℕ
+header_count r moved = length r.image.segments + headers_needed r moved
+
+-- a program header has the range of a section with its new size, and the section stays
+abbrev pub keeps_section_range : Resized → List ℕ → SegmentHeader → KeptSection → Bool
+keeps_section_range r moved p s =
+    not (is_moved moved s) && is_loaded_section s.section
+    && s.section.sh_offset == p.p_offset && s.section.sh_addr == p.p_vaddr
+    && list_any (λ x. x.kept.position == s.position && x.size == p.p_filesz) (sized_sections r)
+
+-- the program header keeps its range
+abbrev pub keeps_range : Resized → List ℕ → SegmentHeader → Bool
+keeps_range r moved p = elim (leader_of r p) [
+  | Itself ↦ true
+  | HeaderTable ↦ p.p_filesz == header_count r moved * segment_header_size r.image.form && p.p_memsz == p.p_filesz
+  | OneSection s ↦ keeps_section_range r moved p s
+  | Notes notes ↦ not (list_any (is_moved moved) notes)
+]
+
+-- where the file parts end that stay where they are, those that lie in the file that was read; at least behind the file header
+unfoldable pub kept_end : Resized → List ℕ → ℕ
+kept_end r moved =
+    let ends = map (λ p. end_of (file_part p)) (filter (keeps_range r moved) r.image.segments) in
+    greatest (file_header_size r.image.form) (filter (λ end. nat_le end (length r.image.source)) ends)
+
+-- ## Where memory ends
+
+-- the ends of the loaded segments, and of the sections that take memory and had some at read
+unfoldable pub memory_end : Resized → ℕ
+memory_end r =
+    let sections = filter (λ s. takes_memory s.kept.section && not (s.kept.section.sh_size == 0)) (sized_sections r) in
+    greatest (greatest 0 (map (λ p. end_of (memory_part p)) (loads_of r.image.segments)))
+    (map (λ s. s.kept.section.sh_addr + s.kept.section.sh_size) sections)
+
+-- ## The alignment of what is loaded
+
+-- the pages of a machine, where nothing tells their size: 64 KiB, 8 KiB, or 4 KiB (gABI, ELF Header, e_machine)
+abbrev pub default_page_size : ℕ → ℕ
+default_page_size machine =
+    if is_one_of (EM_ALPHA ∷ EM_IA_64 ∷ EM_MIPS ∷ EM_PPC ∷ EM_PPC64 ∷ EM_AARCH64 ∷ EM_TILEGX ∷ EM_LOONGARCH ∷ []) machine then 65536
+    else if is_one_of (EM_SPARC ∷ EM_SPARCV9 ∷ []) machine then 8192
+    else 4096
+
+-- the greatest alignment of the loaded segments that were read, or the machine's pages where they tell none
+abbrev pub alignment_at_read : Resized → ℕ
+alignment_at_read r =
+    let found = greatest 0 (map (λ p. p.p_align) (loads_of r.read.segments)) in
+    if found == 0 then default_page_size r.read.header.e_machine else found
+
+-- the page size that was set, or without one the alignment at read
+unfoldable pub load_alignment : Resized → ℕ
+load_alignment r = elim r.image.page_size [ Some size ↦ size | None ↦ alignment_at_read r ]
+
+-- ## The segments
+
+-- Where a section that moves comes to stand.
+pub record Spot : Type 0 where
+  pub position : ℕ
+  pub offset : ℕ
+  pub address : ℕ
+  pub size : ℕ
+
+-- what a section's address is a multiple of; 0 says nothing (gABI, Sections, sh_addralign)
+abbrev pub alignment_of : SizedSection → ℕ
+alignment_of s = max 1 s.kept.section.sh_addralign
+
+-- sections one behind the other, each at the next address that its alignment allows, all at one distance from their offsets
+unfoldable pub spots_from : ℕ → ℕ → List SizedSection → List Spot
+spots_from offset address [] = []
+spots_from offset address (s ∷ ss) =
+    let at = next_multiple_of address (alignment_of s) in
+    record { position = s.kept.position; offset = offset + (at - address); address = at; size = s.size }
+    ∷ spots_from (offset + (at - address) + s.size) (at + s.size) ss
+
+-- A loaded segment that is added, and the sections in it.
+pub record AddedLoad : Type 0 where
+  pub header : SegmentHeader
+  pub spots : List Spot
+
+-- the end of the last spot in the file, counted from a segment's offset
+abbrev pub size_of_spots : ℕ → List Spot → ℕ
+size_of_spots offset spots = greatest offset (map (λ s. s.offset + s.size) spots) - offset
+
+-- the segment from an offset on that has these sections, at an address of that distance from a multiple of the alignment
+abbrev pub load_at : ℕ → ℕ → ℕ → ℕ → List SizedSection → AddedLoad
+load_at align flags offset address sections =
+    let spots = spots_from offset address sections in
+    let size = size_of_spots offset spots in
+    record {
+      header = record { p_type = PT_LOAD; p_flags = flags; p_offset = offset; p_vaddr = address; p_paddr = address; p_filesz = size; p_memsz = size; p_align = align };
+      spots = spots;
+    }
+
+-- one segment for each set of flags, with the sections that need it: behind the end of the file and of memory so far, at an address
+-- that leaves the same rest as the offset when it is divided by the alignment
+unfoldable pub loads_from : ℕ → ℕ → ℕ → List ℕ → List SizedSection → List AddedLoad
+loads_from align end memory [] sections = []
+loads_from align end memory (flags ∷ more) sections =
+    let load = load_at align flags end (next_multiple_of memory align + end % align) (filter (λ s. flags_for s.kept.section == flags) sections) in
+    load ∷ loads_from align (end_of (file_part load.header)) (end_of (memory_part load.header)) more sections
+
+-- The loaded segments that are added.
+unfoldable pub added_loads : Resized → List ℕ → List AddedLoad
+added_loads r moved = loads_from (load_alignment r) (kept_end r moved) (memory_end r) (added_flags r moved) (sections_at r moved)

@@ -1,0 +1,21 @@
+//! What a plan of an edited ELF file is: how large each section is to be, which sections move, and where all of them stand.
+//! The definitions, with laws and small images for which they are computed; and the walk over blocks of memory that tells which
+//! of them must move so that no two overlap.
+#![tactic(auto)]
+
+pub mod again;
+pub mod block;
+pub mod constants;
+pub mod fault;
+pub mod laws;
+pub mod plan;
+pub mod rows;
+pub mod steps;
+pub mod walk;
+
+pub use crate::again::read_again;
+pub use crate::block::Block;
+pub use crate::fault::LayoutFault;
+pub use crate::plan::{Plan, PlanParts, SectionPlace};
+pub use crate::steps::Steps;
+pub use crate::walk::walk_blocks;

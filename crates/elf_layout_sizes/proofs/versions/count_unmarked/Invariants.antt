@@ -1,0 +1,10 @@
+use Rattle.std.proofs.Common.{◌≡◌, ◌+◌, ◌≤◌, drop, length, map}
+use Rattle.elf_image.specs.ImageSeen.{name_kept}
+use Rattle.elf_layout_sizes.specs.Inner.{unmarked_names}
+use Rattle.elf_layout_sizes.proofs.versions.count_unmarked.Given as goal
+
+-- those so far and those that stay of what is left
+abbrev pub invariant-loop-name : goal.invariant-loop-name
+invariant-loop-name l =
+    (l.count ≤ l.name-index)
+    × (l.count + length (unmarked_names l.marks (map name_kept (drop l.name-index l.names))) ≡ length (unmarked_names l.marks (map name_kept l.names)))

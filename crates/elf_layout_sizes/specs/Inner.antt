@@ -1,0 +1,119 @@
+-- What the steps towards the new sizes hand to each other.
+use Rattle.std.specs.Prelude.{ℕ, ◌*◌, ◌^◌, [], ◌∷◌, List, map, filter, length, Bool, false, true, ◌&&◌, ◌||◌, not, Option, Some, None, find, nat_le, nat_lt, ◌==◌, slice_index_or, if◌then◌else◌}
+use Rattle.patch_bytes.specs.declared.number.Wide.{Wide}
+use Rattle.patch_bytes.specs.Memory.{◌>>=◌, memory_of}
+use Rattle.elf_format.specs.declared.constants.TheConstants.{DT_VERNEED, DT_VERNEEDNUM, SHT_DYNAMIC, SHT_DYNSYM, SHT_GNU_HASH, SHT_GNU_VERDEF, SHT_GNU_VERNEED, SHT_GNU_VERSYM, SHT_HASH, SHT_STRTAB, SHT_SYMTAB}
+use Rattle.elf_format.specs.Dynamic.{Entry}
+use Rattle.elf_format.specs.Image.{Image, ImageSection, entry_tag}
+use Rattle.elf_format.specs.declared.form.Form.{Form}
+use Rattle.elf_format.specs.Form.{by_class}
+use Rattle.elf_format.specs.Hashes.{gnu_header}
+use Rattle.elf_format.specs.Options.{is_one_of, is_some_and}
+use Rattle.elf_format.specs.Records.{symbol_size}
+use Rattle.elf_format.specs.Views.{NamedSymbol}
+use Rattle.elf_tables.specs.Strings.{table_length}
+use Rattle.elf_layout_plan.specs.Kept.{interpreter_number, link_of_type}
+use Rattle.elf_layout_plan.specs.Sizes.{definitions_size, dynamic_size, gnu_table_size, hash_size, interpreter_size, needs_size}
+use Rattle.elf_layout_plan.specs.Texts.{is_table_copied, texts_in_use}
+use Rattle.elf_format.specs.Versions.{VersionName, VersionNeeds}
+use Rattle.elf_layout_plan.specs.Needs.{is_empty, written_needs}
+
+-- An edited image, and the one that was read from the same bytes.
+pub record Edit : Type 0 where
+  pub read : Image
+  pub image : Image
+
+-- the link of the first section of a type
+abbrev pub link_from : ℕ → List ImageSection → Option ℕ
+link_from type sections = find (λ s. s.sh_type == type) sections >>= λ s. Some s.sh_link
+
+-- ## Needed versions
+
+-- the mark of a version's index; none past the marks
+abbrev pub marked : List Bool → ℕ → Bool
+marked marks index = slice_index_or marks index false
+
+-- the versions that stay where the marked ones go
+abbrev pub unmarked_names : List Bool → List VersionName → List VersionName
+unmarked_names marks names = filter (λ v. not (marked marks v.index)) names
+
+-- a library's record goes with the last of its versions
+abbrev pub is_unmarked : List Bool → VersionNeeds → Bool
+is_unmarked marks n = is_empty n.versions || not (is_empty (unmarked_names marks n.versions))
+
+abbrev pub with_unmarked_names : List Bool → VersionNeeds → VersionNeeds
+with_unmarked_names marks n = record n { versions = unmarked_names marks n.versions }
+
+-- the records that stay, with the versions of each that do
+abbrev pub unmarked_needs : List Bool → List VersionNeeds → List VersionNeeds
+unmarked_needs marks needs = map (with_unmarked_names marks) (filter (is_unmarked marks) needs)
+
+-- ## The dynamic list
+
+-- the entry is of needed versions
+abbrev pub is_of_needs : Entry → Bool
+is_of_needs e = is_one_of (DT_VERNEED ∷ DT_VERNEEDNUM ∷ []) (entry_tag e)
+
+-- the entries that stay, where those of needed versions may go
+abbrev pub staying_entries : Bool → List Entry → List Entry
+staying_entries without entries = filter (λ e. not (without && is_of_needs e)) entries
+
+-- ## String tables
+
+-- the one section of a type links to the string table with that number
+abbrev pub is_linked : Image → ℕ → ℕ → Bool
+is_linked image type number = is_some_and (λ link. link == number) (link_of_type type image)
+
+-- ## Sizes, by a section's number at read and the section alone
+
+-- a number fits a field of a class (gABI, Data Representation)
+abbrev pub fits_class : Wide → ℕ → Bool
+fits_class wide number = nat_lt number (by_class wide (2 ^ 32) (2 ^ 64))
+
+-- a GNU hash table of these symbols; as it was where its four numbers aren't there
+abbrev pub gnu_size_with : Form → List ℕ → ℕ → List NamedSymbol → ℕ
+gnu_size_with form content old symbols = elim (gnu_header form (memory_of content)) [ Some header ↦ gnu_table_size form header symbols | None ↦ old ]
+
+-- a string table: as it was where it is copied
+abbrev pub strings_length : Image → Image → ℕ → ℕ → ℕ
+strings_length read image number old = if is_table_copied read image number then old else table_length (texts_in_use read image number)
+
+-- a section that is no string table
+abbrev pub lists_size : Image → Image → ImageSection → ℕ
+lists_size read image s =
+    if s.sh_type == SHT_DYNAMIC then dynamic_size read image s
+    else if s.sh_type == SHT_SYMTAB then length image.symbols * symbol_size image.form
+    else if s.sh_type == SHT_DYNSYM then length image.dynamic_symbols * symbol_size image.form
+    else if s.sh_type == SHT_GNU_VERSYM then 2 * length image.dynamic_symbols
+    else if s.sh_type == SHT_GNU_VERDEF then definitions_size image.definitions
+    else if s.sh_type == SHT_GNU_VERNEED then needs_size (written_needs read image)
+    else if s.sh_type == SHT_HASH then hash_size read image s
+    else if s.sh_type == SHT_GNU_HASH then hash_size read image s
+    else s.sh_size
+
+-- any section
+abbrev pub size_by : Image → Image → ℕ → ImageSection → ℕ
+size_by read image number s =
+    if is_some_and (λ n. n == number) (interpreter_number read) then interpreter_size image s
+    else if s.sh_type == SHT_STRTAB then strings_length read image number s.sh_size
+    else lists_size read image s
+
+-- the offset of each text of a table that is made anew fits 32 bits
+abbrev pub do_strings_fit : Image → Image → ℕ → ImageSection → Bool
+do_strings_fit read image number s =
+    not (s.sh_type == SHT_STRTAB) || is_table_copied read image number || nat_le (strings_length read image number s.sh_size) (2 ^ 32)
+
+-- the size fits the field for it, and so do the offsets of texts
+abbrev pub does_size_fit : Image → Image → ℕ → ImageSection → Bool
+does_size_fit read image number s = fits_class image.form.wide (size_by read image number s) && do_strings_fit read image number s
+
+-- sections, each with its number at read
+unfoldable pub sizes_by : Image → Image → List ℕ → List ImageSection → List ℕ
+sizes_by read image [] sections = []
+sizes_by read image (n ∷ ns) [] = []
+sizes_by read image (n ∷ ns) (s ∷ ss) = size_by read image n s ∷ sizes_by read image ns ss
+
+unfoldable pub do_all_fit : Image → Image → List ℕ → List ImageSection → Bool
+do_all_fit read image [] sections = true
+do_all_fit read image (n ∷ ns) [] = true
+do_all_fit read image (n ∷ ns) (s ∷ ss) = does_size_fit read image n s && do_all_fit read image ns ss

@@ -1,0 +1,311 @@
+//! How large a section is to be, by its kind.
+ghost use Rattle.std.specs.Prelude.{◌≡◌, ℕ, ◌<◌, ◌^◌, false, true, Some, MatchResult, SomeIff};
+ghost use Rattle.elf_image.specs.ImageSeen.{section_kept};
+ghost use Rattle.elf_layout_plan.specs.Kept.{interpreter_number as number_of_interpreter};
+ghost use Rattle.elf_layout_plan.specs.Texts.{are_names_changed as have_names_changed};
+ghost use Rattle.elf_layout_sizes.specs.Inner.{fits_class};
+ghost use Rattle.elf_tables.specs.declared.fault.TableFault.TheVariants.{NumberTooLarge};
+
+use crate::known::{Known, known_strings};
+use crate::strings::{have_same_names, made_for};
+use crate::tables::{gabi_size, gnu_size};
+use crate::users::{Users, form_of};
+use crate::versions::{definitions_size, grown};
+use elf_image::constants::{
+    SHT_DYNAMIC, SHT_DYNSYM, SHT_GNU_HASH, SHT_GNU_VERDEF, SHT_GNU_VERNEED, SHT_GNU_VERSYM,
+    SHT_HASH, SHT_STRTAB, SHT_SYMTAB,
+};
+use elf_image::{Builder, Section};
+use elf_tables::{Finished, TableFault};
+use patch_bytes::Wide;
+use std::alloc::{AllocError, Global};
+use std::marker::Model;
+
+// The number at read of the section with the interpreter's name.
+fn interpreter_number(read: &Builder<'_>) -> Option<usize>
+    ensures { result ≡ number_of_interpreter read.now }
+{
+    // the image has as many numbers of sections as sections
+    let _source = read.source();
+    let at = read.interpreter_position()?;
+    Some(read.read_section(at))
+}
+
+// The names of the dynamic symbols, one by one, aren't those that were read.
+fn are_names_changed(users: &Users<'_, '_>) -> bool
+    ensures { result ≡ have_names_changed users.now.read users.now.image }
+{
+    if users.keeps_symbols() {
+        return false;
+    }
+    let (read, image) = (users.read(), users.image());
+    !have_same_names(read.dynamic_symbols(), image.dynamic_symbols())
+}
+
+// A size that fits its field (gABI, Data Representation). `NumberTooLarge` where it doesn't.
+fn fitted(wide: Wide, size: Option<u64>) -> Result<u64, TableFault>
+    ensures { MatchResult result
+        (λ fitted. (size ≡ Some fitted) × (fits_class wide fitted ≡ true))
+        (λ fault. (n : ℕ) → SomeIff size (n < 2 ^ 64) n → fits_class wide n ≡ false) }
+{
+    let Some(size) = size else {
+        return Err(TableFault::NumberTooLarge);
+    };
+    match wide {
+        Wide::W32 if size >= 0x1_0000_0000 => Err(TableFault::NumberTooLarge),
+        _ => Ok(size),
+    }
+}
+
+// An edited image with what is computed of it once.
+#[derive(Drop)]
+pub(crate) struct Sizing<'a, 'data> {
+    users: Users<'a, 'data>,
+    read_users: Users<'a, 'data>,
+    are_names_changed: bool,
+    interpreter: Option<usize>,
+    strings: Option<Known<'a>>,
+}
+
+impl<'a, 'data> Model for Sizing<'a, 'data> {
+    ghost use Rattle.elf_layout_sizes.specs.Inner.{Edit};
+    ghost use Rattle.elf_layout_sizes.specs.SizingSeen.{IsSizing, sizing_seen};
+
+    ghost Value = { Edit };
+
+    ghost view = { sizing_seen };
+
+    ghost invariant = { IsSizing };
+}
+
+impl<'a, 'data> Sizing<'a, 'data> {
+    ghost use Rattle.std.specs.Prelude.{◌≡◌, ◌==◌, ◌<◌, ◌*◌, ◌^◌, ◌||◌, false, true, nat_le, IfOk, IfSome, IsTrue, MatchResult, SomeIff};
+    ghost use Rattle.elf_image.specs.SymbolsRead.{HasSymbolsOf};
+    ghost use Rattle.elf_format.specs.Options.{is_some_and};
+    ghost use Rattle.elf_format.specs.Records.{symbol_size};
+    ghost use Rattle.elf_layout_plan.specs.Sizes.{hash_size, interpreter_size};
+    ghost use Rattle.elf_layout_plan.specs.Texts.{is_table_copied};
+    ghost use Rattle.elf_layout_sizes.specs.MadeTables.{IsMadeOfList};
+    ghost use Rattle.elf_layout_sizes.specs.Inner.{do_all_fit, do_strings_fit, does_size_fit, lists_size, size_by, sizes_by, strings_length};
+
+    // What is computed once of an edited image, whose symbols may be known to be those that were read.
+    pub(crate) fn new(
+        alloc: Global,
+        read: &'a Builder<'data>,
+        image: &'a Builder<'data>,
+        keeps_symbols: bool,
+    ) -> Result<Self, AllocError>
+        requires { IsTrue keeps_symbols → HasSymbolsOf read.now image.now }
+        ensures { IfOk result (λ sizing. sizing
+            ≡ record { read = read.entry.now; image = image.entry.now }) }
+    {
+        let users = Users::new(alloc, read, image, keeps_symbols)?;
+        let read_users = Users::new(alloc, read, read, false)?;
+        let strings = known_strings(alloc, &users, &read_users)?;
+        let are_names_changed = are_names_changed(&users);
+        Ok(Sizing {
+            users,
+            read_users,
+            are_names_changed,
+            interpreter: interpreter_number(read),
+            strings,
+        })
+    }
+
+    // The string table of the dynamic list, where it was made anew.
+    pub(crate) fn into_strings(self) -> Option<Finished<'a>>
+        ensures { IfSome result (IsMadeOfList self.entry.read self.entry.image) }
+    {
+        let strings = self.strings;
+        match strings {
+            Some(known) => known.made,
+            None => None,
+        }
+    }
+
+    // The size of the string table that had that number and this size at read, where it is that of the dynamic list
+    // and known.
+    fn known_size(&self, number: usize, old: u64) -> Option<u64>
+        ensures { let size = strings_length self.now.read self.now.image number old in
+            IfSome result (λ length. (length ≡ size)
+            × ((is_table_copied self.now.read self.now.image number
+            || nat_le size (2 ^ 32)) ≡ true)) }
+    {
+        match &self.strings {
+            Some(known) if known.number == number => Some(known.size(old)),
+            _ => None,
+        }
+    }
+
+    // The size of a string table that had that number. `NumberTooLarge` where it is made anew and longer than 2 to the
+    // 32 bytes.
+    fn strings_size(&self, alloc: Global, number: usize, old: u64) -> Result<u64, TableFault>
+        ensures { let copied = is_table_copied self.now.read self.now.image number in
+            let size = strings_length self.now.read self.now.image number old in
+            MatchResult result
+            (λ length. (length ≡ size) × ((copied || nat_le size (2 ^ 32)) ≡ true))
+            (λ fault. fault ≡ NumberTooLarge → (copied || nat_le size (2 ^ 32)) ≡ false) }
+    {
+        if let Some(size) = self.known_size(number, old) {
+            return Ok(size);
+        }
+        let made = made_for(alloc, &self.users, &self.read_users, number)?;
+        match made {
+            Some(table) => Ok(table.bytes().len() as u64),
+            None => Ok(old),
+        }
+    }
+
+    // The size of a table of so many symbols (gABI, Symbol Table). `None` where it is past 64 bits.
+    fn symbols_size(&self, count: usize) -> Option<u64>
+        ensures { let size = count * symbol_size self.now.image.form in
+            SomeIff result (size < 2 ^ 64) size }
+    {
+        grown(
+            0,
+            0,
+            form_of(self.users.image()).symbol_size() as u64,
+            count,
+        )
+    }
+
+    // The size of a hash table. `None` where it is past 64 bits.
+    fn hash_size(&self, section: &Section<'_>) -> Option<u64>
+        ensures { let size = hash_size self.now.read self.now.image (section_kept section.now) in
+            SomeIff result (size < 2 ^ 64) size }
+    {
+        let old = section.sh_size;
+        if !self.are_names_changed {
+            return Some(old);
+        }
+        let symbols = self.users.image().dynamic_symbols();
+        let form = form_of(self.users.image());
+        if section.sh_type == SHT_HASH {
+            return gabi_size(form, section.content, symbols.len());
+        }
+        gnu_size(form, section.content, old, symbols)
+    }
+
+    // The size of a section that is no string table. `None` where it is past 64 bits.
+    fn lists_size(&self, section: &Section<'_>) -> Option<u64>
+        ensures { let size = lists_size self.now.read self.now.image (section_kept section.now) in
+            SomeIff result (size < 2 ^ 64) size }
+    {
+        let (image, old) = (self.users.image(), section.sh_size);
+        match section.sh_type {
+            SHT_DYNAMIC => self.users.dynamic_size(section),
+            SHT_SYMTAB => self.symbols_size(image.symbols().len()),
+            SHT_DYNSYM => self.symbols_size(image.dynamic_symbols().len()),
+            SHT_GNU_VERSYM => grown(0, 0, 2, image.dynamic_symbols().len()),
+            SHT_GNU_VERDEF => definitions_size(&image.versions().definitions),
+            SHT_GNU_VERNEED => self.users.needs_size(),
+            SHT_HASH => self.hash_size(section),
+            SHT_GNU_HASH => self.hash_size(section),
+            _ => Some(old),
+        }
+    }
+
+    // Whether the section that had that number has the interpreter's name.
+    fn is_interpreter(&self, number: usize) -> bool
+        ensures { result
+            ≡ is_some_and (λ n. n == number) (number_of_interpreter self.now.read) }
+    {
+        match self.interpreter {
+            Some(interpreter) => interpreter == number,
+            None => false,
+        }
+    }
+
+    // The size of the section with the interpreter's name.
+    fn interpreter_size(&self, section: &Section<'_>) -> u64
+        ensures value { result ≡ interpreter_size self.now.image (section_kept section.now) }
+        ensures fits { result < 2 ^ 64 }
+    {
+        let old = section.sh_size;
+        match self.users.image().interp_data() {
+            Some(bytes) => bytes.len() as u64,
+            None => old,
+        }
+    }
+
+    // The size of a section that had that number, where it is a string table, else 0. `NumberTooLarge` where the table is
+    // made anew and longer than 2 to the 32 bytes.
+    fn strings_of(
+        &self,
+        alloc: Global,
+        section: &Section<'_>,
+        number: usize,
+    ) -> Result<u64, TableFault>
+        ensures { let read = self.now.read in let image = self.now.image in
+            let s = section_kept section.now in
+            MatchResult result
+            (λ length. (s.sh_type ≡ SHT_STRTAB
+            → length ≡ strings_length read image number s.sh_size)
+            × (do_strings_fit read image number s ≡ true))
+            (λ fault. fault ≡ NumberTooLarge → do_strings_fit read image number s ≡ false) }
+    {
+        if section.sh_type != SHT_STRTAB {
+            return Ok(0);
+        }
+        self.strings_size(alloc, number, section.sh_size)
+    }
+
+    // The size of a section that had that number, which is this one where it is a string table. `None` where it is past
+    // 64 bits.
+    fn size_with(&self, section: &Section<'_>, number: usize, strings: u64) -> Option<u64>
+        requires { section.now.sh_type ≡ SHT_STRTAB
+            → strings ≡ strings_length self.now.read self.now.image number section.now.sh_size }
+        ensures { let s = section_kept section.now in
+            let size = size_by self.now.read self.now.image number s in
+            SomeIff result (size < 2 ^ 64) size }
+    {
+        if self.is_interpreter(number) {
+            return Some(self.interpreter_size(section));
+        }
+        if section.sh_type == SHT_STRTAB {
+            return Some(strings);
+        }
+        self.lists_size(section)
+    }
+
+    // The size of a section that had that number. `NumberTooLarge` where it doesn't fit its field, or the offset of a text
+    // of a table that is made anew doesn't.
+    fn size_of(
+        &self,
+        alloc: Global,
+        section: &Section<'_>,
+        number: usize,
+    ) -> Result<u64, TableFault>
+        ensures { let read = self.now.read in let image = self.now.image in
+            let s = section_kept section.now in
+            MatchResult result
+            (λ size. (size ≡ size_by read image number s)
+            × (does_size_fit read image number s ≡ true))
+            (λ fault. fault ≡ NumberTooLarge → does_size_fit read image number s ≡ false) }
+    {
+        let strings = self.strings_of(alloc, section, number)?;
+        let size = self.size_with(section, number, strings);
+        fitted(form_of(self.users.image()).wide, size)
+    }
+
+    // The size of each section. `NumberTooLarge` where one doesn't fit.
+    pub(crate) fn sizes(&self, alloc: Global) -> Result<Vec<u64>, TableFault>
+        ensures { let read = self.now.read in let image = self.now.image in
+            MatchResult result
+            (λ sizes. (sizes.items ≡ sizes_by read image image.section_numbers image.sections)
+            × (do_all_fit read image image.section_numbers image.sections ≡ true))
+            (λ fault. fault ≡ NumberTooLarge
+            → do_all_fit read image image.section_numbers image.sections ≡ false) }
+    {
+        let image = self.users.image();
+        // the image has as many numbers of sections as sections
+        let _source = image.source();
+        let mut sizes = Vec::new(alloc);
+        let sections = image.sections();
+        for i in 0..sections.len() {
+            let size = self.size_of(alloc, &sections[i], image.read_section(i))?;
+            sizes.push(size)?;
+        }
+        Ok(sizes)
+    }
+}

@@ -1,0 +1,120 @@
+//! Whether a string table is copied, and the table where it is made anew.
+ghost use Rattle.std.specs.Prelude.{◌≡◌, ℕ, ◌≤◌, ◌<◌, ◌^◌, List, ◌∷◌, drop, length, IfErr, IfOk, IsTrue, MatchOption, MatchResult};
+ghost use Rattle.elf_tables.specs.declared.fault.TableFault.TheVariants.{NumberTooLarge};
+ghost use Rattle.elf_tables.specs.Strings.{HoldNoNul, IsTableOf, PlacesStand, table_length};
+ghost use Rattle.elf_layout_plan.specs.Texts.{are_same_texts, is_subsequence as is_subsequence_of, is_table_copied, texts_in_use, texts_of_symbols};
+ghost use Rattle.elf_layout_sizes.specs.MadeTables.{IsMade, IsTooLong};
+
+use crate::texts::Texts;
+use crate::users::Users;
+use elf_image::{Builder, Symbols};
+use elf_tables::{Finished, TableFault};
+use std::alloc::{AllocError, Global};
+
+// How many of the first texts are found once another text was looked at, where `next` of them were before.
+fn next_after(some: &Texts<'_>, next: usize, text: &[u8]) -> usize
+    requires { next ≤ length some.now }
+    ensures within { result ≤ length some.now }
+    ensures same { (others : List (List ℕ))
+        → is_subsequence_of (drop next some.now) (text.now ∷ others)
+        ≡ is_subsequence_of (drop result some.now) others }
+{
+    if next == some.len() {
+        return next;
+    }
+    if some.text(next) == text {
+        next + 1
+    } else {
+        next
+    }
+}
+
+// Whether the first texts are the second with some left out.
+pub(crate) fn is_subsequence(some: &Texts<'_>, all: &Texts<'_>) -> bool
+    ensures { result ≡ is_subsequence_of some.now all.now }
+{
+    let mut next = 0;
+    for i in 0..all.len() {
+        if some.len() - next > all.len() - i {
+            return false;
+        }
+        next = next_after(some, next, all.text(i));
+    }
+    next == some.len()
+}
+
+// Whether the symbols have the same names, one by one.
+pub(crate) fn have_same_names(left: &Symbols<'_>, right: &Symbols<'_>) -> bool
+    ensures { result ≡ are_same_texts (texts_of_symbols left.now) (texts_of_symbols right.now) }
+{
+    if left.len() != right.len() {
+        return false;
+    }
+    for i in 0..left.len() {
+        if left.name(i) != right.name(i) {
+            return false;
+        }
+    }
+    true
+}
+
+// Whether the texts are those that an image uses of the string table with that number, with some left out.
+fn are_among_read(
+    alloc: Global,
+    texts: &Texts<'_>,
+    read_users: &Users<'_, '_>,
+    number: usize,
+) -> Result<bool, AllocError>
+    ensures { IfOk result (λ are. are ≡ is_subsequence_of texts.now
+        (texts_in_use read_users.now.read read_users.now.image number)) }
+{
+    let at_read = read_users.texts(alloc, number)?;
+    Ok(is_subsequence(texts, &at_read))
+}
+
+// The string table with that number at read, where it is made anew, for the users of the image's texts and of the texts
+// that were read.
+pub(crate) fn made_for<'a, 'data>(
+    alloc: Global,
+    users: &Users<'a, 'data>,
+    read_users: &Users<'a, 'data>,
+    number: usize,
+) -> Result<Option<Finished<'a>>, TableFault>
+    requires { read_users.now ≡ record { read = users.now.read; image = users.now.read } }
+    ensures table { IfOk result (λ made. MatchOption made
+        (IsTrue (is_table_copied users.now.read users.now.image number))
+        (IsMade users.now.read users.now.image number)) }
+    ensures fault { IfErr result (λ fault.
+        fault ≡ NumberTooLarge → IsTooLong users.now.read users.now.image number) }
+{
+    let told = users.told_copied(alloc, read_users, number)?;
+    if let Some(true) = told {
+        return Ok(None);
+    }
+    let now = users.texts(alloc, number)?;
+    if told.is_none() && are_among_read(alloc, &now, read_users, number)? {
+        return Ok(None);
+    }
+    let table = now.finish(alloc)?;
+    Ok(Some(table))
+}
+
+/// The string table with that number at read, with the texts that the edited image uses of it (gABI, String Table); `None`
+/// where the table that was read is copied. `NumberTooLarge` where it has more than 2 to the 32 bytes, so that the last of
+/// its texts has an offset past 32 bits.
+pub fn made_table<'a, 'data>(
+    alloc: Global,
+    read: &'a Builder<'data>,
+    image: &'a Builder<'data>,
+    number: usize,
+) -> Result<Option<Finished<'a>>, TableFault>
+    ensures table { IfOk result (λ made. MatchOption made
+        (IsTrue (is_table_copied read.entry.now image.entry.now number))
+        (IsMade read.entry.now image.entry.now number)) }
+    ensures fault { IfErr result (λ fault.
+        fault ≡ NumberTooLarge → IsTooLong read.entry.now image.entry.now number) }
+{
+    let users = Users::new(alloc, read, image, false)?;
+    let read_users = Users::new(alloc, read, read, false)?;
+    made_for(alloc, &users, &read_users, number)
+}

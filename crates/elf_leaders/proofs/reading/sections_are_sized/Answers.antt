@@ -1,6 +1,0 @@
-use Rattle.elf_moves.specs.Seen.{resized_seen}
-use Rattle.elf_leaders.proofs.FollowSteps.{seen-sized}
-use Rattle.elf_leaders.proofs.reading.sections_are_sized.Goals as goal
-
-pub returns : goal.returns
-returns c = seen-sized (resized_seen c.r.inside) c.args.r.now c.r.view_is c.r.invariant c.source-source.ensures.edited

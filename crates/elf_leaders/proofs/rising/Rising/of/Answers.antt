@@ -1,5 +1,0 @@
-use Rattle.std.proofs.lemmas.List.Sorted.{IsNonDecreasingBy-from_sort}
-use Rattle.elf_leaders.proofs.rising.Rising.of.Goals as goal
-
-pub invariant_of-result : goal.invariant_of-result
-invariant_of-result c = record { rise = IsNonDecreasingBy-from_sort (λ x. x) c.sort_unstable.new.self.items c.sort_unstable.ensures.sorted }

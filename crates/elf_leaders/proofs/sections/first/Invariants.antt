@@ -1,6 +1,0 @@
-use Rattle.std.proofs.Common.{◌≡◌, drop}
-use Rattle.elf_leaders.specs.Sections.{first_wanted}
-use Rattle.elf_leaders.proofs.sections.first.Given as goal
-
-abbrev pub invariant-loop-section : goal.invariant-loop-section
-invariant-loop-section l = first_wanted l.wanted (drop l.section-index l.sections) ≡ first_wanted l.wanted l.sections

@@ -1,6 +1,0 @@
-use Rattle.std.proofs.Common.{◌≡◌, take}
-use Rattle.elf_leaders.specs.Sections.{sections_seen}
-use Rattle.elf_leaders.proofs.sections.sections_of.Given as goal
-
-abbrev pub invariant-loop-i : goal.invariant-loop-i
-invariant-loop-i l = l.made.items ≡ take l.i (sections_seen l.image)

@@ -1,6 +1,0 @@
--- An image with sizes, seen without the references to its parts.
-use Rattle.elf_plan.specs.Memory.{Resized}
-use Rattle.elf_moves.specs.declared.resizing.Resizing.TheInside.{Inside}
-
-abbrev pub resized_seen : Inside → Resized
-resized_seen s = record { read = s.read.now; image = s.image.now; sizes = s.sizes.now }

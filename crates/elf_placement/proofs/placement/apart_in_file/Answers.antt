@@ -1,7 +1,0 @@
-use Rattle.std.proofs.Common.{◌∙◌, ap}
-use Rattle.elf_format.specs.Ranges.{all_apart}
-use Rattle.elf_placement.proofs.placement.apart_in_file.Goals as goal
-
-pub returns : goal.returns
-returns c =
-    c.all_apart.ensures.value ∙ ap all_apart (c.deref_mut.ensures.value ∙ c.in_ok-parts.ensures)

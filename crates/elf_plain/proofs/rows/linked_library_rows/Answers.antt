@@ -1,8 +1,0 @@
--- Each row is computed.
-use Rattle.std.proofs.Common.{refl}
-use Rattle.elf_plain.proofs.Computing.{computing}
-use Rattle.elf_plain.proofs.rows.linked_library_rows.Goals as goal
-
-pub returns : goal.returns
-unfolding computing
-returns c = record { accepted = refl; shown = refl; counted = refl; loaded = refl }

@@ -1,5 +1,0 @@
-use Rattle.elf_plan.proofs.ApartFixed.{fixed_sections_stay}
-use Rattle.elf_plan.proofs.laws.fixed_sections_stay.Goals as goal
-
-pub returns : goal.returns
-returns c = fixed_sections_stay

@@ -1,9 +1,0 @@
-pub mod FieldLaws
-pub mod ForCallers
-pub mod FileHeaderBack
-pub mod SegmentHeaderBack
-pub mod SectionHeaderBack
-pub mod SymbolBack
-pub mod EntryBack
-pub mod FilesOpened
-pub mod TableBack

@@ -1,6 +1,0 @@
--- The law is proved of the definitions.
-use Rattle.elf_records.proofs.TableBack.{tables_are_read_back}
-use Rattle.elf_records.proofs.laws.tables_are_read_back.Goals as goal
-
-pub returns : goal.returns
-returns c = tables_are_read_back

@@ -1,9 +1,0 @@
--- One more number is appended.
-use Rattle.std.proofs.Common.{ℕ, ◌++◌, ap, ◌∙◌, arith}
-use Rattle.elf_records.proofs.FieldLaws.{fields_more}
-use Rattle.elf_records.proofs.numbers.push_halves.Goals as goal
-
-pub loop-number-preserved : goal.loop-number-preserved
-loop-number-preserved c =
-    fields_more (λ (x : ℕ). (2, x)) c.args.order c.args.bytes.now.items c.loop-number.bytes.items c.extend_from_slice.new.self.items c.args.numbers.now c.loop-number.number-index 0 (omega arith) c.loop-number.invariant
-    (c.in_ok-extend_from_slice.ensures.items ∙ ap (λ r. c.loop-number.bytes.items ++ r) c.half_bytes.ensures)

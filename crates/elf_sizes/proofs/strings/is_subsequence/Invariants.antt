@@ -1,7 +1,0 @@
-use Rattle.std.proofs.Common.{◌≡◌, ◌≤◌, drop, length}
-use Rattle.elf_plan.specs.Texts.{is_subsequence}
-use Rattle.elf_sizes.proofs.strings.is_subsequence.Given as goal
-
--- those that aren't found yet are the ones that are left with some left out, where all are
-abbrev pub invariant-loop-i : goal.invariant-loop-i
-invariant-loop-i l = (l.next ≤ length l.some) × (is_subsequence (drop l.next l.some) (drop l.i l.all) ≡ is_subsequence l.some l.all)

@@ -1,0 +1,6 @@
+use Rattle.std.proofs.Common.{◌≡◌, ◌++◌, take}
+use Rattle.elf_tables.specs.Fields.{fields, halves}
+use Rattle.elf_tables.proofs.numbers.push_halves.Given as goal
+
+abbrev pub invariant-loop-number : goal.invariant-loop-number
+invariant-loop-number l = l.bytes.items ≡ l.initial.bytes.items ++ fields l.order (halves (take l.number-index l.numbers))

@@ -1,0 +1,200 @@
+-- The bytes of all sections, and of each by what its type asks for.
+use Rattle.std.proofs.Common.{◌≡◌, ◌≤◌, ◌<◌, ℕ, zero, suc, ◌*◌, true, false, List, [], ◌∷◌, ◌++◌, length, map, refl, sym, ap, ◌∙◌, subst, Option, Some, None, Result, Ok, Err, get_or, arith}
+use Rattle.std.specs.Prelude.{IfOk, option_map, if◌then◌else◌, ◌==◌}
+use Rattle.std.specs.List.{slice_get}
+use Rattle.std.proofs.lemmas.List.{length-map}
+use Rattle.std.proofs.lemmas.Option.{none-some, same_Some, slice_get-get_or, slice_get-map, slice_get_read, slice_get_within}
+use Rattle.elf_format.specs.declared.constants.TheConstants.{SHT_DYNAMIC, SHT_DYNSYM, SHT_GNU_VERDEF, SHT_GNU_VERNEED, SHT_STRTAB}
+use Rattle.elf_format.specs.declared.records.EntryNumbers.{EntryNumbers}
+use Rattle.elf_format.specs.Image.{Image, ImageSection}
+use Rattle.elf_format.specs.Options.{is_some_and, list_at}
+use Rattle.elf_format.specs.Places.{Place}
+use Rattle.elf_format.specs.Records.{entry_size, symbol_size, symbols_in}
+use Rattle.elf_image.specs.declared.section.Section.{Section}
+use Rattle.elf_image.specs.ImageSeen.{section_kept}
+use Rattle.elf_layout_plan.specs.declared.plan.SectionPlace.{SectionPlace}
+use Rattle.elf_layout_plan.specs.PlanSeen.{place_seen}
+use Rattle.elf_layout_plan.specs.Kept.{KeptSection, interpreter_number, kept_sections}
+use Rattle.elf_layout_plan.specs.Memory.{Resized, sized_sections}
+use Rattle.elf_layout_plan.specs.Plan.{Layout, layout_for, resized}
+use Rattle.elf_layout_plan.specs.Needs.{written_needs}
+use Rattle.elf_layout_plan.specs.Sizes.{definitions_size, needs_size}
+use Rattle.elf_layout_plan.specs.Standing.{place_in, places}
+use Rattle.elf_layout_plan.proofs.ApartRead.{edited_facts}
+use Rattle.elf_layout_plan.proofs.ApartSections.{sized_of}
+use Rattle.elf_write_spec.specs.Contents.{AreDefinitionsIn, AreNeedsIn, AreSymbolsOf, spelled_list}
+use Rattle.elf_write_spec.specs.Final.{final}
+use Rattle.elf_write_spec.proofs.WholeFacts.{kept}
+use Rattle.elf_write_contents.specs.declared.made.Made.{Made}
+use Rattle.elf_write_contents.specs.ContentSteps.{AreBytesOf, IsBytesAt, made_or}
+use Rattle.elf_write_contents.specs.Inner.{AreContents, AreRaw, AreStrings, IsMadeContent, IsPlanned, strings_at}
+use Rattle.elf_write_contents.proofs.ReadFacts.{ReadFacts, are_numbered, length-numbered, read_facts}
+use Rattle.elf_write_contents.proofs.OthersCopied.{content_is_read}
+use Rattle.elf_write_contents.proofs.ContentsMade.{IsOther, PlacedAt, bytes_at, definitions_made, needs_made, placed_at, resized_with, symbols_made}
+use Rattle.elf_write_contents.proofs.ContentsByType.{interpreter_made, list_made, others_made, room, strings_made}
+
+-- ## Position by position
+
+-- a plan has a place for each section
+pub places_long : (read image : Image) (plan : Layout) → IsPlanned read image plan → length plan.places ≡ length image.sections
+unfolding layout_for places
+places_long read image plan is =
+    let r : Resized = resized image in
+    let places_are : plan.places ≡ map (place_in r is.planned.moved) (sized_sections r) = ap (λ (l : Layout). l.places) is.planned.follows in
+    ap length places_are ∙ length-map (sized_sections r) (place_in r is.planned.moved)
+    ∙ ap length (edited_facts image is.ready.edited).sized ∙ length-map (kept_sections image) (sized_of r)
+    ∙ ap length (are_numbered read image is.ready) ∙ length-numbered 0 image.sections
+
+-- what is known of each, and of one behind them
+each_of_more : (P : ℕ → List ℕ → Type 0) (last : List ℕ) (cs : List (List ℕ)) → ((j : ℕ) (c : List ℕ) → slice_get cs j ≡ Some c → P j c)
+    → P (length cs) last
+    → (i : ℕ) (b : List ℕ) → slice_get (cs ++ last ∷ []) i ≡ Some b → P i b
+each_of_more P last [] each is zero b at = subst (P 0) (same_Some last b at) is
+each_of_more P last [] each is (suc i) b at = absurd (none-some b at)
+each_of_more P last (c ∷ cs) each is zero b at = each 0 b at
+each_of_more P last (c ∷ cs) each is (suc i) b at = each_of_more (λ j. P (suc j)) last cs (λ j. each (suc j)) is i b at
+
+module _ (image : Image) (plan : Layout) (made : Option Made) (raw : List EntryNumbers) where
+  -- one more
+  pub one_more : (contents now : List (List ℕ)) (bytes : List ℕ) → AreBytesOf image plan made raw contents
+      → IsBytesAt image plan made raw (length contents) bytes → now ≡ contents ++ bytes ∷ [] → AreBytesOf image plan made raw now
+  one_more contents now bytes are is grown = record {
+    each = λ i b at. each_of_more (IsBytesAt image plan made raw) bytes contents are.each is i b
+        (ap (λ (l : List (List ℕ)). slice_get l i) (sym grown) ∙ at);
+  }
+
+  -- all of them
+  all_at : (r : Resized) (ks : List KeptSection) (ps : List Place) (cs : List (List ℕ)) → length ps ≡ length ks → length cs ≡ length ks
+      → ((i : ℕ) (k : KeptSection) (p : Place) (c : List ℕ) → slice_get ks i ≡ Some k → slice_get ps i ≡ Some p → slice_get cs i ≡ Some c
+      → IsMadeContent r plan made raw k p c)
+      → AreContents r plan made raw ks ps cs
+  all_at r [] [] [] p_long c_long each = tt
+  all_at r [] (p ∷ ps) cs p_long c_long each = absurd (omega (arith, p_long))
+  all_at r [] [] (c ∷ cs) p_long c_long each = absurd (omega (arith, c_long))
+  all_at r (k ∷ ks) [] cs p_long c_long each = absurd (omega (arith, p_long))
+  all_at r (k ∷ ks) (p ∷ ps) [] p_long c_long each = absurd (omega (arith, c_long))
+  all_at r (k ∷ ks) (p ∷ ps) (c ∷ cs) p_long c_long each =
+      (each 0 k p c refl refl refl, all_at r ks ps cs (omega (arith, p_long)) (omega (arith, c_long)) (λ i. each (suc i)))
+
+  pub all_made : (read : Image) → IsPlanned read image plan → (contents : List (List ℕ)) → AreBytesOf image plan made raw contents
+      → length contents ≡ length image.sections → AreContents (resized image) plan made raw (kept_sections image) plan.places contents
+  all_made read is contents are long =
+      let kept_long : length (kept_sections image) ≡ length image.sections =
+      ap length (are_numbered read image is.ready) ∙ length-numbered 0 image.sections in
+      all_at (resized image) (kept_sections image) plan.places contents (places_long read image plan is ∙ sym kept_long) (long ∙ sym kept_long)
+      (λ i k p c k_at p_at c_at. (are.each i c c_at).are k p k_at p_at)
+
+-- ## What a program holds
+
+-- as many, and each where it was
+pub long_held : (held : List Section) (sections : List ImageSection) → map section_kept held ≡ sections → length sections ≡ length held
+long_held held sections are = ap length (sym are) ∙ length-map held section_kept
+
+pub section_there : (held : List Section) (sections : List ImageSection) (i : ℕ) (x : Section) → map section_kept held ≡ sections
+    → i < length sections → x ≡ get_or held i x → slice_get sections i ≡ Some (section_kept x)
+section_there held sections i x are within is =
+    let inside : i < length held = omega (arith, ap length (sym are), length-map held section_kept) in
+    ap (λ (l : List ImageSection). slice_get l i) (sym are) ∙ slice_get-map section_kept held i
+    ∙ ap (option_map section_kept) (slice_get_read held (length held) i x refl inside is)
+
+pub place_within : (held : List SectionPlace) (ps : List Place) (sections : List ImageSection) (i : ℕ) → map place_seen held ≡ ps
+    → length ps ≡ length sections → i < length sections → i < length held
+place_within held ps sections i are long within = omega (arith, ap length (sym are), length-map held place_seen)
+
+pub place_there : (held : List SectionPlace) (ps : List Place) (i : ℕ) (d : SectionPlace) → map place_seen held ≡ ps → i < length held
+    → slice_get ps i ≡ Some (place_seen (get_or held i d))
+place_there held ps i d are within =
+    ap (λ (l : List Place). slice_get l i) (sym are) ∙ slice_get-map place_seen held i
+    ∙ ap (option_map place_seen) (slice_get-get_or held i d within)
+
+-- two facts about an answer that isn't refused
+pub both_ok : {T E : Type 0} (answer : Result T E) (P Q R : T → Type 0) → ((x : T) → P x → Q x → R x) → IfOk answer P → IfOk answer Q
+    → IfOk answer R
+both_ok (Ok x) P Q R both p q = both x p q
+both_ok (Err e) P Q R both p q = p
+
+-- ## By type
+
+module _ (read image : Image) (plan : Layout) (made : Option Made) (raw : List EntryNumbers) (is : IsPlanned read image plan) (i : ℕ)
+    (s : ImageSection) (s_at : slice_get image.sections i ≡ Some s) where
+  -- the section with its place
+  abbrev facts : ReadFacts read image
+  facts = read_facts read image is.ready
+
+  place : PlacedAt read image plan facts.parts i
+  place = placed_at read image plan is facts i (slice_get_within image.sections i s s_at)
+
+  same : place.section ≡ s
+  same = same_Some place.section s (sym place.is_section ∙ s_at)
+
+  of_type : (type : ℕ) → s.sh_type ≡ type → place.section.sh_type ≡ type
+  of_type type e = ap (λ (x : ImageSection). x.sh_type) same ∙ e
+
+  all_at_place : (bytes : List ℕ) → IsMadeContent (resized_with read image) plan made raw (kept i place.section) place.place bytes
+      → IsBytesAt image plan made raw i bytes
+  all_at_place bytes h = bytes_at read image plan made raw facts.parts i bytes is.ready.at_read place h
+
+  module _ (apart : is_some_and (λ n. n == i) (interpreter_number read) ≡ false) where
+    pub others_at : IsOther s.sh_type → IsBytesAt image plan made raw i s.content
+    others_at other =
+        subst (λ (x : ImageSection). IsBytesAt image plan made raw i x.content) same
+        (all_at_place place.section.content (others_made read image plan made raw is.ready facts i place apart
+        (subst (λ (x : ImageSection). IsOther x.sh_type) (sym same) other)))
+
+    pub strings_at_place : AreStrings read image made → s.sh_type ≡ SHT_STRTAB → IsBytesAt image plan made raw i (made_or made i s.content)
+    strings_at_place strings e =
+        subst (λ (bytes : List ℕ). IsBytesAt image plan made raw i bytes) (by_made made)
+        (all_at_place (strings_at image made i) (strings_made read image plan made raw is.ready facts i place apart (of_type SHT_STRTAB e) strings))
+      where
+        by_made : (m : Option Made) → strings_at image m i ≡ made_or m i s.content
+        by_made None = content_is_read read image is.ready i s s_at
+        by_made (Some m) =
+            ap (λ (l : List ℕ). if m.number == i then m.table.bytes else l) (content_is_read read image is.ready i s s_at)
+
+    pub symbols_at : s.sh_type ≡ SHT_DYNSYM → (bytes : List ℕ) → length bytes ≡ length image.dynamic_symbols * symbol_size image.form
+        → AreSymbolsOf (strings_at image made s.sh_link) (final read image).dynamic_symbols (symbols_in image.form bytes)
+        → IsBytesAt image plan made raw i bytes
+    symbols_at e bytes long are =
+        all_at_place bytes (symbols_made read image plan made raw facts.parts i place apart bytes (of_type SHT_DYNSYM e) long
+        (subst (λ (x : ImageSection). AreSymbolsOf (strings_at image made x.sh_link) (final read image).dynamic_symbols
+        (symbols_in image.form bytes)) (sym same) are))
+
+    pub definitions_at : s.sh_type ≡ SHT_GNU_VERDEF → (bytes : List ℕ) → length bytes ≡ definitions_size image.definitions
+        → AreDefinitionsIn image (strings_at image made s.sh_link) bytes → IsBytesAt image plan made raw i bytes
+    definitions_at e bytes long are =
+        all_at_place bytes (definitions_made read image plan made raw facts.parts i place apart bytes (of_type SHT_GNU_VERDEF e) long
+        (subst (λ (x : ImageSection). AreDefinitionsIn image (strings_at image made x.sh_link) bytes) (sym same) are))
+
+    pub needs_at : s.sh_type ≡ SHT_GNU_VERNEED → (bytes : List ℕ) → length bytes ≡ needs_size (written_needs read image)
+        → AreNeedsIn (resized image) (strings_at image made s.sh_link) bytes → IsBytesAt image plan made raw i bytes
+    needs_at e bytes long are =
+        all_at_place bytes (needs_made read image plan made raw facts.parts i place apart bytes (of_type SHT_GNU_VERNEED e) long
+        (subst (λ (x : ImageSection). AreNeedsIn (resized_with read image) (strings_at image made x.sh_link) bytes) (sym same)
+        (subst (λ (x : Image). AreNeedsIn (resized_with x image) (strings_at image made s.sh_link) bytes) (sym is.ready.at_read) are)))
+
+    module _ (are : AreRaw (resized image) plan made raw) (e : s.sh_type ≡ SHT_DYNAMIC) (p : Place) (p_at : slice_get plan.places i ≡ Some p) where
+      place_same : place.place ≡ p
+      place_same = same_Some place.place p (sym place.is_place ∙ p_at)
+
+      -- the list fits its place
+      pub list_fits : length raw * entry_size image.form ≤ p.sh_size
+      list_fits =
+          subst (λ (x : Place). length raw * entry_size image.form ≤ x.sh_size) place_same
+          (room read image plan made raw is.ready facts are i place apart (of_type SHT_DYNAMIC e))
+
+      pub list_at_place : IsBytesAt image plan made raw i (spelled_list image.form raw p.sh_size)
+      list_at_place =
+          subst (λ (x : Place). IsBytesAt image plan made raw i (spelled_list image.form raw x.sh_size)) place_same
+          (all_at_place (spelled_list image.form raw place.place.sh_size)
+          (list_made read image plan made raw is.ready facts are i place apart (of_type SHT_DYNAMIC e)))
+
+-- the interpreter's
+pub interpreter_at : (read image : Image) (plan : Layout) (made : Option Made) (raw : List EntryNumbers) → IsPlanned read image plan → (i : ℕ)
+    → i < length image.sections
+    → is_some_and (λ n. n == i) (interpreter_number read) ≡ true
+    → IsBytesAt image plan made raw i (list_at (λ name. name) image.interpreter)
+interpreter_at read image plan made raw is i within own =
+    let facts : ReadFacts read image = read_facts read image is.ready in
+    let place : PlacedAt read image plan facts.parts i = placed_at read image plan is facts i within in
+    bytes_at read image plan made raw facts.parts i (list_at (λ name. name) image.interpreter) is.ready.at_read place
+    (interpreter_made read image plan made raw is.ready facts i place own)

@@ -1,0 +1,254 @@
+-- The bytes of each section of an edited image of which nothing went: as many as its place has, and what they show, by the section's type.
+use Rattle.std.proofs.Common.{◌≡◌, ◌<◌, ℕ, ◌*◌, Bool, true, false, eqb, List, [], ◌∷◌, length, map, refl, sym, ap, ◌∙◌, subst, Option, Some}
+use Rattle.std.specs.Prelude.{IsTrue, ◌&&◌, not, if◌then◌else◌, ◌==◌}
+use Rattle.std.specs.List.{slice_get}
+use Rattle.std.proofs.lemmas.Bool.{both_ways, cond-false, cond-true, eq-eqb, false≢true}
+use Rattle.std.proofs.lemmas.Option.{same_Some}
+use Rattle.elf_format.specs.declared.constants.TheConstants.{SHT_DYNAMIC, SHT_DYNSYM, SHT_GNU_HASH, SHT_GNU_VERDEF, SHT_GNU_VERNEED, SHT_GNU_VERSYM, SHT_HASH, SHT_NOBITS, SHT_NOTE, SHT_REL, SHT_RELA, SHT_STRTAB, SHT_SYMTAB}
+use Rattle.elf_format.specs.declared.records.EntryNumbers.{EntryNumbers}
+use Rattle.elf_format.specs.declared.records.SectionHeader.{SectionHeader}
+use Rattle.elf_format.specs.declared.section_data.SectionData.{SectionData}
+use Rattle.elf_format.specs.declared.section_data.SectionData.TheVariants as kinds
+use Rattle.elf_format.specs.File.{Parts}
+use Rattle.elf_format.specs.Image.{Image, ImageSection}
+use Rattle.elf_format.specs.Options.{is_one_of, list_at}
+use Rattle.elf_format.specs.Places.{Place, occupies_file}
+use Rattle.elf_format.specs.Records.{symbol_size, symbols_in}
+use Rattle.elf_format.specs.Rules.{is_opaque_relocation}
+use Rattle.elf_image.specs.ReadImage.{IsSectionOf}
+use Rattle.elf_layout_plan.specs.Kept.{KeptSection, image_at_read, interpreter_number, is_numbered, kept_sections}
+use Rattle.elf_layout_plan.specs.Memory.{Resized, SizedSection, sized_sections}
+use Rattle.elf_layout_plan.specs.Needs.{written_needs}
+use Rattle.elf_layout_plan.specs.Plan.{Layout, layout_for, resized}
+use Rattle.elf_layout_plan.specs.Sizes.{definitions_size, dynamic_size, hash_size, interpreter_size, needs_size, new_size, new_sizes, strings_size, table_size}
+use Rattle.elf_layout_plan.specs.Standing.{place_in, places}
+use Rattle.elf_layout_plan.specs.Texts.{is_table_copied}
+use Rattle.elf_layout_plan.proofs.ApartLists.{at-map}
+use Rattle.elf_layout_plan.proofs.ApartRead.{edited_facts}
+use Rattle.elf_layout_plan.proofs.ApartSections.{at-sized, sized_of}
+use Rattle.elf_layout_plan.proofs.PlacedLists.{slice_get-at}
+use Rattle.elf_layout_plan.proofs.PlacedPlaces.{keeps_kind}
+use Rattle.elf_write_spec.specs.Contents.{AreDefinitionsIn, AreEntriesOf, AreNeedsIn, AreSymbolsOf, IsContent, spelled_list}
+use Rattle.elf_write_spec.specs.Final.{final}
+use Rattle.elf_write_spec.proofs.LinkedContents.{is_copied, kind_by}
+use Rattle.elf_write_spec.proofs.WholeFacts.{kept}
+use Rattle.elf_write_contents.specs.declared.made.Made.{Made}
+use Rattle.elf_write_contents.specs.ContentSteps.{IsBytesAt}
+use Rattle.elf_write_contents.specs.Inner.{IsMadeContent, IsPlanned, strings_at}
+use Rattle.elf_write_contents.proofs.ReadFacts.{ReadFacts, SectionRead, section_read}
+
+-- ## A section and its place
+
+-- the image with its new sizes, and the one that was read
+abbrev pub resized_with : Image → Image → Resized
+resized_with read image = record { read = read; image = image; sizes = new_sizes read image }
+
+pub record PlacedAt (read image : Image) (plan : Layout) (p : Parts) (i : ℕ) : Type 0 where
+  pub section : ImageSection
+  pub old : SectionHeader
+  pub place : Place
+  pub is_section : slice_get image.sections i ≡ Some section
+  pub is_kept : slice_get (kept_sections image) i ≡ Some (kept i section)
+  pub is_old : slice_get p.sections i ≡ Some old
+  pub of_old : IsSectionOf p old section
+  pub is_place : slice_get plan.places i ≡ Some place
+  pub place_type : place.sh_type ≡ section.sh_type
+  pub place_size : place.sh_size ≡ new_size read image (kept i section)
+
+pub placed_at : (read image : Image) (plan : Layout) → IsPlanned read image plan → (f : ReadFacts read image) → (i : ℕ)
+    → i < length image.sections → PlacedAt read image plan f.parts i
+unfolding layout_for places
+placed_at read image plan is f i within =
+    let at : SectionRead read image f.parts i = section_read read image is.ready f i within in
+    let k : KeptSection = kept i at.section in
+    let r : Resized = resized image in
+    let moved : List ℕ = is.planned.moved in
+    let s : SizedSection = sized_of r k in
+    let s_at : slice_get (sized_sections r) i ≡ Some s = at-sized r (edited_facts image is.ready.edited).sized i k at.is_kept in
+    let all : plan.places ≡ map (place_in r moved) (sized_sections r) = ap (λ (l : Layout). l.places) is.planned.follows in
+    let here : slice_get plan.places i ≡ Some (place_in r moved s) =
+    ap (λ (l : List Place). slice_get l i) all ∙ at-map (place_in r moved) (sized_sections r) i s s_at in
+    let keeps = keeps_kind r moved s (slice_get-at (sized_sections r) i s s_at) in
+    record {
+      section = at.section;
+      old = at.old;
+      place = place_in r moved s;
+      is_section = at.is_section;
+      is_kept = at.is_kept;
+      is_old = at.is_old;
+      of_old = at.of_old;
+      is_place = here;
+      place_type = keeps.type;
+      place_size = keeps.size ∙ ap (λ (x : Image). new_size x image k) (sym is.ready.at_read);
+    }
+
+-- the bytes of a section, once they are those of its place
+pub bytes_at : (read image : Image) (plan : Layout) (made : Option Made) (raw : List EntryNumbers) (p : Parts) (i : ℕ) (bytes : List ℕ)
+    → read ≡ image_at_read image → (at : PlacedAt read image plan p i)
+    → IsMadeContent (resized_with read image) plan made raw (kept i at.section) at.place bytes → IsBytesAt image plan made raw i bytes
+bytes_at read image plan made raw p i bytes same at is = record {
+  are = λ k place k_at place_at.
+      subst (λ (x : Image). IsMadeContent (resized_with x image) plan made raw k place bytes) same
+      (subst (λ (x : Place). IsMadeContent (resized_with read image) plan made raw k x bytes)
+      (same_Some at.place place (sym at.is_place ∙ place_at))
+      (subst (λ (x : KeptSection). IsMadeContent (resized_with read image) plan made raw x at.place bytes)
+      (same_Some (kept i at.section) k (sym at.is_kept ∙ k_at)) is));
+}
+
+-- ## Kinds
+
+-- what a content is by its section's kind
+abbrev pub content_of : Resized → Layout → List EntryNumbers → List ℕ → KeptSection → List ℕ → SectionData → Type 0
+content_of r plan raw strings s bytes kind = elim kind [
+  | kinds.Dynamic ↦ AreEntriesOf r plan strings (list_at (λ es. es) (final r.read r.image).entries) raw ×
+      (bytes ≡ spelled_list r.image.form raw (length bytes))
+  | kinds.Strings ↦ IsTrue (is_table_copied r.read r.image s.number) → bytes ≡ s.section.content
+  | kinds.DynamicSymbols ↦ AreSymbolsOf strings (final r.read r.image).dynamic_symbols (symbols_in r.image.form bytes)
+  | kinds.GnuVerdef ↦ AreDefinitionsIn r.image strings bytes
+  | kinds.GnuVerneed ↦ AreNeedsIn r strings bytes
+  | _ ↦ bytes ≡ s.section.content
+]
+
+-- bytes as they were read, of a kind that is copied
+pub content_copied : (r : Resized) (plan : Layout) (raw : List EntryNumbers) (strings : List ℕ) (s : KeptSection) (bytes : List ℕ) (kind : SectionData)
+    → is_copied kind ≡ true → bytes ≡ s.section.content → content_of r plan raw strings s bytes kind
+content_copied r plan raw strings s bytes kinds.Opaque h e = e
+content_copied r plan raw strings s bytes kinds.Uninitialized h e = e
+content_copied r plan raw strings s bytes kinds.Dynamic h e = absurd (false≢true h)
+content_copied r plan raw strings s bytes kinds.Relocation h e = e
+content_copied r plan raw strings s bytes kinds.Note h e = e
+content_copied r plan raw strings s bytes kinds.Strings h e = absurd (false≢true h)
+content_copied r plan raw strings s bytes kinds.Symbols h e = e
+content_copied r plan raw strings s bytes kinds.DynamicSymbols h e = absurd (false≢true h)
+content_copied r plan raw strings s bytes kinds.Hash h e = e
+content_copied r plan raw strings s bytes kinds.GnuHash h e = e
+content_copied r plan raw strings s bytes kinds.GnuVersym h e = e
+content_copied r plan raw strings s bytes kinds.GnuVerdef h e = absurd (false≢true h)
+content_copied r plan raw strings s bytes kinds.GnuVerneed h e = absurd (false≢true h)
+
+-- a type of which the bytes are made, or of string tables
+pub record IsOther (n : ℕ) : Type 0 where
+  pub dynamic : (n == SHT_DYNAMIC) ≡ false
+  pub strings : (n == SHT_STRTAB) ≡ false
+  pub symbols : (n == SHT_DYNSYM) ≡ false
+  pub definitions : (n == SHT_GNU_VERDEF) ≡ false
+  pub needs : (n == SHT_GNU_VERNEED) ≡ false
+
+either : (b : Bool) (x y : SectionData) → is_copied x ≡ true → is_copied y ≡ true → is_copied (if b then x else y) ≡ true
+either true x y h k = h
+either false x y h k = k
+
+other_one : (b : Bool) (x y : SectionData) → b ≡ false → is_copied y ≡ true → is_copied (if b then x else y) ≡ true
+other_one true x y h k = absurd (false≢true (sym h))
+other_one false x y h k = k
+
+pub kind_copied : (n : ℕ) (opaque : Bool) → IsOther n → is_copied (kind_by n opaque) ≡ true
+kind_copied n opaque is =
+    either (n == SHT_NOBITS) kinds.Uninitialized _ refl
+    (other_one (n == SHT_DYNAMIC) kinds.Dynamic _ is.dynamic
+    (either (is_one_of (SHT_REL ∷ SHT_RELA ∷ []) n) (if opaque then kinds.Opaque else kinds.Relocation) _ (either opaque kinds.Opaque kinds.Relocation refl refl)
+    (either (n == SHT_NOTE) kinds.Note _ refl
+    (other_one (n == SHT_STRTAB) kinds.Strings _ is.strings
+    (either (n == SHT_SYMTAB) kinds.Symbols _ refl
+    (other_one (n == SHT_DYNSYM) kinds.DynamicSymbols _ is.symbols
+    (either (n == SHT_HASH) kinds.Hash _ refl
+    (either (n == SHT_GNU_HASH) kinds.GnuHash _ refl
+    (either (n == SHT_GNU_VERSYM) kinds.GnuVersym _ refl
+    (other_one (n == SHT_GNU_VERDEF) kinds.GnuVerdef _ is.definitions
+    (other_one (n == SHT_GNU_VERNEED) kinds.GnuVerneed kinds.Opaque is.needs refl)))))))))))
+
+module _ (read image : Image) (plan : Layout) (made : Option Made) (raw : List EntryNumbers) (p : Parts) (i : ℕ) (at : PlacedAt read image plan p i) where
+  abbrev pub here : KeptSection
+  here = kept i at.section
+
+  abbrev pub r : Resized
+  r = resized_with read image
+
+  old_type : at.old.sh_type ≡ at.section.sh_type
+  old_type = sym (ap (λ (x : ImageSection). x.sh_type) at.of_old.fields)
+
+  pub kind_is : (type : ℕ) → at.section.sh_type ≡ type → at.section.kind ≡ kind_by type (is_opaque_relocation p at.old)
+  kind_is type e =
+      ap (λ (x : ImageSection). x.kind) at.of_old.fields ∙ ap (λ (n : ℕ). kind_by n (is_opaque_relocation p at.old)) (old_type ∙ e)
+
+  -- ## Sections but the interpreter's
+
+  module _ (apart : is_numbered (interpreter_number read) (kept i at.section) ≡ false) where
+    -- by the kind
+    pub content_from : (strings bytes : List ℕ) (kind : SectionData) → at.section.kind ≡ kind → content_of r plan raw strings here bytes kind
+        → IsContent r plan raw strings here bytes
+    content_from strings bytes kind e h =
+        subst (λ (b : Bool). elim b as (λ _. Type 0) [
+          | true ↦ bytes ≡ list_at (λ name. name) image.interpreter
+          | _ ↦ content_of r plan raw strings here bytes at.section.kind
+        ]) (sym apart) (subst (content_of r plan raw strings here bytes) (sym e) h)
+
+    plain_size : at.place.sh_size ≡ table_size read image (kept i at.section)
+    unfolding new_size
+    plain_size =
+        at.place_size
+        ∙ cond-false (is_numbered (interpreter_number read) (kept i at.section)) (interpreter_size image at.section) _ apart
+
+    -- of a type that decides the kind
+    pub content_by : (strings bytes : List ℕ) (type : ℕ) → at.section.sh_type ≡ type → (kind : SectionData) → ((opaque : Bool) → kind_by type opaque ≡ kind)
+        → content_of r plan raw strings here bytes kind → IsContent r plan raw strings here bytes
+    content_by strings bytes type e kind by_type h =
+        content_from strings bytes kind (kind_is type e ∙ by_type (is_opaque_relocation p at.old)) h
+
+    -- ## Sizes
+
+    -- how large the section would be, were it of a type
+    abbrev pub size_for : ℕ → ℕ
+    size_for n =
+        if n == SHT_DYNAMIC then dynamic_size read image at.section
+        else if n == SHT_STRTAB then strings_size read image here
+        else if n == SHT_SYMTAB then length image.symbols * symbol_size image.form
+        else if n == SHT_DYNSYM then length image.dynamic_symbols * symbol_size image.form
+        else if n == SHT_GNU_VERSYM then 2 * length image.dynamic_symbols
+        else if n == SHT_GNU_VERDEF then definitions_size image.definitions
+        else if n == SHT_GNU_VERNEED then needs_size (written_needs read image)
+        else if n == SHT_HASH then hash_size read image at.section
+        else if n == SHT_GNU_HASH then hash_size read image at.section
+        else at.section.sh_size
+
+    pub typed_size : (type : ℕ) → at.section.sh_type ≡ type → at.place.sh_size ≡ size_for type
+    typed_size type e = plain_size ∙ ap (λ (n : ℕ). size_for n) e
+
+    -- a type of which the bytes stand in the file
+    pub stored : (type : ℕ) → at.section.sh_type ≡ type → (not (eqb type 0) && not (eqb type 8)) ≡ true
+        → (if occupies_file at.place then at.place.sh_size else 0) ≡ at.place.sh_size
+    stored type e h =
+        cond-true (occupies_file at.place) at.place.sh_size 0 (ap (λ t. not (eqb t 0) && not (eqb t 8)) (at.place_type ∙ e) ∙ h)
+
+    -- it is no string table
+    pub no_strings : (type : ℕ) → at.section.sh_type ≡ type → (type == SHT_STRTAB) ≡ false → (bytes : List ℕ)
+        → at.section.sh_type ≡ SHT_STRTAB → bytes ≡ strings_at image made i
+    no_strings type e other bytes h = absurd (both_ways (type == SHT_STRTAB) other (eq-eqb type SHT_STRTAB (sym e ∙ h)))
+
+    -- bytes of a type that is made anew, as many as the type's size
+    pub typed : (bytes : List ℕ) (type : ℕ) → at.section.sh_type ≡ type → (not (eqb type 0) && not (eqb type 8)) ≡ true → (type == SHT_STRTAB) ≡ false
+        → (kind : SectionData) → ((opaque : Bool) → kind_by type opaque ≡ kind) → length bytes ≡ size_for type
+        → content_of r plan raw (strings_at image made at.section.sh_link) here bytes kind
+        → IsMadeContent r plan made raw here at.place bytes
+    typed bytes type e in_file other kind by_type long h = record {
+      sized = long ∙ sym (typed_size type e) ∙ sym (stored type e in_file);
+      content = content_by (strings_at image made at.section.sh_link) bytes type e kind by_type h;
+      strings = no_strings type e other bytes;
+    }
+
+    -- ## Tables that are made of the image's lists
+
+    pub symbols_made : (bytes : List ℕ) → at.section.sh_type ≡ SHT_DYNSYM → length bytes ≡ length image.dynamic_symbols * symbol_size image.form
+        → AreSymbolsOf (strings_at image made at.section.sh_link) (final read image).dynamic_symbols (symbols_in image.form bytes)
+        → IsMadeContent r plan made raw here at.place bytes
+    symbols_made bytes e long are = typed bytes SHT_DYNSYM e refl refl kinds.DynamicSymbols (λ opaque. refl) long are
+
+    pub definitions_made : (bytes : List ℕ) → at.section.sh_type ≡ SHT_GNU_VERDEF → length bytes ≡ definitions_size image.definitions
+        → AreDefinitionsIn image (strings_at image made at.section.sh_link) bytes
+        → IsMadeContent r plan made raw here at.place bytes
+    definitions_made bytes e long are = typed bytes SHT_GNU_VERDEF e refl refl kinds.GnuVerdef (λ opaque. refl) long are
+
+    pub needs_made : (bytes : List ℕ) → at.section.sh_type ≡ SHT_GNU_VERNEED → length bytes ≡ needs_size (written_needs read image)
+        → AreNeedsIn r (strings_at image made at.section.sh_link) bytes
+        → IsMadeContent r plan made raw here at.place bytes
+    needs_made bytes e long are = typed bytes SHT_GNU_VERNEED e refl refl kinds.GnuVerneed (λ opaque. refl) long are

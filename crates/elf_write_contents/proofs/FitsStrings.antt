@@ -1,0 +1,152 @@
+-- The strings of the dynamic list are no longer than a word of the class can tell.
+use Rattle.std.proofs.Common.{◌≡◌, ◌≤◌, ◌<◌, ◌^◌, ℕ, Bool, true, false, List, [], length, drop, refl, sym, ap, ◌∙◌, subst, Option, Some, None, arith}
+use Rattle.std.specs.Prelude.{◌&&◌, ◌==◌, find, if◌then◌else◌}
+use Rattle.std.specs.List.{list_all, slice_get}
+use Rattle.std.specs.Option.{option_map}
+use Rattle.std.proofs.lemmas.Bool.{and_parts, cond_both, eq-eqb, eqb-true, false_from_ne_true, false≢true, ltb-true}
+use Rattle.std.proofs.lemmas.List.{length-take}
+use Rattle.std.proofs.lemmas.List.Folds.{list_all-map}
+use Rattle.std.proofs.lemmas.Option.{none-some, same_Some}
+use Rattle.patch_bytes.specs.declared.number.Wide.{Wide}
+use Rattle.patch_bytes.specs.declared.number.Wide.TheVariants.{W32, W64}
+use Rattle.patch_bytes.specs.Number.{field}
+use Rattle.patch_bytes.specs.Memory.{◌>>=◌}
+use Rattle.patch_bytes.proofs.MemoryLaws.{bind_some}
+use Rattle.elf_format.specs.declared.constants.TheConstants.{PT_INTERP, SHT_DYNAMIC, SHT_PROGBITS, SHT_STRTAB}
+use Rattle.elf_format.specs.declared.records.SectionHeader.{SectionHeader}
+use Rattle.elf_format.specs.File.{has_file_bytes, section_bytes, segment_of_type}
+use Rattle.elf_format.specs.Form.{by_class}
+use Rattle.elf_format.specs.Image.{Image, ImageSection}
+use Rattle.elf_format.specs.Rules.{file_of}
+use Rattle.elf_layout_plan.specs.Kept.{KeptSection, interpreter_number, is_numbered, kept_sections, link_of_type, stands_as_interpreter}
+use Rattle.elf_layout_plan.specs.Sizes.{fits_field, interpreter_size, new_size, new_sizes, strings_size, table_size}
+use Rattle.elf_layout_plan.specs.Texts.{is_table_copied, texts_in_use}
+use Rattle.elf_layout_plan.proofs.PlacedLists.{find-at}
+use Rattle.elf_tables.specs.Strings.{table_length}
+use Rattle.elf_write_spec.proofs.WholeFacts.{kept}
+use Rattle.elf_write_spec.proofs.WholeLists.{has_at}
+use Rattle.elf_write_contents.specs.declared.made.Made.{Made}
+use Rattle.elf_write_contents.specs.Inner.{AreStrings, IsReady, content_read, strings_at}
+use Rattle.elf_write_contents.proofs.MadeShort.{all_at, strings_read}
+use Rattle.elf_write_contents.proofs.OthersCopied.{content_is_read, same_kept}
+use Rattle.elf_write_contents.proofs.ReadFacts.{ReadFacts, kept-at, read_facts}
+
+-- one past the greatest word of a class
+abbrev pub words_end : Wide → ℕ
+words_end wide = by_class wide (2 ^ 32) (2 ^ 64)
+
+-- ## The interpreter's section
+
+kept_from_map : (j : ℕ) (o : Option ImageSection) (s : KeptSection) → option_map (kept j) o ≡ Some s
+    → (y : ImageSection) × (o ≡ Some y) × (kept j y ≡ s)
+kept_from_map j None s h = absurd (none-some s h)
+kept_from_map j (Some y) s h = (y, refl, same_Some (kept j y) s h)
+
+first_test : (a b c d : Bool) → (a && b && c && d) ≡ true → a ≡ true
+first_test true b c d e = refl
+first_test false b c d e = absurd (false≢true e)
+
+module _ (read image : Image) (is : IsReady read image) (f : ReadFacts read image) (i : ℕ) (x : ImageSection) (at : slice_get image.sections i ≡ Some x) where
+  -- a section that was read at that number is this one
+  same_section : (s : KeptSection) (j : ℕ) → slice_get (kept_sections read) j ≡ Some s → s.number ≡ i → s.section ≡ x
+  same_section s j s_at number =
+      let here : option_map (kept j) (slice_get image.sections j) ≡ Some s =
+      sym (kept-at read image is j) ∙ ap (λ (ks : List KeptSection). slice_get ks j) (same_kept read image is f) ∙ s_at in
+      let (y, y_at, same) = kept_from_map j (slice_get image.sections j) s here in
+      let index : j ≡ i = ap (λ (k : KeptSection). k.number) same ∙ number in
+      let own : y ≡ x = same_Some y x (sym y_at ∙ ap (λ (n : ℕ). slice_get image.sections n) index ∙ at) in
+      sym (ap (λ (k : KeptSection). k.section) same) ∙ own
+
+  -- the interpreter's section is one with bytes of its own
+  interpreter_type : is_numbered (interpreter_number read) (kept i x) ≡ true → x.sh_type ≡ SHT_PROGBITS
+  interpreter_type h =
+      let (p, _, more) = bind_some (segment_of_type PT_INTERP read.segments)
+      (λ p. find (λ s. stands_as_interpreter p s.section) (kept_sections read) >>= λ s. Some s.number) i (by_number (interpreter_number read) h) in
+      let (s, found, made) = bind_some (find (λ y. stands_as_interpreter p y.section) (kept_sections read)) (λ y. Some y.number) i more in
+      let passes = find-at (λ y. stands_as_interpreter p y.section) (kept_sections read) s found in
+      let (j, s_at) = has_at (kept_sections read) s passes.0 in
+      let same : s.section ≡ x = same_section s j s_at (same_Some s.number i made) in
+      sym (ap (λ (z : ImageSection). z.sh_type) same) ∙ eqb-true s.section.sh_type SHT_PROGBITS
+      (first_test (s.section.sh_type == SHT_PROGBITS) (s.section.sh_offset == p.p_offset)
+      (s.section.sh_addr == p.p_vaddr) (s.section.sh_size == p.p_filesz) passes.1)
+    where
+      by_number : (o : Option ℕ) → is_numbered o (kept i x) ≡ true → o ≡ Some i
+      by_number None e = absurd (false≢true e)
+      by_number (Some n) e = ap (λ (m : ℕ). Some m) (eqb-true n i e)
+
+  -- a string table isn't the interpreter's
+  no_interpreter : x.sh_type ≡ SHT_STRTAB → is_numbered (interpreter_number read) (kept i x) ≡ false
+  no_interpreter type =
+      false_from_ne_true (is_numbered (interpreter_number read) (kept i x)) (λ h.
+      false≢true (eq-eqb SHT_STRTAB SHT_PROGBITS (sym type ∙ interpreter_type h)))
+
+  -- a string table that is copied keeps its size
+  kept_size : x.sh_type ≡ SHT_STRTAB → is_table_copied read image i ≡ true → new_size read image (kept i x) ≡ x.sh_size
+  unfolding new_size
+  kept_size type copied =
+      ap (λ (b : Bool). if b then interpreter_size image x else table_size read image (kept i x)) (no_interpreter type)
+      ∙ of_type x.sh_type (sym type)
+      ∙ ap (λ (b : Bool). if b then x.sh_size else table_length (texts_in_use read image i)) copied
+    where
+      of_type : (n : ℕ) → SHT_STRTAB ≡ n → table_size read image (kept i (record x { sh_type = n })) ≡ strings_size read image (kept i x)
+      of_type n same =
+          subst (λ (m : ℕ). table_size read image (kept i (record x { sh_type = m })) ≡ strings_size read image (kept i x)) same refl
+
+  -- and that fits
+  copied_fits : x.sh_type ≡ SHT_STRTAB → is_table_copied read image i ≡ true → x.sh_size < words_end image.form.wide
+  unfolding new_sizes
+  copied_fits type copied =
+      let sized : list_all (fits_field image.form) (new_sizes read image) ≡ true =
+      ap (λ (r : Image). list_all (fits_field image.form) (new_sizes r image)) is.at_read ∙ (and_parts _ _ is.sized).0 in
+      let each : list_all (λ s. fits_field image.form (new_size read image s)) (kept_sections image) ≡ true =
+      sym (list_all-map (fits_field image.form) (new_size read image) (kept_sections image)) ∙ sized in
+      let there : slice_get (kept_sections image) i ≡ Some (kept i x) = kept-at read image is i ∙ ap (option_map (kept i)) at in
+      let fits : fits_field image.form (new_size read image (kept i x)) ≡ true =
+      all_at (λ s. fits_field image.form (new_size read image s)) (kept_sections image) i (kept i x) each there in
+      let size : new_size read image (kept i x) ≡ x.sh_size = kept_size type copied in
+      subst (λ (n : ℕ). n < words_end image.form.wide) size (ltb-true (new_size read image (kept i x)) (words_end image.form.wide) fits)
+
+-- ## The strings of the dynamic list
+
+-- a section has no more bytes than its header says
+no_longer : (file : List ℕ) (s : SectionHeader) → length (section_bytes file s) ≤ s.sh_size
+unfolding section_bytes
+no_longer file s =
+    cond_both (has_file_bytes s) (field s.sh_size s.sh_offset file) [] (λ bytes. length bytes ≤ s.sh_size)
+    (λ _. omega (arith, length-take s.sh_size (drop s.sh_offset file)))
+    (λ _. omega arith)
+
+narrow_fits : (wide : Wide) (n : ℕ) → n ≤ 2 ^ 32 → n ≤ words_end wide
+narrow_fits W32 n less = less
+narrow_fits W64 n less = omega (arith, less)
+
+copied_short : (read image : Image) (is : IsReady read image) (number : ℕ) → link_of_type SHT_DYNAMIC image ≡ Some number
+    → is_table_copied read image number ≡ true → length (content_read image number) ≤ words_end image.form.wide
+copied_short read image is number linked copied =
+    let f = read_facts read image is in
+    let strings = strings_read read image is f number linked in
+    let x : ImageSection = strings.at.section in
+    let old : SectionHeader = strings.at.old in
+    let content : length (content_read image number) ≡ length (section_bytes (file_of f.parts) old) =
+    ap length (content_is_read read image is number x strings.at.is_section ∙ ap (λ (s : ImageSection). s.content) strings.at.of_old.fields) in
+    let size : x.sh_size ≡ old.sh_size = ap (λ (s : ImageSection). s.sh_size) strings.at.of_old.fields in
+    let fits = copied_fits read image is f number x strings.at.is_section strings.type copied in
+    let short = no_longer (file_of f.parts) old in
+    bounded (length (content_read image number)) (length (section_bytes (file_of f.parts) old)) old.sh_size x.sh_size (words_end image.form.wide)
+    content short size fits
+  where
+    bounded : (a b c d e : ℕ) → a ≡ b → b ≤ c → d ≡ c → d < e → a ≤ e
+    bounded a b c d e ab bc dc de = omega (arith, ab, bc, dc, de)
+
+pub strings_short : (read image : Image) (made : Option Made) → IsReady read image → AreStrings read image made → (number : ℕ)
+    → link_of_type SHT_DYNAMIC image ≡ Some number → length (strings_at image made number) ≤ words_end image.form.wide
+strings_short read image None is strings number linked = copied_short read image is number linked (strings.copied refl number linked)
+strings_short read image (Some m) is strings number linked =
+    let anew = strings.anew m refl in
+    let same : m.number ≡ number = same_Some m.number number (sym anew.0 ∙ linked) in
+    let table : strings_at image (Some m) number ≡ m.table.bytes =
+    ap (λ (b : Bool). if b then m.table.bytes else content_read image number) (eq-eqb m.number number same) in
+    let long : length m.table.bytes ≡ table_length (texts_in_use read image m.number) = anew.1.holds.long in
+    let fits : table_length (texts_in_use read image m.number) ≤ 2 ^ 32 = anew.1.fits in
+    subst (λ (n : ℕ). n ≤ words_end image.form.wide) (sym (ap length table ∙ long))
+    (narrow_fits image.form.wide (table_length (texts_in_use read image m.number)) fits)

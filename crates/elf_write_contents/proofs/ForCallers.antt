@@ -1,0 +1,12 @@
+-- For callers: what the crates above may cite. These are laws of the words of specs/; no other module of
+-- this crate's proofs is meant for them.
+
+-- what a plan that is one for an image says of its counts
+pub use Rattle.elf_write_contents.proofs.PlanCounts.{plan_counts}
+-- contents that are those of an image are as long as the plan says
+pub use Rattle.elf_write_contents.proofs.ContentsAll.{long_held}
+-- which texts a string table of an image shows
+pub use Rattle.elf_write_contents.proofs.NamesTable.{linked_at, names_at, names_typed, shows_none}
+unfoldable pub use Rattle.elf_write_contents.proofs.NamesTable.{shows_texts}
+-- what is known of a file that was read, and of one of its sections
+pub use Rattle.elf_write_contents.proofs.ReadFacts.{ReadFacts, SectionRead, are_numbered, kept-at, kept_is, length-numbered, read_facts, section_read}

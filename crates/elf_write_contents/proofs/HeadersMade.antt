@@ -1,0 +1,266 @@
+-- What is known of each section header that is written.
+use Rattle.std.proofs.Common.{◌≡◌, ℕ, suc, ◌<◌, ◌≤◌, ◌^◌, Bool, true, false, List, [], ◌∷◌, ◌++◌, length, map, get_or, refl, sym, ap, ◌∙◌, subst, Option, Some, arith}
+use Rattle.std.specs.Prelude.{Contains, IsSome, if◌then◌else◌, ◌==◌, unwrap_or}
+use Rattle.std.specs.List.{slice_get}
+use Rattle.std.specs.Option.{option_map}
+use Rattle.std.proofs.lemmas.Bool.{eq-eqb}
+use Rattle.std.proofs.lemmas.List.{length-map}
+use Rattle.std.proofs.lemmas.List.Elements.{Contains-append_right}
+use Rattle.std.proofs.lemmas.Option.{get_or_from_slice_get, none-some, same_Some, slice_get_read, slice_get_within}
+use Rattle.patch_bytes.specs.Memory.{◌>>=◌, Memory, memory_of, text_at}
+use Rattle.elf_format.specs.declared.constants.TheConstants.{SHT_DYNAMIC, SHT_DYNSYM, SHT_GNU_VERDEF, SHT_GNU_VERNEED, SHT_SYMTAB}
+use Rattle.elf_format.specs.declared.form.Form.{Form}
+use Rattle.elf_format.specs.declared.header.Header.{Header}
+use Rattle.elf_format.specs.declared.records.FileHeader.{FileHeader}
+use Rattle.elf_format.specs.declared.records.SectionHeader.{SectionHeader}
+use Rattle.elf_format.specs.File.{Opened, Parts, section_bytes, sections_of}
+use Rattle.elf_format.specs.Image.{Image, ImageSection}
+use Rattle.elf_format.specs.Options.{list_at}
+use Rattle.elf_format.specs.Places.{Place}
+use Rattle.elf_format.specs.Records.{section_header_size, segment_header_size}
+use Rattle.elf_format.specs.Rules.{file_of, texts_of}
+use Rattle.elf_image.specs.declared.section.Section.{Section}
+use Rattle.elf_image.specs.ImageSeen.{section_kept}
+use Rattle.elf_layout_plan.specs.Kept.{KeptSection, image_at_read, kept_sections}
+use Rattle.elf_layout_plan.specs.Memory.{Resized, sized_sections}
+use Rattle.elf_layout_plan.specs.Needs.{written_entries, written_needs}
+use Rattle.elf_layout_plan.specs.Plan.{Layout, layout_for, resized}
+use Rattle.elf_layout_plan.specs.Standing.{place_in, places}
+use Rattle.elf_layout_plan.specs.Texts.{if_linked, if_names, texts_in_use, texts_of_definitions, texts_of_entries, texts_of_needs, texts_of_symbols}
+use Rattle.elf_layout_plan.proofs.ApartLists.{at-map}
+use Rattle.elf_layout_plan.proofs.ApartRead.{edited_facts}
+use Rattle.elf_layout_plan.proofs.ApartSections.{sized_of}
+use Rattle.elf_tables.specs.Strings.{place_of}
+use Rattle.elf_write_spec.specs.Final.{final, new_number}
+use Rattle.elf_write_spec.specs.Headers.{Reads, behind_locals, is_info_number, written_header, written_info, written_section}
+use Rattle.elf_write_spec.proofs.TextsRead.{text_reads}
+use Rattle.elf_write_spec.proofs.WholeFacts.{kept}
+use Rattle.elf_write_spec.proofs.WholeLists.{there_at}
+use Rattle.elf_write_contents.specs.declared.headers.Known.{Known}
+use Rattle.elf_write_contents.specs.declared.made.Made.{Made}
+use Rattle.elf_write_contents.specs.HeaderSteps.{IsHeaderAt, IsKnown, header_by, headers_read, info_by}
+use Rattle.elf_write_contents.specs.Inner.{AreStrings, IsPlanned, IsReady, content_read}
+use Rattle.elf_write_contents.specs.Numbers.{do_numbers_fit}
+use Rattle.elf_write_contents.proofs.HeadersLists.{far_numbers, far_section}
+use Rattle.elf_write_contents.proofs.NamesTable.{names_at}
+use Rattle.elf_write_contents.proofs.ReadFacts.{ReadFacts, SectionRead, final_is, kept-at, kept_is, length-now, new_number-same, read_facts, section_read}
+
+-- ## The file header
+
+-- the section of names keeps its number
+names_number : (read image : Image) (plan : Layout) → IsPlanned read image plan → image.header.e_shstrndx ≡ new_number image image.header.e_shstrndx
+names_number read image plan is = sym (new_number-same read image is.ready image.header.e_shstrndx)
+
+-- the file header by its numbers
+abbrev header_with : Header → ℕ → ℕ → ℕ → ℕ → ℕ → ℕ → ℕ → FileHeader
+header_with h phoff shoff phentsize phnum shentsize shnum names = record {
+  os_abi = h.os_abi;
+  abi_version = h.abi_version;
+  e_type = h.e_type;
+  e_machine = h.e_machine;
+  e_entry = h.e_entry;
+  e_phoff = phoff;
+  e_shoff = shoff;
+  e_flags = h.e_flags;
+  e_phentsize = phentsize;
+  e_phnum = phnum;
+  e_shentsize = shentsize;
+  e_shnum = shnum;
+  e_shstrndx = names;
+}
+
+pub file_header_is : (read image : Image) (plan : Layout) → IsPlanned read image plan
+    → (h : Header) (form : Form) (phoff shoff phentsize phnum shentsize shnum : ℕ) → h ≡ image.header → form.wide ≡ image.form.wide
+    → form.order ≡ image.form.order → phoff ≡ plan.e_phoff → shoff ≡ plan.e_shoff → phentsize ≡ segment_header_size form
+    → phnum ≡ length plan.segments → shentsize ≡ section_header_size form → shnum ≡ length plan.places
+    → header_with h phoff shoff phentsize phnum shentsize shnum h.e_shstrndx ≡ written_header image plan
+file_header_is read image plan is h form phoff shoff phentsize phnum shentsize shnum is_h is_wide is_order is_phoff is_shoff is_phentsize is_phnum is_shentsize is_shnum =
+    let i : Header = image.header in
+    let f : Form = image.form in
+    let same_form : form ≡ f =
+    ap (λ w. record { wide = w; order = form.order }) is_wide ∙ ap (λ o. record { wide = f.wide; order = o }) is_order in
+    let a : ℕ = segment_header_size f in
+    let b : ℕ = section_header_size f in
+    let m : ℕ = length plan.segments in
+    ap (λ (x : Header). header_with x phoff shoff phentsize phnum shentsize shnum x.e_shstrndx) is_h
+    ∙ ap (λ (n : ℕ). header_with i n shoff phentsize phnum shentsize shnum i.e_shstrndx) is_phoff
+    ∙ ap (λ (n : ℕ). header_with i plan.e_phoff n phentsize phnum shentsize shnum i.e_shstrndx) is_shoff
+    ∙ ap (λ (n : ℕ). header_with i plan.e_phoff plan.e_shoff n phnum shentsize shnum i.e_shstrndx) (is_phentsize ∙ ap segment_header_size same_form)
+    ∙ ap (λ (n : ℕ). header_with i plan.e_phoff plan.e_shoff a n shentsize shnum i.e_shstrndx) is_phnum
+    ∙ ap (λ (n : ℕ). header_with i plan.e_phoff plan.e_shoff a m n shnum i.e_shstrndx) (is_shentsize ∙ ap section_header_size same_form)
+    ∙ ap (λ (n : ℕ). header_with i plan.e_phoff plan.e_shoff a m b n i.e_shstrndx) is_shnum
+    ∙ ap (λ (n : ℕ). header_with i plan.e_phoff plan.e_shoff a m b (length plan.places) n) (names_number read image plan is)
+
+-- ## The lengths of lists
+
+-- each section has a place
+pub length-places : (image : Image) (plan : Layout) → IsPlanned (image_at_read image) image plan
+    → length plan.places ≡ length (kept_sections image)
+unfolding layout_for places
+length-places image plan is =
+    let r : Resized = resized image in
+    let moved : List ℕ = is.planned.moved in
+    ap (λ (l : Layout). length l.places) is.planned.follows
+    ∙ length-map (sized_sections r) (place_in r moved)
+    ∙ ap length (edited_facts image is.ready.edited).sized
+    ∙ length-map (kept_sections image) (sized_of r)
+
+-- two lists that have an element at the same positions
+same_reach : {A B : Type 0} (f : ℕ → A → B) (ys : List B) (xs : List A)
+    → ((i : ℕ) → slice_get ys i ≡ option_map (f i) (slice_get xs i)) → length ys ≡ length xs
+same_reach f [] [] same = refl
+same_reach f [] (x ∷ xs) same = absurd (none-some (f 0 x) (same 0))
+same_reach f (y ∷ ys) [] same = absurd (none-some y (sym (same 0)))
+same_reach f (y ∷ ys) (x ∷ xs) same = ap suc (same_reach (λ i. f (suc i)) ys xs (λ i. same (suc i)))
+
+pub length-kept : (read image : Image) → IsReady read image → length (kept_sections image) ≡ length image.sections
+length-kept read image is = same_reach kept (kept_sections image) image.sections (kept-at read image is)
+
+-- the section headers that were read are those of the file's parts
+pub headers_are : (read image : Image) → (f : ReadFacts read image) → (headers : List SectionHeader) → headers_read image ≡ Some headers
+    → headers ≡ f.parts.sections
+headers_are read image f headers is =
+    same_Some headers f.parts.sections (sym is ∙ ap (λ (o : Option Opened). o >>= sections_of) f.are_parts.opened ∙ f.are_parts.sections)
+
+-- ## Names
+
+-- the name of a section stands where it was read
+pub name_read : (read image : Image) → IsReady read image → (f : ReadFacts read image) → (i : ℕ) → (at : SectionRead read image f.parts i)
+    → Reads (content_read image image.header.e_shstrndx) at.old.sh_name at.section.name
+name_read read image is f i at =
+    let p : Parts = f.parts in
+    let n : ℕ = image.header.e_shstrndx in
+    let number : n ≡ p.opened.header.e_shstrndx =
+    ap (λ (h : Header). h.e_shstrndx) f.edit.header ∙ ap (λ (h : Header). h.e_shstrndx) f.holds.header in
+    let names : SectionRead read image p n = names_at read image is f in
+    let content : content_read image n ≡ section_bytes (file_of p) names.old =
+    ap (λ (o : Option KeptSection). unwrap_or (o >>= λ s. Some s.section.content) [])
+    (kept_is read image is n ∙ ap (option_map (kept n)) names.is_section)
+    ∙ ap (λ (x : ImageSection). x.content) names.of_old.fields in
+    let memory : texts_of p (slice_get p.sections p.opened.header.e_shstrndx) ≡ memory_of (content_read image n) =
+    ap (λ (k : ℕ). texts_of p (slice_get p.sections k)) (sym number) ∙ ap (texts_of p) names.is_old
+    ∙ ap (λ (xs : List ℕ). memory_of xs) (sym content) in
+    text_reads (length (file_of p)) (memory_of (content_read image n)) at.old.sh_name at.section.name
+    (ap (λ (m : Memory). text_at (length (file_of p)) m at.old.sh_name) (sym memory) ∙ at.of_old.name)
+
+-- the name of a section stands in a table that is made anew in place of the names
+pub name_made : (read image : Image) (made : Option Made) → AreStrings read image made → (i : ℕ) (s : ImageSection)
+    → slice_get image.sections i ≡ Some s
+    → (m : Made) → made ≡ Some m → m.number ≡ image.header.e_shstrndx → IsSome (place_of m.table s.name)
+unfolding texts_in_use
+name_made read image made strings i s at m is own =
+    let named : List (List ℕ) = map (λ (x : ImageSection). x.name) image.sections in
+    let name_at : slice_get named i ≡ Some s.name = at-map (λ (x : ImageSection). x.name) image.sections i s at in
+    let here : Contains named s.name =
+    (i, slice_get_within named i s.name name_at, get_or_from_slice_get named i s.name s.name name_at) in
+    let linked : if_names image m.number ≡ named =
+    ap (λ (b : Bool). if b then named else []) (eq-eqb image.header.e_shstrndx m.number (sym own)) in
+    let among : Contains (if_names image m.number) s.name = subst (λ (l : List (List ℕ)). Contains l s.name) (sym linked) here in
+    let entries : List (List ℕ) = if_linked image SHT_DYNAMIC m.number (list_at texts_of_entries (written_entries read image)) in
+    let dynamic : List (List ℕ) = if_linked image SHT_DYNSYM m.number (texts_of_symbols image.dynamic_symbols) in
+    let defined : List (List ℕ) = if_linked image SHT_GNU_VERDEF m.number (texts_of_definitions image.definitions) in
+    let needed : List (List ℕ) = if_linked image SHT_GNU_VERNEED m.number (texts_of_needs (written_needs read image)) in
+    let symbols : List (List ℕ) = if_linked image SHT_SYMTAB m.number (texts_of_symbols image.symbols) in
+    (strings.anew m is).1.holds.added s.name
+    (Contains-append_right (entries ++ dynamic ++ defined ++ needed ++ symbols) (if_names image m.number) s.name among)
+
+-- ## Headers
+
+-- sh_info of a section that is written
+pub info_is : (image : Image) → IsReady (image_at_read image) image → (known : Known) → IsKnown image known → (s : ImageSection)
+    → written_info (resized image) s ≡ info_by known image s
+info_is image is known known_is s =
+    let r : Resized = resized image in
+    let fin = final_is (image_at_read image) image is in
+    let t : ℕ = s.sh_type in
+    let other : ℕ = if is_info_number s then new_number image s.sh_info else s.sh_info in
+    let info : ℕ → ℕ → ℕ → ℕ → ℕ =
+    λ a b d z. if t == SHT_SYMTAB then a else if t == SHT_DYNSYM then b else if t == SHT_GNU_VERDEF then length image.definitions
+    else if t == SHT_GNU_VERNEED then d else z in
+    let b : ℕ = behind_locals (final r.read r.image).dynamic_symbols in
+    let d : ℕ = length (final r.read r.image).needs in
+    ap (λ (n : ℕ). info n b d other) (ap behind_locals fin.symbols ∙ sym known_is.symbols)
+    ∙ ap (λ (n : ℕ). info known.symbols n d other) (ap behind_locals fin.dynamic_symbols ∙ sym known_is.dynamic_symbols)
+    ∙ ap (λ (n : ℕ). info known.symbols known.dynamic_symbols n other) (ap length fin.needs)
+    ∙ ap (info known.symbols known.dynamic_symbols (length image.needs)) (by_test (is_info_number s))
+  where
+    by_test : (b : Bool) → (if b then new_number image s.sh_info else s.sh_info) ≡ s.sh_info
+    by_test true = new_number-same (image_at_read image) image is s.sh_info
+    by_test false = refl
+
+pub header_is : (image : Image) → IsReady (image_at_read image) image → (known : Known) → IsKnown image known → (s : ImageSection) (p : Place)
+    (name : ℕ) → header_by s p name (info_by known image s) ≡ written_section (resized image) s p name
+header_is image is known known_is s p name =
+    ap (λ (n : ℕ). header_by s p name n) (sym (info_is image is known known_is s))
+    ∙ ap (λ (n : ℕ). record (written_section (resized image) s p name) { sh_link = n })
+    (sym (new_number-same (image_at_read image) image is s.sh_link))
+
+-- ## The section at a position
+
+-- a section as it is lent
+pub seen_at : (image : Image) (sections : List Section) (i : ℕ) (x : Section) → map section_kept sections ≡ image.sections
+    → i < length image.sections → x ≡ get_or sections i x → slice_get image.sections i ≡ Some (section_kept x)
+seen_at image sections i x seen less is =
+    let within : i < length sections = omega (arith, less, ap length seen, length-map sections section_kept) in
+    ap (λ (l : List ImageSection). slice_get l i) (sym seen)
+    ∙ at-map section_kept sections i x (slice_get_read sections (length sections) i x (λ j. length sections) within is)
+
+module _ (image : Image) (plan : Layout) (made : Option Made) (known : Known)
+    (planned : IsPlanned (image_at_read image) image plan) (strings : AreStrings (image_at_read image) image made) (is : IsKnown image known)
+    (i : ℕ) (less : i < length image.sections) where
+  facts : ReadFacts (image_at_read image) image
+  facts = read_facts (image_at_read image) image planned.ready
+
+  pub header_there : i < length known.headers.items
+  header_there =
+      omega (
+        arith,
+        less,
+        ap length (headers_are (image_at_read image) image facts known.headers.items is.headers),
+        length-now (image_at_read image) image planned.ready facts,
+      )
+
+  pub place_there : i < length plan.places
+  place_there = omega (arith, less, length-places image plan planned, length-kept (image_at_read image) image planned.ready)
+
+  -- the name of a section stands where it was read
+  pub name_copied : (s : ImageSection) (old : SectionHeader) → slice_get image.sections i ≡ Some s → slice_get known.headers.items i ≡ Some old
+      → Reads (content_read image image.header.e_shstrndx) old.sh_name s.name
+  name_copied s old s_at old_at =
+      let at : SectionRead (image_at_read image) image facts.parts i =
+      section_read (image_at_read image) image planned.ready facts i less in
+      let same : s ≡ at.section = same_Some s at.section (sym s_at ∙ at.is_section) in
+      let same_old : old ≡ at.old =
+      same_Some old at.old (sym old_at ∙ ap (λ (l : List SectionHeader). slice_get l i)
+      (headers_are (image_at_read image) image facts known.headers.items is.headers) ∙ at.is_old) in
+      subst (λ (x : ImageSection). Reads (content_read image image.header.e_shstrndx) old.sh_name x.name) (sym same)
+      (subst (λ (x : SectionHeader). Reads (content_read image image.header.e_shstrndx) x.sh_name at.section.name) (sym same_old)
+      (name_read (image_at_read image) image planned.ready facts i at))
+
+  -- the header of the section
+  pub header_made : (names : List ℕ) (s : ImageSection) (p : Place) (name : ℕ) (info : ℕ) (h : SectionHeader)
+      → slice_get image.sections i ≡ Some s → slice_get plan.places i ≡ Some p
+      → Reads names name s.name → info ≡ info_by known image s → h ≡ header_by s p name info
+      → IsHeaderAt (resized image) names (kept_sections image) plan.places i h
+  header_made names s p name info h s_at p_at reads info_is is_h =
+      let is_name : h.sh_name ≡ name = ap (λ (x : SectionHeader). x.sh_name) is_h in
+      let fields : h ≡ written_section (resized image) s p name =
+      is_h ∙ ap (header_by s p name) info_is ∙ header_is image planned.ready known is s p name in (
+        kept i s,
+        p,
+        kept-at (image_at_read image) image planned.ready i ∙ ap (option_map (kept i)) s_at,
+        p_at,
+        record {
+          name = subst (λ (n : ℕ). Reads names n s.name) (sym is_name) reads;
+          fields = fields ∙ ap (written_section (resized image) s p) (sym is_name);
+        },
+      )
+
+  -- sh_info of the section doesn't fit
+  pub header_far : (s : ImageSection) → slice_get image.sections i ≡ Some s → 2 ^ 32 ≤ info_by known image s
+      → do_numbers_fit image plan ≡ false
+  header_far s s_at far =
+      let (p, p_at) = there_at plan.places i place_there in
+      far_numbers image plan (far_section (resized image) (kept_sections image) plan.places i (kept i s) p
+      (kept-at (image_at_read image) image planned.ready i ∙ ap (option_map (kept i)) s_at) p_at
+      (subst (λ (n : ℕ). 2 ^ 32 ≤ n) (sym (info_is image planned.ready known is s)) far))

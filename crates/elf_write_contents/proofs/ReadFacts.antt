@@ -1,0 +1,263 @@
+-- What is known of an edited image of which nothing went, before it is written: the parts of the file that was read, and how they match the
+-- sections that are there.
+use Rattle.std.proofs.Common.{◌≡◌, ℕ, zero, suc, ◌+◌, ◌<◌, List, length, map, Bool, true, false, [], ◌∷◌, refl, sym, ap, ◌∙◌, subst, inl, inr, Option, Some, None, Ok, arith}
+use Rattle.std.specs.Prelude.{if◌then◌else◌, ◌==◌, cond, find, nat_le}
+use Rattle.std.proofs.lemmas.Bool.{eq-eqb, eqb-true, ne_eqb}
+use Rattle.std.proofs.lemmas.Option.{none-some, same_Some, slice_get_within}
+use Rattle.std.specs.Option.{option_map}
+use Rattle.std.specs.List.{slice_get}
+use Rattle.elf_format.specs.declared.constants.TheConstants.{SHN_LORESERVE, SHT_DYNSYM, SHT_GNU_VERSYM, SHT_SYMTAB}
+use Rattle.elf_format.specs.declared.records.SectionHeader.{SectionHeader}
+use Rattle.elf_format.specs.File.{Parts, section_of_type}
+use Rattle.elf_format.specs.Image.{Image, ImageSection, counted, image_of}
+use Rattle.elf_format.specs.Rules.{ArePartsOf, MeetsRules, accepted_parts}
+use Rattle.elf_format.specs.Views.{NamedSymbol}
+use Rattle.elf_image.specs.Edited.{IsEditOf}
+use Rattle.elf_image.specs.ReadImage.{HoldsParts, IsSectionOf}
+use Rattle.elf_image.proofs.ReadImageLaws.{read_images_hold_parts}
+use Rattle.elf_layout_plan.specs.Kept.{KeptSection, kept_at_number, kept_from, kept_of_type, kept_sections}
+use Rattle.elf_layout_plan.specs.Texts.{are_names_changed}
+use Rattle.elf_layout_plan.proofs.PlacedRead.{at_read}
+use Rattle.elf_layout_plan.proofs.SameTexts.{names_same}
+use Rattle.elf_write_spec.specs.Final.{buckets_of, by_bucket, final, final_symbol, new_number, ordered}
+use Rattle.elf_write_spec.proofs.WholeFacts.{kept}
+use Rattle.elf_write_spec.proofs.WholeLists.{FoundAt, NonePasses, counted-at, find-is, find-no, first_at, map-same, there_at}
+use Rattle.elf_write_spec.proofs.SameLists.{IsKnown, entries_same, known_below, known_dynamic, known_static, length-sections, needs_same}
+use Rattle.elf_write_contents.specs.Inner.{IsReady}
+
+-- ## The file that was read
+
+pub record ReadFacts (read image : Image) : Type 0 where
+  pub parts : Parts
+  pub accepted : accepted_parts image.source ≡ Ok parts
+  pub are_parts : ArePartsOf image.source parts
+  pub rules : MeetsRules parts
+  pub holds : HoldsParts parts read
+  pub edit : IsEditOf read image
+
+pub read_facts : (read image : Image) → IsReady read image → ReadFacts read image
+read_facts read image is =
+    let e = is.edited in
+    let same : read ≡ e.read = is.at_read ∙ at_read (image_of image.source) e.read image e.is_read in
+    let (p, there, parts, rules, holding) = read_images_hold_parts image.source e.read e.is_read in
+    record {
+      parts = p;
+      accepted = there;
+      are_parts = parts;
+      rules = rules;
+      holds = subst (λ (x : Image). HoldsParts p x) (sym same) holding;
+      edit = subst (λ (x : Image). IsEditOf x image) (sym same) e.is_edit;
+    }
+
+-- ## Section by section
+
+-- the sections that are there, numbered from a position on
+abbrev numbered : ℕ → List ImageSection → List KeptSection
+numbered n [] = []
+numbered n (s ∷ ss) = kept n s ∷ numbered (n + 1) ss
+
+from_numbers : (n : ℕ) (ns : List ℕ) (ss : List ImageSection) → ((j : ℕ) → j < length ss → slice_get ns j ≡ Some (n + j))
+    → kept_from n ns ss ≡ numbered n ss
+from_numbers n [] [] numbers = refl
+from_numbers n (m ∷ ms) [] numbers = refl
+from_numbers n [] (s ∷ ss) numbers = absurd (none-some (n + 0) (numbers 0 (omega arith)))
+from_numbers n (m ∷ ms) (s ∷ ss) numbers =
+    let first : m ≡ n + 0 = same_Some m (n + 0) (numbers 0 (omega arith)) in
+    let own : m ≡ n = omega (arith, first) in
+    let rest : (j : ℕ) → j < length ss → slice_get ms j ≡ Some (n + 1 + j) =
+    λ j less. numbers (suc j) (omega (arith, less)) ∙ ap (λ (k : ℕ). Some k) (omega arith) in
+    ap (λ (k : ℕ). record { position = n; number = k; section = s } ∷ kept_from (n + 1) ms ss) own
+    ∙ ap (λ (ks : List KeptSection). kept n s ∷ ks) (from_numbers (n + 1) ms ss rest)
+
+pub are_numbered : (read image : Image) → IsReady read image → kept_sections image ≡ numbered 0 image.sections
+are_numbered read image is =
+    let f = read_facts read image is in
+    let counts : image.section_numbers ≡ counted (length image.sections) =
+    is.whole.section_numbers ∙ f.holds.section_numbers ∙ ap (λ (ss : List ImageSection). counted (length ss)) (sym is.whole.sections) in
+    from_numbers 0 image.section_numbers image.sections (λ j less.
+    ap (λ (ns : List ℕ). slice_get ns j) counts ∙ counted-at (length image.sections) j less ∙ ap (λ (k : ℕ). Some k) (omega arith))
+
+numbered-at : (n : ℕ) (ss : List ImageSection) (i : ℕ) → slice_get (numbered n ss) i ≡ option_map (kept (n + i)) (slice_get ss i)
+numbered-at n [] i = refl
+numbered-at n (s ∷ ss) zero = ap (λ (k : ℕ). Some (kept k s)) (omega arith)
+numbered-at n (s ∷ ss) (suc i) =
+    numbered-at (n + 1) ss i ∙ ap (λ (k : ℕ). option_map (kept k) (slice_get ss i)) (omega arith)
+
+pub length-numbered : (n : ℕ) (ss : List ImageSection) → length (numbered n ss) ≡ length ss
+length-numbered n [] = refl
+length-numbered n (s ∷ ss) = ap suc (length-numbered (n + 1) ss)
+
+-- the i-th section that is there
+pub kept-at : (read image : Image) → IsReady read image → (i : ℕ)
+    → slice_get (kept_sections image) i ≡ option_map (kept i) (slice_get image.sections i)
+kept-at read image is i =
+    ap (λ (ks : List KeptSection). slice_get ks i) (are_numbered read image is) ∙ numbered-at 0 image.sections i
+    ∙ ap (λ (k : ℕ). option_map (kept k) (slice_get image.sections i)) (omega arith)
+
+found_at : (p : ℕ) (ss : List ImageSection) (i n : ℕ) → n ≡ p + i
+    → find (λ s. s.number == n) (numbered p ss) ≡ option_map (kept n) (slice_get ss i)
+found_at p [] i n own = refl
+found_at p (s ∷ ss) zero n own =
+    let same : p ≡ n = omega (arith, own) in
+    ap (λ (b : Bool). cond b (Some (kept p s)) (find (λ x. x.number == n) (numbered (p + 1) ss))) (eq-eqb p n same)
+    ∙ ap (λ (k : ℕ). Some (kept k s)) same
+found_at p (s ∷ ss) (suc i) n own =
+    ap (λ (b : Bool). cond b (Some (kept p s)) (find (λ x. x.number == n) (numbered (p + 1) ss))) (ne_eqb p n (λ e. omega (arith, e, own)))
+    ∙ found_at (p + 1) ss i n (omega (arith, own))
+
+-- the section that was read at a number stands at that position
+pub kept_is : (read image : Image) → IsReady read image → (n : ℕ) → kept_at_number n image ≡ option_map (kept n) (slice_get image.sections n)
+kept_is read image is n =
+    ap (find (λ s. s.number == n)) (are_numbered read image is)
+    ∙ found_at 0 image.sections n n (omega arith)
+
+pub new_number-same : (read image : Image) → IsReady read image → (n : ℕ) → new_number image n ≡ n
+new_number-same read image is n =
+    ap (λ (o : Option KeptSection). elim o as (λ _. ℕ) [ Some s ↦ s.position | None ↦ n ]) (kept_is read image is n)
+    ∙ by_there (slice_get image.sections n)
+  where
+    by_there : (o : Option ImageSection) → (elim (option_map (kept n) o) as (λ _. ℕ) [ Some s ↦ s.position | None ↦ n ]) ≡ n
+    by_there None = refl
+    by_there (Some s) = refl
+
+-- a section, and the header that it was read from
+pub record SectionRead (read image : Image) (p : Parts) (i : ℕ) : Type 0 where
+  pub old : SectionHeader
+  pub section : ImageSection
+  pub is_old : slice_get p.sections i ≡ Some old
+  pub is_section : slice_get image.sections i ≡ Some section
+  pub is_kept : slice_get (kept_sections image) i ≡ Some (kept i section)
+  pub of_old : IsSectionOf p old section
+
+-- there are as many sections as headers
+pub length-now : (read image : Image) → IsReady read image → (f : ReadFacts read image) → length image.sections ≡ length f.parts.sections
+length-now read image is f = ap length is.whole.sections ∙ f.holds.sections.count
+
+pub section_read : (read image : Image) → IsReady read image → (f : ReadFacts read image) → (i : ℕ) → i < length image.sections
+    → SectionRead read image f.parts i
+section_read read image is f i within =
+    let (s, at) = there_at image.sections i within in
+    let (old, old_at, of_old) = f.holds.sections.each i s (ap (λ (l : List ImageSection). slice_get l i) (sym is.whole.sections) ∙ at) in
+    record {
+      old = old;
+      section = s;
+      is_old = old_at;
+      is_section = at;
+      is_kept = kept-at read image is i ∙ ap (option_map (kept i)) at;
+      of_old = of_old;
+    }
+
+-- ## The one section of a type
+
+-- either there is none, before and after, or the first of the type stands at the same position
+pub data TypeAt (read image : Image) (p : Parts) (type : ℕ) : Type 0 where
+  Nowhere : section_of_type type p.sections ≡ None → kept_of_type type image ≡ None → TypeAt read image p type
+  There : (i : ℕ) → (at : SectionRead read image p i) → at.old.sh_type ≡ type → at.section.sh_type ≡ type
+      → section_of_type type p.sections ≡ Some at.old → kept_of_type type image ≡ Some (kept i at.section) → TypeAt read image p type
+
+-- what is known of all headers that were read is known of the sections that are there
+module _ (read image : Image) (is : IsReady read image) (f : ReadFacts read image) (type : ℕ) where
+  was : SectionHeader → Bool
+  was s = s.sh_type == type
+
+  was_kept : KeptSection → Bool
+  was_kept s = s.section.sh_type == type
+
+  in_kept : (j : ℕ) (k : KeptSection) → slice_get (kept_sections image) j ≡ Some k
+      → (old : SectionHeader) × (slice_get f.parts.sections j ≡ Some old) × (was_kept k ≡ was old)
+  unfolding was was_kept
+  in_kept j k at =
+      let long : length (kept_sections image) ≡ length image.sections =
+      ap length (are_numbered read image is) ∙ length-numbered 0 image.sections in
+      let within : j < length image.sections =
+      omega (arith, slice_get_within (kept_sections image) j k at, long) in
+      let here : SectionRead read image f.parts j = section_read read image is f j within in
+      let same : kept j here.section ≡ k = same_Some (kept j here.section) k (sym here.is_kept ∙ at) in (
+        here.old,
+        here.is_old,
+        ap (λ (x : KeptSection). x.section.sh_type == type) (sym same)
+            ∙ ap (λ (x : ImageSection). x.sh_type == type) here.of_old.fields,
+      )
+
+  type_found : FoundAt was f.parts.sections → TypeAt read image f.parts type
+  unfolding was was_kept
+  type_found found =
+      let i : ℕ = found.index in
+      let within : i < length image.sections =
+      omega (arith, slice_get_within f.parts.sections i found.element found.there, length-now read image is f) in
+      let at : SectionRead read image f.parts i = section_read read image is f i within in
+      let same : found.element ≡ at.old = same_Some found.element at.old (sym found.there ∙ at.is_old) in
+      let passes : was at.old ≡ true = ap was (sym same) ∙ found.passes in
+      let types : at.section.sh_type ≡ at.old.sh_type = ap (λ (x : ImageSection). x.sh_type) at.of_old.fields in
+      let typed : at.old.sh_type ≡ type = eqb-true at.old.sh_type type passes in
+      There i at typed (types ∙ typed) (found.is_first ∙ ap (λ (x : SectionHeader). Some x) same)
+      (find-is was_kept (kept_sections image) i (kept i at.section) at.is_kept (ap (λ (n : ℕ). n == type) types ∙ passes) (λ j k less k_at.
+      let (old, old_at, tells) = in_kept j k k_at in
+      tells ∙ found.before j old less old_at))
+
+  type_nowhere : NonePasses was f.parts.sections → TypeAt read image f.parts type
+  unfolding was was_kept
+  type_nowhere none =
+      Nowhere (find-no was f.parts.sections none)
+      (find-no was_kept (kept_sections image) (λ j k k_at. let (old, old_at, tells) = in_kept j k k_at in tells ∙ none j old old_at))
+
+pub type_at : (read image : Image) → IsReady read image → (f : ReadFacts read image) → (type : ℕ) → TypeAt read image f.parts type
+type_at read image is f type = elim (first_at (was read image is f type) f.parts.sections) [
+  | inl found ↦ type_found read image is f type found
+  | inr none ↦ type_nowhere read image is f type none
+]
+
+-- ## The image in its final form
+
+pub record FinalIs (read image : Image) : Type 0 where
+  pub symbols : (final read image).symbols ≡ image.symbols
+  pub dynamic_symbols : (final read image).dynamic_symbols ≡ image.dynamic_symbols
+  pub needs : (final read image).needs ≡ image.needs
+  pub entries : (final read image).entries ≡ image.entries
+  pub names : are_names_changed read image ≡ false
+
+-- a symbol keeps the number of its section
+same_symbol : (read image : Image) → IsReady read image → (f : ReadFacts read image) → (y : NamedSymbol)
+    → IsKnown f.parts.opened.header.e_shnum y.st_shndx → final_symbol image y ≡ y
+same_symbol read image is f y known = ap (λ (n : ℕ). record y { st_shndx = n }) (by_test (nat_le SHN_LORESERVE y.st_shndx) refl)
+  where
+    in_sections : (o : Option ImageSection) → slice_get image.sections y.st_shndx ≡ o → y.st_shndx < length image.sections
+        → (elim (option_map (kept y.st_shndx) o) as (λ _. ℕ) [ Some s ↦ s.position | None ↦ 0 ]) ≡ y.st_shndx
+    in_sections None o_is within =
+        let (s, s_at) = there_at image.sections y.st_shndx within in
+        absurd (none-some s (sym o_is ∙ s_at))
+    in_sections (Some s) o_is within = refl
+
+    by_test : (b : Bool) → nat_le SHN_LORESERVE y.st_shndx ≡ b
+        → (if b then y.st_shndx else elim (kept_at_number y.st_shndx image) as (λ _. ℕ) [ Some s ↦ s.position | None ↦ 0 ]) ≡ y.st_shndx
+    by_test true b_is = refl
+    by_test false b_is =
+        let below : y.st_shndx < f.parts.opened.header.e_shnum = known_below f.parts.opened.header.e_shnum y.st_shndx known b_is in
+        let count : length f.parts.sections ≡ f.parts.opened.header.e_shnum =
+        length-sections f.parts.opened f.parts.sections f.are_parts.sections in
+        let within : y.st_shndx < length image.sections = omega (arith, below, count, length-now read image is f) in
+        ap (λ (o : Option KeptSection). elim o as (λ _. ℕ) [ Some s ↦ s.position | None ↦ 0 ]) (kept_is read image is y.st_shndx)
+        ∙ in_sections (slice_get image.sections y.st_shndx) refl within
+
+pub final_is : (read image : Image) → IsReady read image → FinalIs read image
+unfolding final ordered
+final_is read image is =
+    let f = read_facts read image is in
+    let names : are_names_changed read image ≡ false = names_same read image is.whole.dynamic_symbols in
+    let buckets : List NamedSymbol =
+    elim (buckets_of image) as (λ _. List NamedSymbol) [ Some n ↦ by_bucket n image.dynamic_symbols | None ↦ image.dynamic_symbols ] in
+    let in_order : ordered read image ≡ image.dynamic_symbols =
+    ap (λ (b : Bool). if b then buckets else image.dynamic_symbols) names in
+    record {
+      symbols = map-same (final_symbol image) image.symbols (λ i y at. same_symbol read image is f y
+          (known_static f.parts f.rules read.symbols (section_of_type SHT_SYMTAB f.parts.sections) refl f.holds.symbols i y
+          (ap (λ (l : List NamedSymbol). slice_get l i) (sym is.whole.symbols) ∙ at)));
+      dynamic_symbols = ap (map (final_symbol image)) in_order
+          ∙ map-same (final_symbol image) image.dynamic_symbols (λ i y at. same_symbol read image is f y
+          (known_dynamic f.parts f.rules read.dynamic_symbols (section_of_type SHT_GNU_VERSYM f.parts.sections)
+          (section_of_type SHT_DYNSYM f.parts.sections) refl f.holds.dynamic_symbols i y
+          (ap (λ (l : List NamedSymbol). slice_get l i) (sym is.whole.dynamic_symbols) ∙ at)));
+      needs = needs_same read image is.whole.dynamic_symbols;
+      entries = entries_same read image is.whole.dynamic_symbols;
+      names = names;
+    }

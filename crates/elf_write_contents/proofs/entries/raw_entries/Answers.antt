@@ -1,0 +1,35 @@
+-- No entry without a list, else one for each.
+use Rattle.std.proofs.Common.{◌≡◌, List, ℕ, map, sym, ap, ◌∙◌}
+use Rattle.elf_format.specs.Answers.{borrowed}
+use Rattle.elf_format.specs.Dynamic.{Entry}
+use Rattle.elf_image.specs.ImageSeen.{entry_kept}
+use Rattle.elf_layout_plan.specs.Plan.{resized}
+use Rattle.elf_layout_plan.specs.Texts.{texts_of_entries}
+use Rattle.elf_write_spec.specs.Contents.{table_value}
+use Rattle.elf_write_contents.specs.EntrySteps.{numbers_with}
+use Rattle.elf_write_contents.specs.Inner.{AreRaw}
+use Rattle.elf_write_contents.proofs.EntriesRaw.{if_ok, made_raw, none_listed, none_raw}
+use Rattle.elf_write_contents.proofs.entries.raw_entries.Goals as goal
+
+pub returns-in_default : goal.returns-in_default
+returns-in_default c =
+    none_raw c.args.image.now c.args.plan.now c.args.made.now c.requires.planned.ready.edited (sym c.in_default.ensures) c.new.result.items
+    c.new.ensures.items
+
+pub returns-in_default-dynamic_data : goal.returns-in_default-dynamic_data
+returns-in_default-dynamic_data c =
+    none_listed c.args.read.now c.args.image.now c.args.plan.now c.args.made.now c.requires.planned.ready c.in-Some.list (sym c.in-Some.ensures)
+    c.in_default-dynamic_data.ensures c.new-in_default-dynamic_data.result.items c.new-in_default-dynamic_data.ensures.items
+
+pub returns : goal.returns
+returns c =
+    let es : List Entry = map entry_kept c.in-Some-dynamic_data.entries.now in
+    let value : ℕ → ℕ = λ tag. table_value (resized c.args.image.now) c.args.plan.now tag in
+    let texts : List (List ℕ) = map borrowed c.as_slice.result.now in
+    let own : texts ≡ texts_of_entries es = ap (map borrowed) c.as_slice.ensures.value ∙ c.in_ok-texts.ensures in
+    if_ok c.numbers_of.result (λ raw. raw.items ≡ numbers_with value c.as_slice-2.result.now es)
+    (λ raw. AreRaw (resized c.args.image.now) c.args.plan.now c.args.made.now raw.items)
+    (λ raw same. made_raw c.args.read.now c.args.image.now c.args.plan.now c.args.made.now c.requires.planned.ready c.in-Some.list
+    (sym c.in-Some.ensures) es c.in-Some-dynamic_data.ensures texts c.in_ok-places.places.items own c.in_ok-places.ensures raw.items
+    (same ∙ ap (λ (places : List ℕ). numbers_with value places es) c.as_slice-2.ensures.value))
+    c.numbers_of.ensures

@@ -1,0 +1,94 @@
+use Rattle.std.proofs.Common.{◌≡◌, ◌<◌, ◌∙◌, ℕ, List, length, get_or, refl, ap, sym, subst, arith}
+use Rattle.std.specs.Prelude.{IsSome, Some}
+use Rattle.std.specs.List.{slice_get}
+use Rattle.std.proofs.lemmas.List.{length-map}
+use Rattle.std.proofs.lemmas.Option.{slice_get-get_or, slice_get_read}
+use Rattle.elf_format.specs.declared.records.SectionHeader.{SectionHeader}
+use Rattle.elf_format.specs.Places.{Place}
+use Rattle.elf_image.specs.declared.section.Section.{Section}
+use Rattle.elf_image.specs.ImageSeen.{section_kept}
+use Rattle.elf_layout_plan.specs.declared.plan.SectionPlace.{SectionPlace}
+use Rattle.elf_layout_plan.specs.Kept.{image_at_read}
+use Rattle.elf_layout_plan.specs.PlanSeen.{place_seen}
+use Rattle.elf_layout_plan.proofs.ApartLists.{at-map}
+use Rattle.elf_tables.specs.Strings.{place_of}
+use Rattle.elf_write_spec.specs.Headers.{Reads}
+use Rattle.elf_write_contents.specs.Inner.{content_read, strings_at}
+use Rattle.elf_write_contents.proofs.HeadersMade.{header_far, header_made, header_there, name_copied, name_made, place_there, seen_at}
+use Rattle.elf_write_contents.proofs.headers.header_at.Goals as goal
+
+pub returns-in_default-clause-far : goal.returns-in_default-clause-far
+returns-in_default-clause-far c =
+    let x : Section = c.index-sections-i.result in
+    header_far c.args.image.now c.args.plan.now c.args.made.now c.args.known.now c.requires.planned c.requires.strings c.requires.known
+    c.args.i c.requires.there (section_kept x)
+    (seen_at c.args.image.now c.sections.result.now c.args.i x c.sections.ensures c.requires.there c.index-sections-i.is)
+    c.in_default.ensures.far
+
+pub index-requires : goal.index-requires
+index-requires c =
+    omega (
+      arith,
+      header_there c.args.image.now c.args.plan.now c.args.made.now c.args.known.now c.requires.planned c.requires.strings c.requires.known
+          c.args.i c.requires.there,
+      c.args.known.now.headers.ok,
+    )
+
+pub name_place-name-requires-clause-anew : goal.name_place-name-requires-clause-anew
+name_place-name-requires-clause-anew c =
+    let x : Section = c.index-sections-i.result in
+    let at : slice_get c.args.image.now.sections c.args.i ≡ Some (section_kept x) =
+    seen_at c.args.image.now c.sections.result.now c.args.i x c.sections.ensures c.requires.there c.index-sections-i.is in
+    λ m is own. subst (λ (text : List ℕ). IsSome (place_of m.table text)) (sym c.as_slice.ensures)
+    (name_made (image_at_read c.args.image.now) c.args.image.now c.args.made.now c.requires.strings c.args.i (section_kept x) at m is own)
+
+pub name_place-name-requires-clause-copied : goal.name_place-name-requires-clause-copied
+name_place-name-requires-clause-copied c =
+    let x : Section = c.index-sections-i.result in
+    let old : SectionHeader = c.index.result.now in
+    let at : slice_get c.args.image.now.sections c.args.i ≡ Some (section_kept x) =
+    seen_at c.args.image.now c.sections.result.now c.args.i x c.sections.ensures c.requires.there c.index-sections-i.is in
+    let there : c.args.i < length c.args.known.now.headers.items =
+    header_there c.args.image.now c.args.plan.now c.args.made.now c.args.known.now c.requires.planned c.requires.strings c.requires.known
+    c.args.i c.requires.there in
+    let old_at : slice_get c.args.known.now.headers.items c.args.i ≡ Some old =
+    slice_get_read c.args.known.now.headers.items (length c.args.known.now.headers.items) c.args.i old refl there c.index.ensures in
+    subst (λ (text : List ℕ). Reads (content_read c.args.image.now c.args.image.now.header.e_shstrndx) old.sh_name text) (sym c.as_slice.ensures)
+    (name_copied c.args.image.now c.args.plan.now c.args.made.now c.args.known.now c.requires.planned c.requires.strings c.requires.known
+    c.args.i c.requires.there (section_kept x) old at old_at)
+
+pub bounds-places-i : goal.bounds-places-i
+bounds-places-i c =
+    omega (
+      arith,
+      place_there c.args.image.now c.args.plan.now c.args.made.now c.args.known.now c.requires.planned c.requires.strings c.requires.known
+          c.args.i c.requires.there,
+      ap length c.places.ensures,
+      length-map c.places.result.now place_seen,
+    )
+
+pub returns-clause-header : goal.returns-clause-header
+returns-clause-header c =
+    let x : Section = c.index-sections-i.result in
+    let none : SectionPlace = record { sh_type = 0; sh_flags = 0; sh_addr = 0; sh_offset = 0; sh_size = 0 } in
+    let place : SectionPlace = get_or c.places.result.now c.args.i none in
+    let at : slice_get c.args.image.now.sections c.args.i ≡ Some (section_kept x) =
+    seen_at c.args.image.now c.sections.result.now c.args.i x c.sections.ensures c.requires.there c.index-sections-i.is in
+    let there : c.args.i < length c.places.result.now =
+    omega (
+      arith,
+      place_there c.args.image.now c.args.plan.now c.args.made.now c.args.known.now c.requires.planned c.requires.strings c.requires.known
+          c.args.i c.requires.there,
+      ap length c.places.ensures,
+      length-map c.places.result.now place_seen,
+    ) in
+    let place_at : slice_get c.args.plan.now.places c.args.i ≡ Some (place_seen place) =
+    ap (λ (l : List Place). slice_get l c.args.i) (sym c.places.ensures)
+    ∙ at-map place_seen c.places.result.now c.args.i place
+    (slice_get-get_or c.places.result.now c.args.i none there) in
+    header_made c.args.image.now c.args.plan.now c.args.made.now c.args.known.now c.requires.planned c.requires.strings c.requires.known
+    c.args.i c.requires.there (strings_at c.args.image.now c.args.made.now c.args.image.now.header.e_shstrndx) (section_kept x)
+    (place_seen place) c.name_place-name.result c.in-Some.info c.header_of.result at place_at
+    (subst (λ (text : List ℕ). Reads (strings_at c.args.image.now c.args.made.now c.args.image.now.header.e_shstrndx)
+    c.name_place-name.result text) c.as_slice.ensures c.name_place-name.ensures)
+    c.in-Some.ensures.info c.header_of.ensures

@@ -1,0 +1,111 @@
+-- What the steps towards the bytes of a file hand to each other.
+use Rattle.std.specs.Prelude.{ℕ, ◌≡◌, List, [], ◌∷◌, length, Option, Some, None, IsTrue, ◌==◌, if◌then◌else◌, unwrap_or}
+use Rattle.std.specs.List.{slice_get}
+use Rattle.patch_bytes.specs.Memory.{◌>>=◌}
+use Rattle.elf_format.specs.declared.constants.TheConstants.{SHT_DYNAMIC, SHT_STRTAB}
+use Rattle.elf_format.specs.declared.records.EntryNumbers.{EntryNumbers}
+use Rattle.elf_format.specs.declared.records.SectionHeader.{SectionHeader}
+use Rattle.elf_format.specs.Image.{Image, ImageSection}
+use Rattle.elf_format.specs.Options.{list_at}
+use Rattle.elf_format.specs.Places.{Place, occupies_file}
+use Rattle.elf_image.specs.Edited.{IsEdited}
+use Rattle.elf_layout_sizes.specs.MadeTables.{IsMade}
+use Rattle.elf_layout_plan.specs.Kept.{KeptSection, image_at_read, kept_at_number, kept_of_type, link_of_type}
+use Rattle.elf_layout_plan.specs.Memory.{Resized}
+use Rattle.elf_layout_plan.specs.Plan.{IsPlan, Layout, resized}
+use Rattle.elf_layout_plan.specs.Refusals.{do_sizes_of_image_fit}
+use Rattle.elf_layout_plan.specs.Texts.{is_table_copied}
+use Rattle.elf_write_spec.specs.Contents.{AreEntriesOf, IsContent}
+use Rattle.elf_write_spec.specs.Final.{final}
+use Rattle.elf_write_spec.specs.Headers.{IsHeaderOf}
+use Rattle.elf_write_spec.specs.Laws.{ShowsFinal}
+use Rattle.elf_write_spec.specs.Stays.{AreOthersSeen, IsDataSeen}
+use Rattle.elf_write_spec.specs.Whole.{IsWhole}
+use Rattle.elf_write_spec.specs.Writing.{IsWholeWriting, IsWritten, Writing, written_bytes}
+use Rattle.elf_write_contents.specs.Seen.{HasHashes, HasHeaders, IsApart}
+use Rattle.elf_write_contents.specs.declared.made.Made.{Made}
+
+-- An edited image of which nothing went, with the image that was read from its source.
+pub record IsReady (read image : Image) : Type 0 where
+  pub at_read : read ≡ image_at_read image
+  pub edited : IsEdited image
+  pub whole : IsWhole read image
+  pub sized : IsTrue (do_sizes_of_image_fit image)
+
+-- the same with a plan of it
+pub record IsPlanned (read image : Image) (plan : Layout) : Type 0 where
+  pub ready : IsReady read image
+  pub planned : IsPlan (resized image) plan
+
+-- the section is one of an image, and has that type
+pub record IsSectionOfType (type : ℕ) (image : Image) (section : ImageSection) : Type 0 where
+  pub position : ℕ
+  pub there : slice_get image.sections position ≡ Some section
+  pub typed : section.sh_type ≡ type
+
+-- ## String tables
+
+-- The string table of the dynamic list, where it is made anew; every other one is copied.
+pub record AreStrings (read image : Image) (made : Option Made) : Type 0 where
+  pub copied : made ≡ None → (number : ℕ) → link_of_type SHT_DYNAMIC image ≡ Some number → IsTrue (is_table_copied read image number)
+  pub anew : (m : Made) → made ≡ Some m → (link_of_type SHT_DYNAMIC image ≡ Some m.number) × IsMade read image m.number m.table
+
+-- the bytes that a section had at read
+abbrev pub content_read : Image → ℕ → List ℕ
+content_read image number = unwrap_or (kept_at_number number image >>= λ s. Some s.section.content) []
+
+-- the bytes of the string table that had a number, once it is written
+abbrev pub strings_at : Image → Option Made → ℕ → List ℕ
+strings_at image None number = content_read image number
+strings_at image (Some m) number = if m.number == number then m.table.bytes else content_read image number
+
+-- ## Headers and entries
+
+-- one header for each section, their names among these
+abbrev pub AreHeaders : Resized → List ℕ → List KeptSection → List Place → List SectionHeader → Type 0
+AreHeaders r names [] [] [] = Unit {0}
+AreHeaders r names (s ∷ ss) (p ∷ ps) (h ∷ hs) = IsHeaderOf r names s.section p h × AreHeaders r names ss ps hs
+AreHeaders r names _ _ _ = ⊥
+
+-- the numbers of the dynamic list's entries, none without a dynamic section
+pub record AreRaw (r : Resized) (plan : Layout) (made : Option Made) (raw : List EntryNumbers) : Type 0 where
+  pub no_list : kept_of_type SHT_DYNAMIC r.image ≡ None → raw ≡ []
+  pub listed : (s : KeptSection) → kept_of_type SHT_DYNAMIC r.image ≡ Some s
+      → AreEntriesOf r plan (strings_at r.image made s.section.sh_link) (list_at (λ es. es) (final r.read r.image).entries) raw
+
+-- ## Contents
+
+-- the bytes of a section, as many as its place
+pub record IsMadeContent (r : Resized) (plan : Layout) (made : Option Made) (raw : List EntryNumbers) (s : KeptSection) (place : Place) (bytes : List ℕ) : Type 0 where
+  pub sized : length bytes ≡ (if occupies_file place then place.sh_size else 0)
+  pub content : IsContent r plan raw (strings_at r.image made s.section.sh_link) s bytes
+  pub strings : s.section.sh_type ≡ SHT_STRTAB → bytes ≡ strings_at r.image made s.number
+
+-- section by section
+abbrev pub AreContents : Resized → Layout → Option Made → List EntryNumbers → List KeptSection → List Place → List (List ℕ) → Type 0
+AreContents r plan made raw [] [] [] = Unit {0}
+AreContents r plan made raw (s ∷ ss) (p ∷ ps) (bytes ∷ more) = IsMadeContent r plan made raw s p bytes × AreContents r plan made raw ss ps more
+AreContents r plan made raw _ _ _ = ⊥
+
+-- ## All of it
+
+abbrev pub writing_of : Image → Layout → List SectionHeader → List (List ℕ) → List EntryNumbers → Writing
+writing_of image plan headers contents raw = record { image = image; plan = plan; headers = headers; contents = contents; raw = raw }
+
+-- these bytes are those of an image that is written whole
+pub record IsWholeWritten (image : Image) (plan : Layout) (bytes : List ℕ) : Type 0 where
+  pub writing : Writing
+  pub of_image : writing.image ≡ image
+  pub by_plan : writing.plan ≡ plan
+  pub whole : IsWholeWriting writing
+  pub are_bytes : bytes ≡ written_bytes writing
+
+-- what these bytes promise
+pub record ArePromised (image : Image) (plan : Layout) (bytes : List ℕ) : Type 0 where
+  pub written : IsWritten image plan bytes
+  pub shows : ShowsFinal image bytes
+  pub kept_data : IsDataSeen (resized image) plan bytes
+  pub others : AreOthersSeen (resized image) plan bytes
+  pub headers : HasHeaders image plan bytes
+  pub hashes : HasHashes image plan bytes
+  pub apart : IsApart image plan

@@ -1,0 +1,44 @@
+-- The steps of spelling the dynamic symbols (gABI, Symbol Table).
+use Rattle.std.specs.Prelude.{ℕ, ◌+◌, ◌≡◌, ◌≤◌, List, length, slice_get, slice_index, Bool, Option, Some, None, ◌==◌, if◌then◌else◌, unwrap_or}
+use Rattle.elf_format.specs.declared.form.Form.{Form}
+use Rattle.elf_format.specs.declared.records.SymbolNumbers.{SymbolNumbers}
+use Rattle.elf_format.specs.Views.{NamedSymbol}
+use Rattle.elf_tables.specs.Fields.{do_fields_fit}
+use Rattle.elf_tables.specs.Spelled.{spelled_symbol, symbol_fields}
+use Rattle.elf_image_symbols.specs.SymbolsShown.{symbol_with}
+use Rattle.elf_tables.specs.Strings.{Strings, place_of}
+use Rattle.elf_write_contents.specs.declared.made.Made.{Made}
+
+-- the string table that is made anew for that number
+abbrev pub table_made : Option Made → ℕ → Option Strings
+table_made None number = None
+table_made (Some m) number = if m.number == number then Some m.table else None
+
+-- where a string table tells a name; no name is at 0 (gABI, Symbol Table, st_name)
+abbrev pub place_of_name : Strings → List ℕ → ℕ
+place_of_name table name = if length name == 0 then 0 else unwrap_or (place_of table name) 0
+
+-- the place of a symbol's name, where a table has it there
+abbrev pub place_of_named : NamedSymbol → ℕ → ℕ
+place_of_named y place = if length y.name == 0 then 0 else place
+
+-- behind so many texts a table was made of the names of these symbols
+pub record HasNames (table : Strings) (before : ℕ) (ys : List NamedSymbol) : Type 0 where
+  pub many : before + length ys ≤ length table.in_order
+  pub each : (i : ℕ) (y : NamedSymbol) → slice_get ys i ≡ Some y → place_of table y.name ≡ Some (slice_index table.in_order (before + i))
+
+-- the same of a symbol's name
+abbrev pub place_in : Strings → NamedSymbol → ℕ
+place_in table y = place_of_name table y.name
+
+-- the numbers of a symbol whose name stands where a string table tells it
+abbrev pub symbol_in : Strings → NamedSymbol → SymbolNumbers
+symbol_in table y = symbol_with (place_in table y) y
+
+-- each of these numbers fits its field
+unfoldable pub does_symbol_fit : Form → Strings → NamedSymbol → Bool
+does_symbol_fit form table y = do_fields_fit (symbol_fields form (symbol_in table y))
+
+-- the record of a symbol
+unfoldable pub symbol_bytes : Form → Strings → NamedSymbol → List ℕ
+symbol_bytes form table y = spelled_symbol form (symbol_in table y)

@@ -1,0 +1,154 @@
+//! The bytes of each section that is written.
+ghost use Rattle.std.specs.Prelude.{◌≡◌, ◌<◌, ◌==◌, IfOk, IsTrue, false, length};
+ghost use Rattle.std.specs.List.{list_all};
+ghost use Rattle.patch_bytes.specs.ByteString.{bytes_of_each};
+ghost use Rattle.elf_format.specs.Options.{is_some_and, list_at};
+ghost use Rattle.elf_tables.specs.Fields.{do_fields_fit};
+ghost use Rattle.elf_tables.specs.Spelled.{entry_fields};
+ghost use Rattle.elf_layout_plan.specs.Kept.{interpreter_number as number_of_interpreter, kept_sections};
+ghost use Rattle.elf_layout_plan.specs.Plan.{resized};
+ghost use Rattle.elf_write_contents.specs.ContentSteps.{IsBytesAt, made_or};
+ghost use Rattle.elf_write_contents.specs.Inner.{AreContents, AreRaw, AreStrings, IsPlanned};
+
+use crate::entries::list_content;
+use crate::made::Made;
+use crate::symbols::symbols_content;
+use crate::versions::{definitions_content, needs_content};
+use elf_format::form::Form;
+use elf_format::records::EntryNumbers;
+use elf_image::constants::{SHT_DYNAMIC, SHT_DYNSYM, SHT_GNU_VERDEF, SHT_GNU_VERNEED, SHT_STRTAB};
+use elf_image::{Builder, Section};
+use elf_layout_plan::Plan;
+use patch_bytes::ByteString;
+use std::alloc::{AllocError, Global};
+
+/// The bytes of each section, in the order of the sections; none where it has none in the file. What stays as it was read is
+/// not copied. Errors: a growth was refused.
+pub fn contents<'a, 'data>(
+    alloc: Global,
+    read: &'a Builder<'data>,
+    image: &'a Builder<'data>,
+    plan: &Plan,
+    made: &'a Option<Made<'_>>,
+    raw: &[EntryNumbers],
+) -> Result<Vec<ByteString<'a>>, AllocError>
+    requires planned { IsPlanned read.now image.now plan.now }
+    requires strings { AreStrings read.now image.now made.now }
+    requires raw { AreRaw (resized image.now) plan.now made.now raw.now }
+    requires fit { IsTrue (list_all (λ e. do_fields_fit (entry_fields image.now.form e))
+        raw.now) }
+    ensures { IfOk result (λ contents. AreContents (resized image.entry.now) plan.now
+        made.entry.now raw.now (kept_sections image.entry.now) plan.now.places
+        (bytes_of_each contents.items)) }
+{
+    let interpreter = interpreter_number(read);
+    let mut contents = Vec::new(alloc);
+    for i in 0..image.sections().len() {
+        let bytes = if is_interpreter(interpreter, i) {
+            interpreter_content(image)
+        } else {
+            section_content(alloc, read, image, plan, made, raw, i)?
+        };
+        contents.push(bytes)?;
+    }
+    Ok(contents)
+}
+
+// The number at read of the section with the interpreter's name.
+fn interpreter_number(read: &Builder<'_>) -> Option<usize>
+    ensures { result ≡ number_of_interpreter read.now }
+{
+    // the image has as many numbers of sections as sections
+    let _source = read.source();
+    let at = read.interpreter_position()?;
+    Some(read.read_section(at))
+}
+
+// Whether the section that had that number has the interpreter's name.
+fn is_interpreter(interpreter: Option<usize>, number: usize) -> bool
+    ensures { result ≡ is_some_and (λ n. n == number) interpreter }
+{
+    match interpreter {
+        Some(interpreter) => interpreter == number,
+        None => false,
+    }
+}
+
+// How the numbers of an image are spelled.
+fn form_of(image: &Builder<'_>) -> Form
+    ensures { result ≡ image.now.form }
+{
+    Form {
+        wide: image.class(),
+        order: image.order(),
+    }
+}
+
+// The bytes of the interpreter's section.
+fn interpreter_content<'a, 'data>(image: &'a Builder<'data>) -> ByteString<'a>
+    ensures { result.bytes ≡ list_at (λ name. name) image.entry.now.interpreter }
+{
+    match image.interp_data() {
+        Some(name) => ByteString::borrowed(name),
+        None => ByteString::borrowed(&[]),
+    }
+}
+
+// The bytes of a string table that had that number: the table that is made anew where it has this one, else those
+// that were read.
+fn strings_content<'a, 'data>(
+    made: &'a Option<Made<'_>>,
+    section: &'a Section<'data>,
+    number: usize,
+) -> ByteString<'a>
+    ensures { result.bytes ≡ made_or made.entry.now number section.entry.now.content.now }
+{
+    let Some(made) = made else {
+        return ByteString::borrowed(section.content);
+    };
+    if made.number == number {
+        return ByteString::borrowed(made.table.bytes());
+    }
+    ByteString::borrowed(section.content)
+}
+
+// The bytes of the section at a position, which isn't the interpreter's. None went, so that is its number at read.
+fn section_content<'a, 'data>(
+    alloc: Global,
+    read: &'a Builder<'data>,
+    image: &'a Builder<'data>,
+    plan: &Plan,
+    made: &'a Option<Made<'_>>,
+    raw: &[EntryNumbers],
+    i: usize,
+) -> Result<ByteString<'a>, AllocError>
+    requires planned { IsPlanned read.now image.now plan.now }
+    requires strings { AreStrings read.now image.now made.now }
+    requires raw { AreRaw (resized image.now) plan.now made.now raw.now }
+    requires fit { IsTrue (list_all (λ e. do_fields_fit (entry_fields image.now.form e))
+        raw.now) }
+    requires within { i < length image.now.sections }
+    requires apart { is_some_and (λ n. n == i) (number_of_interpreter read.now) ≡ false }
+    ensures { IfOk result (λ content.
+        IsBytesAt image.entry.now plan.now made.entry.now raw.now i content.bytes) }
+{
+    let section = &image.sections()[i];
+    match section.sh_type {
+        SHT_DYNAMIC => {
+            let size = plan.places()[i].sh_size;
+            let bytes = list_content(alloc, form_of(image), raw, size)?;
+            Ok(ByteString::owned(bytes))
+        }
+        SHT_STRTAB => Ok(strings_content(made, section, i)),
+        SHT_DYNSYM => symbols_content(alloc, read, image, made, section),
+        SHT_GNU_VERDEF => {
+            let bytes = definitions_content(alloc, read, image, made, section)?;
+            Ok(ByteString::owned(bytes))
+        }
+        SHT_GNU_VERNEED => {
+            let bytes = needs_content(alloc, read, image, made, section)?;
+            Ok(ByteString::owned(bytes))
+        }
+        _ => Ok(ByteString::borrowed(section.content)),
+    }
+}

@@ -1,0 +1,74 @@
+//! What is made of an image before the contents of its sections: string table, headers and dynamic entries.
+ghost use Rattle.std.specs.Prelude.{◌≡◌, false, IfErr, IfOk};
+ghost use Rattle.elf_tables.specs.declared.fault.TableFault.TheVariants.{NumberTooLarge};
+ghost use Rattle.elf_write_contents.specs.Inner.{AreStrings, IsPlanned};
+ghost use Rattle.elf_write_contents.specs.Numbers.{do_numbers_fit as do_all_fit};
+ghost use Rattle.elf_write_contents.specs.PreparedSteps.{IsPrepared};
+
+use crate::entries::raw_entries;
+use crate::fits::do_numbers_fit;
+use crate::headers::{file_header, section_headers};
+use crate::made::{Made, made_strings};
+use elf_format::records::{EntryNumbers, FileHeader, SectionHeader};
+use elf_image::Builder;
+use elf_layout_plan::Plan;
+use elf_tables::TableFault;
+use std::alloc::Global;
+
+/// What stands in the headers of a written file, and in its dynamic section.
+#[derive(Drop)]
+pub struct Prepared<'t> {
+    /// The string table of the dynamic list, where it is made anew.
+    pub made: Option<Made<'t>>,
+    /// The file header (gABI, ELF Header).
+    pub header: FileHeader,
+    /// The section headers, in order (gABI, Sections).
+    pub headers: Vec<SectionHeader>,
+    /// The dynamic entries, in order (gABI, Dynamic Section).
+    pub raw: Vec<EntryNumbers>,
+}
+
+/// What stands in the headers of an image that is written by a plan. Errors: `NumberTooLarge` where a number is past its
+/// field; `Memory`.
+pub fn prepare<'a, 'data>(
+    alloc: Global,
+    read: &'a Builder<'data>,
+    image: &'a Builder<'data>,
+    plan: &Plan,
+) -> Result<Prepared<'a>, TableFault>
+    requires { IsPlanned read.now image.now plan.now }
+    ensures prepared { IfOk result (IsPrepared read.entry.now image.entry.now plan.now) }
+    ensures fault { IfErr result (λ fault.
+        fault ≡ NumberTooLarge → do_all_fit image.entry.now plan.now ≡ false) }
+{
+    let made = made_strings(alloc, read, image)?;
+    prepare_with(alloc, read, image, plan, made)
+}
+
+/// The same, with the string table that is made anew, which [`strings_from`](crate::made::strings_from) gives. Errors as there.
+pub fn prepare_with<'a, 'data>(
+    alloc: Global,
+    read: &'a Builder<'data>,
+    image: &'a Builder<'data>,
+    plan: &Plan,
+    made: Option<Made<'a>>,
+) -> Result<Prepared<'a>, TableFault>
+    requires planned { IsPlanned read.now image.now plan.now }
+    requires strings { AreStrings read.now image.now made }
+    ensures prepared { IfOk result (IsPrepared read.entry.now image.entry.now plan.now) }
+    ensures fault { IfErr result (λ fault.
+        fault ≡ NumberTooLarge → do_all_fit image.entry.now plan.now ≡ false) }
+{
+    let raw = raw_entries(alloc, read, image, plan, &made)?;
+    let header = file_header(image, plan);
+    let headers = section_headers(alloc, read, image, plan, &made)?;
+    if !do_numbers_fit(read, image, plan, &made, header, &headers, &raw) {
+        return Err(TableFault::NumberTooLarge);
+    }
+    Ok(Prepared {
+        made,
+        header,
+        headers,
+        raw,
+    })
+}

@@ -1,0 +1,55 @@
+-- What is read of each part of a written file.
+use Rattle.std.proofs.Common.{◌≡◌, refl, sym, ap, ◌∙◌, Some}
+use Rattle.elf_format.specs.declared.constants.TheConstants.{SHT_DYNAMIC, SHT_DYNSYM, SHT_GNU_VERDEF, SHT_GNU_VERNEED, SHT_SYMTAB}
+use Rattle.elf_format.specs.File.{section_of_type}
+use Rattle.elf_format.specs.Image.{definitions_read, dynamic_symbols_read, entries_read, interpreter_read, needs_read, static_symbols}
+use Rattle.elf_layout_plan.specs.Kept.{image_at_read}
+use Rattle.elf_write_spec.specs.Again.{HasWrittenParts, written_parts}
+use Rattle.elf_write_spec.specs.Final.{final}
+use Rattle.elf_write_spec.specs.Writing.{IsWholeWriting, Writing}
+use Rattle.elf_write_spec.proofs.DynamicAgain.{dynamic_again}
+use Rattle.elf_write_spec.proofs.EntriesAgain.{entries_again}
+use Rattle.elf_write_spec.proofs.InterpreterAgain.{name_again}
+use Rattle.elf_write_spec.proofs.RecordsAgain.{definitions_again, needs_again}
+use Rattle.elf_write_spec.proofs.SymbolsAgain.{symbols_again}
+use Rattle.elf_write_spec.proofs.WholeFacts.{final_is}
+
+-- the static symbols
+pub symbols_read : (w : Writing) → IsWholeWriting w → HasWrittenParts w
+    → static_symbols (written_parts w) (section_of_type SHT_SYMTAB w.headers) ≡ Some (final (image_at_read w.image) w.image).symbols
+symbols_read w is has = symbols_again w is has ∙ ap Some (sym (final_is w is).symbols)
+
+-- the dynamic symbols
+pub loaded_symbols_read : (w : Writing) → IsWholeWriting w → HasWrittenParts w
+    → dynamic_symbols_read (written_parts w) (section_of_type SHT_DYNSYM w.headers)
+    ≡ Some (final (image_at_read w.image) w.image).dynamic_symbols
+loaded_symbols_read w is has = dynamic_again w is has ∙ ap Some (sym (final_is w is).dynamic_symbols)
+
+-- the dynamic list
+pub list_read : (w : Writing) → IsWholeWriting w → HasWrittenParts w
+    → entries_read (written_parts w) (section_of_type SHT_DYNAMIC w.headers) ≡ Some (final (image_at_read w.image) w.image).entries
+list_read w is has = entries_again w is has ∙ ap Some (sym (final_is w is).entries)
+
+-- the defined versions, of which none changes
+definitions_kept : (w : Writing) → w.image.definitions ≡ (final (image_at_read w.image) w.image).definitions
+unfolding final
+definitions_kept w = refl
+
+pub defined_read : (w : Writing) → IsWholeWriting w → HasWrittenParts w
+    → definitions_read (written_parts w) (section_of_type SHT_GNU_VERDEF w.headers)
+    ≡ Some (final (image_at_read w.image) w.image).definitions
+defined_read w is has = definitions_again w is has ∙ ap Some (definitions_kept w)
+
+-- the needed versions
+pub needed_read : (w : Writing) → IsWholeWriting w → HasWrittenParts w
+    → needs_read (written_parts w) (section_of_type SHT_GNU_VERNEED w.headers) ≡ Some (final (image_at_read w.image) w.image).needs
+needed_read w is has = needs_again w is has ∙ ap Some (sym (final_is w is).needs)
+
+-- the interpreter's name
+interpreter_kept : (w : Writing) → w.image.interpreter ≡ (final (image_at_read w.image) w.image).interpreter
+unfolding final
+interpreter_kept w = refl
+
+pub name_read : (w : Writing) → IsWholeWriting w → HasWrittenParts w
+    → interpreter_read (written_parts w) ≡ (final (image_at_read w.image) w.image).interpreter
+name_read w is has = name_again w is has ∙ interpreter_kept w

@@ -1,0 +1,236 @@
+-- The interpreter's name of a written file is that of its image.
+use Rattle.std.proofs.Common.{◌≡◌, ◌⊎◌, ℕ, Bool, true, false, not, List, refl, sym, ap, ◌∙◌, subst, inl, inr, Option, Some, None, arith}
+use Rattle.std.specs.Prelude.{◌==◌, ◌&&◌, IsSome, find, is_some}
+use Rattle.std.specs.List.{slice_get}
+use Rattle.std.proofs.lemmas.Bool.{and_parts, both_ways, eq-eqb, eqb-true, false≢true, ne_eqb}
+use Rattle.std.proofs.lemmas.Option.{none-some, same_Some, slice_get_within}
+use Rattle.patch_bytes.specs.Memory.{◌>>=◌}
+use Rattle.patch_bytes.specs.Number.{field}
+use Rattle.patch_bytes.proofs.MemoryLaws.{some_bind}
+use Rattle.elf_format.specs.declared.constants.TheConstants.{PT_INTERP, SHT_NOBITS, SHT_NULL, SHT_PROGBITS}
+use Rattle.elf_format.specs.declared.records.EntryNumbers.{EntryNumbers}
+use Rattle.elf_format.specs.declared.records.SectionHeader.{SectionHeader}
+use Rattle.elf_format.specs.declared.records.SegmentHeader.{SegmentHeader}
+use Rattle.elf_format.specs.File.{Parts, has_file_bytes, section_bytes, segment_of_type}
+use Rattle.elf_format.specs.Image.{Image, ImageSection, interpreter_read}
+use Rattle.elf_format.specs.Options.{is_none_or, list_at}
+use Rattle.elf_format.specs.Places.{Place}
+use Rattle.elf_format.specs.Rules.{file_of}
+use Rattle.elf_format.specs.Views.{interpreter_section}
+use Rattle.elf_format.proofs.Placed.{find_some, section_bytes-is}
+use Rattle.elf_format.proofs.ViewsAgree.{there_if}
+use Rattle.elf_image.specs.Edited.{IsInterpreterOf}
+use Rattle.elf_layout_plan.specs.Follow.{OneSection, leader_of, led_by_section}
+use Rattle.elf_layout_plan.specs.Kept.{KeptSection, image_at_read, interpreter_number, is_numbered, kept_sections, stands_as_interpreter}
+use Rattle.elf_layout_plan.specs.Memory.{Resized}
+use Rattle.elf_layout_plan.specs.Plan.{Layout, resized}
+use Rattle.elf_layout_plan.specs.Written.{led_to, target_at}
+use Rattle.elf_layout_plan.proofs.ApartLists.{find-at}
+use Rattle.elf_write_spec.specs.Again.{HasWrittenParts, written_parts}
+use Rattle.elf_write_spec.specs.Base.{is_interpreter}
+use Rattle.elf_write_spec.specs.Contents.{IsContentByKind, content_at_number}
+use Rattle.elf_write_spec.specs.Writing.{IsWholeWriting, Writing, written_bytes}
+use Rattle.elf_write_spec.proofs.ContentsAgain.{bytes_are}
+use Rattle.elf_write_spec.proofs.InterpreterAt.{interpreter_is, interpreter_type, kept_same, section_here}
+use Rattle.elf_write_spec.proofs.RuleDynamic.{interpreter_right}
+use Rattle.elf_write_spec.proofs.WholeFacts.{ReadFacts, SectionAt, kept, read_facts, section_at}
+use Rattle.elf_write_spec.proofs.WholeLists.{FoundAt, NonePasses, find-is, first_at}
+use Rattle.elf_write_spec.proofs.WrittenTypes.{ASegment, NoSegment, SegmentAt, all_places_are, becomes, becomes-section, segment_at}
+
+-- ## Sections at one place
+
+-- a section's header stands where the program header says
+abbrev pub stands_at : SegmentHeader → SectionHeader → Bool
+stands_at p s = s.sh_type == SHT_PROGBITS && s.sh_offset == p.p_offset && s.sh_addr == p.p_vaddr && s.sh_size == p.p_filesz
+
+-- it has the bytes that the program header names
+record IsPlaced (p : SegmentHeader) (s : SectionHeader) : Type 0 where
+  type : s.sh_type ≡ SHT_PROGBITS
+  offset : s.sh_offset ≡ p.p_offset
+  size : s.sh_size ≡ p.p_filesz
+
+placed : (p : SegmentHeader) (s : SectionHeader) → stands_at p s ≡ true → IsPlaced p s
+placed p s h =
+    let all = and_parts (s.sh_type == SHT_PROGBITS && s.sh_offset == p.p_offset && s.sh_addr == p.p_vaddr) (s.sh_size == p.p_filesz) h in
+    let three = and_parts (s.sh_type == SHT_PROGBITS && s.sh_offset == p.p_offset) (s.sh_addr == p.p_vaddr) all.0 in
+    let two = and_parts (s.sh_type == SHT_PROGBITS) (s.sh_offset == p.p_offset) three.0 in
+    record {
+      type = eqb-true s.sh_type SHT_PROGBITS two.0;
+      offset = eqb-true s.sh_offset p.p_offset two.1;
+      size = eqb-true s.sh_size p.p_filesz all.1;
+    }
+
+stored : (s : SectionHeader) → s.sh_type ≡ SHT_PROGBITS → has_file_bytes s ≡ true
+stored s h = ap (λ t. not (t == SHT_NULL) && not (t == SHT_NOBITS)) h
+
+bytes_at_place : (file : List ℕ) (p : SegmentHeader) (s : SectionHeader) → IsPlaced p s
+    → section_bytes file s ≡ field p.p_filesz p.p_offset file
+bytes_at_place file p s is =
+    section_bytes-is file s (stored s is.type) ∙ ap (λ n. field n s.sh_offset file) is.size ∙ ap (λ n. field p.p_filesz n file) is.offset
+
+-- the first section at a place has the bytes of any that has them
+found_bytes : (file : List ℕ) (p : SegmentHeader) (sections : List SectionHeader) (s : SectionHeader) → IsPlaced p s
+    → is_some (interpreter_section p sections) ≡ true
+    → (interpreter_section p sections >>= λ x. Some (section_bytes file x)) ≡ Some (section_bytes file s)
+found_bytes file p sections s is there =
+    let (x, found) = there_if (interpreter_section p sections) there in
+    let (_, stands) = find_some (stands_at p) sections x found in
+    some_bind (interpreter_section p sections) (λ y. Some (section_bytes file y)) x found
+    ∙ ap Some (bytes_at_place file p x (placed p x stands) ∙ sym (bytes_at_place file p s is))
+
+-- ## The section with the interpreter's name
+
+interpreter_leader : (r : Resized) (p : SegmentHeader) → p.p_type ≡ PT_INTERP
+    → leader_of r p ≡ led_by_section (find (is_numbered (interpreter_number r.read)) (kept_sections r.image))
+unfolding leader_of
+interpreter_leader r p type = rw type refl
+
+module _ (w : Writing) (is : IsWholeWriting w) (f : ReadFacts w) where
+  -- the first that stood where PT_INTERP says
+  number_there : (old : SegmentHeader) → segment_of_type PT_INTERP f.parts.segments ≡ Some old
+      → (n : ℕ) × (interpreter_number (image_at_read w.image) ≡ Some n)
+  number_there old there =
+      let test : KeptSection → Bool = λ s. stands_as_interpreter old s.section in
+      let right : is_some (interpreter_section old f.parts.sections) ≡ true =
+      subst (λ o. is_none_or (λ q. is_some (interpreter_section q f.parts.sections)) o ≡ true) there f.rules.interpreter in
+      let (x, found) = there_if (interpreter_section old f.parts.sections) right in
+      let (i, at_i, stands) = find-at (stands_at old) f.parts.sections x found in
+      let at = section_at w is f i (slice_get_within f.parts.sections i x at_i) in
+      let stood : stands_as_interpreter old at.section ≡ true =
+      ap (stands_as_interpreter old) at.of_old.fields ∙ ap (stands_at old) (same_Some at.old x (sym at.is_old ∙ at_i)) ∙ stands in
+      by_first i at stood (first_at test (kept_sections w.image))
+    where
+      by_first : (i : ℕ) (at : SectionAt w f.parts i) → stands_as_interpreter old at.section ≡ true
+          → FoundAt (λ s. stands_as_interpreter old s.section) (kept_sections w.image)
+          ⊎ NonePasses (λ s. stands_as_interpreter old s.section) (kept_sections w.image)
+          → (n : ℕ) × (interpreter_number (image_at_read w.image) ≡ Some n)
+      by_first i at stood (inl found) = (
+        found.element.number,
+        some_bind (segment_of_type PT_INTERP (image_at_read w.image).segments)
+            (λ q. find (λ s. stands_as_interpreter q s.section) (kept_sections (image_at_read w.image)) >>= λ s. Some s.number) old
+            (ap (segment_of_type PT_INTERP) f.holds.segments ∙ there)
+            ∙ some_bind (find (λ s. stands_as_interpreter old s.section) (kept_sections (image_at_read w.image)))
+            (λ s. Some s.number) found.element
+            (ap (find (λ s. stands_as_interpreter old s.section)) (sym (kept_same w is)) ∙ found.is_first),
+      )
+      by_first i at stood (inr none) =
+          absurd (both_ways (stands_as_interpreter old at.section) (none i (kept i at.section) at.is_kept) stood)
+
+  -- PT_INTERP goes by it
+  goes_by : (n : ℕ) (at : SectionAt w f.parts n) (p : SegmentHeader) → interpreter_number (image_at_read w.image) ≡ Some n
+      → p.p_type ≡ PT_INTERP
+      → leader_of (resized w.image) p ≡ OneSection (kept n at.section)
+  goes_by n at p number type =
+      interpreter_leader (resized w.image) p type
+      ∙ ap (λ o. led_by_section (find (is_numbered o) (kept_sections w.image))) number
+      ∙ ap led_by_section (find-is (is_numbered (Some n)) (kept_sections w.image) n (kept n at.section) at.is_kept (eq-eqb n n refl)
+      (λ j s less there_s.
+      let (_, same) = section_here w is f j s there_s in
+      ne_eqb n s.number (λ e. omega (arith, e, less, ap (λ (k : KeptSection). k.number) same))))
+
+-- PT_INTERP of the written file names the bytes of the section with the interpreter's name
+record StandsAgain (w : Writing) (f : ReadFacts w) : Type 0 where
+  segment : SegmentHeader
+  is_segment : segment_of_type PT_INTERP w.plan.segments ≡ Some segment
+  number : ℕ
+  at : SectionAt w f.parts number
+  named : is_interpreter (resized w.image) (kept number at.section) ≡ true
+  is_placed : IsPlaced segment at.header
+
+stands_again : (w : Writing) (is : IsWholeWriting w) (f : ReadFacts w) (old p : SegmentHeader)
+    → segment_of_type PT_INTERP f.parts.segments ≡ Some old
+    → segment_of_type PT_INTERP w.image.segments ≡ Some p
+    → segment_of_type PT_INTERP w.plan.segments ≡ Some (becomes (resized w.image) is.planned.moved p) → StandsAgain w f
+stands_again w is f old p there there_now there_plan =
+    let (n, number) = number_there w is f old there in
+    let found = interpreter_is w is f n number in
+    let at = found.at in
+    let (_, _, typed) = find-at (λ (q : SegmentHeader). q.p_type == PT_INTERP) w.image.segments p there_now in
+    let leader = goes_by w is f n at p number (eqb-true p.p_type PT_INTERP typed) in
+    let goes : becomes (resized w.image) is.planned.moved p ≡ led_to w.image.form p (target_at at.place) =
+    becomes-section (resized w.image) is.planned.moved p (kept n at.section) at.place leader
+    (ap (λ (l : List Place). slice_get l n) (sym (all_places_are w is)) ∙ at.is_place) in
+    record {
+      segment = led_to w.image.form p (target_at at.place);
+      is_segment = there_plan ∙ ap Some goes;
+      number = n;
+      at = at;
+      named = ap (λ o. is_numbered o (kept n at.section)) number ∙ eq-eqb n n refl;
+      is_placed = record {
+        type = at.type ∙ ap (λ (s : ImageSection). s.sh_type) (sym at.of_old.fields) ∙ interpreter_type w f n found;
+        offset = at.offset;
+        size = at.size;
+      };
+    }
+
+-- ## The name
+
+-- by the program header
+read_by : Parts → Option SegmentHeader → Option (List ℕ)
+read_by p o = o >>= λ q. interpreter_section q p.sections >>= λ s. Some (section_bytes (file_of p) s)
+
+read_is : (p : Parts) → interpreter_read p ≡ read_by p (segment_of_type PT_INTERP p.segments)
+unfolding read_by
+read_is p = refl
+
+name_gone : (read now : Option (List ℕ)) → read ≡ None → IsInterpreterOf read now → now ≡ None
+name_gone None None e is = refl
+name_gone None (Some now) e is = absurd is
+name_gone (Some read) now e is = absurd (none-some read (sym e))
+
+name_of : (o : Option (List ℕ)) → IsSome o → Some (list_at (λ name. name) o) ≡ o
+name_of None h = absurd (false≢true h)
+name_of (Some name) h = refl
+
+-- the content of the interpreter's section is its name
+name_written : (r : Resized) (plan : Layout) (raw : List EntryNumbers) (strings : List ℕ) (s : KeptSection) (bytes : List ℕ) (b : Bool)
+    → b ≡ true
+    → (elim b as (λ _. Type 0)
+    [ true ↦ bytes ≡ list_at (λ name. name) r.image.interpreter | _ ↦ IsContentByKind r plan raw strings s bytes ])
+    → bytes ≡ list_at (λ name. name) r.image.interpreter
+name_written r plan raw strings s bytes true e content = content
+name_written r plan raw strings s bytes false e content = absurd (false≢true e)
+
+module _ (w : Writing) (is : IsWholeWriting w) (has : HasWrittenParts w) (f : ReadFacts w) where
+  read : Image
+  read = image_at_read w.image
+
+  -- a name was read where PT_INTERP was
+  name_was : (old : SegmentHeader) → segment_of_type PT_INTERP f.parts.segments ≡ Some old → IsSome read.interpreter
+  unfolding read read_by
+  name_was old there =
+      let right : is_some (interpreter_section old f.parts.sections) ≡ true =
+      subst (λ o. is_none_or (λ q. is_some (interpreter_section q f.parts.sections)) o ≡ true) there f.rules.interpreter in
+      let (s, found) = there_if (interpreter_section old f.parts.sections) right in
+      let made : read.interpreter ≡ Some (section_bytes (file_of f.parts) s) =
+      f.holds.interpreter ∙ read_is f.parts ∙ ap (read_by f.parts) there
+      ∙ some_bind (interpreter_section old f.parts.sections) (λ x. Some (section_bytes (file_of f.parts) x)) s found in
+      ap is_some made
+
+  name_here : (old : SegmentHeader) → segment_of_type PT_INTERP f.parts.segments ≡ Some old → StandsAgain w f
+      → interpreter_read (written_parts w) ≡ w.image.interpreter
+  unfolding read read_by
+  name_here old there again =
+      let at = again.at in
+      let file : List ℕ = written_bytes w in
+      let bytes : at.bytes ≡ list_at (λ name. name) w.image.interpreter =
+      name_written (resized w.image) w.plan w.raw (content_at_number w.image w.contents at.section.sh_link)
+      (kept again.number at.section) at.bytes
+      (is_interpreter (resized w.image) (kept again.number at.section)) again.named at.written.content in
+      let right : is_some (interpreter_section again.segment w.headers) ≡ true =
+      subst (λ o. is_none_or (λ q. is_some (interpreter_section q w.headers)) o ≡ true) again.is_segment (interpreter_right w is has) in
+      read_is (written_parts w) ∙ ap (read_by (written_parts w)) again.is_segment
+      ∙ found_bytes file again.segment w.headers at.header again.is_placed right
+      ∙ ap Some (bytes_are w is has f again.number at ∙ bytes)
+      ∙ name_of w.image.interpreter (is.whole.interpreter (name_was old there))
+
+  name_by : SegmentAt w is f PT_INTERP → interpreter_read (written_parts w) ≡ w.image.interpreter
+  unfolding read read_by
+  name_by (NoSegment none_old none_now none_plan) =
+      let was : read.interpreter ≡ None = f.holds.interpreter ∙ read_is f.parts ∙ ap (read_by f.parts) none_old in
+      read_is (written_parts w) ∙ ap (read_by (written_parts w)) none_plan
+      ∙ sym (name_gone read.interpreter w.image.interpreter was f.edit.interpreter)
+  name_by (ASegment old p there there_now same there_plan) = name_here old there (stands_again w is f old p there there_now there_plan)
+
+pub name_again : (w : Writing) → IsWholeWriting w → HasWrittenParts w → interpreter_read (written_parts w) ≡ w.image.interpreter
+name_again w is has = name_by w is has (read_facts w is) (segment_at w is (read_facts w is) PT_INTERP refl refl)

@@ -1,0 +1,180 @@
+-- The sizes of written sections: tables have whole entries, one for each symbol; relocations keep theirs.
+use Rattle.std.proofs.Common.{◌≡◌, ◌⊎◌, ℕ, ◌+◌, ◌*◌, ◌%◌, Bool, true, false, [], ◌∷◌, length, refl, sym, ap, ◌∙◌, inl, inr, arith}
+use Rattle.std.specs.Prelude.{◌==◌, if◌then◌else◌, max, not}
+use Rattle.std.proofs.Math.Nat.{max-eq_left, max-eq_right, mul-mod_left}
+use Rattle.std.proofs.lemmas.Bool.{cases_lt, cond-false, cond-true, eqb-true, eq-eqb}
+use Rattle.elf_format.specs.declared.constants.TheConstants.{SHT_DYNAMIC, SHT_DYNSYM, SHT_GNU_HASH, SHT_GNU_VERDEF, SHT_GNU_VERNEED, SHT_GNU_VERSYM, SHT_HASH, SHT_PROGBITS, SHT_REL, SHT_RELA, SHT_STRTAB, SHT_SYMTAB}
+use Rattle.elf_format.specs.declared.form.Form.{Form}
+use Rattle.elf_format.specs.declared.records.SectionHeader.{SectionHeader}
+use Rattle.elf_format.specs.Image.{ImageSection}
+use Rattle.elf_format.specs.Options.{is_one_of, list_at}
+use Rattle.elf_format.specs.Records.{entry_size, symbol_size}
+use Rattle.elf_format.specs.Rules.{are_whole, unit_of}
+use Rattle.elf_format.proofs.ViewsAgree.{whole_entries}
+use Rattle.elf_layout_plan.specs.Kept.{image_at_read, interpreter_number, is_numbered}
+use Rattle.elf_layout_plan.specs.Needs.{written_entries, written_needs}
+use Rattle.elf_layout_plan.specs.Sizes.{definitions_size, dynamic_size, hash_size, interpreter_size, needs_size, new_size, strings_size, table_size}
+use Rattle.elf_layout_plan.specs.Texts.{are_names_changed}
+use Rattle.elf_write_spec.specs.Writing.{IsWholeWriting, Writing}
+use Rattle.elf_write_spec.proofs.LinkedContents.{interpreter_type, not_interpreter, section_type}
+use Rattle.elf_write_spec.proofs.LinkedLists.{all-at_each}
+use Rattle.elf_write_spec.proofs.LinkedMatch.{each-header, form_kept, is_in}
+use Rattle.elf_write_spec.proofs.WholeFacts.{ReadFacts, SectionAt, final_is, kept}
+
+-- ## By type
+
+-- one of several sizes, by a section's type
+abbrev by_type : ℕ → ℕ → ℕ → ℕ → ℕ → ℕ → ℕ → ℕ → ℕ → ℕ → ℕ → ℕ
+by_type n dynamic strings symbols dynamic_symbols versions definitions needs hash gnu_hash other =
+    if n == SHT_DYNAMIC then dynamic
+    else if n == SHT_STRTAB then strings
+    else if n == SHT_SYMTAB then symbols
+    else if n == SHT_DYNSYM then dynamic_symbols
+    else if n == SHT_GNU_VERSYM then versions
+    else if n == SHT_GNU_VERDEF then definitions
+    else if n == SHT_GNU_VERNEED then needs
+    else if n == SHT_HASH then hash
+    else if n == SHT_GNU_HASH then gnu_hash
+    else other
+
+-- the size of an entry, by a section's type and what its header says of entries
+abbrev unit_by : Form → ℕ → ℕ → ℕ
+unit_by form n entsize =
+    if is_one_of (SHT_SYMTAB ∷ SHT_DYNSYM ∷ []) n then symbol_size form
+    else if n == SHT_DYNAMIC then entry_size form
+    else if n == SHT_GNU_VERSYM then 2
+    else if n == SHT_GNU_HASH then 4
+    else if n == SHT_HASH then (if entsize == 8 then 8 else 4)
+    else 1
+
+one_way : (b : Bool) (x y : ℕ) (Q : ℕ → Type 0) → (b ≡ true → Q x) → (b ≡ false → Q y) → Q (if b then x else y)
+one_way true x y Q passes fails = passes refl
+one_way false x y Q passes fails = fails refl
+
+max_whole : (a b unit : ℕ) → a % unit ≡ 0 → b % unit ≡ 0 → max a b % unit ≡ 0
+max_whole a b unit left right = elim (cases_lt a b) [
+  | inl less ↦ ap (λ n. n % unit) (max-eq_right {n = a} {m = b} (omega arith)) ∙ right
+  | inr more ↦ ap (λ n. n % unit) (max-eq_left {n = a} {m = b} more) ∙ left
+]
+
+one_whole : (n : ℕ) → n % 1 ≡ 0
+one_whole n = omega arith
+
+module _ (form : Form) (entsize size : ℕ) where
+  -- each of these sizes has whole entries of the type that it is of
+  whole_by : (n entries strings symbols dynamic_symbols versions definitions needs : ℕ) → size % unit_by form n entsize ≡ 0
+      → by_type n (max size (entries * entry_size form)) strings (symbols * symbol_size form) (dynamic_symbols * symbol_size form)
+      (2 * versions) definitions needs size size size
+      % unit_by form n entsize ≡ 0
+  whole_by n entries strings symbols dynamic_symbols versions definitions needs had =
+      let Q : ℕ → Type 0 = λ x. x % unit_by form n entsize ≡ 0 in
+      let at_type : (type x : ℕ) → (n == type) ≡ true → x % unit_by form type entsize ≡ 0 → Q x =
+      λ type x e h. ap (λ m. x % unit_by form m entsize) (eqb-true n type e) ∙ h in
+      one_way (n == SHT_DYNAMIC) _ _ Q (λ e. at_type SHT_DYNAMIC _ e (max_whole size (entries * entry_size form) (entry_size form)
+      (ap (λ m. size % unit_by form m entsize) (sym (eqb-true n SHT_DYNAMIC e)) ∙ had) (mul-mod_left entries (entry_size form)))) (λ _.
+      one_way (n == SHT_STRTAB) _ _ Q (λ e. at_type SHT_STRTAB strings e (one_whole strings)) (λ _.
+      one_way (n == SHT_SYMTAB) _ _ Q (λ e. at_type SHT_SYMTAB _ e (mul-mod_left symbols (symbol_size form))) (λ _.
+      one_way (n == SHT_DYNSYM) _ _ Q (λ e. at_type SHT_DYNSYM _ e (mul-mod_left dynamic_symbols (symbol_size form))) (λ _.
+      one_way (n == SHT_GNU_VERSYM) _ _ Q (λ e. at_type SHT_GNU_VERSYM (2 * versions) e (omega arith)) (λ _.
+      one_way (n == SHT_GNU_VERDEF) _ _ Q (λ e. at_type SHT_GNU_VERDEF definitions e (one_whole definitions)) (λ _.
+      one_way (n == SHT_GNU_VERNEED) _ _ Q (λ e. at_type SHT_GNU_VERNEED needs e (one_whole needs)) (λ _.
+      one_way (n == SHT_HASH) _ _ Q (λ _. had) (λ _.
+      one_way (n == SHT_GNU_HASH) _ _ Q (λ _. had) (λ _. had)))))))))
+
+-- how large the section at a position is, were it of a type: hash tables as large as they were
+abbrev size_by : Writing → ℕ → ImageSection → ℕ → ℕ
+size_by w i s type = by_type type
+    (max s.sh_size ((length (list_at (λ es. es) (written_entries (image_at_read w.image) w.image)) + 1) * entry_size w.image.form))
+    (strings_size (image_at_read w.image) w.image (kept i s)) (length w.image.symbols * symbol_size w.image.form)
+    (length w.image.dynamic_symbols * symbol_size w.image.form) (2 * length w.image.dynamic_symbols)
+    (definitions_size w.image.definitions)
+    (needs_size (written_needs (image_at_read w.image) w.image)) s.sh_size s.sh_size s.sh_size
+
+module _ (w : Writing) (is : IsWholeWriting w) (f : ReadFacts w) where
+  -- hash tables keep their sizes
+  hash_same : (s : ImageSection) → hash_size (image_at_read w.image) w.image s ≡ s.sh_size
+  hash_same s =
+      cond-true (not (are_names_changed (image_at_read w.image) w.image)) s.sh_size _ (ap not (final_is w is).names)
+
+  pub section_size : (i : ℕ) (at : SectionAt w f.parts i) → at.section.sh_size ≡ at.old.sh_size
+  section_size i at = ap (λ (x : ImageSection). x.sh_size) at.of_old.fields
+
+  section_entsize : (i : ℕ) (at : SectionAt w f.parts i) → at.section.sh_entsize ≡ at.old.sh_entsize
+  section_entsize i at = ap (λ (x : ImageSection). x.sh_entsize) at.of_old.fields
+
+  -- the size by the type
+  table_is : (i : ℕ) (s : ImageSection) → table_size (image_at_read w.image) w.image (kept i s) ≡ size_by w i s s.sh_type
+  table_is i s =
+      ap (λ h. by_type s.sh_type (dynamic_size (image_at_read w.image) w.image s)
+      (strings_size (image_at_read w.image) w.image (kept i s)) (length w.image.symbols * symbol_size w.image.form)
+      (length w.image.dynamic_symbols * symbol_size w.image.form) (2 * length w.image.dynamic_symbols)
+      (definitions_size w.image.definitions)
+      (needs_size (written_needs (image_at_read w.image) w.image)) h h s.sh_size) (hash_same s)
+
+  plain_size : (i : ℕ) (at : SectionAt w f.parts i) → is_numbered (interpreter_number (image_at_read w.image)) (kept i at.section) ≡ false
+      → at.header.sh_size ≡ table_size (image_at_read w.image) w.image (kept i at.section)
+  unfolding new_size
+  plain_size i at other =
+      at.size ∙ at.place_size
+      ∙ cond-false (is_numbered (interpreter_number (image_at_read w.image)) (kept i at.section))
+      (interpreter_size w.image at.section) _ other
+
+  -- ## Whole entries
+
+  unit_is : (i : ℕ) (at : SectionAt w f.parts i)
+      → unit_of w.image.form at.header ≡ unit_by w.image.form at.section.sh_type at.section.sh_entsize
+  unit_is i at =
+      ap (λ n. unit_by w.image.form n at.header.sh_entsize) (at.type ∙ sym (section_type w is f i at))
+      ∙ ap (λ n. unit_by w.image.form at.section.sh_type n) (at.entsize ∙ sym (section_entsize i at))
+
+  was_whole : (i : ℕ) (at : SectionAt w f.parts i) → at.section.sh_size % unit_by w.image.form at.section.sh_type at.section.sh_entsize ≡ 0
+  was_whole i at =
+      ap (λ n. n % unit_by w.image.form at.section.sh_type at.section.sh_entsize) (section_size i at)
+      ∙ ap (λ n. at.old.sh_size % unit_by w.image.form n at.section.sh_entsize) (section_type w is f i at)
+      ∙ ap (λ n. at.old.sh_size % unit_by w.image.form at.old.sh_type n) (section_entsize i at)
+      ∙ ap (λ (form : Form). at.old.sh_size % unit_of form at.old) (form_kept w is f)
+      ∙ whole_entries f.parts f.rules at.old (is_in w is f i at)
+
+  whole_size : (i : ℕ) (at : SectionAt w f.parts i) (b : Bool)
+      → is_numbered (interpreter_number (image_at_read w.image)) (kept i at.section) ≡ b
+      → at.header.sh_size % unit_by w.image.form at.section.sh_type at.section.sh_entsize ≡ 0
+  whole_size i at true e =
+      ap (λ n. at.header.sh_size % unit_by w.image.form n at.section.sh_entsize) (interpreter_type w is f i at e)
+      ∙ one_whole at.header.sh_size
+  whole_size i at false e =
+      ap (λ n. n % unit_by w.image.form at.section.sh_type at.section.sh_entsize) (plain_size i at e ∙ table_is i at.section)
+      ∙ whole_by w.image.form at.section.sh_entsize at.section.sh_size at.section.sh_type
+      (length (list_at (λ es. es) (written_entries (image_at_read w.image) w.image)) + 1)
+      (strings_size (image_at_read w.image) w.image (kept i at.section)) (length w.image.symbols)
+      (length w.image.dynamic_symbols) (length w.image.dynamic_symbols) (definitions_size w.image.definitions)
+      (needs_size (written_needs (image_at_read w.image) w.image)) (was_whole i at)
+
+  pub whole_again : are_whole w.image.form w.headers ≡ true
+  whole_again =
+      all-at_each (λ (s : SectionHeader). s.sh_size % unit_of w.image.form s == 0) w.headers
+      (each-header w is f (λ h. (h.sh_size % unit_of w.image.form h == 0) ≡ true) (λ i at.
+      eq-eqb (at.header.sh_size % unit_of w.image.form at.header) 0
+      (ap (λ n. at.header.sh_size % n) (unit_is i at)
+      ∙ whole_size i at (is_numbered (interpreter_number (image_at_read w.image)) (kept i at.section)) refl)))
+
+  -- ## Tables of symbols, and relocations
+
+  -- a section of another type has the size that its type gives
+  typed_size : (i : ℕ) (at : SectionAt w f.parts i) (type : ℕ) → at.old.sh_type ≡ type → (type == SHT_PROGBITS) ≡ false
+      → at.header.sh_size ≡ size_by w i at.section type
+  typed_size i at type is_type other =
+      plain_size i at (not_interpreter w is f i at (ap (λ n. n == SHT_PROGBITS) is_type ∙ other)) ∙ table_is i at.section
+      ∙ ap (size_by w i at.section) (section_type w is f i at ∙ is_type)
+
+  pub symbols_sized : (i : ℕ) (at : SectionAt w f.parts i) → at.old.sh_type ≡ SHT_SYMTAB
+      → at.header.sh_size ≡ length w.image.symbols * symbol_size w.image.form
+  symbols_sized i at is_type = typed_size i at SHT_SYMTAB is_type refl
+
+  pub dynamic_symbols_sized : (i : ℕ) (at : SectionAt w f.parts i) → at.old.sh_type ≡ SHT_DYNSYM
+      → at.header.sh_size ≡ length w.image.dynamic_symbols * symbol_size w.image.form
+  dynamic_symbols_sized i at is_type = typed_size i at SHT_DYNSYM is_type refl
+
+  pub relocations_sized : (i : ℕ) (at : SectionAt w f.parts i) → (at.old.sh_type ≡ SHT_REL) ⊎ (at.old.sh_type ≡ SHT_RELA)
+      → at.header.sh_size ≡ at.old.sh_size
+  relocations_sized i at (inl is_type) = typed_size i at SHT_REL is_type refl ∙ section_size i at
+  relocations_sized i at (inr is_type) = typed_size i at SHT_RELA is_type refl ∙ section_size i at

@@ -1,0 +1,147 @@
+-- An edited image whose dynamic symbols are those that were read: its names, its needed versions and its dynamic list stay. Symbols
+-- that were read name sections that are there.
+use Rattle.std.proofs.Common.{◌≡◌, ℕ, zero, suc, ◌<◌, List, length, map, drop, Bool, true, false, not, ◌&&◌, ◌||◌, [], ◌∷◌, refl, sym, ap, ◌∙◌, subst, Option, Some, None, arith}
+use Rattle.std.specs.Prelude.{filter, nat_le, nat_lt, ◌*◌, ◌==◌, if◌then◌else◌}
+use Rattle.std.specs.List.{list_all, slice_get}
+use Rattle.std.specs.Option.{option_map}
+use Rattle.std.proofs.lemmas.Bool.{and_parts, eqb-true}
+use Rattle.std.proofs.lemmas.Bool.Decides.{nat_tests}
+use Rattle.std.proofs.lemmas.Option.{none-some, same_Some}
+use Rattle.patch_bytes.specs.Memory.{◌>>=◌}
+use Rattle.elf_format.specs.declared.constants.TheConstants.{DT_VERNEED, DT_VERNEEDNUM, SHN_LORESERVE, SHT_DYNSYM, SHT_SYMTAB}
+use Rattle.elf_format.specs.declared.records.SectionHeader.{SectionHeader}
+use Rattle.elf_format.specs.declared.records.SymbolNumbers.{SymbolNumbers}
+use Rattle.elf_format.specs.File.{Opened, Parts, bytes_in, section_of_type, sections_of}
+use Rattle.elf_format.specs.Form.{records}
+use Rattle.elf_format.specs.Image.{Image, entry_tag, symbols_of}
+use Rattle.elf_format.specs.Options.{is_one_of, is_some_and}
+use Rattle.elf_format.specs.Records.{section_header, section_header_size}
+use Rattle.elf_format.specs.Rules.{MeetsRules, are_linked, are_whole, infos_are_sections, is_one_of_each, is_symbol_table, relocations_fit, symbols_have_sections}
+use Rattle.elf_format.specs.Versions.{VersionName, VersionNeeds}
+use Rattle.elf_format.specs.Views.{NamedSymbol}
+use Rattle.elf_image.specs.ReadImage.{AreDynamicSymbols, AreStaticSymbols}
+use Rattle.elf_layout_plan.specs.Needs.{do_needs_stay, is_empty, is_version_dropped, is_version_used, lists_needs, staying_names, staying_needs, with_staying_names, written_entries, written_needs}
+use Rattle.elf_layout_plan.proofs.PlacedLists.{Has, all-at, filter-from, find-at, slice_get-at}
+use Rattle.elf_write_spec.proofs.WholeLists.{filter-same, map-same}
+
+module _ (read image : Image) (same : image.dynamic_symbols ≡ read.dynamic_symbols) where
+  -- ## Needed versions
+
+  none_dropped : (index : ℕ) → is_version_dropped read image index ≡ false
+  none_dropped index =
+      ap (λ (ys : List NamedSymbol). is_version_used read.dynamic_symbols index && not (is_version_used ys index)) same
+      ∙ by_test (is_version_used read.dynamic_symbols index)
+    where
+      by_test : (b : Bool) → (b && not b) ≡ false
+      by_test true = refl
+      by_test false = refl
+
+  names_stay : (names : List VersionName) → staying_names read image names ≡ names
+  names_stay names = filter-same (λ v. not (is_version_dropped read image v.index)) names (λ i v at. ap not (none_dropped v.index))
+
+  need_stays : (n : VersionNeeds) → do_needs_stay read image n ≡ true
+  need_stays n =
+      ap (λ (names : List VersionName). is_empty n.versions || not (is_empty names)) (names_stay n.versions)
+      ∙ by_test (is_empty n.versions)
+    where
+      by_test : (b : Bool) → (b || not b) ≡ true
+      by_test true = refl
+      by_test false = refl
+
+  needs_stay : staying_needs read image ≡ image.needs
+  needs_stay =
+      ap (map (with_staying_names read image)) (filter-same (do_needs_stay read image) image.needs (λ i n at. need_stays n))
+      ∙ map-same (with_staying_names read image) image.needs (λ i n at. ap (λ (names : List VersionName). record n { versions = names }) (names_stay n.versions))
+
+  pub needs_same : written_needs read image ≡ image.needs
+  unfolding written_needs
+  needs_same = by_test (is_some_and lists_needs image.entries)
+    where
+      by_test : (b : Bool) → (if b then staying_needs read image else image.needs) ≡ image.needs
+      by_test true = needs_stay
+      by_test false = refl
+
+  pub entries_same : written_entries read image ≡ image.entries
+  unfolding written_entries
+  entries_same =
+      ap (λ (b : Bool). if b
+      then option_map (λ entries. filter (λ e. not (is_one_of (DT_VERNEED ∷ DT_VERNEEDNUM ∷ []) (entry_tag e))) entries) image.entries
+      else image.entries)
+      (ap (λ (ns : List VersionNeeds). not (is_empty image.needs) && is_empty ns) needs_same ∙ by_test (is_empty image.needs))
+    where
+      by_test : (b : Bool) → (not b && b) ≡ false
+      by_test true = refl
+      by_test false = refl
+
+-- ## Sections of symbols
+
+pub length-records : {A : Type 0} → (decode : List ℕ → A) (size count : ℕ) (bytes : List ℕ)
+    → length (records decode size count bytes) ≡ count
+unfolding records
+length-records decode size zero bytes = refl
+length-records decode size (suc count) bytes = ap suc (length-records decode size count (drop size bytes))
+
+-- there are as many section headers as the file header says
+length-read : (o : Opened) (there : Option (List ℕ)) (sections : List SectionHeader)
+    → (there >>= λ bytes. Some (records (section_header o.form) (section_header_size o.form) o.header.e_shnum bytes)) ≡ Some sections
+    → length sections ≡ o.header.e_shnum
+length-read o None sections e = absurd (none-some sections e)
+length-read o (Some bytes) sections e =
+    ap length (sym (same_Some (records (section_header o.form) (section_header_size o.form) o.header.e_shnum bytes) sections e))
+    ∙ length-records (section_header o.form) (section_header_size o.form) o.header.e_shnum bytes
+
+pub length-sections : (o : Opened) (sections : List SectionHeader) → sections_of o ≡ Some sections → length sections ≡ o.header.e_shnum
+unfolding sections_of
+length-sections o sections e = length-read o (bytes_in o.file o.header.e_shoff (o.header.e_shnum * section_header_size o.form)) sections e
+
+-- a number of a section that is there, or one of special meaning
+abbrev pub IsKnown : ℕ → ℕ → Type 0
+IsKnown count n = (nat_lt n count || nat_le SHN_LORESERVE n) ≡ true
+
+module _ (p : Parts) (rules : MeetsRules p) where
+  known_rule : symbols_have_sections p ≡ true
+  known_rule =
+      let all =
+      and_parts (is_one_of_each p.segments p.sections && are_linked p.sections && are_whole p.opened.form p.sections && symbols_have_sections p && relocations_fit p)
+      (infos_are_sections p) rules.linked in
+      let more =
+      and_parts (is_one_of_each p.segments p.sections && are_linked p.sections && are_whole p.opened.form p.sections && symbols_have_sections p)
+      (relocations_fit p) all.0 in
+      (and_parts (is_one_of_each p.segments p.sections && are_linked p.sections && are_whole p.opened.form p.sections) (symbols_have_sections p) more.0).1
+
+  known_in : (s : SectionHeader) → Has s p.sections → is_symbol_table s ≡ true → (y : SymbolNumbers) → Has y (symbols_of p s)
+      → IsKnown p.opened.header.e_shnum y.st_shndx
+  known_in s here is y y_here =
+      all-at (λ x. nat_lt x.st_shndx p.opened.header.e_shnum || nat_le SHN_LORESERVE x.st_shndx) (symbols_of p s) y
+      (all-at (λ t. list_all (λ x. nat_lt x.st_shndx p.opened.header.e_shnum || nat_le SHN_LORESERVE x.st_shndx) (symbols_of p t))
+      (filter is_symbol_table p.sections) s known_rule (filter-from is_symbol_table p.sections s here is)) y_here
+
+  of_type : (type : ℕ) (s : SectionHeader) → section_of_type type p.sections ≡ Some s → is_one_of (SHT_SYMTAB ∷ SHT_DYNSYM ∷ []) type ≡ true
+      → Has s p.sections × (is_symbol_table s ≡ true)
+  of_type type s h is =
+      let found = find-at (λ x. x.sh_type == type) p.sections s h in
+      (found.0, ap (is_one_of (SHT_SYMTAB ∷ SHT_DYNSYM ∷ [])) (eqb-true s.sh_type type found.1) ∙ is)
+
+  pub known_static : (symbols : List NamedSymbol) (o : Option SectionHeader) → section_of_type SHT_SYMTAB p.sections ≡ o
+      → AreStaticSymbols p o symbols
+      → (i : ℕ) (x : NamedSymbol) → slice_get symbols i ≡ Some x → IsKnown p.opened.header.e_shnum x.st_shndx
+  known_static symbols None o_is none i x at = absurd (none-some x (ap (λ (l : List NamedSymbol). slice_get l i) (sym none) ∙ at))
+  known_static symbols (Some s) o_is are i x at =
+      let (y, version, y_at, _, is) = are.each i x at in
+      let type = of_type SHT_SYMTAB s o_is refl in
+      subst (IsKnown p.opened.header.e_shnum) (sym (ap (λ (z : NamedSymbol). z.st_shndx) is.fields))
+      (known_in s type.0 type.1 y (slice_get-at (symbols_of p s) i y y_at))
+
+  pub known_dynamic : (symbols : List NamedSymbol) (versions o : Option SectionHeader) → section_of_type SHT_DYNSYM p.sections ≡ o
+      → AreDynamicSymbols p versions o symbols
+      → (i : ℕ) (x : NamedSymbol) → slice_get symbols i ≡ Some x → IsKnown p.opened.header.e_shnum x.st_shndx
+  known_dynamic symbols versions None o_is none i x at = absurd (none-some x (ap (λ (l : List NamedSymbol). slice_get l i) (sym none) ∙ at))
+  known_dynamic symbols versions (Some s) o_is are i x at =
+      let (y, version, y_at, _, is) = are.each i x at in
+      let type = of_type SHT_DYNSYM s o_is refl in
+      subst (IsKnown p.opened.header.e_shnum) (sym (ap (λ (z : NamedSymbol). z.st_shndx) is.fields))
+      (known_in s type.0 type.1 y (slice_get-at (symbols_of p s) i y y_at))
+
+-- a known number is special, or below the count
+pub known_below : (count n : ℕ) → IsKnown count n → nat_le SHN_LORESERVE n ≡ false → n < count
+known_below count n known below = grind (arith, nat_tests)

@@ -1,0 +1,309 @@
+-- The first program header of a type: the one that was read, the one of the image, and what is written of it.
+use Rattle.std.proofs.Common.{◌≡◌, ◌≤◌, ℕ, Bool, true, false, cond, List, [], ◌∷◌, ◌++◌, map, length, refl, sym, ap, ◌∙◌, subst, inl, inr, arith, Option, Some, None}
+use Rattle.std.specs.Prelude.{◌==◌, ◌&&◌, not, find, if◌then◌else◌, nat_le}
+use Rattle.std.specs.List.{cons_option, flat_map, list_all, list_any, slice_get}
+use Rattle.std.specs.Option.{option_map, option_or, option_to_list}
+use Rattle.std.proofs.lemmas.Bool.{and_parts, both_ways, cond-false, cond_both, eqb-true}
+use Rattle.std.proofs.lemmas.List.Folds.{find-append}
+use Rattle.elf_format.specs.declared.constants.TheConstants.{PT_DYNAMIC, PT_GNU_PROPERTY, PT_GNU_STACK, PT_INTERP, PT_LOAD, PT_NOTE, PT_PHDR, SHT_DYNAMIC}
+use Rattle.elf_format.specs.declared.records.SegmentHeader.{SegmentHeader}
+use Rattle.elf_format.specs.File.{is_loaded, segment_of_type}
+use Rattle.elf_format.specs.Options.{is_one_of}
+use Rattle.elf_format.specs.Places.{Place}
+use Rattle.elf_image.specs.Edited.{AreKept, as_kept}
+use Rattle.elf_image.specs.Segments.{added_stack}
+use Rattle.elf_layout_plan.specs.Follow.{HeaderTable, Itself, Leader, Notes, OneSection, is_note_in, is_over_notes, leader_by_range, leader_of, led_by_section, notes_under, section_or_table, section_under, sharers}
+use Rattle.elf_layout_plan.specs.Kept.{KeptSection, image_at_read, interpreter_number, is_numbered, kept_of_type, kept_sections}
+use Rattle.elf_layout_plan.specs.Memory.{Resized}
+use Rattle.elf_layout_plan.specs.Plan.{Layout, layout_for, resized}
+use Rattle.elf_layout_plan.specs.Standing.{places}
+use Rattle.elf_layout_plan.specs.Written.{Target, behind_last_load, led_to, places_of_kept, resized_table, target_at, targets_of, targets_of_notes, with_table_size, written_from, written_segments}
+use Rattle.elf_layout_plan.proofs.ApartLists.{Each}
+use Rattle.elf_layout_plan.proofs.ApartWritten.{added_headers, all_added_are_loaded, section_targets}
+use Rattle.elf_write_spec.specs.Whole.{AreAllKept}
+use Rattle.elf_write_spec.specs.Writing.{IsWholeWriting, Writing}
+use Rattle.elf_write_spec.proofs.WholeFacts.{ReadFacts}
+
+-- a program header is of a type
+abbrev pub has_type : ℕ → SegmentHeader → Bool
+has_type type p = p.p_type == type
+
+-- ## What becomes of one program header
+
+module _ (r : Resized) (moved : List ℕ) where
+  -- the first of what is written of it: where it first goes, or it stays
+  unfoldable pub becomes_by : SegmentHeader → List Target → SegmentHeader
+  becomes_by p targets = elim targets [ [] ↦ resized_table r moved p | t ∷ ts ↦ led_to r.image.form p t ]
+
+  abbrev pub becomes : SegmentHeader → SegmentHeader
+  becomes p = becomes_by p (targets_of r moved p)
+
+  table_type : (p : SegmentHeader) (leader : Leader) → (elim
+      leader as (λ _. SegmentHeader) [ HeaderTable ↦ with_table_size r moved p | _ ↦ p ]).p_type ≡ p.p_type
+  table_type p Itself = refl
+  table_type p HeaderTable = refl
+  table_type p (OneSection s) = refl
+  table_type p (Notes notes) = refl
+
+  -- it keeps its type
+  pub becomes-type : (p : SegmentHeader) → (becomes p).p_type ≡ p.p_type
+  unfolding becomes_by
+  becomes-type p = by_targets (targets_of r moved p)
+    where
+      by_targets : (targets : List Target) → (becomes_by p targets).p_type ≡ p.p_type
+      by_targets [] = table_type p (leader_of r p)
+      by_targets (t ∷ ts) = refl
+
+  -- a program header that goes by one section goes where that goes
+  pub becomes-section : (p : SegmentHeader) (s : KeptSection) (x : Place) → leader_of r p ≡ OneSection s
+      → slice_get (places r moved) s.position ≡ Some x
+      → becomes p ≡ led_to r.image.form p (target_at x)
+  unfolding becomes_by
+  becomes-section p s x leader there = ap (becomes_by p) (section_targets r moved p s x leader there)
+
+  module _ (type : ℕ) where
+    led-none : (p : SegmentHeader) (ts : List Target) (rest : List SegmentHeader) → has_type type p ≡ false
+        → find (has_type type) (map (led_to r.image.form p) ts ++ rest) ≡ find (has_type type) rest
+    led-none p [] rest h = refl
+    led-none p (t ∷ ts) rest h =
+        cond-false (has_type type p) (Some (led_to r.image.form p t)) (find (has_type type) (map (led_to r.image.form p) ts ++ rest)) h ∙ led-none p ts rest h
+
+    find-one : (p : SegmentHeader) (targets : List Target) (rest : List SegmentHeader) (b : Bool) → has_type type p ≡ b
+        → find (has_type type) ((elim targets as
+        (λ _. List SegmentHeader) [ [] ↦ resized_table r moved p ∷ [] | t ∷ ts ↦ map (led_to r.image.form p) (t ∷ ts) ]) ++ rest)
+        ≡ cond b (Some (becomes_by p targets)) (find (has_type type) rest)
+    unfolding becomes_by
+    find-one p [] rest b h =
+        let q : SegmentHeader = resized_table r moved p in
+        let same : has_type type q ≡ b = ap (λ n. n == type) (table_type p (leader_of r p)) ∙ h in
+        ap (λ c. cond c (Some q) (find (has_type type) rest)) same
+    find-one p (t ∷ ts) rest true h = ap (λ c. cond c (Some (led_to r.image.form p t)) (find (has_type type) (map (led_to r.image.form p) ts ++ rest))) h
+    find-one p (t ∷ ts) rest false h = led-none p (t ∷ ts) rest h
+
+    find-all : (ps : List SegmentHeader) → find (has_type type) (flat_map (written_from r moved) ps)
+        ≡ option_map becomes (find (has_type type) ps)
+    find-all [] = refl
+    find-all (p ∷ ps) =
+        find-one p (targets_of r moved p) (flat_map (written_from r moved) ps) (has_type type p) refl
+        ∙ ap (cond (has_type type p) (Some (becomes p))) (find-all ps) ∙ by_test (has_type type p)
+      where
+        by_test : (b : Bool) → cond b (Some (becomes p)) (option_map becomes (find (has_type type) ps))
+            ≡ option_map becomes (cond b (Some p) (find (has_type type) ps))
+        by_test true = refl
+        by_test false = refl
+
+-- ## Those that are added
+
+module _ (type : ℕ) (other : (PT_LOAD == type) ≡ false) where
+  added-none : (more rest : List SegmentHeader) → Each (λ p. is_loaded p ≡ true) more
+      → find (has_type type) (more ++ rest) ≡ find (has_type type) rest
+  added-none [] rest all = refl
+  added-none (p ∷ more) rest all =
+      let loaded : p.p_type ≡ PT_LOAD = eqb-true p.p_type PT_LOAD all.0 in
+      cond-false (has_type type p) (Some p) (find (has_type type) (more ++ rest)) (ap (λ n. n == type) loaded ∙ other)
+      ∙ added-none more rest all.1
+
+  find-behind : (more ps : List SegmentHeader) → Each (λ p. is_loaded p ≡ true) more
+      → find (has_type type) (behind_last_load more ps) ≡ find (has_type type) ps
+  unfolding behind_last_load
+  find-behind more [] all = refl
+  find-behind more (p ∷ ps) all = by_test (is_loaded p && not (list_any is_loaded ps)) (find-behind more ps all)
+    where
+      by_test : (b : Bool) → find (has_type type) (behind_last_load more ps) ≡ find (has_type type) ps
+          → find (has_type type) (elim b as (λ _. List SegmentHeader) [ true ↦ p ∷ more ++ ps | _ ↦ p ∷ behind_last_load more ps ])
+          ≡ find (has_type type) (p ∷ ps)
+      by_test true h = ap (cond (has_type type p) (Some p)) (added-none more ps all)
+      by_test false h = ap (cond (has_type type p) (Some p)) h
+
+  -- of a type that isn't loaded the first one is what becomes of the image's first one
+  pub segment_written : (r : Resized) (moved : List ℕ)
+      → segment_of_type type (written_segments r moved) ≡ option_map (becomes r moved) (segment_of_type type r.image.segments)
+  unfolding written_segments
+  segment_written r moved =
+      find-behind (added_headers r moved) (flat_map (written_from r moved) r.image.segments) (all_added_are_loaded r moved)
+      ∙ find-all r moved type r.image.segments
+
+-- ## How many there are of a type
+
+-- the leader is none or one
+IsSingle : Leader → Type 0
+IsSingle Itself = Unit {0}
+IsSingle HeaderTable = Unit {0}
+IsSingle (OneSection s) = Unit {0}
+IsSingle (Notes notes) = ⊥
+
+led-single : (o : Option KeptSection) → IsSingle (led_by_section o)
+unfolding IsSingle
+led-single None = tt
+led-single (Some s) = tt
+
+table-single : (o : Option KeptSection) → IsSingle (section_or_table o)
+unfolding IsSingle
+table-single None = tt
+table-single (Some s) = tt
+
+module _ (r : Resized) (moved : List ℕ) where
+  -- only a program header for notes or properties goes by several sections
+  range-single : (p : SegmentHeader) → is_one_of (PT_NOTE ∷ PT_GNU_PROPERTY ∷ []) p.p_type ≡ false → IsSingle (leader_by_range r p)
+  unfolding IsSingle
+  range-single p other =
+      let over : Leader = if is_over_notes r p then Notes (notes_under r p) else led_by_section (section_under r p) in
+      cond_both (p.p_filesz == 0) Itself over IsSingle (λ _. tt) (λ _.
+      cond_both (is_over_notes r p) (Notes (notes_under r p)) (led_by_section (section_under r p)) IsSingle
+      (λ notes. both_ways (is_one_of (PT_NOTE ∷ PT_GNU_PROPERTY ∷ []) p.p_type) other
+      (and_parts (is_one_of (PT_NOTE ∷ PT_GNU_PROPERTY ∷ []) p.p_type) (nat_le 2 (length (sharers r p)))
+      (and_parts (is_one_of (PT_NOTE ∷ PT_GNU_PROPERTY ∷ []) p.p_type && nat_le 2 (length (sharers r p))) (list_all (is_note_in p) (sharers r p)) notes).0).0)
+      (λ _. led-single (section_under r p)))
+
+  leader-single : (p : SegmentHeader) → is_one_of (PT_NOTE ∷ PT_GNU_PROPERTY ∷ []) p.p_type ≡ false → IsSingle (leader_of r p)
+  unfolding leader_of IsSingle
+  leader-single p other =
+      let list : Leader = led_by_section (kept_of_type SHT_DYNAMIC r.image) in
+      let name : Leader = led_by_section (find (is_numbered (interpreter_number r.read)) (kept_sections r.image)) in
+      let a : Leader = if p.p_type == PT_INTERP then name else leader_by_range r p in
+      let b : Leader = if p.p_type == PT_DYNAMIC then list else a in
+      let table : Leader = section_or_table (section_under r p) in
+      let c : Leader = if p.p_type == PT_PHDR then table else b in
+      cond_both (p.p_type == PT_LOAD) Itself c IsSingle (λ _. tt) (λ _.
+      cond_both (p.p_type == PT_PHDR) table b IsSingle (λ _. table-single (section_under r p)) (λ _.
+      cond_both (p.p_type == PT_DYNAMIC) list a IsSingle (λ _. led-single (kept_of_type SHT_DYNAMIC r.image)) (λ _.
+      cond_both (p.p_type == PT_INTERP) name (leader_by_range r p) IsSingle
+      (λ _. led-single (find (is_numbered (interpreter_number r.read)) (kept_sections r.image))) (λ _. range-single p other))))
+
+  targets_by : Leader → List Target
+  targets_by leader = elim leader [
+    | Itself ↦ []
+    | HeaderTable ↦ []
+    | OneSection s ↦ map target_at (places_of_kept (places r moved) (s ∷ []))
+    | Notes notes ↦ targets_of_notes moved (places r moved) notes
+  ]
+
+  targets-are : (p : SegmentHeader) → targets_of r moved p ≡ targets_by (leader_of r p)
+  unfolding targets_of targets_by
+  targets-are p = refl
+
+  single-by : (leader : Leader) → IsSingle leader → length (targets_by leader) ≤ 1
+  unfolding IsSingle targets_by
+  single-by Itself h = omega arith
+  single-by HeaderTable h = omega arith
+  single-by (OneSection s) h = by_place (slice_get (places r moved) s.position)
+    where
+      by_place : (o : Option Place) → length (map target_at (cons_option o [])) ≤ 1
+      by_place None = omega arith
+      by_place (Some x) = omega arith
+  single-by (Notes notes) h = absurd h
+
+  one-by : (p : SegmentHeader) (targets : List Target) → length targets ≤ 1
+      → (elim targets as (λ _. List SegmentHeader) [ [] ↦ resized_table r moved p ∷ [] | t ∷ ts ↦ map (led_to r.image.form p) (t ∷ ts) ]) ≡ becomes_by r moved p targets ∷ []
+  unfolding becomes_by
+  one-by p [] h = refl
+  one-by p (t ∷ []) h = refl
+  one-by p (t ∷ u ∷ ts) h = absurd (omega (arith, h))
+
+  -- of any other one is written
+  pub one_written : (p : SegmentHeader) → is_one_of (PT_NOTE ∷ PT_GNU_PROPERTY ∷ []) p.p_type ≡ false → written_from r moved p ≡ becomes r moved p ∷ []
+  one_written p other =
+      one-by p (targets_of r moved p)
+      (subst (λ (ts : List Target). length ts ≤ 1) (sym (targets-are p)) (single-by (leader_of r p) (leader-single p other)))
+
+-- ## Those that were read
+
+-- the first one of a type, among those that were read and among those that are there
+pub data Found (page_size : Option ℕ) (olds news : List SegmentHeader) (type : ℕ) : Type 0 where
+  Neither : segment_of_type type olds ≡ None → segment_of_type type news ≡ None → Found page_size olds news type
+  Both : (old p : SegmentHeader) → segment_of_type type olds ≡ Some old → segment_of_type type news ≡ Some p
+      → p ≡ as_kept page_size p.p_flags old
+      → Found page_size olds news type
+
+kept-short : (page_size : Option ℕ) (olds news : List SegmentHeader) → AreKept page_size olds news → length news ≤ length olds
+kept-short page_size [] [] h = omega arith
+kept-short page_size [] (p ∷ ps) h = absurd h
+kept-short page_size (old ∷ olds) [] h = omega arith
+kept-short page_size (old ∷ olds) (p ∷ ps) (inl (_, rest)) = omega (arith, kept-short page_size olds ps rest)
+kept-short page_size (old ∷ olds) (p ∷ ps) (inr (_, rest)) = omega (arith, kept-short page_size olds (p ∷ ps) rest)
+
+found-next : (page_size : Option ℕ) (old p : SegmentHeader) (olds news : List SegmentHeader) (type : ℕ)
+    → p ≡ as_kept page_size p.p_flags old
+    → Found page_size olds news type → (b : Bool) → has_type type old ≡ b → Found page_size (old ∷ olds) (p ∷ news) type
+found-next page_size old p olds news type same rest true h =
+    let also : has_type type p ≡ true = ap (has_type type) same ∙ h in
+    Both old p (ap (λ c. cond c (Some old) (segment_of_type type olds)) h) (ap (λ c. cond c (Some p) (segment_of_type type news)) also) same
+found-next page_size old p olds news type same (Neither no_old none) false h =
+    let also : has_type type p ≡ false = ap (has_type type) same ∙ h in
+    Neither (ap (λ c. cond c (Some old) (segment_of_type type olds)) h ∙ no_old)
+    (ap (λ c. cond c (Some p) (segment_of_type type news)) also ∙ none)
+found-next page_size old p olds news type same (Both first now at_first at_now like) false h =
+    let also : has_type type p ≡ false = ap (has_type type) same ∙ h in
+    Both first now (ap (λ c. cond c (Some old) (segment_of_type type olds)) h ∙ at_first)
+    (ap (λ c. cond c (Some p) (segment_of_type type news)) also ∙ at_now) like
+
+-- none went
+find-kept : (page_size : Option ℕ) (olds news : List SegmentHeader) (type : ℕ) → AreKept page_size olds news → length news ≡ length olds
+    → Found page_size olds news type
+find-kept page_size [] [] type h e = Neither refl refl
+find-kept page_size [] (p ∷ ps) type h e = absurd h
+find-kept page_size (old ∷ olds) [] type h e = absurd (omega (arith, e))
+find-kept page_size (old ∷ olds) (p ∷ ps) type (inl (same, rest)) e =
+    found-next page_size old p olds ps type same (find-kept page_size olds ps type rest (omega (arith, e))) (has_type type old) refl
+find-kept page_size (old ∷ olds) (p ∷ ps) type (inr (_, rest)) e = absurd (omega (arith, e, kept-short page_size olds (p ∷ ps) rest))
+
+module _ (page_size : Option ℕ) (type : ℕ) (other : (PT_GNU_STACK == type) ≡ false) where
+  -- what is added for the stack is of another type
+  stack-none : (added : Option ℕ) → segment_of_type type (option_to_list (option_map added_stack added)) ≡ None
+  stack-none None = refl
+  stack-none (Some flags) = ap (λ c. cond c (Some (added_stack flags)) None) other
+
+  or-none : (o : Option SegmentHeader) → option_or o None ≡ o
+  or-none None = refl
+  or-none (Some p) = refl
+
+  pub find-whole : (olds news : List SegmentHeader) → AreAllKept page_size olds news → Found page_size olds news type
+  find-whole olds news all =
+      let stack : List SegmentHeader = option_to_list (option_map added_stack all.added) in
+      let same : segment_of_type type news ≡ segment_of_type type all.kept =
+      ap (segment_of_type type) all.are_all ∙ find-append (has_type type) all.kept stack
+      ∙ ap (option_or (segment_of_type type all.kept)) (stack-none all.added) ∙ or-none (segment_of_type type all.kept) in
+      by_found same (find-kept page_size olds all.kept type all.are_kept all.none_gone)
+    where
+      by_found : segment_of_type type news ≡ segment_of_type type all.kept → Found page_size olds all.kept type
+          → Found page_size olds news type
+      by_found same (Neither no_old none) = Neither no_old (same ∙ none)
+      by_found same (Both old p at_old at_p like) = Both old p at_old (same ∙ at_p) like
+
+-- ## The program headers of a plan
+
+-- the first one of a type: neither was read nor is written, or what is written became of the one that was read
+pub data SegmentAt (w : Writing) (is : IsWholeWriting w) (f : ReadFacts w) (type : ℕ) : Type 0 where
+  NoSegment : segment_of_type type f.parts.segments ≡ None → segment_of_type type w.image.segments ≡ None
+      → segment_of_type type w.plan.segments ≡ None
+      → SegmentAt w is f type
+  ASegment : (old p : SegmentHeader) → segment_of_type type f.parts.segments ≡ Some old → segment_of_type type w.image.segments ≡ Some p
+      → p ≡ as_kept w.image.page_size p.p_flags old
+      → segment_of_type type w.plan.segments ≡ Some (becomes (resized w.image) is.planned.moved p)
+      → SegmentAt w is f type
+
+pub segments_are : (w : Writing) (is : IsWholeWriting w) → w.plan.segments ≡ written_segments (resized w.image) is.planned.moved
+unfolding layout_for
+segments_are w is = ap (λ (l : Layout). l.segments) is.planned.follows
+
+pub all_places_are : (w : Writing) (is : IsWholeWriting w) → w.plan.places ≡ places (resized w.image) is.planned.moved
+unfolding layout_for
+all_places_are w is = ap (λ (l : Layout). l.places) is.planned.follows
+
+pub segment_at : (w : Writing) (is : IsWholeWriting w) (f : ReadFacts w) (type : ℕ) → (PT_LOAD == type) ≡ false
+    → (PT_GNU_STACK == type) ≡ false → SegmentAt w is f type
+segment_at w is f type no_load no_stack =
+    by_found (find-whole w.image.page_size type no_stack (image_at_read w.image).segments w.image.segments is.whole.segments)
+  where
+    were : segment_of_type type f.parts.segments ≡ segment_of_type type (image_at_read w.image).segments
+    were = sym (ap (segment_of_type type) f.holds.segments)
+
+    now : segment_of_type type w.plan.segments ≡ option_map (becomes (resized w.image) is.planned.moved)
+        (segment_of_type type w.image.segments)
+    now = ap (segment_of_type type) (segments_are w is) ∙ segment_written type no_load (resized w.image) is.planned.moved
+
+    by_found : Found w.image.page_size (image_at_read w.image).segments w.image.segments type → SegmentAt w is f type
+    by_found (Neither no_old none) = NoSegment (were ∙ no_old) none
+        (now ∙ ap (option_map (becomes (resized w.image) is.planned.moved)) none)
+    by_found (Both old p at_old at_p like) =
+        ASegment old p (were ∙ at_old) at_p like (now ∙ ap (option_map (becomes (resized w.image) is.planned.moved)) at_p)

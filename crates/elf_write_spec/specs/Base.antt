@@ -1,0 +1,68 @@
+-- What of the bytes that were read stays where it is.
+use Rattle.std.specs.Prelude.{ℕ, zero, suc, ◌+◌, List, [], ◌∷◌, map, filter, slice_index, Bool, true, false, ◌&&◌, not, nat_le, nat_lt, if◌then◌else◌}
+use Rattle.std.specs.List.{list_any}
+use Rattle.elf_format.specs.declared.range.Range.{Range}
+use Rattle.elf_format.specs.declared.section_data.SectionData.{SectionData}
+use Rattle.elf_format.specs.declared.section_data.SectionData.TheVariants as kinds
+use Rattle.elf_format.specs.File.{loads_of}
+use Rattle.elf_format.specs.Places.{file_range, occupies_file}
+use Rattle.elf_format.specs.Placement.{file_part}
+use Rattle.elf_format.specs.Ranges.{end_of, range}
+use Rattle.elf_format.specs.Records.{file_header_size}
+use Rattle.elf_layout_plan.specs.Follow.{is_loaded_section}
+use Rattle.elf_layout_plan.specs.Kept.{KeptSection, interpreter_number, is_numbered, kept_sections, place_at_read}
+use Rattle.elf_layout_plan.specs.Memory.{Resized, table_at_read}
+
+abbrev pub is_opaque : SectionData → Bool
+is_opaque kinds.Opaque = true
+is_opaque kinds.Uninitialized = false
+is_opaque kinds.Dynamic = false
+is_opaque kinds.Relocation = false
+is_opaque kinds.Note = false
+is_opaque kinds.Strings = false
+is_opaque kinds.Symbols = false
+is_opaque kinds.DynamicSymbols = false
+is_opaque kinds.Hash = false
+is_opaque kinds.GnuHash = false
+is_opaque kinds.GnuVersym = false
+is_opaque kinds.GnuVerdef = false
+is_opaque kinds.GnuVerneed = false
+
+abbrev pub is_interpreter : Resized → KeptSection → Bool
+is_interpreter r s = is_numbered (interpreter_number r.read) s
+
+-- Data of the program: it takes memory, and nothing but the program knows what it is. It stays where it is.
+abbrev pub is_data : Resized → KeptSection → Bool
+is_data r s = is_loaded_section s.section && is_opaque s.section.kind && not (is_interpreter r s)
+
+-- the section takes memory and bytes of the file, and is no data
+abbrev pub is_rewritten : Resized → KeptSection → Bool
+is_rewritten r s = is_loaded_section s.section && occupies_file (place_at_read s.section) && not (is_data r s)
+
+-- The old places of what is written anew: they are zeros, where nothing comes to stand in them.
+abbrev pub old_places : Resized → List Range
+old_places r =
+    range 0 (file_header_size r.image.form)
+    ∷ table_at_read r
+    ∷ map (λ s. file_range (place_at_read s.section)) (filter (is_rewritten r) (kept_sections r.image))
+
+abbrev pub has_position : ℕ → Range → Bool
+has_position position r = nat_le r.start position && nat_lt position (end_of r)
+
+-- a loaded segment that was read has the byte, and it isn't in an old place
+abbrev pub does_byte_stay : Resized → ℕ → Bool
+does_byte_stay r position =
+    list_any (λ p. has_position position (file_part p)) (loads_of r.read.segments)
+    && not (list_any (has_position position) (old_places r))
+
+abbrev pub base_byte : Resized → ℕ → ℕ
+base_byte r position = if does_byte_stay r position then slice_index r.image.source position else 0
+
+-- the values of a function at so many positions, from one on
+unfoldable pub values_from : (ℕ → ℕ) → ℕ → ℕ → List ℕ
+values_from f position zero = []
+values_from f position (suc count) = f position ∷ values_from f (position + 1) count
+
+-- The bytes over which headers, tables and contents are laid: what the read file's loaded segments had, zeros elsewhere.
+unfoldable pub base : Resized → ℕ → List ℕ
+base r size = values_from (base_byte r) 0 size

@@ -1,0 +1,130 @@
+-- The bytes of each section that is written.
+use Rattle.std.specs.Prelude.{ℕ, ◌-◌, ◌*◌, ◌≤◌, ◌≡◌, List, [], ◌∷◌, ◌++◌, length, replicate, true, Option, Some, IsTrue, ◌==◌, if◌then◌else◌, unwrap_or}
+use Rattle.std.specs.List.{flat_map, slice_get}
+use Rattle.patch_bytes.specs.Memory.{◌>>=◌, memory_of}
+use Rattle.elf_format.specs.declared.constants.TheConstants.{DT_GNU_HASH, DT_HASH, DT_STRSZ, DT_STRTAB, DT_SYMENT, DT_SYMTAB, DT_VERDEF, DT_VERDEFNUM, DT_VERNEED, DT_VERSYM, SHT_DYNSYM, SHT_GNU_HASH, SHT_GNU_VERDEF, SHT_GNU_VERNEED, SHT_GNU_VERSYM, SHT_HASH}
+use Rattle.elf_format.specs.declared.form.Form.{Form}
+use Rattle.elf_format.specs.declared.records.EntryNumbers.{EntryNumbers}
+use Rattle.elf_format.specs.declared.records.SymbolNumbers.{SymbolNumbers}
+use Rattle.elf_format.specs.declared.section_data.SectionData.TheVariants as kinds
+use Rattle.elf_format.specs.Dynamic.{Auto, Entry, Integer, Text}
+use Rattle.elf_format.specs.Image.{Image, entry_tag}
+use Rattle.elf_format.specs.Options.{list_at}
+use Rattle.elf_format.specs.Places.{Place}
+use Rattle.elf_format.specs.Records.{entry_size, symbol_size, symbols_in}
+use Rattle.elf_format.specs.Views.{NamedSymbol, Table, defined_versions, needed_versions}
+use Rattle.elf_tables.specs.Spelled.{spelled_entry}
+use Rattle.elf_layout_plan.specs.Kept.{KeptSection, dynamic_strings_number, kept_at_number, kept_of_type}
+use Rattle.elf_layout_plan.specs.Memory.{Resized}
+use Rattle.elf_layout_plan.specs.Plan.{Layout}
+use Rattle.elf_layout_plan.specs.Texts.{is_table_copied}
+use Rattle.elf_write_spec.specs.Base.{is_interpreter}
+use Rattle.elf_write_spec.specs.Final.{final}
+use Rattle.elf_write_spec.specs.Headers.{Reads}
+
+-- ## The dynamic list (gABI, Dynamic Section)
+
+-- where a section comes to stand
+abbrev pub place_of_kept : Layout → Option KeptSection → Option Place
+place_of_kept plan s = s >>= λ k. slice_get plan.places k.position
+
+abbrev pub address_of_type : Image → Layout → ℕ → ℕ
+address_of_type image plan type = unwrap_or (place_of_kept plan (kept_of_type type image) >>= λ p. Some p.sh_addr) 0
+
+-- where the dynamic strings come to stand
+abbrev pub strings_place : Image → Layout → Option Place
+strings_place image plan = place_of_kept plan (dynamic_strings_number image >>= λ number. kept_at_number number image)
+
+-- the value of a tag that follows from a table: where that stands, how long it is, how large its records are or how many there are
+abbrev pub table_value : Resized → Layout → ℕ → ℕ
+table_value r plan tag =
+    if tag == DT_STRTAB then unwrap_or (strings_place r.image plan >>= λ p. Some p.sh_addr) 0
+    else if tag == DT_STRSZ then unwrap_or (strings_place r.image plan >>= λ p. Some p.sh_size) 0
+    else if tag == DT_SYMTAB then address_of_type r.image plan SHT_DYNSYM
+    else if tag == DT_SYMENT then symbol_size r.image.form
+    else if tag == DT_HASH then address_of_type r.image plan SHT_HASH
+    else if tag == DT_GNU_HASH then address_of_type r.image plan SHT_GNU_HASH
+    else if tag == DT_VERSYM then address_of_type r.image plan SHT_GNU_VERSYM
+    else if tag == DT_VERDEF then address_of_type r.image plan SHT_GNU_VERDEF
+    else if tag == DT_VERDEFNUM then length r.image.definitions
+    else if tag == DT_VERNEED then address_of_type r.image plan SHT_GNU_VERNEED
+    else length (final r.read r.image).needs
+
+-- the value of an entry: a table's, a number of its own, or where its text stands
+abbrev pub IsValueOf : Resized → Layout → List ℕ → Entry → ℕ → Type 0
+IsValueOf r plan strings (Auto tag) value = value ≡ table_value r plan tag
+IsValueOf r plan strings (Integer tag number) value = value ≡ number
+IsValueOf r plan strings (Text tag text) value = Reads strings value text
+
+pub record IsEntryOf (r : Resized) (plan : Layout) (strings : List ℕ) (e : Entry) (raw : EntryNumbers) : Type 0 where
+  pub tag : raw.d_tag ≡ entry_tag e
+  pub value : IsValueOf r plan strings e raw.d_value
+
+-- one entry for each of the list, in their order
+abbrev pub AreEntriesOf : Resized → Layout → List ℕ → List Entry → List EntryNumbers → Type 0
+AreEntriesOf r plan strings [] [] = Unit {0}
+AreEntriesOf r plan strings [] (x ∷ xs) = ⊥
+AreEntriesOf r plan strings (e ∷ es) [] = ⊥
+AreEntriesOf r plan strings (e ∷ es) (x ∷ xs) = IsEntryOf r plan strings e x × AreEntriesOf r plan strings es xs
+
+-- the entries end to end, zeros behind them, which begin with a DT_NULL
+unfoldable pub spelled_list : Form → List EntryNumbers → ℕ → List ℕ
+spelled_list form raw size = flat_map (spelled_entry form) raw ++ replicate (size - length raw * entry_size form) 0
+
+-- ## Symbols (gABI, Symbol Table)
+
+pub record IsSymbolOf (strings : List ℕ) (y : NamedSymbol) (numbers : SymbolNumbers) : Type 0 where
+  pub name : Reads strings numbers.st_name y.name
+  pub st_info : numbers.st_info ≡ y.st_info
+  pub st_other : numbers.st_other ≡ y.st_other
+  pub st_shndx : numbers.st_shndx ≡ y.st_shndx
+  pub st_value : numbers.st_value ≡ y.st_value
+  pub st_size : numbers.st_size ≡ y.st_size
+
+-- one record for each symbol, in their order
+abbrev pub AreSymbolsOf : List ℕ → List NamedSymbol → List SymbolNumbers → Type 0
+AreSymbolsOf strings [] [] = Unit {0}
+AreSymbolsOf strings [] (n ∷ ns) = ⊥
+AreSymbolsOf strings (y ∷ ys) [] = ⊥
+AreSymbolsOf strings (y ∷ ys) (n ∷ ns) = IsSymbolOf strings y n × AreSymbolsOf strings ys ns
+
+-- ## Versions (GNU symbol versioning)
+
+-- records of versions in bytes, with their texts, so many of them
+abbrev pub table_in : List ℕ → List ℕ → ℕ → Table
+table_in bytes strings count = record { bytes = memory_of bytes; texts = memory_of strings; count = count }
+
+abbrev pub AreDefinitionsIn : Image → List ℕ → List ℕ → Type 0
+AreDefinitionsIn image strings bytes =
+    (room : ℕ) → length strings ≤ room
+    → defined_versions image.form room (table_in bytes strings (length image.definitions)) ≡ Some image.definitions
+
+abbrev pub AreNeedsIn : Resized → List ℕ → List ℕ → Type 0
+AreNeedsIn r strings bytes =
+    let needs = (final r.read r.image).needs in
+    (room : ℕ) → length strings ≤ room
+    → needed_versions r.image.form room (table_in bytes strings (length needs)) ≡ Some needs
+
+-- ## All of them
+
+-- the bytes of the section that was read at a number
+abbrev pub content_at_number : Image → List (List ℕ) → ℕ → List ℕ
+content_at_number image contents number = unwrap_or (kept_at_number number image >>= λ s. slice_get contents s.position) []
+
+-- What the bytes of a section show, by what they are. The list of entries and its numbers are handed in, and the bytes of the string
+-- table that the section links to. A string table is as it was read where no text of it was added or changed.
+abbrev pub IsContentByKind : Resized → Layout → List EntryNumbers → List ℕ → KeptSection → List ℕ → Type 0
+IsContentByKind r plan raw strings s bytes = elim s.section.kind [
+  | kinds.Dynamic ↦ AreEntriesOf r plan strings (list_at (λ es. es) (final r.read r.image).entries) raw × (bytes ≡ spelled_list r.image.form raw (length bytes))
+  | kinds.Strings ↦ IsTrue (is_table_copied r.read r.image s.number) → bytes ≡ s.section.content
+  | kinds.DynamicSymbols ↦ AreSymbolsOf strings (final r.read r.image).dynamic_symbols (symbols_in r.image.form bytes)
+  | kinds.GnuVerdef ↦ AreDefinitionsIn r.image strings bytes
+  | kinds.GnuVerneed ↦ AreNeedsIn r strings bytes
+  | _ ↦ bytes ≡ s.section.content
+]
+
+abbrev pub IsContent : Resized → Layout → List EntryNumbers → List ℕ → KeptSection → List ℕ → Type 0
+IsContent r plan raw strings s bytes = elim (is_interpreter r s) [
+  | true ↦ bytes ≡ list_at (λ name. name) r.image.interpreter
+  | _ ↦ IsContentByKind r plan raw strings s bytes
+]

@@ -1,0 +1,56 @@
+-- What is proved of written files.
+use Rattle.std.specs.Prelude.{ℕ, ◌*◌, ◌≡◌, List, [], ◌∷◌, ◌++◌, length, map, filter, Some, IsTrue}
+use Rattle.elf_format.specs.Image.{Image}
+use Rattle.elf_format.specs.Places.{file_range, occupies_file}
+use Rattle.elf_format.specs.declared.range.Range.{Range}
+use Rattle.elf_format.specs.Ranges.{all_apart, range}
+use Rattle.elf_format.specs.Records.{section_header_size}
+use Rattle.elf_format.specs.Views.{dynamic_symbol_count, loader_view, section_view}
+use Rattle.elf_image.specs.Edited.{IsEdited}
+use Rattle.elf_layout_plan.specs.FilePlaced.{written_headers}
+use Rattle.elf_layout_plan.specs.Kept.{image_at_read}
+use Rattle.elf_layout_plan.specs.Memory.{Resized}
+use Rattle.elf_layout_plan.specs.Plan.{IsPlan, Layout, resized}
+use Rattle.elf_write_spec.specs.Again.{HasWrittenParts, IsReadAgain}
+use Rattle.elf_write_spec.specs.Final.{final_view}
+use Rattle.elf_write_spec.specs.Stays.{AreHashesSeen, AreOthersSeen, IsDataSeen}
+use Rattle.elf_write_spec.specs.Writing.{AreHeadersApart, IsWholeWriting, Writing, written_bytes}
+
+-- the section header table
+abbrev pub section_table : Resized → Layout → List Range
+section_table r plan = range plan.e_shoff (length plan.places * section_header_size r.image.form) ∷ []
+
+-- In each plan of an edited image the file header, the two header tables and all sections with bytes in the file share no byte of it,
+-- if the file header and the program header table share none.
+abbrev pub PlansAreApartInFile : Type 0
+PlansAreApartInFile =
+    (image : Image) (plan : Layout) → IsEdited image → IsPlan (resized image) plan → AreHeadersApart image plan
+    → IsTrue (all_apart (written_headers (resized image) plan ++ section_table (resized image) plan ++ map file_range (filter occupies_file plan.places)))
+
+-- A written file has the parts that were written.
+abbrev pub WrittenFilesHaveParts : Type 0
+WrittenFilesHaveParts = (w : Writing) → IsWholeWriting w → HasWrittenParts w
+
+-- A written file is accepted, and reading it gives the image in its final form.
+abbrev pub WrittenFilesAreRead : Type 0
+WrittenFilesAreRead = (w : Writing) → IsWholeWriting w → IsReadAgain w
+
+-- What a file shows both ways: by its section headers, and to a loader that knows the program headers alone.
+pub record ShowsFinal (image : Image) (file : List ℕ) : Type 0 where
+  pub by_sections : section_view file ≡ Some (final_view (image_at_read image) image)
+  pub by_loader : loader_view file (dynamic_symbol_count file) ≡ Some (final_view (image_at_read image) image)
+
+-- A written file shows the edited lists, to a loader too.
+abbrev pub WrittenFilesShow : Type 0
+WrittenFilesShow = (w : Writing) → IsWholeWriting w → ShowsFinal w.image (written_bytes w)
+
+-- Data stands at its address in a written file, and so does every other byte that isn't written anew.
+abbrev pub WrittenFilesKeepData : Type 0
+WrittenFilesKeepData = (w : Writing) → IsWholeWriting w → IsDataSeen (resized w.image) w.plan (written_bytes w)
+
+abbrev pub WrittenFilesKeepOthers : Type 0
+WrittenFilesKeepOthers = (w : Writing) → IsWholeWriting w → AreOthersSeen (resized w.image) w.plan (written_bytes w)
+
+-- The hash tables of the dynamic symbols, as they were read, stand in a written file where the dynamic list says.
+abbrev pub WrittenFilesKeepHashes : Type 0
+WrittenFilesKeepHashes = (w : Writing) → IsWholeWriting w → AreHashesSeen w.image w.plan w.raw (written_bytes w)

@@ -1,5 +1,0 @@
-use Rattle.elf_written.proofs.ReadAgain.{written_files_are_read}
-use Rattle.elf_written.proofs.laws.written_files_are_read.Goals as goal
-
-pub returns : goal.returns
-returns c = written_files_are_read

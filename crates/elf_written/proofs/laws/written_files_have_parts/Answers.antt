@@ -1,5 +1,0 @@
-use Rattle.elf_written.proofs.FileParts.{written_files_have_parts}
-use Rattle.elf_written.proofs.laws.written_files_have_parts.Goals as goal
-
-pub returns : goal.returns
-returns c = written_files_have_parts

@@ -1,5 +1,0 @@
-use Rattle.elf_written.proofs.DataSeen.{written_files_keep_hashes}
-use Rattle.elf_written.proofs.laws.written_files_keep_hashes.Goals as goal
-
-pub returns : goal.returns
-returns c = written_files_keep_hashes

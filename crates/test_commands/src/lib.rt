@@ -1,0 +1,12 @@
+//! Tests of the commands that need a reader or a store of their own, or faults that no file has. What lines mean, what
+//! commands do to files and what is printed is shown by the cases of `test_cases`.
+#![tactic(auto)]
+
+#[cfg(test)]
+mod faults;
+#[cfg(test)]
+mod paths;
+#[cfg(test)]
+mod reading;
+#[cfg(test)]
+mod stores;

@@ -1,0 +1,116 @@
+//! A layout beside one that is found slowly.
+use elf_format::records::SegmentHeader;
+use elf_image::Builder;
+use elf_layout::{LayoutFault, Plan, SectionPlace, lay_out, sizes_of};
+use elf_layout_plan::read_again;
+use test_slow_layout::plain::{Piece, Plain, plain_of};
+use test_slow_layout::slow::{Found, Slow, lay_out_slowly};
+use test_slow_layout::standing::{Spot, spot_at};
+use std::alloc::{AllocError, Global};
+
+/// A section stands where it was found.
+fn is_place(place: &SectionPlace, part_type: u32, part_flags: u64, spot: &Spot) -> bool {
+    place.sh_type == part_type
+        && place.sh_flags == part_flags
+        && u128::from(place.sh_addr) == spot.address
+        && u128::from(place.sh_offset) == spot.offset
+        && u128::from(place.sh_size) == spot.size
+}
+
+fn are_places(plan: &Plan, plain: &Plain, slow: &Slow) -> bool {
+    if plan.places().len() != plain.parts.len() {
+        return false;
+    }
+    for part in &plain.parts {
+        let is_one = match (
+            plan.places().get(part.position),
+            spot_at(&slow.standing.spots, part.position),
+        ) {
+            (Some(place), Some(spot)) => is_place(place, part.sh_type, part.sh_flags, &spot),
+            _ => false,
+        };
+        if !is_one {
+            return false;
+        }
+    }
+    true
+}
+
+/// A program header is the one that was found.
+fn is_piece(p: &SegmentHeader, piece: &Piece) -> bool {
+    p.p_type == piece.p_type
+        && p.p_flags == piece.p_flags
+        && u128::from(p.p_offset) == piece.offset
+        && u128::from(p.p_vaddr) == piece.address
+        && u128::from(p.p_paddr) == piece.physical
+        && u128::from(p.p_filesz) == piece.in_file
+        && u128::from(p.p_memsz) == piece.in_memory
+        && u128::from(p.p_align) == piece.align
+}
+
+fn are_pieces(plan: &Plan, slow: &Slow) -> bool {
+    if plan.segments().len() != slow.pieces.len() {
+        return false;
+    }
+    for (p, piece) in plan.segments().iter().zip(slow.pieces.iter()) {
+        if !is_piece(p, piece) {
+            return false;
+        }
+    }
+    true
+}
+
+/// The first thing of a plan that was found otherwise, or `same`.
+fn difference(plan: &Plan, plain: &Plain, slow: &Slow) -> &'static str {
+    if plan.rounds() != slow.rounds {
+        "other rounds"
+    } else if plan.looked() != slow.looked {
+        "another number looked with"
+    } else if u128::from(plan.e_phoff()) != slow.standing.e_phoff {
+        "another e_phoff"
+    } else if u128::from(plan.e_shoff()) != slow.standing.e_shoff {
+        "another e_shoff"
+    } else if !are_places(plan, plain, slow) {
+        "other places"
+    } else if !are_pieces(plan, slow) {
+        "other program headers"
+    } else {
+        "same"
+    }
+}
+
+/// `same` where a layout is the one that was found slowly, or both are refused for the same fault.
+fn compared(plain: &Plain, laid: &Result<Plan, LayoutFault>, found: &Found) -> &'static str {
+    match (laid, found) {
+        (Ok(plan), Found::Plan(slow)) => difference(plan, plain, slow),
+        (Err(LayoutFault::Overlap), Found::Overlap) => "same",
+        (Err(LayoutFault::NumberTooLarge), Found::TooLarge) => "same",
+        (_, Found::Wrong) => "the slow way is wrong",
+        (Ok(_), _) => "a plan where there is none",
+        (Err(LayoutFault::Memory), _) => "no memory",
+        (Err(_), _) => "another fault",
+    }
+}
+
+/// Where sizes are refused, the layout is.
+fn refused(laid: &Result<Plan, LayoutFault>) -> &'static str {
+    match laid {
+        Err(LayoutFault::NumberTooLarge) => "same",
+        _ => "another answer where a size is too large",
+    }
+}
+
+/// Lays an image out both ways.
+pub(crate) fn compare(alloc: Global, image: &Builder<'_>) -> Result<&'static str, AllocError> {
+    let read = read_again(alloc, image)?;
+    let laid = lay_out(alloc, image);
+    match sizes_of(alloc, image) {
+        Ok(sizes) => {
+            let plain = plain_of(alloc, &read, image, &sizes)?;
+            let found = lay_out_slowly(alloc, &plain)?;
+            Ok(compared(&plain, &laid, &found))
+        }
+        Err(LayoutFault::Memory) => Ok("no memory for sizes"),
+        Err(_) => Ok(refused(&laid)),
+    }
+}

@@ -1,0 +1,271 @@
+//! Where everything stands once some sections move.
+ghost use Rattle.std.specs.Prelude.{◌≡◌, ◌==◌, find};
+
+use crate::blocks::table_load;
+use crate::following::{Leader, added_flags, count_moved, is_moved, leader_of};
+use crate::plain::{Part, Piece, Plain};
+use elf_format::constants::{EM_MIPS, PT_LOAD};
+use elf_layout_plan::constants::{
+    EM_AARCH64, EM_ALPHA, EM_IA_64, EM_LOONGARCH, EM_PPC, EM_PPC64, EM_SPARC, EM_SPARCV9, EM_TILEGX,
+};
+use std::alloc::{AllocError, Global};
+
+/// Where a section stands.
+#[derive(Clone, Copy)]
+pub struct Spot {
+    /// Its position among the sections of the edited image, from 0.
+    pub position: usize,
+    /// Where its bytes begin in the file.
+    pub offset: u128,
+    /// Its address.
+    pub address: u128,
+    /// Its size in bytes.
+    pub size: u128,
+}
+
+/// Where all of it stands.
+#[derive(Drop)]
+pub struct Standing {
+    pub(crate) loads: Vec<Piece>,
+    /// Where each section stands.
+    pub spots: Vec<Spot>,
+    /// Where the program header table begins in the file.
+    pub e_phoff: u128,
+    /// Where the section header table begins in the file.
+    pub e_shoff: u128,
+}
+
+/// The next multiple of a number.
+fn next_multiple(number: u128, of: u128) -> u128 {
+    if of == 0 {
+        return number;
+    }
+    let rest = number % of;
+    if rest == 0 {
+        number
+    } else {
+        number.saturating_add(of.saturating_sub(rest))
+    }
+}
+
+fn remainder(number: u128, of: u128) -> u128 {
+    if of == 0 { number } else { number % of }
+}
+
+/// The program header keeps its range, with so many program headers.
+fn keeps_range(
+    plain: &Plain,
+    moved: &[Part],
+    piece: &Piece,
+    leader: &Leader,
+    headers: u128,
+) -> bool {
+    match leader {
+        Leader::Itself => true,
+        Leader::HeaderTable => {
+            let size = headers.saturating_mul(plain.facts.program_header());
+            piece.in_file == size && piece.in_memory == piece.in_file
+        }
+        Leader::OneSection(part) => {
+            !is_moved(moved, part)
+                && part.is_loaded()
+                && part.offset == piece.offset
+                && part.address == piece.address
+                && part.size == piece.in_file
+        }
+        Leader::Notes(notes) => count_moved(moved, notes) == 0,
+    }
+}
+
+/// Where the file parts end that stay.
+fn kept_end(
+    alloc: Global,
+    plain: &Plain,
+    moved: &[Part],
+    headers: u128,
+) -> Result<u128, AllocError> {
+    let mut end = plain.facts.file_header();
+    for piece in &plain.pieces {
+        let leader = leader_of(alloc, plain, piece)?;
+        let is_inside = piece.file_end() <= plain.facts.source_size;
+        if is_inside && keeps_range(plain, moved, piece, &leader, headers) {
+            end = end.max(piece.file_end());
+        }
+    }
+    Ok(end)
+}
+
+/// Where memory ends.
+fn memory_end(plain: &Plain) -> u128 {
+    let mut end = 0;
+    for piece in &plain.pieces {
+        if piece.is_loaded() {
+            end = piece.memory_end().max(end);
+        }
+    }
+    for part in &plain.parts {
+        if part.takes_memory() && part.old != 0 {
+            end = part.address.saturating_add(part.old).max(end);
+        }
+    }
+    end
+}
+
+/// The pages of a machine, where nothing tells their size.
+fn default_page_size(machine: u16) -> u128 {
+    match machine {
+        EM_ALPHA | EM_IA_64 | EM_MIPS | EM_PPC | EM_PPC64 => 65536,
+        EM_AARCH64 | EM_TILEGX | EM_LOONGARCH => 65536,
+        EM_SPARC | EM_SPARCV9 => 8192,
+        _ => 4096,
+    }
+}
+
+/// The alignment of what is loaded.
+fn load_alignment(plain: &Plain) -> u128 {
+    if let Some(size) = plain.facts.page_size {
+        return size;
+    }
+    let mut found = 0;
+    for piece in &plain.read_pieces {
+        if piece.is_loaded() {
+            found = piece.align.max(found);
+        }
+    }
+    if found == 0 {
+        default_page_size(plain.facts.machine)
+    } else {
+        found
+    }
+}
+
+/// Puts the sections that need these flags one behind the other, from an offset and an address on.
+fn add_load(
+    standing: &mut Standing,
+    moved: &[Part],
+    align: u128,
+    p_flags: u32,
+    (start, address): (u128, u128),
+) -> Result<(u128, u128), AllocError> {
+    let (mut offset, mut at) = (start, address);
+    for part in moved {
+        if part.segment_flags() == p_flags {
+            let next = next_multiple(at, part.align);
+            offset = offset.saturating_add(next.saturating_sub(at));
+            standing.spots.push(Spot {
+                position: part.position,
+                offset,
+                address: next,
+                size: part.size,
+            })?;
+            offset = offset.saturating_add(part.size);
+            at = next.saturating_add(part.size);
+        }
+    }
+    let size = offset.saturating_sub(start);
+    standing.loads.push(Piece {
+        p_type: PT_LOAD,
+        p_flags,
+        offset: start,
+        address,
+        physical: address,
+        in_file: size,
+        in_memory: size,
+        align,
+    })?;
+    Ok((start.saturating_add(size), address.saturating_add(size)))
+}
+
+/// Puts the sections that aren't loaded one behind the other, and tells where the last one ends.
+fn add_loose(standing: &mut Standing, plain: &Plain, start: u128) -> Result<u128, AllocError> {
+    let mut end = start;
+    for part in &plain.parts {
+        let is_reserved = part.position == 0 && part.size == 0;
+        if part.is_in_file() && !part.is_loaded() && !is_reserved {
+            let offset = next_multiple(end, part.align);
+            let (position, address, size) = (part.position, part.address, part.size);
+            standing.spots.push(Spot {
+                position,
+                offset,
+                address,
+                size,
+            })?;
+            end = offset.saturating_add(part.size);
+        }
+    }
+    Ok(end)
+}
+
+/// Puts the other sections where they were.
+fn add_others(standing: &mut Standing, plain: &Plain, end: u128) -> Result<(), AllocError> {
+    for part in &plain.parts {
+        if spot_at(&standing.spots, part.position).is_none() {
+            let is_behind = part.is_in_file() && part.size == 0 && end < part.offset;
+            let offset = if is_behind { end } else { part.offset };
+            let (position, address, size) = (part.position, part.address, part.size);
+            standing.spots.push(Spot {
+                position,
+                offset,
+                address,
+                size,
+            })?;
+        }
+    }
+    Ok(())
+}
+
+/// Where the section at a position stands, by the first spot for it; `None` where there is none.
+pub fn spot_at(spots: &[Spot], position: usize) -> Option<Spot>
+    ensures { result ≡ find (λ s. s.position == position) spots.now }
+{
+    for spot in spots {
+        if spot.position == position {
+            return Some(*spot);
+        }
+    }
+    None
+}
+
+/// Adds the segments that the sections need that move, and tells where the last one ends in the file.
+fn add_loads(
+    alloc: Global,
+    standing: &mut Standing,
+    plain: &Plain,
+    moved: &[Part],
+    start: u128,
+) -> Result<u128, AllocError> {
+    let align = load_alignment(plain);
+    let (mut end, mut memory) = (start, memory_end(plain));
+    for flags in &added_flags(alloc, moved)? {
+        let address = next_multiple(memory, align).saturating_add(remainder(end, align));
+        (end, memory) = add_load(standing, moved, align, *flags, (end, address))?;
+    }
+    Ok(end)
+}
+
+/// Where everything stands once these sections move, with so many program headers.
+pub(crate) fn standing_of(
+    alloc: Global,
+    plain: &Plain,
+    moved: &[Part],
+    headers: usize,
+) -> Result<Standing, AllocError> {
+    let (loads, spots) = (Vec::new(alloc), Vec::new(alloc));
+    let mut standing = Standing {
+        loads,
+        spots,
+        e_phoff: plain.facts.e_phoff,
+        e_shoff: 0,
+    };
+    let kept = kept_end(alloc, plain, moved, headers as u128)?;
+    let mut end = add_loads(alloc, &mut standing, plain, moved, kept)?;
+    if table_load(plain).is_none() {
+        standing.e_phoff = next_multiple(end, plain.facts.word());
+        let size = (headers as u128).saturating_mul(plain.facts.program_header());
+        end = standing.e_phoff.saturating_add(size);
+    }
+    let end = add_loose(&mut standing, plain, end)?;
+    add_others(&mut standing, plain, end)?;
+    standing.e_shoff = next_multiple(end, plain.facts.word());
+    Ok(standing)
+}
