@@ -1,7 +1,7 @@
 -- What the parser of lines gives, at a line that is written out.
 use Rattle.std.proofs.Common.{refl, ◌≡◌, ◌∷◌, [], ◌+◌, ◌<◌, ℕ, Option, Some, None, Box, List, false, ap, ap₂, ◌∙◌, get_or, inl, inr, length, map, sym, take}
 use Rattle.std.proofs.lemmas.List.{map_push, take_more}
-use Rattle.command_words.specs.Rows.{row_shown}
+use Rattle.command_words.specs.Rows.{row_model}
 use Rattle.command_words.specs.declared.rows.Row.{Row as TableRow}
 use Rattle.std.specs.Option.{option_map}
 use Rattle.std.specs.Box.{box_value}
@@ -20,11 +20,11 @@ pub added : (old sub new : Command) (a s : App) → app_of old ≡ a → app_of 
 added old sub new a s old_is sub_is local h = h.shape local ∙ ap₂ with_subcommand old_is (ap (λ (app : App). app.top) sub_is)
 
 -- a row's command is added behind those before it
-pub with_row : (first : Text) (rows : List TableRow) (i : ℕ) (row : TableRow) (old new : Command) → i < length rows → app_of old ≡ line_app first (map row_shown (take i rows))
-    → app_of new ≡ with_subcommand (app_of old) (leaf_of (row_shown (get_or rows i row))) → app_of new ≡ line_app first (map row_shown (take (i + 1) rows))
+pub with_row : (first : Text) (rows : List TableRow) (i : ℕ) (row : TableRow) (old new : Command) → i < length rows → app_of old ≡ line_app first (map row_model (take i rows))
+    → app_of new ≡ with_subcommand (app_of old) (leaf_of (row_model (get_or rows i row))) → app_of new ≡ line_app first (map row_model (take (i + 1) rows))
 with_row first rows i row old new inside old_is adds =
-    adds ∙ ap (λ (a : App). with_subcommand a (leaf_of (row_shown (get_or rows i row)))) old_is ∙ line_app-push first (map row_shown (take i rows)) (row_shown (get_or rows i row))
-    ∙ ap (line_app first) (sym (map_push row_shown (take i rows) (get_or rows i row)) ∙ ap (map row_shown) (sym (take_more rows i row inside)))
+    adds ∙ ap (λ (a : App). with_subcommand a (leaf_of (row_model (get_or rows i row)))) old_is ∙ line_app-push first (map row_model (take i rows)) (row_model (get_or rows i row))
+    ∙ ap (line_app first) (sym (map_push row_model (take i rows) (get_or rows i row)) ∙ ap (map row_model) (sym (take_more rows i row inside)))
 
 module _ {Z : Type 0} where
   -- the name and the rows of the subcommand that was found

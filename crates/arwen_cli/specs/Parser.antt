@@ -13,7 +13,7 @@ use Rattle.clap.specs.Lexer.{usize_max}
 use Rattle.command_words.specs.Rows.{Given, Kind, Line, Named, Text, meant_with, named, named_of, options}
 use Rattle.command_words.specs.Rows.{path, path_alone, path_and_options, path_and_words, text}
 use Rattle.command_words.specs.Rows.{text_and_path, texts, texts_and_path, words}
-use Rattle.command_words.specs.Rows.{given_shown}
+use Rattle.command_words.specs.Rows.{given_model}
 use Rattle.command_words.specs.declared.rows.Values.{Values}
 use Rattle.std.specs.Borrow.{Bor}
 use Rattle.command_faults.specs.declared.error.ArwenError.{ArwenError}
@@ -193,8 +193,8 @@ RefusesNone app list error = is_simple_and_free app ≡ true → fault_of app li
 -- ---- what a parse by a table gives
 
 -- a name with values
-abbrev pub taken_shown : Bor Text × Values → Text × Given
-taken_shown taken = (taken.0.now, given_shown taken.1)
+abbrev pub taken_model : Bor Text × Values → Text × Given
+taken_model taken = (taken.0.now, given_model taken.1)
 
 -- where the parser takes the words and finds a command with its values, the error is want of memory
 abbrev pub MayRefuseValues : Text → List Named → List Text → ArwenError → Type 0

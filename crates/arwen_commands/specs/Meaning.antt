@@ -1,8 +1,8 @@
 -- What a command of either kind of file asks for.
 use Rattle.arwen_commands.specs.declared.command.Command.{Command}
 use Rattle.arwen_commands.specs.declared.command.Command.TheVariants.{Elf, Macho}
-use Rattle.elf_commands.specs.Meaning.{ElfMeaning, elf_shown}
-use Rattle.macho_commands.specs.Meaning.{MachoMeaning, macho_shown}
+use Rattle.elf_commands.specs.Meaning.{ElfMeaning, elf_command_model}
+use Rattle.macho_commands.specs.Meaning.{MachoMeaning, macho_command_model}
 
 -- what is asked for
 pub data Meaning : Type 0 where
@@ -11,5 +11,5 @@ pub data Meaning : Type 0 where
 
 -- what a value of the program stands for
 abbrev pub shown : Command → Meaning
-shown (Macho command) = of_macho (macho_shown command)
-shown (Elf command) = of_elf (elf_shown command)
+shown (Macho command) = of_macho (macho_command_model command)
+shown (Elf command) = of_elf (elf_command_model command)

@@ -4,7 +4,7 @@ use Rattle.std.proofs.lemmas.List.{drop_all}
 use Rattle.std.specs.Prelude.{Bool, true, false, if◌then◌else◌}
 use Rattle.elf_image.specs.declared.dynamic.Dynamic.{Dynamic}
 use Rattle.elf_image.specs.Dynamic.{Auto, Entry, Integer, Text}
-use Rattle.elf_image.specs.ImageSeen.{entry_kept}
+use Rattle.elf_image.specs.ImageModel.{entry_model}
 use Rattle.elf_image.specs.Options.{is_one_of}
 use Rattle.arwen_elf.specs.Reads.{first_of, text_if, texts_tagged}
 
@@ -36,38 +36,38 @@ texts_found tags e es text h = texts_tagged-cons tags e es ∙ ap (λ o. with_fi
 module _ (tags : List ℕ) (xs : List Dynamic) (i : ℕ) (x : Dynamic) where
   -- the texts from an entry on
   from_here : List (List ℕ)
-  from_here = texts_tagged tags (map entry_kept (drop i xs))
+  from_here = texts_tagged tags (map entry_model (drop i xs))
 
-  at_entry : i < length xs → x ≡ get_or xs i x → from_here ≡ texts_tagged tags (entry_kept x ∷ map entry_kept (drop (i + 1) xs))
+  at_entry : i < length xs → x ≡ get_or xs i x → from_here ≡ texts_tagged tags (entry_model x ∷ map entry_model (drop (i + 1) xs))
   unfolding from_here
   at_entry here e =
-      ap (λ ys. texts_tagged tags (map entry_kept ys)) (drop_here ∙ ap (λ y. y ∷ drop (i + 1) xs) (sym e))
+      ap (λ ys. texts_tagged tags (map entry_model ys)) (drop_here ∙ ap (λ y. y ∷ drop (i + 1) xs) (sym e))
     where
       drop_here : drop i xs ≡ get_or xs i x ∷ drop (i + 1) xs
       drop_here = rw (add-one, drop-cons xs i x)
 
-  pub goes_past : i < length xs → x ≡ get_or xs i x → text_if tags (entry_kept x) ≡ None → (all : List (List ℕ)) → texts_tagged tags (map entry_kept (drop i xs)) ≡ all → texts_tagged tags (map entry_kept (drop (i + 1) xs)) ≡ all
+  pub goes_past : i < length xs → x ≡ get_or xs i x → text_if tags (entry_model x) ≡ None → (all : List (List ℕ)) → texts_tagged tags (map entry_model (drop i xs)) ≡ all → texts_tagged tags (map entry_model (drop (i + 1) xs)) ≡ all
   unfolding from_here
-  goes_past here e none all h = sym (at_entry here e ∙ texts_missed tags (entry_kept x) (map entry_kept (drop (i + 1) xs)) none) ∙ h
+  goes_past here e none all h = sym (at_entry here e ∙ texts_missed tags (entry_model x) (map entry_model (drop (i + 1) xs)) none) ∙ h
 
-  pub first_found : i < length xs → x ≡ get_or xs i x → (text : List ℕ) → text_if tags (entry_kept x) ≡ Some text → (all : List (List ℕ)) → texts_tagged tags (map entry_kept (drop i xs)) ≡ all → Some text ≡ first_of all
+  pub first_found : i < length xs → x ≡ get_or xs i x → (text : List ℕ) → text_if tags (entry_model x) ≡ Some text → (all : List (List ℕ)) → texts_tagged tags (map entry_model (drop i xs)) ≡ all → Some text ≡ first_of all
   unfolding from_here
-  first_found here e text found all h = sym (ap first_of (sym h ∙ at_entry here e ∙ texts_found tags (entry_kept x) (map entry_kept (drop (i + 1) xs)) text found))
+  first_found here e text found all h = sym (ap first_of (sym h ∙ at_entry here e ∙ texts_found tags (entry_model x) (map entry_model (drop (i + 1) xs)) text found))
 
 -- no text is left behind the last entry
-pub none_found : (tags : List ℕ) (xs : List Dynamic) (i : ℕ) → length xs ≤ i → (all : List (List ℕ)) → texts_tagged tags (map entry_kept (drop i xs)) ≡ all → None ≡ first_of all
+pub none_found : (tags : List ℕ) (xs : List Dynamic) (i : ℕ) → length xs ≤ i → (all : List (List ℕ)) → texts_tagged tags (map entry_model (drop i xs)) ≡ all → None ≡ first_of all
 unfolding texts_tagged
 none_found tags xs i end all h =
-    let e : texts_tagged tags (map entry_kept (drop i xs)) ≡ [] = ap (λ ys. texts_tagged tags (map entry_kept ys)) (drop_all i xs end) in
+    let e : texts_tagged tags (map entry_model (drop i xs)) ≡ [] = ap (λ ys. texts_tagged tags (map entry_model ys)) (drop_all i xs end) in
     ap first_of (sym e ∙ h)
 
 -- the same of entries that are taken from the front of a list
-pub left_found : (tags : List ℕ) (xs behind : List Dynamic) (x : Dynamic) → xs ≡ x ∷ behind → (text : List ℕ) → text_if tags (entry_kept x) ≡ Some text → texts_tagged tags (map entry_kept xs) ≡ text ∷ texts_tagged tags (map entry_kept behind)
-left_found tags xs behind x e text found = ap (λ ys. texts_tagged tags (map entry_kept ys)) e ∙ texts_found tags (entry_kept x) (map entry_kept behind) text found
+pub left_found : (tags : List ℕ) (xs behind : List Dynamic) (x : Dynamic) → xs ≡ x ∷ behind → (text : List ℕ) → text_if tags (entry_model x) ≡ Some text → texts_tagged tags (map entry_model xs) ≡ text ∷ texts_tagged tags (map entry_model behind)
+left_found tags xs behind x e text found = ap (λ ys. texts_tagged tags (map entry_model ys)) e ∙ texts_found tags (entry_model x) (map entry_model behind) text found
 
-pub left_missed : (tags : List ℕ) (xs behind : List Dynamic) (x : Dynamic) → xs ≡ x ∷ behind → text_if tags (entry_kept x) ≡ None → texts_tagged tags (map entry_kept behind) ≡ texts_tagged tags (map entry_kept xs)
-left_missed tags xs behind x e none = sym (ap (λ ys. texts_tagged tags (map entry_kept ys)) e ∙ texts_missed tags (entry_kept x) (map entry_kept behind) none)
+pub left_missed : (tags : List ℕ) (xs behind : List Dynamic) (x : Dynamic) → xs ≡ x ∷ behind → text_if tags (entry_model x) ≡ None → texts_tagged tags (map entry_model behind) ≡ texts_tagged tags (map entry_model xs)
+left_missed tags xs behind x e none = sym (ap (λ ys. texts_tagged tags (map entry_model ys)) e ∙ texts_missed tags (entry_model x) (map entry_model behind) none)
 
-pub left_none : (tags : List ℕ) (xs : List Dynamic) → xs ≡ [] → texts_tagged tags (map entry_kept xs) ≡ []
+pub left_none : (tags : List ℕ) (xs : List Dynamic) → xs ≡ [] → texts_tagged tags (map entry_model xs) ≡ []
 unfolding texts_tagged
-left_none tags xs e = ap (λ ys. texts_tagged tags (map entry_kept ys)) e
+left_none tags xs e = ap (λ ys. texts_tagged tags (map entry_model ys)) e

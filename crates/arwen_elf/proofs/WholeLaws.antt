@@ -6,7 +6,7 @@ use Rattle.std.proofs.lemmas.List.{append-nil, length-map, map-append}
 use Rattle.elf_format.specs.declared.constants.TheConstants.{PT_GNU_STACK, PT_LOAD}
 use Rattle.elf_format.specs.declared.fault.ElfFault.{ElfFault}
 use Rattle.elf_format.specs.declared.records.SegmentHeader.{SegmentHeader}
-use Rattle.elf_image.specs.Edited.{AreKept, CanGo, as_kept}
+use Rattle.elf_image.specs.Edited.{AreKept, CanGo, kept_segment}
 use Rattle.elf_image.specs.Image.{Image, image_of}
 use Rattle.elf_image.specs.Segments.{added_stack}
 use Rattle.elf_image.proofs.ReadImageLaws.{read_images_hold_parts}
@@ -15,7 +15,7 @@ use Rattle.elf_edits.specs.Cause.{Cause, cause}
 use Rattle.elf_edits.specs.declared.constants.TheConstants.{STACK_FLAGS}
 use Rattle.elf_edits.specs.Edit.{AddDebugEntry, AddNeeded, AddRunPath, ClearExecStack, DeleteNeeded, DeleteRunPath, Edit, NoDefaultLibrary, ReplaceNeeded, SetExecStack, SetInterpreter, SetOsAbi, SetPageSize, SetRunPath, SetSoname, ShrinkRunPath, UseRpath, UseRunpath}
 use Rattle.elf_edits.specs.Edited.{edited_image, edited_interpreter, edited_page_size, edited_segments, step, with_align, with_load_align, with_run, with_stack_changed, without_run}
-use Rattle.elf_layout_plan.specs.Kept.{image_at_read}
+use Rattle.elf_image.specs.Kept.{image_at_read}
 use Rattle.elf_write_spec.specs.Whole.{AreAllKept, IsWhole}
 use Rattle.elf_apply.specs.declared.batch.ElfBatchError.{ElfBatchError}
 use Rattle.elf_apply.specs.declared.error.ElfError.{ElfError}
@@ -30,10 +30,10 @@ either_again true n x y = refl
 either_again false n x y = refl
 
 -- an aligned program header is as it is kept under that page size
-aligned_as : (old p : SegmentHeader) (size : Option ℕ) (n : ℕ) → p ≡ as_kept size p.p_flags old → with_align n p ≡ as_kept (Some n) p.p_flags old
+aligned_as : (old p : SegmentHeader) (size : Option ℕ) (n : ℕ) → p ≡ kept_segment size p.p_flags old → with_align n p ≡ kept_segment (Some n) p.p_flags old
 aligned_as old p size n is =
     ap (with_align n) is
-    ∙ ap (λ (a : ℕ). record (as_kept size p.p_flags old) { p_align = a }) (either_again (old.p_type == PT_LOAD) n (unwrap_or size old.p_align) old.p_align)
+    ∙ ap (λ (a : ℕ). record (kept_segment size p.p_flags old) { p_align = a }) (either_again (old.p_type == PT_LOAD) n (unwrap_or size old.p_align) old.p_align)
 
 aligned_kept : (size : Option ℕ) (n : ℕ) (olds ps : List SegmentHeader) → AreKept size olds ps → AreKept (Some n) olds (with_load_align n ps)
 aligned_kept size n [] [] h = tt
@@ -63,11 +63,11 @@ aligned_stay size n read now h = record {
 -- ## The stack
 
 -- a stack's program header with other flags is as it is kept
-flagged_as : (old p : SegmentHeader) (size : Option ℕ) (flags : ℕ) → (p.p_type == PT_GNU_STACK) ≡ true → p ≡ as_kept size p.p_flags old → record p { p_flags = flags } ≡ as_kept size flags old
+flagged_as : (old p : SegmentHeader) (size : Option ℕ) (flags : ℕ) → (p.p_type == PT_GNU_STACK) ≡ true → p ≡ kept_segment size p.p_flags old → record p { p_flags = flags } ≡ kept_segment size flags old
 flagged_as old p size flags stack is =
     let typed : (old.p_type == PT_GNU_STACK) ≡ true = ap (λ (q : SegmentHeader). q.p_type == PT_GNU_STACK) (sym is) ∙ stack in
     ap (λ (q : SegmentHeader). record q { p_flags = flags }) is
-    ∙ ap (λ b. record (as_kept size p.p_flags old) { p_flags = if b then flags else old.p_flags }) (sym typed)
+    ∙ ap (λ b. record (kept_segment size p.p_flags old) { p_flags = if b then flags else old.p_flags }) (sym typed)
 
 gone_kept : (size : Option ℕ) (old : SegmentHeader) (olds ps : List SegmentHeader) → CanGo old → AreKept size olds ps → AreKept size (old ∷ olds) ps
 gone_kept size old olds [] go h = (go, h)
@@ -92,7 +92,7 @@ unfolding with_stack_changed
 flags-by change p ps b h = ap (λ c. if c then record p { p_flags = change p.p_flags } ∷ ps else p ∷ with_stack_changed change ps) h
 
 flagged_same : (size : Option ℕ) (change : ℕ → ℕ) (old : SegmentHeader) (olds : List SegmentHeader) (p : SegmentHeader) (ps : List SegmentHeader) (o : Option ℕ) (b : Bool) → (p.p_type == PT_GNU_STACK) ≡ b
-    → p ≡ as_kept size p.p_flags old → AreKept size olds ps → Flagged size change olds ps o → Flagged size change (old ∷ olds) (p ∷ ps) o
+    → p ≡ kept_segment size p.p_flags old → AreKept size olds ps → Flagged size change olds ps o → Flagged size change (old ∷ olds) (p ∷ ps) o
 flagged_same size change old olds p ps o true stack is kept more = record {
   kept = record p { p_flags = change p.p_flags } ∷ ps;
   added = o;
@@ -227,7 +227,7 @@ same_either : (b : Bool) (n : ℕ) → n ≡ (if b then n else n)
 same_either true n = refl
 same_either false n = refl
 
-kept_itself : (p : SegmentHeader) → p ≡ as_kept None p.p_flags p
+kept_itself : (p : SegmentHeader) → p ≡ kept_segment None p.p_flags p
 kept_itself p =
     ap (λ n. record p { p_flags = n }) (same_either (p.p_type == PT_GNU_STACK) p.p_flags)
     ∙ ap (λ n. record p { p_flags = if p.p_type == PT_GNU_STACK then p.p_flags else p.p_flags; p_align = n }) (same_either (p.p_type == PT_LOAD) p.p_align)

@@ -1,5 +1,5 @@
 pub mod Reads
-pub mod WriterSeen
+pub mod WriterModel
 pub mod Held
 pub mod PageSizes
 pub mod Prints

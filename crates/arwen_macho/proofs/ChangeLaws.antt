@@ -12,7 +12,7 @@ use Rattle.macho_image.specs.Prepared.{IsMadeFor}
 use Rattle.macho_image.proofs.ForCallers.{area_fault-concat, cut-concat, found, length-cut}
 use Rattle.arwen_macho.specs.declared.change.Change.{Change}
 use Rattle.arwen_macho.specs.Change.{IsChangeOf, changed_file, list_of}
-use Rattle.macho_edits.specs.Held.{Held, image_held}
+use Rattle.macho_edits.specs.Held.{Held, image_model}
 use Rattle.macho_edits.specs.State.{State, available, end_of, laid_bytes}
 use Rattle.macho_edits.specs.Whole.{IsState, IsWhole, KeepsContents}
 use Rattle.arwen_macho.proofs.StateLaws.{available-le, counted, laid_shows, next_is, relaid}
@@ -70,7 +70,7 @@ available_shown s is =
     omega arith
 
 -- a list that is kept, with its counts, is a change where it ends in time
-pub change_of : (held : Held) (commands : List (List ℕ)) (change : Change) → IsMadeFor (image_held held) (length commands) (concat commands) change.prepared → KeepsContents (ctx_of held.state.old).le held.state.list commands → end_of (ctx_of held.state.old) commands ≤ available held.state → change.high ≡ max held.state.high (end_of (ctx_of held.state.old) commands) → IsChangeOf held change × (list_of held change ≡ commands)
+pub change_of : (held : Held) (commands : List (List ℕ)) (change : Change) → IsMadeFor (image_model held) (length commands) (concat commands) change.prepared → KeepsContents (ctx_of held.state.old).le held.state.list commands → end_of (ctx_of held.state.old) commands ≤ available held.state → change.high ≡ max held.state.high (end_of (ctx_of held.state.old) commands) → IsChangeOf held change × (list_of held change ≡ commands)
 change_of held commands change made keeps room high =
     let list : list_of held change ≡ commands =
     ap (λ (n : ℕ). cut_commands (ctx_of held.state.old).le n change.prepared.area) made.same_count

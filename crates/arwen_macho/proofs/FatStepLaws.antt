@@ -23,7 +23,7 @@ use Rattle.arwen_macho.proofs.ChangeLaws.{changed_is}
 use Rattle.arwen_macho.proofs.StateLaws.{first_is, first_laid, laid_shows}
 use Rattle.arwen_macho.specs.FatChange.{changed_slice, changed_slices, held_slice}
 use Rattle.arwen_macho.specs.FatHeld.{IsFatState}
-use Rattle.arwen_macho.specs.FatSlice.{HeldSlice, IsReadyIn, IsStepIn, changed_macho, changed_machos, slice_held}
+use Rattle.arwen_macho.specs.FatSlice.{HeldSlice, IsReadyIn, IsStepIn, changed_macho, changed_machos, slice_model}
 use Rattle.arwen_macho.proofs.FatLaws.{accepted_parts, none_first, slice_accepted}
 use Rattle.arwen_macho.proofs.SliceLaws.{AreLaid}
 use Rattle.macho_image.proofs.ForCallers.{table_passes}
@@ -36,13 +36,13 @@ AllZip_push R (a ∷ xs) [] x y all here = absurd all
 AllZip_push R (a ∷ xs) (b ∷ ys) x y all here = (all.0, AllZip_push R xs ys x y all.1 here)
 
 -- changes that do what the calls do are the step of the slices
-pub step_all : (calls : List Call) (slices : List HeldSlice) (changes : List Change) → AllZip (IsStepIn calls) slices changes → step_slices calls (map slice_held slices) ≡ Ok (map slice_held (changed_machos slices changes))
+pub step_all : (calls : List Call) (slices : List HeldSlice) (changes : List Change) → AllZip (IsStepIn calls) slices changes → step_slices calls (map slice_model slices) ≡ Ok (map slice_model (changed_machos slices changes))
 step_all calls [] [] steps = refl
 step_all calls [] (change ∷ changes) steps = absurd steps
 step_all calls (m ∷ slices) [] steps = absurd steps
 step_all calls (m ∷ slices) (change ∷ changes) steps =
-    ap (λ (r : Result State Refusal). joined_step (slice_held m) r (step_slices calls (map slice_held slices))) steps.0.steps
-    ∙ ap (joined_step (slice_held m) (Ok (changed_file m.inner change).state)) (step_all calls slices changes steps.1)
+    ap (λ (r : Result State Refusal). joined_step (slice_model m) r (step_slices calls (map slice_model slices))) steps.0.steps
+    ∙ ap (joined_step (slice_model m) (Ok (changed_file m.inner change).state)) (step_all calls slices changes steps.1)
 
 -- a slice that refuses behind slices that don't refuses the step
 refused_here : (s : Slice) (Q : Refusal → Type 0) (answer : Result State Refusal) (rest : Result (List Slice) Refusal) → IsErrAnd answer Q → IsErrAnd (joined_step s answer rest) Q
@@ -53,14 +53,14 @@ refused_behind : (s : Slice) (state : State) (Q : Refusal → Type 0) (rest : Re
 refused_behind s state Q (Ok slices) refuses = absurd refuses
 refused_behind s state Q (Err refusal) refuses = refuses
 
-refused_at : (calls : List Call) (Q : Refusal → Type 0) (front : List HeldSlice) (changes : List Change) (m : HeldSlice) (rest : List HeldSlice) → AllZip (IsStepIn calls) front changes → IsErrAnd (step calls m.inner.state) Q → IsErrAnd (step_slices calls (map slice_held (front ++ m ∷ rest))) Q
+refused_at : (calls : List Call) (Q : Refusal → Type 0) (front : List HeldSlice) (changes : List Change) (m : HeldSlice) (rest : List HeldSlice) → AllZip (IsStepIn calls) front changes → IsErrAnd (step calls m.inner.state) Q → IsErrAnd (step_slices calls (map slice_model (front ++ m ∷ rest))) Q
 refused_at calls Q [] changes m rest steps refuses =
-    refused_here (slice_held m) Q (step calls m.inner.state) (step_slices calls (map slice_held rest)) refuses
+    refused_here (slice_model m) Q (step calls m.inner.state) (step_slices calls (map slice_model rest)) refuses
 refused_at calls Q (n ∷ front) [] m rest steps refuses = absurd steps
 refused_at calls Q (n ∷ front) (change ∷ changes) m rest steps refuses =
-    let P : Result State Refusal → Type 0 = λ r. IsErrAnd (joined_step (slice_held n) r (step_slices calls (map slice_held (front ++ m ∷ rest)))) Q in
+    let P : Result State Refusal → Type 0 = λ r. IsErrAnd (joined_step (slice_model n) r (step_slices calls (map slice_model (front ++ m ∷ rest)))) Q in
     subst P (sym steps.0.steps)
-    (refused_behind (slice_held n) (changed_file n.inner change).state Q (step_slices calls (map slice_held (front ++ m ∷ rest))) (refused_at calls Q front changes m rest steps.1 refuses))
+    (refused_behind (slice_model n) (changed_file n.inner change).state Q (step_slices calls (map slice_model (front ++ m ∷ rest))) (refused_at calls Q front changes m rest steps.1 refuses))
 
 is_err_and : {X : Type 0} (answer : Result X Refusal) (refusal : Refusal) → answer ≡ Err refusal → IsErrAnd answer (λ r. r ≡ refusal)
 is_err_and (Ok x) refusal e = absurd (cc)
@@ -70,11 +70,11 @@ err_is : {X : Type 0} (answer : Result X Refusal) (refusal : Refusal) → IsErrA
 err_is (Ok x) refusal is = absurd is
 err_is (Err r) refusal is = ap (λ (r : Refusal). Err r) is
 
-pub refuses_batch : (calls : List Call) (index : ℕ) (found : Option Cause) (front : List HeldSlice) (changes : List Change) (m : HeldSlice) (rest : List HeldSlice) → AllZip (IsStepIn calls) front changes → RefusesAt index found (step calls m.inner.state) → RefusesAt index found (step_slices calls (map slice_held (front ++ m ∷ rest)))
+pub refuses_batch : (calls : List Call) (index : ℕ) (found : Option Cause) (front : List HeldSlice) (changes : List Change) (m : HeldSlice) (rest : List HeldSlice) → AllZip (IsStepIn calls) front changes → RefusesAt index found (step calls m.inner.state) → RefusesAt index found (step_slices calls (map slice_model (front ++ m ∷ rest)))
 refuses_batch calls index None front changes m rest steps refuses = tt
 refuses_batch calls index (Some cause) front changes m rest steps refuses =
     let refusal : Refusal = record { index = index; cause = cause } in
-    err_is (step_slices calls (map slice_held (front ++ m ∷ rest))) refusal
+    err_is (step_slices calls (map slice_model (front ++ m ∷ rest))) refusal
     (refused_at calls (λ r. r ≡ refusal) front changes m rest steps (is_err_and (step calls m.inner.state) refusal refuses))
 
 -- the step of a fat file, by that of its slices
@@ -99,7 +99,7 @@ pub fat_step-nil : (s : FatState) → ((s : State) → IsState s → step [] s �
 fat_step-nil s none is = fat_step_ok [] s s.slices (steps-nil s.old s.slices none is.slices)
 
 -- the changes as callers see them, and as the fields hold them
-pub changes_shown : (calls : List Call) (is_edited : Bool) (slices : List HeldSlice) (changes : List Change) → All (λ m. m.inner.is_edited ≡ is_edited) slices → AllZip (IsStepIn calls) slices changes → AllZip (λ s change. IsChangeOf (held_slice is_edited s) change) (map slice_held slices) changes
+pub changes_shown : (calls : List Call) (is_edited : Bool) (slices : List HeldSlice) (changes : List Change) → All (λ m. m.inner.is_edited ≡ is_edited) slices → AllZip (IsStepIn calls) slices changes → AllZip (λ s change. IsChangeOf (held_slice is_edited s) change) (map slice_model slices) changes
 changes_shown calls is_edited [] [] copies steps = tt
 changes_shown calls is_edited [] (change ∷ changes) copies steps = absurd steps
 changes_shown calls is_edited (m ∷ slices) [] copies steps = absurd steps
@@ -108,26 +108,26 @@ changes_shown calls is_edited (m ∷ slices) (change ∷ changes) copies steps =
     let P : Bool → Type 0 = λ e. IsChangeOf (record { state = m.inner.state; is_edited = e }) change in
     (subst P here steps.0.of, changes_shown calls is_edited slices changes (All-tail (λ (m : HeldSlice). m.inner.is_edited ≡ is_edited) m slices copies) steps.1)
 
-pub changes_ready : (old : List ℕ) (len : ℕ) (is_edited : Bool) (slices : List HeldSlice) (changes : List Change) → All (λ m. m.inner.is_edited ≡ is_edited) slices → All (IsSlice old) (map slice_held slices) → AreLaid len (map slice_held slices) → AllZip (λ s change. IsChangeOf (held_slice is_edited s) change) (map slice_held slices) changes → AllZip (IsReadyIn len) slices changes
+pub changes_ready : (old : List ℕ) (len : ℕ) (is_edited : Bool) (slices : List HeldSlice) (changes : List Change) → All (λ m. m.inner.is_edited ≡ is_edited) slices → All (IsSlice old) (map slice_model slices) → AreLaid len (map slice_model slices) → AllZip (λ s change. IsChangeOf (held_slice is_edited s) change) (map slice_model slices) changes → AllZip (IsReadyIn len) slices changes
 changes_ready old len is_edited [] [] copies are lie of = tt
 changes_ready old len is_edited [] (change ∷ changes) copies are lie of = absurd of
 changes_ready old len is_edited (m ∷ slices) [] copies are lie of = absurd of
 changes_ready old len is_edited (m ∷ slices) (change ∷ changes) copies are lie of =
-    let rest : List Slice = map slice_held slices in
-    let is : IsSlice old (slice_held m) = All-head (IsSlice old) (slice_held m) rest are in
+    let rest : List Slice = map slice_model slices in
+    let is : IsSlice old (slice_model m) = All-head (IsSlice old) (slice_model m) rest are in
     let same : m.inner.is_edited ≡ is_edited = All-head (λ (m : HeldSlice). m.inner.is_edited ≡ is_edited) m slices copies in
     let P : Bool → Type 0 = λ e. IsChangeOf (record { state = m.inner.state; is_edited = e }) change in
     let inside = lie.0.inside in
     let sized : length (laid_bytes m.inner.state) ≡ m.arch.size = lie.0.long in
     let long : length (laid_bytes m.inner.state) ≡ length m.inner.state.old = (laid_shows m.inner.state is.is_state).long in (
       record { of = subst P (sym same) of.0; is_state = is.is_state; inside = omega arith },
-      changes_ready old len is_edited slices changes (All-tail (λ (m : HeldSlice). m.inner.is_edited ≡ is_edited) m slices copies) (All-tail (IsSlice old) (slice_held m) rest are) lie.1.1 of.1,
+      changes_ready old len is_edited slices changes (All-tail (λ (m : HeldSlice). m.inner.is_edited ≡ is_edited) m slices copies) (All-tail (IsSlice old) (slice_model m) rest are) lie.1.1 of.1,
     )
 
-pub changed_shown : (slices : List HeldSlice) (changes : List Change) → map slice_held (changed_machos slices changes) ≡ changed_slices (map slice_held slices) changes
+pub changed_shown : (slices : List HeldSlice) (changes : List Change) → map slice_model (changed_machos slices changes) ≡ changed_slices (map slice_model slices) changes
 changed_shown [] changes = refl
 changed_shown (m ∷ slices) [] = refl
-changed_shown (m ∷ slices) (change ∷ changes) = ap (λ (rest : List Slice). changed_slice (slice_held m) change ∷ rest) (changed_shown slices changes)
+changed_shown (m ∷ slices) (change ∷ changes) = ap (λ (rest : List Slice). changed_slice (slice_model m) change ∷ rest) (changed_shown slices changes)
 
 -- after all changes every slice's bytes are a copy
 pub copies_changed : (len : ℕ) (slices : List HeldSlice) (changes : List Change) → AllZip (IsReadyIn len) slices changes → All (λ m. m.inner.is_edited ≡ true) (changed_machos slices changes)
@@ -137,22 +137,22 @@ copies_changed len (m ∷ slices) (change ∷ changes) ready =
     All-cons (λ (m : HeldSlice). m.inner.is_edited ≡ true) (changed_macho m change) (changed_machos slices changes) refl (copies_changed len slices changes ready.1)
 
 -- the state with its changes carried out
-archs_changed : (slices : List HeldSlice) (changes : List Change) → map (λ s. s.arch) (map slice_held (changed_machos slices changes)) ≡ map (λ s. s.arch) (map slice_held slices)
+archs_changed : (slices : List HeldSlice) (changes : List Change) → map (λ s. s.arch) (map slice_model (changed_machos slices changes)) ≡ map (λ s. s.arch) (map slice_model slices)
 archs_changed [] changes = refl
 archs_changed (m ∷ slices) [] = refl
 archs_changed (m ∷ slices) (change ∷ changes) = ap (λ (archs : List FatArch). m.arch ∷ archs) (archs_changed slices changes)
 
-slices_changed : (old : List ℕ) (len : ℕ) (slices : List HeldSlice) (changes : List Change) → All (IsSlice old) (map slice_held slices) → AllZip (IsReadyIn len) slices changes → All (IsSlice old) (map slice_held (changed_machos slices changes))
+slices_changed : (old : List ℕ) (len : ℕ) (slices : List HeldSlice) (changes : List Change) → All (IsSlice old) (map slice_model slices) → AllZip (IsReadyIn len) slices changes → All (IsSlice old) (map slice_model (changed_machos slices changes))
 slices_changed old len [] changes are ready = All-nil (IsSlice old)
 slices_changed old len (m ∷ slices) [] are ready = are
 slices_changed old len (m ∷ slices) (change ∷ changes) are ready =
-    let rest : List Slice = map slice_held slices in
-    let is : IsSlice old (slice_held m) = All-head (IsSlice old) (slice_held m) rest are in
-    All-cons (IsSlice old) (slice_held (changed_macho m change)) (map slice_held (changed_machos slices changes))
+    let rest : List Slice = map slice_model slices in
+    let is : IsSlice old (slice_model m) = All-head (IsSlice old) (slice_model m) rest are in
+    All-cons (IsSlice old) (slice_model (changed_macho m change)) (map slice_model (changed_machos slices changes))
     (record { from = is.from; is_state = changed_is m.inner change is.is_state ready.0.of })
-    (slices_changed old len slices changes (All-tail (IsSlice old) (slice_held m) rest are) ready.1)
+    (slices_changed old len slices changes (All-tail (IsSlice old) (slice_model m) rest are) ready.1)
 
-pub fat_changed_is : (old : List ℕ) (len : ℕ) (slices : List HeldSlice) (changes : List Change) → IsFatState (record { old = old; slices = map slice_held slices }) → AllZip (IsReadyIn len) slices changes → IsFatState (record { old = old; slices = map slice_held (changed_machos slices changes) })
+pub fat_changed_is : (old : List ℕ) (len : ℕ) (slices : List HeldSlice) (changes : List Change) → IsFatState (record { old = old; slices = map slice_model slices }) → AllZip (IsReadyIn len) slices changes → IsFatState (record { old = old; slices = map slice_model (changed_machos slices changes) })
 fat_changed_is old len slices changes is ready = record {
   accepted = is.accepted;
   archs = archs_changed slices changes ∙ is.archs;

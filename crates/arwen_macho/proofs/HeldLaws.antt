@@ -11,7 +11,7 @@ use Rattle.patch_bytes.specs.Bytes.{AreBytes}
 use Rattle.arwen_macho.specs.declared.change.Change.{Change}
 use Rattle.arwen_macho.specs.declared.macho.SingleMachO.TheInside.{Inside}
 use Rattle.arwen_macho.specs.Change.{IsChangeOf, changed_file}
-use Rattle.macho_edits.specs.Held.{Held, first_held}
+use Rattle.macho_edits.specs.Held.{Held, held_at_read}
 use Rattle.arwen_macho.specs.HeldBy.{IsHeld, held_of}
 use Rattle.macho_edits.specs.State.{available, end_of, first_state, laid_bytes}
 use Rattle.macho_edits.specs.Whole.{IsState}
@@ -44,16 +44,16 @@ changed_fields s change new is of stored =
     (same, is_held (with_image s new change.high) (changed_file (held_of s) change) same (changed_is (held_of s) change is.is_state of) bytes)
 
 -- a file as it is parsed
-pub first_fields : (s : Inside) → file_fault s.source.now ≡ None → AreBytes s.source.now → s.inner ≡ record { bytes = s.source.now; is_edited = false } → s.high ≡ commands_end (ctx_of s.source.now) s.source.now → (held_of s ≡ first_held s.source.now) × IsHeld s
+pub first_fields : (s : Inside) → file_fault s.source.now ≡ None → AreBytes s.source.now → s.inner ≡ record { bytes = s.source.now; is_edited = false } → s.high ≡ commands_end (ctx_of s.source.now) s.source.now → (held_of s ≡ held_at_read s.source.now) × IsHeld s
 unfolding first_state
 first_fields s accepted are parsed high =
     let bytes : s.inner.bytes ≡ s.source.now = ap (λ (i : Image). i.bytes) parsed in
     let edited : s.inner.is_edited ≡ false = ap (λ (i : Image). i.is_edited) parsed in
-    let same : held_of s ≡ first_held s.source.now =
+    let same : held_of s ≡ held_at_read s.source.now =
     ap (λ (e : Bool). record { state = record { old = s.source.now; list = commands_of s.inner.bytes; high = s.high }; is_edited = e }) edited
     ∙ ap (λ (b : List ℕ). record { state = record { old = s.source.now; list = commands_of b; high = s.high }; is_edited = false }) bytes
     ∙ ap (λ (n : ℕ). record { state = record { old = s.source.now; list = commands_of s.source.now; high = n }; is_edited = false }) high in
-    (same, is_held s (first_held s.source.now) same (first_is s.source.now accepted are) (bytes ∙ sym (first_laid s.source.now accepted are)))
+    (same, is_held s (held_at_read s.source.now) same (first_is s.source.now accepted are) (bytes ∙ sym (first_laid s.source.now accepted are)))
 
 -- the end of a list, by the numbers that the file shows
 pub end_is : (s : Inside) (ctx : Ctx) (header size : ℕ) (commands : List (List ℕ)) → IsHeld s → ctx ≡ ctx_of s.inner.bytes → header ≡ header_size ctx.container → size ≡ length (concat commands) → header + size ≡ end_of (ctx_of (held_of s).state.old) commands

@@ -13,13 +13,13 @@ use Rattle.macho_edits.specs.Call.{Call}
 use Rattle.arwen_macho.specs.Change.{changed_file}
 use Rattle.arwen_macho.specs.Container.{as_fat, as_thin, container_bytes, container_step, first_container}
 use Rattle.arwen_macho.specs.FatChange.{fat_changed}
-use Rattle.arwen_macho.specs.FatHeld.{FatHeld, first_fat_held}
+use Rattle.arwen_macho.specs.FatHeld.{FatHeld, fat_held_at_read}
 use Rattle.arwen_macho.specs.FatHeldBy.{IsFatHeld, fat_held_of}
 use Rattle.arwen_macho.specs.FatSlice.{HeldSlice, IsReadyIn, IsStepIn, front_of, fronts_over}
 use Rattle.arwen_macho.specs.FatState.{Slice, fat_laid_bytes, fat_step, put_at}
 use Rattle.arwen_macho.specs.Found.{begins_fat, container_found, fat_found, found_fault}
 use Rattle.arwen_macho.specs.Fronts.{IsFrontAt, IsFrontOf, LeadOn, LiesIn, fronts_on}
-use Rattle.macho_edits.specs.Held.{Held, first_held, is_edited_by}
+use Rattle.macho_edits.specs.Held.{Held, held_at_read, is_edited_by}
 use Rattle.macho_edits.specs.State.{laid_bytes, step}
 use Rattle.macho_edits.specs.Whole.{IsState}
 use Rattle.arwen_macho.proofs.ChangeLaws.{change_inside}
@@ -132,7 +132,7 @@ lead_fat calls s fronts is all =
     }
 
 -- a file that was parsed shows the bytes as they were read
-first_either : (old : List ℕ) (is_fat : Bool) → AreBytes old → (if is_fat then fat_found old else found_fault (file_fault old)) ≡ None → container_bytes (if is_fat then Fat (first_fat_held old) else SingleArch (first_held old)) ≡ old
+first_either : (old : List ℕ) (is_fat : Bool) → AreBytes old → (if is_fat then fat_found old else found_fault (file_fault old)) ≡ None → container_bytes (if is_fat then Fat (fat_held_at_read old) else SingleArch (held_at_read old)) ≡ old
 first_either old true are found = first_fat_laid old found are
 first_either old false are found = first_laid old (none_fault (file_fault old) found) are
 

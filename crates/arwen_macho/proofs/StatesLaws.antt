@@ -12,11 +12,11 @@ use Rattle.arwen_macho.specs.declared.macho.MachoType.TheVariants.{Fat, SingleAr
 use Rattle.macho_edits.specs.Call.{Call}
 use Rattle.arwen_macho.specs.Container.{as_fat, as_thin, container_step}
 use Rattle.arwen_macho.specs.ContainerShown.{IsFileState, StepShows}
-use Rattle.arwen_macho.specs.FatHeld.{FatHeld, IsFatState, IsSlice, first_fat_held}
+use Rattle.arwen_macho.specs.FatHeld.{FatHeld, IsFatState, IsSlice, fat_held_at_read}
 use Rattle.arwen_macho.specs.FatState.{FatState, Slice, fat_laid_bytes, fat_step, joined_step, step_slices, with_slices}
 use Rattle.arwen_macho.specs.FileLaws.{FatBytesShow, FileBytesShow, FreshHasItsBytes, FreshIsState, StepIsState, ThinBytesShow}
 use Rattle.arwen_macho.specs.Found.{begins_fat, container_found, fat_found, found_fault}
-use Rattle.macho_edits.specs.Held.{Held, first_held, is_edited_by}
+use Rattle.macho_edits.specs.Held.{Held, held_at_read, is_edited_by}
 use Rattle.macho_edits.specs.State.{Refusal, State, available, edited_by, end_of, fitted_state, laid_bytes, step}
 use Rattle.macho_edits.specs.Whole.{IsState, KeepsContents, TextsAreBytes}
 use Rattle.arwen_macho.proofs.FatLaws.{fat_laid_shows, none_fault}
@@ -141,7 +141,7 @@ file_bytes_show (Fat held) is = fat_shows held (fat_laid_bytes held.state) (fat_
 pub fresh_has_its_bytes : FreshHasItsBytes
 fresh_has_its_bytes old are found = first_bytes old are found
 
-fresh_either : (old : List ℕ) (is_fat : Bool) → AreBytes old → (if is_fat then fat_found old else found_fault (file_fault old)) ≡ None → IsFileState (if is_fat then Fat (first_fat_held old) else SingleArch (first_held old))
+fresh_either : (old : List ℕ) (is_fat : Bool) → AreBytes old → (if is_fat then fat_found old else found_fault (file_fault old)) ≡ None → IsFileState (if is_fat then Fat (fat_held_at_read old) else SingleArch (held_at_read old))
 fresh_either old true are found = first_fat_is old found are
 fresh_either old false are found = first_is old (none_fault (file_fault old) found) are
 

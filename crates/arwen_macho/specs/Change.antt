@@ -8,7 +8,7 @@ use Rattle.arwen_macho.specs.declared.change.Change.{Change}
 use Rattle.arwen_macho.specs.declared.change.Fit.{Fit}
 use Rattle.macho_edits.specs.Call.{Call, Cause}
 use Rattle.macho_edits.specs.Call.Cause.{no_room}
-use Rattle.macho_edits.specs.Held.{Held, image_held}
+use Rattle.macho_edits.specs.Held.{Held, image_model}
 use Rattle.macho_edits.specs.State.{State, available, end_of, laid_bytes, step}
 use Rattle.macho_edits.specs.Whole.{KeepsContents}
 
@@ -19,13 +19,13 @@ list_of held change = cut_commands (ctx_of held.state.old).le change.prepared.co
 -- the change that brings in a list which fits, with the copy that it wants
 abbrev pub change_with : Held → Fit → Change
 change_with held fit = record {
-  prepared = record { form = ctx_of (laid_bytes held.state); count = fit.count; area = fit.area.items; copy = copy_for (image_held held) };
+  prepared = record { form = ctx_of (laid_bytes held.state); count = fit.count; area = fit.area.items; copy = copy_for (image_model held) };
   high = fit.high;
 }
 
 -- a change of this file: made for it, with a list that keeps what edits keep and ends where it may
 pub record IsChangeOf (held : Held) (change : Change) : Type 0 where
-  pub made : IsMadeFor (image_held held) change.prepared.count change.prepared.area change.prepared
+  pub made : IsMadeFor (image_model held) change.prepared.count change.prepared.area change.prepared
   pub area : change.prepared.area ≡ concat (list_of held change)
   pub keeps : KeepsContents (ctx_of held.state.old).le held.state.list (list_of held change)
   pub room : end_of (ctx_of held.state.old) (list_of held change) ≤ available held.state

@@ -9,15 +9,15 @@ use Rattle.arwen_macho.specs.declared.macho.MachoType.{MachoType}
 use Rattle.arwen_macho.specs.declared.macho.MachoType.TheVariants.{Fat, SingleArch}
 use Rattle.macho_edits.specs.Batch.{RefusedAt, calls_of}
 use Rattle.macho_edits.specs.Call.{Call}
-use Rattle.arwen_macho.specs.FatHeld.{first_fat_held}
+use Rattle.arwen_macho.specs.FatHeld.{fat_held_at_read}
 use Rattle.arwen_macho.specs.FatState.{FatState, fat_laid_bytes, fat_step}
 use Rattle.arwen_macho.specs.Found.{begins_fat}
-use Rattle.macho_edits.specs.Held.{RefusedBy, first_held, is_edited_by}
+use Rattle.macho_edits.specs.Held.{RefusedBy, held_at_read, is_edited_by}
 use Rattle.macho_edits.specs.State.{Refusal, State, laid_bytes, step}
 
 -- a file as it was parsed
 abbrev pub first_container : List ℕ → MachoType
-first_container old = if begins_fat old then Fat (first_fat_held old) else SingleArch (first_held old)
+first_container old = if begins_fat old then Fat (fat_held_at_read old) else SingleArch (held_at_read old)
 
 -- the bytes of a file under edits
 abbrev pub container_bytes : MachoType → List ℕ

@@ -17,8 +17,8 @@ pub record FatHeld : Type 0 where
   pub is_edited : Bool
 
 -- a fat file as it was parsed
-abbrev pub first_fat_held : List ℕ → FatHeld
-first_fat_held old = record { state = first_fat_state old; is_edited = false }
+abbrev pub fat_held_at_read : List ℕ → FatHeld
+fat_held_at_read old = record { state = first_fat_state old; is_edited = false }
 
 -- a slice of these bytes, in a state that edits can lead to
 pub record IsSlice (old : List ℕ) (s : Slice) : Type 0 where

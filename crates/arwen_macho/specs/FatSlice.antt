@@ -11,7 +11,7 @@ use Rattle.macho_edits.specs.Batch.{RefusedAt}
 use Rattle.macho_edits.specs.Call.{Call}
 use Rattle.arwen_macho.specs.Change.{IsChangeOf, IsStepOf, changed_file}
 use Rattle.arwen_macho.specs.FatState.{Slice, put_at, step_slices}
-use Rattle.macho_edits.specs.Held.{Held, first_held}
+use Rattle.macho_edits.specs.Held.{Held, held_at_read}
 use Rattle.macho_edits.specs.State.{Refusal, laid_bytes}
 use Rattle.macho_edits.specs.Whole.{IsState}
 
@@ -21,16 +21,16 @@ pub record HeldSlice : Type 0 where
   pub inner : Held
 
 -- a slice and its state, apart from whether its bytes are a copy
-abbrev pub slice_held : HeldSlice → Slice
-slice_held m = record { arch = m.arch; state = m.inner.state }
+abbrev pub slice_model : HeldSlice → Slice
+slice_model m = record { arch = m.arch; state = m.inner.state }
 
 -- what a batch makes of such slices
-abbrev pub step_held : List Call → List HeldSlice → Result (List Slice) Refusal
-step_held calls slices = step_slices calls (map slice_held slices)
+abbrev pub step_model : List Call → List HeldSlice → Result (List Slice) Refusal
+step_model calls slices = step_slices calls (map slice_model slices)
 
 -- a slice as it was parsed
 abbrev pub first_macho : List ℕ → FatArch → HeldSlice
-first_macho old arch = record { inner = first_held (slice_of old arch); arch = arch }
+first_macho old arch = record { inner = held_at_read (slice_of old arch); arch = arch }
 
 -- a change of a slice that does what these calls do
 abbrev pub IsStepIn : List Call → HeldSlice → Change → Type 0
@@ -42,7 +42,7 @@ AreStepsIn calls slices changes = AllZip (IsStepIn calls) slices changes.items
 
 -- an error tells the refusal that a batch meets in the slices
 abbrev pub SlicesRefuse : List Call → List HeldSlice → MachoBatchError → Type 0
-SlicesRefuse calls slices e = RefusedAt e (step_held calls slices)
+SlicesRefuse calls slices e = RefusedAt e (step_model calls slices)
 
 -- a change that can be carried out on a slice, and on a copy of the file with so many bytes
 pub record IsReadyIn (len : ℕ) (m : HeldSlice) (change : Change) : Type 0 where

@@ -1,12 +1,12 @@
 ghost use Rattle.std.specs.Prelude.{◌≡◌, ◌∷◌, [], ◌+◌, ◌≤◌, All, IfOk, IfErr, IsOk, MatchResult, None, OnOk, length, map, take, true};
 ghost use Rattle.std.specs.List.{AllZip};
 ghost use Rattle.std.specs.Str.{bytes_eq};
-ghost use Rattle.patch_bytes.specs.ByteString.{bytes_shown};
+ghost use Rattle.patch_bytes.specs.ByteString.{bytes_model};
 ghost use Rattle.macho_image.specs.Fat.{archs_of, slice_of, table_fault};
 ghost use Rattle.macho_edits.specs.Batch.{calls_of};
 ghost use Rattle.macho_edits.specs.Call.Call.{add_rpath, change_install_id, change_install_name, change_rpath, remove_rpath};
 ghost use Rattle.macho_edits.specs.Edit.{AreTexts, call_of, calls_lent};
-ghost use Rattle.arwen_macho.specs.FatSlice.{AreStepsIn, IsReadyIn, SlicesRefuse, changed_macho, changed_machos, first_macho, front_of, fronts_over, slice_held};
+ghost use Rattle.arwen_macho.specs.FatSlice.{AreStepsIn, IsReadyIn, SlicesRefuse, changed_macho, changed_machos, first_macho, front_of, fronts_over, slice_model};
 ghost use Rattle.arwen_macho.specs.FatState.{put_at};
 ghost use Rattle.arwen_macho.specs.Found.{ARCHIVE, Finds, found_fault, slice_found, slices_found};
 ghost use Rattle.arwen_macho.specs.Fronts.{AreFrontsOf};
@@ -179,7 +179,7 @@ fn commit_all(slices: &mut [FatMacho<'_>], mut changes: Vec<Change>, copy: &mut 
 // The copy of the file, or a new one. A new one is refused where there is no memory.
 fn copy_of(alloc: Global, source: &[u8], edited: Option<Vec<u8>>) -> Result<Vec<u8>, AllocError>
     ensures { MatchResult result
-        (λ copy. copy.items ≡ bytes_shown source.now edited) (λ _. edited ≡ None) }
+        (λ copy. copy.items ≡ bytes_model source.now edited) (λ _. edited ≡ None) }
 {
     match edited {
         Some(copy) => Ok(copy),
@@ -211,7 +211,7 @@ impl<'a> Model for FatMachoContainer<'a> {
 
 impl<'a> FatMachoContainer<'a> {
     ghost use Rattle.arwen_macho.specs.FatChange.{AreChangesOf, StepsOf, fat_changed};
-    ghost use Rattle.arwen_macho.specs.FatHeld.{FatRefuses, FatStepsBatch, FatStepsOnce, first_fat_held};
+    ghost use Rattle.arwen_macho.specs.FatHeld.{FatRefuses, FatStepsBatch, FatStepsOnce, fat_held_at_read};
     ghost use Rattle.arwen_macho.specs.FatShown.{FatShows};
     ghost use Rattle.arwen_macho.specs.FatState.{fat_laid_bytes};
     ghost use Rattle.arwen_macho.specs.Found.{fat_found};
@@ -221,7 +221,7 @@ impl<'a> FatMachoContainer<'a> {
     /// each slice in the table's order, among them that it is no Unix archive; or where there is no memory.
     pub fn parse(alloc: Global, bytes: &'a [u8]) -> Result<FatMachoContainer<'a>, MachoError>
         ensures { MatchResult result
-            (λ fat. (fat_found bytes.entry.now ≡ None) × (fat ≡ first_fat_held bytes.entry.now))
+            (λ fat. (fat_found bytes.entry.now ≡ None) × (fat ≡ fat_held_at_read bytes.entry.now))
             (λ e. Finds e (fat_found bytes.entry.now)) }
     {
         let table = read_table(alloc, bytes)?;
@@ -246,7 +246,7 @@ impl<'a> FatMachoContainer<'a> {
 
     /// The slices, in the order of the table. Takes no memory.
     pub fn archs(&self) -> &[FatMacho<'a>]
-        ensures { map slice_held result.now ≡ self.now.state.slices }
+        ensures { map slice_model result.now ≡ self.now.state.slices }
     {
         self.archs.as_slice()
     }

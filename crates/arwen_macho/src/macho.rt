@@ -61,7 +61,7 @@ impl<'a> SingleMachO<'a> {
     ghost use Rattle.macho_edits.specs.Edit.{AreTexts, call_of, calls_lent};
     ghost use Rattle.arwen_macho.specs.Found.{Finds, found_fault};
     ghost use Rattle.arwen_macho.specs.Fronts.{IsFrontAt, LeadThin, StepIsThin};
-    ghost use Rattle.macho_edits.specs.Held.{StepsOnce, first_held, image_held};
+    ghost use Rattle.macho_edits.specs.Held.{StepsOnce, held_at_read, image_model};
     ghost use Rattle.macho_edits.specs.Refused.{cause_of};
     ghost use Rattle.arwen_macho.specs.Shown.{Shows};
     ghost use Rattle.macho_edits.specs.State.{laid_bytes};
@@ -70,7 +70,7 @@ impl<'a> SingleMachO<'a> {
     /// Parses a thin file. It is refused by the first check that fails, or where there is no memory.
     pub fn parse(alloc: Global, bytes: &'a [u8]) -> Result<SingleMachO<'a>, MachoError>
         ensures { MatchResult result
-            (λ macho. (file_fault bytes.entry.now ≡ None) × (macho ≡ first_held bytes.entry.now))
+            (λ macho. (file_fault bytes.entry.now ≡ None) × (macho ≡ held_at_read bytes.entry.now))
             (λ e. Finds e (found_fault (file_fault bytes.entry.now))) }
     {
         let inner = MachO::parse(alloc, bytes)?;
@@ -93,7 +93,7 @@ impl<'a> SingleMachO<'a> {
 
     /// The parsed file, as edited. Takes no memory.
     pub fn inner(&self) -> &MachO<'a>
-        ensures { result.now ≡ image_held self.now }
+        ensures { result.now ≡ image_model self.now }
     {
         &self.inner
     }

@@ -3,7 +3,7 @@ use Rattle.std.proofs.Common.{◌≡◌, ◌∷◌, [], List, Option, Some, None
 use Rattle.std.specs.Prelude.{option_and_then, option_map}
 use Rattle.std.specs.Str.{bytes_eq}
 use Rattle.command_words.specs.Groups.{TellsWrong, Wrong, fault_at, given_edit, line_edit, no_edit}
-use Rattle.command_words.specs.Rows.{Given, Kind, Line, Named, Text, asked_with, given_without_path, kind_of, line_named, meant_with, named, named_of, row_shown}
+use Rattle.command_words.specs.Rows.{Given, Kind, Line, Named, Text, asked_with, given_without_path, kind_of, line_named, meant_with, named, named_of, row_model}
 use Rattle.command_words.specs.declared.edits.EditsError.{EditsError}
 use Rattle.command_words.specs.declared.edits.EditsError.TheVariants.{Fault}
 use Rattle.command_words.specs.declared.rows.Row.{Row}
@@ -29,7 +29,7 @@ module _ {M : Type 0} where
       ap (cond (bytes_eq name line.name) (asked_with line.asks given)) (meant_with-named lines name given) ∙ choice-asked (bytes_eq name line.name) line (line_named lines name) given
 
   -- what a table's row of a name is
-  pub row_line : (lines : List (Line M)) (rows : List Row) (name : Text) (row : Option Named) → map row_shown rows ≡ map named_of lines → row ≡ named (map row_shown rows) name
+  pub row_line : (lines : List (Line M)) (rows : List Row) (name : Text) (row : Option Named) → map row_model rows ≡ map named_of lines → row ≡ named (map row_model rows) name
       → row ≡ option_map named_of (line_named lines name)
   row_line lines rows name row table found = found ∙ ap (λ (l : List Named). named l name) table ∙ named-map lines name
 

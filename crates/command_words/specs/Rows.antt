@@ -124,20 +124,20 @@ named (row ∷ rows) name = if bytes_eq name row.name then Some row else named r
 
 -- ---- what the program's tables and values show
 
-abbrev pub kind_shown : Form → Kind
-kind_shown form.Path = path_alone
-kind_shown (form.Text value) = text_and_path
-kind_shown (form.Texts first second) = texts_and_path
-kind_shown (form.Words value) = path_and_words
-kind_shown (form.Options option) = path_and_options option.long.now option.short
+abbrev pub kind_model : Form → Kind
+kind_model form.Path = path_alone
+kind_model (form.Text value) = text_and_path
+kind_model (form.Texts first second) = texts_and_path
+kind_model (form.Words value) = path_and_words
+kind_model (form.Options option) = path_and_options option.long.now option.short
 
-abbrev pub row_shown : Row → Named
-row_shown row = record { name = row.name.now; kind = kind_shown row.form; is_edit = row.is_edit }
+abbrev pub row_model : Row → Named
+row_model row = record { name = row.name.now; kind = kind_model row.form; is_edit = row.is_edit }
 
-abbrev pub given_shown : Values → Given
-given_shown (values.Path file) = path (string_bytes file)
-given_shown (values.Text value file) = text (string_bytes value) (string_bytes file)
-given_shown (values.Texts first second file) =
+abbrev pub given_model : Values → Given
+given_model (values.Path file) = path (string_bytes file)
+given_model (values.Text value file) = text (string_bytes value) (string_bytes file)
+given_model (values.Texts first second file) =
     texts (string_bytes first) (string_bytes second) (string_bytes file)
-given_shown (values.Words file list) = words (string_bytes file) (map string_bytes list.items)
-given_shown (values.Options file list) = options (string_bytes file) (map string_bytes list.items)
+given_model (values.Words file list) = words (string_bytes file) (map string_bytes list.items)
+given_model (values.Options file list) = options (string_bytes file) (map string_bytes list.items)

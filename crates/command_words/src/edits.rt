@@ -1,7 +1,7 @@
 //! The words of several edits on one line, whatever kind of file they are of.
 ghost use Rattle.std.specs.Prelude.{◌≡◌, IfOk, map, option_map, string_bytes};
 ghost use Rattle.command_words.specs.Groups.{fault_at, other_words as wrong_words};
-ghost use Rattle.command_words.specs.Rows.{given_shown, given_without_path, kind_shown};
+ghost use Rattle.command_words.specs.Rows.{given_model, given_without_path, kind_model};
 ghost use Rattle.command_words.specs.declared.edits.EditsError.TheVariants.{Memory};
 
 use crate::rows::{Form, Values};
@@ -115,7 +115,7 @@ pub fn no_edit(group: usize, kind: EditKind) -> EditsError
 /// word that is missing or too many.
 pub fn other_words(group: usize, form: &Form, words: &[&str]) -> EditsError
     ensures { result ≡ EditsError.Fault (fault_at group
-        (wrong_words (kind_shown form.now) (map (λ w. w.now) words.now))) }
+        (wrong_words (kind_model form.now) (map (λ w. w.now) words.now))) }
 {
     let takes = form.word_count();
     EditsError::Fault(EditFault {
@@ -133,8 +133,8 @@ pub fn values_without_path(
     form: &Form,
     words: &[&str],
 ) -> Result<Option<Values>, AllocError>
-    ensures { IfOk result (λ values. option_map given_shown values
-        ≡ given_without_path (kind_shown form.now) (map (λ w. w.now) words.now)) }
+    ensures { IfOk result (λ values. option_map given_model values
+        ≡ given_without_path (kind_model form.now) (map (λ w. w.now) words.now)) }
 {
     let path = String::new(alloc);
     match (form, words) {

@@ -1,6 +1,6 @@
 //! What the line of a command is made of: its name, what it does, and its values in order.
 ghost use Rattle.std.specs.Prelude.{◌≡◌, map, option_map};
-ghost use Rattle.command_words.specs.Rows.{named, row_shown};
+ghost use Rattle.command_words.specs.Rows.{named, row_model};
 
 /// A value of a command, as help shows it.
 #[derive(Clone, Copy, Debug)]
@@ -39,11 +39,11 @@ pub enum Form {
 
 impl Form {
     ghost use Rattle.std.specs.Prelude.{◌≡◌};
-    ghost use Rattle.command_words.specs.Rows.{count_of, kind_shown};
+    ghost use Rattle.command_words.specs.Rows.{count_of, kind_model};
 
     /// How many words there are besides the path, where that is fixed.
     pub fn word_count(&self) -> usize
-        ensures { result ≡ count_of (kind_shown self.now) }
+        ensures { result ≡ count_of (kind_model self.now) }
     {
         match self {
             Form::Text(_) => 1,
@@ -85,8 +85,8 @@ pub enum Values {
 
 /// The row of a name.
 pub fn find_row<'a>(rows: &'a [Row], name: &str) -> Option<&'a Row>
-    ensures { option_map (λ row. row_shown row.now) result
-        ≡ named (map row_shown rows.entry.now) name.now }
+    ensures { option_map (λ row. row_model row.now) result
+        ≡ named (map row_model rows.entry.now) name.now }
 {
     for row in rows {
         if name == row.name {

@@ -5,7 +5,7 @@ use Rattle.elf_image.specs.Image.{Image}
 use Rattle.elf_edits.specs.declared.call.ElfEdit.{ElfEdit}
 use Rattle.elf_edits.specs.declared.facts.Facts.{Facts}
 use Rattle.elf_edits.specs.Batch.{Refusal, run}
-use Rattle.elf_edits.specs.Called.{edit_meant}
+use Rattle.elf_edits.specs.Called.{edit_model}
 use Rattle.elf_edits.specs.Cause.{Cause, first_cause}
 use Rattle.elf_edits.specs.Decided.{all_edited, first_refusal, refusal_or}
 use Rattle.elf_edits.specs.Edit.{Edit}
@@ -14,35 +14,35 @@ use Rattle.elf_edits.proofs.ForCallers.{all_edited-push}
 use Rattle.elf_apply.specs.declared.batch.ElfBatchError.{ElfBatchError}
 use Rattle.elf_apply.specs.declared.draft.Draft.{Draft}
 use Rattle.elf_apply.specs.Drafted.{OnlyShows, Writes}
-use Rattle.elf_apply.specs.Taken.{AnswersAll, AnswersBatch, TakesBatch, edits_meant, left_upon, left_upon_all}
+use Rattle.elf_apply.specs.Taken.{AnswersAll, AnswersBatch, TakesBatch, edits_model, left_upon, left_upon_all}
 
 -- ## The first refused edit
 
 module _ (facts : Facts) (xs : List ElfEdit) (i : ℕ) (x : ElfEdit) where
   -- the first refusal from an edit on
   from_here : Option Refusal
-  from_here = first_refusal facts i (edits_meant (drop i xs))
+  from_here = first_refusal facts i (edits_model (drop i xs))
 
-  at_edit : i < length xs → x ≡ get_or xs i x → from_here ≡ refusal_or (first_cause (edit_meant x) facts) i (first_refusal facts (i + 1) (edits_meant (drop (i + 1) xs)))
+  at_edit : i < length xs → x ≡ get_or xs i x → from_here ≡ refusal_or (first_cause (edit_model x) facts) i (first_refusal facts (i + 1) (edits_model (drop (i + 1) xs)))
   unfolding from_here first_refusal
-  at_edit here e = ap (λ ys. first_refusal facts i (edits_meant ys)) (drop_here ∙ ap (λ y. y ∷ drop (i + 1) xs) (sym e))
+  at_edit here e = ap (λ ys. first_refusal facts i (edits_model ys)) (drop_here ∙ ap (λ y. y ∷ drop (i + 1) xs) (sym e))
     where
       drop_here : drop i xs ≡ get_or xs i x ∷ drop (i + 1) xs
       drop_here = rw (add-one, drop-cons xs i x)
 
-  pub accepted_here : i < length xs → x ≡ get_or xs i x → first_cause (edit_meant x) facts ≡ None → (all : Option Refusal) → first_refusal facts i (edits_meant (drop i xs)) ≡ all → first_refusal facts (i + 1) (edits_meant (drop (i + 1) xs)) ≡ all
+  pub accepted_here : i < length xs → x ≡ get_or xs i x → first_cause (edit_model x) facts ≡ None → (all : Option Refusal) → first_refusal facts i (edits_model (drop i xs)) ≡ all → first_refusal facts (i + 1) (edits_model (drop (i + 1) xs)) ≡ all
   unfolding from_here
-  accepted_here here e none all h = sym (at_edit here e ∙ ap (λ o. refusal_or o i (first_refusal facts (i + 1) (edits_meant (drop (i + 1) xs)))) none) ∙ h
+  accepted_here here e none all h = sym (at_edit here e ∙ ap (λ o. refusal_or o i (first_refusal facts (i + 1) (edits_model (drop (i + 1) xs)))) none) ∙ h
 
-  pub refused_here : i < length xs → x ≡ get_or xs i x → (reason : Cause) → first_cause (edit_meant x) facts ≡ Some reason → (all : Option Refusal) → first_refusal facts i (edits_meant (drop i xs)) ≡ all → Some (record { index = i; cause = reason }) ≡ all
+  pub refused_here : i < length xs → x ≡ get_or xs i x → (reason : Cause) → first_cause (edit_model x) facts ≡ Some reason → (all : Option Refusal) → first_refusal facts i (edits_model (drop i xs)) ≡ all → Some (record { index = i; cause = reason }) ≡ all
   unfolding from_here
-  refused_here here e reason some all h = sym (at_edit here e ∙ ap (λ o. refusal_or o i (first_refusal facts (i + 1) (edits_meant (drop (i + 1) xs)))) some) ∙ h
+  refused_here here e reason some all h = sym (at_edit here e ∙ ap (λ o. refusal_or o i (first_refusal facts (i + 1) (edits_model (drop (i + 1) xs)))) some) ∙ h
 
 -- none is left behind the last edit
-pub all_accepted : (facts : Facts) (xs : List ElfEdit) (i : ℕ) → length xs ≤ i → (all : Option Refusal) → first_refusal facts i (edits_meant (drop i xs)) ≡ all → None ≡ all
+pub all_accepted : (facts : Facts) (xs : List ElfEdit) (i : ℕ) → length xs ≤ i → (all : Option Refusal) → first_refusal facts i (edits_model (drop i xs)) ≡ all → None ≡ all
 unfolding first_refusal
 all_accepted facts xs i end all h =
-    let e : first_refusal facts i (edits_meant (drop i xs)) ≡ None = ap (λ ys. first_refusal facts i (edits_meant ys)) (drop_all i xs end) in
+    let e : first_refusal facts i (edits_model (drop i xs)) ≡ None = ap (λ ys. first_refusal facts i (edits_model ys)) (drop_all i xs end) in
     sym e ∙ h
 
 neither_refused : (found : Option Cause) (index : ℕ) (later : Option Refusal) → refusal_or found index later ≡ None → (found ≡ None) × (later ≡ None)
@@ -50,26 +50,26 @@ neither_refused None index later h = (refl, h)
 neither_refused (Some reason) index later h = absurd (cc)
 
 -- no edit of a batch that is not refused is
-pub accepted_at : (facts : Facts) (xs : List ElfEdit) (done i : ℕ) (x : ElfEdit) → i < length xs → x ≡ get_or xs i x → first_refusal facts done (edits_meant xs) ≡ None → first_cause (edit_meant x) facts ≡ None
+pub accepted_at : (facts : Facts) (xs : List ElfEdit) (done i : ℕ) (x : ElfEdit) → i < length xs → x ≡ get_or xs i x → first_refusal facts done (edits_model xs) ≡ None → first_cause (edit_model x) facts ≡ None
 unfolding first_refusal
 accepted_at facts [] done i x here e none = absurd (omega arith)
 accepted_at facts (y ∷ ys) done zero x here e none =
-    ap (λ z. first_cause (edit_meant z) facts) e ∙ (neither_refused (first_cause (edit_meant y) facts) done (first_refusal facts (done + 1) (edits_meant ys)) none).0
+    ap (λ z. first_cause (edit_model z) facts) e ∙ (neither_refused (first_cause (edit_model y) facts) done (first_refusal facts (done + 1) (edits_model ys)) none).0
 accepted_at facts (y ∷ ys) done (suc i) x here e none =
-    accepted_at facts ys (done + 1) i x (omega arith) e (neither_refused (first_cause (edit_meant y) facts) done (first_refusal facts (done + 1) (edits_meant ys)) none).1
+    accepted_at facts ys (done + 1) i x (omega arith) e (neither_refused (first_cause (edit_model y) facts) done (first_refusal facts (done + 1) (edits_model ys)) none).1
 
 -- ## What the edits write
 
 -- one more edit is written
-pub one_more : (xs : List ElfEdit) (i : ℕ) (x : ElfEdit) (image : Image) (old new : Draft) → i < length xs → x ≡ get_or xs i x → OnlyShows image (all_edited (edits_meant (take i xs)) image) old → Writes (edit_meant x) image old new
-    → OnlyShows image (all_edited (edits_meant (take (i + 1) xs)) image) new
+pub one_more : (xs : List ElfEdit) (i : ℕ) (x : ElfEdit) (image : Image) (old new : Draft) → i < length xs → x ≡ get_or xs i x → OnlyShows image (all_edited (edits_model (take i xs)) image) old → Writes (edit_model x) image old new
+    → OnlyShows image (all_edited (edits_model (take (i + 1) xs)) image) new
 one_more xs i x image old new here e before wrote =
-    let next : edits_meant (take (i + 1) xs) ≡ edits_meant (take i xs) ++ edit_meant x ∷ [] = map_more edit_meant xs i x here ∙ ap (λ y. edits_meant (take i xs) ++ edit_meant y ∷ []) (sym e) in
+    let next : edits_model (take (i + 1) xs) ≡ edits_model (take i xs) ++ edit_model x ∷ [] = map_more edit_model xs i x here ∙ ap (λ y. edits_model (take i xs) ++ edit_model y ∷ []) (sym e) in
     record {
       shows =
           wrote.shows
-          ∙ ap (edited_image (edit_meant x)) before.shows
-          ∙ sym (all_edited-push (edits_meant (take i xs)) (edit_meant x) image)
+          ∙ ap (edited_image (edit_model x)) before.shows
+          ∙ sym (all_edited-push (edits_model (take i xs)) (edit_model x) image)
           ∙ sym (ap (λ l. all_edited l image) next);
       draft = wrote.draft;
     }

@@ -9,7 +9,7 @@ use Rattle.elf_image.specs.Dynamic.{Entry}
 use Rattle.elf_image.specs.DynamicList.{IsListed, KeepsTables, tables_of}
 use Rattle.elf_image.specs.File.{segment_of_type}
 use Rattle.elf_image.specs.Image.{Image}
-use Rattle.elf_image.specs.ImageSeen.{entry_kept, text_kept}
+use Rattle.elf_image.specs.ImageModel.{entry_model, text_model}
 use Rattle.elf_image.specs.Options.{first_there}
 use Rattle.elf_image.specs.Segments.{with_stack_added, with_stack_flags}
 use Rattle.elf_edits.specs.declared.constants.TheConstants.{STACK_FLAGS}
@@ -136,9 +136,9 @@ os_abi_written name number image d free is same =
     by_number : (n : ℕ) → abi_number name ≡ Some n → Writes (SetOsAbi name) image d (record d { os_abi = Some n })
     by_number n is_named = record {
       shows =
-          ap (λ changed. image_with changed n (with_page_size d.page_size (with_flags d.stack_flags image.segments)) (first_there (entries_drafted d) image.entries) (first_there (text_kept d.interpreter) image.interpreter) (first_there d.page_size image.page_size) image)
+          ap (λ changed. image_with changed n (with_page_size d.page_size (with_flags d.stack_flags image.segments)) (first_there (entries_drafted d) image.entries) (first_there (text_model d.interpreter) image.interpreter) (first_there d.page_size image.page_size) image)
           (written_marks image.changed (is_written d) (is_written (record d { os_abi = Some n })) (marked n))
-          ∙ ap (λ o. image_with ((image.changed || is_written d) || true) (unwrap_or o (unwrap_or d.os_abi image.header.os_abi)) (with_page_size d.page_size (with_flags d.stack_flags image.segments)) (first_there (entries_drafted d) image.entries) (first_there (text_kept d.interpreter) image.interpreter) (first_there d.page_size image.page_size) image)
+          ∙ ap (λ o. image_with ((image.changed || is_written d) || true) (unwrap_or o (unwrap_or d.os_abi image.header.os_abi)) (with_page_size d.page_size (with_flags d.stack_flags image.segments)) (first_there (entries_drafted d) image.entries) (first_there (text_model d.interpreter) image.interpreter) (first_there d.page_size image.page_size) image)
           (sym is_named)
           ∙ sym (os_abi_edit name (drafted d image));
       draft = record { tables = is.tables; entries = is.entries; interpreter_there = is.interpreter_there; interpreter = is.interpreter };
@@ -164,9 +164,9 @@ pub page_size_written : (size : ℕ) (image : Image) (d : Draft) → IsDraftOf i
 unfolding drafted edited_image image_with
 page_size_written size image d is = record {
   shows =
-      ap (λ changed. image_with changed (unwrap_or d.os_abi image.header.os_abi) (with_load_align size (with_flags d.stack_flags image.segments)) (first_there (entries_drafted d) image.entries) (first_there (text_kept d.interpreter) image.interpreter) (Some size) image)
+      ap (λ changed. image_with changed (unwrap_or d.os_abi image.header.os_abi) (with_load_align size (with_flags d.stack_flags image.segments)) (first_there (entries_drafted d) image.entries) (first_there (text_model d.interpreter) image.interpreter) (Some size) image)
       (written_marks image.changed (is_written d) (is_written (record d { page_size = Some size })) marked)
-      ∙ ap (λ segments. image_with ((image.changed || is_written d) || true) (unwrap_or d.os_abi image.header.os_abi) segments (first_there (entries_drafted d) image.entries) (first_there (text_kept d.interpreter) image.interpreter) (Some size) image)
+      ∙ ap (λ segments. image_with ((image.changed || is_written d) || true) (unwrap_or d.os_abi image.header.os_abi) segments (first_there (entries_drafted d) image.entries) (first_there (text_model d.interpreter) image.interpreter) (Some size) image)
       (aligned_last size d.page_size (with_flags d.stack_flags image.segments))
       ∙ sym (page_size_edit size (drafted d image));
   draft = record { tables = is.tables; entries = is.entries; interpreter_there = is.interpreter_there; interpreter = is.interpreter };
@@ -236,9 +236,9 @@ module _ (image : Image) (d : Draft) (change : ℕ → ℕ) where
   flags_drafted : drafted after image ≡ flags_changed
   unfolding drafted image_with after flags_changed new_flags
   flags_drafted =
-      ap (λ changed. image_with changed (unwrap_or d.os_abi image.header.os_abi) (with_page_size d.page_size (with_flags (Some new_flags) image.segments)) (first_there (entries_drafted d) image.entries) (first_there (text_kept d.interpreter) image.interpreter) (first_there d.page_size image.page_size) image)
+      ap (λ changed. image_with changed (unwrap_or d.os_abi image.header.os_abi) (with_page_size d.page_size (with_flags (Some new_flags) image.segments)) (first_there (entries_drafted d) image.entries) (first_there (text_model d.interpreter) image.interpreter) (first_there d.page_size image.page_size) image)
       (written_marks image.changed (is_written d) true refl)
-      ∙ ap (λ segments. image_with ((image.changed || is_written d) || true) (unwrap_or d.os_abi image.header.os_abi) segments (first_there (entries_drafted d) image.entries) (first_there (text_kept d.interpreter) image.interpreter) (first_there d.page_size image.page_size) image)
+      ∙ ap (λ segments. image_with ((image.changed || is_written d) || true) (unwrap_or d.os_abi image.header.os_abi) segments (first_there (entries_drafted d) image.entries) (first_there (text_model d.interpreter) image.interpreter) (first_there d.page_size image.page_size) image)
       (ap (with_page_size d.page_size) (sym (flags_set change d.stack_flags image.segments)) ∙ sized_flags_set change d.page_size (with_flags d.stack_flags image.segments))
 
 pub stack_cleared : (image : Image) (d : Draft) → IsDraftOf image d → Writes ClearExecStack image d (record d { stack_flags = Some (without_run (flags_now d image.segments)) })
@@ -341,7 +341,7 @@ same_two : (c c' : Bool) (e e' : Option (List Entry)) (abi : ℕ) (segments : Li
 same_two c c' e e' abi segments interpreter size image changed entries = cc
 
 pub list_written : (edit : Edit) (image : Image) (d : Draft) (made : NewList) → touches_rest edit ≡ false → IsFree edit (facts_of image) → ListsEntries image → IsDraftOf image d
-    → ((machine : ℕ) → map entry_kept made.entries.items ≡ edited_entries machine edit (unwrap_or (first_there (entries_drafted d) image.entries) []))
+    → ((machine : ℕ) → map entry_model made.entries.items ≡ edited_entries machine edit (unwrap_or (first_there (entries_drafted d) image.entries) []))
     → ((machine : ℕ) → made.is_touched ≡ touches_entries machine edit (unwrap_or (first_there (entries_drafted d) image.entries) []))
     → Writes edit image d (with_list made d)
 unfolding drafted image_with now_listed
@@ -360,25 +360,25 @@ list_written edit image d made kind free listed is list touched =
 
     -- what the edit makes, by the list with what was written
     edited_parts : edited_image edit (drafted d image) ≡ image_with ((image.changed || is_written d) || is_list_with (touches_entries machine edit) (now_listed image d)) (unwrap_or d.os_abi image.header.os_abi)
-        (with_page_size d.page_size (with_flags d.stack_flags image.segments)) (option_map (edited_entries machine edit) (now_listed image d)) (first_there (text_kept d.interpreter) image.interpreter) (first_there d.page_size image.page_size) image
+        (with_page_size d.page_size (with_flags d.stack_flags image.segments)) (option_map (edited_entries machine edit) (now_listed image d)) (first_there (text_model d.interpreter) image.interpreter) (first_there d.page_size image.page_size) image
     edited_parts = rest_stays edit kind (drafted d image)
 
     when_touched : (read es : List Entry) → image.entries ≡ Some read → IsNow image d read es → made.is_touched ≡ true → Writes edit image d new
     when_touched read es there now holds =
         let here : unwrap_or (first_there (entries_drafted d) image.entries) [] ≡ es = ap (λ o. unwrap_or o []) now.now in
-        let made_is : map entry_kept made.entries.items ≡ edited_entries machine edit es = list machine ∙ ap (edited_entries machine edit) here in
+        let made_is : map entry_model made.entries.items ≡ edited_entries machine edit es = list machine ∙ ap (edited_entries machine edit) here in
         let again = lists_again machine edit es free.texts now.listed in
         let marked : is_list_with (touches_entries machine edit) (now_listed image d) ≡ true = ap (is_list_with (touches_entries machine edit)) now.now ∙ sym (ap (touches_entries machine edit) here) ∙ sym (touched machine) ∙ holds in
         record {
           shows =
               same_two (image.changed || is_written new) ((image.changed || is_written d) || is_list_with (touches_entries machine edit) (now_listed image d))
-              (Some (map entry_kept made.entries.items)) (option_map (edited_entries machine edit) (now_listed image d))
-              (unwrap_or d.os_abi image.header.os_abi) (with_page_size d.page_size (with_flags d.stack_flags image.segments)) (first_there (text_kept d.interpreter) image.interpreter) (first_there d.page_size image.page_size) image
+              (Some (map entry_model made.entries.items)) (option_map (edited_entries machine edit) (now_listed image d))
+              (unwrap_or d.os_abi image.header.os_abi) (with_page_size d.page_size (with_flags d.stack_flags image.segments)) (first_there (text_model d.interpreter) image.interpreter) (first_there d.page_size image.page_size) image
               (written_marks image.changed (is_written d) (is_written new) (or_true (((is_some d.stack_flags || is_some d.page_size) || is_some d.os_abi) || is_some d.interpreter)) ∙ sym (ap (λ b. (image.changed || is_written d) || b) marked))
               (ap Some made_is ∙ sym (ap (option_map (edited_entries machine edit)) now.now))
               ∙ sym edited_parts;
           draft = record {
-            tables = subst (λ (o : Option (List Entry)). KeepsTables o (map entry_kept made.entries.items)) (sym there) (ap tables_of made_is ∙ again.tables ∙ now.tables);
+            tables = subst (λ (o : Option (List Entry)). KeepsTables o (map entry_model made.entries.items)) (sym there) (ap tables_of made_is ∙ again.tables ∙ now.tables);
             entries = subst (λ (l : List Entry). All IsListed l) (sym made_is) again.listed;
             interpreter_there = is.interpreter_there;
             interpreter = is.interpreter;
@@ -394,7 +394,7 @@ list_written edit image d made kind free listed is list touched =
           shows =
               same_two (image.changed || is_written d) ((image.changed || is_written d) || is_list_with (touches_entries machine edit) (now_listed image d))
               (now_listed image d) (option_map (edited_entries machine edit) (now_listed image d))
-              (unwrap_or d.os_abi image.header.os_abi) (with_page_size d.page_size (with_flags d.stack_flags image.segments)) (first_there (text_kept d.interpreter) image.interpreter) (first_there d.page_size image.page_size) image
+              (unwrap_or d.os_abi image.header.os_abi) (with_page_size d.page_size (with_flags d.stack_flags image.segments)) (first_there (text_model d.interpreter) image.interpreter) (first_there d.page_size image.page_size) image
               (sym (or_false (image.changed || is_written d)) ∙ sym (ap (λ b. (image.changed || is_written d) || b) marked))
               (now.now ∙ sym (ap Some (untouched machine edit es not_touched)) ∙ sym (ap (option_map (edited_entries machine edit)) now.now))
               ∙ sym edited_parts;
@@ -446,27 +446,27 @@ or_each true a b d e f = refl
 or_each false a b d e f = refl
 
 -- a text is kept where there is one
-kept_there : (o : Option StringValue) → is_some (text_kept o) ≡ is_some o
+kept_there : (o : Option StringValue) → is_some (text_model o) ≡ is_some o
 kept_there None = refl
 kept_there (Some text) = refl
 
 -- part by part, all of it is put in place
-pub put_together : (d : Draft) (image : Image) → with_entries_put d.entries (with_interpreter_put (text_kept d.interpreter) (with_os_abi_put d.os_abi (with_page_size_put d.page_size (with_flags_put d.stack_flags image)))) ≡ drafted d image
+pub put_together : (d : Draft) (image : Image) → with_entries_put d.entries (with_interpreter_put (text_model d.interpreter) (with_os_abi_put d.os_abi (with_page_size_put d.page_size (with_flags_put d.stack_flags image)))) ≡ drafted d image
 unfolding drafted image_with
 put_together d image =
-    ap (λ changed. image_with changed (unwrap_or d.os_abi image.header.os_abi) (with_page_size d.page_size (with_flags d.stack_flags image.segments)) (first_there (entries_drafted d) image.entries) (first_there (text_kept d.interpreter) image.interpreter) (first_there d.page_size image.page_size) image) marked
+    ap (λ changed. image_with changed (unwrap_or d.os_abi image.header.os_abi) (with_page_size d.page_size (with_flags d.stack_flags image.segments)) (first_there (entries_drafted d) image.entries) (first_there (text_model d.interpreter) image.interpreter) (first_there d.page_size image.page_size) image) marked
   where
     flagged : Bool
     flagged = changed_if d.stack_flags image.changed
 
-    marked : changed_if d.entries (changed_if (text_kept d.interpreter) (changed_if d.os_abi (changed_if d.page_size (changed_if d.stack_flags image.changed)))) ≡ (image.changed || is_written d)
+    marked : changed_if d.entries (changed_if (text_model d.interpreter) (changed_if d.os_abi (changed_if d.page_size (changed_if d.stack_flags image.changed)))) ≡ (image.changed || is_written d)
     marked =
-        marks_if d.entries (changed_if (text_kept d.interpreter) (changed_if d.os_abi (changed_if d.page_size (changed_if d.stack_flags image.changed))))
-        ∙ ap (λ b. b || is_some d.entries) (marks_if (text_kept d.interpreter) (changed_if d.os_abi (changed_if d.page_size (changed_if d.stack_flags image.changed)))
-        ∙ ap (λ b. b || is_some (text_kept d.interpreter)) (marks_if d.os_abi (changed_if d.page_size (changed_if d.stack_flags image.changed))
+        marks_if d.entries (changed_if (text_model d.interpreter) (changed_if d.os_abi (changed_if d.page_size (changed_if d.stack_flags image.changed))))
+        ∙ ap (λ b. b || is_some d.entries) (marks_if (text_model d.interpreter) (changed_if d.os_abi (changed_if d.page_size (changed_if d.stack_flags image.changed)))
+        ∙ ap (λ b. b || is_some (text_model d.interpreter)) (marks_if d.os_abi (changed_if d.page_size (changed_if d.stack_flags image.changed))
         ∙ ap (λ b. b || is_some d.os_abi) (marks_if d.page_size (changed_if d.stack_flags image.changed)
         ∙ ap (λ b. b || is_some d.page_size) (marks_if d.stack_flags image.changed))))
-        ∙ or_each image.changed (is_some d.stack_flags) (is_some d.page_size) (is_some d.os_abi) (is_some (text_kept d.interpreter)) (is_some d.entries)
+        ∙ or_each image.changed (is_some d.stack_flags) (is_some d.page_size) (is_some d.os_abi) (is_some (text_model d.interpreter)) (is_some d.entries)
         ∙ ap (λ b. image.changed || ((((is_some d.stack_flags || is_some d.page_size) || is_some d.os_abi) || b) || is_some d.entries)) (kept_there d.interpreter)
 
 -- the flags of a stack that is there, and one that is added
@@ -507,10 +507,10 @@ pushed (Ok x) flags old new none h = h ∙ ap (λ (l : List SegmentHeader). reco
 pushed (Err e) flags old new none h = h
 
 -- what was written may be put in place, also after other parts were
-pub can_put_interpreter : (d : Draft) (old now : Image) → IsDraftOf old d → now.interpreter ≡ old.interpreter → CanPutInterpreter now (text_kept d.interpreter)
-can_put_interpreter d old now is same = record { there = subst (λ (o : Option (List ℕ)). IfSome (text_kept d.interpreter) (λ _. IsSome o)) (sym same) is.interpreter_there; whole = is.interpreter }
+pub can_put_interpreter : (d : Draft) (old now : Image) → IsDraftOf old d → now.interpreter ≡ old.interpreter → CanPutInterpreter now (text_model d.interpreter)
+can_put_interpreter d old now is same = record { there = subst (λ (o : Option (List ℕ)). IfSome (text_model d.interpreter) (λ _. IsSome o)) (sym same) is.interpreter_there; whole = is.interpreter }
 
-listed_each : (o : Option (Vec Dynamic Global)) (P : List Entry → Type 0) → IfSome (option_map (λ l. map entry_kept l.items) o) P → IfSome o (λ l. P (map entry_kept l.items))
+listed_each : (o : Option (Vec Dynamic Global)) (P : List Entry → Type 0) → IfSome (option_map (λ l. map entry_model l.items) o) P → IfSome o (λ l. P (map entry_model l.items))
 listed_each None P h = h
 listed_each (Some l) P h = h
 

@@ -5,14 +5,14 @@ use Rattle.std.proofs.lemmas.Bool.{eqb-true}
 use Rattle.elf_image.specs.Dynamic.{Entry}
 use Rattle.elf_image.specs.DynamicList.{IsListed, KeepsTables}
 use Rattle.elf_image.specs.Image.{Image}
-use Rattle.elf_image.specs.ImageSeen.{entry_kept}
+use Rattle.elf_image.specs.ImageModel.{entry_model}
 use Rattle.elf_edits.specs.declared.shrinking.ShrunkList.{ShrunkList}
 use Rattle.elf_edits.specs.declared.facts.Facts.{Facts}
 use Rattle.elf_edits.specs.Cause.{cause, facts_of, first_cause}
 use Rattle.elf_edits.specs.Edit.{Answer, Edit, ShrinkRunPath}
 use Rattle.elf_edits.specs.Edited.{is_list_with, removed_by, step}
 use Rattle.elf_edits.specs.Entries.{directories_removed, edited_entries, search_of, touches_entries, with_run_paths_shrunk}
-use Rattle.elf_edits.specs.ShrunkSeen.{removal_meant}
+use Rattle.elf_edits.specs.ShrunkModel.{removal_model}
 use Rattle.elf_edits.specs.Texts.{has_some}
 use Rattle.elf_edits.proofs.ForCallers.{is_free, lists_again, step_is, untouched}
 use Rattle.elf_apply.specs.Drafted.{IsShrunkOf, ListsEntries}
@@ -25,8 +25,8 @@ pub record CanPut (image : Image) (es : List Entry) : Type 0 where
 
 -- a list that shrank, by the entries and the machine of the image
 pub shrunk_is : {E : Type 0} (r : Result ShrunkList E) (prefixes : List (List ℕ)) (answers : List Answer) (machine : ℕ) (es : List Entry) (image : Image) → machine ≡ image.header.e_machine → es ≡ unwrap_or image.entries []
-    → IfOk r (λ made. map entry_kept made.entries.items ≡ with_run_paths_shrunk (search_of machine prefixes answers es) es)
-    → IfOk r (λ made. map removal_meant made.removed.items ≡ directories_removed (search_of machine prefixes answers es) es)
+    → IfOk r (λ made. map entry_model made.entries.items ≡ with_run_paths_shrunk (search_of machine prefixes answers es) es)
+    → IfOk r (λ made. map removal_model made.removed.items ≡ directories_removed (search_of machine prefixes answers es) es)
     → IfOk r (IsShrunkOf (ShrinkRunPath prefixes answers) image)
 unfolding edited_entries
 shrunk_is (Ok made) prefixes answers machine es image of_machine of_list list gone = record {
@@ -71,21 +71,21 @@ module _ (prefixes : List (List ℕ)) (answers : List Answer) (old : Image) (non
   listed : unwrap_or old.entries [] ≡ there.0
   listed = ap (λ o. unwrap_or o []) there.1
 
-  shrunk_entries : (made : ShrunkList) → IsShrunkOf (ShrinkRunPath prefixes answers) old made → map entry_kept made.entries.items ≡ edited_entries old.header.e_machine (ShrinkRunPath prefixes answers) there.0
+  shrunk_entries : (made : ShrunkList) → IsShrunkOf (ShrinkRunPath prefixes answers) old made → map entry_model made.entries.items ≡ edited_entries old.header.e_machine (ShrinkRunPath prefixes answers) there.0
   shrunk_entries made is = is.entries ∙ ap (edited_entries old.header.e_machine (ShrinkRunPath prefixes answers)) listed
 
-  pub can_put : (made : ShrunkList) → ListsEntries old → IsShrunkOf (ShrinkRunPath prefixes answers) old made → CanPut old (map entry_kept made.entries.items)
+  pub can_put : (made : ShrunkList) → ListsEntries old → IsShrunkOf (ShrinkRunPath prefixes answers) old made → CanPut old (map entry_model made.entries.items)
   unfolding cause
   can_put made all is =
       let free = is_free (ShrinkRunPath prefixes answers) (facts_of old) none in
       let again = lists_again old.header.e_machine (ShrinkRunPath prefixes answers) there.0 free.texts (subst (λ (o : Option (List Entry)). All IsListed (unwrap_or o [])) there.1 all) in
       record {
-        tables = subst (λ (o : Option (List Entry)). KeepsTables o (map entry_kept made.entries.items)) (sym there.1) (subst (λ (l : List Entry). KeepsTables (Some there.0) l) (sym (shrunk_entries made is)) again.tables);
+        tables = subst (λ (o : Option (List Entry)). KeepsTables o (map entry_model made.entries.items)) (sym there.1) (subst (λ (l : List Entry). KeepsTables (Some there.0) l) (sym (shrunk_entries made is)) again.tables);
         entries = subst (λ (l : List Entry). All IsListed l) (sym (shrunk_entries made is)) again.listed;
       }
 
   -- the directories that went
-  pub removed_are : (made : ShrunkList) → IsShrunkOf (ShrinkRunPath prefixes answers) old made → map removal_meant made.removed.items ≡ removed_by (ShrinkRunPath prefixes answers) old
+  pub removed_are : (made : ShrunkList) → IsShrunkOf (ShrinkRunPath prefixes answers) old made → map removal_model made.removed.items ≡ removed_by (ShrinkRunPath prefixes answers) old
   removed_are made is =
       is.removed
       ∙ ap (λ (o : Option (List Entry)). removed_by (ShrinkRunPath prefixes answers) (record old { entries = Some (unwrap_or o []) })) there.1
@@ -98,12 +98,12 @@ module _ (prefixes : List (List ℕ)) (answers : List Answer) (old : Image) (non
       ap (is_list_with (touches_entries old.header.e_machine (ShrinkRunPath prefixes answers))) there.1
       ∙ sym (ap (λ (o : Option (List Entry)). has_some (removed_by (ShrinkRunPath prefixes answers) (record old { entries = o }))) there.1)
       ∙ sym (ap has_some (removed_are made is))
-      ∙ some_changed removal_meant made.removed.items
+      ∙ some_changed removal_model made.removed.items
 
   pub some_gone : (made : ShrunkList) (new : Image) → IsShrunkOf (ShrinkRunPath prefixes answers) old made → has_some made.removed.items ≡ true
-      → new ≡ record old { changed = true; entries = Some (map entry_kept made.entries.items) } → step (ShrinkRunPath prefixes answers) old ≡ Ok new
+      → new ≡ record old { changed = true; entries = Some (map entry_model made.entries.items) } → step (ShrinkRunPath prefixes answers) old ≡ Ok new
   some_gone made new is some put =
-      let listed_new : option_map (edited_entries old.header.e_machine (ShrinkRunPath prefixes answers)) old.entries ≡ Some (map entry_kept made.entries.items) =
+      let listed_new : option_map (edited_entries old.header.e_machine (ShrinkRunPath prefixes answers)) old.entries ≡ Some (map entry_model made.entries.items) =
       ap (option_map (edited_entries old.header.e_machine (ShrinkRunPath prefixes answers))) there.1 ∙ ap Some (sym (shrunk_entries made is)) in
       step_is (ShrinkRunPath prefixes answers) old none
       ∙ ap Ok (rest_stays (ShrinkRunPath prefixes answers) refl old

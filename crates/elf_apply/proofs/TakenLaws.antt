@@ -22,7 +22,7 @@ use Rattle.elf_apply.specs.declared.error.ElfError.{ElfError}
 use Rattle.elf_apply.specs.declared.error.ElfError.TheVariants.{InvalidDtNeededEncoding, Io, Memory, Modify, Parse, Write}
 use Rattle.elf_apply.specs.declared.error.ModifyCause.{ModifyCause}
 use Rattle.elf_apply.specs.Drafted.{OnlyShows, Writes, drafted, with_retagged}
-use Rattle.elf_apply.specs.Taken.{edits_meant}
+use Rattle.elf_apply.specs.Taken.{edits_model}
 use Rattle.elf_apply.specs.Told.{IsRefusedAt, IsRefusedFor, Refuses, RefusesAt, cause_told}
 use Rattle.elf_apply.proofs.DraftLaws.{by_test, image_with, or_false, or_true, page_size_edit}
 
@@ -37,14 +37,14 @@ refused edit old e reason tells some = subst (λ (answer : Result Image Cause). 
 -- ## Batches
 
 -- no edits leave the image
-pub no_edits_taken : (edits : List ElfEdit) (old : Image) → edits ≡ [] → run (edits_meant edits) old ≡ Ok old
+pub no_edits_taken : (edits : List ElfEdit) (old : Image) → edits ≡ [] → run (edits_model edits) old ≡ Ok old
 unfolding run_from
 no_edits_taken [] old none = refl
 no_edits_taken (edit ∷ edits) old none = absurd (cc)
 
-pub batch_taken : (edits : List ElfEdit) (old new : Image) (d : Draft) → first_refusal (facts_of old) 0 (edits_meant edits) ≡ None → OnlyShows old (all_edited (edits_meant edits) old) d → new ≡ drafted d old → run (edits_meant edits) old ≡ Ok new
+pub batch_taken : (edits : List ElfEdit) (old new : Image) (d : Draft) → first_refusal (facts_of old) 0 (edits_model edits) ≡ None → OnlyShows old (all_edited (edits_model edits) old) d → new ≡ drafted d old → run (edits_model edits) old ≡ Ok new
 batch_taken edits old new d none only put =
-    batch_decided edits 0 old ∙ ap (λ o. unless_refused o (all_edited (edits_meant edits) old)) none ∙ ap Ok (sym (put ∙ only.shows))
+    batch_decided edits 0 old ∙ ap (λ o. unless_refused o (all_edited (edits_model edits) old)) none ∙ ap Ok (sym (put ∙ only.shows))
 
 told_at : (e : ElfError) (index : ℕ) (reason : Cause) → Refuses e (Err reason) → RefusesAt index e (Err (record { index = index; cause = reason }))
 told_at Memory index reason h = tt
@@ -58,10 +58,10 @@ told_at (Parse fault) index reason h = h
 told_at (Write fault) index reason h = h
 told_at InvalidDtNeededEncoding index reason h = h
 
-pub batch_refused : (edits : List ElfEdit) (old : Image) (e : ElfError) (index : ℕ) (reason : Cause) → Refuses e (Err reason) → first_refusal (facts_of old) 0 (edits_meant edits) ≡ Some (record { index = index; cause = reason }) → RefusesAt index e (run (edits_meant edits) old)
+pub batch_refused : (edits : List ElfEdit) (old : Image) (e : ElfError) (index : ℕ) (reason : Cause) → Refuses e (Err reason) → first_refusal (facts_of old) 0 (edits_model edits) ≡ Some (record { index = index; cause = reason }) → RefusesAt index e (run (edits_model edits) old)
 batch_refused edits old e index reason tells some =
     subst (λ (answer : Result Image Refusal). RefusesAt index e answer)
-    (sym (batch_decided edits 0 old ∙ ap (λ o. unless_refused o (all_edited (edits_meant edits) old)) some))
+    (sym (batch_decided edits 0 old ∙ ap (λ o. unless_refused o (all_edited (edits_model edits) old)) some))
     (told_at e index reason tells)
 
 -- ## In place

@@ -6,14 +6,14 @@ use Rattle.elf_image.specs.Dynamic.{Entry}
 use Rattle.elf_image.specs.DynamicList.{IsListed, KeepsTables}
 use Rattle.elf_image.specs.File.{segment_of_type}
 use Rattle.elf_image.specs.Image.{Image, lists_tag}
-use Rattle.elf_image.specs.ImageSeen.{entry_kept, text_kept}
+use Rattle.elf_image.specs.ImageModel.{entry_model, text_model}
 use Rattle.elf_image.specs.Options.{first_there}
 use Rattle.elf_edits.specs.declared.constants.TheConstants.{STACK_FLAGS}
 use Rattle.elf_edits.specs.Edit.{all_but_last}
 use Rattle.elf_edits.specs.Edited.{with_load_align, with_stack_changed}
 use Rattle.elf_edits.specs.declared.shrinking.ShrunkList.{ShrunkList}
 use Rattle.elf_edits.specs.Entries.{edited_entries, retagged}
-use Rattle.elf_edits.specs.ShrunkSeen.{removal_meant}
+use Rattle.elf_edits.specs.ShrunkModel.{removal_model}
 use Rattle.elf_edits.specs.Texts.{holds_nul}
 use Rattle.elf_edits.specs.declared.list.NewList.{NewList}
 use Rattle.elf_edits.specs.Edit.{Edit}
@@ -25,7 +25,7 @@ use Rattle.elf_apply.specs.declared.draft.Draft.{Draft}
 
 -- the dynamic list of a draft
 abbrev pub entries_drafted : Draft → Option (List Entry)
-entries_drafted d = option_map (λ list. map entry_kept list.items) d.entries
+entries_drafted d = option_map (λ list. map entry_model list.items) d.entries
 
 -- some part was written
 abbrev pub is_written : Draft → Bool
@@ -48,7 +48,7 @@ drafted d image = record image {
   header = record image.header { os_abi = unwrap_or d.os_abi image.header.os_abi };
   segments = with_page_size d.page_size (with_flags d.stack_flags image.segments);
   entries = first_there (entries_drafted d) image.entries;
-  interpreter = first_there (text_kept d.interpreter) image.interpreter;
+  interpreter = first_there (text_model d.interpreter) image.interpreter;
   page_size = first_there d.page_size image.page_size;
 }
 
@@ -68,8 +68,8 @@ ListsEntries image = All IsListed (unwrap_or image.entries [])
 pub record IsDraftOf (image : Image) (d : Draft) : Type 0 where
   pub tables : IfSome (entries_drafted d) (KeepsTables image.entries)
   pub entries : IfSome (entries_drafted d) (All IsListed)
-  pub interpreter_there : IfSome (text_kept d.interpreter) (λ _. IsSome image.interpreter)
-  pub interpreter : IfSome (text_kept d.interpreter) (λ bytes. holds_nul (all_but_last bytes) ≡ false)
+  pub interpreter_there : IfSome (text_model d.interpreter) (λ _. IsSome image.interpreter)
+  pub interpreter : IfSome (text_model d.interpreter) (λ bytes. holds_nul (all_but_last bytes) ≡ false)
 
 -- a draft of an image that shows another one
 pub record OnlyShows (image shown : Image) (d : Draft) : Type 0 where
@@ -104,7 +104,7 @@ abbrev pub with_interpreter_put : Option (List ℕ) → Image → Image
 with_interpreter_put bytes image = record image { changed = changed_if bytes image.changed; interpreter = first_there bytes image.interpreter }
 
 abbrev pub with_entries_put : Option (Vec Dynamic Global) → Image → Image
-with_entries_put list image = record image { changed = changed_if list image.changed; entries = first_there (option_map (λ l. map entry_kept l.items) list) image.entries }
+with_entries_put list image = record image { changed = changed_if list image.changed; entries = first_there (option_map (λ l. map entry_model l.items) list) image.entries }
 
 -- an interpreter is there, and the bytes have a NUL last alone
 pub record CanPutInterpreter (image : Image) (bytes : Option (List ℕ)) : Type 0 where
@@ -113,8 +113,8 @@ pub record CanPutInterpreter (image : Image) (bytes : Option (List ℕ)) : Type 
 
 -- a list is there, and the other one names its tables
 pub record CanPutEntries (image : Image) (list : Option (Vec Dynamic Global)) : Type 0 where
-  pub tables : IfSome list (λ l. KeepsTables image.entries (map entry_kept l.items))
-  pub entries : IfSome list (λ l. All IsListed (map entry_kept l.items))
+  pub tables : IfSome list (λ l. KeepsTables image.entries (map entry_model l.items))
+  pub entries : IfSome list (λ l. All IsListed (map entry_model l.items))
 
 -- ## In place
 
@@ -127,5 +127,5 @@ with_retagged old new image = record image {
 
 -- a list whose run paths shrank, with the directories that went
 pub record IsShrunkOf (edit : Edit) (image : Image) (made : ShrunkList) : Type 0 where
-  pub entries : map entry_kept made.entries.items ≡ edited_entries image.header.e_machine edit (unwrap_or image.entries [])
-  pub removed : map removal_meant made.removed.items ≡ removed_by edit (record image { entries = Some (unwrap_or image.entries []) })
+  pub entries : map entry_model made.entries.items ≡ edited_entries image.header.e_machine edit (unwrap_or image.entries [])
+  pub removed : map removal_model made.removed.items ≡ removed_by edit (record image { entries = Some (unwrap_or image.entries []) })

@@ -7,11 +7,11 @@ use Rattle.elf_edits.specs.declared.call.ElfEdit.{ElfEdit}
 use Rattle.elf_edits.specs.declared.shrink.ProbeAnswer.{ProbeAnswer}
 use Rattle.elf_edits.specs.declared.shrink.Removed.{Removed}
 use Rattle.elf_edits.specs.Batch.{Refusal, run}
-use Rattle.elf_edits.specs.Called.{Bytes, answer_held, edit_meant, texts_held}
+use Rattle.elf_edits.specs.Called.{Bytes, answer_model, edit_model, texts_model}
 use Rattle.elf_edits.specs.Cause.{Cause}
 use Rattle.elf_edits.specs.Edit.{Edit, ShrinkRunPath}
 use Rattle.elf_edits.specs.Edited.{removed_by, step}
-use Rattle.elf_edits.specs.ShrunkSeen.{removal_meant}
+use Rattle.elf_edits.specs.ShrunkModel.{removal_model}
 use Rattle.elf_apply.specs.declared.batch.ElfBatchError.{ElfBatchError}
 use Rattle.elf_apply.specs.declared.error.ElfError.{ElfError}
 use Rattle.elf_apply.specs.Told.{Refuses, RefusesBatch, TellsCause}
@@ -33,16 +33,16 @@ TakesInPlace edit old new answer = Takes TellsCause edit old new answer
 
 -- the directories that are told are just those that the edit removes, in order
 abbrev pub RemovedAre : Edit → Image → Vec Removed Global → Type 0
-RemovedAre edit old removed = map removal_meant removed.items ≡ removed_by edit old
+RemovedAre edit old removed = map removal_model removed.items ≡ removed_by edit old
 
 -- the edit that shrinks run paths by these prefixes and what was found
-abbrev pub shrink_meant : List Bytes → List ProbeAnswer → Edit
-shrink_meant prefixes probe = ShrinkRunPath (texts_held prefixes) (map answer_held probe)
+abbrev pub shrink_model : List Bytes → List ProbeAnswer → Edit
+shrink_model prefixes probe = ShrinkRunPath (texts_model prefixes) (map answer_model probe)
 
 -- ## Batches
 
-abbrev pub edits_meant : List ElfEdit → List Edit
-edits_meant edits = map edit_meant edits
+abbrev pub edits_model : List ElfEdit → List Edit
+edits_model edits = map edit_model edits
 
 -- an answer to a batch, and what it leaves: all its edits, one after the other; or what was there, and the first edit
 -- that is refused
@@ -82,5 +82,5 @@ abbrev pub LeavesEach : List (List Edit) → Image → Image → Vec (Result (Un
 LeavesEach batches old new answers = new ≡ left_upon_all batches answers.items old
 
 -- the edits of a list of batches
-abbrev pub batches_meant : List (Vec ElfEdit Global) → List (List Edit)
-batches_meant batches = map (λ batch. edits_meant batch.items) batches
+abbrev pub batches_model : List (Vec ElfEdit Global) → List (List Edit)
+batches_model batches = map (λ batch. edits_model batch.items) batches

@@ -4,7 +4,7 @@ use Rattle.elf_image.specs.Image.{Image}
 use Rattle.elf_edits.specs.Batch.{Refusal}
 use Rattle.elf_edits.specs.Cause.{BadPageSize, Cause, MipsImage, NoDynamic, NoInterpreter, NoRunPath, NulInText, TooManyHeaders, UnknownAbi}
 use Rattle.elf_edits.specs.declared.cause.Cause.{Cause as CauseFound}
-use Rattle.elf_edits.specs.CauseSeen.{cause_meant, words_of}
+use Rattle.elf_edits.specs.CauseModel.{cause_model, words_of}
 use Rattle.elf_apply.specs.declared.batch.ElfBatchError.{ElfBatchError}
 use Rattle.elf_apply.specs.declared.error.ElfError.{ElfError}
 use Rattle.elf_apply.specs.declared.error.ElfError.TheVariants.{Memory, Modify}
@@ -57,5 +57,5 @@ abbrev pub RefusesBatch : ElfBatchError → Result Image Refusal → Type 0
 RefusesBatch e answer = RefusesAt e.index e.fault answer
 
 -- a refused edit of a batch, with the cause that is found
-abbrev pub refusal_meant : ℕ × CauseFound → Refusal
-refusal_meant (index, cause) = record { index = index; cause = cause_meant cause }
+abbrev pub refusal_model : ℕ × CauseFound → Refusal
+refusal_model (index, cause) = record { index = index; cause = cause_model cause }

@@ -2,12 +2,12 @@
 ghost use Rattle.std.specs.Prelude.{◌≡◌, [], false, IfOk, MatchResult, None as none, Some as some, map, option_map, unwrap_or};
 ghost use Rattle.patch_bytes.specs.ByteString.{owned_string};
 ghost use Rattle.elf_edits.specs.Abi.{with_nul as stored_with_nul};
-ghost use Rattle.elf_edits.specs.Called.{call_meant, edit_meant, texts_held};
+ghost use Rattle.elf_edits.specs.Called.{call_model, edit_model, texts_model};
 ghost use Rattle.elf_edits.specs.Cause.{facts_of, first_cause};
 ghost use Rattle.elf_edits.specs.Edit.{DeleteNeeded};
 ghost use Rattle.elf_edits.specs.Edited.{touches_rest};
 ghost use Rattle.elf_image.specs.Image.{Image};
-ghost use Rattle.elf_image.specs.ImageSeen.{entry_kept, text_kept};
+ghost use Rattle.elf_image.specs.ImageModel.{entry_model, text_model};
 ghost use Rattle.elf_image.specs.Options.{first_there};
 ghost use Rattle.elf_apply.specs.Drafted.{CanPutEntries, CanPutInterpreter, IsDraftOf, ListsEntries, OnlyShows, Writes, drafted, entries_drafted, flags_now, with_entries_put, with_flags_put, with_interpreter_put, with_list, with_os_abi_put, with_page_size_put};
 
@@ -45,7 +45,7 @@ impl<'data> Draft<'data> {
 
     // The dynamic list with what was written; there is none without one.
     fn list<'s>(&'s self, builder: &'s Builder<'data>) -> &'s [Dynamic<'data>]
-        ensures { map entry_kept result.now
+        ensures { map entry_model result.now
             ≡ unwrap_or (first_there (entries_drafted self.now) builder.now.entries) [] }
     {
         match &self.entries {
@@ -94,11 +94,11 @@ impl<'data> Draft<'data> {
         builder: &Builder<'data>,
         call: &EditCall<'_>,
     ) -> Result<(), AllocError>
-        requires list { touches_rest (call_meant call.now) ≡ false }
-        requires free { first_cause (call_meant call.now) (facts_of builder.now) ≡ none }
+        requires list { touches_rest (call_model call.now) ≡ false }
+        requires free { first_cause (call_model call.now) (facts_of builder.now) ≡ none }
         requires listed { ListsEntries builder.now }
         requires draft { IsDraftOf builder.now self.old }
-        ensures { IfOk result (λ _. Writes (call_meant call.now) builder.now self.old self.new) }
+        ensures { IfOk result (λ _. Writes (call_model call.now) builder.now self.old self.new) }
     {
         let made = edited(alloc, call, self.list(builder))?;
         self.note_list(made);
@@ -113,10 +113,10 @@ impl<'data> Draft<'data> {
         builder: &Builder<'data>,
         call: &EditCall<'_>,
     ) -> Result<(), AllocError>
-        requires free { first_cause (call_meant call.now) (facts_of builder.now) ≡ none }
+        requires free { first_cause (call_model call.now) (facts_of builder.now) ≡ none }
         requires listed { ListsEntries builder.now }
         requires draft { IsDraftOf builder.now self.old }
-        ensures { IfOk result (λ _. Writes (call_meant call.now) builder.now self.old self.new) }
+        ensures { IfOk result (λ _. Writes (call_model call.now) builder.now self.old self.new) }
     {
         match call {
             EditCall::SetInterpreter(bytes) => self.write_interpreter(alloc, bytes),
@@ -148,11 +148,11 @@ impl<'data> Draft<'data> {
         builder: &Builder<'data>,
         names: &[Vec<u8>],
     ) -> Result<(), AllocError>
-        requires free { first_cause (DeleteNeeded (texts_held names.now)) (facts_of builder.now)
+        requires free { first_cause (DeleteNeeded (texts_model names.now)) (facts_of builder.now)
             ≡ none }
         requires listed { ListsEntries builder.now }
         requires draft { IsDraftOf builder.now self.old }
-        ensures { IfOk result (λ _. Writes (DeleteNeeded (texts_held names.now)) builder.now
+        ensures { IfOk result (λ _. Writes (DeleteNeeded (texts_model names.now)) builder.now
             self.old self.new) }
     {
         let made = without_names(alloc, names, self.list(builder))?;
@@ -168,10 +168,10 @@ impl<'data> Draft<'data> {
         builder: &Builder<'data>,
         edit: &ElfEdit,
     ) -> Result<(), AllocError>
-        requires free { first_cause (edit_meant edit.now) (facts_of builder.now) ≡ none }
+        requires free { first_cause (edit_model edit.now) (facts_of builder.now) ≡ none }
         requires listed { ListsEntries builder.now }
         requires draft { IsDraftOf builder.now self.old }
-        ensures { IfOk result (λ _. Writes (edit_meant edit.now) builder.now self.old self.new) }
+        ensures { IfOk result (λ _. Writes (edit_model edit.now) builder.now self.old self.new) }
     {
         if let Some(call) = edit.lend() {
             return self.write(alloc, builder, &call);
@@ -253,8 +253,8 @@ fn put_os_abi(builder: &mut Builder<'_>, number: Option<u8>)
 }
 
 fn put_interpreter<'data>(builder: &mut Builder<'data>, bytes: Option<ByteString<'data>>)
-    requires { CanPutInterpreter builder.old (text_kept bytes) }
-    ensures { builder.new ≡ with_interpreter_put (text_kept bytes.entry) builder.old }
+    requires { CanPutInterpreter builder.old (text_model bytes) }
+    ensures { builder.new ≡ with_interpreter_put (text_model bytes.entry) builder.old }
 {
     if let Some(bytes) = bytes {
         builder.set_interp(bytes);

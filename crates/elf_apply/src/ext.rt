@@ -2,7 +2,7 @@ ghost use Rattle.std.specs.Prelude.{◌≡◌, IfOk, IsOk, IsSome, MatchResult, 
 ghost use Rattle.std.specs.Borrow.{sem};
 ghost use Rattle.elf_format.specs.declared.constants.TheConstants.{PT_GNU_STACK as STACK};
 ghost use Rattle.elf_image.specs.File.{segment_of_type};
-ghost use Rattle.elf_image.specs.ImageSeen.{segment_kept};
+ghost use Rattle.elf_image.specs.ImageModel.{segment_model};
 ghost use Rattle.elf_apply.specs.Drafted.{stack_flags_of};
 ghost use Rattle.elf_apply.specs.StackLent.{LendsAddedFlags, LendsFlagsThere, LendsStackFlags, TellsWhy, flags_to_lend, stack_cause};
 
@@ -22,7 +22,7 @@ pub trait BuilderExt<'data> {
 
     /// The first PT_GNU_STACK, whose flags say whether the stack may be run (GNU extension). Takes no memory.
     fn gnu_stack(&self) -> Option<&Segment<'data>>
-        ensures { option_map (λ p. segment_kept p.now) result
+        ensures { option_map (λ p. segment_model p.now) result
             ≡ segment_of_type STACK (image self.now).segments };
 
     /// Lends the flags of the first PT_GNU_STACK (GNU extension), and the image counts as changed; `None` without one,

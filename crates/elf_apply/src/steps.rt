@@ -1,6 +1,6 @@
 //! One edit, and a batch of edits, upon an image.
 ghost use Rattle.std.specs.Prelude.{◌≡◌, IfOk, IsOk, IsTrue, None as none, [], map, option_map, unwrap_or};
-ghost use Rattle.elf_edits.specs.Called.{call_meant, texts_held};
+ghost use Rattle.elf_edits.specs.Called.{call_model, texts_model};
 ghost use Rattle.elf_edits.specs.Cause.{cause as first_cause_against, facts_of};
 ghost use Rattle.elf_edits.specs.Decided.{all_edited, first_refusal as first_refusal_of};
 ghost use Rattle.elf_edits.specs.Edit.{DeleteNeeded, DeleteRunPath, SetPageSize, UseRpath, UseRunpath};
@@ -8,10 +8,10 @@ ghost use Rattle.elf_edits.specs.Edited.{edited_image};
 ghost use Rattle.elf_edits.specs.Entries.{has_tag as has_that_tag};
 ghost use Rattle.elf_image.specs.DynamicList.{can_follow};
 ghost use Rattle.elf_image.specs.Image.{lists_tag as has_entry_with};
-ghost use Rattle.elf_image.specs.ImageSeen.{entry_kept};
+ghost use Rattle.elf_image.specs.ImageModel.{entry_model};
 ghost use Rattle.elf_apply.specs.Drafted.{IsShrunkOf, ListsEntries, OnlyShows, with_retagged};
-ghost use Rattle.elf_apply.specs.Taken.{RemovedAre, TakesBatch, TakesEdit, TakesInPlace, edits_meant, shrink_meant};
-ghost use Rattle.elf_apply.specs.Told.{refusal_meant};
+ghost use Rattle.elf_apply.specs.Taken.{RemovedAre, TakesBatch, TakesEdit, TakesInPlace, edits_model, shrink_model};
+ghost use Rattle.elf_apply.specs.Told.{refusal_model};
 
 use crate::batch::ElfBatchError;
 use crate::draft::Draft;
@@ -27,7 +27,7 @@ use elf_image::{Builder, Dynamic};
 use std::alloc::{AllocError, Global};
 
 // The image, of which a proof then knows that each entry of its list may stand there.
-fn known<'s, 'data>(builder: &'s Builder<'data>) -> &'s Builder<'data>
+fn known_image<'s, 'data>(builder: &'s Builder<'data>) -> &'s Builder<'data>
     ensures same { result.now ≡ builder.now }
     ensures lists { ListsEntries builder.now }
 {
@@ -41,18 +41,18 @@ fn written<'data>(
     builder: &Builder<'data>,
     call: &EditCall<'_>,
 ) -> std::result::Result<Draft<'data>, AllocError>
-    requires { first_cause_against (call_meant call.now) builder.now ≡ none }
-    ensures { IfOk result (OnlyShows builder.now (edited_image (call_meant call.now) builder.now)) }
+    requires { first_cause_against (call_model call.now) builder.now ≡ none }
+    ensures { IfOk result (OnlyShows builder.now (edited_image (call_model call.now) builder.now)) }
 {
     let mut draft = Draft::new();
-    draft.write(alloc, known(builder), call)?;
+    draft.write(alloc, known_image(builder), call)?;
     Ok(draft)
 }
 
 /// One edit: a batch of one, with values that are lent. Errors: `Modify` with the cause that stands against it,
 /// `Memory`; the image is then as it was.
 pub fn edit(builder: &mut Builder<'_>, alloc: Global, call: &EditCall<'_>) -> Result<()>
-    ensures { TakesEdit (call_meant call.now) builder.old builder.new result }
+    ensures { TakesEdit (call_model call.now) builder.old builder.new result }
 {
     if let Some(cause) = cause_of(call, &image_facts(builder)) {
         return Err(told(alloc, cause));
@@ -68,18 +68,18 @@ fn written_without<'data>(
     builder: &Builder<'data>,
     names: &[Vec<u8>],
 ) -> std::result::Result<Draft<'data>, AllocError>
-    requires { first_cause_against (DeleteNeeded (texts_held names.now)) builder.now ≡ none }
+    requires { first_cause_against (DeleteNeeded (texts_model names.now)) builder.now ≡ none }
     ensures { IfOk result (OnlyShows builder.now
-        (edited_image (DeleteNeeded (texts_held names.now)) builder.now)) }
+        (edited_image (DeleteNeeded (texts_model names.now)) builder.now)) }
 {
     let mut draft = Draft::new();
-    draft.write_without(alloc, known(builder), names)?;
+    draft.write_without(alloc, known_image(builder), names)?;
     Ok(draft)
 }
 
 /// Drops the needed libraries of these names (gABI, Dynamic Section, `DT_NEEDED`). Errors as of `edit`.
 pub fn delete_needed(builder: &mut Builder<'_>, alloc: Global, names: &[Vec<u8>]) -> Result<()>
-    ensures { TakesEdit (DeleteNeeded (texts_held names.now)) builder.old builder.new result }
+    ensures { TakesEdit (DeleteNeeded (texts_model names.now)) builder.old builder.new result }
 {
     if let Some(cause) = removal_cause(names, &image_facts(builder)) {
         return Err(told(alloc, cause));
@@ -95,10 +95,10 @@ fn all_written<'data>(
     builder: &Builder<'data>,
     edits: &[ElfEdit],
 ) -> std::result::Result<Draft<'data>, AllocError>
-    requires { first_refusal_of (facts_of builder.now) 0 (edits_meant edits.now) ≡ none }
-    ensures { IfOk result (OnlyShows builder.now (all_edited (edits_meant edits.now) builder.now)) }
+    requires { first_refusal_of (facts_of builder.now) 0 (edits_model edits.now) ≡ none }
+    ensures { IfOk result (OnlyShows builder.now (all_edited (edits_model edits.now) builder.now)) }
 {
-    let builder = known(builder);
+    let builder = known_image(builder);
     let mut draft = Draft::new();
     for edit in edits {
         draft.write_edit(alloc, builder, edit)?;
@@ -108,8 +108,8 @@ fn all_written<'data>(
 
 // The first edit that is refused, and why.
 fn first_refusal<'e>(edits: &'e [ElfEdit], facts: &Facts) -> Option<(usize, Cause<'e>)>
-    ensures { option_map refusal_meant result
-        ≡ first_refusal_of facts.now 0 (edits_meant edits.now) }
+    ensures { option_map refusal_model result
+        ≡ first_refusal_of facts.now 0 (edits_model edits.now) }
 {
     for (index, edit) in edits.iter().enumerate() {
         if let Some(cause) = cause_of_edit(edit, facts) {
@@ -126,7 +126,7 @@ pub fn apply(
     alloc: Global,
     edits: &[ElfEdit],
 ) -> std::result::Result<(), ElfBatchError>
-    ensures takes { TakesBatch (edits_meant edits.now) builder.old builder.new result }
+    ensures takes { TakesBatch (edits_model edits.now) builder.old builder.new result }
     ensures none { edits.now ≡ [] → IsOk result }
 {
     if edits.is_empty() {
@@ -158,7 +158,7 @@ pub fn delete_run_paths(builder: &mut Builder<'_>) -> Result<()>
 
 // Whether the entry has this tag.
 fn has_tag(entry: &Dynamic<'_>, tag: u64) -> bool
-    ensures { result ≡ has_that_tag tag (entry_kept entry.now) }
+    ensures { result ≡ has_that_tag tag (entry_model entry.now) }
 {
     match entry {
         Dynamic::Auto { tag: own } => *own == tag,
@@ -169,7 +169,7 @@ fn has_tag(entry: &Dynamic<'_>, tag: u64) -> bool
 
 // Whether an entry has this tag.
 fn lists_tag(entries: &[Dynamic<'_>], tag: u64) -> bool
-    ensures { result ≡ has_entry_with tag (map entry_kept entries.now) }
+    ensures { result ≡ has_entry_with tag (map entry_model entries.now) }
 {
     for entry in entries {
         if has_tag(entry, tag) {
@@ -181,7 +181,7 @@ fn lists_tag(entries: &[Dynamic<'_>], tag: u64) -> bool
 
 // The entries of the dynamic list, none without one.
 fn entries<'s, 'data>(builder: &'s Builder<'data>) -> &'s [Dynamic<'data>]
-    ensures { map entry_kept result.now ≡ unwrap_or builder.now.entries [] }
+    ensures { map entry_model result.now ≡ unwrap_or builder.now.entries [] }
 {
     builder.dynamic_data().unwrap_or_default()
 }
@@ -237,7 +237,7 @@ fn shrunk<'data>(
     prefixes: &[Vec<u8>],
     probe: &[ProbeAnswer<'_>],
 ) -> std::result::Result<ShrunkList<'data>, AllocError>
-    ensures { IfOk result (IsShrunkOf (shrink_meant prefixes.now probe.now) builder.now) }
+    ensures { IfOk result (IsShrunkOf (shrink_model prefixes.now probe.now) builder.now) }
 {
     let machine = builder.header().e_machine;
     shrink(alloc, machine, prefixes, probe, entries(builder))
@@ -251,13 +251,13 @@ pub fn shrink_run_paths(
     prefixes: &[Vec<u8>],
     probe: &[ProbeAnswer<'_>],
 ) -> Result<Vec<Removed>>
-    ensures takes { TakesEdit (shrink_meant prefixes.now probe.now) builder.old builder.new result }
-    ensures removed { IfOk result (RemovedAre (shrink_meant prefixes.now probe.now) builder.old) }
+    ensures takes { TakesEdit (shrink_model prefixes.now probe.now) builder.old builder.new result }
+    ensures removed { IfOk result (RemovedAre (shrink_model prefixes.now probe.now) builder.old) }
 {
     if let Some(cause) = shrink_cause(prefixes, &image_facts(builder)) {
         return Err(told(alloc, cause));
     }
-    let made = shrunk(alloc, known(builder), prefixes, probe)?;
+    let made = shrunk(alloc, known_image(builder), prefixes, probe)?;
     let ShrunkList { entries, removed } = made;
     if !removed.is_empty() {
         builder.set_dynamic(entries);

@@ -2,7 +2,7 @@
 ghost use Rattle.std.specs.Prelude.{◌≡◌, ◌==◌, Err, Some as some, not, option_map};
 ghost use Rattle.elf_edits.specs.Abi.{lowered};
 ghost use Rattle.elf_edits.specs.Cause.{BadPageSize as bad_page_size, MipsImage as mips_image, NoDynamic as no_dynamic, TooManyHeaders as too_many_headers, UnknownAbi, cause_if, is_page_size};
-ghost use Rattle.elf_edits.specs.CauseSeen.{cause_meant, words_of};
+ghost use Rattle.elf_edits.specs.CauseModel.{cause_model, words_of};
 ghost use Rattle.elf_format.specs.declared.constants.TheConstants.{EM_MIPS as MIPS};
 ghost use Rattle.elf_image.specs.Options.{first_there};
 ghost use Rattle.elf_apply.specs.Told.{Refuses, cause_told};
@@ -16,7 +16,7 @@ use std::alloc::Global;
 // The error that tells a cause: a name with its ASCII letters lowered. Where there is no memory for the name, the error
 // tells that.
 pub(crate) fn told(alloc: Global, cause: Cause<'_>) -> ElfError
-    ensures { Refuses result (Err (cause_meant cause.entry)) }
+    ensures { Refuses result (Err (cause_model cause.entry)) }
 {
     match cause {
         Cause::MipsImage => ElfError::Modify(ModifyCause::MipsImage),

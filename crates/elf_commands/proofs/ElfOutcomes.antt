@@ -12,7 +12,7 @@ use Rattle.elf_edits.specs.Edited.{step}
 use Rattle.elf_edits.specs.Laws.{BatchesAreTheirEdits, EditsShow, viewed}
 use Rattle.elf_apply.specs.Causes.{FailsPrint}
 use Rattle.elf_apply.specs.Told.{RefusesAt, RefusesBatch}
-use Rattle.arwen_elf.specs.WriterSeen.{ShowsBothViews}
+use Rattle.arwen_elf.specs.WriterModel.{ShowsBothViews}
 use Rattle.arwen_elf.specs.Written.{IsEditWritten, IsImageWritten, IsNoImage}
 use Rattle.elf_apply.specs.declared.batch.ElfBatchError.{ElfBatchError}
 use Rattle.elf_apply.specs.declared.error.ElfError.{ElfError}

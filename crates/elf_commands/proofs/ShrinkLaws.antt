@@ -17,7 +17,7 @@ use Rattle.elf_image.specs.Image.{Image, image_of, shown}
 use Rattle.elf_image.specs.ReadImage.{ReadImagesHoldParts}
 use Rattle.elf_apply.specs.Causes.{RefusesRead}
 use Rattle.elf_apply.specs.Told.{IsRefusedAt, IsRefusedFor, Refuses, RefusesAt, cause_told}
-use Rattle.arwen_elf.specs.WriterSeen.{ShowsBothViews}
+use Rattle.arwen_elf.specs.WriterModel.{ShowsBothViews}
 use Rattle.arwen_elf.specs.Written.{IsImageWritten, IsNoImage}
 use Rattle.elf_apply.specs.declared.error.ElfError.{ElfError}
 use Rattle.elf_apply.specs.declared.error.ElfError.TheVariants as elf
@@ -25,7 +25,7 @@ use Rattle.elf_commands.specs.ElfAsked.{one, shrinking}
 use Rattle.elf_commands.specs.ElfEngine.{IsElfEdited, LeavesElf, MayFailAs, RunsElf, TellsEdit, TellsRun}
 use Rattle.elf_commands.specs.ElfAsked.{elf_asked}
 use Rattle.command_faults.specs.Fault.{answer_to_elf, answer_to_replaced}
-use Rattle.elf_commands.specs.Meaning.{elf_shown}
+use Rattle.elf_commands.specs.Meaning.{elf_command_model}
 use Rattle.command_words.specs.Rows.{Text}
 use Rattle.elf_commands.specs.ShrinkRuns.{AreChanged, AreFoundIn, FailsShrink, IsQuiet, IsShrunkBy, RunsCommand, ShrinksStore, TellsCommand, TellsShrink, TellsShrunk}
 use Rattle.elf_commands.specs.Shrinking.{AreFound, Finding}
@@ -221,11 +221,11 @@ refused_is_quiet w (MachoBatch e) = refl
 -- ## Any command
 
 pub others_run : (asked : ElfCommand) → ((args : Args) → asked ≡ command.ShrinkRpath args → ⊥) → (found : List Answer) (file : List ℕ) (answer : Option (Vec ℕ Global)) (old new : Option (List ℕ))
-    → RunsElf (elf_shown asked) (elf_asked (elf_shown asked)) file answer old new → RunsCommand (elf_shown asked) found file answer old new
+    → RunsElf (elf_command_model asked) (elf_asked (elf_command_model asked)) file answer old new → RunsCommand (elf_command_model asked) found file answer old new
 others_run (command.ShrinkRpath args) other found file answer old new runs = absurd (other args refl)
 others_run asked other found file answer old new runs = runs
 
 pub others_tell : {W : Type 0} (asked : ElfCommand) → ((args : Args) → asked ≡ command.ShrinkRpath args → ⊥) → (found : List Answer) (file : List ℕ) (old new : W) (e : ArwenError)
-    → TellsRun (elf_asked (elf_shown asked)) file old new e → TellsCommand (elf_shown asked) found file old new e
+    → TellsRun (elf_asked (elf_command_model asked)) file old new e → TellsCommand (elf_command_model asked) found file old new e
 others_tell (command.ShrinkRpath args) other found file old new e tells = absurd (other args refl)
 others_tell asked other found file old new e tells = tells

@@ -4,7 +4,7 @@ use Rattle.elf_edits.specs.Edit.{Answer, Edit, ShrinkRunPath}
 use Rattle.elf_commands.specs.ElfWords.{elf_edits_of}
 use Rattle.command_words.specs.Groups.{Wrong}
 use Rattle.command_words.specs.Rows.{Text}
-use Rattle.elf_commands.specs.Meaning.{ElfMeaning, apply_elf, edit_elf, elf_shown, shrink_elf}
+use Rattle.elf_commands.specs.Meaning.{ElfMeaning, apply_elf, edit_elf, elf_command_model, shrink_elf}
 use Rattle.elf_commands.specs.declared.command.ElfCommand.{ElfCommand}
 use Rattle.command_words.specs.declared.edits.EditFault.{EditFault}
 use Rattle.command_faults.specs.declared.error.ArwenError.{ArwenError}
@@ -46,7 +46,7 @@ elf_edit_asked _ = None
 
 -- a command, as what the table of commands gives for its values
 abbrev pub command_meant : ElfCommand → Option ElfMeaning
-command_meant command = Some (elf_shown command)
+command_meant command = Some (elf_command_model command)
 
 -- the error is that of a line with a value that is not what the command takes, or want of memory
 abbrev pub TellsNoValue : Option (Option ElfMeaning) → ArwenError → Type 0

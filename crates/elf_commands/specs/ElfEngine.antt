@@ -13,10 +13,10 @@ use Rattle.elf_edits.specs.Laws.{viewed}
 use Rattle.elf_edits.specs.declared.call.ElfEdit.{ElfEdit}
 use Rattle.elf_image.specs.Image.{Image, image_of, shown}
 use Rattle.elf_image.specs.Views.{View, dynamic_symbol_count, loader_view, section_view}
-use Rattle.elf_layout_plan.specs.Kept.{image_at_read}
+use Rattle.elf_image.specs.Kept.{image_at_read}
 use Rattle.elf_write_spec.specs.Final.{final_view}
 use Rattle.elf_commands.specs.ElfAsked.{ElfAsked, answered, asks_edits, elf_asked, one, printing, several, shrinking}
-use Rattle.elf_commands.specs.ElfWords.{edits_meant}
+use Rattle.elf_commands.specs.ElfWords.{edits_model}
 use Rattle.command_faults.specs.Fault.{answer_to_elf, answer_to_elf_batch}
 use Rattle.elf_commands.specs.Meaning.{ElfMeaning}
 use Rattle.elf_commands.specs.Prints.{PrintMayFail, Prints, TellsElf}
@@ -129,7 +129,7 @@ RunsElf meaning a file answer old new = IsElfEdited a file answer × (new ≡ ol
 
 -- the edits of a command; none of one that prints, or asks first what is found
 abbrev pub AreAskedIf : ElfAsked → Option (Vec ElfEdit Global) → Type 0
-AreAskedIf a (Some edits) = AreEditsAsked a (edits_meant edits.items)
+AreAskedIf a (Some edits) = AreEditsAsked a (edits_model edits.items)
 AreAskedIf a None = asks_edits a ≡ false
 
 -- an error tells the outcome of each file, since no file was looked at

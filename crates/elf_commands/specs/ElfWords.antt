@@ -3,7 +3,7 @@ use Rattle.std.specs.Prelude.{ℕ, ◌+◌, ◌≡◌, List, [], ◌∷◌, Opti
 use Rattle.elf_edits.specs.Edit.{Edit, AddDebugEntry, AddNeeded, AddRunPath, ClearExecStack, DeleteNeeded}
 use Rattle.elf_edits.specs.Edit.{DeleteRunPath, NoDefaultLibrary, ReplaceNeeded, SetExecStack}
 use Rattle.elf_edits.specs.Edit.{SetInterpreter, SetOsAbi, SetPageSize, SetRunPath, SetSoname, UseRpath}
-use Rattle.elf_edits.specs.Called.{edit_meant}
+use Rattle.elf_edits.specs.Called.{edit_model}
 use Rattle.elf_edits.specs.declared.call.ElfEdit.{ElfEdit}
 use Rattle.command_words.specs.Groups.{Wrong, edits_by, fault_at, group_edit}
 use Rattle.command_words.specs.KeyValue.{decimal_number, key_value}
@@ -100,12 +100,12 @@ elf_group_edit words = group_edit as_read elf_edit_lines words
 abbrev pub elf_edits_of : List Text → Result (List Edit) EditFault
 elf_edits_of words = edits_by elf_group_edit words
 
-abbrev pub edits_meant : List ElfEdit → List Edit
-edits_meant edits = map edit_meant edits
+abbrev pub edits_model : List ElfEdit → List Edit
+edits_model edits = map edit_model edits
 
 -- an edit that was made, as a reading
 abbrev pub made : ElfEdit → Reading
-made edit = Ok (edit_meant edit)
+made edit = Ok (edit_model edit)
 
 -- what the page size of a word is, and what pairs of words replace
 abbrev pub size_read : Text → Reading

@@ -71,44 +71,44 @@ elf_lines = map edit_line_at elf_edit_lines ++ elf_other_lines
 -- ---- what a value of the program stands for
 
 -- a pair of texts
-abbrev pub pair_shown : String Global × String Global → Text × Text
-pair_shown pair = (string_bytes pair.0, string_bytes pair.1)
+abbrev pub text_pair_model : String Global × String Global → Text × Text
+text_pair_model pair = (string_bytes pair.0, string_bytes pair.1)
 
-abbrev pub elf_shown : ElfCommand → ElfMeaning
-elf_shown (elf.AddDebugTag args) = edit_elf AddDebugEntry (string_bytes args.path_to_binary)
-elf_shown (elf.ClearExecStack args) = edit_elf ClearExecStack (string_bytes args.path_to_binary)
-elf_shown (elf.ForceRpath args) = edit_elf UseRpath (string_bytes args.path_to_binary)
-elf_shown (elf.NoDefaultLib args) = edit_elf NoDefaultLibrary (string_bytes args.path_to_binary)
-elf_shown (elf.RemoveRpath args) = edit_elf DeleteRunPath (string_bytes args.path_to_binary)
-elf_shown (elf.SetExecStack args) = edit_elf SetExecStack (string_bytes args.path_to_binary)
-elf_shown (elf.AddRpath args) =
+abbrev pub elf_command_model : ElfCommand → ElfMeaning
+elf_command_model (elf.AddDebugTag args) = edit_elf AddDebugEntry (string_bytes args.path_to_binary)
+elf_command_model (elf.ClearExecStack args) = edit_elf ClearExecStack (string_bytes args.path_to_binary)
+elf_command_model (elf.ForceRpath args) = edit_elf UseRpath (string_bytes args.path_to_binary)
+elf_command_model (elf.NoDefaultLib args) = edit_elf NoDefaultLibrary (string_bytes args.path_to_binary)
+elf_command_model (elf.RemoveRpath args) = edit_elf DeleteRunPath (string_bytes args.path_to_binary)
+elf_command_model (elf.SetExecStack args) = edit_elf SetExecStack (string_bytes args.path_to_binary)
+elf_command_model (elf.AddRpath args) =
     edit_elf (AddRunPath (string_bytes args.new_rpath ∷ [])) (string_bytes args.path_to_binary)
-elf_shown (elf.SetRpath args) =
+elf_command_model (elf.SetRpath args) =
     edit_elf (SetRunPath (string_bytes args.new_rpath)) (string_bytes args.path_to_binary)
-elf_shown (elf.SetInterpreter args) =
+elf_command_model (elf.SetInterpreter args) =
     edit_elf (SetInterpreter (string_bytes args.interpreter)) (string_bytes args.path_to_binary)
-elf_shown (elf.SetOsAbi args) =
+elf_command_model (elf.SetOsAbi args) =
     edit_elf (SetOsAbi (string_bytes args.os_abi)) (string_bytes args.path_to_binary)
-elf_shown (elf.SetSoname args) =
+elf_command_model (elf.SetSoname args) =
     edit_elf (SetSoname (string_bytes args.soname)) (string_bytes args.path_to_binary)
-elf_shown (elf.SetPageSize args) =
+elf_command_model (elf.SetPageSize args) =
     edit_elf (SetPageSize args.page_size) (string_bytes args.path_to_binary)
-elf_shown (elf.AddNeeded args) =
+elf_command_model (elf.AddNeeded args) =
     edit_elf (AddNeeded (map string_bytes args.dt_needed.items)) (string_bytes args.path_to_binary)
-elf_shown (elf.RemoveNeeded args) =
+elf_command_model (elf.RemoveNeeded args) =
     edit_elf (DeleteNeeded (map string_bytes args.dt_needed.items)) (string_bytes args.path_to_binary)
-elf_shown (elf.ReplaceNeeded args) =
-    edit_elf (ReplaceNeeded (map pair_shown args.dt_needed.items)) (string_bytes args.path_to_binary)
-elf_shown (elf.Apply args) =
+elf_command_model (elf.ReplaceNeeded args) =
+    edit_elf (ReplaceNeeded (map text_pair_model args.dt_needed.items)) (string_bytes args.path_to_binary)
+elf_command_model (elf.Apply args) =
     apply_elf (string_bytes args.path_to_binary) (map string_bytes args.edits.items)
-elf_shown (elf.ShrinkRpath args) =
+elf_command_model (elf.ShrinkRpath args) =
     shrink_elf (string_bytes args.path_to_binary) (map string_bytes args.allowed_rpath_prefixes.items)
-elf_shown (elf.PrintRpath args) = print_rpath (string_bytes args.path_to_binary)
-elf_shown (elf.PrintNeeded args) = print_needed (string_bytes args.path_to_binary)
-elf_shown (elf.PrintSoname args) = print_soname (string_bytes args.path_to_binary)
-elf_shown (elf.PrintInterpreter args) = print_interpreter (string_bytes args.path_to_binary)
-elf_shown (elf.PrintOsAbi args) = print_os_abi (string_bytes args.path_to_binary)
-elf_shown (elf.PrintExecStack args) = print_exec_stack (string_bytes args.path_to_binary)
+elf_command_model (elf.PrintRpath args) = print_rpath (string_bytes args.path_to_binary)
+elf_command_model (elf.PrintNeeded args) = print_needed (string_bytes args.path_to_binary)
+elf_command_model (elf.PrintSoname args) = print_soname (string_bytes args.path_to_binary)
+elf_command_model (elf.PrintInterpreter args) = print_interpreter (string_bytes args.path_to_binary)
+elf_command_model (elf.PrintOsAbi args) = print_os_abi (string_bytes args.path_to_binary)
+elf_command_model (elf.PrintExecStack args) = print_exec_stack (string_bytes args.path_to_binary)
 
 -- the ELF file that is edited or read
 abbrev pub elf_file_of : ElfMeaning → Text

@@ -10,7 +10,7 @@ use Rattle.byte_store.specs.declared.writing.Left.{Left}
 use Rattle.byte_store.specs.declared.composed.Difference.{Difference}
 use Rattle.elf_edits.specs.Edit.{Answer, Edit, ShrinkRunPath}
 use Rattle.elf_edits.specs.Edited.{removed_by, step}
-use Rattle.elf_edits.specs.ShrunkSeen.{removal_meant}
+use Rattle.elf_edits.specs.ShrunkModel.{removal_model}
 use Rattle.elf_edits.specs.declared.shrink.Removed.{Removed}
 use Rattle.elf_format.specs.declared.fault.ElfFault.{ElfFault}
 use Rattle.elf_image.specs.Image.{Image, image_of, shown}
@@ -34,7 +34,7 @@ GetsRemoved edit read old new = (text : Text) × TellsRemoved edit read text × 
 -- an image with run paths that shrink, and the directories that went
 pub record Steps (edit : Edit) (old new : Image) (removed : Vec Removed Global) : Type 0 where
   pub makes : step edit old ≡ Ok new
-  pub are : map removal_meant removed.items ≡ removed_by edit old
+  pub are : map removal_model removed.items ≡ removed_by edit old
 
 -- new bytes of an image that was changed, and none of one that wasn't
 pub record AreChanged (made : Image) (answer : Option (Vec ℕ Global)) : Type 0 where

@@ -64,10 +64,10 @@ pub enum ElfCommand {
 
 impl ElfCommand {
     ghost use Rattle.std.specs.Prelude.{◌≡◌, Some as some, IfErr, IfOk, map, option_map, string_bytes};
-    ghost use Rattle.elf_edits.specs.Called.{edit_meant};
+    ghost use Rattle.elf_edits.specs.Called.{edit_model};
     ghost use Rattle.elf_commands.specs.ElfAsked.{TellsNoValue, command_meant, elf_asked, elf_edit_asked, is_printing};
-    ghost use Rattle.elf_commands.specs.Meaning.{elf_file_of, elf_lines, elf_shown};
-    ghost use Rattle.command_words.specs.Rows.{given_shown, meant_with, options, path, text, words as words_given};
+    ghost use Rattle.elf_commands.specs.Meaning.{elf_file_of, elf_lines, elf_command_model};
+    ghost use Rattle.command_words.specs.Rows.{given_model, meant_with, options, path, text, words as words_given};
 
     /// The command of a name with its values; `None` where no command of that name takes such
     /// values. Errors: `Line` where a value is not what the command takes, `Memory`.
@@ -77,9 +77,9 @@ impl ElfCommand {
         values: Values,
     ) -> Result<Option<ElfCommand>, ArwenError>
         ensures ok { IfOk result (λ command. option_map command_meant command
-            ≡ meant_with elf_lines name.now (given_shown values)) }
+            ≡ meant_with elf_lines name.now (given_model values)) }
         ensures err { IfErr result
-            (TellsNoValue (meant_with elf_lines name.now (given_shown values))) }
+            (TellsNoValue (meant_with elf_lines name.now (given_model values))) }
     {
         match values {
             Values::Path(file) => Ok(ElfCommand::with_path(name, file)),
@@ -212,7 +212,7 @@ impl ElfCommand {
     /// `shrink-rpath`, which asks for one by what is found, and for a command that prints.
     pub(crate) fn edit(&self, alloc: Global) -> Result<Option<ElfEdit>, AllocError>
         ensures { IfOk result (λ edit.
-            option_map edit_meant edit ≡ elf_edit_asked (elf_shown self.now)) }
+            option_map edit_model edit ≡ elf_edit_asked (elf_command_model self.now)) }
     {
         Ok(Some(match self {
             ElfCommand::AddDebugTag(_) => ElfEdit::AddDebugTag,
@@ -244,7 +244,7 @@ impl ElfCommand {
 
     /// Whether the command prints, and edits nothing.
     pub fn is_print(&self) -> bool
-        ensures { result ≡ is_printing (elf_asked (elf_shown self.now)) }
+        ensures { result ≡ is_printing (elf_asked (elf_command_model self.now)) }
     {
         match self {
             ElfCommand::PrintRpath(_)
@@ -259,7 +259,7 @@ impl ElfCommand {
 
     /// The file that is edited or read.
     pub fn path_to_binary(&self) -> &str
-        ensures { result.now ≡ elf_file_of (elf_shown self.now) }
+        ensures { result.now ≡ elf_file_of (elf_command_model self.now) }
     {
         match self {
             ElfCommand::AddDebugTag(args) => args.path_to_binary.as_str(),

@@ -2,7 +2,7 @@
 ghost use Rattle.std.specs.Prelude.{◌<◌, IfErr, IfOk, OnOk, vec_len};
 ghost use Rattle.byte_store.specs.Known.{HasLength, IsAll, Stays};
 ghost use Rattle.elf_commands.specs.ElfEngine.{ElfMayFail};
-ghost use Rattle.elf_commands.specs.Meaning.{elf_file_of, elf_shown};
+ghost use Rattle.elf_commands.specs.Meaning.{elf_file_of, elf_command_model};
 ghost use Rattle.elf_commands.specs.Prints.{PrintMayFail};
 ghost use Rattle.elf_commands.specs.Prints.{PrintsStored, TellsStored};
 
@@ -56,7 +56,7 @@ pub fn execute<R: Files + Print + Eprint + AllocGlobal>(
     rt: &R,
     elf: ElfCommand,
 ) -> Result<(), ArwenError>
-    ensures { IfErr result (λ e. ElfMayFail (elf_shown elf) e) }
+    ensures { IfErr result (λ e. ElfMayFail (elf_command_model elf) e) }
 {
     if let ElfCommand::ShrinkRpath(args) = &elf {
         return shrink_file(rt, args);
@@ -76,7 +76,7 @@ pub fn print_store<S: Store, W: Write>(
     command: &ElfCommand,
     out: &mut W,
 ) -> Result<(), ArwenError>
-    ensures printed { OnOk result (PrintsStored (elf_shown command.now) (S.contents store.old)
+    ensures printed { OnOk result (PrintsStored (elf_command_model command.now) (S.contents store.old)
         (W.contents out.old) (W.contents out.new)) }
     ensures err { IfErr result (λ e. PrintMayFail e) }
     ensures tells { IfErr result (λ e. TellsStored (S.contents store.old) out.old out.new e) }
@@ -112,12 +112,12 @@ pub fn print_path<'p, O: Opens<'p>, W: Write>(
     command: &'p ElfCommand,
     out: &mut W,
 ) -> Result<(), ArwenError>
-    ensures printed { OnOk result (PrintsStored (elf_shown command.now)
-        (O.contents files.now (elf_file_of (elf_shown command.now)))
+    ensures printed { OnOk result (PrintsStored (elf_command_model command.now)
+        (O.contents files.now (elf_file_of (elf_command_model command.now)))
         (W.contents out.old) (W.contents out.new)) }
     ensures err { IfErr result (λ e. PrintMayFail e) }
     ensures tells { IfErr result (λ e. TellsStored
-        (O.contents files.now (elf_file_of (elf_shown command.now))) out.old out.new e) }
+        (O.contents files.now (elf_file_of (elf_command_model command.now))) out.old out.new e) }
 {
     let mut store = files.open(command.path_to_binary())?;
     print_store(alloc, &mut store, command, out)

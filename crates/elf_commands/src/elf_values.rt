@@ -1,10 +1,10 @@
 //! Values of commands for ELF files that not every word is.
 ghost use Rattle.std.specs.Prelude.{◌≡◌, Ok, Some, IfErr, IfOk, map, string_bytes};
-ghost use Rattle.elf_edits.specs.Called.{pair_held, pairs_held, texts_held};
+ghost use Rattle.elf_edits.specs.Called.{pair_model, pairs_model, texts_model};
 ghost use Rattle.elf_commands.specs.ElfAsked.{TellsNoNumber, TellsNoPair, TellsNoPairs};
 ghost use Rattle.elf_commands.specs.ElfWords.{pairs_from};
 ghost use Rattle.command_words.specs.KeyValue.{decimal_number as number_written, key_value};
-ghost use Rattle.elf_commands.specs.Meaning.{pair_shown};
+ghost use Rattle.elf_commands.specs.Meaning.{text_pair_model};
 
 use command_faults::ArwenError;
 use command_words::{KeyValueError, decimal_number, parse_key_val};
@@ -29,7 +29,7 @@ pub(crate) fn number_of(alloc: Global, word: &str) -> Result<u32, ArwenError>
 /// `Memory`.
 pub(crate) fn pairs_of(alloc: Global, words: &[String]) -> Result<Vec<(String, String)>, ArwenError>
     ensures ok { IfOk result (λ pairs. pairs_from 1 (map string_bytes words.now)
-        ≡ Ok (map pair_shown pairs.items)) }
+        ≡ Ok (map text_pair_model pairs.items)) }
     ensures err { IfErr result (TellsNoPairs (pairs_from 1 (map string_bytes words.now))) }
 {
     let mut pairs = Vec::with_capacity(alloc, words.len())?;
@@ -41,7 +41,7 @@ pub(crate) fn pairs_of(alloc: Global, words: &[String]) -> Result<Vec<(String, S
 
 /// The pair that a word is.
 fn pair_of(alloc: Global, word: &str) -> Result<(String, String), ArwenError>
-    ensures ok { IfOk result (λ pair. key_value word.now ≡ Some (pair_shown pair)) }
+    ensures ok { IfOk result (λ pair. key_value word.now ≡ Some (text_pair_model pair)) }
     ensures err { IfErr result (TellsNoPair (key_value word.now)) }
 {
     match parse_key_val(alloc, word) {
@@ -64,7 +64,7 @@ pub(crate) fn bytes_of(alloc: Global, text: &String) -> Result<Vec<u8>, AllocErr
 
 /// The bytes of texts.
 pub(crate) fn texts_of(alloc: Global, words: &[String]) -> Result<Vec<Vec<u8>>, AllocError>
-    ensures { IfOk result (λ texts. texts_held texts.items ≡ map string_bytes words.now) }
+    ensures { IfOk result (λ texts. texts_model texts.items ≡ map string_bytes words.now) }
 {
     let mut texts = Vec::with_capacity(alloc, words.len())?;
     for word in words {
@@ -78,7 +78,7 @@ pub(crate) fn pairs_copied(
     alloc: Global,
     pairs: &[(String, String)],
 ) -> Result<Vec<(Vec<u8>, Vec<u8>)>, AllocError>
-    ensures { IfOk result (λ copies. pairs_held copies.items ≡ map pair_shown pairs.now) }
+    ensures { IfOk result (λ copies. pairs_model copies.items ≡ map text_pair_model pairs.now) }
 {
     let mut copies = Vec::with_capacity(alloc, pairs.len())?;
     for pair in pairs {
@@ -89,7 +89,7 @@ pub(crate) fn pairs_copied(
 
 /// The bytes of a pair of texts.
 fn pair_copied(alloc: Global, pair: &(String, String)) -> Result<(Vec<u8>, Vec<u8>), AllocError>
-    ensures { IfOk result (λ copy. pair_held copy ≡ pair_shown pair.now) }
+    ensures { IfOk result (λ copy. pair_model copy ≡ text_pair_model pair.now) }
 {
     let key = bytes_of(alloc, &pair.0)?;
     let value = bytes_of(alloc, &pair.1)?;

@@ -1,10 +1,10 @@
 //! The words of several edits of an ELF file on one line.
 ghost use Rattle.std.specs.Prelude.{◌≡◌, ℕ, List, Ok, Some as some, IfErr, IfOk, map, option_map, string_bytes};
-ghost use Rattle.elf_edits.specs.Called.{pair_held, pairs_held, texts_held};
-ghost use Rattle.elf_commands.specs.ElfWords.{TellsPair, TellsPairs, TellsValues, asked_of, edits_meant, elf_edit_lines, elf_edits_of, elf_group_edit, made, pairs_from, replacement_read, size_read};
+ghost use Rattle.elf_edits.specs.Called.{pair_model, pairs_model, texts_model};
+ghost use Rattle.elf_commands.specs.ElfWords.{TellsPair, TellsPairs, TellsValues, asked_of, edits_model, elf_edit_lines, elf_edits_of, elf_group_edit, made, pairs_from, replacement_read, size_read};
 ghost use Rattle.command_words.specs.KeyValue.{key_value};
 ghost use Rattle.command_words.specs.Groups.{TellsFault, TellsWrong, fault_at};
-ghost use Rattle.command_words.specs.Rows.{given_shown, kind_shown, meant_with, path, text, words as words_given};
+ghost use Rattle.command_words.specs.Rows.{given_model, kind_model, meant_with, path, text, words as words_given};
 
 use crate::elf::{
     add_debug_tag, add_needed, add_rpath, clear_execstack, force_rpath, no_default_lib,
@@ -23,7 +23,7 @@ use std::alloc::{AllocError, Global};
 /// words without the path; no words are one empty group. The first faulty group is answered.
 pub fn parse_elf_edits(alloc: Global, words: &[&str]) -> Result<Vec<ElfEdit>, EditsError>
     ensures ok { IfOk result (λ edits.
-        elf_edits_of (map (λ w. w.now) words.now) ≡ Ok (edits_meant edits.items)) }
+        elf_edits_of (map (λ w. w.now) words.now) ≡ Ok (edits_model edits.items)) }
     ensures err { IfErr result (TellsFault (elf_edits_of (map (λ w. w.now) words.now))) }
 {
     let mut edits = Vec::new(alloc);
@@ -63,9 +63,9 @@ fn edit_without_path(
     words: &[&str],
 ) -> Result<Option<ElfEdit>, EditsError>
     ensures ok { IfOk result (λ edit. option_map made edit
-        ≡ asked_of name.now (kind_shown form.now) (map (λ w. w.now) words.now)) }
+        ≡ asked_of name.now (kind_model form.now) (map (λ w. w.now) words.now)) }
     ensures err { IfErr result (TellsValues group
-        (asked_of name.now (kind_shown form.now) (map (λ w. w.now) words.now))) }
+        (asked_of name.now (kind_model form.now) (map (λ w. w.now) words.now))) }
 {
     match values_without_path(alloc, form, words)? {
         Some(values) => edit_with(alloc, group, name, values),
@@ -81,9 +81,9 @@ fn edit_with(
     values: Values,
 ) -> Result<Option<ElfEdit>, EditsError>
     ensures ok { IfOk result (λ edit. option_map made edit
-        ≡ meant_with elf_edit_lines name.now (given_shown values)) }
+        ≡ meant_with elf_edit_lines name.now (given_model values)) }
     ensures err { IfErr result (TellsValues group
-        (meant_with elf_edit_lines name.now (given_shown values))) }
+        (meant_with elf_edit_lines name.now (given_model values))) }
 {
     match values {
         Values::Path(_) => Ok(with_path(name)),
@@ -165,7 +165,7 @@ fn with_words(
 
 /// The same words as bytes.
 fn texts_of(alloc: Global, words: Vec<String>) -> Result<Vec<Vec<u8>>, AllocError>
-    ensures { IfOk result (λ texts. texts_held texts.items ≡ map string_bytes words.items) }
+    ensures { IfOk result (λ texts. texts_model texts.items ≡ map string_bytes words.items) }
 {
     let mut texts = Vec::with_capacity(alloc, words.len())?;
     for word in words {
@@ -192,7 +192,7 @@ fn pairs_of(
     words: &[String],
 ) -> Result<Vec<(Vec<u8>, Vec<u8>)>, EditsError>
     ensures ok { IfOk result (λ pairs.
-        pairs_from 1 (map string_bytes words.now) ≡ Ok (pairs_held pairs.items)) }
+        pairs_from 1 (map string_bytes words.now) ≡ Ok (pairs_model pairs.items)) }
     ensures err { IfErr result (TellsPairs group (pairs_from 1 (map string_bytes words.now))) }
 {
     let mut pairs = Vec::with_capacity(alloc, words.len())?;
@@ -209,7 +209,7 @@ fn pair_of(
     at: usize,
     word: &str,
 ) -> Result<(Vec<u8>, Vec<u8>), EditsError>
-    ensures ok { IfOk result (λ pair. key_value word.now ≡ some (pair_held pair)) }
+    ensures ok { IfOk result (λ pair. key_value word.now ≡ some (pair_model pair)) }
     ensures err { IfErr result (TellsPair group at (key_value word.now)) }
 {
     match parse_key_val(alloc, word) {

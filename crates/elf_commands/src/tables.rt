@@ -1,6 +1,6 @@
 //! The commands for ELF files, as help shows them.
 ghost use Rattle.std.specs.Prelude.{◌≡◌, map};
-ghost use Rattle.command_words.specs.Rows.{named_of, row_shown};
+ghost use Rattle.command_words.specs.Rows.{named_of, row_model};
 ghost use Rattle.elf_commands.specs.ElfWords.{elf_edit_lines};
 ghost use Rattle.elf_commands.specs.Meaning.{elf_lines};
 
@@ -241,14 +241,14 @@ pub static ELF_ROWS: [Row; 23] = [
 
 /// The commands for ELF files, as a slice.
 pub fn elf_table() -> &'static [Row]
-    ensures { map row_shown result.now ≡ map named_of elf_lines }
+    ensures { map row_model result.now ≡ map named_of elf_lines }
 {
     ELF_ROWS.as_slice()
 }
 
 /// The edits of ELF files, as `apply` takes them.
 pub fn elf_edit_table() -> &'static [Row]
-    ensures { map row_shown result.now ≡ map named_of elf_edit_lines }
+    ensures { map row_model result.now ≡ map named_of elf_edit_lines }
 {
     &elf_table()[..ELF_EDITS_COUNT]
 }

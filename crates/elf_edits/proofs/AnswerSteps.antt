@@ -9,10 +9,10 @@ use Rattle.std.proofs.lemmas.List.{map-append}
 use Rattle.std.proofs.lemmas.Slice.Eq.{bytes_eq-Decides}
 use Rattle.elf_image.specs.Options.{first_there}
 use Rattle.elf_edits.specs.declared.shrink.ProbeAnswer.{ProbeAnswer}
-use Rattle.elf_edits.specs.Called.{answer_held}
+use Rattle.elf_edits.specs.Called.{answer_model}
 use Rattle.elf_edits.specs.Edit.{Answer}
 use Rattle.elf_edits.specs.Shrunk.{is_answer_for}
-use Rattle.elf_edits.specs.ShrunkSeen.{is_pair}
+use Rattle.elf_edits.specs.ShrunkModel.{is_pair}
 use Rattle.elf_edits.proofs.CodeLaws.{there_or_none}
 use Rattle.elf_edits.proofs.ListLaws.{by_test}
 use Rattle.elf_edits.proofs.ListSteps.{one_more, other_way}
@@ -83,8 +83,8 @@ module _ (xs : List Answer) (a : Answer) (old : Found) (so_far : (d n : List ℕ
 
 -- the answers so far, with one more
 pub told_more : (answers : List ProbeAnswer) (i : ℕ) (x : ProbeAnswer) → i < length answers → x ≡ get_or answers i x → (d n : List ℕ)
-    → told (map answer_held (take i answers) ++ answer_held x ∷ []) d n ≡ option_map (λ (a : Answer). a.machine) (find (is_answer_for d n) (map answer_held (take (i + 1) answers)))
+    → told (map answer_model (take i answers) ++ answer_model x ∷ []) d n ≡ option_map (λ (a : Answer). a.machine) (find (is_answer_for d n) (map answer_model (take (i + 1) answers)))
 unfolding told
 told_more answers i x here is d n =
     ap (λ (l : List Answer). option_map (λ (a : Answer). a.machine) (find (is_answer_for d n) l))
-    (sym (ap (λ (l : List ProbeAnswer). map answer_held l) (one_more answers i x here is) ∙ map-append answer_held (take i answers) (x ∷ [])))
+    (sym (ap (λ (l : List ProbeAnswer). map answer_model l) (one_more answers i x here is) ∙ map-append answer_model (take i answers) (x ∷ [])))

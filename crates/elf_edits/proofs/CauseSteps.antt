@@ -8,9 +8,9 @@ use Rattle.std.proofs.lemmas.List.Folds.{list_any-append}
 use Rattle.elf_format.specs.declared.constants.TheConstants.{EM_MIPS}
 use Rattle.elf_image.specs.Options.{first_there}
 use Rattle.elf_edits.specs.declared.facts.Facts.{Facts}
-use Rattle.elf_edits.specs.Called.{Bytes, pair_held, pairs_of_map}
+use Rattle.elf_edits.specs.Called.{Bytes, pair_model, pairs_of_map}
 use Rattle.elf_edits.specs.Cause.{Cause, MipsImage, NulInText, cause_if, first_cause, interpreter_missing, list_missing, own_cause}
-use Rattle.elf_edits.specs.CauseSeen.{pair_holds_nul}
+use Rattle.elf_edits.specs.CauseModel.{pair_holds_nul}
 use Rattle.elf_edits.specs.Edit.{Edit, task_of, texts_of}
 use Rattle.elf_edits.specs.Texts.{holds_nul}
 use Rattle.elf_edits.proofs.CodeLaws.{first_of_three}
@@ -78,6 +78,6 @@ unfolding pairs_of_map
 nul_in_pairs [] = refl
 nul_in_pairs (x ∷ pairs) =
     ap (λ b. pair_holds_nul x || b) (nul_in_pairs pairs)
-    ∙ sym (ap (list_any holds_nul) (flat_map-append (λ (p : List ℕ × List ℕ). p.0 ∷ p.1 ∷ []) (pairs_of_map pairs) (pair_held x ∷ []))
+    ∙ sym (ap (list_any holds_nul) (flat_map-append (λ (p : List ℕ × List ℕ). p.0 ∷ p.1 ∷ []) (pairs_of_map pairs) (pair_model x ∷ []))
     ∙ list_any-append holds_nul (flat_map (λ (p : List ℕ × List ℕ). p.0 ∷ p.1 ∷ []) (pairs_of_map pairs)) (x.0.items ∷ x.1.items ∷ [])
     ∙ or_round (list_any holds_nul (flat_map (λ (p : List ℕ × List ℕ). p.0 ∷ p.1 ∷ []) (pairs_of_map pairs))) (holds_nul x.0.items) (holds_nul x.1.items))

@@ -14,7 +14,7 @@ use Rattle.elf_edits.specs.declared.call.ElfEdit.TheVariants as edits
 use Rattle.elf_edits.specs.declared.constants.TheConstants.{MOST_SEGMENTS, STACK_FLAGS}
 use Rattle.elf_edits.specs.declared.facts.Facts.{Facts}
 use Rattle.elf_edits.specs.Batch.{Refusal, answer_at, run, run_from, then_on}
-use Rattle.elf_edits.specs.Called.{edit_meant}
+use Rattle.elf_edits.specs.Called.{edit_model}
 use Rattle.elf_edits.specs.Cause.{Cause, NoInterpreter, NulInText, MipsImage, TooManyHeaders, cause, cause_if, facts_of, first_cause, has_no_room_for_stack, interpreter_missing, list_missing, own_cause}
 use Rattle.elf_edits.specs.Decided.{all_edited, first_refusal, refusal_or, unless_refused}
 use Rattle.elf_edits.specs.Edit.{Edit, AddDebugEntry, AddNeeded, AddRunPath, ClearExecStack, DeleteNeeded, DeleteRunPath, NoDefaultLibrary, ReplaceNeeded, SetExecStack, SetInterpreter, SetOsAbi, SetPageSize, SetRunPath, SetSoname, ShrinkRunPath, UseRpath, UseRunpath, task_of, texts_of}
@@ -160,7 +160,7 @@ facts_stay edit image none =
     (interpreter_stays edit image free) (room_stays edit image free)
 
 -- no edit of a batch asks for the run path
-asks_no_run_path : (edit : ElfEdit) (facts : Facts) (b : Bool) → first_cause (edit_meant edit) (with_run_path b facts) ≡ first_cause (edit_meant edit) facts
+asks_no_run_path : (edit : ElfEdit) (facts : Facts) (b : Bool) → first_cause (edit_model edit) (with_run_path b facts) ≡ first_cause (edit_model edit) facts
 unfolding first_cause
 asks_no_run_path edits.AddDebugTag facts b = refl
 asks_no_run_path (edits.AddNeeded names) facts b = refl
@@ -178,36 +178,36 @@ asks_no_run_path (edits.SetPageSize size) facts b = refl
 asks_no_run_path (edits.SetRpath text) facts b = refl
 asks_no_run_path (edits.SetSoname text) facts b = refl
 
-first_refusal_same : (edits : List ElfEdit) (done : ℕ) (facts : Facts) (b : Bool) → first_refusal (with_run_path b facts) done (map edit_meant edits) ≡ first_refusal facts done (map edit_meant edits)
+first_refusal_same : (edits : List ElfEdit) (done : ℕ) (facts : Facts) (b : Bool) → first_refusal (with_run_path b facts) done (map edit_model edits) ≡ first_refusal facts done (map edit_model edits)
 unfolding first_refusal
 first_refusal_same [] done facts b = refl
 first_refusal_same (edit ∷ edits) done facts b =
-    ap (λ o. refusal_or o done (first_refusal (with_run_path b facts) (done + 1) (map edit_meant edits))) (asks_no_run_path edit facts b)
-    ∙ ap (λ o. refusal_or (first_cause (edit_meant edit) facts) done o) (first_refusal_same edits (done + 1) facts b)
+    ap (λ o. refusal_or o done (first_refusal (with_run_path b facts) (done + 1) (map edit_model edits))) (asks_no_run_path edit facts b)
+    ∙ ap (λ o. refusal_or (first_cause (edit_model edit) facts) done o) (first_refusal_same edits (done + 1) facts b)
 
 -- ## Batches
 
 -- A batch that is refused is refused by the facts at its start; one that is not makes all its edits.
-pub batch_decided : (edits : List ElfEdit) (done : ℕ) (image : Image) → run_from done (map edit_meant edits) image ≡ unless_refused (first_refusal (facts_of image) done (map edit_meant edits)) (all_edited (map edit_meant edits) image)
+pub batch_decided : (edits : List ElfEdit) (done : ℕ) (image : Image) → run_from done (map edit_model edits) image ≡ unless_refused (first_refusal (facts_of image) done (map edit_model edits)) (all_edited (map edit_model edits) image)
 unfolding run_from first_refusal all_edited cause
 batch_decided [] done image = refl
-batch_decided (edit ∷ edits) done image = by_cause (batch_decided edits (done + 1) (edited_image (edit_meant edit) image)) (cause (edit_meant edit) image) refl
+batch_decided (edit ∷ edits) done image = by_cause (batch_decided edits (done + 1) (edited_image (edit_model edit) image)) (cause (edit_model edit) image) refl
   where
     rest : List Edit
-    rest = map edit_meant edits
+    rest = map edit_model edits
 
     next : Image
-    next = edited_image (edit_meant edit) image
+    next = edited_image (edit_model edit) image
 
-    by_cause : run_from (done + 1) rest next ≡ unless_refused (first_refusal (facts_of next) (done + 1) rest) (all_edited rest next) → (found : Option Cause) → cause (edit_meant edit) image ≡ found → run_from done (edit_meant edit ∷ rest) image ≡ unless_refused (first_refusal (facts_of image) done (edit_meant edit ∷ rest)) (all_edited rest next)
+    by_cause : run_from (done + 1) rest next ≡ unless_refused (first_refusal (facts_of next) (done + 1) rest) (all_edited rest next) → (found : Option Cause) → cause (edit_model edit) image ≡ found → run_from done (edit_model edit ∷ rest) image ≡ unless_refused (first_refusal (facts_of image) done (edit_model edit ∷ rest)) (all_edited rest next)
     by_cause behind None is =
         let later : first_refusal (facts_of next) (done + 1) rest ≡ first_refusal (facts_of image) (done + 1) rest =
-        ap (λ facts. first_refusal facts (done + 1) rest) (facts_stay (edit_meant edit) image is) ∙ first_refusal_same edits (done + 1) (facts_of image) (facts_of next).has_run_path in
-        ap (λ answer. then_on (answer_at done answer) (run_from (done + 1) rest)) (step_is (edit_meant edit) image is)
+        ap (λ facts. first_refusal facts (done + 1) rest) (facts_stay (edit_model edit) image is) ∙ first_refusal_same edits (done + 1) (facts_of image) (facts_of next).has_run_path in
+        ap (λ answer. then_on (answer_at done answer) (run_from (done + 1) rest)) (step_is (edit_model edit) image is)
         ∙ behind
         ∙ ap (λ o. unless_refused o (all_edited rest next)) (later ∙ sym (ap (λ o. refusal_or o done (first_refusal (facts_of image) (done + 1) rest)) is))
     by_cause behind (Some reason) is =
-        ap (λ answer. then_on (answer_at done answer) (run_from (done + 1) rest)) (step_refused (edit_meant edit) image reason is)
+        ap (λ answer. then_on (answer_at done answer) (run_from (done + 1) rest)) (step_refused (edit_model edit) image reason is)
         ∙ sym (ap (λ o. unless_refused (refusal_or o done (first_refusal (facts_of image) (done + 1) rest)) (all_edited rest next)) is)
 
 -- the edits of a batch, one after the other

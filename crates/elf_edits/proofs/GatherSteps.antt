@@ -13,7 +13,7 @@ use Rattle.std.proofs.lemmas.List.{map-append}
 use Rattle.std.proofs.lemmas.List.Folds.{list_any-append}
 use Rattle.std.proofs.lemmas.Slice.Eq.{bytes_eq-Decides}
 use Rattle.elf_image.specs.Options.{first_there}
-use Rattle.elf_edits.specs.Called.{Bytes, bytes_of, pair_held, pairs_held, texts_held}
+use Rattle.elf_edits.specs.Called.{Bytes, bytes_of, pair_model, pairs_model, texts_model}
 use Rattle.std.proofs.Math.Path.{fun_ext}
 use Rattle.elf_format.specs.declared.constants.TheConstants.{DT_NEEDED}
 use Rattle.elf_image.specs.Dynamic.{Entry}
@@ -47,13 +47,13 @@ map_updates s n k w h = by_text (λ cs. lookup (λ (x : Bytes). bytes_eq cs x.it
 
 -- one more name
 pub set_more_name : (names : List Bytes) (i : ℕ) (x : Bytes) → i < length names → x ≡ get_or names i x → (old new : List Bytes) (k name : List ℕ) → k ≡ x.items
-    → list_any (λ (y : Bytes). bytes_eq name y.items) old ≡ is_among (texts_held (take i names)) name
+    → list_any (λ (y : Bytes). bytes_eq name y.items) old ≡ is_among (texts_model (take i names)) name
     → list_any (λ (y : Bytes). bytes_eq name y.items) new ≡ cond (bytes_eq k name) true (list_any (λ (y : Bytes). bytes_eq name y.items) old)
-    → list_any (λ (y : Bytes). bytes_eq name y.items) new ≡ is_among (texts_held (take (i + 1) names)) name
+    → list_any (λ (y : Bytes). bytes_eq name y.items) new ≡ is_among (texts_model (take (i + 1) names)) name
 set_more_name names i x here is old new k name same so_far put =
     put ∙ true_or (bytes_eq k name) (list_any (λ (y : Bytes). bytes_eq name y.items) old) ∙ ap (λ b. b || bytes_eq k name) so_far
-    ∙ ap (λ b. is_among (texts_held (take i names)) name || b) (other_way k name ∙ ap (bytes_eq name) same ∙ sym (or_none (bytes_eq name x.items)))
-    ∙ sym (ap (λ (l : List Bytes). is_among (texts_held l) name) (one_more names i x here is) ∙ ap (λ l. is_among l name) (map-append bytes_of (take i names) (x ∷ [])) ∙ list_any-append (λ other. bytes_eq name other) (texts_held (take i names)) (x.items ∷ []))
+    ∙ ap (λ b. is_among (texts_model (take i names)) name || b) (other_way k name ∙ ap (bytes_eq name) same ∙ sym (or_none (bytes_eq name x.items)))
+    ∙ sym (ap (λ (l : List Bytes). is_among (texts_model l) name) (one_more names i x here is) ∙ ap (λ l. is_among l name) (map-append bytes_of (take i names) (x ∷ [])) ∙ list_any-append (λ other. bytes_eq name other) (texts_model (take i names)) (x.items ∷ []))
 
 first_or : (b : Bool) (v : List ℕ) (o : Option (List ℕ)) → first_there (if b then Some v else None) o ≡ cond b (Some v) o
 first_or true v o = refl
@@ -65,17 +65,17 @@ held_cond false v o = refl
 
 -- one more pair
 pub map_more_pair : (pairs : List (Bytes × Bytes)) (i : ℕ) (x : Bytes × Bytes) → i < length pairs → x ≡ get_or pairs i x → (old new : List (Bytes × Bytes)) (k v : Bytes) (name : List ℕ) → k.items ≡ x.0.items → v.items ≡ x.1.items
-    → option_map bytes_of (lookup (λ (y : Bytes). bytes_eq name y.items) old) ≡ value_of (pairs_held (take i pairs)) name
+    → option_map bytes_of (lookup (λ (y : Bytes). bytes_eq name y.items) old) ≡ value_of (pairs_model (take i pairs)) name
     → lookup (λ (y : Bytes). bytes_eq name y.items) new ≡ cond (bytes_eq k.items name) (Some v) (lookup (λ (y : Bytes). bytes_eq name y.items) old)
-    → option_map bytes_of (lookup (λ (y : Bytes). bytes_eq name y.items) new) ≡ value_of (pairs_held (take (i + 1) pairs)) name
+    → option_map bytes_of (lookup (λ (y : Bytes). bytes_eq name y.items) new) ≡ value_of (pairs_model (take (i + 1) pairs)) name
 unfolding found_in
 map_more_pair pairs i x here is old new k v name key value so_far put =
     ap (option_map bytes_of) put ∙ held_cond (bytes_eq k.items name) v (lookup (λ (y : Bytes). bytes_eq name y.items) old)
     ∙ ap (cond (bytes_eq k.items name) (Some v.items)) so_far
-    ∙ ap (λ b. cond b (Some v.items) (value_of (pairs_held (take i pairs)) name)) (other_way k.items name ∙ ap (bytes_eq name) key)
-    ∙ ap (λ l. cond (bytes_eq name x.0.items) (Some l) (value_of (pairs_held (take i pairs)) name)) value
-    ∙ sym (ap (λ (l : List (Bytes × Bytes)). value_of (pairs_held l) name) (one_more pairs i x here is) ∙ ap (λ l. value_of l name) (map-append pair_held (take i pairs) (x ∷ []))
-    ∙ value_of-push (pairs_held (take i pairs)) (pair_held x) name ∙ first_or (bytes_eq name x.0.items) x.1.items (value_of (pairs_held (take i pairs)) name))
+    ∙ ap (λ b. cond b (Some v.items) (value_of (pairs_model (take i pairs)) name)) (other_way k.items name ∙ ap (bytes_eq name) key)
+    ∙ ap (λ l. cond (bytes_eq name x.0.items) (Some l) (value_of (pairs_model (take i pairs)) name)) value
+    ∙ sym (ap (λ (l : List (Bytes × Bytes)). value_of (pairs_model l) name) (one_more pairs i x here is) ∙ ap (λ l. value_of l name) (map-append pair_model (take i pairs) (x ∷ []))
+    ∙ value_of-push (pairs_model (take i pairs)) (pair_model x) name ∙ first_or (bytes_eq name x.0.items) x.1.items (value_of (pairs_model (take i pairs)) name))
 
 -- ## Edits by sets and maps
 

@@ -7,7 +7,7 @@ use Rattle.std.proofs.lemmas.List.{append_assoc, append-nil, map-append}
 use Rattle.std.proofs.lemmas.List.Elements.{filter-append, filter_map-append}
 use Rattle.elf_edits.specs.declared.constants.TheConstants.{COLON}
 use Rattle.elf_edits.specs.Shrunk.{Removal, Search, reason_of, stays}
-use Rattle.elf_edits.specs.ShrunkSeen.{going}
+use Rattle.elf_edits.specs.ShrunkModel.{going}
 use Rattle.elf_edits.specs.Texts.{has_some, joined}
 use Rattle.std.proofs.Math.Path.{fun_ext}
 use Rattle.elf_edits.proofs.ListSteps.{one_more}

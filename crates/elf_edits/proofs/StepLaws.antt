@@ -10,7 +10,7 @@ use Rattle.elf_edits.specs.declared.constants.TheConstants.{DF_1_NODEFLIB}
 use Rattle.std.specs.HashSet.{keys}
 use Rattle.elf_edits.specs.declared.call.EditCall.{EditCall}
 use Rattle.elf_edits.specs.declared.call.EditCall.TheVariants as calls
-use Rattle.elf_edits.specs.Called.{call_meant, pairs_of_map, texts_held}
+use Rattle.elf_edits.specs.Called.{call_model, pairs_of_map, texts_model}
 use Rattle.elf_edits.specs.Entries.{changed_where, edited_entries, has_tag, is_run_path, needs_one_of, not_needed_yet, with_bits, with_each_added, with_tag, with_text, with_text_changed}
 use Rattle.elf_edits.specs.Steps.{changed_entry, changed_if, edited_by_entries, unless_any}
 use Rattle.elf_edits.specs.Texts.{joined, value_of}
@@ -55,18 +55,18 @@ module _ (machine : ℕ) where
   nothing_made es = append-nil (filter_map (λ e. Some e) es) ∙ all_kept es
 
   -- the calls' edits are made entry by entry
-  pub by_entries : (call : EditCall) (es : List Entry) → edited_by_entries (call_meant call) es ≡ edited_entries machine (call_meant call) es
+  pub by_entries : (call : EditCall) (es : List Entry) → edited_by_entries (call_model call) es ≡ edited_entries machine (call_model call) es
   unfolding changed_entry edited_entries
   by_entries calls.AddDebugEntry es = kept_or_last (has_tag DT_DEBUG) (Integer DT_DEBUG 0) es
   by_entries calls.DeleteRunPath es = append-nil (filter_map (λ e. if is_run_path e then None else Some e) es) ∙ some_dropped is_run_path es
   by_entries (calls.SetRunPath text) es = or_last is_run_path (with_text text.now) (Text DT_RUNPATH text.now) es
-  by_entries (calls.AddRunPath texts) es = or_last is_run_path (with_text_changed (with_each_added (texts_held texts.now))) (Text DT_RUNPATH (joined (texts_held texts.now))) es
+  by_entries (calls.AddRunPath texts) es = or_last is_run_path (with_text_changed (with_each_added (texts_model texts.now))) (Text DT_RUNPATH (joined (texts_model texts.now))) es
   by_entries calls.UseRunpath es = all_made (has_tag DT_RPATH) (with_tag DT_RUNPATH) es
   by_entries calls.UseRpath es = all_made (has_tag DT_RUNPATH) (with_tag DT_RPATH) es
-  by_entries (calls.DeleteNeeded names) es = append-nil (filter_map (λ e. if needs_one_of (texts_held (keys names.now)) e then None else Some e) es) ∙ some_dropped (needs_one_of (texts_held (keys names.now))) es
+  by_entries (calls.DeleteNeeded names) es = append-nil (filter_map (λ e. if needs_one_of (texts_model (keys names.now)) e then None else Some e) es) ∙ some_dropped (needs_one_of (texts_model (keys names.now))) es
   by_entries (calls.ReplaceNeeded names) es = all_made (has_tag DT_NEEDED) (with_text_changed (λ name. unwrap_or (value_of (pairs_of_map names.now.entries) name) name)) es
   by_entries (calls.AddNeeded names) es =
-      append-nil (map (Text DT_NEEDED) (not_needed_yet (texts_held names.now) es) ++ filter_map (λ e. Some e) es) ∙ ap (λ l. map (Text DT_NEEDED) (not_needed_yet (texts_held names.now) es) ++ l) (all_kept es)
+      append-nil (map (Text DT_NEEDED) (not_needed_yet (texts_model names.now) es) ++ filter_map (λ e. Some e) es) ∙ ap (λ l. map (Text DT_NEEDED) (not_needed_yet (texts_model names.now) es) ++ l) (all_kept es)
   by_entries (calls.SetSoname text) es = or_last (has_tag DT_SONAME) (with_text text.now) (Text DT_SONAME text.now) es
   by_entries calls.NoDefaultLibrary es = or_last (has_tag DT_FLAGS_1) (with_bits DF_1_NODEFLIB) (Integer DT_FLAGS_1 DF_1_NODEFLIB) es
   by_entries (calls.SetInterpreter bytes) es = nothing_made es

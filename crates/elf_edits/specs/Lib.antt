@@ -8,8 +8,8 @@ pub mod Edited
 pub mod Batch
 pub mod Decided
 pub mod Called
-pub mod CauseSeen
-pub mod ShrunkSeen
+pub mod CauseModel
+pub mod ShrunkModel
 pub mod Steps
 pub mod Laws
 pub mod Rows

@@ -1,10 +1,10 @@
 //! Edits of a batch on the dynamic list.
 ghost use Rattle.std.specs.Prelude.{◌≡◌, ◌∷◌, [], ℕ, IfOk, map, option_map};
 ghost use Rattle.std.specs.List.{flat_map, list_any};
-ghost use Rattle.elf_image.specs.ImageSeen.{entry_kept};
-ghost use Rattle.elf_edits.specs.Called.{edit_meant, pairs_held, texts_held};
+ghost use Rattle.elf_image.specs.ImageModel.{entry_model};
+ghost use Rattle.elf_edits.specs.Called.{edit_model, pairs_model, texts_model};
 ghost use Rattle.elf_edits.specs.Cause.{first_cause};
-ghost use Rattle.elf_edits.specs.CauseSeen.{cause_meant};
+ghost use Rattle.elf_edits.specs.CauseModel.{cause_model};
 ghost use Rattle.elf_edits.specs.Edit.{DeleteNeeded as delete_needed, ReplaceNeeded as replace_needed};
 ghost use Rattle.elf_edits.specs.Entries.{edited_entries, touches_entries};
 ghost use Rattle.elf_edits.specs.Texts.{holds_nul};
@@ -27,12 +27,12 @@ pub fn without_names<'d>(
     entries: &[Dynamic<'d>],
 ) -> Result<NewList<'d>, AllocError>
     ensures list { IfOk result (λ made. (machine : ℕ) →
-        map entry_kept made.entries.items
-        ≡ edited_entries machine (delete_needed (texts_held names.now))
-        (map entry_kept entries.now)) }
+        map entry_model made.entries.items
+        ≡ edited_entries machine (delete_needed (texts_model names.now))
+        (map entry_model entries.now)) }
     ensures touched { IfOk result (λ made. (machine : ℕ) →
-        made.is_touched ≡ touches_entries machine (delete_needed (texts_held names.now))
-        (map entry_kept entries.now)) }
+        made.is_touched ≡ touches_entries machine (delete_needed (texts_model names.now))
+        (map entry_model entries.now)) }
 {
     let set = set_of(alloc, names)?;
     edited(alloc, &EditCall::DeleteNeeded(&set), entries)
@@ -45,12 +45,12 @@ fn with_names<'d>(
     entries: &[Dynamic<'d>],
 ) -> Result<NewList<'d>, AllocError>
     ensures list { IfOk result (λ made. (machine : ℕ) →
-        map entry_kept made.entries.items
-        ≡ edited_entries machine (replace_needed (pairs_held pairs.now))
-        (map entry_kept entries.now)) }
+        map entry_model made.entries.items
+        ≡ edited_entries machine (replace_needed (pairs_model pairs.now))
+        (map entry_model entries.now)) }
     ensures touched { IfOk result (λ made. (machine : ℕ) →
-        made.is_touched ≡ touches_entries machine (replace_needed (pairs_held pairs.now))
-        (map entry_kept entries.now)) }
+        made.is_touched ≡ touches_entries machine (replace_needed (pairs_model pairs.now))
+        (map entry_model entries.now)) }
 {
     let names = map_of(alloc, pairs)?;
     edited(alloc, &EditCall::ReplaceNeeded(&names), entries)
@@ -64,11 +64,11 @@ pub fn edited_by<'d>(
     entries: &[Dynamic<'d>],
 ) -> Result<NewList<'d>, AllocError>
     ensures list { IfOk result (λ made. (machine : ℕ) →
-        map entry_kept made.entries.items
-        ≡ edited_entries machine (edit_meant edit.now) (map entry_kept entries.now)) }
+        map entry_model made.entries.items
+        ≡ edited_entries machine (edit_model edit.now) (map entry_model entries.now)) }
     ensures touched { IfOk result (λ made. (machine : ℕ) →
-        made.is_touched ≡ touches_entries machine (edit_meant edit.now)
-        (map entry_kept entries.now)) }
+        made.is_touched ≡ touches_entries machine (edit_model edit.now)
+        (map entry_model entries.now)) }
 {
     match edit {
         ElfEdit::AddDebugTag => edited(alloc, &EditCall::AddDebugEntry, entries),
@@ -100,7 +100,7 @@ pub fn edited_by<'d>(
 // Whether one of some pairs holds a NUL.
 fn any_nul_in_pairs(pairs: &[(Vec<u8>, Vec<u8>)]) -> bool
     ensures { result ≡ list_any holds_nul (flat_map (λ pair. pair.0 ∷ pair.1 ∷ [])
-        (pairs_held pairs.now)) }
+        (pairs_model pairs.now)) }
 {
     for (old, new) in pairs {
         if old.contains(&0) || new.contains(&0) {
@@ -113,8 +113,8 @@ fn any_nul_in_pairs(pairs: &[(Vec<u8>, Vec<u8>)]) -> bool
 /// The first cause that stands against dropping needed libraries of these names. Takes no memory.
 #[tactic(auto, unfolding(crate::specs::Cause::first_cause))]
 pub fn removal_cause(names: &[Vec<u8>], facts: &Facts) -> Option<Cause<'static>>
-    ensures { option_map cause_meant result
-        ≡ first_cause (delete_needed (texts_held names.now)) facts.now }
+    ensures { option_map cause_model result
+        ≡ first_cause (delete_needed (texts_model names.now)) facts.now }
 {
     if facts.machine == EM_MIPS {
         Some(Cause::MipsImage)
@@ -130,8 +130,8 @@ pub fn removal_cause(names: &[Vec<u8>], facts: &Facts) -> Option<Cause<'static>>
 // The first cause against replacing needed libraries.
 #[tactic(auto, unfolding(crate::specs::Cause::first_cause))]
 fn replacement_cause(pairs: &[(Vec<u8>, Vec<u8>)], facts: &Facts) -> Option<Cause<'static>>
-    ensures { option_map cause_meant result
-        ≡ first_cause (replace_needed (pairs_held pairs.now)) facts.now }
+    ensures { option_map cause_model result
+        ≡ first_cause (replace_needed (pairs_model pairs.now)) facts.now }
 {
     if facts.machine == EM_MIPS {
         Some(Cause::MipsImage)
@@ -146,7 +146,7 @@ fn replacement_cause(pairs: &[(Vec<u8>, Vec<u8>)], facts: &Facts) -> Option<Caus
 
 /// The first cause that stands against an edit of a batch, in the order of `cause_of`. Takes no memory.
 pub fn cause_of_edit<'e>(edit: &'e ElfEdit, facts: &Facts) -> Option<Cause<'e>>
-    ensures { option_map cause_meant result ≡ first_cause (edit_meant edit.now) facts.now }
+    ensures { option_map cause_model result ≡ first_cause (edit_model edit.now) facts.now }
 {
     match edit {
         ElfEdit::AddDebugTag => cause_of(&EditCall::AddDebugEntry, facts),

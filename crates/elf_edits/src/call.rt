@@ -1,6 +1,6 @@
 //! The edits as they are called for: with values that are lent, and with values that are owned.
 ghost use Rattle.std.specs.Prelude.{◌≡◌, false, MatchOption};
-ghost use Rattle.elf_edits.specs.Called.{call_meant, edit_meant};
+ghost use Rattle.elf_edits.specs.Called.{call_model, edit_model};
 ghost use Rattle.elf_edits.specs.Edited.{touches_rest};
 
 use std::collections::{HashMap, HashSet};
@@ -85,8 +85,8 @@ impl ElfEdit {
     /// The same edit with its values lent; `None` for the two edits of the dynamic list that are called with a set or
     /// a map of names. Takes no memory.
     pub fn lend(&self) -> Option<EditCall<'_>>
-        ensures { MatchOption result (touches_rest (edit_meant self.now) ≡ false)
-            (λ call. call_meant call ≡ edit_meant self.now) }
+        ensures { MatchOption result (touches_rest (edit_model self.now) ≡ false)
+            (λ call. call_model call ≡ edit_model self.now) }
     {
         match self {
             ElfEdit::AddDebugTag => Some(EditCall::AddDebugEntry),

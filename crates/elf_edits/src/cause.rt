@@ -2,9 +2,9 @@
 ghost use Rattle.std.specs.Prelude.{◌≡◌, ◌∷◌, [], List, option_map};
 ghost use Rattle.std.specs.HashSet.{keys};
 ghost use Rattle.std.specs.List.{list_any};
-ghost use Rattle.elf_edits.specs.Called.{call_meant, texts_held};
+ghost use Rattle.elf_edits.specs.Called.{call_model, texts_model};
 ghost use Rattle.elf_edits.specs.Cause.{first_cause as first_of_causes, interpreter_missing, list_missing, own_cause as cause_of_its_own};
-ghost use Rattle.elf_edits.specs.CauseSeen.{cause_meant, pair_holds_nul, words_of};
+ghost use Rattle.elf_edits.specs.CauseModel.{cause_model, pair_holds_nul, words_of};
 ghost use Rattle.elf_edits.specs.Edit.{Answer, ShrinkRunPath, all_but_last, task_of as task_meant, texts_of};
 ghost use Rattle.elf_edits.specs.Texts.{holds_nul as nul_in};
 ghost use Rattle.elf_image.specs.Options.{first_there};
@@ -47,7 +47,7 @@ fn holds_nul(text: &[u8]) -> bool
 
 // Whether one of some texts does.
 pub(crate) fn any_nul(texts: &[Vec<u8>]) -> bool
-    ensures { result ≡ list_any nul_in (texts_held texts.now) }
+    ensures { result ≡ list_any nul_in (texts_model texts.now) }
 {
     for text in texts {
         if holds_nul(text.as_slice()) {
@@ -59,7 +59,7 @@ pub(crate) fn any_nul(texts: &[Vec<u8>]) -> bool
 
 // Whether one of a set does.
 fn any_nul_in_set(texts: &HashSet<Vec<u8>>) -> bool
-    ensures { result ≡ list_any nul_in (texts_held (keys texts.now)) }
+    ensures { result ≡ list_any nul_in (texts_model (keys texts.now)) }
 {
     let mut found = false;
     for text in texts {
@@ -91,7 +91,7 @@ fn nul_before_end(bytes: &[u8]) -> bool
 
 // Whether a text of an edit holds a NUL where none may stand.
 fn any_nul_in_call(call: &EditCall<'_>) -> bool
-    ensures { result ≡ list_any nul_in (texts_of (call_meant call.now)) }
+    ensures { result ≡ list_any nul_in (texts_of (call_model call.now)) }
 {
     match call {
         EditCall::SetRunPath(text) => holds_nul(text),
@@ -108,7 +108,7 @@ fn any_nul_in_call(call: &EditCall<'_>) -> bool
 
 // What an edit of the dynamic list does, none for another edit.
 fn task_of(call: &EditCall<'_>) -> Option<Task>
-    ensures { option_map words_of result ≡ task_meant (call_meant call.now) }
+    ensures { option_map words_of result ≡ task_meant (call_model call.now) }
 {
     match call {
         EditCall::AddDebugEntry => Some(Task::AddDebugEntry),
@@ -128,7 +128,7 @@ fn task_of(call: &EditCall<'_>) -> Option<Task>
 
 // What stands against an edit of its kind alone.
 fn own_cause<'e>(call: &EditCall<'e>, facts: &Facts) -> Option<Cause<'e>>
-    ensures { option_map cause_meant result ≡ cause_of_its_own (call_meant call.now) facts.now }
+    ensures { option_map cause_model result ≡ cause_of_its_own (call_model call.now) facts.now }
 {
     match call {
         EditCall::SetOsAbi(name) => if abi_number(name).is_none() {
@@ -157,9 +157,9 @@ fn own_cause<'e>(call: &EditCall<'e>, facts: &Facts) -> Option<Cause<'e>>
 
 // What an edit needs and isn't there: the dynamic section, or the interpreter.
 fn missing<'e>(call: &EditCall<'e>, facts: &Facts) -> Option<Cause<'e>>
-    ensures { option_map cause_meant result
-        ≡ first_there (list_missing (task_meant (call_meant call.now)) facts.now)
-        (interpreter_missing (call_meant call.now) facts.now) }
+    ensures { option_map cause_model result
+        ≡ first_there (list_missing (task_meant (call_model call.now)) facts.now)
+        (interpreter_missing (call_model call.now) facts.now) }
 {
     if let EditCall::SetInterpreter(_) = call {
         return if facts.has_interpreter {
@@ -177,7 +177,7 @@ fn missing<'e>(call: &EditCall<'e>, facts: &Facts) -> Option<Cause<'e>>
 /// The first cause that stands against an edit of an image with these facts: the machine, what the edit needs and isn't
 /// there, a NUL in a text, and then what stands against this edit alone; `None` where none does. Takes no memory.
 pub fn cause_of<'e>(call: &EditCall<'e>, facts: &Facts) -> Option<Cause<'e>>
-    ensures { option_map cause_meant result ≡ first_of_causes (call_meant call.now) facts.now }
+    ensures { option_map cause_model result ≡ first_of_causes (call_model call.now) facts.now }
 {
     if facts.machine == EM_MIPS {
         return Some(Cause::MipsImage);
@@ -197,8 +197,8 @@ pub fn cause_of<'e>(call: &EditCall<'e>, facts: &Facts) -> Option<Cause<'e>>
 #[tactic(auto, unfolding(crate::specs::Cause::first_cause))]
 pub fn shrink_cause(prefixes: &[Vec<u8>], facts: &Facts) -> Option<Cause<'static>>
     ensures { (answers : List Answer) →
-        option_map cause_meant result
-        ≡ first_of_causes (ShrinkRunPath (texts_held prefixes.now) answers) facts.now }
+        option_map cause_model result
+        ≡ first_of_causes (ShrinkRunPath (texts_model prefixes.now) answers) facts.now }
 {
     if facts.machine == EM_MIPS {
         Some(Cause::MipsImage)

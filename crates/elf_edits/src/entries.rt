@@ -1,7 +1,7 @@
 //! Edits of the dynamic list, entry by entry.
 ghost use Rattle.std.specs.Prelude.{◌≡◌, IfOk, unwrap_or};
-ghost use Rattle.elf_image.specs.ImageSeen.{entry_kept};
-ghost use Rattle.elf_edits.specs.Called.{call_meant, pairs_of_map, texts_held};
+ghost use Rattle.elf_image.specs.ImageModel.{entry_model};
+ghost use Rattle.elf_edits.specs.Called.{call_model, pairs_of_map, texts_model};
 ghost use Rattle.elf_edits.specs.Entries.{has_tag as has_that_tag, is_replaced as is_replaced_by, is_run_path as has_run_path, needs_one_of as needs_any, with_bits, with_each_added, with_tag as with_that_tag, with_text as with_that_text, with_text_changed};
 ghost use Rattle.elf_edits.specs.Steps.{changed_entry, is_dropped as is_not_kept};
 ghost use Rattle.elf_image.specs.Dynamic.{Text as text_of_tag};
@@ -19,7 +19,7 @@ use std::collections::{HashMap, HashSet};
 
 // Whether the entry has this tag.
 pub(crate) fn has_tag(entry: &Dynamic<'_>, tag: u64) -> bool
-    ensures { result ≡ has_that_tag tag (entry_kept entry.now) }
+    ensures { result ≡ has_that_tag tag (entry_model entry.now) }
 {
     match entry {
         Dynamic::Auto { tag: own } => *own == tag,
@@ -30,14 +30,14 @@ pub(crate) fn has_tag(entry: &Dynamic<'_>, tag: u64) -> bool
 
 // Whether the entry has a run path.
 pub(crate) fn is_run_path(entry: &Dynamic<'_>) -> bool
-    ensures { result ≡ has_run_path (entry_kept entry.now) }
+    ensures { result ≡ has_run_path (entry_model entry.now) }
 {
     has_tag(entry, DT_RPATH) || has_tag(entry, DT_RUNPATH)
 }
 
 // The entry again: a text that is lent stays lent, one that is owned is copied.
 pub(crate) fn copied<'d>(alloc: Global, entry: &Dynamic<'d>) -> Result<Dynamic<'d>, AllocError>
-    ensures { IfOk result (λ copy. entry_kept copy ≡ entry_kept entry.now) }
+    ensures { IfOk result (λ copy. entry_model copy ≡ entry_model entry.now) }
 {
     match entry {
         Dynamic::Auto { tag } => Ok(Dynamic::Auto { tag: *tag }),
@@ -58,7 +58,7 @@ pub(crate) fn text_entry<'d>(
     tag: u64,
     text: &[u8],
 ) -> Result<Dynamic<'d>, AllocError>
-    ensures { IfOk result (λ made. entry_kept made ≡ text_of_tag tag text.now) }
+    ensures { IfOk result (λ made. entry_model made ≡ text_of_tag tag text.now) }
 {
     let val = ByteString::owned(Vec::from_slice(alloc, text)?);
     Ok(Dynamic::Text { tag, val })
@@ -66,7 +66,7 @@ pub(crate) fn text_entry<'d>(
 
 // The entry with another tag.
 fn with_tag<'d>(alloc: Global, tag: u64, entry: &Dynamic<'d>) -> Result<Dynamic<'d>, AllocError>
-    ensures { IfOk result (λ made. entry_kept made ≡ with_that_tag tag (entry_kept entry.now)) }
+    ensures { IfOk result (λ made. entry_model made ≡ with_that_tag tag (entry_model entry.now)) }
 {
     match entry {
         Dynamic::Auto { .. } => Ok(Dynamic::Auto { tag }),
@@ -80,8 +80,8 @@ fn with_tag<'d>(alloc: Global, tag: u64, entry: &Dynamic<'d>) -> Result<Dynamic<
 
 // The entry with DF_1_NODEFLIB in its number.
 fn without_default<'d>(alloc: Global, entry: &Dynamic<'d>) -> Result<Dynamic<'d>, AllocError>
-    ensures { IfOk result (λ made. entry_kept made
-        ≡ with_bits DF_1_NODEFLIB (entry_kept entry.now)) }
+    ensures { IfOk result (λ made. entry_model made
+        ≡ with_bits DF_1_NODEFLIB (entry_model entry.now)) }
 {
     match entry {
         Dynamic::Integer { tag, val } => Ok(Dynamic::Integer {
@@ -98,8 +98,8 @@ fn with_directories_added<'d>(
     entry: &Dynamic<'d>,
     texts: &[Vec<u8>],
 ) -> Result<Dynamic<'d>, AllocError>
-    ensures { IfOk result (λ made. entry_kept made
-        ≡ with_text_changed (with_each_added (texts_held texts.now)) (entry_kept entry.now)) }
+    ensures { IfOk result (λ made. entry_model made
+        ≡ with_text_changed (with_each_added (texts_model texts.now)) (entry_model entry.now)) }
 {
     match entry {
         Dynamic::Text { tag, val } => {
@@ -112,7 +112,7 @@ fn with_directories_added<'d>(
 
 // Whether the entry needs one of these libraries.
 pub(crate) fn needs_one_of(entry: &Dynamic<'_>, names: &HashSet<Vec<u8>>) -> bool
-    ensures { result ≡ needs_any (texts_held (keys names.now)) (entry_kept entry.now) }
+    ensures { result ≡ needs_any (texts_model (keys names.now)) (entry_model entry.now) }
 {
     match entry {
         Dynamic::Text { tag, val } if *tag == DT_NEEDED => names.contains(val.as_slice()),
@@ -122,7 +122,7 @@ pub(crate) fn needs_one_of(entry: &Dynamic<'_>, names: &HashSet<Vec<u8>>) -> boo
 
 // Whether the entry needs a library that a map has.
 pub(crate) fn is_replaced(entry: &Dynamic<'_>, names: &HashMap<Vec<u8>, Vec<u8>>) -> bool
-    ensures { result ≡ is_replaced_by (pairs_of_map names.now.entries) (entry_kept entry.now) }
+    ensures { result ≡ is_replaced_by (pairs_of_map names.now.entries) (entry_model entry.now) }
 {
     match entry {
         Dynamic::Text { tag, val } if *tag == DT_NEEDED => names.contains_key(val.as_slice()),
@@ -151,9 +151,9 @@ fn replaced<'d>(
     entry: &Dynamic<'d>,
     names: &HashMap<Vec<u8>, Vec<u8>>,
 ) -> Result<Dynamic<'d>, AllocError>
-    ensures { IfOk result (λ made. entry_kept made
+    ensures { IfOk result (λ made. entry_model made
         ≡ with_text_changed (λ name. unwrap_or (value_of
-        (pairs_of_map names.now.entries) name) name) (entry_kept entry.now)) }
+        (pairs_of_map names.now.entries) name) name) (entry_model entry.now)) }
 {
     match entry {
         Dynamic::Text { tag, val } => {
@@ -166,15 +166,15 @@ fn replaced<'d>(
 
 // The entry with another text.
 fn with_text<'d>(alloc: Global, entry: &Dynamic<'d>, text: &[u8]) -> Result<Dynamic<'d>, AllocError>
-    ensures { IfOk result (λ made. entry_kept made
-        ≡ with_that_text text.now (entry_kept entry.now)) }
+    ensures { IfOk result (λ made. entry_model made
+        ≡ with_that_text text.now (entry_model entry.now)) }
 {
     text_entry(alloc, entry.tag(), text)
 }
 
 // Whether an edit drops the entry.
 pub(crate) fn is_dropped(call: &EditCall<'_>, entry: &Dynamic<'_>) -> bool
-    ensures { result ≡ is_not_kept (call_meant call.now) (entry_kept entry.now) }
+    ensures { result ≡ is_not_kept (call_model call.now) (entry_model entry.now) }
 {
     match call {
         EditCall::DeleteRunPath => is_run_path(entry),
@@ -190,8 +190,8 @@ pub(crate) fn changed<'d>(
     call: &EditCall<'_>,
     entry: &Dynamic<'d>,
 ) -> Result<Dynamic<'d>, AllocError>
-    ensures { IfOk result (λ made. entry_kept made
-        ≡ changed_entry (call_meant call.now) (entry_kept entry.now)) }
+    ensures { IfOk result (λ made. entry_model made
+        ≡ changed_entry (call_model call.now) (entry_model entry.now)) }
 {
     match call {
         EditCall::SetRunPath(text) => if is_run_path(entry) {

@@ -4,9 +4,9 @@ ghost use Rattle.std.specs.HashSet.{keys};
 ghost use Rattle.std.specs.List.{filter_map, list_any};
 ghost use Rattle.std.specs.Str.{bytes_eq};
 ghost use Rattle.elf_image.specs.Dynamic.{Text as text_of_tag};
-ghost use Rattle.elf_image.specs.ImageSeen.{entry_kept};
+ghost use Rattle.elf_image.specs.ImageModel.{entry_model};
 ghost use Rattle.elf_image.specs.Answers.{borrowed};
-ghost use Rattle.elf_edits.specs.Called.{call_meant, pairs_of_map, texts_held};
+ghost use Rattle.elf_edits.specs.Called.{call_model, pairs_of_map, texts_model};
 ghost use Rattle.elf_edits.specs.Entries.{edited_entries, has_tag as has_that_tag, is_run_path as has_run_path, is_replaced as is_replaced_by, needed_names, needs_one_of as needs_any, not_needed_yet, touches_entries};
 ghost use Rattle.elf_edits.specs.Steps.{entry_after, first_needed, put_before, put_behind as put_last};
 ghost use Rattle.elf_edits.specs.Texts.{is_among, joined as joined_by_colons};
@@ -26,7 +26,7 @@ use std::collections::{HashMap, HashSet};
 
 // Whether an entry has a run path.
 pub(crate) fn any_run_path(entries: &[Dynamic<'_>]) -> bool
-    ensures { result ≡ list_any has_run_path (map entry_kept entries.now) }
+    ensures { result ≡ list_any has_run_path (map entry_model entries.now) }
 {
     for entry in entries {
         if is_run_path(entry) {
@@ -38,7 +38,7 @@ pub(crate) fn any_run_path(entries: &[Dynamic<'_>]) -> bool
 
 // Whether an entry has this tag.
 pub(crate) fn any_with_tag(entries: &[Dynamic<'_>], tag: u64) -> bool
-    ensures { result ≡ list_any (has_that_tag tag) (map entry_kept entries.now) }
+    ensures { result ≡ list_any (has_that_tag tag) (map entry_model entries.now) }
 {
     for entry in entries {
         if has_tag(entry, tag) {
@@ -55,9 +55,9 @@ fn put_entries<'d>(
     entries: &[Dynamic<'d>],
     made: &mut Vec<Dynamic<'d>>,
 ) -> Result<(), AllocError>
-    ensures { IfOk result (λ _. map entry_kept made.new.items
-        ≡ map entry_kept made.old.items
-        ++ filter_map (entry_after (call_meant call.now)) (map entry_kept entries.now)) }
+    ensures { IfOk result (λ _. map entry_model made.new.items
+        ≡ map entry_model made.old.items
+        ++ filter_map (entry_after (call_model call.now)) (map entry_model entries.now)) }
 {
     for entry in entries {
         if !is_dropped(call, entry) {
@@ -69,7 +69,7 @@ fn put_entries<'d>(
 
 // The name of the library that an entry needs.
 pub(crate) fn needed_name<'e>(entry: &'e Dynamic<'_>) -> Option<&'e [u8]>
-    ensures { option_map borrowed result ≡ first_needed (entry_kept entry.now) }
+    ensures { option_map borrowed result ≡ first_needed (entry_model entry.now) }
 {
     match entry {
         Dynamic::Text { tag, val } if *tag == DT_NEEDED => Some(val.as_slice()),
@@ -84,7 +84,7 @@ fn needed_set<'e>(
 ) -> Result<HashSet<&'e [u8]>, AllocError>
     ensures { IfOk result (λ set. (name : List ℕ) →
         list_any (λ k. bytes_eq name k.now) (keys set)
-        ≡ is_among (needed_names (map entry_kept entries.now)) name) }
+        ≡ is_among (needed_names (map entry_model entries.now)) name) }
 {
     let mut set = HashSet::new(alloc);
     for entry in entries {
@@ -101,9 +101,9 @@ fn added_needed<'d>(
     names: &[Vec<u8>],
     entries: &[Dynamic<'_>],
 ) -> Result<Vec<Dynamic<'d>>, AllocError>
-    ensures { IfOk result (λ made. map entry_kept made.items
-        ≡ map (text_of_tag DT_NEEDED) (not_needed_yet (texts_held names.now)
-        (map entry_kept entries.now))) }
+    ensures { IfOk result (λ made. map entry_model made.items
+        ≡ map (text_of_tag DT_NEEDED) (not_needed_yet (texts_model names.now)
+        (map entry_model entries.now))) }
 {
     let set = needed_set(alloc, entries)?;
     let mut made = Vec::new(alloc);
@@ -121,8 +121,8 @@ fn put_first<'d>(
     call: &EditCall<'_>,
     entries: &[Dynamic<'_>],
 ) -> Result<Vec<Dynamic<'d>>, AllocError>
-    ensures { IfOk result (λ made. map entry_kept made.items
-        ≡ put_before (call_meant call.now) (map entry_kept entries.now)) }
+    ensures { IfOk result (λ made. map entry_model made.items
+        ≡ put_before (call_model call.now) (map entry_model entries.now)) }
 {
     match call {
         EditCall::AddNeeded(names) => added_needed(alloc, names, entries),
@@ -136,8 +136,8 @@ fn last_entry<'d>(
     call: &EditCall<'_>,
     entries: &[Dynamic<'_>],
 ) -> Result<Option<Dynamic<'d>>, AllocError>
-    ensures { IfOk result (λ made. map entry_kept (option_to_list made)
-        ≡ put_last (call_meant call.now) (map entry_kept entries.now)) }
+    ensures { IfOk result (λ made. map entry_model (option_to_list made)
+        ≡ put_last (call_model call.now) (map entry_model entries.now)) }
 {
     match call {
         EditCall::AddDebugEntry => if any_with_tag(entries, DT_DEBUG) {
@@ -177,15 +177,15 @@ fn last_entry<'d>(
 
 // An entry with a text.
 fn own_text<'d>(alloc: Global, tag: u64, text: &[u8]) -> Result<Option<Dynamic<'d>>, AllocError>
-    ensures { IfOk result (λ made. option_map entry_kept made ≡ some (text_of_tag tag text.now)) }
+    ensures { IfOk result (λ made. option_map entry_model made ≡ some (text_of_tag tag text.now)) }
 {
     Ok(Some(text_entry(alloc, tag, text)?))
 }
 
 // A run path of texts.
 fn joined_texts<'d>(alloc: Global, texts: &[Vec<u8>]) -> Result<Option<Dynamic<'d>>, AllocError>
-    ensures { IfOk result (λ made. option_map entry_kept made
-        ≡ some (text_of_tag DT_RUNPATH (joined_by_colons (texts_held texts.now)))) }
+    ensures { IfOk result (λ made. option_map entry_model made
+        ≡ some (text_of_tag DT_RUNPATH (joined_by_colons (texts_model texts.now)))) }
 {
     let text = joined(alloc, texts)?;
     Ok(Some(Dynamic::Text {
@@ -196,8 +196,8 @@ fn joined_texts<'d>(alloc: Global, texts: &[Vec<u8>]) -> Result<Option<Dynamic<'
 
 // Whether an entry needs one of these libraries.
 fn any_needs(entries: &[Dynamic<'_>], names: &HashSet<Vec<u8>>) -> bool
-    ensures { result ≡ list_any (needs_any (texts_held (keys names.now)))
-        (map entry_kept entries.now) }
+    ensures { result ≡ list_any (needs_any (texts_model (keys names.now)))
+        (map entry_model entries.now) }
 {
     for entry in entries {
         if needs_one_of(entry, names) {
@@ -210,7 +210,7 @@ fn any_needs(entries: &[Dynamic<'_>], names: &HashSet<Vec<u8>>) -> bool
 // Whether an entry needs a library that a map has.
 fn any_replaced(entries: &[Dynamic<'_>], names: &HashMap<Vec<u8>, Vec<u8>>) -> bool
     ensures { result ≡ list_any (is_replaced_by (pairs_of_map names.now.entries))
-        (map entry_kept entries.now) }
+        (map entry_model entries.now) }
 {
     for entry in entries {
         if is_replaced(entry, names) {
@@ -223,10 +223,10 @@ fn any_replaced(entries: &[Dynamic<'_>], names: &HashMap<Vec<u8>, Vec<u8>>) -> b
 // Whether an edit adds, removes or writes something, where `made` is the list after it.
 #[tactic(auto, unfolding(crate::specs::Entries::touches_entries))]
 fn touches(call: &EditCall<'_>, entries: &[Dynamic<'_>], made: &[Dynamic<'_>]) -> bool
-    requires { map entry_kept made.now
-        ≡ edited_entries 0 (call_meant call.now) (map entry_kept entries.now) }
+    requires { map entry_model made.now
+        ≡ edited_entries 0 (call_model call.now) (map entry_model entries.now) }
     ensures { (machine : ℕ) → result
-        ≡ touches_entries machine (call_meant call.now) (map entry_kept entries.now) }
+        ≡ touches_entries machine (call_model call.now) (map entry_model entries.now) }
 {
     match call {
         EditCall::AddDebugEntry => !any_with_tag(entries, DT_DEBUG),
@@ -260,8 +260,8 @@ fn edited_list<'d>(
     entries: &[Dynamic<'d>],
 ) -> Result<Vec<Dynamic<'d>>, AllocError>
     ensures { IfOk result (λ made. (machine : ℕ) →
-        map entry_kept made.items
-        ≡ edited_entries machine (call_meant call.now) (map entry_kept entries.now)) }
+        map entry_model made.items
+        ≡ edited_entries machine (call_model call.now) (map entry_model entries.now)) }
 {
     let mut made = put_first(alloc, call, entries)?;
     put_entries(alloc, call, entries, &mut made)?;
@@ -279,11 +279,11 @@ pub fn edited<'d>(
     entries: &[Dynamic<'d>],
 ) -> Result<NewList<'d>, AllocError>
     ensures list { IfOk result (λ made. (machine : ℕ) →
-        map entry_kept made.entries.items
-        ≡ edited_entries machine (call_meant call.now) (map entry_kept entries.now)) }
+        map entry_model made.entries.items
+        ≡ edited_entries machine (call_model call.now) (map entry_model entries.now)) }
     ensures touched { IfOk result (λ made. (machine : ℕ) →
-        made.is_touched ≡ touches_entries machine (call_meant call.now)
-        (map entry_kept entries.now)) }
+        made.is_touched ≡ touches_entries machine (call_model call.now)
+        (map entry_model entries.now)) }
 {
     let made = edited_list(alloc, call, entries)?;
     let is_touched = touches(call, entries, made.as_slice());

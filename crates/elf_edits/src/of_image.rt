@@ -1,7 +1,7 @@
 ghost use Rattle.std.specs.Prelude.{◌≡◌, is_some, map, option_map};
 ghost use Rattle.elf_format.specs.declared.constants.TheConstants.{PT_GNU_STACK as STACK};
 ghost use Rattle.elf_image.specs.File.{segment_of_type};
-ghost use Rattle.elf_image.specs.ImageSeen.{entry_kept, segment_kept};
+ghost use Rattle.elf_image.specs.ImageModel.{entry_model, segment_model};
 ghost use Rattle.elf_edits.specs.Cause.{facts_of as facts_seen, lists_run_path};
 
 use crate::constants::MOST_SEGMENTS;
@@ -12,7 +12,7 @@ use elf_image::{Builder, Dynamic, Segment};
 
 // Whether there is a program header for the stack.
 fn has_stack(segments: &[Segment<'_>]) -> bool
-    ensures { result ≡ is_some (segment_of_type STACK (map segment_kept segments.now)) }
+    ensures { result ≡ is_some (segment_of_type STACK (map segment_model segments.now)) }
 {
     for segment in segments {
         if segment.p_type() == PT_GNU_STACK {
@@ -39,7 +39,7 @@ pub fn image_facts(builder: &Builder<'_>) -> Facts
 
 // Whether a list has a run path.
 fn has_run_path(list: Option<&[Dynamic<'_>]>) -> bool
-    ensures { result ≡ lists_run_path (option_map (λ l. map entry_kept l.now) list.entry) }
+    ensures { result ≡ lists_run_path (option_map (λ l. map entry_model l.now) list.entry) }
 {
     match list {
         None => false,

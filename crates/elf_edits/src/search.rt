@@ -3,9 +3,9 @@ ghost use Rattle.std.specs.Prelude.{◌≡◌, ℕ, IfOk, List, map};
 ghost use Rattle.std.specs.List.{filter_map, list_any, starts_with};
 ghost use Rattle.std.specs.Prelude.{◌++◌, ◌∷◌, [], ◌==◌, filter, nat_eq, OnOk, if◌then◌else◌};
 ghost use Rattle.elf_image.specs.Options.{is_some_and};
-ghost use Rattle.elf_edits.specs.Called.{answer_held, texts_held};
+ghost use Rattle.elf_edits.specs.Called.{answer_model, texts_model};
 ghost use Rattle.elf_edits.specs.Shrunk.{is_absolute as begins_with_slash, is_allowed as allowed_by, is_found_in as found_in, machine_found, reason_of as why, shrunk, stays as may_stay};
-ghost use Rattle.elf_edits.specs.ShrunkSeen.{going, judged_by, machine_in, removal_meant};
+ghost use Rattle.elf_edits.specs.ShrunkModel.{going, judged_by, machine_in, removal_model};
 ghost use Rattle.elf_edits.specs.Texts.{directories_in, joined};
 
 use crate::constants::{COLON, SLASH};
@@ -32,7 +32,7 @@ pub(crate) fn answers_by_pair<'e>(
 ) -> Result<HashMap<(&'e [u8], &'e [u8]), Option<u16>>, AllocError>
     ensures { IfOk result (λ found. (directory name : List ℕ) →
         machine_in found.entries directory name
-        ≡ machine_found (map answer_held answers.now) directory name) }
+        ≡ machine_found (map answer_model answers.now) directory name) }
 {
     let mut found = HashMap::new(alloc);
     for answer in answers {
@@ -54,7 +54,7 @@ pub(crate) fn is_absolute(directory: &[u8]) -> bool
 // Whether some prefix begins it.
 fn begins_with_one(prefixes: &[Vec<u8>], directory: &[u8]) -> bool
     ensures { result ≡ list_any (λ p. starts_with nat_eq directory.now p)
-        (texts_held prefixes.now) }
+        (texts_model prefixes.now) }
 {
     for prefix in prefixes {
         if directory.starts_with(prefix.as_slice()) {
@@ -66,7 +66,7 @@ fn begins_with_one(prefixes: &[Vec<u8>], directory: &[u8]) -> bool
 
 // Whether no prefixes are given, or one begins it.
 fn is_allowed(prefixes: &[Vec<u8>], directory: &[u8]) -> bool
-    ensures { result ≡ allowed_by (texts_held prefixes.now) directory.now }
+    ensures { result ≡ allowed_by (texts_model prefixes.now) directory.now }
 {
     prefixes.is_empty() || begins_with_one(prefixes, directory)
 }
@@ -108,8 +108,8 @@ fn note_removal(
     directory: &[u8],
     removed: &mut Vec<Removed>,
 ) -> Result<(), AllocError>
-    ensures { IfOk result (λ _. map removal_meant removed.new.items
-        ≡ map removal_meant removed.old.items
+    ensures { IfOk result (λ _. map removal_model removed.new.items
+        ≡ map removal_model removed.old.items
         ++ record {
           directory = directory.now;
           reason = why
@@ -146,8 +146,8 @@ pub(crate) fn shrunk_parts(
 ) -> Result<Vec<u8>, AllocError>
     ensures text { IfOk result (λ made. made.items
         ≡ joined (filter (may_stay (judged_by s.now)) (map (λ part. part.now) parts.now))) }
-    ensures gone { OnOk result (map removal_meant removed.new.items
-        ≡ map removal_meant removed.old.items
+    ensures gone { OnOk result (map removal_model removed.new.items
+        ≡ map removal_model removed.old.items
         ++ filter_map (going (judged_by s.now)) (map (λ part. part.now) parts.now)) }
 {
     let mut made = Vec::new(alloc);

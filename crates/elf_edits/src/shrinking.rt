@@ -1,11 +1,11 @@
 //! The dynamic list with run paths that shrink.
 ghost use Rattle.std.specs.Prelude.{◌≡◌, ◌++◌, ◌∷◌, [], IfOk, OnOk, map, option_map};
 ghost use Rattle.std.specs.List.{flat_map};
-ghost use Rattle.elf_image.specs.ImageSeen.{entry_kept};
-ghost use Rattle.elf_edits.specs.Called.{answer_held, texts_held};
+ghost use Rattle.elf_image.specs.ImageModel.{entry_model};
+ghost use Rattle.elf_edits.specs.Called.{answer_model, texts_model};
 ghost use Rattle.elf_edits.specs.Entries.{directories_removed, is_run_path as has_run_path, needed_names, search_of, shrink_questions as all_questions, text_if, with_run_paths_shrunk, with_text_changed};
 ghost use Rattle.elf_edits.specs.Shrunk.{pairs_of, removed_from, shrunk};
-ghost use Rattle.elf_edits.specs.ShrunkSeen.{judged_by, pair_lent, removal_meant, text_held};
+ghost use Rattle.elf_edits.specs.ShrunkModel.{judged_by, pair_lent, removal_model, text_held};
 ghost use Rattle.elf_edits.specs.Texts.{directories_in, first_in};
 ghost use Rattle.elf_image.specs.Answers.{borrowed};
 ghost use Rattle.elf_edits.specs.Steps.{changed_if};
@@ -27,11 +27,11 @@ fn shrunk_text_entry<'d>(
     entry: &Dynamic<'d>,
     removed: &mut Vec<Removed>,
 ) -> Result<Dynamic<'d>, AllocError>
-    ensures entry { IfOk result (λ made. entry_kept made
-        ≡ with_text_changed (shrunk (judged_by s.now)) (entry_kept entry.now)) }
-    ensures gone { OnOk result (map removal_meant removed.new.items
-        ≡ map removal_meant removed.old.items
-        ++ flat_map (removed_from (judged_by s.now)) (text_held (entry_kept entry.now))) }
+    ensures entry { IfOk result (λ made. entry_model made
+        ≡ with_text_changed (shrunk (judged_by s.now)) (entry_model entry.now)) }
+    ensures gone { OnOk result (map removal_model removed.new.items
+        ≡ map removal_model removed.old.items
+        ++ flat_map (removed_from (judged_by s.now)) (text_held (entry_model entry.now))) }
 {
     match entry {
         Dynamic::Text { tag, val } => {
@@ -50,13 +50,13 @@ fn shrunk_entry<'d>(
     entry: &Dynamic<'d>,
     removed: &mut Vec<Removed>,
 ) -> Result<Dynamic<'d>, AllocError>
-    ensures entry { IfOk result (λ made. entry_kept made
+    ensures entry { IfOk result (λ made. entry_model made
         ≡ changed_if has_run_path (with_text_changed (shrunk (judged_by s.now)))
-        (entry_kept entry.now)) }
-    ensures gone { OnOk result (map removal_meant removed.new.items
-        ≡ map removal_meant removed.old.items
+        (entry_model entry.now)) }
+    ensures gone { OnOk result (map removal_model removed.new.items
+        ≡ map removal_model removed.old.items
         ++ flat_map (removed_from (judged_by s.now)) (text_if has_run_path
-        (entry_kept entry.now))) }
+        (entry_model entry.now))) }
 {
     if is_run_path(entry) {
         shrunk_text_entry(alloc, s, entry, removed)
@@ -72,11 +72,11 @@ fn shrunk_entries<'d>(
     entries: &[Dynamic<'d>],
     removed: &mut Vec<Removed>,
 ) -> Result<Vec<Dynamic<'d>>, AllocError>
-    ensures entries { IfOk result (λ made. map entry_kept made.items
-        ≡ with_run_paths_shrunk (judged_by s.now) (map entry_kept entries.now)) }
-    ensures gone { OnOk result (map removal_meant removed.new.items
-        ≡ map removal_meant removed.old.items
-        ++ directories_removed (judged_by s.now) (map entry_kept entries.now)) }
+    ensures entries { IfOk result (λ made. map entry_model made.items
+        ≡ with_run_paths_shrunk (judged_by s.now) (map entry_model entries.now)) }
+    ensures gone { OnOk result (map removal_model removed.new.items
+        ≡ map removal_model removed.old.items
+        ++ directories_removed (judged_by s.now) (map entry_model entries.now)) }
 {
     let mut made = Vec::new(alloc);
     for entry in entries {
@@ -88,7 +88,7 @@ fn shrunk_entries<'d>(
 // The names of needed libraries, in order.
 fn needed_list<'e>(alloc: Global, entries: &'e [Dynamic<'_>]) -> Result<Vec<&'e [u8]>, AllocError>
     ensures { IfOk result (λ names. map (λ name. name.now) names.items
-        ≡ needed_names (map entry_kept entries.now)) }
+        ≡ needed_names (map entry_model entries.now)) }
 {
     let mut names = Vec::new(alloc);
     for entry in entries {
@@ -119,12 +119,12 @@ pub fn shrink<'d>(
     answers: &[ProbeAnswer<'_>],
     entries: &[Dynamic<'d>],
 ) -> Result<ShrunkList<'d>, AllocError>
-    ensures list { IfOk result (λ made. let es = map entry_kept entries.now in map entry_kept made.entries.items
-        ≡ with_run_paths_shrunk (search_of machine (texts_held prefixes.now)
-        (map answer_held answers.now) es) es) }
-    ensures gone { IfOk result (λ made. let es = map entry_kept entries.now in map removal_meant made.removed.items
-        ≡ directories_removed (search_of machine (texts_held prefixes.now)
-        (map answer_held answers.now) es) es) }
+    ensures list { IfOk result (λ made. let es = map entry_model entries.now in map entry_model made.entries.items
+        ≡ with_run_paths_shrunk (search_of machine (texts_model prefixes.now)
+        (map answer_model answers.now) es) es) }
+    ensures gone { IfOk result (λ made. let es = map entry_model entries.now in map removal_model made.removed.items
+        ≡ directories_removed (search_of machine (texts_model prefixes.now)
+        (map answer_model answers.now) es) es) }
 {
     let needed = needed_list(alloc, entries)?;
     let found = answers_by_pair(alloc, answers)?;
@@ -175,7 +175,7 @@ fn put_all_pairs<'e>(
 
 // The run path of an entry, none where it has none.
 fn run_path<'e>(entry: &'e Dynamic<'_>) -> Option<&'e [u8]>
-    ensures { option_map borrowed result ≡ first_in (text_if has_run_path (entry_kept entry.now)) }
+    ensures { option_map borrowed result ≡ first_in (text_if has_run_path (entry_model entry.now)) }
 {
     match entry {
         Dynamic::Text { tag, val } if *tag == DT_RPATH || *tag == DT_RUNPATH => Some(
@@ -207,7 +207,7 @@ pub fn shrink_questions<'e>(
     entries: &'e [Dynamic<'_>],
 ) -> Result<Vec<(&'e [u8], &'e [u8])>, AllocError>
     ensures { IfOk result (λ made. map pair_lent made.items
-        ≡ all_questions (map entry_kept entries.now)) }
+        ≡ all_questions (map entry_model entries.now)) }
 {
     let needed = needed_list(alloc, entries)?;
     let mut made = Vec::new(alloc);

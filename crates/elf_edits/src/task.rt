@@ -1,6 +1,6 @@
 //! What an edit of the dynamic list does.
 ghost use Rattle.std.specs.Prelude.{◌≡◌};
-ghost use Rattle.elf_edits.specs.CauseSeen.{words_of};
+ghost use Rattle.elf_edits.specs.CauseModel.{words_of};
 
 use std::fmt;
 

@@ -1,6 +1,6 @@
 //! Texts of run paths.
 ghost use Rattle.std.specs.Prelude.{◌≡◌, ◌++◌, IfOk};
-ghost use Rattle.elf_edits.specs.Called.{texts_held};
+ghost use Rattle.elf_edits.specs.Called.{texts_model};
 ghost use Rattle.elf_edits.specs.Entries.{with_directories, with_each_added};
 ghost use Rattle.elf_edits.specs.Texts.{behind_colons, joined as joined_by_colons};
 
@@ -23,7 +23,7 @@ pub(crate) fn with_added(
     text: &[u8],
     texts: &[Vec<u8>],
 ) -> Result<Vec<u8>, AllocError>
-    ensures { IfOk result (λ made. made.items ≡ with_each_added (texts_held texts.now) text.now) }
+    ensures { IfOk result (λ made. made.items ≡ with_each_added (texts_model texts.now) text.now) }
 {
     let mut made = Vec::from_slice(alloc, text)?;
     for added in texts {
@@ -35,7 +35,7 @@ pub(crate) fn with_added(
 // Puts each text behind a colon.
 fn put_behind(made: &mut Vec<u8>, texts: &[Vec<u8>]) -> Result<(), AllocError>
     ensures { IfOk result (λ _. made.new.items
-        ≡ made.old.items ++ behind_colons (texts_held texts.now)) }
+        ≡ made.old.items ++ behind_colons (texts_model texts.now)) }
 {
     for text in texts {
         made.push(COLON)?;
@@ -46,7 +46,7 @@ fn put_behind(made: &mut Vec<u8>, texts: &[Vec<u8>]) -> Result<(), AllocError>
 
 // Texts with a colon between each two.
 pub(crate) fn joined(alloc: Global, texts: &[Vec<u8>]) -> Result<Vec<u8>, AllocError>
-    ensures { IfOk result (λ made. made.items ≡ joined_by_colons (texts_held texts.now)) }
+    ensures { IfOk result (λ made. made.items ≡ joined_by_colons (texts_model texts.now)) }
 {
     if texts.is_empty() {
         return Ok(Vec::new(alloc));

@@ -13,7 +13,7 @@ use Rattle.elf_format.specs.Dynamic.{Auto, Entry, Integer, Text, has_tag, shown_
 use Rattle.elf_format.specs.File.{Parts, is_allocated, linked_section, section_bytes, section_of_type}
 use Rattle.elf_format.specs.Form.{Form, records}
 use Rattle.elf_format.specs.Image.{definitions_read, dynamic_symbols_read, entry_tag, lists_tag, needs_read, seen_symbol, shown_if, symbols_of, versions_read}
-use Rattle.elf_format.specs.Options.{each, is_one_of, is_some_and, where_asked}
+use Rattle.elf_format.specs.Options.{each, is_one_of, is_some_and, when_wanted}
 use Rattle.elf_format.specs.Records.{EntryNumbers, SectionHeader, SymbolNumbers, symbol_numbers, symbol_size}
 use Rattle.elf_format.specs.Rules.{MeetsRules, definition_steps, file_of, linked_texts, need_steps, raw_entries, records_agree, tag_fits, tag_is_address, unit_of, version_symbols_agree}
 use Rattle.elf_format.specs.Versions.{VersionDefinition, VersionNeeds, is_whole_walk, shown_definition, shown_need, values_of, version_id}
@@ -56,7 +56,7 @@ tags_listed room texts tag (e ∷ raw) shown h =
     ∙ ap (lists_tag tag) (same_Some (x ∷ xs) shown made)
 
 -- what is asked for is there
-pub asked_shown : {A : Type 0} → (b : Bool) (o : Option A) (x : A) → (b ≡ true → o ≡ Some x) → where_asked b o ≡ Some (shown_if b x)
+pub asked_shown : {A : Type 0} → (b : Bool) (o : Option A) (x : A) → (b ≡ true → o ≡ Some x) → when_wanted b o ≡ Some (shown_if b x)
 asked_shown true o x h = some_bind o (λ y. Some (Some y)) x (h refl)
 asked_shown false o x h = refl
 
@@ -126,12 +126,12 @@ module _ (p : Parts) (rules : MeetsRules p) where
       unit_by_type t is = rw is refl
 
   -- the dynamic symbols, with names as far as DT_STRSZ says
-  symbols_seen : (s : SectionHeader) → section_of_type SHT_DYNSYM p.sections ≡ Some s → (b : Bool) → (b ≡ true → is_some (section_of_type SHT_GNU_VERSYM p.sections) ≡ true)
+  symbols_model : (s : SectionHeader) → section_of_type SHT_DYNSYM p.sections ≡ Some s → (b : Bool) → (b ≡ true → is_some (section_of_type SHT_GNU_VERSYM p.sections) ≡ true)
       → (ys : List NamedSymbol) → dynamic_symbols_read p (section_of_type SHT_DYNSYM p.sections) ≡ Some ys
       → dynamic_symbols p.opened.form (length (file_of p)) b (record { bytes = memory_of (section_bytes (file_of p) s); texts = linked_texts p s; count = s.sh_size / symbol_size p.opened.form })
       (section_memory (file_of p) (section_of_type SHT_GNU_VERSYM p.sections)) ≡ Some (map (seen_symbol b) ys)
   unfolding dynamic_symbols dynamic_symbols_read
-  symbols_seen s e b asked ys read =
+  symbols_model s e b asked ys read =
       let form : Form = p.opened.form in
       let room : ℕ = length (file_of p) in
       let count : ℕ = s.sh_size / symbol_size form in
@@ -158,10 +158,10 @@ module _ (p : Parts) (rules : MeetsRules p) where
       ∙ ap Some (seen_named b numbers names ids (length-versions_read p versioned (length numbers)) ∙ ap (map (seen_symbol b)) (same_Some (named_symbols numbers names ids) ys made))
 
   -- the defined versions, with names as far as DT_STRSZ says
-  definitions_seen : (s : SectionHeader) → section_of_type SHT_GNU_VERDEF p.sections ≡ Some s → (ds : List VersionDefinition) → definitions_read p (section_of_type SHT_GNU_VERDEF p.sections) ≡ Some ds
+  definitions_model : (s : SectionHeader) → section_of_type SHT_GNU_VERDEF p.sections ≡ Some s → (ds : List VersionDefinition) → definitions_read p (section_of_type SHT_GNU_VERDEF p.sections) ≡ Some ds
       → defined_versions p.opened.form (length (file_of p)) (record { bytes = memory_of (section_bytes (file_of p) s); texts = linked_texts p s; count = s.sh_info }) ≡ Some ds
   unfolding defined_versions whole_chain definitions_read
-  definitions_seen s e ds read =
+  definitions_model s e ds read =
       let steps = definition_steps p s in
       let whole : is_whole_walk s.sh_info steps ≡ true = test_at (λ t. is_whole_walk t.sh_info (definition_steps p t)) (section_of_type SHT_GNU_VERDEF p.sections) s (definitions_whole p rules) e in
       let of_section : definitions_read p (Some s) ≡ Some ds = ap (definitions_read p) (sym e) ∙ read in
@@ -170,10 +170,10 @@ module _ (p : Parts) (rules : MeetsRules p) where
       ∙ of_section
 
   -- the needed versions, with names as far as DT_STRSZ says
-  needs_seen : (s : SectionHeader) → section_of_type SHT_GNU_VERNEED p.sections ≡ Some s → (ns : List VersionNeeds) → needs_read p (section_of_type SHT_GNU_VERNEED p.sections) ≡ Some ns
+  needs_model : (s : SectionHeader) → section_of_type SHT_GNU_VERNEED p.sections ≡ Some s → (ns : List VersionNeeds) → needs_read p (section_of_type SHT_GNU_VERNEED p.sections) ≡ Some ns
       → needed_versions p.opened.form (length (file_of p)) (record { bytes = memory_of (section_bytes (file_of p) s); texts = linked_texts p s; count = s.sh_info }) ≡ Some ns
   unfolding needed_versions whole_chain needs_read
-  needs_seen s e ns read =
+  needs_model s e ns read =
       let steps = need_steps p s in
       let whole : is_whole_walk s.sh_info steps ≡ true = test_at (λ t. is_whole_walk t.sh_info (need_steps p t)) (section_of_type SHT_GNU_VERNEED p.sections) s (needs_whole p rules) e in
       let of_section : needs_read p (Some s) ≡ Some ns = ap (needs_read p) (sym e) ∙ read in
@@ -205,7 +205,7 @@ module _ (p : Parts) (rules : MeetsRules p) (list : SectionHeader) (is_list : se
 
   -- the dynamic symbols
   pub symbols_shown : (ys : List NamedSymbol) → dynamic_symbols_read p (section_of_type SHT_DYNSYM p.sections) ≡ Some ys
-      → where_asked (has_tag DT_SYMTAB (raw_entries p)) (dynamic_symbols p.opened.form (length (file_of p)) (has_tag DT_VERSYM (raw_entries p))
+      → when_wanted (has_tag DT_SYMTAB (raw_entries p)) (dynamic_symbols p.opened.form (length (file_of p)) (has_tag DT_VERSYM (raw_entries p))
       (section_table (file_of p) p.sections (λ s. s.sh_size / symbol_size p.opened.form) SHT_DYNSYM) (section_memory (file_of p) (section_of_type SHT_GNU_VERSYM p.sections)))
       ≡ Some (shown_if (has_tag DT_SYMTAB (raw_entries p)) (map (seen_symbol (has_tag DT_VERSYM (raw_entries p))) ys))
   symbols_shown ys read =
@@ -226,14 +226,14 @@ module _ (p : Parts) (rules : MeetsRules p) (list : SectionHeader) (is_list : se
       let body : Memory = memory_of (section_bytes file s) in
       ap (λ t. dynamic_symbols form room b t versions) (table_there p rules count SHT_DYNSYM s s_there)
       ∙ dynamic_symbols-keeps form room room (nat_le_refl room) b (count s) body body (linked_texts p s) (section_memory file (linked_section p.sections s)) versions versions
-      (Keeps-refl body) (texts_whole s) (λ _. Keeps-refl versions) (map (seen_symbol b) ys) (symbols_seen p rules s s_there b versions_there ys read))
+      (Keeps-refl body) (texts_whole s) (λ _. Keeps-refl versions) (map (seen_symbol b) ys) (symbols_model p rules s s_there b versions_there ys read))
 
   -- records of versions
   records_shown : {A : Type 0} → (decode : ℕ → Table → Option (List A)) (tag count_tag type : ℕ) (xs : List A)
       → ((count : ℕ) (f g t u : Memory) → Keeps f g → Keeps t u → Agrees (decode (length (file_of p)) (record { bytes = f; texts = t; count = count })) (decode (length (file_of p)) (record { bytes = g; texts = u; count = count })))
       → ((s : SectionHeader) → section_of_type type p.sections ≡ Some s → decode (length (file_of p)) (record { bytes = memory_of (section_bytes (file_of p) s); texts = linked_texts p s; count = s.sh_info }) ≡ Some xs)
       → records_agree p tag count_tag type ≡ true
-      → where_asked (has_tag tag (raw_entries p) && has_tag count_tag (raw_entries p)) (decode (length (file_of p)) (section_table (file_of p) p.sections (λ s. s.sh_info) type))
+      → when_wanted (has_tag tag (raw_entries p) && has_tag count_tag (raw_entries p)) (decode (length (file_of p)) (section_table (file_of p) p.sections (λ s. s.sh_info) type))
       ≡ Some (shown_if (has_tag tag (raw_entries p) && has_tag count_tag (raw_entries p)) xs)
   records_shown decode tag count_tag type xs keeps seen right =
       let raw = raw_entries p in
@@ -248,18 +248,18 @@ module _ (p : Parts) (rules : MeetsRules p) (list : SectionHeader) (is_list : se
 
   -- the defined versions
   pub definitions_shown : (ds : List VersionDefinition) → definitions_read p (section_of_type SHT_GNU_VERDEF p.sections) ≡ Some ds
-      → where_asked (has_tag DT_VERDEF (raw_entries p) && has_tag DT_VERDEFNUM (raw_entries p)) (defined_versions p.opened.form (length (file_of p)) (section_table (file_of p) p.sections (λ s. s.sh_info) SHT_GNU_VERDEF))
+      → when_wanted (has_tag DT_VERDEF (raw_entries p) && has_tag DT_VERDEFNUM (raw_entries p)) (defined_versions p.opened.form (length (file_of p)) (section_table (file_of p) p.sections (λ s. s.sh_info) SHT_GNU_VERDEF))
       ≡ Some (shown_if (has_tag DT_VERDEF (raw_entries p) && has_tag DT_VERDEFNUM (raw_entries p)) ds)
   definitions_shown ds read =
       let room : ℕ = length (file_of p) in
       records_shown (defined_versions p.opened.form) DT_VERDEF DT_VERDEFNUM SHT_GNU_VERDEF ds (defined_versions-keeps p.opened.form room room (nat_le_refl room))
-      (λ s e. definitions_seen p rules s e ds read) (and_parts _ _ (and_parts _ _ (versions_right p rules list is_list)).0).1
+      (λ s e. definitions_model p rules s e ds read) (and_parts _ _ (and_parts _ _ (versions_right p rules list is_list)).0).1
 
   -- the needed versions
   pub needs_shown : (ns : List VersionNeeds) → needs_read p (section_of_type SHT_GNU_VERNEED p.sections) ≡ Some ns
-      → where_asked (has_tag DT_VERNEED (raw_entries p) && has_tag DT_VERNEEDNUM (raw_entries p)) (needed_versions p.opened.form (length (file_of p)) (section_table (file_of p) p.sections (λ s. s.sh_info) SHT_GNU_VERNEED))
+      → when_wanted (has_tag DT_VERNEED (raw_entries p) && has_tag DT_VERNEEDNUM (raw_entries p)) (needed_versions p.opened.form (length (file_of p)) (section_table (file_of p) p.sections (λ s. s.sh_info) SHT_GNU_VERNEED))
       ≡ Some (shown_if (has_tag DT_VERNEED (raw_entries p) && has_tag DT_VERNEEDNUM (raw_entries p)) ns)
   needs_shown ns read =
       let room : ℕ = length (file_of p) in
       records_shown (needed_versions p.opened.form) DT_VERNEED DT_VERNEEDNUM SHT_GNU_VERNEED ns (needed_versions-keeps p.opened.form room room (nat_le_refl room))
-      (λ s e. needs_seen p rules s e ns read) (and_parts _ _ (versions_right p rules list is_list)).1
+      (λ s e. needs_model p rules s e ns read) (and_parts _ _ (versions_right p rules list is_list)).1

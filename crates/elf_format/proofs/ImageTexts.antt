@@ -7,7 +7,7 @@ use Rattle.patch_bytes.proofs.MemoryLaws.{bind_some}
 use Rattle.elf_format.specs.declared.constants.TheConstants.{SHT_DYNAMIC, SHT_DYNSYM, SHT_GNU_VERDEF, SHT_GNU_VERNEED, SHT_SYMTAB}
 use Rattle.elf_format.specs.Dynamic.{Entry, shown_entry}
 use Rattle.elf_format.specs.File.{Parts, linked_section, section_of_type}
-use Rattle.elf_format.specs.Image.{Image, ImageSection, counted, definitions_read, dynamic_symbols_read, entries_read, header_kept, image_in, interpreter_read, needs_read, section_name, section_read, shown_outline, static_symbols, symbols_of}
+use Rattle.elf_format.specs.Image.{Image, ImageSection, counted, definitions_read, dynamic_symbols_read, entries_read, image_header, image_in, interpreter_read, needs_read, section_name, section_read, shown_outline, static_symbols, symbols_of}
 use Rattle.elf_format.specs.Options.{each, is_none_or}
 use Rattle.elf_format.specs.Records.{SectionHeader}
 use Rattle.elf_format.specs.Rules.{do_texts_end, dynamic_texts_of, entry_texts_end, definition_texts_end, definition_steps, file_of, linked_texts, need_steps, raw_entries, section_names_end, symbols_are_named, texts_of}
@@ -89,7 +89,7 @@ image_by p sections symbols dynamic_symbols entries definitions needs = record {
   source = file_of p;
   changed = false;
   form = p.opened.form;
-  header = header_kept p.opened.header;
+  header = image_header p.opened.header;
   segments = p.segments;
   sections = sections;
   symbols = symbols;

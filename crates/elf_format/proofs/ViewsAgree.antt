@@ -15,7 +15,7 @@ use Rattle.elf_format.specs.declared.version_id.VersionId.{VersionId}
 use Rattle.elf_format.specs.Dynamic.{Entry, entries_at, has_tag, shown_entry, value_of_tag}
 use Rattle.elf_format.specs.File.{Parts, bytes_in, has_file_bytes, is_allocated, linked_section, loads_of, section_bytes, section_of_type, segment_of_type}
 use Rattle.elf_format.specs.Form.{Form, by_class, records}
-use Rattle.elf_format.specs.Options.{are_both_or_neither, each, is_none_or, is_one_of, is_some_and, where_asked}
+use Rattle.elf_format.specs.Options.{are_both_or_neither, each, is_none_or, is_one_of, is_some_and, when_wanted}
 use Rattle.elf_format.specs.Placement.{ends_by, file_part}
 use Rattle.elf_format.specs.Places.{file_range, occupies_file, place_of, places_of}
 use Rattle.elf_format.specs.Records.{EntryNumbers, SectionHeader, SegmentHeader, SymbolNumbers, symbol_numbers, symbol_size, symbols_in}
@@ -43,9 +43,9 @@ there_and test None h = absurd (false≢true h)
 abbrev Both : {A : Type 0} → Option A → Option A → Type 0
 Both {A} o q = (x : A) × (o ≡ Some x) × (q ≡ Some x)
 
-where_asked-both : {A : Type 0} → (b : Bool) (o q : Option A) → (b ≡ true → Both o q) → Both (where_asked b o) (where_asked b q)
-where_asked-both false o q h = (None, refl, refl)
-where_asked-both true o q h =
+when_wanted-both : {A : Type 0} → (b : Bool) (o q : Option A) → (b ≡ true → Both o q) → Both (when_wanted b o) (when_wanted b q)
+when_wanted-both false o q h = (None, refl, refl)
+when_wanted-both true o q h =
     let (x, left, right) = h refl in
     (Some x, some_bind o (λ y. Some (Some y)) x left, some_bind q (λ y. Some (Some y)) x right)
 
@@ -87,15 +87,15 @@ nat_le_refl n = omega arith
 -- a view is there where each of its parts is
 pub view_of-parts : (form : Form) (room : ℕ) (outline : View) (raw : List EntryNumbers) (tables : Tables) (entries : List Entry) (symbols : Option (List NamedSymbol)) (definitions : Option (List VersionDefinition)) (needs : Option (List VersionNeeds))
     → each (shown_entry room tables.entry_texts) raw ≡ Some entries
-    → where_asked (has_tag DT_SYMTAB raw) (dynamic_symbols form room (has_tag DT_VERSYM raw) tables.symbols tables.versions) ≡ Some symbols
-    → where_asked (has_tag DT_VERDEF raw && has_tag DT_VERDEFNUM raw) (defined_versions form room tables.definitions) ≡ Some definitions
-    → where_asked (has_tag DT_VERNEED raw && has_tag DT_VERNEEDNUM raw) (needed_versions form room tables.needs) ≡ Some needs
+    → when_wanted (has_tag DT_SYMTAB raw) (dynamic_symbols form room (has_tag DT_VERSYM raw) tables.symbols tables.versions) ≡ Some symbols
+    → when_wanted (has_tag DT_VERDEF raw && has_tag DT_VERDEFNUM raw) (defined_versions form room tables.definitions) ≡ Some definitions
+    → when_wanted (has_tag DT_VERNEED raw && has_tag DT_VERNEEDNUM raw) (needed_versions form room tables.needs) ≡ Some needs
     → view_of form room outline raw tables ≡ Some (record outline { entries = Some entries; symbols = symbols; definitions = definitions; needs = needs })
 unfolding view_of
 view_of-parts form room outline raw tables entries symbols definitions needs e y d n =
-    let asked_symbols : Option (Option (List NamedSymbol)) = where_asked (has_tag DT_SYMTAB raw) (dynamic_symbols form room (has_tag DT_VERSYM raw) tables.symbols tables.versions) in
-    let asked_definitions : Option (Option (List VersionDefinition)) = where_asked (has_tag DT_VERDEF raw && has_tag DT_VERDEFNUM raw) (defined_versions form room tables.definitions) in
-    let asked_needs : Option (Option (List VersionNeeds)) = where_asked (has_tag DT_VERNEED raw && has_tag DT_VERNEEDNUM raw) (needed_versions form room tables.needs) in
+    let asked_symbols : Option (Option (List NamedSymbol)) = when_wanted (has_tag DT_SYMTAB raw) (dynamic_symbols form room (has_tag DT_VERSYM raw) tables.symbols tables.versions) in
+    let asked_definitions : Option (Option (List VersionDefinition)) = when_wanted (has_tag DT_VERDEF raw && has_tag DT_VERDEFNUM raw) (defined_versions form room tables.definitions) in
+    let asked_needs : Option (Option (List VersionNeeds)) = when_wanted (has_tag DT_VERNEED raw && has_tag DT_VERNEEDNUM raw) (needed_versions form room tables.needs) in
     let made : List Entry → Option (List NamedSymbol) → Option (List VersionDefinition) → Option (List VersionNeeds) → Option View =
     λ es ys ds ns. Some (record outline { entries = Some es; symbols = ys; definitions = ds; needs = ns }) in
     some_bind (each (shown_entry room tables.entry_texts) raw) (λ es. asked_symbols >>= (λ ys. asked_definitions >>= (λ ds. asked_needs >>= (λ ns. made es ys ds ns)))) entries e
@@ -358,8 +358,8 @@ module _ (p : Parts) (rules : MeetsRules p) (list : SectionHeader) (is_list : se
       → ((count : ℕ) (f g t u : Memory) → Keeps f g → Keeps t u → Agrees (decode (length (file_of p)) (record { bytes = f; texts = t; count = count })) (decode room (record { bytes = g; texts = u; count = count })))
       → ((s : SectionHeader) → section_of_type type p.sections ≡ Some s → (xs : List A) × (decode (length (file_of p)) (record { bytes = memory_of (section_bytes (file_of p) s); texts = linked_texts p s; count = s.sh_info }) ≡ Some xs))
       → (not (eqb type 0) && not (eqb type 8)) ≡ true → records_agree p tag count_tag type ≡ true → shares_texts p list type ≡ true
-      → Both (where_asked (has_tag tag (raw_entries p) && has_tag count_tag (raw_entries p)) (decode (length (file_of p)) (section_table (file_of p) p.sections (λ s. s.sh_info) type)))
-      (where_asked (has_tag tag (raw_entries p) && has_tag count_tag (raw_entries p)) (decode room (record {
+      → Both (when_wanted (has_tag tag (raw_entries p) && has_tag count_tag (raw_entries p)) (decode (length (file_of p)) (section_table (file_of p) p.sections (λ s. s.sh_info) type)))
+      (when_wanted (has_tag tag (raw_entries p) && has_tag count_tag (raw_entries p)) (decode room (record {
         bytes = memory_at_tag (byte_at p.segments (file_of p)) (value_of_tag tag (raw_entries p));
         texts = loaded_strings (byte_at p.segments (file_of p)) (raw_entries p);
         count = count_by_tag (value_of_tag count_tag (raw_entries p));
@@ -370,7 +370,7 @@ module _ (p : Parts) (rules : MeetsRules p) (list : SectionHeader) (is_list : se
       let memory : Memory = byte_at p.segments file in
       let section : Option SectionHeader = section_of_type type p.sections in
       let parts = and_parts (tag_is_address raw tag section) (tag_fits raw count_tag section (λ value s. eqb s.sh_info value)) right in
-      where_asked-both (has_tag tag raw && has_tag count_tag raw) _ _ (λ asked.
+      when_wanted-both (has_tag tag raw && has_tag count_tag raw) _ _ (λ asked.
       let tags = and_parts (has_tag tag raw) (has_tag count_tag raw) asked in
       let (count, count_there) = there_if (value_of_tag count_tag raw) tags.1 in
       let (s, s_there, s_count) = there_and (λ t. eqb t.sh_info count) section (test_at (λ v. is_some_and (λ t. eqb t.sh_info v) section) (value_of_tag count_tag raw) count parts.1 count_there) in
@@ -388,9 +388,9 @@ module _ (p : Parts) (rules : MeetsRules p) (list : SectionHeader) (is_list : se
 
   -- the dynamic symbols, by their section and by their tag
   symbols_both : (room : ℕ) → length (file_of p) ≤ room
-      → Both (where_asked (has_tag DT_SYMTAB (raw_entries p)) (dynamic_symbols p.opened.form (length (file_of p)) (has_tag DT_VERSYM (raw_entries p))
+      → Both (when_wanted (has_tag DT_SYMTAB (raw_entries p)) (dynamic_symbols p.opened.form (length (file_of p)) (has_tag DT_VERSYM (raw_entries p))
       (section_table (file_of p) p.sections (λ s. s.sh_size / symbol_size p.opened.form) SHT_DYNSYM) (section_memory (file_of p) (section_of_type SHT_GNU_VERSYM p.sections))))
-      (where_asked (has_tag DT_SYMTAB (raw_entries p)) (dynamic_symbols p.opened.form room (has_tag DT_VERSYM (raw_entries p))
+      (when_wanted (has_tag DT_SYMTAB (raw_entries p)) (dynamic_symbols p.opened.form room (has_tag DT_VERSYM (raw_entries p))
       (record {
         bytes = memory_at_tag (byte_at p.segments (file_of p)) (value_of_tag DT_SYMTAB (raw_entries p));
         texts = loaded_strings (byte_at p.segments (file_of p)) (raw_entries p);
@@ -411,7 +411,7 @@ module _ (p : Parts) (rules : MeetsRules p) (list : SectionHeader) (is_list : se
       let (v, v_there) = there_if (value_of_tag DT_VERSYM raw) asked in
       let (vs, vs_there, _) = there_and (λ t. is_allocated t && eqb t.sh_addr v) versioned (test_at (λ w. is_some_and (λ t. is_allocated t && eqb t.sh_addr w) versioned) (value_of_tag DT_VERSYM raw) v versym_address v_there) in
       ap is_some vs_there in
-      where_asked-both (has_tag DT_SYMTAB raw) _ _ (λ asked.
+      when_wanted-both (has_tag DT_SYMTAB raw) _ _ (λ asked.
       let (value, value_there) = there_if (value_of_tag DT_SYMTAB raw) asked in
       let (s, s_there, _) = there_and (λ t. is_allocated t && eqb t.sh_addr value) section (test_at (λ w. is_some_and (λ t. is_allocated t && eqb t.sh_addr w) section) (value_of_tag DT_SYMTAB raw) value address value_there) in
       let (ys, ys_there) = symbols_there p rules s s_there (has_tag DT_VERSYM raw) asked_versions in
@@ -505,7 +505,7 @@ interpreter_by_section : Parts → Option SegmentHeader → Option (List ℕ)
 interpreter_by_section p segment = segment >>= (λ q. interpreter_section q p.sections >>= (λ s. Some (section_bytes (file_of p) s)))
 
 interpreter_by_segment : Parts → Option SegmentHeader → Option (Option (List ℕ))
-interpreter_by_segment p segment = where_asked (is_some segment) (segment >>= (λ q. bytes_in (file_of p) q.p_offset q.p_filesz))
+interpreter_by_segment p segment = when_wanted (is_some segment) (segment >>= (λ q. bytes_in (file_of p) q.p_offset q.p_filesz))
 
 interpreters_agree : (p : Parts) → MeetsRules p → (segment : Option SegmentHeader) → is_none_or (λ q. is_some (interpreter_section q p.sections)) segment ≡ true
     → interpreter_by_segment p segment ≡ Some (interpreter_by_section p segment)

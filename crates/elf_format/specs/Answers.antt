@@ -30,8 +30,8 @@ chain read zero a = Some []
 chain read (suc n) a = whole_step (read a) >>= (λ s. elim (n == 0 || not (s.next == 0)) [ true ↦ chain read n (a + s.next) >>= (λ xs. Some (s.value ∷ xs)) | _ ↦ None ])
 
 -- a value and how far behind the next record stands, as a whole step
-abbrev pub step_seen : {X A : Type 0} → (X → A) → X × ℕ → Step A
-step_seen view x = record { value = view x.0; is_whole = true; next = x.1 }
+abbrev pub step_model : {X A : Type 0} → (X → A) → X × ℕ → Step A
+step_model view x = record { value = view x.0; is_whole = true; next = x.1 }
 
 -- the place of what stands behind another place, where that isn't past the end of the bytes
 abbrev pub StandsBehind : List ℕ → ℕ → ℕ → Result ℕ ViewFault → Type 0

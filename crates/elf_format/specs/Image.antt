@@ -54,8 +54,8 @@ pub record Image : Type 0 where
 -- ## What it is read from
 
 -- what the file header says, without the sizes and counts of the tables
-abbrev pub header_kept : FileHeader → Header
-header_kept h = record {
+abbrev pub image_header : FileHeader → Header
+image_header h = record {
   os_abi = h.os_abi;
   abi_version = h.abi_version;
   e_type = h.e_type;
@@ -151,7 +151,7 @@ image_in p = do
     source = file_of p;
     changed = false;
     form = p.opened.form;
-    header = header_kept p.opened.header;
+    header = image_header p.opened.header;
     segments = p.segments;
     sections = sections;
     symbols = symbols;

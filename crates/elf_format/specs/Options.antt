@@ -36,9 +36,9 @@ list_at f None = []
 list_at f (Some x) = f x
 
 -- what is asked for has to be there; what isn't asked for is none
-abbrev pub where_asked : {A : Type 0} → Bool → Option A → Option (Option A)
-where_asked false found = Some None
-where_asked true found = found >>= λ x. Some (Some x)
+abbrev pub when_wanted : {A : Type 0} → Bool → Option A → Option (Option A)
+when_wanted false found = Some None
+when_wanted true found = found >>= λ x. Some (Some x)
 
 -- one value for each element, where there is one for each
 unfoldable pub each : {A B : Type 0} → (A → Option B) → List A → Option (List B)

@@ -14,10 +14,10 @@ use Rattle.elf_format.specs.Dynamic.{Auto, Entry, Integer, Text, entries_at}
 use Rattle.patch_bytes.specs.Memory.{◌>>=◌, memory_of}
 
 -- an entry, seen without where its text lies
-abbrev pub entry_seen : ShownEntry → Entry
-entry_seen (shown.Auto tag) = Auto tag
-entry_seen (shown.Integer tag value) = Integer tag value
-entry_seen (shown.Text tag text) = Text tag text.now
+abbrev pub shown_entry_model : ShownEntry → Entry
+shown_entry_model (shown.Auto tag) = Auto tag
+shown_entry_model (shown.Integer tag value) = Integer tag value
+shown_entry_model (shown.Text tag text) = Text tag text.now
 
 -- version records, their texts by where they stand
 abbrev pub raw_definition : RawDefinition → DefinitionNumbers
@@ -31,8 +31,8 @@ abbrev pub is_interpreter : SegmentHeader → SectionHeader → Bool
 is_interpreter p s = s.sh_type == SHT_PROGBITS && s.sh_offset == p.p_offset && s.sh_addr == p.p_vaddr && s.sh_size == p.p_filesz
 
 -- an opened file, by its identification and its header
-abbrev pub opened_seen : List ℕ → Form × FileHeader → Opened
-opened_seen file x = record { file = file; form = x.0; header = x.1 }
+abbrev pub opened_model : List ℕ → Form × FileHeader → Opened
+opened_model file x = record { file = file; form = x.0; header = x.1 }
 
 -- the flags of the first PT_GNU_STACK, and the bytes of the interpreter's section
 abbrev pub flags_of_stack : List SegmentHeader → Option ℕ

@@ -8,7 +8,7 @@ use Rattle.elf_format.specs.declared.version_id.VersionId.{VersionId}
 use Rattle.elf_format.specs.Dynamic.{Entry, entries_at, has_tag, shown_entry, value_of_tag}
 use Rattle.elf_format.specs.File.{Opened, bytes_in, linked_section, loads_of, opened_of, section_bytes, section_of_type, sections_of, segment_of_type, segments_of}
 use Rattle.elf_format.specs.Form.{Form, records}
-use Rattle.elf_format.specs.Options.{each, is_none_or, where_asked}
+use Rattle.elf_format.specs.Options.{each, is_none_or, when_wanted}
 use Rattle.elf_format.specs.Records.{EntryNumbers, SectionHeader, SegmentHeader, SymbolNumbers, symbol_numbers, symbol_size}
 use Rattle.elf_format.specs.Versions.{Step, VersionDefinition, VersionNeeds, definition_at, is_whole_walk, need_at, shown_definition, shown_need, values_of, version_id, walked}
 
@@ -97,9 +97,9 @@ needed_versions form room table = do
 unfoldable pub view_of : Form → ℕ → View → List EntryNumbers → Tables → Option View
 view_of form room outline raw tables = do
   entries ← each (shown_entry room tables.entry_texts) raw
-  symbols ← where_asked (has_tag DT_SYMTAB raw) (dynamic_symbols form room (has_tag DT_VERSYM raw) tables.symbols tables.versions)
-  definitions ← where_asked (has_tag DT_VERDEF raw && has_tag DT_VERDEFNUM raw) (defined_versions form room tables.definitions)
-  needs ← where_asked (has_tag DT_VERNEED raw && has_tag DT_VERNEEDNUM raw) (needed_versions form room tables.needs)
+  symbols ← when_wanted (has_tag DT_SYMTAB raw) (dynamic_symbols form room (has_tag DT_VERSYM raw) tables.symbols tables.versions)
+  definitions ← when_wanted (has_tag DT_VERDEF raw && has_tag DT_VERDEFNUM raw) (defined_versions form room tables.definitions)
+  needs ← when_wanted (has_tag DT_VERNEED raw && has_tag DT_VERNEEDNUM raw) (needed_versions form room tables.needs)
   Some (record outline { entries = Some entries; symbols = symbols; definitions = definitions; needs = needs })
 
 -- what is shown besides the dynamic list and its tables
@@ -197,7 +197,7 @@ unfoldable pub loader_view_within : ℕ → List ℕ → ℕ → Option View
 loader_view_within room file symbol_count = do
   o ← opened_of file
   segments ← segments_of o
-  interpreter ← where_asked (is_some (segment_of_type PT_INTERP segments)) (segment_of_type PT_INTERP segments >>= λ p. bytes_in file p.p_offset p.p_filesz)
+  interpreter ← when_wanted (is_some (segment_of_type PT_INTERP segments)) (segment_of_type PT_INTERP segments >>= λ p. bytes_in file p.p_offset p.p_filesz)
   outline ← Some (outline_of o segments interpreter)
   elim (segment_of_type PT_DYNAMIC segments) [
     | None ↦ Some outline

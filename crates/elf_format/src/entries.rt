@@ -3,7 +3,7 @@ ghost use Rattle.patch_bytes.specs.Memory.{memory_of};
 ghost use Rattle.elf_format.specs.Answers.{Gives};
 ghost use Rattle.elf_format.specs.Dynamic.{shown_entry, table_tags, text_tags};
 ghost use Rattle.elf_format.specs.Options.{is_one_of};
-ghost use Rattle.elf_format.specs.Seen.{entry_seen};
+ghost use Rattle.elf_format.specs.Seen.{shown_entry_model};
 
 use crate::constants::{
     DT_AUDIT, DT_AUXILIARY, DT_CONFIG, DT_DEPAUDIT, DT_FILTER, DT_GNU_HASH, DT_HASH, DT_NEEDED,
@@ -73,7 +73,7 @@ pub fn show_entry<'a>(
     entry: EntryNumbers,
 ) -> Result<ShownEntry<'a>, ViewFault>
     requires { length texts.now ≤ room }
-    ensures { Gives entry_seen result (shown_entry room (memory_of texts.now) entry) }
+    ensures { Gives shown_entry_model result (shown_entry room (memory_of texts.now) entry) }
 {
     if is_text_tag(entry.d_tag) {
         let shown = text(room, texts, entry.d_value)?;

@@ -1,4 +1,4 @@
-ghost use Rattle.elf_format.specs.Image.{header_kept};
+ghost use Rattle.elf_format.specs.Image.{image_header};
 
 use crate::records::FileHeader;
 
@@ -30,7 +30,7 @@ impl Header {
 
     /// What a file header says besides the sizes and counts of the two tables.
     pub fn of(read: FileHeader) -> Self
-        ensures { result ≡ header_kept read }
+        ensures { result ≡ image_header read }
     {
         Header {
             os_abi: read.os_abi,

@@ -99,7 +99,7 @@ fn number_in(order: ByteOrder2, bytes: &[u8], place: (usize, usize)) -> u64
 /// The number in a field that has one place in 32-bit files and another in 64-bit files, each as its position
 /// and its width in bytes; 0 past the end.
 #[inline(always)]
-pub fn long(form: Form, bytes: &[u8], narrow: (usize, usize), wide: (usize, usize)) -> u64
+pub fn read_field(form: Form, bytes: &[u8], narrow: (usize, usize), wide: (usize, usize)) -> u64
     requires narrow { narrow.1 ≤ 8 }
     requires wide { wide.1 ≤ 8 }
     ensures { result ≡ field_of form narrow wide bytes.now }
@@ -123,7 +123,7 @@ fn word(form: Form, bytes: &[u8], narrow: usize, wide: usize) -> u32
 
 /// The number in a field of two bytes that has one position in 32-bit files and another in 64-bit files.
 #[inline(always)]
-pub fn half(form: Form, bytes: &[u8], narrow: usize, wide: usize) -> u16
+pub fn read_half(form: Form, bytes: &[u8], narrow: usize, wide: usize) -> u16
     ensures { result ≡ field_of form (narrow, 2) (wide, 2) bytes.now }
 {
     match form.wide {
@@ -133,7 +133,7 @@ pub fn half(form: Form, bytes: &[u8], narrow: usize, wide: usize) -> u16
 }
 
 #[inline(always)]
-fn single(form: Form, bytes: &[u8], narrow: usize, wide: usize) -> u8
+fn read_byte(form: Form, bytes: &[u8], narrow: usize, wide: usize) -> u8
     ensures { result ≡ field_of form (narrow, 1) (wide, 1) bytes.now }
 {
     match form.wide {
@@ -154,7 +154,7 @@ pub fn word_at(form: Form, bytes: &[u8], position: usize) -> u32
 pub fn half_at(form: Form, bytes: &[u8], position: usize) -> u16
     ensures { result ≡ field_of form (position, 2) (position, 2) bytes.now }
 {
-    half(form, bytes, position, position)
+    read_half(form, bytes, position, position)
 }
 
 /// The file header that bytes hold (gABI, ELF Header).
@@ -163,19 +163,19 @@ pub fn read_file_header(form: Form, bytes: &[u8]) -> FileHeader
     ensures { result ≡ file_header form bytes.now }
 {
     FileHeader {
-        os_abi: single(form, bytes, 7, 7),
-        abi_version: single(form, bytes, 8, 8),
+        os_abi: read_byte(form, bytes, 7, 7),
+        abi_version: read_byte(form, bytes, 8, 8),
         e_type: half_at(form, bytes, 16),
         e_machine: half_at(form, bytes, 18),
-        e_entry: long(form, bytes, (24, 4), (24, 8)),
-        e_phoff: long(form, bytes, (28, 4), (32, 8)),
-        e_shoff: long(form, bytes, (32, 4), (40, 8)),
+        e_entry: read_field(form, bytes, (24, 4), (24, 8)),
+        e_phoff: read_field(form, bytes, (28, 4), (32, 8)),
+        e_shoff: read_field(form, bytes, (32, 4), (40, 8)),
         e_flags: word(form, bytes, 36, 48),
-        e_phentsize: half(form, bytes, 42, 54),
-        e_phnum: half(form, bytes, 44, 56),
-        e_shentsize: half(form, bytes, 46, 58),
-        e_shnum: half(form, bytes, 48, 60),
-        e_shstrndx: half(form, bytes, 50, 62),
+        e_phentsize: read_half(form, bytes, 42, 54),
+        e_phnum: read_half(form, bytes, 44, 56),
+        e_shentsize: read_half(form, bytes, 46, 58),
+        e_shnum: read_half(form, bytes, 48, 60),
+        e_shstrndx: read_half(form, bytes, 50, 62),
     }
 }
 
@@ -187,12 +187,12 @@ pub fn read_segment_header(form: Form, bytes: &[u8]) -> SegmentHeader
     SegmentHeader {
         p_type: word_at(form, bytes, 0),
         p_flags: word(form, bytes, 24, 4),
-        p_offset: long(form, bytes, (4, 4), (8, 8)),
-        p_vaddr: long(form, bytes, (8, 4), (16, 8)),
-        p_paddr: long(form, bytes, (12, 4), (24, 8)),
-        p_filesz: long(form, bytes, (16, 4), (32, 8)),
-        p_memsz: long(form, bytes, (20, 4), (40, 8)),
-        p_align: long(form, bytes, (28, 4), (48, 8)),
+        p_offset: read_field(form, bytes, (4, 4), (8, 8)),
+        p_vaddr: read_field(form, bytes, (8, 4), (16, 8)),
+        p_paddr: read_field(form, bytes, (12, 4), (24, 8)),
+        p_filesz: read_field(form, bytes, (16, 4), (32, 8)),
+        p_memsz: read_field(form, bytes, (20, 4), (40, 8)),
+        p_align: read_field(form, bytes, (28, 4), (48, 8)),
     }
 }
 
@@ -204,14 +204,14 @@ pub fn read_section_header(form: Form, bytes: &[u8]) -> SectionHeader
     SectionHeader {
         sh_name: word_at(form, bytes, 0),
         sh_type: word_at(form, bytes, 4),
-        sh_flags: long(form, bytes, (8, 4), (8, 8)),
-        sh_addr: long(form, bytes, (12, 4), (16, 8)),
-        sh_offset: long(form, bytes, (16, 4), (24, 8)),
-        sh_size: long(form, bytes, (20, 4), (32, 8)),
+        sh_flags: read_field(form, bytes, (8, 4), (8, 8)),
+        sh_addr: read_field(form, bytes, (12, 4), (16, 8)),
+        sh_offset: read_field(form, bytes, (16, 4), (24, 8)),
+        sh_size: read_field(form, bytes, (20, 4), (32, 8)),
         sh_link: word(form, bytes, 24, 40),
         sh_info: word(form, bytes, 28, 44),
-        sh_addralign: long(form, bytes, (32, 4), (48, 8)),
-        sh_entsize: long(form, bytes, (36, 4), (56, 8)),
+        sh_addralign: read_field(form, bytes, (32, 4), (48, 8)),
+        sh_entsize: read_field(form, bytes, (36, 4), (56, 8)),
     }
 }
 
@@ -223,11 +223,11 @@ pub fn read_symbol_numbers(form: Form, bytes: &[u8]) -> SymbolNumbers
 {
     SymbolNumbers {
         st_name: word_at(form, bytes, 0),
-        st_info: single(form, bytes, 12, 4),
-        st_other: single(form, bytes, 13, 5),
-        st_shndx: half(form, bytes, 14, 6),
-        st_value: long(form, bytes, (4, 4), (8, 8)),
-        st_size: long(form, bytes, (8, 4), (16, 8)),
+        st_info: read_byte(form, bytes, 12, 4),
+        st_other: read_byte(form, bytes, 13, 5),
+        st_shndx: read_half(form, bytes, 14, 6),
+        st_value: read_field(form, bytes, (4, 4), (8, 8)),
+        st_size: read_field(form, bytes, (8, 4), (16, 8)),
     }
 }
 
@@ -237,8 +237,8 @@ pub fn read_entry_numbers(form: Form, bytes: &[u8]) -> EntryNumbers
     ensures { result ≡ entry_numbers form bytes.now }
 {
     EntryNumbers {
-        d_tag: long(form, bytes, (0, 4), (0, 8)),
-        d_value: long(form, bytes, (4, 4), (8, 8)),
+        d_tag: read_field(form, bytes, (0, 4), (0, 8)),
+        d_value: read_field(form, bytes, (4, 4), (8, 8)),
     }
 }
 

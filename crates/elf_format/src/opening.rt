@@ -1,7 +1,7 @@
 ghost use Rattle.std.specs.Prelude.{◌≡◌, ◌*◌, ◌<◌, slice_index};
 ghost use Rattle.elf_format.specs.File.{bytes_in, class_of, form_of, opened_of, order_of, sections_of, segments_of};
 ghost use Rattle.elf_format.specs.Answers.{Gives, borrowed};
-ghost use Rattle.elf_format.specs.Seen.{opened_seen};
+ghost use Rattle.elf_format.specs.Seen.{opened_model};
 ghost use Rattle.elf_format.specs.Rules.{has_magic as begins_as_elf};
 ghost use Rattle.elf_format.specs.Records.{file_header_size, section_header_size, segment_header_size};
 
@@ -106,7 +106,7 @@ fn file_table(file: &[u8], offset: u64, count: u64, size: u64) -> Result<&[u8], 
 /// How the file is spelled, and the file header (gABI, ELF Header); `Absent` where they aren't there.
 #[tactic(auto, unfolding(crate::specs::File::opened_of))]
 pub fn open(file: &[u8]) -> Result<(Form, FileHeader), ViewFault>
-    ensures { Gives (opened_seen file.now) result (opened_of file.now) }
+    ensures { Gives (opened_model file.now) result (opened_of file.now) }
 {
     let Some(form) = form(file) else {
         return Err(ViewFault::Absent);
@@ -124,7 +124,7 @@ pub fn segments(
     form: Form,
     header: FileHeader,
 ) -> Result<Vec<SegmentHeader>, ViewFault>
-    ensures { Gives (λ v. v.items) result (segments_of (opened_seen file.now (form, header))) }
+    ensures { Gives (λ v. v.items) result (segments_of (opened_model file.now (form, header))) }
 {
     let size = form.segment_header_size();
     let bytes = file_table(file, header.e_phoff, header.e_phnum as u64, size as u64)?;
@@ -140,7 +140,7 @@ pub fn sections(
     form: Form,
     header: FileHeader,
 ) -> Result<Vec<SectionHeader>, ViewFault>
-    ensures { Gives (λ v. v.items) result (sections_of (opened_seen file.now (form, header))) }
+    ensures { Gives (λ v. v.items) result (sections_of (opened_model file.now (form, header))) }
 {
     let size = form.section_header_size();
     let bytes = file_table(file, header.e_shoff, header.e_shnum as u64, size as u64)?;

@@ -1,5 +1,5 @@
 ghost use Rattle.patch_bytes.specs.Memory.{memory_of};
-ghost use Rattle.elf_format.specs.Answers.{Gives, StandsBehind, StepsOn, step_seen, whole_step};
+ghost use Rattle.elf_format.specs.Answers.{Gives, StandsBehind, StepsOn, step_model, whole_step};
 ghost use Rattle.elf_format.specs.Versions.{definition_name_at, need_name_at};
 
 use crate::form::Form;
@@ -67,7 +67,7 @@ pub fn step_on(bytes: &[u8], place: u64, next: u64, is_last: bool) -> Result<u64
 /// (GNU symbol versioning, `Elfxx_Verdaux`); `Absent` where the record isn't there.
 #[tactic(auto, unfolding(crate::specs::Versions::definition_name_at))]
 pub fn read_definition_name(form: Form, bytes: &[u8], place: u64) -> Result<(u32, u32), ViewFault>
-    ensures { Gives (step_seen (λ n. n)) result
+    ensures { Gives (step_model (λ n. n)) result
         (whole_step (definition_name_at form (memory_of bytes.now) place)) }
 {
     let record = range(bytes, place, 8)?;
@@ -82,7 +82,7 @@ pub fn read_need_name(
     bytes: &[u8],
     place: u64,
 ) -> Result<(NeedNameNumbers, u32), ViewFault>
-    ensures { Gives (step_seen (λ n. n)) result
+    ensures { Gives (step_model (λ n. n)) result
         (whole_step (need_name_at form (memory_of bytes.now) place)) }
 {
     let record = range(bytes, place, 16)?;

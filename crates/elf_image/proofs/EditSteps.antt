@@ -16,7 +16,7 @@ use Rattle.elf_image.specs.declared.dynamic.Dynamic.{Dynamic}
 use Rattle.elf_image.specs.declared.dynamic.Dynamic.TheVariants as kinds
 use Rattle.elf_image.specs.DynamicList.{with_tag, with_tag_at, without_tag}
 use Rattle.elf_image.specs.DynamicTag.{tag_of}
-use Rattle.elf_image.specs.ImageSeen.{entry_kept}
+use Rattle.elf_image.specs.ImageModel.{entry_model}
 use Rattle.elf_image.specs.Segments.{added_stack, with_stack_added, with_stack_flags}
 
 -- ## Any list, seen element by element
@@ -147,30 +147,30 @@ pushed_place f ps h = position_from-zero is_stack (with_stack_added f ps) ∙ pl
 -- ## The dynamic list
 
 -- a tag at a place
-pub tag_set : (zs : List Dynamic) (i tag : ℕ) (z z' : Dynamic) → i < length zs → z ≡ get_or zs i z → entry_kept z' ≡ with_tag tag (entry_kept z)
-    → map entry_kept (slice_set zs i z') ≡ with_tag_at i tag (map entry_kept zs)
+pub tag_set : (zs : List Dynamic) (i tag : ℕ) (z z' : Dynamic) → i < length zs → z ≡ get_or zs i z → entry_model z' ≡ with_tag tag (entry_model z)
+    → map entry_model (slice_set zs i z') ≡ with_tag_at i tag (map entry_model zs)
 unfolding with_tag_at
 tag_set [] i tag z z' within is changes = absurd (omega arith)
-tag_set (e ∷ es) zero tag z z' within is changes = ap (λ x. x ∷ map entry_kept es) (changes ∙ ap (λ x. with_tag tag (entry_kept x)) is)
-tag_set (e ∷ es) (suc i) tag z z' within is changes = ap (λ xs. entry_kept e ∷ xs) (tag_set es i tag z z' (omega arith) is changes)
+tag_set (e ∷ es) zero tag z z' within is changes = ap (λ x. x ∷ map entry_model es) (changes ∙ ap (λ x. with_tag tag (entry_model x)) is)
+tag_set (e ∷ es) (suc i) tag z z' within is changes = ap (λ xs. entry_model e ∷ xs) (tag_set es i tag z z' (omega arith) is changes)
 
 -- the entries without a tag
-pub without_kept : (zs : List Dynamic) (tag : ℕ) → map entry_kept (filter (λ e. not (tag_of e == tag)) zs) ≡ without_tag tag (map entry_kept zs)
+pub without_kept : (zs : List Dynamic) (tag : ℕ) → map entry_model (filter (λ e. not (tag_of e == tag)) zs) ≡ without_tag tag (map entry_model zs)
 without_kept [] tag = refl
 without_kept (z ∷ zs) tag = by_tag z zs tag (without_kept zs tag)
   where
-    split : (b : Bool) (z : Dynamic) (kept : List Dynamic) (rest : List Entry) → map entry_kept kept ≡ rest → map entry_kept (if b then z ∷ kept else kept) ≡ (if b then entry_kept z ∷ rest else rest)
-    split true z kept rest h = ap (λ xs. entry_kept z ∷ xs) h
+    split : (b : Bool) (z : Dynamic) (kept : List Dynamic) (rest : List Entry) → map entry_model kept ≡ rest → map entry_model (if b then z ∷ kept else kept) ≡ (if b then entry_model z ∷ rest else rest)
+    split true z kept rest h = ap (λ xs. entry_model z ∷ xs) h
     split false z kept rest h = h
 
-    by_tag : (z : Dynamic) (zs : List Dynamic) (tag : ℕ) → map entry_kept (filter (λ e. not (tag_of e == tag)) zs) ≡ without_tag tag (map entry_kept zs)
-        → map entry_kept (filter (λ e. not (tag_of e == tag)) (z ∷ zs)) ≡ without_tag tag (map entry_kept (z ∷ zs))
+    by_tag : (z : Dynamic) (zs : List Dynamic) (tag : ℕ) → map entry_model (filter (λ e. not (tag_of e == tag)) zs) ≡ without_tag tag (map entry_model zs)
+        → map entry_model (filter (λ e. not (tag_of e == tag)) (z ∷ zs)) ≡ without_tag tag (map entry_model (z ∷ zs))
     by_tag (kinds.Auto t) zs tag h = split (not (t == tag)) (kinds.Auto t) _ _ h
     by_tag (kinds.Integer t v) zs tag h = split (not (t == tag)) (kinds.Integer t v) _ _ h
     by_tag (kinds.Text t v) zs tag h = split (not (t == tag)) (kinds.Text t v) _ _ h
 
 -- the tag of an entry as it is kept
-pub tag_kept : (z : Dynamic) → entry_tag (entry_kept z) ≡ tag_of z
+pub tag_kept : (z : Dynamic) → entry_tag (entry_model z) ≡ tag_of z
 tag_kept (kinds.Auto t) = refl
 tag_kept (kinds.Integer t v) = refl
 tag_kept (kinds.Text t v) = refl

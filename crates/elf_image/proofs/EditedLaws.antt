@@ -21,7 +21,7 @@ use Rattle.elf_format.specs.Records.{entry_numbers, entry_size}
 use Rattle.elf_format.specs.Rules.{dynamic_texts_of, file_of, linked_texts, raw_entries, texts_of}
 use Rattle.elf_format.specs.Views.{NamedSymbol, section_memory}
 use Rattle.elf_image.specs.DynamicList.{IsListed, holds_nul}
-use Rattle.elf_image.specs.Edited.{AreEntriesOf, AreKept, ArePicked, AreSegments, IsEdited, IsEditOf, IsInterpreterOf, IsName, IsSameDynamicSymbol, IsSameSection, IsSameSymbol, as_kept}
+use Rattle.elf_image.specs.Edited.{AreEntriesOf, AreKept, ArePicked, AreSegments, IsEdited, IsEditOf, IsInterpreterOf, IsName, IsSameDynamicSymbol, IsSameSection, IsSameSymbol, kept_segment}
 use Rattle.elf_image.specs.ReadImage.{AreDynamicSymbols, AreStaticSymbols, HoldsParts}
 use Rattle.elf_image.proofs.ReadImageLaws.{read_images_hold_parts}
 
@@ -76,7 +76,7 @@ picked IsSame xs numbers is same = subst (λ ns. ArePicked IsSame xs ns xs) (sym
 
 -- ## Program headers
 
-kept_itself : (p : SegmentHeader) → p ≡ as_kept None p.p_flags p
+kept_itself : (p : SegmentHeader) → p ≡ kept_segment None p.p_flags p
 kept_itself p = ap (λ n. record p { p_flags = n }) (same_either (p.p_type == PT_GNU_STACK) p.p_flags) ∙ ap (λ n. record p { p_flags = if p.p_type == PT_GNU_STACK then p.p_flags else p.p_flags; p_align = n }) (same_either (p.p_type == PT_LOAD) p.p_align)
   where
     same_either : (b : Bool) (n : ℕ) → n ≡ (if b then n else n)

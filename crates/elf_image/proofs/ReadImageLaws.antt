@@ -12,7 +12,7 @@ use Rattle.elf_format.specs.declared.version_id.VersionId.{VersionId}
 use Rattle.elf_format.specs.Dynamic.{Entry}
 use Rattle.elf_format.specs.File.{Parts, linked_section, section_bytes, section_of_type}
 use Rattle.elf_format.specs.Form.{records}
-use Rattle.elf_format.specs.Image.{Image, ImageSection, counted, definitions_read, dynamic_symbols_read, entries_read, header_kept, image_in, interpreter_read, needs_read, section_name, section_read, static_symbols, symbols_of, versions_read}
+use Rattle.elf_format.specs.Image.{Image, ImageSection, counted, definitions_read, dynamic_symbols_read, entries_read, image_header, image_in, interpreter_read, needs_read, section_name, section_read, static_symbols, symbols_of, versions_read}
 use Rattle.elf_format.specs.Options.{each}
 use Rattle.elf_format.specs.Rules.{accepted_parts, dynamic_texts_of, file_of, texts_of}
 use Rattle.elf_format.specs.Versions.{VersionDefinition, VersionNeeds, version_id}
@@ -20,7 +20,7 @@ use Rattle.elf_format.specs.Views.{NamedSymbol, named_symbols, names_of}
 use Rattle.elf_format.proofs.ImageShows.{image_from}
 use Rattle.elf_format.proofs.Accepted.{accepted}
 use Rattle.elf_image.specs.ReadImage.{AreDynamicSymbols, AreSectionsOf, AreStaticSymbols, AreSymbolsOf, HoldsParts, IsSectionOf, IsSymbolOf, ReadImagesHoldParts, section_with}
-use Rattle.elf_image_symbols.specs.SymbolsShown.{kept_as}
+use Rattle.elf_image_symbols.specs.TableSymbols.{kept_as}
 
 -- ## Values that are there one by one
 
@@ -146,7 +146,7 @@ image_by p sections symbols dynamic_symbols entries definitions needs = record {
   source = file_of p;
   changed = false;
   form = p.opened.form;
-  header = header_kept p.opened.header;
+  header = image_header p.opened.header;
   segments = p.segments;
   sections = sections;
   symbols = symbols;

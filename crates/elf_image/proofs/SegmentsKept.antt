@@ -8,7 +8,7 @@ use Rattle.std.proofs.lemmas.Option.{none-some}
 use Rattle.elf_format.specs.declared.constants.TheConstants.{PT_GNU_STACK, PT_LOAD}
 use Rattle.elf_format.specs.declared.records.SegmentHeader.{SegmentHeader}
 use Rattle.elf_format.specs.File.{segment_of_type}
-use Rattle.elf_image.specs.Edited.{AreKept, AreSegments, CanGo, as_kept}
+use Rattle.elf_image.specs.Edited.{AreKept, AreSegments, CanGo, kept_segment}
 use Rattle.elf_image.specs.Segments.{added_stack, with_align, with_load_align, with_stack_added, with_stack_flags}
 
 -- ## Program headers
@@ -18,10 +18,10 @@ either_again true n x y = refl
 either_again false n x y = refl
 
 -- an aligned program header is as it is kept under that page size
-aligned_as : (old p : SegmentHeader) (size : Option ℕ) (n : ℕ) → p ≡ as_kept size p.p_flags old → with_align n p ≡ as_kept (Some n) p.p_flags old
+aligned_as : (old p : SegmentHeader) (size : Option ℕ) (n : ℕ) → p ≡ kept_segment size p.p_flags old → with_align n p ≡ kept_segment (Some n) p.p_flags old
 aligned_as old p size n is =
     ap (with_align n) is
-    ∙ ap (λ (a : ℕ). record (as_kept size p.p_flags old) { p_align = a }) (either_again (old.p_type == PT_LOAD) n (unwrap_or size old.p_align) old.p_align)
+    ∙ ap (λ (a : ℕ). record (kept_segment size p.p_flags old) { p_align = a }) (either_again (old.p_type == PT_LOAD) n (unwrap_or size old.p_align) old.p_align)
 
 aligned_kept : (size : Option ℕ) (n : ℕ) (olds ps : List SegmentHeader) → AreKept size olds ps → AreKept (Some n) olds (with_load_align n ps)
 aligned_kept size n [] [] h = tt
@@ -46,11 +46,11 @@ segments_aligned size n read now h = record {
 }
 
 -- a stack's program header with other flags is as it is kept
-flagged_as : (old p : SegmentHeader) (size : Option ℕ) (flags : ℕ) → (p.p_type == PT_GNU_STACK) ≡ true → p ≡ as_kept size p.p_flags old → record p { p_flags = flags } ≡ as_kept size flags old
+flagged_as : (old p : SegmentHeader) (size : Option ℕ) (flags : ℕ) → (p.p_type == PT_GNU_STACK) ≡ true → p ≡ kept_segment size p.p_flags old → record p { p_flags = flags } ≡ kept_segment size flags old
 flagged_as old p size flags stack is =
     let typed : (old.p_type == PT_GNU_STACK) ≡ true = ap (λ (q : SegmentHeader). q.p_type == PT_GNU_STACK) (sym is) ∙ stack in
     ap (λ (q : SegmentHeader). record q { p_flags = flags }) is
-    ∙ ap (λ b. record (as_kept size p.p_flags old) { p_flags = if b then flags else old.p_flags }) (sym typed)
+    ∙ ap (λ b. record (kept_segment size p.p_flags old) { p_flags = if b then flags else old.p_flags }) (sym typed)
 
 gone_kept : (size : Option ℕ) (old : SegmentHeader) (olds ps : List SegmentHeader) → CanGo old → AreKept size olds ps → AreKept size (old ∷ olds) ps
 gone_kept size old olds [] go h = (go, h)
@@ -75,7 +75,7 @@ unfolding with_stack_flags
 flags-by flags p ps b h = ap (λ c. if c then record p { p_flags = flags } ∷ ps else p ∷ with_stack_flags flags ps) h
 
 flagged_same : (size : Option ℕ) (flags : ℕ) (old : SegmentHeader) (olds : List SegmentHeader) (p : SegmentHeader) (ps : List SegmentHeader) (o : Option ℕ) (b : Bool) → (p.p_type == PT_GNU_STACK) ≡ b
-    → p ≡ as_kept size p.p_flags old → AreKept size olds ps → Flagged size flags olds ps o → Flagged size flags (old ∷ olds) (p ∷ ps) o
+    → p ≡ kept_segment size p.p_flags old → AreKept size olds ps → Flagged size flags olds ps o → Flagged size flags (old ∷ olds) (p ∷ ps) o
 flagged_same size flags old olds p ps o true stack is kept more = record {
   kept = record p { p_flags = flags } ∷ ps;
   added = o;

@@ -17,7 +17,7 @@ use Rattle.elf_format.specs.declared.records.SymbolNumbers.{SymbolNumbers}
 use Rattle.elf_format.specs.Records.{symbols_in}
 use Rattle.elf_format.specs.Rules.{data_of, file_of, linked_texts, raw_entries, texts_of}
 use Rattle.elf_image.specs.TextSteps.{named_section}
-use Rattle.elf_image_symbols.specs.SymbolsShown.{symbols_shown, versions_in}
+use Rattle.elf_image_symbols.specs.TableSymbols.{table_symbols, versions_in}
 use Rattle.elf_format.specs.Views.{named_symbols, names_of}
 
 -- ## Sections
@@ -41,11 +41,11 @@ module _ (p : Parts) (o : Option SectionHeader) where
   static_none e = ap (static_symbols p) (sym e)
 
   pub static_some : (s : SectionHeader) (texts : Memory) (bytes : List ℕ) → Some s ≡ o → texts ≡ texts_of p (linked_section p.sections s) → bytes ≡ section_bytes (file_of p) s
-      → symbols_shown p.opened.form (length (file_of p)) texts bytes None ≡ static_symbols p o
-  unfolding static_symbols symbols_shown versions_in
+      → table_symbols p.opened.form (length (file_of p)) texts bytes None ≡ static_symbols p o
+  unfolding static_symbols table_symbols versions_in
   static_some s texts bytes e same_texts same_bytes =
-      ap (λ t. symbols_shown p.opened.form (length (file_of p)) t bytes None) same_texts
-      ∙ ap (λ b. symbols_shown p.opened.form (length (file_of p)) (texts_of p (linked_section p.sections s)) b None) same_bytes
+      ap (λ t. table_symbols p.opened.form (length (file_of p)) t bytes None) same_texts
+      ∙ ap (λ b. table_symbols p.opened.form (length (file_of p)) (texts_of p (linked_section p.sections s)) b None) same_bytes
       ∙ ap (static_symbols p) e
 
   pub dynamic_none : None ≡ o → dynamic_symbols_read p o ≡ Some []
@@ -65,14 +65,14 @@ versions_by_section p (Some s) count = refl
 module _ (p : Parts) (o : Option SectionHeader) (s : SectionHeader) (texts : Memory) (is : Some s ≡ o) (same_texts : texts ≡ linked_texts p s) where
   pub dynamic_some : (bytes : List ℕ) (versions : Option (List ℕ)) → bytes ≡ section_bytes (file_of p) s
       → versions ≡ option_map (section_bytes (file_of p)) (section_of_type SHT_GNU_VERSYM p.sections)
-      → symbols_shown p.opened.form (length (file_of p)) texts bytes versions ≡ dynamic_symbols_read p o
-  unfolding dynamic_symbols_read symbols_shown
+      → table_symbols p.opened.form (length (file_of p)) texts bytes versions ≡ dynamic_symbols_read p o
+  unfolding dynamic_symbols_read table_symbols
   dynamic_some bytes versions same_bytes same_versions =
       let ys : List SymbolNumbers = symbols_in p.opened.form (section_bytes (file_of p) s) in
       let found : Option SectionHeader = section_of_type SHT_GNU_VERSYM p.sections in
-      ap (λ t. symbols_shown p.opened.form (length (file_of p)) t bytes versions) same_texts
-      ∙ ap (λ b. symbols_shown p.opened.form (length (file_of p)) (linked_texts p s) b versions) same_bytes
-      ∙ ap (symbols_shown p.opened.form (length (file_of p)) (linked_texts p s) (section_bytes (file_of p) s)) same_versions
+      ap (λ t. table_symbols p.opened.form (length (file_of p)) t bytes versions) same_texts
+      ∙ ap (λ b. table_symbols p.opened.form (length (file_of p)) (linked_texts p s) b versions) same_bytes
+      ∙ ap (table_symbols p.opened.form (length (file_of p)) (linked_texts p s) (section_bytes (file_of p) s)) same_versions
       ∙ ap (λ vs. names_of (length (file_of p)) (linked_texts p s) ys >>= (λ ns. Some (named_symbols ys ns vs))) (versions_by_section p found (length ys))
       ∙ ap (dynamic_symbols_read p) is
 

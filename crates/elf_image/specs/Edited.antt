@@ -40,8 +40,8 @@ IsSameDynamicSymbol old y = IsName y.name × (y ≡ record old { name = y.name; 
 
 -- a program header as it was read; where it is loaded with the page size that was set as its alignment, and where
 -- it is for the stack with any flags
-abbrev pub as_kept : Option ℕ → ℕ → SegmentHeader → SegmentHeader
-as_kept page_size flags old = record old {
+abbrev pub kept_segment : Option ℕ → ℕ → SegmentHeader → SegmentHeader
+kept_segment page_size flags old = record old {
   p_flags = if old.p_type == PT_GNU_STACK then flags else old.p_flags;
   p_align = if old.p_type == PT_LOAD then unwrap_or page_size old.p_align else old.p_align;
 }
@@ -56,7 +56,7 @@ AreKept page_size [] [] = Unit {0}
 AreKept page_size [] (p ∷ ps) = ⊥
 AreKept page_size (old ∷ olds) [] = CanGo old × AreKept page_size olds []
 AreKept page_size (old ∷ olds) (p ∷ ps) =
-    ((p ≡ as_kept page_size p.p_flags old) × AreKept page_size olds ps) ⊎ (CanGo old × AreKept page_size olds (p ∷ ps))
+    ((p ≡ kept_segment page_size p.p_flags old) × AreKept page_size olds ps) ⊎ (CanGo old × AreKept page_size olds (p ∷ ps))
 
 -- behind them stands at most one for the stack, where none was read
 pub record AreSegments (page_size : Option ℕ) (read now : List SegmentHeader) : Type 0 where

@@ -8,7 +8,7 @@ use Rattle.elf_format.specs.declared.fault.ElfFault.TheVariants.{BadText}
 use Rattle.elf_format.specs.declared.section_data.SectionData.{SectionData}
 use Rattle.elf_format.specs.Dynamic.{Entry}
 use Rattle.elf_format.specs.File.{Parts, section_of_type}
-use Rattle.elf_format.specs.Image.{Image, ImageSection, counted, definitions_read, dynamic_symbols_read, entries_read, header_kept, interpreter_read, needs_read, section_read, static_symbols}
+use Rattle.elf_format.specs.Image.{Image, ImageSection, counted, definitions_read, dynamic_symbols_read, entries_read, image_header, interpreter_read, needs_read, section_read, static_symbols}
 use Rattle.elf_format.specs.Options.{each}
 use Rattle.elf_format.specs.Rules.{checked, data_of, file_of, there_or}
 use Rattle.elf_format.specs.Stages.{last_rules, link_rules}
@@ -18,7 +18,7 @@ use Rattle.elf_image_rules.specs.Read.{Refuses}
 use Rattle.elf_image.specs.declared.read.Gathered.{Gathered}
 use Rattle.elf_image.specs.declared.read.Listed.{Listed}
 use Rattle.elf_image.specs.declared.read.Named.{Named}
-use Rattle.elf_image.specs.ImageSeen.{definition_kept, entry_kept, needs_kept, section_kept, segment_kept, text_kept}
+use Rattle.elf_image.specs.ImageModel.{definition_model, entry_model, needs_model, section_model, segment_model, text_model}
 
 -- the sections and symbols of an image
 pub record NamedParts : Type 0 where
@@ -33,8 +33,8 @@ named_in p = do
   dynamic_symbols ← dynamic_symbols_read p (section_of_type SHT_DYNSYM p.sections)
   Some (record { sections = sections; symbols = symbols; dynamic_symbols = dynamic_symbols })
 
-abbrev pub named_kept : Named → NamedParts
-named_kept n = record { sections = map section_kept n.sections.items; symbols = n.lists.symbols; dynamic_symbols = n.lists.dynamic_symbols }
+abbrev pub named_model : Named → NamedParts
+named_model n = record { sections = map section_model n.sections.items; symbols = n.lists.symbols; dynamic_symbols = n.lists.dynamic_symbols }
 
 -- its dynamic list and versions
 pub record ListedParts : Type 0 where
@@ -49,8 +49,8 @@ listed_in p = do
   needs ← needs_read p (section_of_type SHT_GNU_VERNEED p.sections)
   Some (record { entries = entries; definitions = definitions; needs = needs })
 
-abbrev pub listed_kept : Listed → ListedParts
-listed_kept l = record { entries = option_map (λ list. map entry_kept list.items) l.dynamic; definitions = map definition_kept l.versions.definitions.items; needs = map needs_kept l.versions.needs.items }
+abbrev pub listed_model : Listed → ListedParts
+listed_model l = record { entries = option_map (λ list. map entry_model list.items) l.dynamic; definitions = map definition_model l.versions.definitions.items; needs = map needs_model l.versions.needs.items }
 
 -- the image that has these parts
 abbrev pub image_with : Parts → NamedParts → ListedParts → Image
@@ -58,7 +58,7 @@ image_with p n l = record {
   source = file_of p;
   changed = false;
   form = p.opened.form;
-  header = header_kept p.opened.header;
+  header = image_header p.opened.header;
   segments = p.segments;
   sections = n.sections;
   symbols = n.symbols;
@@ -75,7 +75,7 @@ image_with p n l = record {
 
 -- the same for parts as they are kept
 abbrev pub image_built : Parts → Named → Listed → Image
-image_built p n l = image_with p (named_kept n) (listed_kept l)
+image_built p n l = image_with p (named_model n) (listed_model l)
 
 -- the image, group by group
 unfoldable pub image_by_groups : Parts → Option Image
@@ -95,15 +95,15 @@ image_gathered p g = record {
   source = file_of p;
   changed = false;
   form = p.opened.form;
-  header = header_kept p.opened.header;
-  segments = map segment_kept g.segments.items;
-  sections = map section_kept g.named.sections.items;
+  header = image_header p.opened.header;
+  segments = map segment_model g.segments.items;
+  sections = map section_model g.named.sections.items;
   symbols = g.named.lists.symbols;
   dynamic_symbols = g.named.lists.dynamic_symbols;
-  definitions = map definition_kept g.listed.versions.definitions.items;
-  needs = map needs_kept g.listed.versions.needs.items;
-  entries = option_map (λ list. map entry_kept list.items) g.listed.dynamic;
-  interpreter = text_kept g.interpreter;
+  definitions = map definition_model g.listed.versions.definitions.items;
+  needs = map needs_model g.listed.versions.needs.items;
+  entries = option_map (λ list. map entry_model list.items) g.listed.dynamic;
+  interpreter = text_model g.interpreter;
   section_numbers = g.section_numbers.items;
   symbol_numbers = counted (length g.named.lists.symbols);
   dynamic_symbol_numbers = counted (length g.named.lists.dynamic_symbols);

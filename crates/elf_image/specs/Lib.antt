@@ -13,9 +13,9 @@ pub use Rattle.elf_format.specs.Facts
 pub use Rattle.elf_format.specs.Image
 pub use Rattle.elf_format.specs.ReadNumbers
 pub use Rattle.elf_format.specs.Answers
-pub mod ImageSeen
+pub mod ImageModel
 pub mod SymbolsRead
-pub mod BuilderSeen
+pub mod BuilderModel
 pub mod DynamicTag
 pub mod DynamicList
 pub mod Segments
@@ -27,3 +27,4 @@ pub mod Lookups
 pub mod ImageSteps
 pub mod Copies
 pub mod TextSteps
+pub mod Kept

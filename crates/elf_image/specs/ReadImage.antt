@@ -5,12 +5,12 @@ use Rattle.patch_bytes.specs.Memory.{Memory, text_at}
 use Rattle.elf_format.specs.declared.constants.TheConstants.{SHT_DYNAMIC, SHT_DYNSYM, SHT_GNU_VERDEF, SHT_GNU_VERNEED, SHT_GNU_VERSYM, SHT_SYMTAB}
 use Rattle.elf_format.specs.declared.version_id.VersionId.{VersionId}
 use Rattle.elf_format.specs.File.{Parts, linked_section, section_bytes, section_of_type}
-use Rattle.elf_format.specs.Image.{Image, ImageSection, counted, definitions_read, entries_read, header_kept, image_of, interpreter_read, needs_read, section_name, symbols_of, versions_read}
+use Rattle.elf_format.specs.Image.{Image, ImageSection, counted, definitions_read, entries_read, image_header, image_of, interpreter_read, needs_read, section_name, symbols_of, versions_read}
 use Rattle.elf_format.specs.declared.records.SectionHeader.{SectionHeader}
 use Rattle.elf_format.specs.declared.records.SymbolNumbers.{SymbolNumbers}
 use Rattle.elf_format.specs.Rules.{ArePartsOf, MeetsRules, accepted_parts, data_of, dynamic_texts_of, file_of, texts_of}
 use Rattle.elf_format.specs.Views.{NamedSymbol}
-use Rattle.elf_image_symbols.specs.SymbolsShown.{kept_as}
+use Rattle.elf_image_symbols.specs.TableSymbols.{kept_as}
 
 -- a section header's numbers, what its bytes are and the bytes themselves, under a name
 abbrev pub section_with : Parts → SectionHeader → List ℕ → ImageSection
@@ -68,7 +68,7 @@ pub record HoldsParts (p : Parts) (image : Image) : Type 0 where
   pub source : image.source ≡ file_of p
   pub changed : image.changed ≡ false
   pub form : image.form ≡ p.opened.form
-  pub header : image.header ≡ header_kept p.opened.header
+  pub header : image.header ≡ image_header p.opened.header
   pub segments : image.segments ≡ p.segments
   pub sections : AreSectionsOf p image.sections
   pub symbols : AreStaticSymbols p (section_of_type SHT_SYMTAB p.sections) image.symbols

@@ -1,5 +1,5 @@
 ghost use Rattle.std.specs.Prelude.{◌≡◌, ◌<◌, length, map, slice_index, IfOk, option_map};
-ghost use Rattle.elf_image.specs.ImageSeen.{definition_kept, entry_kept, needs_kept, section_kept, segment_kept};
+ghost use Rattle.elf_image.specs.ImageModel.{definition_model, entry_model, needs_model, section_model, segment_model};
 ghost use Rattle.elf_format.specs.Answers.{borrowed};
 
 use crate::dynamic::Dynamic;
@@ -43,11 +43,11 @@ impl<'data> Model for Builder<'data> {
 
     ghost Value = { Image };
 
-    ghost use Rattle.elf_image.specs.BuilderSeen.{image_kept};
+    ghost use Rattle.elf_image.specs.BuilderModel.{image_model};
 
-    ghost view = { image_kept };
+    ghost view = { image_model };
 
-    ghost use Rattle.elf_image.specs.BuilderSeen.{IsKept};
+    ghost use Rattle.elf_image.specs.BuilderModel.{IsKept};
 
     ghost invariant = { IsKept };
 }
@@ -80,7 +80,7 @@ impl<'data> Builder<'data> {
 
     /// The program headers (gABI, Program Header), in order. Takes no memory.
     pub fn segments(&self) -> &[Segment<'data>]
-        ensures { map segment_kept result.now ≡ self.now.segments }
+        ensures { map segment_model result.now ≡ self.now.segments }
     {
         self.segments.as_slice()
     }
@@ -88,7 +88,7 @@ impl<'data> Builder<'data> {
     /// The sections with their names and bytes (gABI, Sections), in order, the first of them the null
     /// section. Takes no memory.
     pub fn sections(&self) -> &[Section<'data>]
-        ensures { map section_kept result.now ≡ self.now.sections }
+        ensures { map section_model result.now ≡ self.now.sections }
     {
         self.sections.as_slice()
     }
@@ -111,9 +111,9 @@ impl<'data> Builder<'data> {
 
     /// The versions that the file defines and needs (GNU symbol versioning). Takes no memory.
     pub fn versions(&self) -> &Versions<'data>
-        ensures definitions { map definition_kept result.now.definitions.items
+        ensures definitions { map definition_model result.now.definitions.items
             ≡ self.now.definitions }
-        ensures needs { map needs_kept result.now.needs.items ≡ self.now.needs }
+        ensures needs { map needs_model result.now.needs.items ≡ self.now.needs }
     {
         &self.versions
     }
@@ -121,7 +121,7 @@ impl<'data> Builder<'data> {
     /// The dynamic list before its DT_NULL (gABI, Dynamic Section); `None` without a dynamic section. Takes no
     /// memory.
     pub fn dynamic_data(&self) -> Option<&[Dynamic<'data>]>
-        ensures { option_map (λ list. map entry_kept list.now) result ≡ self.now.entries }
+        ensures { option_map (λ list. map entry_model list.now) result ≡ self.now.entries }
     {
         match &self.dynamic {
             None => None,

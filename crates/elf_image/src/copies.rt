@@ -1,8 +1,8 @@
 //! Copies of an image: what is borrowed is lent again, what is owned is copied.
 ghost use Rattle.std.specs.Prelude.{◌≡◌, map, IfOk};
-ghost use Rattle.elf_image.specs.Copies.{listed_seen};
-ghost use Rattle.elf_image.specs.ImageSeen.{entry_kept, section_kept};
-ghost use Rattle.elf_image.specs.ImageSteps.{listed_kept};
+ghost use Rattle.elf_image.specs.Copies.{listed_parts_model};
+ghost use Rattle.elf_image.specs.ImageModel.{entry_model, section_model};
+ghost use Rattle.elf_image.specs.ImageSteps.{listed_model};
 
 use crate::builder::Builder;
 use crate::dynamic::Dynamic;
@@ -45,7 +45,7 @@ fn copied_listed<'data>(
     dynamic: &Option<Vec<Dynamic<'data>>>,
     versions: &Versions<'data>,
 ) -> Result<Listed<'data>, AllocError>
-    ensures { IfOk result (λ copies. listed_kept copies ≡ listed_seen dynamic.now versions.now) }
+    ensures { IfOk result (λ copies. listed_model copies ≡ listed_parts_model dynamic.now versions.now) }
 {
     let versions = versions.try_clone(alloc)?;
     let dynamic = match dynamic {
@@ -74,7 +74,7 @@ fn copied_sections<'data>(
     sections: &[Section<'data>],
 ) -> Result<Vec<Section<'data>>, AllocError>
     ensures { IfOk result (λ copies.
-        map section_kept copies.items ≡ map section_kept sections.now) }
+        map section_model copies.items ≡ map section_model sections.now) }
 {
     let mut made = Vec::with_capacity(alloc, sections.len())?;
     for section in sections {
@@ -102,7 +102,7 @@ fn copied_entries<'data>(
     alloc: Global,
     entries: &[Dynamic<'data>],
 ) -> Result<Vec<Dynamic<'data>>, AllocError>
-    ensures { IfOk result (λ copies. map entry_kept copies.items ≡ map entry_kept entries.now) }
+    ensures { IfOk result (λ copies. map entry_model copies.items ≡ map entry_model entries.now) }
 {
     let mut made = Vec::with_capacity(alloc, entries.len())?;
     for entry in entries {

@@ -29,11 +29,11 @@ impl Dynamic<'_> {
     }
 
     ghost use Rattle.elf_image.specs.DynamicList.{with_tag};
-    ghost use Rattle.elf_image.specs.ImageSeen.{entry_kept};
+    ghost use Rattle.elf_image.specs.ImageModel.{entry_model};
 
     // Gives the entry another tag.
     pub(crate) fn set_tag(&mut self, new: u64)
-        ensures { entry_kept self.new ≡ with_tag new (entry_kept self.old) }
+        ensures { entry_model self.new ≡ with_tag new (entry_model self.old) }
     {
         match self {
             Dynamic::Auto { tag } => *tag = new,
@@ -47,9 +47,9 @@ impl Dynamic<'_> {
 
     // Gives the entry the new tag where it has the old one.
     pub(crate) fn change_tag(&mut self, old: u64, new: u64)
-        ensures { entry_kept self.new
-            ≡ (if entry_tag (entry_kept self.old) == old then with_tag new (entry_kept self.old)
-            else entry_kept self.old) }
+        ensures { entry_model self.new
+            ≡ (if entry_tag (entry_model self.old) == old then with_tag new (entry_model self.old)
+            else entry_model self.old) }
     {
         if self.tag() == old {
             self.set_tag(new);
@@ -59,11 +59,11 @@ impl Dynamic<'_> {
 
 impl<'data> Dynamic<'data> {
     ghost use Rattle.std.specs.Prelude.{IfOk};
-    ghost use Rattle.elf_image.specs.ImageSeen.{entry_kept};
+    ghost use Rattle.elf_image.specs.ImageModel.{entry_model};
 
     // The same entry: a borrowed text is lent again, an owned one copied.
     pub(crate) fn try_clone(&self, alloc: Global) -> Result<Dynamic<'data>, AllocError>
-        ensures { IfOk result (λ copy. entry_kept copy ≡ entry_kept self.now) }
+        ensures { IfOk result (λ copy. entry_model copy ≡ entry_model self.now) }
     {
         match self {
             Dynamic::Auto { tag } => Ok(Dynamic::Auto { tag: *tag }),

@@ -5,7 +5,7 @@ ghost use Rattle.std.specs.List.{remove};
 ghost use Rattle.elf_format.specs.declared.constants.TheConstants.{PT_GNU_STACK as STACK};
 ghost use Rattle.elf_image.specs.DynamicList.{IsListed, KeepsTables, all_but_last, can_delete, can_retag, can_follow, holds_nul, is_free_tag, retagged, with_tag_at, without_tag};
 ghost use Rattle.elf_image.specs.File.{segment_of_type};
-ghost use Rattle.elf_image.specs.ImageSeen.{entry_kept, segment_kept};
+ghost use Rattle.elf_image.specs.ImageModel.{entry_model, segment_model};
 ghost use Rattle.elf_image.specs.Segments.{added_stack as added_header, with_load_align, with_stack_added, with_stack_flags};
 
 use crate::builder::{Builder, Segment};
@@ -24,11 +24,11 @@ impl<'data> Builder<'data> {
     /// it names the same tables in the same order, and that each entry may stand before the DT_NULL. Takes no
     /// memory.
     pub fn set_dynamic(&mut self, list: Vec<Dynamic<'data>>)
-        requires tables { KeepsTables self.old.entries (map entry_kept list.items) }
-        requires entries { All IsListed (map entry_kept list.items) }
+        requires tables { KeepsTables self.old.entries (map entry_model list.items) }
+        requires entries { All IsListed (map entry_model list.items) }
         ensures { self.new ≡ record self.old {
           changed = true;
-          entries = some (map entry_kept list.entry.items);
+          entries = some (map entry_model list.entry.items);
         } }
     {
         self.dynamic = Some(list);
@@ -138,7 +138,7 @@ impl<'data> Builder<'data> {
 
     /// The first PT_GNU_STACK, whose flags say whether the stack may be run (GNU extension). Takes no memory.
     pub fn stack(&self) -> Option<&Segment<'data>>
-        ensures { option_map (λ p. segment_kept p.now) result
+        ensures { option_map (λ p. segment_model p.now) result
             ≡ segment_of_type STACK self.now.segments }
     {
         let at = stack_position(&self.segments)?;
@@ -212,7 +212,7 @@ impl<'data> Builder<'data> {
 
 // The program header for the stack, as it is added.
 fn added_stack(flags: u32) -> Segment<'static>
-    ensures { segment_kept result ≡ added_header flags }
+    ensures { segment_model result ≡ added_header flags }
 {
     Segment {
         numbers: SegmentHeader {
@@ -231,14 +231,14 @@ fn added_stack(flags: u32) -> Segment<'static>
 // The entry at a position is gone.
 fn remove_entry(list: &mut Vec<Dynamic<'_>>, index: usize)
     requires { index < vec_len list.old }
-    ensures { map entry_kept list.new.items ≡ remove (map entry_kept list.old.items) index }
+    ensures { map entry_model list.new.items ≡ remove (map entry_model list.old.items) index }
 {
     drop(list.remove(index));
 }
 
 // The entries with the tag are gone.
 fn remove_tagged(list: &mut Vec<Dynamic<'_>>, tag: u64)
-    ensures { map entry_kept list.new.items ≡ without_tag tag (map entry_kept list.old.items) }
+    ensures { map entry_model list.new.items ≡ without_tag tag (map entry_model list.old.items) }
 {
     list.retain(|entry| entry.tag() != tag);
 }
@@ -246,15 +246,15 @@ fn remove_tagged(list: &mut Vec<Dynamic<'_>>, tag: u64)
 // The entry at a position gets the tag.
 fn retag_entry(list: &mut Vec<Dynamic<'_>>, index: usize, tag: u64)
     requires { index < vec_len list.old }
-    ensures { map entry_kept list.new.items
-        ≡ with_tag_at index tag (map entry_kept list.old.items) }
+    ensures { map entry_model list.new.items
+        ≡ with_tag_at index tag (map entry_model list.old.items) }
 {
     list[index].set_tag(tag);
 }
 
 // The entries with the one tag get the other.
 fn retag_entries(list: &mut Vec<Dynamic<'_>>, old: u64, new: u64)
-    ensures { map entry_kept list.new.items ≡ retagged old new (map entry_kept list.old.items) }
+    ensures { map entry_model list.new.items ≡ retagged old new (map entry_model list.old.items) }
 {
     for i in 0..list.len() {
         list[i].change_tag(old, new);
@@ -263,8 +263,8 @@ fn retag_entries(list: &mut Vec<Dynamic<'_>>, old: u64, new: u64)
 
 // The loaded segments get the alignment.
 fn align_loads(segments: &mut Vec<Segment<'_>>, align: u64)
-    ensures { map segment_kept segments.new.items
-        ≡ with_load_align align (map segment_kept segments.old.items) }
+    ensures { map segment_model segments.new.items
+        ≡ with_load_align align (map segment_model segments.old.items) }
 {
     for i in 0..segments.len() {
         segments[i].align_load(align);
@@ -273,7 +273,7 @@ fn align_loads(segments: &mut Vec<Segment<'_>>, align: u64)
 
 // Where the first program header for the stack stands.
 fn stack_position(segments: &[Segment<'_>]) -> Option<usize>
-    ensures { result ≡ position (λ p. (segment_kept p).p_type == STACK) segments.now }
+    ensures { result ≡ position (λ p. (segment_model p).p_type == STACK) segments.now }
 {
     segments
         .iter()
@@ -282,8 +282,8 @@ fn stack_position(segments: &[Segment<'_>]) -> Option<usize>
 
 // The first program header for the stack gets the flags.
 fn flag_stack(segments: &mut Vec<Segment<'_>>, flags: u32)
-    ensures { map segment_kept segments.new.items
-        ≡ with_stack_flags flags (map segment_kept segments.old.items) }
+    ensures { map segment_model segments.new.items
+        ≡ with_stack_flags flags (map segment_model segments.old.items) }
 {
     let Some(at) = stack_position(segments) else {
         return;

@@ -1,6 +1,6 @@
 //! Where parts of a file stand in its image, by the numbers that they had at read.
 ghost use Rattle.std.specs.Prelude.{◌≡◌, ◌<◌, length, map, option_map, position};
-ghost use Rattle.elf_image.specs.ImageSeen.{section_kept, segment_kept};
+ghost use Rattle.elf_image.specs.ImageModel.{section_model, segment_model};
 ghost use Rattle.elf_format.specs.declared.constants.TheConstants.{PT_INTERP as INTERP};
 ghost use Rattle.elf_image.specs.File.{segment_of_type};
 ghost use Rattle.elf_image.specs.Lookups.{CountsReadSegments, dynamic_strings_position as strings_position, has_interpreter, interpreter_position as interpreter_at, link_position as link_at, section_position as section_at, type_position as type_at};
@@ -71,8 +71,8 @@ impl<'data> Builder<'data> {
 
 // The program header of the interpreter.
 fn interpreter_segment<'a, 'data>(segments: &'a [Segment<'data>]) -> Option<&'a Segment<'data>>
-    ensures { option_map (λ p. segment_kept p.now) result
-        ≡ segment_of_type INTERP (map segment_kept segments.now) }
+    ensures { option_map (λ p. segment_model p.now) result
+        ≡ segment_of_type INTERP (map segment_model segments.now) }
 {
     segments
         .iter()
@@ -82,7 +82,7 @@ fn interpreter_segment<'a, 'data>(segments: &'a [Segment<'data>]) -> Option<&'a 
 // Where the first section stands that has the bytes of the interpreter's program header.
 fn interpreter_section(segment: &Segment<'_>, sections: &[Section<'_>]) -> Option<usize>
     ensures { result
-        ≡ position (has_interpreter (segment_kept segment.now)) (map section_kept sections.now) }
+        ≡ position (has_interpreter (segment_model segment.now)) (map section_model sections.now) }
 {
     let (offset, address, size) = (segment.p_offset(), segment.p_vaddr(), segment.p_filesz());
     sections.iter().position(|section| {

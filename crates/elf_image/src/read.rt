@@ -1,13 +1,13 @@
 //! The reader: the read rules in their order, each in time in proportion to what it looks at.
 ghost use Rattle.std.specs.Prelude.{◌≡◌, ◌≢◌, Ok, Err, MatchResult, All, length, map, IfOk, IfSome};
 ghost use Rattle.elf_format.specs.Image.{counted as numbers_below, image_of, interpreter_read};
-ghost use Rattle.elf_image.specs.ImageSteps.{LinksRead, TextsRead, image_built, image_by_groups, image_gathered, listed_in, listed_kept, named_in, named_kept};
+ghost use Rattle.elf_image.specs.ImageSteps.{LinksRead, TextsRead, image_built, image_by_groups, image_gathered, listed_in, listed_model, named_in, named_model};
 ghost use Rattle.elf_image.specs.Edited.{IsEdited};
-ghost use Rattle.elf_image.specs.ImageSeen.{segment_kept, text_kept};
+ghost use Rattle.elf_image.specs.ImageModel.{segment_model, text_model};
 ghost use Rattle.elf_image.specs.SymbolsRead.{AreSymbolsOfFile, AreSymbolsRead};
 ghost use Rattle.elf_format.specs.Answers.{Gives, borrowed};
 ghost use Rattle.elf_format.specs.Stages.{last_rules};
-ghost use Rattle.elf_image_rules.specs.Read.{Passes, Reads, parts_seen};
+ghost use Rattle.elf_image_rules.specs.Read.{Passes, Reads, parts_model};
 ghost use Rattle.elf_format.specs.Rules.{checked, data_of, raw_entries as entries_of, there_or};
 ghost use Rattle.elf_format.specs.declared.fault.ElfFault.TheVariants.{BadText};
 ghost use Rattle.elf_image_rules.specs.LinkSteps.{IsChecked};
@@ -45,7 +45,7 @@ fn segments<'data>(
     alloc: Global,
     headers: &[SegmentHeader],
 ) -> Result<Vec<Segment<'data>>, AllocError>
-    ensures { IfOk result (λ made. map segment_kept made.items ≡ headers.now) }
+    ensures { IfOk result (λ made. map segment_model made.items ≡ headers.now) }
 {
     let mut made = Vec::with_capacity(alloc, headers.len())?;
     for numbers in headers {
@@ -62,7 +62,7 @@ fn kinds(
 ) -> Result<Vec<SectionData>, AllocError>
     requires { All (IsChecked parts.now.form parts.now.file.now) checked.now }
     ensures { IfOk result (λ made.
-        made.items ≡ map (data_of (parts_seen parts.now)) parts.now.sections.items) }
+        made.items ≡ map (data_of (parts_model parts.now)) parts.now.sections.items) }
 {
     let mut made = Vec::with_capacity(alloc, parts.sections.len())?;
     for section in parts.sections.as_slice() {
@@ -94,11 +94,11 @@ fn named_parts<'data>(
     kinds: &[SectionData],
     known: Option<&SymbolLists<'data>>,
 ) -> Result<Named<'data>, ViewFault>
-    requires kinds { kinds.now ≡ map (data_of (parts_seen parts.now)) parts.now.sections.items }
-    requires raw { raw.now ≡ entries_of (parts_seen parts.now) }
-    requires known { IfSome known (λ lists. AreSymbolsRead (parts_seen parts.now) lists.now) }
-    ensures named { Gives named_kept result (named_in (parts_seen parts.now)) }
-    ensures lists { IfOk result (λ named. AreSymbolsRead (parts_seen parts.now) named.lists) }
+    requires kinds { kinds.now ≡ map (data_of (parts_model parts.now)) parts.now.sections.items }
+    requires raw { raw.now ≡ entries_of (parts_model parts.now) }
+    requires known { IfSome known (λ lists. AreSymbolsRead (parts_model parts.now) lists.now) }
+    ensures named { Gives named_model result (named_in (parts_model parts.now)) }
+    ensures lists { IfOk result (λ named. AreSymbolsRead (parts_model parts.now) named.lists) }
 {
     let sections = sections(alloc, parts, kinds)?;
     let Some(lists) = symbol_lists(parts, raw, known) else {
@@ -116,10 +116,10 @@ fn listed_parts<'data>(
     defined: &DefinitionWalk,
     needed: &NeedWalk,
 ) -> Result<Listed<'data>, ViewFault>
-    requires raw { raw.now ≡ entries_of (parts_seen parts.now) }
-    requires defined { AreDefinitions (parts_seen parts.now) defined.now }
-    requires needed { AreNeeds (parts_seen parts.now) needed.now }
-    ensures { Gives listed_kept result (listed_in (parts_seen parts.now)) }
+    requires raw { raw.now ≡ entries_of (parts_model parts.now) }
+    requires defined { AreDefinitions (parts_model parts.now) defined.now }
+    requires needed { AreNeeds (parts_model parts.now) needed.now }
+    ensures { Gives listed_model result (listed_in (parts_model parts.now)) }
 {
     let dynamic = entries(alloc, parts, raw)?;
     let definitions = definitions(alloc, parts, raw, &defined.values)?;
@@ -149,10 +149,10 @@ fn gather<'data>(
     listed: Listed<'data>,
     section_numbers: Vec<usize>,
 ) -> Gathered<'data>
-    requires segments { map segment_kept segments.items ≡ parts.now.segments.items }
+    requires segments { map segment_model segments.items ≡ parts.now.segments.items }
     requires numbered { section_numbers.items ≡ numbers_below (length named.sections.items) }
-    ensures image { image_gathered (parts_seen parts.now) result
-        ≡ image_built (parts_seen parts.now) named.entry listed.entry }
+    ensures image { image_gathered (parts_model parts.now) result
+        ≡ image_built (parts_model parts.now) named.entry listed.entry }
     ensures lists { result.named.lists ≡ named.entry.lists }
 {
     Gathered {
@@ -175,14 +175,14 @@ fn image<'data>(
     needed: &NeedWalk,
     known: Option<&SymbolLists<'data>>,
 ) -> Result<Gathered<'data>, ViewFault>
-    requires kinds { kinds.now ≡ map (data_of (parts_seen parts.now)) parts.now.sections.items }
-    requires raw { raw.now ≡ entries_of (parts_seen parts.now) }
-    requires defined { AreDefinitions (parts_seen parts.now) defined.now }
-    requires needed { AreNeeds (parts_seen parts.now) needed.now }
-    requires known { IfSome known (λ lists. AreSymbolsRead (parts_seen parts.now) lists.now) }
-    ensures image { Gives (image_gathered (parts_seen parts.now)) result
-        (image_by_groups (parts_seen parts.now)) }
-    ensures lists { IfOk result (λ made. AreSymbolsRead (parts_seen parts.now) made.named.lists) }
+    requires kinds { kinds.now ≡ map (data_of (parts_model parts.now)) parts.now.sections.items }
+    requires raw { raw.now ≡ entries_of (parts_model parts.now) }
+    requires defined { AreDefinitions (parts_model parts.now) defined.now }
+    requires needed { AreNeeds (parts_model parts.now) needed.now }
+    requires known { IfSome known (λ lists. AreSymbolsRead (parts_model parts.now) lists.now) }
+    ensures image { Gives (image_gathered (parts_model parts.now)) result
+        (image_by_groups (parts_model parts.now)) }
+    ensures lists { IfOk result (λ made. AreSymbolsRead (parts_model parts.now) made.named.lists) }
 {
     let named = named_parts(alloc, parts, raw, kinds, known)?;
     let listed = listed_parts(alloc, parts, raw, defined, needed)?;
@@ -193,7 +193,7 @@ fn image<'data>(
 
 // The bytes of the interpreter's section, where there is a PT_INTERP.
 fn interpreter_kept<'data>(parts: &Headers<'data>) -> Option<ByteString<'data>>
-    ensures { text_kept result ≡ interpreter_read (parts_seen parts.now) }
+    ensures { text_model result ≡ interpreter_read (parts_model parts.now) }
 {
     let bytes = interpreter(parts.file, &parts.segments, &parts.sections)?;
     Some(ByteString::borrowed(bytes))
@@ -207,9 +207,9 @@ fn check_last(
     defined: &DefinitionWalk,
     needed: &NeedWalk,
 ) -> Result<(), ElfFault>
-    requires defined { AreDefinitions (parts_seen parts.now) defined.now }
-    requires needed { AreNeeds (parts_seen parts.now) needed.now }
-    ensures { Passes (parts_seen parts.now) result (checked last_rules (parts_seen parts.now)) }
+    requires defined { AreDefinitions (parts_model parts.now) defined.now }
+    requires needed { AreNeeds (parts_model parts.now) needed.now }
+    ensures { Passes (parts_model parts.now) result (checked last_rules (parts_model parts.now)) }
 {
     if !are_versions_right(alloc, parts, defined, needed)? {
         return Err(ElfFault::Disagree(11));
@@ -230,14 +230,14 @@ fn image_or_fault<'data>(
     needed: &NeedWalk,
     known: Option<&SymbolLists<'data>>,
 ) -> Result<Gathered<'data>, ElfFault>
-    requires kinds { kinds.now ≡ map (data_of (parts_seen parts.now)) parts.now.sections.items }
-    requires raw { raw.now ≡ entries_of (parts_seen parts.now) }
-    requires defined { AreDefinitions (parts_seen parts.now) defined.now }
-    requires needed { AreNeeds (parts_seen parts.now) needed.now }
-    requires known { IfSome known (λ lists. AreSymbolsRead (parts_seen parts.now) lists.now) }
-    ensures image { Reads (image_gathered (parts_seen parts.now)) result
-        (there_or BadText (image_by_groups (parts_seen parts.now))) }
-    ensures lists { IfOk result (λ made. AreSymbolsRead (parts_seen parts.now) made.named.lists) }
+    requires kinds { kinds.now ≡ map (data_of (parts_model parts.now)) parts.now.sections.items }
+    requires raw { raw.now ≡ entries_of (parts_model parts.now) }
+    requires defined { AreDefinitions (parts_model parts.now) defined.now }
+    requires needed { AreNeeds (parts_model parts.now) needed.now }
+    requires known { IfSome known (λ lists. AreSymbolsRead (parts_model parts.now) lists.now) }
+    ensures image { Reads (image_gathered (parts_model parts.now)) result
+        (there_or BadText (image_by_groups (parts_model parts.now))) }
+    ensures lists { IfOk result (λ made. AreSymbolsRead (parts_model parts.now) made.named.lists) }
 {
     match image(alloc, parts, raw, kinds, defined, needed, known) {
         Ok(image) => Ok(image),
@@ -252,8 +252,8 @@ fn linked_kinds(
     parts: &Headers<'_>,
     raw: &[EntryNumbers],
 ) -> Result<Vec<SectionData>, ElfFault>
-    requires { raw.now ≡ entries_of (parts_seen parts.now) }
-    ensures { LinksRead (parts_seen parts.now) result }
+    requires { raw.now ≡ entries_of (parts_model parts.now) }
+    ensures { LinksRead (parts_model parts.now) result }
 {
     let checked = check_relocations(alloc, parts)?;
     check_links(are_tables_linked(parts, &checked), parts, raw)?;
@@ -268,12 +268,12 @@ fn image_and_last<'data>(
     kinds: &[SectionData],
     known: Option<&SymbolLists<'data>>,
 ) -> Result<Gathered<'data>, ElfFault>
-    requires kinds { kinds.now ≡ map (data_of (parts_seen parts.now)) parts.now.sections.items }
-    requires raw { raw.now ≡ entries_of (parts_seen parts.now) }
-    requires known { IfSome known (λ lists. AreSymbolsRead (parts_seen parts.now) lists.now) }
-    ensures image { TextsRead (image_gathered (parts_seen parts.now)) (parts_seen parts.now)
+    requires kinds { kinds.now ≡ map (data_of (parts_model parts.now)) parts.now.sections.items }
+    requires raw { raw.now ≡ entries_of (parts_model parts.now) }
+    requires known { IfSome known (λ lists. AreSymbolsRead (parts_model parts.now) lists.now) }
+    ensures image { TextsRead (image_gathered (parts_model parts.now)) (parts_model parts.now)
         result }
-    ensures lists { IfOk result (λ made. AreSymbolsRead (parts_seen parts.now) made.named.lists) }
+    ensures lists { IfOk result (λ made. AreSymbolsRead (parts_model parts.now) made.named.lists) }
 {
     let defined = walk_definitions(alloc, parts)?;
     let needed = walk_needs(alloc, parts)?;
@@ -284,9 +284,9 @@ fn image_and_last<'data>(
 
 // The image that has these parts.
 fn builder<'data>(parts: &Headers<'data>, gathered: Gathered<'data>) -> Builder<'data>
-    requires edited { IsEdited (image_gathered (parts_seen parts.now) gathered) }
+    requires edited { IsEdited (image_gathered (parts_model parts.now) gathered) }
     requires lists { AreSymbolsOfFile parts.now.file.now gathered.named.lists }
-    ensures { result ≡ image_gathered (parts_seen parts.now) gathered.entry }
+    ensures { result ≡ image_gathered (parts_model parts.now) gathered.entry }
 {
     Builder {
         source: parts.file,

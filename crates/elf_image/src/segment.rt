@@ -1,5 +1,5 @@
 ghost use Rattle.std.specs.Prelude.{◌≡◌};
-ghost use Rattle.elf_image.specs.ImageSeen.{segment_kept};
+ghost use Rattle.elf_image.specs.ImageModel.{segment_model};
 
 use elf_format::constants::PT_LOAD;
 use elf_format::records::SegmentHeader;
@@ -21,63 +21,63 @@ impl Segment {
 
     /// What the segment is for, as `PT_LOAD`.
     pub fn p_type(&self) -> u32
-        ensures { result ≡ (segment_kept self.now).p_type }
+        ensures { result ≡ (segment_model self.now).p_type }
     {
         self.numbers.p_type
     }
 
     /// Whether it may be read (4), written (2) and run (1).
     pub fn p_flags(&self) -> u32
-        ensures { result ≡ (segment_kept self.now).p_flags }
+        ensures { result ≡ (segment_model self.now).p_flags }
     {
         self.numbers.p_flags
     }
 
     /// Where it stands in the file.
     pub fn p_offset(&self) -> u64
-        ensures { result ≡ (segment_kept self.now).p_offset }
+        ensures { result ≡ (segment_model self.now).p_offset }
     {
         self.numbers.p_offset
     }
 
     /// Where it stands in memory.
     pub fn p_vaddr(&self) -> u64
-        ensures { result ≡ (segment_kept self.now).p_vaddr }
+        ensures { result ≡ (segment_model self.now).p_vaddr }
     {
         self.numbers.p_vaddr
     }
 
     /// Where it stands in memory that isn't virtual.
     pub fn p_paddr(&self) -> u64
-        ensures { result ≡ (segment_kept self.now).p_paddr }
+        ensures { result ≡ (segment_model self.now).p_paddr }
     {
         self.numbers.p_paddr
     }
 
     /// How many bytes it has in the file.
     pub fn p_filesz(&self) -> u64
-        ensures { result ≡ (segment_kept self.now).p_filesz }
+        ensures { result ≡ (segment_model self.now).p_filesz }
     {
         self.numbers.p_filesz
     }
 
     /// How many bytes it takes in memory.
     pub fn p_memsz(&self) -> u64
-        ensures { result ≡ (segment_kept self.now).p_memsz }
+        ensures { result ≡ (segment_model self.now).p_memsz }
     {
         self.numbers.p_memsz
     }
 
     /// What its address and its offset are congruent by, 0 or 1 for anything.
     pub fn p_align(&self) -> u64
-        ensures { result ≡ (segment_kept self.now).p_align }
+        ensures { result ≡ (segment_model self.now).p_align }
     {
         self.numbers.p_align
     }
 
     // Gives a loaded segment the alignment.
     pub(crate) fn align_load(&mut self, align: u64)
-        ensures { segment_kept self.new ≡ with_align align (segment_kept self.old) }
+        ensures { segment_model self.new ≡ with_align align (segment_model self.old) }
     {
         if self.numbers.p_type == PT_LOAD {
             self.numbers.p_align = align;
@@ -90,7 +90,7 @@ impl Segment {
     // Lends the flags.
     pub(crate) fn flags_mut(&mut self) -> &mut u32
         ensures* lends { sem 𝓛 (LendsFlags self.entry result) }
-        ensures value { result.now ≡ (segment_kept self.old).p_flags }
+        ensures value { result.now ≡ (segment_model self.old).p_flags }
     {
         let numbers = &mut self.numbers;
         &mut numbers.p_flags

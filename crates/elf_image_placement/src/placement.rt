@@ -6,7 +6,7 @@ ghost use Rattle.elf_format.specs.Placement.{ends_by, file_end, file_part, file_
 ghost use Rattle.elf_format.specs.Places.{file_range, place_of, places_of};
 ghost use Rattle.elf_image_placement.specs.PlacementSteps.{AreEndsInOrder, AreInTurn, AreLoadsInTurn, follows_end, is_clear_if_uninitialized, is_filled_load, is_held_if_stored, lies_inside, sections_end_by, stored_of};
 ghost use Rattle.elf_format.specs.Ranges.{all_apart as no_two_meet, apart, lies_in};
-ghost use Rattle.elf_image_rules.specs.Read.{Passes, parts_seen};
+ghost use Rattle.elf_image_rules.specs.Read.{Passes, parts_model};
 ghost use Rattle.elf_format.specs.Rules.{are_sections_loaded as all_loaded, checked, header_ranges, placement_rules, segment_table_range};
 
 use elf_format::constants::PT_PHDR;
@@ -60,7 +60,7 @@ pub(crate) fn file_parts_fit(segments: &[SegmentHeader]) -> bool
 
 // The program header table.
 fn header_table(parts: &Headers<'_>) -> Range
-    ensures { result ≡ segment_table_range (parts_seen parts.now) }
+    ensures { result ≡ segment_table_range (parts_model parts.now) }
 {
     Range {
         start: parts.header.e_phoff,
@@ -89,7 +89,7 @@ fn has_header_table(segments: &[SegmentHeader]) -> bool
 /// Header, `PT_PHDR`).
 pub fn header_table_loaded(parts: &Headers<'_>) -> bool
     ensures { result
-        ≡ is_table_loaded (segment_table_range (parts_seen parts.now)) parts.now.segments.items }
+        ≡ is_table_loaded (segment_table_range (parts_model parts.now)) parts.now.segments.items }
 {
     !has_header_table(&parts.segments) || some_load_has(header_table(parts), &parts.segments)
 }
@@ -207,7 +207,7 @@ fn clear_of_headers(header: Range, table: Range, sections: &[SectionHeader]) -> 
 // Whether stored sections share no byte of the file with each other or with the two headers.
 fn stored_apart(alloc: Global, parts: &Headers<'_>) -> Result<bool, AllocError>
     ensures { IfOk result (λ b. b
-        ≡ all_stored_apart (header_ranges (parts_seen parts.now))
+        ≡ all_stored_apart (header_ranges (parts_model parts.now))
         (places_of parts.now.sections.items)) }
 {
     if !apart_among_sections(alloc, &parts.sections)? {
@@ -315,7 +315,7 @@ fn something_loaded(segments: &[SegmentHeader], sections: &[SectionHeader]) -> b
 // Whether stored sections are held by loaded segments, and apart from each other and from the headers.
 pub(crate) fn are_sections_loaded(alloc: Global, parts: &Headers<'_>) -> Result<bool, AllocError>
     requires { IsTrue (all_segments_apart parts.now.segments.items) }
-    ensures { IfOk result (λ b. b ≡ all_loaded (parts_seen parts.now)) }
+    ensures { IfOk result (λ b. b ≡ all_loaded (parts_model parts.now)) }
 {
     if !sections_held(alloc, &parts.segments, &parts.sections)? {
         return Ok(false);
@@ -389,8 +389,8 @@ pub(crate) fn uninitialized_clear(
 /// `Memory` where there isn't enough memory.
 #[tactic(auto, unfolding(elf_format::specs::Rules::checked))]
 pub fn check_placement(alloc: Global, parts: &Headers<'_>) -> Result<(), ElfFault>
-    ensures { Passes (parts_seen parts.now) result
-        (checked placement_rules (parts_seen parts.now)) }
+    ensures { Passes (parts_model parts.now) result
+        (checked placement_rules (parts_model parts.now)) }
 {
     if !ranges_in_file(parts.file.len(), &parts.segments, &parts.sections) {
         return Err(ElfFault::Truncated);

@@ -35,8 +35,8 @@ opened_read file = do
   checked (rule is_file_kind Unsupported ∷ []) o
 
 -- the two header tables with what they were read by
-abbrev pub tables_seen : Opened → Vec SegmentHeader Global × Vec SectionHeader Global → Parts
-tables_seen o t = record { opened = o; segments = t.0.items; sections = t.1.items }
+abbrev pub tables_model : Opened → Vec SegmentHeader Global × Vec SectionHeader Global → Parts
+tables_model o t = record { opened = o; segments = t.0.items; sections = t.1.items }
 
 -- the first n records of a run, of a size, are among those of another
 abbrev pub IsAmong : ℕ → Run → Run → ℕ → Type 0

@@ -6,8 +6,8 @@ use Rattle.elf_image_rules.specs.declared.headers.Headers.{Headers}
 use Rattle.elf_format.specs.File.{Parts}
 
 -- the header tables, seen without where the file lies
-abbrev pub parts_seen : Headers → Parts
-parts_seen h = record {
+abbrev pub parts_model : Headers → Parts
+parts_model h = record {
   opened = record { file = h.file.now; form = h.form; header = h.header };
   segments = h.segments.items;
   sections = h.sections.items;

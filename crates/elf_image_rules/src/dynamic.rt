@@ -7,7 +7,7 @@ ghost use Rattle.std.specs.Prelude.{◌≡◌, IfOk, is_some};
 ghost use Rattle.patch_bytes.specs.Memory.{memory_of};
 ghost use Rattle.elf_format.specs.Dynamic.{entries_at};
 ghost use Rattle.elf_format.specs.Stages.{link_rules};
-ghost use Rattle.elf_image_rules.specs.Read.{Passes, parts_seen};
+ghost use Rattle.elf_image_rules.specs.Read.{Passes, parts_model};
 ghost use Rattle.elf_format.specs.Rules.{are_tables_linked, checked, dynamic_section_agrees as section_agrees, is_dynamic_section_right as dynamic_section_right, is_interpreter_right as interpreter_right, raw_entries as entries_of};
 
 use crate::dynamic::tables::are_dynamic_tables_right;
@@ -26,7 +26,7 @@ use std::alloc::{AllocError, Global};
 
 /// The dynamic entries before `DT_NULL`, or none where no dynamic section has a `DT_NULL` (gABI, Dynamic Section).
 pub fn raw_entries(alloc: Global, parts: &Headers<'_>) -> Result<Vec<EntryNumbers>, AllocError>
-    ensures { IfOk result (λ v. v.items ≡ entries_of (parts_seen parts.now)) }
+    ensures { IfOk result (λ v. v.items ≡ entries_of (parts_model parts.now)) }
 {
     let list = bytes_of(parts.file, section_of_type(&parts.sections, SHT_DYNAMIC));
     match read_entries(alloc, parts.form, parts.file.len(), list) {
@@ -58,7 +58,7 @@ fn has_end(form: Form, room: usize, bytes: &[u8]) -> bool
 
 // Whether PT_DYNAMIC and the dynamic section stand at one place, and DT_NULL lies in both.
 fn dynamic_section_agrees(parts: &Headers<'_>, segment: SegmentHeader, list: SectionHeader) -> bool
-    ensures { result ≡ section_agrees (parts_seen parts.now) segment list }
+    ensures { result ≡ section_agrees (parts_model parts.now) segment list }
 {
     let bytes = part(
         section_bytes(parts.file, list),
@@ -73,7 +73,7 @@ fn dynamic_section_agrees(parts: &Headers<'_>, segment: SegmentHeader, list: Sec
 
 // Whether PT_DYNAMIC and the dynamic section are both there and agree, or neither is there.
 pub(crate) fn is_dynamic_section_right(parts: &Headers<'_>) -> bool
-    ensures { result ≡ dynamic_section_right (parts_seen parts.now) }
+    ensures { result ≡ dynamic_section_right (parts_model parts.now) }
 {
     let segment = segment_of_type(&parts.segments, PT_DYNAMIC);
     let list = section_of_type(&parts.sections, SHT_DYNAMIC);
@@ -86,7 +86,7 @@ pub(crate) fn is_dynamic_section_right(parts: &Headers<'_>) -> bool
 
 // Whether PT_INTERP, where it is there, stands where a section of PROGBITS does.
 pub(crate) fn is_interpreter_right(parts: &Headers<'_>) -> bool
-    ensures { result ≡ interpreter_right (parts_seen parts.now) }
+    ensures { result ≡ interpreter_right (parts_model parts.now) }
 {
     match segment_of_type(&parts.segments, PT_INTERP) {
         None => true,
@@ -98,9 +98,9 @@ pub(crate) fn is_interpreter_right(parts: &Headers<'_>) -> bool
 /// tables that the list names.
 #[tactic(auto, unfolding(elf_format::specs::Rules::checked))]
 pub fn check_links(linked: bool, parts: &Headers<'_>, raw: &[EntryNumbers]) -> Result<(), ElfFault>
-    requires linked { linked ≡ are_tables_linked (parts_seen parts.now) }
-    requires raw { raw.now ≡ entries_of (parts_seen parts.now) }
-    ensures { Passes (parts_seen parts.now) result (checked link_rules (parts_seen parts.now)) }
+    requires linked { linked ≡ are_tables_linked (parts_model parts.now) }
+    requires raw { raw.now ≡ entries_of (parts_model parts.now) }
+    ensures { Passes (parts_model parts.now) result (checked link_rules (parts_model parts.now)) }
 {
     if !linked {
         return Err(ElfFault::Disagree(6));

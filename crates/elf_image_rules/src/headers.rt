@@ -1,10 +1,10 @@
 ghost use Rattle.std.specs.Prelude.{◌≡◌};
 ghost use Rattle.elf_format.specs.File.{parts_of};
-ghost use Rattle.elf_image_rules.specs.LinkSteps.{opened_read, table_fault, tables_seen};
+ghost use Rattle.elf_image_rules.specs.LinkSteps.{opened_read, table_fault, tables_model};
 ghost use Rattle.elf_format.specs.Answers.{Gives};
-ghost use Rattle.elf_format.specs.Seen.{opened_seen};
+ghost use Rattle.elf_format.specs.Seen.{opened_model};
 ghost use Rattle.elf_format.specs.Stages.{parts_read};
-ghost use Rattle.elf_image_rules.specs.Read.{Passes, Reads, parts_seen};
+ghost use Rattle.elf_image_rules.specs.Read.{Passes, Reads, parts_model};
 ghost use Rattle.elf_format.specs.Rules.{checked, identification_rules};
 
 use crate::kind::is_file_kind;
@@ -60,7 +60,7 @@ fn truncated(fault: ViewFault) -> ElfFault
 // How the file is spelled and its header, or the fault of the first rule on them that it breaks.
 #[tactic(auto, unfolding(crate::specs::LinkSteps::opened_read, elf_format::specs::Rules::checked))]
 fn read_opened(alloc: Global, file: &[u8]) -> Result<(Form, FileHeader), ElfFault>
-    ensures { Reads (opened_seen file.now) result (opened_read file.now) }
+    ensures { Reads (opened_model file.now) result (opened_read file.now) }
 {
     check_identification(file)?;
     let (form, header) = match open(file) {
@@ -81,8 +81,8 @@ fn read_tables(
     form: Form,
     header: FileHeader,
 ) -> Result<(Vec<SegmentHeader>, Vec<SectionHeader>), ViewFault>
-    ensures { Gives (tables_seen (opened_seen file.now (form, header))) result
-        (parts_of (opened_seen file.now (form, header))) }
+    ensures { Gives (tables_model (opened_model file.now (form, header))) result
+        (parts_of (opened_model file.now (form, header))) }
 {
     let segments = segments(alloc, file, form, header)?;
     let sections = sections(alloc, file, form, header)?;
@@ -92,7 +92,7 @@ fn read_tables(
 /// A file with its header tables, or the fault of the first rule that it breaks before they are there; `Memory`
 /// where there isn't enough memory.
 pub fn read_headers<'data>(alloc: Global, file: &'data [u8]) -> Result<Headers<'data>, ElfFault>
-    ensures { Reads parts_seen result (parts_read file.entry.now) }
+    ensures { Reads parts_model result (parts_read file.entry.now) }
 {
     let (form, header) = read_opened(alloc, file)?;
     match read_tables(alloc, file, form, header) {

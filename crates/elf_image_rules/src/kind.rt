@@ -3,14 +3,14 @@ ghost use Rattle.std.specs.List.{list_all};
 ghost use Rattle.elf_format.specs.File.{section_bytes as bytes_of_section, sections_there as headers_there};
 ghost use Rattle.elf_image_rules.specs.LinkSteps.{IsAmong, all_numbers_plain, is_index_outside};
 ghost use Rattle.elf_format.specs.Options.{is_one_of};
-ghost use Rattle.elf_format.specs.Seen.{opened_seen};
+ghost use Rattle.elf_format.specs.Seen.{opened_model};
 ghost use Rattle.elf_format.specs.Records.{section_header_size, segment_header_size, symbol_numbers, symbols_in};
 ghost use Rattle.elf_format.specs.Rules.{is_file_kind as is_kind, is_symbol_table, names_are_texts as are_names_texts, no_extended_numbers as none_extended};
 
 use elf_format::constants::{ET_DYN, ET_EXEC, PN_XNUM, SHN_LORESERVE, SHN_XINDEX, SHT_STRTAB};
 use elf_format::form::Form;
 use elf_format::lookups::section_bytes;
-use elf_format::numbers::{half, part, read_section_header};
+use elf_format::numbers::{part, read_half, read_section_header};
 use elf_format::records::{FileHeader, SectionHeader};
 use elf_format::tables::read_sections;
 use std::alloc::{AllocError, Global};
@@ -29,7 +29,7 @@ pub(crate) fn is_file_kind(
     form: Form,
     header: FileHeader,
 ) -> Result<bool, AllocError>
-    ensures { IfOk result (λ answer. answer ≡ is_kind (opened_seen file.now (form, header))) }
+    ensures { IfOk result (λ answer. answer ≡ is_kind (opened_model file.now (form, header))) }
 {
     if !is_header_kind(form, header) || !names_are_texts(file, form, header) {
         return Ok(false);
@@ -68,7 +68,7 @@ fn has_plain_counts(header: FileHeader) -> bool
 
 // Whether the section of names is a string table, as far as its header lies in the file.
 fn names_are_texts(file: &[u8], form: Form, header: FileHeader) -> bool
-    ensures { result ≡ are_names_texts (opened_seen file.now (form, header)) }
+    ensures { result ≡ are_names_texts (opened_model file.now (form, header)) }
 {
     let size = form.section_header_size();
     let length = file.len() as u64;
@@ -88,7 +88,7 @@ fn no_extended_numbers(
     form: Form,
     header: FileHeader,
 ) -> Result<bool, AllocError>
-    ensures { IfOk result (λ answer. answer ≡ none_extended (opened_seen file.now (form, header))) }
+    ensures { IfOk result (λ answer. answer ≡ none_extended (opened_model file.now (form, header))) }
 {
     let size = form.symbol_size();
     let sections = sections_there(alloc, file, form, header)?;
@@ -106,7 +106,7 @@ fn sections_there(
     header: FileHeader,
 ) -> Result<Vec<SectionHeader>, AllocError>
     ensures { IfOk result (λ sections.
-        sections.items ≡ headers_there (opened_seen file.now (form, header))) }
+        sections.items ≡ headers_there (opened_model file.now (form, header))) }
 {
     let size = form.section_header_size();
     let rest = bytes_from(file, header.e_shoff as usize);
@@ -201,7 +201,7 @@ fn has_plain_numbers(form: Form, bytes: &[u8]) -> bool
 fn is_outside(form: Form, symbol: &[u8], low: u32, high: u32) -> bool
     ensures { result ≡ is_index_outside low high (symbol_numbers form symbol.now) }
 {
-    let index = half(form, symbol, 14, 6) as u32;
+    let index = read_half(form, symbol, 14, 6) as u32;
     index < low || high <= index
 }
 

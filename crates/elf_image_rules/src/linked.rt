@@ -2,7 +2,7 @@ ghost use Rattle.std.specs.Prelude.{◌≡◌, ◌≤◌, All, IfOk, IsTrue, len
 ghost use Rattle.elf_format.specs.Form.{records};
 ghost use Rattle.elf_image_rules.specs.LinkSteps.{IsAmongKnown, IsChecked, IsKnown, all_names_below, names_below_limit, all_users_linked, bytes_name_below, first_name_below, fits_table, headers_linked, section_types_once, segment_types_once, some_names_symbol, symbols_right};
 ghost use Rattle.elf_format.specs.Options.{is_one_of};
-ghost use Rattle.elf_image_rules.specs.Read.{parts_seen};
+ghost use Rattle.elf_image_rules.specs.Read.{parts_model};
 ghost use Rattle.elf_format.specs.Records.{relocation, relocation_size};
 ghost use Rattle.elf_format.specs.Rules.{are_linked as all_linked, are_tables_linked as all_tables_linked, are_whole as all_whole, data_of, infos_are_sections as all_infos_are_sections, is_one_of_each as one_of_each, is_opaque_relocation as is_opaque, links_to as is_linked_to, relocated_symbols as table_of, relocations_fit as all_relocations_fit, relocations_of, symbol_users, symbols_have_sections as all_symbols_have_sections, text_users, unit_of as unit_size};
 
@@ -15,7 +15,7 @@ use elf_format::constants::{
 };
 use elf_format::form::Form;
 use elf_format::lookups::{linked_section, section_bytes};
-use elf_format::numbers::long;
+use elf_format::numbers::read_field;
 use elf_format::records::{SectionHeader, SegmentHeader};
 use elf_format::section_data::SectionData;
 use patch_bytes::Wide;
@@ -25,14 +25,14 @@ use std::alloc::{AllocError, Global};
 /// `sh_link` and `sh_info`).
 pub fn are_tables_linked(parts: &Headers<'_>, checked: &[Checked]) -> bool
     requires { All (IsChecked parts.now.form parts.now.file.now) checked.now }
-    ensures { result ≡ all_tables_linked (parts_seen parts.now) }
+    ensures { result ≡ all_tables_linked (parts_model parts.now) }
 {
     are_symbols_right(parts) && relocations_fit(parts, checked) && infos_are_sections(parts)
 }
 
 // The same, as far as headers and symbols say it.
 fn are_symbols_right(parts: &Headers<'_>) -> bool
-    ensures { result ≡ symbols_right (parts_seen parts.now) }
+    ensures { result ≡ symbols_right (parts_model parts.now) }
 {
     are_headers_linked(parts.form, &parts.segments, &parts.sections) && symbols_have_sections(parts)
 }
@@ -180,7 +180,7 @@ fn are_whole(form: Form, sections: &[SectionHeader]) -> bool
 
 // Whether symbols name sections that are there, or have a number of special meaning.
 fn symbols_have_sections(parts: &Headers<'_>) -> bool
-    ensures { result ≡ all_symbols_have_sections (parts_seen parts.now) }
+    ensures { result ≡ all_symbols_have_sections (parts_model parts.now) }
 {
     parts
         .sections
@@ -208,7 +208,7 @@ fn relocated_symbols(sections: &[SectionHeader], section: SectionHeader) -> Opti
 fn names_below(form: Form, kind: u32, bytes: &[u8], limit: u64) -> bool
     ensures { result ≡ names_below_limit limit (relocation form kind bytes.now) }
 {
-    let info = long(form, bytes, (4, 4), (8, 8));
+    let info = read_field(form, bytes, (4, 4), (8, 8));
     let symbol = match form.wide {
         Wide::W32 => info / 0x100,
         Wide::W64 => info / 0x1_0000_0000,
@@ -408,7 +408,7 @@ fn all_name_below(parts: &Headers<'_>, checked: &[Checked], table: Relocated) ->
 #[tactic(auto, using(crate::proofs::LinkSteps::some_name_symbols))]
 fn some_name_symbols(parts: &Headers<'_>, checked: &[Checked], section: SectionHeader) -> bool
     requires { All (IsChecked parts.now.form parts.now.file.now) checked.now }
-    ensures { result ≡ some_names_symbol (parts_seen parts.now) section }
+    ensures { result ≡ some_names_symbol (parts_model parts.now) section }
 {
     !all_name_below(parts, checked, Relocated { section, limit: 0 })
 }
@@ -416,7 +416,7 @@ fn some_name_symbols(parts: &Headers<'_>, checked: &[Checked], section: SectionH
 // Whether relocations are kept as they are: those of MIPS, and those that name symbols but have no table.
 fn is_opaque_relocation(parts: &Headers<'_>, checked: &[Checked], section: SectionHeader) -> bool
     requires { All (IsChecked parts.now.form parts.now.file.now) checked.now }
-    ensures { result ≡ is_opaque (parts_seen parts.now) section }
+    ensures { result ≡ is_opaque (parts_model parts.now) section }
 {
     parts.header.e_machine == EM_MIPS
         || relocated_symbols(&parts.sections, section).is_none()
@@ -426,7 +426,7 @@ fn is_opaque_relocation(parts: &Headers<'_>, checked: &[Checked], section: Secti
 // Whether relocations that aren't kept as they are are whole, and name symbols of their table.
 fn relocations_fit(parts: &Headers<'_>, checked: &[Checked]) -> bool
     requires { All (IsChecked parts.now.form parts.now.file.now) checked.now }
-    ensures { result ≡ all_relocations_fit (parts_seen parts.now) }
+    ensures { result ≡ all_relocations_fit (parts_model parts.now) }
 {
     parts
         .sections
@@ -439,7 +439,7 @@ fn relocations_fit(parts: &Headers<'_>, checked: &[Checked]) -> bool
 fn fits(parts: &Headers<'_>, checked: &[Checked], section: SectionHeader) -> bool
     requires { All (IsChecked parts.now.form parts.now.file.now) checked.now }
     ensures { result ≡ fits_table parts.now.form parts.now.sections.items
-        (relocations_of (parts_seen parts.now) section) section }
+        (relocations_of (parts_model parts.now) section) section }
 {
     if section.sh_size % parts.form.relocation_size(section.sh_type) as u64 != 0 {
         return false;
@@ -455,7 +455,7 @@ fn fits(parts: &Headers<'_>, checked: &[Checked], section: SectionHeader) -> boo
 
 // Whether section numbers in sh_info are those of sections that are there.
 fn infos_are_sections(parts: &Headers<'_>) -> bool
-    ensures { result ≡ all_infos_are_sections (parts_seen parts.now) }
+    ensures { result ≡ all_infos_are_sections (parts_model parts.now) }
 {
     parts
         .sections
@@ -467,7 +467,7 @@ fn infos_are_sections(parts: &Headers<'_>) -> bool
 /// What the bytes of a section are (gABI, Sections, `sh_type`; relocations that are kept as they are, are opaque).
 pub fn kind_of(parts: &Headers<'_>, checked: &[Checked], section: SectionHeader) -> SectionData
     requires { All (IsChecked parts.now.form parts.now.file.now) checked.now }
-    ensures { result ≡ data_of (parts_seen parts.now) section }
+    ensures { result ≡ data_of (parts_model parts.now) section }
 {
     if section.is_relocation_section() {
         return if is_opaque_relocation(parts, checked, section) {

@@ -13,8 +13,8 @@ use Rattle.elf_format.specs.Records.{symbol_numbers, symbol_size}
 use Rattle.elf_format.specs.Views.{NamedSymbol}
 use Rattle.elf_format.proofs.ReadingSteps.{no_symbol}
 use Rattle.elf_image_symbols.specs.declared.symbols.Symbols.TheInside.{Inside}
-use Rattle.elf_image_symbols.specs.SymbolsSeen.{HaveNames, symbols_seen}
-use Rattle.elf_image_symbols.specs.SymbolsShown.{kept_as, version_at}
+use Rattle.elf_image_symbols.specs.SymbolsModel.{HaveNames, symbols_model}
+use Rattle.elf_image_symbols.specs.TableSymbols.{kept_as, version_at}
 use Rattle.elf_image_symbols.proofs.ShownSteps.{name_of, shown_at, shown_long}
 
 -- a symbol that stands for none
@@ -34,22 +34,22 @@ pub record Shows (s : Inside) (i : ℕ) (y : NamedSymbol) : Type 0 where
   pub named : text_at (length s.texts.now) (memory_of s.texts.now) (numbers_of s i).st_name ≡ Some y.name
   pub kept : kept_as (numbers_of s i) (version_of s i) y.name ≡ y
 
-module _ (s : Inside) (names : HaveNames s) (ys : List NamedSymbol) (seen : symbols_seen s ≡ ys) where
+module _ (s : Inside) (names : HaveNames s) (ys : List NamedSymbol) (seen : symbols_model s ≡ ys) where
   pub within : (i : ℕ) → i < length ys → i < length s.bytes.now / symbol_size s.form
   within i less =
-      subst (λ n. i < n) (ap length (sym seen) ∙ shown_long s.form (length s.texts.now) (memory_of s.texts.now) s.bytes.now (option_map borrowed s.versions) (symbols_seen s) names) less
+      subst (λ n. i < n) (ap length (sym seen) ∙ shown_long s.form (length s.texts.now) (memory_of s.texts.now) s.bytes.now (option_map borrowed s.versions) (symbols_model s) names) less
 
   pub seen_long : length s.bytes.now / symbol_size s.form ≡ length ys
   seen_long =
-      sym (shown_long s.form (length s.texts.now) (memory_of s.texts.now) s.bytes.now (option_map borrowed s.versions) (symbols_seen s) names) ∙ ap length seen
+      sym (shown_long s.form (length s.texts.now) (memory_of s.texts.now) s.bytes.now (option_map borrowed s.versions) (symbols_model s) names) ∙ ap length seen
 
   pub seen_at : (i : ℕ) → i < length ys → (y : NamedSymbol) × (slice_get ys i ≡ Some y) × Shows s i y
   seen_at i less =
       let y : NamedSymbol = get_or ys i nothing in
       let at : slice_get ys i ≡ Some y = slice_get-get_or ys i nothing less in
-      let shorter : i < length (symbols_seen s) = subst (λ (l : List NamedSymbol). i < length l) (sym seen) less in
+      let shorter : i < length (symbols_model s) = subst (λ (l : List NamedSymbol). i < length l) (sym seen) less in
       let shown =
-      shown_at s.form (length s.texts.now) (memory_of s.texts.now) s.bytes.now (option_map borrowed s.versions) (symbols_seen s) names i shorter
+      shown_at s.form (length s.texts.now) (memory_of s.texts.now) s.bytes.now (option_map borrowed s.versions) (symbols_model s) names i shorter
       ∙ ap (λ (l : List NamedSymbol). slice_get l i) seen ∙ at in
       let (named, kept) = name_of (length s.texts.now) (memory_of s.texts.now) (numbers_of s i) (version_of s i) y shown in
       (y, at, record { named = named; kept = kept })

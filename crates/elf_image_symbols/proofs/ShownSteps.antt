@@ -16,7 +16,7 @@ use Rattle.elf_format.specs.Options.{each}
 use Rattle.elf_format.specs.Records.{symbol_numbers, symbol_size, symbols_in}
 use Rattle.elf_format.specs.Versions.{version_id}
 use Rattle.elf_format.specs.Views.{NamedSymbol, named_symbols, names_of}
-use Rattle.elf_image_symbols.specs.SymbolsShown.{kept_as, named_symbol, symbols_from, symbols_shown, version_at, versions_in}
+use Rattle.elf_image_symbols.specs.TableSymbols.{kept_as, named_symbol, symbols_from, table_symbols, version_at, versions_in}
 use Rattle.elf_image_symbols.proofs.NameSteps.{same_names, some_made}
 
 -- ## Versions of symbols
@@ -72,9 +72,9 @@ module _ (form : Form) (room : ℕ) (texts : Memory) (versions : Option (List �
       (symbols_from form room texts versions count (i + 1) (drop (symbol_size form) bytes)) (join_all count (i + 1) (drop (symbol_size form) bytes))
 
   -- the symbols of a table are those from its start on
-  pub symbols_shown-from : (bytes : List ℕ) → symbols_shown form room texts bytes versions ≡ symbols_from form room texts versions (length bytes / symbol_size form) 0 bytes
-  unfolding symbols_shown
-  symbols_shown-from bytes =
+  pub table_symbols-from : (bytes : List ℕ) → table_symbols form room texts bytes versions ≡ symbols_from form room texts versions (length bytes / symbol_size form) 0 bytes
+  unfolding table_symbols
+  table_symbols-from bytes =
       let count : ℕ = length bytes / symbol_size form in
       let ys : List SymbolNumbers = symbols_in form bytes in
       ap (λ vs. names_of room texts ys >>= (λ ns. Some (named_symbols ys ns vs)))
@@ -121,9 +121,9 @@ module _ (form : Form) (room : ℕ) (texts : Memory) (versions : Option (List �
       ∙ from_at count (i + 1) k (drop size bytes) zs rest_is (omega (arith, less))
       ∙ ap (λ l. slice_get l (suc k)) (same_Some (y ∷ zs) ys made)
 
-module _ (form : Form) (room : ℕ) (texts : Memory) (bytes : List ℕ) (versions : Option (List ℕ)) (ys : List NamedSymbol) (shown : symbols_shown form room texts bytes versions ≡ Some ys) where
+module _ (form : Form) (room : ℕ) (texts : Memory) (bytes : List ℕ) (versions : Option (List ℕ)) (ys : List NamedSymbol) (shown : table_symbols form room texts bytes versions ≡ Some ys) where
   listed : symbols_from form room texts versions (length bytes / symbol_size form) 0 bytes ≡ Some ys
-  listed = sym (symbols_shown-from form room texts versions bytes) ∙ shown
+  listed = sym (table_symbols-from form room texts versions bytes) ∙ shown
 
   -- as many symbols as records
   pub shown_long : length ys ≡ length bytes / symbol_size form
@@ -151,15 +151,15 @@ name_of room texts n v y is =
 
 -- a table shows symbols where their names are there
 pub shown_where_named : (form : Form) (room : ℕ) (texts : Memory) (bytes : List ℕ) (versions : Option (List ℕ))
-    → is_some (symbols_shown form room texts bytes versions) ≡ is_some (names_of room texts (symbols_in form bytes))
-unfolding symbols_shown
+    → is_some (table_symbols form room texts bytes versions) ≡ is_some (names_of room texts (symbols_in form bytes))
+unfolding table_symbols
 shown_where_named form room texts bytes versions =
     some_made (names_of room texts (symbols_in form bytes)) (λ names. named_symbols (symbols_in form bytes) names (versions_in form versions (length (symbols_in form bytes))))
 
 -- they are the same, however far past the end of the bytes a text may be looked for
 pub shown_same : (form : Form) (room : ℕ) (xs bytes : List ℕ) (versions : Option (List ℕ)) → length xs ≤ room
-    → symbols_shown form room (memory_of xs) bytes versions ≡ symbols_shown form (length xs) (memory_of xs) bytes versions
-unfolding symbols_shown
+    → table_symbols form room (memory_of xs) bytes versions ≡ table_symbols form (length xs) (memory_of xs) bytes versions
+unfolding table_symbols
 shown_same form room xs bytes versions long =
     ap (λ o. o >>= (λ names. Some (named_symbols (symbols_in form bytes) names (versions_in form versions (length (symbols_in form bytes))))))
     (same_names room xs (symbols_in form bytes) long)

@@ -1,3 +1,3 @@
-pub mod SymbolsShown
-pub mod SymbolKept
-pub mod SymbolsSeen
+pub mod TableSymbols
+pub mod SymbolModel
+pub mod SymbolsModel

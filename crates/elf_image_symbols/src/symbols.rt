@@ -2,7 +2,7 @@
 ghost use Rattle.std.specs.Prelude.{◌≡◌, ◌*◌, ◌/◌, ◌<◌, ◌^◌, drop, length, option_map, take};
 ghost use Rattle.elf_format.specs.Answers.{borrowed};
 ghost use Rattle.elf_format.specs.Records.{symbol_size};
-ghost use Rattle.elf_image_symbols.specs.SymbolsShown.{version_at};
+ghost use Rattle.elf_image_symbols.specs.TableSymbols.{version_at};
 
 use crate::names::{are_names_there, name_place, text_there};
 use crate::symbol::Symbol;
@@ -32,9 +32,9 @@ impl<'data> Model for Symbols<'data> {
 
     ghost Value = { List NamedSymbol };
 
-    ghost use Rattle.elf_image_symbols.specs.SymbolsSeen.{HaveNames, symbols_seen};
+    ghost use Rattle.elf_image_symbols.specs.SymbolsModel.{HaveNames, symbols_model};
 
-    ghost view = { symbols_seen };
+    ghost view = { symbols_model };
 
     ghost invariant = { HaveNames };
 }
@@ -62,8 +62,8 @@ impl<'data> Symbols<'data> {
     ghost use Rattle.std.specs.Prelude.{◌≡◌, ◌<◌, ◌≤◌, ◌==◌, ℕ, [], Some, length, not, option_map, slice_get};
     ghost use Rattle.patch_bytes.specs.Memory.{memory_of};
     ghost use Rattle.elf_format.specs.Answers.{borrowed};
-    ghost use Rattle.elf_image_symbols.specs.SymbolKept.{symbol_kept};
-    ghost use Rattle.elf_image_symbols.specs.SymbolsShown.{symbol_with, symbols_shown};
+    ghost use Rattle.elf_image_symbols.specs.SymbolModel.{symbol_model};
+    ghost use Rattle.elf_image_symbols.specs.TableSymbols.{symbol_with, table_symbols};
 
     /// The symbols of a table with the names that a string table gives them, and with their versions, where there
     /// are versions (gABI, Symbol Table; GNU symbol versioning, `.gnu.version`). `None` where a name isn't there.
@@ -75,7 +75,7 @@ impl<'data> Symbols<'data> {
         versions: Option<&'data [u8]>,
     ) -> Option<Symbols<'data>>
         ensures { (room : ℕ) → length texts.entry.now ≤ room
-            → result ≡ symbols_shown form room (memory_of texts.entry.now) bytes.entry.now
+            → result ≡ table_symbols form room (memory_of texts.entry.now) bytes.entry.now
             (option_map borrowed versions.entry) }
     {
         if !are_names_there(form, texts, bytes) {
@@ -133,7 +133,7 @@ impl<'data> Symbols<'data> {
     /// The symbol at a position. Takes no memory.
     pub fn get(&self, i: usize) -> Symbol<'data>
         requires { i < length self.now }
-        ensures { slice_get self.now i ≡ Some (symbol_kept result) }
+        ensures { slice_get self.now i ≡ Some (symbol_model result) }
     {
         let numbers = read_symbol_numbers(self.form, record_at(self.form, self.bytes, i));
         Symbol {

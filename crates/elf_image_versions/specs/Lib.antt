@@ -1,2 +1,2 @@
-pub mod VersionsSeen
+pub mod VersionsModel
 pub mod WalkSteps

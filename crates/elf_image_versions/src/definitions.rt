@@ -4,7 +4,7 @@ ghost use Rattle.elf_format.specs.Seen.{raw_definition};
 ghost use Rattle.elf_format.specs.Versions.{definition_at, definition_name_at};
 ghost use Rattle.elf_image_versions.specs.WalkSteps.{IsWalk, definition_step};
 
-use crate::found::found;
+use crate::absence::allow_absent;
 use crate::walks::DefinitionWalk;
 use elf_format::form::Form;
 use elf_format::numbers::{half_at, word_at};
@@ -41,7 +41,7 @@ fn walk_names(
     let mut values = Vec::new(alloc);
     let mut place = start;
     for i in 0..count {
-        let Some((value, next)) = found(read_definition_name(form, bytes, place))? else {
+        let Some((value, next)) = allow_absent(read_definition_name(form, bytes, place))? else {
             return Ok(DefinitionNames {
                 values,
                 is_whole: false,
@@ -93,7 +93,7 @@ fn read_record(
     ensures { IfOk result (λ o.
         option_map definition_step o ≡ definition_at form (memory_of bytes.now) place) }
 {
-    let Some(record) = found(range(bytes, place, 20))? else {
+    let Some(record) = allow_absent(range(bytes, place, 20))? else {
         return Ok(None);
     };
     let count = half_at(form, record, 6) as u64;

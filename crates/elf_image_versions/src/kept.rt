@@ -4,11 +4,11 @@ ghost use Rattle.patch_bytes.specs.Memory.{memory_of, text_at};
 ghost use Rattle.elf_format.specs.declared.constants.TheConstants.{SHT_GNU_VERDEF as VERDEFS, SHT_GNU_VERNEED as VERNEEDS};
 ghost use Rattle.elf_format.specs.File.{section_of_type as first_section};
 ghost use Rattle.elf_format.specs.Image.{definitions_read, needs_read};
-ghost use Rattle.elf_image_versions.specs.VersionsSeen.{definition_kept, name_kept, needs_kept};
+ghost use Rattle.elf_image_versions.specs.VersionsModel.{definition_model, name_model, needs_model};
 ghost use Rattle.elf_format.specs.Options.{each};
 ghost use Rattle.elf_format.specs.Answers.{Gives};
 ghost use Rattle.elf_format.specs.Seen.{raw_definition, raw_needs};
-ghost use Rattle.elf_image_rules.specs.Read.{parts_seen};
+ghost use Rattle.elf_image_rules.specs.Read.{parts_model};
 ghost use Rattle.elf_format.specs.Rules.{raw_entries};
 ghost use Rattle.elf_format.specs.Versions.{shown_definition, shown_need, shown_need_name};
 ghost use Rattle.elf_image_versions.specs.WalkSteps.{defined_in, needed_in};
@@ -53,7 +53,7 @@ fn definition<'data>(
     raw: &RawDefinition,
 ) -> Result<VersionDef<'data>, ViewFault>
     requires { length texts.now ≤ room }
-    ensures { Gives definition_kept result
+    ensures { Gives definition_model result
         (shown_definition room (memory_of texts.now) (raw_definition raw.now)) }
 {
     let names = kept_texts(alloc, room, texts, &raw.names)?;
@@ -72,7 +72,7 @@ fn kept_definitions<'data>(
     walked: &[RawDefinition],
 ) -> Result<Vec<VersionDef<'data>>, ViewFault>
     requires { length texts.now ≤ room }
-    ensures { Gives (λ v. map definition_kept v.items) result
+    ensures { Gives (λ v. map definition_model v.items) result
         (each (shown_definition room (memory_of texts.now)) (map raw_definition walked.now)) }
 {
     let mut made = Vec::new(alloc);
@@ -91,7 +91,7 @@ fn need_name<'data>(
     raw: NeedNameNumbers,
 ) -> Result<VersionNeedName<'data>, ViewFault>
     requires { length texts.now ≤ room }
-    ensures { Gives name_kept result (shown_need_name room (memory_of texts.now) raw) }
+    ensures { Gives name_model result (shown_need_name room (memory_of texts.now) raw) }
 {
     let name = text(room, texts, raw.name as u64)?;
     Ok(VersionNeedName {
@@ -109,7 +109,7 @@ fn need_names<'data>(
     versions: &[NeedNameNumbers],
 ) -> Result<Vec<VersionNeedName<'data>>, ViewFault>
     requires { length texts.now ≤ room }
-    ensures { Gives (λ v. map name_kept v.items) result
+    ensures { Gives (λ v. map name_model v.items) result
         (each (shown_need_name room (memory_of texts.now)) versions.now) }
 {
     let mut made = Vec::new(alloc);
@@ -129,7 +129,7 @@ fn need<'data>(
     raw: &RawNeeds,
 ) -> Result<VersionNeed<'data>, ViewFault>
     requires { length texts.now ≤ room }
-    ensures { Gives needs_kept result (shown_need room (memory_of texts.now) (raw_needs raw.now)) }
+    ensures { Gives needs_model result (shown_need room (memory_of texts.now) (raw_needs raw.now)) }
 {
     let file = text(room, texts, raw.file as u64)?;
     let versions = need_names(alloc, room, texts, &raw.versions)?;
@@ -147,7 +147,7 @@ fn kept_needs<'data>(
     walked: &[RawNeeds],
 ) -> Result<Vec<VersionNeed<'data>>, ViewFault>
     requires { length texts.now ≤ room }
-    ensures { Gives (λ v. map needs_kept v.items) result
+    ensures { Gives (λ v. map needs_model v.items) result
         (each (shown_need room (memory_of texts.now)) (map raw_needs walked.now)) }
 {
     let mut made = Vec::new(alloc);
@@ -166,10 +166,10 @@ pub fn definitions<'data>(
     raw: &[EntryNumbers],
     walked: &[RawDefinition],
 ) -> Result<Vec<VersionDef<'data>>, ViewFault>
-    requires raw { raw.now ≡ raw_entries (parts_seen parts.now) }
-    requires walked { map raw_definition walked.now ≡ defined_in (parts_seen parts.now) }
-    ensures { Gives (λ v. map definition_kept v.items) result
-        (definitions_read (parts_seen parts.now) (first_section VERDEFS parts.now.sections.items)) }
+    requires raw { raw.now ≡ raw_entries (parts_model parts.now) }
+    requires walked { map raw_definition walked.now ≡ defined_in (parts_model parts.now) }
+    ensures { Gives (λ v. map definition_model v.items) result
+        (definitions_read (parts_model parts.now) (first_section VERDEFS parts.now.sections.items)) }
 {
     let Some(section) = section_of_type(&parts.sections, SHT_GNU_VERDEF) else {
         return Ok(Vec::new(alloc));
@@ -186,10 +186,10 @@ pub fn needs<'data>(
     raw: &[EntryNumbers],
     walked: &[RawNeeds],
 ) -> Result<Vec<VersionNeed<'data>>, ViewFault>
-    requires raw { raw.now ≡ raw_entries (parts_seen parts.now) }
-    requires walked { map raw_needs walked.now ≡ needed_in (parts_seen parts.now) }
-    ensures { Gives (λ v. map needs_kept v.items) result
-        (needs_read (parts_seen parts.now) (first_section VERNEEDS parts.now.sections.items)) }
+    requires raw { raw.now ≡ raw_entries (parts_model parts.now) }
+    requires walked { map raw_needs walked.now ≡ needed_in (parts_model parts.now) }
+    ensures { Gives (λ v. map needs_model v.items) result
+        (needs_read (parts_model parts.now) (first_section VERNEEDS parts.now.sections.items)) }
 {
     let Some(section) = section_of_type(&parts.sections, SHT_GNU_VERNEED) else {
         return Ok(Vec::new(alloc));

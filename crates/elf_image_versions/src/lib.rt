@@ -2,8 +2,8 @@
 //! held against the read rule on versions, and kept with their texts.
 #![tactic(auto)]
 
+mod absence;
 mod definitions;
-mod found;
 pub mod kept;
 mod known;
 mod needs;

@@ -4,7 +4,7 @@ ghost use Rattle.elf_format.specs.Seen.{raw_needs};
 ghost use Rattle.elf_format.specs.Versions.{need_at, need_name_at};
 ghost use Rattle.elf_image_versions.specs.WalkSteps.{IsWalk, need_step};
 
-use crate::found::found;
+use crate::absence::allow_absent;
 use crate::walks::NeedWalk;
 use elf_format::form::Form;
 use elf_format::numbers::{half_at, word_at};
@@ -42,7 +42,7 @@ fn walk_versions(
     let mut values = Vec::new(alloc);
     let mut place = start;
     for i in 0..count {
-        let Some((value, next)) = found(read_need_name(form, bytes, place))? else {
+        let Some((value, next)) = allow_absent(read_need_name(form, bytes, place))? else {
             return Ok(NeedNames {
                 values,
                 is_whole: false,
@@ -93,7 +93,7 @@ fn read_record(
 ) -> Result<Option<NeedRecord>, AllocError>
     ensures { IfOk result (λ o. option_map need_step o ≡ need_at form (memory_of bytes.now) place) }
 {
-    let Some(record) = found(range(bytes, place, 16))? else {
+    let Some(record) = allow_absent(range(bytes, place, 16))? else {
         return Ok(None);
     };
     let count = half_at(form, record, 2) as u64;

@@ -2,7 +2,7 @@ ghost use Rattle.std.specs.Prelude.{◌≡◌, ◌^◌, IfOk, length};
 ghost use Rattle.std.specs.List.{list_all};
 ghost use Rattle.elf_format.specs.Form.{records};
 ghost use Rattle.elf_format.specs.Options.{is_one_of};
-ghost use Rattle.elf_image_rules.specs.Read.{parts_seen};
+ghost use Rattle.elf_image_rules.specs.Read.{parts_model};
 ghost use Rattle.elf_format.specs.Rules.{are_dynamic_strings_own as strings_own, are_versions_right as versions_right, dynamic_strings_user as strings_user, version_symbols_agree as symbols_agree};
 ghost use Rattle.elf_format.specs.Versions.{version_id};
 ghost use Rattle.elf_image_versions.specs.WalkSteps.{AreDefinitions, AreNeeds, is_low_or_marked, leaves_texts_of, users_of_texts};
@@ -49,9 +49,9 @@ fn version_symbols_agree(
     definitions: &DefinitionWalk,
     needs: &NeedWalk,
 ) -> Result<bool, AllocError>
-    requires definitions { AreDefinitions (parts_seen parts.now) definitions.now }
-    requires needs { AreNeeds (parts_seen parts.now) needs.now }
-    ensures { IfOk result (λ b. b ≡ symbols_agree (parts_seen parts.now) section) }
+    requires definitions { AreDefinitions (parts_model parts.now) definitions.now }
+    requires needs { AreNeeds (parts_model parts.now) needs.now }
+    ensures { IfOk result (λ b. b ≡ symbols_agree (parts_model parts.now) section) }
 {
     let Some(symbols) = section_of_type(&parts.sections, SHT_DYNSYM) else {
         return Ok(false);
@@ -111,9 +111,9 @@ pub fn are_versions_right(
     definitions: &DefinitionWalk,
     needs: &NeedWalk,
 ) -> Result<bool, AllocError>
-    requires definitions { AreDefinitions (parts_seen parts.now) definitions.now }
-    requires needs { AreNeeds (parts_seen parts.now) needs.now }
-    ensures { IfOk result (λ b. b ≡ versions_right (parts_seen parts.now)) }
+    requires definitions { AreDefinitions (parts_model parts.now) definitions.now }
+    requires needs { AreNeeds (parts_model parts.now) needs.now }
+    ensures { IfOk result (λ b. b ≡ versions_right (parts_model parts.now)) }
 {
     let are_whole = definitions.is_whole && needs.is_whole;
     if !are_whole || !are_dynamic_strings_own(&parts.sections) {

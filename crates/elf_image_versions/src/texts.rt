@@ -1,6 +1,6 @@
 ghost use Rattle.std.specs.Prelude.{◌≡◌, ◌≤◌, length};
 ghost use Rattle.patch_bytes.specs.Memory.{memory_of};
-ghost use Rattle.elf_image_rules.specs.Read.{parts_seen};
+ghost use Rattle.elf_image_rules.specs.Read.{parts_model};
 ghost use Rattle.elf_format.specs.Rules.{linked_texts, raw_entries};
 ghost use Rattle.elf_format.specs.Views.{first_by_tag};
 
@@ -27,8 +27,8 @@ pub fn dynamic_texts<'data>(
     raw: &[EntryNumbers],
     section: SectionHeader,
 ) -> &'data [u8]
-    requires { raw.now ≡ raw_entries (parts_seen parts.now) }
-    ensures value { memory_of result.now ≡ linked_texts (parts_seen parts.now) section }
+    requires { raw.now ≡ raw_entries (parts_model parts.now) }
+    ensures value { memory_of result.now ≡ linked_texts (parts_model parts.now) section }
     ensures short { length result.now ≤ length parts.now.file.now }
 {
     let texts = bytes_of(parts.file, linked_section(&parts.sections, section));

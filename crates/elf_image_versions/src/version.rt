@@ -1,5 +1,5 @@
 ghost use Rattle.std.specs.Prelude.{◌≡◌, map, IfOk};
-ghost use Rattle.elf_image_versions.specs.VersionsSeen.{AreSameVersions, definition_kept, name_kept, needs_kept};
+ghost use Rattle.elf_image_versions.specs.VersionsModel.{AreSameVersions, definition_model, name_model, needs_model};
 
 use patch_bytes::ByteString;
 use std::alloc::{AllocError, Global};
@@ -76,7 +76,7 @@ fn copied_definitions<'data>(
     definitions: &[VersionDef<'data>],
 ) -> Result<Vec<VersionDef<'data>>, AllocError>
     ensures { IfOk result (λ copies.
-        map definition_kept copies.items ≡ map definition_kept definitions.now) }
+        map definition_model copies.items ≡ map definition_model definitions.now) }
 {
     let mut made = Vec::with_capacity(alloc, definitions.len())?;
     for definition in definitions {
@@ -95,7 +95,7 @@ fn copied_name<'data>(
     alloc: Global,
     version: &VersionNeedName<'data>,
 ) -> Result<VersionNeedName<'data>, AllocError>
-    ensures { IfOk result (λ copy. name_kept copy ≡ name_kept version.now) }
+    ensures { IfOk result (λ copy. name_model copy ≡ name_model version.now) }
 {
     let name = version.name.try_clone(alloc)?;
     Ok(VersionNeedName {
@@ -110,7 +110,7 @@ fn copied_names<'data>(
     alloc: Global,
     versions: &[VersionNeedName<'data>],
 ) -> Result<Vec<VersionNeedName<'data>>, AllocError>
-    ensures { IfOk result (λ copies. map name_kept copies.items ≡ map name_kept versions.now) }
+    ensures { IfOk result (λ copies. map name_model copies.items ≡ map name_model versions.now) }
 {
     let mut made = Vec::with_capacity(alloc, versions.len())?;
     for version in versions {
@@ -125,7 +125,7 @@ fn copied_need<'data>(
     alloc: Global,
     need: &VersionNeed<'data>,
 ) -> Result<VersionNeed<'data>, AllocError>
-    ensures { IfOk result (λ copy. needs_kept copy ≡ needs_kept need.now) }
+    ensures { IfOk result (λ copy. needs_model copy ≡ needs_model need.now) }
 {
     let file = need.file.try_clone(alloc)?;
     let versions = copied_names(alloc, &need.versions)?;
@@ -137,7 +137,7 @@ fn copied_needs<'data>(
     alloc: Global,
     needs: &[VersionNeed<'data>],
 ) -> Result<Vec<VersionNeed<'data>>, AllocError>
-    ensures { IfOk result (λ copies. map needs_kept copies.items ≡ map needs_kept needs.now) }
+    ensures { IfOk result (λ copies. map needs_model copies.items ≡ map needs_model needs.now) }
 {
     let mut made = Vec::with_capacity(alloc, needs.len())?;
     for need in needs {

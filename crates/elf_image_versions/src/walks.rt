@@ -1,5 +1,5 @@
 ghost use Rattle.std.specs.Prelude.{IfOk};
-ghost use Rattle.elf_image_rules.specs.Read.{parts_seen};
+ghost use Rattle.elf_image_rules.specs.Read.{parts_model};
 ghost use Rattle.elf_image_versions.specs.WalkSteps.{AreDefinitions, AreNeeds};
 
 use crate::definitions::walk_definition_records;
@@ -31,7 +31,7 @@ pub struct NeedWalk {
 /// The defined versions of .gnu.version_d (GNU symbol versioning, `Elfxx_Verdef`), none without that section.
 /// Error: `AllocError`.
 pub fn walk_definitions(alloc: Global, parts: &Headers<'_>) -> Result<DefinitionWalk, AllocError>
-    ensures { IfOk result (λ w. AreDefinitions (parts_seen parts.now) w) }
+    ensures { IfOk result (λ w. AreDefinitions (parts_model parts.now) w) }
 {
     let Some(section) = section_of_type(&parts.sections, SHT_GNU_VERDEF) else {
         return Ok(DefinitionWalk {
@@ -46,7 +46,7 @@ pub fn walk_definitions(alloc: Global, parts: &Headers<'_>) -> Result<Definition
 /// The needed versions of .gnu.version_r (GNU symbol versioning, `Elfxx_Verneed`), none without that section.
 /// Error: `AllocError`.
 pub fn walk_needs(alloc: Global, parts: &Headers<'_>) -> Result<NeedWalk, AllocError>
-    ensures { IfOk result (λ w. AreNeeds (parts_seen parts.now) w) }
+    ensures { IfOk result (λ w. AreNeeds (parts_model parts.now) w) }
 {
     let Some(section) = section_of_type(&parts.sections, SHT_GNU_VERNEED) else {
         return Ok(NeedWalk {

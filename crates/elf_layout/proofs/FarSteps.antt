@@ -12,11 +12,11 @@ use Rattle.elf_format.specs.declared.form.Form.{Form}
 use Rattle.elf_format.specs.Form.{by_class}
 use Rattle.elf_format.specs.Places.{Place}
 use Rattle.elf_format.specs.Records.{segment_header_size}
-use Rattle.elf_layout_plan.specs.Added.{AddedLoad, Spot, added_loads, greatest, header_count, kept_end}
+use Rattle.elf_layout_plan.specs.Added.{AddedLoad, Slot, added_loads, greatest, header_count, kept_end}
 use Rattle.elf_layout_plan.specs.Memory.{Resized, SizedSection, table_load}
 use Rattle.elf_layout_plan.specs.Plan.{does_place_fit, does_plan_fit, layout_for}
 use Rattle.elf_layout_plan.specs.Sizes.{fits_field}
-use Rattle.elf_layout_plan.specs.Standing.{LooseSpot, content_end, loose_spot_of, loose_spots, loose_start, next_table, place_in, places, spot_of, stands_at, stays_at, sections_offset, segments_end, table_offset}
+use Rattle.elf_layout_plan.specs.Standing.{UnloadedSlot, content_end, unloaded_slot_of, unloaded_slots, unloaded_start, next_table, place_in, places, slot_of, stands_at, stays_at, sections_offset, segments_end, table_offset}
 use Rattle.elf_layout.specs.Inner.{IsPastField}
 use Rattle.elf_layout.proofs.LoadSteps.{end_in_file}
 
@@ -82,9 +82,9 @@ pub table_there : (b : Bool) (end old next size : ℕ) → cond b end (cond b ol
 table_there true end old next size = refl
 table_there false end old next size = refl
 
-pub loose_above : (r : Resized) (moved : List ℕ) → segments_end r moved ≤ loose_start r moved
-unfolding loose_start table_offset
-loose_above r moved =
+pub unloaded_above : (r : Resized) (moved : List ℕ) → segments_end r moved ≤ unloaded_start r moved
+unfolding unloaded_start table_offset
+unloaded_above r moved =
     let b : Bool = is_some (table_load r) in
     let end : ℕ = segments_end r moved in
     let next : ℕ = next_table r end in
@@ -92,9 +92,9 @@ loose_above r moved =
     let least : end ≤ cond b end (next + size) = start_above b end next size (next_above end (word_size r.image.form.wide)) in
     subst (λ (n : ℕ). end ≤ n) (sym (table_there b end r.image.header.e_phoff next size)) least
 
-pub content_above : (r : Resized) (moved : List ℕ) → loose_start r moved ≤ content_end r moved
+pub content_above : (r : Resized) (moved : List ℕ) → unloaded_start r moved ≤ content_end r moved
 unfolding content_end
-content_above r moved = greatest_above (loose_start r moved) (map (λ s. s.offset + s.size) (loose_spots r moved))
+content_above r moved = greatest_above (unloaded_start r moved) (map (λ s. s.offset + s.size) (unloaded_slots r moved))
 
 pub sections_above : (r : Resized) (moved : List ℕ) → content_end r moved ≤ sections_offset r moved
 unfolding sections_offset
@@ -103,11 +103,11 @@ sections_above r moved = next_above (content_end r moved) (word_size r.image.for
 pub past_content : (r : Resized) (moved : List ℕ) → 2 ^ 64 ≤ content_end r moved → IsPastField r moved
 past_content r moved far = past_sections r moved (omega (arith, sections_above r moved, far))
 
-pub past_start : (r : Resized) (moved : List ℕ) → 2 ^ 64 ≤ loose_start r moved → IsPastField r moved
+pub past_start : (r : Resized) (moved : List ℕ) → 2 ^ 64 ≤ unloaded_start r moved → IsPastField r moved
 past_start r moved far = past_content r moved (omega (arith, content_above r moved, far))
 
 pub past_segments : (r : Resized) (moved : List ℕ) → 2 ^ 64 ≤ segments_end r moved → IsPastField r moved
-past_segments r moved far = past_start r moved (omega (arith, loose_above r moved, far))
+past_segments r moved far = past_start r moved (omega (arith, unloaded_above r moved, far))
 
 pub past_load_end : (r : Resized) (moved : List ℕ) (before after : List AddedLoad) (load : AddedLoad)
     → added_loads r moved ≡ before ++ load ∷ after
@@ -123,17 +123,17 @@ past_load_end r moved before after load all far =
 
 -- ## Where a section stands
 
--- a section's place, by the spots that are found for it
-abbrev pub placed_as : Resized → List ℕ → SizedSection → Option Spot → Option LooseSpot → Place
-placed_as r moved s (Some spot) loose = stands_at s spot.offset spot.address
-placed_as r moved s None (Some spot) = stands_at s spot.offset s.kept.section.sh_addr
+-- a section's place, by the slots that are found for it
+abbrev pub placed_as : Resized → List ℕ → SizedSection → Option Slot → Option UnloadedSlot → Place
+placed_as r moved s (Some slot) unloaded = stands_at s slot.offset slot.address
+placed_as r moved s None (Some slot) = stands_at s slot.offset s.kept.section.sh_addr
 placed_as r moved s None None = stays_at r moved s
 
-as_found : (r : Resized) (moved : List ℕ) (s : SizedSection) (o : Option Spot) (l : Option LooseSpot)
+as_found : (r : Resized) (moved : List ℕ) (s : SizedSection) (o : Option Slot) (l : Option UnloadedSlot)
     → elim o [
-      | Some spot ↦ stands_at s spot.offset spot.address
+      | Some slot ↦ stands_at s slot.offset slot.address
       | None ↦ elim l
-          [ Some spot ↦ stands_at s spot.offset s.kept.section.sh_addr | None ↦ stays_at r moved s ]
+          [ Some slot ↦ stands_at s slot.offset s.kept.section.sh_addr | None ↦ stays_at r moved s ]
     ]
     ≡ placed_as r moved s o l
 as_found r moved s (Some x) l = refl
@@ -141,6 +141,6 @@ as_found r moved s None (Some x) = refl
 as_found r moved s None None = refl
 
 pub place_as : (r : Resized) (moved : List ℕ) (s : SizedSection)
-    → place_in r moved s ≡ placed_as r moved s (spot_of r moved s) (loose_spot_of r moved s)
+    → place_in r moved s ≡ placed_as r moved s (slot_of r moved s) (unloaded_slot_of r moved s)
 unfolding place_in
-place_as r moved s = as_found r moved s (spot_of r moved s) (loose_spot_of r moved s)
+place_as r moved s = as_found r moved s (slot_of r moved s) (unloaded_slot_of r moved s)

@@ -10,16 +10,16 @@ use Rattle.std.proofs.lemmas.List.Concat.{flat_map-append}
 use Rattle.std.proofs.lemmas.List.Folds.{find-append}
 use Rattle.std.proofs.lemmas.Option.{slice_get-map}
 use Rattle.elf_format.specs.Places.{Place}
-use Rattle.elf_layout_plan.specs.Added.{AddedLoad, Spot, added_loads, alignment_of, kept_end, load_alignment, loads_from, memory_end, spots_from}
+use Rattle.elf_layout_plan.specs.Added.{AddedLoad, Slot, added_loads, alignment_of, kept_end, load_alignment, loads_from, memory_end, slots_from}
 use Rattle.elf_layout_plan.specs.Memory.{Resized, SizedSection, sized_sections}
 use Rattle.elf_layout_plan.specs.Rounds.{added_flags, each_once, flags_for, sections_at}
-use Rattle.elf_layout_plan.specs.Standing.{loose_spot_of, place_in, places, stands_at}
-use Rattle.elf_layout.specs.declared.spots.At.{At}
+use Rattle.elf_layout_plan.specs.Standing.{unloaded_slot_of, place_in, places, stands_at}
+use Rattle.elf_layout.specs.declared.slots.At.{At}
 use Rattle.elf_layout.specs.Inner.{IsPastField}
-use Rattle.elf_layout.specs.Spots.{IsFar, aligned, end_behind, start_of_load, with_flags}
-use Rattle.elf_layout.proofs.SpotSteps.{own_position}
+use Rattle.elf_layout.specs.Slots.{IsFar, aligned, end_behind, start_of_load, with_flags}
+use Rattle.elf_layout.proofs.SlotSteps.{own_position}
 use Rattle.elf_layout.proofs.FlagSteps.{has, others}
-use Rattle.elf_layout.proofs.LoadSteps.{load_of, spots_of}
+use Rattle.elf_layout.proofs.LoadSteps.{load_of, slots_of}
 use Rattle.elf_layout.proofs.FarSteps.{next_above, past_load_end, past_place, place_as, placed_as}
 
 -- ## Each set of flags once
@@ -131,29 +131,29 @@ sections_of : (r : Resized) (f : ℕ) (positions : List ℕ) → SectionsOf r f 
 sections_of r f [] = tt
 sections_of r f (p ∷ ps) = sections_tested r f p (sections_at r ps) (slice_get (sized_sections r) p) refl (sections_of r f ps)
 
-abbrev SpotsOf : Resized → ℕ → List Spot → Type 0
-SpotsOf r f [] = Unit {0}
-SpotsOf r f (x ∷ xs) = (flags_at r x.position ≡ f) × SpotsOf r f xs
+abbrev SlotsOf : Resized → ℕ → List Slot → Type 0
+SlotsOf r f [] = Unit {0}
+SlotsOf r f (x ∷ xs) = (flags_at r x.position ≡ f) × SlotsOf r f xs
 
-spots_are_of : (r : Resized) (f : ℕ) (at : At) (ss : List SizedSection) → SectionsOf r f ss
-    → SpotsOf r f (spots_from at.offset at.address ss)
-unfolding spots_from
-spots_are_of r f at [] are = tt
-spots_are_of r f at (s ∷ ss) are = (ap flags_found are.0.own ∙ are.0.flags, spots_are_of r f (end_behind at s) ss are.1)
+slots_are_of : (r : Resized) (f : ℕ) (at : At) (ss : List SizedSection) → SectionsOf r f ss
+    → SlotsOf r f (slots_from at.offset at.address ss)
+unfolding slots_from
+slots_are_of r f at [] are = tt
+slots_are_of r f at (s ∷ ss) are = (ap flags_found are.0.own ∙ are.0.flags, slots_are_of r f (end_behind at s) ss are.1)
 
 abbrev flags_of_load : AddedLoad → ℕ
 flags_of_load load = load.header.p_flags
 
 abbrev LoadsOf : Resized → List AddedLoad → Type 0
 LoadsOf r [] = Unit {0}
-LoadsOf r (l ∷ ls) = SpotsOf r (flags_of_load l) l.spots × LoadsOf r ls
+LoadsOf r (l ∷ ls) = SlotsOf r (flags_of_load l) l.slots × LoadsOf r ls
 
 loads_are_of : (r : Resized) (moved : List ℕ) (align : ℕ) (sets : List ℕ) (end memory : ℕ)
     → LoadsOf r (loads_from align end memory sets (sections_at r moved))
 unfolding loads_from
 loads_are_of r moved align [] end memory = tt
 loads_are_of r moved align (f ∷ sets) end memory = (
-  spots_are_of r f (record { offset = end; address = start_of_load align end memory }) (with_flags r f moved) (sections_of r f moved),
+  slots_are_of r f (record { offset = end; address = start_of_load align end memory }) (with_flags r f moved) (sections_of r f moved),
   loads_are_of r moved align sets _ _,
 )
 
@@ -168,24 +168,24 @@ loads_before : (r : Resized) (before after : List AddedLoad) → LoadsOf r (befo
 loads_before r [] after are = tt
 loads_before r (l ∷ before) after are = (are.0, loads_before r before after are.1)
 
-abbrev at_position : ℕ → Spot → Bool
+abbrev at_position : ℕ → Slot → Bool
 at_position p x = x.position == p
 
-not_in_spots : (r : Resized) (f p : ℕ) (xs : List Spot) → SpotsOf r f xs → flags_at r p ≢ f → find (at_position p) xs ≡ None
-not_in_spots r f p [] are apart = refl
-not_in_spots r f p (x ∷ xs) are apart =
+not_in_slots : (r : Resized) (f p : ℕ) (xs : List Slot) → SlotsOf r f xs → flags_at r p ≢ f → find (at_position p) xs ≡ None
+not_in_slots r f p [] are apart = refl
+not_in_slots r f p (x ∷ xs) are apart =
     let other : (x.position == p) ≡ false = ne_eqb x.position p (λ same. apart (ap (flags_at r) (sym same) ∙ are.0)) in
-    rw other (not_in_spots r f p xs are.1 apart)
+    rw other (not_in_slots r f p xs are.1 apart)
 
 not_in_loads : (r : Resized) (p : ℕ) (ls : List AddedLoad) → LoadsOf r ls → has (flags_at r p) (map flags_of_load ls) ≡ false
-    → find (at_position p) (flat_map spots_of ls) ≡ None
+    → find (at_position p) (flat_map slots_of ls) ≡ None
 not_in_loads r p [] are apart = refl
 not_in_loads r p (l ∷ ls) are apart =
     let parts = or_parts (flags_of_load l == flags_at r p) (has (flags_at r p) (map flags_of_load ls)) apart in
-    let here : find (at_position p) l.spots ≡ None =
-    not_in_spots r (flags_of_load l) p l.spots are.0 (λ same. eqb-false (flags_of_load l) (flags_at r p) parts.0 (sym same)) in
-    find-append (at_position p) l.spots (flat_map spots_of ls)
-    ∙ ap (λ (o : Option Spot). option_or o (find (at_position p) (flat_map spots_of ls))) here
+    let here : find (at_position p) l.slots ≡ None =
+    not_in_slots r (flags_of_load l) p l.slots are.0 (λ same. eqb-false (flags_of_load l) (flags_at r p) parts.0 (sym same)) in
+    find-append (at_position p) l.slots (flat_map slots_of ls)
+    ∙ ap (λ (o : Option Slot). option_or o (find (at_position p) (flat_map slots_of ls))) here
     ∙ not_in_loads r p ls are.1 parts.1
 
 all_sets : (r : Resized) (moved : List ℕ) → map flags_of_load (added_loads r moved) ≡ added_flags r moved
@@ -198,11 +198,11 @@ all_are_of r moved = loads_are_of r moved (load_alignment r) (added_flags r move
 
 -- ## The first section of a segment
 
--- the section stands where the first spot at its position is
-spot_place : (r : Resized) (moved : List ℕ) (s : SizedSection) (x : Spot)
-    → find (at_position s.kept.position) (flat_map spots_of (added_loads r moved)) ≡ Some x
+-- the section stands where the first slot at its position is
+slot_place : (r : Resized) (moved : List ℕ) (s : SizedSection) (x : Slot)
+    → find (at_position s.kept.position) (flat_map slots_of (added_loads r moved)) ≡ Some x
     → place_in r moved s ≡ stands_at s x.offset x.address
-spot_place r moved s x there = place_as r moved s ∙ ap (λ (o : Option Spot). placed_as r moved s o (loose_spot_of r moved s)) there
+slot_place r moved s x there = place_as r moved s ∙ ap (λ (o : Option Slot). placed_as r moved s o (unloaded_slot_of r moved s)) there
 
 place_there : (r : Resized) (moved : List ℕ) (p : ℕ) (s : SizedSection) → slice_get (sized_sections r) p ≡ Some s
     → slice_get (places r moved) p ≡ Some (place_in r moved s)
@@ -210,18 +210,18 @@ unfolding places
 place_there r moved p s there = slice_get-map (place_in r moved) (sized_sections r) p ∙ ap (option_map (place_in r moved)) there
 
 -- where the first of sections stands
-first_spot : (at : At) (s : SizedSection) (ss : List SizedSection)
-    → (x : Spot) × ((rest : List Spot) × (spots_from at.offset at.address (s ∷ ss) ≡ x ∷ rest)) × (x.position ≡ s.kept.position) ×
+first_slot : (at : At) (s : SizedSection) (ss : List SizedSection)
+    → (x : Slot) × ((rest : List Slot) × (slots_from at.offset at.address (s ∷ ss) ≡ x ∷ rest)) × (x.position ≡ s.kept.position) ×
     (at.address ≤ x.address)
-unfolding spots_from
-first_spot at s ss =
-    let x : Spot = record {
+unfolding slots_from
+first_slot at s ss =
+    let x : Slot = record {
       position = s.kept.position;
       offset = at.offset + (aligned at s - at.address);
       address = aligned at s;
       size = s.size;
     } in
-    (x, (spots_from (end_behind at s).offset (end_behind at s).address ss, refl), refl, next_above at.address (alignment_of s))
+    (x, (slots_from (end_behind at s).offset (end_behind at s).address ss, refl), refl, next_above at.address (alignment_of s))
 
 module _ (r : Resized) (moved : List ℕ) (at : At) (f : ℕ) (before after : List AddedLoad)
     (all : added_loads r moved ≡ before ++ load_of r moved at f ∷ after) where
@@ -244,27 +244,27 @@ module _ (r : Resized) (moved : List ℕ) (at : At) (f : ℕ) (before after : Li
   far_at [] is far = absurd (some_needs is)
   far_at (s ∷ ss) is far =
       let start : At = record { offset = at.offset; address = start_of_load (load_alignment r) at.offset at.address } in
-      let first = first_spot start s ss in
-      let x : Spot = first.0 in
+      let first = first_slot start s ss in
+      let x : Slot = first.0 in
       let p : ℕ = s.kept.position in
       let are : SectionsOf r f (s ∷ ss) = subst (SectionsOf r f) is (sections_of r f moved) in
       let needs : flags_at r p ≡ f = ap flags_found are.0.own ∙ are.0.flags in
-      let rest : List Spot = first.1.0 ++ flat_map spots_of after in
-      let here : (load_of r moved at f).spots ++ flat_map spots_of after ≡ x ∷ rest =
-      ap (λ (l : List SizedSection). spots_from start.offset start.address l ++ flat_map spots_of after) is
-      ∙ ap (λ (l : List Spot). l ++ flat_map spots_of after) first.1.1 in
-      let clear : find (at_position p) (flat_map spots_of before) ≡ None =
+      let rest : List Slot = first.1.0 ++ flat_map slots_of after in
+      let here : (load_of r moved at f).slots ++ flat_map slots_of after ≡ x ∷ rest =
+      ap (λ (l : List SizedSection). slots_from start.offset start.address l ++ flat_map slots_of after) is
+      ∙ ap (λ (l : List Slot). l ++ flat_map slots_of after) first.1.1 in
+      let clear : find (at_position p) (flat_map slots_of before) ≡ None =
       not_in_loads r p before (loads_before r before (load_of r moved at f ∷ after) (subst (LoadsOf r) all (all_are_of r moved)))
       (ap (λ (n : ℕ). has n (map flags_of_load before)) needs ∙ none_before) in
       let own : at_position p x ≡ true = eq-eqb x.position p first.2 in
-      let found : find (at_position p) (flat_map spots_of (added_loads r moved)) ≡ Some x =
-      ap (λ (l : List AddedLoad). find (at_position p) (flat_map spots_of l)) all
-      ∙ ap (find (at_position p)) (flat_map-append spots_of before (load_of r moved at f ∷ after))
-      ∙ find-append (at_position p) (flat_map spots_of before) ((load_of r moved at f).spots ++ flat_map spots_of after)
-      ∙ ap (λ (o : Option Spot). option_or o (find (at_position p) ((load_of r moved at f).spots ++ flat_map spots_of after))) clear
+      let found : find (at_position p) (flat_map slots_of (added_loads r moved)) ≡ Some x =
+      ap (λ (l : List AddedLoad). find (at_position p) (flat_map slots_of l)) all
+      ∙ ap (find (at_position p)) (flat_map-append slots_of before (load_of r moved at f ∷ after))
+      ∙ find-append (at_position p) (flat_map slots_of before) ((load_of r moved at f).slots ++ flat_map slots_of after)
+      ∙ ap (λ (o : Option Slot). option_or o (find (at_position p) ((load_of r moved at f).slots ++ flat_map slots_of after))) clear
       ∙ ap (find (at_position p)) here
       ∙ ap (λ (b : Bool). cond b (Some x) (find (at_position p) rest)) own in
-      let place : place_in r moved s ≡ stands_at s x.offset x.address = spot_place r moved s x found in
+      let place : place_in r moved s ≡ stands_at s x.offset x.address = slot_place r moved s x found in
       let above : 2 ^ 64 ≤ x.address = omega (arith, far, first.3) in
       past_place r moved p (place_in r moved s) (place_there r moved p s are.0.own)
       (subst (λ (q : Place). 2 ^ 64 ≤ q.sh_addr) (sym place) above)

@@ -7,7 +7,7 @@ use Rattle.std.proofs.lemmas.List.{append-nil, map-append, take_all, take_more}
 use Rattle.std.proofs.lemmas.List.Elements.{filter-append, filter_map-append}
 use Rattle.elf_layout_plan.specs.Memory.{Resized, SizedSection, sized_sections}
 use Rattle.elf_layout_plan.specs.Rounds.{added_flags, each_once, flags_for, sections_at}
-use Rattle.elf_layout.specs.Spots.{with_flag}
+use Rattle.elf_layout.specs.Slots.{with_flag}
 
 abbrev pub others : ℕ → List ℕ → List ℕ
 others m ns = filter (λ n. not (n == m)) ns

@@ -5,8 +5,8 @@ use Rattle.std.proofs.lemmas.List.{drop_all, get_or_default}
 use Rattle.std.proofs.lemmas.Option.{slice_get-get_or, slice_get-map}
 use Rattle.elf_layout_plan.specs.Added.{greatest}
 use Rattle.elf_image.specs.declared.segment.Segment.{Segment}
-use Rattle.elf_image.specs.ImageSeen.{segment_kept}
-use Rattle.elf_layout.specs.Spots.{value_where}
+use Rattle.elf_image.specs.ImageModel.{segment_model}
+use Rattle.elf_layout.specs.Slots.{value_where}
 
 module _ {X : Type 0} (test : X → Bool) (value : X → ℕ) where
   -- the greatest of a number and the others
@@ -41,12 +41,12 @@ module _ {X : Type 0} (test : X → Bool) (value : X → ℕ) where
 
 -- the numbers of the segment at a place
 pub segment_at : (segments : List Segment) (i : ℕ) (p : Segment) → i < length segments → p ≡ get_or segments i p
-    → slice_get (map segment_kept segments) i ≡ Some (segment_kept p)
+    → slice_get (map segment_model segments) i ≡ Some (segment_model p)
 segment_at segments i p within is =
-    slice_get-map segment_kept segments i ∙ ap (λ (o : Option Segment). option_map segment_kept o)
+    slice_get-map segment_model segments i ∙ ap (λ (o : Option Segment). option_map segment_model o)
     (slice_get-get_or segments i p within ∙ ap Some (sym is))
 
 pub segment_of : (segments : List Segment) (i : ℕ) (d : Segment) → i < length segments
-    → slice_get (map segment_kept segments) i ≡ Some (segment_kept (get_or segments i d))
+    → slice_get (map segment_model segments) i ≡ Some (segment_model (get_or segments i d))
 segment_of segments i d within =
     segment_at segments i (get_or segments i d) within (get_or_default segments i d (get_or segments i d) within)

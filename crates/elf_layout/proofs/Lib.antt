@@ -9,7 +9,7 @@ pub mod Planned
 pub mod ReachLaws
 pub mod SizedSections
 pub mod SpanSteps
-pub mod SpotSteps
+pub mod SlotSteps
 pub mod StandingSteps
 pub mod TableSteps
 pub mod TreeSteps

@@ -8,39 +8,39 @@ use Rattle.std.proofs.lemmas.List.Sums.{fold-append}
 use Rattle.elf_format.specs.Placement.{file_part, memory_part}
 use Rattle.elf_format.specs.Ranges.{end_of}
 use Rattle.elf_format.specs.declared.records.SegmentHeader.{SegmentHeader}
-use Rattle.elf_layout_plan.specs.Added.{AddedLoad, Spot, added_loads, greatest, kept_end, load_alignment, loads_from, memory_end, size_of_spots, spots_from}
+use Rattle.elf_layout_plan.specs.Added.{AddedLoad, Slot, added_loads, greatest, kept_end, load_alignment, loads_from, memory_end, size_of_slots, slots_from}
 use Rattle.elf_layout_plan.specs.Memory.{Resized, SizedSection}
 use Rattle.elf_layout_plan.specs.Rounds.{added_flags, sections_at}
 use Rattle.elf_layout_plan.specs.Standing.{segments_end}
-use Rattle.elf_layout.specs.declared.spots.At.{At}
-use Rattle.elf_layout.specs.Spots.{behind_spots, end_behind, load_here, start_of_load, with_flags, with_spots}
-use Rattle.elf_layout.proofs.SpotSteps.{behind_grows, with_spots-append}
+use Rattle.elf_layout.specs.declared.slots.At.{At}
+use Rattle.elf_layout.specs.Slots.{behind_slots, end_behind, load_here, start_of_load, with_flags, with_slots}
+use Rattle.elf_layout.proofs.SlotSteps.{behind_grows, with_slots-append}
 
 -- ## How long a segment is
 
-pub greatest_end_of_spots : (at : At) (ss : List SizedSection)
-    → greatest at.offset (map (λ s. s.offset + s.size) (spots_from at.offset at.address ss)) ≡ (behind_spots at ss).offset
-unfolding spots_from behind_spots
-greatest_end_of_spots at [] = refl
-greatest_end_of_spots at (s ∷ ss) =
+pub greatest_end_of_slots : (at : At) (ss : List SizedSection)
+    → greatest at.offset (map (λ s. s.offset + s.size) (slots_from at.offset at.address ss)) ≡ (behind_slots at ss).offset
+unfolding slots_from behind_slots
+greatest_end_of_slots at [] = refl
+greatest_end_of_slots at (s ∷ ss) =
     let next : max at.offset (end_behind at s).offset ≡ (end_behind at s).offset = omega arith in
-    ap (λ (n : ℕ). greatest n (map (λ s. s.offset + s.size) (spots_from (end_behind at s).offset (end_behind at s).address ss))) next
-    ∙ greatest_end_of_spots (end_behind at s) ss
+    ap (λ (n : ℕ). greatest n (map (λ s. s.offset + s.size) (slots_from (end_behind at s).offset (end_behind at s).address ss))) next
+    ∙ greatest_end_of_slots (end_behind at s) ss
 
 pub size_behind : (at : At) (ss : List SizedSection)
-    → size_of_spots at.offset (spots_from at.offset at.address ss) ≡ (behind_spots at ss).offset - at.offset
-size_behind at ss = ap (λ (n : ℕ). n - at.offset) (greatest_end_of_spots at ss)
+    → size_of_slots at.offset (slots_from at.offset at.address ss) ≡ (behind_slots at ss).offset - at.offset
+size_behind at ss = ap (λ (n : ℕ). n - at.offset) (greatest_end_of_slots at ss)
 
 -- where the segment ends in the file
 pub load_end : (r : Resized) (moved : List ℕ) (align end memory flags : ℕ)
     → end_of (file_part (load_here r moved align end memory flags).header)
-    ≡ (behind_spots (record { offset = end; address = start_of_load align end memory }) (with_flags r flags moved)).offset
+    ≡ (behind_slots (record { offset = end; address = start_of_load align end memory }) (with_flags r flags moved)).offset
 load_end r moved align end memory flags =
     let at : At = record { offset = end; address = start_of_load align end memory } in
     let sections : List SizedSection = with_flags r flags moved in
-    let size : size_of_spots end (spots_from end (start_of_load align end memory) sections) ≡ (behind_spots at sections).offset - end =
+    let size : size_of_slots end (slots_from end (start_of_load align end memory) sections) ≡ (behind_slots at sections).offset - end =
     size_behind at sections in
-    let grown : end ≤ (behind_spots at sections).offset = behind_grows at sections in
+    let grown : end ≤ (behind_slots at sections).offset = behind_grows at sections in
     omega (arith, size, grown)
 
 -- ## One segment behind the other
@@ -48,8 +48,8 @@ load_end r moved align end memory flags =
 abbrev pub header_of : AddedLoad → SegmentHeader
 header_of load = load.header
 
-abbrev pub spots_of : AddedLoad → List Spot
-spots_of load = load.spots
+abbrev pub slots_of : AddedLoad → List Slot
+slots_of load = load.slots
 
 abbrev pub end_in_file : AddedLoad → ℕ
 end_in_file load = end_of (file_part load.header)
@@ -67,7 +67,7 @@ pub record ArePlacedLoads (r : Resized) (moved : List ℕ) (old : List (Option A
   pub before : List AddedLoad
   pub all : added_loads r moved ≡ before ++ loads_behind r moved at rest
   pub loads : made ≡ map header_of before
-  pub spots : kept ≡ with_spots old (flat_map spots_of before)
+  pub slots : kept ≡ with_slots old (flat_map slots_of before)
   pub end : at.offset ≡ greatest (kept_end r moved) (map end_in_file before)
   pub near : at.address < 2 ^ 65
   pub fits : at.offset < 2 ^ 64
@@ -76,7 +76,7 @@ pub loads_start : (r : Resized) (moved : List ℕ) (old : List (Option At)) (at 
     → sets ≡ added_flags r moved
     → made ≡ [] → at.offset ≡ kept_end r moved → at.address ≡ memory_end r → at.address < 2 ^ 65 → at.offset < 2 ^ 64
     → ArePlacedLoads r moved old at made old sets
-unfolding added_loads with_spots
+unfolding added_loads with_slots
 loads_start r moved old at made sets all none offset address near fits = record {
   before = [];
   all =
@@ -84,7 +84,7 @@ loads_start r moved old at made sets all none offset address near fits = record 
       ∙ ap (λ (n : ℕ). loads_from (load_alignment r) at.offset n (added_flags r moved) (sections_at r moved)) (sym address)
       ∙ ap (λ (l : List ℕ). loads_behind r moved at l) (sym all);
   loads = none;
-  spots = refl;
+  slots = refl;
   end = offset;
   near = near;
   fits = fits;
@@ -106,7 +106,7 @@ pub loads_more : (r : Resized) (moved : List ℕ) (old : List (Option At)) (at :
     (p : SegmentHeader) (next : At) (made_next : List SegmentHeader) (more : List (Option At))
     → ArePlacedLoads r moved old at made kept (flags ∷ rest)
     → p ≡ (load_of r moved at flags).header
-    → more ≡ with_spots kept (load_of r moved at flags).spots
+    → more ≡ with_slots kept (load_of r moved at flags).slots
     → made_next ≡ made ++ p ∷ []
     → next.offset ≡ p.p_offset + p.p_filesz → next.address ≡ p.p_vaddr + p.p_memsz
     → next.address < 2 ^ 65 → next.offset < 2 ^ 64
@@ -126,11 +126,11 @@ loads_more r moved old at made kept flags rest p next made_next more placed is i
           is_made ∙ ap (λ (l : List SegmentHeader). l ++ p ∷ []) placed.loads
           ∙ ap (λ (q : SegmentHeader). map header_of before ++ q ∷ []) is
           ∙ sym (map-append header_of before (load ∷ []));
-      spots =
-          is_more ∙ ap (λ (k : List (Option At)). with_spots k load.spots) placed.spots
-          ∙ sym (with_spots-append old (flat_map spots_of before) load.spots)
-          ∙ ap (λ (l : List Spot). with_spots old (flat_map spots_of before ++ l)) (sym (append-nil load.spots))
-          ∙ ap (λ (l : List Spot). with_spots old l) (sym (flat_map-append spots_of before (load ∷ [])));
+      slots =
+          is_more ∙ ap (λ (k : List (Option At)). with_slots k load.slots) placed.slots
+          ∙ sym (with_slots-append old (flat_map slots_of before) load.slots)
+          ∙ ap (λ (l : List Slot). with_slots old (flat_map slots_of before ++ l)) (sym (append-nil load.slots))
+          ∙ ap (λ (l : List Slot). with_slots old l) (sym (flat_map-append slots_of before (load ∷ [])));
       end =
           let later : next.offset ≡ max at.offset (end_in_file load) = omega (arith, ends, starts) in
           later ∙ ap (λ (n : ℕ). max n (end_in_file load)) placed.end

@@ -8,13 +8,13 @@ use Rattle.elf_layout_plan.specs.declared.fault.LayoutFault.{LayoutFault}
 use Rattle.elf_layout_plan.specs.declared.fault.LayoutFault.TheVariants as faults
 use Rattle.elf_layout_plan.specs.Memory.{Resized}
 use Rattle.elf_layout_plan.specs.Plan.{IsPlan, IsTooLarge, Layout, does_plan_fit, layout_for}
-use Rattle.elf_layout_plan.specs.PlanSeen.{place_seen}
+use Rattle.elf_layout_plan.specs.PlanModel.{place_model}
 use Rattle.elf_layout_plan.specs.Rounds.{AreRounds}
 use Rattle.elf_layout_plan.specs.Standing.{places, table_offset}
 use Rattle.elf_layout_plan.specs.Written.{written_segments}
 use Rattle.elf_layout_segments.specs.declared.rounds.Rounds.{Rounds}
 use Rattle.elf_layout.specs.declared.standing.Standing.{Standing}
-use Rattle.elf_layout_segments.specs.Led.{IsEnded}
+use Rattle.elf_layout_segments.specs.AnchorPositions.{IsEnded}
 use Rattle.elf_layout.specs.Inner.{AreParts, AreWritten, HasNoPlan, IsStanding, StandsTooFar}
 use Rattle.elf_layout_segments.proofs.ForCallers.{moved_within}
 
@@ -24,7 +24,7 @@ made places segments e_phoff e_shoff rounds looked =
 
 -- the parts that were found are those of the layout
 pub parts_are : (r : Resized) (moved : List ℕ) (rounds looked : ℕ) (s : Standing) (segments : List SegmentHeader) → IsStanding r moved s → AreWritten r moved segments
-    → made (map place_seen s.places.items) segments s.e_phoff s.e_shoff rounds looked ≡ layout_for r rounds looked moved
+    → made (map place_model s.places.items) segments s.e_phoff s.e_shoff rounds looked ≡ layout_for r rounds looked moved
 unfolding layout_for
 parts_are r moved rounds looked s segments stands written =
     let all : List Place = places r moved in
@@ -35,7 +35,7 @@ parts_are r moved rounds looked s segments stands written =
     ∙ ap (λ at. made all headers (table_offset r moved) at rounds looked) stands.e_shoff
 
 pub parts_found : (r : Resized) (rounds : Rounds) (moved : List ℕ) (s : Standing) (segments : List SegmentHeader) → moved ≡ rounds.moved.items → IsStanding r moved s
-    → AreWritten r moved segments → AreParts r rounds (made (map place_seen s.places.items) segments s.e_phoff s.e_shoff rounds.count rounds.looked)
+    → AreWritten r moved segments → AreParts r rounds (made (map place_model s.places.items) segments s.e_phoff s.e_shoff rounds.count rounds.looked)
 parts_found r rounds moved s segments same stands written =
     let P : List ℕ → Type 0 = λ ms. IsStanding r ms s in
     let Q : List ℕ → Type 0 = λ ms. AreWritten r ms segments in

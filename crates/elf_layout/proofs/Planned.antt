@@ -9,7 +9,7 @@ use Rattle.elf_layout_plan.specs.Refusals.{IsNoPlan, IsStuckAsked}
 use Rattle.elf_layout_plan.specs.Rounds.{IsAsked}
 use Rattle.elf_layout_plan.proofs.RoundLaws.{rounds_are_asked, rounds_end}
 use Rattle.elf_layout_moves.specs.Inner.{IsResized}
-use Rattle.elf_layout_segments.specs.Led.{IsNoEnd}
+use Rattle.elf_layout_segments.specs.AnchorPositions.{IsNoEnd}
 use Rattle.elf_layout.specs.Inner.{HasNoPlan}
 use Rattle.elf_layout_moves.proofs.ForCallers.{resized_is}
 

@@ -4,10 +4,10 @@ use Rattle.std.specs.Prelude.{option_map, slice_get}
 use Rattle.std.proofs.lemmas.List.{length-map}
 use Rattle.std.proofs.lemmas.Option.{same_Some, slice_get-map, slice_get_past}
 use Rattle.elf_image.specs.declared.section.Section.{Section}
-use Rattle.elf_image.specs.ImageSeen.{section_kept}
+use Rattle.elf_image.specs.ImageModel.{section_model}
 use Rattle.elf_format.specs.Image.{Image, ImageSection}
 use Rattle.elf_image.specs.Edited.{IsEdited}
-use Rattle.elf_layout_plan.specs.Kept.{kept_from, kept_sections}
+use Rattle.elf_image.specs.Kept.{kept_from, kept_sections}
 use Rattle.elf_layout_plan.specs.Memory.{Resized, SizedSection, sized_from, sized_sections}
 use Rattle.elf_layout_plan.specs.Sizes.{new_sizes}
 use Rattle.elf_layout.specs.declared.sized.SectionNumbers.{SectionNumbers}
@@ -81,26 +81,26 @@ position_at p (n ∷ ns) (x ∷ ss) (size ∷ sizes) (suc i) s found =
 
 -- ## What is found in the lists of the code
 
-module _ (r : Resized) (e : IsEdited r.image) (found : List Section) (seen : map section_kept found ≡ r.image.sections) (i : ℕ) where
-  here : option_map numbers_of (slice_get (sized_sections r) i) ≡ both i (option_map section_kept (slice_get found i)) (slice_get r.sizes i)
+module _ (r : Resized) (e : IsEdited r.image) (found : List Section) (seen : map section_model found ≡ r.image.sections) (i : ℕ) where
+  here : option_map numbers_of (slice_get (sized_sections r) i) ≡ both i (option_map section_model (slice_get found i)) (slice_get r.sizes i)
   here =
       let at : 0 + i ≡ i = omega arith in
       sized_get 0 r.image.section_numbers r.image.sections r.sizes i (numbered r.image e)
       ∙ ap (λ (q : ℕ). both q (slice_get r.image.sections i) (slice_get r.sizes i)) at
       ∙ ap (λ (o : Option ImageSection). both i o (slice_get r.sizes i))
-      (ap (λ (l : List ImageSection). slice_get l i) (sym seen) ∙ slice_get-map section_kept found i)
+      (ap (λ (l : List ImageSection). slice_get l i) (sym seen) ∙ slice_get-map section_model found i)
 
   pub none_found : length found ≤ i → None ≡ option_map numbers_of (slice_get (sized_sections r) i)
   none_found past =
-      sym (here ∙ ap (λ (o : Option Section). both i (option_map section_kept o) (slice_get r.sizes i)) (slice_get_past found i past))
+      sym (here ∙ ap (λ (o : Option Section). both i (option_map section_model o) (slice_get r.sizes i)) (slice_get_past found i past))
 
   pub none_sized : length r.sizes ≤ i → None ≡ option_map numbers_of (slice_get (sized_sections r) i)
   none_sized past =
-      sym (here ∙ ap (λ (o : Option ℕ). both i (option_map section_kept (slice_get found i)) o) (slice_get_past r.sizes i past)
-      ∙ both_none i (option_map section_kept (slice_get found i)))
+      sym (here ∙ ap (λ (o : Option ℕ). both i (option_map section_model (slice_get found i)) o) (slice_get_past r.sizes i past)
+      ∙ both_none i (option_map section_model (slice_get found i)))
 
   pub some_found : (x : Section) (size : ℕ) → slice_get found i ≡ Some x → slice_get r.sizes i ≡ Some size
-      → both i (Some (section_kept x)) (Some size) ≡ option_map numbers_of (slice_get (sized_sections r) i)
+      → both i (Some (section_model x)) (Some size) ≡ option_map numbers_of (slice_get (sized_sections r) i)
   some_found x size at_section at_size =
-      sym (here ∙ ap (λ (o : Option Section). both i (option_map section_kept o) (slice_get r.sizes i)) at_section
-      ∙ ap (λ (o : Option ℕ). both i (Some (section_kept x)) o) at_size)
+      sym (here ∙ ap (λ (o : Option Section). both i (option_map section_model o) (slice_get r.sizes i)) at_section
+      ∙ ap (λ (o : Option ℕ). both i (Some (section_model x)) o) at_size)

@@ -8,12 +8,12 @@ use Rattle.elf_format.specs.Image.{Image, ImageSection}
 use Rattle.elf_format.specs.Places.{Place, file_range}
 use Rattle.elf_format.specs.Ranges.{end_of, range}
 use Rattle.elf_format.specs.declared.range.Range.{Range}
-use Rattle.elf_layout_plan.specs.Kept.{kept_from}
+use Rattle.elf_image.specs.Kept.{kept_from}
 use Rattle.elf_layout_plan.specs.Written.{Target, address_in_memory, target_at}
 use Rattle.elf_layout_segments.specs.declared.starts.Begin.{Begin}
-use Rattle.elf_layout_segments.specs.Following.{chosen_begins, is_chosen}
+use Rattle.elf_layout_segments.specs.SplitCounts.{chosen_begins, is_chosen}
 use Rattle.elf_layout_segments.specs.InOrder.{is_in}
-use Rattle.elf_layout_segments.specs.Sections.{has_bytes_at, section_at, sections_seen}
+use Rattle.elf_layout_segments.specs.Sections.{has_bytes_at, section_at, indexed_sections}
 use Rattle.elf_layout.specs.declared.reaches.Reach.{Reach}
 use Rattle.elf_layout.specs.Reaches.{is_before, joined, reach_at, reach_in, reach_of_place}
 use Rattle.elf_layout.specs.Targets.{Span, span_of, span_over, target_of_span}
@@ -129,10 +129,10 @@ module _ (all : List Place) (part : Range) where
       (shown_step (is_in part b.start) (slice_get all b.position) low b.position o s refl rise.0 is) rise.1
 
   -- over sections in any order
-  pub span_found : (moving : Bool) (marks : List Bool) (image : Image) (found : List Begin) → IsPermutation (chosen_begins moving marks (sections_seen image)) found
-      → span_over all part found ≡ fold (span_step all part) None (chosen_begins moving marks (sections_seen image))
+  pub span_found : (moving : Bool) (marks : List Bool) (image : Image) (found : List Begin) → IsPermutation (chosen_begins moving marks (indexed_sections image)) found
+      → span_over all part found ≡ fold (span_step all part) None (chosen_begins moving marks (indexed_sections image))
   span_found moving marks image found same =
-      let bs : List Begin = chosen_begins moving marks (sections_seen image) in
+      let bs : List Begin = chosen_begins moving marks (indexed_sections image) in
       ap (span_of all) (joined_all-permutation (map (reach_in all part) bs) (map (reach_in all part) found) (IsPermutation-map (reach_in all part) bs found same))
       ∙ span_steps bs 0 None None tt (begins_rise moving marks 0 image.section_numbers image.sections)
 

@@ -10,26 +10,26 @@ use Rattle.std.proofs.lemmas.Option.{slice_get-get_or, slice_get_within}
 use Rattle.elf_format.specs.Image.{ImageSection}
 use Rattle.elf_format.specs.Places.{Place}
 use Rattle.elf_format.specs.Records.{segment_header_size}
-use Rattle.elf_layout_plan.specs.Added.{Spot, added_loads, alignment_of, greatest, header_count}
-use Rattle.elf_layout_plan.specs.Kept.{kept_from}
+use Rattle.elf_layout_plan.specs.Added.{Slot, added_loads, alignment_of, greatest, header_count}
+use Rattle.elf_image.specs.Kept.{kept_from}
 use Rattle.elf_layout_plan.specs.Memory.{Resized, SizedSection, sized_from, sized_sections, table_load}
-use Rattle.elf_layout_plan.specs.Standing.{LooseSpot, content_end, is_loose, loose_from, loose_spot_of, loose_spots, loose_start, next_table, place_in, places, sections_offset, segments_end, spot_of, table_offset}
+use Rattle.elf_layout_plan.specs.Standing.{UnloadedSlot, content_end, is_unloaded, unloaded_from, unloaded_slot_of, unloaded_slots, unloaded_start, next_table, place_in, places, sections_offset, segments_end, slot_of, table_offset}
 use Rattle.elf_layout_plan.specs.declared.fault.LayoutFault.{LayoutFault}
 use Rattle.elf_layout_plan.specs.declared.fault.LayoutFault.TheVariants as faults
 use Rattle.elf_layout_plan.specs.declared.plan.SectionPlace.{SectionPlace}
-use Rattle.elf_layout_plan.specs.PlanSeen.{place_seen}
+use Rattle.elf_layout_plan.specs.PlanModel.{place_model}
 use Rattle.elf_layout.specs.Inner.{IsStanding, StandsTooFar}
 use Rattle.elf_layout.specs.declared.standing.Behind.{Behind}
 use Rattle.elf_layout.specs.declared.standing.Standing.{Standing}
-use Rattle.elf_layout.specs.declared.spots.At.{At}
-use Rattle.elf_layout.specs.Loose.{IsBehind, IsBehindFault, content_behind, kept_for, loose_end, loose_next, loose_offsets, offsets_behind, place_by, places_behind, start_behind, table_behind}
-use Rattle.elf_layout.specs.Spots.{at_of, is_free, none_yet, with_at, with_spots}
-use Rattle.elf_layout.proofs.SpotSteps.{own_position}
+use Rattle.elf_layout.specs.declared.slots.At.{At}
+use Rattle.elf_layout.specs.Unloaded.{IsBehind, IsBehindFault, content_behind, kept_for, unloaded_end, unloaded_next, unloaded_offsets, offsets_behind, place_by, places_behind, start_behind, table_behind}
+use Rattle.elf_layout.specs.Slots.{at_of, is_free, none_yet, with_at, with_slots}
+use Rattle.elf_layout.proofs.SlotSteps.{own_position}
 use Rattle.elf_layout.proofs.FarSteps.{past_place, past_sections, place_as, placed_as, table_there}
 
--- ## Spots
+-- ## Slots
 
-abbrev at_position : ℕ → Spot → Bool
+abbrev at_position : ℕ → Slot → Bool
 at_position p x = x.position == p
 
 cond_length : (b : Bool) (kept : List (Option At)) (p : ℕ) (at : At) → length (cond b (set kept p (Some at)) kept) ≡ length kept
@@ -74,15 +74,15 @@ option_or_none : (o : Option At) → option_or o None ≡ o
 option_or_none None = refl
 option_or_none (Some a) = refl
 
--- what is kept for a position is the first spot there
-pub spots_kept : (p : ℕ) (xs : List Spot) (kept : List (Option At)) → p < length kept
-    → kept_for (slice_get (with_spots kept xs) p) ≡ option_or (kept_for (slice_get kept p)) (option_map at_of (find (at_position p) xs))
-unfolding with_spots
-spots_kept p [] kept within = sym (option_or_none (kept_for (slice_get kept p)))
-spots_kept p (x ∷ xs) kept within =
+-- what is kept for a position is the first slot there
+pub slots_kept : (p : ℕ) (xs : List Slot) (kept : List (Option At)) → p < length kept
+    → kept_for (slice_get (with_slots kept xs) p) ≡ option_or (kept_for (slice_get kept p)) (option_map at_of (find (at_position p) xs))
+unfolding with_slots
+slots_kept p [] kept within = sym (option_or_none (kept_for (slice_get kept p)))
+slots_kept p (x ∷ xs) kept within =
     let more : List (Option At) = with_at kept x.position (at_of x) in
     let long : p < length more = omega (arith, with_at_length kept x.position (at_of x)) in
-    let rest = spots_kept p xs more long in
+    let rest = slots_kept p xs more long in
     elim (cases_eq x.position p) [
       | inl same ↦
           let here : kept_for (slice_get more p) ≡ option_or (kept_for (slice_get kept p)) (Some (at_of x)) =
@@ -92,14 +92,14 @@ spots_kept p (x ∷ xs) kept within =
           ap (λ (b : Bool). cond b (Some x) (find (at_position p) xs)) (eq-eqb x.position p same) in
           rest ∙ ap (λ (o : Option At). option_or o (option_map at_of (find (at_position p) xs))) here
           ∙ option_or_some (kept_for (slice_get kept p)) (at_of x) (option_map at_of (find (at_position p) xs))
-          ∙ ap (λ (o : Option Spot). option_or (kept_for (slice_get kept p)) (option_map at_of o)) (sym first)
+          ∙ ap (λ (o : Option Slot). option_or (kept_for (slice_get kept p)) (option_map at_of o)) (sym first)
       | inr apart ↦
           let here : slice_get more p ≡ slice_get kept p =
           other_position kept x.position p (at_of x) (is_free (slice_get kept x.position)) (λ e. apart (sym e)) in
           let later : find (at_position p) (x ∷ xs) ≡ find (at_position p) xs =
           ap (λ (b : Bool). cond b (Some x) (find (at_position p) xs)) (ne_eqb x.position p apart) in
           rest ∙ ap (λ (o : Option (Option At)). option_or (kept_for o) (option_map at_of (find (at_position p) xs))) here
-          ∙ ap (λ (o : Option Spot). option_or (kept_for (slice_get kept p)) (option_map at_of o)) (sym later)
+          ∙ ap (λ (o : Option Slot). option_or (kept_for (slice_get kept p)) (option_map at_of o)) (sym later)
     ]
 
 none_kept : (n p : ℕ) → kept_for (slice_get (replicate {A = Option At} n None) p) ≡ None
@@ -109,10 +109,10 @@ none_kept (suc n) (suc p) = none_kept n p
 
 -- ## Sections that aren't loaded
 
-abbrev at_loose : ℕ → LooseSpot → Bool
-at_loose p x = x.position == p
+abbrev at_unloaded : ℕ → UnloadedSlot → Bool
+at_unloaded p x = x.position == p
 
-abbrev offset_of : LooseSpot → ℕ
+abbrev offset_of : UnloadedSlot → ℕ
 offset_of x = x.offset
 
 -- each stands at its position
@@ -128,71 +128,71 @@ are_numbered p (n ∷ ns) (s ∷ ss) (size ∷ sizes) = (refl, are_numbered (p +
 
 -- none of them stands before the first
 none_earlier : (p q end : ℕ) (ss : List SizedSection) → AreNumbered q ss → p < q
-    → find (at_loose p) (loose_from end (filter is_loose ss)) ≡ None
-unfolding loose_from
+    → find (at_unloaded p) (unloaded_from end (filter is_unloaded ss)) ≡ None
+unfolding unloaded_from
 none_earlier p q end [] are less = refl
 none_earlier p q end (s ∷ ss) are less =
     let other : (s.kept.position == p) ≡ false = ne_eqb s.kept.position p (λ same. absurd (omega (arith, same, are.0))) in
-    let skip : (b : Bool) → find (at_loose p) (loose_from end (cond b (s ∷ filter is_loose ss) (filter is_loose ss))) ≡ None = λ b.
-    elim b as (λ b. find (at_loose p) (loose_from end (cond b (s ∷ filter is_loose ss) (filter is_loose ss))) ≡ None) [
+    let skip : (b : Bool) → find (at_unloaded p) (unloaded_from end (cond b (s ∷ filter is_unloaded ss) (filter is_unloaded ss))) ≡ None = λ b.
+    elim b as (λ b. find (at_unloaded p) (unloaded_from end (cond b (s ∷ filter is_unloaded ss) (filter is_unloaded ss))) ≡ None) [
       | true ↦ rw other (none_earlier p (q + 1) (next_multiple_of end (alignment_of s) + s.size) ss are.1 (omega arith))
       | false ↦ none_earlier p (q + 1) end ss are.1 (omega arith)
     ] in
-    skip (is_loose s)
+    skip (is_unloaded s)
 
 module _ (s : SizedSection) (ss : List SizedSection) (end : ℕ) where
   -- the section is found at its own position, if it isn't loaded
-  own_loose : (q : ℕ) → AreNumbered q (s ∷ ss) → (b : Bool)
+  own_unloaded : (q : ℕ) → AreNumbered q (s ∷ ss) → (b : Bool)
       → cond b (Some (next_multiple_of end (alignment_of s))) None
-      ≡ option_map offset_of (find (at_loose q) (loose_from end (cond b (s ∷ filter is_loose ss) (filter is_loose ss))))
-  unfolding loose_from
-  own_loose q are true = rw (eq-eqb s.kept.position q are.0) refl
-  own_loose q are false = sym (ap (option_map offset_of) (none_earlier q (q + 1) end ss are.1 (omega arith)))
+      ≡ option_map offset_of (find (at_unloaded q) (unloaded_from end (cond b (s ∷ filter is_unloaded ss) (filter is_unloaded ss))))
+  unfolding unloaded_from
+  own_unloaded q are true = rw (eq-eqb s.kept.position q are.0) refl
+  own_unloaded q are false = sym (ap (option_map offset_of) (none_earlier q (q + 1) end ss are.1 (omega arith)))
 
   -- and passed over at another
-  other_loose : (p : ℕ) → s.kept.position ≢ p → (b : Bool)
-      → find (at_loose p) (loose_from (cond b (next_multiple_of end (alignment_of s) + s.size) end) (filter is_loose ss))
-      ≡ find (at_loose p) (loose_from end (cond b (s ∷ filter is_loose ss) (filter is_loose ss)))
-  unfolding loose_from
-  other_loose p apart true = rw (ne_eqb s.kept.position p apart) refl
-  other_loose p apart false = refl
+  other_unloaded : (p : ℕ) → s.kept.position ≢ p → (b : Bool)
+      → find (at_unloaded p) (unloaded_from (cond b (next_multiple_of end (alignment_of s) + s.size) end) (filter is_unloaded ss))
+      ≡ find (at_unloaded p) (unloaded_from end (cond b (s ∷ filter is_unloaded ss) (filter is_unloaded ss)))
+  unfolding unloaded_from
+  other_unloaded p apart true = rw (ne_eqb s.kept.position p apart) refl
+  other_unloaded p apart false = refl
 
-  next_loose : (b : Bool)
+  next_unloaded : (b : Bool)
       → greatest (cond b (next_multiple_of end (alignment_of s) + s.size) end)
-      (map (λ x. x.offset + x.size) (loose_from (cond b (next_multiple_of end (alignment_of s) + s.size) end) (filter is_loose ss)))
-      ≡ greatest end (map (λ x. x.offset + x.size) (loose_from end (cond b (s ∷ filter is_loose ss) (filter is_loose ss))))
-  unfolding loose_from
-  next_loose true =
+      (map (λ x. x.offset + x.size) (unloaded_from (cond b (next_multiple_of end (alignment_of s) + s.size) end) (filter is_unloaded ss)))
+      ≡ greatest end (map (λ x. x.offset + x.size) (unloaded_from end (cond b (s ∷ filter is_unloaded ss) (filter is_unloaded ss))))
+  unfolding unloaded_from
+  next_unloaded true =
       let next : next_multiple_of end (alignment_of s) + s.size ≡ max end (next_multiple_of end (alignment_of s) + s.size) = omega arith in
       ap (λ (n : ℕ). greatest n (map (λ x. x.offset + x.size)
-      (loose_from (next_multiple_of end (alignment_of s) + s.size) (filter is_loose ss)))) next
-  next_loose false = refl
+      (unloaded_from (next_multiple_of end (alignment_of s) + s.size) (filter is_unloaded ss)))) next
+  next_unloaded false = refl
 
-loose_kept : (q i end : ℕ) (ss : List SizedSection) → AreNumbered q ss
-    → kept_for (slice_get (loose_offsets end ss) i) ≡ option_map offset_of (find (at_loose (q + i)) (loose_from end (filter is_loose ss)))
-unfolding loose_offsets loose_from
-loose_kept q i end [] are = refl
-loose_kept q zero end (s ∷ ss) are =
+unloaded_kept : (q i end : ℕ) (ss : List SizedSection) → AreNumbered q ss
+    → kept_for (slice_get (unloaded_offsets end ss) i) ≡ option_map offset_of (find (at_unloaded (q + i)) (unloaded_from end (filter is_unloaded ss)))
+unfolding unloaded_offsets unloaded_from
+unloaded_kept q i end [] are = refl
+unloaded_kept q zero end (s ∷ ss) are =
     let at : q ≡ q + 0 = omega arith in
-    own_loose s ss end q are (is_loose s) ∙ ap (λ (p : ℕ). option_map offset_of
-    (find (at_loose p) (loose_from end (filter is_loose (s ∷ ss))))) at
-loose_kept q (suc i) end (s ∷ ss) are =
+    own_unloaded s ss end q are (is_unloaded s) ∙ ap (λ (p : ℕ). option_map offset_of
+    (find (at_unloaded p) (unloaded_from end (filter is_unloaded (s ∷ ss))))) at
+unloaded_kept q (suc i) end (s ∷ ss) are =
     let at : q + 1 + i ≡ q + suc i = omega arith in
     let apart : s.kept.position ≢ q + suc i = λ same. absurd (omega (arith, same, are.0)) in
-    loose_kept (q + 1) i (loose_next end s) ss are.1
-    ∙ ap (λ (p : ℕ). option_map offset_of (find (at_loose p) (loose_from (loose_next end s) (filter is_loose ss)))) at
-    ∙ ap (option_map offset_of) (other_loose s ss end (q + suc i) apart (is_loose s))
+    unloaded_kept (q + 1) i (unloaded_next end s) ss are.1
+    ∙ ap (λ (p : ℕ). option_map offset_of (find (at_unloaded p) (unloaded_from (unloaded_next end s) (filter is_unloaded ss)))) at
+    ∙ ap (option_map offset_of) (other_unloaded s ss end (q + suc i) apart (is_unloaded s))
 
-greatest_loose : (end : ℕ) (ss : List SizedSection)
-    → greatest end (map (λ x. x.offset + x.size) (loose_from end (filter is_loose ss))) ≡ loose_end end ss
-unfolding loose_end loose_from
-greatest_loose end [] = refl
-greatest_loose end (s ∷ ss) = sym (next_loose s ss end (is_loose s)) ∙ greatest_loose (loose_next end s) ss
+greatest_unloaded : (end : ℕ) (ss : List SizedSection)
+    → greatest end (map (λ x. x.offset + x.size) (unloaded_from end (filter is_unloaded ss))) ≡ unloaded_end end ss
+unfolding unloaded_end unloaded_from
+greatest_unloaded end [] = refl
+greatest_unloaded end (s ∷ ss) = sym (next_unloaded s ss end (is_unloaded s)) ∙ greatest_unloaded (unloaded_next end s) ss
 
 -- ## The numbers behind the segments
 
-pub start_same : (r : Resized) (moved : List ℕ) → start_behind r (segments_end r moved) (header_count r moved) ≡ loose_start r moved
-unfolding loose_start table_offset
+pub start_same : (r : Resized) (moved : List ℕ) → start_behind r (segments_end r moved) (header_count r moved) ≡ unloaded_start r moved
+unfolding unloaded_start table_offset
 start_same r moved =
     sym (table_there (is_some (table_load r)) (segments_end r moved) r.image.header.e_phoff (next_table r (segments_end r moved))
     (header_count r moved * segment_header_size r.image.form))
@@ -202,9 +202,9 @@ unfolding table_offset
 table_same r moved = refl
 
 pub content_same : (r : Resized) (moved : List ℕ) → content_behind r (segments_end r moved) (header_count r moved) ≡ content_end r moved
-unfolding content_end loose_spots
+unfolding content_end unloaded_slots
 content_same r moved =
-    ap (λ (n : ℕ). loose_end n (sized_sections r)) (start_same r moved) ∙ sym (greatest_loose (loose_start r moved) (sized_sections r))
+    ap (λ (n : ℕ). unloaded_end n (sized_sections r)) (start_same r moved) ∙ sym (greatest_unloaded (unloaded_start r moved) (sized_sections r))
 
 pub sections_same : (r : Resized) (moved : List ℕ)
     → next_table r (content_behind r (segments_end r moved) (header_count r moved)) ≡ sections_offset r moved
@@ -218,69 +218,69 @@ same_map f g [] each = refl
 same_map {X} {Y} f g (x ∷ xs) each =
     ap (λ (y : Y). y ∷ map f xs) (each 0 x refl) ∙ ap (λ (l : List Y). g x ∷ l) (same_map f g xs (λ i y there. each (suc i) y there))
 
-placed_same : (r : Resized) (moved : List ℕ) (s : SizedSection) (o : Option Spot) (l : Option LooseSpot)
+placed_same : (r : Resized) (moved : List ℕ) (s : SizedSection) (o : Option Slot) (l : Option UnloadedSlot)
     → place_by (content_end r moved) s (option_map at_of o) (option_map offset_of l) ≡ placed_as r moved s o l
 placed_same r moved s (Some x) l = refl
 placed_same r moved s None (Some x) = refl
 placed_same r moved s None None = refl
 
-abbrev all_spots : Resized → List ℕ → List Spot
-all_spots r moved = flat_map (λ load. load.spots) (added_loads r moved)
+abbrev all_slots : Resized → List ℕ → List Slot
+all_slots r moved = flat_map (λ load. load.slots) (added_loads r moved)
 
-spot_same : (r : Resized) (moved : List ℕ) (i : ℕ) (s : SizedSection) → slice_get (sized_sections r) i ≡ Some s
-    → kept_for (slice_get (with_spots (none_yet r) (all_spots r moved)) s.kept.position) ≡ option_map at_of (spot_of r moved s)
-spot_same r moved i s there =
+slot_same : (r : Resized) (moved : List ℕ) (i : ℕ) (s : SizedSection) → slice_get (sized_sections r) i ≡ Some s
+    → kept_for (slice_get (with_slots (none_yet r) (all_slots r moved)) s.kept.position) ≡ option_map at_of (slot_of r moved s)
+slot_same r moved i s there =
     let p : ℕ = s.kept.position in
     let own : p ≡ i = own_position r i s there in
     let within : i < length (sized_sections r) = slice_get_within (sized_sections r) i s there in
     let long : p < length (none_yet r) = omega (arith, length-replicate {A = Option At} (length (sized_sections r)) None) in
-    spots_kept p (all_spots r moved) (none_yet r) long
-    ∙ ap (λ (o : Option At). option_or o (option_map at_of (spot_of r moved s))) (none_kept (length (sized_sections r)) p)
+    slots_kept p (all_slots r moved) (none_yet r) long
+    ∙ ap (λ (o : Option At). option_or o (option_map at_of (slot_of r moved s))) (none_kept (length (sized_sections r)) p)
 
-loose_same : (r : Resized) (moved : List ℕ) (i : ℕ) (s : SizedSection) → slice_get (sized_sections r) i ≡ Some s
+unloaded_same : (r : Resized) (moved : List ℕ) (i : ℕ) (s : SizedSection) → slice_get (sized_sections r) i ≡ Some s
     → kept_for (slice_get (offsets_behind r (segments_end r moved) (header_count r moved)) s.kept.position)
-    ≡ option_map offset_of (loose_spot_of r moved s)
-unfolding loose_spots
-loose_same r moved i s there =
+    ≡ option_map offset_of (unloaded_slot_of r moved s)
+unfolding unloaded_slots
+unloaded_same r moved i s there =
     let p : ℕ = s.kept.position in
     let at : 0 + p ≡ p = omega arith in
-    ap (λ (n : ℕ). kept_for (slice_get (loose_offsets n (sized_sections r)) p)) (start_same r moved)
-    ∙ loose_kept 0 p (loose_start r moved) (sized_sections r) (are_numbered 0 r.image.section_numbers r.image.sections r.sizes)
-    ∙ ap (λ (q : ℕ). option_map offset_of (find (at_loose q) (loose_from (loose_start r moved) (filter is_loose (sized_sections r))))) at
+    ap (λ (n : ℕ). kept_for (slice_get (unloaded_offsets n (sized_sections r)) p)) (start_same r moved)
+    ∙ unloaded_kept 0 p (unloaded_start r moved) (sized_sections r) (are_numbered 0 r.image.section_numbers r.image.sections r.sizes)
+    ∙ ap (λ (q : ℕ). option_map offset_of (find (at_unloaded q) (unloaded_from (unloaded_start r moved) (filter is_unloaded (sized_sections r))))) at
 
 pub places_same : (r : Resized) (moved : List ℕ)
-    → places_behind r (with_spots (none_yet r) (all_spots r moved)) (segments_end r moved) (header_count r moved) ≡ places r moved
+    → places_behind r (with_slots (none_yet r) (all_slots r moved)) (segments_end r moved) (header_count r moved) ≡ places r moved
 unfolding places
 places_same r moved =
     let end : ℕ = content_behind r (segments_end r moved) (header_count r moved) in
-    let spots : List (Option At) = with_spots (none_yet r) (all_spots r moved) in
+    let slots : List (Option At) = with_slots (none_yet r) (all_slots r moved) in
     let offsets : List (Option ℕ) = offsets_behind r (segments_end r moved) (header_count r moved) in
     same_map _ (place_in r moved) (sized_sections r) (λ i s there.
-    ap (λ (n : ℕ). place_by n s (kept_for (slice_get spots s.kept.position)) (kept_for (slice_get offsets s.kept.position)))
+    ap (λ (n : ℕ). place_by n s (kept_for (slice_get slots s.kept.position)) (kept_for (slice_get offsets s.kept.position)))
     (content_same r moved)
     ∙ ap (λ (o : Option At). place_by (content_end r moved) s o (kept_for (slice_get offsets s.kept.position)))
-    (spot_same r moved i s there)
-    ∙ ap (λ (o : Option ℕ). place_by (content_end r moved) s (option_map at_of (spot_of r moved s)) o) (loose_same r moved i s there)
-    ∙ placed_same r moved s (spot_of r moved s) (loose_spot_of r moved s) ∙ sym (place_as r moved s))
+    (slot_same r moved i s there)
+    ∙ ap (λ (o : Option ℕ). place_by (content_end r moved) s (option_map at_of (slot_of r moved s)) o) (unloaded_same r moved i s there)
+    ∙ placed_same r moved s (slot_of r moved s) (unloaded_slot_of r moved s) ∙ sym (place_as r moved s))
 
-pub all_same : (r : Resized) (moved : List ℕ) (spots : List (Option At)) (end headers : ℕ)
-    → spots ≡ with_spots (none_yet r) (all_spots r moved) → end ≡ segments_end r moved → headers ≡ header_count r moved
-    → places_behind r spots end headers ≡ places r moved
-all_same r moved spots end headers is_spots is_end is_headers =
-    ap (λ (l : List (Option At)). places_behind r l end headers) is_spots
-    ∙ ap (λ (n : ℕ). places_behind r (with_spots (none_yet r) (all_spots r moved)) n headers) is_end
-    ∙ ap (λ (n : ℕ). places_behind r (with_spots (none_yet r) (all_spots r moved)) (segments_end r moved) n) is_headers
+pub all_same : (r : Resized) (moved : List ℕ) (slots : List (Option At)) (end headers : ℕ)
+    → slots ≡ with_slots (none_yet r) (all_slots r moved) → end ≡ segments_end r moved → headers ≡ header_count r moved
+    → places_behind r slots end headers ≡ places r moved
+all_same r moved slots end headers is_slots is_end is_headers =
+    ap (λ (l : List (Option At)). places_behind r l end headers) is_slots
+    ∙ ap (λ (n : ℕ). places_behind r (with_slots (none_yet r) (all_slots r moved)) n headers) is_end
+    ∙ ap (λ (n : ℕ). places_behind r (with_slots (none_yet r) (all_slots r moved)) (segments_end r moved) n) is_headers
     ∙ places_same r moved
 
 -- everything stands where the definitions say
-pub all_stands : (r : Resized) (moved : List ℕ) (spots : List (Option At)) (end headers : ℕ) (s : Standing) (b : Behind)
-    → spots ≡ with_spots (none_yet r) (all_spots r moved) → end ≡ segments_end r moved → headers ≡ header_count r moved
-    → IsBehind r spots end headers b → s.loads.items ≡ map (λ load. load.header) (added_loads r moved)
+pub all_stands : (r : Resized) (moved : List ℕ) (slots : List (Option At)) (end headers : ℕ) (s : Standing) (b : Behind)
+    → slots ≡ with_slots (none_yet r) (all_slots r moved) → end ≡ segments_end r moved → headers ≡ header_count r moved
+    → IsBehind r slots end headers b → s.loads.items ≡ map (λ load. load.header) (added_loads r moved)
     → s.places ≡ b.places → s.e_phoff ≡ b.e_phoff → s.e_shoff ≡ b.e_shoff → IsStanding r moved s
-all_stands r moved spots end headers s b is_spots is_end is_headers is loads places phoff shoff = record {
+all_stands r moved slots end headers s b is_slots is_end is_headers is loads places phoff shoff = record {
   loads = loads;
-  places = ap (λ (v : Vec SectionPlace Global). map place_seen v.items) places ∙ is.places
-      ∙ all_same r moved spots end headers is_spots is_end is_headers;
+  places = ap (λ (v : Vec SectionPlace Global). map place_model v.items) places ∙ is.places
+      ∙ all_same r moved slots end headers is_slots is_end is_headers;
   e_phoff = phoff ∙ is.e_phoff ∙ ap (table_behind r) is_end ∙ table_same r moved;
   e_shoff =
       shoff ∙ is.e_shoff ∙ ap (λ (n : ℕ). next_table r (content_behind r n headers)) is_end
@@ -290,17 +290,17 @@ all_stands r moved spots end headers s b is_spots is_end is_headers is loads pla
 -- ## Faults
 
 -- a number behind the segments that is past 64 bits is one of the plan's
-pub behind_fault : (r : Resized) (moved : List ℕ) (spots : List (Option At)) (end headers : ℕ) (fault : LayoutFault)
-    → spots ≡ with_spots (none_yet r) (all_spots r moved) → end ≡ segments_end r moved → headers ≡ header_count r moved
-    → IsBehindFault r spots end headers fault → StandsTooFar r moved fault
-behind_fault r moved spots end headers faults.Overlap is_spots is_end is_headers is = is
-behind_fault r moved spots end headers faults.NumberTooLarge is_spots is_end is_headers (inl far) =
+pub behind_fault : (r : Resized) (moved : List ℕ) (slots : List (Option At)) (end headers : ℕ) (fault : LayoutFault)
+    → slots ≡ with_slots (none_yet r) (all_slots r moved) → end ≡ segments_end r moved → headers ≡ header_count r moved
+    → IsBehindFault r slots end headers fault → StandsTooFar r moved fault
+behind_fault r moved slots end headers faults.Overlap is_slots is_end is_headers is = is
+behind_fault r moved slots end headers faults.NumberTooLarge is_slots is_end is_headers (inl far) =
     let same : next_table r (content_behind r end headers) ≡ sections_offset r moved =
     ap (λ (n : ℕ). next_table r (content_behind r n headers)) is_end
     ∙ ap (λ (n : ℕ). next_table r (content_behind r (segments_end r moved) n)) is_headers
     ∙ sections_same r moved in
     past_sections r moved (subst (λ (n : ℕ). 2 ^ 64 ≤ n) same far)
-behind_fault r moved spots end headers faults.NumberTooLarge is_spots is_end is_headers (inr (i, s, there, far)) =
-    past_place r moved i s (ap (λ (l : List Place). slice_get l i) (sym (all_same r moved spots end headers is_spots is_end is_headers))
+behind_fault r moved slots end headers faults.NumberTooLarge is_slots is_end is_headers (inr (i, s, there, far)) =
+    past_place r moved i s (ap (λ (l : List Place). slice_get l i) (sym (all_same r moved slots end headers is_slots is_end is_headers))
     ∙ there) far
-behind_fault r moved spots end headers faults.Memory is_spots is_end is_headers is = tt
+behind_fault r moved slots end headers faults.Memory is_slots is_end is_headers is = tt

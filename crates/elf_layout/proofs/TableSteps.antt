@@ -12,8 +12,8 @@ use Rattle.elf_format.specs.declared.records.SegmentHeader.{SegmentHeader}
 use Rattle.std.specs.Int.{next_multiple_of}
 use Rattle.elf_layout_plan.specs.Added.{alignment_of}
 use Rattle.elf_layout_plan.specs.Memory.{SizedSection, loaded_over}
-use Rattle.elf_layout_plan.specs.Standing.{is_loose}
-use Rattle.elf_layout.specs.Loose.{has_all, loose_end, loose_next, loose_offset, loose_offsets}
+use Rattle.elf_layout_plan.specs.Standing.{is_unloaded}
+use Rattle.elf_layout.specs.Unloaded.{has_all, unloaded_end, unloaded_next, unloaded_offset, unloaded_offsets}
 
 pub drop_there : {X : Type 0} (xs : List X) (i : ℕ) (x : X) → slice_get xs i ≡ Some x → drop i xs ≡ x ∷ drop (i + 1) xs
 drop_there {X} xs i x there =
@@ -54,60 +54,60 @@ end_over part all i past so_far = ap (λ (l : List SegmentHeader). is_some (load
 -- ## Sections that aren't loaded
 
 -- those before a place are placed
-pub record ArePlacedLoose (start : ℕ) (all : List SizedSection) (made : List (Option ℕ)) (end i : ℕ) : Type 0 where
-  pub offsets : made ++ loose_offsets end (drop i all) ≡ loose_offsets start all
-  pub ends : loose_end end (drop i all) ≡ loose_end start all
+pub record ArePlacedUnloaded (start : ℕ) (all : List SizedSection) (made : List (Option ℕ)) (end i : ℕ) : Type 0 where
+  pub offsets : made ++ unloaded_offsets end (drop i all) ≡ unloaded_offsets start all
+  pub ends : unloaded_end end (drop i all) ≡ unloaded_end start all
 
-pub loose_more : (start : ℕ) (all : List SizedSection) (made : List (Option ℕ)) (end i : ℕ) (s : SizedSection) (o : Option ℕ)
+pub unloaded_more : (start : ℕ) (all : List SizedSection) (made : List (Option ℕ)) (end i : ℕ) (s : SizedSection) (o : Option ℕ)
     (more : List (Option ℕ)) (next : ℕ)
-    → slice_get all i ≡ Some s → ArePlacedLoose start all made end i → o ≡ loose_offset end s → more ≡ made ++ o ∷ []
-    → next ≡ loose_next end s
-    → ArePlacedLoose start all more next (i + 1)
-unfolding loose_offsets loose_end
-loose_more start all made end i s o more next there placed is is_more is_next =
+    → slice_get all i ≡ Some s → ArePlacedUnloaded start all made end i → o ≡ unloaded_offset end s → more ≡ made ++ o ∷ []
+    → next ≡ unloaded_next end s
+    → ArePlacedUnloaded start all more next (i + 1)
+unfolding unloaded_offsets unloaded_end
+unloaded_more start all made end i s o more next there placed is is_more is_next =
     let left : drop i all ≡ s ∷ drop (i + 1) all = drop_there all i s there in
     record {
       offsets =
-          ap (λ (l : List (Option ℕ)). l ++ loose_offsets next (drop (i + 1) all)) is_more
-          ∙ append_assoc made (o ∷ []) (loose_offsets next (drop (i + 1) all))
-          ∙ ap (λ (x : Option ℕ). made ++ x ∷ loose_offsets next (drop (i + 1) all)) is
-          ∙ ap (λ (n : ℕ). made ++ loose_offset end s ∷ loose_offsets n (drop (i + 1) all)) is_next
-          ∙ ap (λ (l : List SizedSection). made ++ loose_offsets end l) (sym left) ∙ placed.offsets;
-      ends = ap (λ (n : ℕ). loose_end n (drop (i + 1) all)) is_next ∙ ap (λ (l : List SizedSection). loose_end end l) (sym left)
+          ap (λ (l : List (Option ℕ)). l ++ unloaded_offsets next (drop (i + 1) all)) is_more
+          ∙ append_assoc made (o ∷ []) (unloaded_offsets next (drop (i + 1) all))
+          ∙ ap (λ (x : Option ℕ). made ++ x ∷ unloaded_offsets next (drop (i + 1) all)) is
+          ∙ ap (λ (n : ℕ). made ++ unloaded_offset end s ∷ unloaded_offsets n (drop (i + 1) all)) is_next
+          ∙ ap (λ (l : List SizedSection). made ++ unloaded_offsets end l) (sym left) ∙ placed.offsets;
+      ends = ap (λ (n : ℕ). unloaded_end n (drop (i + 1) all)) is_next ∙ ap (λ (l : List SizedSection). unloaded_end end l) (sym left)
           ∙ placed.ends;
     }
 
-next_grows : (end : ℕ) (s : SizedSection) → end ≤ loose_next end s
-next_grows end s = by_test (is_loose s)
+next_grows : (end : ℕ) (s : SizedSection) → end ≤ unloaded_next end s
+next_grows end s = by_test (is_unloaded s)
   where
     by_test : (b : Bool) → end ≤ cond b (next_multiple_of end (alignment_of s) + s.size) end
     by_test true = omega arith
     by_test false = omega arith
 
-pub loose_grows : (end : ℕ) (ss : List SizedSection) → end ≤ loose_end end ss
-unfolding loose_end
-loose_grows end [] = omega arith
-loose_grows end (s ∷ ss) =
-    let more : loose_next end s ≤ loose_end (loose_next end s) ss = loose_grows (loose_next end s) ss in
-    let here : end ≤ loose_next end s = next_grows end s in
+pub unloaded_grows : (end : ℕ) (ss : List SizedSection) → end ≤ unloaded_end end ss
+unfolding unloaded_end
+unloaded_grows end [] = omega arith
+unloaded_grows end (s ∷ ss) =
+    let more : unloaded_next end s ≤ unloaded_end (unloaded_next end s) ss = unloaded_grows (unloaded_next end s) ss in
+    let here : end ≤ unloaded_next end s = next_grows end s in
     omega arith
 
-pub loose_far : (start : ℕ) (all : List SizedSection) (made : List (Option ℕ)) (end i : ℕ) (s : SizedSection) (far : ℕ)
-    → slice_get all i ≡ Some s → ArePlacedLoose start all made end i → far ≤ loose_next end s → far ≤ loose_end start all
-unfolding loose_end
-loose_far start all made end i s far there placed past =
-    let whole : loose_end (loose_next end s) (drop (i + 1) all) ≡ loose_end start all =
-    ap (λ (l : List SizedSection). loose_end end l) (sym (drop_there all i s there)) ∙ placed.ends in
-    omega (arith, loose_grows (loose_next end s) (drop (i + 1) all))
+pub unloaded_far : (start : ℕ) (all : List SizedSection) (made : List (Option ℕ)) (end i : ℕ) (s : SizedSection) (far : ℕ)
+    → slice_get all i ≡ Some s → ArePlacedUnloaded start all made end i → far ≤ unloaded_next end s → far ≤ unloaded_end start all
+unfolding unloaded_end
+unloaded_far start all made end i s far there placed past =
+    let whole : unloaded_end (unloaded_next end s) (drop (i + 1) all) ≡ unloaded_end start all =
+    ap (λ (l : List SizedSection). unloaded_end end l) (sym (drop_there all i s there)) ∙ placed.ends in
+    omega (arith, unloaded_grows (unloaded_next end s) (drop (i + 1) all))
 
-pub loose_all : (start : ℕ) (all : List SizedSection) (made : List (Option ℕ)) (end i : ℕ) → length all ≤ i
-    → ArePlacedLoose start all made end i
-    → (made ≡ loose_offsets start all) × (end ≡ loose_end start all)
-unfolding loose_offsets loose_end
-loose_all start all made end i past placed =
+pub unloaded_all : (start : ℕ) (all : List SizedSection) (made : List (Option ℕ)) (end i : ℕ) → length all ≤ i
+    → ArePlacedUnloaded start all made end i
+    → (made ≡ unloaded_offsets start all) × (end ≡ unloaded_end start all)
+unfolding unloaded_offsets unloaded_end
+unloaded_all start all made end i past placed =
     let none : drop i all ≡ [] = drop_all i all past in (
-      sym (append-nil made) ∙ ap (λ (l : List SizedSection). made ++ loose_offsets end l) (sym none) ∙ placed.offsets,
-      ap (λ (l : List SizedSection). loose_end end l) (sym none) ∙ placed.ends,
+      sym (append-nil made) ∙ ap (λ (l : List SizedSection). made ++ unloaded_offsets end l) (sym none) ∙ placed.offsets,
+      ap (λ (l : List SizedSection). unloaded_end end l) (sym none) ∙ placed.ends,
     )
 
 -- ## The place of each section

@@ -24,25 +24,25 @@ use Rattle.elf_format.specs.Ranges.{end_of}
 use Rattle.elf_format.specs.Records.{segment_header_size}
 use Rattle.elf_format.specs.declared.records.SegmentHeader.{SegmentHeader}
 use Rattle.elf_layout_plan.specs.Added.{added_loads, greatest, header_count}
-use Rattle.elf_layout_plan.specs.Follow.{HeaderTable, Itself, Leader, Notes, OneSection, is_moved, leader_of, moved_notes, staying_notes}
-use Rattle.elf_layout_plan.specs.Kept.{KeptSection, kept_sections}
+use Rattle.elf_layout_plan.specs.Anchors.{HeaderTable, Itself, Anchor, Notes, OneSection, is_moved, anchor_of, moved_notes, staying_notes}
+use Rattle.elf_image.specs.Kept.{KeptSection, kept_sections}
 use Rattle.elf_layout_plan.specs.Memory.{Resized, sized_sections}
 use Rattle.elf_layout_plan.specs.Plan.{does_place_fit, does_plan_fit, does_segment_fit, layout_for}
 use Rattle.elf_layout_plan.specs.Sizes.{fits_field}
 use Rattle.elf_layout_plan.specs.Standing.{place_in, places, sections_offset, table_offset}
-use Rattle.elf_layout_plan.specs.Written.{Target, address_for, behind_last_load, first_in_file, led_to, places_of_kept, resized_table, target_at, targets_of, targets_of_notes, targets_over, written_from, written_segments}
+use Rattle.elf_layout_plan.specs.Written.{Target, address_for, behind_last_load, first_in_file, anchored_to, places_of_kept, resized_table, target_at, targets_of, targets_of_notes, targets_over, written_from, written_segments}
 use Rattle.elf_layout.specs.declared.headings.Headings.{Headings}
 use Rattle.elf_layout.specs.declared.targets.TargetAt.{TargetAt}
 use Rattle.elf_layout.specs.declared.targets.Targets.{Targets}
 use Rattle.elf_layout_moves.specs.Inner.{AreMarks}
-use Rattle.elf_layout_segments.specs.Led.{Told, notes, told}
+use Rattle.elf_layout_segments.specs.AnchorPositions.{AnchorPosition, notes, anchor_position}
 use Rattle.elf_layout.specs.Inner.{IsPastField, StandsTooFar}
 use Rattle.elf_layout_segments.specs.declared.starts.Begin.{Begin}
-use Rattle.elf_layout_segments.specs.Following.{chosen_begins, is_chosen}
-use Rattle.elf_layout_segments.specs.Sections.{AreSized, sections_seen}
-use Rattle.elf_layout.specs.Targets.{AreBegins, Begins, IsMisfit, Span, added_behind, do_headings_fit, does_table_fit, fits_word, header_at, headings_at, headings_for, headings_found, headings_seen, is_led_well, is_physical_well, is_well_at, left_behind, sized_table, span_over, target_of_span, targets_at, targets_found, targets_over_notes, targets_seen}
+use Rattle.elf_layout_segments.specs.SplitCounts.{chosen_begins, is_chosen}
+use Rattle.elf_layout_segments.specs.Sections.{AreSized, indexed_sections}
+use Rattle.elf_layout.specs.Targets.{AreBegins, Begins, IsMisfit, Span, added_behind, do_headings_fit, does_table_fit, fits_word, header_at, headings_at, headings_for, headings_found, headings_model, is_anchored_well, is_physical_well, is_well_at, left_behind, sized_table, span_over, target_of_span, targets_at, targets_found, targets_over_notes, targets_model}
 use Rattle.elf_layout.proofs.SpanSteps.{span_found, span_step, span_with}
-use Rattle.elf_layout_segments.proofs.ForCallers.{AreNotesOf, AreThere, IsThere, begins_as_positions, leader-there, length-kept, length-sized, marked-is}
+use Rattle.elf_layout_segments.proofs.ForCallers.{AreNotesOf, AreThere, IsThere, begins_as_positions, anchor-there, length-kept, length-sized, marked-is}
 
 -- ## Several places
 
@@ -129,12 +129,12 @@ module _ (r : Resized) (moved : List ℕ) (marks : List Bool) (are : AreSized r)
       by_tests true (Some t) rest is = rest (span_with o t) ∙ ap (λ x. fold span_with o (cons_option x (places_of_kept all (filter (chosen moving) ns)))) (sym is)
 
   module _ (p : SegmentHeader) (ns : List KeptSection) (these : AreNotesOf r p ns) where
-    spans_are : (moving : Bool) (found : List Begin) → IsPermutation (chosen_begins moving marks (sections_seen r.image)) found
+    spans_are : (moving : Bool) (found : List Begin) → IsPermutation (chosen_begins moving marks (indexed_sections r.image)) found
         → span_over all (file_part p) found ≡ fold span_with None (places_of_kept all (filter (chosen moving) ns))
     unfolding span_step chosen_step
     spans_are moving found same =
         span_found all (file_part p) moving marks r.image found same
-        ∙ begins_as_positions marks moving (file_part p) (span_at all) (sections_seen r.image) None
+        ∙ begins_as_positions marks moving (file_part p) (span_at all) (indexed_sections r.image) None
         ∙ ap (fold (chosen_step all marks moving) None) (sym these.begin)
         ∙ span_kept moving ns None these.there
 
@@ -178,14 +178,14 @@ one_goes (Some t) = refl
 -- ## Targets that were found
 
 module _ (form : Form) (p alone : SegmentHeader) where
-  found_well : (a b : Option TargetAt) → list_all (is_well_at form p) (targets_found (record { first = a; second = b })) ≡ list_all (is_led_well form p) (targets_seen (record { first = a; second = b }))
+  found_well : (a b : Option TargetAt) → list_all (is_well_at form p) (targets_found (record { first = a; second = b })) ≡ list_all (is_anchored_well form p) (targets_model (record { first = a; second = b }))
   unfolding is_well_at
   found_well None None = refl
   found_well None (Some u) = refl
   found_well (Some t) None = refl
   found_well (Some t) (Some u) = refl
 
-  found_same : (a b : Option TargetAt) → headings_found form p alone (targets_found (record { first = a; second = b })) ≡ headings_at form p alone (targets_seen (record { first = a; second = b }))
+  found_same : (a b : Option TargetAt) → headings_found form p alone (targets_found (record { first = a; second = b })) ≡ headings_at form p alone (targets_model (record { first = a; second = b }))
   unfolding header_at
   found_same None None = refl
   found_same None (Some u) = refl
@@ -193,18 +193,18 @@ module _ (form : Form) (p alone : SegmentHeader) where
   found_same (Some t) (Some u) = refl
 
   abbrev AreFound : Option Headings → Targets → Type 0
-  AreFound o found = MatchOption o (list_all (is_well_at form p) (targets_found found) ≡ false) (λ h. (headings_seen h ≡ headings_found form p alone (targets_found found)) × (list_all (is_well_at form p) (targets_found found) ≡ true))
+  AreFound o found = MatchOption o (list_all (is_well_at form p) (targets_found found) ≡ false) (λ h. (headings_model h ≡ headings_found form p alone (targets_found found)) × (list_all (is_well_at form p) (targets_found found) ≡ true))
 
-  pub headings_found-are : (all : List Place) (begins : Begins) (size : ℕ) (k : Told) (o : Option Headings) (found : Targets) → AreFound o found
-      → targets_seen found ≡ targets_at all begins k → alone ≡ sized_table size p k → does_table_fit size k ≡ true
-      → MatchOption o (do_headings_fit form all begins size p k ≡ false) (λ h. (headings_seen h ≡ headings_for form all begins size p k) × (do_headings_fit form all begins size p k ≡ true))
+  pub headings_found-are : (all : List Place) (begins : Begins) (size : ℕ) (k : AnchorPosition) (o : Option Headings) (found : Targets) → AreFound o found
+      → targets_model found ≡ targets_at all begins k → alone ≡ sized_table size p k → does_table_fit size k ≡ true
+      → MatchOption o (do_headings_fit form all begins size p k ≡ false) (λ h. (headings_model h ≡ headings_for form all begins size p k) × (do_headings_fit form all begins size p k ≡ true))
   unfolding headings_for do_headings_fit
   headings_found-are all begins size k None found is same sized fits =
-      and_right (does_table_fit size k) (list_all (is_led_well form p) (targets_at all begins k))
-      (sym (found_well found.first found.second ∙ ap (list_all (is_led_well form p)) same) ∙ is)
+      and_right (does_table_fit size k) (list_all (is_anchored_well form p) (targets_at all begins k))
+      (sym (found_well found.first found.second ∙ ap (list_all (is_anchored_well form p)) same) ∙ is)
   headings_found-are all begins size k (Some h) found is same sized fits = (
     is.0 ∙ found_same found.first found.second ∙ ap (headings_at form p alone) same ∙ ap (λ q. headings_at form p q (targets_at all begins k)) sized,
-    and_from (does_table_fit size k) (list_all (is_led_well form p) (targets_at all begins k)) fits (sym (found_well found.first found.second ∙ ap (list_all (is_led_well form p)) same) ∙ is.1),
+    and_from (does_table_fit size k) (list_all (is_anchored_well form p) (targets_at all begins k)) fits (sym (found_well found.first found.second ∙ ap (list_all (is_anchored_well form p)) same) ∙ is.1),
   )
 
 -- ## What is written of a program header
@@ -226,15 +226,15 @@ parts_fit form p h =
     let d = and_parts (f p.p_filesz) (list_all f (p.p_memsz ∷ p.p_align ∷ [])) c.1 in
     (word-fits form p.p_paddr c.0, word-fits form p.p_filesz d.0)
 
-all_led_well : (form : Form) (p : SegmentHeader) (ts : List Target) → list_all (does_segment_fit form) (map (led_to form p) ts) ≡ true → list_all (is_led_well form p) ts ≡ true
+all_anchored_well : (form : Form) (p : SegmentHeader) (ts : List Target) → list_all (does_segment_fit form) (map (anchored_to form p) ts) ≡ true → list_all (is_anchored_well form p) ts ≡ true
 unfolding is_physical_well
-all_led_well form p [] fits = refl
-all_led_well form p (t ∷ ts) fits =
-    let f = and_parts (does_segment_fit form (led_to form p t)) (list_all (does_segment_fit form) (map (led_to form p) ts)) fits in
-    let w = parts_fit form (led_to form p t) f.0 in
-    and_from (is_led_well form p t) (list_all (is_led_well form p) ts)
+all_anchored_well form p [] fits = refl
+all_anchored_well form p (t ∷ ts) fits =
+    let f = and_parts (does_segment_fit form (anchored_to form p t)) (list_all (does_segment_fit form) (map (anchored_to form p) ts)) fits in
+    let w = parts_fit form (anchored_to form p t) f.0 in
+    and_from (is_anchored_well form p t) (list_all (is_anchored_well form p) ts)
     (and_from (is_physical_well form p (address_for p t)) (fits_word t.part.size) w.0 w.1)
-    (all_led_well form p ts f.1)
+    (all_anchored_well form p ts f.1)
 
 module _ (r : Resized) (moved : List ℕ) (marks : List Bool) (are : AreSized r) (h : AreMarks r moved marks) (begins : Begins) (begin : AreBegins r marks begins) (p : SegmentHeader) where
   abbrev form : Form
@@ -243,58 +243,58 @@ module _ (r : Resized) (moved : List ℕ) (marks : List Bool) (are : AreSized r)
   abbrev table_bytes : ℕ
   table_bytes = header_count r moved * segment_header_size r.image.form
 
-  leader_goes : (l : Leader) → AreThere r p l → targets_at (places r moved) begins (told p l) ≡ (elim l as (λ _. List Target) [
+  anchor_goes : (l : Anchor) → AreThere r p l → targets_at (places r moved) begins (anchor_position p l) ≡ (elim l as (λ _. List Target) [
     | Itself ↦ []
     | HeaderTable ↦ []
     | OneSection s ↦ map target_at (places_of_kept (places r moved) (s ∷ []))
     | Notes ns ↦ targets_of_notes moved (places r moved) ns
   ])
   unfolding targets_at
-  leader_goes Itself there = refl
-  leader_goes HeaderTable there = refl
-  leader_goes (OneSection s) there = one_goes (slice_get (places r moved) s.position)
-  leader_goes (Notes ns) there = notes_go r moved marks are h (places r moved) (as_many r moved are) begins begin p ns there
+  anchor_goes Itself there = refl
+  anchor_goes HeaderTable there = refl
+  anchor_goes (OneSection s) there = one_goes (slice_get (places r moved) s.position)
+  anchor_goes (Notes ns) there = notes_go r moved marks are h (places r moved) (as_many r moved are) begins begin p ns there
 
-  targets-are : targets_at (places r moved) begins (told p (leader_of r p)) ≡ targets_of r moved p
+  targets-are : targets_at (places r moved) begins (anchor_position p (anchor_of r p)) ≡ targets_of r moved p
   unfolding targets_of
-  targets-are = leader_goes (leader_of r p) (leader-there r p are)
+  targets-are = anchor_goes (anchor_of r p) (anchor-there r p are)
 
-  table_sized : (l : Leader) → sized_table table_bytes p (told p l) ≡ (elim l as (λ _. SegmentHeader) [ HeaderTable ↦ record p { p_filesz = table_bytes; p_memsz = table_bytes } | _ ↦ p ])
+  table_sized : (l : Anchor) → sized_table table_bytes p (anchor_position p l) ≡ (elim l as (λ _. SegmentHeader) [ HeaderTable ↦ record p { p_filesz = table_bytes; p_memsz = table_bytes } | _ ↦ p ])
   table_sized Itself = refl
   table_sized HeaderTable = refl
   table_sized (OneSection s) = refl
   table_sized (Notes ns) = refl
 
-  headings_of_targets : (alone : SegmentHeader) (ts : List Target) → headings_at form p alone ts ≡ (elim ts as (λ _. List SegmentHeader) [ [] ↦ alone ∷ [] | t ∷ us ↦ map (led_to form p) (t ∷ us) ])
+  headings_of_targets : (alone : SegmentHeader) (ts : List Target) → headings_at form p alone ts ≡ (elim ts as (λ _. List SegmentHeader) [ [] ↦ alone ∷ [] | t ∷ us ↦ map (anchored_to form p) (t ∷ us) ])
   headings_of_targets alone [] = refl
   headings_of_targets alone (t ∷ ts) = refl
 
-  written-is : headings_for form (places r moved) begins table_bytes p (told p (leader_of r p)) ≡ written_from r moved p
+  written-is : headings_for form (places r moved) begins table_bytes p (anchor_position p (anchor_of r p)) ≡ written_from r moved p
   unfolding headings_for
   written-is =
-      ap (headings_at form p (sized_table table_bytes p (told p (leader_of r p)))) targets-are
-      ∙ ap (λ q. headings_at form p q (targets_of r moved p)) (table_sized (leader_of r p))
+      ap (headings_at form p (sized_table table_bytes p (anchor_position p (anchor_of r p)))) targets-are
+      ∙ ap (λ q. headings_at form p q (targets_of r moved p)) (table_sized (anchor_of r p))
       ∙ headings_of_targets (resized_table r moved p) (targets_of r moved p)
 
   -- what fits its fields was written well
-  table_fits : (l : Leader) → list_all (does_segment_fit form) (headings_at form p (sized_table table_bytes p (told p l)) (targets_at (places r moved) begins (told p l))) ≡ true → does_table_fit table_bytes (told p l) ≡ true
+  table_fits : (l : Anchor) → list_all (does_segment_fit form) (headings_at form p (sized_table table_bytes p (anchor_position p l)) (targets_at (places r moved) begins (anchor_position p l))) ≡ true → does_table_fit table_bytes (anchor_position p l) ≡ true
   unfolding targets_at
   table_fits Itself fits = refl
   table_fits HeaderTable fits = (parts_fit form (record p { p_filesz = table_bytes; p_memsz = table_bytes }) (and_parts (does_segment_fit form (record p { p_filesz = table_bytes; p_memsz = table_bytes })) true fits).0).1
   table_fits (OneSection s) fits = refl
   table_fits (Notes ns) fits = refl
 
-  targets_fit : (alone : SegmentHeader) (ts : List Target) → list_all (does_segment_fit form) (headings_at form p alone ts) ≡ true → list_all (is_led_well form p) ts ≡ true
+  targets_fit : (alone : SegmentHeader) (ts : List Target) → list_all (does_segment_fit form) (headings_at form p alone ts) ≡ true → list_all (is_anchored_well form p) ts ≡ true
   targets_fit alone [] fits = refl
-  targets_fit alone (t ∷ ts) fits = all_led_well form p (t ∷ ts) fits
+  targets_fit alone (t ∷ ts) fits = all_anchored_well form p (t ∷ ts) fits
 
-  fits-is : list_all (does_segment_fit form) (written_from r moved p) ≡ true → do_headings_fit form (places r moved) begins table_bytes p (told p (leader_of r p)) ≡ true
+  fits-is : list_all (does_segment_fit form) (written_from r moved p) ≡ true → do_headings_fit form (places r moved) begins table_bytes p (anchor_position p (anchor_of r p)) ≡ true
   unfolding do_headings_fit headings_for
   fits-is fits =
-      let k : Told = told p (leader_of r p) in
+      let k : AnchorPosition = anchor_position p (anchor_of r p) in
       let made : list_all (does_segment_fit form) (headings_at form p (sized_table table_bytes p k) (targets_at (places r moved) begins k)) ≡ true = ap (list_all (does_segment_fit form)) written-is ∙ fits in
-      and_from (does_table_fit table_bytes k) (list_all (is_led_well form p) (targets_at (places r moved) begins k))
-      (table_fits (leader_of r p) made)
+      and_from (does_table_fit table_bytes k) (list_all (is_anchored_well form p) (targets_at (places r moved) begins k))
+      (table_fits (anchor_of r p) made)
       (targets_fit (sized_table table_bytes p k) (targets_at (places r moved) begins k) made)
 
 -- ## Headers behind the last one that is loaded
@@ -339,14 +339,14 @@ plan_parts r moved rounds looked h =
 
 -- ## Steps of the walk over the program headers
 
-module _ (r : Resized) (moved : List ℕ) (marks : List Bool) (are : AreSized r) (h : AreMarks r moved marks) (begins : Begins) (begin : AreBegins r marks begins) (form : Form) (all : List Place) (size : ℕ) (k : Told) (p : SegmentHeader)
-    (formed : form ≡ r.image.form) (stand : all ≡ places r moved) (sized : size ≡ header_count r moved * segment_header_size r.image.form) (lead : k ≡ told p (leader_of r p)) where
+module _ (r : Resized) (moved : List ℕ) (marks : List Bool) (are : AreSized r) (h : AreMarks r moved marks) (begins : Begins) (begin : AreBegins r marks begins) (form : Form) (all : List Place) (size : ℕ) (k : AnchorPosition) (p : SegmentHeader)
+    (formed : form ≡ r.image.form) (stand : all ≡ places r moved) (sized : size ≡ header_count r moved * segment_header_size r.image.form) (lead : k ≡ anchor_position p (anchor_of r p)) where
   pub heading_written : headings_for form all begins size p k ≡ written_from r moved p
   heading_written =
       ap (λ f. headings_for f all begins size p k) formed ∙ ap (λ l. headings_for r.image.form l begins size p k) stand ∙ ap (λ n. headings_for r.image.form (places r moved) begins n p k) sized
       ∙ ap (headings_for r.image.form (places r moved) begins (header_count r moved * segment_header_size r.image.form) p) lead ∙ written-is r moved marks are h begins begin p
 
-  fit_same : do_headings_fit form all begins size p k ≡ do_headings_fit r.image.form (places r moved) begins (header_count r moved * segment_header_size r.image.form) p (told p (leader_of r p))
+  fit_same : do_headings_fit form all begins size p k ≡ do_headings_fit r.image.form (places r moved) begins (header_count r moved * segment_header_size r.image.form) p (anchor_position p (anchor_of r p))
   fit_same =
       ap (λ f. do_headings_fit f all begins size p k) formed ∙ ap (λ l. do_headings_fit r.image.form l begins size p k) stand ∙ ap (λ n. do_headings_fit r.image.form (places r moved) begins n p k) sized
       ∙ ap (do_headings_fit r.image.form (places r moved) begins (header_count r moved * segment_header_size r.image.form) p) lead

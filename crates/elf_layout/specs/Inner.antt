@@ -6,7 +6,7 @@ use Rattle.elf_layout_plan.specs.declared.fault.LayoutFault.TheVariants as fault
 use Rattle.elf_layout_plan.specs.Added.{added_loads}
 use Rattle.elf_layout_plan.specs.Memory.{Resized}
 use Rattle.elf_layout_plan.specs.Plan.{IsOverlapping, IsTooLarge, Layout, does_plan_fit, layout_for}
-use Rattle.elf_layout_plan.specs.PlanSeen.{place_seen}
+use Rattle.elf_layout_plan.specs.PlanModel.{place_model}
 use Rattle.elf_layout_plan.specs.Standing.{places, sections_offset, table_offset}
 use Rattle.elf_layout_plan.specs.Written.{written_segments}
 use Rattle.elf_layout_segments.specs.declared.rounds.Rounds.{Rounds}
@@ -17,7 +17,7 @@ use Rattle.elf_layout.specs.declared.standing.Standing.{Standing}
 -- where the sections stand and the two header tables, and the segments that are added for those that move
 pub record IsStanding (r : Resized) (moved : List ℕ) (s : Standing) : Type 0 where
   pub loads : s.loads.items ≡ map (λ load. load.header) (added_loads r moved)
-  pub places : map place_seen s.places.items ≡ places r moved
+  pub places : map place_model s.places.items ≡ places r moved
   pub e_phoff : s.e_phoff ≡ table_offset r moved
   pub e_shoff : s.e_shoff ≡ sections_offset r moved
 

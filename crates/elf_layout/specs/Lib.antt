@@ -1,8 +1,8 @@
 pub mod Inner
-pub mod Loose
+pub mod Unloaded
 pub mod Numbers
 pub mod Promises
 pub mod Reaches
 pub mod Refused
-pub mod Spots
+pub mod Slots
 pub mod Targets

@@ -4,12 +4,12 @@ ghost use Rattle.std.specs.List.{flat_map};
 ghost use Rattle.elf_layout_plan.specs.Added.{added_loads, kept_end as end_of_kept};
 ghost use Rattle.elf_layout_plan.specs.Rounds.{added_flags as flags_added};
 ghost use Rattle.elf_layout.specs.Inner.{StandsTooFar};
-ghost use Rattle.elf_layout.specs.Spots.{IsAdded, IsFar, load_here, none_yet, start_of_load, with_spots};
+ghost use Rattle.elf_layout.specs.Slots.{IsAdded, IsFar, load_here, none_yet, start_of_load, with_slots};
 
 use crate::flags::added_flags;
 use crate::memory::{load_alignment, memory_end};
 use crate::sized::section_count;
-use crate::spots::{At, place_sections, round_up};
+use crate::slots::{At, place_sections, round_up};
 use elf_format::constants::PT_LOAD;
 use elf_format::records::SegmentHeader;
 use elf_layout_moves::resizing::Resizing;
@@ -40,14 +40,14 @@ fn place_load(
     flags: u32,
     start: At,
     align: u64,
-    spots: &mut [Option<At>],
+    slots: &mut [Option<At>],
 ) -> Option<SegmentHeader>
     requires memory { start.address < 2 ^ 65 }
     requires end { start.offset < 2 ^ 64 }
     ensures header { IfSome result (λ p. p ≡
         (load_here r.now moved.now align start.offset start.address flags).header) }
-    ensures spots { OnSome result (spots.new ≡ with_spots spots.old
-        (load_here r.now moved.now align start.offset start.address flags).spots) }
+    ensures slots { OnSome result (slots.new ≡ with_slots slots.old
+        (load_here r.now moved.now align start.offset start.address flags).slots) }
     ensures fits { IfSome result (λ p. p.p_offset + p.p_filesz < 2 ^ 64) }
     ensures near { IfSome result (λ p. p.p_vaddr + p.p_memsz < 2 ^ 65) }
     ensures far { IfNone result
@@ -61,7 +61,7 @@ fn place_load(
         offset: start.offset,
         address,
     };
-    let Some(end) = place_sections(r, moved, flags, first, spots) else {
+    let Some(end) = place_sections(r, moved, flags, first, slots) else {
         return None;
     };
     let size = end.offset - start.offset;
@@ -78,14 +78,14 @@ fn place_load(
 }
 
 // No place for any section.
-pub(crate) fn no_spots(alloc: Global, r: &Resizing<'_, '_>) -> Result<Vec<Option<At>>, AllocError>
-    ensures { IfOk result (λ spots. spots.items ≡ none_yet r.now) }
+pub(crate) fn no_slots(alloc: Global, r: &Resizing<'_, '_>) -> Result<Vec<Option<At>>, AllocError>
+    ensures { IfOk result (λ slots. slots.items ≡ none_yet r.now) }
 {
-    let mut spots = Vec::new(alloc);
+    let mut slots = Vec::new(alloc);
     for _ in 0..section_count(r) {
-        spots.push(None)?;
+        slots.push(None)?;
     }
-    Ok(spots)
+    Ok(slots)
 }
 
 // A segment for each set of flags: `kept_end` is where the file parts end that stay. Keeps where the sections stand.
@@ -95,13 +95,13 @@ fn place_sets(
     moved: &[usize],
     sets: &[u32],
     kept_end: u64,
-    spots: &mut [Option<At>],
+    slots: &mut [Option<At>],
 ) -> Result<Added, LayoutFault>
     requires sets { sets.now ≡ flags_added r.now moved.now }
     requires end { kept_end ≡ end_of_kept r.now moved.now }
     ensures added { IfOk result (IsAdded r.now moved.now) }
-    ensures spots { OnOk result (spots.new ≡ with_spots spots.old
-        (flat_map (λ load. load.spots) (added_loads r.now moved.now))) }
+    ensures slots { OnOk result (slots.new ≡ with_slots slots.old
+        (flat_map (λ load. load.slots) (added_loads r.now moved.now))) }
     ensures fault { IfErr result (StandsTooFar r.now moved.now) }
 {
     let align = load_alignment(r);
@@ -111,7 +111,7 @@ fn place_sets(
     };
     let mut loads = Vec::new(alloc);
     for flags in sets {
-        let Some(load) = place_load(r, moved, *flags, at, align, spots) else {
+        let Some(load) = place_load(r, moved, *flags, at, align, slots) else {
             return Err(LayoutFault::NumberTooLarge);
         };
         let Ok(()) = loads.push(load) else {
@@ -135,16 +135,16 @@ pub(crate) fn place_added(
     r: &Resizing<'_, '_>,
     moved: &[usize],
     kept_end: u64,
-    spots: &mut [Option<At>],
+    slots: &mut [Option<At>],
 ) -> Result<Added, LayoutFault>
     requires { kept_end ≡ end_of_kept r.now moved.now }
     ensures added { IfOk result (IsAdded r.now moved.now) }
-    ensures spots { OnOk result (spots.new ≡ with_spots spots.old
-        (flat_map (λ load. load.spots) (added_loads r.now moved.now))) }
+    ensures slots { OnOk result (slots.new ≡ with_slots slots.old
+        (flat_map (λ load. load.slots) (added_loads r.now moved.now))) }
     ensures fault { IfErr result (StandsTooFar r.now moved.now) }
 {
     let Ok(sets) = added_flags(alloc, r, moved) else {
         return Err(LayoutFault::Memory);
     };
-    place_sets(alloc, r, moved, &sets, kept_end, spots)
+    place_sets(alloc, r, moved, &sets, kept_end, slots)
 }

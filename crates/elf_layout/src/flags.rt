@@ -2,10 +2,10 @@
 ghost use Rattle.std.specs.Prelude.{◌≡◌, IfOk, OnOk, option_map, slice_get};
 ghost use Rattle.elf_layout_plan.specs.Memory.{sized_sections};
 ghost use Rattle.elf_layout_plan.specs.Rounds.{added_flags as flags_added, flags_for as flags_of};
-ghost use Rattle.elf_layout.specs.Spots.{with_flag};
+ghost use Rattle.elf_layout.specs.Slots.{with_flag};
 
 use crate::sized::sized_at;
-use crate::spots::flags_for;
+use crate::slots::flags_for;
 use elf_layout_moves::resizing::Resizing;
 use std::alloc::{AllocError, Global};
 

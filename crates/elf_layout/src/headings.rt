@@ -1,18 +1,18 @@
 //! What becomes of a program header.
 ghost use Rattle.std.specs.Prelude.{◌≡◌, [], ◌∷◌, ◌++◌, ◌&&◌, MatchOption, MatchResult, OnOk, true, false, map};
 ghost use Rattle.std.specs.List.{list_all};
-ghost use Rattle.elf_layout_plan.specs.PlanSeen.{place_seen};
+ghost use Rattle.elf_layout_plan.specs.PlanModel.{place_model};
 ghost use Rattle.elf_layout_plan.specs.Sizes.{field_range};
 ghost use Rattle.elf_layout_plan.specs.Written.{address_for as address_at, memory_size as size_in_memory, physical_for};
-ghost use Rattle.elf_layout_segments.specs.Led.{leader_seen};
-ghost use Rattle.elf_layout.specs.Targets.{AreNotes, IsMisfit, begins_seen, do_headings_fit, does_table_fit, fits_word, header_at, headings_for, headings_found, headings_seen, is_physical_well, is_well_at, sized_table, target_seen, targets_found};
+ghost use Rattle.elf_layout_segments.specs.AnchorPositions.{anchor_model};
+ghost use Rattle.elf_layout.specs.Targets.{AreNotes, IsMisfit, begins_model, do_headings_fit, does_table_fit, fits_word, header_at, headings_for, headings_found, headings_model, is_physical_well, is_well_at, sized_table, target_model, targets_found};
 
 use crate::targets::{Notes, TargetAt, Targets, targets_of};
 use elf_format::constants::{PT_DYNAMIC, PT_INTERP};
 use elf_format::form::Form;
 use elf_format::records::SegmentHeader;
-use elf_layout_segments::leaders::LeaderAt;
 use elf_layout_plan::{LayoutFault, SectionPlace};
+use elf_layout_segments::anchors::AnchorAt;
 use patch_bytes::Wide;
 use std::alloc::AllocError;
 
@@ -38,7 +38,7 @@ fn memory_size(p: SegmentHeader, size: u64) -> u64
 
 // The address that a program header gets.
 fn address_for(p: SegmentHeader, t: TargetAt) -> u64
-    ensures { result ≡ address_at p (target_seen t) }
+    ensures { result ≡ address_at p (target_model t) }
 {
     match t.address {
         Some(address) => address,
@@ -92,7 +92,7 @@ fn physical_at(form: Form, p: SegmentHeader, address: u64) -> Option<u64>
 
 // The program header at a target; none where a number doesn't fit.
 #[tactic(auto, unfolding(crate::specs::Targets::is_well_at, crate::specs::Targets::header_at))]
-fn led_to(form: Form, p: SegmentHeader, t: TargetAt) -> Option<SegmentHeader>
+fn anchored_to(form: Form, p: SegmentHeader, t: TargetAt) -> Option<SegmentHeader>
     ensures { MatchOption result (is_well_at form p t ≡ false)
         (λ h. (h ≡ header_at form p t) × (is_well_at form p t ≡ true)) }
 {
@@ -116,13 +116,13 @@ fn led_to(form: Form, p: SegmentHeader, t: TargetAt) -> Option<SegmentHeader>
 }
 
 // The program header with the size of the table where it is for that; none where the size doesn't fit.
-fn table_or(p: SegmentHeader, leader: &LeaderAt, size: u128) -> Option<SegmentHeader>
-    ensures { MatchOption result (does_table_fit size (leader_seen leader.now) ≡ false)
-        (λ h. (h ≡ sized_table size p (leader_seen leader.now))
-        × (does_table_fit size (leader_seen leader.now) ≡ true)) }
+fn table_or(p: SegmentHeader, anchor: &AnchorAt, size: u128) -> Option<SegmentHeader>
+    ensures { MatchOption result (does_table_fit size (anchor_model anchor.now) ≡ false)
+        (λ h. (h ≡ sized_table size p (anchor_model anchor.now))
+        × (does_table_fit size (anchor_model anchor.now) ≡ true)) }
 {
-    match leader {
-        LeaderAt::HeaderTable => {
+    match anchor {
+        AnchorAt::HeaderTable => {
             if 0xffff_ffff_ffff_ffff < size {
                 return None;
             }
@@ -131,19 +131,19 @@ fn table_or(p: SegmentHeader, leader: &LeaderAt, size: u128) -> Option<SegmentHe
             table.p_memsz = size as u64;
             Some(table)
         }
-        LeaderAt::Itself => Some(p),
-        LeaderAt::OneSection(_) => Some(p),
-        LeaderAt::Notes(_) => Some(p),
+        AnchorAt::Itself => Some(p),
+        AnchorAt::OneSection(_) => Some(p),
+        AnchorAt::Notes(_) => Some(p),
     }
 }
 
 // What becomes of a program header at one target.
 fn at_one(form: Form, p: SegmentHeader, t: TargetAt) -> Option<Headings>
     ensures { MatchOption result (is_well_at form p t ≡ false)
-        (λ h. (headings_seen h ≡ header_at form p t ∷ [])
+        (λ h. (headings_model h ≡ header_at form p t ∷ [])
         × (is_well_at form p t ≡ true)) }
 {
-    match led_to(form, p, t) {
+    match anchored_to(form, p, t) {
         None => None,
         Some(first) => Some(Headings {
             first,
@@ -156,12 +156,12 @@ fn at_one(form: Form, p: SegmentHeader, t: TargetAt) -> Option<Headings>
 fn at_two(form: Form, p: SegmentHeader, t: TargetAt, u: TargetAt) -> Option<Headings>
     ensures { let both = is_well_at form p t && is_well_at form p u in
         MatchOption result (both ≡ false)
-        (λ h. (headings_seen h ≡ header_at form p t ∷ header_at form p u ∷ [])
+        (λ h. (headings_model h ≡ header_at form p t ∷ header_at form p u ∷ [])
         × (both ≡ true)) }
 {
-    match led_to(form, p, t) {
+    match anchored_to(form, p, t) {
         None => None,
-        Some(first) => match led_to(form, p, u) {
+        Some(first) => match anchored_to(form, p, u) {
             None => None,
             Some(second) => Some(Headings {
                 first,
@@ -180,7 +180,7 @@ fn at_targets(
 ) -> Option<Headings>
     ensures { let well = list_all (is_well_at form p) (targets_found targets) in
         MatchOption result (well ≡ false)
-        (λ h. (headings_seen h ≡ headings_found form p alone (targets_found targets)) × (well ≡ true)) }
+        (λ h. (headings_model h ≡ headings_found form p alone (targets_found targets)) × (well ≡ true)) }
 {
     let Targets { first, second } = targets;
     match first {
@@ -207,24 +207,24 @@ fn headings_of(
     notes: &Notes,
     size: u128,
     p: SegmentHeader,
-    leader: &LeaderAt,
+    anchor: &AnchorAt,
 ) -> Option<Headings>
-    requires { AreNotes (map place_seen places.now) notes.now }
-    ensures { let all = map place_seen places.now in let begins = begins_seen notes.now in
-        let told = leader_seen leader.now in
-        MatchOption result (do_headings_fit form all begins size p told ≡ false)
-        (λ h. (headings_seen h ≡ headings_for form all begins size p told)
-        × (do_headings_fit form all begins size p told ≡ true)) }
+    requires { AreNotes (map place_model places.now) notes.now }
+    ensures { let all = map place_model places.now in let begins = begins_model notes.now in
+        let anchor_position = anchor_model anchor.now in
+        MatchOption result (do_headings_fit form all begins size p anchor_position ≡ false)
+        (λ h. (headings_model h ≡ headings_for form all begins size p anchor_position)
+        × (do_headings_fit form all begins size p anchor_position ≡ true)) }
 {
-    match table_or(p, leader, size) {
+    match table_or(p, anchor, size) {
         None => None,
-        Some(alone) => at_targets(form, p, alone, targets_of(places, notes, leader)),
+        Some(alone) => at_targets(form, p, alone, targets_of(places, notes, anchor)),
     }
 }
 
 // Puts them behind others.
 fn push_headings(made: &mut Vec<SegmentHeader>, headings: Headings) -> Result<(), AllocError>
-    ensures { OnOk result (made.new.items ≡ made.old.items ++ headings_seen headings) }
+    ensures { OnOk result (made.new.items ≡ made.old.items ++ headings_model headings) }
 {
     let Headings { first, second } = headings;
     made.push(first)?;
@@ -242,17 +242,17 @@ pub(crate) fn push_written(
     notes: &Notes,
     size: u128,
     p: SegmentHeader,
-    leader: &LeaderAt,
+    anchor: &AnchorAt,
 ) -> Result<(), LayoutFault>
-    requires { AreNotes (map place_seen places.now) notes.now }
-    ensures { let all = map place_seen places.now in let begins = begins_seen notes.now in
-        let told = leader_seen leader.now in
+    requires { AreNotes (map place_model places.now) notes.now }
+    ensures { let all = map place_model places.now in let begins = begins_model notes.now in
+        let anchor_position = anchor_model anchor.now in
         MatchResult result
-        (λ _. (made.new.items ≡ made.old.items ++ headings_for form all begins size p told)
-        × (do_headings_fit form all begins size p told ≡ true))
-        (IsMisfit (do_headings_fit form all begins size p told)) }
+        (λ _. (made.new.items ≡ made.old.items ++ headings_for form all begins size p anchor_position)
+        × (do_headings_fit form all begins size p anchor_position ≡ true))
+        (IsMisfit (do_headings_fit form all begins size p anchor_position)) }
 {
-    let Some(headings) = headings_of(form, places, notes, size, p, leader) else {
+    let Some(headings) = headings_of(form, places, notes, size, p, anchor) else {
         return Err(LayoutFault::NumberTooLarge);
     };
     match push_headings(made, headings) {

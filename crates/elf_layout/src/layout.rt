@@ -1,13 +1,13 @@
 ghost use Rattle.std.specs.Prelude.{◌≡◌, ◌+◌, ◌≤◌, IfErr, IfOk, IsTrue, OnOk};
 ghost use Rattle.elf_layout_plan.specs.declared.fault.LayoutFault.TheVariants.{Overlap};
 ghost use Rattle.elf_layout_plan.specs.Added.{header_count};
-ghost use Rattle.elf_layout_plan.specs.Kept.{image_at_read};
+ghost use Rattle.elf_image.specs.Kept.{image_at_read};
 ghost use Rattle.elf_layout_plan.specs.Plan.{IsPlan, most_added, resized};
-ghost use Rattle.elf_layout_plan.specs.PlanSeen.{parts_seen};
+ghost use Rattle.elf_layout_plan.specs.PlanModel.{parts_model};
 ghost use Rattle.elf_layout_plan.specs.Refusals.{IsNoPlan, IsStuckAsked, do_sizes_of_image_fit, sizes_of_image};
 ghost use Rattle.elf_layout_plan.specs.Rounds.{IsAsked};
 ghost use Rattle.elf_layout_moves.specs.Inner.{AreMarks};
-ghost use Rattle.elf_layout_segments.specs.Led.{AreLeaders, IsEnded};
+ghost use Rattle.elf_layout_segments.specs.AnchorPositions.{AreAnchors, IsEnded};
 ghost use Rattle.elf_layout.specs.Inner.{AreParts, HasNoPlan, IsStanding, StandsTooFar};
 ghost use Rattle.elf_layout.specs.Promises.{IsPromised};
 ghost use Rattle.elf_layout.specs.Refused.{IsNoLayout};
@@ -16,12 +16,14 @@ use crate::limits::do_parts_fit;
 use crate::standing::{Standing, find_places};
 use crate::written::written_segments;
 use elf_image::Builder;
-use elf_layout_segments::leaders::{LeaderAt, headers_needed, kept_end, leaders};
-use elf_layout_segments::rounds::{Rounds, look_in_rounds};
 use elf_layout_moves::marks::marks_of;
 use elf_layout_moves::resizing::Resizing;
-use elf_layout_plan::laws::{fixed_sections_stay, plans_are_apart, plans_are_placed, plans_show_notes};
+use elf_layout_plan::laws::{
+    fixed_sections_stay, plans_are_apart, plans_are_placed, plans_show_notes,
+};
 use elf_layout_plan::{LayoutFault, Plan, PlanParts, read_again};
+use elf_layout_segments::anchors::{AnchorAt, anchors, headers_needed, kept_end};
+use elf_layout_segments::rounds::{Rounds, look_in_rounds};
 use elf_layout_sizes::new_sizes_of;
 use std::alloc::{AllocError, Global};
 
@@ -29,18 +31,18 @@ use std::alloc::{AllocError, Global};
 fn standing_for(
     alloc: Global,
     r: &Resizing<'_, '_>,
-    leaders: &[LeaderAt],
+    anchors: &[AnchorAt],
     moved: &[usize],
     marks: &[bool],
     headers: usize,
 ) -> Result<Standing, LayoutFault>
-    requires leaders { AreLeaders r.now leaders.now }
+    requires anchors { AreAnchors r.now anchors.now }
     requires marks { AreMarks r.now moved.now marks.now }
     requires headers { headers ≡ header_count r.now moved.now }
     ensures stands { IfOk result (λ standing. IsStanding r.now moved.now standing) }
     ensures fault { IfErr result (StandsTooFar r.now moved.now) }
 {
-    match kept_end(alloc, r, leaders, moved, marks, headers) {
+    match kept_end(alloc, r, anchors, moved, marks, headers) {
         Ok(end) => find_places(alloc, r, moved, marks, end, headers),
         Err(_) => Err(LayoutFault::Memory),
     }
@@ -50,15 +52,15 @@ fn standing_for(
 fn headers_for(
     alloc: Global,
     r: &Resizing<'_, '_>,
-    leaders: &[LeaderAt],
+    anchors: &[AnchorAt],
     moved: &[usize],
     marks: &[bool],
 ) -> Result<usize, AllocError>
-    requires leaders { AreLeaders r.now leaders.now }
+    requires anchors { AreAnchors r.now anchors.now }
     requires marks { AreMarks r.now moved.now marks.now }
     ensures { IfOk result (λ headers. headers ≡ header_count r.now moved.now) }
 {
-    let needed = headers_needed(alloc, r, leaders, moved, marks)?;
+    let needed = headers_needed(alloc, r, anchors, moved, marks)?;
     Ok(r.image.segments().len() + needed)
 }
 
@@ -66,21 +68,21 @@ fn headers_for(
 fn parts_with(
     alloc: Global,
     r: &Resizing<'_, '_>,
-    leaders: &[LeaderAt],
+    anchors: &[AnchorAt],
     rounds: &Rounds,
     marks: &[bool],
     headers: usize,
     standing: Standing,
 ) -> Result<PlanParts, LayoutFault>
-    requires leaders { AreLeaders r.now leaders.now }
+    requires anchors { AreAnchors r.now anchors.now }
     requires marks { AreMarks r.now rounds.now.moved.items marks.now }
     requires headers { headers ≡ header_count r.now rounds.now.moved.items }
     requires standing { IsStanding r.now rounds.now.moved.items standing }
-    ensures parts { IfOk result (λ parts. AreParts r.now rounds.now (parts_seen parts)) }
+    ensures parts { IfOk result (λ parts. AreParts r.now rounds.now (parts_model parts)) }
     ensures fault { IfErr result (StandsTooFar r.now rounds.now.moved.items) }
 {
     let moved = rounds.moved.as_slice();
-    let segments = written_segments(alloc, r, leaders, moved, marks, &standing, headers)?;
+    let segments = written_segments(alloc, r, anchors, moved, marks, &standing, headers)?;
     Ok(PlanParts {
         places: standing.places,
         segments,
@@ -95,30 +97,30 @@ fn parts_with(
 fn parts_after(
     alloc: Global,
     r: &Resizing<'_, '_>,
-    leaders: &[LeaderAt],
+    anchors: &[AnchorAt],
     rounds: &Rounds,
     marks: &[bool],
 ) -> Result<PlanParts, LayoutFault>
-    requires leaders { AreLeaders r.now leaders.now }
+    requires anchors { AreAnchors r.now anchors.now }
     requires marks { AreMarks r.now rounds.now.moved.items marks.now }
-    ensures parts { IfOk result (λ parts. AreParts r.now rounds.now (parts_seen parts)) }
+    ensures parts { IfOk result (λ parts. AreParts r.now rounds.now (parts_model parts)) }
     ensures fault { IfErr result (StandsTooFar r.now rounds.now.moved.items) }
 {
-    let Ok(headers) = headers_for(alloc, r, leaders, &rounds.moved, marks) else {
+    let Ok(headers) = headers_for(alloc, r, anchors, &rounds.moved, marks) else {
         return Err(LayoutFault::Memory);
     };
-    let standing = standing_for(alloc, r, leaders, &rounds.moved, marks, headers)?;
-    parts_with(alloc, r, leaders, rounds, marks, headers, standing)
+    let standing = standing_for(alloc, r, anchors, &rounds.moved, marks, headers)?;
+    parts_with(alloc, r, anchors, rounds, marks, headers, standing)
 }
 
 // A plan after the last round, if every number fits.
 fn plan_after(
     alloc: Global,
     r: &Resizing<'_, '_>,
-    leaders: &[LeaderAt],
+    anchors: &[AnchorAt],
     rounds: &Rounds,
 ) -> Result<Plan, LayoutFault>
-    requires leaders { AreLeaders r.now leaders.now }
+    requires anchors { AreAnchors r.now anchors.now }
     requires ended { IsEnded r.now rounds.now }
     ensures plan { IfOk result (λ plan. IsPlan r.now plan) }
     ensures fault { IfErr result (HasNoPlan r.now) }
@@ -126,7 +128,7 @@ fn plan_after(
     let Ok(marks) = marks_of(alloc, r, &rounds.moved) else {
         return Err(LayoutFault::Memory);
     };
-    let parts = parts_after(alloc, r, leaders, rounds, &marks)?;
+    let parts = parts_after(alloc, r, anchors, rounds, &marks)?;
     if !do_parts_fit(r.image, &parts) {
         return Err(LayoutFault::NumberTooLarge);
     }
@@ -145,11 +147,11 @@ pub(crate) fn plan_of(alloc: Global, r: &Resizing<'_, '_>) -> Result<Plan, Layou
 {
     // The read tells the proof that the sizes are those of the image.
     let _sizes = r.sizes;
-    let Ok(leaders) = leaders(alloc, r) else {
+    let Ok(anchors) = anchors(alloc, r) else {
         return Err(LayoutFault::Memory);
     };
-    let rounds = look_in_rounds(alloc, r, &leaders)?;
-    plan_after(alloc, r, &leaders, &rounds)
+    let rounds = look_in_rounds(alloc, r, &anchors)?;
+    plan_after(alloc, r, &anchors, &rounds)
 }
 
 // The same, for the image that was read from the same bytes and the edited one.

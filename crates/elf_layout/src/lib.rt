@@ -7,16 +7,16 @@ mod flags;
 mod headings;
 pub mod layout;
 mod limits;
-mod loose;
 mod memory;
 pub mod moving;
 mod places;
 mod reaches;
 mod sized;
-mod spots;
+mod slots;
 mod standing;
 mod tables;
 mod targets;
+mod unloaded;
 mod written;
 
 pub use crate::layout::{lay_out, lay_out_again, lay_out_sized};

@@ -1,7 +1,7 @@
 ghost use Rattle.std.specs.Prelude.{◌≡◌};
 ghost use Rattle.std.specs.List.{list_all};
 ghost use Rattle.elf_layout_plan.specs.Plan.{does_place_fit as place_fits, does_segment_fit as segment_fits};
-ghost use Rattle.elf_layout_plan.specs.PlanSeen.{parts_seen, place_seen};
+ghost use Rattle.elf_layout_plan.specs.PlanModel.{parts_model, place_model};
 ghost use Rattle.elf_layout_plan.specs.Sizes.{fits_field};
 ghost use Rattle.elf_layout_plan.specs.Plan.{does_plan_fit as parts_fit};
 
@@ -23,7 +23,7 @@ fn does_field_fit(form: Form, number: u64) -> bool
 }
 
 fn does_place_fit(form: Form, s: &SectionPlace) -> bool
-    ensures { result ≡ place_fits form (place_seen s.now) }
+    ensures { result ≡ place_fits form (place_model s.now) }
 {
     does_field_fit(form, s.sh_addr)
         && does_field_fit(form, s.sh_offset)
@@ -42,7 +42,7 @@ fn does_segment_fit(form: Form, p: &SegmentHeader) -> bool
 }
 
 fn do_places_fit(form: Form, places: &[SectionPlace]) -> bool
-    ensures { result ≡ list_all (λ s. place_fits form (place_seen s)) places.now }
+    ensures { result ≡ list_all (λ s. place_fits form (place_model s)) places.now }
 {
     places.iter().all(|s| does_place_fit(form, s))
 }
@@ -57,7 +57,7 @@ fn do_segments_fit(form: Form, segments: &[SegmentHeader]) -> bool
 // (gABI, ELF Header, e_phnum and e_shnum).
 #[tactic(auto, using(crate::proofs::PlacesFit::all_places_fit, crate::proofs::PlacesFit::as_many), unfolding(elf_layout_plan::specs::Plan::does_plan_fit))]
 pub(crate) fn do_parts_fit(image: &Builder<'_>, parts: &PlanParts) -> bool
-    ensures { result ≡ parts_fit image.now.form (parts_seen parts.now) }
+    ensures { result ≡ parts_fit image.now.form (parts_model parts.now) }
 {
     let form = Form {
         wide: image.class(),

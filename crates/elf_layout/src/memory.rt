@@ -3,11 +3,11 @@ ghost use Rattle.std.specs.Prelude.{◌≡◌, ◌+◌, ◌<◌, ◌^◌, ◌&&�
 ghost use Rattle.elf_format.specs.File.{is_loaded, loads_of};
 ghost use Rattle.elf_format.specs.Placement.{memory_part};
 ghost use Rattle.elf_format.specs.Ranges.{end_of};
-ghost use Rattle.elf_image.specs.ImageSeen.{segment_kept};
+ghost use Rattle.elf_image.specs.ImageModel.{segment_model};
 ghost use Rattle.elf_layout_plan.specs.Added.{default_page_size as page_size_of, greatest, load_alignment as align_of_loads, memory_end as end_of_memory};
 ghost use Rattle.elf_layout_plan.specs.Memory.{SizedSection, sized_sections};
 ghost use Rattle.elf_layout.specs.Numbers.{numbers_of};
-ghost use Rattle.elf_layout.specs.Spots.{end_at, has_memory, value_where};
+ghost use Rattle.elf_layout.specs.Slots.{end_at, has_memory, value_where};
 
 use crate::sized::{SectionNumbers, section_count, sized_at};
 use elf_format::constants::{EM_MIPS, PT_LOAD, SHF_ALLOC, SHF_TLS, SHT_NOBITS, SHT_NULL};
@@ -20,7 +20,7 @@ use elf_layout_plan::constants::{
 // The end of a segment in memory, 0 where it isn't loaded.
 fn load_end(segment: &Segment<'_>) -> u128
     ensures end { result
-        ≡ value_where is_loaded (λ p. end_of (memory_part p)) (segment_kept segment.now) }
+        ≡ value_where is_loaded (λ p. end_of (memory_part p)) (segment_model segment.now) }
     ensures near { result < 2 ^ 65 }
 {
     if segment.p_type() == PT_LOAD {
@@ -33,7 +33,7 @@ fn load_end(segment: &Segment<'_>) -> u128
 // The end of the loaded segments in memory.
 fn loads_end(segments: &[Segment<'_>]) -> u128
     ensures end { result ≡ greatest 0
-        (map (λ p. end_of (memory_part p)) (loads_of (map segment_kept segments.now))) }
+        (map (λ p. end_of (memory_part p)) (loads_of (map segment_model segments.now))) }
     ensures near { result < 2 ^ 65 }
 {
     let mut end = 0;
@@ -82,7 +82,7 @@ pub(crate) fn memory_end(r: &Resizing<'_, '_>) -> u128
 
 // The alignment of a segment, 0 where it isn't loaded.
 fn load_align(segment: &Segment<'_>) -> u64
-    ensures { result ≡ value_where is_loaded (λ p. p.p_align) (segment_kept segment.now) }
+    ensures { result ≡ value_where is_loaded (λ p. p.p_align) (segment_model segment.now) }
 {
     if segment.p_type() == PT_LOAD {
         segment.p_align()
@@ -94,7 +94,7 @@ fn load_align(segment: &Segment<'_>) -> u64
 // The greatest alignment of the loaded segments.
 fn greatest_align(segments: &[Segment<'_>]) -> u64
     ensures { result ≡ greatest 0
-        (map (λ p. p.p_align) (loads_of (map segment_kept segments.now))) }
+        (map (λ p. p.p_align) (loads_of (map segment_model segments.now))) }
 {
     let mut found = 0;
     for segment in segments {

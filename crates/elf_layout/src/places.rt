@@ -1,31 +1,31 @@
 // The place of each section.
 ghost use Rattle.std.specs.Prelude.{◌≡◌, ◌≤◌, ◌^◌, IfOk, IfErr, IfSome, IfNone, map, slice_get};
 ghost use Rattle.elf_layout_plan.specs.Memory.{SizedSection};
-ghost use Rattle.elf_layout_plan.specs.PlanSeen.{place_seen};
+ghost use Rattle.elf_layout_plan.specs.PlanModel.{place_model};
 ghost use Rattle.elf_layout_plan.specs.Standing.{stands_at};
-ghost use Rattle.elf_layout.specs.Loose.{IsPlaceFault, kept_for, offset_stays, place_by, places_by};
+ghost use Rattle.elf_layout.specs.Unloaded.{IsPlaceFault, kept_for, offset_stays, place_by, places_by};
 ghost use Rattle.elf_layout.specs.Numbers.{numbers_of};
 
 use crate::sized::{SectionNumbers, section_count, section_here};
-use crate::spots::At;
+use crate::slots::At;
 use elf_format::constants::{SHT_NOBITS, SHT_NULL};
 use elf_layout_moves::resizing::Resizing;
 use elf_layout_plan::{LayoutFault, SectionPlace};
 use std::alloc::Global;
 
 // What is kept for a position.
-fn spot_at(spots: &[Option<At>], position: usize) -> Option<At>
-    ensures { result ≡ kept_for (slice_get spots.now position) }
+fn slot_at(slots: &[Option<At>], position: usize) -> Option<At>
+    ensures { result ≡ kept_for (slice_get slots.now position) }
 {
-    if position < spots.len() {
-        spots[position]
+    if position < slots.len() {
+        slots[position]
     } else {
         None
     }
 }
 
 // What is kept for a position.
-fn loose_at(offsets: &[Option<u64>], position: usize) -> Option<u64>
+fn unloaded_at(offsets: &[Option<u64>], position: usize) -> Option<u64>
     ensures { result ≡ kept_for (slice_get offsets.now position) }
 {
     if position < offsets.len() {
@@ -38,7 +38,7 @@ fn loose_at(offsets: &[Option<u64>], position: usize) -> Option<u64>
 // A section at an offset and an address, with its new size.
 fn stand(section: SectionNumbers, offset: u64, address: u64) -> SectionPlace
     ensures { (s : SizedSection) → section ≡ numbers_of s
-        → place_seen result ≡ stands_at s offset address }
+        → place_model result ≡ stands_at s offset address }
 {
     SectionPlace {
         sh_type: section.sh_type,
@@ -63,16 +63,16 @@ fn staying_offset(section: SectionNumbers, end: u64) -> u64
 // A section's place, by what is kept for it; `None` where its address is past 64 bits.
 fn place_section(
     section: SectionNumbers,
-    spot: Option<At>,
-    loose: Option<u64>,
+    slot: Option<At>,
+    unloaded: Option<u64>,
     end: u64,
 ) -> Option<SectionPlace>
     ensures place { IfSome result (λ place. (s : SizedSection) → section ≡ numbers_of s
-        → place_seen place ≡ place_by end s spot loose) }
+        → place_model place ≡ place_by end s slot unloaded) }
     ensures far { IfNone result ((s : SizedSection) → section ≡ numbers_of s
-        → 2 ^ 64 ≤ (place_by end s spot loose).sh_addr) }
+        → 2 ^ 64 ≤ (place_by end s slot unloaded).sh_addr) }
 {
-    match (spot, loose) {
+    match (slot, unloaded) {
         (Some(at), _) if at.address > u128::from(u64::MAX) => None,
         (Some(at), _) => Some(stand(section, at.offset, at.address as u64)),
         (None, Some(offset)) => Some(stand(section, offset, section.sh_addr)),
@@ -87,20 +87,20 @@ fn place_section(
 pub(crate) fn place_all(
     alloc: Global,
     r: &Resizing<'_, '_>,
-    spots: &[Option<At>],
+    slots: &[Option<At>],
     offsets: &[Option<u64>],
     end: u64,
 ) -> Result<Vec<SectionPlace>, LayoutFault>
     ensures places { IfOk result (λ places.
-        map place_seen places.items ≡ places_by r.now end spots.now offsets.now) }
-    ensures fault { IfErr result (IsPlaceFault (places_by r.now end spots.now offsets.now)) }
+        map place_model places.items ≡ places_by r.now end slots.now offsets.now) }
+    ensures fault { IfErr result (IsPlaceFault (places_by r.now end slots.now offsets.now)) }
 {
     let mut places = Vec::new(alloc);
     for position in 0..section_count(r) {
         let section = section_here(r, position);
-        let spot = spot_at(spots, position);
-        let loose = loose_at(offsets, position);
-        let Some(place) = place_section(section, spot, loose, end) else {
+        let slot = slot_at(slots, position);
+        let unloaded = unloaded_at(offsets, position);
+        let Some(place) = place_section(section, slot, unloaded, end) else {
             return Err(LayoutFault::NumberTooLarge);
         };
         let Ok(()) = places.push(place) else {

@@ -1,15 +1,15 @@
 //! Where sections come to stand that begin in a range of the file: the first of them, and the end of the last.
 ghost use Rattle.std.specs.Prelude.{◌≡◌, ◌≤◌, IfOk, IsPermutation, length, map};
 ghost use Rattle.std.specs.List.Sorted.{IsNonDecreasingBy};
-ghost use Rattle.elf_layout_plan.specs.PlanSeen.{place_seen};
-ghost use Rattle.elf_layout_segments.specs.Following.{chosen_begins};
-ghost use Rattle.elf_layout_segments.specs.Sections.{sections_seen};
+ghost use Rattle.elf_layout_plan.specs.PlanModel.{place_model};
+ghost use Rattle.elf_layout_segments.specs.SplitCounts.{chosen_begins};
+ghost use Rattle.elf_layout_segments.specs.Sections.{indexed_sections};
 ghost use Rattle.elf_layout.specs.Reaches.{AreJoined, BeginBefore, IsTree, IsTreeOver, joined as joined_of, joined_all, over, reach_at as reach_of, reach_in, start_of};
 
 use elf_format::range::Range;
-use elf_layout_segments::starts::{Begin, begins_of};
 use elf_layout_moves::resizing::Resizing;
 use elf_layout_plan::SectionPlace;
+use elf_layout_segments::starts::{Begin, begins_of};
 use std::alloc::{AllocError, Global};
 
 // Where the first of several sections comes to stand in the file, its position, and where the last of them ends.
@@ -30,7 +30,7 @@ pub(crate) struct Reaches {
 
 // Where the section at a position comes to stand.
 pub(crate) fn reach_at(places: &[SectionPlace], position: usize) -> Option<Reach>
-    ensures { result ≡ reach_of (map place_seen places.now) position }
+    ensures { result ≡ reach_of (map place_model places.now) position }
 {
     if position < places.len() {
         let place = places[position];
@@ -74,7 +74,7 @@ fn tree_over(
     begins: &[Begin],
 ) -> Result<Vec<Option<Reach>>, AllocError>
     ensures { IfOk result (λ tree.
-        IsTreeOver (map place_seen places.now) begins.now tree.items) }
+        IsTreeOver (map place_model places.now) begins.now tree.items) }
 {
     let mut tree = Vec::new(alloc);
     for begin in begins {
@@ -116,9 +116,9 @@ fn count_before(begins: &[Begin], offset: u128) -> usize
 
 // Where those come to stand that begin in a range.
 pub(crate) fn reach_over(places: &[SectionPlace], reaches: &Reaches, part: Range) -> Option<Reach>
-    requires { AreJoined (map place_seen places.now) reaches.now }
+    requires { AreJoined (map place_model places.now) reaches.now }
     ensures { result
-        ≡ joined_all (map (reach_in (map place_seen places.now) part) reaches.now.begins.items) }
+        ≡ joined_all (map (reach_in (map place_model places.now) part) reaches.now.begins.items) }
 {
     let low = count_before(&reaches.begins, u128::from(part.start));
     let high = count_before(&reaches.begins, part.end());
@@ -134,9 +134,9 @@ pub(crate) fn reaches_of(
     moving: bool,
 ) -> Result<Reaches, AllocError>
     ensures begins { IfOk result (λ found.
-        let begins = chosen_begins moving marks.now (sections_seen r.now.image) in
+        let begins = chosen_begins moving marks.now (indexed_sections r.now.image) in
         IsPermutation begins found.begins.items) }
-    ensures joined { IfOk result (AreJoined (map place_seen places.now)) }
+    ensures joined { IfOk result (AreJoined (map place_model places.now)) }
 {
     let mut begins = begins_of(alloc, r, marks, moving)?;
     begins.sort_unstable_by_key(|b| b.start);

@@ -2,13 +2,13 @@ ghost use Rattle.std.specs.Prelude.{◌≡◌, IfErr, IfOk};
 ghost use Rattle.elf_layout_plan.specs.Added.{header_count, kept_end as end_of_kept};
 ghost use Rattle.elf_layout_moves.specs.Inner.{AreMarks};
 ghost use Rattle.elf_layout.specs.Inner.{IsStanding, StandsTooFar};
-ghost use Rattle.elf_layout.specs.Loose.{IsBehind, IsBehindFault};
+ghost use Rattle.elf_layout.specs.Unloaded.{IsBehind, IsBehindFault};
 
-use crate::added::{Added, no_spots, place_added};
-use crate::loose::place_all_loose;
+use crate::added::{Added, no_slots, place_added};
 use crate::places::place_all;
-use crate::spots::At;
+use crate::slots::At;
 use crate::tables::{next_table, place_table};
+use crate::unloaded::place_all_unloaded;
 use elf_format::records::SegmentHeader;
 use elf_layout_moves::resizing::Resizing;
 use elf_layout_plan::{LayoutFault, SectionPlace};
@@ -35,21 +35,21 @@ pub(crate) struct Behind {
 fn place_behind(
     alloc: Global,
     r: &Resizing<'_, '_>,
-    spots: &[Option<At>],
+    slots: &[Option<At>],
     end: u64,
     headers: usize,
 ) -> Result<Behind, LayoutFault>
-    ensures behind { IfOk result (IsBehind r.now spots.now end headers) }
-    ensures fault { IfErr result (IsBehindFault r.now spots.now end headers) }
+    ensures behind { IfOk result (IsBehind r.now slots.now end headers) }
+    ensures fault { IfErr result (IsBehindFault r.now slots.now end headers) }
 {
     let Some(table) = place_table(r, end, headers) else {
         return Err(LayoutFault::NumberTooLarge);
     };
-    let loose = place_all_loose(alloc, r, table.end)?;
-    let Some(e_shoff) = next_table(r, loose.end) else {
+    let unloaded = place_all_unloaded(alloc, r, table.end)?;
+    let Some(e_shoff) = next_table(r, unloaded.end) else {
         return Err(LayoutFault::NumberTooLarge);
     };
-    let places = place_all(alloc, r, spots, &loose.offsets, loose.end)?;
+    let places = place_all(alloc, r, slots, &unloaded.offsets, unloaded.end)?;
     Ok(Behind {
         places,
         e_phoff: table.offset,
@@ -73,11 +73,11 @@ pub(crate) fn find_places(
     ensures stands { IfOk result (λ standing. IsStanding r.now moved.now standing) }
     ensures fault { IfErr result (StandsTooFar r.now moved.now) }
 {
-    let Ok(mut spots) = no_spots(alloc, r) else {
+    let Ok(mut slots) = no_slots(alloc, r) else {
         return Err(LayoutFault::Memory);
     };
-    let added = place_added(alloc, r, moved, kept_end, &mut spots)?;
-    let behind = place_behind(alloc, r, &spots, added.end, headers)?;
+    let added = place_added(alloc, r, moved, kept_end, &mut slots)?;
+    let behind = place_behind(alloc, r, &slots, added.end, headers)?;
     Ok(Standing {
         loads: added.loads,
         places: behind.places,

@@ -1,10 +1,10 @@
 // Where the program header table stands.
 ghost use Rattle.std.specs.Prelude.{◌≡◌, ◌+◌, ◌*◌, ◌<◌, ◌≤◌, ◌^◌, IfSome, IfNone, is_some, map};
 ghost use Rattle.elf_format.specs.Records.{segment_header_size};
-ghost use Rattle.elf_image.specs.ImageSeen.{segment_kept};
+ghost use Rattle.elf_image.specs.ImageModel.{segment_model};
 ghost use Rattle.elf_layout_plan.specs.Memory.{loaded_over, table_load};
 ghost use Rattle.elf_layout_plan.specs.Standing.{next_table as table_next};
-ghost use Rattle.elf_layout.specs.Loose.{has_all, start_behind, table_behind};
+ghost use Rattle.elf_layout.specs.Unloaded.{has_all, start_behind, table_behind};
 
 use elf_format::constants::PT_LOAD;
 use elf_image::{Builder, Segment};
@@ -22,7 +22,7 @@ pub(crate) struct TablePlace {
 fn has_range(segment: &Segment<'_>, start: u128, size: u128) -> bool
     requires start { start < 2 ^ 64 }
     requires size { size < 2 ^ 70 }
-    ensures { result ≡ has_all (record { start = start; size = size }) (segment_kept segment.now) }
+    ensures { result ≡ has_all (record { start = start; size = size }) (segment_model segment.now) }
 {
     let from = u128::from(segment.p_offset());
     segment.p_type() == PT_LOAD
@@ -35,7 +35,7 @@ fn is_range_loaded(segments: &[Segment<'_>], start: u128, size: u128) -> bool
     requires start { start < 2 ^ 64 }
     requires size { size < 2 ^ 70 }
     ensures { result ≡ is_some
-        (loaded_over (record { start = start; size = size }) (map segment_kept segments.now)) }
+        (loaded_over (record { start = start; size = size }) (map segment_model segments.now)) }
 {
     for segment in segments {
         if has_range(segment, start, size) {

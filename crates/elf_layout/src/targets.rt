@@ -1,17 +1,17 @@
 //! Where a program header goes.
 ghost use Rattle.std.specs.Prelude.{◌≡◌, IfOk, map};
 ghost use Rattle.std.specs.Option.{option_map};
-ghost use Rattle.elf_layout_plan.specs.PlanSeen.{place_seen};
+ghost use Rattle.elf_layout_plan.specs.PlanModel.{place_model};
 ghost use Rattle.elf_layout_plan.specs.Written.{address_in_memory};
-ghost use Rattle.elf_layout_segments.specs.Led.{leader_seen};
-ghost use Rattle.elf_layout.specs.Targets.{AreBegins, AreNotes, begins_seen, span_of, span_over, target_of_span, target_seen, targets_at, targets_over_notes, targets_seen};
+ghost use Rattle.elf_layout_segments.specs.AnchorPositions.{anchor_model};
+ghost use Rattle.elf_layout.specs.Targets.{AreBegins, AreNotes, begins_model, span_of, span_over, target_of_span, target_model, targets_at, targets_over_notes, targets_model};
 
 use crate::reaches::{Reach, Reaches, reach_at, reach_over, reaches_of};
 use elf_format::constants::SHF_ALLOC;
 use elf_format::range::Range;
-use elf_layout_segments::leaders::LeaderAt;
 use elf_layout_moves::resizing::Resizing;
 use elf_layout_plan::SectionPlace;
+use elf_layout_segments::anchors::AnchorAt;
 use std::alloc::{AllocError, Global};
 
 // Bytes of the file and, where what a program header goes by is loaded, an address.
@@ -39,7 +39,7 @@ pub(crate) struct Notes {
 
 // The address of a place, where it is in memory.
 fn address_of(place: SectionPlace) -> Option<u64>
-    ensures { result ≡ address_in_memory (place_seen place) }
+    ensures { result ≡ address_in_memory (place_model place) }
 {
     if place.sh_flags & SHF_ALLOC != 0 {
         Some(place.sh_addr)
@@ -50,8 +50,8 @@ fn address_of(place: SectionPlace) -> Option<u64>
 
 // From a place to an end.
 fn target_from(place: SectionPlace, end: u128) -> TargetAt
-    ensures { target_seen result
-        ≡ target_of_span (record { first = place_seen place; end = end }) }
+    ensures { target_model result
+        ≡ target_of_span (record { first = place_model place; end = end }) }
 {
     let offset = u128::from(place.sh_offset);
     let size = if end < offset { 0 } else { end - offset };
@@ -64,8 +64,8 @@ fn target_from(place: SectionPlace, end: u128) -> TargetAt
 
 // From the first of several places to the end of the last.
 fn target_over(places: &[SectionPlace], reach: Option<Reach>) -> Option<TargetAt>
-    ensures { option_map target_seen result
-        ≡ option_map target_of_span (span_of (map place_seen places.now) reach) }
+    ensures { option_map target_model result
+        ≡ option_map target_of_span (span_of (map place_model places.now) reach) }
 {
     match reach {
         None => None,
@@ -86,8 +86,8 @@ pub(crate) fn notes_of(
     marks: &[bool],
     places: &[SectionPlace],
 ) -> Result<Notes, AllocError>
-    ensures begins { IfOk result (λ found. AreBegins r.now marks.now (begins_seen found)) }
-    ensures notes { IfOk result (AreNotes (map place_seen places.now)) }
+    ensures begins { IfOk result (λ found. AreBegins r.now marks.now (begins_model found)) }
+    ensures notes { IfOk result (AreNotes (map place_model places.now)) }
 {
     let staying = reaches_of(alloc, r, marks, places, false)?;
     let moving = reaches_of(alloc, r, marks, places, true)?;
@@ -96,9 +96,9 @@ pub(crate) fn notes_of(
 
 // Where a program header goes that goes by notes.
 fn targets_of_notes(places: &[SectionPlace], notes: &Notes, part: Range) -> Targets
-    requires { AreNotes (map place_seen places.now) notes.now }
-    ensures { let all = map place_seen places.now in let begins = begins_seen notes.now in
-        targets_seen result ≡ targets_over_notes
+    requires { AreNotes (map place_model places.now) notes.now }
+    ensures { let all = map place_model places.now in let begins = begins_model notes.now in
+        targets_model result ≡ targets_over_notes
         (span_over all part begins.staying) (span_over all part begins.moving) }
 {
     match target_over(places, reach_over(places, &notes.moving, part)) {
@@ -115,20 +115,20 @@ fn targets_of_notes(places: &[SectionPlace], notes: &Notes, part: Range) -> Targ
 
 // Where a program header goes that goes by this.
 #[tactic(auto, using(crate::proofs::SpanSteps::one_place), unfolding(crate::specs::Targets::targets_at))]
-pub(crate) fn targets_of(places: &[SectionPlace], notes: &Notes, leader: &LeaderAt) -> Targets
-    requires { AreNotes (map place_seen places.now) notes.now }
-    ensures { targets_seen result ≡ targets_at
-        (map place_seen places.now) (begins_seen notes.now) (leader_seen leader.now) }
+pub(crate) fn targets_of(places: &[SectionPlace], notes: &Notes, anchor: &AnchorAt) -> Targets
+    requires { AreNotes (map place_model places.now) notes.now }
+    ensures { targets_model result ≡ targets_at
+        (map place_model places.now) (begins_model notes.now) (anchor_model anchor.now) }
 {
-    match leader {
-        LeaderAt::Itself | LeaderAt::HeaderTable => Targets {
+    match anchor {
+        AnchorAt::Itself | AnchorAt::HeaderTable => Targets {
             first: None,
             second: None,
         },
-        LeaderAt::OneSection(position) => Targets {
+        AnchorAt::OneSection(position) => Targets {
             first: target_over(places, reach_at(places, *position)),
             second: None,
         },
-        LeaderAt::Notes(part) => targets_of_notes(places, notes, *part),
+        AnchorAt::Notes(part) => targets_of_notes(places, notes, *part),
     }
 }

@@ -1,11 +1,11 @@
 ghost use Rattle.std.specs.Prelude.{◌≡◌, ◌∷◌, ◌++◌, IfErr, IfOk, OnOk, map};
 ghost use Rattle.std.specs.List.{flat_map};
 ghost use Rattle.elf_layout_plan.specs.Added.{header_count};
-ghost use Rattle.elf_layout_plan.specs.PlanSeen.{place_seen};
+ghost use Rattle.elf_layout_plan.specs.PlanModel.{place_model};
 ghost use Rattle.elf_layout_plan.specs.Standing.{places as places_of};
 ghost use Rattle.elf_layout_plan.specs.Written.{behind_last_load, written_from};
 ghost use Rattle.elf_layout_moves.specs.Inner.{AreMarks};
-ghost use Rattle.elf_layout_segments.specs.Led.{AreLeaders};
+ghost use Rattle.elf_layout_segments.specs.AnchorPositions.{AreAnchors};
 ghost use Rattle.elf_layout.specs.Inner.{AreWritten, IsStanding, StandsTooFar};
 ghost use Rattle.elf_layout.specs.Targets.{added_behind, left_behind as left_at};
 
@@ -13,10 +13,10 @@ use crate::headings::push_written;
 use crate::standing::Standing;
 use crate::targets::notes_of;
 use elf_format::records::SegmentHeader;
-use elf_layout_segments::leaders::LeaderAt;
-use elf_layout_segments::reading::{form_of, sections_are_sized, segment_at};
 use elf_layout_moves::resizing::Resizing;
 use elf_layout_plan::{LayoutFault, SectionPlace};
+use elf_layout_segments::anchors::AnchorAt;
+use elf_layout_segments::reading::{form_of, sections_are_sized, segment_at};
 use std::alloc::{AllocError, Global};
 
 // How many of those behind a header are loaded, where so many are that are left.
@@ -68,15 +68,15 @@ fn with_loads(
 fn all_written(
     alloc: Global,
     r: &Resizing<'_, '_>,
-    leaders: &[LeaderAt],
+    anchors: &[AnchorAt],
     moved: &[usize],
     marks: &[bool],
     places: &[SectionPlace],
     headers: usize,
 ) -> Result<Vec<SegmentHeader>, LayoutFault>
-    requires leaders { AreLeaders r.now leaders.now }
+    requires anchors { AreAnchors r.now anchors.now }
     requires marks { AreMarks r.now moved.now marks.now }
-    requires places { map place_seen places.now ≡ places_of r.now moved.now }
+    requires places { map place_model places.now ≡ places_of r.now moved.now }
     requires headers { headers ≡ header_count r.now moved.now }
     ensures written { IfOk result (λ made. made.items
         ≡ flat_map (written_from r.now moved.now) r.now.image.segments) }
@@ -89,9 +89,9 @@ fn all_written(
         return Err(LayoutFault::Memory);
     };
     let mut made = Vec::new(alloc);
-    for i in 0..leaders.len() {
+    for i in 0..anchors.len() {
         let p = segment_at(r, i);
-        match push_written(form, &mut made, places, &notes, size, p, &leaders[i]) {
+        match push_written(form, &mut made, places, &notes, size, p, &anchors[i]) {
             Ok(()) => {}
             Err(fault) => return Err(fault),
         }
@@ -103,20 +103,20 @@ fn all_written(
 pub(crate) fn written_segments(
     alloc: Global,
     r: &Resizing<'_, '_>,
-    leaders: &[LeaderAt],
+    anchors: &[AnchorAt],
     moved: &[usize],
     marks: &[bool],
     standing: &Standing,
     headers: usize,
 ) -> Result<Vec<SegmentHeader>, LayoutFault>
-    requires leaders { AreLeaders r.now leaders.now }
+    requires anchors { AreAnchors r.now anchors.now }
     requires marks { AreMarks r.now moved.now marks.now }
     requires standing { IsStanding r.now moved.now standing.now }
     requires headers { headers ≡ header_count r.now moved.now }
     ensures written { IfOk result (λ segments. AreWritten r.now moved.now segments.items) }
     ensures fault { IfErr result (StandsTooFar r.now moved.now) }
 {
-    let made = all_written(alloc, r, leaders, moved, marks, &standing.places, headers)?;
+    let made = all_written(alloc, r, anchors, moved, marks, &standing.places, headers)?;
     match with_loads(alloc, &made, &standing.loads) {
         Ok(all) => Ok(all),
         Err(_) => Err(LayoutFault::Memory),

@@ -6,22 +6,22 @@ use Rattle.std.proofs.lemmas.List.{length-map}
 use Rattle.std.proofs.lemmas.Option.{slice_get-get_or, slice_get-map, slice_get_read}
 use Rattle.elf_format.specs.Image.{Image, ImageSection}
 use Rattle.elf_format.specs.declared.records.SegmentHeader.{SegmentHeader}
-use Rattle.elf_image.specs.ImageSeen.{section_kept}
+use Rattle.elf_image.specs.ImageModel.{section_model}
 use Rattle.elf_image.specs.declared.section.Section.{Section}
 use Rattle.elf_layout_plan.specs.Blocks.{Block}
-use Rattle.elf_layout_plan.specs.Kept.{KeptSection, dynamic_strings_number, interpreter_number, stands_as_interpreter}
+use Rattle.elf_image.specs.Kept.{KeptSection, dynamic_strings_number, interpreter_number, stands_as_interpreter}
 use Rattle.elf_layout_plan.specs.Memory.{Resized, SizedSection, sized_from, takes_memory}
 use Rattle.elf_layout_moves.specs.ImageBlocks.{AreNumbered, kept_behind, link_from, made_block, number_from, section_blocks_from, sized_at}
 use Rattle.elf_layout_moves.proofs.MoverLaws.{drop_here}
 
 -- a section that is looked at is the image's
-pub seen_section : (image : Image) (xs ys : List Section) (k : ℕ) (x : Section) → map section_kept ys ≡ image.sections → map section_kept xs ≡ image.sections
-    → k < length ys → x ≡ get_or xs k x → slice_get image.sections k ≡ Some (section_kept x)
+pub seen_section : (image : Image) (xs ys : List Section) (k : ℕ) (x : Section) → map section_model ys ≡ image.sections → map section_model xs ≡ image.sections
+    → k < length ys → x ≡ get_or xs k x → slice_get image.sections k ≡ Some (section_model x)
 seen_section image xs ys k x also are within is =
-    let long : length ys ≡ length image.sections = sym (length-map ys section_kept) ∙ ap length also in
-    let same : length xs ≡ length image.sections = sym (length-map xs section_kept) ∙ ap length are in
+    let long : length ys ≡ length image.sections = sym (length-map ys section_model) ∙ ap length also in
+    let same : length xs ≡ length image.sections = sym (length-map xs section_model) ∙ ap length are in
     let at : slice_get xs k ≡ Some x = slice_get_read xs (length xs) k x refl (omega arith) is in
-    ap (λ (ss : List ImageSection). slice_get ss k) (sym are) ∙ slice_get-map section_kept xs k ∙ rw at refl
+    ap (λ (ss : List ImageSection). slice_get ss k) (sym are) ∙ slice_get-map section_model xs k ∙ rw at refl
 
 -- the next section
 abbrev pub kept_at : Image → ℕ → ImageSection → KeptSection

@@ -16,9 +16,9 @@ use Rattle.std.proofs.lemmas.List.Sorted.{All-permutation, list_any-IsPermutatio
 use Rattle.std.proofs.lemmas.Option.{same_Some, slice_get_cases, slice_get_within}
 use Rattle.elf_format.specs.Image.{Image, ImageSection}
 use Rattle.elf_format.specs.Options.{is_one_of}
-use Rattle.elf_image.specs.ImageSeen.{section_kept}
+use Rattle.elf_image.specs.ImageModel.{section_model}
 use Rattle.elf_image.specs.declared.section.Section.{Section}
-use Rattle.elf_layout_plan.specs.Kept.{kept_from}
+use Rattle.elf_image.specs.Kept.{kept_from}
 use Rattle.elf_layout_plan.specs.Memory.{Resized, SizedSection, sized_from, sized_sections}
 use Rattle.elf_layout_plan.specs.Rounds.{are_in_old_order, comes_before, sections_at}
 use Rattle.elf_layout_moves.specs.BlockSteps.{key_at, old_key}
@@ -171,8 +171,8 @@ pub map_push : {A B : Type 0} (f : A → B) (xs : List A) (y : A) → map f (xs 
 map_push f [] y = refl
 map_push f (x ∷ xs) y = ap (λ l. f x ∷ l) (map_push f xs y)
 
-pub key_seen : (image : Image) (xs : List Section) (p : ℕ) (x : Section) → map section_kept xs ≡ image.sections → p < length image.sections → x ≡ get_or xs p x
+pub key_seen : (image : Image) (xs : List Section) (p : ℕ) (x : Section) → map section_model xs ≡ image.sections → p < length image.sections → x ≡ get_or xs p x
     → old_key image p ≡ (x.sh_addr, x.sh_size, p)
 key_seen image xs p x are within is =
-    let long : length xs ≡ length image.sections = sym (length-map xs section_kept) ∙ ap length are in
+    let long : length xs ≡ length image.sections = sym (length-map xs section_model) ∙ ap length are in
     ap (λ (o : Option ImageSection). key_at o p) (seen_section image xs xs p x are are (omega arith) is)

@@ -7,7 +7,7 @@ use Rattle.elf_format.specs.Image.{Image, ImageSection}
 use Rattle.elf_format.specs.Options.{is_one_of, is_some_and}
 use Rattle.elf_format.specs.declared.records.SegmentHeader.{SegmentHeader}
 use Rattle.elf_layout_plan.specs.Blocks.{Block}
-use Rattle.elf_layout_plan.specs.Kept.{KeptSection, kept_from, stands_as_interpreter}
+use Rattle.elf_image.specs.Kept.{KeptSection, kept_from, stands_as_interpreter}
 use Rattle.elf_layout_plan.specs.Memory.{Resized, SizedSection, is_stray, section_block, sized_from, takes_memory}
 
 -- each section has a number at read

@@ -8,8 +8,8 @@ ghost use Rattle.elf_format.specs.Options.{is_some_and, list_at};
 ghost use Rattle.elf_format.specs.Placement.{file_part, shows_at};
 ghost use Rattle.elf_format.specs.Ranges.{lies_in, range};
 ghost use Rattle.elf_format.specs.Records.{segment_header_size};
-ghost use Rattle.elf_image.specs.ImageSeen.{section_kept, segment_kept};
-ghost use Rattle.elf_layout_plan.specs.Kept.{dynamic_strings_number, interpreter_number, link_of_type, stands_as_interpreter};
+ghost use Rattle.elf_image.specs.ImageModel.{section_model, segment_model};
+ghost use Rattle.elf_image.specs.Kept.{dynamic_strings_number, interpreter_number, link_of_type, stands_as_interpreter};
 ghost use Rattle.elf_layout_plan.specs.Memory.{blocks_with, edge_blocks, fixed_block, header_blocks, loaded_over, takes_memory};
 ghost use Rattle.elf_layout_moves.specs.ImageBlocks.{AreNumbered, address_of, is_movable_type, is_section_stray, made_block, number_from, priority_with, section_blocks_from};
 
@@ -100,9 +100,9 @@ fn form_of(image: &Builder<'_>) -> Form
 // Whether a range of the file lies in the file part of a loaded segment.
 fn is_loaded_part(p: &Segment<'_>, start: u64, size: u128) -> bool
     requires { size < 2 ^ 80 }
-    ensures value { result ≡ (is_loaded (segment_kept p.now)
-        && lies_in (range start size) (file_part (segment_kept p.now))) }
-    ensures behind { IsTrue result → (segment_kept p.now).p_offset ≤ start }
+    ensures value { result ≡ (is_loaded (segment_model p.now)
+        && lies_in (range start size) (file_part (segment_model p.now))) }
+    ensures behind { IsTrue result → (segment_model p.now).p_offset ≤ start }
 {
     p.p_type() == PT_LOAD
         && p.p_offset() <= start
@@ -113,7 +113,7 @@ fn is_loaded_part(p: &Segment<'_>, start: u64, size: u128) -> bool
 fn address_in(segments: &[Segment<'_>], start: u64, size: u128) -> Option<u128>
     requires { size < 2 ^ 80 }
     ensures { result ≡ address_of start
-        (loaded_over (range start size) (map segment_kept segments.now)) }
+        (loaded_over (range start size) (map segment_model segments.now)) }
 {
     for p in segments {
         if is_loaded_part(p, start, size) {
@@ -170,7 +170,7 @@ fn push_headers(
 // Puts the start of a loaded segment behind other blocks, and where its file part and its memory end.
 fn push_edges(made: &mut Vec<MemoryBlock>, p: &Segment<'_>) -> Result<(), AllocError>
     ensures { OnOk result (made.new.items
-        ≡ made.old.items ++ edge_blocks (segment_kept p.now)) }
+        ≡ made.old.items ++ edge_blocks (segment_model p.now)) }
 {
     let start = u128::from(p.p_vaddr());
     made.push(load_start(start))?;
@@ -182,7 +182,7 @@ fn push_edges(made: &mut Vec<MemoryBlock>, p: &Segment<'_>) -> Result<(), AllocE
 // The same of each loaded segment.
 fn push_all_edges(made: &mut Vec<MemoryBlock>, segments: &[Segment<'_>]) -> Result<(), AllocError>
     ensures { OnOk result (made.new.items ≡ made.old.items
-        ++ flat_map edge_blocks (loads_of (map segment_kept segments.now))) }
+        ++ flat_map edge_blocks (loads_of (map segment_model segments.now))) }
 {
     for p in segments {
         if p.p_type() == PT_LOAD {
@@ -194,7 +194,7 @@ fn push_all_edges(made: &mut Vec<MemoryBlock>, segments: &[Segment<'_>]) -> Resu
 
 // Whether a segment shows a range of the file at an address.
 fn is_shown_by(p: &Segment<'_>, offset: u64, size: u64, address: u64) -> bool
-    ensures { result ≡ shows_at (segment_kept p.now) (range offset size) address }
+    ensures { result ≡ shows_at (segment_model p.now) (range offset size) address }
 {
     p.p_offset() <= offset
         && u128::from(offset) + u128::from(size)
@@ -206,7 +206,7 @@ fn is_shown_by(p: &Segment<'_>, offset: u64, size: u64, address: u64) -> bool
 // Whether some loaded segment shows it.
 fn is_shown(segments: &[Segment<'_>], offset: u64, size: u64, address: u64) -> bool
     ensures { result ≡ list_any (λ p. shows_at p (range offset size) address)
-        (loads_of (map segment_kept segments.now)) }
+        (loads_of (map segment_model segments.now)) }
 {
     for p in segments {
         if p.p_type() == PT_LOAD && is_shown_by(p, offset, size, address) {
@@ -218,7 +218,7 @@ fn is_shown(segments: &[Segment<'_>], offset: u64, size: u64, address: u64) -> b
 
 // Whether a section of the file was empty, and can't stand with its new size where it stood.
 fn is_stray_at(image: &Builder<'_>, section: &Section<'_>, size: u64) -> bool
-    ensures { result ≡ is_section_stray image.now (section_kept section.now) size }
+    ensures { result ≡ is_section_stray image.now (section_model section.now) size }
 {
     let (offset, address) = (section.sh_offset, section.sh_addr);
     section.sh_type != SHT_NULL
@@ -231,7 +231,7 @@ fn is_stray_at(image: &Builder<'_>, section: &Section<'_>, size: u64) -> bool
 
 // Whether a section takes memory of its own.
 fn is_in_memory(section: &Section<'_>) -> bool
-    ensures { result ≡ takes_memory (section_kept section.now) }
+    ensures { result ≡ takes_memory (section_model section.now) }
 {
     section.sh_flags & SHF_ALLOC != 0
         && section.sh_type != SHT_NULL
@@ -240,8 +240,8 @@ fn is_in_memory(section: &Section<'_>) -> bool
 
 // The program header of the interpreter.
 fn interpreter_segment<'a, 'data>(segments: &'a [Segment<'data>]) -> Option<&'a Segment<'data>>
-    ensures { option_map (λ p. segment_kept p.now) result
-        ≡ segment_of_type INTERP (map segment_kept segments.now) }
+    ensures { option_map (λ p. segment_model p.now) result
+        ≡ segment_of_type INTERP (map segment_model segments.now) }
 {
     segments
         .iter()
@@ -251,7 +251,7 @@ fn interpreter_segment<'a, 'data>(segments: &'a [Segment<'data>]) -> Option<&'a 
 // Whether a section stands where the interpreter's program header says.
 fn is_interpreter(p: &Segment<'_>, section: &Section<'_>) -> bool
     ensures { result
-        ≡ stands_as_interpreter (segment_kept p.now) (section_kept section.now) }
+        ≡ stands_as_interpreter (segment_model p.now) (section_model section.now) }
 {
     section.sh_type == SHT_PROGBITS
         && section.sh_offset == p.p_offset()
@@ -262,7 +262,7 @@ fn is_interpreter(p: &Segment<'_>, section: &Section<'_>) -> bool
 // The number at read of the first such section.
 fn number_at(read: &Builder<'_>, p: &Segment<'_>) -> Option<usize>
     requires { AreNumbered read.now }
-    ensures { result ≡ number_from read.now (segment_kept p.now) 0 }
+    ensures { result ≡ number_from read.now (segment_model p.now) 0 }
 {
     for position in 0..read.sections().len() {
         if is_interpreter(p, &read.sections()[position]) {
@@ -340,7 +340,7 @@ fn priority_at(
     interpreter: Option<usize>,
     strings: Option<usize>,
 ) -> u8
-    ensures { result ≡ priority_with interpreter strings (section_kept section.now) number }
+    ensures { result ≡ priority_with interpreter strings (section_model section.now) number }
 {
     if is_numbered(interpreter, number) {
         1

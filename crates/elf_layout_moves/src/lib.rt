@@ -1,12 +1,12 @@
 //! Which sections of an edited ELF file move, so that no two blocks of memory overlap.
 #![tactic(auto)]
 
+mod block_moves;
 mod blocks;
 pub mod marks;
 pub mod moving;
 mod old_order;
 pub mod resizing;
-mod settling;
 
 pub use crate::moving::find_move_sections;
 pub use crate::resizing::Resizing;

@@ -3,10 +3,10 @@ ghost use Rattle.elf_layout_plan.specs.Plan.{resized};
 ghost use Rattle.elf_layout_plan.specs.Refusals.{IsStuckBy, sizes_of_image};
 ghost use Rattle.elf_layout_plan.specs.Rounds.{do_move, is_stuck_with};
 
+use crate::block_moves::moved_positions;
 use crate::blocks::blocks_of;
 use crate::old_order::in_old_order;
 use crate::resizing::Resizing;
-use crate::settling::settled;
 use elf_image::Builder;
 use elf_layout_plan::{LayoutFault, read_again};
 use std::alloc::Global;
@@ -50,7 +50,7 @@ pub fn find_moved(
     let Ok(blocks) = blocks_of(alloc, r, added) else {
         return Err(LayoutFault::Memory);
     };
-    let moved = settled(alloc, &blocks)?;
+    let moved = moved_positions(alloc, &blocks)?;
     let Ok(found) = in_old_order(alloc, r, &moved) else {
         return Err(LayoutFault::Memory);
     };

@@ -15,11 +15,11 @@ pub struct Resizing<'a, 'data> {
 impl<'a, 'data> Model for Resizing<'a, 'data> {
     ghost use Rattle.elf_layout_plan.specs.Memory.{Resized};
     ghost use Rattle.elf_layout_moves.specs.Inner.{IsResized};
-    ghost use Rattle.elf_layout_moves.specs.Seen.{resized_seen};
+    ghost use Rattle.elf_layout_moves.specs.Seen.{resized_model};
 
     ghost Value = { Resized };
 
-    ghost view = { resized_seen };
+    ghost view = { resized_model };
 
-    ghost invariant = { λ s. IsResized (resized_seen s) };
+    ghost invariant = { λ s. IsResized (resized_model s) };
 }

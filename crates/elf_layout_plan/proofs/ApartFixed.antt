@@ -12,17 +12,17 @@ use Rattle.elf_format.specs.Places.{Place}
 use Rattle.elf_format.specs.declared.range.Range.{Range}
 use Rattle.elf_format.specs.Ranges.{range}
 use Rattle.elf_format.specs.Records.{file_header_size}
-use Rattle.elf_layout_plan.specs.Added.{Spot}
+use Rattle.elf_layout_plan.specs.Added.{Slot}
 use Rattle.elf_layout_plan.specs.ApartLaws.{FixedSectionsStay, HasPlaceAt}
 use Rattle.elf_layout_plan.specs.Blocks.{Block, earlier_moves, has_cause, have_causes, is_block_of, later_moves, overlaps, some_two, stay_apart}
-use Rattle.elf_layout_plan.specs.Kept.{KeptSection, kept_sections}
+use Rattle.elf_image.specs.Kept.{KeptSection, kept_sections}
 use Rattle.elf_layout_plan.specs.Memory.{Resized, SizedSection, block_in_load, blocks_with, edge_blocks, header_blocks, loaded_over, priority_of, section_block, sized_sections, table_at_read, table_load, table_size_with, takes_memory}
 use Rattle.elf_layout_plan.specs.Plan.{Layout, layout_for, resized}
 use Rattle.elf_layout_plan.specs.Rounds.{are_in_old_order, do_move, sections_at}
 use Rattle.elf_layout_plan.specs.Sizes.{new_size, new_sizes}
-use Rattle.elf_layout_plan.specs.Standing.{place_in, places, spot_of}
+use Rattle.elf_layout_plan.specs.Standing.{place_in, places, slot_of}
 use Rattle.elf_layout_plan.proofs.ApartLists.{Each, Some_in, all-at, any-at, at-map, each-append, each-at, each-filter, each-from, each-map, each-more}
-use Rattle.elf_layout_plan.proofs.ApartPlaces.{keeps_address, spot_found}
+use Rattle.elf_layout_plan.proofs.ApartPlaces.{keeps_address, slot_found}
 use Rattle.elf_layout_plan.proofs.ApartSections.{at-sized, kept-at, sized-at, sized_from-map, sized_of}
 
 -- ## Blocks that are no section's
@@ -143,13 +143,13 @@ module _ (r : Resized) (sized : sized_sections r ≡ map (sized_of r) (kept_sect
       record {
         place = place_in r moved t;
         is_there = at-map (place_in r moved) (sized_sections r) s.position t at_t;
-        same_address = by_spot (spot_of r moved t) refl;
+        same_address = by_slot (slot_of r moved t) refl;
       }
     where
-      by_spot : (o : Option Spot) → spot_of r moved (sized_of r s) ≡ o → (place_in r moved (sized_of r s)).sh_addr ≡ s.section.sh_addr
-      by_spot None e = keeps_address r moved (sized_of r s) e
-      by_spot (Some x) e =
-          let (_, _, same, (among, _)) = spot_found r sized moved (sized_of r s) x e in
+      by_slot : (o : Option Slot) → slot_of r moved (sized_of r s) ≡ o → (place_in r moved (sized_of r s)).sh_addr ≡ s.section.sh_addr
+      by_slot None e = keeps_address r moved (sized_of r s) e
+      by_slot (Some x) e =
+          let (_, _, same, (among, _)) = slot_found r sized moved (sized_of r s) x e in
           absurd (fixed_isnt_moved looked moved move i s at fixed (ap (is_one_of moved) (sym (eqb-true x.position s.position same)) ∙ among))
 
 -- the sizes of an image's sections

@@ -19,7 +19,7 @@ use Rattle.elf_format.specs.Records.{file_header_size, segment_header_size}
 use Rattle.elf_layout_plan.specs.Added.{AddedLoad, added_loads, header_count, keeps_range, keeps_section_range, kept_end, load_alignment, memory_end}
 use Rattle.elf_layout_plan.specs.Apart.{addresses_of}
 use Rattle.elf_layout_plan.specs.Blocks.{Block}
-use Rattle.elf_layout_plan.specs.Follow.{HeaderTable, Itself, Leader, Notes, OneSection, is_moved, leader_of}
+use Rattle.elf_layout_plan.specs.Anchors.{HeaderTable, Itself, Anchor, Notes, OneSection, is_moved, anchor_of}
 use Rattle.elf_layout_plan.specs.Memory.{Resized, block_in_load, fixed_block, loaded_over, table_at_read, table_load, table_size_with}
 use Rattle.elf_layout_plan.specs.Rounds.{added_flags, headers_needed, sections_at}
 use Rattle.elf_layout_plan.specs.Standing.{next_table, segments_end, table_offset}
@@ -30,7 +30,7 @@ use Rattle.elf_layout_plan.proofs.ApartFixed.{file_header_blocks, table_blocks}
 use Rattle.elf_layout_plan.proofs.ApartLists.{Each, at-map, each-at, each-both, each-filter, each-from, each-map, each-more, each-unfilter, each-unmap, filter-at, find-at, find-none, map-at, pairs-at}
 use Rattle.elf_layout_plan.proofs.ApartMemory.{loads_from-headers}
 use Rattle.elf_layout_plan.proofs.ApartStays.{each_load, loads_file_end}
-use Rattle.elf_layout_plan.proofs.ApartWritten.{added_headers, length-plan, load_leader, plan_loads-each, plan_loads-find}
+use Rattle.elf_layout_plan.proofs.ApartWritten.{added_headers, length-plan, load_anchor, plan_loads-each, plan_loads-find}
 
 -- a range that lies in another
 lies : (r outer : Range) → lies_in r outer ≡ true → (outer.start ≤ r.start) × (end_of r ≤ end_of outer)
@@ -88,21 +88,21 @@ module _ (r : Resized) (facts : AreFacts r) (moved : List ℕ) where
 
   -- ## Where segments end in the file
 
-  keeps_by : SegmentHeader → Leader → Bool
-  keeps_by p leader = elim leader [
+  keeps_by : SegmentHeader → Anchor → Bool
+  keeps_by p anchor = elim anchor [
     | Itself ↦ true
     | HeaderTable ↦ p.p_filesz == header_count r moved * segment_header_size r.image.form && p.p_memsz == p.p_filesz
     | OneSection s ↦ keeps_section_range r moved p s
     | Notes notes ↦ not (list_any (is_moved moved) notes)
   ]
 
-  keeps_is : (p : SegmentHeader) → keeps_range r moved p ≡ keeps_by p (leader_of r p)
+  keeps_is : (p : SegmentHeader) → keeps_range r moved p ≡ keeps_by p (anchor_of r p)
   unfolding keeps_by
   keeps_is p = refl
 
   load_keeps : (p : SegmentHeader) → is_loaded p ≡ true → keeps_range r moved p ≡ true
   unfolding keeps_by
-  load_keeps p h = keeps_is p ∙ ap (keeps_by p) (load_leader r moved p h)
+  load_keeps p h = keeps_is p ∙ ap (keeps_by p) (load_anchor r moved p h)
 
   pub kept_end-header : file_header_size r.image.form ≤ kept_end r moved
   unfolding kept_end

@@ -15,21 +15,21 @@ use Rattle.elf_format.specs.Ranges.{apart, lies_in, range}
 use Rattle.elf_layout_plan.specs.Added.{added_loads}
 use Rattle.elf_layout_plan.specs.Apart.{are_notes_shown, did_show_note, is_for_notes, is_loaded_note, is_note_shown, is_shown_by, shows_its_notes, shows_place}
 use Rattle.elf_layout_plan.specs.ApartLaws.{PlansShowNotes}
-use Rattle.elf_layout_plan.specs.Follow.{Itself, Leader, Notes, OneSection, has_bytes, is_just_over, is_loaded_section, is_moved, is_note_in, is_over_notes, leader_by_range, leader_of, led_by_section, moved_notes, notes_under, section_or_table, section_under, sharers, shares_bytes, staying_notes}
-use Rattle.elf_layout_plan.specs.Kept.{KeptSection, interpreter_number, is_numbered, kept_of_type, kept_sections, place_at_read}
+use Rattle.elf_layout_plan.specs.Anchors.{Itself, Anchor, Notes, OneSection, has_bytes, is_just_over, is_loaded_section, is_moved, is_note_in, is_over_notes, anchor_by_range, anchor_of, anchor_or_itself, moved_notes, notes_under, section_or_table, section_under, sharers, shares_bytes, staying_notes}
+use Rattle.elf_image.specs.Kept.{KeptSection, interpreter_number, is_numbered, kept_of_type, kept_sections, place_at_read}
 use Rattle.elf_layout_plan.specs.Memory.{Resized, sized_sections}
 use Rattle.elf_layout_plan.specs.Plan.{Layout, layout_for, resized}
 use Rattle.elf_layout_plan.specs.Rounds.{flags_for}
 use Rattle.elf_layout_plan.specs.Sizes.{new_size}
 use Rattle.elf_layout_plan.specs.Standing.{place_in, places, stands_at}
-use Rattle.elf_layout_plan.specs.Written.{led_to, places_of_kept, target_at, targets_over, written_from, written_segments}
+use Rattle.elf_layout_plan.specs.Written.{anchored_to, places_of_kept, target_at, targets_over, written_from, written_segments}
 use Rattle.elf_layout_plan.proofs.ApartBlocks.{apart-meet}
 use Rattle.elf_layout_plan.proofs.ApartFacts.{AreFacts, IsOriginal, bytes_of, was_stored}
 use Rattle.elf_layout_plan.proofs.ApartLists.{Each, Pairs, all-at, all-from, any-at, any-from, append-back_at, append-front_at, at-filter, at-filter_map, at-map, each-at, each-filter, each-filter_map, each-from, each-more, filter-at, find-at, find-misses, map-at, none-at, pairs-at, pairs-filter, pairs-less, same_at}
-use Rattle.elf_layout_plan.proofs.ApartNotes.{HasFlags, IsAtDistance, distance_of, moves_with_spot, stays_where_it_was}
-use Rattle.elf_layout_plan.proofs.ApartPlaces.{is_place, place_at_spot, spot_found}
+use Rattle.elf_layout_plan.proofs.ApartNotes.{HasFlags, IsAtDistance, distance_of, moves_with_slot, stays_where_it_was}
+use Rattle.elf_layout_plan.proofs.ApartPlaces.{is_place, place_at_slot, slot_found}
 use Rattle.elf_layout_plan.proofs.ApartRead.{edited_facts}
-use Rattle.elf_layout_plan.proofs.ApartSections.{all_spots, at-sized, kept-at, sized_of}
+use Rattle.elf_layout_plan.proofs.ApartSections.{all_slots, at-sized, kept-at, sized_of}
 use Rattle.elf_layout_plan.proofs.ApartShown.{IsAt, target_shows, targets_show}
 use Rattle.elf_layout_plan.proofs.ApartStays.{shows}
 use Rattle.elf_layout_plan.proofs.ApartWritten.{notes_stay, notes_targets, plan-at, section_targets, written-at}
@@ -96,15 +96,15 @@ module _ (r : Resized) (facts : AreFacts r) (moved : List ℕ) where
     pub moved_at : is_one_of moved k.position ≡ true → IsAt (distance_of r facts.sized moved PF_R).0 (distance_of r facts.sized moved PF_R).1 (planned k)
     moved_at moves =
         let (offset, address, all) = distance_of r facts.sized moved PF_R in
-        let (x, e) = moves_with_spot r facts.sized moved (sized_of r k) is_placed moves in
-        let (j, at, same, _) = spot_found r facts.sized moved (sized_of r k) x e in
+        let (x, e) = moves_with_slot r facts.sized moved (sized_of r k) is_placed moves in
+        let (j, at, same, _) = slot_found r facts.sized moved (sized_of r k) x e in
         let here : slice_get (sized_sections r) x.position ≡ Some (sized_of r k) = subst (λ (n : ℕ). slice_get (sized_sections r) n ≡ Some (sized_of r k)) (sym (eqb-true x.position k.position same)) is_placed in
         let distance : IsAtDistance offset address x.offset x.address =
-        each-at (λ x. HasFlags r facts.sized PF_R x → IsAtDistance offset address x.offset x.address) (all_spots (added_loads r moved)) all j x at (sized_of r k, here, only_read) in
-        let stands = place_at_spot r moved (sized_of r k) x e in
+        each-at (λ x. HasFlags r facts.sized PF_R x → IsAtDistance offset address x.offset x.address) (all_slots (added_loads r moved)) all j x at (sized_of r k, here, only_read) in
+        let stands = place_at_slot r moved (sized_of r k) x e in
         (in_memory, subst (λ (s : Place). IsAtDistance offset address s.sh_offset s.sh_addr) (sym stands) distance)
 
-  -- ## The leader of a program header for notes
+  -- ## The anchor of a program header for notes
 
   note_types : (p : SegmentHeader) → is_for_notes p ≡ true → (p.p_type ≡ PT_NOTE) ⊎ (p.p_type ≡ PT_GNU_PROPERTY)
   note_types p h = elim (or_cases (PT_NOTE == p.p_type) (list_any (λ x. x == p.p_type) (PT_GNU_PROPERTY ∷ [])) h) [
@@ -115,19 +115,19 @@ module _ (r : Resized) (facts : AreFacts r) (moved : List ℕ) where
     ]
   ]
 
-  kind : SegmentHeader → ℕ → Leader
+  kind : SegmentHeader → ℕ → Anchor
   kind p type =
       if type == PT_LOAD then Itself
       else if type == PT_PHDR then section_or_table (section_under r p)
-      else if type == PT_DYNAMIC then led_by_section (kept_of_type SHT_DYNAMIC r.image)
-      else if type == PT_INTERP then led_by_section (find (is_numbered (interpreter_number r.read)) (kept_sections r.image))
-      else leader_by_range r p
+      else if type == PT_DYNAMIC then anchor_or_itself (kept_of_type SHT_DYNAMIC r.image)
+      else if type == PT_INTERP then anchor_or_itself (find (is_numbered (interpreter_number r.read)) (kept_sections r.image))
+      else anchor_by_range r p
 
-  kind_is : (p : SegmentHeader) → leader_of r p ≡ kind p p.p_type
-  unfolding leader_of kind
+  kind_is : (p : SegmentHeader) → anchor_of r p ≡ kind p p.p_type
+  unfolding anchor_of kind
   kind_is p = refl
 
-  notes_by_range : (p : SegmentHeader) → is_for_notes p ≡ true → leader_of r p ≡ leader_by_range r p
+  notes_by_range : (p : SegmentHeader) → is_for_notes p ≡ true → anchor_of r p ≡ anchor_by_range r p
   unfolding kind
   notes_by_range p h = elim (note_types p h) [
     | inl e ↦ kind_is p ∙ ap (kind p) e
@@ -221,10 +221,10 @@ module _ (r : Resized) (facts : AreFacts r) (moved : List ℕ) where
         any-from (λ x. x == k.number) (map (λ n. n.number) (sharers r p)) j original.old.number (at-map (λ (n : KeptSection). n.number) (sharers r p) j original.old at_j) (eq-eqb original.old.number k.number original.same_number) in
         at-filter (λ s. is_one_of (map (λ n. n.number) (sharers r p)) s.number) (kept_sections r.image) note.place k note.is_there among
 
-    leader_notes : (k : KeptSection) → IsNote k → shows_place p (place_at_read k.section) ≡ true → leader_of r p ≡ Notes (notes_under r p)
-    leader_notes k note shown =
-        notes_by_range p for_notes ∙ ap (λ b. if b then Itself else if is_over_notes r p then Notes (notes_under r p) else led_by_section (section_under r p)) (filled_part p k.section note.filled shown)
-        ∙ ap (λ b. if b then Notes (notes_under r p) else led_by_section (section_under r p)) over
+    anchor_notes : (k : KeptSection) → IsNote k → shows_place p (place_at_read k.section) ≡ true → anchor_of r p ≡ Notes (notes_under r p)
+    anchor_notes k note shown =
+        notes_by_range p for_notes ∙ ap (λ b. if b then Itself else if is_over_notes r p then Notes (notes_under r p) else anchor_or_itself (section_under r p)) (filled_part p k.section note.filled shown)
+        ∙ ap (λ b. if b then Notes (notes_under r p) else anchor_or_itself (section_under r p)) over
 
     staying_at : Each (IsAt p.p_offset p.p_vaddr) (places_of_kept (places r moved) (staying_notes moved (notes_under r p)))
     staying_at =
@@ -244,16 +244,16 @@ module _ (r : Resized) (facts : AreFacts r) (moved : List ℕ) where
     several_shown : (k : KeptSection) → IsNote k → shows_place p (place_at_read k.section) ≡ true → IsShownIn p k
     several_shown k note shown =
         let notes = notes_under r p in
-        let leader = leader_notes k note shown in
+        let anchor = anchor_notes k note shown in
         let (i, at) = is_under k note shown in
-        by_moved (list_any (is_moved moved) notes) refl (is_moved moved k) refl leader i at
+        by_moved (list_any (is_moved moved) notes) refl (is_moved moved k) refl anchor i at
       where
-        by_moved : (any : Bool) → list_any (is_moved moved) (notes_under r p) ≡ any → (mine : Bool) → is_moved moved k ≡ mine → leader_of r p ≡ Notes (notes_under r p)
+        by_moved : (any : Bool) → list_any (is_moved moved) (notes_under r p) ≡ any → (mine : Bool) → is_moved moved k ≡ mine → anchor_of r p ≡ Notes (notes_under r p)
             → (i : ℕ) → slice_get (notes_under r p) i ≡ Some k → IsShownIn p k
-        by_moved false none mine is leader i at =
+        by_moved false none mine is anchor i at =
             let stays = each-at (λ s. is_moved moved s ≡ false) (notes_under r p) (none-at (is_moved moved) (notes_under r p) none) i k at in
-            (0, p, ap (λ (l : List SegmentHeader). slice_get l 0) (notes_stay r moved p (notes_under r p) leader none), refl, still_shown k note p shown stays)
-        by_moved true some false stays leader i at =
+            (0, p, ap (λ (l : List SegmentHeader). slice_get l 0) (notes_stay r moved p (notes_under r p) anchor none), refl, still_shown k note p shown stays)
+        by_moved true some false stays anchor i at =
             let staying = staying_notes moved (notes_under r p) in
             let moving = moved_notes moved (notes_under r p) in
             let (j, at_j) = at-filter (λ s. not (is_moved moved s)) (notes_under r p) i k at (ap (λ b. not b) stays) in
@@ -262,8 +262,8 @@ module _ (r : Resized) (facts : AreFacts r) (moved : List ℕ) where
             let front = targets_over (places_of_kept (places r moved) staying) in
             let back = targets_over (places_of_kept (places r moved) moving) in
             let (l, at_l) = append-front_at front back m t at_t in
-            (l, led_to r.image.form p t, written-at r moved p (front ++ back) (notes_targets r moved p (notes_under r p) leader some) l t at_l, refl, shows_it)
-        by_moved true some true moves leader i at =
+            (l, anchored_to r.image.form p t, written-at r moved p (front ++ back) (notes_targets r moved p (notes_under r p) anchor some) l t at_l, refl, shows_it)
+        by_moved true some true moves anchor i at =
             let staying = staying_notes moved (notes_under r p) in
             let moving = moved_notes moved (notes_under r p) in
             let (j, at_j) = at-filter (is_moved moved) (notes_under r p) i k at moves in
@@ -273,7 +273,7 @@ module _ (r : Resized) (facts : AreFacts r) (moved : List ℕ) where
             let front = targets_over (places_of_kept (places r moved) staying) in
             let back = targets_over (places_of_kept (places r moved) moving) in
             let (l, at_l) = append-back_at front back m t at_t in
-            (l, led_to r.image.form p t, written-at r moved p (front ++ back) (notes_targets r moved p (notes_under r p) leader some) l t at_l, refl, shows_it)
+            (l, anchored_to r.image.form p t, written-at r moved p (front ++ back) (notes_targets r moved p (notes_under r p) anchor some) l t at_l, refl, shows_it)
 
   -- ## One note
 
@@ -383,16 +383,16 @@ module _ (r : Resized) (facts : AreFacts r) (moved : List ℕ) where
     under_is : section_under r p ≡ Some k
     under_is = ap (λ (o : Option KeptSection). first_there o (find (λ _. true) (filter (is_just_over p) (kept_sections r.image)))) find_loaded
 
-    leader_one : leader_of r p ≡ OneSection k
-    leader_one =
-        notes_by_range p for_notes ∙ ap (λ b. if b then Itself else if is_over_notes r p then Notes (notes_under r p) else led_by_section (section_under r p)) (filled_part p k.section note.filled shown)
-        ∙ ap (λ b. if b then Notes (notes_under r p) else led_by_section (section_under r p)) (not_several p k note shown just) ∙ ap led_by_section under_is
+    anchor_one : anchor_of r p ≡ OneSection k
+    anchor_one =
+        notes_by_range p for_notes ∙ ap (λ b. if b then Itself else if is_over_notes r p then Notes (notes_under r p) else anchor_or_itself (section_under r p)) (filled_part p k.section note.filled shown)
+        ∙ ap (λ b. if b then Notes (notes_under r p) else anchor_or_itself (section_under r p)) (not_several p k note shown just) ∙ ap anchor_or_itself under_is
 
     one_shown : IsShownIn p k
     one_shown = (
       0,
-      led_to r.image.form p (target_at (planned k)),
-      written-at r moved p (target_at (planned k) ∷ []) (section_targets r moved p k (planned k) leader_one (place_there k note)) 0 (target_at (planned k)) refl,
+      anchored_to r.image.form p (target_at (planned k)),
+      written-at r moved p (target_at (planned k) ∷ []) (section_targets r moved p k (planned k) anchor_one (place_there k note)) 0 (target_at (planned k)) refl,
       refl,
       target_shows r.image.form p (planned k) (in_memory k note),
     )

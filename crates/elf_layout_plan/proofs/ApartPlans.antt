@@ -13,14 +13,14 @@ use Rattle.elf_format.specs.Options.{is_one_of, is_some_and}
 use Rattle.elf_format.specs.Places.{Place, is_set}
 use Rattle.elf_format.specs.Ranges.{all_apart, apart, end_of, range}
 use Rattle.elf_format.specs.Records.{file_header_size, segment_header_size}
-use Rattle.elf_layout_plan.specs.Added.{Spot, added_loads, kept_end, load_alignment, memory_end}
+use Rattle.elf_layout_plan.specs.Added.{Slot, added_loads, kept_end, load_alignment, memory_end}
 use Rattle.elf_layout_plan.specs.Apart.{addresses_of, does_take_memory, is_memory_apart}
 use Rattle.elf_layout_plan.specs.Blocks.{Block, have_causes, stay_apart}
 use Rattle.elf_layout_plan.specs.Memory.{Resized, SizedSection, block_in_load, blocks_with, edge_blocks, header_blocks, loaded_over, section_block, sized_sections, takes_memory}
 use Rattle.elf_layout_plan.specs.ApartLaws.{PlansAreApart}
 use Rattle.elf_layout_plan.specs.Plan.{Layout, layout_for, resized}
 use Rattle.elf_layout_plan.specs.Rounds.{added_flags, are_in_old_order, do_move, headers_needed, sections_at}
-use Rattle.elf_layout_plan.specs.Standing.{place_in, places, spot_of, table_offset}
+use Rattle.elf_layout_plan.specs.Standing.{place_in, places, slot_of, table_offset}
 use Rattle.elf_layout_plan.specs.Written.{written_segments}
 use Rattle.elf_layout_plan.proofs.ApartBlocks.{Neither, apart-before, apart-behind, apart-empty, neither-apart, pairs_all_apart, stay_neither, stay_over}
 use Rattle.elf_layout_plan.proofs.ApartFacts.{AreFacts}
@@ -28,9 +28,9 @@ use Rattle.elf_layout_plan.proofs.ApartFixed.{file_header_blocks, table_blocks}
 use Rattle.elf_layout_plan.proofs.ApartHeaders.{IsUnder, headers_under}
 use Rattle.elf_layout_plan.proofs.ApartLists.{Each, Pairs, each-append, each-at, each-back, each-from, each-front, each-map, each-more, filter-at, filter-map, pairs-append, pairs-at, pairs-back, pairs-both, pairs-cross, pairs-filter, pairs-front, pairs-from, pairs-map, pairs-more, pairs-unmap}
 use Rattle.elf_layout_plan.proofs.ApartMemory.{IsBehind, loads_from-low, loads_from-pairs}
-use Rattle.elf_layout_plan.proofs.ApartPlaces.{is_place, keeps_address, none_stays, place_at_spot, spot_found}
+use Rattle.elf_layout_plan.proofs.ApartPlaces.{is_place, keeps_address, none_stays, place_at_slot, slot_found}
 use Rattle.elf_layout_plan.proofs.ApartRead.{edited_facts}
-use Rattle.elf_layout_plan.proofs.ApartSections.{all_spots, sized-at}
+use Rattle.elf_layout_plan.proofs.ApartSections.{all_slots, sized-at}
 use Rattle.elf_layout_plan.proofs.ApartStays.{IsLow, block_clear, blocks_stay, is_low, taking}
 
 range-same : (a b z y : ℕ) → a ≡ b → z ≡ y → range a z ≡ range b y
@@ -60,16 +60,16 @@ module _ (r : Resized) (facts : AreFacts r) (looked : ℕ) (moved : List ℕ) (m
       (and_parts (have_causes (blocks_with r looked) moved) (stay_apart moved (blocks_with r looked))
       (and_parts (have_causes (blocks_with r looked) moved && stay_apart moved (blocks_with r looked)) (are_in_old_order (sections_at r moved)) move).0).1
 
-  spots : List Spot
-  spots = all_spots (added_loads r moved)
+  slots : List Slot
+  slots = all_slots (added_loads r moved)
 
-  spots_high : Each (λ x. memory_end r ≤ x.address) spots
-  unfolding added_loads spots
-  spots_high = loads_from-low (load_alignment r) (kept_end r moved) (memory_end r) (added_flags r moved) (sections_at r moved)
+  slots_high : Each (λ x. memory_end r ≤ x.address) slots
+  unfolding added_loads slots
+  slots_high = loads_from-low (load_alignment r) (kept_end r moved) (memory_end r) (added_flags r moved) (sections_at r moved)
 
-  spots_behind : Pairs IsBehind spots
-  unfolding added_loads spots
-  spots_behind = loads_from-pairs (load_alignment r) (kept_end r moved) (memory_end r) (added_flags r moved) (sections_at r moved)
+  slots_behind : Pairs IsBehind slots
+  unfolding added_loads slots
+  slots_behind = loads_from-pairs (load_alignment r) (kept_end r moved) (memory_end r) (added_flags r moved) (sections_at r moved)
 
   -- ## Where each section is
 
@@ -80,10 +80,10 @@ module _ (r : Resized) (facts : AreFacts r) (looked : ℕ) (moved : List ℕ) (m
   -- in an added segment
   record IsHigh (t : SizedSection) : Type 0 where
     place : ℕ
-    spot : Spot
-    is_there : slice_get spots place ≡ Some spot
-    position : spot.position ≡ t.kept.position
-    stands : addresses t ≡ range spot.address spot.size
+    slot : Slot
+    is_there : slice_get slots place ≡ Some slot
+    position : slot.position ≡ t.kept.position
+    stands : addresses t ≡ range slot.address slot.size
 
   -- where it was
   record IsStill (t : SizedSection) : Type 0 where
@@ -91,18 +91,18 @@ module _ (r : Resized) (facts : AreFacts r) (looked : ℕ) (moved : List ℕ) (m
     low : IsLow r facts moved looked stay t
     stands : addresses t ≡ range t.kept.section.sh_addr t.size
 
-  found_high : (t : SizedSection) (x : Spot) → slice_get (sized_sections r) t.kept.position ≡ Some t → spot_of r moved t ≡ Some x → IsHigh t
-  unfolding spots addresses
+  found_high : (t : SizedSection) (x : Slot) → slice_get (sized_sections r) t.kept.position ≡ Some t → slot_of r moved t ≡ Some x → IsHigh t
+  unfolding slots addresses
   found_high t x at e =
-      let (j, at_j, same, (_, (u, at_u, size))) = spot_found r facts.sized moved t x e in
+      let (j, at_j, same, (_, (u, at_u, size))) = slot_found r facts.sized moved t x e in
       let position : x.position ≡ t.kept.position = eqb-true x.position t.kept.position same in
       let at_t : slice_get (sized_sections r) t.kept.position ≡ Some u = subst (λ (n : ℕ). slice_get (sized_sections r) n ≡ Some u) position at_u in
       let same_size : t.size ≡ x.size = ap (λ (s : SizedSection). s.size) (same_Some t u (sym at ∙ at_t)) ∙ size in
-      let placed : (place_in r moved t).sh_addr ≡ x.address = ap (λ (s : Place). s.sh_addr) (place_at_spot r moved t x e) in
+      let placed : (place_in r moved t).sh_addr ≡ x.address = ap (λ (s : Place). s.sh_addr) (place_at_slot r moved t x e) in
       let sized : (place_in r moved t).sh_size ≡ x.size = (is_place r moved t).size ∙ same_size in
       record {
         place = j;
-        spot = x;
+        slot = x;
         is_there = at_j;
         position = position;
         stands = range-same (place_in r moved t).sh_addr x.address (place_in r moved t).sh_size x.size placed sized;
@@ -110,15 +110,15 @@ module _ (r : Resized) (facts : AreFacts r) (looked : ℕ) (moved : List ℕ) (m
 
   stands_at_all : (k : ℕ) (t : SizedSection) → slice_get (taking r facts) k ≡ Some t → IsHigh t ⊎ IsStill t
   unfolding addresses
-  stands_at_all k t at = by_spot (spot_of r moved t) refl (filter-at (λ t. takes_memory t.kept.section) (sized_sections r) k t at)
+  stands_at_all k t at = by_slot (slot_of r moved t) refl (filter-at (λ t. takes_memory t.kept.section) (sized_sections r) k t at)
     where
-      by_spot : (o : Option Spot) → spot_of r moved t ≡ o → ((i : ℕ) × (slice_get (sized_sections r) i ≡ Some t) × (takes_memory t.kept.section ≡ true)) → IsHigh t ⊎ IsStill t
-      by_spot o e (i, at_i, takes) =
+      by_slot : (o : Option Slot) → slot_of r moved t ≡ o → ((i : ℕ) × (slice_get (sized_sections r) i ≡ Some t) × (takes_memory t.kept.section ≡ true)) → IsHigh t ⊎ IsStill t
+      by_slot o e (i, at_i, takes) =
           let position : t.kept.position ≡ i = (sized-at r facts.sized i t at_i).0 in
           let at_position : slice_get (sized_sections r) t.kept.position ≡ Some t = subst (λ (n : ℕ). slice_get (sized_sections r) n ≡ Some t) (sym position) at_i in
           by_it o e at_position i at_i takes
         where
-          by_it : (o : Option Spot) → spot_of r moved t ≡ o → slice_get (sized_sections r) t.kept.position ≡ Some t → (i : ℕ) → slice_get (sized_sections r) i ≡ Some t → takes_memory t.kept.section ≡ true → IsHigh t ⊎ IsStill t
+          by_it : (o : Option Slot) → slot_of r moved t ≡ o → slice_get (sized_sections r) t.kept.position ≡ Some t → (i : ℕ) → slice_get (sized_sections r) i ≡ Some t → takes_memory t.kept.section ≡ true → IsHigh t ⊎ IsStill t
           by_it (Some x) e at_position i at_i takes = inl (found_high t x at_position e)
           by_it None e at_position i at_i takes =
               let stays = none_stays r facts.sized moved t at_position e in
@@ -133,19 +133,19 @@ module _ (r : Resized) (facts : AreFacts r) (looked : ℕ) (moved : List ℕ) (m
   high_high : (t u : SizedSection) → IsHigh t → IsHigh u → (t.kept.position ≡ u.kept.position → ⊥) → apart (addresses t) (addresses u) ≡ true
   high_high t u ht hu differ =
       let P : Range → Type 0 = λ a. apart a (addresses u) ≡ true in
-      let Q : Range → Type 0 = λ b. apart (range ht.spot.address ht.spot.size) b ≡ true in
-      subst P (sym ht.stands) (subst Q (sym hu.stands) (elim (pairs-at IsBehind spots spots_behind ht.place hu.place ht.spot hu.spot ht.is_there hu.is_there) [
-        | inl same ↦ absurd (differ (sym ht.position ∙ ap (λ (x : Spot). x.position) same ∙ hu.position))
-        | inr (inl before) ↦ apart-before (range ht.spot.address ht.spot.size) (range hu.spot.address hu.spot.size) before
-        | inr (inr behind) ↦ apart-behind (range ht.spot.address ht.spot.size) (range hu.spot.address hu.spot.size) behind
+      let Q : Range → Type 0 = λ b. apart (range ht.slot.address ht.slot.size) b ≡ true in
+      subst P (sym ht.stands) (subst Q (sym hu.stands) (elim (pairs-at IsBehind slots slots_behind ht.place hu.place ht.slot hu.slot ht.is_there hu.is_there) [
+        | inl same ↦ absurd (differ (sym ht.position ∙ ap (λ (x : Slot). x.position) same ∙ hu.position))
+        | inr (inl before) ↦ apart-before (range ht.slot.address ht.slot.size) (range hu.slot.address hu.slot.size) before
+        | inr (inr behind) ↦ apart-behind (range ht.slot.address ht.slot.size) (range hu.slot.address hu.slot.size) behind
       ]))
 
-  -- what ends where memory ended is in front of every spot
-  below_spot : (a : Range) (t : SizedSection) → IsHigh t → end_of a ≤ memory_end r → apart a (addresses t) ≡ true
-  below_spot a t h low =
+  -- what ends where memory ended is in front of every slot
+  below_slot : (a : Range) (t : SizedSection) → IsHigh t → end_of a ≤ memory_end r → apart a (addresses t) ≡ true
+  below_slot a t h low =
       let Q : Range → Type 0 = λ b. apart a b ≡ true in
-      let high : memory_end r ≤ h.spot.address = each-at (λ x. memory_end r ≤ x.address) spots spots_high h.place h.spot h.is_there in
-      subst Q (sym h.stands) (apart-before a (range h.spot.address h.spot.size) (omega (arith, low, high)))
+      let high : memory_end r ≤ h.slot.address = each-at (λ x. memory_end r ≤ x.address) slots slots_high h.place h.slot h.is_there in
+      subst Q (sym h.stands) (apart-before a (range h.slot.address h.slot.size) (omega (arith, low, high)))
 
   apart-turned : (a b : Range) → apart a b ≡ true → apart b a ≡ true
   apart-turned a b h = grind (arith, nat_tests)
@@ -155,7 +155,7 @@ module _ (r : Resized) (facts : AreFacts r) (looked : ℕ) (moved : List ℕ) (m
       let P : Range → Type 0 = λ a. apart a (addresses u) ≡ true in
       subst P (sym ht.stands) (elim ht.low [
         | inl empty ↦ apart-empty (range t.kept.section.sh_addr t.size) (addresses u) empty
-        | inr low ↦ below_spot (range t.kept.section.sh_addr t.size) u hu low
+        | inr low ↦ below_slot (range t.kept.section.sh_addr t.size) u hu low
       ])
 
   still_still : (t u : SizedSection) → IsStill t → IsStill u → Neither (stay_over moved) (section_block r t) (section_block r u) → apart (addresses t) (addresses u) ≡ true
@@ -200,7 +200,7 @@ module _ (r : Resized) (facts : AreFacts r) (looked : ℕ) (moved : List ℕ) (m
   header_section : (b : Block) (a : Range) (k : ℕ) (t : SizedSection) → slice_get (taking r facts) k ≡ Some t → b.start ≡ a.start → a.size ≤ b.size → b.section ≡ None → end_of a ≤ memory_end r
       → Each (λ u. Neither (stay_over moved) b (section_block r u)) (taking r facts) → apart a (addresses t) ≡ true
   header_section b a k t at start less none low clear = elim (stands_at_all k t at) [
-    | inl high ↦ below_spot a t high low
+    | inl high ↦ below_slot a t high low
     | inr still ↦
         let Q : Range → Type 0 = λ c. apart a c ≡ true in
         let P : ℕ → Type 0 = λ n. apart (range n a.size) (range t.kept.section.sh_addr t.size) ≡ true in

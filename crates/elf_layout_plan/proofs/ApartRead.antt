@@ -21,12 +21,12 @@ use Rattle.elf_format.specs.Placement.{addresses_apart, ends_by, file_part, hold
 use Rattle.elf_format.specs.Places.{Place, file_range, occupies_file, occupies_memory, place_of, places_of}
 use Rattle.elf_format.specs.Ranges.{all_apart, apart, end_of}
 use Rattle.elf_format.specs.Rules.{MeetsRules, file_of, header_ranges}
-use Rattle.elf_image.specs.Edited.{AreKept, AreSegments, CanGo, IsEditOf, IsEdited, as_kept}
+use Rattle.elf_image.specs.Edited.{AreKept, AreSegments, CanGo, IsEditOf, IsEdited, kept_segment}
 use Rattle.elf_image.specs.ReadImage.{HoldsParts}
 use Rattle.elf_image.specs.Segments.{added_stack}
 use Rattle.elf_image.proofs.ReadImageLaws.{read_images_hold_parts}
-use Rattle.elf_layout_plan.specs.Follow.{is_loaded_section}
-use Rattle.elf_layout_plan.specs.Kept.{KeptSection, interpreter_number, kept_from, is_numbered, kept_sections, place_at_read, stands_as_interpreter}
+use Rattle.elf_layout_plan.specs.Anchors.{is_loaded_section}
+use Rattle.elf_image.specs.Kept.{KeptSection, interpreter_number, kept_from, is_numbered, kept_sections, place_at_read, stands_as_interpreter}
 use Rattle.elf_layout_plan.specs.Memory.{Resized}
 use Rattle.elf_layout_plan.specs.Plan.{resized}
 use Rattle.elf_layout_plan.specs.Sizes.{interpreter_size, new_size, new_sizes, table_size}
@@ -49,7 +49,7 @@ loads-kept size (old ∷ olds) (p ∷ ps) h = elim h [
   | inr gone ↦ loads-kept size olds (p ∷ ps) gone.1 ∙ ap (λ b. map bare (cond b (old ∷ loads_of olds) (loads_of olds))) (sym (gone_isnt_loaded old gone.0))
 ]
   where
-    here : p ≡ as_kept size p.p_flags old → map bare (loads_of ps) ≡ map bare (loads_of olds) → map bare (loads_of (p ∷ ps)) ≡ map bare (loads_of (old ∷ olds))
+    here : p ≡ kept_segment size p.p_flags old → map bare (loads_of ps) ≡ map bare (loads_of olds) → map bare (loads_of (p ∷ ps)) ≡ map bare (loads_of (old ∷ olds))
     here same rest =
         ap (λ b. map bare (cond b (p ∷ loads_of ps) (loads_of ps))) (ap is_loaded same) ∙ by_test (is_loaded old)
       where

@@ -1,4 +1,4 @@
--- The sections of an image by their positions, and the spots of those that move.
+-- The sections of an image by their positions, and the slots of those that move.
 use Rattle.std.proofs.Common.{◌≡◌, ℕ, zero, suc, ◌+◌, ◌-◌, ◌%◌, Bool, true, false, not, ◌||◌, ◌⊎◌, List, [], ◌∷◌, map, refl, sym, ap, ◌∙◌, subst, inl, inr, arith, Some}
 use Rattle.std.specs.Prelude.{◌==◌, filter}
 use Rattle.std.specs.Int.{next_multiple_of}
@@ -10,8 +10,8 @@ use Rattle.elf_format.specs.Image.{ImageSection}
 use Rattle.elf_format.specs.Options.{is_one_of}
 use Rattle.elf_format.specs.Placement.{file_part, memory_part}
 use Rattle.elf_format.specs.Ranges.{end_of}
-use Rattle.elf_layout_plan.specs.Added.{AddedLoad, Spot, added_loads, alignment_of, kept_end, load_alignment, load_at, loads_from, memory_end, spots_from}
-use Rattle.elf_layout_plan.specs.Kept.{KeptSection, kept_from, kept_sections}
+use Rattle.elf_layout_plan.specs.Added.{AddedLoad, Slot, added_loads, alignment_of, kept_end, load_alignment, load_at, loads_from, memory_end, slots_from}
+use Rattle.elf_image.specs.Kept.{KeptSection, kept_from, kept_sections}
 use Rattle.elf_layout_plan.specs.Memory.{Resized, SizedSection, sized_from, sized_sections}
 use Rattle.elf_layout_plan.specs.Rounds.{added_flags, each_once, flags_for, sections_at}
 use Rattle.elf_layout_plan.specs.Sizes.{new_size}
@@ -37,20 +37,20 @@ kept-at p (n ∷ ns) (s ∷ ss) (suc i) k at =
     let (position, number, section) = kept-at (p + 1) ns ss i k at in
     (omega (arith, position), number, section)
 
--- a section's spot, at an offset and an address
-abbrev pub spot_at : SizedSection → ℕ → ℕ → Spot
-spot_at s o a = record { position = s.kept.position; offset = o; address = a; size = s.size }
+-- a section's slot, at an offset and an address
+abbrev pub slot_at : SizedSection → ℕ → ℕ → Slot
+slot_at s o a = record { position = s.kept.position; offset = o; address = a; size = s.size }
 
-pub spots-each : (P : Spot → Type 0) (o a : ℕ) (ss : List SizedSection) → Each (λ s. (o a : ℕ) → P (spot_at s o a)) ss → Each P (spots_from o a ss)
-unfolding spots_from
-spots-each P o a [] h = tt
-spots-each P o a (s ∷ ss) h =
+pub slots-each : (P : Slot → Type 0) (o a : ℕ) (ss : List SizedSection) → Each (λ s. (o a : ℕ) → P (slot_at s o a)) ss → Each P (slots_from o a ss)
+unfolding slots_from
+slots-each P o a [] h = tt
+slots-each P o a (s ∷ ss) h =
     let at = next_multiple_of a (alignment_of s) in
-    (h.0 (o + (at - a)) at, spots-each P (o + (at - a) + s.size) (at + s.size) ss h.1)
+    (h.0 (o + (at - a)) at, slots-each P (o + (at - a) + s.size) (at + s.size) ss h.1)
 
--- the spots of all loaded segments that are added
-abbrev pub all_spots : List AddedLoad → List Spot
-all_spots loads = flat_map (λ load. load.spots) loads
+-- the slots of all loaded segments that are added
+abbrev pub all_slots : List AddedLoad → List Slot
+all_slots loads = flat_map (λ load. load.slots) loads
 
 -- the sections that need these flags
 abbrev pub with_flags : ℕ → List SizedSection → List SizedSection
@@ -66,44 +66,44 @@ file_behind load = end_of (file_part load.header)
 abbrev pub memory_behind : AddedLoad → ℕ
 memory_behind load = end_of (memory_part load.header)
 
-pub loads-each : (P : Spot → Type 0) (align end memory : ℕ) (flags : List ℕ) (ss : List SizedSection) → Each (λ s. (o a : ℕ) → P (spot_at s o a)) ss
-    → Each P (all_spots (loads_from align end memory flags ss))
+pub loads-each : (P : Slot → Type 0) (align end memory : ℕ) (flags : List ℕ) (ss : List SizedSection) → Each (λ s. (o a : ℕ) → P (slot_at s o a)) ss
+    → Each P (all_slots (loads_from align end memory flags ss))
 unfolding loads_from
 loads-each P align end memory [] ss h = tt
 loads-each P align end memory (f ∷ more) ss h =
     let load = first_load align f end memory ss in
-    each-append P load.spots (all_spots (loads_from align (file_behind load) (memory_behind load) more ss))
-    (spots-each P end load.header.p_vaddr (with_flags f ss) (each-more (λ s. ((flags_for s.kept.section == f) ≡ true) × ((o a : ℕ) → P (spot_at s o a))) (λ s. (o a : ℕ) → P (spot_at s o a)) (λ s k. k.1) (with_flags f ss)
-    (each-filter (λ s. (o a : ℕ) → P (spot_at s o a)) (λ s. flags_for s.kept.section == f) ss h)))
+    each-append P load.slots (all_slots (loads_from align (file_behind load) (memory_behind load) more ss))
+    (slots-each P end load.header.p_vaddr (with_flags f ss) (each-more (λ s. ((flags_for s.kept.section == f) ≡ true) × ((o a : ℕ) → P (slot_at s o a))) (λ s. (o a : ℕ) → P (slot_at s o a)) (λ s k. k.1) (with_flags f ss)
+    (each-filter (λ s. (o a : ℕ) → P (slot_at s o a)) (λ s. flags_for s.kept.section == f) ss h)))
     (loads-each P align (file_behind load) (memory_behind load) more ss h)
 
--- a section among those that get spots has one
-spots-any : (n o a : ℕ) (ss : List SizedSection) (i : ℕ) (t : SizedSection) → slice_get ss i ≡ Some t → t.kept.position ≡ n → list_any (λ x. x.position == n) (spots_from o a ss) ≡ true
-unfolding spots_from
-spots-any n o a [] i t at e = absurd (none-some t at)
-spots-any n o a (s ∷ ss) zero t at e =
+-- a section among those that get slots has one
+slots-any : (n o a : ℕ) (ss : List SizedSection) (i : ℕ) (t : SizedSection) → slice_get ss i ≡ Some t → t.kept.position ≡ n → list_any (λ x. x.position == n) (slots_from o a ss) ≡ true
+unfolding slots_from
+slots-any n o a [] i t at e = absurd (none-some t at)
+slots-any n o a (s ∷ ss) zero t at e =
     let at_s = next_multiple_of a (alignment_of s) in
-    ap (λ b. b || list_any (λ x. x.position == n) (spots_from (o + (at_s - a) + s.size) (at_s + s.size) ss)) (eq-eqb s.kept.position n (ap (λ (x : SizedSection). x.kept.position) (same_Some s t at) ∙ e))
-spots-any n o a (s ∷ ss) (suc i) t at e =
+    ap (λ b. b || list_any (λ x. x.position == n) (slots_from (o + (at_s - a) + s.size) (at_s + s.size) ss)) (eq-eqb s.kept.position n (ap (λ (x : SizedSection). x.kept.position) (same_Some s t at) ∙ e))
+slots-any n o a (s ∷ ss) (suc i) t at e =
     let at_s = next_multiple_of a (alignment_of s) in
-    or_true (s.kept.position == n) (list_any (λ x. x.position == n) (spots_from (o + (at_s - a) + s.size) (at_s + s.size) ss)) (spots-any n (o + (at_s - a) + s.size) (at_s + s.size) ss i t at e)
+    or_true (s.kept.position == n) (list_any (λ x. x.position == n) (slots_from (o + (at_s - a) + s.size) (at_s + s.size) ss)) (slots-any n (o + (at_s - a) + s.size) (at_s + s.size) ss i t at e)
   where
     or_true : (b c : Bool) → c ≡ true → (b || c) ≡ true
     or_true true c h = refl
     or_true false c h = h
 
 loads-any : (n : ℕ) (align end memory : ℕ) (flags : List ℕ) (ss : List SizedSection) (i : ℕ) (t : SizedSection) → slice_get ss i ≡ Some t → t.kept.position ≡ n
-    → list_any (λ f. f == flags_for t.kept.section) flags ≡ true → list_any (λ x. x.position == n) (all_spots (loads_from align end memory flags ss)) ≡ true
+    → list_any (λ f. f == flags_for t.kept.section) flags ≡ true → list_any (λ x. x.position == n) (all_slots (loads_from align end memory flags ss)) ≡ true
 unfolding loads_from
 loads-any n align end memory [] ss i t at e among = absurd (false≢true among)
 loads-any n align end memory (f ∷ more) ss i t at e among =
     let load = first_load align f end memory ss in
-    let others = all_spots (loads_from align (file_behind load) (memory_behind load) more ss) in
-    list_any-append (λ x. x.position == n) load.spots others
-    ∙ either (list_any (λ x. x.position == n) load.spots) (list_any (λ x. x.position == n) others) (elim (or_cases (f == flags_for t.kept.section) (list_any (λ g. g == flags_for t.kept.section) more) among) [
+    let others = all_slots (loads_from align (file_behind load) (memory_behind load) more ss) in
+    list_any-append (λ x. x.position == n) load.slots others
+    ∙ either (list_any (λ x. x.position == n) load.slots) (list_any (λ x. x.position == n) others) (elim (or_cases (f == flags_for t.kept.section) (list_any (λ g. g == flags_for t.kept.section) more) among) [
       | inl here ↦
           let kept : (j : ℕ) × (slice_get (with_flags f ss) j ≡ Some t) = at-filter (λ s. flags_for s.kept.section == f) ss i t at (eq-eqb (flags_for t.kept.section) f (sym (eqb-true f (flags_for t.kept.section) here))) in
-          inl (spots-any n end load.header.p_vaddr (with_flags f ss) kept.0 t kept.1 e)
+          inl (slots-any n end load.header.p_vaddr (with_flags f ss) kept.0 t kept.1 e)
       | inr behind ↦ inr (loads-any n align (file_behind load) (memory_behind load) more ss i t at e behind)
     ])
   where
@@ -148,9 +148,9 @@ module _ (r : Resized) (sized : sized_sections r ≡ map (sized_of r) (kept_sect
   at-sized i k at = subst (λ (l : List SizedSection). slice_get l i ≡ Some (sized_of r k)) (sym sized) (at-map (sized_of r) (kept_sections r.image) i k at)
 
   module _ (moved : List ℕ) where
-    -- what is known of a spot: whose it is, and that the section moves
-    abbrev pub IsSpot : Spot → Type 0
-    IsSpot x = (is_one_of moved x.position ≡ true) × ((t : SizedSection) × (slice_get (sized_sections r) x.position ≡ Some t) × (t.size ≡ x.size))
+    -- what is known of a slot: whose it is, and that the section moves
+    abbrev pub IsSlot : Slot → Type 0
+    IsSlot x = (is_one_of moved x.position ≡ true) × ((t : SizedSection) × (slice_get (sized_sections r) x.position ≡ Some t) × (t.size ≡ x.size))
 
     -- a section that moves
     abbrev pub IsMoved : SizedSection → Type 0
@@ -163,17 +163,17 @@ module _ (r : Resized) (sized : sized_sections r ≡ map (sized_of r) (kept_sect
         let same : t.kept.position ≡ n = (sized-at n t at_t).0 in
         (any-from (λ x. x == t.kept.position) moved i n at (eq-eqb n t.kept.position (sym same)), subst (λ (m : ℕ). slice_get (sized_sections r) m ≡ Some t) (sym same) at_t)))
 
-    pub spots_move : Each IsSpot (all_spots (added_loads r moved))
+    pub slots_move : Each IsSlot (all_slots (added_loads r moved))
     unfolding added_loads
-    spots_move =
-        loads-each IsSpot (load_alignment r) (kept_end r moved) (memory_end r) (added_flags r moved) (sections_at r moved)
-        (each-more IsMoved (λ s. (o a : ℕ) → IsSpot (spot_at s o a)) (λ t h o a. (h.0, (t, h.1, refl))) (sections_at r moved) sections_move)
+    slots_move =
+        loads-each IsSlot (load_alignment r) (kept_end r moved) (memory_end r) (added_flags r moved) (sections_at r moved)
+        (each-more IsMoved (λ s. (o a : ℕ) → IsSlot (slot_at s o a)) (λ t h o a. (h.0, (t, h.1, refl))) (sections_at r moved) sections_move)
 
-    -- each section that moves has a spot
-    pub moved_has_spot : (t : SizedSection) → slice_get (sized_sections r) t.kept.position ≡ Some t → is_one_of moved t.kept.position ≡ true
-        → list_any (λ x. x.position == t.kept.position) (all_spots (added_loads r moved)) ≡ true
+    -- each section that moves has a slot
+    pub moved_has_slot : (t : SizedSection) → slice_get (sized_sections r) t.kept.position ≡ Some t → is_one_of moved t.kept.position ≡ true
+        → list_any (λ x. x.position == t.kept.position) (all_slots (added_loads r moved)) ≡ true
     unfolding added_loads
-    moved_has_spot t at among =
+    moved_has_slot t at among =
         let (i, n, at_i, same) = any-at (λ x. x == t.kept.position) moved among in
         let at_n : slice_get (sized_sections r) n ≡ Some t = subst (λ (m : ℕ). slice_get (sized_sections r) m ≡ Some t) (sym (eqb-true n t.kept.position same)) at in
         let picked : (j : ℕ) × (slice_get (sections_at r moved) j ≡ Some t) = at-filter_map (λ position. slice_get (sized_sections r) position) moved i n t at_i at_n in

@@ -11,7 +11,7 @@ use Rattle.elf_format.specs.Places.{Place, file_range, occupies_memory}
 use Rattle.elf_format.specs.Ranges.{end_of, lies_in, range}
 use Rattle.elf_layout_plan.specs.Added.{greatest}
 use Rattle.elf_layout_plan.specs.Apart.{shows_place}
-use Rattle.elf_layout_plan.specs.Written.{Target, address_in_memory, first_in_file, led_to, target_at, target_over, targets_over}
+use Rattle.elf_layout_plan.specs.Written.{Target, address_in_memory, first_in_file, anchored_to, target_at, target_over, targets_over}
 use Rattle.elf_layout_plan.proofs.ApartBlocks.{greatest-each, greatest-start}
 use Rattle.elf_layout_plan.proofs.ApartLists.{Each, each-at, each-both, each-more, each-unmap}
 use Rattle.elf_layout_plan.proofs.ApartNotes.{IsAtDistance}
@@ -55,15 +55,15 @@ first-low s (t ∷ ts) =
 in_memory-address : (s : Place) → occupies_memory s ≡ true → address_in_memory s ≡ Some s.sh_addr
 in_memory-address s h = ap (λ b. if b then Some s.sh_addr else None) h
 
--- led there, a program header has the target's range and address
-led_shows : (form : Form) (p : SegmentHeader) (t : Target) (address : ℕ) (x : Place) → t.address ≡ Some address → t.part.start ≤ x.sh_offset → end_of (file_range x) ≤ end_of t.part
-    → x.sh_addr + t.part.start ≡ address + x.sh_offset → shows_place (led_to form p t) x ≡ true
-led_shows form p t address x e begins ends distance =
-    let vaddr : (led_to form p t).p_vaddr ≡ address = ap (λ (o : Option ℕ). elim o as (λ _. ℕ) [ Some a ↦ a | None ↦ p.p_vaddr ]) e in
-    shows-from (led_to form p t) x.sh_offset x.sh_size x.sh_addr begins ends (omega (arith, distance, vaddr))
+-- anchored there, a program header has the target's range and address
+anchored_shows : (form : Form) (p : SegmentHeader) (t : Target) (address : ℕ) (x : Place) → t.address ≡ Some address → t.part.start ≤ x.sh_offset → end_of (file_range x) ≤ end_of t.part
+    → x.sh_addr + t.part.start ≡ address + x.sh_offset → shows_place (anchored_to form p t) x ≡ true
+anchored_shows form p t address x e begins ends distance =
+    let vaddr : (anchored_to form p t).p_vaddr ≡ address = ap (λ (o : Option ℕ). elim o as (λ _. ℕ) [ Some a ↦ a | None ↦ p.p_vaddr ]) e in
+    shows-from (anchored_to form p t) x.sh_offset x.sh_size x.sh_addr begins ends (omega (arith, distance, vaddr))
 
 -- over several places at one distance, it shows each of them
-over_shows : (form : Form) (p : SegmentHeader) (offset address : ℕ) (s : Place) (ss : List Place) → Each (IsAt offset address) (s ∷ ss) → Each (λ x. shows_place (led_to form p (target_over s ss)) x ≡ true) (s ∷ ss)
+over_shows : (form : Form) (p : SegmentHeader) (offset address : ℕ) (s : Place) (ss : List Place) → Each (IsAt offset address) (s ∷ ss) → Each (λ x. shows_place (anchored_to form p (target_over s ss)) x ≡ true) (s ∷ ss)
 over_shows form p offset address s ss each = (one s each.0 low.0 (greatest-start (end_of (file_range s)) ends), rest)
   where
     first : Place
@@ -76,27 +76,27 @@ over_shows form p offset address s ss each = (one s each.0 low.0 (greatest-start
     low = first-low s ss
 
     one : (x : Place) → IsAt offset address x → (first_in_file s ss).sh_offset ≤ x.sh_offset → end_of (file_range x) ≤ greatest (end_of (file_range s)) (map (λ (t : Place). end_of (file_range t)) ss)
-        → shows_place (led_to form p (target_over s ss)) x ≡ true
+        → shows_place (anchored_to form p (target_over s ss)) x ≡ true
     one x at begins end =
         let at_first : IsAt offset address (first_in_file s ss) = first-has (IsAt offset address) s ss each.0 each.1 in
         let distance = at.1 in
         let first_distance = at_first.1 in
-        led_shows form p (target_over s ss) (first_in_file s ss).sh_addr x (in_memory-address (first_in_file s ss) at_first.0) begins (omega (arith, begins, end)) (omega (arith, distance, first_distance))
+        anchored_shows form p (target_over s ss) (first_in_file s ss).sh_addr x (in_memory-address (first_in_file s ss) at_first.0) begins (omega (arith, begins, end)) (omega (arith, distance, first_distance))
 
-    rest : Each (λ x. shows_place (led_to form p (target_over s ss)) x ≡ true) ss
+    rest : Each (λ x. shows_place (anchored_to form p (target_over s ss)) x ≡ true) ss
     rest =
         each-more (λ x. (IsAt offset address x × ((first_in_file s ss).sh_offset ≤ x.sh_offset)) × (end_of (file_range x) ≤ greatest (end_of (file_range s)) (map (λ (t : Place). end_of (file_range t)) ss)))
-        (λ x. shows_place (led_to form p (target_over s ss)) x ≡ true) (λ x h. one x h.0.0 h.0.1 h.1) ss
+        (λ x. shows_place (anchored_to form p (target_over s ss)) x ≡ true) (λ x h. one x h.0.0 h.0.1 h.1) ss
         (each-both (λ x. IsAt offset address x × ((first_in_file s ss).sh_offset ≤ x.sh_offset)) (λ x. end_of (file_range x) ≤ greatest (end_of (file_range s)) (map (λ (t : Place). end_of (file_range t)) ss)) ss
         (each-both (IsAt offset address) (λ x. (first_in_file s ss).sh_offset ≤ x.sh_offset) ss each.1 low.1)
         (each-unmap (λ m. m ≤ greatest (end_of (file_range s)) (map (λ (t : Place). end_of (file_range t)) ss)) (λ (t : Place). end_of (file_range t)) ss (greatest-each (end_of (file_range s)) (map (λ (t : Place). end_of (file_range t)) ss))))
 
 -- the target over places of which one is wanted
 pub targets_show : (form : Form) (p : SegmentHeader) (offset address : ℕ) (places : List Place) → Each (IsAt offset address) places → (i : ℕ) (x : Place) → slice_get places i ≡ Some x
-    → (j : ℕ) × (t : Target) × (slice_get (targets_over places) j ≡ Some t) × (shows_place (led_to form p t) x ≡ true)
+    → (j : ℕ) × (t : Target) × (slice_get (targets_over places) j ≡ Some t) × (shows_place (anchored_to form p t) x ≡ true)
 targets_show form p offset address [] each i x at = absurd (none-some x at)
-targets_show form p offset address (s ∷ ss) each i x at = (0, target_over s ss, refl, each-at (λ x. shows_place (led_to form p (target_over s ss)) x ≡ true) (s ∷ ss) (over_shows form p offset address s ss each) i x at)
+targets_show form p offset address (s ∷ ss) each i x at = (0, target_over s ss, refl, each-at (λ x. shows_place (anchored_to form p (target_over s ss)) x ≡ true) (s ∷ ss) (over_shows form p offset address s ss each) i x at)
 
--- led to one place, it shows that
-pub target_shows : (form : Form) (p : SegmentHeader) (x : Place) → occupies_memory x ≡ true → shows_place (led_to form p (target_at x)) x ≡ true
-target_shows form p x h = led_shows form p (target_at x) x.sh_addr x (in_memory-address x h) (omega arith) (omega arith) refl
+-- anchored to one place, it shows that
+pub target_shows : (form : Form) (p : SegmentHeader) (x : Place) → occupies_memory x ≡ true → shows_place (anchored_to form p (target_at x)) x ≡ true
+target_shows form p x h = anchored_shows form p (target_at x) x.sh_addr x (in_memory-address x h) (omega arith) (omega arith) refl

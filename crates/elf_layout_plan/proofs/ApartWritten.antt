@@ -14,12 +14,12 @@ use Rattle.elf_format.specs.declared.records.SegmentHeader.{SegmentHeader}
 use Rattle.elf_format.specs.File.{is_loaded, loads_of}
 use Rattle.elf_format.specs.Places.{Place}
 use Rattle.elf_layout_plan.specs.Added.{AddedLoad, added_loads, header_count, kept_end, load_alignment, loads_from, memory_end}
-use Rattle.elf_layout_plan.specs.Follow.{HeaderTable, Itself, Leader, Notes, OneSection, are_parted, is_moved, is_parted, is_split, leader_of, moved_notes, staying_notes}
-use Rattle.elf_layout_plan.specs.Kept.{KeptSection}
+use Rattle.elf_layout_plan.specs.Anchors.{HeaderTable, Itself, Anchor, Notes, OneSection, are_parted, is_moved, is_parted, is_split, anchor_of, moved_notes, staying_notes}
+use Rattle.elf_image.specs.Kept.{KeptSection}
 use Rattle.elf_layout_plan.specs.Memory.{Resized, SizedSection}
 use Rattle.elf_layout_plan.specs.Rounds.{added_flags, headers_needed, sections_at}
 use Rattle.elf_layout_plan.specs.Standing.{places}
-use Rattle.elf_layout_plan.specs.Written.{Target, behind_last_load, led_to, places_of_kept, resized_table, target_at, targets_of, targets_of_notes, targets_over, with_table_size, written_from, written_segments}
+use Rattle.elf_layout_plan.specs.Written.{Target, behind_last_load, anchored_to, places_of_kept, resized_table, target_at, targets_of, targets_of_notes, targets_over, with_table_size, written_from, written_segments}
 use Rattle.elf_layout_plan.proofs.ApartLists.{Each, append-back_at, at-map, each-all, each-append, each-map, each-more, flat_map-at, none-at}
 use Rattle.elf_layout_plan.proofs.ApartSections.{file_behind, first_load, memory_behind}
 
@@ -35,47 +35,47 @@ filter-same {A} test (x ∷ xs) h = ap (λ b. cond b (x ∷ filter test xs) (fil
 
 module _ (r : Resized) (moved : List ℕ) where
   -- where a program header goes, and what becomes of it, by what it goes by
-  pub targets_by : Leader → List Target
-  targets_by leader = elim leader [
+  pub targets_by : Anchor → List Target
+  targets_by anchor = elim anchor [
     | Itself ↦ []
     | HeaderTable ↦ []
     | OneSection s ↦ map target_at (places_of_kept (places r moved) (s ∷ []))
     | Notes notes ↦ targets_of_notes moved (places r moved) notes
   ]
 
-  pub targets_are : (p : SegmentHeader) → targets_of r moved p ≡ targets_by (leader_of r p)
+  pub targets_are : (p : SegmentHeader) → targets_of r moved p ≡ targets_by (anchor_of r p)
   unfolding targets_of targets_by
   targets_are p = refl
 
   pub written_by : SegmentHeader → List Target → List SegmentHeader
-  written_by p targets = elim targets [ [] ↦ resized_table r moved p ∷ [] | t ∷ ts ↦ map (led_to r.image.form p) (t ∷ ts) ]
+  written_by p targets = elim targets [ [] ↦ resized_table r moved p ∷ [] | t ∷ ts ↦ map (anchored_to r.image.form p) (t ∷ ts) ]
 
   pub written_is : (p : SegmentHeader) → written_from r moved p ≡ written_by p (targets_of r moved p)
   unfolding written_by
   written_is p = refl
 
-  pub load_leader : (p : SegmentHeader) → is_loaded p ≡ true → leader_of r p ≡ Itself
-  unfolding leader_of
-  load_leader p h = by_type (p.p_type == PT_LOAD) _ h
+  pub load_anchor : (p : SegmentHeader) → is_loaded p ≡ true → anchor_of r p ≡ Itself
+  unfolding anchor_of
+  load_anchor p h = by_type (p.p_type == PT_LOAD) _ h
     where
-      by_type : (b : Bool) (other : Leader) → b ≡ true → cond b Itself other ≡ Itself
+      by_type : (b : Bool) (other : Anchor) → b ≡ true → cond b Itself other ≡ Itself
       by_type true other e = refl
       by_type false other e = absurd (false≢true e)
 
-  table_by : SegmentHeader → Leader → SegmentHeader
-  table_by p leader = elim leader [ HeaderTable ↦ with_table_size r moved p | _ ↦ p ]
+  table_by : SegmentHeader → Anchor → SegmentHeader
+  table_by p anchor = elim anchor [ HeaderTable ↦ with_table_size r moved p | _ ↦ p ]
 
-  table_is : (p : SegmentHeader) → resized_table r moved p ≡ table_by p (leader_of r p)
+  table_is : (p : SegmentHeader) → resized_table r moved p ≡ table_by p (anchor_of r p)
   unfolding table_by
   table_is p = refl
 
   load_written : (p : SegmentHeader) → is_loaded p ≡ true → written_from r moved p ≡ p ∷ []
   unfolding targets_by written_by table_by
   load_written p h =
-      written_is p ∙ ap (written_by p) (targets_are p ∙ ap targets_by (load_leader p h))
-      ∙ ap (λ q. q ∷ []) (table_is p ∙ ap (table_by p) (load_leader p h))
+      written_is p ∙ ap (written_by p) (targets_are p ∙ ap targets_by (load_anchor p h))
+      ∙ ap (λ q. q ∷ []) (table_is p ∙ ap (table_by p) (load_anchor p h))
 
-  table_type : (p : SegmentHeader) (leader : Leader) → (table_by p leader).p_type ≡ p.p_type
+  table_type : (p : SegmentHeader) (anchor : Anchor) → (table_by p anchor).p_type ≡ p.p_type
   unfolding table_by
   table_type p Itself = refl
   table_type p HeaderTable = refl
@@ -84,8 +84,8 @@ module _ (r : Resized) (moved : List ℕ) where
 
   written_type : (p : SegmentHeader) (targets : List Target) → Each (λ q. q.p_type ≡ p.p_type) (written_by p targets)
   unfolding written_by
-  written_type p [] = (ap (λ (q : SegmentHeader). q.p_type) (table_is p) ∙ table_type p (leader_of r p), tt)
-  written_type p (t ∷ ts) = each-map (λ (q : SegmentHeader). q.p_type ≡ p.p_type) (led_to r.image.form p) (t ∷ ts) (each-all (λ t. p.p_type ≡ p.p_type) (λ t. refl) (t ∷ ts))
+  written_type p [] = (ap (λ (q : SegmentHeader). q.p_type) (table_is p) ∙ table_type p (anchor_of r p), tt)
+  written_type p (t ∷ ts) = each-map (λ (q : SegmentHeader). q.p_type ≡ p.p_type) (anchored_to r.image.form p) (t ∷ ts) (each-all (λ t. p.p_type ≡ p.p_type) (λ t. refl) (t ∷ ts))
 
   loads_from_one : (p : SegmentHeader) → loads_of (written_from r moved p) ≡ cond (is_loaded p) (p ∷ []) []
   loads_from_one p = elim (cases_Bool (is_loaded p)) [
@@ -218,7 +218,7 @@ length-one all s = by_place (slice_get all s.position)
     by_place None = omega arith
     by_place (Some p) = omega arith
 
-length-targets : (r : Resized) (moved : List ℕ) (leader : Leader) → length (targets_by r moved leader) ≤ 1 + cond (is_parted moved leader) 1 0
+length-targets : (r : Resized) (moved : List ℕ) (anchor : Anchor) → length (targets_by r moved anchor) ≤ 1 + cond (is_parted moved anchor) 1 0
 unfolding targets_by
 length-targets r moved Itself = omega arith
 length-targets r moved HeaderTable = omega arith
@@ -228,7 +228,7 @@ length-targets r moved (Notes notes) = length-notes moved (places r moved) notes
 length-written_by : (r : Resized) (moved : List ℕ) (p : SegmentHeader) (targets : List Target) (n : ℕ) → length targets ≤ 1 + n → length (written_by r moved p targets) ≤ 1 + n
 unfolding written_by
 length-written_by r moved p [] n h = omega arith
-length-written_by r moved p (t ∷ ts) n h = omega (arith, h, length-map (led_to r.image.form p) (t ∷ ts))
+length-written_by r moved p (t ∷ ts) n h = omega (arith, h, length-map (anchored_to r.image.form p) (t ∷ ts))
 
 length-written : (r : Resized) (moved : List ℕ) (p : SegmentHeader) → length (written_from r moved p) ≤ 1 + cond (is_split r moved p) 1 0
 unfolding is_split
@@ -236,7 +236,7 @@ length-written r moved p =
     let P : List SegmentHeader → Type 0 = λ l. length l ≤ 1 + cond (is_split r moved p) 1 0 in
     let Q : List Target → Type 0 = λ l. length l ≤ 1 + cond (is_split r moved p) 1 0 in
     subst P (sym (written_is r moved p)) (length-written_by r moved p (targets_of r moved p) (cond (is_split r moved p) 1 0)
-    (subst Q (sym (targets_are r moved p)) (length-targets r moved (leader_of r p))))
+    (subst Q (sym (targets_are r moved p)) (length-targets r moved (anchor_of r p))))
 
 count-more : (test : SegmentHeader → Bool) (p : SegmentHeader) (ps : List SegmentHeader) → count_by test (p ∷ ps) ≡ cond (test p) 1 0 + count_by test ps
 count-more test p ps = sym (length-filter test (p ∷ ps)) ∙ by_test (test p)
@@ -279,35 +279,35 @@ length-plan r moved =
 -- ## A program header for notes
 
 -- where none of its notes moves it stays as it is
-pub notes_stay : (r : Resized) (moved : List ℕ) (p : SegmentHeader) (notes : List KeptSection) → leader_of r p ≡ Notes notes → list_any (is_moved moved) notes ≡ false → written_from r moved p ≡ p ∷ []
+pub notes_stay : (r : Resized) (moved : List ℕ) (p : SegmentHeader) (notes : List KeptSection) → anchor_of r p ≡ Notes notes → list_any (is_moved moved) notes ≡ false → written_from r moved p ≡ p ∷ []
 unfolding targets_by written_by table_by
-notes_stay r moved p notes leader none =
+notes_stay r moved p notes anchor none =
     let targets : List Target = targets_over (places_of_kept (places r moved) (staying_notes moved notes)) ++ targets_over (places_of_kept (places r moved) (moved_notes moved notes)) in
-    let no_targets : targets_of r moved p ≡ [] = targets_are r moved p ∙ ap (targets_by r moved) leader ∙ ap (λ b. if b then targets else []) none in
-    written_is r moved p ∙ ap (written_by r moved p) no_targets ∙ ap (λ q. q ∷ []) (table_is r moved p ∙ ap (table_by r moved p) leader)
+    let no_targets : targets_of r moved p ≡ [] = targets_are r moved p ∙ ap (targets_by r moved) anchor ∙ ap (λ b. if b then targets else []) none in
+    written_is r moved p ∙ ap (written_by r moved p) no_targets ∙ ap (λ q. q ∷ []) (table_is r moved p ∙ ap (table_by r moved p) anchor)
 
 -- the program header for a target
-written_by-at : (r : Resized) (moved : List ℕ) (p : SegmentHeader) (targets : List Target) (j : ℕ) (t : Target) → slice_get targets j ≡ Some t → slice_get (written_by r moved p targets) j ≡ Some (led_to r.image.form p t)
+written_by-at : (r : Resized) (moved : List ℕ) (p : SegmentHeader) (targets : List Target) (j : ℕ) (t : Target) → slice_get targets j ≡ Some t → slice_get (written_by r moved p targets) j ≡ Some (anchored_to r.image.form p t)
 unfolding written_by
 written_by-at r moved p [] j t at = absurd (none-some t at)
-written_by-at r moved p (u ∷ targets) j t at = at-map (led_to r.image.form p) (u ∷ targets) j t at
+written_by-at r moved p (u ∷ targets) j t at = at-map (anchored_to r.image.form p) (u ∷ targets) j t at
 
 pub written-at : (r : Resized) (moved : List ℕ) (p : SegmentHeader) (targets : List Target) → targets_of r moved p ≡ targets → (j : ℕ) (t : Target) → slice_get targets j ≡ Some t
-    → slice_get (written_from r moved p) j ≡ Some (led_to r.image.form p t)
+    → slice_get (written_from r moved p) j ≡ Some (anchored_to r.image.form p t)
 written-at r moved p targets are j t at =
     ap (λ (l : List SegmentHeader). slice_get l j) (written_is r moved p ∙ ap (written_by r moved p) are) ∙ written_by-at r moved p targets j t at
 
 -- the targets of a program header over notes of which some move, and of one that is just over a section
-pub notes_targets : (r : Resized) (moved : List ℕ) (p : SegmentHeader) (notes : List KeptSection) → leader_of r p ≡ Notes notes → list_any (is_moved moved) notes ≡ true
+pub notes_targets : (r : Resized) (moved : List ℕ) (p : SegmentHeader) (notes : List KeptSection) → anchor_of r p ≡ Notes notes → list_any (is_moved moved) notes ≡ true
     → targets_of r moved p ≡ targets_over (places_of_kept (places r moved) (staying_notes moved notes)) ++ targets_over (places_of_kept (places r moved) (moved_notes moved notes))
 unfolding targets_by
-notes_targets r moved p notes leader some =
+notes_targets r moved p notes anchor some =
     let targets : List Target = targets_over (places_of_kept (places r moved) (staying_notes moved notes)) ++ targets_over (places_of_kept (places r moved) (moved_notes moved notes)) in
-    targets_are r moved p ∙ ap (targets_by r moved) leader ∙ ap (λ b. if b then targets else []) some
+    targets_are r moved p ∙ ap (targets_by r moved) anchor ∙ ap (λ b. if b then targets else []) some
 
-pub section_targets : (r : Resized) (moved : List ℕ) (p : SegmentHeader) (s : KeptSection) (x : Place) → leader_of r p ≡ OneSection s → slice_get (places r moved) s.position ≡ Some x → targets_of r moved p ≡ target_at x ∷ []
+pub section_targets : (r : Resized) (moved : List ℕ) (p : SegmentHeader) (s : KeptSection) (x : Place) → anchor_of r p ≡ OneSection s → slice_get (places r moved) s.position ≡ Some x → targets_of r moved p ≡ target_at x ∷ []
 unfolding targets_by
-section_targets r moved p s x leader at = targets_are r moved p ∙ ap (targets_by r moved) leader ∙ ap (λ o. map target_at (cons_option o [])) at
+section_targets r moved p s x anchor at = targets_are r moved p ∙ ap (targets_by r moved) anchor ∙ ap (λ o. map target_at (cons_option o [])) at
 
 -- what is written is among the program headers of the plan
 behind-at : (adds ps : List SegmentHeader) (i : ℕ) (p : SegmentHeader) → slice_get ps i ≡ Some p → (j : ℕ) × (slice_get (behind_last_load adds ps) j ≡ Some p)

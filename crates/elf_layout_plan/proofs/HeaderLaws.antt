@@ -9,7 +9,7 @@ use Rattle.elf_format.specs.File.{is_loaded}
 use Rattle.elf_format.specs.Image.{ImageSection}
 use Rattle.elf_format.specs.Places.{is_set}
 use Rattle.elf_layout_plan.specs.declared.constants.TheConstants.{PF_R, PF_W}
-use Rattle.elf_layout_plan.specs.Follow.{Itself, Leader, is_parted, is_split, leader_of}
+use Rattle.elf_layout_plan.specs.Anchors.{Itself, Anchor, is_parted, is_split, anchor_of}
 use Rattle.elf_layout_plan.specs.Memory.{Resized, SizedSection}
 use Rattle.elf_layout_plan.specs.Plan.{most_added}
 use Rattle.elf_layout_plan.specs.Rounds.{added_flags, each_once, flags_for, headers_needed, sections_at}
@@ -32,10 +32,10 @@ count_by-le p q more xs = omega (arith, length-filter p xs, length-filter q xs, 
 
 -- no program header that is loaded is split
 split_isnt_loaded : (r : Resized) (moved : List ℕ) (p : SegmentHeader) → is_split r moved p ≡ true → not (is_loaded p) ≡ true
-unfolding is_split leader_of
+unfolding is_split anchor_of
 split_isnt_loaded r moved p h = by_type (p.p_type == PT_LOAD) _ h
   where
-    by_type : (loaded : Bool) (other : Leader) → is_parted moved (cond loaded Itself other) ≡ true → not loaded ≡ true
+    by_type : (loaded : Bool) (other : Anchor) → is_parted moved (cond loaded Itself other) ≡ true → not loaded ≡ true
     by_type true other h = absurd (true≢false (sym h))
     by_type false other h = refl
 

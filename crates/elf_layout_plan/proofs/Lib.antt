@@ -14,7 +14,7 @@ pub mod PlacedSegments
 pub mod PlacedBlocks
 pub mod PlacedCount
 pub mod PlacedStays
-pub mod LooseParts
+pub mod UnloadedParts
 pub mod PlacedPlaces
 pub mod PlacedFile
 pub mod PlacedSizes

@@ -8,66 +8,66 @@ use Rattle.elf_format.specs.declared.constants.TheConstants.{PT_LOAD}
 use Rattle.elf_format.specs.Options.{is_one_of}
 use Rattle.elf_format.specs.Placement.{file_part, memory_part}
 use Rattle.elf_format.specs.Ranges.{end_of}
-use Rattle.elf_layout_plan.specs.Added.{AddedLoad, Spot, added_loads, alignment_of, greatest, kept_end, load_alignment, load_at, loads_from, memory_end, spots_from}
+use Rattle.elf_layout_plan.specs.Added.{AddedLoad, Slot, added_loads, alignment_of, greatest, kept_end, load_alignment, load_at, loads_from, memory_end, slots_from}
 use Rattle.elf_layout_plan.specs.Memory.{Resized, SizedSection, sized_sections}
 use Rattle.elf_layout_plan.specs.Rounds.{added_flags, each_once, flags_for, sections_at}
-use Rattle.elf_layout_plan.specs.Standing.{spot_of}
+use Rattle.elf_layout_plan.specs.Standing.{slot_of}
 use Rattle.elf_layout_plan.proofs.PlacedLists.{Has, Pairs, any-at, append-left, append-right, filter-at, filter-from, filter_map-at, filter_map-from, find-at, find-none, flat_map-at, greatest-at, greatest-first, has_cases, has_here, has_none, has_same, has_there, map-from, pairs-more, pairs-none, slice_get-at}
 use Rattle.elf_layout_plan.proofs.PlacedSections.{at_position, same_section}
 
--- ## Spots
+-- ## Slots
 
--- a spot at that offset or behind it, at the distance of an address from the offset
-pub record IsSpotFrom (offset address : ℕ) (t : Spot) : Type 0 where
+-- a slot at that offset or behind it, at the distance of an address from the offset
+pub record IsSlotFrom (offset address : ℕ) (t : Slot) : Type 0 where
   pub begins : offset ≤ t.offset
   pub distance : t.address + offset ≡ address + t.offset
 
--- a spot is a section's
-pub record SpotSource (sections : List SizedSection) (t : Spot) : Type 0 where
+-- a slot is a section's
+pub record SlotSource (sections : List SizedSection) (t : Slot) : Type 0 where
   pub section : SizedSection
   pub here : Has section sections
   pub position : t.position ≡ section.kept.position
   pub size : t.size ≡ section.size
 
--- the first spot, and those behind it
-abbrev first_spot : ℕ → ℕ → SizedSection → Spot
-first_spot offset address s =
+-- the first slot, and those behind it
+abbrev first_slot : ℕ → ℕ → SizedSection → Slot
+first_slot offset address s =
     let at = next_multiple_of address (alignment_of s) in
     record { position = s.kept.position; offset = offset + (at - address); address = at; size = s.size }
 
-abbrev later_spots : ℕ → ℕ → SizedSection → List SizedSection → List Spot
-later_spots offset address s ss =
+abbrev later_slots : ℕ → ℕ → SizedSection → List SizedSection → List Slot
+later_slots offset address s ss =
     let at = next_multiple_of address (alignment_of s) in
-    spots_from (offset + (at - address) + s.size) (at + s.size) ss
+    slots_from (offset + (at - address) + s.size) (at + s.size) ss
 
-spots-step : (offset address : ℕ) (s : SizedSection) (ss : List SizedSection)
-    → spots_from offset address (s ∷ ss) ≡ first_spot offset address s ∷ later_spots offset address s ss
-unfolding spots_from
-spots-step offset address s ss = refl
+slots-step : (offset address : ℕ) (s : SizedSection) (ss : List SizedSection)
+    → slots_from offset address (s ∷ ss) ≡ first_slot offset address s ∷ later_slots offset address s ss
+unfolding slots_from
+slots-step offset address s ss = refl
 
-spots-none : (offset address : ℕ) → spots_from offset address [] ≡ []
-unfolding spots_from
-spots-none offset address = refl
+slots-none : (offset address : ℕ) → slots_from offset address [] ≡ []
+unfolding slots_from
+slots-none offset address = refl
 
-no_spot : (offset address : ℕ) (t : Spot) → Has t (spots_from offset address []) → ⊥
-no_spot offset address t h = has_none t (subst (λ (l : List Spot). Has t l) (spots-none offset address) h)
+no_slot : (offset address : ℕ) (t : Slot) → Has t (slots_from offset address []) → ⊥
+no_slot offset address t h = has_none t (subst (λ (l : List Slot). Has t l) (slots-none offset address) h)
 
-spot_cases : (offset address : ℕ) (s : SizedSection) (ss : List SizedSection) (t : Spot) → Has t (spots_from offset address (s ∷ ss))
-    → (first_spot offset address s ≡ t) ⊎ Has t (later_spots offset address s ss)
-spot_cases offset address s ss t h =
-    has_cases t (first_spot offset address s) (later_spots offset address s ss)
-    (subst (λ (l : List Spot). Has t l) (spots-step offset address s ss) h)
+slot_cases : (offset address : ℕ) (s : SizedSection) (ss : List SizedSection) (t : Slot) → Has t (slots_from offset address (s ∷ ss))
+    → (first_slot offset address s ≡ t) ⊎ Has t (later_slots offset address s ss)
+slot_cases offset address s ss t h =
+    has_cases t (first_slot offset address s) (later_slots offset address s ss)
+    (subst (λ (l : List Slot). Has t l) (slots-step offset address s ss) h)
 
-first_from : (offset address : ℕ) (s : SizedSection) → IsSpotFrom offset address (first_spot offset address s)
+first_from : (offset address : ℕ) (s : SizedSection) → IsSlotFrom offset address (first_slot offset address s)
 first_from offset address s = record { begins = omega arith; distance = omega arith }
 
-spots_bounds : (offset address : ℕ) (ss : List SizedSection) (t : Spot) → Has t (spots_from offset address ss) → IsSpotFrom offset address t
-spots_bounds offset address [] t h = absurd (no_spot offset address t h)
-spots_bounds offset address (s ∷ ss) t h = elim (spot_cases offset address s ss t h) [
-  | inl same ↦ subst (λ (x : Spot). IsSpotFrom offset address x) same (first_from offset address s)
+slots_bounds : (offset address : ℕ) (ss : List SizedSection) (t : Slot) → Has t (slots_from offset address ss) → IsSlotFrom offset address t
+slots_bounds offset address [] t h = absurd (no_slot offset address t h)
+slots_bounds offset address (s ∷ ss) t h = elim (slot_cases offset address s ss t h) [
+  | inl same ↦ subst (λ (x : Slot). IsSlotFrom offset address x) same (first_from offset address s)
   | inr later ↦
       let at : ℕ = next_multiple_of address (alignment_of s) in
-      let more = spots_bounds (offset + (at - address) + s.size) (at + s.size) ss t later in
+      let more = slots_bounds (offset + (at - address) + s.size) (at + s.size) ss t later in
       let begins : offset + (at - address) + s.size ≤ t.offset = more.begins in
       let distance : t.address + (offset + (at - address) + s.size) ≡ at + s.size + t.offset = more.distance in
       let behind : address ≤ at = omega arith in
@@ -75,75 +75,75 @@ spots_bounds offset address (s ∷ ss) t h = elim (spot_cases offset address s s
 ]
 
 -- each ends where the next one begins, or before
-abbrev pub EndsBefore : Spot → Spot → Type 0
+abbrev pub EndsBefore : Slot → Slot → Type 0
 EndsBefore s t = s.offset + s.size ≤ t.offset
 
-spots_pairs : (offset address : ℕ) (ss : List SizedSection) → Pairs EndsBefore (spots_from offset address ss)
-spots_pairs offset address [] = subst (λ (l : List Spot). Pairs EndsBefore l) (sym (spots-none offset address)) (pairs-none EndsBefore)
-spots_pairs offset address (s ∷ ss) =
+slots_pairs : (offset address : ℕ) (ss : List SizedSection) → Pairs EndsBefore (slots_from offset address ss)
+slots_pairs offset address [] = subst (λ (l : List Slot). Pairs EndsBefore l) (sym (slots-none offset address)) (pairs-none EndsBefore)
+slots_pairs offset address (s ∷ ss) =
     let at : ℕ = next_multiple_of address (alignment_of s) in
-    subst (λ (l : List Spot). Pairs EndsBefore l) (sym (spots-step offset address s ss))
-    (pairs-more EndsBefore (first_spot offset address s) (later_spots offset address s ss)
-    (λ t here. (spots_bounds (offset + (at - address) + s.size) (at + s.size) ss t here).begins)
-    (spots_pairs (offset + (at - address) + s.size) (at + s.size) ss))
+    subst (λ (l : List Slot). Pairs EndsBefore l) (sym (slots-step offset address s ss))
+    (pairs-more EndsBefore (first_slot offset address s) (later_slots offset address s ss)
+    (λ t here. (slots_bounds (offset + (at - address) + s.size) (at + s.size) ss t here).begins)
+    (slots_pairs (offset + (at - address) + s.size) (at + s.size) ss))
 
-spot_source : (offset address : ℕ) (ss : List SizedSection) (t : Spot) → Has t (spots_from offset address ss) → SpotSource ss t
-spot_source offset address [] t h = absurd (no_spot offset address t h)
-spot_source offset address (s ∷ ss) t h = elim (spot_cases offset address s ss t h) [
+slot_source : (offset address : ℕ) (ss : List SizedSection) (t : Slot) → Has t (slots_from offset address ss) → SlotSource ss t
+slot_source offset address [] t h = absurd (no_slot offset address t h)
+slot_source offset address (s ∷ ss) t h = elim (slot_cases offset address s ss t h) [
   | inl same ↦ record {
     section = s;
     here = has_here s ss;
-    position = ap (λ (x : Spot). x.position) (sym same);
-    size = ap (λ (x : Spot). x.size) (sym same);
+    position = ap (λ (x : Slot). x.position) (sym same);
+    size = ap (λ (x : Slot). x.size) (sym same);
   }
   | inr later ↦
       let at : ℕ = next_multiple_of address (alignment_of s) in
-      let more = spot_source (offset + (at - address) + s.size) (at + s.size) ss t later in
+      let more = slot_source (offset + (at - address) + s.size) (at + s.size) ss t later in
       record { section = more.section; here = has_there more.section s ss more.here; position = more.position; size = more.size }
 ]
 
--- each section has a spot
-record SpotThere (spots : List Spot) (position : ℕ) : Type 0 where
-  spot : Spot
-  here : Has spot spots
-  same : spot.position ≡ position
+-- each section has a slot
+record SlotThere (slots : List Slot) (position : ℕ) : Type 0 where
+  slot : Slot
+  here : Has slot slots
+  same : slot.position ≡ position
 
-spot_there : (offset address : ℕ) (ss : List SizedSection) (x : SizedSection) → Has x ss → SpotThere (spots_from offset address ss) x.kept.position
-spot_there offset address [] x h = absurd (has_none x h)
-spot_there offset address (s ∷ ss) x h = subst (λ (l : List Spot). SpotThere l x.kept.position) (sym (spots-step offset address s ss))
+slot_there : (offset address : ℕ) (ss : List SizedSection) (x : SizedSection) → Has x ss → SlotThere (slots_from offset address ss) x.kept.position
+slot_there offset address [] x h = absurd (has_none x h)
+slot_there offset address (s ∷ ss) x h = subst (λ (l : List Slot). SlotThere l x.kept.position) (sym (slots-step offset address s ss))
     (elim (has_cases x s ss h) [
       | inl same ↦ record {
-        spot = first_spot offset address s;
-        here = has_here (first_spot offset address s) (later_spots offset address s ss);
+        slot = first_slot offset address s;
+        here = has_here (first_slot offset address s) (later_slots offset address s ss);
         same = ap (λ (y : SizedSection). y.kept.position) same;
       }
       | inr later ↦
           let at : ℕ = next_multiple_of address (alignment_of s) in
-          let more = spot_there (offset + (at - address) + s.size) (at + s.size) ss x later in
+          let more = slot_there (offset + (at - address) + s.size) (at + s.size) ss x later in
           record {
-            spot = more.spot;
-            here = has_there more.spot (first_spot offset address s) (later_spots offset address s ss) more.here;
+            slot = more.slot;
+            here = has_there more.slot (first_slot offset address s) (later_slots offset address s ss) more.here;
             same = more.same;
           }
     ])
 
 -- ## Added segments
 
--- a spot lies in its segment's part of the file, at the distance of that
-pub record IsSpotOf (load : AddedLoad) (t : Spot) : Type 0 where
+-- a slot lies in its segment's part of the file, at the distance of that
+pub record IsSlotOf (load : AddedLoad) (t : Slot) : Type 0 where
   pub begins : load.header.p_offset ≤ t.offset
   pub ends : t.offset + t.size ≤ load.header.p_offset + load.header.p_filesz
   pub distance : t.address + load.header.p_offset ≡ load.header.p_vaddr + t.offset
 
--- a loaded segment behind the ends of file and memory, with spots of sections
+-- a loaded segment behind the ends of file and memory, with slots of sections
 pub record IsAdded (end memory : ℕ) (sections : List SizedSection) (load : AddedLoad) : Type 0 where
   pub loaded : load.header.p_type ≡ PT_LOAD
   pub whole : load.header.p_filesz ≡ load.header.p_memsz
   pub in_file : end ≤ load.header.p_offset
   pub in_memory : memory ≤ load.header.p_vaddr
-  pub spots : (t : Spot) → Has t load.spots → IsSpotOf load t
-  pub spots_apart : Pairs EndsBefore load.spots
-  pub sources : (t : Spot) → Has t load.spots → SpotSource sections t
+  pub slots : (t : Slot) → Has t load.slots → IsSlotOf load t
+  pub slots_apart : Pairs EndsBefore load.slots
+  pub sources : (t : Slot) → Has t load.slots → SlotSource sections t
 
 abbrev sections_with : ℕ → List SizedSection → List SizedSection
 sections_with flags sections = filter (λ s. flags_for s.kept.section == flags) sections
@@ -155,22 +155,22 @@ first_added : (align end memory flags : ℕ) (sections : List SizedSection) → 
 first_added align end memory flags sections =
     let address : ℕ = next_multiple_of memory align + end % align in
     let chosen : List SizedSection = sections_with flags sections in
-    let spots : List Spot = spots_from end address chosen in
-    let ends : List ℕ = map (λ s. s.offset + s.size) spots in
+    let slots : List Slot = slots_from end address chosen in
+    let ends : List ℕ = map (λ s. s.offset + s.size) slots in
     record {
       loaded = refl;
       whole = refl;
       in_file = omega arith;
       in_memory = omega arith;
-      spots = λ t here.
-          let from = spots_bounds end address chosen t here in
+      slots = λ t here.
+          let from = slots_bounds end address chosen t here in
           let high : t.offset + t.size ≤ greatest end ends = greatest-at end ends (t.offset + t.size)
-          (map-from (λ s. s.offset + s.size) spots t here) in
+          (map-from (λ s. s.offset + s.size) slots t here) in
           let low : end ≤ greatest end ends = greatest-first end ends in
           record { begins = from.begins; ends = within end (greatest end ends) (t.offset + t.size) low high; distance = from.distance };
-      spots_apart = spots_pairs end address chosen;
+      slots_apart = slots_pairs end address chosen;
       sources = λ t here.
-          let from = spot_source end address chosen t here in
+          let from = slot_source end address chosen t here in
           record {
             section = from.section;
             here = (filter-at (λ s. flags_for s.kept.section == flags) sections from.section from.here).0;
@@ -204,8 +204,8 @@ weaker low end mid memory sections load l m h = record {
   whole = h.whole;
   in_file = omega (arith, h.in_file);
   in_memory = omega (arith, h.in_memory);
-  spots = h.spots;
-  spots_apart = h.spots_apart;
+  slots = h.slots;
+  slots_apart = h.slots_apart;
   sources = h.sources;
 }
 
@@ -251,27 +251,27 @@ length-loads align end memory (n ∷ ns) sections =
     let first : AddedLoad = first_load align end memory n sections in
     ap suc (length-loads align (end_of (file_part first.header)) (end_of (memory_part first.header)) ns sections)
 
-abbrev all_spots : List AddedLoad → List Spot
-all_spots loads = flat_map (λ load. load.spots) loads
+abbrev all_slots : List AddedLoad → List Slot
+all_slots loads = flat_map (λ load. load.slots) loads
 
--- a section has a spot in the segment with its flags
-spot_added : (align end memory : ℕ) (flags : List ℕ) (sections : List SizedSection) (x : SizedSection) → Has x sections
+-- a section has a slot in the segment with its flags
+slot_added : (align end memory : ℕ) (flags : List ℕ) (sections : List SizedSection) (x : SizedSection) → Has x sections
     → Has (flags_for x.kept.section) flags
-    → SpotThere (all_spots (loads_from align end memory flags sections)) x.kept.position
-spot_added align end memory [] sections x here among = absurd (has_none (flags_for x.kept.section) among)
-spot_added align end memory (n ∷ ns) sections x here among =
+    → SlotThere (all_slots (loads_from align end memory flags sections)) x.kept.position
+slot_added align end memory [] sections x here among = absurd (has_none (flags_for x.kept.section) among)
+slot_added align end memory (n ∷ ns) sections x here among =
     let first : AddedLoad = first_load align end memory n sections in
     let address : ℕ = next_multiple_of memory align + end % align in
     let rest : List AddedLoad = later_loads align end memory n ns sections in
-    subst (λ (l : List AddedLoad). SpotThere (all_spots l) x.kept.position) (sym (loads-step align end memory n ns sections))
+    subst (λ (l : List AddedLoad). SlotThere (all_slots l) x.kept.position) (sym (loads-step align end memory n ns sections))
     (elim (has_cases (flags_for x.kept.section) n ns among) [
       | inl same ↦
           let chosen = filter-from (λ s. flags_for s.kept.section == n) sections x here (eq-eqb (flags_for x.kept.section) n (sym same)) in
-          let there = spot_there end address (sections_with n sections) x chosen in
-          record { spot = there.spot; here = append-left first.spots (all_spots rest) there.spot there.here; same = there.same }
+          let there = slot_there end address (sections_with n sections) x chosen in
+          record { slot = there.slot; here = append-left first.slots (all_slots rest) there.slot there.here; same = there.same }
       | inr later ↦
-          let more = spot_added align (end_of (file_part first.header)) (end_of (memory_part first.header)) ns sections x here later in
-          record { spot = more.spot; here = append-right first.spots (all_spots rest) more.spot more.here; same = more.same }
+          let more = slot_added align (end_of (file_part first.header)) (end_of (memory_part first.header)) ns sections x here later in
+          record { slot = more.slot; here = append-right first.slots (all_slots rest) more.slot more.here; same = more.same }
     ])
 
 -- each number of a list is there once
@@ -303,39 +303,39 @@ module _ (r : Resized) (moved : List ℕ) where
   unfolding added_loads
   length-added = length-loads (load_alignment r) (kept_end r moved) (memory_end r) (added_flags r moved) (sections_at r moved)
 
-  spot_exists : (s : SizedSection) → Has s (sections_at r moved) → SpotThere (all_spots (added_loads r moved)) s.kept.position
+  slot_exists : (s : SizedSection) → Has s (sections_at r moved) → SlotThere (all_slots (added_loads r moved)) s.kept.position
   unfolding added_loads
-  spot_exists s h = spot_added (load_alignment r) (kept_end r moved) (memory_end r) (added_flags r moved) (sections_at r moved) s h
+  slot_exists s h = slot_added (load_alignment r) (kept_end r moved) (memory_end r) (added_flags r moved) (sections_at r moved) s h
       (once (map (λ x. flags_for x.kept.section) (sections_at r moved)) (flags_for s.kept.section)
       (map-from (λ x. flags_for x.kept.section) (sections_at r moved) s h))
 
   -- where a section moves
-  pub record IsMovedTo (s : SizedSection) (spot : Spot) : Type 0 where
+  pub record IsMovedTo (s : SizedSection) (slot : Slot) : Type 0 where
     pub load : AddedLoad
     pub here : Has load (added_loads r moved)
-    pub among : Has spot load.spots
-    pub position : spot.position ≡ s.kept.position
-    pub size : spot.size ≡ s.size
+    pub among : Has slot load.slots
+    pub position : slot.position ≡ s.kept.position
+    pub size : slot.size ≡ s.size
 
-  pub moved_to : (s : SizedSection) (spot : Spot) → Has s (sized_sections r) → spot_of r moved s ≡ Some spot → IsMovedTo s spot
-  moved_to s spot s_here h =
-      let found = find-at (λ x. x.position == s.kept.position) (all_spots (added_loads r moved)) spot h in
-      let at = flat_map-at (λ load. load.spots) (added_loads r moved) spot found.0 in
-      let same : spot.position ≡ s.kept.position = eqb-true spot.position s.kept.position found.1 in
-      let source = (is_added at.source at.here).sources spot at.among in
+  pub moved_to : (s : SizedSection) (slot : Slot) → Has s (sized_sections r) → slot_of r moved s ≡ Some slot → IsMovedTo s slot
+  moved_to s slot s_here h =
+      let found = find-at (λ x. x.position == s.kept.position) (all_slots (added_loads r moved)) slot h in
+      let at = flat_map-at (λ load. load.slots) (added_loads r moved) slot found.0 in
+      let same : slot.position ≡ s.kept.position = eqb-true slot.position s.kept.position found.1 in
+      let source = (is_added at.source at.here).sources slot at.among in
       let given = filter_map-at (λ position. slice_get (sized_sections r) position) moved source.section source.here in
       let there = slice_get-at (sized_sections r) given.source source.section given.given in
       let one : source.section ≡ s = same_section r source.section s there s_here (sym source.position ∙ same) in
       record { load = at.source; here = at.here; among = at.among; position = same; size = source.size ∙ ap (λ (x : SizedSection). x.size) one }
 
-  -- a section without a spot doesn't move
-  pub stays : (s : SizedSection) → Has s (sized_sections r) → spot_of r moved s ≡ None → is_one_of moved s.kept.position ≡ false
+  -- a section without a slot doesn't move
+  pub stays : (s : SizedSection) → Has s (sized_sections r) → slot_of r moved s ≡ None → is_one_of moved s.kept.position ≡ false
   stays s s_here none = false_from_ne_true (is_one_of moved s.kept.position) (λ among.
       let found = any-at (λ x. x == s.kept.position) moved among in
       let same : found.element ≡ s.kept.position = eqb-true found.element s.kept.position found.passes in
       let given : slice_get (sized_sections r) found.element ≡ Some s = ap (λ (i : ℕ). slice_get (sized_sections r) i) same
       ∙ at_position r s s_here in
-      let there = spot_exists s (filter_map-from (λ position. slice_get (sized_sections r) position) moved found.element s found.here given) in
-      both_ways (there.spot.position == s.kept.position)
-      (find-none (λ x. x.position == s.kept.position) (all_spots (added_loads r moved)) none there.spot there.here)
-      (eq-eqb there.spot.position s.kept.position there.same))
+      let there = slot_exists s (filter_map-from (λ position. slice_get (sized_sections r) position) moved found.element s found.here given) in
+      both_ways (there.slot.position == s.kept.position)
+      (find-none (λ x. x.position == s.kept.position) (all_slots (added_loads r moved)) none there.slot there.here)
+      (eq-eqb there.slot.position s.kept.position there.same))

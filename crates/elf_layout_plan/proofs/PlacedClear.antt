@@ -10,16 +10,16 @@ use Rattle.elf_format.specs.File.{loads_of}
 use Rattle.elf_format.specs.Placement.{crosses_file_end, file_end, is_uninitialized, uninitialized_clear}
 use Rattle.elf_format.specs.Places.{Place, is_set, occupies_file, occupies_memory}
 use Rattle.elf_layout_plan.specs.Added.{AddedLoad, added_loads, memory_end}
-use Rattle.elf_layout_plan.specs.Kept.{place_at_read}
+use Rattle.elf_image.specs.Kept.{place_at_read}
 use Rattle.elf_layout_plan.specs.Memory.{Resized, SizedSection, sized_sections, takes_memory}
-use Rattle.elf_layout_plan.specs.Standing.{is_loose, place_in, places}
+use Rattle.elf_layout_plan.specs.Standing.{is_unloaded, place_in, places}
 use Rattle.elf_layout_plan.specs.Written.{written_segments}
 use Rattle.elf_layout_plan.proofs.PlacedLists.{Has, MadeOf, all-from, filter-at, map-at, pairs-two}
 use Rattle.elf_layout_plan.proofs.PlacedRead.{ReadsPlaced}
 use Rattle.elf_layout_plan.proofs.PlacedSections.{is_kept}
 use Rattle.elf_layout_plan.proofs.PlacedAdded.{StandsBefore, added_apart, is_added}
 use Rattle.elf_layout_plan.proofs.PlacedSegments.{before_memory_end, load_cases, section_before_memory_end}
-use Rattle.elf_layout_plan.proofs.LooseParts.{loose_parts}
+use Rattle.elf_layout_plan.proofs.UnloadedParts.{unloaded_parts}
 use Rattle.elf_layout_plan.proofs.PlacedPlaces.{StandsAdded, StandsOn, keeps_kind, same_memory, stands}
 
 -- a section on one side of the end
@@ -60,12 +60,12 @@ module _ (r : Resized) (moved : List ℕ) (reads : ReadsPlaced r)
   added_clear s added q q_here =
       let load : AddedLoad = added.is_moved.load in
       let is = is_added r moved load added.is_moved.here in
-      let spot = is.spots added.spot added.is_moved.among in
+      let slot = is.slots added.slot added.is_moved.among in
       let x : Place = place_in r moved s in
-      let address : x.sh_addr ≡ added.spot.address = ap (λ (y : Place). y.sh_addr) added.place in
-      let size : x.sh_size ≡ added.spot.size = ap (λ (y : Place). y.sh_size) added.place ∙ sym added.is_moved.size in
-      let low : load.header.p_vaddr ≤ x.sh_addr = omega (arith, address, spot.begins, spot.distance) in
-      let high : x.sh_addr + x.sh_size ≤ load.header.p_vaddr + load.header.p_filesz = omega (arith, address, size, spot.ends, spot.distance) in
+      let address : x.sh_addr ≡ added.slot.address = ap (λ (y : Place). y.sh_addr) added.place in
+      let size : x.sh_size ≡ added.slot.size = ap (λ (y : Place). y.sh_size) added.place ∙ sym added.is_moved.size in
+      let low : load.header.p_vaddr ≤ x.sh_addr = omega (arith, address, slot.begins, slot.distance) in
+      let high : x.sh_addr + x.sh_size ≤ load.header.p_vaddr + load.header.p_filesz = omega (arith, address, size, slot.ends, slot.distance) in
       elim (load_cases r moved reads q q_here) [
         | inl was ↦
             let end : q.p_vaddr + q.p_memsz ≤ memory_end r = before_memory_end r moved reads q was in
@@ -154,17 +154,17 @@ module _ (r : Resized) (moved : List ℕ) (reads : ReadsPlaced r)
       }
 
   -- one without bytes in the file doesn't stand behind the segments
-  not_behind : (s : SizedSection) → Has s (sized_sections r) → is_uninitialized (place_in r moved s) ≡ true → is_loose s ≡ true → ⊥
-  not_behind s here bare loose =
+  not_behind : (s : SizedSection) → Has s (sized_sections r) → is_uninitialized (place_in r moved s) ≡ true → is_unloaded s ≡ true → ⊥
+  not_behind s here bare unloaded =
       let type : s.kept.section.sh_type ≡ SHT_NOBITS = sym (keeps_kind r moved s here).type ∙ (uninitialized_is (place_in r moved s) bare).0 in
-      both_ways (occupies_file (place_at_read s.kept.section)) (no_file (place_at_read s.kept.section) type) (loose_parts s loose).0
+      both_ways (occupies_file (place_at_read s.kept.section)) (no_file (place_at_read s.kept.section) type) (unloaded_parts s unloaded).0
 
   section_clear : (s : SizedSection) → Has s (sized_sections r) → is_uninitialized (place_in r moved s) ≡ true → (q : SegmentHeader)
       → Has q (loads_of (written_segments r moved))
       → crosses_file_end q (place_in r moved s) ≡ false
   section_clear s here bare q q_here = elim (stands r moved s here) [
     | inl added ↦ added_clear s added q q_here
-    | inr (inl loose) ↦ absurd (not_behind s here bare loose.loose)
+    | inr (inl unloaded) ↦ absurd (not_behind s here bare unloaded.unloaded)
     | inr (inr on) ↦ kept_clear s here (where_it_was s here bare on) q q_here
   ]
 

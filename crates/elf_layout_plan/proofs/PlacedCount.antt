@@ -8,12 +8,12 @@ use Rattle.std.proofs.lemmas.List.Sums.{length-filter}
 use Rattle.elf_format.specs.declared.records.SegmentHeader.{SegmentHeader}
 use Rattle.elf_format.specs.Places.{Place}
 use Rattle.elf_layout_plan.specs.Added.{added_loads, header_count}
-use Rattle.elf_layout_plan.specs.Follow.{HeaderTable, Itself, Leader, Notes, OneSection, is_moved, is_parted, is_split, leader_of, moved_notes, staying_notes}
-use Rattle.elf_layout_plan.specs.Kept.{KeptSection}
+use Rattle.elf_layout_plan.specs.Anchors.{HeaderTable, Itself, Anchor, Notes, OneSection, is_moved, is_parted, is_split, anchor_of, moved_notes, staying_notes}
+use Rattle.elf_image.specs.Kept.{KeptSection}
 use Rattle.elf_layout_plan.specs.Memory.{Resized}
 use Rattle.elf_layout_plan.specs.Rounds.{headers_needed}
 use Rattle.elf_layout_plan.specs.Standing.{places}
-use Rattle.elf_layout_plan.specs.Written.{Target, led_to, places_of_kept, resized_table, target_at, targets_of, targets_of_notes, targets_over, written_from, written_segments}
+use Rattle.elf_layout_plan.specs.Written.{Target, anchored_to, places_of_kept, resized_table, target_at, targets_of, targets_of_notes, targets_over, written_from, written_segments}
 use Rattle.elf_layout_plan.proofs.PlacedLists.{any-from, has_here}
 use Rattle.elf_layout_plan.proofs.PlacedAdded.{length-added}
 use Rattle.elf_layout_plan.proofs.PlacedWritten.{headers_added, length-behind}
@@ -63,12 +63,12 @@ notes_by moved all notes true some false stay =
     (omega (arith, length-over (places_of_kept all (moved_notes moved notes))))
 
 module _ (r : Resized) (moved : List ℕ) where
-  targets_by : (leader : Leader) → length (elim leader as (λ _. List Target) [
+  targets_by : (anchor : Anchor) → length (elim anchor as (λ _. List Target) [
     | Itself ↦ []
     | HeaderTable ↦ []
     | OneSection s ↦ map target_at (places_of_kept (places r moved) (s ∷ []))
     | Notes notes ↦ targets_of_notes moved (places r moved) notes
-  ]) ≤ 1 + one_if (is_parted moved leader)
+  ]) ≤ 1 + one_if (is_parted moved anchor)
   targets_by Itself = omega arith
   targets_by HeaderTable = omega arith
   targets_by (OneSection s) = length-one (slice_get (places r moved) s.position)
@@ -77,12 +77,12 @@ module _ (r : Resized) (moved : List ℕ) where
 
   length-targets : (p : SegmentHeader) → length (targets_of r moved p) ≤ 1 + one_if (is_split r moved p)
   unfolding targets_of is_split
-  length-targets p = targets_by (leader_of r p)
+  length-targets p = targets_by (anchor_of r p)
 
   written_by : (p : SegmentHeader) (n : ℕ) (targets : List Target) → length targets ≤ 1 + n
-      → length (elim targets as (λ _. List SegmentHeader) [ [] ↦ resized_table r moved p ∷ [] | t ∷ ts ↦ map (led_to r.image.form p) (t ∷ ts) ]) ≤ 1 + n
+      → length (elim targets as (λ _. List SegmentHeader) [ [] ↦ resized_table r moved p ∷ [] | t ∷ ts ↦ map (anchored_to r.image.form p) (t ∷ ts) ]) ≤ 1 + n
   written_by p n [] h = omega arith
-  written_by p n (t ∷ ts) h = omega (arith, length-map (t ∷ ts) (led_to r.image.form p), h)
+  written_by p n (t ∷ ts) h = omega (arith, length-map (t ∷ ts) (anchored_to r.image.form p), h)
 
   length-from : (p : SegmentHeader) → length (written_from r moved p) ≤ 1 + one_if (is_split r moved p)
   length-from p = written_by p (one_if (is_split r moved p)) (targets_of r moved p) (length-targets p)

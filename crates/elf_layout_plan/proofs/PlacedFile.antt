@@ -12,9 +12,9 @@ use Rattle.elf_format.specs.Placement.{ends_by, file_part, header_table_loaded, 
 use Rattle.elf_format.specs.Places.{Place, file_range, occupies_file, occupies_memory}
 use Rattle.elf_format.specs.Ranges.{all_apart, apart, end_of, lies_in, range}
 use Rattle.elf_format.specs.Records.{file_header_size, segment_header_size}
-use Rattle.elf_layout_plan.specs.Added.{AddedLoad, Spot, added_loads, kept_end}
+use Rattle.elf_layout_plan.specs.Added.{AddedLoad, Slot, added_loads, kept_end}
 use Rattle.elf_layout_plan.specs.Blocks.{stay_apart}
-use Rattle.elf_layout_plan.specs.Kept.{place_at_read}
+use Rattle.elf_image.specs.Kept.{place_at_read}
 use Rattle.elf_layout_plan.specs.Memory.{Resized, SizedSection, blocks_with, sized_sections, table_load, table_size_with}
 use Rattle.elf_layout_plan.specs.Rounds.{headers_needed}
 use Rattle.elf_layout_plan.specs.Standing.{content_end, next_table, place_in, places, sections_offset, segments_end, table_offset}
@@ -23,12 +23,12 @@ use Rattle.elf_layout_plan.proofs.PlacedLists.{Has, MadeOf, Pairs, all-from, any
 use Rattle.elf_layout_plan.proofs.PlacedRanges.{Apart, all_apart-from, apart-before, apart-behind, apart-within, lies_in-from}
 use Rattle.elf_layout_plan.proofs.PlacedRead.{ReadsPlaced, header_filled}
 use Rattle.elf_layout_plan.proofs.PlacedSections.{IsBefore, is_kept, ordered}
-use Rattle.elf_layout_plan.proofs.PlacedAdded.{EndsBefore, IsSpotOf, StandsBefore, added_apart, is_added}
+use Rattle.elf_layout_plan.proofs.PlacedAdded.{EndsBefore, IsSlotOf, StandsBefore, added_apart, is_added}
 use Rattle.elf_layout_plan.proofs.PlacedWritten.{type_was}
 use Rattle.elf_layout_plan.proofs.PlacedCount.{length-written}
-use Rattle.elf_layout_plan.proofs.PlacedSegments.{added_before_segments_end, added_written, before_kept_end, end_before_sections, header_before_kept_end, kept_before_segments_end, load_before_segments_end, load_written, segments_before_end, spot_before_end, table_behind}
+use Rattle.elf_layout_plan.proofs.PlacedSegments.{added_before_segments_end, added_written, before_kept_end, end_before_sections, header_before_kept_end, kept_before_segments_end, load_before_segments_end, load_written, segments_before_end, slot_before_end, table_behind}
 use Rattle.elf_layout_plan.proofs.PlacedStays.{behind_header, kept_in, stay_apart_in_file, table_apart, table_kept_in}
-use Rattle.elf_layout_plan.proofs.LooseParts.{not_loose_loaded}
+use Rattle.elf_layout_plan.proofs.UnloadedParts.{not_unloaded_loaded}
 use Rattle.elf_layout_plan.proofs.PlacedPlaces.{StandsAdded, StandsStored, keeps_kind, same_file, same_memory, standing, stands, stays_empty, stored_stands}
 
 -- a segment that has a place's bytes, at its distance
@@ -53,13 +53,13 @@ module _ (r : Resized) (moved : List ℕ) (looked : ℕ) (reads : ReadsPlaced r)
   -- ## In the file
 
   -- a section in an added segment
-  spot_is : (s : SizedSection) (added : StandsAdded r moved s) → IsSpotOf added.is_moved.load added.spot
-  spot_is s added = (is_added r moved added.is_moved.load added.is_moved.here).spots added.spot added.is_moved.among
+  slot_is : (s : SizedSection) (added : StandsAdded r moved s) → IsSlotOf added.is_moved.load added.slot
+  slot_is s added = (is_added r moved added.is_moved.load added.is_moved.here).slots added.slot added.is_moved.among
 
-  offset_added : (s : SizedSection) (added : StandsAdded r moved s) → (place_in r moved s).sh_offset ≡ added.spot.offset
+  offset_added : (s : SizedSection) (added : StandsAdded r moved s) → (place_in r moved s).sh_offset ≡ added.slot.offset
   offset_added s added = ap (λ (x : Place). x.sh_offset) added.place
 
-  size_added : (s : SizedSection) (added : StandsAdded r moved s) → (place_in r moved s).sh_size ≡ added.spot.size
+  size_added : (s : SizedSection) (added : StandsAdded r moved s) → (place_in r moved s).sh_size ≡ added.slot.size
   size_added s added = ap (λ (x : Place). x.sh_size) added.place ∙ sym added.is_moved.size
 
   offset_stored : (s : SizedSection) (on : StandsStored r moved s) → (place_in r moved s).sh_offset ≡ s.kept.section.sh_offset
@@ -70,7 +70,7 @@ module _ (r : Resized) (moved : List ℕ) (looked : ℕ) (reads : ReadsPlaced r)
 
   added_ends : (s : SizedSection) → StandsAdded r moved s → (place_in r moved s).sh_offset + (place_in r moved s).sh_size ≤ segments_end r moved
   added_ends s added =
-      let is = spot_is s added in
+      let is = slot_is s added in
       let end : added.is_moved.load.header.p_offset + added.is_moved.load.header.p_filesz ≤ segments_end r moved =
       added_before_segments_end r moved reads added.is_moved.load added.is_moved.here in
       omega (arith, is.ends, end, offset_added s added, size_added s added)
@@ -85,16 +85,16 @@ module _ (r : Resized) (moved : List ℕ) (looked : ℕ) (reads : ReadsPlaced r)
       → (place_in r moved s).sh_offset + (place_in r moved s).sh_size ≤ content_end r moved
   place_ends s here stored = elim (stands r moved s here) [
     | inl added ↦ omega (arith, added_ends s added, segments_before_end r moved reads)
-    | inr (inl loose) ↦
-        let offset : (place_in r moved s).sh_offset ≡ loose.spot.offset = ap (λ (x : Place). x.sh_offset) loose.place in
-        let size : (place_in r moved s).sh_size ≡ s.size = ap (λ (x : Place). x.sh_size) loose.place in
-        omega (arith, spot_before_end r moved reads loose.spot loose.here, offset, size, loose.size)
+    | inr (inl unloaded) ↦
+        let offset : (place_in r moved s).sh_offset ≡ unloaded.slot.offset = ap (λ (x : Place). x.sh_offset) unloaded.place in
+        let size : (place_in r moved s).sh_size ≡ s.size = ap (λ (x : Place). x.sh_size) unloaded.place in
+        omega (arith, slot_before_end r moved reads unloaded.slot unloaded.here, offset, size, unloaded.size)
     | inr (inr on) ↦
         let was : occupies_file (place_at_read s.kept.section) ≡ true = sym (same_file r moved s here) ∙ stored in
         elim (cases_Bool (s.size == 0)) [
           | inl empty ↦ omega (arith, stays_empty r moved s on was empty, (keeps_kind r moved s here).size, eqb-true s.size 0 empty)
           | inr some ↦
-              let is = standing r moved s here on (not_loose_loaded s on.not_loose was some) was some in
+              let is = standing r moved s here on (not_unloaded_loaded s on.not_unloaded was some) was some in
               omega (arith, stored_ends_kept s is, kept_before_segments_end r moved reads, segments_before_end r moved reads)
         ]
   ]
@@ -133,9 +133,9 @@ module _ (r : Resized) (moved : List ℕ) (looked : ℕ) (reads : ReadsPlaced r)
 
   held_added : (s : SizedSection) → list_any is_loaded r.image.segments ≡ true → StandsAdded r moved s → IsHeldNow (place_in r moved s)
   held_added s any added =
-      let is = spot_is s added in
+      let is = slot_is s added in
       let load : AddedLoad = added.is_moved.load in
-      let address : (place_in r moved s).sh_addr ≡ added.spot.address = ap (λ (x : Place). x.sh_addr) added.place in
+      let address : (place_in r moved s).sh_addr ≡ added.slot.address = ap (λ (x : Place). x.sh_addr) added.place in
       let low : kept_end r moved ≤ load.header.p_offset = (is_added r moved load added.is_moved.here).in_file in
       record {
         load = load.header;
@@ -205,8 +205,8 @@ module _ (r : Resized) (moved : List ℕ) (looked : ℕ) (reads : ReadsPlaced r)
   two_added : (s t : SizedSection) → IsBefore s t → StandsAdded r moved s → StandsAdded r moved t
       → Apart (file_range (place_in r moved s)) (file_range (place_in r moved t))
   two_added s t less a b =
-      let a_is = spot_is s a in
-      let b_is = spot_is t b in
+      let a_is = slot_is s a in
+      let b_is = slot_is t b in
       let a_load : AddedLoad = a.is_moved.load in
       let b_load : AddedLoad = b.is_moved.load in
       elim (pairs-two StandsBefore (added_loads r moved) (added_apart r moved) a_load b_load a.is_moved.here b.is_moved.here) [
@@ -219,9 +219,9 @@ module _ (r : Resized) (moved : List ℕ) (looked : ℕ) (reads : ReadsPlaced r)
             apart-behind (file_range (place_in r moved s)) (file_range (place_in r moved t))
             (omega (arith, gap, b_is.ends, a_is.begins, offset_added s a, size_added t b, offset_added t b))
         | inl same ↦
-            elim (pairs-two EndsBefore a_load.spots (is_added r moved a_load a.is_moved.here).spots_apart a.spot b.spot a.is_moved.among
-            (subst (λ (l : AddedLoad). Has b.spot l.spots) (sym same) b.is_moved.among)) [
-              | inl one ↦ absurd (omega (arith, less, a.is_moved.position, b.is_moved.position, ap (λ (x : Spot). x.position) one))
+            elim (pairs-two EndsBefore a_load.slots (is_added r moved a_load a.is_moved.here).slots_apart a.slot b.slot a.is_moved.among
+            (subst (λ (l : AddedLoad). Has b.slot l.slots) (sym same) b.is_moved.among)) [
+              | inl one ↦ absurd (omega (arith, less, a.is_moved.position, b.is_moved.position, ap (λ (x : Slot). x.position) one))
               | inr (inl first) ↦
                   apart-before (file_range (place_in r moved s)) (file_range (place_in r moved t))
                   (omega (arith, first, offset_added s a, size_added s a, offset_added t b))
@@ -236,7 +236,7 @@ module _ (r : Resized) (moved : List ℕ) (looked : ℕ) (reads : ReadsPlaced r)
   stored_before_added s t on added =
       let load : AddedLoad = added.is_moved.load in
       let low : kept_end r moved ≤ load.header.p_offset = (is_added r moved load added.is_moved.here).in_file in
-      omega (arith, stored_ends_kept s on, low, (spot_is t added).begins, offset_added t added)
+      omega (arith, stored_ends_kept s on, low, (slot_is t added).begins, offset_added t added)
 
   two_stored : (s t : SizedSection) → IsBefore s t → StandsStored r moved s → StandsStored r moved t
       → Apart (file_range (place_in r moved s)) (file_range (place_in r moved t))
@@ -310,7 +310,7 @@ module _ (r : Resized) (moved : List ℕ) (looked : ℕ) (reads : ReadsPlaced r)
       let end : kept.load.p_offset + kept.load.p_filesz ≤ kept_end r moved = before_kept_end r moved reads kept.load kept.here in
       let low : kept_end r moved ≤ added.is_moved.load.header.p_offset = (is_added r moved added.is_moved.load added.is_moved.here).in_file in
       apart-before table_range (file_range (place_in r moved s))
-      (omega (arith, kept.ends, end, low, (spot_is s added).begins, offset_added s added, table_small, table_stays q is))
+      (omega (arith, kept.ends, end, low, (slot_is s added).begins, offset_added s added, table_small, table_stays q is))
   table_clear_by s (inr on) (Some q) is =
       apart-within table_range (file_range (place_in r moved s)) (range r.read.header.e_phoff (table_size_with r looked))
       (range s.kept.section.sh_offset s.size)

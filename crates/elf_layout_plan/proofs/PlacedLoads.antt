@@ -10,7 +10,7 @@ use Rattle.std.proofs.lemmas.List.Folds.{list_any-append}
 use Rattle.elf_format.specs.declared.constants.TheConstants.{PT_GNU_STACK, PT_LOAD}
 use Rattle.elf_format.specs.declared.records.SegmentHeader.{SegmentHeader}
 use Rattle.elf_format.specs.File.{is_loaded, loads_of}
-use Rattle.elf_image.specs.Edited.{AreKept, AreSegments, CanGo, as_kept}
+use Rattle.elf_image.specs.Edited.{AreKept, AreSegments, CanGo, kept_segment}
 use Rattle.elf_image.specs.Segments.{added_stack}
 
 -- a program header without its alignment
@@ -20,7 +20,7 @@ plain p = record p { p_align = 0 }
 -- one that is kept, before others
 step_kept : (old : SegmentHeader) (size : Option ℕ) (flags : ℕ) (ps olds : List SegmentHeader) → map plain ps ≡ map plain olds
     → (b : Bool) → (old.p_type == PT_LOAD) ≡ b → (c : Bool) → (old.p_type == PT_GNU_STACK) ≡ c
-    → map plain (cond b (as_kept size flags old ∷ ps) ps) ≡ map plain (cond b (old ∷ olds) olds)
+    → map plain (cond b (kept_segment size flags old ∷ ps) ps) ≡ map plain (cond b (old ∷ olds) olds)
 step_kept old size flags ps olds same true is true stack =
     let load : old.p_type ≡ PT_LOAD = eqb-true old.p_type PT_LOAD is in
     let other : old.p_type ≡ PT_GNU_STACK = eqb-true old.p_type PT_GNU_STACK stack in

@@ -7,61 +7,61 @@ use Rattle.std.proofs.lemmas.Bool.Decides.{nat_tests}
 use Rattle.elf_format.specs.Options.{is_one_of}
 use Rattle.elf_format.specs.Placement.{is_stored}
 use Rattle.elf_format.specs.Places.{Place, occupies_file, occupies_memory}
-use Rattle.elf_layout_plan.specs.Added.{Spot, alignment_of}
-use Rattle.elf_layout_plan.specs.Kept.{place_at_read}
+use Rattle.elf_layout_plan.specs.Added.{Slot, alignment_of}
+use Rattle.elf_image.specs.Kept.{place_at_read}
 use Rattle.elf_layout_plan.specs.Memory.{Resized, SizedSection, sized_sections}
-use Rattle.elf_layout_plan.specs.Standing.{LooseSpot, content_end, is_loose, loose_from, loose_spot_of, loose_spots, loose_start, place_in, spot_of, stands_at, stays_at}
+use Rattle.elf_layout_plan.specs.Standing.{UnloadedSlot, content_end, is_unloaded, unloaded_from, unloaded_slot_of, unloaded_slots, unloaded_start, place_in, slot_of, stands_at, stays_at}
 use Rattle.elf_layout_plan.proofs.PlacedLists.{Has, filter-at, filter-from, find-at, find-none, has_cases, has_here, has_none, has_there}
 use Rattle.elf_layout_plan.proofs.PlacedSections.{same_section}
 use Rattle.elf_layout_plan.proofs.PlacedAdded.{IsMovedTo, moved_to, stays}
 use Rattle.elf_layout_plan.proofs.PlacedStays.{StaysStored}
-use Rattle.elf_layout_plan.proofs.LooseParts.{loose_parts}
+use Rattle.elf_layout_plan.proofs.UnloadedParts.{unloaded_parts}
 
 -- ## Sections behind the segments
 
-record LooseSource (sections : List SizedSection) (x : LooseSpot) : Type 0 where
+record UnloadedSource (sections : List SizedSection) (x : UnloadedSlot) : Type 0 where
   section : SizedSection
   here : Has section sections
   position : x.position ≡ section.kept.position
   size : x.size ≡ section.size
 
-loose_source : (end : ℕ) (ss : List SizedSection) (x : LooseSpot) → Has x (loose_from end ss) → LooseSource ss x
-unfolding loose_from
-loose_source end [] x h = absurd (has_none x h)
-loose_source end (s ∷ ss) x h =
+unloaded_source : (end : ℕ) (ss : List SizedSection) (x : UnloadedSlot) → Has x (unloaded_from end ss) → UnloadedSource ss x
+unfolding unloaded_from
+unloaded_source end [] x h = absurd (has_none x h)
+unloaded_source end (s ∷ ss) x h =
     let at : ℕ = next_multiple_of end (alignment_of s) in
-    elim (has_cases x (record { position = s.kept.position; offset = at; size = s.size }) (loose_from (at + s.size) ss) h) [
+    elim (has_cases x (record { position = s.kept.position; offset = at; size = s.size }) (unloaded_from (at + s.size) ss) h) [
       | inl same ↦ record {
         section = s;
         here = has_here s ss;
-        position = ap (λ (y : LooseSpot). y.position) (sym same);
-        size = ap (λ (y : LooseSpot). y.size) (sym same);
+        position = ap (λ (y : UnloadedSlot). y.position) (sym same);
+        size = ap (λ (y : UnloadedSlot). y.size) (sym same);
       }
       | inr later ↦
-          let more = loose_source (at + s.size) ss x later in
+          let more = unloaded_source (at + s.size) ss x later in
           record { section = more.section; here = has_there more.section s ss more.here; position = more.position; size = more.size }
     ]
 
-record LooseThere (spots : List LooseSpot) (position : ℕ) : Type 0 where
-  spot : LooseSpot
-  here : Has spot spots
-  same : spot.position ≡ position
+record UnloadedThere (slots : List UnloadedSlot) (position : ℕ) : Type 0 where
+  slot : UnloadedSlot
+  here : Has slot slots
+  same : slot.position ≡ position
 
-loose_there : (end : ℕ) (ss : List SizedSection) (s : SizedSection) → Has s ss → LooseThere (loose_from end ss) s.kept.position
-unfolding loose_from
-loose_there end [] s h = absurd (has_none s h)
-loose_there end (t ∷ ts) s h =
+unloaded_there : (end : ℕ) (ss : List SizedSection) (s : SizedSection) → Has s ss → UnloadedThere (unloaded_from end ss) s.kept.position
+unfolding unloaded_from
+unloaded_there end [] s h = absurd (has_none s h)
+unloaded_there end (t ∷ ts) s h =
     let at : ℕ = next_multiple_of end (alignment_of t) in
-    let first : LooseSpot = record { position = t.kept.position; offset = at; size = t.size } in
+    let first : UnloadedSlot = record { position = t.kept.position; offset = at; size = t.size } in
     elim (has_cases s t ts h) [
       | inl same ↦ record {
-        spot = first;
-        here = has_here first (loose_from (at + t.size) ts);
+        slot = first;
+        here = has_here first (unloaded_from (at + t.size) ts);
         same = ap (λ (y : SizedSection). y.kept.position) same;
       }
       | inr later ↦
-          let more = loose_there (at + t.size) ts s later in
-          record { spot = more.spot; here = has_there more.spot first (loose_from (at + t.size) ts) more.here; same = more.same }
+          let more = unloaded_there (at + t.size) ts s later in
+          record { slot = more.slot; here = has_there more.slot first (unloaded_from (at + t.size) ts) more.here; same = more.same }
     ]
 
 module _ (r : Resized) (moved : List ℕ) where
@@ -69,77 +69,77 @@ module _ (r : Resized) (moved : List ℕ) where
 
   -- in an added segment
   pub record StandsAdded (s : SizedSection) : Type 0 where
-    pub spot : Spot
-    pub is_moved : IsMovedTo r moved s spot
-    pub place : place_in r moved s ≡ stands_at s spot.offset spot.address
+    pub slot : Slot
+    pub is_moved : IsMovedTo r moved s slot
+    pub place : place_in r moved s ≡ stands_at s slot.offset slot.address
 
   -- behind the segments
-  pub record StandsLoose (s : SizedSection) : Type 0 where
-    pub spot : LooseSpot
-    pub here : Has spot (loose_spots r moved)
-    pub size : spot.size ≡ s.size
-    pub loose : is_loose s ≡ true
-    pub place : place_in r moved s ≡ stands_at s spot.offset s.kept.section.sh_addr
+  pub record StandsUnloaded (s : SizedSection) : Type 0 where
+    pub slot : UnloadedSlot
+    pub here : Has slot (unloaded_slots r moved)
+    pub size : slot.size ≡ s.size
+    pub unloaded : is_unloaded s ≡ true
+    pub place : place_in r moved s ≡ stands_at s slot.offset s.kept.section.sh_addr
 
   -- where it was
   pub record StandsOn (s : SizedSection) : Type 0 where
     pub stays : is_one_of moved s.kept.position ≡ false
-    pub not_loose : is_loose s ≡ false
+    pub not_unloaded : is_unloaded s ≡ false
     pub place : place_in r moved s ≡ stays_at r moved s
 
-  loose_spot_from : (s : SizedSection) (x : LooseSpot) → Has s (sized_sections r) → loose_spot_of r moved s ≡ Some x
-      → Has x (loose_spots r moved) × (x.size ≡ s.size) × (is_loose s ≡ true)
-  unfolding loose_spots
-  loose_spot_from s x s_here h =
-      let found = find-at (λ y. y.position == s.kept.position) (loose_spots r moved) x h in
-      let source = loose_source (loose_start r moved) (filter is_loose (sized_sections r)) x found.0 in
-      let back = filter-at is_loose (sized_sections r) source.section source.here in
+  unloaded_slot_from : (s : SizedSection) (x : UnloadedSlot) → Has s (sized_sections r) → unloaded_slot_of r moved s ≡ Some x
+      → Has x (unloaded_slots r moved) × (x.size ≡ s.size) × (is_unloaded s ≡ true)
+  unfolding unloaded_slots
+  unloaded_slot_from s x s_here h =
+      let found = find-at (λ y. y.position == s.kept.position) (unloaded_slots r moved) x h in
+      let source = unloaded_source (unloaded_start r moved) (filter is_unloaded (sized_sections r)) x found.0 in
+      let back = filter-at is_unloaded (sized_sections r) source.section source.here in
       let same : source.section ≡ s =
       same_section r source.section s back.0 s_here (sym source.position ∙ eqb-true x.position s.kept.position found.1) in
-      (found.0, source.size ∙ ap (λ (y : SizedSection). y.size) same, ap is_loose (sym same) ∙ back.1)
+      (found.0, source.size ∙ ap (λ (y : SizedSection). y.size) same, ap is_unloaded (sym same) ∙ back.1)
 
-  not_loose : (s : SizedSection) → Has s (sized_sections r) → loose_spot_of r moved s ≡ None → is_loose s ≡ false
-  unfolding loose_spots
-  not_loose s s_here none = false_from_ne_true (is_loose s) (λ loose.
-      let there = loose_there (loose_start r moved) (filter is_loose (sized_sections r)) s
-      (filter-from is_loose (sized_sections r) s s_here loose) in
-      both_ways (there.spot.position == s.kept.position)
-      (find-none (λ x. x.position == s.kept.position) (loose_spots r moved) none there.spot there.here)
-      (eq-eqb there.spot.position s.kept.position there.same))
+  not_unloaded : (s : SizedSection) → Has s (sized_sections r) → unloaded_slot_of r moved s ≡ None → is_unloaded s ≡ false
+  unfolding unloaded_slots
+  not_unloaded s s_here none = false_from_ne_true (is_unloaded s) (λ unloaded.
+      let there = unloaded_there (unloaded_start r moved) (filter is_unloaded (sized_sections r)) s
+      (filter-from is_unloaded (sized_sections r) s s_here unloaded) in
+      both_ways (there.slot.position == s.kept.position)
+      (find-none (λ x. x.position == s.kept.position) (unloaded_slots r moved) none there.slot there.here)
+      (eq-eqb there.slot.position s.kept.position there.same))
 
-  place_by : (s : SizedSection) (a : Option Spot) → spot_of r moved s ≡ a → (b : Option LooseSpot) → loose_spot_of r moved s ≡ b
+  place_by : (s : SizedSection) (a : Option Slot) → slot_of r moved s ≡ a → (b : Option UnloadedSlot) → unloaded_slot_of r moved s ≡ b
       → place_in r moved s ≡ (elim a as (λ _. Place) [
-        | Some spot ↦ stands_at s spot.offset spot.address
-        | None ↦ elim b as (λ _. Place) [ Some spot ↦ stands_at s spot.offset s.kept.section.sh_addr | None ↦ stays_at r moved s ]
+        | Some slot ↦ stands_at s slot.offset slot.address
+        | None ↦ elim b as (λ _. Place) [ Some slot ↦ stands_at s slot.offset s.kept.section.sh_addr | None ↦ stays_at r moved s ]
       ])
   unfolding place_in
   place_by s a a_is b b_is =
-      ap (λ (o : Option Spot). elim o as (λ _. Place) [
-        | Some spot ↦ stands_at s spot.offset spot.address
-        | None ↦ elim (loose_spot_of r moved s) as (λ _. Place) [
-          | Some spot ↦ stands_at s spot.offset
+      ap (λ (o : Option Slot). elim o as (λ _. Place) [
+        | Some slot ↦ stands_at s slot.offset slot.address
+        | None ↦ elim (unloaded_slot_of r moved s) as (λ _. Place) [
+          | Some slot ↦ stands_at s slot.offset
               s.kept.section.sh_addr
           | None ↦ stays_at r moved s
         ]
       ]) a_is
-      ∙ ap (λ (o : Option LooseSpot). elim a as (λ _. Place) [
-        | Some spot ↦ stands_at s spot.offset spot.address
-        | None ↦ elim o as (λ _. Place) [ Some spot ↦ stands_at s spot.offset s.kept.section.sh_addr | None ↦ stays_at r moved s ]
+      ∙ ap (λ (o : Option UnloadedSlot). elim a as (λ _. Place) [
+        | Some slot ↦ stands_at s slot.offset slot.address
+        | None ↦ elim o as (λ _. Place) [ Some slot ↦ stands_at s slot.offset s.kept.section.sh_addr | None ↦ stays_at r moved s ]
       ]) b_is
 
-  stands_by : (s : SizedSection) → Has s (sized_sections r) → (a : Option Spot) → spot_of r moved s ≡ a → (b : Option LooseSpot)
-      → loose_spot_of r moved s ≡ b
-      → StandsAdded s ⊎ (StandsLoose s ⊎ StandsOn s)
-  stands_by s here (Some spot) a_is b b_is =
-      inl (record { spot = spot; is_moved = moved_to r moved s spot here a_is; place = place_by s (Some spot) a_is b b_is })
-  stands_by s here None a_is (Some spot) b_is =
-      let from = loose_spot_from s spot here b_is in
-      inr (inl (record { spot = spot; here = from.0; size = from.1; loose = from.2; place = place_by s None a_is (Some spot) b_is }))
+  stands_by : (s : SizedSection) → Has s (sized_sections r) → (a : Option Slot) → slot_of r moved s ≡ a → (b : Option UnloadedSlot)
+      → unloaded_slot_of r moved s ≡ b
+      → StandsAdded s ⊎ (StandsUnloaded s ⊎ StandsOn s)
+  stands_by s here (Some slot) a_is b b_is =
+      inl (record { slot = slot; is_moved = moved_to r moved s slot here a_is; place = place_by s (Some slot) a_is b b_is })
+  stands_by s here None a_is (Some slot) b_is =
+      let from = unloaded_slot_from s slot here b_is in
+      inr (inl (record { slot = slot; here = from.0; size = from.1; unloaded = from.2; place = place_by s None a_is (Some slot) b_is }))
   stands_by s here None a_is None b_is =
-      inr (inr (record { stays = stays r moved s here a_is; not_loose = not_loose s here b_is; place = place_by s None a_is None b_is }))
+      inr (inr (record { stays = stays r moved s here a_is; not_unloaded = not_unloaded s here b_is; place = place_by s None a_is None b_is }))
 
-  pub stands : (s : SizedSection) → Has s (sized_sections r) → StandsAdded s ⊎ (StandsLoose s ⊎ StandsOn s)
-  stands s here = stands_by s here (spot_of r moved s) refl (loose_spot_of r moved s) refl
+  pub stands : (s : SizedSection) → Has s (sized_sections r) → StandsAdded s ⊎ (StandsUnloaded s ⊎ StandsOn s)
+  stands s here = stands_by s here (slot_of r moved s) refl (unloaded_slot_of r moved s) refl
 
   -- the section keeps what it is
   pub record KeepsKind (s : SizedSection) (x : Place) : Type 0 where
@@ -156,8 +156,8 @@ module _ (r : Resized) (moved : List ℕ) where
 
   pub keeps_kind : (s : SizedSection) → Has s (sized_sections r) → KeepsKind s (place_in r moved s)
   keeps_kind s here = elim (stands s here) [
-    | inl added ↦ kind_at s (place_in r moved s) added.spot.offset added.spot.address added.place
-    | inr (inl loose) ↦ kind_at s (place_in r moved s) loose.spot.offset s.kept.section.sh_addr loose.place
+    | inl added ↦ kind_at s (place_in r moved s) added.slot.offset added.slot.address added.place
+    | inr (inl unloaded) ↦ kind_at s (place_in r moved s) unloaded.slot.offset s.kept.section.sh_addr unloaded.place
     | inr (inr on) ↦ kind_at s (place_in r moved s)
         (if occupies_file (place_at_read s.kept.section) && s.size == 0 then min s.kept.section.sh_offset
         (content_end r moved) else s.kept.section.sh_offset)
@@ -182,9 +182,9 @@ module _ (r : Resized) (moved : List ℕ) where
   filled n h = grind (arith, nat_tests)
 
   -- one that isn't loaded isn't stored
-  loose_not_stored : (s : SizedSection) → is_loose s ≡ true → occupies_memory (place_at_read s.kept.section) ≡ true → ⊥
-  loose_not_stored s loose takes =
-      both_ways (occupies_memory (place_at_read s.kept.section)) (loose_parts s loose).1 takes
+  unloaded_not_stored : (s : SizedSection) → is_unloaded s ≡ true → occupies_memory (place_at_read s.kept.section) ≡ true → ⊥
+  unloaded_not_stored s unloaded takes =
+      both_ways (occupies_memory (place_at_read s.kept.section)) (unloaded_parts s unloaded).1 takes
 
   -- one that stays with bytes keeps its offset
   stays_filled : (s : SizedSection) → Has s (sized_sections r) → StandsOn s → occupies_memory (place_at_read s.kept.section) ≡ true
@@ -208,7 +208,7 @@ module _ (r : Resized) (moved : List ℕ) where
       let some : (s.size == 0) ≡ false = ap (λ (n : ℕ). n == 0) (sym (keeps_kind s here).size) ∙ not-true (eqb x.sh_size 0) outer.1 in
       elim (stands s here) [
         | inl added ↦ inl added
-        | inr (inl loose) ↦ absurd (loose_not_stored s loose.loose takes)
+        | inr (inl unloaded) ↦ absurd (unloaded_not_stored s unloaded.unloaded takes)
         | inr (inr on) ↦ inr (stays_filled s here on takes stored some)
       ]
 

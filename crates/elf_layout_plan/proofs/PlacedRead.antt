@@ -25,7 +25,7 @@ use Rattle.elf_format.specs.Rules.{ArePartsOf, MeetsRules, file_of, header_range
 use Rattle.elf_image.specs.Edited.{ArePicked, IsEditOf, IsEdited, IsSameSection}
 use Rattle.elf_image.specs.ReadImage.{AreSectionsOf, HoldsParts}
 use Rattle.elf_image.proofs.ReadImageLaws.{read_images_hold_parts}
-use Rattle.elf_layout_plan.specs.Kept.{KeptSection, image_at_read, kept_from, kept_sections, place_at_read}
+use Rattle.elf_image.specs.Kept.{KeptSection, image_at_read, kept_from, kept_sections, place_at_read}
 use Rattle.elf_layout_plan.specs.Memory.{Resized, table_at_read, table_load}
 use Rattle.elf_layout_plan.specs.Plan.{resized}
 use Rattle.elf_layout_plan.proofs.PlacedLists.{Has, MadeOf, Pairs, all-at, any-at, any-from, filter-at, filter-from, find-at, find-none, has_cases, has_here, has_none, map-at, map-from, pairs-unmap, slice_get-at}

@@ -9,21 +9,21 @@ use Rattle.elf_format.specs.Placement.{addresses_apart, file_part, file_parts_fi
 use Rattle.elf_format.specs.Ranges.{all_apart, end_of}
 use Rattle.elf_format.specs.Records.{file_header_size, segment_header_size}
 use Rattle.elf_layout_plan.specs.Added.{AddedLoad, added_loads, greatest, header_count, keeps_range, keeps_section_range, kept_end, memory_end}
-use Rattle.elf_layout_plan.specs.Follow.{HeaderTable, Itself, Leader, Notes, OneSection, is_moved, leader_of}
+use Rattle.elf_layout_plan.specs.Anchors.{HeaderTable, Itself, Anchor, Notes, OneSection, is_moved, anchor_of}
 use Rattle.elf_layout_plan.specs.Memory.{Resized, SizedSection, sized_sections, table_load, takes_memory}
-use Rattle.elf_layout_plan.specs.Standing.{LooseSpot, content_end, loose_spots, loose_start, next_table, sections_offset, segments_end, table_offset}
+use Rattle.elf_layout_plan.specs.Standing.{UnloadedSlot, content_end, unloaded_slots, unloaded_start, next_table, sections_offset, segments_end, table_offset}
 use Rattle.elf_layout_plan.specs.Written.{written_segments}
 use Rattle.elf_layout_plan.proofs.PlacedLists.{Has, MadeOf, Pairs, all-from, append-at, append-left, append-right, filter-at, filter-from, greatest-at, greatest-first, has_none, map-at, map-from, pairs-append, pairs-map, pairs-none, pairs-weaker}
 use Rattle.elf_layout_plan.proofs.PlacedRanges.{Apart, all_apart-from, apart-before}
 use Rattle.elf_layout_plan.proofs.PlacedRead.{ReadsPlaced}
 use Rattle.elf_layout_plan.proofs.PlacedAdded.{StandsBefore, added_apart, is_added}
-use Rattle.elf_layout_plan.proofs.PlacedWritten.{headers_added, leader-load, no_loads, written_loads}
+use Rattle.elf_layout_plan.proofs.PlacedWritten.{headers_added, anchor-load, no_loads, written_loads}
 
 module _ (r : Resized) (moved : List ℕ) (reads : ReadsPlaced r) where
   -- ## Where what was read ends
 
-  keeps-itself : (p : SegmentHeader) → leader_of r p ≡ Itself → keeps_range r moved p ≡ true
-  keeps-itself p h = ap (λ (l : Leader). elim l as (λ _. Bool) [
+  keeps-itself : (p : SegmentHeader) → anchor_of r p ≡ Itself → keeps_range r moved p ≡ true
+  keeps-itself p h = ap (λ (l : Anchor). elim l as (λ _. Bool) [
     | Itself ↦ true
     | HeaderTable ↦ p.p_filesz == header_count r moved * segment_header_size r.image.form && p.p_memsz == p.p_filesz
     | OneSection s ↦ keeps_section_range r moved p s
@@ -34,7 +34,7 @@ module _ (r : Resized) (moved : List ℕ) (reads : ReadsPlaced r) where
   unfolding kept_end
   before_kept_end p h =
       let back = filter-at is_loaded r.image.segments p h in
-      let keeps = filter-from (keeps_range r moved) r.image.segments p back.0 (keeps-itself p (leader-load r moved p back.1)) in
+      let keeps = filter-from (keeps_range r moved) r.image.segments p back.0 (keeps-itself p (anchor-load r moved p back.1)) in
       let ends : List ℕ = map (λ q. end_of (file_part q)) (filter (keeps_range r moved) r.image.segments) in
       let there = map-from (λ q. end_of (file_part q)) (filter (keeps_range r moved) r.image.segments) p keeps in
       let in_file = le-leb (end_of (file_part p)) (length r.image.source) (reads.in_file p h) in
@@ -177,29 +177,29 @@ module _ (r : Resized) (moved : List ℕ) (reads : ReadsPlaced r) where
       behind : segments_end r moved ≤ next_table r (segments_end r moved)
       behind = omega arith
 
-  loose_by : (o : Option SegmentHeader) → (table_load r ≡ o)
+  unloaded_by : (o : Option SegmentHeader) → (table_load r ≡ o)
       → segments_end r moved ≤ (if is_some o then segments_end r moved else table_offset r moved + header_count r moved *
       segment_header_size r.image.form)
-  loose_by None h = omega (arith, table_behind h)
-  loose_by (Some q) h = omega arith
+  unloaded_by None h = omega (arith, table_behind h)
+  unloaded_by (Some q) h = omega arith
 
-  pub segments_before_loose : segments_end r moved ≤ loose_start r moved
-  unfolding loose_start
-  segments_before_loose = loose_by (table_load r) refl
+  pub segments_before_unloaded : segments_end r moved ≤ unloaded_start r moved
+  unfolding unloaded_start
+  segments_before_unloaded = unloaded_by (table_load r) refl
 
-  pub loose_before_end : loose_start r moved ≤ content_end r moved
+  pub unloaded_before_end : unloaded_start r moved ≤ content_end r moved
   unfolding content_end
-  loose_before_end = greatest-first (loose_start r moved) (map (λ s. s.offset + s.size) (loose_spots r moved))
+  unloaded_before_end = greatest-first (unloaded_start r moved) (map (λ s. s.offset + s.size) (unloaded_slots r moved))
 
-  pub spot_before_end : (s : LooseSpot) → Has s (loose_spots r moved) → s.offset + s.size ≤ content_end r moved
+  pub slot_before_end : (s : UnloadedSlot) → Has s (unloaded_slots r moved) → s.offset + s.size ≤ content_end r moved
   unfolding content_end
-  spot_before_end s h =
-      greatest-at (loose_start r moved) (map (λ x. x.offset + x.size) (loose_spots r moved)) (s.offset + s.size)
-      (map-from (λ x. x.offset + x.size) (loose_spots r moved) s h)
+  slot_before_end s h =
+      greatest-at (unloaded_start r moved) (map (λ x. x.offset + x.size) (unloaded_slots r moved)) (s.offset + s.size)
+      (map-from (λ x. x.offset + x.size) (unloaded_slots r moved) s h)
 
   pub end_before_sections : content_end r moved ≤ sections_offset r moved
   unfolding sections_offset
   end_before_sections = omega arith
 
   pub segments_before_end : segments_end r moved ≤ content_end r moved
-  segments_before_end = omega (arith, segments_before_loose, loose_before_end)
+  segments_before_end = omega (arith, segments_before_unloaded, unloaded_before_end)

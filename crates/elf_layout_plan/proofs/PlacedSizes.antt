@@ -13,7 +13,7 @@ use Rattle.elf_format.specs.Image.{Image, ImageSection, counted, image_of}
 use Rattle.elf_format.specs.Records.{symbol_size}
 use Rattle.elf_image.specs.Edited.{IsEditOf, IsEdited}
 use Rattle.elf_image.proofs.ReadImageLaws.{read_images_hold_parts}
-use Rattle.elf_layout_plan.specs.Kept.{KeptSection, image_at_read, interpreter_number, is_numbered, kept_sections, stands_as_interpreter}
+use Rattle.elf_image.specs.Kept.{KeptSection, image_at_read, interpreter_number, is_numbered, kept_sections, stands_as_interpreter}
 use Rattle.elf_layout_plan.specs.Memory.{SizedSection, sized_from, sized_sections}
 use Rattle.elf_layout_plan.specs.Needs.{written_needs}
 use Rattle.elf_layout_plan.specs.Plan.{resized}

@@ -9,10 +9,10 @@ use Rattle.elf_format.specs.declared.constants.TheConstants.{PT_LOAD}
 use Rattle.elf_format.specs.declared.records.SegmentHeader.{SegmentHeader}
 use Rattle.elf_format.specs.File.{is_loaded, loads_of}
 use Rattle.elf_layout_plan.specs.Added.{added_loads}
-use Rattle.elf_layout_plan.specs.Follow.{HeaderTable, Itself, Leader, Notes, OneSection, leader_of}
+use Rattle.elf_layout_plan.specs.Anchors.{HeaderTable, Itself, Anchor, Notes, OneSection, anchor_of}
 use Rattle.elf_layout_plan.specs.Memory.{Resized}
 use Rattle.elf_layout_plan.specs.Standing.{places}
-use Rattle.elf_layout_plan.specs.Written.{Target, behind_last_load, led_to, places_of_kept, resized_table, target_at, targets_of, targets_of_notes, with_table_size, written_from, written_segments}
+use Rattle.elf_layout_plan.specs.Written.{Target, behind_last_load, anchored_to, places_of_kept, resized_table, target_at, targets_of, targets_of_notes, with_table_size, written_from, written_segments}
 use Rattle.elf_layout_plan.proofs.PlacedLists.{Has, any-at, any-from, append-at, filter-at, filter-from, flat_map-at, has_cases, has_here, has_none, has_there, map-at}
 use Rattle.elf_layout_plan.proofs.PlacedAdded.{is_added}
 
@@ -43,34 +43,34 @@ any_loaded ps qs same any =
 -- ## What becomes of one program header
 
 module _ (r : Resized) (moved : List ℕ) where
-  table_by : (p : SegmentHeader) (leader : Leader) → (elim
-      leader as (λ _. SegmentHeader) [ HeaderTable ↦ with_table_size r moved p | _ ↦ p ]).p_type ≡ p.p_type
+  table_by : (p : SegmentHeader) (anchor : Anchor) → (elim
+      anchor as (λ _. SegmentHeader) [ HeaderTable ↦ with_table_size r moved p | _ ↦ p ]).p_type ≡ p.p_type
   table_by p Itself = refl
   table_by p HeaderTable = refl
   table_by p (OneSection s) = refl
   table_by p (Notes notes) = refl
 
   written_by : (p : SegmentHeader) (targets : List Target) (q : SegmentHeader)
-      → Has q (elim targets as (λ _. List SegmentHeader) [ [] ↦ resized_table r moved p ∷ [] | t ∷ ts ↦ map (led_to r.image.form p) (t ∷ ts) ])
+      → Has q (elim targets as (λ _. List SegmentHeader) [ [] ↦ resized_table r moved p ∷ [] | t ∷ ts ↦ map (anchored_to r.image.form p) (t ∷ ts) ])
       → q.p_type ≡ p.p_type
   written_by p [] q h = elim (has_cases q (resized_table r moved p) [] h) [
-    | inl same ↦ ap (λ (x : SegmentHeader). x.p_type) (sym same) ∙ table_by p (leader_of r p)
+    | inl same ↦ ap (λ (x : SegmentHeader). x.p_type) (sym same) ∙ table_by p (anchor_of r p)
     | inr later ↦ absurd (has_none q later)
   ]
-  written_by p (t ∷ ts) q h = let made = map-at (led_to r.image.form p) (t ∷ ts) q h in ap (λ (x : SegmentHeader). x.p_type) (sym made.made)
+  written_by p (t ∷ ts) q h = let made = map-at (anchored_to r.image.form p) (t ∷ ts) q h in ap (λ (x : SegmentHeader). x.p_type) (sym made.made)
 
   -- it keeps its type
   same_type : (p q : SegmentHeader) → Has q (written_from r moved p) → q.p_type ≡ p.p_type
   same_type p q h = written_by p (targets_of r moved p) q h
 
   -- a loaded one stays as it is
-  pub leader-load : (p : SegmentHeader) → (p.p_type == PT_LOAD) ≡ true → leader_of r p ≡ Itself
-  unfolding leader_of
-  leader-load p h = cond-true (p.p_type == PT_LOAD) Itself _ h
+  pub anchor-load : (p : SegmentHeader) → (p.p_type == PT_LOAD) ≡ true → anchor_of r p ≡ Itself
+  unfolding anchor_of
+  anchor-load p h = cond-true (p.p_type == PT_LOAD) Itself _ h
 
-  targets-itself : (p : SegmentHeader) → leader_of r p ≡ Itself → targets_of r moved p ≡ []
+  targets-itself : (p : SegmentHeader) → anchor_of r p ≡ Itself → targets_of r moved p ≡ []
   unfolding targets_of
-  targets-itself p h = ap (λ (leader : Leader). elim leader as (λ _. List Target) [
+  targets-itself p h = ap (λ (anchor : Anchor). elim anchor as (λ _. List Target) [
     | Itself ↦ []
     | HeaderTable ↦ []
     | OneSection s ↦ map target_at (places_of_kept (places r moved) (s ∷ []))
@@ -79,12 +79,12 @@ module _ (r : Resized) (moved : List ℕ) where
 
   load_stays : (p : SegmentHeader) → is_loaded p ≡ true → written_from r moved p ≡ p ∷ []
   load_stays p h =
-      let leader = leader-load p h in
+      let anchor = anchor-load p h in
       ap (λ (ts : List Target). elim ts as (λ _. List SegmentHeader) [
         | [] ↦ resized_table r moved p ∷ []
-        | t ∷ us ↦ map (led_to r.image.form p) (t ∷ us)
-      ]) (targets-itself p leader)
-      ∙ ap (λ (l : Leader). (elim l as (λ _. SegmentHeader) [ HeaderTable ↦ with_table_size r moved p | _ ↦ p ]) ∷ []) leader
+        | t ∷ us ↦ map (anchored_to r.image.form p) (t ∷ us)
+      ]) (targets-itself p anchor)
+      ∙ ap (λ (l : Anchor). (elim l as (λ _. SegmentHeader) [ HeaderTable ↦ with_table_size r moved p | _ ↦ p ]) ∷ []) anchor
 
   loads_by : (p : SegmentHeader) (b : Bool) → is_loaded p ≡ b → loads_of (written_from r moved p) ≡ cond b (p ∷ []) []
   loads_by p true h = ap loads_of (load_stays p h) ∙ cond-true (is_loaded p) (p ∷ []) [] h

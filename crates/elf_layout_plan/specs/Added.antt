@@ -10,8 +10,8 @@ use Rattle.elf_format.specs.Placement.{file_part, memory_part}
 use Rattle.elf_format.specs.Ranges.{end_of}
 use Rattle.elf_format.specs.declared.records.SegmentHeader.{SegmentHeader}
 use Rattle.elf_format.specs.Records.{file_header_size, segment_header_size}
-use Rattle.elf_layout_plan.specs.Follow.{HeaderTable, Itself, Notes, OneSection, is_loaded_section, is_moved, leader_of}
-use Rattle.elf_layout_plan.specs.Kept.{KeptSection}
+use Rattle.elf_layout_plan.specs.Anchors.{HeaderTable, Itself, Notes, OneSection, is_loaded_section, is_moved, anchor_of}
+use Rattle.elf_image.specs.Kept.{KeptSection}
 use Rattle.elf_layout_plan.specs.Memory.{Resized, SizedSection, sized_sections, takes_memory}
 use Rattle.elf_layout_plan.specs.Rounds.{added_flags, flags_for, headers_needed, sections_at}
 
@@ -34,7 +34,7 @@ keeps_section_range r moved p s =
 
 -- the program header keeps its range
 abbrev pub keeps_range : Resized → List ℕ → SegmentHeader → Bool
-keeps_range r moved p = elim (leader_of r p) [
+keeps_range r moved p = elim (anchor_of r p) [
   | Itself ↦ true
   | HeaderTable ↦ p.p_filesz == header_count r moved * segment_header_size r.image.form && p.p_memsz == p.p_filesz
   | OneSection s ↦ keeps_section_range r moved p s
@@ -78,7 +78,7 @@ load_alignment r = elim r.image.page_size [ Some size ↦ size | None ↦ alignm
 -- ## The segments
 
 -- Where a section that moves comes to stand.
-pub record Spot : Type 0 where
+pub record Slot : Type 0 where
   pub position : ℕ
   pub offset : ℕ
   pub address : ℕ
@@ -89,30 +89,30 @@ abbrev pub alignment_of : SizedSection → ℕ
 alignment_of s = max 1 s.kept.section.sh_addralign
 
 -- sections one behind the other, each at the next address that its alignment allows, all at one distance from their offsets
-unfoldable pub spots_from : ℕ → ℕ → List SizedSection → List Spot
-spots_from offset address [] = []
-spots_from offset address (s ∷ ss) =
+unfoldable pub slots_from : ℕ → ℕ → List SizedSection → List Slot
+slots_from offset address [] = []
+slots_from offset address (s ∷ ss) =
     let at = next_multiple_of address (alignment_of s) in
     record { position = s.kept.position; offset = offset + (at - address); address = at; size = s.size }
-    ∷ spots_from (offset + (at - address) + s.size) (at + s.size) ss
+    ∷ slots_from (offset + (at - address) + s.size) (at + s.size) ss
 
 -- A loaded segment that is added, and the sections in it.
 pub record AddedLoad : Type 0 where
   pub header : SegmentHeader
-  pub spots : List Spot
+  pub slots : List Slot
 
--- the end of the last spot in the file, counted from a segment's offset
-abbrev pub size_of_spots : ℕ → List Spot → ℕ
-size_of_spots offset spots = greatest offset (map (λ s. s.offset + s.size) spots) - offset
+-- the end of the last slot in the file, counted from a segment's offset
+abbrev pub size_of_slots : ℕ → List Slot → ℕ
+size_of_slots offset slots = greatest offset (map (λ s. s.offset + s.size) slots) - offset
 
 -- the segment from an offset on that has these sections, at an address of that distance from a multiple of the alignment
 abbrev pub load_at : ℕ → ℕ → ℕ → ℕ → List SizedSection → AddedLoad
 load_at align flags offset address sections =
-    let spots = spots_from offset address sections in
-    let size = size_of_spots offset spots in
+    let slots = slots_from offset address sections in
+    let size = size_of_slots offset slots in
     record {
       header = record { p_type = PT_LOAD; p_flags = flags; p_offset = offset; p_vaddr = address; p_paddr = address; p_filesz = size; p_memsz = size; p_align = align };
-      spots = spots;
+      slots = slots;
     }
 
 -- one segment for each set of flags, with the sections that need it: behind the end of the file and of memory so far, at an address

@@ -1,12 +1,11 @@
 pub mod MovedBlocks
 pub mod Meeting
-pub mod Kept
 pub mod Needs
 pub mod Texts
 pub mod Sizes
 pub mod Blocks
 pub mod Memory
-pub mod Follow
+pub mod Anchors
 pub mod Rounds
 pub mod Added
 pub mod Standing
@@ -18,7 +17,7 @@ pub mod AgainRows
 pub mod Rows
 pub mod Apart
 pub mod Refusals
-pub mod PlanSeen
+pub mod PlanModel
 pub mod FilePlaced
 pub mod Laws
 pub mod PlacedLaws

@@ -7,7 +7,7 @@ use Rattle.elf_format.specs.Places.{is_set}
 use Rattle.elf_layout_plan.specs.declared.constants.TheConstants.{PF_R, PF_W}
 use Rattle.elf_format.specs.Image.{ImageSection}
 use Rattle.elf_layout_plan.specs.Blocks.{have_causes, is_stuck, stay_apart}
-use Rattle.elf_layout_plan.specs.Follow.{is_split}
+use Rattle.elf_layout_plan.specs.Anchors.{is_split}
 use Rattle.elf_layout_plan.specs.Memory.{Resized, SizedSection, blocks_with, sized_sections}
 
 -- ## The sections that move, with so many entries more in the program header table

@@ -7,9 +7,9 @@ use Rattle.elf_format.specs.Placement.{file_part}
 use Rattle.elf_format.specs.Ranges.{end_of}
 use Rattle.elf_format.specs.Records.{section_header_size, segment_header_size}
 use Rattle.elf_format.specs.Places.{Place, occupies_file}
-use Rattle.elf_layout_plan.specs.Added.{Spot, added_loads, alignment_of, greatest, header_count, kept_end}
-use Rattle.elf_layout_plan.specs.Follow.{is_loaded_section}
-use Rattle.elf_layout_plan.specs.Kept.{place_at_read}
+use Rattle.elf_layout_plan.specs.Added.{Slot, added_loads, alignment_of, greatest, header_count, kept_end}
+use Rattle.elf_layout_plan.specs.Anchors.{is_loaded_section}
+use Rattle.elf_image.specs.Kept.{place_at_read}
 use Rattle.elf_layout_plan.specs.Memory.{Resized, SizedSection, sized_sections, table_load}
 
 -- ## The program header table
@@ -27,8 +27,8 @@ unfoldable pub table_offset : Resized → List ℕ → ℕ
 table_offset r moved = if is_some (table_load r) then r.image.header.e_phoff else next_table r (segments_end r moved)
 
 -- the end of the segments, and of the program header table where that stands behind them
-unfoldable pub loose_start : Resized → List ℕ → ℕ
-loose_start r moved =
+unfoldable pub unloaded_start : Resized → List ℕ → ℕ
+unloaded_start r moved =
     if is_some (table_load r) then segments_end r moved
     else table_offset r moved + header_count r moved * segment_header_size r.image.form
 
@@ -39,31 +39,31 @@ abbrev pub is_reserved : SizedSection → Bool
 is_reserved s = s.kept.position == 0 && s.size == 0
 
 -- the section has bytes in the file, and takes no memory
-abbrev pub is_loose : SizedSection → Bool
-is_loose s = occupies_file (place_at_read s.kept.section) && not (is_loaded_section s.kept.section) && not (is_reserved s)
+abbrev pub is_unloaded : SizedSection → Bool
+is_unloaded s = occupies_file (place_at_read s.kept.section) && not (is_loaded_section s.kept.section) && not (is_reserved s)
 
 -- Where a section that isn't loaded comes to stand in the file.
-pub record LooseSpot : Type 0 where
+pub record UnloadedSlot : Type 0 where
   pub position : ℕ
   pub offset : ℕ
   pub size : ℕ
 
 -- one behind the other, each at the next offset that its alignment allows
-unfoldable pub loose_from : ℕ → List SizedSection → List LooseSpot
-loose_from end [] = []
-loose_from end (s ∷ ss) =
+unfoldable pub unloaded_from : ℕ → List SizedSection → List UnloadedSlot
+unloaded_from end [] = []
+unloaded_from end (s ∷ ss) =
     let at = next_multiple_of end (alignment_of s) in
-    record { position = s.kept.position; offset = at; size = s.size } ∷ loose_from (at + s.size) ss
+    record { position = s.kept.position; offset = at; size = s.size } ∷ unloaded_from (at + s.size) ss
 
 -- behind the segments, in the order of the sections
-unfoldable pub loose_spots : Resized → List ℕ → List LooseSpot
-loose_spots r moved = loose_from (loose_start r moved) (filter is_loose (sized_sections r))
+unfoldable pub unloaded_slots : Resized → List ℕ → List UnloadedSlot
+unloaded_slots r moved = unloaded_from (unloaded_start r moved) (filter is_unloaded (sized_sections r))
 
 -- ## The section header table
 
 -- the end of all that stands before it
 unfoldable pub content_end : Resized → List ℕ → ℕ
-content_end r moved = greatest (loose_start r moved) (map (λ s. s.offset + s.size) (loose_spots r moved))
+content_end r moved = greatest (unloaded_start r moved) (map (λ s. s.offset + s.size) (unloaded_slots r moved))
 
 -- Where the section header table stands: behind all else.
 unfoldable pub sections_offset : Resized → List ℕ → ℕ
@@ -79,11 +79,11 @@ file_size r moved = sections_offset r moved + length r.image.sections * section_
 abbrev pub stands_at : SizedSection → ℕ → ℕ → Place
 stands_at s offset address = record (place_at_read s.kept.section) { sh_offset = offset; sh_addr = address; sh_size = s.size }
 
-abbrev pub spot_of : Resized → List ℕ → SizedSection → Option Spot
-spot_of r moved s = find (λ x. x.position == s.kept.position) (flat_map (λ load. load.spots) (added_loads r moved))
+abbrev pub slot_of : Resized → List ℕ → SizedSection → Option Slot
+slot_of r moved s = find (λ x. x.position == s.kept.position) (flat_map (λ load. load.slots) (added_loads r moved))
 
-abbrev pub loose_spot_of : Resized → List ℕ → SizedSection → Option LooseSpot
-loose_spot_of r moved s = find (λ x. x.position == s.kept.position) (loose_spots r moved)
+abbrev pub unloaded_slot_of : Resized → List ℕ → SizedSection → Option UnloadedSlot
+unloaded_slot_of r moved s = find (λ x. x.position == s.kept.position) (unloaded_slots r moved)
 
 -- a section that stays where it is; an empty one of the file no further behind than the file has content
 abbrev pub stays_at : Resized → List ℕ → SizedSection → Place
@@ -94,10 +94,10 @@ stays_at r moved s =
 
 -- Where a section stands: in an added segment where it moves, behind the segments where it isn't loaded, else where it was.
 unfoldable pub place_in : Resized → List ℕ → SizedSection → Place
-place_in r moved s = elim (spot_of r moved s) [
-  | Some spot ↦ stands_at s spot.offset spot.address
-  | None ↦ elim (loose_spot_of r moved s) [
-    | Some spot ↦ stands_at s spot.offset s.kept.section.sh_addr
+place_in r moved s = elim (slot_of r moved s) [
+  | Some slot ↦ stands_at s slot.offset slot.address
+  | None ↦ elim (unloaded_slot_of r moved s) [
+    | Some slot ↦ stands_at s slot.offset s.kept.section.sh_addr
     | None ↦ stays_at r moved s
   ]
 ]

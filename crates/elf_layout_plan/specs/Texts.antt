@@ -9,7 +9,7 @@ use Rattle.elf_format.specs.Image.{Image}
 use Rattle.elf_format.specs.Options.{is_some_and, list_at}
 use Rattle.elf_format.specs.Versions.{VersionDefinition, VersionNeeds}
 use Rattle.elf_format.specs.Views.{NamedSymbol}
-use Rattle.elf_layout_plan.specs.Kept.{link_of_type}
+use Rattle.elf_image.specs.Kept.{link_of_type}
 use Rattle.elf_layout_plan.specs.Needs.{written_entries, written_needs}
 
 abbrev pub texts_of_entry : Entry → List (List ℕ)

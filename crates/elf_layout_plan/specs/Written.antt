@@ -11,8 +11,8 @@ use Rattle.elf_format.specs.declared.records.SegmentHeader.{SegmentHeader}
 use Rattle.elf_format.specs.Records.{segment_header_size}
 use Rattle.elf_format.specs.Places.{Place, file_range, occupies_memory}
 use Rattle.elf_layout_plan.specs.Added.{added_loads, greatest, header_count}
-use Rattle.elf_layout_plan.specs.Follow.{HeaderTable, Itself, Notes, OneSection, is_moved, leader_of, moved_notes, staying_notes}
-use Rattle.elf_layout_plan.specs.Kept.{KeptSection}
+use Rattle.elf_layout_plan.specs.Anchors.{HeaderTable, Itself, Notes, OneSection, is_moved, anchor_of, moved_notes, staying_notes}
+use Rattle.elf_image.specs.Kept.{KeptSection}
 use Rattle.elf_layout_plan.specs.Memory.{Resized}
 use Rattle.elf_layout_plan.specs.Sizes.{field_range}
 use Rattle.elf_layout_plan.specs.Standing.{places}
@@ -46,8 +46,8 @@ at_address form p address = record p { p_vaddr = address; p_paddr = physical_for
 abbrev pub address_for : SegmentHeader → Target → ℕ
 address_for p t = elim t.address [ Some address ↦ address | None ↦ p.p_vaddr ]
 
-abbrev pub led_to : Form → SegmentHeader → Target → SegmentHeader
-led_to form p t = record (at_address form p (address_for p t)) {
+abbrev pub anchored_to : Form → SegmentHeader → Target → SegmentHeader
+anchored_to form p t = record (at_address form p (address_for p t)) {
   p_offset = t.part.start;
   p_filesz = t.part.size;
   p_memsz = memory_size p t.part.size;
@@ -92,7 +92,7 @@ targets_of_notes moved all notes =
 
 -- where a program header goes, to two places where it is split; none where it keeps its range
 unfoldable pub targets_of : Resized → List ℕ → SegmentHeader → List Target
-targets_of r moved p = elim (leader_of r p) [
+targets_of r moved p = elim (anchor_of r p) [
   | Itself ↦ []
   | HeaderTable ↦ []
   | OneSection s ↦ map target_at (places_of_kept (places r moved) (s ∷ []))
@@ -108,13 +108,13 @@ with_table_size r moved p =
     record p { p_filesz = size; p_memsz = size }
 
 abbrev pub resized_table : Resized → List ℕ → SegmentHeader → SegmentHeader
-resized_table r moved p = elim (leader_of r p) [ HeaderTable ↦ with_table_size r moved p | _ ↦ p ]
+resized_table r moved p = elim (anchor_of r p) [ HeaderTable ↦ with_table_size r moved p | _ ↦ p ]
 
 -- what becomes of a program header: one, or two where it is split
 abbrev pub written_from : Resized → List ℕ → SegmentHeader → List SegmentHeader
 written_from r moved p = elim (targets_of r moved p) [
   | [] ↦ resized_table r moved p ∷ []
-  | t ∷ ts ↦ map (led_to r.image.form p) (t ∷ ts)
+  | t ∷ ts ↦ map (anchored_to r.image.form p) (t ∷ ts)
 ]
 
 -- headers put behind the last one that is loaded

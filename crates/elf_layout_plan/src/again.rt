@@ -1,5 +1,5 @@
 ghost use Rattle.std.specs.Prelude.{◌≡◌, IfOk};
-ghost use Rattle.elf_layout_plan.specs.Kept.{image_at_read};
+ghost use Rattle.elf_image.specs.Kept.{image_at_read};
 
 use elf_image::Builder;
 use std::alloc::{AllocError, Global};

@@ -42,27 +42,27 @@ pub struct Plan {
 
 impl Model for Plan {
     ghost use Rattle.elf_layout_plan.specs.Plan.{Layout};
-    ghost use Rattle.elf_layout_plan.specs.PlanSeen.{plan_seen};
+    ghost use Rattle.elf_layout_plan.specs.PlanModel.{plan_model};
 
     ghost Value = { Layout };
 
-    ghost view = { plan_seen };
+    ghost view = { plan_model };
 }
 
 impl Plan {
     ghost use Rattle.std.specs.Prelude.{◌≡◌, map};
-    ghost use Rattle.elf_layout_plan.specs.PlanSeen.{parts_seen, place_seen};
+    ghost use Rattle.elf_layout_plan.specs.PlanModel.{parts_model, place_model};
 
     /// A plan of these parts. Takes no memory.
     pub fn new(parts: PlanParts) -> Plan
-        ensures { result ≡ parts_seen parts }
+        ensures { result ≡ parts_model parts }
     {
         Plan { parts }
     }
 
     /// The place of each section of the image, in order. Takes no memory.
     pub fn places(&self) -> &[SectionPlace]
-        ensures { map place_seen result.now ≡ self.now.places }
+        ensures { map place_model result.now ≡ self.now.places }
     {
         self.parts.places.as_slice()
     }

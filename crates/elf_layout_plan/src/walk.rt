@@ -22,7 +22,7 @@ enum Meeting {
 }
 
 // Compares two blocks, which is one step.
-fn meet<L: Ledger>(earlier: &Block, later: &Block, steps: &mut Steps<L>) -> Meeting
+fn compare_blocks<L: Ledger>(earlier: &Block, later: &Block, steps: &mut Steps<L>) -> Meeting
     ensures meeting { IsMeeting earlier.now later.now result }
     ensures step { steps.new ≡ steps.old + 1 }
 {
@@ -62,7 +62,7 @@ pub fn walk_blocks<L: Ledger>(
 {
     let mut last = 0;
     for next in 1..blocks.len() {
-        match meet(&blocks[last], &blocks[next], steps) {
+        match compare_blocks(&blocks[last], &blocks[next], steps) {
             Meeting::Apart => last = next,
             Meeting::Later => moves[next] = true,
             Meeting::Earlier => {

@@ -3,6 +3,6 @@
 -- sections that move are sections of the image, and few program headers more are needed
 pub use Rattle.elf_layout_segments.proofs.Positions.{moved_within}
 pub use Rattle.elf_layout_segments.proofs.RoundSteps.{few_needed}
--- what the positions and marks of leaders mean
-pub use Rattle.elf_layout_segments.proofs.FollowSteps.{AreNotesOf, AreThere, IsThere, begins_as_positions, leader-at, leader-there, leaders-length, length-sized, marked-is}
+-- what the positions and marks of anchors mean
+pub use Rattle.elf_layout_segments.proofs.SplitSteps.{AreNotesOf, AreThere, IsThere, begins_as_positions, anchor-at, anchor-there, anchors-length, length-sized, marked-is}
 pub use Rattle.elf_layout_segments.proofs.SectionSteps.{length-kept}

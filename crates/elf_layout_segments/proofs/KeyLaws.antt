@@ -28,8 +28,8 @@ abbrev pub is_before : Range → Key → Bool
 is_before part key = nat_lt key.0 part.start || key.0 == part.start && nat_lt key.1 part.size
 
 -- a key that isn't before the range, and not behind one of the range's: it is of the range, and its position is no greater
-settled : (part : Range) (k m : Key) → is_before part k ≡ false → matches part m ≡ true → is_lt (key_cmp m k) ≡ false → (k.0 ≡ part.start) × (k.1 ≡ part.size) × (k.2 ≤ m.2)
-settled part k m after is up =
+moved_positions : (part : Range) (k m : Key) → is_before part k ≡ false → matches part m ≡ true → is_lt (key_cmp m k) ≡ false → (k.0 ≡ part.start) × (k.1 ≡ part.size) × (k.2 ≤ m.2)
+moved_positions part k m after is up =
     let parts = and_parts (m.0 == part.start) (m.1 == part.size) is in
     let o : m.0 ≡ part.start = eqb-true m.0 part.start parts.0 in
     let z : m.1 ≡ part.size = eqb-true m.1 part.size parts.1 in
@@ -186,7 +186,7 @@ module _ (loaded : Bool) (part : Range) where
           λ d.
               let k : Key = get_or keys at d in
               let default : get_or keys j d ≡ m = get_or_default keys j d m within ∙ there in
-              let ends = settled part k m (point.1 at d (omega arith) inside) is (ap (λ (n : Key). is_lt (key_cmp n k)) (sym default) ∙ far keys are.sorted at j d past within) in
+              let ends = moved_positions part k m (point.1 at d (omega arith) inside) is (ap (λ (n : Key). is_lt (key_cmp n k)) (sym default) ∙ far keys are.sorted at j d past within) in
               let same : matches part k ≡ true = and_from (k.0 == part.start) (k.1 == part.size) (eq-eqb k.0 part.start ends.0) (eq-eqb k.1 part.size ends.1) in
               let position : k.2 ≡ s.position = omega (arith, ends.2, all at d inside same) in
               ap (λ b. if b then Some k.2 else None) same ∙ ap Some position,

@@ -1,7 +1,7 @@
 pub mod CountLaws
-pub mod FollowSteps
+pub mod SplitSteps
 pub mod KeyLaws
-pub mod LeadingSteps
+pub mod AnchorSearchSteps
 pub mod NoteLaws
 pub mod Positions
 pub mod RoundSteps

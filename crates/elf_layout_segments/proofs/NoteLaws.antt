@@ -13,7 +13,7 @@ use Rattle.elf_layout_segments.specs.declared.sections.SectionAt.{SectionAt}
 use Rattle.elf_layout_segments.specs.Asked.{below, is_some_in}
 use Rattle.elf_layout_segments.specs.FileRanges.{AreFileRanges, are_all_notes_by, ends_at, is_clear, is_over_counts, other_starts_at, starts_at}
 use Rattle.elf_layout_segments.specs.InOrder.{is_in}
-use Rattle.elf_layout_segments.specs.Leading.{are_notes_in}
+use Rattle.elf_layout_segments.specs.AnchorSearch.{are_notes_in}
 use Rattle.elf_layout_segments.specs.Sections.{begins_in, has_bytes_at, is_loaded_note_at, is_note_at, place_at, shares_bytes_at}
 use Rattle.elf_layout_segments.proofs.CountLaws.{all_agree, any-picked, as_many_pass, count-parted, count-permutation, count-picked, count_agree}
 

@@ -10,7 +10,7 @@ use Rattle.elf_format.specs.Ranges.{range}
 use Rattle.elf_format.specs.Records.{file_header_size}
 use Rattle.elf_format.specs.declared.records.SegmentHeader.{SegmentHeader}
 use Rattle.elf_layout_plan.specs.Blocks.{Block, earlier_moves, has_cause, have_causes, is_block_of, later_moves, some_two, stay_apart}
-use Rattle.elf_layout_plan.specs.Kept.{KeptSection, kept_from, kept_sections}
+use Rattle.elf_image.specs.Kept.{KeptSection, kept_from, kept_sections}
 use Rattle.elf_layout_plan.specs.Memory.{Resized, SizedSection, block_in_load, blocks_with, edge_blocks, header_blocks, section_block, sized_from, sized_sections, table_at_read, table_size_with, takes_memory}
 use Rattle.elf_layout_plan.specs.Rounds.{are_in_old_order, do_move, sections_at}
 

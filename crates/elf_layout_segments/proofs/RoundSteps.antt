@@ -13,7 +13,7 @@ use Rattle.elf_layout_plan.specs.Rounds.{AreRounds, do_move, headers_needed, lea
 use Rattle.elf_layout_plan.proofs.HeaderLaws.{headers_needed-le}
 use Rattle.elf_layout_plan.proofs.RoundLaws.{rounds_end}
 use Rattle.elf_layout_moves.specs.Inner.{IsStuckAt}
-use Rattle.elf_layout_segments.specs.Led.{IsNoEnd}
+use Rattle.elf_layout_segments.specs.AnchorPositions.{IsNoEnd}
 
 -- Rounds lead to a number of entries; the next one is of that count.
 pub record AreSoFar (r : Resized) (looked count : ℕ) : Type 0 where

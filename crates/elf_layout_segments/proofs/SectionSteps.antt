@@ -4,10 +4,10 @@ use Rattle.std.specs.Prelude.{slice_index}
 use Rattle.std.specs.List.{AllByRecursion}
 use Rattle.std.proofs.lemmas.List.{get_or-map, length-map, take_more}
 use Rattle.elf_format.specs.Image.{Image, ImageSection}
-use Rattle.elf_layout_plan.specs.Kept.{KeptSection, kept_from, kept_sections}
+use Rattle.elf_image.specs.Kept.{KeptSection, kept_from, kept_sections}
 use Rattle.elf_layout_segments.specs.declared.sections.SectionAt.{SectionAt}
 use Rattle.elf_layout_segments.specs.Keys.{Rise}
-use Rattle.elf_layout_segments.specs.Sections.{section_at, sections_seen}
+use Rattle.elf_layout_segments.specs.Sections.{section_at, indexed_sections}
 
 -- ## The sections that are there
 
@@ -39,22 +39,22 @@ kept-at image i d s long h =
 pub length-kept : (image : Image) → length image.section_numbers ≡ length image.sections → length (kept_sections image) ≡ length image.sections
 length-kept image long = length-kept_from 0 image.section_numbers image.sections long
 
-pub length-seen : (image : Image) → length image.section_numbers ≡ length image.sections → length (sections_seen image) ≡ length image.sections
+pub length-seen : (image : Image) → length image.section_numbers ≡ length image.sections → length (indexed_sections image) ≡ length image.sections
 length-seen image long = length-map (kept_sections image) section_at ∙ length-kept image long
 
 -- one more of them
 pub seen-more : (image : Image) (made : List SectionAt) (i : ℕ) (x : ImageSection) → length image.section_numbers ≡ length image.sections → i < length image.sections
-    → get_or image.sections i x ≡ x → made ≡ take i (sections_seen image)
-    → made ++ section_at (record { position = i; number = slice_index image.section_numbers i; section = x }) ∷ [] ≡ take (i + 1) (sections_seen image)
+    → get_or image.sections i x ≡ x → made ≡ take i (indexed_sections image)
+    → made ++ section_at (record { position = i; number = slice_index image.section_numbers i; section = x }) ∷ [] ≡ take (i + 1) (indexed_sections image)
 seen-more image made i x long h at so_far =
     let d : KeptSection = record { position = i; number = slice_index image.section_numbers i; section = x } in
-    let many : length (sections_seen image) ≡ length image.sections = length-seen image long in
+    let many : length (indexed_sections image) ≡ length image.sections = length-seen image long in
     let kept : length (kept_sections image) ≡ length image.sections = length-kept image long in
-    let here : get_or (sections_seen image) i (section_at d) ≡ section_at d =
+    let here : get_or (indexed_sections image) i (section_at d) ≡ section_at d =
     get_or-map section_at (kept_sections image) i d (section_at d) (omega arith)
     ∙ ap section_at (kept-at image i d x long h ∙ ap (λ s. record { position = i; number = slice_index image.section_numbers i; section = s }) at) in
     ap (λ l. l ++ section_at d ∷ []) so_far
-    ∙ sym (take_more (sections_seen image) i (section_at d) (omega arith) ∙ ap (λ y. take i (sections_seen image) ++ y ∷ []) here)
+    ∙ sym (take_more (indexed_sections image) i (section_at d) (omega arith) ∙ ap (λ y. take i (indexed_sections image) ++ y ∷ []) here)
 
 -- ## Their order
 
@@ -69,5 +69,5 @@ rise_from k (n ∷ ns) [] = tt
 rise_from k (n ∷ ns) (s ∷ ss) = (behind_from k (k + 1) ns ss (omega arith), rise_from (k + 1) ns ss)
 
 -- each stands behind those before it
-pub sections_rise : (image : Image) → Rise (sections_seen image)
+pub sections_rise : (image : Image) → Rise (indexed_sections image)
 sections_rise image = rise_from 0 image.section_numbers image.sections

@@ -1,9 +1,9 @@
 pub mod Asked
 pub mod FileRanges
-pub mod Following
-pub mod Led
+pub mod SplitCounts
+pub mod AnchorPositions
 pub mod InOrder
 pub mod Keys
-pub mod Leading
-pub mod LookedUp
+pub mod AnchorSearch
+pub mod AnchorLists
 pub mod Sections

@@ -8,8 +8,8 @@ use Rattle.elf_format.specs.Places.{Place, file_range, occupies_file, occupies_m
 use Rattle.elf_format.specs.declared.range.Range.{Range}
 use Rattle.elf_format.specs.Ranges.{apart, lies_in}
 use Rattle.elf_format.specs.declared.records.SegmentHeader.{SegmentHeader}
-use Rattle.elf_layout_plan.specs.Follow.{is_over_notes, notes_under}
-use Rattle.elf_layout_plan.specs.Kept.{KeptSection, kept_sections}
+use Rattle.elf_layout_plan.specs.Anchors.{is_over_notes, notes_under}
+use Rattle.elf_image.specs.Kept.{KeptSection, kept_sections}
 use Rattle.elf_layout_plan.specs.Memory.{Resized}
 use Rattle.elf_layout_segments.specs.declared.sections.SectionAt.{SectionAt}
 use Rattle.elf_layout_segments.specs.declared.sections.Wanted.{Wanted}
@@ -29,8 +29,8 @@ section_at s = record {
 }
 
 -- the sections that are there, in order
-abbrev pub sections_seen : Image → List SectionAt
-sections_seen image = map section_at (kept_sections image)
+abbrev pub indexed_sections : Image → List SectionAt
+indexed_sections image = map section_at (kept_sections image)
 
 abbrev pub place_at : SectionAt → Place
 place_at s = record { sh_type = s.sh_type; sh_flags = s.sh_flags; sh_addr = s.sh_addr; sh_offset = s.sh_offset; sh_size = s.sh_size }
@@ -84,4 +84,4 @@ pub record AreSized (r : Resized) : Type 0 where
   pub numbered : length r.image.section_numbers ≡ length r.image.sections
   pub sized : length r.sizes ≡ length r.image.sections
   pub notes : (p : SegmentHeader) → is_over_notes r p ≡ true
-      → map (λ (s : KeptSection). s.position) (notes_under r p) ≡ positions_in (sections_seen r.image) (file_part p)
+      → map (λ (s : KeptSection). s.position) (notes_under r p) ≡ positions_in (indexed_sections r.image) (file_part p)

@@ -2,13 +2,13 @@
 //! more it needs; and the rounds that this takes.
 #![tactic(auto)]
 
+mod anchor_search;
+pub mod anchors;
 mod file_ranges;
-mod following;
 mod keys;
-pub mod leaders;
-mod leading;
 pub mod reading;
 pub mod rising;
 pub mod rounds;
 mod sections;
+mod splits;
 pub mod starts;

@@ -2,7 +2,7 @@
 ghost use Rattle.std.specs.Prelude.{◌≡◌, ◌<◌, Some, length, slice_get};
 ghost use Rattle.elf_layout_segments.specs.Sections.{AreSized};
 
-use crate::leading::numbers_of;
+use crate::anchor_search::numbers_of;
 use elf_format::form::Form;
 use elf_format::records::SegmentHeader;
 use elf_layout_moves::resizing::Resizing;

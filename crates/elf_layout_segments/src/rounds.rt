@@ -1,9 +1,9 @@
 ghost use Rattle.std.specs.Prelude.{◌≡◌, IfErr, IfOk, IsTrue};
 ghost use Rattle.elf_layout_plan.specs.Rounds.{do_move, headers_needed as needed};
 ghost use Rattle.elf_layout_moves.specs.Inner.{IsStuckAt};
-ghost use Rattle.elf_layout_segments.specs.Led.{AreLeaders, IsEnded, IsNoEnd};
+ghost use Rattle.elf_layout_segments.specs.AnchorPositions.{AreAnchors, IsEnded, IsNoEnd};
 
-use crate::leaders::{LeaderAt, headers_needed};
+use crate::anchors::{AnchorAt, headers_needed};
 use elf_layout_moves::marks::marks_of;
 use elf_layout_moves::moving::find_moved;
 use elf_layout_moves::resizing::Resizing;
@@ -32,10 +32,10 @@ struct Round {
 fn look(
     alloc: Global,
     r: &Resizing<'_, '_>,
-    leaders: &[LeaderAt],
+    anchors: &[AnchorAt],
     looked: usize,
 ) -> Result<Round, LayoutFault>
-    requires { AreLeaders r.now leaders.now }
+    requires { AreAnchors r.now anchors.now }
     ensures moved { IfOk result (λ round. IsTrue (do_move r.now looked round.moved.items)) }
     ensures needed { IfOk result (λ round. round.needed ≡ needed r.now round.moved.items) }
     ensures fault { IfErr result (IsStuckAt r.now looked) }
@@ -46,7 +46,7 @@ fn look(
     let Ok(marks) = marks_of(alloc, r, &moved) else {
         return Err(LayoutFault::Memory);
     };
-    let Ok(needed) = headers_needed(alloc, r, leaders, &moved, &marks) else {
+    let Ok(needed) = headers_needed(alloc, r, anchors, &moved, &marks) else {
         return Err(LayoutFault::Memory);
     };
     Ok(Round { moved, needed })
@@ -56,18 +56,18 @@ fn look(
 pub fn look_in_rounds(
     alloc: Global,
     r: &Resizing<'_, '_>,
-    leaders: &[LeaderAt],
+    anchors: &[AnchorAt],
 ) -> Result<Rounds, LayoutFault>
-    requires { AreLeaders r.now leaders.now }
+    requires { AreAnchors r.now anchors.now }
     ensures ended { IfOk result (λ rounds. IsEnded r.now rounds) }
     ensures fault { IfErr result (IsNoEnd r.now) }
 {
     // The read tells the proof how many there can be, and so that no more rounds than fit a usize are counted.
-    let _headers = leaders.len();
+    let _headers = anchors.len();
     let mut looked = 0;
     let mut count = 1;
     loop {
-        let round = look(alloc, r, leaders, looked)?;
+        let round = look(alloc, r, anchors, looked)?;
         if round.needed <= looked {
             return Ok(Rounds {
                 moved: round.moved,

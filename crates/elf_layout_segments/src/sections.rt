@@ -1,6 +1,6 @@
 //! The sections of an image by the numbers that program headers are followed with.
 ghost use Rattle.std.specs.Prelude.{◌≡◌, IfOk};
-ghost use Rattle.elf_layout_segments.specs.Sections.{first_wanted, sections_seen};
+ghost use Rattle.elf_layout_segments.specs.Sections.{first_wanted, indexed_sections};
 
 use elf_format::constants::{SHF_ALLOC, SHT_NOBITS, SHT_NOTE, SHT_NULL};
 use elf_format::range::Range;
@@ -76,7 +76,7 @@ impl SectionAt {
 
 // The sections that are there, in order.
 pub(crate) fn sections_of(alloc: Global, image: &Builder<'_>) -> Result<Vec<SectionAt>, AllocError>
-    ensures { IfOk result (λ made. made.items ≡ sections_seen image.now) }
+    ensures { IfOk result (λ made. made.items ≡ indexed_sections image.now) }
 {
     let _source = image.source();
     let sections = image.sections();

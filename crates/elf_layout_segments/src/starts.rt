@@ -1,9 +1,9 @@
 //! Where sections begin in the file that move, and where those begin that stay.
 ghost use Rattle.std.specs.Prelude.{◌≡◌, IfOk};
 ghost use Rattle.elf_layout_segments.specs.Asked.{is_some_in};
-ghost use Rattle.elf_layout_segments.specs.Following.{AreStarts, chosen_begins as begins_chosen, chosen_starts as starts_chosen, is_chosen as is_of_those, is_marked as is_set_at};
+ghost use Rattle.elf_layout_segments.specs.SplitCounts.{AreStarts, chosen_begins as begins_chosen, chosen_starts as starts_chosen, is_chosen as is_of_those, is_marked as is_set_at};
 ghost use Rattle.elf_layout_segments.specs.InOrder.{AreInOrder};
-ghost use Rattle.elf_layout_segments.specs.Sections.{sections_seen};
+ghost use Rattle.elf_layout_segments.specs.Sections.{indexed_sections};
 
 use crate::rising::Rising;
 use crate::sections::{SectionAt, sections_of};
@@ -74,7 +74,7 @@ pub fn begins_of(
     moving: bool,
 ) -> Result<Vec<Begin>, AllocError>
     ensures { IfOk result (λ begins.
-        begins.items ≡ begins_chosen moving marks.now (sections_seen r.now.image)) }
+        begins.items ≡ begins_chosen moving marks.now (indexed_sections r.now.image)) }
 {
     let sections = sections_of(alloc, r.image)?;
     chosen_begins(alloc, &sections, marks, moving)
@@ -112,7 +112,7 @@ fn rising_starts(
 
 /// Where the sections of an image begin that have bytes, by the marks of those that move.
 pub fn starts_of(alloc: Global, r: &Resizing<'_, '_>, marks: &[bool]) -> Result<Starts, AllocError>
-    ensures { IfOk result (λ starts. AreStarts (sections_seen r.now.image) marks.now starts) }
+    ensures { IfOk result (λ starts. AreStarts (indexed_sections r.now.image) marks.now starts) }
 {
     let sections = sections_of(alloc, r.image)?;
     let moving = rising_starts(alloc, &sections, marks, true)?;

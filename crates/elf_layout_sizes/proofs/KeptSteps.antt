@@ -12,7 +12,7 @@ use Rattle.elf_format.specs.declared.records.SegmentHeader.{SegmentHeader}
 use Rattle.elf_format.specs.File.{segment_of_type}
 use Rattle.elf_image.specs.Edited.{IsEdited}
 use Rattle.elf_image.specs.Lookups.{has_interpreter, interpreter_position}
-use Rattle.elf_layout_plan.specs.Kept.{KeptSection, interpreter_number, kept_from, kept_sections, link_of_type, stands_as_interpreter}
+use Rattle.elf_image.specs.Kept.{KeptSection, interpreter_number, kept_from, kept_sections, link_of_type, stands_as_interpreter}
 
 -- as many numbers as sections
 pub as_many : (image : Image) → IsEdited image → length image.section_numbers ≡ length image.sections

@@ -11,14 +11,14 @@ use Rattle.elf_image.specs.SymbolsRead.{HasSymbolsOf}
 use Rattle.elf_layout_plan.specs.Needs.{written_entries, written_needs}
 use Rattle.elf_layout_plan.specs.Texts.{if_linked, if_names, is_subsequence, is_table_copied, texts_in_use, texts_of_definitions, texts_of_entries, texts_of_needs, texts_of_symbols}
 use Rattle.elf_layout_plan.proofs.SameTexts.{subsequence_of_itself}
-use Rattle.elf_layout_sizes.specs.declared.others.Others.{Others}
+use Rattle.elf_layout_sizes.specs.declared.other_texts.Others.{Others}
 use Rattle.elf_layout_sizes.specs.Inner.{Edit, is_linked}
 use Rattle.elf_layout_sizes.specs.OtherTexts.{HasNamesOf, HaveSameCounts, count_of, others_in_use, with_names}
 use Rattle.elf_layout_sizes.proofs.TextSteps.{text_found, text_passed, too_few}
 
 -- more texts now, whatever names stand among both
-pub told_more : (now read : Others) (ys zs : List (List ℕ)) → count_of read < count_of now → false ≡ is_subsequence (with_names now ys zs) (with_names read ys zs)
-told_more now read ys zs more = sym (too_few (with_names now ys zs) (with_names read ys zs) (omega (arith, more, long now, long read)))
+pub copied_more : (now read : Others) (ys zs : List (List ℕ)) → count_of read < count_of now → false ≡ is_subsequence (with_names now ys zs) (with_names read ys zs)
+copied_more now read ys zs more = sym (too_few (with_names now ys zs) (with_names read ys zs) (omega (arith, more, long now, long read)))
   where
     long : (o : Others) → length (with_names o ys zs) ≡ count_of o + length ys + length zs
     long o =
@@ -53,10 +53,10 @@ all_three true b c = refl
 all_three false b c = refl
 
 -- as many of each kind
-pub told_same : (now read : Others) (ys zs : List (List ℕ)) → HaveSameCounts now read
+pub copied_same : (now read : Others) (ys zs : List (List ℕ)) → HaveSameCounts now read
     → (is_subsequence now.list read.list && is_subsequence now.versions read.versions && is_subsequence now.sections read.sections)
     ≡ is_subsequence (with_names now ys zs) (with_names read ys zs)
-told_same now read ys zs same =
+copied_same now read ys zs same =
     all_three (is_subsequence now.list read.list) (is_subsequence now.versions read.versions) (is_subsequence now.sections read.sections)
     ∙ sym (joined now.list read.list (ys ++ (now.versions ++ (zs ++ now.sections))) (ys ++ (read.versions ++ (zs ++ read.sections))) same.list behind_list
     ∙ ap (λ (b : Bool). is_subsequence now.list read.list && b)
@@ -96,10 +96,10 @@ in_use e number =
     (if_names e.image number)
 
 -- what is told of the others is told of the table, where the names of symbols stay
-pub told_of_table : (e r : Edit) (number : ℕ) (told : Bool) → r ≡ record { read = e.read; image = e.read } → HasNamesOf e.read e.image number
+pub copied_of_table : (e r : Edit) (number : ℕ) (told : Bool) → r ≡ record { read = e.read; image = e.read } → HasNamesOf e.read e.image number
     → ((ys zs : List (List ℕ)) → told ≡ is_subsequence (with_names (others_in_use e number) ys zs) (with_names (others_in_use r number) ys zs))
     → told ≡ is_table_copied e.read e.image number
-told_of_table e r number told is names says =
+copied_of_table e r number told is names says =
     let before : Edit = record { read = e.read; image = e.read } in
     let ys : List (List ℕ) = if_linked e.image SHT_DYNSYM number (texts_of_symbols e.image.dynamic_symbols) in
     let zs : List (List ℕ) = if_linked e.image SHT_SYMTAB number (texts_of_symbols e.image.symbols) in
@@ -112,13 +112,13 @@ told_of_table e r number told is names says =
     ∙ ap (is_subsequence (with_names (others_in_use e number) ys zs)) (sym then_in_use)
     ∙ ap (λ (l : List (List ℕ)). is_subsequence l (texts_in_use e.read e.read number)) (sym (in_use e number))
 
-pub told_if : (e r : Edit) (number : ℕ) (told : Option Bool) (now before : Others) → r ≡ record { read = e.read; image = e.read } → HasNamesOf e.read e.image number
+pub copied_if_known : (e r : Edit) (number : ℕ) (told : Option Bool) (now before : Others) → r ≡ record { read = e.read; image = e.read } → HasNamesOf e.read e.image number
     → now ≡ others_in_use e number → before ≡ others_in_use r number
     → ((ys zs : List (List ℕ)) → IfSome told (λ t. t ≡ is_subsequence (with_names now ys zs) (with_names before ys zs)))
     → IfSome told (λ t. t ≡ is_table_copied e.read e.image number)
-told_if e r number None now before is names own own_read says = tt
-told_if e r number (Some t) now before is names own own_read says =
-    told_of_table e r number t is names (λ ys zs. says ys zs
+copied_if_known e r number None now before is names own own_read says = tt
+copied_if_known e r number (Some t) now before is names own own_read says =
+    copied_of_table e r number t is names (λ ys zs. says ys zs
     ∙ ap (λ (o : Others). is_subsequence (with_names o ys zs) (with_names before ys zs)) own
     ∙ ap (λ (o : Others). is_subsequence (with_names (others_in_use e number) ys zs) (with_names o ys zs)) own_read)
 

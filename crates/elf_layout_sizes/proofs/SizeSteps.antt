@@ -11,8 +11,8 @@ use Rattle.elf_format.specs.declared.constants.TheConstants.{SHT_DYNAMIC, SHT_ST
 use Rattle.elf_format.specs.Image.{Image, ImageSection}
 use Rattle.elf_image.specs.declared.section.Section.{Section}
 use Rattle.elf_image.specs.Edited.{IsEdited}
-use Rattle.elf_image.specs.ImageSeen.{section_kept}
-use Rattle.elf_layout_plan.specs.Kept.{KeptSection, interpreter_number, is_numbered, kept_from}
+use Rattle.elf_image.specs.ImageModel.{section_model}
+use Rattle.elf_image.specs.Kept.{KeptSection, interpreter_number, is_numbered, kept_from}
 use Rattle.elf_layout_plan.specs.Sizes.{do_sizes_fit, do_texts_fit, fits_field, interpreter_size, new_size, new_sizes, table_size}
 use Rattle.elf_layout_plan.specs.Texts.{is_table_copied}
 use Rattle.elf_layout_sizes.specs.Inner.{Edit, do_all_fit, do_strings_fit, does_size_fit, fits_class, lists_size, size_by, sizes_by, strings_length}
@@ -148,13 +148,13 @@ sized_all read image sizes i is past so_far =
     )
 
 -- the section that stands at a place
-pub section_at : (held : List Section) (sections : List ImageSection) (i : ℕ) (x : Section) → map section_kept held ≡ sections → i < length held → x ≡ get_or held i x
-    → slice_get sections i ≡ Some (section_kept x)
+pub section_at : (held : List Section) (sections : List ImageSection) (i : ℕ) (x : Section) → map section_model held ≡ sections → i < length held → x ≡ get_or held i x
+    → slice_get sections i ≡ Some (section_model x)
 section_at held sections i x are within is =
-    ap (λ (l : List ImageSection). slice_get l i) (sym are) ∙ slice_get-map section_kept held i ∙ ap (option_map section_kept) (slice_get_read held (length held) i x refl within is)
+    ap (λ (l : List ImageSection). slice_get l i) (sym are) ∙ slice_get-map section_model held i ∙ ap (option_map section_model) (slice_get_read held (length held) i x refl within is)
 
-pub long_sections : (held : List Section) (sections : List ImageSection) → map section_kept held ≡ sections → length sections ≡ length held
-long_sections held sections are = ap length (sym are) ∙ length-map held section_kept
+pub long_sections : (held : List Section) (sections : List ImageSection) → map section_model held ≡ sections → length sections ≡ length held
+long_sections held sections are = ap length (sym are) ∙ length-map held section_model
 
 -- ## Answers
 

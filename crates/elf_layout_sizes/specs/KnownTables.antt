@@ -2,7 +2,7 @@
 use Rattle.std.specs.Prelude.{ℕ, ◌≡◌, Some, IsTrue, MatchOption}
 use Rattle.elf_format.specs.declared.constants.TheConstants.{SHT_DYNAMIC}
 use Rattle.elf_format.specs.Image.{Image}
-use Rattle.elf_layout_plan.specs.Kept.{link_of_type}
+use Rattle.elf_image.specs.Kept.{link_of_type}
 use Rattle.elf_layout_plan.specs.Texts.{is_table_copied}
 use Rattle.elf_layout_sizes.specs.MadeTables.{IsMade}
 use Rattle.elf_layout_sizes.specs.declared.known.Known.{Known}

@@ -1,7 +1,7 @@
 pub mod Inner
 pub mod OtherTexts
 pub mod Seen
-pub mod UsersSeen
-pub mod SizingSeen
+pub mod UsersModel
+pub mod SizingModel
 pub mod MadeTables
 pub mod KnownTables

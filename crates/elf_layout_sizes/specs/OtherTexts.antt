@@ -5,7 +5,7 @@ use Rattle.elf_format.specs.Image.{Image}
 use Rattle.elf_format.specs.Options.{list_at}
 use Rattle.elf_layout_plan.specs.Needs.{written_entries, written_needs}
 use Rattle.elf_layout_plan.specs.Texts.{if_linked, if_names, texts_of_definitions, texts_of_entries, texts_of_needs, texts_of_symbols}
-use Rattle.elf_layout_sizes.specs.declared.others.Others.{Others}
+use Rattle.elf_layout_sizes.specs.declared.other_texts.Others.{Others}
 use Rattle.elf_layout_sizes.specs.Inner.{Edit}
 
 -- those that an image uses of the string table with that number

@@ -1,7 +1,7 @@
 //! How large a section is to be, by its kind.
 ghost use Rattle.std.specs.Prelude.{◌≡◌, ℕ, ◌<◌, ◌^◌, false, true, Some, MatchResult, SomeIff};
-ghost use Rattle.elf_image.specs.ImageSeen.{section_kept};
-ghost use Rattle.elf_layout_plan.specs.Kept.{interpreter_number as number_of_interpreter};
+ghost use Rattle.elf_image.specs.ImageModel.{section_model};
+ghost use Rattle.elf_image.specs.Kept.{interpreter_number as number_of_interpreter};
 ghost use Rattle.elf_layout_plan.specs.Texts.{are_names_changed as have_names_changed};
 ghost use Rattle.elf_layout_sizes.specs.Inner.{fits_class};
 ghost use Rattle.elf_tables.specs.declared.fault.TableFault.TheVariants.{NumberTooLarge};
@@ -69,11 +69,11 @@ pub(crate) struct Sizing<'a, 'data> {
 
 impl<'a, 'data> Model for Sizing<'a, 'data> {
     ghost use Rattle.elf_layout_sizes.specs.Inner.{Edit};
-    ghost use Rattle.elf_layout_sizes.specs.SizingSeen.{IsSizing, sizing_seen};
+    ghost use Rattle.elf_layout_sizes.specs.SizingModel.{IsSizing, sizing_model};
 
     ghost Value = { Edit };
 
-    ghost view = { sizing_seen };
+    ghost view = { sizing_model };
 
     ghost invariant = { IsSizing };
 }
@@ -171,7 +171,7 @@ impl<'a, 'data> Sizing<'a, 'data> {
 
     // The size of a hash table. `None` where it is past 64 bits.
     fn hash_size(&self, section: &Section<'_>) -> Option<u64>
-        ensures { let size = hash_size self.now.read self.now.image (section_kept section.now) in
+        ensures { let size = hash_size self.now.read self.now.image (section_model section.now) in
             SomeIff result (size < 2 ^ 64) size }
     {
         let old = section.sh_size;
@@ -188,7 +188,7 @@ impl<'a, 'data> Sizing<'a, 'data> {
 
     // The size of a section that is no string table. `None` where it is past 64 bits.
     fn lists_size(&self, section: &Section<'_>) -> Option<u64>
-        ensures { let size = lists_size self.now.read self.now.image (section_kept section.now) in
+        ensures { let size = lists_size self.now.read self.now.image (section_model section.now) in
             SomeIff result (size < 2 ^ 64) size }
     {
         let (image, old) = (self.users.image(), section.sh_size);
@@ -218,7 +218,7 @@ impl<'a, 'data> Sizing<'a, 'data> {
 
     // The size of the section with the interpreter's name.
     fn interpreter_size(&self, section: &Section<'_>) -> u64
-        ensures value { result ≡ interpreter_size self.now.image (section_kept section.now) }
+        ensures value { result ≡ interpreter_size self.now.image (section_model section.now) }
         ensures fits { result < 2 ^ 64 }
     {
         let old = section.sh_size;
@@ -237,7 +237,7 @@ impl<'a, 'data> Sizing<'a, 'data> {
         number: usize,
     ) -> Result<u64, TableFault>
         ensures { let read = self.now.read in let image = self.now.image in
-            let s = section_kept section.now in
+            let s = section_model section.now in
             MatchResult result
             (λ length. (s.sh_type ≡ SHT_STRTAB
             → length ≡ strings_length read image number s.sh_size)
@@ -255,7 +255,7 @@ impl<'a, 'data> Sizing<'a, 'data> {
     fn size_with(&self, section: &Section<'_>, number: usize, strings: u64) -> Option<u64>
         requires { section.now.sh_type ≡ SHT_STRTAB
             → strings ≡ strings_length self.now.read self.now.image number section.now.sh_size }
-        ensures { let s = section_kept section.now in
+        ensures { let s = section_model section.now in
             let size = size_by self.now.read self.now.image number s in
             SomeIff result (size < 2 ^ 64) size }
     {
@@ -277,7 +277,7 @@ impl<'a, 'data> Sizing<'a, 'data> {
         number: usize,
     ) -> Result<u64, TableFault>
         ensures { let read = self.now.read in let image = self.now.image in
-            let s = section_kept section.now in
+            let s = section_model section.now in
             MatchResult result
             (λ size. (size ≡ size_by read image number s)
             × (does_size_fit read image number s ≡ true))

@@ -3,7 +3,7 @@
 
 mod kinds;
 mod known;
-mod others;
+mod other_texts;
 mod sizes;
 mod strings;
 mod tables;

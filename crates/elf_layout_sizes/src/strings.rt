@@ -87,7 +87,7 @@ pub(crate) fn made_for<'a, 'data>(
     ensures fault { IfErr result (λ fault.
         fault ≡ NumberTooLarge → IsTooLong users.now.read users.now.image number) }
 {
-    let told = users.told_copied(alloc, read_users, number)?;
+    let told = users.is_copied_by_others(alloc, read_users, number)?;
     if let Some(true) = told {
         return Ok(None);
     }

@@ -3,7 +3,7 @@ ghost use Rattle.std.specs.Prelude.{◌≡◌, ◌<◌, ◌≤◌, ◌*◌, ◌^
 ghost use Rattle.patch_bytes.specs.Memory.{memory_of};
 ghost use Rattle.patch_bytes.specs.Number.{word_size};
 ghost use Rattle.elf_format.specs.Hashes.{gnu_header, word_of_table};
-ghost use Rattle.elf_image.specs.ImageSeen.{symbol_kept};
+ghost use Rattle.elf_image.specs.ImageModel.{symbol_model};
 ghost use Rattle.elf_layout_plan.specs.Sizes.{gabi_table_size, is_found as is_found_symbol};
 ghost use Rattle.elf_layout_sizes.specs.Inner.{gnu_size_with as size_of_gnu};
 
@@ -58,7 +58,7 @@ fn gnu_front(form: Form, content: &[u8]) -> Option<u64>
 
 // Whether a look-up may find a symbol: it is defined, and not local (gABI, Symbol Table, `st_shndx` and `st_info`).
 fn is_found(symbol: &Symbol<'_>) -> bool
-    ensures { result ≡ is_found_symbol (symbol_kept symbol.now) }
+    ensures { result ≡ is_found_symbol (symbol_model symbol.now) }
 {
     symbol.st_shndx != 0 && symbol.st_info / 16 != 0
 }

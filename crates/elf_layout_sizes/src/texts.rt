@@ -25,7 +25,7 @@ impl<'t> Texts<'t> {
     ghost use Rattle.elf_tables.specs.declared.fault.TableFault.TheVariants.{NumberTooLarge};
     ghost use Rattle.elf_tables.specs.Strings.{HoldNoNul, IsTableOf, PlacesStand, table_length};
     ghost use Rattle.patch_bytes.specs.ByteString.{bytes_of_each};
-    ghost use Rattle.elf_image.specs.ImageSeen.{definition_kept, entry_kept, name_kept, needs_kept, section_kept};
+    ghost use Rattle.elf_image.specs.ImageModel.{definition_model, entry_model, name_model, needs_model, section_model};
     ghost use Rattle.elf_layout_plan.specs.Texts.{texts_of_definitions, texts_of_entries, texts_of_entry, texts_of_needs, texts_of_symbols};
     ghost use Rattle.elf_layout_sizes.specs.Inner.{staying_entries, unmarked_names, unmarked_needs, with_unmarked_names};
 
@@ -85,7 +85,7 @@ impl<'t> Texts<'t> {
     // Adds the names of sections.
     pub(crate) fn push_sections(&mut self, sections: &'t [Section<'_>]) -> Result<(), AllocError>
         ensures { OnOk result (self.new
-            ≡ self.old ++ map (λ s. s.name) (map section_kept sections.entry.now)) }
+            ≡ self.old ++ map (λ s. s.name) (map section_model sections.entry.now)) }
     {
         for section in sections {
             self.push(section.name.as_slice())?;
@@ -95,7 +95,7 @@ impl<'t> Texts<'t> {
 
     // Adds the texts that an entry of the dynamic list has.
     fn push_entry(&mut self, entry: &'t Dynamic<'_>) -> Result<(), AllocError>
-        ensures { OnOk result (self.new ≡ self.old ++ texts_of_entry (entry_kept entry.entry.now)) }
+        ensures { OnOk result (self.new ≡ self.old ++ texts_of_entry (entry_model entry.entry.now)) }
     {
         match entry {
             Dynamic::Text { val, .. } => self.push(val.as_slice()),
@@ -110,7 +110,7 @@ impl<'t> Texts<'t> {
         without_needs: bool,
     ) -> Result<(), AllocError>
         ensures { OnOk result (self.new ≡ self.old ++ texts_of_entries
-            (staying_entries without_needs (map entry_kept entries.entry.now))) }
+            (staying_entries without_needs (map entry_model entries.entry.now))) }
     {
         for entry in entries {
             if !(without_needs && is_of_needs(entry)) {
@@ -136,7 +136,7 @@ impl<'t> Texts<'t> {
         definitions: &'t [VersionDef<'_>],
     ) -> Result<(), AllocError>
         ensures { OnOk result (self.new
-            ≡ self.old ++ texts_of_definitions (map definition_kept definitions.entry.now)) }
+            ≡ self.old ++ texts_of_definitions (map definition_model definitions.entry.now)) }
     {
         for definition in definitions {
             self.push_all(definition.names.as_slice())?;
@@ -151,7 +151,7 @@ impl<'t> Texts<'t> {
         marks: &[bool],
     ) -> Result<(), AllocError>
         ensures { OnOk result (self.new ≡ self.old
-            ++ map (λ v. v.name) (unmarked_names marks.now (map name_kept names.entry.now))) }
+            ++ map (λ v. v.name) (unmarked_names marks.now (map name_model names.entry.now))) }
     {
         for name in names {
             if !is_marked(marks, name.index) {
@@ -164,7 +164,7 @@ impl<'t> Texts<'t> {
     // Adds the texts of a library's record that stays.
     fn push_need(&mut self, need: &'t VersionNeed<'_>, marks: &[bool]) -> Result<(), AllocError>
         ensures { OnOk result (self.new ≡ self.old ++ texts_of_needs
-            (with_unmarked_names marks.now (needs_kept need.entry.now) ∷ [])) }
+            (with_unmarked_names marks.now (needs_model need.entry.now) ∷ [])) }
     {
         self.push(need.file.as_slice())?;
         self.push_names(need.versions.as_slice(), marks)
@@ -177,7 +177,7 @@ impl<'t> Texts<'t> {
         marks: &[bool],
     ) -> Result<(), AllocError>
         ensures { OnOk result (self.new ≡ self.old ++ texts_of_needs
-            (unmarked_needs marks.now (map needs_kept needs.entry.now))) }
+            (unmarked_needs marks.now (map needs_model needs.entry.now))) }
     {
         for need in needs {
             if does_need_stay(need, marks) {

@@ -1,14 +1,14 @@
 //! Who uses the texts of string tables, and which texts.
 ghost use Rattle.std.specs.Prelude.{◌≡◌, ◌&&◌, IfOk, not, ◌==◌, map};
 ghost use Rattle.elf_format.specs.Options.{is_some_and};
-ghost use Rattle.elf_layout_plan.specs.Kept.{link_of_type as link_of_kind};
+ghost use Rattle.elf_image.specs.Kept.{link_of_type as link_of_kind};
 ghost use Rattle.elf_layout_plan.specs.Needs.{is_empty, lists_needs as name_needs, written_needs};
 ghost use Rattle.elf_layout_sizes.specs.Inner.{link_from as link_in, unmarked_needs};
 ghost use Rattle.elf_layout_sizes.specs.Seen.{AreLinks};
 ghost use Rattle.elf_format.specs.Image.{lists_tag as is_tag_listed};
-ghost use Rattle.elf_image.specs.ImageSeen.{entry_kept, section_kept};
+ghost use Rattle.elf_image.specs.ImageModel.{entry_model, section_model};
 
-use crate::others::{Others, told_of};
+use crate::other_texts::{Others, is_known_copied};
 use crate::texts::Texts;
 use crate::versions::{are_needs_gone, count_staying, dropped_marks, grown, needs_size};
 use elf_image::constants::{
@@ -21,7 +21,7 @@ use std::marker::Model;
 
 // The number of the section that the first of a type links to (gABI, Sections, `sh_link`).
 fn first_link(sections: &[Section<'_>], kind: u32) -> Option<u32>
-    ensures { result ≡ link_in kind (map section_kept sections.now) }
+    ensures { result ≡ link_in kind (map section_model sections.now) }
 {
     for section in sections {
         if section.sh_type == kind {
@@ -85,7 +85,7 @@ fn leads_to(link: Option<u32>, number: usize) -> bool
 
 // Whether an entry of the dynamic list has a tag.
 fn lists_tag(entries: &[Dynamic<'_>], tag: u64) -> bool
-    ensures { result ≡ is_tag_listed tag (map entry_kept entries.now) }
+    ensures { result ≡ is_tag_listed tag (map entry_model entries.now) }
 {
     for entry in entries {
         if entry.tag() == tag {
@@ -97,7 +97,7 @@ fn lists_tag(entries: &[Dynamic<'_>], tag: u64) -> bool
 
 // Whether the dynamic list names the symbols, their versions, the needed versions and how many there are.
 fn lists_needs(entries: &[Dynamic<'_>]) -> bool
-    ensures { result ≡ name_needs (map entry_kept entries.now) }
+    ensures { result ≡ name_needs (map entry_model entries.now) }
 {
     lists_tag(entries, DT_SYMTAB)
         && lists_tag(entries, DT_VERSYM)
@@ -152,11 +152,11 @@ pub(crate) struct Users<'a, 'data> {
 
 impl<'a, 'data> Model for Users<'a, 'data> {
     ghost use Rattle.elf_layout_sizes.specs.Inner.{Edit};
-    ghost use Rattle.elf_layout_sizes.specs.UsersSeen.{AreUsers, users_seen};
+    ghost use Rattle.elf_layout_sizes.specs.UsersModel.{AreUsers, users_model};
 
     ghost Value = { Edit };
 
-    ghost view = { users_seen };
+    ghost view = { users_model };
 
     ghost invariant = { AreUsers };
 }
@@ -236,7 +236,7 @@ impl<'a, 'data> Users<'a, 'data> {
     // The size of the dynamic section (gABI, Dynamic Section). `None` where it is past 64 bits.
     pub(crate) fn dynamic_size(&self, section: &Section<'_>) -> Option<u64>
         ensures { let size = size_of_dynamic self.now.read self.now.image
-            (section_kept section.now) in
+            (section_model section.now) in
             SomeIff result (size < 2 ^ 64) size }
     {
         let entry = form_of(self.image).entry_size() as u64;
@@ -368,7 +368,7 @@ impl<'a, 'data> Users<'a, 'data> {
     }
 
     // Whether that string table is copied, where it can be told without a look at the names of symbols.
-    pub(crate) fn told_copied(
+    pub(crate) fn is_copied_by_others(
         &self,
         alloc: Global,
         read_users: &Users<'_, '_>,
@@ -383,7 +383,7 @@ impl<'a, 'data> Users<'a, 'data> {
         }
         let now = self.others(alloc, number)?;
         let at_read = read_users.others(alloc, number)?;
-        Ok(told_of(&now, &at_read))
+        Ok(is_known_copied(&now, &at_read))
     }
 
     // The texts that the image uses of the string table with that number.

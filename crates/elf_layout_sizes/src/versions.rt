@@ -1,7 +1,7 @@
 //! The needed versions that stay, and the entries of the dynamic list that stay with them.
 ghost use Rattle.std.specs.Prelude.{◌≡◌, ℕ, ◌&&◌, ◌==◌, false, ◌+◌, ◌*◌, ◌<◌, ◌^◌, length, map, not, IfOk, SomeIff, if◌then◌else◌};
 ghost use Rattle.elf_format.specs.Options.{is_some_and};
-ghost use Rattle.elf_image.specs.ImageSeen.{definition_kept, entry_kept, name_kept, needs_kept};
+ghost use Rattle.elf_image.specs.ImageModel.{definition_model, entry_model, name_model, needs_model};
 ghost use Rattle.elf_layout_plan.specs.Needs.{is_empty, is_version_used};
 ghost use Rattle.elf_layout_plan.specs.Sizes.{definitions_size as size_of_definitions, needs_size as size_of_needs};
 ghost use Rattle.elf_layout_sizes.specs.Inner.{is_of_needs as is_entry_of_needs, is_unmarked, marked, staying_entries, unmarked_names, unmarked_needs};
@@ -78,7 +78,7 @@ pub(crate) fn dropped_marks(
 
 // How many versions stay.
 pub(crate) fn count_unmarked(names: &[VersionNeedName<'_>], marks: &[bool]) -> usize
-    ensures { result ≡ length (unmarked_names marks.now (map name_kept names.now)) }
+    ensures { result ≡ length (unmarked_names marks.now (map name_model names.now)) }
 {
     let mut count = 0;
     for name in names {
@@ -91,14 +91,14 @@ pub(crate) fn count_unmarked(names: &[VersionNeedName<'_>], marks: &[bool]) -> u
 
 // Whether the record of a library stays.
 pub(crate) fn does_need_stay(need: &VersionNeed<'_>, marks: &[bool]) -> bool
-    ensures { result ≡ is_unmarked marks.now (needs_kept need.now) }
+    ensures { result ≡ is_unmarked marks.now (needs_model need.now) }
 {
     need.versions.is_empty() || count_unmarked(&need.versions, marks) != 0
 }
 
 // Whether the record of some library stays.
 fn do_needs_stay(needs: &[VersionNeed<'_>], marks: &[bool]) -> bool
-    ensures { result ≡ not (is_empty (unmarked_needs marks.now (map needs_kept needs.now))) }
+    ensures { result ≡ not (is_empty (unmarked_needs marks.now (map needs_model needs.now))) }
 {
     for need in needs {
         if does_need_stay(need, marks) {
@@ -110,8 +110,8 @@ fn do_needs_stay(needs: &[VersionNeed<'_>], marks: &[bool]) -> bool
 
 // Whether there are records, and none of them stays.
 pub(crate) fn are_needs_gone(needs: &[VersionNeed<'_>], marks: &[bool]) -> bool
-    ensures { result ≡ (not (is_empty (map needs_kept needs.now))
-        && is_empty (unmarked_needs marks.now (map needs_kept needs.now))) }
+    ensures { result ≡ (not (is_empty (map needs_model needs.now))
+        && is_empty (unmarked_needs marks.now (map needs_model needs.now))) }
 {
     !needs.is_empty() && !do_needs_stay(needs, marks)
 }
@@ -128,7 +128,7 @@ pub(crate) fn grown(size: u64, front: u64, each: u64, count: usize) -> Option<u6
 // The size of the table of needed versions, of those that stay (GNU symbol versioning). `None` where it is past 64
 // bits.
 pub(crate) fn needs_size(needs: &[VersionNeed<'_>], marks: &[bool]) -> Option<u64>
-    ensures { let size = size_of_needs (unmarked_needs marks.now (map needs_kept needs.now)) in
+    ensures { let size = size_of_needs (unmarked_needs marks.now (map needs_model needs.now)) in
         SomeIff result (size < 2 ^ 64) size }
 {
     let mut size = 0;
@@ -143,7 +143,7 @@ pub(crate) fn needs_size(needs: &[VersionNeed<'_>], marks: &[bool]) -> Option<u6
 
 // The size of the table of defined versions (GNU symbol versioning). `None` where it is past 64 bits.
 pub(crate) fn definitions_size(definitions: &[VersionDef<'_>]) -> Option<u64>
-    ensures { let size = size_of_definitions (map definition_kept definitions.now) in
+    ensures { let size = size_of_definitions (map definition_model definitions.now) in
         SomeIff result (size < 2 ^ 64) size }
 {
     let mut size = 0;
@@ -155,7 +155,7 @@ pub(crate) fn definitions_size(definitions: &[VersionDef<'_>]) -> Option<u64>
 
 // Whether an entry of the dynamic list is of needed versions.
 pub(crate) fn is_of_needs(entry: &Dynamic<'_>) -> bool
-    ensures { result ≡ is_entry_of_needs (entry_kept entry.now) }
+    ensures { result ≡ is_entry_of_needs (entry_model entry.now) }
 {
     let tag = entry.tag();
     tag == DT_VERNEED || tag == DT_VERNEEDNUM
@@ -163,7 +163,7 @@ pub(crate) fn is_of_needs(entry: &Dynamic<'_>) -> bool
 
 // How many entries of a dynamic list stay.
 pub(crate) fn count_staying(entries: &[Dynamic<'_>], without_needs: bool) -> usize
-    ensures { result ≡ length (staying_entries without_needs (map entry_kept entries.now)) }
+    ensures { result ≡ length (staying_entries without_needs (map entry_model entries.now)) }
 {
     let mut count = 0;
     for entry in entries {

@@ -32,8 +32,8 @@ abbrev pub do_fields_fit : List (ℕ × ℕ) → Bool
 do_fields_fit fs = list_all does_field_fit fs
 
 -- a number with how many bytes it takes
-abbrev pub field_seen : Field → ℕ × ℕ
-field_seen (Byte x) = (1, x)
-field_seen (Half x) = (2, x)
-field_seen (Word x) = (4, x)
-field_seen (Long x) = (8, x)
+abbrev pub field_model : Field → ℕ × ℕ
+field_model (Byte x) = (1, x)
+field_model (Half x) = (2, x)
+field_model (Word x) = (4, x)
+field_model (Long x) = (8, x)

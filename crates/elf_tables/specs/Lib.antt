@@ -4,7 +4,7 @@ pub mod ReadBack
 pub mod Strings
 pub mod StringSteps
 pub mod EndKeys
-pub mod KeyedSeen
+pub mod KeyedModel
 pub mod VersionRecords
 pub mod VersionSteps
 pub mod Rows

@@ -1,6 +1,6 @@
 ghost use Rattle.std.specs.Prelude.{◌≡◌, ◌++◌, map, OnOk};
 ghost use Rattle.patch_bytes.specs.Number.{bytes_of};
-ghost use Rattle.elf_tables.specs.Fields.{field_seen, fields};
+ghost use Rattle.elf_tables.specs.Fields.{field_model, fields};
 
 use crate::numbers::{half_bytes, long_bytes, word_bytes};
 use patch_bytes::ByteOrder2;
@@ -22,7 +22,7 @@ pub enum Field {
 // Appends a number.
 fn push_field(bytes: &mut Vec<u8>, order: ByteOrder2, field: Field) -> Result<(), AllocError>
     ensures { OnOk result (bytes.new.items
-        ≡ bytes.old.items ++ bytes_of order (field_seen field).0 (field_seen field).1) }
+        ≡ bytes.old.items ++ bytes_of order (field_model field).0 (field_model field).1) }
 {
     match field {
         Field::Byte(number) => Ok(bytes.push(number)?),
@@ -40,7 +40,7 @@ pub fn push_fields(
     numbers: &[Field],
 ) -> Result<(), AllocError>
     ensures { OnOk result (bytes.new.items
-        ≡ bytes.old.items ++ fields order (map field_seen numbers.now)) }
+        ≡ bytes.old.items ++ fields order (map field_model numbers.now)) }
 {
     for field in numbers {
         push_field(bytes, order, *field)?;

@@ -57,12 +57,12 @@ pub(crate) struct Keyed<'t> {
 }
 
 impl<'t> Model for Keyed<'t> {
-    ghost use Rattle.elf_tables.specs.KeyedSeen.{IsKeyed, numbered_seen};
+    ghost use Rattle.elf_tables.specs.KeyedModel.{IsKeyed, numbered_model};
     ghost use Rattle.elf_tables.specs.StringSteps.{Numbered};
 
     ghost Value = { Numbered };
 
-    ghost view = { numbered_seen };
+    ghost view = { numbered_model };
 
     ghost invariant = { IsKeyed };
 }

@@ -3,7 +3,7 @@ ghost use Rattle.std.specs.List.{AllByRecursion, list_all, list_any};
 ghost use Rattle.patch_bytes.specs.declared.number.Wide.{Wide};
 ghost use Rattle.patch_bytes.specs.Memory.{memory_of};
 ghost use Rattle.elf_format.specs.Views.{needed_versions};
-ghost use Rattle.elf_image.specs.ImageSeen.{name_kept, needs_kept};
+ghost use Rattle.elf_image.specs.ImageModel.{name_model, needs_model};
 ghost use Rattle.elf_tables.specs.declared.fault.TableFault.TheVariants.{NumberTooLarge};
 ghost use Rattle.elf_tables.specs.Strings.{PlacesStand, place_of};
 ghost use Rattle.elf_tables.specs.VersionRecords.{are_versions_too_many, chained, fields, halves, has_needs_texts, needs_size, needs_table, placed_name, placed_needs, spelled_need_name, spelled_needs};
@@ -42,7 +42,7 @@ fn push_need_name(
     has_next: bool,
 ) -> Result<(), TableFault>
     requires { is_some (place_of table.now version.now.name.bytes) ≡ true }
-    ensures { let placed = placed_name table.now (name_kept version.now) in MatchResult result
+    ensures { let placed = placed_name table.now (name_model version.now) in MatchResult result
         (λ _. (bytes.new.items ≡ bytes.old.items
         ++ spelled_need_name order placed (if has_next then 16 else 0))
         × NameFits placed)
@@ -65,9 +65,9 @@ fn push_need_names(
     order: ByteOrder2,
 ) -> Result<(), TableFault>
     requires { list_all (λ v. is_some (place_of table.now v.name))
-        (map name_kept versions.now)
+        (map name_model versions.now)
         ≡ true }
-    ensures { let placed = map (placed_name table.now) (map name_kept versions.now) in
+    ensures { let placed = map (placed_name table.now) (map name_model versions.now) in
         MatchResult result
         (λ _. (bytes.new.items
         ≡ bytes.old.items ++ chained (spelled_need_name order) (λ v. 16) placed)
@@ -90,15 +90,15 @@ fn push_needs(
 ) -> Result<(), TableFault>
     requires file { is_some (place_of table.now needs.now.file.bytes) ≡ true }
     requires names { list_all (λ v. is_some (place_of table.now v.name))
-        (map name_kept needs.now.versions.items)
+        (map name_model needs.now.versions.items)
         ≡ true }
-    ensures { let placed = placed_needs table.now (needs_kept needs.now) in
+    ensures { let placed = placed_needs table.now (needs_model needs.now) in
         MatchResult result
         (λ _. (bytes.new.items ≡ bytes.old.items
         ++ spelled_needs order placed (if has_next then needs_size placed else 0))
         × NeedsFit placed)
         (λ fault. fault ≡ NumberTooLarge
-        → are_versions_too_many (needs_kept needs.now) ≡ true) }
+        → are_versions_too_many (needs_model needs.now) ≡ true) }
 {
     let count = needs.versions.len();
     if count > 0xffff {
@@ -119,8 +119,8 @@ pub fn build_verneed(
     names: &Finished<'_>,
     order: ByteOrder2,
 ) -> Result<Vec<u8>, TableFault>
-    requires { has_needs_texts names.now (map needs_kept records.now) ≡ true }
-    ensures bytes { let kept = map needs_kept records.now in MatchResult result
+    requires { has_needs_texts names.now (map needs_model records.now) ≡ true }
+    ensures bytes { let kept = map needs_model records.now in MatchResult result
         (λ bytes. (bytes.items ≡ needs_table order (map (placed_needs names.now) kept))
         × (list_any are_versions_too_many kept ≡ false))
         (λ fault. fault ≡ NumberTooLarge → list_any are_versions_too_many kept ≡ true) }
@@ -132,7 +132,7 @@ pub fn build_verneed(
           texts = memory_of names.now.bytes;
           count = length records.now;
         })
-        ≡ Some (map needs_kept records.now)) }
+        ≡ Some (map needs_model records.now)) }
 {
     let mut bytes = Vec::new(alloc);
     for (i, needs) in records.iter().enumerate() {

@@ -1,7 +1,7 @@
 //! Each record is appended to bytes, as its class and byte order have it. The caller sees that each number fits its field:
 //! in a 32-bit file addresses, offsets and sizes have 32 bits.
 ghost use Rattle.std.specs.Prelude.{◌≡◌, [], ◌∷◌, ◌++◌, map, IsTrue, OnOk};
-ghost use Rattle.elf_tables.specs.Fields.{do_fields_fit, does_field_fit, field_seen, fields};
+ghost use Rattle.elf_tables.specs.Fields.{do_fields_fit, does_field_fit, field_model, fields};
 ghost use Rattle.elf_tables.specs.Spelled.{class_number as number_of_class, class_word as word_of_class, entry_fields, file_header_fields, header_fields, identification_fields, order_number as number_of_order, narrow_segment_fields, narrow_symbol_fields, section_fields, segment_fields, symbol_fields, wide_segment_fields, wide_symbol_fields};
 ghost use Rattle.elf_tables.specs.Spelled.{spelled_entry, spelled_file_header, spelled_section_header, spelled_segment_header, spelled_symbol};
 
@@ -16,7 +16,7 @@ use std::alloc::AllocError;
 // An address, an offset or a size: a word of the class.
 fn class_word(form: Form, number: u64) -> Field
     requires { IsTrue (does_field_fit (word_of_class form number)) }
-    ensures { field_seen result ≡ word_of_class form number }
+    ensures { field_model result ≡ word_of_class form number }
 {
     match form.wide {
         Wide::W32 => Field::Word(number as u32),
@@ -27,7 +27,7 @@ fn class_word(form: Form, number: u64) -> Field
 // The numbers of a program header of a 32-bit file.
 fn narrow_segment(p: SegmentHeader) -> [Field; 8]
     requires { IsTrue (do_fields_fit (narrow_segment_fields p)) }
-    ensures { map field_seen result ≡ narrow_segment_fields p }
+    ensures { map field_model result ≡ narrow_segment_fields p }
 {
     [
         Field::Word(p.p_type),
@@ -43,7 +43,7 @@ fn narrow_segment(p: SegmentHeader) -> [Field; 8]
 
 // The numbers of a program header of a 64-bit file.
 fn wide_segment(p: SegmentHeader) -> [Field; 8]
-    ensures { map field_seen result ≡ wide_segment_fields p }
+    ensures { map field_model result ≡ wide_segment_fields p }
 {
     [
         Field::Word(p.p_type),
@@ -99,7 +99,7 @@ pub fn push_section_header(
 // The numbers of a section header.
 fn section_numbers(form: Form, s: SectionHeader) -> [Field; 10]
     requires { IsTrue (do_fields_fit (section_fields form s)) }
-    ensures { map field_seen result ≡ section_fields form s }
+    ensures { map field_model result ≡ section_fields form s }
 {
     [
         Field::Word(s.sh_name),
@@ -187,7 +187,7 @@ fn order_number(order: ByteOrder2) -> u8
 
 // The sixteen bytes that a file begins with.
 fn identification(form: Form, header: FileHeader) -> [Field; 16]
-    ensures { map field_seen result ≡ identification_fields form header }
+    ensures { map field_model result ≡ identification_fields form header }
 {
     [
         Field::Byte(0x7f),
@@ -212,7 +212,7 @@ fn identification(form: Form, header: FileHeader) -> [Field; 16]
 // The numbers of a file header behind these.
 fn header_numbers(form: Form, h: FileHeader) -> [Field; 13]
     requires { IsTrue (do_fields_fit (header_fields form h)) }
-    ensures { map field_seen result ≡ header_fields form h }
+    ensures { map field_model result ≡ header_fields form h }
 {
     [
         Field::Half(h.e_type),

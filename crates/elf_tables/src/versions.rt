@@ -7,7 +7,7 @@ ghost use Rattle.elf_format.specs.Form.{records};
 ghost use Rattle.elf_format.specs.Hashes.{gabi_hash};
 ghost use Rattle.elf_format.specs.Versions.{version_id};
 ghost use Rattle.elf_format.specs.Views.{defined_versions};
-ghost use Rattle.elf_image.specs.ImageSeen.{definition_kept};
+ghost use Rattle.elf_image.specs.ImageModel.{definition_model};
 ghost use Rattle.elf_tables.specs.declared.fault.TableFault.TheVariants.{NumberTooLarge};
 ghost use Rattle.elf_tables.specs.Strings.{PlacesStand, place_of};
 ghost use Rattle.elf_tables.specs.VersionRecords.{version_number as number_of_version, are_names_too_many, chained, definition_size, definition_table, fields, halves, has_definition_texts, is_index_too_large, own_name, place_in, placed_definition, spelled_definition, spelled_definition_name, version_fields};
@@ -128,13 +128,13 @@ fn push_definition(
     requires { list_all (λ name. is_some (place_of table.now name.bytes))
         version.now.names.items
         ≡ true }
-    ensures { let placed = placed_definition table.now (definition_kept version.now) in
+    ensures { let placed = placed_definition table.now (definition_model version.now) in
         MatchResult result
         (λ _. (bytes.new.items ≡ bytes.old.items
         ++ spelled_definition order placed (if has_next then definition_size placed else 0))
         × DefinitionFits placed)
         (λ fault. fault ≡ NumberTooLarge
-        → are_names_too_many (definition_kept version.now) ≡ true) }
+        → are_names_too_many (definition_model version.now) ≡ true) }
 {
     let count = version.names.len();
     if count > 0xffff {
@@ -154,8 +154,8 @@ pub fn build_verdef(
     names: &Finished<'_>,
     order: ByteOrder2,
 ) -> Result<Vec<u8>, TableFault>
-    requires { has_definition_texts names.now (map definition_kept records.now) ≡ true }
-    ensures bytes { let kept = map definition_kept records.now in MatchResult result
+    requires { has_definition_texts names.now (map definition_model records.now) ≡ true }
+    ensures bytes { let kept = map definition_model records.now in MatchResult result
         (λ bytes. (bytes.items ≡ definition_table order (map (placed_definition names.now) kept))
         × (list_any are_names_too_many kept ≡ false))
         (λ fault. fault ≡ NumberTooLarge → list_any are_names_too_many kept ≡ true) }
@@ -167,7 +167,7 @@ pub fn build_verdef(
           texts = memory_of names.now.bytes;
           count = length records.now;
         })
-        ≡ Some (map definition_kept records.now)) }
+        ≡ Some (map definition_model records.now)) }
 {
     let mut bytes = Vec::new(alloc);
     for (i, version) in records.iter().enumerate() {

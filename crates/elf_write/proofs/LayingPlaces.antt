@@ -15,9 +15,9 @@ use Rattle.elf_format.specs.Places.{file_range}
 use Rattle.elf_format.specs.Records.{section_header_size, segment_header_size}
 use Rattle.elf_format.specs.Rules.{is_file_kind, names_are_texts, no_extended_numbers}
 use Rattle.elf_image.specs.Edited.{IsEdited}
-use Rattle.elf_image.specs.ImageSeen.{section_kept}
+use Rattle.elf_image.specs.ImageModel.{section_model}
 use Rattle.elf_image.specs.declared.section.Section.{Section}
-use Rattle.elf_layout_plan.specs.Kept.{KeptSection, image_at_read, interpreter_number, kept_from, kept_sections, place_at_read}
+use Rattle.elf_image.specs.Kept.{KeptSection, image_at_read, interpreter_number, kept_from, kept_sections, place_at_read}
 use Rattle.elf_layout_plan.specs.Memory.{Resized}
 use Rattle.elf_layout_plan.specs.Plan.{resized}
 use Rattle.elf_write_spec.specs.Base.{base, base_byte, is_rewritten, old_places, values_from}
@@ -86,20 +86,20 @@ length-kept image long = length-kept_from 0 image.section_numbers image.sections
 -- the one at a position, as it is looked at
 pub kept_here : (image : Image) (sections : List Section) (i : ℕ) (x : Section) (d : KeptSection)
     → length image.section_numbers ≡ length image.sections
-    → map section_kept sections ≡ image.sections → i < length sections → x ≡ get_or sections i x
+    → map section_model sections ≡ image.sections → i < length sections → x ≡ get_or sections i x
     → (i < length (kept_sections image))
     × (get_or (kept_sections image) i d
-    ≡ record { position = i; number = slice_index image.section_numbers i; section = section_kept x })
+    ≡ record { position = i; number = slice_index image.section_numbers i; section = section_model x })
 kept_here image sections i x d long seen here at =
-    let many : length image.sections ≡ length sections = sym (ap length seen) ∙ length-map sections section_kept in
-    let at_image : get_or image.sections i (section_kept x) ≡ section_kept x =
-    ap (λ (l : List ImageSection). get_or l i (section_kept x)) (sym seen)
-    ∙ get_or-map section_kept sections i x (section_kept x) here ∙ ap section_kept (sym at) in
+    let many : length image.sections ≡ length sections = sym (ap length seen) ∙ length-map sections section_model in
+    let at_image : get_or image.sections i (section_model x) ≡ section_model x =
+    ap (λ (l : List ImageSection). get_or l i (section_model x)) (sym seen)
+    ∙ get_or-map section_model sections i x (section_model x) here ∙ ap section_model (sym at) in
     let from_zero : 0 + i ≡ i = omega arith in (
       omega (arith, length-kept image long),
-      kept_from-at 0 image.section_numbers image.sections i d (section_kept x) (omega arith) (omega arith)
+      kept_from-at 0 image.section_numbers image.sections i d (section_model x) (omega arith) (omega arith)
           ∙ ap (λ (s : ImageSection). record { position = 0 + i; number = slice_index image.section_numbers i; section = s }) at_image
-          ∙ ap (λ (j : ℕ). record { position = j; number = slice_index image.section_numbers i; section = section_kept x }) from_zero,
+          ∙ ap (λ (j : ℕ). record { position = j; number = slice_index image.section_numbers i; section = section_model x }) from_zero,
     )
 
 -- ## The places of sections that are written anew
@@ -127,30 +127,30 @@ one-place r interpreter s b same is = by_test b (is ∙ ap (λ (o : Option ℕ).
 -- the places with those of one section more
 pub places-more : (image : Image) (interpreter : Option ℕ) (start made : List Range) (sections : List Section) (i number : ℕ)
     (x : Section) (b : Bool) → interpreter ≡ interpreter_number (image_at_read image) → IsEdited image
-    → map section_kept sections ≡ image.sections → i < length sections → x ≡ get_or sections i x
-    → number ≡ slice_index image.section_numbers i → b ≡ is_rewritten_at interpreter number (section_kept x)
+    → map section_model sections ≡ image.sections → i < length sections → x ≡ get_or sections i x
+    → number ≡ slice_index image.section_numbers i → b ≡ is_rewritten_at interpreter number (section_model x)
     → made ≡ start ++ rewritten_places (resized image) (take i (kept_sections image))
-    → made ++ (if b then file_range (place_at_read (section_kept x)) ∷ [] else [])
+    → made ++ (if b then file_range (place_at_read (section_model x)) ∷ [] else [])
     ≡ start ++ rewritten_places (resized image) (take (i + 1) (kept_sections image))
 places-more image interpreter start made sections i number x b same edited seen here at of tested so_far =
     let r : Resized = resized image in
     let ks : List KeptSection = kept_sections image in
-    let s : KeptSection = record { position = i; number = slice_index image.section_numbers i; section = section_kept x } in
+    let s : KeptSection = record { position = i; number = slice_index image.section_numbers i; section = section_model x } in
     let found = kept_here image sections i x s edited.is_edit.sections.numbered seen here at in
-    let brings : List Range = if b then file_range (place_at_read (section_kept x)) ∷ [] else [] in
+    let brings : List Range = if b then file_range (place_at_read (section_model x)) ∷ [] else [] in
     let one : rewritten_places r (s ∷ []) ≡ brings =
-    one-place r interpreter s b same (tested ∙ ap (λ (n : ℕ). is_rewritten_at interpreter n (section_kept x)) of) in
+    one-place r interpreter s b same (tested ∙ ap (λ (n : ℕ). is_rewritten_at interpreter n (section_model x)) of) in
     ap (λ (l : List Range). l ++ brings) so_far
     ∙ append_assoc start (rewritten_places r (take i ks)) brings
     ∙ ap (λ (l : List Range). start ++ (rewritten_places r (take i ks) ++ l)) (sym one)
     ∙ ap (λ (l : List Range). start ++ l) (sym (rewritten-more r ks i s found.0 found.1))
 
 pub places-all : (image : Image) (start made : List Range) (sections : List Section) (i : ℕ) → IsEdited image
-    → map section_kept sections ≡ image.sections → length sections ≤ i
+    → map section_model sections ≡ image.sections → length sections ≤ i
     → made ≡ start ++ rewritten_places (resized image) (take i (kept_sections image))
     → made ≡ start ++ rewritten_places (resized image) (kept_sections image)
 places-all image start made sections i edited seen end so_far =
-    let many : length image.sections ≡ length sections = sym (ap length seen) ∙ length-map sections section_kept in
+    let many : length image.sections ≡ length sections = sym (ap length seen) ∙ length-map sections section_model in
     so_far ∙ ap (λ (l : List KeptSection). start ++ rewritten_places (resized image) l)
     (take_all i (kept_sections image) (omega (arith, length-kept image edited.is_edit.sections.numbered)))
 

@@ -16,13 +16,13 @@ use Rattle.elf_format.specs.Records.{section_header_size}
 use Rattle.elf_tables.specs.Spelled.{spelled_file_header, spelled_segment_header}
 use Rattle.elf_image.specs.declared.section.Section.{Section}
 use Rattle.elf_image.specs.Edited.{IsEdited}
-use Rattle.elf_image.specs.ImageSeen.{section_kept}
+use Rattle.elf_image.specs.ImageModel.{section_model}
 use Rattle.elf_layout_plan.specs.declared.plan.SectionPlace.{SectionPlace}
 use Rattle.elf_layout_plan.specs.FilePlaced.{written_size}
-use Rattle.elf_layout_plan.specs.Kept.{KeptSection, image_at_read, interpreter_number, kept_sections}
+use Rattle.elf_image.specs.Kept.{KeptSection, image_at_read, interpreter_number, kept_sections}
 use Rattle.elf_layout_plan.specs.Memory.{Resized}
 use Rattle.elf_layout_plan.specs.Plan.{Layout, resized}
-use Rattle.elf_layout_plan.specs.PlanSeen.{place_seen}
+use Rattle.elf_layout_plan.specs.PlanModel.{place_model}
 use Rattle.elf_write_spec.specs.Base.{base, base_byte, is_data}
 use Rattle.elf_write_spec.specs.Headers.{written_header}
 use Rattle.elf_write_spec.specs.Writing.{IsWholeWriting, Writing, patch, patches, patches_of_headers, patches_of_section, patches_of_sections, written_bytes}
@@ -61,7 +61,7 @@ left-at r ks ps cs i s p c in_ks in_ps in_cs at_s at_p at_c =
 pub record IsAt (image : Image) (sections : List Section) (places : List SectionPlace) (contents : List (List ℕ)) (i number : ℕ)
     (x : Section) (bytes : List ℕ) : Type 0 where
   pub edited : IsEdited image
-  pub seen : map section_kept sections ≡ image.sections
+  pub seen : map section_model sections ≡ image.sections
   pub as_many_places : length places ≡ length image.sections
   pub as_many_contents : length contents ≡ length image.sections
   pub here : i < length sections
@@ -74,13 +74,13 @@ pub left-next : (image : Image) (interpreter : Option ℕ) (sections : List Sect
     (ps : List Place) (contents : List (List ℕ))
     (i number : ℕ) (x : Section) (bytes : List ℕ) (d : SectionPlace) (stays : Bool)
     → interpreter ≡ interpreter_number (image_at_read image)
-    → map place_seen places ≡ ps → IsAt image sections places contents i number x bytes
-    → stays ≡ is_data_at interpreter number (section_kept x)
+    → map place_model places ≡ ps → IsAt image sections places contents i number x bytes
+    → stays ≡ is_data_at interpreter number (section_model x)
     → left_patches (resized image) (kept_sections image) ps contents i
-    ≡ content_patches (place_seen (get_or places i d)) stays bytes
+    ≡ content_patches (place_model (get_or places i d)) stays bytes
     ++ left_patches (resized image) (kept_sections image) ps contents (i + 1)
 left-next image interpreter sections places ps contents i number x bytes d stays same seen at tested =
-    left-at r ks ps contents i s p bytes found.0 (omega (arith, in_places, ap length seen, length-map places place_seen))
+    left-at r ks ps contents i s p bytes found.0 (omega (arith, in_places, ap length seen, length-map places place_model))
     (omega (arith, at.here, many, at.as_many_contents)) found.1 place (sym at.content)
     ∙ ap (λ (b : Bool). (if occupies_file p && not b then patch p.sh_offset bytes ∷ [] else []) ++ left_patches r ks ps contents (i + 1))
     (sym of_data)
@@ -92,13 +92,13 @@ left-next image interpreter sections places ps contents i number x bytes d stays
     ks = kept_sections image
 
     s : KeptSection
-    s = record { position = i; number = slice_index image.section_numbers i; section = section_kept x }
+    s = record { position = i; number = slice_index image.section_numbers i; section = section_model x }
 
     p : Place
-    p = place_seen (get_or places i d)
+    p = place_model (get_or places i d)
 
     many : length image.sections ≡ length sections
-    many = sym (ap length at.seen) ∙ length-map sections section_kept
+    many = sym (ap length at.seen) ∙ length-map sections section_model
 
     in_places : i < length places
     in_places = omega (arith, at.here, many, at.as_many_places)
@@ -107,11 +107,11 @@ left-next image interpreter sections places ps contents i number x bytes d stays
     found = kept_here image sections i x s at.edited.is_edit.sections.numbered at.seen at.here at.section
 
     place : get_or ps i p ≡ p
-    place = ap (λ (l : List Place). get_or l i p) (sym seen) ∙ get_or-map place_seen places i d p in_places
+    place = ap (λ (l : List Place). get_or l i p) (sym seen) ∙ get_or-map place_model places i d p in_places
 
     of_data : stays ≡ is_data r s
-    of_data = tested ∙ ap (λ (n : ℕ). is_data_at interpreter n (section_kept x)) at.of_number
-        ∙ ap (λ (o : Option ℕ). is_data_at o (slice_index image.section_numbers i) (section_kept x)) same
+    of_data = tested ∙ ap (λ (n : ℕ). is_data_at interpreter n (section_model x)) at.of_number
+        ∙ ap (λ (o : Option ℕ). is_data_at o (slice_index image.section_numbers i) (section_model x)) same
 
 -- with it there
 pub pushed-next : (r : Resized) (ks : List KeptSection) (ps : List Place) (cs : List (List ℕ)) (i : ℕ) (old now new first : List Patch)
@@ -125,11 +125,11 @@ pushed-next r ks ps cs i old now new first is so_far done =
 
 -- all are there
 pub pushed-all : (image : Image) (sections : List Section) (ps : List Place) (cs : List (List ℕ)) (i : ℕ) (old now : List Patch)
-    → IsEdited image → map section_kept sections ≡ image.sections → length sections ≤ i
+    → IsEdited image → map section_model sections ≡ image.sections → length sections ≤ i
     → IsPushedTo (resized image) (kept_sections image) ps cs i old now
     → now ≡ old ++ patches_of_sections (resized image) (kept_sections image) ps cs
 pushed-all image sections ps cs i old now edited seen end so_far =
-    let many : length image.sections ≡ length sections = sym (ap length seen) ∙ length-map sections section_kept in
+    let many : length image.sections ≡ length sections = sym (ap length seen) ∙ length-map sections section_model in
     let none : drop i (kept_sections image) ≡ [] =
     drop_all i (kept_sections image) (omega (arith, length-kept image edited.is_edit.sections.numbered)) in
     sym (append-nil now)

@@ -2,8 +2,8 @@
 ghost use Rattle.std.specs.Prelude.{◌≡◌, ◌*◌, ◌++◌, ◌<◌, length, map, min, replicate, IfOk, OnOk};
 ghost use Rattle.elf_format.specs.Ranges.{range};
 ghost use Rattle.elf_format.specs.Records.{segment_header_size};
-ghost use Rattle.elf_image.specs.ImageSeen.{segment_kept};
-ghost use Rattle.elf_layout_plan.specs.Kept.{image_at_read, interpreter_number as number_of_interpreter, kept_sections};
+ghost use Rattle.elf_image.specs.ImageModel.{segment_model};
+ghost use Rattle.elf_image.specs.Kept.{image_at_read, interpreter_number as number_of_interpreter, kept_sections};
 ghost use Rattle.elf_layout_plan.specs.Plan.{resized};
 ghost use Rattle.elf_write_spec.specs.Base.{base, has_position, old_places as places_rewritten};
 ghost use Rattle.elf_write_contents.specs.Inner.{IsReady};
@@ -49,7 +49,7 @@ fn clear_range(bytes: &mut [u8], range: Range)
 
 // Gives bytes those of the source that loaded segments have.
 fn copy_loads(bytes: &mut [u8], source: &[u8], segments: &[Segment<'_>])
-    ensures { TakesFrom source.now (is_in_load (map segment_kept segments.now))
+    ensures { TakesFrom source.now (is_in_load (map segment_model segments.now))
         bytes.old bytes.new }
 {
     for segment in segments {

@@ -5,7 +5,7 @@ ghost use Rattle.elf_format.specs.Ranges.{apart, range};
 ghost use Rattle.elf_format.specs.Records.{file_header_size};
 ghost use Rattle.elf_tables.specs.declared.fault.TableFault.TheVariants.{NumberTooLarge};
 ghost use Rattle.elf_layout_plan.specs.FilePlaced.{written_table};
-ghost use Rattle.elf_layout_plan.specs.Kept.{image_at_read, kept_sections};
+ghost use Rattle.elf_image.specs.Kept.{image_at_read, kept_sections};
 ghost use Rattle.elf_layout_plan.specs.Plan.{IsPlan, resized};
 ghost use Rattle.elf_layout_plan.specs.Refusals.{do_sizes_of_image_fit};
 ghost use Rattle.elf_write_spec.specs.Laws.{ShowsFinal};
@@ -19,14 +19,14 @@ ghost use Rattle.elf_write.specs.Refused.{AreNoBytes};
 ghost use Rattle.elf_write_contents.specs.Seen.{HasHashes, HasHeaders, IsApart};
 
 use crate::laying::laid_bytes;
-use elf_write_contents::contents::contents;
-use elf_write_contents::prepared::{Prepared, prepare};
 use elf_format::form::Form;
 use elf_format::range::Range;
 use elf_image::Builder;
 use elf_layout_plan::laws::{plans_are_apart, plans_show_notes};
 use elf_layout_plan::{LayoutFault, Plan, read_again};
 use elf_tables::TableFault;
+use elf_write_contents::contents::contents;
+use elf_write_contents::prepared::{Prepared, prepare};
 use patch_bytes::ByteString;
 use std::alloc::{AllocError, Global};
 

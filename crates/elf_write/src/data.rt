@@ -1,8 +1,8 @@
 //! Which sections are data of the program, and which are written anew.
 ghost use Rattle.std.specs.Prelude.{◌≡◌, ◌==◌};
 ghost use Rattle.elf_format.specs.Options.{is_some_and};
-ghost use Rattle.elf_image.specs.ImageSeen.{section_kept};
-ghost use Rattle.elf_layout_plan.specs.Kept.{interpreter_number as number_of_interpreter};
+ghost use Rattle.elf_image.specs.ImageModel.{section_model};
+ghost use Rattle.elf_image.specs.Kept.{interpreter_number as number_of_interpreter};
 ghost use Rattle.elf_write.specs.LayingSteps.{is_data_at, is_rewritten_at};
 
 use elf_format::SectionData;
@@ -31,7 +31,7 @@ fn is_interpreter(interpreter: Option<usize>, number: usize) -> bool
 
 // Whether a section that had that number is data of the program.
 pub(crate) fn is_data(section: &Section<'_>, number: usize, interpreter: Option<usize>) -> bool
-    ensures { result ≡ is_data_at interpreter number (section_kept section.now) }
+    ensures { result ≡ is_data_at interpreter number (section_model section.now) }
 {
     let is_opaque = matches!(section.kind, SectionData::Opaque);
     section.sh_flags & SHF_ALLOC != 0 && is_opaque && !is_interpreter(interpreter, number)
@@ -39,7 +39,7 @@ pub(crate) fn is_data(section: &Section<'_>, number: usize, interpreter: Option<
 
 // Whether a section that had that number is written anew: it takes memory and bytes of the file, and is no data.
 pub(crate) fn is_rewritten(section: &Section<'_>, number: usize, interpreter: Option<usize>) -> bool
-    ensures { result ≡ is_rewritten_at interpreter number (section_kept section.now) }
+    ensures { result ≡ is_rewritten_at interpreter number (section_model section.now) }
 {
     section.sh_flags & SHF_ALLOC != 0
         && section.sh_type != SHT_NULL

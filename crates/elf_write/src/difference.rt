@@ -3,7 +3,7 @@ ghost use Rattle.std.specs.Prelude.{◌≡◌, false, IfErr, IfOk, IfSome, IsTru
 ghost use Rattle.patch_bytes.specs.ByteString.{bytes_of_each};
 ghost use Rattle.byte_store.specs.Composed.{IsDifference, made_of};
 ghost use Rattle.elf_tables.specs.declared.fault.TableFault.TheVariants.{NumberTooLarge};
-ghost use Rattle.elf_layout_plan.specs.Kept.{image_at_read, kept_sections};
+ghost use Rattle.elf_image.specs.Kept.{image_at_read, kept_sections};
 ghost use Rattle.elf_layout_plan.specs.Plan.{IsPlan, resized};
 ghost use Rattle.elf_layout_plan.specs.Refusals.{do_sizes_of_image_fit};
 ghost use Rattle.elf_layout_sizes.specs.MadeTables.{IsMadeOfList};
@@ -20,13 +20,13 @@ ghost use Rattle.elf_write_contents.specs.Seen.{HasHashes, HasHeaders, IsApart};
 use crate::bytes::are_headers_apart;
 use crate::laying::laid_difference;
 use byte_store::Difference;
-use elf_write_contents::contents::contents;
-use elf_write_contents::made::strings_from;
-use elf_write_contents::prepared::{Prepared, prepare_with};
 use elf_image::Builder;
 use elf_layout_plan::laws::{plans_are_apart, plans_show_notes};
 use elf_layout_plan::{LayoutFault, Plan, read_again};
 use elf_tables::{Finished, TableFault};
+use elf_write_contents::contents::contents;
+use elf_write_contents::made::strings_from;
+use elf_write_contents::prepared::{Prepared, prepare_with};
 use patch_bytes::ByteString;
 use std::alloc::{AllocError, Global};
 

@@ -3,9 +3,9 @@ ghost use Rattle.std.specs.Prelude.{◌≡◌, ◌++◌, length, IfOk, OnOk};
 ghost use Rattle.patch_bytes.specs.ByteString.{bytes_of_each};
 ghost use Rattle.byte_store.specs.Laid.{patches_of};
 ghost use Rattle.elf_format.specs.Places.{occupies_file as does_occupy_file};
-ghost use Rattle.elf_layout_plan.specs.Kept.{image_at_read, interpreter_number as number_of_interpreter, kept_sections};
+ghost use Rattle.elf_image.specs.Kept.{image_at_read, interpreter_number as number_of_interpreter, kept_sections};
 ghost use Rattle.elf_layout_plan.specs.Plan.{resized};
-ghost use Rattle.elf_layout_plan.specs.PlanSeen.{place_seen};
+ghost use Rattle.elf_layout_plan.specs.PlanModel.{place_model};
 ghost use Rattle.elf_write_spec.specs.Writing.{patches_of_sections};
 ghost use Rattle.elf_write.specs.LayingSteps.{content_patches, header_patches};
 
@@ -45,7 +45,7 @@ fn header_pieces<'s>(
 
 // Whether a place takes bytes of the file (gABI, Sections, SHT_NULL and SHT_NOBITS don't).
 fn occupies_file(place: SectionPlace) -> bool
-    ensures { result ≡ does_occupy_file (place_seen place) }
+    ensures { result ≡ does_occupy_file (place_model place) }
 {
     place.sh_type != SHT_NULL && place.sh_type != SHT_NOBITS
 }
@@ -58,7 +58,7 @@ fn push_content<'s>(
     content: &'s [u8],
 ) -> Result<(), AllocError>
     ensures { OnOk result (patches_of pieces.new.items ≡ patches_of pieces.old.items
-        ++ content_patches (place_seen place) is_data content.entry.now) }
+        ++ content_patches (place_model place) is_data content.entry.now) }
 {
     if occupies_file(place) && !is_data {
         pieces.push(Piece {

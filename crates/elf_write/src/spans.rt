@@ -2,7 +2,7 @@
 ghost use Rattle.std.specs.Prelude.{◌≡◌, All, IfOk, List, map, ℕ};
 ghost use Rattle.byte_store.specs.Composed.{IsDifference, made_of};
 ghost use Rattle.byte_store.specs.Laid.{LiesIn, patches_of};
-ghost use Rattle.elf_image.specs.ImageSeen.{segment_kept};
+ghost use Rattle.elf_image.specs.ImageModel.{segment_model};
 ghost use Rattle.elf_layout_plan.specs.Plan.{resized};
 ghost use Rattle.elf_write_contents.specs.Inner.{IsReady};
 ghost use Rattle.elf_write.specs.PieceSteps.{IsOverBase, load_spans, span_in};
@@ -27,7 +27,7 @@ fn span_of(range: Range, len: usize) -> Span
 // The positions of the bytes that loaded segments have in the file.
 fn kept_spans(alloc: Global, segments: &[Segment<'_>], len: usize) -> Result<Vec<Span>, AllocError>
     ensures { IfOk result (λ spans.
-        spans.items ≡ load_spans len (map segment_kept segments.now)) }
+        spans.items ≡ load_spans len (map segment_model segments.now)) }
 {
     let mut spans = Vec::new(alloc);
     for segment in segments {

@@ -11,10 +11,10 @@ use Rattle.elf_format.specs.Options.{is_some_and, list_at}
 use Rattle.elf_format.specs.Places.{Place}
 use Rattle.elf_format.specs.Records.{entry_size, symbol_size, symbols_in}
 use Rattle.elf_image.specs.declared.section.Section.{Section}
-use Rattle.elf_image.specs.ImageSeen.{section_kept}
+use Rattle.elf_image.specs.ImageModel.{section_model}
 use Rattle.elf_layout_plan.specs.declared.plan.SectionPlace.{SectionPlace}
-use Rattle.elf_layout_plan.specs.PlanSeen.{place_seen}
-use Rattle.elf_layout_plan.specs.Kept.{KeptSection, interpreter_number, kept_sections}
+use Rattle.elf_layout_plan.specs.PlanModel.{place_model}
+use Rattle.elf_image.specs.Kept.{KeptSection, interpreter_number, kept_sections}
 use Rattle.elf_layout_plan.specs.Memory.{Resized, sized_sections}
 use Rattle.elf_layout_plan.specs.Plan.{Layout, layout_for, resized}
 use Rattle.elf_layout_plan.specs.Needs.{written_needs}
@@ -87,25 +87,25 @@ module _ (image : Image) (plan : Layout) (made : Option Made) (raw : List EntryN
 -- ## What a program holds
 
 -- as many, and each where it was
-pub long_held : (held : List Section) (sections : List ImageSection) → map section_kept held ≡ sections → length sections ≡ length held
-long_held held sections are = ap length (sym are) ∙ length-map held section_kept
+pub long_held : (held : List Section) (sections : List ImageSection) → map section_model held ≡ sections → length sections ≡ length held
+long_held held sections are = ap length (sym are) ∙ length-map held section_model
 
-pub section_there : (held : List Section) (sections : List ImageSection) (i : ℕ) (x : Section) → map section_kept held ≡ sections
-    → i < length sections → x ≡ get_or held i x → slice_get sections i ≡ Some (section_kept x)
+pub section_there : (held : List Section) (sections : List ImageSection) (i : ℕ) (x : Section) → map section_model held ≡ sections
+    → i < length sections → x ≡ get_or held i x → slice_get sections i ≡ Some (section_model x)
 section_there held sections i x are within is =
-    let inside : i < length held = omega (arith, ap length (sym are), length-map held section_kept) in
-    ap (λ (l : List ImageSection). slice_get l i) (sym are) ∙ slice_get-map section_kept held i
-    ∙ ap (option_map section_kept) (slice_get_read held (length held) i x refl inside is)
+    let inside : i < length held = omega (arith, ap length (sym are), length-map held section_model) in
+    ap (λ (l : List ImageSection). slice_get l i) (sym are) ∙ slice_get-map section_model held i
+    ∙ ap (option_map section_model) (slice_get_read held (length held) i x refl inside is)
 
-pub place_within : (held : List SectionPlace) (ps : List Place) (sections : List ImageSection) (i : ℕ) → map place_seen held ≡ ps
+pub place_within : (held : List SectionPlace) (ps : List Place) (sections : List ImageSection) (i : ℕ) → map place_model held ≡ ps
     → length ps ≡ length sections → i < length sections → i < length held
-place_within held ps sections i are long within = omega (arith, ap length (sym are), length-map held place_seen)
+place_within held ps sections i are long within = omega (arith, ap length (sym are), length-map held place_model)
 
-pub place_there : (held : List SectionPlace) (ps : List Place) (i : ℕ) (d : SectionPlace) → map place_seen held ≡ ps → i < length held
-    → slice_get ps i ≡ Some (place_seen (get_or held i d))
+pub place_there : (held : List SectionPlace) (ps : List Place) (i : ℕ) (d : SectionPlace) → map place_model held ≡ ps → i < length held
+    → slice_get ps i ≡ Some (place_model (get_or held i d))
 place_there held ps i d are within =
-    ap (λ (l : List Place). slice_get l i) (sym are) ∙ slice_get-map place_seen held i
-    ∙ ap (option_map place_seen) (slice_get-get_or held i d within)
+    ap (λ (l : List Place). slice_get l i) (sym are) ∙ slice_get-map place_model held i
+    ∙ ap (option_map place_model) (slice_get-get_or held i d within)
 
 -- two facts about an answer that isn't refused
 pub both_ok : {T E : Type 0} (answer : Result T E) (P Q R : T → Type 0) → ((x : T) → P x → Q x → R x) → IfOk answer P → IfOk answer Q

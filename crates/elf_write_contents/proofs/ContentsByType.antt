@@ -24,7 +24,7 @@ use Rattle.elf_format.specs.Records.{entry_size}
 use Rattle.elf_format.specs.Rules.{file_of, is_opaque_relocation}
 use Rattle.elf_format.specs.Views.{interpreter_section}
 use Rattle.elf_format.proofs.ViewsAgree.{there_if}
-use Rattle.elf_layout_plan.specs.Kept.{KeptSection, interpreter_number, is_numbered, kept_of_type, kept_sections, link_of_type, stands_as_interpreter}
+use Rattle.elf_image.specs.Kept.{KeptSection, interpreter_number, is_numbered, kept_of_type, kept_sections, link_of_type, stands_as_interpreter}
 use Rattle.elf_layout_plan.specs.Memory.{Resized}
 use Rattle.elf_layout_plan.specs.Needs.{written_entries}
 use Rattle.elf_layout_plan.specs.Plan.{Layout, resized}

@@ -15,7 +15,7 @@ use Rattle.elf_format.specs.Views.{NamedSymbol}
 use Rattle.elf_format.proofs.Placed.{IsIn, IsIn-slice_get}
 use Rattle.elf_format.proofs.ViewsAgree.{found_by_type, length-bytes, test_at, there_and, version_symbols_right, whole_count, whole_entries}
 use Rattle.elf_image.specs.ReadImage.{AreDynamicSymbols, AreStaticSymbols}
-use Rattle.elf_layout_plan.specs.Kept.{interpreter_number, is_numbered}
+use Rattle.elf_image.specs.Kept.{interpreter_number, is_numbered}
 use Rattle.elf_layout_plan.specs.Plan.{Layout}
 use Rattle.elf_layout_plan.specs.Sizes.{hash_size, interpreter_size, new_size, table_size}
 use Rattle.elf_layout_plan.specs.Texts.{are_names_changed}

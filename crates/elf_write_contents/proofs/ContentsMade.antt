@@ -16,7 +16,7 @@ use Rattle.elf_format.specs.Places.{Place, occupies_file}
 use Rattle.elf_format.specs.Records.{symbol_size, symbols_in}
 use Rattle.elf_format.specs.Rules.{is_opaque_relocation}
 use Rattle.elf_image.specs.ReadImage.{IsSectionOf}
-use Rattle.elf_layout_plan.specs.Kept.{KeptSection, image_at_read, interpreter_number, is_numbered, kept_sections}
+use Rattle.elf_image.specs.Kept.{KeptSection, image_at_read, interpreter_number, is_numbered, kept_sections}
 use Rattle.elf_layout_plan.specs.Memory.{Resized, SizedSection, sized_sections}
 use Rattle.elf_layout_plan.specs.Needs.{written_needs}
 use Rattle.elf_layout_plan.specs.Plan.{Layout, layout_for, resized}

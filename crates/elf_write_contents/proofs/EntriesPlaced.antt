@@ -24,10 +24,10 @@ use Rattle.elf_format.specs.Rules.{file_of, linked_texts, raw_entries}
 use Rattle.elf_format.specs.Views.{first_by_tag, section_memory}
 use Rattle.elf_image.specs.declared.dynamic.Dynamic.{Dynamic}
 use Rattle.elf_image.specs.declared.section.Section.{Section}
-use Rattle.elf_image.specs.ImageSeen.{entry_kept, section_kept}
+use Rattle.elf_image.specs.ImageModel.{entry_model, section_model}
 use Rattle.elf_image.specs.Lookups.{type_position}
 use Rattle.elf_tables.specs.Strings.{StandsAt, place_of}
-use Rattle.elf_layout_plan.specs.Kept.{KeptSection, kept_of_type, link_of_type}
+use Rattle.elf_image.specs.Kept.{KeptSection, kept_of_type, link_of_type}
 use Rattle.elf_layout_plan.specs.Texts.{is_subsequence, is_table_copied, texts_in_use, texts_of_entries}
 use Rattle.elf_write_spec.specs.Headers.{Reads}
 use Rattle.elf_write_spec.proofs.TextsRead.{text_reads}
@@ -109,61 +109,61 @@ ended_numbers (t ∷ ts) (e ∷ es) = refl
 
 module _ (ts : List (List ℕ)) (es : List Dynamic) (xs : List EntryNumbers) (whole made : List ℕ) (i : ℕ) (e : Dynamic) (x : EntryNumbers) where
   left : ℕ → ℕ → List ℕ
-  left n j = places_among (drop n ts) (map entry_kept (drop j es)) (drop j xs)
+  left n j = places_among (drop n ts) (map entry_model (drop j es)) (drop j xs)
 
   split : i < length es → i < length xs
       → left (length made) i
-      ≡ places_among (drop (length made) ts) (entry_kept (get_or es i e) ∷ map entry_kept (drop (i + 1) es)) (get_or xs i x ∷ drop (i + 1) xs)
+      ≡ places_among (drop (length made) ts) (entry_model (get_or es i e) ∷ map entry_model (drop (i + 1) es)) (get_or xs i x ∷ drop (i + 1) xs)
   unfolding left
   split in_es in_xs =
-      ap (λ (l : List Dynamic). places_among (drop (length made) ts) (map entry_kept l) (drop i xs)) (drop_more es i e in_es)
-      ∙ ap (λ (l : List EntryNumbers). places_among (drop (length made) ts) (entry_kept (get_or es i e) ∷ map entry_kept (drop (i + 1) es)) l)
+      ap (λ (l : List Dynamic). places_among (drop (length made) ts) (map entry_model l) (drop i xs)) (drop_more es i e in_es)
+      ∙ ap (λ (l : List EntryNumbers). places_among (drop (length made) ts) (entry_model (get_or es i e) ∷ map entry_model (drop (i + 1) es)) l)
       (drop_more xs i x in_xs)
 
   -- one place more
-  one_found : i < length es → i < length xs → is_some_and (λ t. has_text t (entry_kept (get_or es i e))) (slice_get ts (length made)) ≡ true
-      → made ++ places_among (drop (length made) ts) (map entry_kept (drop i es)) (drop i xs) ≡ whole
+  one_found : i < length es → i < length xs → is_some_and (λ t. has_text t (entry_model (get_or es i e))) (slice_get ts (length made)) ≡ true
+      → made ++ places_among (drop (length made) ts) (map entry_model (drop i es)) (drop i xs) ≡ whole
       → (made ++ (get_or xs i x).d_value ∷ [])
-      ++ places_among (drop (length (made ++ (get_or xs i x).d_value ∷ [])) ts) (map entry_kept (drop (i + 1) es)) (drop (i + 1) xs) ≡ whole
+      ++ places_among (drop (length (made ++ (get_or xs i x).d_value ∷ [])) ts) (map entry_model (drop (i + 1) es)) (drop (i + 1) xs) ≡ whole
   unfolding left
   one_found in_es in_xs h all =
       let value : ℕ = (get_or xs i x).d_value in
       ap (λ (n : ℕ). (made ++ value ∷ []) ++ left n (i + 1)) (length-append made (value ∷ []))
       ∙ append_assoc made (value ∷ []) (left (length made + 1) (i + 1))
-      ∙ ap (λ (l : List ℕ). made ++ l) (sym (next_found ts (length made) (entry_kept (get_or es i e)) (map entry_kept (drop (i + 1) es))
+      ∙ ap (λ (l : List ℕ). made ++ l) (sym (next_found ts (length made) (entry_model (get_or es i e)) (map entry_model (drop (i + 1) es))
       (get_or xs i x) (drop (i + 1) xs) h))
       ∙ ap (λ (l : List ℕ). made ++ l) (sym (split in_es in_xs))
       ∙ all
 
-  one_passed : i < length es → i < length xs → is_some_and (λ t. has_text t (entry_kept (get_or es i e))) (slice_get ts (length made)) ≡ false
-      → made ++ places_among (drop (length made) ts) (map entry_kept (drop i es)) (drop i xs) ≡ whole
-      → made ++ places_among (drop (length made) ts) (map entry_kept (drop (i + 1) es)) (drop (i + 1) xs) ≡ whole
+  one_passed : i < length es → i < length xs → is_some_and (λ t. has_text t (entry_model (get_or es i e))) (slice_get ts (length made)) ≡ false
+      → made ++ places_among (drop (length made) ts) (map entry_model (drop i es)) (drop i xs) ≡ whole
+      → made ++ places_among (drop (length made) ts) (map entry_model (drop (i + 1) es)) (drop (i + 1) xs) ≡ whole
   unfolding left
   one_passed in_es in_xs h all =
-      ap (λ (l : List ℕ). made ++ l) (sym (next_passed ts (length made) (entry_kept (get_or es i e)) (map entry_kept (drop (i + 1) es))
+      ap (λ (l : List ℕ). made ++ l) (sym (next_passed ts (length made) (entry_model (get_or es i e)) (map entry_model (drop (i + 1) es))
       (get_or xs i x) (drop (i + 1) xs) h))
       ∙ ap (λ (l : List ℕ). made ++ l) (sym (split in_es in_xs))
       ∙ all
 
   -- the same by what is known in the loop
   pub is_found : (n : ℕ) → n ≡ length made → i < min (length es) (length xs) → e ≡ get_or es i e
-      → is_some_and (λ t. has_text t (entry_kept e)) (slice_get ts n) ≡ true
-      → made ++ places_among (drop (length made) ts) (map entry_kept (drop i es)) (drop i xs) ≡ whole
+      → is_some_and (λ t. has_text t (entry_model e)) (slice_get ts n) ≡ true
+      → made ++ places_among (drop (length made) ts) (map entry_model (drop i es)) (drop i xs) ≡ whole
       → (made ++ (get_or xs i x).d_value ∷ [])
-      ++ places_among (drop (length (made ++ (get_or xs i x).d_value ∷ [])) ts) (map entry_kept (drop (i + 1) es)) (drop (i + 1) xs) ≡ whole
+      ++ places_among (drop (length (made ++ (get_or xs i x).d_value ∷ [])) ts) (map entry_model (drop (i + 1) es)) (drop (i + 1) xs) ≡ whole
   is_found n long within is h all =
       one_found (omega (arith, within)) (omega (arith, within))
-      (ap (λ (y : Dynamic). is_some_and (λ t. has_text t (entry_kept y)) (slice_get ts (length made))) (sym is)
-      ∙ ap (λ (m : ℕ). is_some_and (λ t. has_text t (entry_kept e)) (slice_get ts m)) (sym long) ∙ h) all
+      (ap (λ (y : Dynamic). is_some_and (λ t. has_text t (entry_model y)) (slice_get ts (length made))) (sym is)
+      ∙ ap (λ (m : ℕ). is_some_and (λ t. has_text t (entry_model e)) (slice_get ts m)) (sym long) ∙ h) all
 
   pub is_passed : (n : ℕ) → n ≡ length made → i < min (length es) (length xs) → e ≡ get_or es i e
-      → is_some_and (λ t. has_text t (entry_kept e)) (slice_get ts n) ≡ false
-      → made ++ places_among (drop (length made) ts) (map entry_kept (drop i es)) (drop i xs) ≡ whole
-      → made ++ places_among (drop (length made) ts) (map entry_kept (drop (i + 1) es)) (drop (i + 1) xs) ≡ whole
+      → is_some_and (λ t. has_text t (entry_model e)) (slice_get ts n) ≡ false
+      → made ++ places_among (drop (length made) ts) (map entry_model (drop i es)) (drop i xs) ≡ whole
+      → made ++ places_among (drop (length made) ts) (map entry_model (drop (i + 1) es)) (drop (i + 1) xs) ≡ whole
   is_passed n long within is h all =
       one_passed (omega (arith, within)) (omega (arith, within))
-      (ap (λ (y : Dynamic). is_some_and (λ t. has_text t (entry_kept y)) (slice_get ts (length made))) (sym is)
-      ∙ ap (λ (m : ℕ). is_some_and (λ t. has_text t (entry_kept e)) (slice_get ts m)) (sym long) ∙ h) all
+      (ap (λ (y : Dynamic). is_some_and (λ t. has_text t (entry_model y)) (slice_get ts (length made))) (sym is)
+      ∙ ap (λ (m : ℕ). is_some_and (λ t. has_text t (entry_model e)) (slice_get ts m)) (sym long) ∙ h) all
 
 module _ (ts : List (List ℕ)) (es : List Dynamic) (xs : List EntryNumbers) (whole made : List ℕ) (i : ℕ) where
   nil_right : (l : List ℕ) → l ++ [] ≡ l
@@ -171,19 +171,19 @@ module _ (ts : List (List ℕ)) (es : List Dynamic) (xs : List EntryNumbers) (wh
   nil_right (y ∷ ys) = ap (λ (l : List ℕ). y ∷ l) (nil_right ys)
 
   -- all were looked at
-  all_looked : made ++ places_among (drop (length made) ts) (map entry_kept (drop i es)) (drop i xs) ≡ whole
+  all_looked : made ++ places_among (drop (length made) ts) (map entry_model (drop i es)) (drop i xs) ≡ whole
       → length es ≤ i → made ≡ whole
   all_looked all past =
-      sym (nil_right made) ∙ ap (λ (l : List ℕ). made ++ l) (sym (ap (λ (l : List Dynamic). places_among (drop (length made) ts) (map entry_kept l) (drop i xs))
+      sym (nil_right made) ∙ ap (λ (l : List ℕ). made ++ l) (sym (ap (λ (l : List Dynamic). places_among (drop (length made) ts) (map entry_model l) (drop i xs))
       (drop_all i es past) ∙ ended (drop (length made) ts) (drop i xs))) ∙ all
 
-  all_numbers : made ++ places_among (drop (length made) ts) (map entry_kept (drop i es)) (drop i xs) ≡ whole
+  all_numbers : made ++ places_among (drop (length made) ts) (map entry_model (drop i es)) (drop i xs) ≡ whole
       → length xs ≤ i → made ≡ whole
   all_numbers all past =
-      sym (nil_right made) ∙ ap (λ (l : List ℕ). made ++ l) (sym (ap (λ (l : List EntryNumbers). places_among (drop (length made) ts) (map entry_kept (drop i es)) l)
-      (drop_all i xs past) ∙ ended_numbers (drop (length made) ts) (map entry_kept (drop i es)))) ∙ all
+      sym (nil_right made) ∙ ap (λ (l : List ℕ). made ++ l) (sym (ap (λ (l : List EntryNumbers). places_among (drop (length made) ts) (map entry_model (drop i es)) l)
+      (drop_all i xs past) ∙ ended_numbers (drop (length made) ts) (map entry_model (drop i es)))) ∙ all
 
-  pub all_places : made ++ places_among (drop (length made) ts) (map entry_kept (drop i es)) (drop i xs) ≡ whole
+  pub all_places : made ++ places_among (drop (length made) ts) (map entry_model (drop i es)) (drop i xs) ≡ whole
       → min (length es) (length xs) ≤ i → made ≡ whole
   all_places all past = elim (cases_lt i (length es)) [
     | inl less ↦ all_numbers all (omega (arith, less, past))
@@ -428,7 +428,7 @@ module _ (read image : Image) (is : IsReady read image) (list : ℕ) (at : type_
 -- ## The bytes of a section of an image
 
 pub content_of : (sections : List Section) (i : ℕ) (d : Section) → i < length sections
-    → unwrap_or (slice_get (map section_kept sections) i >>= λ s. Some s.content) [] ≡ (get_or sections i d).content.now
+    → unwrap_or (slice_get (map section_model sections) i >>= λ s. Some s.content) [] ≡ (get_or sections i d).content.now
 content_of [] i d within = absurd (omega (arith, within))
 content_of (s ∷ ss) zero d within = refl
 content_of (s ∷ ss) (suc i) d within = content_of ss i d (omega (arith, within))

@@ -10,7 +10,7 @@ use Rattle.elf_format.specs.Image.{Image}
 use Rattle.elf_format.specs.Options.{list_at}
 use Rattle.elf_image.specs.Edited.{IsEdited}
 use Rattle.elf_image.specs.Lookups.{type_position}
-use Rattle.elf_layout_plan.specs.Kept.{KeptSection, image_at_read, link_of_type}
+use Rattle.elf_image.specs.Kept.{KeptSection, image_at_read, link_of_type}
 use Rattle.elf_layout_plan.specs.Memory.{Resized}
 use Rattle.elf_layout_plan.specs.Plan.{Layout, resized}
 use Rattle.elf_layout_plan.specs.Texts.{texts_of_entries}

@@ -10,7 +10,7 @@ use Rattle.elf_format.specs.Options.{first_there}
 use Rattle.elf_format.specs.Places.{Place}
 use Rattle.elf_image.specs.Edited.{IsEdited}
 use Rattle.elf_image.specs.Lookups.{dynamic_strings_position, link_position, section_position, type_position}
-use Rattle.elf_layout_plan.specs.Kept.{KeptSection, dynamic_strings_number, kept_at_number, kept_from, kept_of_type, link_of_type}
+use Rattle.elf_image.specs.Kept.{KeptSection, dynamic_strings_number, kept_at_number, kept_from, kept_of_type, link_of_type}
 use Rattle.elf_layout_plan.specs.Plan.{Layout}
 use Rattle.elf_write_spec.specs.Contents.{place_of_kept, strings_place}
 use Rattle.elf_write_contents.specs.EntrySteps.{place_at}

@@ -19,7 +19,7 @@ use Rattle.elf_format.specs.Places.{Place}
 use Rattle.elf_image.specs.Edited.{AreEntriesOf as AreEditedEntries}
 use Rattle.elf_tables.specs.Fields.{do_fields_fit, does_field_fit}
 use Rattle.elf_tables.specs.Spelled.{entry_fields, file_header_fields, section_fields, segment_fields}
-use Rattle.elf_layout_plan.specs.Kept.{KeptSection, image_at_read, kept_of_type, kept_sections, link_of_type}
+use Rattle.elf_image.specs.Kept.{KeptSection, image_at_read, kept_of_type, kept_sections, link_of_type}
 use Rattle.elf_layout_plan.specs.Memory.{Resized}
 use Rattle.elf_layout_plan.specs.Plan.{Layout, resized}
 use Rattle.elf_write_spec.specs.Contents.{AreEntriesOf, IsEntryOf}

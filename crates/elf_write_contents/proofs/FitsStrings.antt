@@ -18,7 +18,7 @@ use Rattle.elf_format.specs.File.{has_file_bytes, section_bytes, segment_of_type
 use Rattle.elf_format.specs.Form.{by_class}
 use Rattle.elf_format.specs.Image.{Image, ImageSection}
 use Rattle.elf_format.specs.Rules.{file_of}
-use Rattle.elf_layout_plan.specs.Kept.{KeptSection, interpreter_number, is_numbered, kept_sections, link_of_type, stands_as_interpreter}
+use Rattle.elf_image.specs.Kept.{KeptSection, interpreter_number, is_numbered, kept_sections, link_of_type, stands_as_interpreter}
 use Rattle.elf_layout_plan.specs.Sizes.{fits_field, interpreter_size, new_size, new_sizes, strings_size, table_size}
 use Rattle.elf_layout_plan.specs.Texts.{is_table_copied, texts_in_use}
 use Rattle.elf_layout_plan.proofs.PlacedLists.{find-at}

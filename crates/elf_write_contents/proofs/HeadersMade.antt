@@ -20,8 +20,8 @@ use Rattle.elf_format.specs.Places.{Place}
 use Rattle.elf_format.specs.Records.{section_header_size, segment_header_size}
 use Rattle.elf_format.specs.Rules.{file_of, texts_of}
 use Rattle.elf_image.specs.declared.section.Section.{Section}
-use Rattle.elf_image.specs.ImageSeen.{section_kept}
-use Rattle.elf_layout_plan.specs.Kept.{KeptSection, image_at_read, kept_sections}
+use Rattle.elf_image.specs.ImageModel.{section_model}
+use Rattle.elf_image.specs.Kept.{KeptSection, image_at_read, kept_sections}
 use Rattle.elf_layout_plan.specs.Memory.{Resized, sized_sections}
 use Rattle.elf_layout_plan.specs.Needs.{written_entries, written_needs}
 use Rattle.elf_layout_plan.specs.Plan.{Layout, layout_for, resized}
@@ -198,12 +198,12 @@ header_is image is known known_is s p name =
 -- ## The section at a position
 
 -- a section as it is lent
-pub seen_at : (image : Image) (sections : List Section) (i : ℕ) (x : Section) → map section_kept sections ≡ image.sections
-    → i < length image.sections → x ≡ get_or sections i x → slice_get image.sections i ≡ Some (section_kept x)
+pub seen_at : (image : Image) (sections : List Section) (i : ℕ) (x : Section) → map section_model sections ≡ image.sections
+    → i < length image.sections → x ≡ get_or sections i x → slice_get image.sections i ≡ Some (section_model x)
 seen_at image sections i x seen less is =
-    let within : i < length sections = omega (arith, less, ap length seen, length-map sections section_kept) in
+    let within : i < length sections = omega (arith, less, ap length seen, length-map sections section_model) in
     ap (λ (l : List ImageSection). slice_get l i) (sym seen)
-    ∙ at-map section_kept sections i x (slice_get_read sections (length sections) i x (λ j. length sections) within is)
+    ∙ at-map section_model sections i x (slice_get_read sections (length sections) i x (λ j. length sections) within is)
 
 module _ (image : Image) (plan : Layout) (made : Option Made) (known : Known)
     (planned : IsPlanned (image_at_read image) image plan) (strings : AreStrings (image_at_read image) image made) (is : IsKnown image known)

@@ -12,7 +12,7 @@ use Rattle.elf_format.specs.Image.{Image, ImageSection}
 use Rattle.elf_format.specs.Options.{is_one_of, is_some_and}
 use Rattle.elf_format.specs.Rules.{are_linked, are_tables_linked, are_whole, infos_are_sections, is_one_of_each, links_to, relocations_fit, symbols_have_sections, text_users}
 use Rattle.elf_format.proofs.Placed.{IsIn-slice_get, passes_picked}
-use Rattle.elf_layout_plan.specs.Kept.{KeptSection, image_at_read, kept_sections, link_of_type}
+use Rattle.elf_image.specs.Kept.{KeptSection, image_at_read, kept_sections, link_of_type}
 use Rattle.elf_layout_plan.specs.Sizes.{do_texts_fit, strings_size, table_size}
 use Rattle.elf_layout_plan.specs.Texts.{is_table_copied, texts_in_use}
 use Rattle.elf_tables.specs.Strings.{table_length}

@@ -13,7 +13,7 @@ use Rattle.elf_tables.specs.Fields.{do_fields_fit}
 use Rattle.elf_tables.specs.Spelled.{spelled_symbol, symbol_fields}
 use Rattle.elf_tables.specs.Strings.{Strings, place_of}
 use Rattle.elf_write_contents.specs.SymbolSteps.{HasNames, does_symbol_fit, place_in, place_of_named, symbol_bytes, symbol_in}
-use Rattle.elf_image_symbols.specs.SymbolsShown.{symbol_with}
+use Rattle.elf_image_symbols.specs.TableSymbols.{symbol_with}
 
 -- the texts of a table at a position stand at the place that the table's order tells there
 told_at : (table : Strings) (texts : List (List ℕ)) (j : ℕ) → map Some table.in_order ≡ map (place_of table) texts → j < length texts

@@ -15,7 +15,7 @@ use Rattle.elf_format.specs.Views.{NamedSymbol}
 use Rattle.elf_image.specs.Edited.{IsEditOf}
 use Rattle.elf_image.specs.ReadImage.{HoldsParts, IsSectionOf}
 use Rattle.elf_image.proofs.ReadImageLaws.{read_images_hold_parts}
-use Rattle.elf_layout_plan.specs.Kept.{KeptSection, kept_at_number, kept_from, kept_of_type, kept_sections}
+use Rattle.elf_image.specs.Kept.{KeptSection, kept_at_number, kept_from, kept_of_type, kept_sections}
 use Rattle.elf_layout_plan.specs.Texts.{are_names_changed}
 use Rattle.elf_layout_plan.proofs.PlacedRead.{at_read}
 use Rattle.elf_layout_plan.proofs.SameTexts.{names_same}

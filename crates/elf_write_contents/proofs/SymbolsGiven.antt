@@ -10,7 +10,7 @@ use Rattle.elf_format.specs.Options.{list_at}
 use Rattle.elf_format.specs.Image.{Image, ImageSection}
 use Rattle.elf_format.specs.Records.{symbol_size, symbols_in}
 use Rattle.elf_format.specs.Views.{NamedSymbol}
-use Rattle.elf_layout_plan.specs.Kept.{link_of_type}
+use Rattle.elf_image.specs.Kept.{link_of_type}
 use Rattle.elf_layout_plan.specs.Texts.{texts_of_entries}
 use Rattle.elf_layout_sizes.specs.MadeTables.{IsMade}
 use Rattle.elf_tables.specs.Strings.{Strings}

@@ -25,7 +25,7 @@ use Rattle.elf_format.specs.Records.{symbol_numbers, symbol_size, symbols_in}
 use Rattle.elf_format.specs.Views.{NamedSymbol}
 use Rattle.elf_format.proofs.NumberSteps.{number_at-below}
 use Rattle.elf_format.proofs.ViewsAgree.{there_if}
-use Rattle.elf_layout_plan.specs.Kept.{KeptSection, link_of_type}
+use Rattle.elf_image.specs.Kept.{KeptSection, link_of_type}
 use Rattle.elf_layout_plan.specs.Needs.{written_entries, written_needs}
 use Rattle.elf_layout_plan.specs.Texts.{if_linked, if_names, texts_in_use, texts_of_definitions, texts_of_entries, texts_of_needs, texts_of_symbols}
 use Rattle.elf_tables.specs.Fields.{do_fields_fit}
@@ -42,7 +42,7 @@ use Rattle.elf_write_spec.proofs.TextsRead.{text_inside}
 use Rattle.elf_write_spec.proofs.WholeLists.{all-each, there_at}
 use Rattle.elf_write_contents.specs.Inner.{IsReady}
 use Rattle.elf_write_contents.specs.SymbolSteps.{HasNames, does_symbol_fit, place_of_name, symbol_bytes, symbol_in}
-use Rattle.elf_image_symbols.specs.SymbolsShown.{symbol_with}
+use Rattle.elf_image_symbols.specs.TableSymbols.{symbol_with}
 use Rattle.elf_write_contents.proofs.NamesInOrder.{names_behind}
 use Rattle.elf_write_contents.proofs.ReadFacts.{Nowhere, ReadFacts, SectionRead, There, final_is, type_at}
 use Rattle.elf_write_contents.proofs.SymbolsRead.{count, each_symbol, is_one, link_was, record_at, symbol_read, symbol_size-positive}

@@ -26,7 +26,7 @@ use Rattle.elf_format.specs.Views.{NamedSymbol}
 use Rattle.elf_format.proofs.Placed.{IsIn-slice_get, passes_picked}
 use Rattle.elf_format.proofs.ViewsAgree.{first_by_tag-Keeps, found_by_type, length-bytes, links_right, there_and, whole_count, whole_entries}
 use Rattle.elf_image.specs.ReadImage.{AreDynamicSymbols, AreSymbolsOf}
-use Rattle.elf_image_symbols.specs.SymbolsShown.{kept_as}
+use Rattle.elf_image_symbols.specs.TableSymbols.{kept_as}
 use Rattle.elf_write_spec.specs.Contents.{AreSymbolsOf as AreSymbolsWritten, IsSymbolOf as IsSymbolWritten}
 use Rattle.elf_write_spec.specs.Headers.{Reads}
 use Rattle.elf_write_spec.proofs.LinkedLists.{found_only}

@@ -14,10 +14,10 @@ use Rattle.elf_format.specs.Options.{each, list_at}
 use Rattle.elf_format.specs.Rules.{accepted_parts, definition_steps, file_of, linked_texts, need_steps}
 use Rattle.elf_format.specs.Seen.{raw_definition, raw_needs}
 use Rattle.elf_format.specs.Versions.{DefinitionNumbers, NeedNumbers, VersionDefinition, VersionNeeds, shown_definition, shown_need, values_of}
-use Rattle.elf_layout_plan.specs.Kept.{KeptSection}
+use Rattle.elf_image.specs.Kept.{KeptSection}
 use Rattle.elf_image_versions.specs.declared.version.VersionDef.{VersionDef}
 use Rattle.elf_image_versions.specs.declared.version.VersionNeed.{VersionNeed}
-use Rattle.elf_image_versions.specs.VersionsSeen.{definition_kept, needs_kept}
+use Rattle.elf_image_versions.specs.VersionsModel.{definition_model, needs_model}
 use Rattle.elf_image_versions.specs.WalkSteps.{defined_in, needed_in}
 use Rattle.elf_write_spec.proofs.WholeFacts.{kept}
 use Rattle.elf_write_contents.specs.Inner.{IsReady, IsSectionOfType, content_read}
@@ -51,7 +51,7 @@ unfolding definitions_read
 read_definitions p old o ds same h = sym (ap (definitions_read p) same) ∙ h
 
 copied_in : (read image : Image) → IsReady read image → (f : ReadFacts read image) → (s : ImageSection)
-    → IsSectionOfType SHT_GNU_VERDEF image s → (ds : List VersionDef) → map definition_kept ds ≡ image.definitions
+    → IsSectionOfType SHT_GNU_VERDEF image s → (ds : List VersionDef) → map definition_model ds ≡ image.definitions
     → (records : List RawDefinition) → map raw_definition records ≡ defined_in f.parts
     → AreDefinitionsAt (content_read image s.sh_link) ds records
 copied_in read image is f s there ds kept_ds records walked =
@@ -67,7 +67,7 @@ copied_in read image is f s there ds kept_ds records walked =
     (ap (each show) raws ∙ shown ∙ ap (λ (l : List VersionDefinition). Some l) (sym f.edit.definitions ∙ sym kept_ds))
 
 pub copied_definitions : (read image : Image) → IsReady read image → (p : Parts) → accepted_parts read.source ≡ Ok p → (s : ImageSection)
-    → IsSectionOfType SHT_GNU_VERDEF image s → (ds : List VersionDef) → map definition_kept ds ≡ image.definitions
+    → IsSectionOfType SHT_GNU_VERDEF image s → (ds : List VersionDef) → map definition_model ds ≡ image.definitions
     → (records : List RawDefinition) → map raw_definition records ≡ defined_in p → AreDefinitionsAt (content_read image s.sh_link) ds records
 copied_definitions read image is p accepted s there ds kept_ds records walked =
     let f = read_facts read image is in
@@ -83,7 +83,7 @@ unfolding needs_read
 read_needs p old o ns same h = sym (ap (needs_read p) same) ∙ h
 
 needed_copied : (read image : Image) → IsReady read image → (f : ReadFacts read image) → (s : ImageSection)
-    → IsSectionOfType SHT_GNU_VERNEED image s → (ns : List VersionNeed) → map needs_kept ns ≡ image.needs
+    → IsSectionOfType SHT_GNU_VERNEED image s → (ns : List VersionNeed) → map needs_model ns ≡ image.needs
     → (records : List RawNeeds) → map raw_needs records ≡ needed_in f.parts
     → AreNeedsAt (content_read image s.sh_link) ns records
 needed_copied read image is f s there ns kept_ns records walked =
@@ -99,7 +99,7 @@ needed_copied read image is f s there ns kept_ns records walked =
     (ap (each show) raws ∙ shown ∙ ap (λ (l : List VersionNeeds). Some l) (sym f.edit.needs ∙ sym kept_ns))
 
 pub copied_needs : (read image : Image) → IsReady read image → (p : Parts) → accepted_parts read.source ≡ Ok p → (s : ImageSection)
-    → IsSectionOfType SHT_GNU_VERNEED image s → (ns : List VersionNeed) → map needs_kept ns ≡ image.needs
+    → IsSectionOfType SHT_GNU_VERNEED image s → (ns : List VersionNeed) → map needs_model ns ≡ image.needs
     → (records : List RawNeeds) → map raw_needs records ≡ needed_in p → AreNeedsAt (content_read image s.sh_link) ns records
 copied_needs read image is p accepted s there ns kept_ns records walked =
     let f = read_facts read image is in

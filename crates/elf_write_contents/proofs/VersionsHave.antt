@@ -12,7 +12,7 @@ use Rattle.elf_format.specs.declared.constants.TheConstants.{SHT_DYNAMIC, SHT_DY
 use Rattle.elf_format.specs.Image.{Image}
 use Rattle.elf_format.specs.Options.{is_some_and, list_at}
 use Rattle.elf_format.specs.Versions.{VersionDefinition, VersionName, VersionNeeds}
-use Rattle.elf_layout_plan.specs.Kept.{link_of_type}
+use Rattle.elf_image.specs.Kept.{link_of_type}
 use Rattle.elf_layout_plan.specs.Needs.{written_entries, written_needs}
 use Rattle.elf_layout_plan.specs.Sizes.{definitions_size, needs_size}
 use Rattle.elf_layout_plan.specs.Texts.{if_linked, if_names, texts_in_use, texts_of_definitions, texts_of_entries, texts_of_needs, texts_of_symbols}
@@ -24,7 +24,7 @@ use Rattle.elf_tables.proofs.RecordLaws.{length-chained}
 use Rattle.elf_tables.proofs.VersionLaws.{length-definition, length-needs}
 use Rattle.elf_image_versions.specs.declared.version.VersionDef.{VersionDef}
 use Rattle.elf_image_versions.specs.declared.version.VersionNeed.{VersionNeed}
-use Rattle.elf_image_versions.specs.VersionsSeen.{definition_kept, name_kept, needs_kept}
+use Rattle.elf_image_versions.specs.VersionsModel.{definition_model, name_model, needs_model}
 use Rattle.elf_write_contents.specs.VersionPlaces.{Tells, TellsDefinition, TellsName, TellsNeed}
 
 -- ## Tests of whole lists
@@ -50,11 +50,11 @@ map_tests f test (x ∷ xs) h =
     and_from (test (f x)) (list_all test (map f xs)) parts.0 (map_tests f test xs parts.1)
 
 pub told_definitions : (table : Strings) (ds : List VersionDef) → All (TellsDefinition table) ds
-    → has_definition_texts table (map definition_kept ds) ≡ true
+    → has_definition_texts table (map definition_model ds) ≡ true
 told_definitions table ds all =
     let test : VersionDefinition → Bool = λ d. list_all (λ name. is_some (place_of table name)) d.names in
-    map_tests definition_kept test ds
-    (all_tests (TellsDefinition table) (λ d. test (definition_kept d)) (λ d h. told_names table (bytes_of_each d.names.items) h) ds all)
+    map_tests definition_model test ds
+    (all_tests (TellsDefinition table) (λ d. test (definition_model d)) (λ d h. told_names table (bytes_of_each d.names.items) h) ds all)
 
 -- ## A table that is made anew
 
@@ -129,19 +129,19 @@ has_name table v = is_some (place_of table v.name)
 has_need : Strings → VersionNeeds → Bool
 has_need table n = is_some (place_of table n.file) && list_all (has_name table) n.versions
 
-told_need : (table : Strings) (n : VersionNeed) → TellsNeed table n → has_need table (needs_kept n) ≡ true
+told_need : (table : Strings) (n : VersionNeed) → TellsNeed table n → has_need table (needs_model n) ≡ true
 unfolding has_name has_need
 told_need table n h =
-    and_from (is_some (place_of table n.file.bytes)) (list_all (has_name table) (map name_kept n.versions.items))
+    and_from (is_some (place_of table n.file.bytes)) (list_all (has_name table) (map name_model n.versions.items))
     (told table n.file.bytes h.file)
-    (map_tests name_kept (has_name table) n.versions.items
+    (map_tests name_model (has_name table) n.versions.items
     (all_tests (TellsName table) (λ v. is_some (place_of table v.name.bytes)) (λ v here. told table v.name.bytes here) n.versions.items h.versions))
 
-pub told_needs : (table : Strings) (ns : List VersionNeed) → All (TellsNeed table) ns → has_needs_texts table (map needs_kept ns) ≡ true
+pub told_needs : (table : Strings) (ns : List VersionNeed) → All (TellsNeed table) ns → has_needs_texts table (map needs_model ns) ≡ true
 unfolding has_name has_need
 told_needs table ns all =
-    map_tests needs_kept (has_need table) ns
-    (all_tests (TellsNeed table) (λ n. has_need table (needs_kept n)) (told_need table) ns all)
+    map_tests needs_model (has_need table) ns
+    (all_tests (TellsNeed table) (λ n. has_need table (needs_model n)) (told_need table) ns all)
 
 names_told : (table : Strings) (vs : List VersionName) → TellsAll table (map (λ v. v.name) vs) → list_all (has_name table) vs ≡ true
 unfolding has_name

@@ -16,7 +16,7 @@ use Rattle.elf_tables.specs.Strings.{StandsAt}
 use Rattle.elf_image_versions.specs.declared.version.VersionDef.{VersionDef}
 use Rattle.elf_image_versions.specs.declared.version.VersionNeed.{VersionNeed}
 use Rattle.elf_image_versions.specs.declared.version.VersionNeedName.{VersionNeedName}
-use Rattle.elf_image_versions.specs.VersionsSeen.{definition_kept, name_kept, needs_kept}
+use Rattle.elf_image_versions.specs.VersionsModel.{definition_model, name_model, needs_model}
 use Rattle.elf_write_spec.proofs.TextsRead.{text_reads}
 use Rattle.elf_write_contents.specs.VersionPlaces.{AreAt, AreDefinitionsAt, AreNamesAt, AreNeedsAt, IsNeedAt}
 
@@ -113,23 +113,23 @@ module _ (room : ℕ) (texts : Memory) (strings : List ℕ)
       (texts_at d.names names there)
 
   pub definitions_at_places : (records : List RawDefinition) (definitions : List VersionDef)
-      → each (shown_definition room texts) (map raw_definition records) ≡ Some (map definition_kept definitions)
+      → each (shown_definition room texts) (map raw_definition records) ≡ Some (map definition_model definitions)
       → AreDefinitionsAt strings definitions records
   definitions_at_places records definitions h =
       let show : DefinitionNumbers → Option VersionDefinition = shown_definition room texts in
-      let long : length (map definition_kept definitions) ≡ length definitions = length-map definitions definition_kept in
-      let same : length (map raw_definition records) ≡ length (map definition_kept definitions) =
-      each-length show (map raw_definition records) (map definition_kept definitions) h in
+      let long : length (map definition_model definitions) ≡ length definitions = length-map definitions definition_model in
+      let same : length (map raw_definition records) ≡ length (map definition_model definitions) =
+      each-length show (map raw_definition records) (map definition_model definitions) h in
       let count : length records ≡ length definitions = sym (length-map records raw_definition) ∙ same ∙ long in
       record {
         count = count;
         each = λ i d r within.
-            let shown : show (raw_definition (get_or records i r)) ≡ Some (definition_kept (get_or definitions i d)) =
+            let shown : show (raw_definition (get_or records i r)) ≡ Some (definition_model (get_or definitions i d)) =
             ap show (sym (get_or-map raw_definition records i r (raw_definition r) (omega (arith, within, count))))
-            ∙ each-at show (map raw_definition records) (map definition_kept definitions) h i (raw_definition r) (definition_kept d)
+            ∙ each-at show (map raw_definition records) (map definition_model definitions) h i (raw_definition r) (definition_model d)
             (omega (arith, within, long))
-            ∙ ap (λ (v : VersionDefinition). Some v) (get_or-map definition_kept definitions i d (definition_kept d) within) in
-            definition_at_places (raw_definition (get_or records i r)) (definition_kept (get_or definitions i d)) shown;
+            ∙ ap (λ (v : VersionDefinition). Some v) (get_or-map definition_model definitions i d (definition_model d) within) in
+            definition_at_places (raw_definition (get_or records i r)) (definition_model (get_or definitions i d)) shown;
       }
 
   name_at_its_place : (n : NeedNameNumbers) (v : VersionName) → shown_need_name room texts n ≡ Some v → StandsAt strings n.name v.name
@@ -142,28 +142,28 @@ module _ (room : ℕ) (texts : Memory) (strings : List ℕ)
       (stands n.name name there)
 
   names_at_places : (records : List NeedNameNumbers) (versions : List VersionNeedName)
-      → each (shown_need_name room texts) records ≡ Some (map name_kept versions) → AreNamesAt strings versions records
+      → each (shown_need_name room texts) records ≡ Some (map name_model versions) → AreNamesAt strings versions records
   names_at_places records versions h =
       let show : NeedNameNumbers → Option VersionName = shown_need_name room texts in
-      let long : length (map name_kept versions) ≡ length versions = length-map versions name_kept in
+      let long : length (map name_model versions) ≡ length versions = length-map versions name_model in
       record {
-        count = each-length show records (map name_kept versions) h ∙ long;
+        count = each-length show records (map name_model versions) h ∙ long;
         each = λ i v r within.
-            name_at_its_place (get_or records i r) (name_kept (get_or versions i v))
-            (each-at show records (map name_kept versions) h i r (name_kept v) (omega (arith, within, long))
-            ∙ ap (λ (x : VersionName). Some x) (get_or-map name_kept versions i v (name_kept v) within));
+            name_at_its_place (get_or records i r) (name_model (get_or versions i v))
+            (each-at show records (map name_model versions) h i r (name_model v) (omega (arith, within, long))
+            ∙ ap (λ (x : VersionName). Some x) (get_or-map name_model versions i v (name_model v) within));
       }
 
-  need_at_its_place : (n : RawNeeds) (need : VersionNeed) → shown_need room texts (raw_needs n) ≡ Some (needs_kept need)
+  need_at_its_place : (n : RawNeeds) (need : VersionNeed) → shown_need room texts (raw_needs n) ≡ Some (needs_model need)
       → IsNeedAt strings need n
   unfolding shown_need
   need_at_its_place n need h =
       let names : Option (List VersionName) = each (shown_need_name room texts) n.versions.items in
       let (file, file_there, more) = bind_some (text_at room texts n.file)
-      (λ f. names >>= λ vs. Some (record { file = f; versions = vs })) (needs_kept need) h in
-      let (versions, there, made) = bind_some names (λ vs. Some (record { file = file; versions = vs })) (needs_kept need) more in
-      let same : record { file = file; versions = versions } ≡ needs_kept need =
-      same_Some (record { file = file; versions = versions }) (needs_kept need) made in
+      (λ f. names >>= λ vs. Some (record { file = f; versions = vs })) (needs_model need) h in
+      let (versions, there, made) = bind_some names (λ vs. Some (record { file = file; versions = vs })) (needs_model need) more in
+      let same : record { file = file; versions = versions } ≡ needs_model need =
+      same_Some (record { file = file; versions = versions }) (needs_model need) made in
       record {
         file = subst (λ (x : VersionNeeds). StandsAt strings n.file x.file) same (stands n.file file file_there);
         versions = names_at_places n.versions.items need.versions.items
@@ -171,18 +171,18 @@ module _ (room : ℕ) (texts : Memory) (strings : List ℕ)
       }
 
   pub needs_at_places : (records : List RawNeeds) (needs : List VersionNeed)
-      → each (shown_need room texts) (map raw_needs records) ≡ Some (map needs_kept needs) → AreNeedsAt strings needs records
+      → each (shown_need room texts) (map raw_needs records) ≡ Some (map needs_model needs) → AreNeedsAt strings needs records
   needs_at_places records needs h =
       let show : NeedNumbers → Option VersionNeeds = shown_need room texts in
-      let long : length (map needs_kept needs) ≡ length needs = length-map needs needs_kept in
-      let same : length (map raw_needs records) ≡ length (map needs_kept needs) =
-      each-length show (map raw_needs records) (map needs_kept needs) h in
+      let long : length (map needs_model needs) ≡ length needs = length-map needs needs_model in
+      let same : length (map raw_needs records) ≡ length (map needs_model needs) =
+      each-length show (map raw_needs records) (map needs_model needs) h in
       let count : length records ≡ length needs = sym (length-map records raw_needs) ∙ same ∙ long in
       record {
         count = count;
         each = λ i n r within.
             need_at_its_place (get_or records i r) (get_or needs i n)
             (ap show (sym (get_or-map raw_needs records i r (raw_needs r) (omega (arith, within, count))))
-            ∙ each-at show (map raw_needs records) (map needs_kept needs) h i (raw_needs r) (needs_kept n) (omega (arith, within, long))
-            ∙ ap (λ (v : VersionNeeds). Some v) (get_or-map needs_kept needs i n (needs_kept n) within));
+            ∙ each-at show (map raw_needs records) (map needs_model needs) h i (raw_needs r) (needs_model n) (omega (arith, within, long))
+            ∙ ap (λ (v : VersionNeeds). Some v) (get_or-map needs_model needs i n (needs_model n) within));
       }

@@ -7,7 +7,7 @@ use Rattle.elf_format.specs.declared.records.SectionHeader.{SectionHeader}
 use Rattle.elf_format.specs.File.{opened_of, sections_of}
 use Rattle.elf_format.specs.Image.{Image, ImageSection}
 use Rattle.elf_format.specs.Places.{Place}
-use Rattle.elf_layout_plan.specs.Kept.{KeptSection}
+use Rattle.elf_image.specs.Kept.{KeptSection}
 use Rattle.elf_layout_plan.specs.Memory.{Resized}
 use Rattle.elf_write_spec.specs.Headers.{IsHeaderOf, behind_locals}
 use Rattle.elf_write_contents.specs.declared.headers.Known.{Known}

@@ -10,7 +10,7 @@ use Rattle.elf_format.specs.Options.{list_at}
 use Rattle.elf_format.specs.Places.{Place, occupies_file}
 use Rattle.elf_image.specs.Edited.{IsEdited}
 use Rattle.elf_layout_sizes.specs.MadeTables.{IsMade}
-use Rattle.elf_layout_plan.specs.Kept.{KeptSection, image_at_read, kept_at_number, kept_of_type, link_of_type}
+use Rattle.elf_image.specs.Kept.{KeptSection, image_at_read, kept_at_number, kept_of_type, link_of_type}
 use Rattle.elf_layout_plan.specs.Memory.{Resized}
 use Rattle.elf_layout_plan.specs.Plan.{IsPlan, Layout, resized}
 use Rattle.elf_layout_plan.specs.Refusals.{do_sizes_of_image_fit}

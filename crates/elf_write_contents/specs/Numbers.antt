@@ -12,7 +12,7 @@ use Rattle.elf_format.specs.Options.{list_at}
 use Rattle.elf_format.specs.Places.{Place}
 use Rattle.elf_tables.specs.Fields.{do_fields_fit}
 use Rattle.elf_tables.specs.Spelled.{entry_fields, file_header_fields, section_fields, segment_fields}
-use Rattle.elf_layout_plan.specs.Kept.{KeptSection, kept_sections}
+use Rattle.elf_image.specs.Kept.{KeptSection, kept_sections}
 use Rattle.elf_layout_plan.specs.Memory.{Resized}
 use Rattle.elf_layout_plan.specs.Plan.{Layout, resized}
 use Rattle.elf_write_spec.specs.Contents.{table_value}

@@ -1,7 +1,7 @@
 -- What is made of an image that is written by a plan, before the contents of its sections.
 use Rattle.std.specs.Prelude.{◌≡◌, true}
 use Rattle.elf_format.specs.Image.{Image}
-use Rattle.elf_layout_plan.specs.Kept.{kept_sections}
+use Rattle.elf_image.specs.Kept.{kept_sections}
 use Rattle.elf_layout_plan.specs.Plan.{Layout, resized}
 use Rattle.elf_write_spec.specs.Headers.{written_header}
 use Rattle.elf_write_contents.specs.Inner.{AreHeaders, AreRaw, AreStrings, strings_at}

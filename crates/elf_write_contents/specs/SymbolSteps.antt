@@ -5,7 +5,7 @@ use Rattle.elf_format.specs.declared.records.SymbolNumbers.{SymbolNumbers}
 use Rattle.elf_format.specs.Views.{NamedSymbol}
 use Rattle.elf_tables.specs.Fields.{do_fields_fit}
 use Rattle.elf_tables.specs.Spelled.{spelled_symbol, symbol_fields}
-use Rattle.elf_image_symbols.specs.SymbolsShown.{symbol_with}
+use Rattle.elf_image_symbols.specs.TableSymbols.{symbol_with}
 use Rattle.elf_tables.specs.Strings.{Strings, place_of}
 use Rattle.elf_write_contents.specs.declared.made.Made.{Made}
 

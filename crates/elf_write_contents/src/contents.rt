@@ -5,7 +5,7 @@ ghost use Rattle.patch_bytes.specs.ByteString.{bytes_of_each};
 ghost use Rattle.elf_format.specs.Options.{is_some_and, list_at};
 ghost use Rattle.elf_tables.specs.Fields.{do_fields_fit};
 ghost use Rattle.elf_tables.specs.Spelled.{entry_fields};
-ghost use Rattle.elf_layout_plan.specs.Kept.{interpreter_number as number_of_interpreter, kept_sections};
+ghost use Rattle.elf_image.specs.Kept.{interpreter_number as number_of_interpreter, kept_sections};
 ghost use Rattle.elf_layout_plan.specs.Plan.{resized};
 ghost use Rattle.elf_write_contents.specs.ContentSteps.{IsBytesAt, made_or};
 ghost use Rattle.elf_write_contents.specs.Inner.{AreContents, AreRaw, AreStrings, IsPlanned};

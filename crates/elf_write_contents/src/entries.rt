@@ -4,8 +4,8 @@ ghost use Rattle.std.specs.List.{list_all};
 ghost use Rattle.elf_format.specs.Records.{entry_size};
 ghost use Rattle.elf_tables.specs.Fields.{do_fields_fit};
 ghost use Rattle.elf_tables.specs.Spelled.{entry_fields};
-ghost use Rattle.elf_image.specs.ImageSeen.{entry_kept};
-ghost use Rattle.elf_layout_plan.specs.Kept.{image_at_read};
+ghost use Rattle.elf_image.specs.ImageModel.{entry_model};
+ghost use Rattle.elf_image.specs.Kept.{image_at_read};
 ghost use Rattle.elf_layout_plan.specs.Plan.{resized};
 ghost use Rattle.elf_write_spec.specs.Contents.{spelled_list, table_value as value_of_table};
 ghost use Rattle.elf_write_spec.specs.Final.{final};
@@ -36,7 +36,7 @@ fn keeps_needs(read: &Builder<'_>, image: &Builder<'_>)
 fn value_of(image: &Builder<'_>, plan: &Plan, entry: &Dynamic<'_>, places: &[u64]) -> u64
     requires { (final (image_at_read image.now) image.now).needs ≡ image.now.needs }
     ensures { result ≡ value_with (λ tag. value_of_table (resized image.now) plan.now tag)
-        places.now (entry_kept entry.now) }
+        places.now (entry_model entry.now) }
 {
     match entry {
         Dynamic::Auto { tag } => table_value(image, plan, *tag),
@@ -50,7 +50,7 @@ fn value_of(image: &Builder<'_>, plan: &Plan, entry: &Dynamic<'_>, places: &[u64
 
 // The places of texts that are left behind an entry.
 fn places_behind<'p>(entry: &Dynamic<'_>, places: &'p [u64]) -> &'p [u64]
-    ensures { result.now ≡ places_left (entry_kept entry.now) places.entry.now }
+    ensures { result.now ≡ places_left (entry_model entry.now) places.entry.now }
 {
     match entry {
         Dynamic::Text { .. } => match places.split_first() {
@@ -72,7 +72,7 @@ fn numbers_of(
     requires { (final (image_at_read image.now) image.now).needs ≡ image.now.needs }
     ensures { IfOk result (λ raw. raw.items
         ≡ numbers_with (λ tag. value_of_table (resized image.now) plan.now tag) places.now
-        (map entry_kept entries.now)) }
+        (map entry_model entries.now)) }
 {
     let mut raw = Vec::new(alloc);
     let mut left = places;

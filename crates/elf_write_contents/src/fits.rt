@@ -1,7 +1,7 @@
 //! Whether each number of the records that are written fits its field (gABI, Data Representation).
 ghost use Rattle.std.specs.Prelude.{◌≡◌};
 ghost use Rattle.std.specs.List.{list_all};
-ghost use Rattle.elf_layout_plan.specs.Kept.{kept_sections};
+ghost use Rattle.elf_image.specs.Kept.{kept_sections};
 ghost use Rattle.elf_layout_plan.specs.Plan.{resized};
 ghost use Rattle.elf_tables.specs.Fields.{do_fields_fit, does_field_fit};
 ghost use Rattle.elf_tables.specs.Spelled.{class_word, entry_fields, file_header_fields, section_fields, segment_fields};

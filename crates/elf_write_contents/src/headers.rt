@@ -1,10 +1,10 @@
 //! The file header and the section headers that are written (gABI, ELF Header, Sections).
 ghost use Rattle.std.specs.Prelude.{◌≡◌, ◌<◌, ◌≤◌, ◌^◌, false, length, option_map, slice_get, IfErr, IfOk, IfNone, IfSome, IsSome, Some};
 ghost use Rattle.elf_format.specs.Answers.{Gives};
-ghost use Rattle.elf_image.specs.ImageSeen.{section_kept};
-ghost use Rattle.elf_layout_plan.specs.Kept.{image_at_read, kept_sections};
+ghost use Rattle.elf_image.specs.ImageModel.{section_model};
+ghost use Rattle.elf_image.specs.Kept.{image_at_read, kept_sections};
 ghost use Rattle.elf_layout_plan.specs.Plan.{IsPlan, resized};
-ghost use Rattle.elf_layout_plan.specs.PlanSeen.{place_seen};
+ghost use Rattle.elf_layout_plan.specs.PlanModel.{place_model};
 ghost use Rattle.elf_tables.specs.declared.fault.TableFault.TheVariants.{NumberTooLarge};
 ghost use Rattle.elf_tables.specs.Strings.{place_of};
 ghost use Rattle.elf_write_spec.specs.Final.{is_local as is_local_symbol};
@@ -136,9 +136,9 @@ fn name_place(image: &Builder<'_>, made: &Option<Made<'_>>, name: &[u8], old: u3
 // The `sh_info` of a section; `None` where it is past its field.
 fn info_of(image: &Builder<'_>, known: &Known, section: &Section<'_>) -> Option<u32>
     ensures info { IfSome result (λ info.
-        info ≡ info_by known.now image.now (section_kept section.now)) }
+        info ≡ info_by known.now image.now (section_model section.now)) }
     ensures far { IfNone result
-        (2 ^ 32 ≤ info_by known.now image.now (section_kept section.now)) }
+        (2 ^ 32 ≤ info_by known.now image.now (section_model section.now)) }
 {
     let count = match section.sh_type {
         SHT_SYMTAB => known.symbols,
@@ -155,7 +155,7 @@ fn info_of(image: &Builder<'_>, known: &Known, section: &Section<'_>) -> Option<
 
 // The header of a section at its place, its name at a place of the names.
 fn header_of(section: &Section<'_>, place: &SectionPlace, name: u32, info: u32) -> SectionHeader
-    ensures { result ≡ header_by (section_kept section.now) (place_seen place.now) name info }
+    ensures { result ≡ header_by (section_model section.now) (place_model place.now) name info }
 {
     SectionHeader {
         sh_name: name,

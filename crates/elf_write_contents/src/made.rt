@@ -1,8 +1,8 @@
 //! The string table of the dynamic list, where it is made anew (gABI, String Table).
 ghost use Rattle.std.specs.Prelude.{◌≡◌, map, IfOk, IfSome, IsTrue, MatchOption, Some};
 ghost use Rattle.elf_format.specs.declared.constants.TheConstants as constants;
-ghost use Rattle.elf_image.specs.ImageSeen.{section_kept};
-ghost use Rattle.elf_layout_plan.specs.Kept.{link_of_type};
+ghost use Rattle.elf_image.specs.ImageModel.{section_model};
+ghost use Rattle.elf_image.specs.Kept.{link_of_type};
 ghost use Rattle.elf_layout_plan.specs.Texts.{is_table_copied};
 ghost use Rattle.elf_layout_sizes.specs.Inner.{link_from};
 ghost use Rattle.elf_layout_sizes.specs.MadeTables.{IsMade, IsMadeOfList};
@@ -25,7 +25,7 @@ pub struct Made<'t> {
 
 // The number of the section that the first dynamic section links to (gABI, Sections, `sh_link`).
 fn first_link(sections: &[Section<'_>]) -> Option<u32>
-    ensures { result ≡ link_from constants.SHT_DYNAMIC (map section_kept sections.now) }
+    ensures { result ≡ link_from constants.SHT_DYNAMIC (map section_model sections.now) }
 {
     for section in sections {
         if section.sh_type == SHT_DYNAMIC {

@@ -4,8 +4,8 @@ ghost use Rattle.std.specs.List.{list_all, slice_get};
 ghost use Rattle.elf_format.specs.declared.constants.TheConstants.{SHT_DYNAMIC, SHT_DYNSYM};
 ghost use Rattle.elf_format.specs.Options.{list_at};
 ghost use Rattle.elf_format.specs.Records.{symbol_size, symbols_in};
-ghost use Rattle.elf_image.specs.ImageSeen.{section_kept};
-ghost use Rattle.elf_layout_plan.specs.Kept.{link_of_type};
+ghost use Rattle.elf_image.specs.ImageModel.{section_model};
+ghost use Rattle.elf_image.specs.Kept.{link_of_type};
 ghost use Rattle.elf_layout_plan.specs.Texts.{texts_of_entries};
 ghost use Rattle.elf_layout_sizes.specs.MadeTables.{IsMade};
 ghost use Rattle.elf_write_spec.specs.Contents.{AreSymbolsOf};
@@ -16,8 +16,8 @@ ghost use Rattle.elf_write_contents.specs.SymbolSteps.{HasNames, does_symbol_fit
 use crate::entries::texts::texts_of;
 use crate::made::Made;
 use elf_image::{Builder, Form, Section, Symbols};
-use elf_tables::spelled::push_symbol;
 use elf_tables::Finished;
+use elf_tables::spelled::push_symbol;
 use patch_bytes::ByteString;
 use std::alloc::{AllocError, Global};
 
@@ -82,7 +82,7 @@ fn symbols_copied<'data>(
     section: &Section<'data>,
 ) -> ByteString<'data>
     requires ready { IsReady read.now image.now }
-    requires at { IsSectionOfType SHT_DYNSYM image.now (section_kept section.now) }
+    requires at { IsSectionOfType SHT_DYNSYM image.now (section_model section.now) }
     requires copied { table_made made.now section.now.sh_link ≡ None }
     ensures sized { length result.bytes
         ≡ length image.now.dynamic_symbols * symbol_size image.now.form }
@@ -102,9 +102,9 @@ fn show_symbols_fit(
     content: &[u8],
 )
     requires ready { IsReady read.now image.now }
-    requires at { IsSectionOfType SHT_DYNSYM image.now (section_kept section.now) }
+    requires at { IsSectionOfType SHT_DYNSYM image.now (section_model section.now) }
     requires table { IsMade read.now image.now section.now.sh_link table.now }
-    requires content { content.now ≡ (section_kept section.now).content }
+    requires content { content.now ≡ (section_model section.now).content }
     ensures fit { IsTrue (list_all (does_symbol_fit image.now.form table.now)
         image.now.dynamic_symbols) }
     ensures symbols { AreSymbolsOf table.now.bytes (final read.now image.now).dynamic_symbols
@@ -122,7 +122,7 @@ fn symbols_anew<'data>(
     table: &Finished<'_>,
 ) -> Result<ByteString<'data>, AllocError>
     requires ready { IsReady read.now image.now }
-    requires at { IsSectionOfType SHT_DYNSYM image.now (section_kept section.now) }
+    requires at { IsSectionOfType SHT_DYNSYM image.now (section_model section.now) }
     requires table { IsMade read.now image.now section.now.sh_link table.now }
     requires listed { link_of_type SHT_DYNAMIC image.now ≡ Some section.now.sh_link }
     ensures sized { IfOk result (λ content. length content.bytes
@@ -152,7 +152,7 @@ pub(crate) fn symbols_content<'data>(
 ) -> Result<ByteString<'data>, AllocError>
     requires ready { IsReady read.now image.now }
     requires strings { AreStrings read.now image.now made.now }
-    requires at { IsSectionOfType SHT_DYNSYM image.now (section_kept section.now) }
+    requires at { IsSectionOfType SHT_DYNSYM image.now (section_model section.now) }
     ensures sized { IfOk result (λ content. length content.bytes
         ≡ length image.now.dynamic_symbols * symbol_size image.now.form) }
     ensures symbols { IfOk result (λ content. AreSymbolsOf

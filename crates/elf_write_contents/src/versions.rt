@@ -1,7 +1,7 @@
 //! The bytes of version tables (GNU symbol versioning).
 ghost use Rattle.std.specs.Prelude.{◌≡◌, IfOk, length, true};
 ghost use Rattle.elf_format.specs.declared.constants.TheConstants.{SHT_GNU_VERDEF, SHT_GNU_VERNEED};
-ghost use Rattle.elf_image.specs.ImageSeen.{section_kept};
+ghost use Rattle.elf_image.specs.ImageModel.{section_model};
 ghost use Rattle.elf_layout_plan.specs.Plan.{resized};
 ghost use Rattle.elf_layout_plan.specs.Needs.{written_needs};
 ghost use Rattle.elf_layout_plan.specs.Sizes.{definitions_size, needs_size};
@@ -19,8 +19,8 @@ use crate::versions::needing::place_needs;
 use crate::versions::placing::place_definitions;
 use crate::versions::records::{content_of, definition_records, headers_of, need_records};
 use elf_image::{Builder, Section};
-use elf_tables::Finished;
 use elf_image_versions::walks::{walk_definitions, walk_needs};
+use elf_tables::Finished;
 use std::alloc::{AllocError, Global};
 
 // A copy of the string table that a section of defined versions links to, which tells where their names stand.
@@ -31,7 +31,7 @@ fn names_of_definitions<'t, 'data>(
     section: &Section<'data>,
 ) -> Result<Finished<'t>, AllocError>
     requires ready { IsReady read.now image.now }
-    requires at { IsSectionOfType SHT_GNU_VERDEF image.now (section_kept section.now) }
+    requires at { IsSectionOfType SHT_GNU_VERDEF image.now (section_model section.now) }
     ensures bytes { IfOk result (λ table.
         table.bytes ≡ content_read image.entry.now section.now.sh_link) }
     ensures stand { IfOk result PlacesStand }
@@ -54,7 +54,7 @@ fn names_of_needs<'t, 'data>(
     section: &Section<'data>,
 ) -> Result<Finished<'t>, AllocError>
     requires ready { IsReady read.now image.now }
-    requires at { IsSectionOfType SHT_GNU_VERNEED image.now (section_kept section.now) }
+    requires at { IsSectionOfType SHT_GNU_VERNEED image.now (section_model section.now) }
     ensures bytes { IfOk result (λ table.
         table.bytes ≡ content_read image.entry.now section.now.sh_link) }
     ensures stand { IfOk result PlacesStand }
@@ -78,7 +78,7 @@ pub(crate) fn definitions_content<'data>(
 ) -> Result<Vec<u8>, AllocError>
     requires ready { IsReady read.now image.now }
     requires strings { AreStrings read.now image.now made.now }
-    requires at { IsSectionOfType SHT_GNU_VERDEF image.now (section_kept section.now) }
+    requires at { IsSectionOfType SHT_GNU_VERDEF image.now (section_model section.now) }
     ensures sized { IfOk result (λ bytes. length bytes.items
         ≡ definitions_size image.now.definitions) }
     ensures versions { IfOk result (λ bytes. AreDefinitionsIn image.now
@@ -103,7 +103,7 @@ pub(crate) fn needs_content<'data>(
 ) -> Result<Vec<u8>, AllocError>
     requires ready { IsReady read.now image.now }
     requires strings { AreStrings read.now image.now made.now }
-    requires at { IsSectionOfType SHT_GNU_VERNEED image.now (section_kept section.now) }
+    requires at { IsSectionOfType SHT_GNU_VERNEED image.now (section_model section.now) }
     ensures sized { IfOk result (λ bytes. length bytes.items
         ≡ needs_size (written_needs read.now image.now)) }
     ensures versions { IfOk result (λ bytes. AreNeedsIn (resized image.now)

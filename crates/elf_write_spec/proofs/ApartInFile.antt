@@ -16,11 +16,11 @@ use Rattle.elf_image.specs.Edited.{IsEdited}
 use Rattle.elf_layout_plan.specs.Added.{header_count, kept_end}
 use Rattle.elf_layout_plan.specs.Blocks.{have_causes, stay_apart}
 use Rattle.elf_layout_plan.specs.FilePlaced.{written_headers, written_table}
-use Rattle.elf_layout_plan.specs.Kept.{kept_sections}
+use Rattle.elf_image.specs.Kept.{kept_sections}
 use Rattle.elf_layout_plan.specs.Memory.{Resized, SizedSection, blocks_with, sized_sections, table_load, table_size_with}
 use Rattle.elf_layout_plan.specs.Plan.{IsPlan, Layout, layout_for, resized}
 use Rattle.elf_layout_plan.specs.Rounds.{are_in_old_order, do_move, headers_needed, sections_at}
-use Rattle.elf_layout_plan.specs.Standing.{LooseSpot, content_end, loose_spots, loose_start, next_table, place_in, places, sections_offset, segments_end, table_offset}
+use Rattle.elf_layout_plan.specs.Standing.{UnloadedSlot, content_end, unloaded_slots, unloaded_start, next_table, place_in, places, sections_offset, segments_end, table_offset}
 use Rattle.elf_layout_plan.specs.Written.{written_segments}
 use Rattle.elf_layout_plan.proofs.ApartBlocks.{all_apart_pairs, apart-before, apart-behind, apart-empty, apart-from_empty, pairs_all_apart}
 use Rattle.elf_layout_plan.proofs.ApartFixed.{image_sized}
@@ -29,14 +29,14 @@ use Rattle.elf_layout_plan.proofs.ApartSections.{sized-at, sized_of}
 use Rattle.elf_layout_plan.proofs.PlacedCount.{length-written}
 use Rattle.elf_layout_plan.proofs.PlacedFile.{are_held, headers_clear, stored_are_apart}
 use Rattle.elf_layout_plan.proofs.PlacedLists.{Has, pairs-two, slice_get-at}
-use Rattle.elf_layout_plan.proofs.LooseParts.{filled_loose}
+use Rattle.elf_layout_plan.proofs.UnloadedParts.{filled_unloaded}
 use Rattle.elf_layout_plan.proofs.PlacedPlaces.{keeps_kind, same_file, same_memory}
 use Rattle.elf_layout_plan.proofs.PlacedRanges.{lies_in-at}
 use Rattle.elf_layout_plan.proofs.PlacedRead.{ReadsPlaced, reads_placed}
-use Rattle.elf_layout_plan.proofs.PlacedSegments.{before_kept_end, end_before_sections, header_before_kept_end, kept_before_segments_end, load_before_segments_end, loose_before_end, segments_before_loose, spot_before_end}
+use Rattle.elf_layout_plan.proofs.PlacedSegments.{before_kept_end, end_before_sections, header_before_kept_end, kept_before_segments_end, load_before_segments_end, unloaded_before_end, segments_before_unloaded, slot_before_end}
 use Rattle.elf_layout_plan.proofs.PlacedStays.{table_kept_in}
 use Rattle.elf_write_spec.specs.Laws.{PlansAreApartInFile, section_table}
-use Rattle.elf_write_spec.proofs.LooseFacts.{LooseAt, LooseBefore, loose_at, loose_behind, loose_pairs}
+use Rattle.elf_write_spec.proofs.UnloadedFacts.{UnloadedAt, UnloadedBefore, unloaded_at, unloaded_behind, unloaded_pairs}
 
 -- the section header table stands behind each loaded segment, and so does a section of the file that has bytes and isn't loaded
 pub record StandsBehind (plan : Layout) : Type 0 where
@@ -52,8 +52,8 @@ module _ (r : Resized) (moved : List ℕ) (looked : ℕ) (reads : ReadsPlaced r)
   table_size : ℕ
   table_size = length (written_segments r moved) * segment_header_size r.image.form
 
-  table_by : (o : Option SegmentHeader) → table_load r ≡ o → table_offset r moved + table_size ≤ loose_start r moved
-  unfolding loose_start table_size table_offset
+  table_by : (o : Option SegmentHeader) → table_load r ≡ o → table_offset r moved + table_size ≤ unloaded_start r moved
+  unfolding unloaded_start table_size table_offset
   table_by None is =
       let unit : ℕ = segment_header_size r.image.form in
       let few : length (written_segments r moved) ≤ header_count r moved = length-written r moved in
@@ -69,23 +69,23 @@ module _ (r : Resized) (moved : List ℕ) (looked : ℕ) (reads : ReadsPlaced r)
       let small : length (written_segments r moved) * unit ≤ table_size_with r looked = mul-le-mul_right unit few in
       let stays : table_offset r moved ≡ r.read.header.e_phoff =
       ap (λ (o : Option SegmentHeader). if is_some o then r.image.header.e_phoff else next_table r (segments_end r moved)) is ∙ reads.table_offset in
-      omega (arith, kept.ends, end, small, stays, kept_before_segments_end r moved reads, segments_before_loose r moved reads)
+      omega (arith, kept.ends, end, small, stays, kept_before_segments_end r moved reads, segments_before_unloaded r moved reads)
 
-  table_before_loose : table_offset r moved + table_size ≤ loose_start r moved
-  table_before_loose = table_by (table_load r) refl
+  table_before_unloaded : table_offset r moved + table_size ≤ unloaded_start r moved
+  table_before_unloaded = table_by (table_load r) refl
 
   -- ## Where each section ends
 
   -- a section of the file that has bytes and isn't loaded stands behind the segments
   behind_of : (s : SizedSection) → Has s (sized_sections r) → occupies_file (place_in r moved s) ≡ true
-      → occupies_memory (place_in r moved s) ≡ false → eqb (place_in r moved s).sh_size 0 ≡ false → LooseAt r moved s
-  behind_of s here there bare some = loose_at r moved looked sized move s here
-      (filled_loose s (sym (same_file r moved s here) ∙ there) (sym (same_memory r moved s here) ∙ bare)
+      → occupies_memory (place_in r moved s) ≡ false → eqb (place_in r moved s).sh_size 0 ≡ false → UnloadedAt r moved s
+  behind_of s here there bare some = unloaded_at r moved looked sized move s here
+      (filled_unloaded s (sym (same_file r moved s here) ∙ there) (sym (same_memory r moved s here) ∙ bare)
       (ap (λ (n : ℕ). eqb n 0) (sym (keeps_kind r moved s here).size) ∙ some))
 
   -- one with bytes in the file is empty, or stored in a segment, or it stands behind them
   kind_of : (s : SizedSection) → Has s (sized_sections r) → occupies_file (place_in r moved s) ≡ true
-      → ((place_in r moved s).sh_size ≡ 0) ⊎ ((is_stored (place_in r moved s) ≡ true) ⊎ LooseAt r moved s)
+      → ((place_in r moved s).sh_size ≡ 0) ⊎ ((is_stored (place_in r moved s) ≡ true) ⊎ UnloadedAt r moved s)
   kind_of s here there =
       let x : Place = place_in r moved s in
       elim (cases_Bool (eqb x.sh_size 0)) [
@@ -130,16 +130,16 @@ module _ (r : Resized) (moved : List ℕ) (looked : ℕ) (reads : ReadsPlaced r)
   stored_end i s at stored = each-at (λ x. is_stored x ≡ true → x.sh_offset + x.sh_size ≤ segments_end r moved)
       (map (place_in r moved) (sized_sections r)) stored_ends i (place_in r moved s) (at-map (place_in r moved) (sized_sections r) i s at) stored
 
-  loose_begins : (s : SizedSection) (on : LooseAt r moved s) → loose_start r moved ≤ (place_in r moved s).sh_offset
-  loose_begins s on = omega (arith, loose_behind r moved on.spot on.here, on.offset)
+  unloaded_begins : (s : SizedSection) (on : UnloadedAt r moved s) → unloaded_start r moved ≤ (place_in r moved s).sh_offset
+  unloaded_begins s on = omega (arith, unloaded_behind r moved on.slot on.here, on.offset)
 
-  loose_ends : (s : SizedSection) (on : LooseAt r moved s) → (place_in r moved s).sh_offset + (place_in r moved s).sh_size ≤ content_end r moved
-  loose_ends s on = omega (arith, spot_before_end r moved reads on.spot on.here, on.offset, on.size)
+  unloaded_ends : (s : SizedSection) (on : UnloadedAt r moved s) → (place_in r moved s).sh_offset + (place_in r moved s).sh_size ≤ content_end r moved
+  unloaded_ends s on = omega (arith, slot_before_end r moved reads on.slot on.here, on.offset, on.size)
 
   -- ## What is apart from all sections
 
   -- a header
-  ahead : (h : Range) → list_all (λ x. apart h x) (stored_ranges (places r moved)) ≡ true → end_of h ≤ loose_start r moved
+  ahead : (h : Range) → list_all (λ x. apart h x) (stored_ranges (places r moved)) ≡ true → end_of h ≤ unloaded_start r moved
       → Each (λ x. occupies_file x ≡ true → apart h (file_range x) ≡ true) (places r moved)
   unfolding places
   ahead h stored end =
@@ -151,7 +151,7 @@ module _ (r : Resized) (moved : List ℕ) (looked : ℕ) (reads : ReadsPlaced r)
         | inl none ↦ apart-from_empty h (file_range (place_in r moved s)) none
         | inr (inl is) ↦ each-at (λ x. is_stored x ≡ true → apart h (file_range x) ≡ true) (places r moved) clear_of i (place_in r moved s)
             (at-map (place_in r moved) (sized_sections r) i s at) is
-        | inr (inr on) ↦ apart-before h (file_range (place_in r moved s)) (omega (arith, end, loose_begins s on))
+        | inr (inr on) ↦ apart-before h (file_range (place_in r moved s)) (omega (arith, end, unloaded_begins s on))
       ])
 
   -- the section header table
@@ -163,8 +163,8 @@ module _ (r : Resized) (moved : List ℕ) (looked : ℕ) (reads : ReadsPlaced r)
       elim (kind_of s (slice_get-at (sized_sections r) i s at) there) [
         | inl none ↦ apart-from_empty h (file_range (place_in r moved s)) none
         | inr (inl is) ↦ apart-behind h (file_range (place_in r moved s))
-            (omega (arith, last, stored_end i s at is, segments_before_loose r moved reads, loose_before_end r moved reads))
-        | inr (inr on) ↦ apart-behind h (file_range (place_in r moved s)) (omega (arith, last, loose_ends s on))
+            (omega (arith, last, stored_end i s at is, segments_before_unloaded r moved reads, unloaded_before_end r moved reads))
+        | inr (inr on) ↦ apart-behind h (file_range (place_in r moved s)) (omega (arith, last, unloaded_ends s on))
       ])
 
   -- ## Two sections
@@ -177,14 +177,14 @@ module _ (r : Resized) (moved : List ℕ) (looked : ℕ) (reads : ReadsPlaced r)
       (pairs-unmap (λ a b. apart a b ≡ true) file_range (filter is_stored (places r moved))
       (all_apart_pairs (stored_ranges (places r moved)) (stored_are_apart r moved looked reads clear enough)))
 
-  two_loose : (i j : ℕ) (s t : SizedSection) → i < j → slice_get (sized_sections r) i ≡ Some s → slice_get (sized_sections r) j ≡ Some t
-      → LooseAt r moved s → LooseAt r moved t → apart (file_range (place_in r moved s)) (file_range (place_in r moved t)) ≡ true
-  two_loose i j s t less at_s at_t a b =
-      elim (pairs-two LooseBefore (loose_spots r moved) (loose_pairs r moved) a.spot b.spot a.here b.here) [
+  two_unloaded : (i j : ℕ) (s t : SizedSection) → i < j → slice_get (sized_sections r) i ≡ Some s → slice_get (sized_sections r) j ≡ Some t
+      → UnloadedAt r moved s → UnloadedAt r moved t → apart (file_range (place_in r moved s)) (file_range (place_in r moved t)) ≡ true
+  two_unloaded i j s t less at_s at_t a b =
+      elim (pairs-two UnloadedBefore (unloaded_slots r moved) (unloaded_pairs r moved) a.slot b.slot a.here b.here) [
         | inl same ↦
             let first : s.kept.position ≡ i = (sized-at r sized i s at_s).0 in
             let second : t.kept.position ≡ j = (sized-at r sized j t at_t).0 in
-            absurd (omega (arith, less, first, second, a.position, b.position, ap (λ (x : LooseSpot). x.position) same))
+            absurd (omega (arith, less, first, second, a.position, b.position, ap (λ (x : UnloadedSlot). x.position) same))
         | inr (inl h) ↦ apart-before (file_range (place_in r moved s)) (file_range (place_in r moved t))
             (omega (arith, h, a.offset, a.size, b.offset))
         | inr (inr h) ↦ apart-behind (file_range (place_in r moved s)) (file_range (place_in r moved t))
@@ -205,13 +205,13 @@ module _ (r : Resized) (moved : List ℕ) (looked : ℕ) (reads : ReadsPlaced r)
           | inr (inl b) ↦ pairs-less ApartWhereStored (places r moved) stored_pairs i j x y less
               (at-map (place_in r moved) (sized_sections r) i s at_s) (at-map (place_in r moved) (sized_sections r) j t at_t) a b
           | inr (inr b) ↦ apart-before (file_range x) (file_range y)
-              (omega (arith, stored_end i s at_s a, segments_before_loose r moved reads, loose_begins t b))
+              (omega (arith, stored_end i s at_s a, segments_before_unloaded r moved reads, unloaded_begins t b))
         ]
         | inr (inr a) ↦ elim (kind_of t (slice_get-at (sized_sections r) j t at_t) t_there) [
           | inl none ↦ apart-from_empty (file_range x) (file_range y) none
           | inr (inl b) ↦ apart-behind (file_range x) (file_range y)
-              (omega (arith, stored_end j t at_t b, segments_before_loose r moved reads, loose_begins s a))
-          | inr (inr b) ↦ two_loose i j s t less at_s at_t a b
+              (omega (arith, stored_end j t at_t b, segments_before_unloaded r moved reads, unloaded_begins s a))
+          | inr (inr b) ↦ two_unloaded i j s t less at_s at_t a b
         ]
       ]
 
@@ -240,17 +240,17 @@ module _ (r : Resized) (moved : List ℕ) (looked : ℕ) (reads : ReadsPlaced r)
       (list_all (λ x. apart table x) (stored_ranges (places r moved)) && true) (headers_clear r moved looked reads clear enough) in
       (both.0, (and_parts (list_all (λ x. apart table x) (stored_ranges (places r moved))) true both.1).0)
 
-  start_end : end_of start ≤ loose_start r moved
+  start_end : end_of start ≤ unloaded_start r moved
   start_end = omega (
     arith,
     header_before_kept_end r moved reads,
     kept_before_segments_end r moved reads,
-    segments_before_loose r moved reads,
+    segments_before_unloaded r moved reads,
   )
 
-  table_end : end_of table ≤ loose_start r moved
+  table_end : end_of table ≤ unloaded_start r moved
   unfolding table_size
-  table_end = table_before_loose
+  table_end = table_before_unloaded
 
   start_ahead : Each (λ x. occupies_file x ≡ true → apart start (file_range x) ≡ true) (places r moved)
   start_ahead = ahead start stored_ahead.0 start_end
@@ -291,13 +291,13 @@ module _ (r : Resized) (moved : List ℕ) (looked : ℕ) (reads : ReadsPlaced r)
         (
           headers,
           (
-            apart-before start last (omega (arith, start_end, behind, loose_before_end r moved reads)),
+            apart-before start last (omega (arith, start_end, behind, unloaded_before_end r moved reads)),
             ranges_each (λ y. apart start y ≡ true) start_ahead,
           ),
         ),
         (
           (
-            apart-before table last (omega (arith, table_end, behind, loose_before_end r moved reads)),
+            apart-before table last (omega (arith, table_end, behind, unloaded_before_end r moved reads)),
             ranges_each (λ y. apart table y ≡ true) table_ahead,
           ),
           (ranges_each (λ y. apart last y ≡ true) (behind_all size), sections_apart),
@@ -309,9 +309,9 @@ module _ (r : Resized) (moved : List ℕ) (looked : ℕ) (reads : ReadsPlaced r)
   abbrev IsBehindIfFilled : Place → Type 0
   IsBehindIfFilled x = occupies_memory x ≡ false → occupies_file x ≡ true → eqb x.sh_size 0 ≡ false → segments_end r moved ≤ x.sh_offset
 
-  loose_behind_loads : Each IsBehindIfFilled (places r moved)
-  loose_behind_loads = places_each IsBehindIfFilled (λ i s at bare there some.
-      omega (arith, segments_before_loose r moved reads, loose_begins s (behind_of s (slice_get-at (sized_sections r) i s at) there bare some)))
+  unloaded_behind_loads : Each IsBehindIfFilled (places r moved)
+  unloaded_behind_loads = places_each IsBehindIfFilled (λ i s at bare there some.
+      omega (arith, segments_before_unloaded r moved reads, unloaded_begins s (behind_of s (slice_get-at (sized_sections r) i s at) there bare some)))
 
   load_end : (i : ℕ) (p : SegmentHeader) → slice_get (loads_of (written_segments r moved)) i ≡ Some p → end_of (file_part p) ≤ segments_end r moved
   load_end i p at = load_before_segments_end r moved reads p (slice_get-at (loads_of (written_segments r moved)) i p at)
@@ -320,10 +320,10 @@ module _ (r : Resized) (moved : List ℕ) (looked : ℕ) (reads : ReadsPlaced r)
   unfolding layout_for
   all_stands_behind rounds = record {
     table = λ i p at.
-        omega (arith, load_end i p at, segments_before_loose r moved reads, loose_before_end r moved reads, end_before_sections r moved reads);
+        omega (arith, load_end i p at, segments_before_unloaded r moved reads, unloaded_before_end r moved reads, end_before_sections r moved reads);
     sections = λ i j p x at at_x bare there some.
         let begins : segments_end r moved ≤ x.sh_offset =
-        each-at IsBehindIfFilled (places r moved) loose_behind_loads j x at_x bare there some in
+        each-at IsBehindIfFilled (places r moved) unloaded_behind_loads j x at_x bare there some in
         omega (arith, load_end i p at, begins);
   }
 

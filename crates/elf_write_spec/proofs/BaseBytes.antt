@@ -18,7 +18,7 @@ use Rattle.elf_format.specs.Ranges.{all_apart, apart, end_of, range}
 use Rattle.elf_format.specs.Records.{file_header_size, segment_header, segment_header_size}
 use Rattle.elf_format.specs.Rules.{file_of, header_range, header_ranges, segment_table_range}
 use Rattle.elf_layout_plan.specs.FilePlaced.{written_size}
-use Rattle.elf_layout_plan.specs.Kept.{KeptSection, image_at_read, kept_sections, place_at_read}
+use Rattle.elf_image.specs.Kept.{KeptSection, image_at_read, kept_sections, place_at_read}
 use Rattle.elf_layout_plan.specs.Memory.{Resized, table_at_read}
 use Rattle.elf_layout_plan.specs.Plan.{resized}
 use Rattle.elf_layout_plan.proofs.ApartBlocks.{all_apart_pairs, apart-meet}

@@ -14,7 +14,7 @@ use Rattle.elf_format.specs.Image.{Image, ImageSection, counted}
 use Rattle.elf_format.specs.Options.{is_one_of, list_at}
 use Rattle.elf_format.specs.Records.{symbols_in}
 use Rattle.elf_format.specs.Rules.{data_of, file_of, is_opaque_relocation}
-use Rattle.elf_layout_plan.specs.Kept.{image_at_read, interpreter_number, is_numbered, kept_sections, stands_as_interpreter}
+use Rattle.elf_image.specs.Kept.{image_at_read, interpreter_number, is_numbered, kept_sections, stands_as_interpreter}
 use Rattle.elf_layout_plan.specs.Plan.{resized}
 use Rattle.elf_layout_plan.specs.Texts.{is_table_copied}
 use Rattle.elf_layout_plan.proofs.PlacedLists.{find-at}

@@ -22,7 +22,7 @@ use Rattle.elf_format.specs.Views.{section_memory}
 use Rattle.elf_format.proofs.Placed.{IsIn-slice_get, passes_picked}
 use Rattle.elf_format.proofs.ViewsAgree.{links_right, there_and}
 use Rattle.elf_image.specs.ReadImage.{IsSectionOf}
-use Rattle.elf_layout_plan.specs.Kept.{KeptSection, image_at_read, interpreter_number, kept_sections, stands_as_interpreter}
+use Rattle.elf_image.specs.Kept.{KeptSection, image_at_read, interpreter_number, kept_sections, stands_as_interpreter}
 use Rattle.elf_layout_plan.specs.Memory.{Resized}
 use Rattle.elf_layout_plan.specs.Plan.{Layout, resized}
 use Rattle.elf_layout_plan.specs.Texts.{is_table_copied}

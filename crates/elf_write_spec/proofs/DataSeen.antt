@@ -10,7 +10,7 @@ use Rattle.elf_format.specs.Options.{is_one_of}
 use Rattle.elf_format.specs.Places.{Place, occupies_file, occupies_memory, place_of}
 use Rattle.elf_format.specs.Rules.{data_of}
 use Rattle.elf_format.specs.Views.{byte_at}
-use Rattle.elf_layout_plan.specs.Kept.{KeptSection, dynamic_strings_number, interpreter_number, is_numbered, place_at_read}
+use Rattle.elf_image.specs.Kept.{KeptSection, dynamic_strings_number, interpreter_number, is_numbered, place_at_read}
 use Rattle.elf_layout_plan.specs.Memory.{Resized, is_movable, priority_of}
 use Rattle.elf_layout_plan.specs.Plan.{resized}
 use Rattle.elf_layout_plan.proofs.ApartFixed.{fixed_sections_stay}

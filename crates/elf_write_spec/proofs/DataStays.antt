@@ -18,8 +18,8 @@ use Rattle.elf_format.specs.Records.{symbol_size}
 use Rattle.elf_format.specs.Rules.{data_of, is_opaque_relocation}
 use Rattle.elf_image.specs.Edited.{IsEdited}
 use Rattle.elf_layout_plan.specs.Added.{memory_end}
-use Rattle.elf_layout_plan.specs.Follow.{is_loaded_section}
-use Rattle.elf_layout_plan.specs.Kept.{KeptSection, dynamic_strings_number, interpreter_number, is_numbered, kept_sections, place_at_read}
+use Rattle.elf_layout_plan.specs.Anchors.{is_loaded_section}
+use Rattle.elf_image.specs.Kept.{KeptSection, dynamic_strings_number, interpreter_number, is_numbered, kept_sections, place_at_read}
 use Rattle.elf_layout_plan.specs.Memory.{Resized, SizedSection, is_movable, priority_of, sized_sections}
 use Rattle.elf_layout_plan.specs.Needs.{written_needs}
 use Rattle.elf_layout_plan.specs.Plan.{IsPlan, Layout, layout_for, resized}
@@ -181,14 +181,14 @@ module _ (image : Image) (plan : Layout) (edited : IsEdited image) (planned : Is
   not_added moved s here stored filled same added =
       let reads : ReadsPlaced r = reads_placed image edited in
       let is = is_added r moved added.is_moved.load added.is_moved.here in
-      let spot = is.spots added.spot added.is_moved.among in
-      let address : (place_in r moved s).sh_addr ≡ added.spot.address = ap (λ (x : Place). x.sh_addr) added.place in
+      let slot = is.slots added.slot added.is_moved.among in
+      let address : (place_in r moved s).sh_addr ≡ added.slot.address = ap (λ (x : Place). x.sh_addr) added.place in
       let held = reads.held s.kept here stored in
       let shown = shows held.load s.kept.section.sh_offset s.kept.section.sh_size s.kept.section.sh_addr held.holds_it in
       let fits : held.load.p_filesz ≤ held.load.p_memsz = reads.fit held.load held.here in
       let low : held.load.p_vaddr + held.load.p_memsz ≤ memory_end r = before_memory_end r moved reads held.load held.here in
       let high : memory_end r ≤ added.is_moved.load.header.p_vaddr = is.in_memory in
-      absurd (omega (arith, same, address, shown.0, shown.1, shown.2, fits, low, high, spot.begins, spot.distance, filled))
+      absurd (omega (arith, same, address, shown.0, shown.1, shown.2, fits, low, high, slot.begins, slot.distance, filled))
 
   pub fixed_keeps_offset : (i : ℕ) (k : KeptSection) (place : Place) → slice_get (kept_sections image) i ≡ Some k
       → slice_get plan.places i ≡ Some place

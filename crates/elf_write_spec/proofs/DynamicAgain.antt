@@ -17,8 +17,8 @@ use Rattle.elf_format.specs.Rules.{dynamic_texts_of, file_of, linked_texts, text
 use Rattle.elf_format.specs.Versions.{version_id}
 use Rattle.elf_format.specs.Views.{NamedSymbol}
 use Rattle.elf_image.specs.ReadImage.{AreDynamicSymbols, AreSymbolsOf}
-use Rattle.elf_image_symbols.specs.SymbolsShown.{kept_as}
-use Rattle.elf_layout_plan.specs.Kept.{image_at_read}
+use Rattle.elf_image_symbols.specs.TableSymbols.{kept_as}
+use Rattle.elf_image.specs.Kept.{image_at_read}
 use Rattle.elf_write_spec.specs.Again.{HasWrittenParts, written_parts}
 use Rattle.elf_write_spec.specs.Contents.{AreSymbolsOf as AreWrittenSymbols, IsSymbolOf as IsWrittenSymbol}
 use Rattle.elf_write_spec.specs.Final.{final}

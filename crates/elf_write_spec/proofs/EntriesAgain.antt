@@ -16,7 +16,7 @@ use Rattle.elf_format.specs.Options.{each, is_one_of, list_at}
 use Rattle.elf_format.specs.Rules.{file_of, linked_texts, raw_entries, text_users}
 use Rattle.elf_image.specs.DynamicList.{IsListed, is_table_tag, is_text_tag}
 use Rattle.elf_image.specs.Edited.{AreEntriesOf as AreEditedEntries}
-use Rattle.elf_layout_plan.specs.Kept.{image_at_read}
+use Rattle.elf_image.specs.Kept.{image_at_read}
 use Rattle.elf_layout_plan.specs.Memory.{Resized}
 use Rattle.elf_layout_plan.specs.Plan.{Layout, resized}
 use Rattle.elf_write_spec.specs.Again.{HasWrittenParts, written_parts}

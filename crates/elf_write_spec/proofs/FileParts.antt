@@ -32,7 +32,7 @@ use Rattle.elf_tables.proofs.FilesOpened.{files_are_opened}
 use Rattle.elf_tables.proofs.SectionHeaderBack.{section_headers_are_read_back}
 use Rattle.elf_tables.proofs.SegmentHeaderBack.{segment_headers_are_read_back}
 use Rattle.elf_tables.proofs.TableBack.{tables_are_read_back}
-use Rattle.elf_layout_plan.specs.Kept.{KeptSection, kept_sections}
+use Rattle.elf_image.specs.Kept.{KeptSection, kept_sections}
 use Rattle.elf_layout_plan.specs.Memory.{Resized}
 use Rattle.elf_layout_plan.specs.Plan.{Layout, resized}
 use Rattle.elf_layout_plan.proofs.ApartLists.{Each}

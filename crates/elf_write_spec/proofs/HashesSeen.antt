@@ -12,7 +12,7 @@ use Rattle.elf_format.specs.Image.{ImageSection}
 use Rattle.elf_format.specs.Options.{is_none_or, is_some_and}
 use Rattle.elf_format.specs.Rules.{dynamic_tables_agree, file_of, hashes_agree, raw_entries, strings_agree, symbols_agree, tag_is_address, tags_come_once, texts_are_shared, versions_agree}
 use Rattle.elf_format.specs.Views.{byte_at}
-use Rattle.elf_layout_plan.specs.Kept.{KeptSection}
+use Rattle.elf_image.specs.Kept.{KeptSection}
 use Rattle.elf_write_spec.specs.Again.{written_parts}
 use Rattle.elf_write_spec.specs.Laws.{WrittenFilesKeepHashes}
 use Rattle.elf_write_spec.specs.Stays.{AreHashesSeen, IsSeenByTag}

@@ -12,11 +12,11 @@ use Rattle.elf_layout_plan.specs.Blocks.{have_causes, stay_apart}
 use Rattle.elf_layout_plan.specs.Memory.{Resized, blocks_with, table_load, table_size_with}
 use Rattle.elf_layout_plan.specs.Plan.{IsPlan, Layout, layout_for, resized}
 use Rattle.elf_layout_plan.specs.Rounds.{are_in_old_order, do_move, headers_needed, sections_at}
-use Rattle.elf_layout_plan.specs.Standing.{loose_start, next_table, sections_offset, segments_end, table_offset}
+use Rattle.elf_layout_plan.specs.Standing.{unloaded_start, next_table, sections_offset, segments_end, table_offset}
 use Rattle.elf_layout_plan.specs.Written.{written_segments}
 use Rattle.elf_layout_plan.proofs.PlacedCount.{length-written}
 use Rattle.elf_layout_plan.proofs.PlacedRead.{ReadsPlaced, reads_placed}
-use Rattle.elf_layout_plan.proofs.PlacedSegments.{before_kept_end, end_before_sections, header_before_kept_end, kept_before_segments_end, loose_before_end, segments_before_end}
+use Rattle.elf_layout_plan.proofs.PlacedSegments.{before_kept_end, end_before_sections, header_before_kept_end, kept_before_segments_end, unloaded_before_end, segments_before_end}
 use Rattle.elf_layout_plan.proofs.PlacedStays.{table_kept_in}
 
 -- both end before the section header table
@@ -45,9 +45,9 @@ module _ (r : Resized) (rounds looked : ℕ) (moved : List ℕ) (reads : ReadsPl
   )
 
   -- behind the segments
-  table_loose : table_load r ≡ None → table_offset r moved + header_count r moved * segment_header_size r.image.form ≤ loose_start r moved
-  unfolding loose_start
-  table_loose none = subst (λ (o : Option SegmentHeader).
+  table_unloaded : table_load r ≡ None → table_offset r moved + header_count r moved * segment_header_size r.image.form ≤ unloaded_start r moved
+  unfolding unloaded_start
+  table_unloaded none = subst (λ (o : Option SegmentHeader).
       table_offset r moved + header_count r moved * segment_header_size r.image.form
       ≤ (if is_some o then segments_end r moved else table_offset r moved + header_count r moved * segment_header_size r.image.form))
       (sym none) (omega arith)
@@ -65,7 +65,7 @@ module _ (r : Resized) (rounds looked : ℕ) (moved : List ℕ) (reads : ReadsPl
       let unit : ℕ = segment_header_size r.image.form in
       let few : length (written_segments r moved) * unit ≤ header_count r moved * unit =
       mul-le-mul_right (segment_header_size r.image.form) (length-written r moved) in
-      omega (arith, few, table_loose is, loose_before_end r moved reads, end_before_sections r moved reads)
+      omega (arith, few, table_unloaded is, unloaded_before_end r moved reads, end_before_sections r moved reads)
   table_ends_by (Some q) is =
       let few : length (written_segments r moved) ≤ length r.image.segments + looked = omega (arith, length-written r moved, enough) in
       let small : length (written_segments r moved) * segment_header_size r.image.form ≤ table_size_with r looked =

@@ -6,7 +6,7 @@ use Rattle.elf_format.specs.declared.records.SectionHeader.{SectionHeader}
 use Rattle.elf_format.specs.declared.records.SegmentHeader.{SegmentHeader}
 use Rattle.elf_format.specs.Dynamic.{Entry}
 use Rattle.elf_format.specs.File.{Opened, Parts, section_of_type, sections_of, segments_of}
-use Rattle.elf_format.specs.Image.{Image, ImageSection, counted, definitions_read, dynamic_symbols_read, entries_read, header_kept, image_in, image_of, interpreter_read, needs_read, section_read, static_symbols}
+use Rattle.elf_format.specs.Image.{Image, ImageSection, counted, definitions_read, dynamic_symbols_read, entries_read, image_header, image_in, image_of, interpreter_read, needs_read, section_read, static_symbols}
 use Rattle.elf_format.specs.Options.{each}
 use Rattle.elf_format.specs.Rules.{ArePartsOf, IsAcceptedWith, accepted_parts, file_of}
 use Rattle.elf_format.specs.Versions.{VersionDefinition, VersionNeeds}
@@ -21,7 +21,7 @@ image_by p sections symbols dynamic_symbols entries definitions needs interprete
   source = file_of p;
   changed = false;
   form = p.opened.form;
-  header = header_kept p.opened.header;
+  header = image_header p.opened.header;
   segments = p.segments;
   sections = sections;
   symbols = symbols;

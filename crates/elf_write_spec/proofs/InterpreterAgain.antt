@@ -20,11 +20,11 @@ use Rattle.elf_format.specs.Views.{interpreter_section}
 use Rattle.elf_format.proofs.Placed.{find_some, section_bytes-is}
 use Rattle.elf_format.proofs.ViewsAgree.{there_if}
 use Rattle.elf_image.specs.Edited.{IsInterpreterOf}
-use Rattle.elf_layout_plan.specs.Follow.{OneSection, leader_of, led_by_section}
-use Rattle.elf_layout_plan.specs.Kept.{KeptSection, image_at_read, interpreter_number, is_numbered, kept_sections, stands_as_interpreter}
+use Rattle.elf_layout_plan.specs.Anchors.{OneSection, anchor_of, anchor_or_itself}
+use Rattle.elf_image.specs.Kept.{KeptSection, image_at_read, interpreter_number, is_numbered, kept_sections, stands_as_interpreter}
 use Rattle.elf_layout_plan.specs.Memory.{Resized}
 use Rattle.elf_layout_plan.specs.Plan.{Layout, resized}
-use Rattle.elf_layout_plan.specs.Written.{led_to, target_at}
+use Rattle.elf_layout_plan.specs.Written.{anchored_to, target_at}
 use Rattle.elf_layout_plan.proofs.ApartLists.{find-at}
 use Rattle.elf_write_spec.specs.Again.{HasWrittenParts, written_parts}
 use Rattle.elf_write_spec.specs.Base.{is_interpreter}
@@ -80,10 +80,10 @@ found_bytes file p sections s is there =
 
 -- ## The section with the interpreter's name
 
-interpreter_leader : (r : Resized) (p : SegmentHeader) → p.p_type ≡ PT_INTERP
-    → leader_of r p ≡ led_by_section (find (is_numbered (interpreter_number r.read)) (kept_sections r.image))
-unfolding leader_of
-interpreter_leader r p type = rw type refl
+interpreter_anchor : (r : Resized) (p : SegmentHeader) → p.p_type ≡ PT_INTERP
+    → anchor_of r p ≡ anchor_or_itself (find (is_numbered (interpreter_number r.read)) (kept_sections r.image))
+unfolding anchor_of
+interpreter_anchor r p type = rw type refl
 
 module _ (w : Writing) (is : IsWholeWriting w) (f : ReadFacts w) where
   -- the first that stood where PT_INTERP says
@@ -119,11 +119,11 @@ module _ (w : Writing) (is : IsWholeWriting w) (f : ReadFacts w) where
   -- PT_INTERP goes by it
   goes_by : (n : ℕ) (at : SectionAt w f.parts n) (p : SegmentHeader) → interpreter_number (image_at_read w.image) ≡ Some n
       → p.p_type ≡ PT_INTERP
-      → leader_of (resized w.image) p ≡ OneSection (kept n at.section)
+      → anchor_of (resized w.image) p ≡ OneSection (kept n at.section)
   goes_by n at p number type =
-      interpreter_leader (resized w.image) p type
-      ∙ ap (λ o. led_by_section (find (is_numbered o) (kept_sections w.image))) number
-      ∙ ap led_by_section (find-is (is_numbered (Some n)) (kept_sections w.image) n (kept n at.section) at.is_kept (eq-eqb n n refl)
+      interpreter_anchor (resized w.image) p type
+      ∙ ap (λ o. anchor_or_itself (find (is_numbered o) (kept_sections w.image))) number
+      ∙ ap anchor_or_itself (find-is (is_numbered (Some n)) (kept_sections w.image) n (kept n at.section) at.is_kept (eq-eqb n n refl)
       (λ j s less there_s.
       let (_, same) = section_here w is f j s there_s in
       ne_eqb n s.number (λ e. omega (arith, e, less, ap (λ (k : KeptSection). k.number) same))))
@@ -146,12 +146,12 @@ stands_again w is f old p there there_now there_plan =
     let found = interpreter_is w is f n number in
     let at = found.at in
     let (_, _, typed) = find-at (λ (q : SegmentHeader). q.p_type == PT_INTERP) w.image.segments p there_now in
-    let leader = goes_by w is f n at p number (eqb-true p.p_type PT_INTERP typed) in
-    let goes : becomes (resized w.image) is.planned.moved p ≡ led_to w.image.form p (target_at at.place) =
-    becomes-section (resized w.image) is.planned.moved p (kept n at.section) at.place leader
+    let anchor = goes_by w is f n at p number (eqb-true p.p_type PT_INTERP typed) in
+    let goes : becomes (resized w.image) is.planned.moved p ≡ anchored_to w.image.form p (target_at at.place) =
+    becomes-section (resized w.image) is.planned.moved p (kept n at.section) at.place anchor
     (ap (λ (l : List Place). slice_get l n) (sym (all_places_are w is)) ∙ at.is_place) in
     record {
-      segment = led_to w.image.form p (target_at at.place);
+      segment = anchored_to w.image.form p (target_at at.place);
       is_segment = there_plan ∙ ap Some goes;
       number = n;
       at = at;

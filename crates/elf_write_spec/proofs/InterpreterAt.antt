@@ -11,7 +11,7 @@ use Rattle.elf_format.specs.declared.records.SegmentHeader.{SegmentHeader}
 use Rattle.elf_format.specs.File.{segment_of_type}
 use Rattle.elf_format.specs.Image.{Image, ImageSection}
 use Rattle.elf_format.specs.Options.{is_some_and}
-use Rattle.elf_layout_plan.specs.Kept.{KeptSection, image_at_read, interpreter_number, kept_from, kept_sections, stands_as_interpreter}
+use Rattle.elf_image.specs.Kept.{KeptSection, image_at_read, interpreter_number, kept_from, kept_sections, stands_as_interpreter}
 use Rattle.elf_layout_plan.specs.Plan.{resized}
 use Rattle.elf_layout_plan.proofs.ApartLists.{find-at}
 use Rattle.elf_layout_plan.proofs.ApartSections.{kept-at}

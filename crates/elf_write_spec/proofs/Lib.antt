@@ -2,7 +2,7 @@ pub mod WholeLists
 pub mod SameLists
 pub mod WholeFacts
 pub mod MovedFacts
-pub mod LooseFacts
+pub mod UnloadedFacts
 pub mod ContentFacts
 pub mod HeaderTables
 pub mod WrittenTypes

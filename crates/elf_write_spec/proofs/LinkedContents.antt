@@ -14,7 +14,7 @@ use Rattle.elf_format.specs.File.{Parts, section_bytes, segment_of_type}
 use Rattle.elf_format.specs.Image.{Image, ImageSection}
 use Rattle.elf_format.specs.Options.{is_one_of, list_at}
 use Rattle.elf_format.specs.Rules.{data_of, file_of, is_opaque_relocation}
-use Rattle.elf_layout_plan.specs.Kept.{KeptSection, image_at_read, interpreter_number, is_numbered, kept_from, kept_sections, stands_as_interpreter}
+use Rattle.elf_image.specs.Kept.{KeptSection, image_at_read, interpreter_number, is_numbered, kept_from, kept_sections, stands_as_interpreter}
 use Rattle.elf_format.specs.Records.{symbols_in}
 use Rattle.elf_layout_plan.specs.Texts.{is_table_copied}
 use Rattle.elf_layout_plan.specs.Plan.{resized}

@@ -19,7 +19,7 @@ use Rattle.elf_format.specs.Views.{NamedSymbol}
 use Rattle.elf_format.proofs.Placed.{passes_picked}
 use Rattle.elf_format.proofs.ViewsAgree.{length-bytes}
 use Rattle.elf_image.specs.ReadImage.{AreDynamicSymbols, AreStaticSymbols}
-use Rattle.elf_layout_plan.specs.Kept.{image_at_read}
+use Rattle.elf_image.specs.Kept.{image_at_read}
 use Rattle.elf_write_spec.specs.Again.{HasWrittenParts, written_parts}
 use Rattle.elf_write_spec.specs.Writing.{IsWholeWriting, Writing}
 use Rattle.elf_write_spec.proofs.LinkedContents.{bytes_copied, bytes_there, is_copied, kind_by}

@@ -12,12 +12,12 @@ use Rattle.elf_format.specs.File.{is_loaded}
 use Rattle.elf_format.specs.Places.{Place}
 use Rattle.elf_image.specs.Edited.{AreKept}
 use Rattle.elf_image.specs.Segments.{added_stack}
-use Rattle.elf_layout_plan.specs.Follow.{HeaderTable, Itself, Leader, Notes, OneSection, leader_by_range, leader_of, led_by_section, section_or_table, section_under}
-use Rattle.elf_layout_plan.specs.Kept.{KeptSection, interpreter_number, is_numbered, kept_of_type, kept_sections}
+use Rattle.elf_layout_plan.specs.Anchors.{HeaderTable, Itself, Anchor, Notes, OneSection, anchor_by_range, anchor_of, anchor_or_itself, section_or_table, section_under}
+use Rattle.elf_image.specs.Kept.{KeptSection, interpreter_number, is_numbered, kept_of_type, kept_sections}
 use Rattle.elf_layout_plan.specs.Memory.{Resized}
 use Rattle.elf_layout_plan.specs.Plan.{IsPlan, Layout, layout_for}
 use Rattle.elf_layout_plan.specs.Standing.{places}
-use Rattle.elf_layout_plan.specs.Written.{Target, behind_last_load, led_to, places_of_kept, resized_table, target_at, targets_of, targets_of_notes, with_table_size, written_from, written_segments}
+use Rattle.elf_layout_plan.specs.Written.{Target, behind_last_load, anchored_to, places_of_kept, resized_table, target_at, targets_of, targets_of_notes, with_table_size, written_from, written_segments}
 use Rattle.elf_layout_plan.proofs.ApartLists.{each-at}
 use Rattle.elf_layout_plan.proofs.ApartWritten.{added_headers, all_added_are_loaded}
 use Rattle.elf_write_spec.specs.Whole.{AreAllKept}
@@ -29,13 +29,13 @@ count_of type ps = count_by (λ p. p.p_type == type) ps
 
 -- ## What a program header goes by
 
-abbrev is_notes : Leader → Bool
+abbrev is_notes : Anchor → Bool
 is_notes Itself = false
 is_notes HeaderTable = false
 is_notes (OneSection s) = false
 is_notes (Notes notes) = true
 
-abbrev by_type : ℕ → Leader → Leader → Leader → Leader → Leader
+abbrev by_type : ℕ → Anchor → Anchor → Anchor → Anchor → Anchor
 by_type n table dynamic interpreter other =
     if n == PT_LOAD then Itself
     else if n == PT_PHDR then table
@@ -43,45 +43,45 @@ by_type n table dynamic interpreter other =
     else if n == PT_INTERP then interpreter
     else other
 
-led_plainly : (o : Option KeptSection) → is_notes (led_by_section o) ≡ false
-led_plainly None = refl
-led_plainly (Some s) = refl
+anchored_plainly : (o : Option KeptSection) → is_notes (anchor_or_itself o) ≡ false
+anchored_plainly None = refl
+anchored_plainly (Some s) = refl
 
 table_plainly : (o : Option KeptSection) → is_notes (section_or_table o) ≡ false
 table_plainly None = refl
 table_plainly (Some s) = refl
 
 module _ (r : Resized) where
-  table_leader : SegmentHeader → Leader
-  table_leader p = section_or_table (section_under r p)
+  table_anchor : SegmentHeader → Anchor
+  table_anchor p = section_or_table (section_under r p)
 
-  dynamic_leader : Leader
-  dynamic_leader = led_by_section (kept_of_type SHT_DYNAMIC r.image)
+  dynamic_anchor : Anchor
+  dynamic_anchor = anchor_or_itself (kept_of_type SHT_DYNAMIC r.image)
 
-  interpreter_leader : Leader
-  interpreter_leader = led_by_section (find (is_numbered (interpreter_number r.read)) (kept_sections r.image))
+  interpreter_anchor : Anchor
+  interpreter_anchor = anchor_or_itself (find (is_numbered (interpreter_number r.read)) (kept_sections r.image))
 
-  leader_is : (p : SegmentHeader) → leader_of r p ≡ by_type p.p_type (table_leader p) dynamic_leader interpreter_leader (leader_by_range r p)
-  unfolding leader_of table_leader dynamic_leader interpreter_leader
-  leader_is p = refl
+  anchor_is : (p : SegmentHeader) → anchor_of r p ≡ by_type p.p_type (table_anchor p) dynamic_anchor interpreter_anchor (anchor_by_range r p)
+  unfolding anchor_of table_anchor dynamic_anchor interpreter_anchor
+  anchor_is p = refl
 
-  leader_at : (p : SegmentHeader) (type : ℕ) → p.p_type ≡ type
-      → leader_of r p ≡ by_type type (table_leader p) dynamic_leader interpreter_leader (leader_by_range r p)
-  leader_at p type h = leader_is p ∙ ap (λ n. by_type n (table_leader p) dynamic_leader interpreter_leader (leader_by_range r p)) h
+  anchor_at : (p : SegmentHeader) (type : ℕ) → p.p_type ≡ type
+      → anchor_of r p ≡ by_type type (table_anchor p) dynamic_anchor interpreter_anchor (anchor_by_range r p)
+  anchor_at p type h = anchor_is p ∙ ap (λ n. by_type n (table_anchor p) dynamic_anchor interpreter_anchor (anchor_by_range r p)) h
 
   -- a program header of these types isn't over several notes
-  plain-dynamic : (p : SegmentHeader) → p.p_type ≡ PT_DYNAMIC → is_notes (leader_of r p) ≡ false
-  unfolding dynamic_leader
-  plain-dynamic p h = ap is_notes (leader_at p PT_DYNAMIC h) ∙ led_plainly (kept_of_type SHT_DYNAMIC r.image)
+  plain-dynamic : (p : SegmentHeader) → p.p_type ≡ PT_DYNAMIC → is_notes (anchor_of r p) ≡ false
+  unfolding dynamic_anchor
+  plain-dynamic p h = ap is_notes (anchor_at p PT_DYNAMIC h) ∙ anchored_plainly (kept_of_type SHT_DYNAMIC r.image)
 
-  plain-interpreter : (p : SegmentHeader) → p.p_type ≡ PT_INTERP → is_notes (leader_of r p) ≡ false
-  unfolding interpreter_leader
+  plain-interpreter : (p : SegmentHeader) → p.p_type ≡ PT_INTERP → is_notes (anchor_of r p) ≡ false
+  unfolding interpreter_anchor
   plain-interpreter p h =
-      ap is_notes (leader_at p PT_INTERP h) ∙ led_plainly (find (is_numbered (interpreter_number r.read)) (kept_sections r.image))
+      ap is_notes (anchor_at p PT_INTERP h) ∙ anchored_plainly (find (is_numbered (interpreter_number r.read)) (kept_sections r.image))
 
-  plain-table : (p : SegmentHeader) → p.p_type ≡ PT_PHDR → is_notes (leader_of r p) ≡ false
-  unfolding table_leader
-  plain-table p h = ap is_notes (leader_at p PT_PHDR h) ∙ table_plainly (section_under r p)
+  plain-table : (p : SegmentHeader) → p.p_type ≡ PT_PHDR → is_notes (anchor_of r p) ≡ false
+  unfolding table_anchor
+  plain-table p h = ap is_notes (anchor_at p PT_PHDR h) ∙ table_plainly (section_under r p)
 
 -- ## What becomes of it
 
@@ -90,8 +90,8 @@ length-one None = omega arith
 length-one (Some s) = omega arith
 
 -- where it goes, by what it goes by, and what is written of it, by where it goes
-abbrev targets_by : Resized → List ℕ → Leader → List Target
-targets_by r moved leader = elim leader [
+abbrev targets_by : Resized → List ℕ → Anchor → List Target
+targets_by r moved anchor = elim anchor [
   | Itself ↦ []
   | HeaderTable ↦ []
   | OneSection s ↦ map target_at (places_of_kept (places r moved) (s ∷ []))
@@ -99,60 +99,60 @@ targets_by r moved leader = elim leader [
 ]
 
 abbrev written_by : Resized → List ℕ → SegmentHeader → List Target → List SegmentHeader
-written_by r moved p targets = elim targets [ [] ↦ resized_table r moved p ∷ [] | t ∷ ts ↦ map (led_to r.image.form p) (t ∷ ts) ]
+written_by r moved p targets = elim targets [ [] ↦ resized_table r moved p ∷ [] | t ∷ ts ↦ map (anchored_to r.image.form p) (t ∷ ts) ]
 
-targets_are : (r : Resized) (moved : List ℕ) (p : SegmentHeader) → targets_of r moved p ≡ targets_by r moved (leader_of r p)
+targets_are : (r : Resized) (moved : List ℕ) (p : SegmentHeader) → targets_of r moved p ≡ targets_by r moved (anchor_of r p)
 unfolding targets_of
 targets_are r moved p = refl
 
 module _ (r : Resized) (moved : List ℕ) (type : ℕ) where
-  one_target : (leader : Leader) → is_notes leader ≡ false → length (targets_by r moved leader) ≤ 1
+  one_target : (anchor : Anchor) → is_notes anchor ≡ false → length (targets_by r moved anchor) ≤ 1
   one_target Itself h = omega arith
   one_target HeaderTable h = omega arith
   one_target (OneSection s) h = length-one (slice_get (places r moved) s.position)
   one_target (Notes notes) h = absurd (false≢true (sym h))
 
-  table_type : (p : SegmentHeader) (leader : Leader) → (elim
-      leader as (λ _. SegmentHeader) [ HeaderTable ↦ with_table_size r moved p | _ ↦ p ]).p_type ≡ p.p_type
+  table_type : (p : SegmentHeader) (anchor : Anchor) → (elim
+      anchor as (λ _. SegmentHeader) [ HeaderTable ↦ with_table_size r moved p | _ ↦ p ]).p_type ≡ p.p_type
   table_type p Itself = refl
   table_type p HeaderTable = refl
   table_type p (OneSection s) = refl
   table_type p (Notes notes) = refl
 
   -- where its type is another, none of it has this type
-  count-led : (p : SegmentHeader) (ts : List Target) → (p.p_type == type) ≡ false → count_of type (map (led_to r.image.form p) ts) ≡ 0
-  count-led p [] other = refl
-  count-led p (t ∷ ts) other =
-      let first = count-cons (λ (q : SegmentHeader). q.p_type == type) (led_to r.image.form p t) (map (led_to r.image.form p) ts) in
-      omega (arith, first, ap one_if other, count-led p ts other)
+  count-anchored : (p : SegmentHeader) (ts : List Target) → (p.p_type == type) ≡ false → count_of type (map (anchored_to r.image.form p) ts) ≡ 0
+  count-anchored p [] other = refl
+  count-anchored p (t ∷ ts) other =
+      let first = count-cons (λ (q : SegmentHeader). q.p_type == type) (anchored_to r.image.form p t) (map (anchored_to r.image.form p) ts) in
+      omega (arith, first, ap one_if other, count-anchored p ts other)
 
   count-other : (p : SegmentHeader) (targets : List Target) → (p.p_type == type) ≡ false → count_of type (written_by r moved p targets) ≡ 0
   count-other p [] other = omega (
     arith,
     count-cons (λ (q : SegmentHeader). q.p_type == type) (resized_table r moved p) [],
-    ap one_if (ap (λ n. n == type) (table_type p (leader_of r p)) ∙ other),
+    ap one_if (ap (λ n. n == type) (table_type p (anchor_of r p)) ∙ other),
   )
-  count-other p (t ∷ ts) other = count-led p (t ∷ ts) other
+  count-other p (t ∷ ts) other = count-anchored p (t ∷ ts) other
 
   -- else it is no more than one
   length-one_made : (p : SegmentHeader) (targets : List Target) → length targets ≤ 1 → length (written_by r moved p targets) ≤ 1
   length-one_made p [] few = omega arith
-  length-one_made p (t ∷ ts) few = omega (arith, few, length-map (t ∷ ts) (led_to r.image.form p))
+  length-one_made p (t ∷ ts) few = omega (arith, few, length-map (t ∷ ts) (anchored_to r.image.form p))
 
-  count-made : (p : SegmentHeader) → (p.p_type ≡ type → is_notes (leader_of r p) ≡ false) → (b : Bool) → (p.p_type == type) ≡ b
+  count-made : (p : SegmentHeader) → (p.p_type ≡ type → is_notes (anchor_of r p) ≡ false) → (b : Bool) → (p.p_type == type) ≡ b
       → count_of type (written_by r moved p (targets_of r moved p)) ≤ one_if b
   count-made p plain false e = omega (arith, count-other p (targets_of r moved p) e)
   count-made p plain true e =
       let few : length (targets_of r moved p) ≤ 1 =
       subst (λ (ts : List Target). length ts ≤ 1) (sym (targets_are r moved p))
-      (one_target (leader_of r p) (plain (eqb-true p.p_type type e))) in
+      (one_target (anchor_of r p) (plain (eqb-true p.p_type type e))) in
       omega (
         arith,
         count_by-le-length (λ (q : SegmentHeader). q.p_type == type) (written_by r moved p (targets_of r moved p)),
         length-one_made p (targets_of r moved p) few,
       )
 
-  count-from : ((p : SegmentHeader) → p.p_type ≡ type → is_notes (leader_of r p) ≡ false) → (p : SegmentHeader)
+  count-from : ((p : SegmentHeader) → p.p_type ≡ type → is_notes (anchor_of r p) ≡ false) → (p : SegmentHeader)
       → count_of type (written_from r moved p) ≤ one_if (p.p_type == type)
   count-from plain p = count-made p (plain p) (p.p_type == type) refl
 
@@ -182,7 +182,7 @@ count-added r moved type other = count-none (λ (p : SegmentHeader). p.p_type ==
     ap (λ n. n == type) (eqb-true p.p_type PT_LOAD loaded) ∙ other)
 
 count-written : (r : Resized) (moved : List ℕ) (type : ℕ) → (PT_LOAD == type) ≡ false
-    → ((p : SegmentHeader) → p.p_type ≡ type → is_notes (leader_of r p) ≡ false)
+    → ((p : SegmentHeader) → p.p_type ≡ type → is_notes (anchor_of r p) ≡ false)
     → count_of type (written_segments r moved) ≤ count_of type r.image.segments
 unfolding written_segments
 count-written r moved type other plain =
@@ -234,7 +234,7 @@ unfolding layout_for
 planned_segments r plan planned = ap (λ (l : Layout). l.segments) planned.follows
 
 pub count-planned : (r : Resized) (plan : Layout) → IsPlan r plan → (type : ℕ) → (PT_LOAD == type) ≡ false → (PT_GNU_STACK == type) ≡ false
-    → ((p : SegmentHeader) → p.p_type ≡ type → is_notes (leader_of r p) ≡ false)
+    → ((p : SegmentHeader) → p.p_type ≡ type → is_notes (anchor_of r p) ≡ false)
     → (read : List SegmentHeader) → AreAllKept r.image.page_size read r.image.segments → count_of type plan.segments ≤ count_of type read
 count-planned r plan planned type loaded stack plain read whole =
     omega (

@@ -11,7 +11,7 @@ use Rattle.elf_format.specs.Options.{is_one_of, list_at}
 use Rattle.elf_format.specs.Records.{entry_size, symbol_size}
 use Rattle.elf_format.specs.Rules.{are_whole, unit_of}
 use Rattle.elf_format.proofs.ViewsAgree.{whole_entries}
-use Rattle.elf_layout_plan.specs.Kept.{image_at_read, interpreter_number, is_numbered}
+use Rattle.elf_image.specs.Kept.{image_at_read, interpreter_number, is_numbered}
 use Rattle.elf_layout_plan.specs.Needs.{written_entries, written_needs}
 use Rattle.elf_layout_plan.specs.Sizes.{definitions_size, dynamic_size, hash_size, interpreter_size, needs_size, new_size, strings_size, table_size}
 use Rattle.elf_layout_plan.specs.Texts.{are_names_changed}

@@ -16,7 +16,7 @@ use Rattle.elf_format.specs.Rules.{data_of, file_of, is_opaque_relocation, is_sy
 use Rattle.elf_format.specs.Views.{NamedSymbol}
 use Rattle.elf_format.proofs.Placed.{IsIn-slice_get, find_some, passes_picked}
 use Rattle.elf_image.specs.ReadImage.{AreDynamicSymbols}
-use Rattle.elf_layout_plan.specs.Kept.{image_at_read}
+use Rattle.elf_image.specs.Kept.{image_at_read}
 use Rattle.elf_write_spec.specs.Again.{HasWrittenParts, written_parts}
 use Rattle.elf_write_spec.specs.Contents.{AreSymbolsOf, content_at_number}
 use Rattle.elf_write_spec.specs.Final.{final}

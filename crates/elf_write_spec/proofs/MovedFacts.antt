@@ -6,15 +6,15 @@ use Rattle.std.proofs.lemmas.Bool.{and_parts, eqb-true, false≢true, or_cases}
 use Rattle.std.proofs.lemmas.Option.{same_Some}
 use Rattle.elf_format.specs.File.{loads_of}
 use Rattle.elf_format.specs.Options.{is_one_of, is_some_and}
-use Rattle.elf_layout_plan.specs.Added.{Spot}
+use Rattle.elf_layout_plan.specs.Added.{Slot}
 use Rattle.elf_layout_plan.specs.Blocks.{Block, earlier_moves, has_cause, have_causes, is_block_of, later_moves, some_two, stay_apart}
-use Rattle.elf_layout_plan.specs.Kept.{kept_sections}
+use Rattle.elf_image.specs.Kept.{kept_sections}
 use Rattle.elf_layout_plan.specs.Memory.{Resized, SizedSection, blocks_with, edge_blocks, header_blocks, section_block, sized_sections, takes_memory}
 use Rattle.elf_layout_plan.specs.Rounds.{are_in_old_order, do_move, sections_at}
-use Rattle.elf_layout_plan.specs.Standing.{spot_of}
+use Rattle.elf_layout_plan.specs.Standing.{slot_of}
 use Rattle.elf_layout_plan.proofs.ApartFixed.{edges_no_section, headers_no_section}
 use Rattle.elf_layout_plan.proofs.ApartLists.{Each, Some_in, all-at, any-at, each-append, each-at, each-filter, each-from, each-map, each-more}
-use Rattle.elf_layout_plan.proofs.ApartPlaces.{spot_found}
+use Rattle.elf_layout_plan.proofs.ApartPlaces.{slot_found}
 use Rattle.elf_layout_plan.proofs.ApartSections.{sized-at, sized_of}
 
 -- of two blocks for which a test holds one passes another test, so some block of the list does
@@ -95,9 +95,9 @@ module _ (r : Resized) (sized : sized_sections r ≡ map (sized_of r) (kept_sect
       each-at (λ c. is_block_of s.kept.position c ≡ true → takes_memory s.kept.section ≡ true) (blocks_with r looked)
       (blocks_take looked i s at) j b at_b own
 
-  -- a section with a spot takes memory
-  pub spot_takes : (looked : ℕ) (moved : List ℕ) → do_move r looked moved ≡ true → (i : ℕ) (s : SizedSection)
-      → slice_get (sized_sections r) i ≡ Some s → (x : Spot) → spot_of r moved s ≡ Some x → takes_memory s.kept.section ≡ true
-  spot_takes looked moved move i s at x h =
-      let (_, _, same, (among, _)) = spot_found r sized moved s x h in
+  -- a section with a slot takes memory
+  pub slot_takes : (looked : ℕ) (moved : List ℕ) → do_move r looked moved ≡ true → (i : ℕ) (s : SizedSection)
+      → slice_get (sized_sections r) i ≡ Some s → (x : Slot) → slot_of r moved s ≡ Some x → takes_memory s.kept.section ≡ true
+  slot_takes looked moved move i s at x h =
+      let (_, _, same, (among, _)) = slot_found r sized moved s x h in
       moved_takes looked moved move i s at (ap (is_one_of moved) (sym (eqb-true x.position s.kept.position same)) ∙ among)

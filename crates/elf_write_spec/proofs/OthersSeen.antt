@@ -23,8 +23,8 @@ use Rattle.elf_format.specs.Views.{byte_at}
 use Rattle.elf_format.proofs.Placed.{held_ranges_are_seen}
 use Rattle.elf_tables.specs.Spelled.{spelled_file_header, spelled_section_header, spelled_segment_header}
 use Rattle.elf_layout_plan.specs.FilePlaced.{written_headers, written_size, written_table}
-use Rattle.elf_layout_plan.specs.Follow.{is_loaded_section}
-use Rattle.elf_layout_plan.specs.Kept.{KeptSection, kept_sections, place_at_read}
+use Rattle.elf_layout_plan.specs.Anchors.{is_loaded_section}
+use Rattle.elf_image.specs.Kept.{KeptSection, kept_sections, place_at_read}
 use Rattle.elf_layout_plan.specs.Memory.{Resized}
 use Rattle.elf_layout_plan.specs.Plan.{Layout, layout_for, resized}
 use Rattle.elf_layout_plan.specs.Written.{written_segments}

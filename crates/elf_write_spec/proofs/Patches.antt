@@ -19,7 +19,7 @@ use Rattle.elf_tables.proofs.FileHeaderBack.{file_headers_are_read_back}
 use Rattle.elf_tables.proofs.SectionHeaderBack.{section_headers_are_read_back}
 use Rattle.elf_tables.proofs.SegmentHeaderBack.{segment_headers_are_read_back}
 use Rattle.elf_layout_plan.specs.FilePlaced.{written_size, written_table}
-use Rattle.elf_layout_plan.specs.Kept.{KeptSection, kept_sections}
+use Rattle.elf_image.specs.Kept.{KeptSection, kept_sections}
 use Rattle.elf_layout_plan.specs.Memory.{Resized}
 use Rattle.elf_layout_plan.specs.Plan.{resized}
 use Rattle.elf_layout_plan.proofs.ApartBlocks.{all_apart_pairs}

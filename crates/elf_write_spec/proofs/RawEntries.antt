@@ -24,7 +24,7 @@ use Rattle.elf_format.specs.Rules.{data_of, raw_entries}
 use Rattle.elf_format.specs.Views.{section_memory}
 use Rattle.elf_image.specs.DynamicList.{IsListed}
 use Rattle.elf_image.specs.Edited as edited
-use Rattle.elf_layout_plan.specs.Kept.{image_at_read, interpreter_number, is_numbered}
+use Rattle.elf_image.specs.Kept.{image_at_read, interpreter_number, is_numbered}
 use Rattle.elf_layout_plan.specs.Memory.{Resized}
 use Rattle.elf_layout_plan.specs.Plan.{Layout, resized}
 use Rattle.elf_layout_plan.specs.Sizes.{dynamic_size, interpreter_size, new_size, table_size}

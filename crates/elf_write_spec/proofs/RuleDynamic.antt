@@ -19,12 +19,12 @@ use Rattle.elf_format.specs.Options.{are_both_or_neither, is_none_or}
 use Rattle.elf_format.specs.Places.{Place, is_set, occupies_memory}
 use Rattle.elf_format.specs.Rules.{dynamic_section_agrees, file_of, is_dynamic_section_right, is_interpreter_right}
 use Rattle.elf_format.specs.Views.{interpreter_section}
-use Rattle.elf_image.specs.Edited.{as_kept}
-use Rattle.elf_layout_plan.specs.Follow.{Itself, Leader, OneSection, is_loaded_section, leader_by_range, leader_of, led_by_section, section_or_table, section_under}
-use Rattle.elf_layout_plan.specs.Kept.{KeptSection, image_at_read, interpreter_number, is_numbered, kept_of_type, kept_sections, stands_as_interpreter}
+use Rattle.elf_image.specs.Edited.{kept_segment}
+use Rattle.elf_layout_plan.specs.Anchors.{Itself, Anchor, OneSection, is_loaded_section, anchor_by_range, anchor_of, anchor_or_itself, section_or_table, section_under}
+use Rattle.elf_image.specs.Kept.{KeptSection, image_at_read, interpreter_number, is_numbered, kept_of_type, kept_sections, stands_as_interpreter}
 use Rattle.elf_layout_plan.specs.Memory.{Resized}
 use Rattle.elf_layout_plan.specs.Plan.{resized}
-use Rattle.elf_layout_plan.specs.Written.{led_to, target_at}
+use Rattle.elf_layout_plan.specs.Written.{anchored_to, target_at}
 use Rattle.elf_layout_plan.proofs.ApartLists.{find-at, find-misses, each-at}
 use Rattle.elf_write_spec.specs.Again.{HasWrittenParts, written_parts}
 use Rattle.elf_write_spec.specs.Writing.{IsWholeWriting, Writing, written_bytes}
@@ -37,51 +37,51 @@ use Rattle.elf_write_spec.proofs.WrittenTypes.{ASegment, NoSegment, SegmentAt, a
 -- ## What a program header goes by
 
 module _ (r : Resized) (p : SegmentHeader) where
-  leader_by : ℕ → Leader
-  leader_by type =
+  anchor_by : ℕ → Anchor
+  anchor_by type =
       if type == PT_LOAD then Itself
       else if type == PT_PHDR then section_or_table (section_under r p)
-      else if type == PT_DYNAMIC then led_by_section (kept_of_type SHT_DYNAMIC r.image)
-      else if type == PT_INTERP then led_by_section (find (is_numbered (interpreter_number r.read)) (kept_sections r.image))
-      else leader_by_range r p
+      else if type == PT_DYNAMIC then anchor_or_itself (kept_of_type SHT_DYNAMIC r.image)
+      else if type == PT_INTERP then anchor_or_itself (find (is_numbered (interpreter_number r.read)) (kept_sections r.image))
+      else anchor_by_range r p
 
-  leader_is : leader_of r p ≡ leader_by p.p_type
-  unfolding leader_of leader_by
-  leader_is = refl
+  anchor_is : anchor_of r p ≡ anchor_by p.p_type
+  unfolding anchor_of anchor_by
+  anchor_is = refl
 
-  dynamic_leader : p.p_type ≡ PT_DYNAMIC → leader_of r p ≡ led_by_section (kept_of_type SHT_DYNAMIC r.image)
-  unfolding leader_by
-  dynamic_leader type = leader_is ∙ ap leader_by type
+  dynamic_anchor : p.p_type ≡ PT_DYNAMIC → anchor_of r p ≡ anchor_or_itself (kept_of_type SHT_DYNAMIC r.image)
+  unfolding anchor_by
+  dynamic_anchor type = anchor_is ∙ ap anchor_by type
 
-  interpreter_leader : p.p_type ≡ PT_INTERP
-      → leader_of r p ≡ led_by_section (find (is_numbered (interpreter_number r.read)) (kept_sections r.image))
-  unfolding leader_by
-  interpreter_leader type = leader_is ∙ ap leader_by type
+  interpreter_anchor : p.p_type ≡ PT_INTERP
+      → anchor_of r p ≡ anchor_or_itself (find (is_numbered (interpreter_number r.read)) (kept_sections r.image))
+  unfolding anchor_by
+  interpreter_anchor type = anchor_is ∙ ap anchor_by type
 
 first_typed : (type : ℕ) (ps : List SegmentHeader) (p : SegmentHeader) → segment_of_type type ps ≡ Some p → p.p_type ≡ type
 first_typed type ps p h = let (_, _, passes) = find-at (has_type type) ps p h in eqb-true p.p_type type passes
 
 -- where its section goes
 becomes_at : (w : Writing) (is : IsWholeWriting w) (f : ReadFacts w) (i : ℕ) (at : SectionAt w f.parts i) (p : SegmentHeader)
-    → leader_of (resized w.image) p ≡ OneSection (kept i at.section)
-    → becomes (resized w.image) is.planned.moved p ≡ led_to w.image.form p (target_at at.place)
-becomes_at w is f i at p leader =
-    becomes-section (resized w.image) is.planned.moved p (kept i at.section) at.place leader
+    → anchor_of (resized w.image) p ≡ OneSection (kept i at.section)
+    → becomes (resized w.image) is.planned.moved p ≡ anchored_to w.image.form p (target_at at.place)
+becomes_at w is f i at p anchor =
+    becomes-section (resized w.image) is.planned.moved p (kept i at.section) at.place anchor
     (ap (λ (l : List Place). slice_get l i) (sym (all_places_are w is)) ∙ at.is_place)
 
 address_by : SegmentHeader → Place → Bool → ℕ
 address_by p x b = elim (if b then Some x.sh_addr else None) as (λ _. ℕ) [ Some address ↦ address | None ↦ p.p_vaddr ]
 
-address_is : (form : Form) (p : SegmentHeader) (x : Place) → (led_to form p (target_at x)).p_vaddr ≡ address_by p x (occupies_memory x)
+address_is : (form : Form) (p : SegmentHeader) (x : Place) → (anchored_to form p (target_at x)).p_vaddr ≡ address_by p x (occupies_memory x)
 unfolding address_by
 address_is form p x = refl
 
 -- the address of a section in memory, or its own
-address_in : (form : Form) (p : SegmentHeader) (x : Place) → occupies_memory x ≡ true → (led_to form p (target_at x)).p_vaddr ≡ x.sh_addr
+address_in : (form : Form) (p : SegmentHeader) (x : Place) → occupies_memory x ≡ true → (anchored_to form p (target_at x)).p_vaddr ≡ x.sh_addr
 unfolding address_by
 address_in form p x takes = address_is form p x ∙ ap (address_by p x) takes
 
-address_out : (form : Form) (p : SegmentHeader) (x : Place) → occupies_memory x ≡ false → (led_to form p (target_at x)).p_vaddr ≡ p.p_vaddr
+address_out : (form : Form) (p : SegmentHeader) (x : Place) → occupies_memory x ≡ false → (anchored_to form p (target_at x)).p_vaddr ≡ p.p_vaddr
 unfolding address_by
 address_out form p x none = address_is form p x ∙ ap (address_by p x) none
 
@@ -94,9 +94,9 @@ both test o u o2 u2 e g = ap (λ v. are_both_or_neither test v u) e ∙ ap (are_
 dynamic_agrees : (w : Writing) → IsWholeWriting w → HasWrittenParts w → (f : ReadFacts w) (i : ℕ) (at : SectionAt w f.parts i)
     → at.old.sh_type ≡ SHT_DYNAMIC
     → is_allocated at.old ≡ true → (p : SegmentHeader)
-    → dynamic_section_agrees (written_parts w) (led_to w.image.form p (target_at at.place)) at.header ≡ true
+    → dynamic_section_agrees (written_parts w) (anchored_to w.image.form p (target_at at.place)) at.header ≡ true
 dynamic_agrees w is has f i at type allocated p =
-    let q : SegmentHeader = led_to w.image.form p (target_at at.place) in
+    let q : SegmentHeader = anchored_to w.image.form p (target_at at.place) in
     let file : List ℕ = written_bytes w in
     let here : List ℕ = section_bytes file at.header in
     let takes : occupies_memory at.place ≡ true = ap (λ n. is_set SHF_ALLOC n) at.place_flags ∙ allocated in
@@ -139,11 +139,11 @@ dynamic_by w is has f (ASegment old p is_old is_p like now) (There i at type at_
     let allocated : is_allocated at.old ≡ true =
     (and_parts (old.p_offset == at.old.sh_offset && old.p_vaddr == at.old.sh_addr) (is_allocated at.old)
     (and_parts (old.p_offset == at.old.sh_offset && old.p_vaddr == at.old.sh_addr && is_allocated at.old) ends agreed).0).1 in
-    let leader : leader_of (resized w.image) p ≡ OneSection (kept i at.section) =
-    dynamic_leader (resized w.image) p (first_typed PT_DYNAMIC w.image.segments p is_p) ∙ ap led_by_section at_kept in
-    let goes = becomes_at w is f i at p leader in
+    let anchor : anchor_of (resized w.image) p ≡ OneSection (kept i at.section) =
+    dynamic_anchor (resized w.image) p (first_typed PT_DYNAMIC w.image.segments p is_p) ∙ ap anchor_or_itself at_kept in
+    let goes = becomes_at w is f i at p anchor in
     both (dynamic_section_agrees (written_parts w)) (segment_of_type PT_DYNAMIC w.plan.segments) (section_of_type SHT_DYNAMIC w.headers)
-    (Some (led_to w.image.form p (target_at at.place))) (Some at.header)
+    (Some (anchored_to w.image.form p (target_at at.place))) (Some at.header)
     (now ∙ ap (λ (q : SegmentHeader). Some q) goes) at_header
     ∙ dynamic_agrees w is has f i at type allocated p
 
@@ -254,17 +254,17 @@ module _ (w : Writing) (is : IsWholeWriting w) (f : ReadFacts w) where
   -- PT_INTERP goes by it
   goes_by : (n : ℕ) (at : SectionAt w f.parts n) (p : SegmentHeader) → interpreter_number (image_at_read w.image) ≡ Some n
       → p.p_type ≡ PT_INTERP
-      → leader_of (resized w.image) p ≡ OneSection (kept n at.section)
+      → anchor_of (resized w.image) p ≡ OneSection (kept n at.section)
   goes_by n at p number type =
-      interpreter_leader (resized w.image) p type
-      ∙ ap led_by_section (ap (λ o. find (is_numbered o) (kept_sections w.image)) number
+      interpreter_anchor (resized w.image) p type
+      ∙ ap anchor_or_itself (ap (λ o. find (is_numbered o) (kept_sections w.image)) number
       ∙ find-same (is_numbered (Some n)) (λ s. s.number == n) (λ s. swap n s.number) (kept_sections w.image)
       ∙ kept_is w is n ∙ ap (option_map (kept n)) at.is_section)
 
   -- its section's header stands where that says
-  header_stands : (n : ℕ) (at : SectionAt w f.parts n) (old p : SegmentHeader) → p ≡ as_kept w.image.page_size p.p_flags old
+  header_stands : (n : ℕ) (at : SectionAt w f.parts n) (old p : SegmentHeader) → p ≡ kept_segment w.image.page_size p.p_flags old
       → stands_as_interpreter old at.section ≡ true
-      → Stands at.header.sh_type at.header.sh_offset at.header.sh_addr at.header.sh_size (led_to w.image.form p (target_at at.place))
+      → Stands at.header.sh_type at.header.sh_offset at.header.sh_addr at.header.sh_size (anchored_to w.image.form p (target_at at.place))
   header_stands n at old p like h = record {
     is_type = at.type ∙ ap (λ (s : ImageSection). s.sh_type) (sym at.of_old.fields) ∙ was.is_type;
     is_offset = at.offset;
@@ -279,7 +279,7 @@ module _ (w : Writing) (is : IsWholeWriting w) (f : ReadFacts w) where
       flags : at.section.sh_flags ≡ at.place.sh_flags
       flags = ap (λ (s : ImageSection). s.sh_flags) at.of_old.fields ∙ sym at.place_flags
 
-      by_memory : (b : Bool) → occupies_memory at.place ≡ b → at.place.sh_addr ≡ (led_to w.image.form p (target_at at.place)).p_vaddr
+      by_memory : (b : Bool) → occupies_memory at.place ≡ b → at.place.sh_addr ≡ (anchored_to w.image.form p (target_at at.place)).p_vaddr
       by_memory true takes = sym (address_in w.image.form p at.place takes)
       by_memory false none =
           let unloaded : is_loaded_section at.section ≡ false = ap (is_set SHF_ALLOC) flags ∙ none in
@@ -298,7 +298,7 @@ module _ (w : Writing) (is : IsWholeWriting w) (f : ReadFacts w) where
       let at = found.at in
       let same : found.segment ≡ old = same_Some found.segment old (sym found.is_segment ∙ is_old) in
       let stands : stands_as_interpreter old at.section ≡ true = ap (λ q. stands_as_interpreter q at.section) (sym same) ∙ found.stands in
-      let q : SegmentHeader = led_to w.image.form p (target_at at.place) in
+      let q : SegmentHeader = anchored_to w.image.form p (target_at at.place) in
       let goes = becomes_at w is f n at p (goes_by n at p number (first_typed PT_INTERP w.image.segments p is_p)) in
       let written : segment_of_type PT_INTERP w.plan.segments ≡ Some q = now ∙ ap (λ (x : SegmentHeader). Some x) goes in
       ap (is_none_or (λ x. is_some (interpreter_section x w.headers))) written

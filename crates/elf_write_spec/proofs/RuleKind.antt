@@ -17,7 +17,7 @@ use Rattle.elf_format.specs.Records.{file_header_size, section_header, section_h
 use Rattle.elf_format.specs.Rules.{file_of, is_file_kind, is_symbol_table, names_are_texts, no_extended_numbers}
 use Rattle.elf_format.specs.Views.{NamedSymbol}
 use Rattle.elf_image.specs.ReadImage.{AreDynamicSymbols}
-use Rattle.elf_layout_plan.specs.Kept.{image_at_read}
+use Rattle.elf_image.specs.Kept.{image_at_read}
 use Rattle.elf_layout_plan.specs.Memory.{Resized}
 use Rattle.elf_layout_plan.specs.Plan.{Layout, does_place_fit, does_plan_fit, does_segment_fit, layout_for, resized}
 use Rattle.elf_layout_plan.specs.Sizes.{fits_field}

@@ -21,7 +21,7 @@ use Rattle.elf_format.specs.Rules.{are_dynamic_tables_right, dynamic_tables_agre
 use Rattle.elf_image.specs.DynamicList.{IsListed, is_table_tag, tables_of}
 use Rattle.elf_image.specs.Edited as edited
 use Rattle.elf_image.proofs.EditedLaws.{read_is_edited}
-use Rattle.elf_layout_plan.specs.Kept.{KeptSection, dynamic_strings_number, image_at_read, kept_at_number, kept_of_type, link_of_type}
+use Rattle.elf_image.specs.Kept.{KeptSection, dynamic_strings_number, image_at_read, kept_at_number, kept_of_type, link_of_type}
 use Rattle.elf_layout_plan.specs.Memory.{Resized}
 use Rattle.elf_layout_plan.specs.Plan.{resized}
 use Rattle.elf_layout_plan.proofs.PlacedRead.{at_read}

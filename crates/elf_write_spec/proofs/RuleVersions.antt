@@ -20,7 +20,7 @@ use Rattle.elf_format.specs.Rules.{are_dynamic_strings_own, are_versions_right, 
 use Rattle.elf_format.specs.Versions.{DefinitionNumbers, NeedNumbers, VersionDefinition, VersionName, VersionNeeds, is_whole_walk, shown_definition, shown_need, shown_need_name, values_of, version_id}
 use Rattle.elf_format.proofs.Placed.{IsIn-slice_get}
 use Rattle.elf_format.proofs.ViewsAgree.{length-bytes, test_at, there_and, version_symbols_right}
-use Rattle.elf_layout_plan.specs.Kept.{image_at_read}
+use Rattle.elf_image.specs.Kept.{image_at_read}
 use Rattle.elf_write_spec.specs.Again.{HasWrittenParts, written_parts}
 use Rattle.elf_write_spec.specs.Writing.{IsWholeWriting, Writing, written_bytes}
 use Rattle.elf_write_spec.proofs.ContentsAgain.{bytes_are, content_was, size_is, versym_content}

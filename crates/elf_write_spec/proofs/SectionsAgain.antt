@@ -17,7 +17,7 @@ use Rattle.elf_format.specs.Options.{each, is_one_of, kept_if, list_at}
 use Rattle.elf_format.specs.Records.{Relocation, relocations_in}
 use Rattle.elf_format.specs.Rules.{data_of, file_of, is_opaque_relocation, is_relocation_section, is_symbol_table, relocated_symbols, relocations_of}
 use Rattle.elf_image.specs.ReadImage.{section_with}
-use Rattle.elf_layout_plan.specs.Kept.{KeptSection}
+use Rattle.elf_image.specs.Kept.{KeptSection}
 use Rattle.elf_layout_plan.specs.Memory.{Resized}
 use Rattle.elf_layout_plan.specs.Plan.{Layout, resized}
 use Rattle.elf_write_spec.specs.Again.{HasWrittenParts, section_again, sections_again, written_parts}

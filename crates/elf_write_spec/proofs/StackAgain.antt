@@ -7,10 +7,10 @@ use Rattle.patch_bytes.specs.Memory.{◌>>=◌}
 use Rattle.elf_format.specs.declared.constants.TheConstants.{PT_GNU_STACK, PT_LOAD}
 use Rattle.elf_format.specs.declared.records.SegmentHeader.{SegmentHeader}
 use Rattle.elf_format.specs.File.{is_loaded, segment_of_type}
-use Rattle.elf_layout_plan.specs.Follow.{HeaderTable, Itself, Leader, Notes, OneSection, leader_of}
+use Rattle.elf_layout_plan.specs.Anchors.{HeaderTable, Itself, Anchor, Notes, OneSection, anchor_of}
 use Rattle.elf_layout_plan.specs.Memory.{Resized}
 use Rattle.elf_layout_plan.specs.Plan.{resized}
-use Rattle.elf_layout_plan.specs.Written.{Target, behind_last_load, led_to, resized_table, targets_of, with_table_size, written_from, written_segments}
+use Rattle.elf_layout_plan.specs.Written.{Target, behind_last_load, anchored_to, resized_table, targets_of, with_table_size, written_from, written_segments}
 use Rattle.elf_layout_plan.proofs.ApartLists.{Each}
 use Rattle.elf_layout_plan.proofs.ApartWritten.{added_headers, all_added_are_loaded}
 use Rattle.elf_write_spec.specs.Writing.{IsWholeWriting, Writing}
@@ -63,22 +63,22 @@ flags_like p q qs rest like all =
 -- ## Those that are written of one
 
 module _ (r : Resized) (moved : List ℕ) where
-  table_by : SegmentHeader → Leader → SegmentHeader
-  table_by p leader = elim leader [ HeaderTable ↦ with_table_size r moved p | _ ↦ p ]
+  table_by : SegmentHeader → Anchor → SegmentHeader
+  table_by p anchor = elim anchor [ HeaderTable ↦ with_table_size r moved p | _ ↦ p ]
 
-  table_like : (p : SegmentHeader) (leader : Leader) → IsLike p (table_by p leader)
+  table_like : (p : SegmentHeader) (anchor : Anchor) → IsLike p (table_by p anchor)
   unfolding table_by
   table_like p Itself = record { type = refl; flags = refl }
   table_like p HeaderTable = record { type = refl; flags = refl }
   table_like p (OneSection s) = record { type = refl; flags = refl }
   table_like p (Notes notes) = record { type = refl; flags = refl }
 
-  led_like : (p : SegmentHeader) (ts : List Target) → Each (IsLike p) (map (led_to r.image.form p) ts)
-  led_like p [] = tt
-  led_like p (t ∷ ts) = (record { type = refl; flags = refl }, led_like p ts)
+  anchored_like : (p : SegmentHeader) (ts : List Target) → Each (IsLike p) (map (anchored_to r.image.form p) ts)
+  anchored_like p [] = tt
+  anchored_like p (t ∷ ts) = (record { type = refl; flags = refl }, anchored_like p ts)
 
   written_by : SegmentHeader → List Target → List SegmentHeader
-  written_by p targets = elim targets [ [] ↦ resized_table r moved p ∷ [] | t ∷ ts ↦ map (led_to r.image.form p) (t ∷ ts) ]
+  written_by p targets = elim targets [ [] ↦ resized_table r moved p ∷ [] | t ∷ ts ↦ map (anchored_to r.image.form p) (t ∷ ts) ]
 
   written_is : (p : SegmentHeader) → written_from r moved p ≡ written_by p (targets_of r moved p)
   unfolding written_by
@@ -87,9 +87,9 @@ module _ (r : Resized) (moved : List ℕ) where
   flags_by_targets : (p : SegmentHeader) (rest : List SegmentHeader) (targets : List Target)
       → stack_flags (written_by p targets ++ rest) ≡ stack_flags (p ∷ rest)
   unfolding written_by table_by
-  flags_by_targets p rest [] = flags_like p (table_by p (leader_of r p)) [] rest (table_like p (leader_of r p)) tt
+  flags_by_targets p rest [] = flags_like p (table_by p (anchor_of r p)) [] rest (table_like p (anchor_of r p)) tt
   flags_by_targets p rest (t ∷ ts) =
-      flags_like p (led_to r.image.form p t) (map (led_to r.image.form p) ts) rest (record { type = refl; flags = refl }) (led_like p ts)
+      flags_like p (anchored_to r.image.form p t) (map (anchored_to r.image.form p) ts) rest (record { type = refl; flags = refl }) (anchored_like p ts)
 
   flags_of_one : (p : SegmentHeader) (rest : List SegmentHeader) → stack_flags (written_from r moved p ++ rest) ≡ stack_flags (p ∷ rest)
   flags_of_one p rest = ap (λ l. stack_flags (l ++ rest)) (written_is p) ∙ flags_by_targets p rest (targets_of r moved p)

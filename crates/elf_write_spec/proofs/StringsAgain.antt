@@ -23,7 +23,7 @@ use Rattle.elf_format.specs.Views.{first_by_tag, section_memory}
 use Rattle.elf_format.proofs.ViewsAgree.{agrees, test_at}
 use Rattle.elf_image.specs.DynamicList.{IsListed, is_number_tag, is_text_tag}
 use Rattle.elf_image.specs.Edited.{AreEntriesOf as AreEditedEntries}
-use Rattle.elf_layout_plan.specs.Kept.{KeptSection, dynamic_strings_number, image_at_read, kept_at_number, link_of_type}
+use Rattle.elf_image.specs.Kept.{KeptSection, dynamic_strings_number, image_at_read, kept_at_number, link_of_type}
 use Rattle.elf_layout_plan.specs.Memory.{Resized}
 use Rattle.elf_layout_plan.specs.Plan.{Layout, resized}
 use Rattle.elf_write_spec.specs.Again.{HasWrittenParts, written_parts}

@@ -17,8 +17,8 @@ use Rattle.elf_format.specs.Records.{symbols_in}
 use Rattle.elf_format.specs.Rules.{file_of, text_users, texts_of}
 use Rattle.elf_format.specs.Views.{NamedSymbol, named_symbols, names_of}
 use Rattle.elf_image.specs.ReadImage.{AreStaticSymbols, AreSymbolsOf, IsSymbolOf}
-use Rattle.elf_image_symbols.specs.SymbolsShown.{kept_as}
-use Rattle.elf_layout_plan.specs.Kept.{image_at_read}
+use Rattle.elf_image_symbols.specs.TableSymbols.{kept_as}
+use Rattle.elf_image.specs.Kept.{image_at_read}
 use Rattle.elf_write_spec.specs.Again.{HasWrittenParts, written_parts}
 use Rattle.elf_write_spec.specs.Writing.{IsWholeWriting, Writing, written_bytes}
 use Rattle.elf_write_spec.proofs.ContentsAgain.{Linked, bytes_are, content_was, linked_at, strings_content, symbols_content, texts_are, texts_fit}

@@ -16,7 +16,7 @@ use Rattle.elf_format.specs.Versions.{VersionDefinition, VersionNeeds}
 use Rattle.elf_format.specs.Views.{NamedSymbol}
 use Rattle.elf_format.proofs.Placed.{IsIn-slice_get}
 use Rattle.elf_format.proofs.ViewsAgree.{test_at}
-use Rattle.elf_layout_plan.specs.Kept.{KeptSection, image_at_read, kept_from, kept_sections, link_of_type}
+use Rattle.elf_image.specs.Kept.{KeptSection, image_at_read, kept_from, kept_sections, link_of_type}
 use Rattle.elf_layout_plan.specs.Needs.{written_entries, written_needs}
 use Rattle.elf_layout_plan.specs.Texts.{if_linked, if_names, is_subsequence, is_table_copied, texts_in_use, texts_of_definitions, texts_of_entries, texts_of_needs, texts_of_symbols}
 use Rattle.elf_write_spec.specs.Writing.{IsWholeWriting, Writing}

@@ -8,18 +8,18 @@ use Rattle.elf_format.specs.File.{loads_of}
 use Rattle.elf_format.specs.Image.{Image, ImageSection}
 use Rattle.elf_format.specs.Options.{is_one_of, is_some_and}
 use Rattle.elf_format.specs.Places.{Place}
-use Rattle.elf_layout_plan.specs.Added.{Spot}
+use Rattle.elf_layout_plan.specs.Added.{Slot}
 use Rattle.elf_layout_plan.specs.Blocks.{Block, earlier_moves, has_cause, have_causes, is_block_of, later_moves, some_two, stay_apart}
-use Rattle.elf_layout_plan.specs.Follow.{is_loaded_section}
-use Rattle.elf_layout_plan.specs.Kept.{KeptSection, kept_sections}
+use Rattle.elf_layout_plan.specs.Anchors.{is_loaded_section}
+use Rattle.elf_image.specs.Kept.{KeptSection, kept_sections}
 use Rattle.elf_layout_plan.specs.Memory.{Resized, SizedSection, blocks_with, edge_blocks, header_blocks, is_uninitialized_of_threads, section_block, sized_sections, takes_memory}
 use Rattle.elf_format.specs.declared.constants.TheConstants.{SHT_NULL}
 use Rattle.elf_layout_plan.specs.Plan.{IsPlan, Layout, layout_for, resized}
 use Rattle.elf_layout_plan.specs.Rounds.{are_in_old_order, do_move, sections_at}
-use Rattle.elf_layout_plan.specs.Standing.{place_in, places, spot_of}
+use Rattle.elf_layout_plan.specs.Standing.{place_in, places, slot_of}
 use Rattle.elf_layout_plan.proofs.ApartFixed.{edges_no_section, headers_no_section, image_sized}
 use Rattle.elf_layout_plan.proofs.ApartLists.{Each, all-at, any-at, at-map, each-append, each-at, each-filter, each-from, each-map, each-more}
-use Rattle.elf_layout_plan.proofs.ApartPlaces.{keeps_address, spot_found}
+use Rattle.elf_layout_plan.proofs.ApartPlaces.{keeps_address, slot_found}
 use Rattle.elf_layout_plan.proofs.ApartSections.{at-sized, kept-at, sized-at, sized_of}
 
 -- where two are found, one of them has what the test tells of each two
@@ -101,11 +101,11 @@ module _ (r : Resized) (sized : sized_sections r ≡ map (sized_of r) (kept_sect
       (λ b. is_block_of s.position b ≡ true)
       (cause_of s.position) (blocks_with r looked) (no_block looked) cause
 
-  stays_by : (looked : ℕ) (moved : List ℕ) → do_move r looked moved ≡ true → (o : Option Spot) → spot_of r moved (sized_of r s) ≡ o
+  stays_by : (looked : ℕ) (moved : List ℕ) → do_move r looked moved ≡ true → (o : Option Slot) → slot_of r moved (sized_of r s) ≡ o
       → (place_in r moved (sized_of r s)).sh_addr ≡ s.section.sh_addr
   stays_by looked moved move None e = keeps_address r moved (sized_of r s) e
   stays_by looked moved move (Some x) e =
-      let (_, _, same, (among, _)) = spot_found r sized moved (sized_of r s) x e in
+      let (_, _, same, (among, _)) = slot_found r sized moved (sized_of r s) x e in
       absurd (isnt_moved looked moved move (ap (is_one_of moved) (sym (eqb-true x.position s.position same)) ∙ among))
 
   stays : (looked : ℕ) (moved : List ℕ) → do_move r looked moved ≡ true → (x : Place) → slice_get (places r moved) s.position ≡ Some x
@@ -118,7 +118,7 @@ module _ (r : Resized) (sized : sized_sections r ≡ map (sized_of r) (kept_sect
       let placed : slice_get (places r moved) s.position ≡ Some (place_in r moved t) =
       at-map (place_in r moved) (sized_sections r) s.position t at_t in
       ap (λ (y : Place). y.sh_addr) (same_Some x (place_in r moved t) (sym there ∙ placed))
-      ∙ stays_by looked moved move (spot_of r moved t) refl
+      ∙ stays_by looked moved move (slot_of r moved t) refl
 
 pub unloaded_stays : (image : Image) (plan : Layout) → IsPlan (resized image) plan → (i : ℕ) (s : KeptSection)
     → slice_get (kept_sections image) i ≡ Some s

@@ -18,7 +18,7 @@ use Rattle.elf_format.specs.Views.{NamedSymbol}
 use Rattle.elf_image.specs.Edited.{IsEditOf}
 use Rattle.elf_image.specs.ReadImage.{HoldsParts, IsSectionOf}
 use Rattle.elf_image.proofs.ReadImageLaws.{read_images_hold_parts}
-use Rattle.elf_layout_plan.specs.Kept.{KeptSection, image_at_read, kept_at_number, kept_from, kept_of_type, kept_sections}
+use Rattle.elf_image.specs.Kept.{KeptSection, image_at_read, kept_at_number, kept_from, kept_of_type, kept_sections}
 use Rattle.elf_layout_plan.specs.Memory.{Resized, SizedSection, sized_sections}
 use Rattle.elf_layout_plan.specs.Plan.{Layout, layout_for, resized}
 use Rattle.elf_layout_plan.specs.Sizes.{new_size}

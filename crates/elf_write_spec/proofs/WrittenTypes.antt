@@ -10,14 +10,14 @@ use Rattle.elf_format.specs.declared.records.SegmentHeader.{SegmentHeader}
 use Rattle.elf_format.specs.File.{is_loaded, segment_of_type}
 use Rattle.elf_format.specs.Options.{is_one_of}
 use Rattle.elf_format.specs.Places.{Place}
-use Rattle.elf_image.specs.Edited.{AreKept, as_kept}
+use Rattle.elf_image.specs.Edited.{AreKept, kept_segment}
 use Rattle.elf_image.specs.Segments.{added_stack}
-use Rattle.elf_layout_plan.specs.Follow.{HeaderTable, Itself, Leader, Notes, OneSection, is_note_in, is_over_notes, leader_by_range, leader_of, led_by_section, notes_under, section_or_table, section_under, sharers}
-use Rattle.elf_layout_plan.specs.Kept.{KeptSection, image_at_read, interpreter_number, is_numbered, kept_of_type, kept_sections}
+use Rattle.elf_layout_plan.specs.Anchors.{HeaderTable, Itself, Anchor, Notes, OneSection, is_note_in, is_over_notes, anchor_by_range, anchor_of, anchor_or_itself, notes_under, section_or_table, section_under, sharers}
+use Rattle.elf_image.specs.Kept.{KeptSection, image_at_read, interpreter_number, is_numbered, kept_of_type, kept_sections}
 use Rattle.elf_layout_plan.specs.Memory.{Resized}
 use Rattle.elf_layout_plan.specs.Plan.{Layout, layout_for, resized}
 use Rattle.elf_layout_plan.specs.Standing.{places}
-use Rattle.elf_layout_plan.specs.Written.{Target, behind_last_load, led_to, places_of_kept, resized_table, target_at, targets_of, targets_of_notes, with_table_size, written_from, written_segments}
+use Rattle.elf_layout_plan.specs.Written.{Target, behind_last_load, anchored_to, places_of_kept, resized_table, target_at, targets_of, targets_of_notes, with_table_size, written_from, written_segments}
 use Rattle.elf_layout_plan.proofs.ApartLists.{Each}
 use Rattle.elf_layout_plan.proofs.ApartWritten.{added_headers, all_added_are_loaded, section_targets}
 use Rattle.elf_write_spec.specs.Whole.{AreAllKept}
@@ -33,13 +33,13 @@ has_type type p = p.p_type == type
 module _ (r : Resized) (moved : List ℕ) where
   -- the first of what is written of it: where it first goes, or it stays
   unfoldable pub becomes_by : SegmentHeader → List Target → SegmentHeader
-  becomes_by p targets = elim targets [ [] ↦ resized_table r moved p | t ∷ ts ↦ led_to r.image.form p t ]
+  becomes_by p targets = elim targets [ [] ↦ resized_table r moved p | t ∷ ts ↦ anchored_to r.image.form p t ]
 
   abbrev pub becomes : SegmentHeader → SegmentHeader
   becomes p = becomes_by p (targets_of r moved p)
 
-  table_type : (p : SegmentHeader) (leader : Leader) → (elim
-      leader as (λ _. SegmentHeader) [ HeaderTable ↦ with_table_size r moved p | _ ↦ p ]).p_type ≡ p.p_type
+  table_type : (p : SegmentHeader) (anchor : Anchor) → (elim
+      anchor as (λ _. SegmentHeader) [ HeaderTable ↦ with_table_size r moved p | _ ↦ p ]).p_type ≡ p.p_type
   table_type p Itself = refl
   table_type p HeaderTable = refl
   table_type p (OneSection s) = refl
@@ -51,34 +51,34 @@ module _ (r : Resized) (moved : List ℕ) where
   becomes-type p = by_targets (targets_of r moved p)
     where
       by_targets : (targets : List Target) → (becomes_by p targets).p_type ≡ p.p_type
-      by_targets [] = table_type p (leader_of r p)
+      by_targets [] = table_type p (anchor_of r p)
       by_targets (t ∷ ts) = refl
 
   -- a program header that goes by one section goes where that goes
-  pub becomes-section : (p : SegmentHeader) (s : KeptSection) (x : Place) → leader_of r p ≡ OneSection s
+  pub becomes-section : (p : SegmentHeader) (s : KeptSection) (x : Place) → anchor_of r p ≡ OneSection s
       → slice_get (places r moved) s.position ≡ Some x
-      → becomes p ≡ led_to r.image.form p (target_at x)
+      → becomes p ≡ anchored_to r.image.form p (target_at x)
   unfolding becomes_by
-  becomes-section p s x leader there = ap (becomes_by p) (section_targets r moved p s x leader there)
+  becomes-section p s x anchor there = ap (becomes_by p) (section_targets r moved p s x anchor there)
 
   module _ (type : ℕ) where
-    led-none : (p : SegmentHeader) (ts : List Target) (rest : List SegmentHeader) → has_type type p ≡ false
-        → find (has_type type) (map (led_to r.image.form p) ts ++ rest) ≡ find (has_type type) rest
-    led-none p [] rest h = refl
-    led-none p (t ∷ ts) rest h =
-        cond-false (has_type type p) (Some (led_to r.image.form p t)) (find (has_type type) (map (led_to r.image.form p) ts ++ rest)) h ∙ led-none p ts rest h
+    anchored-none : (p : SegmentHeader) (ts : List Target) (rest : List SegmentHeader) → has_type type p ≡ false
+        → find (has_type type) (map (anchored_to r.image.form p) ts ++ rest) ≡ find (has_type type) rest
+    anchored-none p [] rest h = refl
+    anchored-none p (t ∷ ts) rest h =
+        cond-false (has_type type p) (Some (anchored_to r.image.form p t)) (find (has_type type) (map (anchored_to r.image.form p) ts ++ rest)) h ∙ anchored-none p ts rest h
 
     find-one : (p : SegmentHeader) (targets : List Target) (rest : List SegmentHeader) (b : Bool) → has_type type p ≡ b
         → find (has_type type) ((elim targets as
-        (λ _. List SegmentHeader) [ [] ↦ resized_table r moved p ∷ [] | t ∷ ts ↦ map (led_to r.image.form p) (t ∷ ts) ]) ++ rest)
+        (λ _. List SegmentHeader) [ [] ↦ resized_table r moved p ∷ [] | t ∷ ts ↦ map (anchored_to r.image.form p) (t ∷ ts) ]) ++ rest)
         ≡ cond b (Some (becomes_by p targets)) (find (has_type type) rest)
     unfolding becomes_by
     find-one p [] rest b h =
         let q : SegmentHeader = resized_table r moved p in
-        let same : has_type type q ≡ b = ap (λ n. n == type) (table_type p (leader_of r p)) ∙ h in
+        let same : has_type type q ≡ b = ap (λ n. n == type) (table_type p (anchor_of r p)) ∙ h in
         ap (λ c. cond c (Some q) (find (has_type type) rest)) same
-    find-one p (t ∷ ts) rest true h = ap (λ c. cond c (Some (led_to r.image.form p t)) (find (has_type type) (map (led_to r.image.form p) ts ++ rest))) h
-    find-one p (t ∷ ts) rest false h = led-none p (t ∷ ts) rest h
+    find-one p (t ∷ ts) rest true h = ap (λ c. cond c (Some (anchored_to r.image.form p t)) (find (has_type type) (map (anchored_to r.image.form p) ts ++ rest))) h
+    find-one p (t ∷ ts) rest false h = anchored-none p (t ∷ ts) rest h
 
     find-all : (ps : List SegmentHeader) → find (has_type type) (flat_map (written_from r moved) ps)
         ≡ option_map becomes (find (has_type type) ps)
@@ -125,17 +125,17 @@ module _ (type : ℕ) (other : (PT_LOAD == type) ≡ false) where
 
 -- ## How many there are of a type
 
--- the leader is none or one
-IsSingle : Leader → Type 0
+-- the anchor is none or one
+IsSingle : Anchor → Type 0
 IsSingle Itself = Unit {0}
 IsSingle HeaderTable = Unit {0}
 IsSingle (OneSection s) = Unit {0}
 IsSingle (Notes notes) = ⊥
 
-led-single : (o : Option KeptSection) → IsSingle (led_by_section o)
+anchored-single : (o : Option KeptSection) → IsSingle (anchor_or_itself o)
 unfolding IsSingle
-led-single None = tt
-led-single (Some s) = tt
+anchored-single None = tt
+anchored-single (Some s) = tt
 
 table-single : (o : Option KeptSection) → IsSingle (section_or_table o)
 unfolding IsSingle
@@ -144,45 +144,45 @@ table-single (Some s) = tt
 
 module _ (r : Resized) (moved : List ℕ) where
   -- only a program header for notes or properties goes by several sections
-  range-single : (p : SegmentHeader) → is_one_of (PT_NOTE ∷ PT_GNU_PROPERTY ∷ []) p.p_type ≡ false → IsSingle (leader_by_range r p)
+  range-single : (p : SegmentHeader) → is_one_of (PT_NOTE ∷ PT_GNU_PROPERTY ∷ []) p.p_type ≡ false → IsSingle (anchor_by_range r p)
   unfolding IsSingle
   range-single p other =
-      let over : Leader = if is_over_notes r p then Notes (notes_under r p) else led_by_section (section_under r p) in
+      let over : Anchor = if is_over_notes r p then Notes (notes_under r p) else anchor_or_itself (section_under r p) in
       cond_both (p.p_filesz == 0) Itself over IsSingle (λ _. tt) (λ _.
-      cond_both (is_over_notes r p) (Notes (notes_under r p)) (led_by_section (section_under r p)) IsSingle
+      cond_both (is_over_notes r p) (Notes (notes_under r p)) (anchor_or_itself (section_under r p)) IsSingle
       (λ notes. both_ways (is_one_of (PT_NOTE ∷ PT_GNU_PROPERTY ∷ []) p.p_type) other
       (and_parts (is_one_of (PT_NOTE ∷ PT_GNU_PROPERTY ∷ []) p.p_type) (nat_le 2 (length (sharers r p)))
       (and_parts (is_one_of (PT_NOTE ∷ PT_GNU_PROPERTY ∷ []) p.p_type && nat_le 2 (length (sharers r p))) (list_all (is_note_in p) (sharers r p)) notes).0).0)
-      (λ _. led-single (section_under r p)))
+      (λ _. anchored-single (section_under r p)))
 
-  leader-single : (p : SegmentHeader) → is_one_of (PT_NOTE ∷ PT_GNU_PROPERTY ∷ []) p.p_type ≡ false → IsSingle (leader_of r p)
-  unfolding leader_of IsSingle
-  leader-single p other =
-      let list : Leader = led_by_section (kept_of_type SHT_DYNAMIC r.image) in
-      let name : Leader = led_by_section (find (is_numbered (interpreter_number r.read)) (kept_sections r.image)) in
-      let a : Leader = if p.p_type == PT_INTERP then name else leader_by_range r p in
-      let b : Leader = if p.p_type == PT_DYNAMIC then list else a in
-      let table : Leader = section_or_table (section_under r p) in
-      let c : Leader = if p.p_type == PT_PHDR then table else b in
+  anchor-single : (p : SegmentHeader) → is_one_of (PT_NOTE ∷ PT_GNU_PROPERTY ∷ []) p.p_type ≡ false → IsSingle (anchor_of r p)
+  unfolding anchor_of IsSingle
+  anchor-single p other =
+      let list : Anchor = anchor_or_itself (kept_of_type SHT_DYNAMIC r.image) in
+      let name : Anchor = anchor_or_itself (find (is_numbered (interpreter_number r.read)) (kept_sections r.image)) in
+      let a : Anchor = if p.p_type == PT_INTERP then name else anchor_by_range r p in
+      let b : Anchor = if p.p_type == PT_DYNAMIC then list else a in
+      let table : Anchor = section_or_table (section_under r p) in
+      let c : Anchor = if p.p_type == PT_PHDR then table else b in
       cond_both (p.p_type == PT_LOAD) Itself c IsSingle (λ _. tt) (λ _.
       cond_both (p.p_type == PT_PHDR) table b IsSingle (λ _. table-single (section_under r p)) (λ _.
-      cond_both (p.p_type == PT_DYNAMIC) list a IsSingle (λ _. led-single (kept_of_type SHT_DYNAMIC r.image)) (λ _.
-      cond_both (p.p_type == PT_INTERP) name (leader_by_range r p) IsSingle
-      (λ _. led-single (find (is_numbered (interpreter_number r.read)) (kept_sections r.image))) (λ _. range-single p other))))
+      cond_both (p.p_type == PT_DYNAMIC) list a IsSingle (λ _. anchored-single (kept_of_type SHT_DYNAMIC r.image)) (λ _.
+      cond_both (p.p_type == PT_INTERP) name (anchor_by_range r p) IsSingle
+      (λ _. anchored-single (find (is_numbered (interpreter_number r.read)) (kept_sections r.image))) (λ _. range-single p other))))
 
-  targets_by : Leader → List Target
-  targets_by leader = elim leader [
+  targets_by : Anchor → List Target
+  targets_by anchor = elim anchor [
     | Itself ↦ []
     | HeaderTable ↦ []
     | OneSection s ↦ map target_at (places_of_kept (places r moved) (s ∷ []))
     | Notes notes ↦ targets_of_notes moved (places r moved) notes
   ]
 
-  targets-are : (p : SegmentHeader) → targets_of r moved p ≡ targets_by (leader_of r p)
+  targets-are : (p : SegmentHeader) → targets_of r moved p ≡ targets_by (anchor_of r p)
   unfolding targets_of targets_by
   targets-are p = refl
 
-  single-by : (leader : Leader) → IsSingle leader → length (targets_by leader) ≤ 1
+  single-by : (anchor : Anchor) → IsSingle anchor → length (targets_by anchor) ≤ 1
   unfolding IsSingle targets_by
   single-by Itself h = omega arith
   single-by HeaderTable h = omega arith
@@ -194,7 +194,7 @@ module _ (r : Resized) (moved : List ℕ) where
   single-by (Notes notes) h = absurd h
 
   one-by : (p : SegmentHeader) (targets : List Target) → length targets ≤ 1
-      → (elim targets as (λ _. List SegmentHeader) [ [] ↦ resized_table r moved p ∷ [] | t ∷ ts ↦ map (led_to r.image.form p) (t ∷ ts) ]) ≡ becomes_by r moved p targets ∷ []
+      → (elim targets as (λ _. List SegmentHeader) [ [] ↦ resized_table r moved p ∷ [] | t ∷ ts ↦ map (anchored_to r.image.form p) (t ∷ ts) ]) ≡ becomes_by r moved p targets ∷ []
   unfolding becomes_by
   one-by p [] h = refl
   one-by p (t ∷ []) h = refl
@@ -204,7 +204,7 @@ module _ (r : Resized) (moved : List ℕ) where
   pub one_written : (p : SegmentHeader) → is_one_of (PT_NOTE ∷ PT_GNU_PROPERTY ∷ []) p.p_type ≡ false → written_from r moved p ≡ becomes r moved p ∷ []
   one_written p other =
       one-by p (targets_of r moved p)
-      (subst (λ (ts : List Target). length ts ≤ 1) (sym (targets-are p)) (single-by (leader_of r p) (leader-single p other)))
+      (subst (λ (ts : List Target). length ts ≤ 1) (sym (targets-are p)) (single-by (anchor_of r p) (anchor-single p other)))
 
 -- ## Those that were read
 
@@ -212,7 +212,7 @@ module _ (r : Resized) (moved : List ℕ) where
 pub data Found (page_size : Option ℕ) (olds news : List SegmentHeader) (type : ℕ) : Type 0 where
   Neither : segment_of_type type olds ≡ None → segment_of_type type news ≡ None → Found page_size olds news type
   Both : (old p : SegmentHeader) → segment_of_type type olds ≡ Some old → segment_of_type type news ≡ Some p
-      → p ≡ as_kept page_size p.p_flags old
+      → p ≡ kept_segment page_size p.p_flags old
       → Found page_size olds news type
 
 kept-short : (page_size : Option ℕ) (olds news : List SegmentHeader) → AreKept page_size olds news → length news ≤ length olds
@@ -223,7 +223,7 @@ kept-short page_size (old ∷ olds) (p ∷ ps) (inl (_, rest)) = omega (arith, k
 kept-short page_size (old ∷ olds) (p ∷ ps) (inr (_, rest)) = omega (arith, kept-short page_size olds (p ∷ ps) rest)
 
 found-next : (page_size : Option ℕ) (old p : SegmentHeader) (olds news : List SegmentHeader) (type : ℕ)
-    → p ≡ as_kept page_size p.p_flags old
+    → p ≡ kept_segment page_size p.p_flags old
     → Found page_size olds news type → (b : Bool) → has_type type old ≡ b → Found page_size (old ∷ olds) (p ∷ news) type
 found-next page_size old p olds news type same rest true h =
     let also : has_type type p ≡ true = ap (has_type type) same ∙ h in
@@ -278,7 +278,7 @@ pub data SegmentAt (w : Writing) (is : IsWholeWriting w) (f : ReadFacts w) (type
       → segment_of_type type w.plan.segments ≡ None
       → SegmentAt w is f type
   ASegment : (old p : SegmentHeader) → segment_of_type type f.parts.segments ≡ Some old → segment_of_type type w.image.segments ≡ Some p
-      → p ≡ as_kept w.image.page_size p.p_flags old
+      → p ≡ kept_segment w.image.page_size p.p_flags old
       → segment_of_type type w.plan.segments ≡ Some (becomes (resized w.image) is.planned.moved p)
       → SegmentAt w is f type
 

@@ -6,7 +6,7 @@ use Rattle.elf_format.specs.declared.records.SectionHeader.{SectionHeader}
 use Rattle.elf_format.specs.File.{Parts, section_bytes}
 use Rattle.elf_format.specs.Image.{Image, ImageSection, image_of}
 use Rattle.elf_format.specs.Rules.{ArePartsOf, has_magic}
-use Rattle.elf_layout_plan.specs.Kept.{image_at_read}
+use Rattle.elf_image.specs.Kept.{image_at_read}
 use Rattle.elf_write_spec.specs.Final.{final, new_number}
 use Rattle.elf_write_spec.specs.Headers.{written_header}
 use Rattle.elf_write_spec.specs.Writing.{Writing, written_bytes}

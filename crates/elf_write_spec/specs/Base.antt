@@ -9,8 +9,8 @@ use Rattle.elf_format.specs.Places.{file_range, occupies_file}
 use Rattle.elf_format.specs.Placement.{file_part}
 use Rattle.elf_format.specs.Ranges.{end_of, range}
 use Rattle.elf_format.specs.Records.{file_header_size}
-use Rattle.elf_layout_plan.specs.Follow.{is_loaded_section}
-use Rattle.elf_layout_plan.specs.Kept.{KeptSection, interpreter_number, is_numbered, kept_sections, place_at_read}
+use Rattle.elf_layout_plan.specs.Anchors.{is_loaded_section}
+use Rattle.elf_image.specs.Kept.{KeptSection, interpreter_number, is_numbered, kept_sections, place_at_read}
 use Rattle.elf_layout_plan.specs.Memory.{Resized, table_at_read}
 
 abbrev pub is_opaque : SectionData → Bool

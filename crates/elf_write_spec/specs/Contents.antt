@@ -14,7 +14,7 @@ use Rattle.elf_format.specs.Places.{Place}
 use Rattle.elf_format.specs.Records.{entry_size, symbol_size, symbols_in}
 use Rattle.elf_format.specs.Views.{NamedSymbol, Table, defined_versions, needed_versions}
 use Rattle.elf_tables.specs.Spelled.{spelled_entry}
-use Rattle.elf_layout_plan.specs.Kept.{KeptSection, dynamic_strings_number, kept_at_number, kept_of_type}
+use Rattle.elf_image.specs.Kept.{KeptSection, dynamic_strings_number, kept_at_number, kept_of_type}
 use Rattle.elf_layout_plan.specs.Memory.{Resized}
 use Rattle.elf_layout_plan.specs.Plan.{Layout}
 use Rattle.elf_layout_plan.specs.Texts.{is_table_copied}

@@ -7,7 +7,7 @@ use Rattle.elf_format.specs.declared.constants.TheConstants.{SHN_LORESERVE, SHT_
 use Rattle.elf_format.specs.Hashes.{gnu_hash, gnu_header}
 use Rattle.elf_format.specs.Image.{Image, counted, shown}
 use Rattle.elf_format.specs.Views.{NamedSymbol, View}
-use Rattle.elf_layout_plan.specs.Kept.{kept_at_number, kept_of_type}
+use Rattle.elf_image.specs.Kept.{kept_at_number, kept_of_type}
 use Rattle.elf_layout_plan.specs.Needs.{written_entries, written_needs}
 use Rattle.elf_layout_plan.specs.Sizes.{is_found}
 use Rattle.elf_layout_plan.specs.Texts.{are_names_changed}

@@ -8,7 +8,7 @@ use Rattle.elf_format.specs.Records.{section_header_size}
 use Rattle.elf_format.specs.Views.{dynamic_symbol_count, loader_view, section_view}
 use Rattle.elf_image.specs.Edited.{IsEdited}
 use Rattle.elf_layout_plan.specs.FilePlaced.{written_headers}
-use Rattle.elf_layout_plan.specs.Kept.{image_at_read}
+use Rattle.elf_image.specs.Kept.{image_at_read}
 use Rattle.elf_layout_plan.specs.Memory.{Resized}
 use Rattle.elf_layout_plan.specs.Plan.{IsPlan, Layout, resized}
 use Rattle.elf_write_spec.specs.Again.{HasWrittenParts, IsReadAgain}

@@ -13,7 +13,7 @@ use Rattle.elf_format.specs.Placement.{file_part}
 use Rattle.elf_format.specs.Places.{Place, file_range, occupies_file}
 use Rattle.elf_format.specs.Views.{byte_at}
 use Rattle.elf_layout_plan.specs.FilePlaced.{written_headers}
-use Rattle.elf_layout_plan.specs.Kept.{KeptSection, kept_of_type, kept_sections, place_at_read}
+use Rattle.elf_image.specs.Kept.{KeptSection, kept_of_type, kept_sections, place_at_read}
 use Rattle.elf_layout_plan.specs.Memory.{Resized}
 use Rattle.elf_layout_plan.specs.Plan.{Layout}
 use Rattle.elf_write_spec.specs.Base.{has_position, is_data, is_rewritten, old_places}

@@ -14,7 +14,7 @@ use Rattle.elf_tables.specs.Spelled.{entry_fields, file_header_fields, section_f
 use Rattle.elf_tables.specs.Spelled.{spelled_file_header, spelled_section_header, spelled_segment_header}
 use Rattle.elf_image.specs.Edited.{IsEdited}
 use Rattle.elf_layout_plan.specs.FilePlaced.{written_size, written_table}
-use Rattle.elf_layout_plan.specs.Kept.{KeptSection, image_at_read, kept_of_type, kept_sections}
+use Rattle.elf_image.specs.Kept.{KeptSection, image_at_read, kept_of_type, kept_sections}
 use Rattle.elf_layout_plan.specs.Memory.{Resized}
 use Rattle.elf_layout_plan.specs.Plan.{IsPlan, Layout, resized}
 use Rattle.elf_write_spec.specs.Base.{base, is_data}

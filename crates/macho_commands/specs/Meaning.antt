@@ -35,20 +35,20 @@ macho_lines = edit_line (codes "delete-rpath") (by_one remove_rpath)
 
 -- ---- what a value of the program stands for
 
-abbrev pub macho_shown : MachoCommand → MachoMeaning
-macho_shown (macho.DeleteRpath args) =
+abbrev pub macho_command_model : MachoCommand → MachoMeaning
+macho_command_model (macho.DeleteRpath args) =
     edit (remove_rpath (string_bytes args.rpath_to_remove)) (string_bytes args.path_to_binary)
-macho_shown (macho.ChangeRpath args) =
+macho_command_model (macho.ChangeRpath args) =
     edit (change_rpath (string_bytes args.old_rpath) (string_bytes args.new_rpath))
     (string_bytes args.path_to_binary)
-macho_shown (macho.AddRpath args) =
+macho_command_model (macho.AddRpath args) =
     edit (add_rpath (string_bytes args.new_rpath)) (string_bytes args.path_to_binary)
-macho_shown (macho.ChangeInstallName args) =
+macho_command_model (macho.ChangeInstallName args) =
     edit (change_install_name (string_bytes args.old_install_name)
     (string_bytes args.new_install_name)) (string_bytes args.path_to_binary)
-macho_shown (macho.ChangeInstallId args) =
+macho_command_model (macho.ChangeInstallId args) =
     edit (change_install_id (string_bytes args.new_install_id)) (string_bytes args.path_to_binary)
-macho_shown (macho.Apply args) =
+macho_command_model (macho.Apply args) =
     apply (string_bytes args.path_to_binary) (map string_bytes args.edits.items)
 
 -- the Mach-O file that is edited

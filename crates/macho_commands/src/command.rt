@@ -27,14 +27,14 @@ impl MachoCommand {
     ghost use Rattle.std.specs.Prelude.{◌≡◌, ◌∷◌, IfOk, map, option_map, string_bytes};
     ghost use Rattle.macho_edits.specs.Batch.{call_made};
     ghost use Rattle.macho_commands.specs.Edits.{edit_asked};
-    ghost use Rattle.macho_commands.specs.Meaning.{file_of, macho_lines, macho_shown};
-    ghost use Rattle.command_words.specs.Rows.{given_shown, meant_with, text, texts, words as words_given};
+    ghost use Rattle.macho_commands.specs.Meaning.{file_of, macho_lines, macho_command_model};
+    ghost use Rattle.command_words.specs.Rows.{given_model, meant_with, text, texts, words as words_given};
 
     /// The command of a name with its values; `None` where no command of that name takes such
     /// values.
     pub fn with_values(name: &str, values: Values) -> Option<MachoCommand>
-        ensures { option_map macho_shown result
-            ≡ meant_with macho_lines name.now (given_shown values) }
+        ensures { option_map macho_command_model result
+            ≡ meant_with macho_lines name.now (given_model values) }
     {
         match values {
             Values::Path(_) => None,
@@ -47,7 +47,7 @@ impl MachoCommand {
 
     /// The command of a name that takes a text and the path.
     fn with_text(name: &str, value: String, path_to_binary: String) -> Option<MachoCommand>
-        ensures { option_map macho_shown result ≡ meant_with macho_lines name.now
+        ensures { option_map macho_command_model result ≡ meant_with macho_lines name.now
             (text (string_bytes value) (string_bytes path_to_binary)) }
     {
         match name {
@@ -74,7 +74,7 @@ impl MachoCommand {
         new: String,
         path_to_binary: String,
     ) -> Option<MachoCommand>
-        ensures { option_map macho_shown result ≡ meant_with macho_lines name.now
+        ensures { option_map macho_command_model result ≡ meant_with macho_lines name.now
             (texts (string_bytes old) (string_bytes new) (string_bytes path_to_binary)) }
     {
         match name {
@@ -94,7 +94,7 @@ impl MachoCommand {
 
     /// The command of a name that takes the path and any number of words.
     fn with_words(name: &str, path_to_binary: String, words: Vec<String>) -> Option<MachoCommand>
-        ensures { option_map macho_shown result ≡ meant_with macho_lines name.now
+        ensures { option_map macho_command_model result ≡ meant_with macho_lines name.now
             (words_given (string_bytes path_to_binary) (map string_bytes words.items)) }
     {
         match name {
@@ -109,7 +109,7 @@ impl MachoCommand {
     /// The edit that the command asks for; `None` for `apply`, which asks for several.
     pub(crate) fn edit(&self, alloc: Global) -> Result<Option<MachoEdit>, AllocError>
         ensures { IfOk result (λ edit.
-            option_map call_made edit ≡ edit_asked (macho_shown self.now)) }
+            option_map call_made edit ≡ edit_asked (macho_command_model self.now)) }
     {
         match self {
             MachoCommand::DeleteRpath(args) => {
@@ -142,7 +142,7 @@ impl MachoCommand {
 
     /// The file that is edited.
     pub fn path_to_binary(&self) -> &str
-        ensures { result.now ≡ file_of (macho_shown self.now) }
+        ensures { result.now ≡ file_of (macho_command_model self.now) }
     {
         match self {
             MachoCommand::DeleteRpath(args) => args.path_to_binary.as_str(),

@@ -2,9 +2,9 @@
 ghost use Rattle.std.specs.Prelude.{◌≡◌, Ok, IfOk, IfErr, map, option_and_then, option_map};
 ghost use Rattle.macho_edits.specs.Batch.{call_made, calls_of};
 ghost use Rattle.command_words.specs.Groups.{TellsFault, TellsWrong};
-ghost use Rattle.command_words.specs.Rows.{given_without_path, kind_shown, meant_with};
+ghost use Rattle.command_words.specs.Rows.{given_without_path, kind_model, meant_with};
 ghost use Rattle.macho_commands.specs.Edits.{edit_asked, edits_of, macho_group_edit, one_edit};
-ghost use Rattle.macho_commands.specs.Meaning.{macho_lines, macho_shown};
+ghost use Rattle.macho_commands.specs.Meaning.{macho_lines, macho_command_model};
 
 use crate::command::MachoCommand;
 use crate::tables::macho_table;
@@ -58,9 +58,9 @@ fn command_without_path(
     form: &Form,
     words: &[&str],
 ) -> Result<Option<MachoCommand>, AllocError>
-    ensures { IfOk result (λ command. option_map macho_shown command
+    ensures { IfOk result (λ command. option_map macho_command_model command
         ≡ option_and_then (meant_with macho_lines name.now)
-        (given_without_path (kind_shown form.now) (map (λ w. w.now) words.now))) }
+        (given_without_path (kind_model form.now) (map (λ w. w.now) words.now))) }
 {
     match values_without_path(alloc, form, words)? {
         Some(values) => Ok(MachoCommand::with_values(name, values)),
@@ -71,9 +71,9 @@ fn command_without_path(
 /// The edit that a command asks for, as that of a group.
 fn edit_of(alloc: Global, group: usize, command: &MachoCommand) -> Result<MachoEdit, EditsError>
     ensures ok { IfOk result (λ edit.
-        one_edit (edit_asked (macho_shown command.now)) ≡ Ok (call_made edit)) }
+        one_edit (edit_asked (macho_command_model command.now)) ≡ Ok (call_made edit)) }
     ensures err { IfErr result (TellsWrong group
-        (one_edit (edit_asked (macho_shown command.now)))) }
+        (one_edit (edit_asked (macho_command_model command.now)))) }
 {
     match command.edit(alloc)? {
         Some(edit) => Ok(edit),

@@ -4,7 +4,7 @@ ghost use Rattle.macho_edits.specs.Batch.{calls_of};
 ghost use Rattle.macho_commands.specs.Engine.{AreAsked, MayFail, Outcome, ShowsEdited};
 ghost use Rattle.macho_commands.specs.Engine.{Tells, TellsAsked, Writes};
 ghost use Rattle.macho_commands.specs.Engine.{asked, outcome, refused_answer};
-ghost use Rattle.macho_commands.specs.Meaning.{file_of, macho_shown};
+ghost use Rattle.macho_commands.specs.Meaning.{file_of, macho_command_model};
 ghost use Rattle.macho_commands.specs.Stores.{FailsPatch, Patched, TellsPath};
 ghost use Rattle.command_faults.specs.declared.error.ArwenError.TheVariants.{Memory};
 
@@ -23,10 +23,10 @@ use std::rt::Files;
 /// `apply` the words are read before the bytes are looked at.
 pub fn run_macho(alloc: Global, bytes: &[u8], command: &MachoCommand) -> Result<Vec<u8>, ArwenError>
     ensures ok { IfOk result (λ new.
-        outcome (macho_shown command.now) bytes.now ≡ Outcome.bytes new.items) }
+        outcome (macho_command_model command.now) bytes.now ≡ Outcome.bytes new.items) }
     ensures shows { IfOk result (λ new.
-        ShowsEdited (asked (macho_shown command.now)) bytes.now new.items) }
-    ensures err { IfErr result (λ e. Tells (outcome (macho_shown command.now) bytes.now) e) }
+        ShowsEdited (asked (macho_command_model command.now)) bytes.now new.items) }
+    ensures err { IfErr result (λ e. Tells (outcome (macho_command_model command.now) bytes.now) e) }
 {
     let fronts = fronts_of(alloc, bytes, command)?;
     let mut new = Vec::from_slice(alloc, bytes)?;
@@ -37,8 +37,8 @@ pub fn run_macho(alloc: Global, bytes: &[u8], command: &MachoCommand) -> Result<
 /// What a command writes over the bytes of a file. Its edits are read before the bytes are looked at.
 fn fronts_of(alloc: Global, bytes: &[u8], command: &MachoCommand) -> Result<Vec<Front>, ArwenError>
     ensures ok { IfOk result (λ fronts.
-        Writes (macho_shown command.now) bytes.now fronts.items) }
-    ensures err { IfErr result (λ e. Tells (outcome (macho_shown command.now) bytes.now) e) }
+        Writes (macho_command_model command.now) bytes.now fronts.items) }
+    ensures err { IfErr result (λ e. Tells (outcome (macho_command_model command.now) bytes.now) e) }
 {
     let edits = edits_asked(alloc, command)?;
     let macho = MachoContainer::parse(alloc, bytes)?;
@@ -50,7 +50,7 @@ fn fronts_of(alloc: Global, bytes: &[u8], command: &MachoCommand) -> Result<Vec<
 
 /// A refused edit as it is answered to a command. Of several it is told which one is refused.
 fn refusal(command: &MachoCommand, error: MachoBatchError) -> ArwenError
-    ensures { result ≡ refused_answer (asked (macho_shown command.now)) error }
+    ensures { result ≡ refused_answer (asked (macho_command_model command.now)) error }
 {
     match command {
         MachoCommand::Apply(_) => ArwenError::from(error),
@@ -61,8 +61,8 @@ fn refusal(command: &MachoCommand, error: MachoBatchError) -> ArwenError
 /// The edits that a command asks for.
 fn edits_asked(alloc: Global, command: &MachoCommand) -> Result<Vec<MachoEdit>, ArwenError>
     ensures ok { IfOk result (λ edits.
-        AreAsked (asked (macho_shown command.now)) (calls_of edits.items)) }
-    ensures err { IfErr result (λ e. TellsAsked (asked (macho_shown command.now)) e) }
+        AreAsked (asked (macho_command_model command.now)) (calls_of edits.items)) }
+    ensures err { IfErr result (λ e. TellsAsked (asked (macho_command_model command.now)) e) }
 {
     if let MachoCommand::Apply(args) = command {
         let words = words_of(alloc, args.edits.as_slice())?;
@@ -94,10 +94,10 @@ pub fn patch_store<S: Store>(
     command: &MachoCommand,
 ) -> Result<(), ArwenError>
     ensures patched { OnOk result
-        (Patched (macho_shown command.now) (S.contents store.old) (S.contents store.new)) }
-    ensures err { IfErr result (λ e. MayFail (macho_shown command.now) e) }
+        (Patched (macho_command_model command.now) (S.contents store.old) (S.contents store.new)) }
+    ensures err { IfErr result (λ e. MayFail (macho_command_model command.now) e) }
     ensures left { IfErr result (λ e.
-        FailsPatch (macho_shown command.now) (S.contents store.old) (S.contents store.new) e) }
+        FailsPatch (macho_command_model command.now) (S.contents store.old) (S.contents store.new) e) }
 {
     let mut bytes = load_up_to(alloc, store, MOST_BYTES)?;
     let fronts = fronts_of(alloc, bytes.as_slice(), command)?;
@@ -112,12 +112,12 @@ pub fn patch_path<'p, O: Opens<'p>>(
     files: &O,
     command: &'p MachoCommand,
 ) -> Result<O::Opened, ArwenError>
-    ensures patched { IfOk result (λ store. Patched (macho_shown command.now)
-        (O.contents files.now (file_of (macho_shown command.now)))
+    ensures patched { IfOk result (λ store. Patched (macho_command_model command.now)
+        (O.contents files.now (file_of (macho_command_model command.now)))
         (O.Opened.contents store)) }
-    ensures err { IfErr result (λ e. MayFail (macho_shown command.now) e) }
-    ensures tells { IfErr result (λ e. TellsPath (macho_shown command.now)
-        (O.contents files.now (file_of (macho_shown command.now))) e) }
+    ensures err { IfErr result (λ e. MayFail (macho_command_model command.now) e) }
+    ensures tells { IfErr result (λ e. TellsPath (macho_command_model command.now)
+        (O.contents files.now (file_of (macho_command_model command.now))) e) }
 {
     let mut store = files.open(command.path_to_binary())?;
     patch_store(alloc, &mut store, command)?;
@@ -129,7 +129,7 @@ pub(crate) fn patch_file<R: Files + AllocGlobal>(
     rt: &R,
     command: &MachoCommand,
 ) -> Result<(), ArwenError>
-    ensures { IfErr result (λ e. MayFail (macho_shown command.now) e) }
+    ensures { IfErr result (λ e. MayFail (macho_command_model command.now) e) }
 {
     let files = RuntimeFiles { files: rt };
     patch_path(rt.alloc(), &files, command)?;
@@ -139,7 +139,7 @@ pub(crate) fn patch_file<R: Files + AllocGlobal>(
 /// Edits a Mach-O file in its place. Only bytes that change are written, and only after all of them
 /// exist, so a refused edit leaves the file as it was.
 pub fn macho_execute<R: Files + AllocGlobal>(rt: &R, macho: MachoCommand) -> Result<(), ArwenError>
-    ensures { IfErr result (λ e. MayFail (macho_shown macho) e) }
+    ensures { IfErr result (λ e. MayFail (macho_command_model macho) e) }
 {
     match macho {
         MachoCommand::DeleteRpath(args) => delete::execute(rt, args),

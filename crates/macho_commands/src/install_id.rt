@@ -1,7 +1,7 @@
 //! `change-install-id`.
 ghost use Rattle.std.specs.Prelude.{IfErr};
 ghost use Rattle.macho_commands.specs.Engine.{MayFail};
-ghost use Rattle.macho_commands.specs.Meaning.{macho_shown};
+ghost use Rattle.macho_commands.specs.Meaning.{macho_command_model};
 
 use crate::command::MachoCommand;
 use crate::engine::patch_file;
@@ -22,7 +22,7 @@ pub struct Args {
 
 /// Edits the file.
 pub fn execute<R: Files + AllocGlobal>(rt: &R, args: Args) -> Result<(), ArwenError>
-    ensures { IfErr result (λ e. MayFail (macho_shown (MachoCommand.ChangeInstallId args)) e) }
+    ensures { IfErr result (λ e. MayFail (macho_command_model (MachoCommand.ChangeInstallId args)) e) }
 {
     patch_file(rt, &MachoCommand::ChangeInstallId(args))
 }

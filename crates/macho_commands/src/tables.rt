@@ -1,6 +1,6 @@
 //! The commands for Mach-O files, as help shows them.
 ghost use Rattle.std.specs.Prelude.{◌≡◌, map};
-ghost use Rattle.command_words.specs.Rows.{named_of, row_shown};
+ghost use Rattle.command_words.specs.Rows.{named_of, row_model};
 ghost use Rattle.macho_commands.specs.Meaning.{macho_lines};
 
 use crate::{add, apply, change, delete, install_id, install_name};
@@ -96,7 +96,7 @@ pub static MACHO_ROWS: [Row; 6] = [
 
 /// The commands for Mach-O files, as a slice.
 pub fn macho_table() -> &'static [Row]
-    ensures { map row_shown result.now ≡ map named_of macho_lines }
+    ensures { map row_model result.now ≡ map named_of macho_lines }
 {
     MACHO_ROWS.as_slice()
 }

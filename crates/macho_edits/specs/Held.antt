@@ -12,12 +12,12 @@ pub record Held : Type 0 where
   pub is_edited : Bool
 
 -- the parsed file in it
-abbrev pub image_held : Held → Image
-image_held held = record { bytes = laid_bytes held.state; is_edited = held.is_edited }
+abbrev pub image_model : Held → Image
+image_model held = record { bytes = laid_bytes held.state; is_edited = held.is_edited }
 
 -- a file as it was parsed
-abbrev pub first_held : List ℕ → Held
-first_held old = record { state = first_state old; is_edited = false }
+abbrev pub held_at_read : List ℕ → Held
+held_at_read old = record { state = first_state old; is_edited = false }
 
 -- a cause is that of a refused step; want of memory is none
 abbrev pub RefusesStep : {X : Type 0} → Option Cause → Result X Refusal → Type 0

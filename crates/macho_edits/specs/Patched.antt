@@ -53,8 +53,8 @@ abbrev pub removed_command : Ctx → List ℕ → LoadCommand → List ℕ
 removed_command ctx buffer c = removed_bytes ctx buffer c.offset (variant_size c.command)
 
 -- the header that these bytes show
-abbrev pub header_shown : HeaderContainer → List ℕ → HeaderContainer
-header_shown header bytes = record header { inner = header_of header.ctx bytes }
+abbrev pub header_model : HeaderContainer → List ℕ → HeaderContainer
+header_model header bytes = record header { inner = header_of header.ctx bytes }
 
 -- bytes with both counts of the header written
 abbrev pub bytes_with_counts : ByteOrder2 → ℕ → ℕ → List ℕ → List ℕ

@@ -62,7 +62,7 @@ impl<T: Drop> From<AllocFailed<T>> for MachoBatchError {
 }
 
 // A text, of which a proof then knows that it is bytes.
-fn known(text: &str) -> &str
+fn known_text(text: &str) -> &str
     ensures value { result.now ≡ text.now }
     ensures bytes { AreBytes result.now }
 {
@@ -74,7 +74,7 @@ fn text(string: &String) -> &str
     ensures value { result.now ≡ string_bytes string.now }
     ensures bytes { AreBytes result.now }
 {
-    known(string.as_str())
+    known_text(string.as_str())
 }
 
 impl MachoEdit {

@@ -2,7 +2,7 @@ ghost use Rattle.std.specs.Prelude.{◌≡◌, ◌+◌, ◌^◌, ◌≤◌, ◌<
 ghost use Rattle.std.specs.Option.{option_map};
 ghost use Rattle.macho_image.specs.Command.{variant_size};
 ghost use Rattle.macho_image.specs.Form.{commands_end, header_of, header_size, ncmds_of, sizeofcmds_of};
-ghost use Rattle.macho_edits.specs.Patched.{InsertsAt, RemovesAt, bytes_with, bytes_without, bytes_with_counts, header_shown, id_in, ids_in, inserted_command, load_dylib_in, load_dylibs_in, removed_bytes, removed_command, rpath_in, rpaths_in};
+ghost use Rattle.macho_edits.specs.Patched.{InsertsAt, RemovesAt, bytes_with, bytes_without, bytes_with_counts, header_model, id_in, ids_in, inserted_command, load_dylib_in, load_dylibs_in, removed_bytes, removed_command, rpath_in, rpaths_in};
 
 use crate::error::MachoError;
 pub use crate::room::fits;
@@ -83,7 +83,7 @@ fn insert_in(
     requires count { ncmds_of header.old.ctx bytes.old + 1 < 2 ^ 32 }
     requires size { sizeofcmds_of header.old.ctx bytes.old + length command.now < 2 ^ 32 }
     ensures bytes { bytes.new ≡ inserted_command header.old.ctx bytes.old offset command.now }
-    ensures header { header.new ≡ header_shown header.old bytes.new }
+    ensures header { header.new ≡ header_model header.old bytes.new }
 {
     let held = header.inner;
     let end = header.size() + held.sizeofcmds as usize;
@@ -117,7 +117,7 @@ pub fn insert_command(
     ensures ok { IsOk result }
     ensures bytes { buffer.new.items
         ≡ inserted_command header.old.ctx buffer.old.items offset load_data.items }
-    ensures header { header.new ≡ header_shown header.old buffer.new.items }
+    ensures header { header.new ≡ header_model header.old buffer.new.items }
 {
     insert_in(buffer, header, offset, new_cmd_size, &load_data);
     Ok(())
@@ -129,7 +129,7 @@ fn remove_in(bytes: &mut [u8], header: &mut HeaderContainer, offset: usize, size
     requires place { RemovesAt header.old.ctx bytes.old offset size }
     requires some { 1 ≤ ncmds_of header.old.ctx bytes.old }
     ensures bytes { bytes.new ≡ removed_bytes header.old.ctx bytes.old offset size }
-    ensures header { header.new ≡ header_shown header.old bytes.new }
+    ensures header { header.new ≡ header_model header.old bytes.new }
 {
     let held = header.inner;
     let end = header.size() + held.sizeofcmds as usize;
@@ -159,7 +159,7 @@ pub fn remove_load_command(
     ensures ok { IsOk result }
     ensures bytes { buffer.new.items
         ≡ removed_command header.old.ctx buffer.old.items load_command.now }
-    ensures header { header.new ≡ header_shown header.old buffer.new.items }
+    ensures header { header.new ≡ header_model header.old buffer.new.items }
 {
     remove_in(
         buffer,

@@ -4,7 +4,7 @@ use Rattle.std.specs.List.{flat_map}
 use Rattle.std.specs.Option.{option_map, option_or, is_some}
 use Rattle.std.specs.declared.alloc.Global.{Global}
 use Rattle.std.specs.declared.vec.Vec.{Vec}
-use Rattle.patch_bytes.specs.ByteString.{bytes_shown}
+use Rattle.patch_bytes.specs.ByteString.{bytes_model}
 use Rattle.macho_image.specs.Stored.{Fits, IsStored}
 use Rattle.macho_image.specs.declared.format.Ctx.{Ctx}
 use Rattle.macho_image.specs.declared.image.MachO.TheInside.{Inside}
@@ -21,7 +21,7 @@ use Rattle.macho_image.proofs.FormLaws.{file_passes}
 use Rattle.macho_image.proofs.StoreLaws.{ctx_of-with_area, file_fault-with_area, first_content_of-with_area, header_of-with_area, load_commands_of-with_area}
 
 -- the copy that was prepared or the one that was there holds the file's bytes
-pub items-copy : (source : List ℕ) (edited copy : Option (Vec ℕ Global)) (bytes : Vec ℕ Global) → option_map (λ (v : Vec ℕ Global). v.items) copy ≡ copy_for (record { bytes = bytes_shown source edited; is_edited = is_some edited }) → option_or copy edited ≡ Some bytes → bytes.items ≡ bytes_shown source edited
+pub items-copy : (source : List ℕ) (edited copy : Option (Vec ℕ Global)) (bytes : Vec ℕ Global) → option_map (λ (v : Vec ℕ Global). v.items) copy ≡ copy_for (record { bytes = bytes_model source edited; is_edited = is_some edited }) → option_or copy edited ≡ Some bytes → bytes.items ≡ bytes_model source edited
 items-copy source None None bytes same taken = cc
 items-copy source (Some old) None bytes same taken = cc
 items-copy source None (Some copy) bytes same taken = cc

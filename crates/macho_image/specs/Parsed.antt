@@ -1,6 +1,6 @@
 -- What the fields of a parsed file are, as functions of its bytes.
 use Rattle.std.specs.Prelude.{◌≡◌, None, is_some}
-use Rattle.patch_bytes.specs.ByteString.{bytes_shown}
+use Rattle.patch_bytes.specs.ByteString.{bytes_model}
 use Rattle.macho_image.specs.declared.image.MachO.TheInside.{Inside}
 use Rattle.macho_image.specs.Checks.{file_fault}
 use Rattle.macho_image.specs.Commands.{first_content_of, load_commands_of}
@@ -9,7 +9,7 @@ use Rattle.macho_image.specs.Image.{Image}
 
 -- the bytes as they are now: the edited copy, or where there is none the bytes as read
 abbrev pub image_of : Inside → Image
-image_of m = record { bytes = bytes_shown m.source.bytes m.edited; is_edited = is_some m.edited }
+image_of m = record { bytes = bytes_model m.source.bytes m.edited; is_edited = is_some m.edited }
 
 -- no check of the bytes fails, and each kept field is what the bytes show
 pub record IsParsed (m : Inside) : Type 0 where

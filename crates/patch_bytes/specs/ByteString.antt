@@ -18,13 +18,13 @@ abbrev pub owned_string : List ℕ → StringValue
 owned_string bytes = record { bytes = bytes; is_owned = true }
 
 -- the copy, or where there is none the borrowed bytes
-abbrev pub bytes_shown : List ℕ → Option (Vec ℕ Global) → List ℕ
-bytes_shown source None = source
-bytes_shown source (Some copy) = copy.items
+abbrev pub bytes_model : List ℕ → Option (Vec ℕ Global) → List ℕ
+bytes_model source None = source
+bytes_model source (Some copy) = copy.items
 
 -- a string owns its copy alone
-abbrev pub string_shown : List ℕ → Option (Vec ℕ Global) → StringValue
-string_shown source copy = record { bytes = bytes_shown source copy; is_owned = is_some copy }
+abbrev pub string_model : List ℕ → Option (Vec ℕ Global) → StringValue
+string_model source copy = record { bytes = bytes_model source copy; is_owned = is_some copy }
 
 -- the bytes of each string
 abbrev pub bytes_of_each : List StringValue → List (List ℕ)

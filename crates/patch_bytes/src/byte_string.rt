@@ -11,11 +11,11 @@ pub struct ByteString<'data> {
 }
 
 impl<'data> Model for ByteString<'data> {
-    ghost use Rattle.patch_bytes.specs.ByteString.{StringValue, string_shown};
+    ghost use Rattle.patch_bytes.specs.ByteString.{StringValue, string_model};
 
     ghost Value = { StringValue };
 
-    ghost view = { λ s. string_shown s.source.now s.copy };
+    ghost view = { λ s. string_model s.source.now s.copy };
 }
 
 impl<'data> ByteString<'data> {

@@ -7,9 +7,9 @@ use elf_image::{
     Builder, Dynamic, ElfFault, Section, Segment, Symbol, Symbols, VersionDef, VersionId,
     VersionNeed, machine_of,
 };
-use test_elf_samples::{SMALL, TWIN, VERSIONED};
 use std::alloc::{AllocError, Global};
 use std::fmt::Write;
+use test_elf_samples::{SMALL, TWIN, VERSIONED};
 
 // The form of the file, and whether the image is as it was read.
 fn push_form(lines: &mut String, image: &Builder<'_>) -> Result<(), AllocError> {

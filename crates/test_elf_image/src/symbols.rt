@@ -5,10 +5,10 @@ use crate::support::{Runtime, same, same_text};
 use crate::texts::push_bytes;
 use elf_format::texts::text;
 use elf_image::{Builder, ElfFault, Form, Symbol, Symbols};
-use test_elf_samples::{LINKED, SMALL, TWIN, VERSIONED};
 use patch_bytes::{ByteOrder2, Wide};
 use std::alloc::{AllocError, Global};
 use std::fmt::Write;
+use test_elf_samples::{LINKED, SMALL, TWIN, VERSIONED};
 
 // A string table, behind whose last NUL two bytes stand.
 const TEXTS: &[u8] = b"\0main\0\0open\0xy";

@@ -7,7 +7,7 @@ use Rattle.elf_format.specs.declared.constants.TheConstants.{DT_SYMTAB, DT_VERDE
 use Rattle.elf_format.specs.Dynamic.{Entry, has_tag, shown_entry}
 use Rattle.elf_format.specs.declared.form.Form.{Form}
 use Rattle.elf_format.specs.declared.records.EntryNumbers.{EntryNumbers}
-use Rattle.elf_format.specs.Options.{each, where_asked}
+use Rattle.elf_format.specs.Options.{each, when_wanted}
 use Rattle.elf_format.specs.Answers.{Fails, chain}
 use Rattle.elf_format.specs.Versions.{DefinitionNumbers, NeedNumbers, VersionDefinition, VersionNeeds, definition_at, need_at, shown_definition, shown_need}
 use Rattle.elf_format.specs.Views.{NamedSymbol, Tables, View, defined_versions, dynamic_symbols, needed_versions, view_of}
@@ -78,13 +78,13 @@ module _ (form : Form) (room : ℕ) (outline : View) (raw : List EntryNumbers) (
   entries_part = each (shown_entry room tables.entry_texts) raw
 
   abbrev pub symbols_part : Option (Option (List NamedSymbol))
-  symbols_part = where_asked (has_tag DT_SYMTAB raw) (dynamic_symbols form room (has_tag DT_VERSYM raw) tables.symbols tables.versions)
+  symbols_part = when_wanted (has_tag DT_SYMTAB raw) (dynamic_symbols form room (has_tag DT_VERSYM raw) tables.symbols tables.versions)
 
   abbrev pub definitions_part : Option (Option (List VersionDefinition))
-  definitions_part = where_asked (has_tag DT_VERDEF raw && has_tag DT_VERDEFNUM raw) (defined_versions form room tables.definitions)
+  definitions_part = when_wanted (has_tag DT_VERDEF raw && has_tag DT_VERDEFNUM raw) (defined_versions form room tables.definitions)
 
   abbrev pub needs_part : Option (Option (List VersionNeeds))
-  needs_part = where_asked (has_tag DT_VERNEED raw && has_tag DT_VERNEEDNUM raw) (needed_versions form room tables.needs)
+  needs_part = when_wanted (has_tag DT_VERNEED raw && has_tag DT_VERNEEDNUM raw) (needed_versions form room tables.needs)
 
   made : List Entry → Option (List NamedSymbol) → Option (List VersionDefinition) → Option (List VersionNeeds) → View
   made es ys ds ns = record outline { entries = Some es; symbols = ys; definitions = ds; needs = ns }

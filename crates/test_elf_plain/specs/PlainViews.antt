@@ -17,7 +17,7 @@ use Rattle.test_elf_plain.specs.declared.view.ShownView.{ShownView}
 use Rattle.elf_format.specs.declared.constants.TheConstants.{DT_SYMENT, DT_SYMTAB, DT_VERDEF, DT_VERDEFNUM, DT_VERNEED, DT_VERNEEDNUM, DT_VERSYM, PT_INTERP, SHT_DYNSYM}
 use Rattle.elf_format.specs.File.{bytes_in, segment_of_type}
 use Rattle.elf_format.specs.declared.form.Form.{Form}
-use Rattle.elf_format.specs.Options.{is_none_or, where_asked}
+use Rattle.elf_format.specs.Options.{is_none_or, when_wanted}
 use Rattle.elf_format.specs.declared.records.EntryNumbers.{EntryNumbers}
 use Rattle.elf_format.specs.declared.records.SegmentHeader.{SegmentHeader}
 use Rattle.elf_format.specs.Records.{symbol_size}
@@ -35,8 +35,8 @@ use Rattle.elf_format.specs.Versions.{DefinitionNumbers, NeedNumbers, Step, Vers
 use Rattle.elf_format.specs.Dynamic.{Auto, Entry, Integer, Text, entries_at, has_tag, value_of_tag}
 
 -- a text that was copied
-abbrev pub text_seen : Vec ℕ → List ℕ
-text_seen text = text.items
+abbrev pub text_model : Vec ℕ → List ℕ
+text_model text = text.items
 
 -- an entry, seen without where its text's copy lies
 abbrev pub entry_viewed : EntryView → Entry
@@ -45,59 +45,59 @@ entry_viewed (viewed.Integer tag value) = Integer tag value
 entry_viewed (viewed.Text tag text) = Text tag text.items
 
 -- what a loader sees from an address on
-abbrev pub loaded_seen : Loaded → Memory
-loaded_seen l = first_by_tag l.size (memory_at_tag (byte_at l.segments.now l.file.now) l.start)
+abbrev pub loaded_model : Loaded → Memory
+loaded_model l = first_by_tag l.size (memory_at_tag (byte_at l.segments.now l.file.now) l.start)
 
 -- what is seen in a source
-abbrev pub source_seen : Source → Memory
-source_seen (sources.Slice bytes) = memory_of bytes.now
-source_seen (sources.Segments loaded) = loaded_seen loaded
+abbrev pub source_model : Source → Memory
+source_model (sources.Slice bytes) = memory_of bytes.now
+source_model (sources.Segments loaded) = loaded_model loaded
 
 -- tables by what is seen in their sources
-abbrev pub table_seen : TableSource → Table
-table_seen t = record { bytes = source_seen t.bytes; texts = source_seen t.texts; count = t.count }
+abbrev pub table_source_model : TableSource → Table
+table_source_model t = record { bytes = source_model t.bytes; texts = source_model t.texts; count = t.count }
 
-abbrev pub tables_seen : TableSources → Tables
-tables_seen t = record {
-  entry_texts = source_seen t.entry_texts;
-  symbols = table_seen t.symbols;
-  versions = source_seen t.versions;
-  definitions = table_seen t.definitions;
-  needs = table_seen t.needs;
+abbrev pub tables_model : TableSources → Tables
+tables_model t = record {
+  entry_texts = source_model t.entry_texts;
+  symbols = table_source_model t.symbols;
+  versions = source_model t.versions;
+  definitions = table_source_model t.definitions;
+  needs = table_source_model t.needs;
 }
 
 -- version records, seen without where their texts' copies lie
-abbrev pub definition_seen : ShownDefinition → VersionDefinition
-definition_seen d = record { index = d.index; flags = d.flags; names = map text_seen d.names.items }
+abbrev pub definition_model : ShownDefinition → VersionDefinition
+definition_model d = record { index = d.index; flags = d.flags; names = map text_model d.names.items }
 
-abbrev pub name_seen : ShownName → VersionName
-name_seen v = record { index = v.index; name = v.name.items; flags = v.flags }
+abbrev pub name_model : ShownName → VersionName
+name_model v = record { index = v.index; name = v.name.items; flags = v.flags }
 
-abbrev pub needs_seen : ShownNeeds → VersionNeeds
-needs_seen n = record { file = n.file.items; versions = map name_seen n.versions.items }
+abbrev pub needs_model : ShownNeeds → VersionNeeds
+needs_model n = record { file = n.file.items; versions = map name_model n.versions.items }
 
 -- a symbol, seen without where its name's copy lies
-abbrev pub symbol_seen : ShownSymbol → NamedSymbol
-symbol_seen y = record { name = y.name.items; st_info = y.st_info; st_other = y.st_other; st_shndx = y.st_shndx; st_value = y.st_value; st_size = y.st_size; version = y.version }
+abbrev pub symbol_model : ShownSymbol → NamedSymbol
+symbol_model y = record { name = y.name.items; st_info = y.st_info; st_other = y.st_other; st_shndx = y.st_shndx; st_value = y.st_value; st_size = y.st_size; version = y.version }
 
 -- lists of these, in the order in which they stand in a `Vec`
-abbrev pub texts_seen : Vec (Vec ℕ) → List (List ℕ)
-texts_seen v = map text_seen v.items
+abbrev pub texts_model : Vec (Vec ℕ) → List (List ℕ)
+texts_model v = map text_model v.items
 
-abbrev pub entries_seen : Vec EntryView → List Entry
-entries_seen v = map entry_viewed v.items
+abbrev pub entries_model : Vec EntryView → List Entry
+entries_model v = map entry_viewed v.items
 
-abbrev pub definitions_seen : Vec ShownDefinition → List VersionDefinition
-definitions_seen v = map definition_seen v.items
+abbrev pub definitions_model : Vec ShownDefinition → List VersionDefinition
+definitions_model v = map definition_model v.items
 
-abbrev pub names_seen : Vec ShownName → List VersionName
-names_seen v = map name_seen v.items
+abbrev pub names_model : Vec ShownName → List VersionName
+names_model v = map name_model v.items
 
-abbrev pub libraries_seen : Vec ShownNeeds → List VersionNeeds
-libraries_seen v = map needs_seen v.items
+abbrev pub libraries_model : Vec ShownNeeds → List VersionNeeds
+libraries_model v = map needs_model v.items
 
-abbrev pub symbols_seen : Vec ShownSymbol → List NamedSymbol
-symbols_seen v = map symbol_seen v.items
+abbrev pub symbols_model : Vec ShownSymbol → List NamedSymbol
+symbols_model v = map symbol_model v.items
 
 -- version records as they were read, whose texts aren't looked up yet
 abbrev pub raw_definitions : Vec RawDefinition → List DefinitionNumbers
@@ -107,8 +107,8 @@ abbrev pub raw_libraries : Vec RawNeeds → List NeedNumbers
 raw_libraries v = map raw_needs v.items
 
 -- what is shown besides the list
-abbrev pub outline_seen : Outline → View
-outline_seen o = record {
+abbrev pub outline_model : Outline → View
+outline_model o = record {
   os_abi = o.os_abi;
   stack_flags = o.stack_flags;
   interpreter = option_map borrowed o.interpreter;
@@ -119,20 +119,20 @@ outline_seen o = record {
 }
 
 -- a whole view, seen without where its bytes lie
-abbrev pub view_seen : ShownView → View
-view_seen v = record {
+abbrev pub view_model : ShownView → View
+view_model v = record {
   os_abi = v.os_abi;
   stack_flags = v.stack_flags;
   interpreter = option_map borrowed v.interpreter;
   entries = option_map (λ l. map entry_viewed l.items) v.entries;
-  symbols = option_map (λ l. map symbol_seen l.items) v.symbols;
-  definitions = option_map (λ l. map definition_seen l.items) v.definitions;
-  needs = option_map (λ l. map needs_seen l.items) v.needs;
+  symbols = option_map (λ l. map symbol_model l.items) v.symbols;
+  definitions = option_map (λ l. map definition_model l.items) v.definitions;
+  needs = option_map (λ l. map needs_model l.items) v.needs;
 }
 
 -- the bytes of the interpreter's segment, where there is one
 abbrev pub loaded_interpreter_of : List ℕ → List SegmentHeader → Option (Option (List ℕ))
-loaded_interpreter_of file segments = where_asked (is_some (segment_of_type PT_INTERP segments)) (segment_of_type PT_INTERP segments >>= λ p. bytes_in file p.p_offset p.p_filesz)
+loaded_interpreter_of file segments = when_wanted (is_some (segment_of_type PT_INTERP segments)) (segment_of_type PT_INTERP segments >>= λ p. bytes_in file p.p_offset p.p_filesz)
 
 -- DT_SYMENT holds the size of a symbol, where it is there
 abbrev pub holds_symbol_size : Form → List EntryNumbers → Bool
@@ -148,42 +148,42 @@ loaded_by_dynamic form file outline segments symbol_count (Some list) =
 
 -- the records of a chain, one behind the other, as a source shows them
 abbrev pub definition_names_from : Form → Source → ℕ → ℕ → Option (List ℕ)
-definition_names_from form source count start = chain (definition_name_at form (source_seen source)) count start
+definition_names_from form source count start = chain (definition_name_at form (source_model source)) count start
 
 abbrev pub need_names_from : Form → Source → ℕ → ℕ → Option (List NeedNameNumbers)
-need_names_from form source count start = chain (need_name_at form (source_seen source)) count start
+need_names_from form source count start = chain (need_name_at form (source_model source)) count start
 
 abbrev pub definitions_from : Form → Source → ℕ → Option (List DefinitionNumbers)
-definitions_from form source count = chain (definition_at form (source_seen source)) count 0
+definitions_from form source count = chain (definition_at form (source_model source)) count 0
 
 abbrev pub needs_from : Form → Source → ℕ → Option (List NeedNumbers)
-needs_from form source count = chain (need_at form (source_seen source)) count 0
+needs_from form source count = chain (need_at form (source_model source)) count 0
 
 -- the record at a place of a source, with all that it leads to
 abbrev pub definition_name_in : Form → Source → ℕ → Option (Step ℕ)
-definition_name_in form source place = whole_step (definition_name_at form (source_seen source) place)
+definition_name_in form source place = whole_step (definition_name_at form (source_model source) place)
 
 abbrev pub need_name_in : Form → Source → ℕ → Option (Step NeedNameNumbers)
-need_name_in form source place = whole_step (need_name_at form (source_seen source) place)
+need_name_in form source place = whole_step (need_name_at form (source_model source) place)
 
 abbrev pub definition_in : Form → Source → ℕ → Option (Step DefinitionNumbers)
-definition_in form source place = whole_step (definition_at form (source_seen source) place)
+definition_in form source place = whole_step (definition_at form (source_model source) place)
 
 abbrev pub need_in : Form → Source → ℕ → Option (Step NeedNumbers)
-need_in form source place = whole_step (need_at form (source_seen source) place)
+need_in form source place = whole_step (need_at form (source_model source) place)
 
 -- what a list of entries asks for: the symbols, the defined and the needed versions
-abbrev pub symbols_asked : Form → ℕ → List EntryNumbers → Tables → Option (Option (List NamedSymbol))
-symbols_asked form room raw tables =
-    where_asked (has_tag DT_SYMTAB raw) (dynamic_symbols form room (has_tag DT_VERSYM raw) tables.symbols tables.versions)
+abbrev pub symbols_when_wanted : Form → ℕ → List EntryNumbers → Tables → Option (Option (List NamedSymbol))
+symbols_when_wanted form room raw tables =
+    when_wanted (has_tag DT_SYMTAB raw) (dynamic_symbols form room (has_tag DT_VERSYM raw) tables.symbols tables.versions)
 
-abbrev pub definitions_asked : Form → ℕ → List EntryNumbers → Table → Option (Option (List VersionDefinition))
-definitions_asked form room raw table =
-    where_asked (has_tag DT_VERDEF raw && has_tag DT_VERDEFNUM raw) (defined_versions form room table)
+abbrev pub definitions_when_wanted : Form → ℕ → List EntryNumbers → Table → Option (Option (List VersionDefinition))
+definitions_when_wanted form room raw table =
+    when_wanted (has_tag DT_VERDEF raw && has_tag DT_VERDEFNUM raw) (defined_versions form room table)
 
-abbrev pub needs_asked : Form → ℕ → List EntryNumbers → Table → Option (Option (List VersionNeeds))
-needs_asked form room raw table =
-    where_asked (has_tag DT_VERNEED raw && has_tag DT_VERNEEDNUM raw) (needed_versions form room table)
+abbrev pub needs_when_wanted : Form → ℕ → List EntryNumbers → Table → Option (Option (List VersionNeeds))
+needs_when_wanted form room raw table =
+    when_wanted (has_tag DT_VERNEED raw && has_tag DT_VERNEEDNUM raw) (needed_versions form room table)
 
 -- the dynamic symbols by their section
 abbrev pub symbol_table_of : Form → List ℕ → List SectionHeader → Table

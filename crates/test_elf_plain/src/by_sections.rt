@@ -1,5 +1,5 @@
 ghost use Rattle.std.specs.Prelude.{◌≡◌, None};
-ghost use Rattle.test_elf_plain.specs.PlainViews.{source_seen, symbol_table_of, table_seen, tables_seen};
+ghost use Rattle.test_elf_plain.specs.PlainViews.{source_model, symbol_table_of, table_source_model, tables_model};
 ghost use Rattle.elf_format.specs.Views.{section_memory, section_table, tables_by_sections as section_tables};
 
 use crate::source::{Source, TableSource, TableSources};
@@ -10,14 +10,14 @@ use elf_format::records::SectionHeader;
 
 // The bytes of a section, or none without one.
 fn section_source(file: &[u8], section: Option<SectionHeader>) -> Source<'_>
-    ensures { source_seen result ≡ section_memory file.now section }
+    ensures { source_model result ≡ section_memory file.now section }
 {
     Source::Slice(bytes_of(file, section))
 }
 
 // A table with nothing in it.
 fn no_table<'a>() -> TableSource<'a>
-    ensures { table_seen result ≡ record { bytes = λ _. None; texts = λ _. None; count = 0 } }
+    ensures { table_source_model result ≡ record { bytes = λ _. None; texts = λ _. None; count = 0 } }
 {
     TableSource {
         bytes: Source::Slice(&[]),
@@ -28,7 +28,7 @@ fn no_table<'a>() -> TableSource<'a>
 
 // The dynamic symbols by their section.
 fn symbol_table<'a>(file: &'a [u8], form: Form, sections: &[SectionHeader]) -> TableSource<'a>
-    ensures { table_seen result ≡ symbol_table_of form file.now sections.now }
+    ensures { table_source_model result ≡ symbol_table_of form file.now sections.now }
 {
     match section_of_type(sections, SHT_DYNSYM) {
         None => no_table(),
@@ -42,7 +42,7 @@ fn symbol_table<'a>(file: &'a [u8], form: Form, sections: &[SectionHeader]) -> T
 
 // Version records by their section, which counts them.
 fn version_table<'a>(file: &'a [u8], sections: &[SectionHeader], kind: u32) -> TableSource<'a>
-    ensures { table_seen result ≡ section_table file.now sections.now (λ s. s.sh_info) kind }
+    ensures { table_source_model result ≡ section_table file.now sections.now (λ s. s.sh_info) kind }
 {
     match section_of_type(sections, kind) {
         None => no_table(),
@@ -61,7 +61,7 @@ pub(crate) fn tables_by_sections<'a>(
     sections: &[SectionHeader],
     list: SectionHeader,
 ) -> TableSources<'a>
-    ensures { tables_seen result ≡ section_tables form file.now sections.now list }
+    ensures { tables_model result ≡ section_tables form file.now sections.now list }
 {
     TableSources {
         entry_texts: section_source(file, linked_section(sections, list)),

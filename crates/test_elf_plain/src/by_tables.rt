@@ -1,9 +1,9 @@
 ghost use Rattle.std.specs.Prelude.{◌≡◌, option_map};
 ghost use Rattle.elf_format.specs.Answers.{Gives};
 ghost use Rattle.elf_format.specs.Seen.{flags_of_stack};
-ghost use Rattle.test_elf_plain.specs.PlainViews.{definitions_asked, needs_asked, symbols_asked};
-ghost use Rattle.test_elf_plain.specs.PlainViews.{definitions_seen, libraries_seen, symbols_seen};
-ghost use Rattle.test_elf_plain.specs.PlainViews.{outline_seen, table_seen, tables_seen, view_seen};
+ghost use Rattle.test_elf_plain.specs.PlainViews.{definitions_when_wanted, needs_when_wanted, symbols_when_wanted};
+ghost use Rattle.test_elf_plain.specs.PlainViews.{definitions_model, libraries_model, symbols_model};
+ghost use Rattle.test_elf_plain.specs.PlainViews.{outline_model, table_source_model, tables_model, view_model};
 ghost use Rattle.elf_format.specs.Views.{defined_versions, needed_versions, view_of};
 
 use crate::chains::{read_definitions, read_needs};
@@ -31,7 +31,7 @@ pub(crate) fn stack_flags(segments: &[SegmentHeader]) -> Option<u32>
 
 // The view of a file without a dynamic list.
 pub(crate) fn bare_view(outline: Outline<'_>) -> ShownView<'_>
-    ensures { view_seen result ≡ outline_seen outline.entry }
+    ensures { view_model result ≡ outline_model outline.entry }
 {
     ShownView {
         os_abi: outline.os_abi,
@@ -52,8 +52,8 @@ fn definitions_of(
     room: usize,
     table: &TableSource<'_>,
 ) -> Result<Vec<ShownDefinition>, ViewFault>
-    ensures { Gives definitions_seen result
-        (defined_versions form room (table_seen table.now)) }
+    ensures { Gives definitions_model result
+        (defined_versions form room (table_source_model table.now)) }
 {
     let raw = read_definitions(alloc, form, &table.bytes, table.count)?;
     show_definitions(alloc, room, &table.texts, &raw)
@@ -67,8 +67,8 @@ fn needs_of(
     room: usize,
     table: &TableSource<'_>,
 ) -> Result<Vec<ShownNeeds>, ViewFault>
-    ensures { Gives libraries_seen result
-        (needed_versions form room (table_seen table.now)) }
+    ensures { Gives libraries_model result
+        (needed_versions form room (table_source_model table.now)) }
 {
     let raw = read_needs(alloc, form, &table.bytes, table.count)?;
     show_needs(alloc, room, &table.texts, &raw)
@@ -82,8 +82,8 @@ fn asked_symbols(
     raw: &[EntryNumbers],
     tables: &TableSources<'_>,
 ) -> Result<Option<Vec<ShownSymbol>>, ViewFault>
-    ensures { Gives (option_map symbols_seen) result
-        (symbols_asked form room raw.now (tables_seen tables.now)) }
+    ensures { Gives (option_map symbols_model) result
+        (symbols_when_wanted form room raw.now (tables_model tables.now)) }
 {
     if !has_tag(raw, DT_SYMTAB) {
         return Ok(None);
@@ -108,8 +108,8 @@ fn asked_definitions(
     raw: &[EntryNumbers],
     table: &TableSource<'_>,
 ) -> Result<Option<Vec<ShownDefinition>>, ViewFault>
-    ensures { Gives (option_map definitions_seen) result
-        (definitions_asked form room raw.now (table_seen table.now)) }
+    ensures { Gives (option_map definitions_model) result
+        (definitions_when_wanted form room raw.now (table_source_model table.now)) }
 {
     let named = has_tag(raw, DT_VERDEF);
     let counted = has_tag(raw, DT_VERDEFNUM);
@@ -128,8 +128,8 @@ fn asked_needs(
     raw: &[EntryNumbers],
     table: &TableSource<'_>,
 ) -> Result<Option<Vec<ShownNeeds>>, ViewFault>
-    ensures { Gives (option_map libraries_seen) result
-        (needs_asked form room raw.now (table_seen table.now)) }
+    ensures { Gives (option_map libraries_model) result
+        (needs_when_wanted form room raw.now (table_source_model table.now)) }
 {
     let named = has_tag(raw, DT_VERNEED);
     let counted = has_tag(raw, DT_VERNEEDNUM);
@@ -149,8 +149,8 @@ pub(crate) fn show_tables<'a>(
     raw: &[EntryNumbers],
     tables: &TableSources<'_>,
 ) -> Result<ShownView<'a>, ViewFault>
-    ensures { Gives view_seen result
-        (view_of form room (outline_seen outline.entry) raw.now (tables_seen tables.now)) }
+    ensures { Gives view_model result
+        (view_of form room (outline_model outline.entry) raw.now (tables_model tables.now)) }
 {
     let entries = view_entries(alloc, room, &tables.entry_texts, raw)?;
     let symbols = asked_symbols(alloc, form, room, raw, tables)?;

@@ -1,6 +1,6 @@
 ghost use Rattle.std.specs.Prelude.{◌≡◌};
 ghost use Rattle.elf_format.specs.Dynamic.{value_of_tag as first_value};
-ghost use Rattle.test_elf_plain.specs.PlainViews.{source_seen, tables_seen};
+ghost use Rattle.test_elf_plain.specs.PlainViews.{source_model, tables_model};
 ghost use Rattle.elf_format.specs.Views.{byte_at, count_by_tag, loaded_strings, memory_at_tag, tables_by_tags as tag_tables};
 
 use crate::source::{Loaded, Source, TableSource, TableSources};
@@ -17,7 +17,7 @@ fn source_by_tag<'a>(
     raw: &[EntryNumbers],
     tag: u64,
 ) -> Source<'a>
-    ensures { source_seen result
+    ensures { source_model result
         ≡ memory_at_tag (byte_at segments.now file.now) (first_value tag raw.now) }
 {
     Source::Segments(Loaded {
@@ -37,7 +37,7 @@ fn count_of(raw: &[EntryNumbers], tag: u64) -> u64
 
 // The dynamic strings: from DT_STRTAB on, and DT_STRSZ bytes where that is there.
 fn strings<'a>(file: &'a [u8], segments: &'a [SegmentHeader], raw: &[EntryNumbers]) -> Source<'a>
-    ensures { source_seen result ≡ loaded_strings (byte_at segments.now file.now) raw.now }
+    ensures { source_model result ≡ loaded_strings (byte_at segments.now file.now) raw.now }
 {
     Source::Segments(Loaded {
         file,
@@ -54,7 +54,7 @@ pub(crate) fn tables_by_tags<'a>(
     symbol_count: u64,
     raw: &[EntryNumbers],
 ) -> TableSources<'a>
-    ensures { tables_seen result ≡ tag_tables (byte_at segments.now file.now) symbol_count raw.now }
+    ensures { tables_model result ≡ tag_tables (byte_at segments.now file.now) symbol_count raw.now }
 {
     let texts = strings(file, segments, raw);
     TableSources {

@@ -1,5 +1,5 @@
 ghost use Rattle.std.specs.Prelude.{◌+◌, ◌<◌, ◌^◌};
-ghost use Rattle.elf_format.specs.Answers.{Gives, step_seen};
+ghost use Rattle.elf_format.specs.Answers.{Gives, step_model};
 ghost use Rattle.elf_format.specs.Seen.{raw_definition, raw_needs};
 ghost use Rattle.test_elf_plain.specs.PlainViews.{GoesOn, raw_definitions, raw_libraries};
 ghost use Rattle.test_elf_plain.specs.PlainViews.{definition_in, definition_name_in, need_in, need_name_in};
@@ -36,7 +36,7 @@ fn read_name(
     place: u128,
 ) -> Result<(u32, u32), ViewFault>
     requires { place < 2 ^ 99 }
-    ensures { Gives (step_seen (λ n. n)) result (definition_name_in form source.now place) }
+    ensures { Gives (step_model (λ n. n)) result (definition_name_in form source.now place) }
 {
     let record = read_bytes(alloc, source, place, 8)?;
     Ok((word_at(form, &record, 0), word_at(form, &record, 4)))
@@ -50,7 +50,7 @@ fn read_need_name(
     place: u128,
 ) -> Result<(NeedNameNumbers, u32), ViewFault>
     requires { place < 2 ^ 99 }
-    ensures { Gives (step_seen (λ n. n)) result (need_name_in form source.now place) }
+    ensures { Gives (step_model (λ n. n)) result (need_name_in form source.now place) }
 {
     let record = read_bytes(alloc, source, place, 16)?;
     let name = NeedNameNumbers {
@@ -111,7 +111,7 @@ fn read_definition(
     place: u128,
 ) -> Result<(RawDefinition, u32), ViewFault>
     requires { place < 2 ^ 97 }
-    ensures { Gives (step_seen raw_definition) result (definition_in form source.now place) }
+    ensures { Gives (step_model raw_definition) result (definition_in form source.now place) }
 {
     let copied = read_bytes(alloc, source, place, 20)?;
     let record = copied.as_slice();
@@ -134,7 +134,7 @@ fn read_need(
     place: u128,
 ) -> Result<(RawNeeds, u32), ViewFault>
     requires { place < 2 ^ 97 }
-    ensures { Gives (step_seen raw_needs) result (need_in form source.now place) }
+    ensures { Gives (step_model raw_needs) result (need_in form source.now place) }
 {
     let copied = read_bytes(alloc, source, place, 16)?;
     let record = copied.as_slice();

@@ -1,7 +1,7 @@
 ghost use Rattle.elf_format.specs.Dynamic.{entries_at, shown_entry};
 ghost use Rattle.elf_format.specs.Options.{each};
 ghost use Rattle.elf_format.specs.Answers.{Gives};
-ghost use Rattle.test_elf_plain.specs.PlainViews.{entries_seen, entry_viewed, source_seen};
+ghost use Rattle.test_elf_plain.specs.PlainViews.{entries_model, entry_viewed, source_model};
 
 use crate::source::{Source, read_bytes, read_text};
 use crate::view::EntryView;
@@ -20,7 +20,7 @@ fn view_entry(
     texts: &Source<'_>,
     entry: EntryNumbers,
 ) -> Result<EntryView, ViewFault>
-    ensures { Gives entry_viewed result (shown_entry room (source_seen texts.now) entry) }
+    ensures { Gives entry_viewed result (shown_entry room (source_model texts.now) entry) }
 {
     if is_text_tag(entry.d_tag) {
         let shown = read_text(alloc, room, texts, entry.d_value)?;
@@ -39,8 +39,8 @@ pub(crate) fn view_entries(
     texts: &Source<'_>,
     entries: &[EntryNumbers],
 ) -> Result<Vec<EntryView>, ViewFault>
-    ensures { Gives entries_seen result
-        (each (shown_entry room (source_seen texts.now)) entries.now) }
+    ensures { Gives entries_model result
+        (each (shown_entry room (source_model texts.now)) entries.now) }
 {
     let mut shown = Vec::new(alloc);
     for entry in entries {
@@ -57,7 +57,7 @@ pub(crate) fn entries_from(
     room: usize,
     source: &Source<'_>,
 ) -> Result<Vec<EntryNumbers>, ViewFault>
-    ensures { Gives (λ v. v.items) result (entries_at room form (source_seen source.now) 0) }
+    ensures { Gives (λ v. v.items) result (entries_at room form (source_model source.now) 0) }
 {
     let size = form.entry_size() as u128;
     let mut made = Vec::new(alloc);

@@ -2,7 +2,7 @@ ghost use Rattle.std.specs.Prelude.{◌≡◌, option_map};
 ghost use Rattle.elf_format.specs.declared.constants.TheConstants.{PT_DYNAMIC as DYNAMIC_SEGMENT};
 ghost use Rattle.elf_format.specs.File.{segment_of_type as first_segment};
 ghost use Rattle.elf_format.specs.Answers.{Gives, borrowed};
-ghost use Rattle.test_elf_plain.specs.PlainViews.{holds_symbol_size, loaded_by_dynamic, loaded_interpreter_of, outline_seen, view_seen};
+ghost use Rattle.test_elf_plain.specs.PlainViews.{holds_symbol_size, loaded_by_dynamic, loaded_interpreter_of, outline_model, view_model};
 ghost use Rattle.elf_format.specs.Views.{loader_view as shown_to_loader};
 
 use crate::by_tables::{bare_view, show_tables, stack_flags};
@@ -51,7 +51,7 @@ fn show_loaded<'a>(
     segments: &[SegmentHeader],
     symbol_count: u64,
 ) -> Result<ShownView<'a>, ViewFault>
-    ensures { Gives view_seen result (loaded_by_dynamic form file.now (outline_seen outline.entry)
+    ensures { Gives view_model result (loaded_by_dynamic form file.now (outline_model outline.entry)
         segments.now symbol_count (first_segment DYNAMIC_SEGMENT segments.now)) }
 {
     let Some(list) = segment_of_type(segments, PT_DYNAMIC) else {
@@ -79,7 +79,7 @@ pub fn loader_view(
     file: &[u8],
     symbol_count: u64,
 ) -> Result<ShownView<'_>, ViewFault>
-    ensures { Gives view_seen result (shown_to_loader file.now symbol_count) }
+    ensures { Gives view_model result (shown_to_loader file.now symbol_count) }
 {
     let (form, header) = open(file)?;
     let segments = segments(alloc, file, form, header)?;

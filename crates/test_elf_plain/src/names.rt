@@ -3,8 +3,8 @@ ghost use Rattle.patch_bytes.specs.Memory.{text_at};
 ghost use Rattle.elf_format.specs.Options.{each};
 ghost use Rattle.elf_format.specs.Answers.{Gives};
 ghost use Rattle.elf_format.specs.Seen.{raw_definition, raw_needs};
-ghost use Rattle.test_elf_plain.specs.PlainViews.{definition_seen, name_seen, needs_seen, source_seen};
-ghost use Rattle.test_elf_plain.specs.PlainViews.{definitions_seen, libraries_seen, names_seen, texts_seen};
+ghost use Rattle.test_elf_plain.specs.PlainViews.{definition_model, name_model, needs_model, source_model};
+ghost use Rattle.test_elf_plain.specs.PlainViews.{definitions_model, libraries_model, names_model, texts_model};
 ghost use Rattle.elf_format.specs.Versions.{shown_definition, shown_need, shown_need_name};
 
 use crate::source::{Source, read_text};
@@ -21,7 +21,7 @@ fn show_texts(
     texts: &Source<'_>,
     places: &[u32],
 ) -> Result<Vec<Vec<u8>>, ViewFault>
-    ensures { Gives texts_seen result (each (text_at room (source_seen texts.now)) places.now) }
+    ensures { Gives texts_model result (each (text_at room (source_model texts.now)) places.now) }
 {
     let mut shown = Vec::new(alloc);
     for place in places {
@@ -39,8 +39,8 @@ fn show_definition(
     texts: &Source<'_>,
     definition: &RawDefinition,
 ) -> Result<ShownDefinition, ViewFault>
-    ensures { Gives definition_seen result
-        (shown_definition room (source_seen texts.now) (raw_definition definition.now)) }
+    ensures { Gives definition_model result
+        (shown_definition room (source_model texts.now) (raw_definition definition.now)) }
 {
     let names = show_texts(alloc, room, texts, &definition.names)?;
     Ok(ShownDefinition {
@@ -57,8 +57,8 @@ pub(crate) fn show_definitions(
     texts: &Source<'_>,
     definitions: &[RawDefinition],
 ) -> Result<Vec<ShownDefinition>, ViewFault>
-    ensures { Gives definitions_seen result (each
-        (shown_definition room (source_seen texts.now)) (map raw_definition definitions.now)) }
+    ensures { Gives definitions_model result (each
+        (shown_definition room (source_model texts.now)) (map raw_definition definitions.now)) }
 {
     let mut shown = Vec::new(alloc);
     for definition in definitions {
@@ -76,7 +76,7 @@ fn show_name(
     texts: &Source<'_>,
     version: NeedNameNumbers,
 ) -> Result<ShownName, ViewFault>
-    ensures { Gives name_seen result (shown_need_name room (source_seen texts.now) version) }
+    ensures { Gives name_model result (shown_need_name room (source_model texts.now) version) }
 {
     let name = read_text(alloc, room, texts, version.name as u64)?;
     Ok(ShownName {
@@ -93,8 +93,8 @@ fn show_names(
     texts: &Source<'_>,
     versions: &[NeedNameNumbers],
 ) -> Result<Vec<ShownName>, ViewFault>
-    ensures { Gives names_seen result
-        (each (shown_need_name room (source_seen texts.now)) versions.now) }
+    ensures { Gives names_model result
+        (each (shown_need_name room (source_model texts.now)) versions.now) }
 {
     let mut shown = Vec::new(alloc);
     for version in versions {
@@ -112,8 +112,8 @@ fn show_need(
     texts: &Source<'_>,
     needs: &RawNeeds,
 ) -> Result<ShownNeeds, ViewFault>
-    ensures { Gives needs_seen result
-        (shown_need room (source_seen texts.now) (raw_needs needs.now)) }
+    ensures { Gives needs_model result
+        (shown_need room (source_model texts.now) (raw_needs needs.now)) }
 {
     let file = read_text(alloc, room, texts, needs.file as u64)?;
     let versions = show_names(alloc, room, texts, &needs.versions)?;
@@ -127,8 +127,8 @@ pub(crate) fn show_needs(
     texts: &Source<'_>,
     libraries: &[RawNeeds],
 ) -> Result<Vec<ShownNeeds>, ViewFault>
-    ensures { Gives libraries_seen result
-        (each (shown_need room (source_seen texts.now)) (map raw_needs libraries.now)) }
+    ensures { Gives libraries_model result
+        (each (shown_need room (source_model texts.now)) (map raw_needs libraries.now)) }
 {
     let mut shown = Vec::new(alloc);
     for library in libraries {

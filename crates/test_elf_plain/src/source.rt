@@ -3,7 +3,7 @@ ghost use Rattle.std.specs.List.{slice_get};
 ghost use Rattle.patch_bytes.specs.Memory.{bytes_at, text_at};
 ghost use Rattle.elf_format.specs.File.{loads_of};
 ghost use Rattle.elf_format.specs.Answers.{Gives};
-ghost use Rattle.test_elf_plain.specs.PlainViews.{loaded_seen, source_seen};
+ghost use Rattle.test_elf_plain.specs.PlainViews.{loaded_model, source_model};
 ghost use Rattle.elf_format.specs.Views.{byte_at, covers as is_covered};
 
 use elf_format::constants::PT_LOAD;
@@ -104,7 +104,7 @@ fn loaded_byte(file: &[u8], segments: &[SegmentHeader], address: u128) -> Option
 // The byte at a place behind the address, where so many bytes are seen.
 fn seen_byte(loaded: &Loaded<'_>, place: u128) -> Option<u8>
     requires { place < 2 ^ 100 }
-    ensures { result ≡ loaded_seen loaded.now place }
+    ensures { result ≡ loaded_model loaded.now place }
 {
     if let Some(size) = loaded.size {
         if place >= size as u128 {
@@ -118,7 +118,7 @@ fn seen_byte(loaded: &Loaded<'_>, place: u128) -> Option<u8>
 // The byte at a place of a source.
 fn read_byte(source: &Source<'_>, place: u128) -> Option<u8>
     requires { place < 2 ^ 100 }
-    ensures { result ≡ source_seen source.now place }
+    ensures { result ≡ source_model source.now place }
 {
     match source {
         Source::Slice(bytes) => byte_in(bytes, place),
@@ -134,7 +134,7 @@ pub(crate) fn read_bytes(
     count: u128,
 ) -> Result<Vec<u8>, ViewFault>
     requires { place + count < 2 ^ 100 }
-    ensures { Gives (λ v. v.items) result (bytes_at count (source_seen source.now) place) }
+    ensures { Gives (λ v. v.items) result (bytes_at count (source_model source.now) place) }
 {
     let mut made = Vec::new(alloc);
     for i in 0..count {
@@ -153,7 +153,7 @@ pub(crate) fn read_text(
     source: &Source<'_>,
     place: u64,
 ) -> Result<Vec<u8>, ViewFault>
-    ensures { Gives (λ v. v.items) result (text_at room (source_seen source.now) place) }
+    ensures { Gives (λ v. v.items) result (text_at room (source_model source.now) place) }
 {
     let mut made = Vec::new(alloc);
     for i in 0..room {

@@ -1,6 +1,6 @@
 ghost use Rattle.std.specs.Prelude.{◌≡◌, map, replicate, IfOk, None};
 ghost use Rattle.elf_format.specs.Answers.{Gives};
-ghost use Rattle.test_elf_plain.specs.PlainViews.{source_seen, symbols_seen, table_seen, text_seen, texts_seen};
+ghost use Rattle.test_elf_plain.specs.PlainViews.{source_model, symbols_model, table_source_model, text_model, texts_model};
 ghost use Rattle.elf_format.specs.Views.{dynamic_symbols, named_symbols, names_of, symbol_versions};
 
 use crate::source::{Source, TableSource, read_bytes, read_text};
@@ -19,8 +19,8 @@ fn join_symbols(
     names: &[Vec<u8>],
     versions: &[Option<VersionId>],
 ) -> Result<Vec<ShownSymbol>, AllocError>
-    ensures { IfOk result (λ v. symbols_seen v
-        ≡ named_symbols symbols.now (map text_seen names.now) versions.now) }
+    ensures { IfOk result (λ v. symbols_model v
+        ≡ named_symbols symbols.now (map text_model names.now) versions.now) }
 {
     let mut made = Vec::new(alloc);
     for i in 0..symbols.len() {
@@ -64,7 +64,7 @@ fn versions_of(
     versions: &Source<'_>,
 ) -> Result<Vec<Option<VersionId>>, ViewFault>
     ensures { Gives (λ v. v.items) result
-        (symbol_versions form with_versions count (source_seen versions.now)) }
+        (symbol_versions form with_versions count (source_model versions.now)) }
 {
     if !with_versions {
         return Ok(no_versions(alloc, count)?);
@@ -80,7 +80,7 @@ fn symbol_names(
     texts: &Source<'_>,
     symbols: &[SymbolNumbers],
 ) -> Result<Vec<Vec<u8>>, ViewFault>
-    ensures { Gives texts_seen result (names_of room (source_seen texts.now) symbols.now) }
+    ensures { Gives texts_model result (names_of room (source_model texts.now) symbols.now) }
 {
     let mut names = Vec::new(alloc);
     for symbol in symbols {
@@ -99,8 +99,8 @@ pub(crate) fn show_symbols(
     table: &TableSource<'_>,
     versions: &Source<'_>,
 ) -> Result<Vec<ShownSymbol>, ViewFault>
-    ensures { Gives symbols_seen result (dynamic_symbols form room with_versions
-        (table_seen table.now) (source_seen versions.now)) }
+    ensures { Gives symbols_model result (dynamic_symbols form room with_versions
+        (table_source_model table.now) (source_model versions.now)) }
 {
     let size = form.symbol_size();
     let count = table.count as usize;

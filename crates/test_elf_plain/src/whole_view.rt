@@ -2,7 +2,7 @@ ghost use Rattle.elf_format.specs.declared.constants.TheConstants.{SHT_DYNAMIC a
 ghost use Rattle.elf_format.specs.File.{section_of_type as first_section};
 ghost use Rattle.elf_format.specs.Answers.{Gives};
 ghost use Rattle.elf_format.specs.Seen.{view_by_dynamic};
-ghost use Rattle.test_elf_plain.specs.PlainViews.{outline_seen, view_seen};
+ghost use Rattle.test_elf_plain.specs.PlainViews.{outline_model, view_model};
 ghost use Rattle.elf_format.specs.Views.{section_view as shown_by_sections};
 
 use crate::by_sections::tables_by_sections;
@@ -26,7 +26,7 @@ fn show_dynamic<'a>(
     outline: Outline<'a>,
     sections: &[SectionHeader],
 ) -> Result<ShownView<'a>, ViewFault>
-    ensures { Gives view_seen result (view_by_dynamic form file.now (outline_seen outline.entry)
+    ensures { Gives view_model result (view_by_dynamic form file.now (outline_model outline.entry)
         sections.now (first_section DYNAMIC sections.now)) }
 {
     match section_of_type(sections, SHT_DYNAMIC) {
@@ -43,7 +43,7 @@ fn show_dynamic<'a>(
 /// What a file shows through its section headers, accepted or not (gABI, Sections); `Absent` where it shows
 /// nothing, `Memory` where there isn't enough memory.
 pub fn section_view(alloc: Global, file: &[u8]) -> Result<ShownView<'_>, ViewFault>
-    ensures { Gives view_seen result (shown_by_sections file.now) }
+    ensures { Gives view_model result (shown_by_sections file.now) }
 {
     let (form, header) = open(file)?;
     let segments = segments(alloc, file, form, header)?;

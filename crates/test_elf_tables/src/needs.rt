@@ -1,7 +1,7 @@
 //! Tables of needed versions: their bytes, which were laid out by hand.
 ghost use Rattle.std.specs.Prelude.{◌≡◌, ◌&&◌, is_some, map};
 ghost use Rattle.std.specs.List.{list_all};
-ghost use Rattle.elf_image.specs.ImageSeen.{needs_kept};
+ghost use Rattle.elf_image.specs.ImageModel.{needs_model};
 ghost use Rattle.elf_tables.specs.Strings.{place_of};
 ghost use Rattle.elf_tables.specs.VersionRecords.{has_needs_texts};
 
@@ -37,7 +37,7 @@ fn has_each(records: &[VersionNeed<'_>], table: &Finished<'_>) -> bool
 
 // The same, of what is kept of them.
 fn has_names(records: &[VersionNeed<'_>], table: &Finished<'_>) -> bool
-    ensures { result ≡ has_needs_texts table.now (map needs_kept records.now) }
+    ensures { result ≡ has_needs_texts table.now (map needs_model records.now) }
 {
     has_each(records, table)
 }

@@ -1,7 +1,7 @@
 //! Tables of versions: their bytes, which were laid out by hand.
 ghost use Rattle.std.specs.Prelude.{◌≡◌, is_some, map};
 ghost use Rattle.std.specs.List.{list_all};
-ghost use Rattle.elf_image.specs.ImageSeen.{definition_kept};
+ghost use Rattle.elf_image.specs.ImageModel.{definition_model};
 ghost use Rattle.elf_tables.specs.Strings.{place_of};
 ghost use Rattle.elf_tables.specs.VersionRecords.{has_definition_texts};
 
@@ -73,7 +73,7 @@ fn has_each(records: &[VersionDef<'_>], table: &Finished<'_>) -> bool
 
 // The same, of what is kept of them.
 fn has_names(records: &[VersionDef<'_>], table: &Finished<'_>) -> bool
-    ensures { result ≡ has_definition_texts table.now (map definition_kept records.now) }
+    ensures { result ≡ has_definition_texts table.now (map definition_model records.now) }
 {
     has_each(records, table)
 }

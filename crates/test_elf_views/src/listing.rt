@@ -1,8 +1,10 @@
 //! Views as text: a line for each thing that is shown, its numbers in decimal.
 
-use test_elf_plain::view::{EntryView, ShownDefinition, ShownName, ShownNeeds, ShownSymbol, ShownView};
 use std::alloc::{AllocError, Global};
 use std::fmt::Write;
+use test_elf_plain::view::{
+    EntryView, ShownDefinition, ShownName, ShownNeeds, ShownSymbol, ShownView,
+};
 
 // The parts of a view.
 #[derive(Clone, Copy, Debug)]

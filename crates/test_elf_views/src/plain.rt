@@ -2,9 +2,9 @@
 
 use crate::listing::{Part, lines};
 use crate::support::{Runtime, changed, same, same_text};
+use std::alloc::Global;
 use test_elf_plain::{ViewFault, loader_view, section_view};
 use test_elf_samples::{LINKED, SMALL, TWIN, VERSIONED};
-use std::alloc::Global;
 
 // A part of what a file shows through its section headers.
 fn shown(alloc: Global, file: &[u8], part: Part) -> Result<String, ViewFault> {

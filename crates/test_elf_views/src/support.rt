@@ -1,10 +1,10 @@
 //! What the tests share: calls that are refused memory, comparisons, and files with other bytes.
 
 use elf_image::ElfFault;
-use test_elf_plain::ViewFault;
 use std::alloc::{AllocError, Global};
 use std::fmt;
 use std::process::Abort;
+use test_elf_plain::ViewFault;
 
 // The runtime that a test is given.
 pub(crate) trait Runtime: Abort + AllocGlobal {}

@@ -6,11 +6,13 @@ use elf_image::constants::{
 use elf_image::{
     Builder, Dynamic, ElfFault, Segment, Symbols, VersionDef, VersionNeed, VersionNeedName,
 };
-use test_elf_plain::view::{EntryView, ShownDefinition, ShownName, ShownNeeds, ShownSymbol, ShownView};
-use test_elf_plain::{ViewFault, section_view};
-use test_elf_samples::{LINKED, SMALL, TWIN, VERSIONED};
 use patch_bytes::ByteString;
 use std::alloc::{AllocError, Global};
+use test_elf_plain::view::{
+    EntryView, ShownDefinition, ShownName, ShownNeeds, ShownSymbol, ShownView,
+};
+use test_elf_plain::{ViewFault, section_view};
+use test_elf_samples::{LINKED, SMALL, TWIN, VERSIONED};
 
 // The flags of the first PT_GNU_STACK.
 fn stack_flags(segments: &[Segment<'_>]) -> Option<u32> {

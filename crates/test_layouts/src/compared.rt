@@ -3,18 +3,18 @@ use elf_format::records::SegmentHeader;
 use elf_image::Builder;
 use elf_layout::{LayoutFault, Plan, SectionPlace, lay_out, sizes_of};
 use elf_layout_plan::read_again;
+use std::alloc::{AllocError, Global};
 use test_slow_layout::plain::{Piece, Plain, plain_of};
 use test_slow_layout::slow::{Found, Slow, lay_out_slowly};
-use test_slow_layout::standing::{Spot, spot_at};
-use std::alloc::{AllocError, Global};
+use test_slow_layout::standing::{Slot, slot_at};
 
 /// A section stands where it was found.
-fn is_place(place: &SectionPlace, part_type: u32, part_flags: u64, spot: &Spot) -> bool {
+fn is_place(place: &SectionPlace, part_type: u32, part_flags: u64, slot: &Slot) -> bool {
     place.sh_type == part_type
         && place.sh_flags == part_flags
-        && u128::from(place.sh_addr) == spot.address
-        && u128::from(place.sh_offset) == spot.offset
-        && u128::from(place.sh_size) == spot.size
+        && u128::from(place.sh_addr) == slot.address
+        && u128::from(place.sh_offset) == slot.offset
+        && u128::from(place.sh_size) == slot.size
 }
 
 fn are_places(plan: &Plan, plain: &Plain, slow: &Slow) -> bool {
@@ -24,9 +24,9 @@ fn are_places(plan: &Plan, plain: &Plain, slow: &Slow) -> bool {
     for part in &plain.parts {
         let is_one = match (
             plan.places().get(part.position),
-            spot_at(&slow.standing.spots, part.position),
+            slot_at(&slow.standing.slots, part.position),
         ) {
-            (Some(place), Some(spot)) => is_place(place, part.sh_type, part.sh_flags, &spot),
+            (Some(place), Some(slot)) => is_place(place, part.sh_type, part.sh_flags, &slot),
             _ => false,
         };
         if !is_one {

@@ -7,7 +7,7 @@ use std::alloc::{AllocError, Global};
 
 /// What a program header goes by.
 #[derive(Drop)]
-pub(crate) enum Leader {
+pub(crate) enum Anchor {
     Itself,
     HeaderTable,
     OneSection(Part),
@@ -65,17 +65,17 @@ fn section_under(plain: &Plain, piece: &Piece) -> Option<Part> {
     found
 }
 
-fn led_by(part: Option<Part>) -> Leader {
+fn position_or_itself_at(part: Option<Part>) -> Anchor {
     match part {
-        Some(part) => Leader::OneSection(part),
-        None => Leader::Itself,
+        Some(part) => Anchor::OneSection(part),
+        None => Anchor::Itself,
     }
 }
 
-fn section_or_table(part: Option<Part>) -> Leader {
+fn section_or_table(part: Option<Part>) -> Anchor {
     match part {
-        Some(part) => Leader::OneSection(part),
-        None => Leader::HeaderTable,
+        Some(part) => Anchor::OneSection(part),
+        None => Anchor::HeaderTable,
     }
 }
 
@@ -99,15 +99,15 @@ fn interpreter(plain: &Plain) -> Option<Part> {
 }
 
 /// What a program header goes by.
-pub(crate) fn leader_of(alloc: Global, plain: &Plain, piece: &Piece) -> Result<Leader, AllocError> {
+pub(crate) fn anchor_of(alloc: Global, plain: &Plain, piece: &Piece) -> Result<Anchor, AllocError> {
     match piece.p_type {
-        PT_LOAD => Ok(Leader::Itself),
+        PT_LOAD => Ok(Anchor::Itself),
         PT_PHDR => Ok(section_or_table(section_under(plain, piece))),
-        PT_DYNAMIC => Ok(led_by(first_of_type(plain, SHT_DYNAMIC))),
-        PT_INTERP => Ok(led_by(interpreter(plain))),
-        _ if piece.in_file == 0 => Ok(Leader::Itself),
-        _ if is_over_notes(plain, piece) => Ok(Leader::Notes(notes_under(alloc, plain, piece)?)),
-        _ => Ok(led_by(section_under(plain, piece))),
+        PT_DYNAMIC => Ok(position_or_itself_at(first_of_type(plain, SHT_DYNAMIC))),
+        PT_INTERP => Ok(position_or_itself_at(interpreter(plain))),
+        _ if piece.in_file == 0 => Ok(Anchor::Itself),
+        _ if is_over_notes(plain, piece) => Ok(Anchor::Notes(notes_under(alloc, plain, piece)?)),
+        _ => Ok(position_or_itself_at(section_under(plain, piece))),
     }
 }
 
@@ -134,9 +134,9 @@ pub(crate) fn added_flags(alloc: Global, moved: &[Part]) -> Result<Vec<u32>, All
 }
 
 /// Whether a program header is split in two.
-fn is_split(moved: &[Part], leader: &Leader) -> bool {
-    match leader {
-        Leader::Notes(notes) => {
+fn is_split(moved: &[Part], anchor: &Anchor) -> bool {
+    match anchor {
+        Anchor::Notes(notes) => {
             let count = count_moved(moved, notes);
             count > 0 && count < notes.len()
         }
@@ -152,7 +152,7 @@ pub(crate) fn headers_needed(
 ) -> Result<usize, AllocError> {
     let mut count = added_flags(alloc, moved)?.len();
     for piece in &plain.pieces {
-        if is_split(moved, &leader_of(alloc, plain, piece)?) {
+        if is_split(moved, &anchor_of(alloc, plain, piece)?) {
             count = count.saturating_add(1);
         }
     }

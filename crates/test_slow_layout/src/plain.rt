@@ -1,6 +1,6 @@
 //! An edited image as plain records, each number in 128 bits.
 ghost use Rattle.std.specs.Prelude.{◌≡◌, IfOk, map, slice_get, unwrap_or};
-ghost use Rattle.elf_image.specs.ImageSeen.{section_kept, segment_kept};
+ghost use Rattle.elf_image.specs.ImageModel.{section_model, segment_model};
 ghost use Rattle.test_slow_layout.specs.Plain.{AreParts, IsPlain, part_with, piece_with};
 
 use elf_format::constants::{
@@ -180,7 +180,7 @@ impl Facts {
 }
 
 fn part_of(section: &Section<'_>, position: usize, number: usize, size: u64) -> Part
-    ensures { result ≡ part_with (section_kept section.now) position number size }
+    ensures { result ≡ part_with (section_model section.now) position number size }
 {
     Part {
         position,
@@ -197,7 +197,7 @@ fn part_of(section: &Section<'_>, position: usize, number: usize, size: u64) -> 
 }
 
 fn piece_of(segment: &Segment<'_>) -> Piece
-    ensures { result ≡ piece_with (segment_kept segment.now) }
+    ensures { result ≡ piece_with (segment_model segment.now) }
 {
     Piece {
         p_type: segment.p_type(),
@@ -213,7 +213,7 @@ fn piece_of(segment: &Segment<'_>) -> Piece
 
 fn pieces_of(alloc: Global, segments: &[Segment<'_>]) -> Result<Vec<Piece>, AllocError>
     ensures { IfOk result (λ pieces.
-        pieces.items ≡ map piece_with (map segment_kept segments.now)) }
+        pieces.items ≡ map piece_with (map segment_model segments.now)) }
 {
     let mut pieces = Vec::new(alloc);
     for segment in segments {

@@ -2,7 +2,7 @@
 use crate::blocks::{Block, blocks_with, does_move, is_right, is_stuck, moving};
 use crate::following::headers_needed;
 use crate::plain::{Part, Piece, Plain};
-use crate::standing::{Standing, spot_at, standing_of};
+use crate::standing::{Standing, slot_at, standing_of};
 use crate::written::written_of;
 use elf_format::constants::{PN_XNUM, SHN_LORESERVE};
 use patch_bytes::Wide;
@@ -140,8 +140,8 @@ fn does_piece_fit(plain: &Plain, piece: &Piece) -> bool {
 
 fn do_parts_fit(plain: &Plain, standing: &Standing) -> bool {
     for part in &plain.parts {
-        if let Some(spot) = spot_at(&standing.spots, part.position) {
-            if !fits(plain, spot.offset) || !fits(plain, spot.address) || !fits(plain, spot.size) {
+        if let Some(slot) = slot_at(&standing.slots, part.position) {
+            if !fits(plain, slot.offset) || !fits(plain, slot.address) || !fits(plain, slot.size) {
                 return false;
             }
         }

@@ -2,7 +2,7 @@
 ghost use Rattle.std.specs.Prelude.{◌≡◌, ◌==◌, find};
 
 use crate::blocks::table_load;
-use crate::following::{Leader, added_flags, count_moved, is_moved, leader_of};
+use crate::following::{Anchor, added_flags, anchor_of, count_moved, is_moved};
 use crate::plain::{Part, Piece, Plain};
 use elf_format::constants::{EM_MIPS, PT_LOAD};
 use elf_layout_plan::constants::{
@@ -12,7 +12,7 @@ use std::alloc::{AllocError, Global};
 
 /// Where a section stands.
 #[derive(Clone, Copy)]
-pub struct Spot {
+pub struct Slot {
     /// Its position among the sections of the edited image, from 0.
     pub position: usize,
     /// Where its bytes begin in the file.
@@ -28,7 +28,7 @@ pub struct Spot {
 pub struct Standing {
     pub(crate) loads: Vec<Piece>,
     /// Where each section stands.
-    pub spots: Vec<Spot>,
+    pub slots: Vec<Slot>,
     /// Where the program header table begins in the file.
     pub e_phoff: u128,
     /// Where the section header table begins in the file.
@@ -57,23 +57,23 @@ fn keeps_range(
     plain: &Plain,
     moved: &[Part],
     piece: &Piece,
-    leader: &Leader,
+    anchor: &Anchor,
     headers: u128,
 ) -> bool {
-    match leader {
-        Leader::Itself => true,
-        Leader::HeaderTable => {
+    match anchor {
+        Anchor::Itself => true,
+        Anchor::HeaderTable => {
             let size = headers.saturating_mul(plain.facts.program_header());
             piece.in_file == size && piece.in_memory == piece.in_file
         }
-        Leader::OneSection(part) => {
+        Anchor::OneSection(part) => {
             !is_moved(moved, part)
                 && part.is_loaded()
                 && part.offset == piece.offset
                 && part.address == piece.address
                 && part.size == piece.in_file
         }
-        Leader::Notes(notes) => count_moved(moved, notes) == 0,
+        Anchor::Notes(notes) => count_moved(moved, notes) == 0,
     }
 }
 
@@ -86,9 +86,9 @@ fn kept_end(
 ) -> Result<u128, AllocError> {
     let mut end = plain.facts.file_header();
     for piece in &plain.pieces {
-        let leader = leader_of(alloc, plain, piece)?;
+        let anchor = anchor_of(alloc, plain, piece)?;
         let is_inside = piece.file_end() <= plain.facts.source_size;
-        if is_inside && keeps_range(plain, moved, piece, &leader, headers) {
+        if is_inside && keeps_range(plain, moved, piece, &anchor, headers) {
             end = end.max(piece.file_end());
         }
     }
@@ -152,7 +152,7 @@ fn add_load(
         if part.segment_flags() == p_flags {
             let next = next_multiple(at, part.align);
             offset = offset.saturating_add(next.saturating_sub(at));
-            standing.spots.push(Spot {
+            standing.slots.push(Slot {
                 position: part.position,
                 offset,
                 address: next,
@@ -177,14 +177,14 @@ fn add_load(
 }
 
 /// Puts the sections that aren't loaded one behind the other, and tells where the last one ends.
-fn add_loose(standing: &mut Standing, plain: &Plain, start: u128) -> Result<u128, AllocError> {
+fn add_unloaded(standing: &mut Standing, plain: &Plain, start: u128) -> Result<u128, AllocError> {
     let mut end = start;
     for part in &plain.parts {
         let is_reserved = part.position == 0 && part.size == 0;
         if part.is_in_file() && !part.is_loaded() && !is_reserved {
             let offset = next_multiple(end, part.align);
             let (position, address, size) = (part.position, part.address, part.size);
-            standing.spots.push(Spot {
+            standing.slots.push(Slot {
                 position,
                 offset,
                 address,
@@ -199,11 +199,11 @@ fn add_loose(standing: &mut Standing, plain: &Plain, start: u128) -> Result<u128
 /// Puts the other sections where they were.
 fn add_others(standing: &mut Standing, plain: &Plain, end: u128) -> Result<(), AllocError> {
     for part in &plain.parts {
-        if spot_at(&standing.spots, part.position).is_none() {
+        if slot_at(&standing.slots, part.position).is_none() {
             let is_behind = part.is_in_file() && part.size == 0 && end < part.offset;
             let offset = if is_behind { end } else { part.offset };
             let (position, address, size) = (part.position, part.address, part.size);
-            standing.spots.push(Spot {
+            standing.slots.push(Slot {
                 position,
                 offset,
                 address,
@@ -214,13 +214,13 @@ fn add_others(standing: &mut Standing, plain: &Plain, end: u128) -> Result<(), A
     Ok(())
 }
 
-/// Where the section at a position stands, by the first spot for it; `None` where there is none.
-pub fn spot_at(spots: &[Spot], position: usize) -> Option<Spot>
-    ensures { result ≡ find (λ s. s.position == position) spots.now }
+/// Where the section at a position stands, by the first slot for it; `None` where there is none.
+pub fn slot_at(slots: &[Slot], position: usize) -> Option<Slot>
+    ensures { result ≡ find (λ s. s.position == position) slots.now }
 {
-    for spot in spots {
-        if spot.position == position {
-            return Some(*spot);
+    for slot in slots {
+        if slot.position == position {
+            return Some(*slot);
         }
     }
     None
@@ -250,10 +250,10 @@ pub(crate) fn standing_of(
     moved: &[Part],
     headers: usize,
 ) -> Result<Standing, AllocError> {
-    let (loads, spots) = (Vec::new(alloc), Vec::new(alloc));
+    let (loads, slots) = (Vec::new(alloc), Vec::new(alloc));
     let mut standing = Standing {
         loads,
-        spots,
+        slots,
         e_phoff: plain.facts.e_phoff,
         e_shoff: 0,
     };
@@ -264,7 +264,7 @@ pub(crate) fn standing_of(
         let size = (headers as u128).saturating_mul(plain.facts.program_header());
         end = standing.e_phoff.saturating_add(size);
     }
-    let end = add_loose(&mut standing, plain, end)?;
+    let end = add_unloaded(&mut standing, plain, end)?;
     add_others(&mut standing, plain, end)?;
     standing.e_shoff = next_multiple(end, plain.facts.word());
     Ok(standing)

@@ -1,7 +1,7 @@
 //! The program headers that are written.
-use crate::following::{Leader, count_moved, is_moved, leader_of};
+use crate::following::{Anchor, anchor_of, count_moved, is_moved};
 use crate::plain::{Part, Piece, Plain};
-use crate::standing::{Spot, Standing, spot_at};
+use crate::standing::{Slot, Standing, slot_at};
 use elf_format::constants::{PT_DYNAMIC, PT_INTERP};
 use std::alloc::{AllocError, Global};
 
@@ -57,9 +57,9 @@ fn push(written: &mut Written, piece: Piece) -> Result<(), AllocError> {
 }
 
 /// The address where a section stands, if it is loaded.
-fn loaded_at(part: &Part, spot: &Spot) -> Option<u128> {
+fn loaded_at(part: &Part, slot: &Slot) -> Option<u128> {
     if part.is_loaded() {
-        Some(spot.address)
+        Some(slot.address)
     } else {
         None
     }
@@ -74,29 +74,29 @@ fn lead_notes(
     notes: &[Part],
     do_move: bool,
 ) -> Result<(), AllocError> {
-    let mut first: Option<(Part, Spot)> = None;
+    let mut first: Option<(Part, Slot)> = None;
     let mut end = 0;
     for note in notes {
         if is_moved(moved, note) != do_move {
             continue;
         }
-        let Some(spot) = spot_at(&standing.spots, note.position) else {
+        let Some(slot) = slot_at(&standing.slots, note.position) else {
             continue;
         };
-        end = spot.offset.saturating_add(spot.size).max(end);
+        end = slot.offset.saturating_add(slot.size).max(end);
         let is_first = match &first {
             None => true,
-            Some((_, other)) => spot.offset < other.offset,
+            Some((_, other)) => slot.offset < other.offset,
         };
         if is_first {
-            first = Some((*note, spot));
+            first = Some((*note, slot));
         }
     }
     match first {
         None => Ok(()),
-        Some((note, spot)) => {
-            let size = end.saturating_sub(spot.offset);
-            lead(written, piece, spot.offset, size, loaded_at(&note, &spot))
+        Some((note, slot)) => {
+            let size = end.saturating_sub(slot.offset);
+            lead(written, piece, slot.offset, size, loaded_at(&note, &slot))
         }
     }
 }
@@ -108,12 +108,12 @@ fn add(
     standing: &Standing,
     moved: &[Part],
     piece: &Piece,
-    leader: &Leader,
+    anchor: &Anchor,
     headers: u128,
 ) -> Result<(), AllocError> {
-    match leader {
-        Leader::Itself => push(written, *piece),
-        Leader::HeaderTable => {
+    match anchor {
+        Anchor::Itself => push(written, *piece),
+        Anchor::HeaderTable => {
             let size = headers.saturating_mul(plain.facts.program_header());
             push(
                 written,
@@ -124,17 +124,17 @@ fn add(
                 },
             )
         }
-        Leader::OneSection(part) => match spot_at(&standing.spots, part.position) {
-            Some(spot) => lead(
+        Anchor::OneSection(part) => match slot_at(&standing.slots, part.position) {
+            Some(slot) => lead(
                 written,
                 piece,
-                spot.offset,
-                spot.size,
-                loaded_at(part, &spot),
+                slot.offset,
+                slot.size,
+                loaded_at(part, &slot),
             ),
             None => push(written, *piece),
         },
-        Leader::Notes(notes) => {
+        Anchor::Notes(notes) => {
             if count_moved(moved, notes) == 0 {
                 return push(written, *piece);
             }
@@ -183,14 +183,14 @@ pub(crate) fn written_of(
         falls: false,
     };
     for piece in &plain.pieces {
-        let leader = leader_of(alloc, plain, piece)?;
+        let anchor = anchor_of(alloc, plain, piece)?;
         add(
             &mut written,
             plain,
             standing,
             moved,
             piece,
-            &leader,
+            &anchor,
             headers as u128,
         )?;
     }

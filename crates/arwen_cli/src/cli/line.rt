@@ -2,9 +2,9 @@
 ghost use Rattle.std.specs.Prelude.{◌≡◌, None, Some, codes, false, IfErr, IfOk, MatchResult, map};
 ghost use Rattle.command_faults.specs.Fault.{IsOfLine, status_of};
 ghost use Rattle.arwen_commands.specs.Meaning.{Meaning};
-ghost use Rattle.elf_commands.specs.Meaning.{elf_lines, elf_shown};
+ghost use Rattle.elf_commands.specs.Meaning.{elf_lines, elf_command_model};
 ghost use Rattle.macho_commands.specs.Meaning.{macho_lines};
-ghost use Rattle.macho_commands.specs.Meaning.{macho_shown};
+ghost use Rattle.macho_commands.specs.Meaning.{macho_command_model};
 ghost use Rattle.arwen_commands.specs.Meaning.{shown};
 ghost use Rattle.arwen_cli.specs.Line.{has_option, meaning_of};
 ghost use Rattle.arwen_cli.specs.Parser.{MayRefuse, MayRefuseTaken, MeansBy, MeansTaken};
@@ -151,7 +151,7 @@ fn line_of(alloc: Global, text: &str, status: u8) -> Result<ArwenError, AllocErr
 /// The command of a line whose first word is `macho`.
 fn parse_macho(alloc: Global, words: &[&str]) -> Result<MachoCommand, ArwenError>
     ensures means { IfOk result (λ command. MeansBy (codes "macho") macho_lines
-        (map (λ w. w.now) words.now) (macho_shown command)) }
+        (map (λ w. w.now) words.now) (macho_command_model command)) }
     ensures refused { IfErr result (MayRefuse (codes "macho") macho_lines
         (map (λ w. w.now) words.now)) }
     ensures err { IfErr result (λ error. IsOfLine error) }
@@ -164,7 +164,7 @@ fn parse_macho(alloc: Global, words: &[&str]) -> Result<MachoCommand, ArwenError
 /// a page size that is no number, is a fault of the line.
 fn parse_elf(alloc: Global, words: &[&str]) -> Result<ElfCommand, ArwenError>
     ensures means { IfOk result (λ command. MeansTaken (codes "elf") elf_lines
-        (map (λ w. w.now) words.now) (elf_shown command)) }
+        (map (λ w. w.now) words.now) (elf_command_model command)) }
     ensures refused { IfErr result (MayRefuseTaken (codes "elf") elf_lines
         (map (λ w. w.now) words.now)) }
     ensures err { IfErr result (λ error. IsOfLine error) }

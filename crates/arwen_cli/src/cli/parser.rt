@@ -4,10 +4,10 @@ ghost use Rattle.std.specs.Prelude.{unwrap_or};
 ghost use Rattle.clap.specs.Words.{all_of, app_of, fault_of, first_of, found_of, kind_of, new_app, rows_of};
 ghost use Rattle.clap.specs.Words.{rule_of, with_rule, with_subcommand};
 ghost use Rattle.command_faults.specs.Fault.{IsOfLine};
-ghost use Rattle.command_words.specs.Rows.{given_shown, kind_shown, row_shown, texts};
+ghost use Rattle.command_words.specs.Rows.{given_model, kind_model, row_model, texts};
 ghost use Rattle.arwen_cli.specs.Parser.{IsTaken, Matches, MatchesBy, RefusesNone, MayRefuseFound, MayRefuseValues, first_id, found_by};
 ghost use Rattle.arwen_cli.specs.Parser.{found_values, has_globals, is_table, leaf_app, leaf_of, line_app};
-ghost use Rattle.arwen_cli.specs.Parser.{option_rule, options_id, path_id, second_id, taken_shown, top_app, value_rule};
+ghost use Rattle.arwen_cli.specs.Parser.{option_rule, options_id, path_id, second_id, taken_model, top_app, value_rule};
 ghost use Rattle.arwen_cli.specs.Parser.{values_rule, with_options, with_path, with_text, with_texts, with_words, words_id};
 
 use crate::cli::ArwenError;
@@ -56,10 +56,10 @@ pub(crate) fn parse_values(
     rows: &'static [Row],
     words: &[&str],
 ) -> Result<(&'static str, Values), ArwenError>
-    requires { is_table (map row_shown rows.now) ≡ true }
-    ensures taken { IfOk result (λ taken. IsTaken first.word.now (map row_shown rows.entry.now)
-        (map (λ w. w.now) words.now) (taken_shown taken)) }
-    ensures refused { IfErr result (MayRefuseValues first.word.now (map row_shown rows.entry.now)
+    requires { is_table (map row_model rows.now) ≡ true }
+    ensures taken { IfOk result (λ taken. IsTaken first.word.now (map row_model rows.entry.now)
+        (map (λ w. w.now) words.now) (taken_model taken)) }
+    ensures refused { IfErr result (MayRefuseValues first.word.now (map row_model rows.entry.now)
         (map (λ w. w.now) words.now)) }
     ensures err { IfErr result (λ error. IsOfLine error) }
 {
@@ -78,11 +78,11 @@ fn matches_by<'a>(
     rows: &'a [Row],
     words: &'a [&'a str],
 ) -> Result<ArgMatches<'a>, ArwenError>
-    requires { is_table (map row_shown rows.now) ≡ true }
-    ensures taken { IfOk result (MatchesBy first.word.now (map row_shown rows.entry.now)
+    requires { is_table (map row_model rows.now) ≡ true }
+    ensures taken { IfOk result (MatchesBy first.word.now (map row_model rows.entry.now)
         (map (λ w. w.now) words.entry.now)) }
     ensures refused { IfErr result (λ error. fault_of (line_app first.word.now
-        (map row_shown rows.entry.now)) (map (λ w. w.now) words.entry.now) ≡ []
+        (map row_model rows.entry.now)) (map (λ w. w.now) words.entry.now) ≡ []
         → error ≡ ArwenError.Memory) }
     ensures err { IfErr result (λ error. IsOfLine error) }
 {
@@ -128,7 +128,7 @@ fn table_line<'a>(
     rows: &'a [Row],
 ) -> Result<clap::Command<'a>, AllocError>
     ensures { IfOk result (λ line.
-        app_of line ≡ line_app first.word.now (map row_shown rows.entry.now)) }
+        app_of line ≡ line_app first.word.now (map row_model rows.entry.now)) }
 {
     let mut line = top_line(alloc, first)?;
     for row in rows {
@@ -144,7 +144,7 @@ fn with_row<'a>(
     row: &'a Row,
 ) -> Result<clap::Command<'a>, AllocError>
     ensures { IfOk result (λ new. app_of new
-        ≡ with_subcommand (app_of line.entry) (leaf_of (row_shown row.entry.now))) }
+        ≡ with_subcommand (app_of line.entry) (leaf_of (row_model row.entry.now))) }
 {
     let command = row_line(alloc, row)?;
     line.subcommand(command)
@@ -164,7 +164,7 @@ fn top_line<'a>(alloc: Global, first: First) -> Result<clap::Command<'a>, AllocE
 /// A command, as a part of a line.
 fn row_line<'a>(alloc: Global, row: &'a Row) -> Result<clap::Command<'a>, AllocError>
     ensures app { IfOk result (λ line.
-        app_of line ≡ leaf_app row.entry.now.name.now (kind_shown row.entry.now.form)) }
+        app_of line ≡ leaf_app row.entry.now.name.now (kind_model row.entry.now.form)) }
     ensures local { IfOk result (λ line. has_globals line ≡ false) }
 {
     let line = named_line(alloc, row);
@@ -323,9 +323,9 @@ fn row_values(
     name: &str,
     matches: &ArgMatches<'_>,
 ) -> Result<(&'static str, Values), ArwenError>
-    ensures taken { IfOk result (λ taken. found_by (map row_shown rows.entry.now) name.now
-        (rows_of (found_of matches.now)) ≡ Some (taken_shown taken)) }
-    ensures refused { IfErr result (MayRefuseFound (found_by (map row_shown rows.entry.now)
+    ensures taken { IfOk result (λ taken. found_by (map row_model rows.entry.now) name.now
+        (rows_of (found_of matches.now)) ≡ Some (taken_model taken)) }
+    ensures refused { IfErr result (MayRefuseFound (found_by (map row_model rows.entry.now)
         name.now (rows_of (found_of matches.now)))) }
     ensures err { IfErr result (λ error. IsOfLine error) }
 {
@@ -340,8 +340,8 @@ fn read_row(
     name: &str,
     matches: &ArgMatches<'_>,
 ) -> Result<Option<(&'static str, Values)>, AllocError>
-    ensures { IfOk result (λ taken. option_map taken_shown taken
-        ≡ found_by (map row_shown rows.entry.now) name.now (rows_of (found_of matches.now))) }
+    ensures { IfOk result (λ taken. option_map taken_model taken
+        ≡ found_by (map row_model rows.entry.now) name.now (rows_of (found_of matches.now))) }
 {
     let Some(row) = find_row(rows, name) else {
         return Ok(None);
@@ -356,8 +356,8 @@ fn read_values(
     form: &Form,
     matches: &ArgMatches<'_>,
 ) -> Result<Option<Values>, AllocError>
-    ensures { IfOk result (λ values. option_map given_shown values
-        ≡ found_values (kind_shown form.now) (rows_of (found_of matches.now))) }
+    ensures { IfOk result (λ values. option_map given_model values
+        ≡ found_values (kind_model form.now) (rows_of (found_of matches.now))) }
 {
     match form {
         Form::Path => read_path(alloc, matches),
@@ -370,7 +370,7 @@ fn read_values(
 
 /// The path alone.
 fn read_path(alloc: Global, matches: &ArgMatches<'_>) -> Result<Option<Values>, AllocError>
-    ensures { IfOk result (λ values. option_map given_shown values
+    ensures { IfOk result (λ values. option_map given_model values
         ≡ with_path (first_of path_id (rows_of (found_of matches.now)))) }
 {
     let Some(path) = text_of(matches, PATH) else {
@@ -381,7 +381,7 @@ fn read_path(alloc: Global, matches: &ArgMatches<'_>) -> Result<Option<Values>, 
 
 /// A text and the path.
 fn read_text(alloc: Global, matches: &ArgMatches<'_>) -> Result<Option<Values>, AllocError>
-    ensures { IfOk result (λ values. option_map given_shown values
+    ensures { IfOk result (λ values. option_map given_model values
         ≡ with_text (first_of first_id (rows_of (found_of matches.now)))
         (first_of path_id (rows_of (found_of matches.now)))) }
 {
@@ -394,7 +394,7 @@ fn read_text(alloc: Global, matches: &ArgMatches<'_>) -> Result<Option<Values>, 
 
 /// Two texts and the path.
 fn read_texts(alloc: Global, matches: &ArgMatches<'_>) -> Result<Option<Values>, AllocError>
-    ensures { IfOk result (λ values. option_map given_shown values
+    ensures { IfOk result (λ values. option_map given_model values
         ≡ with_texts (first_of first_id (rows_of (found_of matches.now)))
         (first_of second_id (rows_of (found_of matches.now)))
         (first_of path_id (rows_of (found_of matches.now)))) }
@@ -410,7 +410,7 @@ fn read_texts(alloc: Global, matches: &ArgMatches<'_>) -> Result<Option<Values>,
 
 /// Two texts and a path, as the values of a command.
 fn texts_values(alloc: Global, first: &str, second: &str, path: &str) -> Result<Values, AllocError>
-    ensures { IfOk result (λ values. given_shown values ≡ texts first.now second.now path.now) }
+    ensures { IfOk result (λ values. given_model values ≡ texts first.now second.now path.now) }
 {
     let first = String::from_str(alloc, first)?;
     let second = String::from_str(alloc, second)?;
@@ -420,7 +420,7 @@ fn texts_values(alloc: Global, first: &str, second: &str, path: &str) -> Result<
 
 /// The path and any number of words.
 fn read_words(alloc: Global, matches: &ArgMatches<'_>) -> Result<Option<Values>, AllocError>
-    ensures { IfOk result (λ values. option_map given_shown values
+    ensures { IfOk result (λ values. option_map given_model values
         ≡ with_words (first_of path_id (rows_of (found_of matches.now)))
         (all_of words_id (rows_of (found_of matches.now)))) }
 {
@@ -433,7 +433,7 @@ fn read_words(alloc: Global, matches: &ArgMatches<'_>) -> Result<Option<Values>,
 
 /// The path and the values of an option.
 fn read_options(alloc: Global, matches: &ArgMatches<'_>) -> Result<Option<Values>, AllocError>
-    ensures { IfOk result (λ values. option_map given_shown values
+    ensures { IfOk result (λ values. option_map given_model values
         ≡ with_options (first_of path_id (rows_of (found_of matches.now)))
         (all_of options_id (rows_of (found_of matches.now)))) }
 {

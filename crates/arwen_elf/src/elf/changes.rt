@@ -1,8 +1,8 @@
 //! The edits of an ELF file, by the names of the program's commands.
 ghost use Rattle.std.specs.Prelude.{◌≡◌, ◌∷◌, [], IfOk, IsOk};
-ghost use Rattle.elf_edits.specs.Called.{pairs_of_map, texts_held};
+ghost use Rattle.elf_edits.specs.Called.{pairs_of_map, texts_model};
 ghost use Rattle.elf_edits.specs.Edit.{AddDebugEntry, AddNeeded, AddRunPath, ClearExecStack, DeleteNeeded, DeleteRunPath, NoDefaultLibrary, ReplaceNeeded, SetExecStack, SetInterpreter, SetOsAbi, SetPageSize, SetRunPath, SetSoname, UseRpath};
-ghost use Rattle.elf_apply.specs.Taken.{RemovedAre, edits_meant, shrink_meant};
+ghost use Rattle.elf_apply.specs.Taken.{RemovedAre, edits_model, shrink_model};
 ghost use Rattle.arwen_elf.specs.Contained.{BatchTaken, EditTaken, InPlaceTaken};
 
 use crate::elf::container::ElfContainer;
@@ -21,7 +21,7 @@ impl<'a> ElfContainer<'a> {
         alloc: Global,
         edits: &[ElfEdit],
     ) -> std::result::Result<(), ElfBatchError>
-        ensures takes { BatchTaken (edits_meant edits.now) self.old self.new result }
+        ensures takes { BatchTaken (edits_model edits.now) self.old self.new result }
         ensures none { edits.now ≡ [] → IsOk result }
     {
         self.inner.apply(alloc, edits)
@@ -63,9 +63,9 @@ impl<'a> ElfContainer<'a> {
         prefixes: &[Vec<u8>],
         probe: &[ProbeAnswer<'_>],
     ) -> Result<Vec<Removed>>
-        ensures takes { EditTaken (shrink_meant prefixes.now probe.now) self.old self.new result }
+        ensures takes { EditTaken (shrink_model prefixes.now probe.now) self.old self.new result }
         ensures removed { IfOk result
-            (RemovedAre (shrink_meant prefixes.now probe.now) self.old.inner) }
+            (RemovedAre (shrink_model prefixes.now probe.now) self.old.inner) }
     {
         self.inner.elf_shrink_rpath(alloc, prefixes, probe)
     }
@@ -94,14 +94,14 @@ impl<'a> ElfContainer<'a> {
 
     /// Puts the names of libraries that are not needed yet before all entries, in order and with repeats.
     pub fn add_needed(&mut self, alloc: Global, names: &[Vec<u8>]) -> Result<()>
-        ensures { EditTaken (AddNeeded (texts_held names.now)) self.old self.new result }
+        ensures { EditTaken (AddNeeded (texts_model names.now)) self.old self.new result }
     {
         self.inner.elf_add_needed(alloc, names)
     }
 
     /// Drops every needed library of one of these names.
     pub fn remove_needed(&mut self, alloc: Global, names: &[Vec<u8>]) -> Result<()>
-        ensures { EditTaken (DeleteNeeded (texts_held names.now)) self.old self.new result }
+        ensures { EditTaken (DeleteNeeded (texts_model names.now)) self.old self.new result }
     {
         self.inner.delete_needed_names(alloc, names)
     }

@@ -6,7 +6,7 @@ ghost use Rattle.elf_image.specs.Answers.{borrowed};
 ghost use Rattle.elf_apply.specs.Causes.{FailsPrint, FailsWrite, RefusesRead};
 ghost use Rattle.arwen_elf.specs.PageSizes.{page_size_for};
 ghost use Rattle.arwen_elf.specs.Prints.{before_nul as bytes_before_nul, cut_at_colons as parts_between_colons, directories_shown, line_if, line_of, printed_exec_stack, printed_interpreter, printed_needed, printed_os_abi, printed_runpath, printed_soname};
-ghost use Rattle.arwen_elf.specs.WriterSeen.{ShowsBothViews};
+ghost use Rattle.arwen_elf.specs.WriterModel.{ShowsBothViews};
 ghost use Rattle.arwen_elf.specs.Written.{GetsImage, IsImageWritten, IsIo, IsNoDifference, IsNoImage, IsNotWritten, MayNotWrite};
 
 use crate::elf::rewriter::writer::Writer;

@@ -6,8 +6,8 @@ ghost use Rattle.byte_store.specs.Laid.{LiesIn};
 ghost use Rattle.elf_commands.specs.ElfAsked.{elf_asked};
 ghost use Rattle.elf_commands.specs.ElfEngine.{AreEditsAsked, ElfMayFail};
 ghost use Rattle.elf_commands.specs.ElfStores.{ChangesNothing, FailsElf, IsElfPatched, IsNothing, TellsElfPath};
-ghost use Rattle.elf_commands.specs.ElfWords.{edits_meant};
-ghost use Rattle.elf_commands.specs.Meaning.{elf_file_of, elf_shown};
+ghost use Rattle.elf_commands.specs.ElfWords.{edits_model};
+ghost use Rattle.elf_commands.specs.Meaning.{elf_file_of, elf_command_model};
 
 use crate::command::ElfCommand;
 use crate::elf::engine::{edited_pieces, edits_asked};
@@ -31,10 +31,10 @@ pub fn edit_store<S: Store>(
     store: &mut S,
     command: &ElfCommand,
 ) -> Result<(), ArwenError>
-    ensures patched { OnOk result (IsElfPatched (elf_asked (elf_shown command.now))
+    ensures patched { OnOk result (IsElfPatched (elf_asked (elf_command_model command.now))
         (S.contents store.old) (S.contents store.new)) }
-    ensures err { IfErr result (λ e. ElfMayFail (elf_shown command.now) e) }
-    ensures left { IfErr result (FailsElf (elf_asked (elf_shown command.now))
+    ensures err { IfErr result (λ e. ElfMayFail (elf_command_model command.now) e) }
+    ensures left { IfErr result (FailsElf (elf_asked (elf_command_model command.now))
         (S.contents store.old) (S.contents store.new)) }
 {
     let bytes = load_elf(alloc, store)?;
@@ -53,17 +53,17 @@ fn edit_loaded<S: Store>(
     command: &ElfCommand,
     edits: &[ElfEdit],
 ) -> Result<(), ArwenError>
-    requires asked { AreEditsAsked (elf_asked (elf_shown command.now)) (edits_meant edits.now) }
+    requires asked { AreEditsAsked (elf_asked (elf_command_model command.now)) (edits_model edits.now) }
     requires whole { IsAll (S.contents store.old) bytes.now }
     requires length { HasLength (S.contents store.old) (length bytes.now) }
-    ensures patched { OnOk result (IsElfPatched (elf_asked (elf_shown command.now))
+    ensures patched { OnOk result (IsElfPatched (elf_asked (elf_command_model command.now))
         (S.contents store.old) (S.contents store.new)) }
-    ensures err { IfErr result (λ e. ElfMayFail (elf_shown command.now) e) }
-    ensures left { IfErr result (FailsElf (elf_asked (elf_shown command.now))
+    ensures err { IfErr result (λ e. ElfMayFail (elf_command_model command.now) e) }
+    ensures left { IfErr result (FailsElf (elf_asked (elf_command_model command.now))
         (S.contents store.old) (S.contents store.new)) }
-    ensures idle { ChangesNothing (elf_asked (elf_shown command.now)) bytes.now
+    ensures idle { ChangesNothing (elf_asked (elf_command_model command.now)) bytes.now
         → OnOk result (Stays (S.contents store.old) (S.contents store.new)) }
-    ensures opens { ChangesNothing (elf_asked (elf_shown command.now)) bytes.now
+    ensures opens { ChangesNothing (elf_asked (elf_command_model command.now)) bytes.now
         → OnOk result (IsTrue (S.is_writable store.new)) }
 {
     let difference = edited_pieces(alloc, bytes, command, edits)?;
@@ -119,12 +119,12 @@ pub fn edit_path<'p, O: Opens<'p>>(
     files: &O,
     command: &'p ElfCommand,
 ) -> Result<O::Opened, ArwenError>
-    ensures patched { IfOk result (λ store. IsElfPatched (elf_asked (elf_shown command.now))
-        (O.contents files.now (elf_file_of (elf_shown command.now)))
+    ensures patched { IfOk result (λ store. IsElfPatched (elf_asked (elf_command_model command.now))
+        (O.contents files.now (elf_file_of (elf_command_model command.now)))
         (O.Opened.contents store)) }
-    ensures err { IfErr result (λ e. ElfMayFail (elf_shown command.now) e) }
-    ensures tells { IfErr result (TellsElfPath (elf_asked (elf_shown command.now))
-        (O.contents files.now (elf_file_of (elf_shown command.now)))) }
+    ensures err { IfErr result (λ e. ElfMayFail (elf_command_model command.now) e) }
+    ensures tells { IfErr result (TellsElfPath (elf_asked (elf_command_model command.now))
+        (O.contents files.now (elf_file_of (elf_command_model command.now)))) }
 {
     let mut store = files.open(command.path_to_binary())?;
     edit_store(alloc, &mut store, command)?;
@@ -136,7 +136,7 @@ pub(crate) fn edit_file<R: Files + AllocGlobal>(
     rt: &R,
     command: &ElfCommand,
 ) -> Result<(), ArwenError>
-    ensures { IfErr result (λ e. ElfMayFail (elf_shown command.now) e) }
+    ensures { IfErr result (λ e. ElfMayFail (elf_command_model command.now) e) }
 {
     let files = RuntimeFiles { files: rt };
     edit_path(rt.alloc(), &files, command)?;

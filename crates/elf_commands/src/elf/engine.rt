@@ -1,6 +1,6 @@
 //! What is made of a file's bytes, and printed of them.
 ghost use Rattle.std.specs.Prelude.{◌≡◌, None, IfOk, IfErr, map};
-ghost use Rattle.elf_edits.specs.Called.{answer_held};
+ghost use Rattle.elf_edits.specs.Called.{answer_model};
 ghost use Rattle.elf_commands.specs.ShrinkRuns.{RunsCommand, TellsCommand};
 ghost use Rattle.std.specs.Io.KnownBytes.{Appends};
 ghost use Rattle.byte_store.specs.Composed.{IsDifference, made_of};
@@ -10,8 +10,8 @@ ghost use Rattle.elf_apply.specs.Causes.{FailsPrint};
 ghost use Rattle.elf_image.specs.Image.{image_of, shown};
 ghost use Rattle.elf_commands.specs.ElfAsked.{elf_asked};
 ghost use Rattle.elf_commands.specs.ElfEngine.{AreAskedIf, AreEditsAsked, IsElfEdited, LeavesElf, RunsElf, TellsEachFile, TellsEdit, TellsRun, bytes_left, elf_refusal};
-ghost use Rattle.elf_commands.specs.ElfWords.{edits_meant};
-ghost use Rattle.elf_commands.specs.Meaning.{elf_shown};
+ghost use Rattle.elf_commands.specs.ElfWords.{edits_model};
+ghost use Rattle.elf_commands.specs.Meaning.{elf_command_model};
 ghost use Rattle.elf_commands.specs.Prints.{Prints, TellsElf, printed};
 
 use crate::command::ElfCommand;
@@ -40,10 +40,10 @@ pub fn run_elf<W: Write>(
     probe: &[ProbeAnswer<'_>],
     out: &mut W,
 ) -> Result<Option<Vec<u8>>, ArwenError>
-    ensures ran { IfOk result (λ new. RunsCommand (elf_shown command.now)
-        (map answer_held probe.now) bytes.now new (W.contents out.old) (W.contents out.new)) }
-    ensures err { IfErr result (TellsCommand (elf_shown command.now)
-        (map answer_held probe.now) bytes.now out.old out.new) }
+    ensures ran { IfOk result (λ new. RunsCommand (elf_command_model command.now)
+        (map answer_model probe.now) bytes.now new (W.contents out.old) (W.contents out.new)) }
+    ensures err { IfErr result (TellsCommand (elf_command_model command.now)
+        (map answer_model probe.now) bytes.now out.old out.new) }
 {
     match command {
         ElfCommand::ShrinkRpath(args) => run_shrink(alloc, bytes, args, probe, out),
@@ -58,11 +58,11 @@ fn run_unprobed<W: Write>(
     command: &ElfCommand,
     out: &mut W,
 ) -> Result<Option<Vec<u8>>, ArwenError>
-    ensures ran { IfOk result (λ new. RunsElf (elf_shown command.now)
-        (elf_asked (elf_shown command.now)) bytes.now new
+    ensures ran { IfOk result (λ new. RunsElf (elf_command_model command.now)
+        (elf_asked (elf_command_model command.now)) bytes.now new
         (W.contents out.old) (W.contents out.new)) }
     ensures err { IfErr result
-        (TellsRun (elf_asked (elf_shown command.now)) bytes.now out.old out.new) }
+        (TellsRun (elf_asked (elf_command_model command.now)) bytes.now out.old out.new) }
 {
     match edits_asked(alloc, command)? {
         Some(edits) => edited(alloc, bytes, command, edits.as_slice()),
@@ -78,8 +78,8 @@ pub(crate) fn edits_asked(
     alloc: Global,
     command: &ElfCommand,
 ) -> Result<Option<Vec<ElfEdit>>, ArwenError>
-    ensures ok { IfOk result (AreAskedIf (elf_asked (elf_shown command.now))) }
-    ensures err { IfErr result (TellsEachFile (elf_asked (elf_shown command.now))) }
+    ensures ok { IfOk result (AreAskedIf (elf_asked (elf_command_model command.now))) }
+    ensures err { IfErr result (TellsEachFile (elf_asked (elf_command_model command.now))) }
 {
     if let ElfCommand::Apply(args) = command {
         let words = words_of(alloc, args.edits.as_slice())?;
@@ -100,11 +100,11 @@ pub(crate) fn edited(
     command: &ElfCommand,
     edits: &[ElfEdit],
 ) -> Result<Option<Vec<u8>>, ArwenError>
-    requires { AreEditsAsked (elf_asked (elf_shown command.now)) (edits_meant edits.now) }
-    ensures ok { IfOk result (IsElfEdited (elf_asked (elf_shown command.now)) bytes.now) }
-    ensures left { IfOk result (λ new. LeavesElf (elf_asked (elf_shown command.now)) bytes.now
+    requires { AreEditsAsked (elf_asked (elf_command_model command.now)) (edits_model edits.now) }
+    ensures ok { IfOk result (IsElfEdited (elf_asked (elf_command_model command.now)) bytes.now) }
+    ensures left { IfOk result (λ new. LeavesElf (elf_asked (elf_command_model command.now)) bytes.now
         (bytes_left bytes.now new)) }
-    ensures err { IfErr result (TellsEdit (elf_asked (elf_shown command.now)) bytes.now) }
+    ensures err { IfErr result (TellsEdit (elf_asked (elf_command_model command.now)) bytes.now) }
 {
     edits_show();
     batches_are_their_edits();
@@ -126,12 +126,12 @@ pub(crate) fn edited_pieces(
     command: &ElfCommand,
     edits: &[ElfEdit],
 ) -> Result<Difference, ArwenError>
-    requires { AreEditsAsked (elf_asked (elf_shown command.now)) (edits_meant edits.now) }
+    requires { AreEditsAsked (elf_asked (elf_command_model command.now)) (edits_model edits.now) }
     ensures makeable { IfOk result (λ d. IsDifference bytes.now d) }
-    ensures left { IfOk result (λ d. LeavesElf (elf_asked (elf_shown command.now)) bytes.now
+    ensures left { IfOk result (λ d. LeavesElf (elf_asked (elf_command_model command.now)) bytes.now
         (made_of bytes.now d)) }
-    ensures err { IfErr result (TellsEdit (elf_asked (elf_shown command.now)) bytes.now) }
-    ensures idle { ChangesNothing (elf_asked (elf_shown command.now)) bytes.now
+    ensures err { IfErr result (TellsEdit (elf_asked (elf_command_model command.now)) bytes.now) }
+    ensures idle { ChangesNothing (elf_asked (elf_command_model command.now)) bytes.now
         → IfOk result (IsNoDifference bytes.now) }
 {
     edits_show();
@@ -145,7 +145,7 @@ pub(crate) fn edited_pieces(
 
 /// A refused edit as it is answered to a command. Of several it is told which one is refused.
 fn refusal(command: &ElfCommand, error: ElfBatchError) -> ArwenError
-    ensures { result ≡ elf_refusal (elf_asked (elf_shown command.now)) error }
+    ensures { result ≡ elf_refusal (elf_asked (elf_command_model command.now)) error }
 {
     match command {
         ElfCommand::Apply(_) => ArwenError::from(error),
@@ -160,7 +160,7 @@ pub(crate) fn print_bytes<W: Write>(
     command: &ElfCommand,
     out: &mut W,
 ) -> Result<(), ArwenError>
-    ensures printed { IfOk result (λ _. Prints (elf_shown command.now) (image_of bytes.now)
+    ensures printed { IfOk result (λ _. Prints (elf_command_model command.now) (image_of bytes.now)
         (W.contents out.old) (W.contents out.new)) }
     ensures err { IfErr result (λ e. TellsElf (image_of bytes.now) out.old out.new e) }
 {
@@ -176,7 +176,7 @@ fn print_asked<W: Write>(
     out: &mut W,
 ) -> Result<(), ElfError>
     ensures printed { IfOk result (λ _. Appends (W.contents out.old) (W.contents out.new)
-        (printed (elf_shown command.now) (shown elf.now.inner))) }
+        (printed (elf_command_model command.now) (shown elf.now.inner))) }
     ensures err { IfErr result (λ e. FailsPrint out.old out.new e) }
 {
     match command {

@@ -1,7 +1,7 @@
 //! `no-default-lib`.
 ghost use Rattle.std.specs.Prelude.{IfErr};
 ghost use Rattle.elf_commands.specs.ElfEngine.{ElfMayFail};
-ghost use Rattle.elf_commands.specs.Meaning.{elf_shown};
+ghost use Rattle.elf_commands.specs.Meaning.{elf_command_model};
 
 use crate::command::ElfCommand;
 use crate::elf::edit_file;
@@ -20,7 +20,7 @@ pub struct Args {
 
 /// Edits the file.
 pub fn execute<R: Files + AllocGlobal>(rt: &R, args: Args) -> Result<(), ArwenError>
-    ensures { IfErr result (λ e. ElfMayFail (elf_shown (ElfCommand.NoDefaultLib args)) e) }
+    ensures { IfErr result (λ e. ElfMayFail (elf_command_model (ElfCommand.NoDefaultLib args)) e) }
 {
     edit_file(rt, &ElfCommand::NoDefaultLib(args))
 }

@@ -1,8 +1,8 @@
 //! Libraries that are looked for in the directories of a run path.
 ghost use Rattle.std.specs.Prelude.{◌≡◌, ◌++◌, ℕ, List, IfOk, MatchOption, OnOk, IsUtf8, map, string_bytes};
 ghost use Rattle.std.specs.Str.Lossy.{utf8_lossy};
-ghost use Rattle.elf_edits.specs.Called.{answer_held};
-ghost use Rattle.elf_edits.specs.ShrunkSeen.{reason_meant, removal_meant};
+ghost use Rattle.elf_edits.specs.Called.{answer_model};
+ghost use Rattle.elf_edits.specs.ShrunkModel.{reason_model, removal_model};
 ghost use Rattle.elf_image.specs.Image.{shown};
 ghost use Rattle.elf_commands.specs.Shrinking.{Answers, AreFound, IsMachineAt, folder_of, line_by, path_of, removal_line, removal_lines};
 
@@ -131,7 +131,7 @@ pub(crate) fn answers_of<P: Probe>(
     probe: &P,
 ) -> Result<Vec<ProbeAnswer<'static>>, AllocError>
     ensures { IfOk result (λ answers. AreFound (P.may_find probe.now) (shown elf.now.inner)
-        (map answer_held answers.items)) }
+        (map answer_model answers.items)) }
 {
     let questions = elf.inner.elf_shrink_questions(alloc)?;
     let mut answers = Vec::with_capacity(alloc, questions.len())?;
@@ -149,7 +149,7 @@ fn answer_to<P: Probe>(
     needed: &[u8],
 ) -> Result<ProbeAnswer<'static>, AllocError>
     ensures { IfOk result (λ answer. Answers (P.may_find probe.now) directory.now needed.now
-        (answer_held answer)) }
+        (answer_model answer)) }
 {
     let machine = probe.machine(alloc, directory, needed)?;
     let directory = Vec::from_slice(alloc, directory)?;
@@ -164,7 +164,7 @@ fn answer_to<P: Probe>(
 /// The lines that tell which directories went from run paths, and why.
 pub(crate) fn removal_text(alloc: Global, removed: &[Removed]) -> Result<String, AllocError>
     ensures { IfOk result (λ text.
-        string_bytes text ≡ removal_lines (map removal_meant removed.now)) }
+        string_bytes text ≡ removal_lines (map removal_model removed.now)) }
 {
     let mut text = String::new(alloc);
     for one in removed {
@@ -176,18 +176,18 @@ pub(crate) fn removal_text(alloc: Global, removed: &[Removed]) -> Result<String,
 /// Puts the line of a directory that went behind others.
 fn put_removal(alloc: Global, text: &mut String, removed: &Removed) -> Result<(), AllocError>
     ensures { OnOk result (string_bytes text.new
-        ≡ string_bytes text.old ++ removal_line (removal_meant removed.now)) }
+        ≡ string_bytes text.old ++ removal_line (removal_model removed.now)) }
 {
     let directory = String::from_utf8_lossy(alloc, removed.directory.as_slice())?;
-    let (before, behind) = around(removed.reason);
+    let (before, behind) = line_parts(removed.reason);
     text.push_str(before)?;
     text.push_str(directory.as_str())?;
     text.push_str(behind)
 }
 
 /// What a line says before and behind the directory that went for this reason.
-fn around(reason: Reason) -> (&'static str, &'static str)
-    ensures { (directory : List ℕ) → line_by (reason_meant reason) directory
+fn line_parts(reason: Reason) -> (&'static str, &'static str)
+    ensures { (directory : List ℕ) → line_by (reason_model reason) directory
         ≡ result.0.now ++ utf8_lossy directory ++ result.1.now }
 {
     match reason {

@@ -1,7 +1,7 @@
 //! `shrink-rpath`.
 ghost use Rattle.std.specs.Prelude.{IfErr};
 ghost use Rattle.elf_commands.specs.ElfEngine.{ElfMayFail};
-ghost use Rattle.elf_commands.specs.Meaning.{elf_shown};
+ghost use Rattle.elf_commands.specs.Meaning.{elf_command_model};
 
 use crate::command::ElfCommand;
 use crate::elf::shrinking::shrink_file;
@@ -22,7 +22,7 @@ pub struct Args {
 
 /// Edits the file. Which directories went is told on the standard error.
 pub fn execute<R: Files + Eprint + AllocGlobal>(rt: &R, args: Args) -> Result<(), ArwenError>
-    ensures { IfErr result (λ e. ElfMayFail (elf_shown (ElfCommand.ShrinkRpath args)) e) }
+    ensures { IfErr result (λ e. ElfMayFail (elf_command_model (ElfCommand.ShrinkRpath args)) e) }
 {
     shrink_file(rt, &args)
 }

@@ -2,7 +2,7 @@
 ghost use Rattle.std.specs.Prelude.{◌≡◌, false, true, IfErr, IfOk, OnOk, length, map, string_bytes};
 ghost use Rattle.byte_store.specs.Composed.{IsDifference};
 ghost use Rattle.byte_store.specs.Known.{HasLength, IsAll};
-ghost use Rattle.elf_edits.specs.Called.{answer_held};
+ghost use Rattle.elf_edits.specs.Called.{answer_model};
 ghost use Rattle.elf_edits.specs.Edit.{ShrinkRunPath};
 ghost use Rattle.elf_apply.specs.Told.{Refuses};
 ghost use Rattle.arwen_elf.specs.Written.{IsNoImage};
@@ -41,9 +41,9 @@ fn shrunk_with<'a>(
     probe: &[ProbeAnswer<'_>],
 ) -> Result<(ElfContainer<'a>, Vec<Removed>), ElfError>
     ensures ok { IfOk result (λ made. Steps (ShrinkRunPath (map string_bytes prefixes.now)
-        (map answer_held probe.now)) elf.entry.inner made.0.inner made.1) }
+        (map answer_model probe.now)) elf.entry.inner made.0.inner made.1) }
     ensures err { IfErr result (λ e. Refuses e (step (ShrinkRunPath (map string_bytes prefixes.now)
-        (map answer_held probe.now)) elf.entry.inner)) }
+        (map answer_model probe.now)) elf.entry.inner)) }
 {
     let prefixes = texts_of(alloc, prefixes)?;
     let removed = elf.shrink_rpath(alloc, prefixes.as_slice(), probe)?;
@@ -72,10 +72,10 @@ pub(crate) fn run_shrink<W: Write>(
     out: &mut W,
 ) -> Result<Option<Vec<u8>>, ArwenError>
     ensures ran { IfOk result (λ new. RunsShrink (ShrinkRunPath
-        (map string_bytes args.now.allowed_rpath_prefixes.items) (map answer_held probe.now))
+        (map string_bytes args.now.allowed_rpath_prefixes.items) (map answer_model probe.now))
         bytes.now new (W.contents out.old) (W.contents out.new)) }
     ensures err { IfErr result (TellsShrink (ShrinkRunPath
-        (map string_bytes args.now.allowed_rpath_prefixes.items) (map answer_held probe.now))
+        (map string_bytes args.now.allowed_rpath_prefixes.items) (map answer_model probe.now))
         bytes.now out.old out.new) }
 {
     edits_show();

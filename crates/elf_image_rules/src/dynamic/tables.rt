@@ -3,7 +3,7 @@
 
 ghost use Rattle.std.specs.Prelude.{◌≡◌, ◌==◌, count_by, nat_le};
 ghost use Rattle.elf_format.specs.File.{section_of_type as first_section};
-ghost use Rattle.elf_image_rules.specs.Read.{parts_seen};
+ghost use Rattle.elf_image_rules.specs.Read.{parts_model};
 ghost use Rattle.elf_format.specs.Records.{symbol_size};
 ghost use Rattle.elf_format.specs.Rules.{are_dynamic_tables_right as tables_right, dynamic_tables_agree as tables_agree, hashes_agree as hash_tags_agree, raw_entries as entries_of, records_agree as record_tags_agree, shares_texts as has_shared_texts, strings_agree as string_tags_agree, symbols_agree as symbol_tags_agree, tag_fits, tag_is_address as is_address_at, tags_come_once as table_tags_come_once, texts_are_shared as all_texts_shared, versions_agree as version_tags_agree};
 
@@ -106,8 +106,8 @@ fn count_fits(raw: &[EntryNumbers], tag: u64, records: Option<SectionHeader>) ->
 
 // Whether the list names the string table that its section links to, and no more bytes of it than there are.
 fn strings_agree(parts: &Headers<'_>, raw: &[EntryNumbers], list: SectionHeader) -> bool
-    requires { raw.now ≡ entries_of (parts_seen parts.now) }
-    ensures { result ≡ string_tags_agree (parts_seen parts.now) list }
+    requires { raw.now ≡ entries_of (parts_model parts.now) }
+    ensures { result ≡ string_tags_agree (parts_model parts.now) list }
 {
     let strings = linked_section(&parts.sections, list);
     has_tag(raw, DT_STRTAB) && tag_is_address(raw, DT_STRTAB, strings) && size_fits(raw, strings)
@@ -115,8 +115,8 @@ fn strings_agree(parts: &Headers<'_>, raw: &[EntryNumbers], list: SectionHeader)
 
 // Whether the tags of the dynamic symbols agree with their section.
 fn symbols_agree(parts: &Headers<'_>, raw: &[EntryNumbers]) -> bool
-    requires { raw.now ≡ entries_of (parts_seen parts.now) }
-    ensures { result ≡ symbol_tags_agree (parts_seen parts.now) }
+    requires { raw.now ≡ entries_of (parts_model parts.now) }
+    ensures { result ≡ symbol_tags_agree (parts_model parts.now) }
 {
     let symbols = section_of(parts, SHT_DYNSYM);
     tag_is_address(raw, DT_SYMTAB, symbols) && entry_size_fits(parts.form, raw, symbols)
@@ -124,8 +124,8 @@ fn symbols_agree(parts: &Headers<'_>, raw: &[EntryNumbers]) -> bool
 
 // Whether the tags of the hash tables agree with their sections.
 fn hashes_agree(parts: &Headers<'_>, raw: &[EntryNumbers]) -> bool
-    requires { raw.now ≡ entries_of (parts_seen parts.now) }
-    ensures { result ≡ hash_tags_agree (parts_seen parts.now) }
+    requires { raw.now ≡ entries_of (parts_model parts.now) }
+    ensures { result ≡ hash_tags_agree (parts_model parts.now) }
 {
     tag_is_address(raw, DT_HASH, section_of(parts, SHT_HASH))
         && tag_is_address(raw, DT_GNU_HASH, section_of(parts, SHT_GNU_HASH))
@@ -139,8 +139,8 @@ fn records_agree(
     count_tag: u64,
     kind: u32,
 ) -> bool
-    requires { raw.now ≡ entries_of (parts_seen parts.now) }
-    ensures { result ≡ record_tags_agree (parts_seen parts.now) tag count_tag kind }
+    requires { raw.now ≡ entries_of (parts_model parts.now) }
+    ensures { result ≡ record_tags_agree (parts_model parts.now) tag count_tag kind }
 {
     let records = section_of(parts, kind);
     tag_is_address(raw, tag, records) && count_fits(raw, count_tag, records)
@@ -148,8 +148,8 @@ fn records_agree(
 
 // Whether the tags of all version tables agree with their sections.
 fn versions_agree(parts: &Headers<'_>, raw: &[EntryNumbers]) -> bool
-    requires { raw.now ≡ entries_of (parts_seen parts.now) }
-    ensures { result ≡ version_tags_agree (parts_seen parts.now) }
+    requires { raw.now ≡ entries_of (parts_model parts.now) }
+    ensures { result ≡ version_tags_agree (parts_model parts.now) }
 {
     tag_is_address(raw, DT_VERSYM, section_of(parts, SHT_GNU_VERSYM))
         && records_agree(parts, raw, DT_VERDEF, DT_VERDEFNUM, SHT_GNU_VERDEF)
@@ -158,7 +158,7 @@ fn versions_agree(parts: &Headers<'_>, raw: &[EntryNumbers]) -> bool
 
 // Whether a section, where it is there, has its texts where the dynamic list has its own.
 fn shares_texts(parts: &Headers<'_>, list: SectionHeader, kind: u32) -> bool
-    ensures { result ≡ has_shared_texts (parts_seen parts.now) list kind }
+    ensures { result ≡ has_shared_texts (parts_model parts.now) list kind }
 {
     match section_of(parts, kind) {
         None => true,
@@ -168,7 +168,7 @@ fn shares_texts(parts: &Headers<'_>, list: SectionHeader, kind: u32) -> bool
 
 // Whether symbols and version records have their texts where the dynamic list has its own.
 fn texts_are_shared(parts: &Headers<'_>, list: SectionHeader) -> bool
-    ensures { result ≡ all_texts_shared (parts_seen parts.now) list }
+    ensures { result ≡ all_texts_shared (parts_model parts.now) list }
 {
     shares_texts(parts, list, SHT_DYNSYM)
         && shares_texts(parts, list, SHT_GNU_VERDEF)
@@ -177,8 +177,8 @@ fn texts_are_shared(parts: &Headers<'_>, list: SectionHeader) -> bool
 
 // Whether each table tag of the list comes once at most and agrees with its section.
 fn dynamic_tables_agree(parts: &Headers<'_>, raw: &[EntryNumbers], list: SectionHeader) -> bool
-    requires { raw.now ≡ entries_of (parts_seen parts.now) }
-    ensures { result ≡ tables_agree (parts_seen parts.now) list }
+    requires { raw.now ≡ entries_of (parts_model parts.now) }
+    ensures { result ≡ tables_agree (parts_model parts.now) list }
 {
     tags_come_once(raw)
         && strings_agree(parts, raw, list)
@@ -190,8 +190,8 @@ fn dynamic_tables_agree(parts: &Headers<'_>, raw: &[EntryNumbers], list: Section
 
 // Whether the dynamic list, where it is there, agrees with the sections of the tables that it names.
 pub(crate) fn are_dynamic_tables_right(parts: &Headers<'_>, raw: &[EntryNumbers]) -> bool
-    requires { raw.now ≡ entries_of (parts_seen parts.now) }
-    ensures { result ≡ tables_right (parts_seen parts.now) }
+    requires { raw.now ≡ entries_of (parts_model parts.now) }
+    ensures { result ≡ tables_right (parts_model parts.now) }
 {
     match section_of(parts, SHT_DYNAMIC) {
         None => true,

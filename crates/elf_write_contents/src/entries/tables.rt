@@ -1,9 +1,9 @@
 //! The values of dynamic entries that follow from tables (gABI, Dynamic Section).
 ghost use Rattle.std.specs.Prelude.{◌≡◌, option_map};
 ghost use Rattle.elf_format.specs.declared.constants.TheConstants.{DT_STRSZ as STRSZ, DT_STRTAB as STRTAB};
-ghost use Rattle.elf_layout_plan.specs.Kept.{image_at_read};
+ghost use Rattle.elf_image.specs.Kept.{image_at_read};
 ghost use Rattle.elf_layout_plan.specs.Plan.{resized};
-ghost use Rattle.elf_layout_plan.specs.PlanSeen.{place_seen};
+ghost use Rattle.elf_layout_plan.specs.PlanModel.{place_model};
 ghost use Rattle.elf_write_spec.specs.Contents.{address_of_type as address_of_kind, strings_place as place_of_strings, table_value as value_of_table};
 ghost use Rattle.elf_write_spec.specs.Final.{final};
 ghost use Rattle.elf_write_contents.specs.EntrySteps.{place_at as place_there};
@@ -29,7 +29,7 @@ pub(super) fn form_of(image: &Builder<'_>) -> Form
 
 // Where the section at a position comes to stand.
 fn place_at(plan: &Plan, position: Option<usize>) -> Option<SectionPlace>
-    ensures { option_map place_seen result ≡ place_there plan.now position }
+    ensures { option_map place_model result ≡ place_there plan.now position }
 {
     plan.places().get(position?).copied()
 }
@@ -48,7 +48,7 @@ fn address_of_type(image: &Builder<'_>, plan: &Plan, kind: u32) -> u64
 
 // Where the dynamic strings come to stand.
 fn strings_place(image: &Builder<'_>, plan: &Plan) -> Option<SectionPlace>
-    ensures { option_map place_seen result ≡ place_of_strings image.now plan.now }
+    ensures { option_map place_model result ≡ place_of_strings image.now plan.now }
 {
     // the image has as many numbers of sections as sections
     let _source = image.source();

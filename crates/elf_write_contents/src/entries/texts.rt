@@ -3,7 +3,7 @@ ghost use Rattle.std.specs.Prelude.{◌≡◌, ◌<◌, All, IfOk, IsSome, Some,
 ghost use Rattle.elf_format.specs.Answers.{borrowed};
 ghost use Rattle.std.specs.List.{slice_get};
 ghost use Rattle.elf_format.specs.Options.{is_some_and, list_at};
-ghost use Rattle.elf_image.specs.ImageSeen.{entry_kept};
+ghost use Rattle.elf_image.specs.ImageModel.{entry_model};
 ghost use Rattle.elf_image.specs.Lookups.{type_position};
 ghost use Rattle.elf_format.specs.declared.constants.TheConstants.{SHT_DYNAMIC as DYNAMIC};
 ghost use Rattle.elf_layout_plan.specs.Texts.{texts_of_entries};
@@ -26,7 +26,7 @@ pub(crate) fn texts_of<'a>(
     entries: &'a [Dynamic<'_>],
 ) -> Result<Vec<&'a [u8]>, AllocError>
     ensures { IfOk result (λ texts. map borrowed texts.items
-        ≡ texts_of_entries (map entry_kept entries.entry.now)) }
+        ≡ texts_of_entries (map entry_model entries.entry.now)) }
 {
     let mut texts = Vec::new(alloc);
     for entry in entries {
@@ -39,7 +39,7 @@ pub(crate) fn texts_of<'a>(
 
 // Whether an entry has that text.
 fn has_text(entry: &Dynamic<'_>, text: &[u8]) -> bool
-    ensures { result ≡ has_that_text text.now (entry_kept entry.now) }
+    ensures { result ≡ has_that_text text.now (entry_model entry.now) }
 {
     match entry {
         Dynamic::Text { val, .. } => text == val.as_slice(),
@@ -49,7 +49,7 @@ fn has_text(entry: &Dynamic<'_>, text: &[u8]) -> bool
 
 // Whether a text stands at a position, and an entry has it.
 fn is_next(texts: &[&[u8]], next: usize, entry: &Dynamic<'_>) -> bool
-    ensures { result ≡ is_some_and (λ text. has_that_text text (entry_kept entry.now))
+    ensures { result ≡ is_some_and (λ text. has_that_text text (entry_model entry.now))
         (slice_get (map borrowed texts.now) next) }
 {
     match texts.get(next) {
@@ -66,7 +66,7 @@ fn places_among(
     numbers: &[EntryNumbers],
 ) -> Result<Vec<u64>, AllocError>
     ensures { IfOk result (λ places. places.items ≡ places_found (map borrowed texts.now)
-        (map entry_kept entries.now) numbers.now) }
+        (map entry_model entries.now) numbers.now) }
 {
     let mut places = Vec::new(alloc);
     let count = entries.len().min(numbers.len());

@@ -3,7 +3,7 @@ ghost use Rattle.std.specs.List.{list_any};
 ghost use Rattle.elf_format.specs.Rules.{accepted_parts};
 ghost use Rattle.elf_image.specs.Edited.{IsEdited};
 ghost use Rattle.elf_layout_plan.specs.Sizes.{definitions_size, needs_size};
-ghost use Rattle.elf_image_rules.specs.Read.{parts_seen};
+ghost use Rattle.elf_image_rules.specs.Read.{parts_model};
 ghost use Rattle.elf_tables.specs.Strings.{PlacesStand};
 ghost use Rattle.elf_tables.specs.VersionRecords.{are_names_too_many, are_versions_too_many, has_definition_texts, has_needs_texts};
 ghost use Rattle.elf_write_spec.specs.Contents.{AreDefinitionsIn};
@@ -29,7 +29,7 @@ pub(crate) fn headers_of<'data>(
     alloc: Global,
     read: &Builder<'data>,
 ) -> Result<Headers<'data>, AllocError>
-    ensures { IfOk result (λ h. accepted_parts read.now.source ≡ Ok (parts_seen h)) }
+    ensures { IfOk result (λ h. accepted_parts read.now.source ≡ Ok (parts_model h)) }
 {
     match read_headers(alloc, read.source()) {
         Ok(headers) => Ok(headers),

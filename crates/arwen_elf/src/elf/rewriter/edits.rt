@@ -1,13 +1,13 @@
 //! The edits of a file's image.
 ghost use Rattle.std.specs.Prelude.{◌≡◌, [], IfOk, IsOk, OnErr, map};
 ghost use Rattle.std.specs.HashSet.{keys};
-ghost use Rattle.elf_edits.specs.Called.{pairs_of_map, texts_held};
+ghost use Rattle.elf_edits.specs.Called.{pairs_of_map, texts_model};
 ghost use Rattle.elf_edits.specs.Edit.{AddDebugEntry, AddNeeded, AddRunPath, ClearExecStack, DeleteNeeded, DeleteRunPath, NoDefaultLibrary, ReplaceNeeded, SetExecStack, SetInterpreter, SetOsAbi, SetPageSize, SetRunPath, SetSoname, UseRpath, UseRunpath};
 ghost use Rattle.elf_edits.specs.Entries.{shrink_questions as all_questions};
-ghost use Rattle.elf_edits.specs.ShrunkSeen.{pair_lent};
+ghost use Rattle.elf_edits.specs.ShrunkModel.{pair_lent};
 ghost use Rattle.elf_image.specs.Image.{shown};
 ghost use Rattle.arwen_elf.specs.Reads.{entries_shown};
-ghost use Rattle.elf_apply.specs.Taken.{AnswersEach, LeavesEach, RemovedAre, TakesBatch, TakesEdit, TakesInPlace, batches_meant, edits_meant, shrink_meant};
+ghost use Rattle.elf_apply.specs.Taken.{AnswersEach, LeavesEach, RemovedAre, TakesBatch, TakesEdit, TakesInPlace, batches_model, edits_model, shrink_model};
 
 use crate::elf::rewriter::writer::Writer;
 use elf_apply::batch::ElfBatchError;
@@ -23,7 +23,7 @@ impl<'data> Writer<'data> {
     /// anything changes. An empty batch is accepted without memory, and changes nothing. The cost is in proportion to
     /// the dynamic list, for each edit of it, and the values of the edits.
     pub fn apply(&mut self, alloc: Global, edits: &[ElfEdit]) -> Result<(), ElfBatchError>
-        ensures takes { TakesBatch (edits_meant edits.now) self.old self.new result }
+        ensures takes { TakesBatch (edits_model edits.now) self.old self.new result }
         ensures none { edits.now ≡ [] → IsOk result }
     {
         steps::apply(&mut self.builder, alloc, edits)
@@ -36,8 +36,8 @@ impl<'data> Writer<'data> {
         alloc: Global,
         batches: &[Vec<ElfEdit>],
     ) -> Result<Vec<Result<(), ElfBatchError>>, AllocError>
-        ensures answers { IfOk result (AnswersEach (batches_meant batches.now) self.old) }
-        ensures left { IfOk result (LeavesEach (batches_meant batches.now) self.old self.new) }
+        ensures answers { IfOk result (AnswersEach (batches_model batches.now) self.old) }
+        ensures left { IfOk result (LeavesEach (batches_model batches.now) self.old self.new) }
         ensures err { OnErr result (self.new ≡ self.old) }
     {
         let mut answers = Vec::with_capacity(alloc, batches.len())?;
@@ -54,7 +54,7 @@ impl<'data> Writer<'data> {
         alloc: Global,
         names: &[Vec<u8>],
     ) -> Result<(), ElfError>
-        ensures { TakesEdit (DeleteNeeded (texts_held names.now)) self.old self.new result }
+        ensures { TakesEdit (DeleteNeeded (texts_model names.now)) self.old self.new result }
     {
         steps::delete_needed(&mut self.builder, alloc, names)
     }
@@ -76,7 +76,7 @@ impl<'data> Writer<'data> {
     /// Adds each text to every DT_RPATH and DT_RUNPATH, behind a colon where the old text isn't empty; without one,
     /// puts a DT_RUNPATH last, of the texts joined by colons.
     pub fn elf_add_runpath(&mut self, alloc: Global, texts: &[Vec<u8>]) -> Result<(), ElfError>
-        ensures { TakesEdit (AddRunPath (texts_held texts.now)) self.old self.new result }
+        ensures { TakesEdit (AddRunPath (texts_model texts.now)) self.old self.new result }
     {
         steps::edit(&mut self.builder, alloc, &EditCall::AddRunPath(texts))
     }
@@ -87,7 +87,7 @@ impl<'data> Writer<'data> {
         alloc: Global,
         names: &HashSet<Vec<u8>>,
     ) -> Result<(), ElfError>
-        ensures { TakesEdit (DeleteNeeded (texts_held (keys names.now))) self.old self.new result }
+        ensures { TakesEdit (DeleteNeeded (texts_model (keys names.now))) self.old self.new result }
     {
         steps::edit(&mut self.builder, alloc, &EditCall::DeleteNeeded(names))
     }
@@ -106,7 +106,7 @@ impl<'data> Writer<'data> {
 
     /// Puts the names that no DT_NEEDED has before all entries, in order and with repeats.
     pub fn elf_add_needed(&mut self, alloc: Global, names: &[Vec<u8>]) -> Result<(), ElfError>
-        ensures { TakesEdit (AddNeeded (texts_held names.now)) self.old self.new result }
+        ensures { TakesEdit (AddNeeded (texts_model names.now)) self.old self.new result }
     {
         steps::edit(&mut self.builder, alloc, &EditCall::AddNeeded(names))
     }
@@ -202,8 +202,8 @@ impl<'data> Writer<'data> {
         prefixes: &[Vec<u8>],
         probe: &[ProbeAnswer<'_>],
     ) -> Result<Vec<Removed>, ElfError>
-        ensures takes { TakesEdit (shrink_meant prefixes.now probe.now) self.old self.new result }
-        ensures removed { IfOk result (RemovedAre (shrink_meant prefixes.now probe.now) self.old) }
+        ensures takes { TakesEdit (shrink_model prefixes.now probe.now) self.old self.new result }
+        ensures removed { IfOk result (RemovedAre (shrink_model prefixes.now probe.now) self.old) }
     {
         steps::shrink_run_paths(&mut self.builder, alloc, prefixes, probe)
     }

@@ -1,13 +1,13 @@
 ghost use Rattle.std.specs.Prelude.{◌≡◌, ◌∷◌, [], Ok, IfOk, MatchResult, map, option_map};
 ghost use Rattle.elf_image.specs.Image.{image_of, shown};
-ghost use Rattle.elf_image.specs.ImageSeen.{entry_kept};
+ghost use Rattle.elf_image.specs.ImageModel.{entry_model};
 ghost use Rattle.elf_image.specs.Answers.{borrowed};
-ghost use Rattle.elf_layout_plan.specs.Kept.{image_at_read};
+ghost use Rattle.elf_image.specs.Kept.{image_at_read};
 ghost use Rattle.elf_write_spec.specs.Whole.{IsWhole};
 ghost use Rattle.elf_apply.specs.Causes.{RefusesRead};
 ghost use Rattle.arwen_elf.specs.PageSizes.{page_size_for, page_size_of};
 ghost use Rattle.arwen_elf.specs.Reads.{entries_shown, text_if, first_of, needed_shown, runpath_shown, searched_shown, soname_shown, texts_tagged};
-ghost use Rattle.arwen_elf.specs.WriterSeen.{ShowsBothViews, needed_left};
+ghost use Rattle.arwen_elf.specs.WriterModel.{ShowsBothViews, needed_left};
 
 use crate::elf::rewriter::machines::{
     EM_AARCH64, EM_ALPHA, EM_IA_64, EM_LOONGARCH, EM_PPC, EM_PPC64, EM_SPARC, EM_SPARCV9, EM_TILEGX,
@@ -31,9 +31,9 @@ impl<'data> Model for Writer<'data> {
 
     ghost Value = { Image };
 
-    ghost use Rattle.arwen_elf.specs.WriterSeen.{image_held};
+    ghost use Rattle.arwen_elf.specs.WriterModel.{image_model};
 
-    ghost view = { image_held };
+    ghost view = { image_model };
 
     ghost use Rattle.arwen_elf.specs.Held.{is_whole_held};
 
@@ -48,7 +48,7 @@ pub struct Needed<'a> {
 
 impl<'a> Iterator for Needed<'a> {
     ghost use Rattle.std.specs.Iterator.{YieldsFirstBy, item_count};
-    ghost use Rattle.arwen_elf.specs.WriterSeen.{needed_left};
+    ghost use Rattle.arwen_elf.specs.WriterModel.{needed_left};
 
     type Item = &'a [u8];
 
@@ -68,7 +68,7 @@ impl<'a> Iterator for Needed<'a> {
 
 // The text of an entry with one of these tags.
 fn tagged_text<'a>(entry: &'a Dynamic<'_>, tags: &[u64]) -> Option<&'a [u8]>
-    ensures { option_map borrowed result ≡ text_if tags.now (entry_kept entry.now) }
+    ensures { option_map borrowed result ≡ text_if tags.now (entry_model entry.now) }
 {
     match entry {
         Dynamic::Text { tag, val } if tags.contains(tag) => Some(val.as_slice()),
@@ -79,7 +79,7 @@ fn tagged_text<'a>(entry: &'a Dynamic<'_>, tags: &[u64]) -> Option<&'a [u8]>
 // The text of the first entry with one of these tags.
 fn first_text<'a>(entries: &'a [Dynamic<'_>], tags: &[u64]) -> Option<&'a [u8]>
     ensures { option_map borrowed result
-        ≡ first_of (texts_tagged tags.now (map entry_kept entries.now)) }
+        ≡ first_of (texts_tagged tags.now (map entry_model entries.now)) }
 {
     for entry in entries {
         if let Some(text) = tagged_text(entry, tags) {
@@ -137,7 +137,7 @@ impl<'data> Writer<'data> {
 
     // The entries of the dynamic list, none without one.
     pub(crate) fn entries(&self) -> &[Dynamic<'data>]
-        ensures { map entry_kept result.now ≡ entries_shown (shown self.now) }
+        ensures { map entry_model result.now ≡ entries_shown (shown self.now) }
     {
         self.builder.dynamic_data().unwrap_or_default()
     }

@@ -1,7 +1,7 @@
 //! The bytes that an image is written to.
 ghost use Rattle.std.specs.Prelude.{◌≡◌, false, true, IfErr, IfOk, IfSome, IsOkAnd, IsTrue, OnOk};
 ghost use Rattle.byte_store.specs.Composed.{IsDifference, made_of};
-ghost use Rattle.elf_layout_plan.specs.Kept.{image_at_read};
+ghost use Rattle.elf_image.specs.Kept.{image_at_read};
 ghost use Rattle.elf_layout_plan.specs.Plan.{IsPlan, resized};
 ghost use Rattle.elf_layout_plan.specs.Refusals.{do_sizes_of_image_fit, sizes_of_image};
 ghost use Rattle.elf_layout_sizes.specs.MadeTables.{IsMadeOfList};
@@ -137,7 +137,7 @@ fn no_difference(alloc: Global, bytes: &[u8]) -> Difference
 }
 
 // Why an image isn't written, as it is told.
-fn told_of(fault: LayoutFault) -> ElfError
+fn elf_error_of(fault: LayoutFault) -> ElfError
     ensures { IsTold fault result }
 {
     match fault {
@@ -160,7 +160,7 @@ impl<'data> Writer<'data> {
         }
         match edited_bytes(alloc, image) {
             Ok(bytes) => Ok(ByteString::owned(bytes)),
-            Err(fault) => Err(told_of(fault)),
+            Err(fault) => Err(elf_error_of(fault)),
         }
     }
 
@@ -177,7 +177,7 @@ impl<'data> Writer<'data> {
         }
         match edited_bytes(alloc, image) {
             Ok(bytes) => Ok(bytes),
-            Err(fault) => Err(told_of(fault)),
+            Err(fault) => Err(elf_error_of(fault)),
         }
     }
 
@@ -197,7 +197,7 @@ impl<'data> Writer<'data> {
         }
         match edited_pieces(alloc, image) {
             Ok(difference) => Ok(difference),
-            Err(fault) => Err(told_of(fault)),
+            Err(fault) => Err(elf_error_of(fault)),
         }
     }
 

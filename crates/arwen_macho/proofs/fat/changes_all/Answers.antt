@@ -5,7 +5,7 @@ use Rattle.arwen_macho.specs.declared.change.Change.{Change}
 use Rattle.macho_edits.specs.Batch.{RefusesAt}
 use Rattle.macho_edits.specs.Edit.{calls_lent}
 use Rattle.macho_edits.specs.Call.{Call}
-use Rattle.arwen_macho.specs.FatSlice.{HeldSlice, IsStepIn, slice_held}
+use Rattle.arwen_macho.specs.FatSlice.{HeldSlice, IsStepIn, slice_model}
 use Rattle.arwen_macho.specs.FatState.{step_slices}
 use Rattle.macho_edits.specs.Refused.{cause_of}
 use Rattle.macho_edits.specs.State.{step}
@@ -21,7 +21,7 @@ returns-in_err-change-clause-err c =
     let m : HeldSlice = c.slice-item.result in
     let e = c.in_err-change.field-0.0 in
     let inside : i < length slices = omega arith in
-    let Whole : List HeldSlice → Type 0 = λ l. RefusesAt e.index (cause_of e.fault) (step_slices calls (map slice_held l)) in
+    let Whole : List HeldSlice → Type 0 = λ l. RefusesAt e.index (cause_of e.fault) (step_slices calls (map slice_model l)) in
     let Refused : HeldSlice → Type 0 = λ s. RefusesAt e.index (cause_of e.fault) (step calls s.inner.state) in
     let refuses = refuses_batch calls e.index (cause_of e.fault) (take i slices) c.loop-slice.changes.items m (drop (i + 1) slices) c.loop-slice.invariant (subst Refused c.slice.view_is c.in_err-change.ensures.err) in
     let p = err_from_is_err_and c.from_residual-in_err-change.result c.from_residual-in_err-change.ensures.1 in

@@ -5,7 +5,7 @@ use Rattle.arwen_macho.specs.declared.front.Front.{Front}
 use Rattle.macho_edits.specs.Batch.{RefusesAt}
 use Rattle.macho_edits.specs.Edit.{calls_lent}
 use Rattle.macho_edits.specs.Call.{Call}
-use Rattle.arwen_macho.specs.FatSlice.{HeldSlice, slice_held}
+use Rattle.arwen_macho.specs.FatSlice.{HeldSlice, slice_model}
 use Rattle.arwen_macho.specs.FatState.{step_slices}
 use Rattle.arwen_macho.specs.Fronts.{IsFrontOf}
 use Rattle.macho_edits.specs.Refused.{cause_of}
@@ -23,7 +23,7 @@ returns-in_err-front-clause-err c =
     let m : HeldSlice = c.slice-item.result in
     let e = c.in_err-front.field-0.0 in
     let inside : i < length slices = omega arith in
-    let Whole : List HeldSlice → Type 0 = λ l. RefusesAt e.index (cause_of e.fault) (step_slices calls (map slice_held l)) in
+    let Whole : List HeldSlice → Type 0 = λ l. RefusesAt e.index (cause_of e.fault) (step_slices calls (map slice_model l)) in
     let stepped = stepped_in calls (take i slices) c.loop-slice.fronts.items c.loop-slice.invariant in
     let Refused : HeldSlice → Type 0 = λ s. RefusesAt e.index (cause_of e.fault) (step calls s.inner.state) in
     let refuses = refuses_batch calls e.index (cause_of e.fault) (take i slices) stepped.0 m (drop (i + 1) slices) stepped.1 (subst Refused c.slice.view_is c.in_err-front.ensures.err) in

@@ -4,7 +4,7 @@ use Rattle.std.proofs.lemmas.Result.{err_from_is_err_and}
 use Rattle.macho_image.specs.Checks.{file_fault}
 use Rattle.macho_image.specs.Fat.{slice_of}
 use Rattle.arwen_macho.specs.Found.{ARCHIVE, Finds, found_fault}
-use Rattle.macho_edits.specs.Held.{Held, first_held}
+use Rattle.macho_edits.specs.Held.{Held, held_at_read}
 use Rattle.arwen_macho.proofs.FatLaws.{archive_found, plain_found, slice_between}
 use Rattle.arwen_macho.proofs.fat.parse_slice.Goals as goal
 
@@ -28,6 +28,6 @@ returns c =
     let bytes : List ℕ = slice_of c.args.bytes.now c.args.arch in
     let same = slice_between c.args.bytes.now c.args.arch in
     let plain = plain_found bytes (ap (λ (s : List ℕ). bytes_eq (take 8 s) ARCHIVE) (sym same) ∙ sym c.if-is_archive.ensures) in
-    let Part : List ℕ → Type 0 = λ s. (file_fault s ≡ None) × (c.in_ok-inner.inner ≡ first_held s) in
+    let Part : List ℕ → Type 0 = λ s. (file_fault s ≡ None) × (c.in_ok-inner.inner ≡ held_at_read s) in
     let parsed = subst Part same c.in_ok-inner.ensures in
     (plain ∙ ap found_fault parsed.0, ap (λ (h : Held). record { inner = h; arch = c.args.arch }) parsed.1)

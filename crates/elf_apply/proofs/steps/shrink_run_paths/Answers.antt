@@ -2,11 +2,11 @@
 use Rattle.std.proofs.Common.{ap, refl, sym, subst, map, ◌∙◌}
 use Rattle.elf_image.specs.Image.{Image}
 use Rattle.elf_edits.specs.declared.facts.Facts.{Facts}
-use Rattle.elf_edits.specs.Called.{answer_held, texts_held}
+use Rattle.elf_edits.specs.Called.{answer_model, texts_model}
 use Rattle.elf_edits.specs.Cause.{cause, first_cause}
-use Rattle.elf_edits.specs.CauseSeen.{cause_meant}
+use Rattle.elf_edits.specs.CauseModel.{cause_model}
 use Rattle.elf_apply.specs.Drafted.{IsShrunkOf}
-use Rattle.elf_apply.specs.Taken.{shrink_meant}
+use Rattle.elf_apply.specs.Taken.{shrink_model}
 use Rattle.elf_apply.proofs.ShrinkLaws.{can_put, found_none, none_gone, none_there, removed_are, some_gone, some_there}
 use Rattle.elf_apply.proofs.TakenLaws.{refused}
 use Rattle.elf_apply.proofs.steps.shrink_run_paths.Goals.{then-not-is_empty, else-not-is_empty}
@@ -15,39 +15,39 @@ use Rattle.elf_apply.proofs.steps.shrink_run_paths.Goals as goal
 pub returns-in-Some-clause-takes : goal.returns-in-Some-clause-takes
 unfolding cause
 returns-in-Some-clause-takes c =
-    let edit = shrink_meant c.args.prefixes.now c.args.probe.now in (
+    let edit = shrink_model c.args.prefixes.now c.args.probe.now in (
       refl,
-      refused edit c.args.builder.now c.told.result (cause_meant c.in-Some.cause) c.told.ensures
-          (sym (c.in-Some.ensures (map answer_held c.args.probe.now) ∙ ap (λ (f : Facts). first_cause edit f) c.image_facts.ensures)),
+      refused edit c.args.builder.now c.told.result (cause_model c.in-Some.cause) c.told.ensures
+          (sym (c.in-Some.ensures (map answer_model c.args.probe.now) ∙ ap (λ (f : Facts). first_cause edit f) c.image_facts.ensures)),
     )
 
 pub set_dynamic-requires-clause-tables : goal.set_dynamic-requires-clause-tables
 set_dynamic-requires-clause-tables c =
-    let prefixes = texts_held c.args.prefixes.now in
-    let answers = map answer_held c.args.probe.now in
-    let edit = shrink_meant c.args.prefixes.now c.args.probe.now in
+    let prefixes = texts_model c.args.prefixes.now in
+    let answers = map answer_model c.args.probe.now in
+    let edit = shrink_model c.args.prefixes.now c.args.probe.now in
     let none = found_none edit c.args.builder.now c.image_facts.result c.image_facts.ensures (c.in_default.ensures answers) in
-    let is = subst (λ (i : Image). IsShrunkOf edit i c.in_ok-made.made) c.known.ensures.same c.in_ok-made.ensures in
-    (can_put prefixes answers c.args.builder.now none c.in_ok-made.made c.known.ensures.lists is).tables
+    let is = subst (λ (i : Image). IsShrunkOf edit i c.in_ok-made.made) c.known_image.ensures.same c.in_ok-made.ensures in
+    (can_put prefixes answers c.args.builder.now none c.in_ok-made.made c.known_image.ensures.lists is).tables
 
 pub set_dynamic-requires-clause-entries : goal.set_dynamic-requires-clause-entries
 set_dynamic-requires-clause-entries c =
-    let prefixes = texts_held c.args.prefixes.now in
-    let answers = map answer_held c.args.probe.now in
-    let edit = shrink_meant c.args.prefixes.now c.args.probe.now in
+    let prefixes = texts_model c.args.prefixes.now in
+    let answers = map answer_model c.args.probe.now in
+    let edit = shrink_model c.args.prefixes.now c.args.probe.now in
     let none = found_none edit c.args.builder.now c.image_facts.result c.image_facts.ensures (c.in_default.ensures answers) in
-    let is = subst (λ (i : Image). IsShrunkOf edit i c.in_ok-made.made) c.known.ensures.same c.in_ok-made.ensures in
-    (can_put prefixes answers c.args.builder.now none c.in_ok-made.made c.known.ensures.lists is).entries
+    let is = subst (λ (i : Image). IsShrunkOf edit i c.in_ok-made.made) c.known_image.ensures.same c.in_ok-made.ensures in
+    (can_put prefixes answers c.args.builder.now none c.in_ok-made.made c.known_image.ensures.lists is).entries
 
 pub returns-clause-takes : goal.returns-clause-takes
 returns-clause-takes c =
-    let prefixes = texts_held c.args.prefixes.now in
-    let answers = map answer_held c.args.probe.now in
-    let edit = shrink_meant c.args.prefixes.now c.args.probe.now in
+    let prefixes = texts_model c.args.prefixes.now in
+    let answers = map answer_model c.args.probe.now in
+    let edit = shrink_model c.args.prefixes.now c.args.probe.now in
     let old = c.args.builder.now in
     let made = c.in_ok-made.made in
     let none = found_none edit old c.image_facts.result c.image_facts.ensures (c.in_default.ensures answers) in
-    let is = subst (λ (i : Image). IsShrunkOf edit i made) c.known.ensures.same c.in_ok-made.ensures in
+    let is = subst (λ (i : Image). IsShrunkOf edit i made) c.known_image.ensures.same c.in_ok-made.ensures in
     elim c.if-not-is_empty.branch [
       | then-not-is_empty w ↦
           some_gone prefixes answers old none made c.if-not-is_empty.builder is
@@ -61,9 +61,9 @@ returns-clause-takes c =
 
 pub returns-clause-removed : goal.returns-clause-removed
 returns-clause-removed c =
-    let prefixes = texts_held c.args.prefixes.now in
-    let answers = map answer_held c.args.probe.now in
-    let edit = shrink_meant c.args.prefixes.now c.args.probe.now in
+    let prefixes = texts_model c.args.prefixes.now in
+    let answers = map answer_model c.args.probe.now in
+    let edit = shrink_model c.args.prefixes.now c.args.probe.now in
     let none = found_none edit c.args.builder.now c.image_facts.result c.image_facts.ensures (c.in_default.ensures answers) in
-    let is = subst (λ (i : Image). IsShrunkOf edit i c.in_ok-made.made) c.known.ensures.same c.in_ok-made.ensures in
+    let is = subst (λ (i : Image). IsShrunkOf edit i c.in_ok-made.made) c.known_image.ensures.same c.in_ok-made.ensures in
     removed_are prefixes answers c.args.builder.now none c.in_ok-made.made is

@@ -1,12 +1,12 @@
 -- The list that is there, shrunk for the image's machine.
 use Rattle.std.proofs.Common.{map, ap}
 use Rattle.elf_format.specs.declared.header.Header.{Header}
-use Rattle.elf_edits.specs.Called.{answer_held, texts_held}
-use Rattle.elf_image.specs.ImageSeen.{entry_kept}
+use Rattle.elf_edits.specs.Called.{answer_model, texts_model}
+use Rattle.elf_image.specs.ImageModel.{entry_model}
 use Rattle.elf_apply.proofs.ShrinkLaws.{shrunk_is}
 use Rattle.elf_apply.proofs.steps.shrunk.Goals as goal
 
 pub returns : goal.returns
 returns c =
-    shrunk_is c.shrink.result (texts_held c.args.prefixes.now) (map answer_held c.args.probe.now) c.header.result.now.e_machine (map entry_kept c.entries.result.now) c.args.builder.now
+    shrunk_is c.shrink.result (texts_model c.args.prefixes.now) (map answer_model c.args.probe.now) c.header.result.now.e_machine (map entry_model c.entries.result.now) c.args.builder.now
     (ap (λ (h : Header). h.e_machine) c.header.ensures) c.entries.ensures c.shrink.ensures.list c.shrink.ensures.gone

@@ -4,7 +4,7 @@ use Rattle.std.proofs.lemmas.List.{map_push}
 use Rattle.std.proofs.lemmas.Result.{err_from_is_err_and}
 use Rattle.elf_commands.specs.ElfAsked.{TellsNoPair}
 use Rattle.command_words.specs.KeyValue.{key_value}
-use Rattle.elf_commands.specs.Meaning.{pair_shown}
+use Rattle.elf_commands.specs.Meaning.{text_pair_model}
 use Rattle.elf_commands.proofs.ValueLemmas.{pair_unread}
 use Rattle.elf_commands.proofs.WordLemmas.{IsPairedTo, Pairs, all_paired, one_paired}
 use Rattle.elf_commands.proofs.elf_values.pairs_of.Goals as goal
@@ -16,7 +16,7 @@ returns-in_err-pair_of-clause-err c =
     let inside : i < length c.args.words.now = omega arith in
     let Lent : List ℕ → Type 0 = λ b. TellsNoPair (key_value b) c.in_err-pair_of.field-0.0 in
     let told = subst Lent c.as_str.ensures.value c.in_err-pair_of.ensures.err in
-    rw (p.1, p.2) (pair_unread string_bytes c.args.words.now i c.word-item.result inside c.word-item.is (map pair_shown c.loop-word.pairs.items) c.in_err-pair_of.field-0.0 told c.loop-word.invariant)
+    rw (p.1, p.2) (pair_unread string_bytes c.args.words.now i c.word-item.result inside c.word-item.is (map text_pair_model c.loop-word.pairs.items) c.in_err-pair_of.field-0.0 told c.loop-word.invariant)
 
 pub loop-word-preserved : goal.loop-word-preserved
 loop-word-preserved c =
@@ -26,9 +26,9 @@ loop-word-preserved c =
     let items = c.loop-word.pairs.items in
     let pair = c.in_ok-pair_of.field-0 in
     let At : Pairs → Type 0 = λ l. IsPairedTo (map string_bytes c.args.words.now) (i + 1) l in
-    subst At (sym (ap (map pair_shown) c.in_ok-push.ensures.items ∙ map_push pair_shown items pair))
-    (one_paired string_bytes c.args.words.now i w inside c.word-item.is (map pair_shown items) (pair_shown pair) (ap key_value (sym c.as_str.ensures.value) ∙ c.in_ok-pair_of.ensures.ok) c.loop-word.invariant)
+    subst At (sym (ap (map text_pair_model) c.in_ok-push.ensures.items ∙ map_push text_pair_model items pair))
+    (one_paired string_bytes c.args.words.now i w inside c.word-item.is (map text_pair_model items) (text_pair_model pair) (ap key_value (sym c.as_str.ensures.value) ∙ c.in_ok-pair_of.ensures.ok) c.loop-word.invariant)
 
 pub returns-clause-ok : goal.returns-clause-ok
 returns-clause-ok c =
-    all_paired string_bytes c.args.words.now c.loop-word.word-index (map pair_shown c.loop-word.pairs.items) (omega (arith, c.loop-word-test.false)) c.loop-word.invariant
+    all_paired string_bytes c.args.words.now c.loop-word.word-index (map text_pair_model c.loop-word.pairs.items) (omega (arith, c.loop-word-test.false)) c.loop-word.invariant

@@ -2,7 +2,7 @@
 use Rattle.std.proofs.Common.{◌+◌, ◌<◌, ◌≡◌, ◌∙◌, List, ℕ, arith, length, map, string_bytes, ap, sym, subst}
 use Rattle.std.proofs.lemmas.List.{length_push, map_push}
 use Rattle.std.proofs.lemmas.Result.{err_from_is_err_and}
-use Rattle.elf_edits.specs.Called.{pair_held, pairs_held}
+use Rattle.elf_edits.specs.Called.{pair_model, pairs_model}
 use Rattle.elf_commands.specs.ElfWords.{TellsPair}
 use Rattle.command_words.specs.KeyValue.{key_value}
 use Rattle.elf_commands.proofs.WordLemmas.{IsPairedTo, Pairs, all_paired, one_paired, pair_fault}
@@ -18,7 +18,7 @@ returns-in_err-pair_of-clause-err c =
     let Told : ℕ → Type 0 = λ at. TellsPair c.args.group at (key_value c.as_str.result.now) c.in_err-pair_of.field-0.0 in
     let Lent : List ℕ → Type 0 = λ b. TellsPair c.args.group (i + 1) (key_value b) c.in_err-pair_of.field-0.0 in
     let told = subst Lent c.as_str.ensures.value (subst Told number c.in_err-pair_of.ensures.err) in
-    rw (p.1, p.2) (pair_fault string_bytes c.args.words.now i w inside c.word-item.is c.args.group (pairs_held c.loop-word.pairs.items) c.in_err-pair_of.field-0.0 told c.loop-word.invariant.read)
+    rw (p.1, p.2) (pair_fault string_bytes c.args.words.now i w inside c.word-item.is c.args.group (pairs_model c.loop-word.pairs.items) c.in_err-pair_of.field-0.0 told c.loop-word.invariant.read)
 
 pub loop-word-preserved : goal.loop-word-preserved
 loop-word-preserved c =
@@ -31,10 +31,10 @@ loop-word-preserved c =
     let At : Pairs → Type 0 = λ l. IsPairedTo (map string_bytes c.args.words.now) (i + 1) l in
     record {
       counted = ap length is ∙ length_push items pair ∙ ap (λ (n : ℕ). n + 1) c.loop-word.invariant.counted;
-      read = subst At (sym (ap pairs_held is ∙ map_push pair_held items pair))
-          (one_paired string_bytes c.args.words.now i w inside c.word-item.is (pairs_held items) (pair_held pair) (ap key_value (sym c.as_str.ensures.value) ∙ c.in_ok-pair_of.ensures.ok) c.loop-word.invariant.read);
+      read = subst At (sym (ap pairs_model is ∙ map_push pair_model items pair))
+          (one_paired string_bytes c.args.words.now i w inside c.word-item.is (pairs_model items) (pair_model pair) (ap key_value (sym c.as_str.ensures.value) ∙ c.in_ok-pair_of.ensures.ok) c.loop-word.invariant.read);
     }
 
 pub returns-clause-ok : goal.returns-clause-ok
 returns-clause-ok c =
-    all_paired string_bytes c.args.words.now c.loop-word.word-index (pairs_held c.loop-word.pairs.items) (omega (arith, c.loop-word-test.false)) c.loop-word.invariant.read
+    all_paired string_bytes c.args.words.now c.loop-word.word-index (pairs_model c.loop-word.pairs.items) (omega (arith, c.loop-word-test.false)) c.loop-word.invariant.read

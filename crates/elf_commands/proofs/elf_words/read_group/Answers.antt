@@ -5,7 +5,7 @@ use Rattle.std.specs.Prelude.{option_map}
 use Rattle.command_words.specs.Groups.{no_edit, no_words, other_words}
 use Rattle.elf_commands.specs.ElfWords.{Reading, as_read, asked_of, elf_edit_lines, elf_group_edit, made}
 use Rattle.command_words.specs.Groups.{TellsWrong}
-use Rattle.command_words.specs.Rows.{row_shown}
+use Rattle.command_words.specs.Rows.{row_model}
 use Rattle.command_words.proofs.ForCallers.{texts}
 use Rattle.command_words.proofs.ForCallers.{fault_told, known_edit, row_line, unknown}
 use Rattle.elf_commands.proofs.WordLemmas.{told_by_values}
@@ -30,7 +30,7 @@ returns-in_err-edit-clause-err c =
     let p = err_from_is_err_and c.from_residual.result c.from_residual.ensures.1 in
     let parts = ap (λ ws. elf_group_edit (texts ws)) c.in-Some.ensures.cases.0 in
     let found = row_line elf_edit_lines c.elf_edit_table.result.now c.in-Some.name.now.now _ c.elf_edit_table.ensures c.in-Some-find_row.ensures in
-    let row = row_shown c.in-Some-find_row.row.now in
+    let row = row_model c.in-Some-find_row.row.now in
     let name = c.in-Some.name.now.now in
     let words = texts c.in-Some.words.now in
     let e = c.in_err-edit.field-0.0 in
@@ -43,7 +43,7 @@ returns-in-Some-2-clause-ok c =
     let parts = ap (λ ws. elf_group_edit (texts ws)) c.in-Some.ensures.cases.0 in
     let found = row_line elf_edit_lines c.elf_edit_table.result.now c.in-Some.name.now.now _ c.elf_edit_table.ensures c.in-Some-find_row.ensures in
     let asked = sym (ap (option_map made) c.in-Some-2.is) ∙ c.in_ok-edit.ensures.ok in
-    let row = row_shown c.in-Some-find_row.row.now in
+    let row = row_model c.in-Some-find_row.row.now in
     let words = texts c.in-Some.words.now in
     parts ∙ known_edit as_read elf_edit_lines c.in-Some.name.now.now row words _ found c.if-not-row.false asked
 
@@ -52,6 +52,6 @@ returns-in-None-clause-err c =
     let parts = ap (λ ws. elf_group_edit (texts ws)) c.in-Some.ensures.cases.0 in
     let found = row_line elf_edit_lines c.elf_edit_table.result.now c.in-Some.name.now.now _ c.elf_edit_table.ensures c.in-Some-find_row.ensures in
     let asked = sym (ap (option_map made) c.in-None.is) ∙ c.in_ok-edit.ensures.ok in
-    let row = row_shown c.in-Some-find_row.row.now in
+    let row = row_model c.in-Some-find_row.row.now in
     let words = texts c.in-Some.words.now in
     fault_told c.args.group _ (other_words row.kind words) _ (parts ∙ known_edit as_read elf_edit_lines c.in-Some.name.now.now row words _ found c.if-not-row.false asked) c.other_words.ensures

@@ -1,6 +1,6 @@
 use Rattle.std.proofs.Common.{◌≡◌, ◌||◌}
 use Rattle.std.specs.List.{list_any}
-use Rattle.elf_edits.specs.CauseSeen.{pair_holds_nul}
+use Rattle.elf_edits.specs.CauseModel.{pair_holds_nul}
 use Rattle.elf_edits.proofs.cause.any_nul_in_map.Given as goal
 
 -- what was found, and what is left

@@ -5,14 +5,14 @@ use Rattle.std.specs.Str.{bytes_eq}
 use Rattle.std.proofs.lemmas.Result.{IfOk-weaker}
 use Rattle.patch_bytes.specs.ByteString.{StringValue}
 use Rattle.elf_edits.specs.Called.{Bytes}
-use Rattle.elf_edits.proofs.CodeLaws.{name_found, name_kept}
+use Rattle.elf_edits.proofs.CodeLaws.{name_found, name_model}
 use Rattle.elf_edits.proofs.entries.new_name.Goals as goal
 
 pub returns-in-None : goal.returns-in-None
 returns-in-None c =
     let name = c.args.name.now.bytes in
     let e = c.in-None.ensures.value ∙ ap (λ text. lookup (λ (k : Bytes). bytes_eq text k.items) c.args.names.now.entries) c.as_slice.ensures in
-    IfOk-weaker c.try_clone.result _ _ (λ made h. ap (λ (x : StringValue). x.bytes) h ∙ sym (name_kept c.args.names.now.entries name e)) c.try_clone.ensures
+    IfOk-weaker c.try_clone.result _ _ (λ made h. ap (λ (x : StringValue). x.bytes) h ∙ sym (name_model c.args.names.now.entries name e)) c.try_clone.ensures
 
 pub returns-in_ok-from_slice-in-Some : goal.returns-in_ok-from_slice-in-Some
 returns-in_ok-from_slice-in-Some c =

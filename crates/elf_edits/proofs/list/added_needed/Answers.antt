@@ -3,7 +3,7 @@ use Rattle.std.proofs.Common.{◌≡◌, ◌∙◌, ap, map, sym}
 use Rattle.std.specs.HashSet.{keys}
 use Rattle.elf_format.specs.declared.constants.TheConstants.{DT_NEEDED}
 use Rattle.elf_image.specs.Dynamic.{Text}
-use Rattle.elf_image.specs.ImageSeen.{entry_kept}
+use Rattle.elf_image.specs.ImageModel.{entry_model}
 use Rattle.elf_edits.specs.Entries.{needed_names}
 use Rattle.elf_edits.specs.Texts.{is_among}
 use Rattle.elf_edits.proofs.ListSteps.{add_none, add_one, set_has}
@@ -12,16 +12,16 @@ use Rattle.elf_edits.proofs.list.added_needed.Goals as goal
 
 pub loop-name-preserved : goal.loop-name-preserved
 loop-name-preserved c =
-    let es = map entry_kept c.args.entries.now in
+    let es = map entry_model c.args.entries.now in
     let i = c.loop-name.name-index in
     let x = c.name-item.result in
     let found : c.contains.result ≡ is_among (needed_names es) x.items = c.contains.ensures ∙ ap (set_has (keys c.in_ok-set.set)) c.as_slice.ensures.value ∙ c.in_ok-set.ensures x.items in
     elim c.if-not-contains.branch [
       | then-not-contains+in_ok-text_entry+in_ok-push w ↦
-          ap (λ v. map entry_kept v.items) w.made-is ∙ ap (map entry_kept) w.in_ok-push.ensures.items
+          ap (λ v. map entry_model v.items) w.made-is ∙ ap (map entry_model) w.in_ok-push.ensures.items
           ∙ add_one es c.args.names.now i x c.loop-name-test.true c.name-item.is c.loop-name.made.items w.in_ok-text_entry.field-0 c.loop-name.invariant (sym found ∙ w.if-not-contains.true)
           (w.in_ok-text_entry.ensures ∙ ap (Text DT_NEEDED) w.as_slice-then-not-contains.ensures.value)
       | else-not-contains w ↦
-          ap (λ v. map entry_kept v.items) w.made-is
-          ∙ add_none es c.args.names.now i x c.loop-name-test.true c.name-item.is (map entry_kept c.loop-name.made.items) c.loop-name.invariant (sym found ∙ w.if-not-contains.false)
+          ap (λ v. map entry_model v.items) w.made-is
+          ∙ add_none es c.args.names.now i x c.loop-name-test.true c.name-item.is (map entry_model c.loop-name.made.items) c.loop-name.invariant (sym found ∙ w.if-not-contains.false)
     ]

@@ -2,11 +2,11 @@ use Rattle.std.proofs.Common.{◌≡◌, ℕ, List, map, take}
 use Rattle.std.specs.HashSet.{keys}
 use Rattle.std.specs.List.{list_any}
 use Rattle.std.specs.Str.{bytes_eq}
-use Rattle.elf_image.specs.ImageSeen.{entry_kept}
+use Rattle.elf_image.specs.ImageModel.{entry_model}
 use Rattle.elf_edits.specs.Entries.{needed_names}
 use Rattle.elf_edits.specs.Texts.{is_among}
 use Rattle.elf_edits.proofs.list.needed_set.Given as goal
 
 -- the set has the libraries of the entries so far
 abbrev pub invariant-loop-entry : goal.invariant-loop-entry
-invariant-loop-entry l = (name : List ℕ) → list_any (λ k. bytes_eq name k.now) (keys l.set) ≡ is_among (needed_names (map entry_kept (take l.entry-index l.entries))) name
+invariant-loop-entry l = (name : List ℕ) → list_any (λ k. bytes_eq name k.now) (keys l.set) ≡ is_among (needed_names (map entry_model (take l.entry-index l.entries))) name

@@ -2,7 +2,7 @@ use Rattle.std.proofs.Common.{◌≡◌, ◌==◌, drop, map}
 use Rattle.std.specs.List.{list_any}
 use Rattle.elf_image.specs.Options.{is_some_and}
 use Rattle.elf_edits.specs.Shrunk.{is_found_in}
-use Rattle.elf_edits.specs.ShrunkSeen.{judged_by, machine_in}
+use Rattle.elf_edits.specs.ShrunkModel.{judged_by, machine_in}
 use Rattle.elf_edits.proofs.search.is_found_in.Given as goal
 
 -- none so far was

@@ -1,6 +1,6 @@
 use Rattle.std.proofs.Common.{◌≡◌, ◌++◌, map, take}
 use Rattle.elf_edits.specs.Shrunk.{pairs_of}
-use Rattle.elf_edits.specs.ShrunkSeen.{pair_lent}
+use Rattle.elf_edits.specs.ShrunkModel.{pair_lent}
 use Rattle.elf_edits.proofs.shrinking.put_all_pairs.Given as goal
 
 -- the pairs of the directories so far

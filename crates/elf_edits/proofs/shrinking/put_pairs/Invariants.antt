@@ -1,6 +1,6 @@
 use Rattle.std.proofs.Common.{◌≡◌, ◌++◌, ◌∷◌, [], map, take}
 use Rattle.std.specs.List.{flat_map}
-use Rattle.elf_edits.specs.ShrunkSeen.{pair_lent}
+use Rattle.elf_edits.specs.ShrunkModel.{pair_lent}
 use Rattle.elf_edits.proofs.shrinking.put_pairs.Given as goal
 
 -- a pair for each library so far

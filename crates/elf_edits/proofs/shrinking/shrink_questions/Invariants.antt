@@ -1,10 +1,10 @@
 use Rattle.std.proofs.Common.{◌≡◌, map, take}
-use Rattle.elf_image.specs.ImageSeen.{entry_kept}
+use Rattle.elf_image.specs.ImageModel.{entry_model}
 use Rattle.elf_edits.specs.Entries.{run_paths}
 use Rattle.elf_edits.specs.Shrunk.{questions_of}
-use Rattle.elf_edits.specs.ShrunkSeen.{pair_lent}
+use Rattle.elf_edits.specs.ShrunkModel.{pair_lent}
 use Rattle.elf_edits.proofs.shrinking.shrink_questions.Given as goal
 
 -- the questions of the entries so far
 abbrev pub invariant-loop-entry : goal.invariant-loop-entry
-invariant-loop-entry l = map pair_lent l.made.items ≡ questions_of (map (λ x. x.now) l.needed.items) (run_paths (map entry_kept (take l.entry-index l.entries)))
+invariant-loop-entry l = map pair_lent l.made.items ≡ questions_of (map (λ x. x.now) l.needed.items) (run_paths (map entry_model (take l.entry-index l.entries)))

@@ -1,10 +1,10 @@
 -- The entries so far have their tags.
 use Rattle.std.proofs.Common.{◌≡◌, ◌++◌, map, take, drop, length}
-use Rattle.elf_image.specs.ImageSeen.{entry_kept}
+use Rattle.elf_image.specs.ImageModel.{entry_model}
 use Rattle.elf_image.specs.DynamicList.{retagged}
 use Rattle.elf_image.proofs.edits.retag_entries.Given as goal
 
 abbrev pub invariant-loop-i : goal.invariant-loop-i
 invariant-loop-i l =
-    (map entry_kept l.list.items ≡ retagged l.fn.old l.fn.new (take l.i (map entry_kept l.initial.list.items)) ++ drop l.i (map entry_kept l.initial.list.items))
+    (map entry_model l.list.items ≡ retagged l.fn.old l.fn.new (take l.i (map entry_model l.initial.list.items)) ++ drop l.i (map entry_model l.initial.list.items))
     × (length l.list.items ≡ length l.initial.list.items)

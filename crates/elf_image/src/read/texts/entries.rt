@@ -4,11 +4,11 @@ ghost use Rattle.elf_format.specs.declared.constants.TheConstants.{SHT_DYNAMIC a
 ghost use Rattle.elf_format.specs.Dynamic.{shown_entry};
 ghost use Rattle.elf_format.specs.File.{section_of_type as first_section};
 ghost use Rattle.elf_format.specs.Image.{entries_read};
-ghost use Rattle.elf_image.specs.ImageSeen.{entry_kept};
+ghost use Rattle.elf_image.specs.ImageModel.{entry_model};
 ghost use Rattle.elf_format.specs.Options.{each};
 ghost use Rattle.elf_format.specs.Answers.{Gives};
-ghost use Rattle.elf_format.specs.Seen.{entry_seen};
-ghost use Rattle.elf_image_rules.specs.Read.{parts_seen};
+ghost use Rattle.elf_format.specs.Seen.{shown_entry_model};
+ghost use Rattle.elf_image_rules.specs.Read.{parts_model};
 ghost use Rattle.elf_format.specs.Rules.{raw_entries};
 
 use crate::dynamic::Dynamic;
@@ -24,7 +24,7 @@ use std::alloc::Global;
 
 // An entry whose text stays where it is.
 fn kept(entry: ShownEntry<'_>) -> Dynamic<'_>
-    ensures { entry_kept result ≡ entry_seen entry.entry }
+    ensures { entry_model result ≡ shown_entry_model entry.entry }
 {
     match entry {
         ShownEntry::Auto(tag) => Dynamic::Auto { tag },
@@ -44,7 +44,7 @@ fn kept_entries<'data>(
     raw: &[EntryNumbers],
 ) -> Result<Vec<Dynamic<'data>>, ViewFault>
     requires { length texts.now ≤ room }
-    ensures { Gives (λ v. map entry_kept v.items) result
+    ensures { Gives (λ v. map entry_model v.items) result
         (each (shown_entry room (memory_of texts.now)) raw.now) }
 {
     let mut made = Vec::new(alloc);
@@ -61,9 +61,9 @@ pub(crate) fn entries<'data>(
     parts: &Headers<'data>,
     raw: &[EntryNumbers],
 ) -> Result<Option<Vec<Dynamic<'data>>>, ViewFault>
-    requires { raw.now ≡ raw_entries (parts_seen parts.now) }
-    ensures { Gives (λ o. option_map (λ v. map entry_kept v.items) o) result
-        (entries_read (parts_seen parts.now) (first_section DYNAMIC parts.now.sections.items)) }
+    requires { raw.now ≡ raw_entries (parts_model parts.now) }
+    ensures { Gives (λ o. option_map (λ v. map entry_model v.items) o) result
+        (entries_read (parts_model parts.now) (first_section DYNAMIC parts.now.sections.items)) }
 {
     let Some(section) = section_of_type(&parts.sections, SHT_DYNAMIC) else {
         return Ok(None);

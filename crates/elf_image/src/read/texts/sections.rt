@@ -2,10 +2,10 @@ ghost use Rattle.std.specs.Prelude.{◌≡◌, ◌≤◌, length, map};
 ghost use Rattle.std.specs.List.{slice_get};
 ghost use Rattle.patch_bytes.specs.Memory.{memory_of};
 ghost use Rattle.elf_format.specs.Image.{section_read};
-ghost use Rattle.elf_image.specs.ImageSeen.{section_kept};
+ghost use Rattle.elf_image.specs.ImageModel.{section_model};
 ghost use Rattle.elf_format.specs.Options.{each};
 ghost use Rattle.elf_format.specs.Answers.{Gives};
-ghost use Rattle.elf_image_rules.specs.Read.{parts_seen};
+ghost use Rattle.elf_image_rules.specs.Read.{parts_model};
 ghost use Rattle.elf_format.specs.Rules.{data_of, texts_of};
 ghost use Rattle.elf_image.specs.TextSteps.{named_section};
 
@@ -21,7 +21,7 @@ use std::alloc::Global;
 
 // The names of sections (gABI, ELF Header, e_shstrndx).
 fn section_names<'data>(parts: &Headers<'data>) -> &'data [u8]
-    ensures value { memory_of result.now ≡ texts_of (parts_seen parts.now)
+    ensures value { memory_of result.now ≡ texts_of (parts_model parts.now)
         (slice_get parts.now.sections.items parts.now.header.e_shstrndx) }
     ensures short { length result.now ≤ length parts.now.file.now }
 {
@@ -38,7 +38,7 @@ fn section<'data>(
     kind: SectionData,
 ) -> Result<Section<'data>, ViewFault>
     requires { length names.now ≤ length file.now }
-    ensures { Gives section_kept result (named_section file.now (memory_of names.now) header kind) }
+    ensures { Gives section_model result (named_section file.now (memory_of names.now) header kind) }
 {
     let name = text(file.len(), names, header.sh_name as u64)?;
     Ok(Section {
@@ -63,9 +63,9 @@ pub(crate) fn sections<'data>(
     parts: &Headers<'data>,
     kinds: &[SectionData],
 ) -> Result<Vec<Section<'data>>, ViewFault>
-    requires { kinds.now ≡ map (data_of (parts_seen parts.now)) parts.now.sections.items }
-    ensures { Gives (λ v. map section_kept v.items) result
-        (each (section_read (parts_seen parts.now)) parts.now.sections.items) }
+    requires { kinds.now ≡ map (data_of (parts_model parts.now)) parts.now.sections.items }
+    ensures { Gives (λ v. map section_model v.items) result
+        (each (section_read (parts_model parts.now)) parts.now.sections.items) }
 {
     let names = section_names(parts);
     let mut made = Vec::new(alloc);

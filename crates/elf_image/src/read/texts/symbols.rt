@@ -5,7 +5,7 @@ ghost use Rattle.elf_format.specs.File.{section_bytes as bytes_of_section, secti
 ghost use Rattle.elf_format.specs.Image.{dynamic_symbols_read, static_symbols as static_ones};
 ghost use Rattle.elf_format.specs.Answers.{borrowed};
 ghost use Rattle.elf_format.specs.Rules.{raw_entries};
-ghost use Rattle.elf_image_rules.specs.Read.{parts_seen};
+ghost use Rattle.elf_image_rules.specs.Read.{parts_model};
 ghost use Rattle.elf_image.specs.SymbolsRead.{AreSymbolsRead, lists_read};
 
 use crate::symbol_lists::SymbolLists;
@@ -19,7 +19,7 @@ use elf_image_versions::texts::dynamic_texts;
 // The symbols for a link editor (gABI, Symbol Table); they have no versions. `None` where a name isn't there.
 fn static_symbols<'data>(parts: &Headers<'data>) -> Option<Symbols<'data>>
     ensures { result
-        ≡ static_ones (parts_seen parts.now) (first_section SYMTAB parts.now.sections.items) }
+        ≡ static_ones (parts_model parts.now) (first_section SYMTAB parts.now.sections.items) }
 {
     let Some(section) = section_of_type(&parts.sections, SHT_SYMTAB) else {
         return Some(Symbols::none());
@@ -39,8 +39,8 @@ fn version_bytes<'data>(parts: &Headers<'data>) -> Option<&'data [u8]>
 
 // The dynamic symbols, with versions where there is a section of them. `None` where a name isn't there.
 fn dynamic_symbols<'data>(parts: &Headers<'data>, raw: &[EntryNumbers]) -> Option<Symbols<'data>>
-    requires { raw.now ≡ raw_entries (parts_seen parts.now) }
-    ensures { result ≡ dynamic_symbols_read (parts_seen parts.now)
+    requires { raw.now ≡ raw_entries (parts_model parts.now) }
+    ensures { result ≡ dynamic_symbols_read (parts_model parts.now)
         (first_section DYNSYM parts.now.sections.items) }
 {
     let Some(section) = section_of_type(&parts.sections, SHT_DYNSYM) else {
@@ -62,9 +62,9 @@ pub(crate) fn symbol_lists<'data>(
     raw: &[EntryNumbers],
     known: Option<&SymbolLists<'data>>,
 ) -> Option<SymbolLists<'data>>
-    requires raw { raw.now ≡ raw_entries (parts_seen parts.now) }
-    requires known { IfSome known (λ lists. AreSymbolsRead (parts_seen parts.now) lists.now) }
-    ensures { result ≡ lists_read (parts_seen parts.now) }
+    requires raw { raw.now ≡ raw_entries (parts_model parts.now) }
+    requires known { IfSome known (λ lists. AreSymbolsRead (parts_model parts.now) lists.now) }
+    ensures { result ≡ lists_read (parts_model parts.now) }
 {
     if let Some(lists) = known {
         return Some(lists.same());

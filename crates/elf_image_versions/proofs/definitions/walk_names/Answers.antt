@@ -2,7 +2,7 @@
 use Rattle.std.proofs.Common.{◌≡◌, ◌⊎◌, ◌<◌, ◌+◌, ◌-◌, ℕ, true, false, List, Option, None, inl, inr, length, refl, sym, ◌∙◌, subst}
 use Rattle.patch_bytes.specs.Memory.{memory_of}
 use Rattle.elf_format.specs.declared.form.Form.{Form}
-use Rattle.elf_format.specs.Answers.{step_seen, whole_step}
+use Rattle.elf_format.specs.Answers.{step_model, whole_step}
 use Rattle.elf_format.specs.Versions.{Step, definition_name_at}
 use Rattle.elf_image_versions.specs.WalkSteps.{IsWalk}
 use Rattle.elf_format.proofs.ChainSteps.{more_left, next_of}
@@ -17,7 +17,7 @@ loop-i-init c =
 pub returns-in_default : goal.returns-in_default
 returns-in_default c =
     let read : ℕ → Option (Step ℕ) = definition_name_at c.args.form (memory_of c.args.bytes.now) in
-    let none = found_none (step_seen (λ (n : ℕ). n)) c.read_definition_name.result (whole_step (read c.loop-i.place)) c.in_ok-value.field-0 c.read_definition_name.ensures c.in_ok-value.ensures c.in_default.is in
+    let none = found_none (step_model (λ (n : ℕ). n)) c.read_definition_name.result (whole_step (read c.loop-i.place)) c.in_ok-value.field-0 c.read_definition_name.ensures c.in_ok-value.ensures c.in_default.is in
     walk_ends read c.args.count c.args.start c.loop-i.values.items c.loop-i.i c.loop-i.place c.loop-i-test.true
     (sym (definition_name-whole c.args.form (memory_of c.args.bytes.now) c.loop-i.place) ∙ none) c.loop-i.invariant
 
@@ -30,7 +30,7 @@ pub returns-in_default-step_on : goal.returns-in_default-step_on
 returns-in_default-step_on c =
     let read : ℕ → Option (Step ℕ) = definition_name_at c.args.form (memory_of c.args.bytes.now) in
     let s : Step ℕ = record { value = c.in-Some.value; is_whole = true; next = c.in-Some.next } in
-    let here = found_there (step_seen (λ (n : ℕ). n)) c.read_definition_name.result (whole_step (read c.loop-i.place)) c.in_ok-value.field-0 (c.in-Some.value, c.in-Some.next) c.read_definition_name.ensures c.in_ok-value.ensures c.in-Some.is in
+    let here = found_there (step_model (λ (n : ℕ). n)) c.read_definition_name.result (whole_step (read c.loop-i.place)) c.in_ok-value.field-0 (c.in-Some.value, c.in-Some.next) c.read_definition_name.ensures c.in_ok-value.ensures c.in-Some.is in
     subst (λ (l : List ℕ). IsWalk read c.args.count c.args.start l false) (sym c.in_ok-push.ensures.items)
     (walk_stops read c.args.count c.args.start c.loop-i.values.items c.loop-i.i c.loop-i.place s c.loop-i-test.true
     (sym (definition_name-whole c.args.form (memory_of c.args.bytes.now) c.loop-i.place) ∙ here)
@@ -41,7 +41,7 @@ pub loop-i-preserved : goal.loop-i-preserved
 loop-i-preserved c =
     let read : ℕ → Option (Step ℕ) = definition_name_at c.args.form (memory_of c.args.bytes.now) in
     let s : Step ℕ = record { value = c.in-Some.value; is_whole = true; next = c.in-Some.next } in
-    let here = found_there (step_seen (λ (n : ℕ). n)) c.read_definition_name.result (whole_step (read c.loop-i.place)) c.in_ok-value.field-0 (c.in-Some.value, c.in-Some.next) c.read_definition_name.ensures c.in_ok-value.ensures c.in-Some.is in
+    let here = found_there (step_model (λ (n : ℕ). n)) c.read_definition_name.result (whole_step (read c.loop-i.place)) c.in_ok-value.field-0 (c.in-Some.value, c.in-Some.next) c.read_definition_name.ensures c.in_ok-value.ensures c.in-Some.is in
     subst (λ (l : List ℕ). WalkLeft read c.args.count c.args.start l (c.args.count - (c.loop-i.i + 1)) c.in-Ok.stepped) (sym c.in_ok-push.ensures.items)
     (walk_goes read c.args.count c.args.start c.loop-i.values.items c.loop-i.i c.loop-i.place c.in-Ok.stepped s c.loop-i-test.true
     (sym (definition_name-whole c.args.form (memory_of c.args.bytes.now) c.loop-i.place) ∙ here) refl

@@ -6,7 +6,7 @@ use Rattle.patch_bytes.specs.Memory.{memory_of}
 use Rattle.elf_format.specs.declared.versions.RawDefinition.{RawDefinition}
 use Rattle.elf_format.specs.Options.{each}
 use Rattle.elf_format.specs.Answers.{Fails}
-use Rattle.elf_image_versions.specs.VersionsSeen.{definition_kept}
+use Rattle.elf_image_versions.specs.VersionsModel.{definition_model}
 use Rattle.elf_format.specs.Seen.{raw_definition}
 use Rattle.elf_format.specs.Versions.{DefinitionNumbers, VersionDefinition, shown_definition}
 use Rattle.elf_format.proofs.ReadingSteps.{each_done, each_ends, each_goes}
@@ -24,7 +24,7 @@ returns-in_err-one c =
     let x : RawDefinition = c.raw-item.result in
     let less : c.loop-raw.raw-index < length xs = omega (arith, length-map c.args.walked.now raw_definition) in
     let here : get_or xs c.loop-raw.raw-index (raw_definition x) ≡ raw_definition x = at_place c.args.walked.now c.loop-raw.raw-index x c.loop-raw-test.true c.raw-item.is in
-    rw (p.1, p.2) (each_ends f c.in_err-one.field-0.0 (map definition_kept c.loop-raw.made.items) xs c.loop-raw.raw-index (raw_definition x) (each f xs) less
+    rw (p.1, p.2) (each_ends f c.in_err-one.field-0.0 (map definition_model c.loop-raw.made.items) xs c.loop-raw.raw-index (raw_definition x) (each f xs) less
     (subst (λ e. Fails c.in_err-one.field-0.0 (f e)) (sym here) c.in_err-one.ensures) c.loop-raw.invariant)
 
 pub loop-raw-preserved : goal.loop-raw-preserved
@@ -35,12 +35,12 @@ loop-raw-preserved c =
     let made = c.in_ok-one.one in
     let less : c.loop-raw.raw-index < length xs = omega (arith, length-map c.args.walked.now raw_definition) in
     let here : get_or xs c.loop-raw.raw-index (raw_definition x) ≡ raw_definition x = at_place c.args.walked.now c.loop-raw.raw-index x c.loop-raw-test.true c.raw-item.is in
-    let e : map definition_kept c.push.new.self.items ≡ map definition_kept c.loop-raw.made.items ++ definition_kept made ∷ [] = rw c.in_ok-push.ensures.items (map_push definition_kept c.loop-raw.made.items made) in
-    rw e (each_goes f (map definition_kept c.loop-raw.made.items) xs c.loop-raw.raw-index (raw_definition x) (definition_kept made) (each f xs) less (ap f here ∙ c.in_ok-one.ensures) c.loop-raw.invariant)
+    let e : map definition_model c.push.new.self.items ≡ map definition_model c.loop-raw.made.items ++ definition_model made ∷ [] = rw c.in_ok-push.ensures.items (map_push definition_model c.loop-raw.made.items made) in
+    rw e (each_goes f (map definition_model c.loop-raw.made.items) xs c.loop-raw.raw-index (raw_definition x) (definition_model made) (each f xs) less (ap f here ∙ c.in_ok-one.ensures) c.loop-raw.invariant)
 
 pub returns : goal.returns
 returns c =
     let f : DefinitionNumbers → Option VersionDefinition = shown_definition c.args.room (memory_of c.args.texts.now) in
     let xs : List DefinitionNumbers = map raw_definition c.args.walked.now in
     let past : length xs ≤ c.loop-raw.raw-index = omega (arith, length-map c.args.walked.now raw_definition) in
-    each_done f (map definition_kept c.loop-raw.made.items) xs c.loop-raw.raw-index (each f xs) past c.loop-raw.invariant
+    each_done f (map definition_model c.loop-raw.made.items) xs c.loop-raw.raw-index (each f xs) past c.loop-raw.invariant

@@ -1,7 +1,7 @@
 use Rattle.std.proofs.Common.{◌≡◌, drop, map}
 use Rattle.patch_bytes.specs.Memory.{memory_of}
 use Rattle.elf_format.specs.Options.{each}
-use Rattle.elf_image_versions.specs.VersionsSeen.{definition_kept}
+use Rattle.elf_image_versions.specs.VersionsModel.{definition_model}
 use Rattle.elf_format.specs.Seen.{raw_definition}
 use Rattle.elf_format.specs.Versions.{shown_definition}
 use Rattle.elf_format.proofs.ReadingSteps.{with_front}
@@ -10,5 +10,5 @@ use Rattle.elf_image_versions.proofs.kept.kept_definitions.Given as goal
 -- what was made so far, and what the rest gives
 abbrev pub invariant-loop-raw : goal.invariant-loop-raw
 invariant-loop-raw l =
-    with_front (map definition_kept l.made.items) (each (shown_definition l.room (memory_of l.texts)) (drop l.raw-index (map raw_definition l.walked)))
+    with_front (map definition_model l.made.items) (each (shown_definition l.room (memory_of l.texts)) (drop l.raw-index (map raw_definition l.walked)))
     ≡ each (shown_definition l.room (memory_of l.texts)) (map raw_definition l.walked)

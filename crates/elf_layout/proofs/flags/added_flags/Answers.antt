@@ -1,6 +1,6 @@
 use Rattle.std.proofs.Common.{◌∙◌, ℕ, List, Option, take, sym, ap}
 use Rattle.elf_layout_plan.specs.Rounds.{each_once}
-use Rattle.elf_layout.specs.Spots.{with_flag}
+use Rattle.elf_layout.specs.Slots.{with_flag}
 use Rattle.elf_layout.proofs.FlagSteps.{flags_end, flags_more, flags_of_all, flags_start}
 use Rattle.elf_layout.proofs.flags.added_flags.Goals as goal
 

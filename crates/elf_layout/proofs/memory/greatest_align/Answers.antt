@@ -3,7 +3,7 @@ use Rattle.std.specs.Prelude.{slice_get}
 use Rattle.std.proofs.lemmas.List.{length-map}
 use Rattle.elf_format.specs.File.{is_loaded}
 use Rattle.elf_format.specs.declared.records.SegmentHeader.{SegmentHeader}
-use Rattle.elf_image.specs.ImageSeen.{segment_kept}
+use Rattle.elf_image.specs.ImageModel.{segment_model}
 use Rattle.elf_layout.proofs.GreatestSteps.{greatest_end, greatest_more, greatest_of, segment_of, value_at}
 use Rattle.elf_layout.proofs.memory.greatest_align.Goals as goal
 
@@ -12,7 +12,7 @@ align_of p = p.p_align
 
 pub loop-segment-preserved : goal.loop-segment-preserved
 loop-segment-preserved c =
-    let all : List SegmentHeader = map segment_kept c.args.segments.now in
+    let all : List SegmentHeader = map segment_model c.args.segments.now in
     let i : ℕ = c.loop-segment.segment-index in
     let n : ℕ = c.loop-segment.found in
     let here : c.max-found.result ≡ max (value_at is_loaded align_of (slice_get all i)) n =
@@ -24,6 +24,6 @@ loop-segment-preserved c =
 
 pub returns : goal.returns
 returns c =
-    let all : List SegmentHeader = map segment_kept c.args.segments.now in
+    let all : List SegmentHeader = map segment_model c.args.segments.now in
     sym (greatest_end is_loaded align_of c.loop-segment.found all c.loop-segment.segment-index (rw length-map c.loop-segment-test.false))
     ∙ c.loop-segment.invariant

@@ -5,7 +5,7 @@ use Rattle.elf_format.specs.File.{is_loaded}
 use Rattle.elf_format.specs.Placement.{memory_part}
 use Rattle.elf_format.specs.Ranges.{end_of}
 use Rattle.elf_format.specs.declared.records.SegmentHeader.{SegmentHeader}
-use Rattle.elf_image.specs.ImageSeen.{segment_kept}
+use Rattle.elf_image.specs.ImageModel.{segment_model}
 use Rattle.elf_layout.proofs.GreatestSteps.{greatest_end, greatest_more, greatest_of, segment_of, value_at}
 use Rattle.elf_layout.proofs.memory.loads_end.Goals as goal
 
@@ -14,7 +14,7 @@ end_in_memory p = end_of (memory_part p)
 
 pub loop-segment-preserved : goal.loop-segment-preserved
 loop-segment-preserved c =
-    let all : List SegmentHeader = map segment_kept c.args.segments.now in
+    let all : List SegmentHeader = map segment_model c.args.segments.now in
     let i : ℕ = c.loop-segment.segment-index in
     let n : ℕ = c.loop-segment.end in
     let here : c.max-end.result ≡ max (value_at is_loaded end_in_memory (slice_get all i)) n =
@@ -29,6 +29,6 @@ loop-segment-preserved c =
 
 pub returns-clause-end : goal.returns-clause-end
 returns-clause-end c =
-    let all : List SegmentHeader = map segment_kept c.args.segments.now in
+    let all : List SegmentHeader = map segment_model c.args.segments.now in
     sym (greatest_end is_loaded end_in_memory c.loop-segment.end all c.loop-segment.segment-index (rw length-map c.loop-segment-test.false))
     ∙ c.loop-segment.invariant.end

@@ -6,7 +6,7 @@ use Rattle.elf_format.specs.Ranges.{end_of}
 use Rattle.elf_format.specs.declared.records.SegmentHeader.{SegmentHeader}
 use Rattle.elf_layout_plan.specs.Added.{greatest, memory_end}
 use Rattle.elf_layout_plan.specs.Memory.{Resized, SizedSection, sized_sections}
-use Rattle.elf_layout.specs.Spots.{end_at, has_memory, section_end}
+use Rattle.elf_layout.specs.Slots.{end_at, has_memory, section_end}
 use Rattle.elf_layout.proofs.GreatestSteps.{greatest_end, greatest_more, greatest_of, value_at}
 use Rattle.elf_layout.proofs.memory.memory_end.Goals as goal
 

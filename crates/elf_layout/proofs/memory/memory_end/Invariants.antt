@@ -1,6 +1,6 @@
 use Rattle.std.proofs.Common.{◌≡◌, ◌<◌, ◌^◌, drop}
 use Rattle.elf_layout_plan.specs.Memory.{sized_sections}
-use Rattle.elf_layout.specs.Spots.{has_memory, section_end}
+use Rattle.elf_layout.specs.Slots.{has_memory, section_end}
 use Rattle.elf_layout.proofs.GreatestSteps.{greatest_of}
 use Rattle.elf_layout.proofs.memory.memory_end.Given as goal
 

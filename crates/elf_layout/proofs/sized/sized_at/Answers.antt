@@ -3,14 +3,14 @@ use Rattle.std.specs.Prelude.{option_map, slice_get}
 use Rattle.std.proofs.lemmas.Option.{slice_get-get_or, slice_get_read}
 use Rattle.elf_layout_plan.specs.Memory.{Resized, sized_sections}
 use Rattle.elf_layout.specs.Numbers.{numbers_of}
-use Rattle.elf_layout_moves.specs.Seen.{resized_seen}
+use Rattle.elf_layout_moves.specs.Seen.{resized_model}
 use Rattle.elf_layout.proofs.SizedSections.{none_found, none_sized, some_found}
 use Rattle.elf_layout.proofs.sized.sized_at.Goals as goal
 use Rattle.elf_layout.proofs.sized.sized_at.Goals.{then-position-sections-via-then-position-sections, then-position-sections-via-else-position-sections+then-position-r}
 
 pub returns-then-position-sections : goal.returns-then-position-sections
 returns-then-position-sections c =
-    let seen : Resized = resized_seen c.r.inside in
+    let seen : Resized = resized_model c.r.inside in
     let is : None ≡ option_map numbers_of (slice_get (sized_sections seen) c.args.position) =
     elim c.then-position-sections.branch [
       | then-position-sections-via-then-position-sections w ↦
@@ -24,7 +24,7 @@ returns-then-position-sections c =
 
 pub returns : goal.returns
 returns c =
-    let seen : Resized = resized_seen c.r.inside in
+    let seen : Resized = resized_model c.r.inside in
     let is = some_found seen c.source-source.ensures.edited c.sections-sections.result.now c.sections-sections.ensures c.args.position
     c.index-sections-position.result _
     (slice_get_read c.sections-sections.result.now _ c.args.position _ refl c.if-position-sections.false c.index-sections-position.is)

@@ -1,9 +1,9 @@
 use Rattle.std.proofs.Common.{◌<◌, ◌+◌, ◌++◌, ◌∙◌, ℕ, List, Option, ap, sym, length, arith}
 use Rattle.std.proofs.lemmas.List.{length-map}
 use Rattle.elf_format.specs.Image.{ImageSection}
-use Rattle.elf_image.specs.ImageSeen.{section_kept}
+use Rattle.elf_image.specs.ImageModel.{section_model}
 use Rattle.elf_layout_plan.specs.Blocks.{Block}
-use Rattle.elf_layout_plan.specs.Kept.{interpreter_number}
+use Rattle.elf_image.specs.Kept.{interpreter_number}
 use Rattle.elf_layout_plan.specs.Memory.{Resized}
 use Rattle.elf_layout_moves.specs.ImageBlocks.{made_block, section_blocks_from}
 use Rattle.elf_layout_moves.proofs.ImageSteps.{block_next, block_passed, pushed, seen_section}
@@ -17,8 +17,8 @@ loop-position-preserved c =
     let same = ap (λ (q : Resized). q.image.sections) c.r.view_is in
     let ends = c.sections-position-end.ensures ∙ same in
     let at = seen_section r.image _ _ k c.index-sections-position.result ends (c.sections.ensures ∙ same) c.loop-position-test.true c.index-sections-position.is in
-    let within : k < length r.image.sections = omega (arith, c.loop-position-test.true, length-map c.sections-position-end.result.now section_kept, ap length ends) in
-    let s : ImageSection = section_kept c.index-sections-position.result in
+    let within : k < length r.image.sections = omega (arith, c.loop-position-test.true, length-map c.sections-position-end.result.now section_model, ap length ends) in
+    let s : ImageSection = section_model c.index-sections-position.result in
     elim c.if-is_in_memory.branch [
       | then-is_in_memory+in_ok-push w ↦
           let block = w.block_at.ensures s at ∙ ap (λ (n : Option ℕ). made_block r n c.args.strings k s) c.requires.interpreter

@@ -1,13 +1,13 @@
 use Rattle.std.proofs.Common.{false, ◌∙◌, ap, length, replicate, sym}
 use Rattle.std.proofs.lemmas.List.{length-map}
-use Rattle.elf_image.specs.ImageSeen.{section_kept}
+use Rattle.elf_image.specs.ImageModel.{section_model}
 use Rattle.elf_layout_moves.proofs.Marking.{marked_all, marked_next, none_marked}
 use Rattle.elf_layout_moves.proofs.marks.marks_of.Goals as goal
 
 pub loop-position-init : goal.loop-position-init
 loop-position-init c =
     c.in_ok-marks.ensures.items_if_clones_equal (λ y same. same)
-    ∙ ap (λ n. replicate n false) (sym (length-map c.sections.result.now section_kept) ∙ ap length c.sections.ensures ∙ ap (λ r. length r.image.sections) c.r.view_is) ∙ none_marked (length c.args.r.now.image.sections)
+    ∙ ap (λ n. replicate n false) (sym (length-map c.sections.result.now section_model) ∙ ap length c.sections.ensures ∙ ap (λ r. length r.image.sections) c.r.view_is) ∙ none_marked (length c.args.r.now.image.sections)
 
 pub loop-position-preserved : goal.loop-position-preserved
 loop-position-preserved c =

@@ -15,8 +15,8 @@ blocks_of-requires-clause-sized c =
     let numbered = subst (λ (q : Resized). AreNumbered q.image) c.r.view_is c.source-image.ensures.edited.is_edit.sections.numbered in
     as_many_sizes c.args.r.now is numbered
 
-pub settled-requires : goal.settled-requires
-settled-requires c =
+pub moved_positions-requires : goal.moved_positions-requires
+moved_positions-requires c =
     subst (λ (blocks : List Block). All IsWhole blocks) (sym (c.deref.ensures.value ∙ c.in-Ok.ensures)) (wholes c.args.r.now c.args.added)
 
 pub in_old_order-requires-clause-within : goal.in_old_order-requires-clause-within

@@ -31,14 +31,14 @@ loop-next-preserved g c =
     let within : next < length blocks = omega arith in
     let before : last < length blocks = omega arith in
     record {
-      walked = elim c.match-meet.branch [
-        | in-Apart w ↦ carried blocks _ c.match-meet.moves _ c.match-meet.last (next + 1) w.moves-is w.last-is
+      walked = elim c.match-compare_blocks.branch [
+        | in-Apart w ↦ carried blocks _ c.match-compare_blocks.moves _ c.match-compare_blocks.last (next + 1) w.moves-is w.last-is
             (walk_past_apart blocks moves last next _ _ c.requires.ordered long c.loop-next.invariant.walked within
             (slice_get-get_or blocks last _ before) (slice_get-get_or blocks next _ within) w.in-Apart.ensures.meeting)
-        | in-Later w ↦ carried blocks _ c.match-meet.moves _ c.match-meet.last (next + 1) w.moves-is w.last-is
+        | in-Later w ↦ carried blocks _ c.match-compare_blocks.moves _ c.match-compare_blocks.last (next + 1) w.moves-is w.last-is
             (walk_past_later blocks moves last next _ _ c.requires.ordered long c.loop-next.invariant.walked within
             (slice_get-get_or blocks last _ before) (slice_get-get_or blocks next _ within) w.in-Later.ensures.meeting)
-        | in-Earlier w ↦ carried blocks _ c.match-meet.moves _ c.match-meet.last (next + 1) w.moves-is w.last-is
+        | in-Earlier w ↦ carried blocks _ c.match-compare_blocks.moves _ c.match-compare_blocks.last (next + 1) w.moves-is w.last-is
             (walk_past_earlier blocks moves last next _ _ c.requires.ordered long c.loop-next.invariant.walked within
             (slice_get-get_or blocks last _ before) (slice_get-get_or blocks next _ within) w.in-Earlier.ensures.meeting)
       ];

@@ -1,8 +1,8 @@
 use Rattle.std.proofs.Common.{◌≡◌, length, ap, sym, ◌∙◌, arith}
 use Rattle.std.proofs.lemmas.List.{length-map}
 use Rattle.std.proofs.lemmas.Result.{err_from_is_err_and}
-use Rattle.elf_layout_plan.specs.Follow.{leader_of}
-use Rattle.elf_layout_segments.specs.Led.{leader_seen, told}
+use Rattle.elf_layout_plan.specs.Anchors.{anchor_of}
+use Rattle.elf_layout_segments.specs.AnchorPositions.{anchor_model, anchor_position}
 use Rattle.elf_layout_segments.proofs.RoundSteps.{ended, ended_by, few, nearer, none_so_far, one_more}
 use Rattle.elf_layout_segments.proofs.rounds.look_in_rounds.Goals as goal
 
@@ -23,8 +23,8 @@ pub overflow_add-count : goal.overflow_add-count
 overflow_add-count c =
     let r = c.args.r.now in
     let few_rounds = (few r c.loop-round.looked c.loop-round.count c.loop-round.invariant).1 in
-    let many : length c.args.leaders.now ≡ length r.image.segments =
-    sym (length-map c.args.leaders.now leader_seen) ∙ ap length c.requires ∙ length-map r.image.segments (λ p. told p (leader_of r p)) in
+    let many : length c.args.anchors.now ≡ length r.image.segments =
+    sym (length-map c.args.anchors.now anchor_model) ∙ ap length c.requires ∙ length-map r.image.segments (λ p. anchor_position p (anchor_of r p)) in
     omega arith
 
 pub loop-round-preserved : goal.loop-round-preserved

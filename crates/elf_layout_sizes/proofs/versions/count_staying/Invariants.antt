@@ -1,5 +1,5 @@
 use Rattle.std.proofs.Common.{◌≡◌, ◌+◌, ◌≤◌, drop, length, map}
-use Rattle.elf_image.specs.ImageSeen.{entry_kept}
+use Rattle.elf_image.specs.ImageModel.{entry_model}
 use Rattle.elf_layout_sizes.specs.Inner.{staying_entries}
 use Rattle.elf_layout_sizes.proofs.versions.count_staying.Given as goal
 
@@ -7,4 +7,4 @@ use Rattle.elf_layout_sizes.proofs.versions.count_staying.Given as goal
 abbrev pub invariant-loop-entry : goal.invariant-loop-entry
 invariant-loop-entry l =
     (l.count ≤ l.entry-index)
-    × (l.count + length (staying_entries l.without_needs (map entry_kept (drop l.entry-index l.entries))) ≡ length (staying_entries l.without_needs (map entry_kept l.entries)))
+    × (l.count + length (staying_entries l.without_needs (map entry_model (drop l.entry-index l.entries))) ≡ length (staying_entries l.without_needs (map entry_model l.entries)))

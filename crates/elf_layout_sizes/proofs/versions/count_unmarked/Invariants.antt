@@ -1,5 +1,5 @@
 use Rattle.std.proofs.Common.{◌≡◌, ◌+◌, ◌≤◌, drop, length, map}
-use Rattle.elf_image.specs.ImageSeen.{name_kept}
+use Rattle.elf_image.specs.ImageModel.{name_model}
 use Rattle.elf_layout_sizes.specs.Inner.{unmarked_names}
 use Rattle.elf_layout_sizes.proofs.versions.count_unmarked.Given as goal
 
@@ -7,4 +7,4 @@ use Rattle.elf_layout_sizes.proofs.versions.count_unmarked.Given as goal
 abbrev pub invariant-loop-name : goal.invariant-loop-name
 invariant-loop-name l =
     (l.count ≤ l.name-index)
-    × (l.count + length (unmarked_names l.marks (map name_kept (drop l.name-index l.names))) ≡ length (unmarked_names l.marks (map name_kept l.names)))
+    × (l.count + length (unmarked_names l.marks (map name_model (drop l.name-index l.names))) ≡ length (unmarked_names l.marks (map name_model l.names)))

@@ -1,5 +1,5 @@
 use Rattle.std.proofs.Common.{◌≡◌, ◌+◌, ◌<◌, ◌^◌, drop, map}
-use Rattle.elf_image.specs.ImageSeen.{definition_kept}
+use Rattle.elf_image.specs.ImageModel.{definition_model}
 use Rattle.elf_layout_plan.specs.Sizes.{definitions_size}
 use Rattle.elf_layout_sizes.proofs.versions.definitions_size.Given as goal
 
@@ -7,4 +7,4 @@ use Rattle.elf_layout_sizes.proofs.versions.definitions_size.Given as goal
 abbrev pub invariant-loop-definition : goal.invariant-loop-definition
 invariant-loop-definition l =
     (l.size < 2 ^ 64)
-    × (l.size + definitions_size (map definition_kept (drop l.definition-index l.definitions)) ≡ definitions_size (map definition_kept l.definitions))
+    × (l.size + definitions_size (map definition_model (drop l.definition-index l.definitions)) ≡ definitions_size (map definition_model l.definitions))

@@ -2,7 +2,7 @@
 use Rattle.std.proofs.Common.{◌≡◌, Bool, true, false, take, refl, sym, ap, ◌∙◌}
 use Rattle.std.specs.Prelude.{◌==◌, ◌||◌, if◌then◌else◌}
 use Rattle.elf_format.specs.Options.{is_some_and}
-use Rattle.elf_image.specs.ImageSeen.{symbol_kept}
+use Rattle.elf_image.specs.ImageModel.{symbol_model}
 use Rattle.elf_layout_plan.specs.Needs.{is_version_used}
 use Rattle.elf_layout_sizes.proofs.SymbolSteps.{used_next}
 use Rattle.elf_layout_sizes.specs.Inner.{marked}
@@ -23,4 +23,4 @@ loop-i-preserved c index =
     c.mark_version.ensures index
     ∙ ap (λ (b : Bool). if now then mark else b) (c.loop-i.invariant index)
     ∙ given before now mark (marked c.args.marks.now index)
-    ∙ ap (λ (b : Bool). if b then mark else marked c.args.marks.now index) (sym (used_next c.args.symbols.now c.loop-i.i (symbol_kept c.get.result) index c.get.ensures))
+    ∙ ap (λ (b : Bool). if b then mark else marked c.args.marks.now index) (sym (used_next c.args.symbols.now c.loop-i.i (symbol_model c.get.result) index c.get.ensures))

@@ -1,5 +1,5 @@
 use Rattle.std.proofs.Common.{◌≡◌, ◌+◌, ◌<◌, ◌^◌, drop, map}
-use Rattle.elf_image.specs.ImageSeen.{needs_kept}
+use Rattle.elf_image.specs.ImageModel.{needs_model}
 use Rattle.elf_layout_plan.specs.Sizes.{needs_size}
 use Rattle.elf_layout_sizes.specs.Inner.{unmarked_needs}
 use Rattle.elf_layout_sizes.proofs.versions.needs_size.Given as goal
@@ -8,4 +8,4 @@ use Rattle.elf_layout_sizes.proofs.versions.needs_size.Given as goal
 abbrev pub invariant-loop-need : goal.invariant-loop-need
 invariant-loop-need l =
     (l.size < 2 ^ 64)
-    × (l.size + needs_size (unmarked_needs l.marks (map needs_kept (drop l.need-index l.needs))) ≡ needs_size (unmarked_needs l.marks (map needs_kept l.needs)))
+    × (l.size + needs_size (unmarked_needs l.marks (map needs_model (drop l.need-index l.needs))) ≡ needs_size (unmarked_needs l.marks (map needs_model l.needs)))

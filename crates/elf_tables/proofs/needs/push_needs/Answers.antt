@@ -4,7 +4,7 @@ use Rattle.std.specs.List.{AllByRecursion}
 use Rattle.std.proofs.lemmas.List.{length-map}
 use Rattle.std.proofs.lemmas.Result.{MatchResult-weaker}
 use Rattle.elf_image.specs.declared.version.VersionNeedName.{VersionNeedName}
-use Rattle.elf_image.specs.ImageSeen.{name_kept, needs_kept}
+use Rattle.elf_image.specs.ImageModel.{name_model, needs_model}
 use Rattle.elf_tables.specs.Strings.{place_of}
 use Rattle.elf_tables.specs.VersionRecords.{PlacedName, PlacedNeeds, chained, needs_size, place_in, placed_name, placed_needs, spelled_need_name, spelled_needs}
 use Rattle.elf_tables.specs.VersionSteps.{NameFits}
@@ -14,15 +14,15 @@ use Rattle.elf_tables.proofs.needs.push_needs.Goals as goal
 pub returns : goal.returns
 returns c =
     let versions : List VersionNeedName = c.args.needs.now.versions.items in
-    let m : PlacedNeeds = placed_needs c.args.table.now (needs_kept c.args.needs.now) in
+    let m : PlacedNeeds = placed_needs c.args.table.now (needs_model c.args.needs.now) in
     let counted : c.len-count.result ≡ length versions = search rules in
-    let long : length m.versions ≡ length versions = length-map (map name_kept versions) (placed_name c.args.table.now) ∙ length-map versions name_kept in
+    let long : length m.versions ≡ length versions = length-map (map name_model versions) (placed_name c.args.table.now) ∙ length-map versions name_model in
     let told : place_of c.args.table.now c.as_slice.result.now ≡ Some c.unwrap-file.result = sym c.offset_of.ensures.place ∙ c.unwrap-file.ensures in
     let placed : c.unwrap-file.result ≡ m.file = sym (ap (λ o. unwrap_or o 0) told) ∙ ap (place_in c.args.table.now) c.as_slice.ensures in
     let next : c.next_distance-next.result ≡ cond c.args.has_next (needs_size m) 0 = c.next_distance-next.ensures ∙ ap (λ k. cond c.args.has_next (16 + 16 * k) 0) (counted ∙ sym long) in
     let file : c.unwrap-file.result < 4294967296 = search rules in
     let few : length m.versions < 65536 = omega arith in
-    let same : map (placed_name c.args.table.now) (map name_kept c.deref.result.now) ≡ m.versions = ap (λ l. map (placed_name c.args.table.now) (map name_kept l)) c.deref.ensures.value in
+    let same : map (placed_name c.args.table.now) (map name_model c.deref.result.now) ≡ m.versions = ap (λ l. map (placed_name c.args.table.now) (map name_model l)) c.deref.ensures.value in
     let bytes : List ℕ = c.args.bytes.now.items in
     let second : List ℕ = c.push_words.new.bytes.items in
     MatchResult-weaker c.push_need_names.result c.push_need_names.ensures

@@ -4,7 +4,7 @@ use Rattle.std.proofs.lemmas.List.{length-map}
 use Rattle.std.proofs.lemmas.Result.{MatchResult-weaker}
 use Rattle.patch_bytes.specs.ByteString.{StringValue, bytes_of_each}
 use Rattle.elf_format.specs.Hashes.{gabi_hash}
-use Rattle.elf_image.specs.ImageSeen.{definition_kept}
+use Rattle.elf_image.specs.ImageModel.{definition_model}
 use Rattle.elf_tables.specs.VersionRecords.{PlacedDefinition, definition_size, chained, own_name, place_in, placed_definition, spelled_definition, spelled_definition_name}
 use Rattle.elf_tables.proofs.ChainingSteps.{definition_made}
 use Rattle.elf_tables.proofs.versions.push_definition.Goals as goal
@@ -13,7 +13,7 @@ pub returns : goal.returns
 returns c =
     let strings : List StringValue = c.args.version.now.names.items in
     let names : List (List ℕ) = bytes_of_each strings in
-    let d : PlacedDefinition = placed_definition c.args.table.now (definition_kept c.args.version.now) in
+    let d : PlacedDefinition = placed_definition c.args.table.now (definition_model c.args.version.now) in
     let counted_strings : c.len-count.result ≡ length strings = search rules in
     let counted : c.len-count.result ≡ length names = counted_strings ∙ sym (length-map strings (λ (x : StringValue). x.bytes)) in
     let long : length d.names ≡ length names = length-map names (place_in c.args.table.now) in

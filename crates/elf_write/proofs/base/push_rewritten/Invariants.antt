@@ -1,5 +1,5 @@
 use Rattle.std.proofs.Common.{◌≡◌, ◌++◌, take}
-use Rattle.elf_layout_plan.specs.Kept.{kept_sections}
+use Rattle.elf_image.specs.Kept.{kept_sections}
 use Rattle.elf_layout_plan.specs.Plan.{resized}
 use Rattle.elf_write.specs.LayingSteps.{rewritten_places}
 use Rattle.elf_write.proofs.base.push_rewritten.Given as goal

@@ -1,6 +1,6 @@
 use Rattle.byte_store.specs.Laid.{patches_of}
 use Rattle.patch_bytes.specs.ByteString.{bytes_of_each}
-use Rattle.elf_layout_plan.specs.Kept.{kept_sections}
+use Rattle.elf_image.specs.Kept.{kept_sections}
 use Rattle.elf_layout_plan.specs.Plan.{resized}
 use Rattle.elf_write.proofs.LayingWhole.{IsPushedTo}
 use Rattle.elf_write.proofs.pieces.push_contents.Given as goal

@@ -2,7 +2,7 @@ use Rattle.std.proofs.Common.{◌∙◌, List, ℕ, ap, length, map, refl, sym}
 use Rattle.byte_store.specs.Composed.{made_of}
 use Rattle.byte_store.specs.Laid.{patches_of}
 use Rattle.elf_format.specs.Image.{Image}
-use Rattle.elf_image.specs.ImageSeen.{segment_kept}
+use Rattle.elf_image.specs.ImageModel.{segment_model}
 use Rattle.elf_layout_plan.specs.Plan.{resized}
 use Rattle.elf_write.proofs.Composing.{composed_of}
 use Rattle.elf_write.proofs.spans.differing.Goals as goal
@@ -12,7 +12,7 @@ returns-clause-makes c bytes is =
     let source : List ℕ = c.source-source.result.now in
     ap (λ (l : List ℕ). made_of l c.in_ok-difference.difference) (sym c.source-source.ensures.source)
     ∙ c.in_ok-difference.ensures.makes bytes
-    (composed_of (resized c.args.image.now) source (length source) (map segment_kept c.segments.result.now) c.deref.result.now
+    (composed_of (resized c.args.image.now) source (length source) (map segment_model c.segments.result.now) c.deref.result.now
     c.deref-2.result.now c.deref-3.result.now (patches_of c.args.pieces.now) c.args.size bytes c.source-source.ensures.source refl
     (c.segments.ensures ∙ ap (λ (m : Image). m.segments) c.requires.ready.at_read)
     (c.deref.ensures.value ∙ c.in_ok-places.ensures) (c.deref-2.ensures.value ∙ c.in_ok-kept.ensures)

@@ -8,9 +8,9 @@ use Rattle.elf_format.specs.declared.constants.TheConstants.{SHT_DYNAMIC, SHT_DY
 use Rattle.elf_format.specs.declared.form.Form.{Form}
 use Rattle.elf_format.specs.Image.{ImageSection}
 use Rattle.elf_format.specs.Records.{entry_size}
-use Rattle.elf_image.specs.ImageSeen.{section_kept}
+use Rattle.elf_image.specs.ImageModel.{section_model}
 use Rattle.elf_layout_plan.specs.declared.plan.SectionPlace.{SectionPlace}
-use Rattle.elf_layout_plan.specs.PlanSeen.{place_seen}
+use Rattle.elf_layout_plan.specs.PlanModel.{place_model}
 use Rattle.elf_write_spec.specs.Contents.{spelled_list}
 use Rattle.elf_write_contents.specs.ContentSteps.{IsBytesAt}
 use Rattle.elf_write_contents.proofs.ContentsAll.{both_ok, definitions_at, list_at_place, list_fits, needs_at, others_at, place_there, place_within, places_long, section_there, strings_at_place, symbols_at}
@@ -23,19 +23,19 @@ bounds-places-i c =
 
 pub list_content-requires-clause-room : goal.list_content-requires-clause-room
 list_content-requires-clause-room c =
-    let s : ImageSection = section_kept c.index-sections-i.result in
+    let s : ImageSection = section_model c.index-sections-i.result in
     let at : _ = section_there c.sections.result.now c.args.image.now.sections c.args.i c.index-sections-i.result c.sections.ensures
     c.requires.within c.index-sections-i.is in
     let place : SectionPlace =
     slice_index_or c.places.result.now c.args.i (record { sh_type = 0; sh_flags = 0; sh_addr = 0; sh_offset = 0; sh_size = 0 }) in
-    let place_at : slice_get c.args.plan.now.places c.args.i ≡ Some (place_seen place) =
+    let place_at : slice_get c.args.plan.now.places c.args.i ≡ Some (place_model place) =
     place_there c.places.result.now c.args.plan.now.places c.args.i _ c.places.ensures
     (place_within c.places.result.now c.args.plan.now.places c.args.image.now.sections c.args.i c.places.ensures
     (places_long c.args.read.now c.args.image.now c.args.plan.now c.requires.planned) c.requires.within) in
     subst (λ (form : Form). length c.args.raw.now * entry_size form ≤ place.sh_size)
     (sym c.form_of.ensures)
     (list_fits c.args.read.now c.args.image.now c.args.plan.now c.args.made.now c.args.raw.now c.requires.planned c.args.i s at
-    c.requires.apart c.requires.raw c.in-6.is (place_seen place) place_at)
+    c.requires.apart c.requires.raw c.in-6.is (place_model place) place_at)
 
 pub symbols_content-requires-clause-at : goal.symbols_content-requires-clause-at
 symbols_content-requires-clause-at c = record {
@@ -63,12 +63,12 @@ needs_content-requires-clause-at c = record {
 
 pub returns-in_ok-bytes-in-6 : goal.returns-in_ok-bytes-in-6
 returns-in_ok-bytes-in-6 c =
-    let s : ImageSection = section_kept c.index-sections-i.result in
+    let s : ImageSection = section_model c.index-sections-i.result in
     let at : _ = section_there c.sections.result.now c.args.image.now.sections c.args.i c.index-sections-i.result c.sections.ensures
     c.requires.within c.index-sections-i.is in
     let place : SectionPlace =
     slice_index_or c.places.result.now c.args.i (record { sh_type = 0; sh_flags = 0; sh_addr = 0; sh_offset = 0; sh_size = 0 }) in
-    let place_at : slice_get c.args.plan.now.places c.args.i ≡ Some (place_seen place) =
+    let place_at : slice_get c.args.plan.now.places c.args.i ≡ Some (place_model place) =
     place_there c.places.result.now c.args.plan.now.places c.args.i _ c.places.ensures
     (place_within c.places.result.now c.args.plan.now.places c.args.image.now.sections c.args.i c.places.ensures
     (places_long c.args.read.now c.args.image.now c.args.plan.now c.requires.planned) c.requires.within) in
@@ -76,11 +76,11 @@ returns-in_ok-bytes-in-6 c =
     ap (λ (s : StringValue). s.bytes) c.owned.ensures ∙ c.in_ok-bytes-in-6.ensures ∙ ap (λ (m : Form). spelled_list m c.args.raw.now place.sh_size) c.form_of.ensures in
     subst (λ (b : List ℕ). IsBytesAt c.args.image.now c.args.plan.now c.args.made.now c.args.raw.now c.args.i b) (sym bytes)
     (list_at_place c.args.read.now c.args.image.now c.args.plan.now c.args.made.now c.args.raw.now c.requires.planned c.args.i s at
-    c.requires.apart c.requires.raw c.in-6.is (place_seen place) place_at)
+    c.requires.apart c.requires.raw c.in-6.is (place_model place) place_at)
 
 pub returns-in-3 : goal.returns-in-3
 returns-in-3 c =
-    let s : ImageSection = section_kept c.index-sections-i.result in
+    let s : ImageSection = section_model c.index-sections-i.result in
     let at : _ = section_there c.sections.result.now c.args.image.now.sections c.args.i c.index-sections-i.result c.sections.ensures
     c.requires.within c.index-sections-i.is in
     subst (λ (bytes : List ℕ). IsBytesAt c.args.image.now c.args.plan.now c.args.made.now c.args.raw.now c.args.i bytes)
@@ -90,7 +90,7 @@ returns-in-3 c =
 
 pub returns-in-11 : goal.returns-in-11
 returns-in-11 c =
-    let s : ImageSection = section_kept c.index-sections-i.result in
+    let s : ImageSection = section_model c.index-sections-i.result in
     let at : _ = section_there c.sections.result.now c.args.image.now.sections c.args.i c.index-sections-i.result c.sections.ensures
     c.requires.within c.index-sections-i.is in
     both_ok c.symbols_content.result _ _
@@ -100,7 +100,7 @@ returns-in-11 c =
 
 pub returns-in_ok-bytes-in-1879048189 : goal.returns-in_ok-bytes-in-1879048189
 returns-in_ok-bytes-in-1879048189 c =
-    let s : ImageSection = section_kept c.index-sections-i.result in
+    let s : ImageSection = section_model c.index-sections-i.result in
     let at : _ = section_there c.sections.result.now c.args.image.now.sections c.args.i c.index-sections-i.result c.sections.ensures
     c.requires.within c.index-sections-i.is in
     subst (λ (bytes : List ℕ). IsBytesAt c.args.image.now c.args.plan.now c.args.made.now c.args.raw.now c.args.i bytes)
@@ -111,7 +111,7 @@ returns-in_ok-bytes-in-1879048189 c =
 
 pub returns-in_ok-bytes-in-1879048190 : goal.returns-in_ok-bytes-in-1879048190
 returns-in_ok-bytes-in-1879048190 c =
-    let s : ImageSection = section_kept c.index-sections-i.result in
+    let s : ImageSection = section_model c.index-sections-i.result in
     let at : _ = section_there c.sections.result.now c.args.image.now.sections c.args.i c.index-sections-i.result c.sections.ensures
     c.requires.within c.index-sections-i.is in
     subst (λ (bytes : List ℕ). IsBytesAt c.args.image.now c.args.plan.now c.args.made.now c.args.raw.now c.args.i bytes)
@@ -122,7 +122,7 @@ returns-in_ok-bytes-in-1879048190 c =
 
 pub returns-in_default : goal.returns-in_default
 returns-in_default c =
-    let s : ImageSection = section_kept c.index-sections-i.result in
+    let s : ImageSection = section_model c.index-sections-i.result in
     let at : _ = section_there c.sections.result.now c.args.image.now.sections c.args.i c.index-sections-i.result c.sections.ensures
     c.requires.within c.index-sections-i.is in
     subst (λ (bytes : List ℕ). IsBytesAt c.args.image.now c.args.plan.now c.args.made.now c.args.raw.now c.args.i bytes)

@@ -2,7 +2,7 @@
 use Rattle.std.proofs.Common.{◌≡◌, List, ℕ, map, sym, ap, ◌∙◌}
 use Rattle.elf_format.specs.Answers.{borrowed}
 use Rattle.elf_format.specs.Dynamic.{Entry}
-use Rattle.elf_image.specs.ImageSeen.{entry_kept}
+use Rattle.elf_image.specs.ImageModel.{entry_model}
 use Rattle.elf_layout_plan.specs.Plan.{resized}
 use Rattle.elf_layout_plan.specs.Texts.{texts_of_entries}
 use Rattle.elf_write_spec.specs.Contents.{table_value}
@@ -23,7 +23,7 @@ returns-in_default-dynamic_data c =
 
 pub returns : goal.returns
 returns c =
-    let es : List Entry = map entry_kept c.in-Some-dynamic_data.entries.now in
+    let es : List Entry = map entry_model c.in-Some-dynamic_data.entries.now in
     let value : ℕ → ℕ = λ tag. table_value (resized c.args.image.now) c.args.plan.now tag in
     let texts : List (List ℕ) = map borrowed c.as_slice.result.now in
     let own : texts ≡ texts_of_entries es = ap (map borrowed) c.as_slice.ensures.value ∙ c.in_ok-texts.ensures in

@@ -1,7 +1,7 @@
 use Rattle.std.proofs.Common.{length, ap, arith}
 use Rattle.std.proofs.lemmas.List.{length-map}
 use Rattle.elf_layout_plan.specs.Plan.{resized}
-use Rattle.elf_layout_plan.specs.PlanSeen.{place_seen}
+use Rattle.elf_layout_plan.specs.PlanModel.{place_model}
 use Rattle.elf_write_contents.proofs.PlanCounts.{plan_counts}
 use Rattle.elf_write_contents.proofs.headers.counts.Goals as goal
 
@@ -15,5 +15,5 @@ overflow_cast-result-2 c =
       arith,
       (plan_counts (resized c.args.image.now) c.args.plan.now c.requires).places,
       ap length c.places.ensures,
-      length-map c.places.result.now place_seen,
+      length-map c.places.result.now place_model,
     )

@@ -1,4 +1,4 @@
-use Rattle.elf_layout_plan.specs.Kept.{image_at_read}
+use Rattle.elf_image.specs.Kept.{image_at_read}
 use Rattle.elf_write_contents.proofs.HeadersMade.{file_header_is}
 use Rattle.elf_write_contents.proofs.headers.file_header.Goals as goal
 

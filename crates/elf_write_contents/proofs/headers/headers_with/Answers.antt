@@ -1,8 +1,8 @@
 use Rattle.std.proofs.Common.{◌≡◌, ℕ, List, length, ap, subst, arith}
 use Rattle.std.proofs.lemmas.List.{length-map}
 use Rattle.elf_format.specs.Places.{Place}
-use Rattle.elf_image.specs.ImageSeen.{section_kept}
-use Rattle.elf_layout_plan.specs.Kept.{KeptSection, image_at_read, kept_sections}
+use Rattle.elf_image.specs.ImageModel.{section_model}
+use Rattle.elf_image.specs.Kept.{KeptSection, image_at_read, kept_sections}
 use Rattle.elf_layout_plan.specs.Memory.{Resized}
 use Rattle.elf_layout_plan.specs.Plan.{resized}
 use Rattle.elf_write_contents.specs.HeaderSteps.{AreMade}
@@ -30,7 +30,7 @@ returns-clause-headers c =
       c.loop-i-test.false,
       c.loop-i.auto.i-end,
       ap length c.sections-i-end.ensures,
-      length-map c.sections-i-end.result.now section_kept,
+      length-map c.sections-i-end.result.now section_model,
       length-kept (image_at_read c.args.image.now) c.args.image.now c.requires.planned.ready,
     ) in
     made_all r names ss ps c.loop-i.headers.items (length-places c.args.image.now c.args.plan.now c.requires.planned)

@@ -1,4 +1,4 @@
-use Rattle.elf_layout_plan.specs.Kept.{kept_sections}
+use Rattle.elf_image.specs.Kept.{kept_sections}
 use Rattle.elf_layout_plan.specs.Plan.{resized}
 use Rattle.elf_write_contents.specs.HeaderSteps.{AreMade}
 use Rattle.elf_write_contents.specs.Inner.{strings_at}

@@ -1,6 +1,6 @@
 use Rattle.std.proofs.Common.{refl}
 use Rattle.elf_format.specs.declared.constants.TheConstants.{SHT_GNU_VERDEF}
-use Rattle.elf_image.specs.ImageSeen.{section_kept}
+use Rattle.elf_image.specs.ImageModel.{section_model}
 use Rattle.elf_write_contents.proofs.VersionsHave.{made_definitions}
 use Rattle.elf_write_contents.proofs.VersionsLinks.{links_there}
 use Rattle.elf_write_contents.proofs.versions.definitions_content.Goals as goal
@@ -9,7 +9,7 @@ pub definition_records-requires-clause-told : goal.definition_records-requires-c
 definition_records-requires-clause-told c =
     made_definitions c.args.read.now c.args.image.now c.in-Some.made.number c.in-Some.made.table
     (c.requires.strings.anew c.in-Some.made c.in-Some.is).1
-    (links_there c.args.read.now c.args.image.now c.requires.ready 6 SHT_GNU_VERDEF refl (section_kept c.args.section.now) c.requires.at
+    (links_there c.args.read.now c.args.image.now c.requires.ready 6 SHT_GNU_VERDEF refl (section_model c.args.section.now) c.requires.at
     c.in-Some.made.number c.if-made-section.true)
 
 pub definition_records-requires-clause-stand : goal.definition_records-requires-clause-stand

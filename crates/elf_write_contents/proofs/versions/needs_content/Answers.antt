@@ -3,7 +3,7 @@ use Rattle.elf_format.specs.declared.constants.TheConstants.{SHT_GNU_VERNEED}
 use Rattle.elf_layout_plan.specs.Plan.{resized}
 use Rattle.elf_layout_plan.specs.Needs.{written_needs}
 use Rattle.elf_layout_plan.specs.Sizes.{needs_size}
-use Rattle.elf_image.specs.ImageSeen.{section_kept}
+use Rattle.elf_image.specs.ImageModel.{section_model}
 use Rattle.elf_write_spec.specs.Contents.{AreNeedsIn}
 use Rattle.elf_write_contents.specs.Inner.{content_read, strings_at}
 use Rattle.elf_write_contents.specs.VersionPlaces.{AreNeedsOf}
@@ -17,7 +17,7 @@ pub need_records-requires-clause-told : goal.need_records-requires-clause-told
 need_records-requires-clause-told c =
     made_needs c.args.read.now c.args.image.now c.in-Some.made.number c.in-Some.made.table
     (c.requires.strings.anew c.in-Some.made c.in-Some.is).1 (written_same c.args.read.now c.args.image.now c.requires.ready)
-    (links_there c.args.read.now c.args.image.now c.requires.ready 7 SHT_GNU_VERNEED refl (section_kept c.args.section.now) c.requires.at
+    (links_there c.args.read.now c.args.image.now c.requires.ready 7 SHT_GNU_VERNEED refl (section_model c.args.section.now) c.requires.at
     c.in-Some.made.number c.if-made-section.true)
 
 pub need_records-requires-clause-stand : goal.need_records-requires-clause-stand

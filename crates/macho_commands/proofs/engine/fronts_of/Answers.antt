@@ -10,7 +10,7 @@ use Rattle.arwen_macho.specs.Fronts.{LeadOn}
 use Rattle.macho_edits.specs.Refused.{cause_of}
 use Rattle.arwen_macho.proofs.ForCallers.{first_bytes}
 use Rattle.macho_commands.specs.Engine.{Asked, asked}
-use Rattle.macho_commands.specs.Meaning.{macho_shown}
+use Rattle.macho_commands.specs.Meaning.{macho_command_model}
 use Rattle.macho_commands.proofs.Outcomes.{tells_refused, writes_on}
 use Rattle.macho_commands.proofs.engine.fronts_of.Goals as goal
 
@@ -31,11 +31,11 @@ returns-in-Ok-clause-ok c =
     let Shows : List MachoEdit → Type 0 = λ l. StepShows (container_step (calls_of l) c.in_ok-macho.macho) in
     let FirstShows : MachoType → Type 0 = λ f. StepShows (container_step (calls_of edits) f) in
     let shows = subst FirstShows c.in_ok-macho.ensures.1 (subst Shows c.deref.ensures.value c.in-Ok.ensures.shows) in
-    writes_on (macho_shown c.args.command.now) (calls_of edits) file c.in-Ok.fronts.items c.in_ok-edits.ensures.ok found (first_bytes file bytes found) lead shows
+    writes_on (macho_command_model c.args.command.now) (calls_of edits) file c.in-Ok.fronts.items c.in_ok-edits.ensures.ok found (first_bytes file bytes found) lead shows
 
 pub returns-clause-err : goal.returns-clause-err
 returns-clause-err c =
-    let a : Asked = asked (macho_shown c.args.command.now) in
+    let a : Asked = asked (macho_command_model c.args.command.now) in
     let file : List ℕ = c.args.bytes.now in
     let edits : List MachoEdit = c.in_ok-edits.edits.items in
     let e = c.in-Err.error in

@@ -1,6 +1,6 @@
 -- The header says where the commands end, and the steps make the bytes of the definition.
 use Rattle.std.proofs.Common.{◌+◌, ap, arith, sym, ◌∙◌}
-use Rattle.macho_edits.specs.Patched.{header_shown}
+use Rattle.macho_edits.specs.Patched.{header_model}
 use Rattle.macho_edits.proofs.PatchLemmas.{insert_done, insert_header, held_ncmds, held_sizeofcmds}
 use Rattle.macho_edits.proofs.patcher.insert_in.Goals as goal
 
@@ -39,4 +39,4 @@ returns-clause-header c =
     let ncmds = held_ncmds ctx bytes header c.requires.held in
     let sizeofcmds = held_sizeofcmds ctx bytes header c.requires.held in
     ap (λ inner. record c.args.header.now { inner = inner }) (insert_header ctx bytes command c.args.offset header (header.ncmds + 1) (header.sizeofcmds + c.args.new_cmd_size) c.requires.place c.requires.held (omega arith) (omega (arith, c.requires.sized)) (omega (arith, c.requires.count)) (omega (arith, c.requires.size, c.requires.sized)))
-    ∙ ap (header_shown c.args.header.now) (sym (returns-clause-bytes c))
+    ∙ ap (header_model c.args.header.now) (sym (returns-clause-bytes c))

@@ -1,6 +1,6 @@
 -- The header says where the commands end, and the steps make the bytes of the definition.
 use Rattle.std.proofs.Common.{◌+◌, ◌-◌, ap, arith, sym, ◌∙◌}
-use Rattle.macho_edits.specs.Patched.{header_shown}
+use Rattle.macho_edits.specs.Patched.{header_model}
 use Rattle.macho_edits.proofs.PatchLemmas.{remove_done, remove_header, held_ncmds, held_sizeofcmds}
 use Rattle.macho_edits.proofs.patcher.remove_in.Goals as goal
 
@@ -41,4 +41,4 @@ returns-clause-header c =
     let ncmds = held_ncmds ctx bytes header c.requires.held in
     let sizeofcmds = held_sizeofcmds ctx bytes header c.requires.held in
     ap (λ inner. record c.args.header.now { inner = inner }) (remove_header ctx bytes c.args.offset c.args.size header (header.ncmds - 1) (header.sizeofcmds - c.args.size) c.requires.place c.requires.held (omega arith) (omega arith) (omega arith) (omega arith))
-    ∙ ap (header_shown c.args.header.now) (sym (returns-clause-bytes c))
+    ∙ ap (header_model c.args.header.now) (sym (returns-clause-bytes c))

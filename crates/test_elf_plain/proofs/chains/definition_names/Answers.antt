@@ -5,19 +5,19 @@ use Rattle.elf_format.specs.Answers.{chain}
 use Rattle.elf_format.specs.Versions.{Step, definition_name_at}
 use Rattle.elf_format.proofs.ChainSteps.{chain_broken, chain_done, chain_ends, chain_goes, more_left, next_of}
 use Rattle.elf_format.proofs.ReadingSteps.{with_front}
-use Rattle.test_elf_plain.specs.PlainViews.{source_seen}
+use Rattle.test_elf_plain.specs.PlainViews.{source_model}
 use Rattle.test_elf_plain.proofs.chains.definition_names.Goals as goal
 
 pub returns-in_err-value : goal.returns-in_err-value
 returns-in_err-value c =
     let p = err_from_is_err_and c.from_residual.result c.from_residual.ensures.1 in
-    let read : ℕ → Option (Step ℕ) = definition_name_at c.args.form (source_seen c.args.source.now) in
+    let read : ℕ → Option (Step ℕ) = definition_name_at c.args.form (source_model c.args.source.now) in
     rw (p.1, p.2) (chain_ends read c.in_err-value.field-0.0 c.loop-i.made.items c.args.count c.loop-i.i c.loop-i.place (chain read c.args.count c.args.start) c.loop-i-test.true c.in_err-value.ensures c.loop-i.invariant.made)
 
 pub returns-in_err-place : goal.returns-in_err-place
 returns-in_err-place c =
     let p = err_from_is_err_and c.from_residual-in_err-place.result c.from_residual-in_err-place.ensures.1 in
-    let read : ℕ → Option (Step ℕ) = definition_name_at c.args.form (source_seen c.args.source.now) in
+    let read : ℕ → Option (Step ℕ) = definition_name_at c.args.form (source_model c.args.source.now) in
     let s : Step ℕ = record { value = c.in_ok-value.value; is_whole = true; next = c.in_ok-value.next } in
     rw (p.1, p.2, c.in_err-place.ensures.0)
     (chain_broken read c.loop-i.made.items c.args.count c.loop-i.i c.loop-i.place s (chain read c.args.count c.args.start) c.loop-i-test.true c.in_ok-value.ensures
@@ -25,7 +25,7 @@ returns-in_err-place c =
 
 pub loop-i-preserved : goal.loop-i-preserved
 loop-i-preserved c =
-    let read : ℕ → Option (Step ℕ) = definition_name_at c.args.form (source_seen c.args.source.now) in
+    let read : ℕ → Option (Step ℕ) = definition_name_at c.args.form (source_model c.args.source.now) in
     let s : Step ℕ = record { value = c.in_ok-value.value; is_whole = true; next = c.in_ok-value.next } in
     record {
       made = ap (λ m. with_front m (chain read (c.args.count - (c.loop-i.i + 1)) c.in_ok-place.place)) c.in_ok-push.ensures.items
@@ -36,5 +36,5 @@ loop-i-preserved c =
 
 pub returns : goal.returns
 returns c =
-    let read : ℕ → Option (Step ℕ) = definition_name_at c.args.form (source_seen c.args.source.now) in
+    let read : ℕ → Option (Step ℕ) = definition_name_at c.args.form (source_model c.args.source.now) in
     chain_done read c.loop-i.made.items c.args.count c.loop-i.i c.loop-i.place (chain read c.args.count c.args.start) c.loop-i-test.false c.loop-i.invariant.made

@@ -2,12 +2,12 @@ use Rattle.std.proofs.Common.{◌≡◌, ◌≤◌, ◌+◌, ◌-◌, ◌*◌, �
 use Rattle.elf_format.specs.Answers.{chain}
 use Rattle.elf_format.specs.Versions.{definition_name_at}
 use Rattle.elf_format.proofs.ReadingSteps.{with_front}
-use Rattle.test_elf_plain.specs.PlainViews.{source_seen}
+use Rattle.test_elf_plain.specs.PlainViews.{source_model}
 use Rattle.test_elf_plain.proofs.chains.definition_names.Given as goal
 
 -- what was read so far, and what the rest of the chain gives; no place is too far
 abbrev pub invariant-loop-i : goal.invariant-loop-i
 invariant-loop-i l = record {
-  made : with_front l.made.items (chain (definition_name_at l.form (source_seen l.source)) (l.count - l.i) l.place) ≡ chain (definition_name_at l.form (source_seen l.source)) l.count l.start;
+  made : with_front l.made.items (chain (definition_name_at l.form (source_model l.source)) (l.count - l.i) l.place) ≡ chain (definition_name_at l.form (source_model l.source)) l.count l.start;
   near : l.place ≤ l.start + l.i * 2 ^ 32;
 }

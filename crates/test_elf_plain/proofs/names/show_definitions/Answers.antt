@@ -6,7 +6,7 @@ use Rattle.elf_format.specs.declared.versions.RawDefinition.{RawDefinition}
 use Rattle.elf_format.specs.Options.{each}
 use Rattle.elf_format.specs.Answers.{Fails}
 use Rattle.elf_format.specs.Seen.{raw_definition}
-use Rattle.test_elf_plain.specs.PlainViews.{definition_seen, source_seen}
+use Rattle.test_elf_plain.specs.PlainViews.{definition_model, source_model}
 use Rattle.elf_format.specs.Versions.{DefinitionNumbers, VersionDefinition, shown_definition}
 use Rattle.elf_format.proofs.ReadingSteps.{each_done, each_ends, each_goes}
 use Rattle.test_elf_plain.proofs.names.show_definitions.Goals as goal
@@ -18,28 +18,28 @@ at_place xs i x less is = get_or-map raw_definition xs i x (raw_definition x) le
 pub returns-in_err-one : goal.returns-in_err-one
 returns-in_err-one c =
     let p = err_from_is_err_and c.from_residual.result c.from_residual.ensures.1 in
-    let f : DefinitionNumbers → Option VersionDefinition = shown_definition c.args.room (source_seen c.args.texts.now) in
+    let f : DefinitionNumbers → Option VersionDefinition = shown_definition c.args.room (source_model c.args.texts.now) in
     let xs : List DefinitionNumbers = map raw_definition c.args.definitions.now in
     let x : RawDefinition = c.definition-item.result in
     let less : c.loop-definition.definition-index < length xs = omega (arith, length-map c.args.definitions.now raw_definition) in
     let here : get_or xs c.loop-definition.definition-index (raw_definition x) ≡ raw_definition x = at_place c.args.definitions.now c.loop-definition.definition-index x c.loop-definition-test.true c.definition-item.is in
-    rw (p.1, p.2) (each_ends f c.in_err-one.field-0.0 (map definition_seen c.loop-definition.shown.items) xs c.loop-definition.definition-index (raw_definition x) (each f xs) less
+    rw (p.1, p.2) (each_ends f c.in_err-one.field-0.0 (map definition_model c.loop-definition.shown.items) xs c.loop-definition.definition-index (raw_definition x) (each f xs) less
     (subst (λ e. Fails c.in_err-one.field-0.0 (f e)) (sym here) c.in_err-one.ensures) c.loop-definition.invariant)
 
 pub loop-definition-preserved : goal.loop-definition-preserved
 loop-definition-preserved c =
-    let f : DefinitionNumbers → Option VersionDefinition = shown_definition c.args.room (source_seen c.args.texts.now) in
+    let f : DefinitionNumbers → Option VersionDefinition = shown_definition c.args.room (source_model c.args.texts.now) in
     let xs : List DefinitionNumbers = map raw_definition c.args.definitions.now in
     let x : RawDefinition = c.definition-item.result in
     let made = c.in_ok-one.one in
     let less : c.loop-definition.definition-index < length xs = omega (arith, length-map c.args.definitions.now raw_definition) in
     let here : get_or xs c.loop-definition.definition-index (raw_definition x) ≡ raw_definition x = at_place c.args.definitions.now c.loop-definition.definition-index x c.loop-definition-test.true c.definition-item.is in
-    let e : map definition_seen c.push.new.self.items ≡ map definition_seen c.loop-definition.shown.items ++ definition_seen made ∷ [] = rw c.in_ok-push.ensures.items (map_push definition_seen c.loop-definition.shown.items made) in
-    rw e (each_goes f (map definition_seen c.loop-definition.shown.items) xs c.loop-definition.definition-index (raw_definition x) (definition_seen made) (each f xs) less (ap f here ∙ c.in_ok-one.ensures) c.loop-definition.invariant)
+    let e : map definition_model c.push.new.self.items ≡ map definition_model c.loop-definition.shown.items ++ definition_model made ∷ [] = rw c.in_ok-push.ensures.items (map_push definition_model c.loop-definition.shown.items made) in
+    rw e (each_goes f (map definition_model c.loop-definition.shown.items) xs c.loop-definition.definition-index (raw_definition x) (definition_model made) (each f xs) less (ap f here ∙ c.in_ok-one.ensures) c.loop-definition.invariant)
 
 pub returns : goal.returns
 returns c =
-    let f : DefinitionNumbers → Option VersionDefinition = shown_definition c.args.room (source_seen c.args.texts.now) in
+    let f : DefinitionNumbers → Option VersionDefinition = shown_definition c.args.room (source_model c.args.texts.now) in
     let xs : List DefinitionNumbers = map raw_definition c.args.definitions.now in
     let past : length xs ≤ c.loop-definition.definition-index = omega (arith, length-map c.args.definitions.now raw_definition) in
-    each_done f (map definition_seen c.loop-definition.shown.items) xs c.loop-definition.definition-index (each f xs) past c.loop-definition.invariant
+    each_done f (map definition_model c.loop-definition.shown.items) xs c.loop-definition.definition-index (each f xs) past c.loop-definition.invariant

@@ -5,7 +5,7 @@ use Rattle.std.proofs.lemmas.Result.{err_from_is_err_and}
 use Rattle.elf_format.specs.Options.{each}
 use Rattle.elf_format.specs.declared.records.NeedNameNumbers.{NeedNameNumbers}
 use Rattle.elf_format.specs.Versions.{VersionName, shown_need_name}
-use Rattle.test_elf_plain.specs.PlainViews.{name_seen, source_seen}
+use Rattle.test_elf_plain.specs.PlainViews.{name_model, source_model}
 use Rattle.elf_format.proofs.ReadingSteps.{no_name}
 use Rattle.elf_format.proofs.ReadingSteps.{each_done, each_ends, each_goes}
 use Rattle.test_elf_plain.proofs.names.show_names.Goals as goal
@@ -13,17 +13,17 @@ use Rattle.test_elf_plain.proofs.names.show_names.Goals as goal
 pub returns-in_err-one : goal.returns-in_err-one
 returns-in_err-one c =
     let p = err_from_is_err_and c.from_residual.result c.from_residual.ensures.1 in
-    let f : NeedNameNumbers → Option (VersionName) = shown_need_name c.args.room (source_seen c.args.texts.now) in
-    rw (p.1, p.2) (each_ends f c.in_err-one.field-0.0 (map name_seen c.loop-version.shown.items) c.args.versions.now c.loop-version.version-index (no_name) (each f c.args.versions.now) c.loop-version-test.true c.in_err-one.ensures c.loop-version.invariant)
+    let f : NeedNameNumbers → Option (VersionName) = shown_need_name c.args.room (source_model c.args.texts.now) in
+    rw (p.1, p.2) (each_ends f c.in_err-one.field-0.0 (map name_model c.loop-version.shown.items) c.args.versions.now c.loop-version.version-index (no_name) (each f c.args.versions.now) c.loop-version-test.true c.in_err-one.ensures c.loop-version.invariant)
 
 pub loop-version-preserved : goal.loop-version-preserved
 loop-version-preserved c =
-    let f : NeedNameNumbers → Option (VersionName) = shown_need_name c.args.room (source_seen c.args.texts.now) in
+    let f : NeedNameNumbers → Option (VersionName) = shown_need_name c.args.room (source_model c.args.texts.now) in
     let made = c.in_ok-one.one in
-    let e : map name_seen c.push.new.self.items ≡ map name_seen c.loop-version.shown.items ++ name_seen made ∷ [] = rw c.in_ok-push.ensures.items (map_push name_seen c.loop-version.shown.items made) in
-    rw e (each_goes f (map name_seen c.loop-version.shown.items) c.args.versions.now c.loop-version.version-index (no_name) (name_seen made) (each f c.args.versions.now) c.loop-version-test.true c.in_ok-one.ensures c.loop-version.invariant)
+    let e : map name_model c.push.new.self.items ≡ map name_model c.loop-version.shown.items ++ name_model made ∷ [] = rw c.in_ok-push.ensures.items (map_push name_model c.loop-version.shown.items made) in
+    rw e (each_goes f (map name_model c.loop-version.shown.items) c.args.versions.now c.loop-version.version-index (no_name) (name_model made) (each f c.args.versions.now) c.loop-version-test.true c.in_ok-one.ensures c.loop-version.invariant)
 
 pub returns : goal.returns
 returns c =
-    let f : NeedNameNumbers → Option (VersionName) = shown_need_name c.args.room (source_seen c.args.texts.now) in
-    each_done f (map name_seen c.loop-version.shown.items) c.args.versions.now c.loop-version.version-index (each f c.args.versions.now) c.loop-version-test.false c.loop-version.invariant
+    let f : NeedNameNumbers → Option (VersionName) = shown_need_name c.args.room (source_model c.args.texts.now) in
+    each_done f (map name_model c.loop-version.shown.items) c.args.versions.now c.loop-version.version-index (each f c.args.versions.now) c.loop-version-test.false c.loop-version.invariant

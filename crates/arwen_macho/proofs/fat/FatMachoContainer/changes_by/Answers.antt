@@ -9,7 +9,7 @@ use Rattle.macho_edits.specs.Call.{Call}
 use Rattle.arwen_macho.specs.FatChange.{AreStepOf}
 use Rattle.arwen_macho.specs.FatHeld.{FatHeld}
 use Rattle.arwen_macho.specs.FatHeldBy.{fat_held_of}
-use Rattle.arwen_macho.specs.FatSlice.{HeldSlice, IsStepIn, slice_held}
+use Rattle.arwen_macho.specs.FatSlice.{HeldSlice, IsStepIn, slice_model}
 use Rattle.arwen_macho.specs.FatState.{fat_step, step_slices}
 use Rattle.macho_edits.specs.Refused.{cause_of}
 use Rattle.arwen_macho.proofs.FatHeldLaws.{changes_are}
@@ -33,11 +33,11 @@ pub returns-clause-err : goal.returns-clause-err
 returns-clause-err c =
     let calls : List Call = calls_lent c.args.edits.now in
     let s = c.self.inside in
-    let Before : MachoBatchError → Type 0 = λ e. RefusesAt e.index (cause_of e.fault) (step_slices calls (map slice_held c.deref.result.now)) in
+    let Before : MachoBatchError → Type 0 = λ e. RefusesAt e.index (cause_of e.fault) (step_slices calls (map slice_model c.deref.result.now)) in
     let After : MachoBatchError → Type 0 = λ e. RefusesAt e.index (cause_of e.fault) (fat_step calls c.args.self.now.state) in
     IfErr-weaker c.changes_all.result Before After
     (λ e refuses.
-    let Slices : List HeldSlice → Type 0 = λ l. RefusesAt e.index (cause_of e.fault) (step_slices calls (map slice_held l)) in
+    let Slices : List HeldSlice → Type 0 = λ l. RefusesAt e.index (cause_of e.fault) (step_slices calls (map slice_model l)) in
     let Held : FatHeld → Type 0 = λ h. RefusesAt e.index (cause_of e.fault) (fat_step calls h.state) in
     subst Held c.self.view_is (fat_batch_refused calls (fat_held_of s).state e.index (cause_of e.fault) (subst Slices c.deref.ensures.value refuses)))
     c.changes_all.ensures.err

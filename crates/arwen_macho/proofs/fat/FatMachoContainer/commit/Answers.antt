@@ -2,7 +2,7 @@ use Rattle.std.proofs.Common.{◌≡◌, ℕ, List, length, Some, Vec, Global, a
 use Rattle.std.specs.List.{AllZip}
 use Rattle.std.specs.Vec.{with_items}
 use Rattle.std.proofs.lemmas.List.{with_items_is}
-use Rattle.patch_bytes.specs.ByteString.{bytes_shown}
+use Rattle.patch_bytes.specs.ByteString.{bytes_model}
 use Rattle.arwen_macho.specs.declared.change.Change.{Change}
 use Rattle.arwen_macho.specs.declared.fat.FatMachoContainer.TheInside.{Inside}
 use Rattle.arwen_macho.specs.FatChange.{AreChangesOf, fat_changed}
@@ -18,7 +18,7 @@ commit_all-requires c =
     let changes : List Change = c.args.changes.items in
     let Of : FatHeld → Type 0 = λ h. AreChangesOf h changes in
     let ready = ready_of s changes c.self.invariant (subst Of (sym c.self.view_is) c.requires) in
-    let bytes : c.in_ok-copy.copy.items ≡ bytes_shown s.source.now s.edited = c.in_ok-copy.ensures ∙ ap (bytes_shown s.source.now) c.take.ensures.value in
+    let bytes : c.in_ok-copy.copy.items ≡ bytes_model s.source.now s.edited = c.in_ok-copy.ensures ∙ ap (bytes_model s.source.now) c.take.ensures.value in
     let long : length s.source.now ≡ length c.deref_mut-2.result.now = sym (ap length c.deref_mut-2.ensures.value ∙ ap length bytes ∙ shown_long s c.self.invariant) in
     let Long : ℕ → Type 0 = λ n. AllZip (IsReadyIn n) c.deref_mut.result.now changes in
     let Slices : List HeldSlice → Type 0 = λ l. AllZip (IsReadyIn (length s.source.now)) l changes in
@@ -32,14 +32,14 @@ new_fields c =
     let copy : Vec ℕ Global = with_items c.in_ok-copy.copy c.commit_all.new.copy in
     let new : Inside = record { source = s.source; archs = with_items s.archs c.commit_all.new.slices; edited = Some copy } in
     let Of : FatHeld → Type 0 = λ h. AreChangesOf h changes in
-    let bytes : c.in_ok-copy.copy.items ≡ bytes_shown s.source.now s.edited = c.in_ok-copy.ensures ∙ ap (bytes_shown s.source.now) c.take.ensures.value in
+    let bytes : c.in_ok-copy.copy.items ≡ bytes_model s.source.now s.edited = c.in_ok-copy.ensures ∙ ap (bytes_model s.source.now) c.take.ensures.value in
     let slices_long : length c.commit_all.new.slices ≡ s.archs.len = omega arith in
     let copy_long : length c.commit_all.new.copy ≡ c.in_ok-copy.copy.len = omega arith in
     let archs : new.archs.items ≡ changed_machos s.archs.items changes =
     with_items_is s.archs c.commit_all.new.slices slices_long
     ∙ c.commit_all.ensures.slices
     ∙ ap (λ (l : List HeldSlice). changed_machos l changes) c.deref_mut.ensures.value in
-    let written : copy.items ≡ fronts_over s.archs.items changes (bytes_shown s.source.now s.edited) =
+    let written : copy.items ≡ fronts_over s.archs.items changes (bytes_model s.source.now s.edited) =
     with_items_is c.in_ok-copy.copy c.commit_all.new.copy copy_long
     ∙ c.commit_all.ensures.bytes
     ∙ ap (λ (l : List HeldSlice). fronts_over l changes c.deref_mut-2.result.now) c.deref_mut.ensures.value

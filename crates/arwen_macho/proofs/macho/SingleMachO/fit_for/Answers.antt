@@ -10,7 +10,7 @@ use Rattle.macho_image.specs.Prepared.{IsMadeFor}
 use Rattle.arwen_macho.specs.declared.change.Fit.{Fit}
 use Rattle.macho_edits.specs.Call.Cause.{no_room}
 use Rattle.arwen_macho.specs.Change.{IsChangeOf, RefusesRoom, change_with, list_of}
-use Rattle.macho_edits.specs.Held.{Held, image_held}
+use Rattle.macho_edits.specs.Held.{Held, image_model}
 use Rattle.arwen_macho.specs.HeldBy.{held_of}
 use Rattle.macho_edits.specs.State.{available, end_of}
 use Rattle.macho_edits.specs.Whole.{KeepsContents}
@@ -49,7 +49,7 @@ returns c =
     let end = end_is s c.ctx.result c.header_size.result c.len.result (bytes_of_each c.args.commands.now) c.self.invariant c.ctx.ensures.form c.header_size.ensures size in
     let high : c.max.result ≡ max s.high (end_of (ctx_of s.source.now) (bytes_of_each c.args.commands.now)) = c.max.ensures ∙ ap (max s.high) end in
     let fit : Fit = record { count = length c.args.commands.now; area = c.in_ok-area.area; high = c.max.result } in
-    let made : IsMadeFor (image_held (held_of s)) (length (bytes_of_each c.args.commands.now)) (concat (bytes_of_each c.args.commands.now)) (change_with (held_of s) fit).prepared =
+    let made : IsMadeFor (image_model (held_of s)) (length (bytes_of_each c.args.commands.now)) (concat (bytes_of_each c.args.commands.now)) (change_with (held_of s) fit).prepared =
     record { same_form = refl; same_count = sym (length-map c.args.commands.now (λ (x : StringValue). x.bytes)); same_area = c.in_ok-area.ensures; same_copy = refl } in
     let Of : Held → Type 0 = λ h. IsChangeOf h (change_with h fit) × (list_of h (change_with h fit) ≡ (bytes_of_each c.args.commands.now)) in
     record { ok = subst Of c.self.view_is (change_of (held_of s) (bytes_of_each c.args.commands.now) (change_with (held_of s) fit) made keeps ends high); err = tt }

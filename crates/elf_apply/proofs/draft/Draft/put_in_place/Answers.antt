@@ -1,7 +1,7 @@
 -- Part by part, what was written is put in place.
 use Rattle.std.proofs.Common.{ap, ◌∙◌}
 use Rattle.elf_image.specs.Image.{Image}
-use Rattle.elf_image.specs.ImageSeen.{text_kept}
+use Rattle.elf_image.specs.ImageModel.{text_model}
 use Rattle.elf_apply.specs.Drafted.{with_entries_put, with_interpreter_put, with_os_abi_put, with_page_size_put}
 use Rattle.elf_apply.proofs.DraftLaws.{can_put_entries, can_put_interpreter, put_together}
 use Rattle.elf_apply.proofs.draft.Draft.put_in_place.Goals as goal
@@ -20,7 +20,7 @@ pub returns : goal.returns
 returns c =
     c.put_entries.ensures
     ∙ ap (with_entries_put c.args.self.entries) (c.put_interpreter.ensures
-    ∙ ap (with_interpreter_put (text_kept c.args.self.interpreter)) (c.put_os_abi.ensures
+    ∙ ap (with_interpreter_put (text_model c.args.self.interpreter)) (c.put_os_abi.ensures
     ∙ ap (with_os_abi_put c.args.self.os_abi) (c.put_page_size.ensures
     ∙ ap (with_page_size_put c.args.self.page_size) c.in_ok-put_stack_flags.ensures)))
     ∙ put_together c.args.self c.args.builder.now

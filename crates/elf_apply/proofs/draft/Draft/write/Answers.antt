@@ -1,7 +1,7 @@
 -- Each edit writes its part.
 use Rattle.std.proofs.Common.{ap, refl, rules}
 use Rattle.std.proofs.lemmas.Nat.{and_le_l}
-use Rattle.elf_edits.specs.Called.{call_meant}
+use Rattle.elf_edits.specs.Called.{call_model}
 use Rattle.elf_apply.proofs.DraftLaws.{cleared_noted, interpreter_noted, os_abi_noted, page_size_noted, set_noted}
 use Rattle.elf_apply.proofs.draft.Draft.write.Goals as goal
 
@@ -22,22 +22,22 @@ write_list-requires c = record { list = search rules; free = c.requires.free; li
 
 pub returns-in-SetInterpreter : goal.returns-in-SetInterpreter
 returns-in-SetInterpreter c =
-    interpreter_noted c.write_interpreter.result (call_meant c.args.call.now) c.in-SetInterpreter.bytes.now c.args.builder.now c.args.self.now c.write_interpreter.new.self
-    (ap call_meant c.in-SetInterpreter.is) c.requires.free c.requires.draft c.write_interpreter.ensures
+    interpreter_noted c.write_interpreter.result (call_model c.args.call.now) c.in-SetInterpreter.bytes.now c.args.builder.now c.args.self.now c.write_interpreter.new.self
+    (ap call_model c.in-SetInterpreter.is) c.requires.free c.requires.draft c.write_interpreter.ensures
 
 pub returns-in-SetOsAbi : goal.returns-in-SetOsAbi
 returns-in-SetOsAbi c =
-    os_abi_noted (call_meant c.args.call.now) c.in-SetOsAbi.name.now c.abi_number-self.result c.args.builder.now c.args.self.now
-    (ap call_meant c.in-SetOsAbi.is) c.requires.free c.requires.draft c.abi_number-self.ensures
+    os_abi_noted (call_model c.args.call.now) c.in-SetOsAbi.name.now c.abi_number-self.result c.args.builder.now c.args.self.now
+    (ap call_model c.in-SetOsAbi.is) c.requires.free c.requires.draft c.abi_number-self.ensures
 
 pub returns-in-ClearExecStack : goal.returns-in-ClearExecStack
-returns-in-ClearExecStack c = cleared_noted (call_meant c.args.call.now) c.flags-flags.result c.args.builder.now c.args.self.now (ap call_meant c.in-ClearExecStack.is) c.requires.draft c.flags-flags.ensures
+returns-in-ClearExecStack c = cleared_noted (call_model c.args.call.now) c.flags-flags.result c.args.builder.now c.args.self.now (ap call_model c.in-ClearExecStack.is) c.requires.draft c.flags-flags.ensures
 
 pub returns-in-SetExecStack : goal.returns-in-SetExecStack
-returns-in-SetExecStack c = set_noted (call_meant c.args.call.now) c.flags.result c.args.builder.now c.args.self.now (ap call_meant c.in-SetExecStack.is) c.requires.draft c.flags.ensures
+returns-in-SetExecStack c = set_noted (call_model c.args.call.now) c.flags.result c.args.builder.now c.args.self.now (ap call_model c.in-SetExecStack.is) c.requires.draft c.flags.ensures
 
 pub returns-in-SetPageSize : goal.returns-in-SetPageSize
-returns-in-SetPageSize c = page_size_noted (call_meant c.args.call.now) c.in-SetPageSize.size c.args.builder.now c.args.self.now (ap call_meant c.in-SetPageSize.is) c.requires.draft
+returns-in-SetPageSize c = page_size_noted (call_model c.args.call.now) c.in-SetPageSize.size c.args.builder.now c.args.self.now (ap call_model c.in-SetPageSize.is) c.requires.draft
 
 pub returns-in_default : goal.returns-in_default
 returns-in_default c = c.write_list.ensures

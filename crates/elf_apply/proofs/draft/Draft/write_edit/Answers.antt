@@ -1,7 +1,7 @@
 -- An edit that is lent writes its part; one whose names are put into a set or a map writes the list.
 use Rattle.std.proofs.Common.{ap, rules, sym, subst, ◌∙◌}
 use Rattle.std.specs.Prelude.{IfOk}
-use Rattle.elf_edits.specs.Called.{edit_meant}
+use Rattle.elf_edits.specs.Called.{edit_model}
 use Rattle.elf_edits.specs.Cause.{facts_of, first_cause}
 use Rattle.elf_edits.specs.Edit.{Edit}
 use Rattle.elf_edits.specs.Entries.{edited_entries, touches_entries}
@@ -29,7 +29,7 @@ returns-in_err-made c = search rules
 
 pub returns : goal.returns
 returns c =
-    let edit = edit_meant c.args.edit.now in
+    let edit = edit_model c.args.edit.now in
     subst (λ (d : Draft). Writes edit c.args.builder.now c.args.self.now d) (sym c.note_list.ensures)
     (list_written edit c.args.builder.now c.args.self.now c.in_ok-made.made c.in_default.ensures (is_free edit (facts_of c.args.builder.now) c.requires.free) c.requires.listed c.requires.draft
     (λ machine. c.in_ok-made.ensures.list machine ∙ ap (edited_entries machine edit) c.list.ensures)

@@ -1,6 +1,6 @@
 -- A list that was made is noted where the edit wrote something.
 use Rattle.std.proofs.Common.{ap, refl, sym, subst, ◌∙◌}
-use Rattle.elf_edits.specs.Called.{texts_held}
+use Rattle.elf_edits.specs.Called.{texts_model}
 use Rattle.elf_edits.specs.Edit.{DeleteNeeded}
 use Rattle.elf_edits.specs.Cause.{facts_of}
 use Rattle.elf_edits.specs.Entries.{edited_entries, touches_entries}
@@ -12,7 +12,7 @@ use Rattle.elf_apply.proofs.draft.Draft.write_without.Goals as goal
 
 pub returns : goal.returns
 returns c =
-    subst (λ (d : Draft). Writes (DeleteNeeded (texts_held c.args.names.now)) c.args.builder.now c.args.self.now d) (sym c.note_list.ensures)
-    (list_written (DeleteNeeded (texts_held c.args.names.now)) c.args.builder.now c.args.self.now c.in_ok-made.made refl (is_free (DeleteNeeded (texts_held c.args.names.now)) (facts_of c.args.builder.now) c.requires.free) c.requires.listed c.requires.draft
-    (λ machine. c.in_ok-made.ensures.list machine ∙ ap (edited_entries machine (DeleteNeeded (texts_held c.args.names.now))) c.list.ensures)
-    (λ machine. c.in_ok-made.ensures.touched machine ∙ ap (touches_entries machine (DeleteNeeded (texts_held c.args.names.now))) c.list.ensures))
+    subst (λ (d : Draft). Writes (DeleteNeeded (texts_model c.args.names.now)) c.args.builder.now c.args.self.now d) (sym c.note_list.ensures)
+    (list_written (DeleteNeeded (texts_model c.args.names.now)) c.args.builder.now c.args.self.now c.in_ok-made.made refl (is_free (DeleteNeeded (texts_model c.args.names.now)) (facts_of c.args.builder.now) c.requires.free) c.requires.listed c.requires.draft
+    (λ machine. c.in_ok-made.ensures.list machine ∙ ap (edited_entries machine (DeleteNeeded (texts_model c.args.names.now))) c.list.ensures)
+    (λ machine. c.in_ok-made.ensures.touched machine ∙ ap (touches_entries machine (DeleteNeeded (texts_model c.args.names.now))) c.list.ensures))

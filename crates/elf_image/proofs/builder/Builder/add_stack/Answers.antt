@@ -7,7 +7,7 @@ use Rattle.elf_format.specs.declared.constants.TheConstants.{PT_GNU_STACK}
 use Rattle.elf_format.specs.declared.records.SegmentHeader.{SegmentHeader}
 use Rattle.elf_format.specs.Image.{Image}
 use Rattle.elf_image.specs.File.{segment_of_type}
-use Rattle.elf_image.specs.ImageSeen.{segment_kept}
+use Rattle.elf_image.specs.ImageModel.{segment_model}
 use Rattle.elf_image.specs.Segments.{added_stack, with_stack_flags}
 use Rattle.elf_image.proofs.EditSteps.{flags_pushed, is_stack, pushed_found, pushed_place}
 use Rattle.elf_image.proofs.builder.Builder.add_stack.Goals as goal
@@ -15,9 +15,9 @@ use Rattle.elf_image.proofs.builder.Builder.add_stack.Goals as goal
 pub stack_flags_at-requires : goal.stack_flags_at-requires
 stack_flags_at-requires c =
     let pushed = c.in_ok-push_stack.ensures in
-    let long : length (map segment_kept c.self.inside.segments.items) ≡ length (c.args.self.now.segments ++ added_stack 7 ∷ []) = ap (λ (i : Image). length i.segments) (c.self.view_is ∙ pushed) in
+    let long : length (map segment_model c.self.inside.segments.items) ≡ length (c.args.self.now.segments ++ added_stack 7 ∷ []) = ap (λ (i : Image). length i.segments) (c.self.view_is ∙ pushed) in
     let last : length c.args.self.now.segments ≡ c.len-at.result - 1 =
-    omega (arith, c.len-at.ensures, c.self.inside.segments.ok.0, length-map c.self.inside.segments.items segment_kept, long, length-append c.args.self.now.segments (added_stack 7 ∷ [])) in
+    omega (arith, c.len-at.ensures, c.self.inside.segments.ok.0, length-map c.self.inside.segments.items segment_model, long, length-append c.args.self.now.segments (added_stack 7 ∷ [])) in
     ap (λ (i : Image). position is_stack i.segments) pushed ∙ pushed_place 7 c.args.self.now.segments c.requires ∙ ap Some last
 
 pub returns : goal.returns

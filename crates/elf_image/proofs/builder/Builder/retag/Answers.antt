@@ -5,21 +5,21 @@ use Rattle.std.specs.Global.{Vec}
 use Rattle.elf_format.specs.Dynamic.{Entry}
 use Rattle.elf_format.specs.Image.{Image}
 use Rattle.elf_image.specs.declared.dynamic.Dynamic.{Dynamic}
-use Rattle.elf_image.specs.BuilderSeen.{image_kept}
-use Rattle.elf_image.specs.ImageSeen.{entry_kept}
+use Rattle.elf_image.specs.BuilderModel.{image_model}
+use Rattle.elf_image.specs.ImageModel.{entry_model}
 use Rattle.elf_image.specs.DynamicList.{can_retag, with_tag_at}
 use Rattle.elf_image.proofs.EntriesKept.{entry_retagged}
 use Rattle.elf_image.proofs.Kept.{with_entries, with_list}
 use Rattle.elf_image.proofs.builder.Builder.retag.Goals as goal
 
 pub invariant_of-self : goal.invariant_of-self
-invariant_of-self c = (with_entries (image_kept c.self.inside) (image_kept c.self.inside).entries c.self.invariant.0 (λ read h. h), c.self.invariant.1)
+invariant_of-self c = (with_entries (image_model c.self.inside) (image_model c.self.inside).entries c.self.invariant.0 (λ read h. h), c.self.invariant.1)
 
 pub invariant_of-self-2 : goal.invariant_of-self-2
 invariant_of-self-2 c =
-    let old : Option (List Entry) = (image_kept c.self.inside).entries in (
-      with_list (image_kept c.self.inside) (map entry_kept c.in-Some.list.items) (map entry_kept c.retag_entry.new.list.items) (with_tag_at c.args.index c.args.tag)
-          (ap (λ (o : Option (Vec Dynamic)). option_map (λ list. map entry_kept list.items) o) c.in-Some.is) c.retag_entry.ensures c.self.invariant.0
+    let old : Option (List Entry) = (image_model c.self.inside).entries in (
+      with_list (image_model c.self.inside) (map entry_model c.in-Some.list.items) (map entry_model c.retag_entry.new.list.items) (with_tag_at c.args.index c.args.tag)
+          (ap (λ (o : Option (Vec Dynamic)). option_map (λ list. map entry_model list.items) o) c.in-Some.is) c.retag_entry.ensures c.self.invariant.0
           (λ read h. entry_retagged read old c.args.index c.args.tag (subst (λ (i : Image). IsTrue (can_retag i.entries c.args.index c.args.tag)) (sym c.self.view_is) c.requires) h),
       c.self.invariant.1,
     )

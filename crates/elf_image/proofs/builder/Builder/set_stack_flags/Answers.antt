@@ -1,16 +1,16 @@
 use Rattle.std.proofs.Common.{List, map, subst, sym}
 use Rattle.elf_format.specs.declared.records.SegmentHeader.{SegmentHeader}
-use Rattle.elf_image.specs.BuilderSeen.{image_kept}
+use Rattle.elf_image.specs.BuilderModel.{image_model}
 use Rattle.elf_image.specs.Edited.{AreSegments}
-use Rattle.elf_image.specs.ImageSeen.{segment_kept}
+use Rattle.elf_image.specs.ImageModel.{segment_model}
 use Rattle.elf_image.proofs.Kept.{with_segments}
 use Rattle.elf_image.proofs.SegmentsKept.{segments_flagged}
 use Rattle.elf_image.proofs.builder.Builder.set_stack_flags.Goals as goal
 
 pub invariant_of-self : goal.invariant_of-self
 invariant_of-self c =
-    let old : List SegmentHeader = map segment_kept c.self.inside.segments.items in (
-      with_segments (image_kept c.self.inside) c.self.inside.page_size (map segment_kept c.flag_stack.new.segments.items) c.self.invariant.0
+    let old : List SegmentHeader = map segment_model c.self.inside.segments.items in (
+      with_segments (image_model c.self.inside) c.self.inside.page_size (map segment_model c.flag_stack.new.segments.items) c.self.invariant.0
           (λ read h. subst (λ (ps : List SegmentHeader). AreSegments c.self.inside.page_size read ps) (sym c.flag_stack.ensures) (segments_flagged c.self.inside.page_size c.args.flags read old h)),
       c.self.invariant.1,
     )

@@ -5,9 +5,9 @@ use Rattle.elf_format.specs.declared.records.SegmentHeader.{SegmentHeader}
 use Rattle.elf_format.specs.Image.{Image}
 use Rattle.elf_format.specs.declared.constants.TheConstants.{PT_GNU_STACK}
 use Rattle.elf_image.specs.File.{segment_of_type}
-use Rattle.elf_image.specs.BuilderSeen.{image_kept}
+use Rattle.elf_image.specs.BuilderModel.{image_model}
 use Rattle.elf_image.specs.Edited.{AreSegments}
-use Rattle.elf_image.specs.ImageSeen.{segment_kept}
+use Rattle.elf_image.specs.ImageModel.{segment_model}
 use Rattle.elf_image.specs.LendingFlags.{with_flags}
 use Rattle.elf_image.specs.Segments.{with_stack_flags}
 use Rattle.elf_image.proofs.EditSteps.{first_seen, flags_set, is_stack, place_within}
@@ -18,34 +18,34 @@ use Rattle.elf_image.proofs.builder.Builder.stack_flags_at.Goals as goal
 
 pub index_mut-requires : goal.index_mut-requires
 index_mut-requires c =
-    let found = sym (position-map segment_kept is_stack c.self.inside.segments.items) ∙ ap (λ (i : Image). position is_stack i.segments) c.self.view_is ∙ c.requires in
-    let within : c.args.at < length c.self.inside.segments.items = place_within segment_kept c.self.inside.segments.items c.args.at found in
+    let found = sym (position-map segment_model is_stack c.self.inside.segments.items) ∙ ap (λ (i : Image). position is_stack i.segments) c.self.view_is ∙ c.requires in
+    let within : c.args.at < length c.self.inside.segments.items = place_within segment_model c.self.inside.segments.items c.args.at found in
     omega (arith, within, c.self.inside.segments.ok.0)
 
 pub invariant_of-self-lent : goal.invariant_of-self-lent
 invariant_of-self-lent c w =
-    let old : List SegmentHeader = map segment_kept c.self.inside.segments.items in
-    let found = sym (position-map segment_kept is_stack c.self.inside.segments.items) ∙ ap (λ (i : Image). position is_stack i.segments) c.self.view_is ∙ c.requires in
-    let changes = flags_set segment_kept c.self.inside.segments.items c.args.at c.index_mut.result.now c.index_mut.ensures.value found (with_flags c.index_mut.result.now w) w refl in (
-      with_segments (image_kept c.self.inside) c.self.inside.page_size (map segment_kept (slice_set c.self.inside.segments.items c.args.at (with_flags c.index_mut.result.now w))) c.self.invariant.0
+    let old : List SegmentHeader = map segment_model c.self.inside.segments.items in
+    let found = sym (position-map segment_model is_stack c.self.inside.segments.items) ∙ ap (λ (i : Image). position is_stack i.segments) c.self.view_is ∙ c.requires in
+    let changes = flags_set segment_model c.self.inside.segments.items c.args.at c.index_mut.result.now c.index_mut.ensures.value found (with_flags c.index_mut.result.now w) w refl in (
+      with_segments (image_model c.self.inside) c.self.inside.page_size (map segment_model (slice_set c.self.inside.segments.items c.args.at (with_flags c.index_mut.result.now w))) c.self.invariant.0
           (λ read h. subst (λ (ps : List SegmentHeader). AreSegments c.self.inside.page_size read ps) (sym changes) (segments_flagged c.self.inside.page_size w read old h)),
       c.self.invariant.1,
     )
 
 pub returns : goal.returns
 returns c =
-    let found = sym (position-map segment_kept is_stack c.self.inside.segments.items) ∙ ap (λ (i : Image). position is_stack i.segments) c.self.view_is ∙ c.requires in
-    let old : List SegmentHeader = map segment_kept c.self.inside.segments.items in
-    let changes : (w : ℕ) → map segment_kept (slice_set c.self.inside.segments.items c.args.at (with_flags c.index_mut.result.now w)) ≡ with_stack_flags w old = λ w. flags_set segment_kept c.self.inside.segments.items c.args.at c.index_mut.result.now c.index_mut.ensures.value found (with_flags c.index_mut.result.now w) w refl in (
+    let found = sym (position-map segment_model is_stack c.self.inside.segments.items) ∙ ap (λ (i : Image). position is_stack i.segments) c.self.view_is ∙ c.requires in
+    let old : List SegmentHeader = map segment_model c.self.inside.segments.items in
+    let changes : (w : ℕ) → map segment_model (slice_set c.self.inside.segments.items c.args.at (with_flags c.index_mut.result.now w)) ≡ with_stack_flags w old = λ w. flags_set segment_model c.self.inside.segments.items c.args.at c.index_mut.result.now c.index_mut.ensures.value found (with_flags c.index_mut.result.now w) w refl in (
       (
         refl,
-        λ w. ap (λ (ps : List SegmentHeader). record (image_kept c.self.inside) { changed = true; segments = ps }) (changes w)
+        λ w. ap (λ (ps : List SegmentHeader). record (image_model c.self.inside) { changed = true; segments = ps }) (changes w)
             ∙ ap (λ (i : Image). record i { changed = true; segments = with_stack_flags w i.segments }) c.self.view_is,
       ),
       record {
         lends = tt;
         value = ap Some c.flags_mut.ensures.value
-            ∙ sym (ap (option_map (λ (p : SegmentHeader). p.p_flags)) (first_seen segment_kept c.self.inside.segments.items c.args.at c.index_mut.result.now c.index_mut.ensures.value found))
+            ∙ sym (ap (option_map (λ (p : SegmentHeader). p.p_flags)) (first_seen segment_model c.self.inside.segments.items c.args.at c.index_mut.result.now c.index_mut.ensures.value found))
             ∙ ap (λ (i : Image). option_map (λ (p : SegmentHeader). p.p_flags) (segment_of_type PT_GNU_STACK i.segments)) c.self.view_is;
       },
     )

@@ -5,7 +5,7 @@ use Rattle.std.proofs.lemmas.Option.{same_Some}
 use Rattle.patch_bytes.specs.Memory.{memory_of, text_at}
 use Rattle.elf_format.specs.declared.records.SymbolNumbers.{SymbolNumbers}
 use Rattle.elf_format.specs.Records.{symbol_numbers}
-use Rattle.elf_image_symbols.specs.SymbolsShown.{kept_as}
+use Rattle.elf_image_symbols.specs.TableSymbols.{kept_as}
 use Rattle.elf_image_symbols.proofs.SeenSteps.{numbers_of, seen_at, twice_fits, version_of, within}
 use Rattle.elf_image_symbols.proofs.symbols.Symbols.get.Goals as goal
 

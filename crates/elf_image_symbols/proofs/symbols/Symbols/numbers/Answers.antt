@@ -3,7 +3,7 @@ use Rattle.std.proofs.Common.{◌≡◌, Some, ap, sym, ◌∙◌}
 use Rattle.std.specs.Prelude.{option_map}
 use Rattle.elf_format.specs.declared.records.SymbolNumbers.{SymbolNumbers}
 use Rattle.elf_format.specs.Records.{symbol_numbers}
-use Rattle.elf_image_symbols.specs.SymbolsShown.{kept_as, symbol_with}
+use Rattle.elf_image_symbols.specs.TableSymbols.{kept_as, symbol_with}
 use Rattle.elf_image_symbols.proofs.SeenSteps.{numbers_of, seen_at, version_of, within}
 use Rattle.elf_image_symbols.proofs.symbols.Symbols.numbers.Goals as goal
 

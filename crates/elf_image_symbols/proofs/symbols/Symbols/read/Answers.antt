@@ -4,7 +4,7 @@ use Rattle.std.specs.Prelude.{option_map}
 use Rattle.patch_bytes.specs.Memory.{memory_of}
 use Rattle.elf_format.specs.Answers.{borrowed}
 use Rattle.elf_format.specs.Views.{NamedSymbol}
-use Rattle.elf_image_symbols.specs.SymbolsShown.{symbols_shown}
+use Rattle.elf_image_symbols.specs.TableSymbols.{table_symbols}
 use Rattle.elf_image_symbols.proofs.ShownSteps.{none_there, shown_same, shown_where_named, some_there}
 use Rattle.elf_image_symbols.proofs.symbols.Symbols.read.Goals as goal
 
@@ -12,7 +12,7 @@ pub returns-then-not-are_names_there : goal.returns-then-not-are_names_there
 returns-then-not-are_names_there c room long =
     let texts = memory_of c.args.texts.now in
     let versions : Option (List ℕ) = option_map borrowed c.args.versions in
-    let shown : Option (List NamedSymbol) = symbols_shown c.args.form (length c.args.texts.now) texts c.args.bytes.now versions in
+    let shown : Option (List NamedSymbol) = table_symbols c.args.form (length c.args.texts.now) texts c.args.bytes.now versions in
     sym (shown_same c.args.form room c.args.texts.now c.args.bytes.now versions long
     ∙ none_there shown (shown_where_named c.args.form (length c.args.texts.now) texts c.args.bytes.now versions ∙ sym c.if-not-are_names_there.ensures))
 
@@ -20,7 +20,7 @@ pub invariant_of-result : goal.invariant_of-result
 invariant_of-result c =
     let texts = memory_of c.args.texts.now in
     let versions : Option (List ℕ) = option_map borrowed c.args.versions in
-    some_there (symbols_shown c.args.form (length c.args.texts.now) texts c.args.bytes.now versions) []
+    some_there (table_symbols c.args.form (length c.args.texts.now) texts c.args.bytes.now versions) []
     (shown_where_named c.args.form (length c.args.texts.now) texts c.args.bytes.now versions ∙ sym c.if-not-are_names_there.ensures)
 
 pub returns : goal.returns
@@ -28,5 +28,5 @@ returns c room long =
     let texts = memory_of c.args.texts.now in
     let versions : Option (List ℕ) = option_map borrowed c.args.versions in
     sym (shown_same c.args.form room c.args.texts.now c.args.bytes.now versions long
-    ∙ some_there (symbols_shown c.args.form (length c.args.texts.now) texts c.args.bytes.now versions) []
+    ∙ some_there (table_symbols c.args.form (length c.args.texts.now) texts c.args.bytes.now versions) []
     (shown_where_named c.args.form (length c.args.texts.now) texts c.args.bytes.now versions ∙ sym c.if-not-are_names_there.ensures))

@@ -4,7 +4,7 @@ use Rattle.std.specs.Prelude.{slice_index}
 use Rattle.std.proofs.lemmas.Result.{err_from_is_err_and}
 use Rattle.elf_format.specs.Image.{Image, ImageSection}
 use Rattle.elf_image.specs.Edited.{IsEdited}
-use Rattle.elf_image.specs.ImageSeen.{section_kept}
+use Rattle.elf_image.specs.ImageModel.{section_model}
 use Rattle.elf_layout_sizes.specs.Inner.{Edit, does_size_fit, size_by}
 use Rattle.elf_layout_sizes.proofs.SizeSteps.{long_sections, section_at, sized_all, sized_more, sized_refused}
 use Rattle.elf_layout_sizes.proofs.kinds.Sizing.sizes.Goals as goal
@@ -16,7 +16,7 @@ loop-i-preserved c =
     let are = c.sections-sections.ensures ∙ ap (λ (m : Image). m.sections) image_is in
     let within : c.loop-i.i < length c.args.self.now.image.sections = omega (arith, long_sections c.sections-sections.result.now c.args.self.now.image.sections are) in
     let number : c.read_section.result ≡ slice_index c.args.self.now.image.section_numbers c.loop-i.i = c.read_section.ensures ∙ ap (λ (m : Image). slice_index m.section_numbers c.loop-i.i) image_is in
-    let s : ImageSection = section_kept c.index-sections-i.result in
+    let s : ImageSection = section_model c.index-sections-i.result in
     sized_more c.args.self.now.read c.args.self.now.image edited c.loop-i.i s within
     (section_at c.sections-sections.result.now c.args.self.now.image.sections c.loop-i.i c.index-sections-i.result are c.loop-i-test.true c.index-sections-i.is)
     c.loop-i.sizes.items c.push.new.self.items c.in_ok-size.size c.loop-i.invariant
@@ -39,7 +39,7 @@ returns-in_err-size c =
     let are = c.sections-sections.ensures ∙ ap (λ (m : Image). m.sections) image_is in
     let within : c.loop-i.i < length c.args.self.now.image.sections = omega (arith, long_sections c.sections-sections.result.now c.args.self.now.image.sections are) in
     let number : c.read_section.result ≡ slice_index c.args.self.now.image.section_numbers c.loop-i.i = c.read_section.ensures ∙ ap (λ (m : Image). slice_index m.section_numbers c.loop-i.i) image_is in
-    let s : ImageSection = section_kept c.index-sections-i.result in
+    let s : ImageSection = section_model c.index-sections-i.result in
     let e = err_from_is_err_and c.from_residual.result c.from_residual.ensures.1 in
     rw (e.1, e.2) (λ large.
     sized_refused c.args.self.now.read c.args.self.now.image edited c.loop-i.i s within

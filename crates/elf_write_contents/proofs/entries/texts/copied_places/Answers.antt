@@ -9,7 +9,7 @@ use Rattle.elf_format.specs.declared.records.EntryNumbers.{EntryNumbers}
 use Rattle.elf_format.specs.Dynamic.{Entry}
 use Rattle.elf_format.specs.Image.{Image, ImageSection}
 use Rattle.elf_format.specs.Options.{list_at}
-use Rattle.elf_image.specs.ImageSeen.{entry_kept, section_kept}
+use Rattle.elf_image.specs.ImageModel.{entry_model, section_model}
 use Rattle.elf_write_contents.specs.EntrySteps.{content_at, numbers_in, places_among}
 use Rattle.elf_write_contents.proofs.EntriesPlaced.{content_of, ended}
 use Rattle.elf_write_contents.proofs.entries.texts.copied_places.Goals as goal
@@ -23,8 +23,8 @@ returns-in_default c =
 pub returns : goal.returns
 returns c =
     let ts : List (List ℕ) = map borrowed c.args.texts.now in
-    let long : length (map section_kept c.sections.result.now) ≡ length c.sections.result.now = length-map c.sections.result.now section_kept in
-    let same : length (map section_kept c.sections.result.now) ≡ length c.args.read.now.sections = ap length c.sections.ensures in
+    let long : length (map section_model c.sections.result.now) ≡ length c.sections.result.now = length-map c.sections.result.now section_model in
+    let same : length (map section_model c.sections.result.now) ≡ length c.args.read.now.sections = ap length c.sections.ensures in
     let within : c.args.list < length c.sections.result.now = omega (arith, long, same) in
     let read : Image = c.args.read.now in
     let content : content_at read c.args.list ≡ (get_or c.sections.result.now c.args.list c.index-sections-list.result).content.now =
@@ -33,6 +33,6 @@ returns c =
     let numbers : c.as_slice.result.now ≡ numbers_in read (content_at read c.args.list) =
     c.as_slice.ensures.value ∙ c.in_ok-numbers.ensures ∙ ap (numbers_in read) (sym content) in
     subst (λ (l : List ℕ). IfOk c.places_among.result (λ places. places.items ≡ l))
-    (ap (λ (xs : List EntryNumbers). places_among ts (map entry_kept c.in-Some.entries.now) xs) numbers
+    (ap (λ (xs : List EntryNumbers). places_among ts (map entry_model c.in-Some.entries.now) xs) numbers
     ∙ ap (λ (o : Option (List Entry)). places_among ts (list_at (λ es. es) o) (numbers_in read (content_at read c.args.list))) c.in-Some.ensures)
     c.places_among.ensures

@@ -3,7 +3,7 @@ use Rattle.std.specs.List.{flat_map}
 use Rattle.elf_image.specs.Image.{shown}
 use Rattle.arwen_elf.specs.Prints.{line_of}
 use Rattle.arwen_elf.specs.Reads.{needed_shown}
-use Rattle.arwen_elf.specs.WriterSeen.{needed_left}
+use Rattle.arwen_elf.specs.WriterModel.{needed_left}
 use Rattle.arwen_elf.proofs.elf.container.ElfContainer.print_needed.Given as goal
 
 -- the lines that are made, and those of the libraries that are still to come

@@ -8,10 +8,10 @@ use Rattle.elf_format.specs.declared.section_data.SectionData.{SectionData}
 use Rattle.elf_format.specs.declared.section_data.SectionData.TheVariants.{Opaque}
 use Rattle.elf_format.specs.File.{Parts}
 use Rattle.elf_format.specs.Image.{section_read}
-use Rattle.elf_image.specs.ImageSeen.{section_kept}
+use Rattle.elf_image.specs.ImageModel.{section_model}
 use Rattle.elf_format.specs.Options.{each}
 use Rattle.elf_format.specs.Answers.{Fails}
-use Rattle.elf_image_rules.specs.Read.{parts_seen}
+use Rattle.elf_image_rules.specs.Read.{parts_model}
 use Rattle.elf_format.specs.declared.records.SectionHeader.{SectionHeader}
 use Rattle.elf_format.specs.Rules.{data_of, file_of, texts_of}
 use Rattle.elf_image.specs.TextSteps.{named_section}
@@ -31,22 +31,22 @@ at_place p items kinds texts i same_items same_kinds less same_texts =
 pub returns-in_err-one : goal.returns-in_err-one
 returns-in_err-one c =
     let e = err_from_is_err_and c.from_residual.result c.from_residual.ensures.1 in
-    let p : Parts = parts_seen c.args.parts.now in
+    let p : Parts = parts_model c.args.parts.now in
     let less : c.loop-i.i < length p.sections = omega (arith, ap length c.deref-header-items.ensures.value) in
     let here = at_place p c.deref-header-items.result.now c.args.kinds.now c.section_names-names.result.now c.loop-i.i c.deref-header-items.ensures.value c.requires less c.section_names-names.ensures.value in
-    rw (e.1, e.2) (each_ends (section_read p) c.in_err-one.field-0.0 (map section_kept c.loop-i.made.items) p.sections c.loop-i.i no_section (each (section_read p) p.sections) less
+    rw (e.1, e.2) (each_ends (section_read p) c.in_err-one.field-0.0 (map section_model c.loop-i.made.items) p.sections c.loop-i.i no_section (each (section_read p) p.sections) less
     (subst (Fails c.in_err-one.field-0.0) here c.in_err-one.ensures) c.loop-i.invariant)
 
 pub loop-i-preserved : goal.loop-i-preserved
 loop-i-preserved c =
-    let p : Parts = parts_seen c.args.parts.now in
+    let p : Parts = parts_model c.args.parts.now in
     let less : c.loop-i.i < length p.sections = omega (arith, ap length c.deref-header-items.ensures.value) in
     let here = at_place p c.deref-header-items.result.now c.args.kinds.now c.section_names-names.result.now c.loop-i.i c.deref-header-items.ensures.value c.requires less c.section_names-names.ensures.value in
-    let pushed : map section_kept c.push.new.self.items ≡ map section_kept c.loop-i.made.items ++ section_kept c.in_ok-one.one ∷ [] = ap (map section_kept) c.in_ok-push.ensures.items ∙ map_push section_kept c.loop-i.made.items c.in_ok-one.one in
-    rw pushed (each_goes (section_read p) (map section_kept c.loop-i.made.items) p.sections c.loop-i.i no_section (section_kept c.in_ok-one.one) (each (section_read p) p.sections) less (sym here ∙ c.in_ok-one.ensures) c.loop-i.invariant)
+    let pushed : map section_model c.push.new.self.items ≡ map section_model c.loop-i.made.items ++ section_model c.in_ok-one.one ∷ [] = ap (map section_model) c.in_ok-push.ensures.items ∙ map_push section_model c.loop-i.made.items c.in_ok-one.one in
+    rw pushed (each_goes (section_read p) (map section_model c.loop-i.made.items) p.sections c.loop-i.i no_section (section_model c.in_ok-one.one) (each (section_read p) p.sections) less (sym here ∙ c.in_ok-one.ensures) c.loop-i.invariant)
 
 pub returns : goal.returns
 returns c =
-    let p : Parts = parts_seen c.args.parts.now in
+    let p : Parts = parts_model c.args.parts.now in
     let past : length p.sections ≤ c.loop-i.i = omega (arith, ap length c.deref-header-items.ensures.value) in
-    each_done (section_read p) (map section_kept c.loop-i.made.items) p.sections c.loop-i.i (each (section_read p) p.sections) past c.loop-i.invariant
+    each_done (section_read p) (map section_model c.loop-i.made.items) p.sections c.loop-i.i (each (section_read p) p.sections) past c.loop-i.invariant

@@ -1,6 +1,6 @@
 use Rattle.std.proofs.Common.{◌≡◌, length}
 use Rattle.std.specs.Slice.Iter.{iter_rest}
-use Rattle.arwen_elf.specs.WriterSeen.{needed_left}
+use Rattle.arwen_elf.specs.WriterModel.{needed_left}
 use Rattle.arwen_elf.proofs.elf.rewriter.writer.NeededIterator.next.Given as goal
 
 -- no entry so far is a needed library
