@@ -120,9 +120,7 @@ fn marks(alloc: Global, ranges: &[Block]) -> Result<Vec<bool>, LayoutFault>
     ensures many { IfOk result (λ marks. length marks.items ≡ length ranges.now) }
     ensures fault { IfErr result (HasStuckFault ranges.now) }
 {
-    let Ok(mut marks) = vec![in alloc; false; ranges.len()] else {
-        return Err(LayoutFault::Memory);
-    };
+    let mut marks = vec![in alloc; false; ranges.len()]?;
     walk_on::<Brand>(Blank::new(1), ranges, &mut marks)?;
     Ok(marks)
 }
@@ -152,13 +150,9 @@ fn walk_in_order(alloc: Global, sorted: &[MemoryBlock]) -> Result<Vec<MemoryBloc
     ensures movers { IfOk result (λ movers. AreMovers sorted.now movers.items) }
     ensures fault { IfErr result (IsStuckFault sorted.now) }
 {
-    let Ok(ranges) = ranges(alloc, sorted) else {
-        return Err(LayoutFault::Memory);
-    };
+    let ranges = ranges(alloc, sorted)?;
     let marks = marks(alloc, &ranges)?;
-    let Ok(found) = marked(alloc, sorted, &marks) else {
-        return Err(LayoutFault::Memory);
-    };
+    let found = marked(alloc, sorted, &marks)?;
     Ok(found)
 }
 
@@ -184,19 +178,13 @@ fn movers_of(alloc: Global, blocks: &[MemoryBlock]) -> Result<Vec<MemoryBlock>, 
     ensures fault { IfErr result (IsStuckFault blocks.now) }
 {
     let loaded = is_some_load(blocks);
-    let Ok(mut movers) = stray_blocks(alloc, blocks, loaded) else {
-        return Err(LayoutFault::Memory);
-    };
+    let mut movers = stray_blocks(alloc, blocks, loaded)?;
     if is_some_fixed(&movers) {
         return Err(LayoutFault::Overlap);
     }
-    let Ok(others) = others_in_order(alloc, blocks, loaded) else {
-        return Err(LayoutFault::Memory);
-    };
+    let others = others_in_order(alloc, blocks, loaded)?;
     let found = walk_in_order(alloc, &others)?;
-    if movers.extend_from_slice(&found).is_err() {
-        return Err(LayoutFault::Memory);
-    }
+    movers.extend_from_slice(&found)?;
     Ok(movers)
 }
 
@@ -219,8 +207,6 @@ pub(crate) fn moved_positions(
     ensures fault { IfErr result (IsStuckFault blocks.now) }
 {
     let movers = movers_of(alloc, blocks)?;
-    let Ok(moved) = sections_of(alloc, &movers) else {
-        return Err(LayoutFault::Memory);
-    };
+    let moved = sections_of(alloc, &movers)?;
     Ok(moved)
 }

@@ -23,10 +23,6 @@ pub record Edit : Type 0 where
   pub read : Image
   pub image : Image
 
--- the link of the first section of a type
-abbrev pub link_from : ℕ → List ImageSection → Option ℕ
-link_from type sections = find (λ s. s.sh_type == type) sections >>= λ s. Some s.sh_link
-
 -- ## Needed versions
 
 -- the mark of a version's index; none past the marks

@@ -157,8 +157,7 @@ pub(crate) fn definitions_size(definitions: &[VersionDef<'_>]) -> Option<u64>
 pub(crate) fn is_of_needs(entry: &Dynamic<'_>) -> bool
     ensures { result ≡ is_entry_of_needs (entry_model entry.now) }
 {
-    let tag = entry.tag();
-    tag == DT_VERNEED || tag == DT_VERNEEDNUM
+    entry.has_tag(DT_VERNEED) || entry.has_tag(DT_VERNEEDNUM)
 }
 
 // How many entries of a dynamic list stay.

@@ -14,12 +14,12 @@ use Rattle.elf_format.specs.Image.{Image, ImageSection}
 use Rattle.elf_format.specs.Options.{is_none_or, is_one_of, is_some_and}
 use Rattle.elf_format.specs.Records.{section_header}
 use Rattle.elf_format.specs.Rules.{is_opaque_relocation, links_to, names_are_texts, symbol_users, text_users}
-use Rattle.elf_format.proofs.Placed.{IsIn-slice_get, passes_picked}
-use Rattle.elf_format.proofs.ViewsAgree.{links_right, there_and}
-use Rattle.elf_write_spec.proofs.HeaderTables.{header_bytes}
-use Rattle.elf_write_spec.proofs.SameLists.{length-sections}
+use Rattle.elf_format.proofs.ForCallers.Placed.{IsIn-slice_get, passes_picked}
+use Rattle.elf_format.proofs.ForCallers.ViewsAgree.{links_right, there_and}
+use Rattle.elf_write_spec.proofs.ForCallers.HeaderTables.{header_bytes}
 use Rattle.elf_write_contents.specs.Inner.{IsReady}
 use Rattle.elf_write_contents.proofs.ReadFacts.{ReadFacts, SectionRead, length-now, section_read}
+use Rattle.elf_format.proofs.ForCallers.Lengths.{length-sections}
 
 module _ (read image : Image) (is : IsReady read image) (f : ReadFacts read image) where
   -- ## The section of names

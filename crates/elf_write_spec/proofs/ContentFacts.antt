@@ -17,14 +17,15 @@ use Rattle.elf_format.specs.Rules.{data_of, file_of, is_opaque_relocation}
 use Rattle.elf_image.specs.Kept.{image_at_read, interpreter_number, is_numbered, kept_sections, stands_as_interpreter}
 use Rattle.elf_layout_plan.specs.Plan.{resized}
 use Rattle.elf_layout_plan.specs.Texts.{is_table_copied}
-use Rattle.elf_layout_plan.proofs.PlacedLists.{find-at}
-use Rattle.elf_layout_plan.proofs.PlacedRead.{kept_at}
+use Rattle.elf_layout_plan.proofs.ForCallers.PlacedLists.{find-at}
+use Rattle.elf_layout_plan.proofs.ForCallers.PlacedRead.{kept_at}
 use Rattle.elf_write_spec.specs.Base.{is_interpreter}
 use Rattle.elf_write_spec.specs.Contents.{AreDefinitionsIn, AreEntriesOf, AreNeedsIn, AreSymbolsOf, IsContent, IsContentByKind, content_at_number, spelled_list}
 use Rattle.elf_write_spec.specs.Final.{final}
 use Rattle.elf_write_spec.specs.Writing.{IsWholeWriting, Writing}
-use Rattle.elf_write_spec.proofs.WholeFacts.{ReadFacts, SectionAt, kept}
-use Rattle.elf_write_spec.proofs.WholeLists.{counted-at}
+use Rattle.elf_write_spec.proofs.WholeFacts.{ReadFacts, SectionAt}
+use Rattle.elf_format.proofs.ForCallers.Lengths.{slice_get-counted}
+use Rattle.elf_write_spec.proofs.NumberedSections.{kept}
 
 -- ## The interpreter's section
 
@@ -53,7 +54,7 @@ module _ (w : Writing) (is : IsWholeWriting w) (f : ReadFacts w) (i : ℕ) (at :
       ap (λ (l : List ℕ). slice_get l place.index) (sym f.holds.section_numbers) ∙ place.number in
       let within : place.index < length read.sections = slice_get_within read.sections place.index s.section place.section in
       let index : place.index ≡ s.number =
-      same_Some place.index s.number (sym (counted-at (length read.sections) place.index within) ∙ counts) in
+      same_Some place.index s.number (sym (slice_get-counted (length read.sections) place.index within) ∙ counts) in
       let here : slice_get w.image.sections i ≡ Some s.section =
       ap (λ (l : List ImageSection). slice_get l i) is.whole.sections
       ∙ ap (λ (n : ℕ). slice_get read.sections n) (sym (index ∙ number)) ∙ place.section in

@@ -19,23 +19,24 @@ use Rattle.elf_format.specs.Places.{occupies_file}
 use Rattle.elf_format.specs.Records.{symbols_in}
 use Rattle.elf_format.specs.Rules.{file_of, is_opaque_relocation, links_to, symbol_users, text_users}
 use Rattle.elf_format.specs.Views.{section_memory}
-use Rattle.elf_format.proofs.Placed.{IsIn-slice_get, passes_picked}
-use Rattle.elf_format.proofs.ViewsAgree.{links_right, there_and}
+use Rattle.elf_format.proofs.ForCallers.Placed.{IsIn-slice_get, passes_picked}
+use Rattle.elf_format.proofs.ForCallers.ViewsAgree.{links_right, there_and}
 use Rattle.elf_image.specs.ReadImage.{IsSectionOf}
 use Rattle.elf_image.specs.Kept.{KeptSection, image_at_read, interpreter_number, kept_sections, stands_as_interpreter}
 use Rattle.elf_layout_plan.specs.Memory.{Resized}
 use Rattle.elf_layout_plan.specs.Plan.{Layout, resized}
 use Rattle.elf_layout_plan.specs.Texts.{is_table_copied}
-use Rattle.elf_layout_plan.proofs.PlacedLists.{find-at}
-use Rattle.elf_layout_plan.proofs.PlacedRead.{kept_at}
+use Rattle.elf_layout_plan.proofs.ForCallers.PlacedLists.{find-at}
+use Rattle.elf_layout_plan.proofs.ForCallers.PlacedRead.{kept_at}
 use Rattle.elf_write_spec.specs.Again.{HasWrittenParts}
 use Rattle.elf_write_spec.specs.Base.{is_interpreter}
 use Rattle.elf_write_spec.specs.Contents.{AreDefinitionsIn, AreEntriesOf, AreNeedsIn, AreSymbolsOf, IsContentByKind, content_at_number, spelled_list}
 use Rattle.elf_write_spec.specs.Final.{final}
 use Rattle.elf_write_spec.specs.Writing.{IsWholeWriting, Writing, written_bytes}
 use Rattle.elf_write_spec.proofs.TextsRead.{bytes_short}
-use Rattle.elf_write_spec.proofs.WholeFacts.{ReadFacts, SectionAt, content_is, kept, section_at}
-use Rattle.elf_write_spec.proofs.WholeLists.{counted-at}
+use Rattle.elf_write_spec.proofs.WholeFacts.{ReadFacts, SectionAt, content_is, section_at}
+use Rattle.elf_format.proofs.ForCallers.Lengths.{slice_get-counted}
+use Rattle.elf_write_spec.proofs.NumberedSections.{kept}
 
 -- ## Kinds
 
@@ -107,7 +108,7 @@ module _ (w : Writing) (is : IsWholeWriting w) (f : ReadFacts w) where
       let inside : place.index < length read.sections = slice_get_within read.sections place.index k.section place.section in
       let number : Some k.number ≡ Some place.index =
       sym place.number ∙ ap (λ (ns : List ℕ). slice_get ns place.index) f.holds.section_numbers
-      ∙ counted-at (length read.sections) place.index inside in
+      ∙ slice_get-counted (length read.sections) place.index inside in
       let same : place.index ≡ i = omega (arith, same_Some k.number place.index number, same_Some k.number n made, eqb-true n i n_is) in
       let section : Some k.section ≡ Some at.section =
       sym place.section ∙ ap (λ (j : ℕ). slice_get read.sections j) same

@@ -25,15 +25,15 @@ use Rattle.elf_layout_plan.specs.Needs.{written_needs}
 use Rattle.elf_layout_plan.specs.Plan.{IsPlan, Layout, layout_for, resized}
 use Rattle.elf_layout_plan.specs.Sizes.{definitions_size, dynamic_size, hash_size, interpreter_size, needs_size, new_size, strings_size, table_size}
 use Rattle.elf_layout_plan.specs.Standing.{place_in, places}
-use Rattle.elf_layout_plan.proofs.ApartFixed.{fixed_sections_stay, image_sized}
-use Rattle.elf_layout_plan.proofs.ApartLists.{at-map, none-from}
-use Rattle.elf_layout_plan.proofs.ApartSections.{at-sized, sized_of}
-use Rattle.elf_layout_plan.proofs.ApartStays.{shows}
-use Rattle.elf_layout_plan.proofs.PlacedAdded.{is_added}
-use Rattle.elf_layout_plan.proofs.PlacedLists.{Has, slice_get-at}
-use Rattle.elf_layout_plan.proofs.PlacedPlaces.{StandsAdded, stored_stands}
-use Rattle.elf_layout_plan.proofs.PlacedRead.{ReadsPlaced, reads_placed}
-use Rattle.elf_layout_plan.proofs.PlacedSegments.{before_memory_end}
+use Rattle.elf_layout_plan.proofs.ForCallers.ApartFixed.{fixed_sections_stay, image_sized}
+use Rattle.elf_layout_plan.proofs.ForCallers.ApartLists.{at-map, none-from}
+use Rattle.elf_layout_plan.proofs.ForCallers.ApartSections.{at-sized, sized_of}
+use Rattle.elf_layout_plan.proofs.ForCallers.ApartStays.{shows}
+use Rattle.elf_layout_plan.proofs.ForCallers.PlacedAdded.{is_added}
+use Rattle.elf_layout_plan.proofs.ForCallers.PlacedLists.{Has, slice_get-at}
+use Rattle.elf_layout_plan.proofs.ForCallers.PlacedPlaces.{StandsAdded, stored_stands}
+use Rattle.elf_layout_plan.proofs.ForCallers.PlacedRead.{ReadsPlaced, reads_placed}
+use Rattle.elf_layout_plan.proofs.ForCallers.PlacedSegments.{before_memory_end}
 use Rattle.elf_write_spec.specs.Base.{is_data, is_interpreter, is_opaque}
 
 -- ## What data is

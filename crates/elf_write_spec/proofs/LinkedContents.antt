@@ -18,12 +18,13 @@ use Rattle.elf_image.specs.Kept.{KeptSection, image_at_read, interpreter_number,
 use Rattle.elf_format.specs.Records.{symbols_in}
 use Rattle.elf_layout_plan.specs.Texts.{is_table_copied}
 use Rattle.elf_layout_plan.specs.Plan.{resized}
-use Rattle.elf_layout_plan.proofs.ApartLists.{find-at}
+use Rattle.elf_layout_plan.proofs.ForCallers.ApartLists.{find-at}
 use Rattle.elf_write_spec.specs.Again.{HasWrittenParts}
 use Rattle.elf_write_spec.specs.Contents.{AreDefinitionsIn, AreEntriesOf, AreNeedsIn, AreSymbolsOf, IsContentByKind, content_at_number, spelled_list}
 use Rattle.elf_write_spec.specs.Final.{final}
 use Rattle.elf_write_spec.specs.Writing.{IsWholeWriting, Writing, written_bytes}
-use Rattle.elf_write_spec.proofs.WholeFacts.{ReadFacts, SectionAt, kept, lengths, section_at}
+use Rattle.elf_write_spec.proofs.WholeFacts.{ReadFacts, SectionAt, lengths, section_at}
+use Rattle.elf_write_spec.proofs.NumberedSections.{kept}
 
 -- ## The interpreter's section
 

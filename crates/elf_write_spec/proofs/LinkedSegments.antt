@@ -18,8 +18,8 @@ use Rattle.elf_layout_plan.specs.Memory.{Resized}
 use Rattle.elf_layout_plan.specs.Plan.{IsPlan, Layout, layout_for}
 use Rattle.elf_layout_plan.specs.Standing.{places}
 use Rattle.elf_layout_plan.specs.Written.{Target, behind_last_load, anchored_to, places_of_kept, resized_table, target_at, targets_of, targets_of_notes, with_table_size, written_from, written_segments}
-use Rattle.elf_layout_plan.proofs.ApartLists.{each-at}
-use Rattle.elf_layout_plan.proofs.ApartWritten.{added_headers, all_added_are_loaded}
+use Rattle.elf_layout_plan.proofs.ForCallers.ApartLists.{each-at}
+use Rattle.elf_layout_plan.proofs.ForCallers.ApartWritten.{added_headers, all_added_are_loaded}
 use Rattle.elf_write_spec.specs.Whole.{AreAllKept}
 use Rattle.elf_write_spec.proofs.LinkedLists.{count-append, count-cons, count-flat_map, count-none, one_if}
 

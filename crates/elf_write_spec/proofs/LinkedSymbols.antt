@@ -14,7 +14,7 @@ use Rattle.elf_format.specs.Options.{is_one_of}
 use Rattle.elf_format.specs.Records.{symbols_in}
 use Rattle.elf_format.specs.Rules.{data_of, file_of, is_opaque_relocation, is_symbol_table, symbols_have_sections}
 use Rattle.elf_format.specs.Views.{NamedSymbol}
-use Rattle.elf_format.proofs.Placed.{IsIn-slice_get, find_some, passes_picked}
+use Rattle.elf_format.proofs.ForCallers.Placed.{IsIn-slice_get, find_some, passes_picked}
 use Rattle.elf_image.specs.ReadImage.{AreDynamicSymbols}
 use Rattle.elf_image.specs.Kept.{image_at_read}
 use Rattle.elf_write_spec.specs.Again.{HasWrittenParts, written_parts}

@@ -27,7 +27,8 @@ use Rattle.elf_write_spec.specs.Writing.{IsWholeWriting, Writing, written_bytes}
 use Rattle.elf_write_spec.proofs.InterpreterAt.{isnt_interpreter}
 use Rattle.elf_write_spec.proofs.NamesAgain.{name_again}
 use Rattle.elf_write_spec.proofs.TextsRead.{each-from}
-use Rattle.elf_write_spec.proofs.WholeFacts.{ReadFacts, SectionAt, kept, lengths, read_facts, section_at, section_at_header}
+use Rattle.elf_write_spec.proofs.WholeFacts.{ReadFacts, SectionAt, lengths, read_facts, section_at, section_at_header}
+use Rattle.elf_write_spec.proofs.NumberedSections.{kept}
 
 -- ## Lists of sections
 

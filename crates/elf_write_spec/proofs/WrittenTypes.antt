@@ -18,8 +18,8 @@ use Rattle.elf_layout_plan.specs.Memory.{Resized}
 use Rattle.elf_layout_plan.specs.Plan.{Layout, layout_for, resized}
 use Rattle.elf_layout_plan.specs.Standing.{places}
 use Rattle.elf_layout_plan.specs.Written.{Target, behind_last_load, anchored_to, places_of_kept, resized_table, target_at, targets_of, targets_of_notes, with_table_size, written_from, written_segments}
-use Rattle.elf_layout_plan.proofs.ApartLists.{Each}
-use Rattle.elf_layout_plan.proofs.ApartWritten.{added_headers, all_added_are_loaded, section_targets}
+use Rattle.elf_layout_plan.proofs.ForCallers.ApartLists.{Each}
+use Rattle.elf_layout_plan.proofs.ForCallers.ApartWritten.{added_headers, all_added_are_loaded, section_targets}
 use Rattle.elf_write_spec.specs.Whole.{AreAllKept}
 use Rattle.elf_write_spec.specs.Writing.{IsWholeWriting, Writing}
 use Rattle.elf_write_spec.proofs.WholeFacts.{ReadFacts}
