@@ -1,7 +1,6 @@
 -- How the blocks of an image are found: what the steps hand to each other.
-use Rattle.std.specs.Prelude.{ℕ, ◌+◌, ◌-◌, ◌≡◌, List, [], ◌∷◌, length, map, filter, find, drop, Bool, false, Option, Some, ◌==◌, ◌&&◌, ◌||◌, if◌then◌else◌, slice_index}
+use Rattle.std.specs.Prelude.{ℕ, ◌+◌, ◌-◌, ◌≡◌, List, [], ◌∷◌, length, map, filter, drop, Bool, false, Option, Some, ◌==◌, ◌&&◌, ◌||◌, if◌then◌else◌, slice_index}
 use Rattle.std.specs.Option.{option_map}
-use Rattle.patch_bytes.specs.Memory.{◌>>=◌}
 use Rattle.elf_format.specs.declared.constants.TheConstants.{SHT_DYNSYM, SHT_GNU_HASH, SHT_GNU_VERDEF, SHT_GNU_VERNEED, SHT_GNU_VERSYM, SHT_HASH, SHT_NOTE, SHT_STRTAB}
 use Rattle.elf_format.specs.Image.{Image, ImageSection}
 use Rattle.elf_format.specs.Options.{is_one_of, is_some_and}

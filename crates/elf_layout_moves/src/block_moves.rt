@@ -4,7 +4,7 @@ ghost use Rattle.std.specs.List.{filter_map, list_any};
 ghost use Rattle.elf_layout_plan.specs.MovedBlocks.{HasStuck, IsOrdered, MoveForCause, StayApart};
 ghost use Rattle.elf_layout_plan.specs.declared.fault.LayoutFault.TheVariants.{Overlap};
 ghost use Rattle.elf_layout_plan.specs.Blocks.{Block as Taken, has_cause, have_causes, is_stuck, stay_apart};
-ghost use Rattle.elf_layout_moves.specs.BlockSteps.{AreClear, AreMovers, AreOrdered, AreRanges, HasStuckFault, IsRangeOf, IsStuckFault, IsWhole, has_load, is_out, marked_of};
+ghost use Rattle.elf_layout_moves.specs.BlockSteps.{AreClear, AreMovers, AreOrdered, AreRanges, HasStuckFault, IsRangeOf, IsStuckFault, IsWhole, has_load, moves_as_stray, marked_of};
 
 use crate::blocks::MemoryBlock;
 use elf_layout_plan::{Block, LayoutFault, Steps, walk_blocks};
@@ -32,7 +32,7 @@ fn stray_blocks(
     blocks: &[MemoryBlock],
     loaded: bool,
 ) -> Result<Vec<MemoryBlock>, AllocError>
-    ensures { IfOk result (λ found. found.items ≡ filter (λ b. is_out loaded b) blocks.now) }
+    ensures { IfOk result (λ found. found.items ≡ filter (λ b. moves_as_stray loaded b) blocks.now) }
 {
     blocks
         .iter()
@@ -47,7 +47,7 @@ fn inside_blocks(
     blocks: &[MemoryBlock],
     loaded: bool,
 ) -> Result<Vec<MemoryBlock>, AllocError>
-    ensures { IfOk result (λ found. found.items ≡ filter (λ b. not (is_out loaded b)) blocks.now) }
+    ensures { IfOk result (λ found. found.items ≡ filter (λ b. not (moves_as_stray loaded b)) blocks.now) }
 {
     blocks
         .iter()
@@ -126,7 +126,7 @@ fn marks(alloc: Global, ranges: &[Block]) -> Result<Vec<bool>, LayoutFault>
 }
 
 // Those that are marked.
-fn marked(
+fn marked_blocks(
     alloc: Global,
     blocks: &[MemoryBlock],
     marks: &[bool],
@@ -152,7 +152,7 @@ fn walk_in_order(alloc: Global, sorted: &[MemoryBlock]) -> Result<Vec<MemoryBloc
 {
     let ranges = ranges(alloc, sorted)?;
     let marks = marks(alloc, &ranges)?;
-    let found = marked(alloc, sorted, &marks)?;
+    let found = marked_blocks(alloc, sorted, &marks)?;
     Ok(found)
 }
 
@@ -164,7 +164,7 @@ fn others_in_order(
 ) -> Result<Vec<MemoryBlock>, AllocError>
     ensures ordered { IfOk result (λ sorted. AreOrdered sorted.items) }
     ensures same { IfOk result (λ sorted.
-        IsPermutation (filter (λ b. not (is_out loaded b)) blocks.now) sorted.items) }
+        IsPermutation (filter (λ b. not (moves_as_stray loaded b)) blocks.now) sorted.items) }
 {
     let mut others = inside_blocks(alloc, blocks, loaded)?;
     put_in_order(&mut others);

@@ -49,3 +49,5 @@ pub use Rattle.elf_layout_plan.proofs.RoundLaws
 pub use Rattle.elf_layout_plan.proofs.SameTexts
 -- what a section is that is placed behind the segments, and which one is placed there
 pub use Rattle.elf_layout_plan.proofs.UnloadedParts
+-- the program headers that are written: which of them are loaded
+pub use Rattle.elf_layout_plan.proofs.PlacedWritten

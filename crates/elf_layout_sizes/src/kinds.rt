@@ -1,7 +1,6 @@
 //! How large a section is to be, by its kind.
 ghost use Rattle.std.specs.Prelude.{◌≡◌, ℕ, ◌<◌, ◌^◌, false, true, Some, MatchResult, SomeIff};
 ghost use Rattle.elf_image.specs.ImageModel.{section_model};
-ghost use Rattle.elf_image.specs.Kept.{interpreter_number as number_of_interpreter};
 ghost use Rattle.elf_layout_plan.specs.Texts.{are_names_changed as have_names_changed};
 ghost use Rattle.elf_layout_sizes.specs.Inner.{fits_class};
 ghost use Rattle.elf_tables.specs.declared.fault.TableFault.TheVariants.{NumberTooLarge};
@@ -71,7 +70,6 @@ impl<'a, 'data> Model for Sizing<'a, 'data> {
 impl<'a, 'data> Sizing<'a, 'data> {
     ghost use Rattle.std.specs.Prelude.{◌≡◌, ◌==◌, ◌<◌, ◌*◌, ◌^◌, ◌||◌, false, true, nat_le, IfOk, IfSome, IsTrue, MatchResult, SomeIff};
     ghost use Rattle.elf_image.specs.SymbolsRead.{HasSymbolsOf};
-    ghost use Rattle.elf_format.specs.Options.{is_some_and};
     ghost use Rattle.elf_format.specs.Records.{symbol_size};
     ghost use Rattle.elf_layout_plan.specs.Sizes.{hash_size, interpreter_size};
     ghost use Rattle.elf_layout_plan.specs.Texts.{is_table_copied};

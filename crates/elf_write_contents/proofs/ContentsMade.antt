@@ -30,12 +30,13 @@ use Rattle.elf_layout_plan.proofs.ForCallers.PlacedLists.{slice_get-at}
 use Rattle.elf_layout_plan.proofs.ForCallers.PlacedPlaces.{keeps_kind}
 use Rattle.elf_write_spec.specs.Contents.{AreDefinitionsIn, AreEntriesOf, AreNeedsIn, AreSymbolsOf, IsContent, spelled_list}
 use Rattle.elf_write_spec.specs.Final.{final}
-use Rattle.elf_write_spec.proofs.ForCallers.LinkedContents.{is_copied, kind_by}
+use Rattle.elf_write_spec.proofs.ForCallers.LinkedContents.{is_copied}
 use Rattle.elf_write_contents.specs.declared.made.Made.{Made}
 use Rattle.elf_write_contents.specs.ContentSteps.{IsBytesAt}
 use Rattle.elf_write_contents.specs.Inner.{IsMadeContent, IsPlanned, strings_at}
 use Rattle.elf_write_contents.proofs.ReadFacts.{ReadFacts, SectionRead, section_read}
 use Rattle.elf_write_spec.proofs.ForCallers.NumberedSections.{kept}
+use Rattle.elf_write_spec.proofs.ForCallers.SectionKinds.{kind_by}
 
 -- ## A section and its place
 

@@ -17,7 +17,6 @@ use Rattle.elf_layout_plan.specs.Sizes.{do_texts_fit, strings_size, table_size}
 use Rattle.elf_layout_plan.specs.Texts.{is_table_copied, texts_in_use}
 use Rattle.elf_tables.specs.Strings.{table_length}
 use Rattle.elf_layout_sizes.specs.MadeTables.{IsTooLong}
-use Rattle.elf_image.specs.Edited.{IsEdited}
 use Rattle.elf_write_contents.specs.Inner.{IsReady}
 use Rattle.elf_write_contents.proofs.ReadFacts.{Nowhere, ReadFacts, SectionRead, There, length-now, read_facts, section_read, type_at}
 use Rattle.elf_write_spec.proofs.ForCallers.NumberedSections.{kept}

@@ -35,3 +35,5 @@ pub use Rattle.elf_write_spec.proofs.WholeFacts
 pub use Rattle.elf_write_spec.proofs.WholeLists
 -- string tables but that of the dynamic list keep their texts
 pub use Rattle.elf_write_spec.proofs.TextsStay
+-- what a section's bytes are, by its type
+pub use Rattle.elf_write_spec.proofs.SectionKinds

@@ -1,3 +1,4 @@
+pub mod SectionKinds
 pub mod WholeLists
 pub mod SameLists
 pub mod NumberedSections

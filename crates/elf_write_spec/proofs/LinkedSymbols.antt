@@ -21,10 +21,11 @@ use Rattle.elf_write_spec.specs.Again.{HasWrittenParts, written_parts}
 use Rattle.elf_write_spec.specs.Contents.{AreSymbolsOf, content_at_number}
 use Rattle.elf_write_spec.specs.Final.{final}
 use Rattle.elf_write_spec.specs.Writing.{IsWholeWriting, Writing, written_bytes}
-use Rattle.elf_write_spec.proofs.LinkedContents.{bytes_copied, bytes_there, content_of_kind, is_copied, kind_by}
+use Rattle.elf_write_spec.proofs.LinkedContents.{bytes_copied, bytes_there, content_of_kind, is_copied}
 use Rattle.elf_write_spec.proofs.LinkedLists.{all-picked}
 use Rattle.elf_write_spec.proofs.LinkedMatch.{count_kept, each-header, form_kept}
 use Rattle.elf_write_spec.proofs.WholeFacts.{ReadFacts, SectionAt, final_is}
+use Rattle.elf_write_spec.proofs.SectionKinds.{kind_by}
 
 -- a symbol's section is there, or its number has a special meaning
 abbrev pub is_section_there : ℕ → ℕ → Bool
