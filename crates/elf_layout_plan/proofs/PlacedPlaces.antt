@@ -42,12 +42,12 @@ unloaded_source end (s ∷ ss) x h =
           record { section = more.section; here = has_there more.section s ss more.here; position = more.position; size = more.size }
     ]
 
-pub record UnloadedThere (slots : List UnloadedSlot) (position : ℕ) : Type 0 where
-  pub slot : UnloadedSlot
-  pub here : Has slot slots
-  pub same : slot.position ≡ position
+record UnloadedThere (slots : List UnloadedSlot) (position : ℕ) : Type 0 where
+  slot : UnloadedSlot
+  here : Has slot slots
+  same : slot.position ≡ position
 
-pub unloaded_there : (end : ℕ) (ss : List SizedSection) (s : SizedSection) → Has s ss → UnloadedThere (unloaded_from end ss) s.kept.position
+unloaded_there : (end : ℕ) (ss : List SizedSection) (s : SizedSection) → Has s ss → UnloadedThere (unloaded_from end ss) s.kept.position
 unfolding unloaded_from
 unloaded_there end [] s h = absurd (has_none s h)
 unloaded_there end (t ∷ ts) s h =
