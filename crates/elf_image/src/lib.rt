@@ -7,7 +7,7 @@ mod copies;
 pub mod dynamic;
 mod edits;
 pub mod laws;
-pub mod lookups;
+mod lookups;
 mod read;
 pub mod section;
 pub mod segment;
@@ -15,7 +15,6 @@ mod symbol_lists;
 
 pub use crate::builder::{Builder, Segment};
 pub use crate::dynamic::Dynamic;
-pub use crate::lookups::is_numbered;
 pub use crate::section::Section;
 pub use elf_format::machine::machine_of;
 pub use elf_format::{

@@ -1,8 +1,7 @@
 //! Where parts of a file stand in its image, by the numbers that they had at read.
-ghost use Rattle.std.specs.Prelude.{◌≡◌, ◌==◌, ◌<◌, length, map, option_map, position};
+ghost use Rattle.std.specs.Prelude.{◌≡◌, ◌<◌, length, map, option_map, position};
 ghost use Rattle.elf_image.specs.ImageModel.{section_model, segment_model};
 ghost use Rattle.elf_format.specs.declared.constants.TheConstants.{PT_INTERP as INTERP};
-ghost use Rattle.elf_format.specs.Options.{is_some_and};
 ghost use Rattle.elf_image.specs.File.{segment_of_type};
 ghost use Rattle.elf_image.specs.Kept.{interpreter_number as number_of_interpreter, link_of_type as link_of_kind, link_in_sections};
 ghost use Rattle.elf_image.specs.Lookups.{CountsReadSegments, dynamic_strings_position as strings_position, has_interpreter, interpreter_position as interpreter_at, link_position as link_at, section_position as section_at, type_position as type_at};
@@ -89,16 +88,6 @@ impl<'data> Builder<'data> {
         let size = self.form.file_header_size();
         let header = read_file_header(self.form, part(self.source, 0, size));
         header.e_phnum as usize
-    }
-}
-
-/// Whether a section that had a number at read is the one with another number, where there is such a number.
-pub fn is_numbered(number: Option<usize>, own: usize) -> bool
-    ensures { result ≡ is_some_and (λ n. n == own) number }
-{
-    match number {
-        Some(number) => number == own,
-        None => false,
     }
 }
 

@@ -17,7 +17,8 @@ use elf_format::constants::{
     PT_LOAD, SHF_ALLOC, SHF_TLS, SHT_DYNAMIC, SHT_DYNSYM, SHT_GNU_HASH, SHT_GNU_VERDEF,
     SHT_GNU_VERNEED, SHT_GNU_VERSYM, SHT_HASH, SHT_NOBITS, SHT_NOTE, SHT_NULL, SHT_STRTAB,
 };
-use elf_image::{Builder, Section, Segment, is_numbered};
+use elf_image::{Builder, Section, Segment};
+use elf_layout_plan::is_numbered;
 use std::alloc::{AllocError, Global};
 use std::marker::Model;
 

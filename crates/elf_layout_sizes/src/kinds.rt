@@ -14,7 +14,8 @@ use elf_image::constants::{
     SHT_DYNAMIC, SHT_DYNSYM, SHT_GNU_HASH, SHT_GNU_VERDEF, SHT_GNU_VERNEED, SHT_GNU_VERSYM,
     SHT_HASH, SHT_STRTAB, SHT_SYMTAB,
 };
-use elf_image::{Builder, Section, is_numbered};
+use elf_image::{Builder, Section};
+use elf_layout_plan::is_numbered;
 use elf_tables::{Finished, TableFault};
 use patch_bytes::Wide;
 use std::alloc::{AllocError, Global};

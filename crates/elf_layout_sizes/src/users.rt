@@ -15,7 +15,8 @@ use elf_image::constants::{
     DT_SYMTAB, DT_VERNEED, DT_VERNEEDNUM, DT_VERSYM, SHT_DYNAMIC, SHT_DYNSYM, SHT_GNU_VERDEF,
     SHT_GNU_VERNEED, SHT_SYMTAB,
 };
-use elf_image::{Builder, Dynamic, Section, is_numbered};
+use elf_image::{Builder, Dynamic, Section};
+use elf_layout_plan::is_numbered;
 use std::alloc::{AllocError, Global};
 use std::marker::Model;
 

@@ -5,7 +5,8 @@ ghost use Rattle.elf_write.specs.LayingSteps.{is_data_at, is_rewritten_at};
 
 use elf_format::SectionData;
 use elf_format::constants::{SHF_ALLOC, SHT_NOBITS, SHT_NULL};
-use elf_image::{Section, is_numbered};
+use elf_image::Section;
+use elf_layout_plan::is_numbered;
 
 // Whether a section that had that number is data of the program.
 pub(crate) fn is_data(section: &Section<'_>, number: usize, interpreter: Option<usize>) -> bool

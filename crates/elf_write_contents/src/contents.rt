@@ -16,8 +16,8 @@ use crate::symbols::symbols_content;
 use crate::versions::{definitions_content, needs_content};
 use elf_format::records::EntryNumbers;
 use elf_image::constants::{SHT_DYNAMIC, SHT_DYNSYM, SHT_GNU_VERDEF, SHT_GNU_VERNEED, SHT_STRTAB};
-use elf_image::{Builder, Section, is_numbered};
-use elf_layout_plan::Plan;
+use elf_image::{Builder, Section};
+use elf_layout_plan::{Plan, is_numbered};
 use patch_bytes::ByteString;
 use std::alloc::{AllocError, Global};
 
