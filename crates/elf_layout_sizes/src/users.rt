@@ -6,7 +6,7 @@ ghost use Rattle.elf_layout_plan.specs.Needs.{is_empty, lists_needs as name_need
 ghost use Rattle.elf_layout_sizes.specs.Inner.{unmarked_needs};
 ghost use Rattle.elf_layout_sizes.specs.Seen.{AreLinks};
 ghost use Rattle.elf_format.specs.Image.{lists_tag as is_tag_listed};
-ghost use Rattle.elf_image.specs.ImageModel.{entry_model};
+ghost use Rattle.elf_image.specs.ImageModel.{entry_model, section_model};
 
 use crate::other_texts::{Others, is_known_copied};
 use crate::texts::Texts;
