@@ -3,8 +3,8 @@ use Rattle.std.specs.Prelude.{None, Some, false}
 use Rattle.std.proofs.lemmas.Option.{slice_get-get_or, slice_get_read}
 use Rattle.elf_layout_plan.specs.Blocks.{Block}
 use Rattle.elf_layout_moves.proofs.MoverLaws.{marked_more, marked_none}
-use Rattle.elf_layout_moves.proofs.block_moves.marked.Goals as goal
-use Rattle.elf_layout_moves.proofs.block_moves.marked.Goals.{then-marks-place+in_ok-push, else-marks-place}
+use Rattle.elf_layout_moves.proofs.block_moves.marked_blocks.Goals as goal
+use Rattle.elf_layout_moves.proofs.block_moves.marked_blocks.Goals.{then-marks-place+in_ok-push, else-marks-place}
 
 pub loop-place-preserved : goal.loop-place-preserved
 loop-place-preserved c = elim c.if-marks-place.branch [

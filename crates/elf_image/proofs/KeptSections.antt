@@ -1,18 +1,17 @@
--- Sections with the numbers that they had at read.
-use Rattle.std.proofs.Common.{◌≡◌, inl, inr, ℕ, suc, ◌+◌, ◌∙◌, List, [], ◌∷◌, Bool, true, false, Option, Some, None, length, refl, sym, ap, arith}
+-- The sections of an image, with the numbers that they had at read.
+use Rattle.std.proofs.Common.{◌≡◌, inl, inr, ℕ, suc, ◌+◌, ◌∙◌, List, [], ◌∷◌, Bool, true, false, Option, Some, None, length, refl, sym, ap, arith, get_or, zero, ◌<◌}
 use Rattle.std.specs.Prelude.{find, position, nat_lt, not, slice_index, ◌==◌, if◌then◌else◌}
 use Rattle.std.specs.Option.{option_map}
 use Rattle.std.specs.List.{position_or_len}
 use Rattle.std.proofs.lemmas.Bool.{cases_lt, lt-ltb, le-ltb}
 use Rattle.patch_bytes.specs.Memory.{◌>>=◌}
 use Rattle.elf_format.specs.Image.{Image, ImageSection}
-use Rattle.elf_layout_sizes.specs.Inner.{link_from}
 use Rattle.elf_format.specs.declared.constants.TheConstants.{PT_INTERP}
 use Rattle.elf_format.specs.declared.records.SegmentHeader.{SegmentHeader}
 use Rattle.elf_format.specs.File.{segment_of_type}
 use Rattle.elf_image.specs.Edited.{IsEdited}
 use Rattle.elf_image.specs.Lookups.{has_interpreter, interpreter_position}
-use Rattle.elf_image.specs.Kept.{KeptSection, interpreter_number, kept_from, kept_sections, link_of_type, stands_as_interpreter}
+use Rattle.elf_image.specs.Kept.{KeptSection, interpreter_number, kept_from, kept_sections, link_in_sections, link_of_type, stands_as_interpreter}
 
 -- as many numbers as sections
 pub as_many : (image : Image) → IsEdited image → length image.section_numbers ≡ length image.sections
@@ -25,7 +24,7 @@ found_by true k rest other same = refl
 found_by false k rest other same = same
 
 link_kept : (type position : ℕ) (numbers : List ℕ) (sections : List ImageSection) → length numbers ≡ length sections
-    → (find (λ s. s.section.sh_type == type) (kept_from position numbers sections) >>= λ s. Some s.section.sh_link) ≡ link_from type sections
+    → (find (λ s. s.section.sh_type == type) (kept_from position numbers sections) >>= λ s. Some s.section.sh_link) ≡ link_in_sections type sections
 link_kept type position [] [] same = refl
 link_kept type position [] (s ∷ ss) same = absurd (omega arith)
 link_kept type position (n ∷ ns) [] same = absurd (omega arith)
@@ -34,7 +33,7 @@ link_kept type position (n ∷ ns) (s ∷ ss) same =
     (find (λ x. x.sh_type == type) ss) (link_kept type (position + 1) ns ss (omega arith))
 
 -- the link of the first section of a type, by the sections alone
-pub link_by_sections : (type : ℕ) (image : Image) → IsEdited image → link_of_type type image ≡ link_from type image.sections
+pub link_by_sections : (type : ℕ) (image : Image) → IsEdited image → link_of_type type image ≡ link_in_sections type image.sections
 link_by_sections type image is = link_kept type 0 image.section_numbers image.sections (as_many image is)
 
 -- ## The interpreter's section
@@ -82,3 +81,33 @@ number_by_position read is = by_segment (segment_of_type PT_INTERP read.segments
         ≡ ((o >>= (λ p. position (has_interpreter p) read.sections)) >>= λ i. Some (slice_index read.section_numbers i))
     by_segment None = refl
     by_segment (Some p) = number_kept (has_interpreter p) 0 read.section_numbers read.sections (as_many read is)
+
+-- ## Each at its position
+
+kept_from-at : (k : ℕ) (ns : List ℕ) (ss : List ImageSection) (i : ℕ) (d : KeptSection) (s : ImageSection) → i < length ns → i < length ss
+    → get_or (kept_from k ns ss) i d ≡ record { position = k + i; number = slice_index ns i; section = get_or ss i s }
+kept_from-at k [] ss i d s h g = absurd (omega (arith, h))
+kept_from-at k (n ∷ ns) [] i d s h g = absurd (omega (arith, g))
+kept_from-at k (n ∷ ns) (t ∷ ss) zero d s h g =
+    let e : k ≡ k + 0 = omega arith in
+    ap (λ (j : ℕ). record { position = j; number = n; section = t }) e
+kept_from-at k (n ∷ ns) (t ∷ ss) (suc i) d s h g =
+    let e : k + 1 + i ≡ k + suc i = omega arith in
+    kept_from-at (k + 1) ns ss i d s (omega (arith, h)) (omega (arith, g))
+    ∙ ap (λ (j : ℕ). record { position = j; number = slice_index ns i; section = get_or ss i s }) e
+
+pub kept-at : (image : Image) (i : ℕ) (d : KeptSection) (s : ImageSection) → length image.section_numbers ≡ length image.sections → i < length image.sections
+    → get_or (kept_sections image) i d ≡ record { position = i; number = slice_index image.section_numbers i; section = get_or image.sections i s }
+kept-at image i d s long h =
+    let e : 0 + i ≡ i = omega arith in
+    kept_from-at 0 image.section_numbers image.sections i d s (omega (arith, long, h)) h
+    ∙ ap (λ (j : ℕ). record { position = j; number = slice_index image.section_numbers i; section = get_or image.sections i s }) e
+
+length-kept_from : (k : ℕ) (ns : List ℕ) (ss : List ImageSection) → length ns ≡ length ss → length (kept_from k ns ss) ≡ length ss
+length-kept_from k [] [] e = refl
+length-kept_from k [] (t ∷ ss) e = e
+length-kept_from k (n ∷ ns) [] e = refl
+length-kept_from k (n ∷ ns) (t ∷ ss) e = ap suc (length-kept_from (k + 1) ns ss (omega (arith, e)))
+
+pub length-kept : (image : Image) → length image.section_numbers ≡ length image.sections → length (kept_sections image) ≡ length image.sections
+length-kept image long = length-kept_from 0 image.section_numbers image.sections long
