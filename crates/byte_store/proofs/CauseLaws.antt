@@ -70,14 +70,14 @@ too_many most known bytes more first all knows =
     omega (arith, length-take (most + 1) all)
 
 -- writes
-pub ended_later : (f : Error → Type 0) (e : Error) (a b c : ℕ) → a ≤ b → EndsBy f e b c → EndsBy f e a c
-ended_later f e a b c grows (inl is) = inl (is.0, (omega arith, λ below. omega arith))
-ended_later f e a b c grows (inr (inl is)) = inr (inl (is.0, (omega arith, λ below. omega arith)))
-ended_later f e a b c grows (inr (inr is)) =
+pub ended_later : (f : Error → Type 0) (none : Type 0) (e : Error) (a b c : ℕ) → a ≤ b → EndsBy f none e b c → EndsBy f none e a c
+ended_later f none e a b c grows (inl is) = inl (is.0, (omega arith, λ below. omega arith))
+ended_later f none e a b c grows (inr (inl is)) = inr (inl (is.0, is.1, (omega arith, λ below. omega arith)))
+ended_later f none e a b c grows (inr (inr is)) =
     inr (inr (is.0, ((omega arith, λ below. omega arith), is.1.1)))
 
-pub ended_before : (f : Error → Type 0) (e : Error) (a b c : ℕ) → EndsBy f e a b → b ≤ c → EndsBy f e a c
-ended_before f e a b c (inl is) grows = inl (is.0, (omega arith, λ below. omega arith))
-ended_before f e a b c (inr (inl is)) grows = inr (inl (is.0, (omega arith, λ below. omega arith)))
-ended_before f e a b c (inr (inr is)) grows =
+pub ended_before : (f : Error → Type 0) (none : Type 0) (e : Error) (a b c : ℕ) → EndsBy f none e a b → b ≤ c → EndsBy f none e a c
+ended_before f none e a b c (inl is) grows = inl (is.0, (omega arith, λ below. omega arith))
+ended_before f none e a b c (inr (inl is)) grows = inr (inl (is.0, is.1, (omega arith, λ below. omega arith)))
+ended_before f none e a b c (inr (inr is)) grows =
     inr (inr (is.0, ((omega arith, λ below. omega arith), is.1.1)))

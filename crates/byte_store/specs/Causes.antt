@@ -43,15 +43,15 @@ IsNotWhole may_fail most known old new (read.Io e) =
     FailsBy may_fail e old new ⊎ IsEndless may_fail known e old new ⊎ IsTooLong most known e
 
 -- why writes ended: a call failed by this error, a write took no byte, or one was interrupted 1,001 times in a row
-abbrev pub EndsBy : (Error → Type 0) → Error → ℕ → ℕ → Type 0
-EndsBy may_fail e old new = FailsBy may_fail e old new
-    ⊎ ((error_kind e ≡ WriteZero) × RisesBy 1 old new)
+abbrev pub EndsBy : (Error → Type 0) → Type 0 → Error → ℕ → ℕ → Type 0
+EndsBy may_fail may_take_none e old new = FailsBy may_fail e old new
+    ⊎ ((error_kind e ≡ WriteZero) × may_take_none × RisesBy 1 old new)
     ⊎ ((error_kind e ≡ TimedOut) × HasFailed may_fail 1001 old new)
 
 -- why the bytes of a store were not replaced: there was no memory, or writes ended
-abbrev pub IsNotWritten : (Error → Type 0) → ℕ → ℕ → ReplaceError → Type 0
-IsNotWritten may_fail old new replace.Memory = ⊤
-IsNotWritten may_fail old new (replace.Write e) = EndsBy may_fail e.error old new
+abbrev pub IsNotWritten : (Error → Type 0) → Type 0 → ℕ → ℕ → ReplaceError → Type 0
+IsNotWritten may_fail may_take_none old new replace.Memory = ⊤
+IsNotWritten may_fail may_take_none old new (replace.Write e) = EndsBy may_fail may_take_none e.error old new
 
 -- an error of writes to memory: there was none, or a write began behind the end
 abbrev pub IsOfMemory : Error → Type 0

@@ -96,8 +96,8 @@ pub fn make_difference<S: Store>(
     ensures idle { length difference.now.growth.items ≡ 0 → length difference.now.pieces.items ≡ 0
         → old_length ≤ difference.now.new_length → IsOkAndSame result store.old store.new }
     ensures grows { S.failed store.old ≤ S.failed store.new }
-    ensures cause { IfErr result
-        (IsNotWritten S.may_fail_write (S.failed store.old) (S.failed store.new)) }
+    ensures cause { IfErr result (IsNotWritten S.may_fail_write S.may_take_none
+        (S.failed store.old) (S.failed store.new)) }
 {
     let pieces = lent_pieces(alloc, &difference.pieces)?;
     let changes = Changes {

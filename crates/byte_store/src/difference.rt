@@ -78,8 +78,8 @@ pub fn replace<S: Store>(
         (IsNotReplaced S.contents old.now new.now store.old store.new) }
     ensures idle { old.now ≡ new.now → IsOkAndSame result store.old store.new }
     ensures grows { S.failed store.old ≤ S.failed store.new }
-    ensures cause { IfErr result
-        (IsNotWritten S.may_fail_write (S.failed store.old) (S.failed store.new)) }
+    ensures cause { IfErr result (IsNotWritten S.may_fail_write S.may_take_none
+        (S.failed store.old) (S.failed store.new)) }
 {
     let common = old.len().min(new.len());
     let pieces = differences(alloc, &old[..common], &new[..common])?;
@@ -112,8 +112,8 @@ pub(crate) fn open_and_write<S: Store>(
         IsLeftBy changes.now e.left (S.contents store.old) (S.contents store.new)) }
     ensures idle { IsIdle changes.now → IsOkAndSame result store.old store.new }
     ensures grows { S.failed store.old ≤ S.failed store.new }
-    ensures cause { IfErr result (λ e.
-        EndsBy S.may_fail_write e.error (S.failed store.old) (S.failed store.new)) }
+    ensures cause { IfErr result (λ e. EndsBy S.may_fail_write S.may_take_none e.error
+        (S.failed store.old) (S.failed store.new)) }
 {
     if changes.growth.is_empty()
         && changes.pieces.is_empty()

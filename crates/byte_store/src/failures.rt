@@ -28,9 +28,8 @@ impl Failures {
     pub fn count_call<T, E>(&mut self, answer: &Result<T, E>)
         ensures { CountsCall answer.now self.old.count self.new.count }
     {
-        match answer {
-            Ok(_) => {}
-            Err(_) => self.count_one(),
+        if answer.is_err() {
+            self.count_one();
         }
     }
 

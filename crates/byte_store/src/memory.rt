@@ -51,6 +51,8 @@ impl Store for MemoryStore {
 
     ghost may_fail_write = { IsOfMemory };
 
+    ghost may_take_none = { ⊥ };
+
     fn length(&mut self) -> io::Result<u64>
         ensures value { result ≡ Ok (vec_len self.old.bytes) }
         ensures length { IfOk result (λ n. HasLength (Some self.old.bytes.items) n) }

@@ -1,5 +1,5 @@
 //! What can be read and written at offsets.
-ghost use Rattle.std.specs.Prelude.{◌≡◌, ℕ, Bool, List, Option, None, IfErr, IfOk, IsTrue, OnErr, OnOk, length, ⊤};
+ghost use Rattle.std.specs.Prelude.{◌≡◌, ◌<◌, ℕ, Bool, List, Option, None, IfErr, IfOk, IsTrue, OnErr, OnOk, length, ⊤};
 ghost use Rattle.std.specs.Io.{ReadsAtMost, WritesAtMost};
 ghost use Rattle.std.specs.declared.io.Error.{Error};
 ghost use Rattle.byte_store.specs.Counts.{CountsCall, CountsWrite};
@@ -26,6 +26,9 @@ pub trait Store {
 
     // The errors that the other calls may answer, where that is known.
     ghost may_fail_write: { Error → Type 0 } = { λ _. ⊤ };
+
+    // Whether a write of bytes may take none of them.
+    ghost may_take_none: { Type 0 } = { ⊤ };
 
     /// How many bytes it has. Devices and pipes answer 0.
     fn length(&mut self) -> io::Result<u64>
@@ -60,6 +63,7 @@ pub trait Store {
         ensures bytes { WritesAt offset bytes.now result (contents self.old) (contents self.new) }
         ensures open { is_writable self.new ≡ is_writable self.old }
         ensures counted { CountsWrite result (length bytes.now) (failed self.old) (failed self.new) }
+        ensures none { IfOk result (λ n. n ≡ 0 → 0 < length bytes.now → may_take_none) }
         ensures cause { IfErr result (λ e. may_fail_write e) };
 
     /// Cuts the store to a length, or puts zeros behind it up to there.

@@ -1,5 +1,6 @@
 //! Runs of writes: what lies behind the old end, the pieces, and a shorter length last.
-ghost use Rattle.std.specs.Prelude.{◌≡◌, ◌+◌, ◌++◌, ◌<◌, ◌≤◌, ◌^◌, [], All, IfErr, IfOk, IsTrue, OnErr, OnOk, length, take};
+ghost use Rattle.std.specs.Prelude.{◌≡◌, ◌≢◌, ◌+◌, ◌++◌, ◌<◌, ◌≤◌, ◌^◌, [], All, IfErr, IfOk, IsTrue, OnErr, OnOk, length, take};
+ghost use Rattle.std.specs.IoError.{error_kind};
 ghost use Rattle.byte_store.specs.Causes.{EndsBy};
 ghost use Rattle.byte_store.specs.Known.{Becomes, HasLength, Puts, PutsFirst};
 ghost use Rattle.byte_store.specs.Laid.{Lays, LaysAndCuts, LaysFirst, LiesIn, changed, laid, patches_of};
@@ -8,6 +9,7 @@ ghost use Rattle.byte_store.specs.Fault.{BecomesLaid, IsIdle, IsLeftBy, IsLeftBy
 use crate::pieces::Piece;
 use crate::stores::Store;
 use std::error::Error;
+use std::io::ErrorKind;
 use std::{fmt, io};
 
 /// How often a write is made, as long as it is interrupted: once, and 1,000 times again.
@@ -79,8 +81,8 @@ pub fn write_changes<S: Store>(store: &mut S, changes: &Changes<'_>) -> Result<(
         IsLeftBy changes.now e.left (S.contents store.old) (S.contents store.new)) }
     ensures idle { IsIdle changes.now → IsOkAndSame result store.old store.new }
     ensures grows { S.failed store.old ≤ S.failed store.new }
-    ensures cause { IfErr result (λ e.
-        EndsBy S.may_fail_write e.error (S.failed store.old) (S.failed store.new)) }
+    ensures cause { IfErr result (λ e. EndsBy S.may_fail_write S.may_take_none e.error
+        (S.failed store.old) (S.failed store.new)) }
 {
     grow(store, changes.old_length, changes.growth)?;
     let length = changes.old_length + changes.growth.len() as u64;
@@ -109,7 +111,7 @@ fn lay_and_cut<S: Store>(
     ensures idle { length pieces.now ≡ 0 → len ≤ new_length → IsOkAndSame result store.old store.new }
     ensures grows { S.failed store.old ≤ S.failed store.new }
     ensures cause { IfErr result (λ e.
-        EndsBy S.may_fail_write e (S.failed store.old) (S.failed store.new)) }
+        EndsBy S.may_fail_write S.may_take_none e (S.failed store.old) (S.failed store.new)) }
 {
     lay(store, pieces)?;
     if new_length < len {
@@ -131,7 +133,8 @@ pub fn write_pieces<S: Store>(store: &mut S, len: u64, pieces: &[Piece<'_>]) -> 
     ensures idle { length pieces.now ≡ 0 → IsOkAndSame result store.old store.new }
     ensures grows { S.failed store.old ≤ S.failed store.new }
     ensures cause { IfErr result (λ e.
-        EndsBy S.may_fail_write e (S.failed store.old) (S.failed store.new)) }
+        EndsBy S.may_fail_write S.may_take_none e (S.failed store.old) (S.failed store.new)) }
+    ensures retried { IfErr result (λ e. error_kind e ≢ ErrorKind.Interrupted) }
 {
     lay(store, pieces)
 }
@@ -148,7 +151,8 @@ fn lay<S: Store>(store: &mut S, pieces: &[Piece<'_>]) -> io::Result<()>
     ensures open { S.is_writable store.new ≡ S.is_writable store.old }
     ensures grows { S.failed store.old ≤ S.failed store.new }
     ensures cause { IfErr result (λ e.
-        EndsBy S.may_fail_write e (S.failed store.old) (S.failed store.new)) }
+        EndsBy S.may_fail_write S.may_take_none e (S.failed store.old) (S.failed store.new)) }
+    ensures retried { IfErr result (λ e. error_kind e ≢ ErrorKind.Interrupted) }
 {
     for piece in pieces {
         put_all(store, piece.offset, piece.bytes)?;
@@ -168,8 +172,8 @@ fn grow<S: Store>(store: &mut S, old_length: u64, growth: &[u8]) -> Result<(), W
     ensures idle { length growth.now ≡ 0 → IsOkAndSame result store.old store.new }
     ensures open { OnOk result (S.is_writable store.new ≡ S.is_writable store.old) }
     ensures grows { S.failed store.old ≤ S.failed store.new }
-    ensures cause { IfErr result (λ e.
-        EndsBy S.may_fail_write e.error (S.failed store.old) (S.failed store.new)) }
+    ensures cause { IfErr result (λ e. EndsBy S.may_fail_write S.may_take_none e.error
+        (S.failed store.old) (S.failed store.new)) }
 {
     match put_all(store, old_length, growth) {
         Ok(()) => Ok(()),
@@ -197,7 +201,8 @@ fn put_all<S: Store>(store: &mut S, offset: u64, part: &[u8]) -> io::Result<()>
     ensures open { S.is_writable store.new ≡ S.is_writable store.old }
     ensures grows { S.failed store.old ≤ S.failed store.new }
     ensures cause { IfErr result (λ e.
-        EndsBy S.may_fail_write e (S.failed store.old) (S.failed store.new)) }
+        EndsBy S.may_fail_write S.may_take_none e (S.failed store.old) (S.failed store.new)) }
+    ensures retried { IfErr result (λ e. error_kind e ≢ ErrorKind.Interrupted) }
 {
     let mut done = 0;
     while done < part.len() {
@@ -217,16 +222,17 @@ fn put_some<S: Store>(store: &mut S, offset: u64, part: &[u8]) -> io::Result<usi
     ensures open { S.is_writable store.new ≡ S.is_writable store.old }
     ensures grows { S.failed store.old ≤ S.failed store.new }
     ensures cause { IfErr result (λ e.
-        EndsBy S.may_fail_write e (S.failed store.old) (S.failed store.new)) }
+        EndsBy S.may_fail_write S.may_take_none e (S.failed store.old) (S.failed store.new)) }
+    ensures retried { IfErr result (λ e. error_kind e ≢ ErrorKind.Interrupted) }
 {
     for _tried in 0..MOST_TRIES {
         match store.write_at(offset, part) {
-            Ok(0) => return Err(io::Error::new(io::ErrorKind::WriteZero, "a write took no byte")),
+            Ok(0) => return Err(io::Error::new(ErrorKind::WriteZero, "a write took no byte")),
             Ok(count) => return Ok(count),
-            Err(error) if error.kind() == io::ErrorKind::Interrupted => {}
+            Err(error) if error.kind() == ErrorKind::Interrupted => {}
             Err(error) => return Err(error),
         }
     }
     let message = "a write was interrupted 1001 times";
-    Err(io::Error::new(io::ErrorKind::TimedOut, message))
+    Err(io::Error::new(ErrorKind::TimedOut, message))
 }

@@ -28,4 +28,4 @@ loop-piece-preserved g c = record {
 pub returns-in_err-put_all-clause-cause : goal.returns-in_err-put_all-clause-cause
 returns-in_err-put_all-clause-cause g c =
     let p = err_from_is_err_and c.from_residual.result c.from_residual.ensures.1 in
-    rw (p.1, p.2) (ended_later g.S.Store.may_fail_write _ _ _ _ c.loop-piece.invariant.grows c.in_err-put_all.ensures.cause)
+    rw (p.1, p.2) (ended_later g.S.Store.may_fail_write g.S.Store.may_take_none _ _ _ _ c.loop-piece.invariant.grows c.in_err-put_all.ensures.cause)

@@ -22,4 +22,4 @@ loop-done-preserved g c = record {
 pub returns-in_err-done-clause-cause : goal.returns-in_err-done-clause-cause
 returns-in_err-done-clause-cause g c =
     let p = err_from_is_err_and c.from_residual.result c.from_residual.ensures.1 in
-    rw (p.1, p.2) (ended_later g.S.Store.may_fail_write _ _ _ _ c.loop-done.invariant.grows c.in_err-done.ensures.cause)
+    rw (p.1, p.2) (ended_later g.S.Store.may_fail_write g.S.Store.may_take_none _ _ _ _ c.loop-done.invariant.grows c.in_err-done.ensures.cause)
