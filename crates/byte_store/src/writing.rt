@@ -1,7 +1,8 @@
 //! Runs of writes: what lies behind the old end, the pieces, and a shorter length last.
-ghost use Rattle.std.specs.Prelude.{◌≡◌, ◌≢◌, ◌+◌, ◌++◌, ◌<◌, ◌≤◌, ◌^◌, [], All, IfErr, IfOk, IsTrue, OnErr, OnOk, length, take};
+ghost use Rattle.std.specs.Prelude.{◌≡◌, ◌≢◌, ◌+◌, ◌*◌, ◌++◌, ◌<◌, ◌≤◌, ◌^◌, [], All, IfErr, IfOk, IsTrue, OnErr, OnOk, length, take};
 ghost use Rattle.std.specs.IoError.{error_kind};
 ghost use Rattle.byte_store.specs.Causes.{EndsBy};
+ghost use Rattle.byte_store.specs.Counts.{Rises};
 ghost use Rattle.byte_store.specs.Known.{Becomes, HasLength, Puts, PutsFirst};
 ghost use Rattle.byte_store.specs.Laid.{Lays, LaysAndCuts, LaysFirst, LiesIn, changed, laid, patches_of};
 ghost use Rattle.byte_store.specs.Fault.{BecomesLaid, IsIdle, IsLeftBy, IsLeftByGrowth, IsOkAndSame};
@@ -199,6 +200,8 @@ fn put_all<S: Store>(store: &mut S, offset: u64, part: &[u8]) -> io::Result<()>
         (PutsFirst offset part.now (S.contents store.old) (S.contents store.new)) }
     ensures idle { length part.now ≡ 0 → IsOkAndSame result store.old store.new }
     ensures open { S.is_writable store.new ≡ S.is_writable store.old }
+    ensures interruptions { OnOk result
+        (Rises 0 (1000 * length part.now) (S.failed store.old) (S.failed store.new)) }
     ensures grows { S.failed store.old ≤ S.failed store.new }
     ensures cause { IfErr result (λ e.
         EndsBy S.may_fail_write S.may_take_none e (S.failed store.old) (S.failed store.new)) }
@@ -220,7 +223,8 @@ fn put_some<S: Store>(store: &mut S, offset: u64, part: &[u8]) -> io::Result<usi
         Puts offset (take n part.now) (S.contents store.old) (S.contents store.new)) }
     ensures err { OnErr result (Puts offset [] (S.contents store.old) (S.contents store.new)) }
     ensures open { S.is_writable store.new ≡ S.is_writable store.old }
-    ensures grows { S.failed store.old ≤ S.failed store.new }
+    ensures interruptions { OnOk result (Rises 0 1000 (S.failed store.old) (S.failed store.new)) }
+    ensures failures { OnErr result (Rises 1 1001 (S.failed store.old) (S.failed store.new)) }
     ensures cause { IfErr result (λ e.
         EndsBy S.may_fail_write S.may_take_none e (S.failed store.old) (S.failed store.new)) }
     ensures retried { IfErr result (λ e. error_kind e ≢ ErrorKind.Interrupted) }

@@ -1,7 +1,7 @@
-use Rattle.std.proofs.Common.{◌≡◌, ◌+◌, ◌-◌, ◌∙◌, ℕ, arith, inr, length, refl, subst}
+use Rattle.std.proofs.Common.{◌≡◌, ◌+◌, ◌-◌, ◌∙◌, ℕ, arith, inr, length, subst}
 use Rattle.std.proofs.lemmas.Result.{err_from_is_err_and}
 use Rattle.byte_store.specs.Known.{EndsWithin}
-use Rattle.byte_store.proofs.CauseLaws.{endless, failed_none, failed_on, read_ended}
+use Rattle.byte_store.proofs.CauseLaws.{endless, failed_on, read_ended}
 use Rattle.byte_store.proofs.LoadLaws.{first_at_end}
 use Rattle.byte_store.proofs.reading.load_into.Goals as goal
 
