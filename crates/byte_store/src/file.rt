@@ -25,7 +25,8 @@ pub struct FileStore<'a, R: Files> {
 impl<'a, R: Files> FileStore<'a, R> {
     /// Opens a file for reading.
     pub fn open(files: &'a R, path: &'a str) -> io::Result<FileStore<'a, R>>
-        ensures closed { IfOk result (λ store. ⟦<FileStore<'a, R> as Store>⟧.is_writable store ≡ false) }
+        ensures closed { IfOk result (λ store.
+            ⟦<FileStore<'a, R> as Store>⟧.is_writable store ≡ false) }
         ensures fresh { IfOk result (λ store. ⟦<FileStore<'a, R> as Store>⟧.failed store ≡ 0) }
     {
         let reader = fs::open(files, path)?;

@@ -94,7 +94,8 @@ impl Store for MemoryStore {
     }
 
     fn set_length(&mut self, length: u64) -> io::Result<()>
-        ensures bytes { Resizes length result (Some self.old.bytes.items) (Some self.new.bytes.items) }
+        ensures bytes { Resizes length result
+            (Some self.old.bytes.items) (Some self.new.bytes.items) }
         ensures open { self.new.is_open ≡ self.old.is_open }
         ensures counted { CountsCall result self.old.failures.count self.new.failures.count }
         ensures cause { IfErr result (λ e. error_kind e ≡ ErrorKind.OutOfMemory) }

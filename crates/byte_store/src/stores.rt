@@ -62,7 +62,8 @@ pub trait Store {
         ensures bound { WritesAtMost result bytes.now }
         ensures bytes { WritesAt offset bytes.now result (contents self.old) (contents self.new) }
         ensures open { is_writable self.new ≡ is_writable self.old }
-        ensures counted { CountsWrite result (length bytes.now) (failed self.old) (failed self.new) }
+        ensures counted { CountsWrite result (length bytes.now)
+            (failed self.old) (failed self.new) }
         ensures none { IfOk result (λ n. n ≡ 0 → 0 < length bytes.now → may_take_none) }
         ensures cause { IfErr result (λ e. may_fail_write e) };
 
