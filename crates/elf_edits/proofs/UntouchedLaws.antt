@@ -1,5 +1,5 @@
 -- An edit that touches no entry leaves the list as it was.
-use Rattle.std.proofs.Common.{◌≡◌, ℕ, Bool, true, false, not, ◌||◌, List, [], ◌∷◌, ◌++◌, map, filter, refl, sym, ap, ◌∙◌, Option, Some, None, is_some}
+use Rattle.std.proofs.Common.{◌≡◌, ℕ, Bool, true, false, not, List, [], ◌∷◌, ◌++◌, map, filter, refl, sym, ap, ◌∙◌, Option, Some, None, is_some}
 use Rattle.std.specs.Prelude.{if◌then◌else◌, unwrap_or}
 use Rattle.std.specs.List.{flat_map, list_any}
 use Rattle.std.proofs.lemmas.Bool.{cond-true, cond-false, or_parts}
@@ -8,7 +8,7 @@ use Rattle.elf_format.specs.declared.constants.TheConstants.{DT_DEBUG, DT_NEEDED
 use Rattle.elf_image.specs.Dynamic.{Auto, Entry, Integer, Text}
 use Rattle.elf_image.specs.Image.{lists_tag}
 use Rattle.elf_edits.specs.Edit.{Edit, AddDebugEntry, AddNeeded, AddRunPath, ClearExecStack, DeleteNeeded, DeleteRunPath, NoDefaultLibrary, ReplaceNeeded, SetExecStack, SetInterpreter, SetOsAbi, SetPageSize, SetRunPath, SetSoname, ShrinkRunPath, UseRpath, UseRunpath}
-use Rattle.elf_edits.specs.Entries.{changed_where, directories_removed, edited_entries, has_tag, is_replaced, is_run_path, needs_one_of, not_needed_yet, search_of, text_if, touches_entries, with_needed_replaced, with_run_paths_shrunk, with_tag, with_text_changed}
+use Rattle.elf_edits.specs.Entries.{directories_removed, edited_entries, has_tag, is_replaced, is_run_path, needs_one_of, not_needed_yet, search_of, text_if, touches_entries, with_needed_replaced, with_run_paths_shrunk, with_tag, with_text_changed}
 use Rattle.elf_edits.specs.Shrunk.{Removal, Search, removed_from, shrunk}
 use Rattle.elf_edits.specs.Texts.{has_some, value_of}
 use Rattle.elf_edits.proofs.ListLaws.{by_test, changed_where_none}

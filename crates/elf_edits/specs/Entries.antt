@@ -1,13 +1,13 @@
 -- What each edit makes of the dynamic list (gABI, Dynamic Section). All are functions of the list alone.
-use Rattle.std.specs.Prelude.{ℕ, List, [], ◌∷◌, ◌++◌, map, filter, Bool, true, false, not, ◌||◌, is_some, unwrap_or, ◌==◌, if◌then◌else◌, bit_or}
+use Rattle.std.specs.Prelude.{ℕ, List, [], ◌∷◌, ◌++◌, map, filter, Bool, true, false, not, ◌||◌, is_some, Option, unwrap_or, ◌==◌, if◌then◌else◌, bit_or}
 use Rattle.std.specs.List.{flat_map, list_any}
 use Rattle.elf_format.specs.declared.constants.TheConstants.{DT_DEBUG, DT_FLAGS_1, DT_NEEDED, DT_RPATH, DT_RUNPATH, DT_SONAME}
 use Rattle.elf_image.specs.Dynamic.{Auto, Entry, Integer, Text}
 use Rattle.elf_image.specs.Image.{entry_tag, lists_tag}
 use Rattle.elf_edits.specs.declared.constants.TheConstants.{COLON, DF_1_NODEFLIB}
 use Rattle.elf_edits.specs.Edit.{Answer, Edit, AddDebugEntry, AddNeeded, AddRunPath, ClearExecStack, DeleteNeeded, DeleteRunPath, NoDefaultLibrary, ReplaceNeeded, SetExecStack, SetInterpreter, SetOsAbi, SetPageSize, SetRunPath, SetSoname, ShrinkRunPath, UseRpath, UseRunpath}
-use Rattle.elf_edits.specs.Shrunk.{Removal, Search, machine_found, questions_of, removed_from, shrunk}
-use Rattle.elf_edits.specs.Texts.{has_some, is_among, joined, value_of}
+use Rattle.elf_edits.specs.Shrunk.{Removal, Search, machine_found, removed_from, shrunk}
+use Rattle.elf_edits.specs.Texts.{first_in, has_some, is_among, joined, value_of}
 
 -- ## Entries
 
@@ -46,6 +46,10 @@ text_if test (Text tag text) = if test (Text tag text) then text ∷ [] else []
 -- the needed libraries, one for each entry, and the run paths; in order
 abbrev pub needed_names : List Entry → List (List ℕ)
 needed_names entries = flat_map (text_if (has_tag DT_NEEDED)) entries
+
+-- the library that an entry needs
+abbrev pub first_needed : Entry → Option (List ℕ)
+first_needed e = first_in (text_if (has_tag DT_NEEDED) e)
 
 abbrev pub run_paths : List Entry → List (List ℕ)
 run_paths entries = flat_map (text_if is_run_path) entries
@@ -129,10 +133,6 @@ with_run_paths_shrunk s entries = changed_where is_run_path (with_text_changed (
 -- the directories that go, in the order of the entries
 abbrev pub directories_removed : Search → List Entry → List Removal
 directories_removed s entries = flat_map (removed_from s) (run_paths entries)
-
--- what has to be looked for before a run path is shrunk
-abbrev pub shrink_questions : List Entry → List (List ℕ × List ℕ)
-shrink_questions entries = questions_of (needed_names entries) (run_paths entries)
 
 -- ## All of them
 

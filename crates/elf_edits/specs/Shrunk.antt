@@ -1,6 +1,6 @@
 -- A run path without the directories in which no needed library is found.
 use Rattle.std.specs.Prelude.{ℕ, List, [], ◌∷◌, filter, find, Bool, true, not, ◌&&◌, ◌||◌, Option, Some, None, nat_eq, ◌==◌, if◌then◌else◌}
-use Rattle.std.specs.List.{filter_map, flat_map, list_any, starts_with}
+use Rattle.std.specs.List.{filter_map, list_any, starts_with}
 use Rattle.std.specs.Str.{bytes_eq}
 use Rattle.patch_bytes.specs.Memory.{◌>>=◌}
 use Rattle.elf_image.specs.Options.{is_some_and}
@@ -60,11 +60,3 @@ reason_of s directory = if is_allowed s.prefixes directory then NoLibrary else P
 -- the directories that go from a text, in order, with their reasons
 abbrev pub removed_from : Search → List ℕ → List Removal
 removed_from s text = filter_map (λ directory. if stays s directory then None else Some (record { directory = directory; reason = reason_of s directory })) (directories_in text)
-
--- the pairs of an absolute directory and a library
-abbrev pub pairs_of : List (List ℕ) → List (List ℕ) → List (List ℕ × List ℕ)
-pairs_of needed directories = flat_map (λ directory. flat_map (λ name. (directory, name) ∷ []) needed) (filter is_absolute directories)
-
--- those that have to be looked for, in the order of the texts
-abbrev pub questions_of : List (List ℕ) → List (List ℕ) → List (List ℕ × List ℕ)
-questions_of needed texts = flat_map (λ text. pairs_of needed (directories_in text)) texts
