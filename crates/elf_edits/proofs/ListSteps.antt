@@ -122,9 +122,9 @@ none_changed r test change es none is = same_list r es (changed_where test chang
 -- ## Names in sets and maps
 
 -- a set has the names of a list
-pub deleted : {E : Type 0} (r : Result NewList E) (set : List (Bor (List ℕ))) (names : List (List ℕ)) (es : List Entry) → ((name : List ℕ) → has_name set name ≡ is_among names name)
+pub delete_by_set : {E : Type 0} (r : Result NewList E) (set : List (Bor (List ℕ))) (names : List (List ℕ)) (es : List Entry) → ((name : List ℕ) → has_name set name ≡ is_among names name)
     → IfOk r (IsNewList (filter (λ e. not (needs_any set e)) es) (list_any (needs_any set) es)) → IfOk r (IsNewList (without_needed names es) (list_any (needs_one_of names) es))
-deleted r set names es same is =
+delete_by_set r set names es same is =
     same_list r (filter (λ e. not (needs_any set e)) es) (without_needed names es) (list_any (needs_any set) es) (list_any (needs_one_of names) es)
     (ap (λ (f : List ℕ → Bool). filter (λ e. not (list_any f (text_if (has_tag DT_NEEDED) e))) es) (fun_ext same))
     (ap (λ (f : List ℕ → Bool). list_any (λ e. list_any f (text_if (has_tag DT_NEEDED) e)) es) (fun_ext same)) is
@@ -163,11 +163,11 @@ module _ (f : List ℕ → Option (List ℕ)) where
   all_named (e ∷ es) = ap (λ x. x ∷ changed_where is_named (with_text_changed new_name) es) (named_or_not e) ∙ ap (λ l. (if has_tag DT_NEEDED e then with_text_changed new_name e else e) ∷ l) (all_named es)
 
 -- a map has the values of a list of pairs
-pub replaced : {E : Type 0} (r : Result NewList E) (names : List (Bor (List ℕ) × Bor (List ℕ))) (pairs : List (List ℕ × List ℕ)) (es : List Entry) → ((name : List ℕ) → name_for names name ≡ value_of pairs name)
+pub replace_by_map : {E : Type 0} (r : Result NewList E) (names : List (Bor (List ℕ) × Bor (List ℕ))) (pairs : List (List ℕ × List ℕ)) (es : List Entry) → ((name : List ℕ) → name_for names name ≡ value_of pairs name)
     → IfOk r (IsNewList (changed_where (gets_name names) (with_text_changed (λ name. unwrap_or (name_for names name) name)) es) (list_any (gets_name names) es))
     → IfOk r (IsNewList (with_needed_replaced pairs es) (list_any (is_replaced pairs) es))
 unfolding new_name is_named
-replaced r names pairs es same is =
+replace_by_map r names pairs es same is =
     same_list r (changed_where (gets_name names) (with_text_changed (λ name. unwrap_or (name_for names name) name)) es) (with_needed_replaced pairs es) (list_any (gets_name names) es) (list_any (is_replaced pairs) es)
     (all_named (name_for names) es
     ∙ ap (λ (f : List ℕ → Option (List ℕ)). changed_where (has_tag DT_NEEDED) (with_text_changed (λ name. unwrap_or (f name) name)) es) (fun_ext same))

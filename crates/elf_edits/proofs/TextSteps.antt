@@ -6,7 +6,7 @@ use Rattle.std.proofs.lemmas.List.{append_assoc, append-nil, drop_all}
 use Rattle.elf_edits.specs.declared.constants.TheConstants.{COLON}
 use Rattle.elf_edits.specs.EditModel.{Bytes, texts_model}
 use Rattle.elf_edits.specs.Entries.{with_directories, with_each_added}
-use Rattle.elf_edits.specs.Texts.{behind_colons, joined}
+use Rattle.elf_edits.specs.Texts.{behind_colons, joined_by_colons}
 
 module _ (texts : List Bytes) (i : ℕ) where
   next_text : (x : Bytes) → i < length texts → x ≡ get_or texts i x → drop i texts ≡ x ∷ drop (i + 1) texts
@@ -32,10 +32,10 @@ module _ (texts : List Bytes) (i : ℕ) where
 pub not_empty : (n : ℕ) → (n == 0) ≡ false → 0 < n
 not_empty n h = let apart : n ≡ 0 → ⊥ = eqb-false n 0 h in omega arith
 
-joined_behind : (text : List ℕ) (texts : List (List ℕ)) → joined (text ∷ texts) ≡ text ++ behind_colons texts
+joined_behind : (text : List ℕ) (texts : List (List ℕ)) → joined_by_colons (text ∷ texts) ≡ text ++ behind_colons texts
 joined_behind text [] = sym (append-nil text)
 joined_behind text (next ∷ texts) = ap (λ l. text ++ COLON ∷ l) (joined_behind next texts)
 
-pub joined_first : (texts : List Bytes) (first : Bytes) → 0 < length texts → first ≡ get_or texts 0 first → first.items ++ behind_colons (texts_model (drop 1 texts)) ≡ joined (texts_model texts)
+pub joined_first : (texts : List Bytes) (first : Bytes) → 0 < length texts → first ≡ get_or texts 0 first → first.items ++ behind_colons (texts_model (drop 1 texts)) ≡ joined_by_colons (texts_model texts)
 joined_first [] first some e = absurd (omega arith)
 joined_first (x ∷ texts) first some e = ap (λ (y : Bytes). y.items ++ behind_colons (texts_model texts)) e ∙ sym (joined_behind x.items (texts_model texts))

@@ -6,7 +6,7 @@ use Rattle.patch_bytes.specs.Memory.{◌>>=◌}
 use Rattle.elf_image.specs.Options.{is_some_and}
 use Rattle.elf_edits.specs.declared.constants.TheConstants.{SLASH}
 use Rattle.elf_edits.specs.Edit.{Answer}
-use Rattle.elf_edits.specs.Texts.{directories_in, joined}
+use Rattle.elf_edits.specs.Texts.{directories_in, joined_by_colons}
 
 -- What directories are judged by: the prefixes that are allowed, none for all; the needed libraries; the machine
 -- that they have to be for; and the machine that was found for a directory and a library.
@@ -41,8 +41,8 @@ abbrev pub stays : Search → List ℕ → Bool
 stays s directory = not (is_absolute directory) || (is_allowed s.prefixes directory && is_found_in s directory)
 
 -- the text with the directories that stay
-abbrev pub shrunk : Search → List ℕ → List ℕ
-shrunk s text = joined (filter (stays s) (directories_in text))
+abbrev pub shrunk_text : Search → List ℕ → List ℕ
+shrunk_text s text = joined_by_colons (filter (stays s) (directories_in text))
 
 -- Why a directory goes: no prefix begins it, or no needed library was found there.
 pub data Reason : Type 0 where

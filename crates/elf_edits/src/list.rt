@@ -6,8 +6,8 @@ ghost use Rattle.elf_image.specs.Image.{lists_tag};
 ghost use Rattle.elf_image.specs.ImageModel.{entry_model};
 ghost use Rattle.elf_edits.specs.Changes.{IsEditedList, IsNewList, change_model, test_model};
 ghost use Rattle.elf_edits.specs.EditModel.{edit_model, pairs_model, texts_model};
-ghost use Rattle.elf_edits.specs.Entries.{changed_where, has_tag as has_that_tag, is_replaced, is_run_path as has_run_path, needs_one_of, not_needed_yet, retagged, with_last_unless_there, with_needed_added, with_needed_replaced, with_run_paths_added, with_text_set, without_default_directories, without_needed};
-ghost use Rattle.elf_edits.specs.Texts.{has_some, joined};
+ghost use Rattle.elf_edits.specs.Entries.{changed_where, has_tag as has_that_tag, is_replaced, is_run_path as has_run_path, needs_one_of, not_needed_yet, with_tags_changed, with_last_unless_there, with_needed_added, with_needed_replaced, with_run_paths_added, with_text_set, without_default_directories, without_needed};
+ghost use Rattle.elf_edits.specs.Texts.{has_some, joined_by_colons};
 
 use crate::changes::{EntryChange, EntryTest};
 use crate::constants::DF_1_NODEFLIB;
@@ -195,7 +195,7 @@ fn delete_where<'d>(
 
 // The list with a DT_RPATH for each DT_RUNPATH.
 fn use_rpath<'d>(alloc: Global, entries: &[Dynamic<'d>]) -> Result<NewList<'d>, AllocError>
-    ensures { IfOk result (IsNewList (retagged DT_RUNPATH DT_RPATH (map entry_model entries.now))
+    ensures { IfOk result (IsNewList (with_tags_changed DT_RUNPATH DT_RPATH (map entry_model entries.now))
         (lists_tag DT_RUNPATH (map entry_model entries.now))) }
 {
     let test = EntryTest::Tag(DT_RUNPATH);
@@ -244,7 +244,7 @@ fn with_last_run_path<'d>(
     entries: &[Dynamic<'d>],
 ) -> Result<NewList<'d>, AllocError>
     ensures { IfOk result (IsNewList (map entry_model entries.now
-        ++ text_of_tag DT_RUNPATH (joined (texts_model directories.now)) ∷ []) true) }
+        ++ text_of_tag DT_RUNPATH (joined_by_colons (texts_model directories.now)) ∷ []) true) }
 {
     let val = ByteString::owned(join(alloc, directories)?);
     with_last(

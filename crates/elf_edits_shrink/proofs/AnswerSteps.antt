@@ -8,14 +8,12 @@ use Rattle.std.proofs.lemmas.Bool.{and_parts, cond-true, cond-false, true≢fals
 use Rattle.std.proofs.lemmas.List.{map-append}
 use Rattle.std.proofs.lemmas.Slice.Eq.{bytes_eq-Decides}
 use Rattle.elf_image.specs.Options.{first_there}
-use Rattle.elf_edits.specs.declared.shrink.ProbeAnswer.{ProbeAnswer}
-use Rattle.elf_edits.specs.Called.{answer_model}
+use Rattle.elf_edits_shrink.specs.declared.probe.ProbeAnswer.{ProbeAnswer}
+use Rattle.elf_edits_shrink.specs.ShrinkModel.{answer_model}
 use Rattle.elf_edits.specs.Edit.{Answer}
 use Rattle.elf_edits.specs.Shrunk.{is_answer_for}
-use Rattle.elf_edits.specs.ShrunkModel.{is_pair}
-use Rattle.elf_edits.proofs.CodeLaws.{there_or_none}
-use Rattle.elf_edits.proofs.ListLaws.{by_test}
-use Rattle.elf_edits.proofs.ListSteps.{one_more, other_way}
+use Rattle.elf_edits_shrink.specs.ShrinkModel.{is_pair}
+use Rattle.elf_edits.proofs.ForCallers.{by_test, one_more, other_way, there_or_none}
 
 abbrev pub Found : Type 0
 Found = List ((Bor (List ℕ) × Bor (List ℕ)) × Option ℕ)

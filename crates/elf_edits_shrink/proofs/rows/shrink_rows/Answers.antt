@@ -1,7 +1,7 @@
 -- Each row is computed.
 use Rattle.std.proofs.Common.{refl}
-use Rattle.elf_edits.proofs.Computing.{computing}
-use Rattle.elf_edits.proofs.rows.shrink_rows.Goals as goal
+use Rattle.elf_edits_shrink.proofs.Computing.{computing}
+use Rattle.elf_edits_shrink.proofs.rows.shrink_rows.Goals as goal
 
 pub returns : goal.returns
 unfolding computing
@@ -16,4 +16,7 @@ returns c = record {
   no_run_path = refl;
   questions = refl;
   all_questions = refl;
+  prefixes = refl;
+  texts_next = refl;
+  nothing_shrinks = refl;
 }

@@ -1,11 +1,11 @@
 -- An answer is put into the map, or one for its pair is there.
 use Rattle.std.proofs.Common.{◌∙◌, ap, map, sym, take}
 use Rattle.std.specs.Map.{lookup}
-use Rattle.elf_edits.specs.Called.{answer_model}
-use Rattle.elf_edits.specs.ShrunkModel.{is_pair}
-use Rattle.elf_edits.proofs.AnswerSteps.{first_answer, second_answer, told_more}
-use Rattle.elf_edits.proofs.search.answers_by_pair.Goals.{then-not-contains_key+in_ok-insert, else-not-contains_key}
-use Rattle.elf_edits.proofs.search.answers_by_pair.Goals as goal
+use Rattle.elf_edits_shrink.specs.ShrinkModel.{answer_model}
+use Rattle.elf_edits_shrink.specs.ShrinkModel.{is_pair}
+use Rattle.elf_edits_shrink.proofs.AnswerSteps.{first_answer, second_answer, told_more}
+use Rattle.elf_edits_shrink.proofs.search.answers_by_pair.Goals.{then-not-contains_key+in_ok-insert, else-not-contains_key}
+use Rattle.elf_edits_shrink.proofs.search.answers_by_pair.Goals as goal
 
 pub loop-answer-preserved : goal.loop-answer-preserved
 loop-answer-preserved c = λ directory name.

@@ -1,7 +1,7 @@
 use Rattle.std.proofs.Common.{◌≡◌, drop, nat_eq}
 use Rattle.std.specs.List.{list_any, starts_with}
-use Rattle.elf_edits.specs.Called.{texts_model}
-use Rattle.elf_edits.proofs.search.begins_with_one.Given as goal
+use Rattle.elf_edits.specs.EditModel.{texts_model}
+use Rattle.elf_edits_shrink.proofs.search.begins_with_one.Given as goal
 
 -- none so far does
 abbrev pub invariant-loop-prefix : goal.invariant-loop-prefix

@@ -3,7 +3,7 @@ use Rattle.std.proofs.Common.{◌∙◌, eqb, rules}
 use borrow.Author.Tests.{tests}
 use Rattle.std.proofs.lemmas.Iterator.Consumers.{YieldsList-end}
 use Rattle.std.proofs.lemmas.Iterator.Splits.{YieldsList-from_slice_split}
-use Rattle.elf_edits.proofs.search.directories.Goals as goal
+use Rattle.elf_edits_shrink.proofs.search.directories.Goals as goal
 
 pub returns : goal.returns
 returns c =

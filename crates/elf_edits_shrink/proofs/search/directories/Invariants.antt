@@ -1,5 +1,5 @@
 use Rattle.std.proofs.Common.{◌≡◌, map}
-use Rattle.elf_edits.proofs.search.directories.Given as goal
+use Rattle.elf_edits_shrink.proofs.search.directories.Given as goal
 
 -- the parts that `split` gave so far
 abbrev pub invariant-loop-part : goal.invariant-loop-part

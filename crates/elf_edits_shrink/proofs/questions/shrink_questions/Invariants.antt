@@ -1,9 +1,9 @@
 use Rattle.std.proofs.Common.{◌≡◌, map, take}
 use Rattle.elf_image.specs.ImageModel.{entry_model}
 use Rattle.elf_edits.specs.Entries.{run_paths}
-use Rattle.elf_edits.specs.Shrunk.{questions_of}
-use Rattle.elf_edits.specs.ShrunkModel.{pair_lent}
-use Rattle.elf_edits.proofs.shrinking.shrink_questions.Given as goal
+use Rattle.elf_edits_shrink.specs.Questions.{questions_of}
+use Rattle.elf_edits_shrink.specs.ShrinkModel.{pair_lent}
+use Rattle.elf_edits_shrink.proofs.questions.shrink_questions.Given as goal
 
 -- the questions of the entries so far
 abbrev pub invariant-loop-entry : goal.invariant-loop-entry

@@ -1,7 +1,7 @@
 use Rattle.std.proofs.Common.{◌≡◌, ◌++◌, ◌∷◌, [], map, take}
 use Rattle.std.specs.List.{flat_map}
-use Rattle.elf_edits.specs.ShrunkModel.{pair_lent}
-use Rattle.elf_edits.proofs.shrinking.put_pairs.Given as goal
+use Rattle.elf_edits_shrink.specs.ShrinkModel.{pair_lent}
+use Rattle.elf_edits_shrink.proofs.questions.put_pairs.Given as goal
 
 -- a pair for each library so far
 abbrev pub invariant-loop-name : goal.invariant-loop-name

@@ -1,7 +1,7 @@
 use Rattle.std.proofs.Common.{◌≡◌, map, take}
 use Rattle.elf_image.specs.ImageModel.{entry_model}
 use Rattle.elf_edits.specs.Entries.{needed_names}
-use Rattle.elf_edits.proofs.shrinking.needed_list.Given as goal
+use Rattle.elf_edits_shrink.proofs.questions.needed_names.Given as goal
 
 -- the names of the entries so far
 abbrev pub invariant-loop-entry : goal.invariant-loop-entry

@@ -1,12 +1,13 @@
 -- Directories are judged by the answers, the first for each pair.
 use Rattle.std.proofs.Common.{◌∙◌, ap, map, ◌++◌}
 use Rattle.elf_image.specs.ImageModel.{entry_model}
-use Rattle.elf_edits.specs.Called.{answer_model, texts_model}
+use Rattle.elf_edits.specs.EditModel.{texts_model}
+use Rattle.elf_edits_shrink.specs.ShrinkModel.{answer_model}
 use Rattle.elf_edits.specs.Entries.{directories_removed, needed_names, with_run_paths_shrunk}
 use Rattle.elf_edits.specs.Shrunk.{Search, machine_found}
-use Rattle.elf_edits.specs.ShrunkModel.{machine_in, removal_model}
-use Rattle.elf_edits.proofs.ShrinkSteps.{same_search, search_with}
-use Rattle.elf_edits.proofs.shrinking.shrink.Goals as goal
+use Rattle.elf_edits_shrink.specs.ShrinkModel.{machine_in, removal_model}
+use Rattle.elf_edits_shrink.proofs.ShrinkSteps.{same_search, search_with}
+use Rattle.elf_edits_shrink.proofs.lists.shrink_list.Goals as goal
 
 pub returns-clause-list : goal.returns-clause-list
 returns-clause-list c =

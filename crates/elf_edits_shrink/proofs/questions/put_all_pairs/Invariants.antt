@@ -1,7 +1,7 @@
 use Rattle.std.proofs.Common.{◌≡◌, ◌++◌, map, take}
-use Rattle.elf_edits.specs.Shrunk.{pairs_of}
-use Rattle.elf_edits.specs.ShrunkModel.{pair_lent}
-use Rattle.elf_edits.proofs.shrinking.put_all_pairs.Given as goal
+use Rattle.elf_edits_shrink.specs.Questions.{pairs_of}
+use Rattle.elf_edits_shrink.specs.ShrinkModel.{pair_lent}
+use Rattle.elf_edits_shrink.proofs.questions.put_all_pairs.Given as goal
 
 -- the pairs of the directories so far
 abbrev pub invariant-loop-directory : goal.invariant-loop-directory
