@@ -6,6 +6,8 @@ use Rattle.std.proofs.lemmas.Bool.{cond-true, cond-false, ne_eqb}
 use Rattle.std.proofs.lemmas.List.{append-nil, map-append}
 use Rattle.std.proofs.lemmas.List.Elements.{filter-append}
 use Rattle.std.proofs.Math.Path.{fun_ext}
+use Rattle.std.specs.declared.alloc.Global.{Global}
+use Rattle.std.specs.declared.vec.Vec.{Vec}
 use Rattle.elf_format.specs.declared.constants.TheConstants.{DT_NEEDED}
 use Rattle.elf_image.specs.declared.dynamic.Dynamic.{Dynamic}
 use Rattle.elf_image.specs.Dynamic.{Auto, Entry, Integer, Text}
@@ -41,24 +43,36 @@ module _ (keep : Entry → Bool) (es : List Dynamic) (i : ℕ) (x : Dynamic) (he
 
 -- ## Libraries that are added
 
-module _ (es : List Entry) (names : List Bytes) (i : ℕ) (x : Bytes) (here : i < length names) (is : x ≡ get_or names i x) where
-  yet_more : not_needed_yet (texts_model (take (i + 1) names)) es ≡ not_needed_yet (texts_model (take i names)) es ++ cond (not (is_among (needed_names es) x.items)) (x.items ∷ []) []
-  yet_more =
-      ap (λ (l : List Bytes). not_needed_yet (texts_model l) es) (one_more names i x here is)
-      ∙ ap (λ l. not_needed_yet l es) (map-append (λ (t : Bytes). t.items) (take i names) (x ∷ []))
-      ∙ filter-append (λ name. not (is_among (needed_names es) name)) (texts_model (take i names)) (x.items ∷ [])
+module _ (has : List ℕ → Bool) (names : List Bytes) (i : ℕ) (x : Bytes) (here : i < length names) (is : x ≡ get_or names i x) where
+  new_in : List (List ℕ) → List (List ℕ)
+  new_in texts = filter (λ name. not (has name)) texts
 
-  pub add_one : (made : List Dynamic) (y : Dynamic) → map entry_model made ≡ map (Text DT_NEEDED) (not_needed_yet (texts_model (take i names)) es) → is_among (needed_names es) x.items ≡ false → entry_model y ≡ Text DT_NEEDED x.items
-      → map entry_model (made ++ y ∷ []) ≡ map (Text DT_NEEDED) (not_needed_yet (texts_model (take (i + 1) names)) es)
+  new_more : new_in (texts_model (take (i + 1) names)) ≡ new_in (texts_model (take i names)) ++ cond (not (has x.items)) (x.items ∷ []) []
+  unfolding new_in
+  new_more =
+      ap (λ (l : List Bytes). new_in (texts_model l)) (one_more names i x here is)
+      ∙ ap new_in (map-append (λ (t : Bytes). t.items) (take i names) (x ∷ []))
+      ∙ filter-append (λ name. not (has name)) (texts_model (take i names)) (x.items ∷ [])
+
+  pub add_one : (made : List Dynamic) (y : Dynamic) → map entry_model made ≡ map (Text DT_NEEDED) (filter (λ name. not (has name)) (texts_model (take i names))) → has x.items ≡ false → entry_model y ≡ Text DT_NEEDED x.items
+      → map entry_model (made ++ y ∷ []) ≡ map (Text DT_NEEDED) (filter (λ name. not (has name)) (texts_model (take (i + 1) names)))
+  unfolding new_in
   add_one made y so_far new text =
-      map-append entry_model made (y ∷ []) ∙ ap (λ l. l ++ entry_model y ∷ []) so_far ∙ ap (λ e. map (Text DT_NEEDED) (not_needed_yet (texts_model (take i names)) es) ++ e ∷ []) text
-      ∙ sym (map-append (Text DT_NEEDED) (not_needed_yet (texts_model (take i names)) es) (x.items ∷ []))
-      ∙ sym (ap (map (Text DT_NEEDED)) (yet_more ∙ ap (λ l. not_needed_yet (texts_model (take i names)) es ++ l) (cond-true (not (is_among (needed_names es) x.items)) (x.items ∷ []) [] (ap not new))))
+      map-append entry_model made (y ∷ []) ∙ ap (λ l. l ++ entry_model y ∷ []) so_far ∙ ap (λ e. map (Text DT_NEEDED) (new_in (texts_model (take i names))) ++ e ∷ []) text
+      ∙ sym (map-append (Text DT_NEEDED) (new_in (texts_model (take i names))) (x.items ∷ []))
+      ∙ sym (ap (map (Text DT_NEEDED)) (new_more ∙ ap (λ l. new_in (texts_model (take i names)) ++ l) (cond-true (not (has x.items)) (x.items ∷ []) [] (ap not new))))
 
-  pub add_none : (made : List Entry) → made ≡ map (Text DT_NEEDED) (not_needed_yet (texts_model (take i names)) es) → is_among (needed_names es) x.items ≡ true
-      → made ≡ map (Text DT_NEEDED) (not_needed_yet (texts_model (take (i + 1) names)) es)
+  pub add_none : (made : List Entry) → made ≡ map (Text DT_NEEDED) (filter (λ name. not (has name)) (texts_model (take i names))) → has x.items ≡ true
+      → made ≡ map (Text DT_NEEDED) (filter (λ name. not (has name)) (texts_model (take (i + 1) names)))
+  unfolding new_in
   add_none made so_far there =
-      so_far ∙ sym (ap (map (Text DT_NEEDED)) (yet_more ∙ ap (λ l. not_needed_yet (texts_model (take i names)) es ++ l) (cond-false (not (is_among (needed_names es) x.items)) (x.items ∷ []) [] (ap not there)) ∙ append-nil (not_needed_yet (texts_model (take i names)) es)))
+      so_far ∙ sym (ap (map (Text DT_NEEDED)) (new_more ∙ ap (λ l. new_in (texts_model (take i names)) ++ l) (cond-false (not (has x.items)) (x.items ∷ []) [] (ap not there)) ∙ append-nil (new_in (texts_model (take i names)))))
+
+-- a set has the libraries that are needed
+pub new_by_set : {E : Type 0} (r : Result (Vec Dynamic Global) E) (set : List (Bor (List ℕ))) (names : List (List ℕ)) (es : List Entry) → ((name : List ℕ) → has_name set name ≡ is_among (needed_names es) name)
+    → IfOk r (λ made. map entry_model made.items ≡ map (Text DT_NEEDED) (filter (λ name. not (has_name set name)) names)) → IfOk r (λ made. map entry_model made.items ≡ map (Text DT_NEEDED) (not_needed_yet names es))
+new_by_set (Ok made) set names es same is = is ∙ ap (λ (f : List ℕ → Bool). map (Text DT_NEEDED) (filter (λ name. not (f name)) names)) (fun_ext same)
+new_by_set (Err x) set names es same is = tt
 
 -- entries were made exactly where libraries were added
 pub some_added : (made : List Dynamic) (names : List (List ℕ)) → map entry_model made ≡ map (Text DT_NEEDED) names → not (length made == 0) ≡ has_some names

@@ -1,10 +1,11 @@
 //! The dynamic list after an edit.
 ghost use Rattle.std.specs.Prelude.{◌≡◌, ◌++◌, ◌∷◌, [], false, true, not, if◌then◌else◌, IfOk, filter, map};
+ghost use Rattle.std.specs.HashSet.{keys};
 ghost use Rattle.std.specs.List.{list_any};
 ghost use Rattle.elf_image.specs.Dynamic.{Integer as number_of_tag, Text as text_of_tag};
 ghost use Rattle.elf_image.specs.Image.{lists_tag};
 ghost use Rattle.elf_image.specs.ImageModel.{entry_model};
-ghost use Rattle.elf_edits.specs.Changes.{IsEditedList, IsNewList, change_model, test_model};
+ghost use Rattle.elf_edits.specs.Changes.{IsEditedList, IsNewList, change_model, has_name, test_model};
 ghost use Rattle.elf_edits.specs.EditModel.{edit_model, pairs_model, texts_model};
 ghost use Rattle.elf_edits.specs.Entries.{changed_where, has_tag as has_that_tag, is_replaced, is_run_path as has_run_path, needs_one_of, not_needed_yet, with_tags_changed, with_last_unless_there, with_needed_added, with_needed_replaced, with_run_paths_added, with_text_set, without_default_directories, without_needed};
 ghost use Rattle.elf_edits.specs.Texts.{has_some, joined_by_colons};
@@ -19,6 +20,7 @@ use elf_image::Dynamic;
 use elf_image::constants::{DT_DEBUG, DT_FLAGS_1, DT_NEEDED, DT_RPATH, DT_RUNPATH, DT_SONAME};
 use patch_bytes::ByteString;
 use std::alloc::{AllocError, Global};
+use std::collections::HashSet;
 
 /// A dynamic list after an edit.
 #[derive(Drop)]
@@ -324,6 +326,25 @@ fn replace_needed<'d>(
     )
 }
 
+// The entries for names that are not in a set.
+fn entries_for_new<'d>(
+    alloc: Global,
+    names: &[Vec<u8>],
+    set: &HashSet<&[u8]>,
+) -> Result<Vec<Dynamic<'d>>, AllocError>
+    ensures { IfOk result (λ made. map entry_model made.items
+        ≡ map (text_of_tag DT_NEEDED) (filter (λ name. not (has_name (keys set.now) name))
+        (texts_model names.now))) }
+{
+    let mut made = Vec::new(alloc);
+    for name in names {
+        if !set.contains(name.as_slice()) {
+            made.push(text_entry(alloc, DT_NEEDED, name.as_slice())?)?;
+        }
+    }
+    Ok(made)
+}
+
 // The entries for names of libraries that are not needed yet.
 fn new_needed<'d>(
     alloc: Global,
@@ -335,13 +356,7 @@ fn new_needed<'d>(
         (map entry_model entries.now))) }
 {
     let set = needed_set(alloc, entries)?;
-    let mut made = Vec::new(alloc);
-    for name in names {
-        if !set.contains(name.as_slice()) {
-            made.push(text_entry(alloc, DT_NEEDED, name.as_slice())?)?;
-        }
-    }
-    Ok(made)
+    entries_for_new(alloc, names, &set)
 }
 
 // The list with the libraries that are not needed yet before all entries.

@@ -1,28 +1,10 @@
--- A name gets an entry, or is needed already.
-use Rattle.std.proofs.Common.{◌≡◌, ◌∙◌, ap, map, sym}
+-- The set has the libraries that are needed.
+use Rattle.std.proofs.Common.{map}
 use Rattle.std.specs.HashSet.{keys}
-use Rattle.elf_format.specs.declared.constants.TheConstants.{DT_NEEDED}
-use Rattle.elf_image.specs.Dynamic.{Text}
 use Rattle.elf_image.specs.ImageModel.{entry_model}
-use Rattle.elf_edits.specs.Changes.{has_name}
-use Rattle.elf_edits.specs.Entries.{needed_names}
-use Rattle.elf_edits.specs.Texts.{is_among}
-use Rattle.elf_edits.proofs.ListSteps.{add_none, add_one}
-use Rattle.elf_edits.proofs.list.new_needed.Goals.{then-not-contains+in_ok-text_entry+in_ok-push, else-not-contains}
+use Rattle.elf_edits.specs.EditModel.{texts_model}
+use Rattle.elf_edits.proofs.ListSteps.{new_by_set}
 use Rattle.elf_edits.proofs.list.new_needed.Goals as goal
 
-pub loop-name-preserved : goal.loop-name-preserved
-loop-name-preserved c =
-    let es = map entry_model c.args.entries.now in
-    let i = c.loop-name.name-index in
-    let x = c.name-item.result in
-    let found : c.contains.result ≡ is_among (needed_names es) x.items = c.contains.ensures ∙ ap (has_name (keys c.in_ok-set.set)) c.as_slice.ensures.value ∙ c.in_ok-set.ensures x.items in
-    elim c.if-not-contains.branch [
-      | then-not-contains+in_ok-text_entry+in_ok-push w ↦
-          ap (λ v. map entry_model v.items) w.made-is ∙ ap (map entry_model) w.in_ok-push.ensures.items
-          ∙ add_one es c.args.names.now i x c.loop-name-test.true c.name-item.is c.loop-name.made.items w.in_ok-text_entry.field-0 c.loop-name.invariant (sym found ∙ w.if-not-contains.true)
-          (w.in_ok-text_entry.ensures ∙ ap (Text DT_NEEDED) w.as_slice-then-not-contains.ensures.value)
-      | else-not-contains w ↦
-          ap (λ v. map entry_model v.items) w.made-is
-          ∙ add_none es c.args.names.now i x c.loop-name-test.true c.name-item.is (map entry_model c.loop-name.made.items) c.loop-name.invariant (sym found ∙ w.if-not-contains.false)
-    ]
+pub returns : goal.returns
+returns c = new_by_set c.entries_for_new.result (keys c.in_ok-set.set) (texts_model c.args.names.now) (map entry_model c.args.entries.now) c.in_ok-set.ensures c.entries_for_new.ensures

@@ -2,33 +2,33 @@
 use Rattle.std.proofs.Common.{List, ap, sym, subst, ◌∙◌, arith}
 use Rattle.std.proofs.lemmas.List.{take_all}
 use Rattle.elf_image.specs.Image.{Image}
-use Rattle.elf_edits.specs.declared.call.ElfEdit.{ElfEdit}
-use Rattle.elf_edits.specs.Called.{edit_model}
+use Rattle.elf_edits.specs.declared.edit.ElfEdit.{ElfEdit}
+use Rattle.elf_edits.specs.EditModel.{edit_model}
 use Rattle.elf_edits.specs.Cause.{facts_of, first_cause}
 use Rattle.elf_edits.specs.Decided.{all_edited}
 use Rattle.elf_apply.specs.Drafted.{ListsEntries, OnlyShows}
 use Rattle.elf_apply.specs.Taken.{edits_model}
 use Rattle.elf_apply.proofs.BatchSteps.{accepted_at, none_yet, one_more}
-use Rattle.elf_apply.proofs.steps.all_written.Goals as goal
+use Rattle.elf_apply.proofs.steps.draft_of.Goals as goal
 
 pub loop-edit-init : goal.loop-edit-init
 loop-edit-init c = none_yet c.known_image-builder.result.now c.new-draft.result (c.new-draft.ensures c.known_image-builder.result.now)
 
-pub write_edit-requires-clause-free : goal.write_edit-requires-clause-free
-write_edit-requires-clause-free c =
+pub write-requires-clause-free : goal.write-requires-clause-free
+write-requires-clause-free c =
     ap (λ (i : Image). first_cause (edit_model c.edit-item.result) (facts_of i)) c.known_image-builder.ensures.same
     ∙ accepted_at (facts_of c.args.builder.now) c.args.edits.now 0 c.loop-edit.edit-index c.edit-item.result c.loop-edit-test.true c.edit-item.is c.requires
 
-pub write_edit-requires-clause-listed : goal.write_edit-requires-clause-listed
-write_edit-requires-clause-listed c = subst (λ (i : Image). ListsEntries i) (sym c.known_image-builder.ensures.same) c.known_image-builder.ensures.lists
+pub write-requires-clause-listed : goal.write-requires-clause-listed
+write-requires-clause-listed c = subst (λ (i : Image). ListsEntries i) (sym c.known_image-builder.ensures.same) c.known_image-builder.ensures.lists
 
-pub write_edit-requires-clause-draft : goal.write_edit-requires-clause-draft
-write_edit-requires-clause-draft c = c.loop-edit.invariant.draft
+pub write-requires-clause-draft : goal.write-requires-clause-draft
+write-requires-clause-draft c = c.loop-edit.invariant.draft
 
 pub loop-edit-preserved : goal.loop-edit-preserved
 loop-edit-preserved c =
-    one_more c.args.edits.now c.loop-edit.edit-index c.edit-item.result c.known_image-builder.result.now c.loop-edit.draft c.write_edit.new.self
-    c.loop-edit-test.true c.edit-item.is c.loop-edit.invariant c.in_ok-write_edit.ensures
+    one_more c.args.edits.now c.loop-edit.edit-index c.edit-item.result c.known_image-builder.result.now c.loop-edit.draft c.write.new.self
+    c.loop-edit-test.true c.edit-item.is c.loop-edit.invariant c.in_ok-write.ensures
 
 pub returns : goal.returns
 returns c =

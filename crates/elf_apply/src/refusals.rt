@@ -1,6 +1,6 @@
-//! Causes, as errors tell them.
+//! Causes, and the errors that tell them.
 ghost use Rattle.std.specs.Prelude.{◌≡◌, ◌==◌, Err, Some as some, not, option_map};
-ghost use Rattle.elf_edits.specs.Abi.{lowered};
+ghost use Rattle.elf_edits.specs.Abi.{lowercase_name};
 ghost use Rattle.elf_edits.specs.Cause.{BadPageSize as bad_page_size, MipsImage as mips_image, NoDynamic as no_dynamic, TooManyHeaders as too_many_headers, UnknownAbi, cause_if, is_page_size};
 ghost use Rattle.elf_edits.specs.CauseModel.{cause_model, words_of};
 ghost use Rattle.elf_format.specs.declared.constants.TheConstants.{EM_MIPS as MIPS};
@@ -15,7 +15,7 @@ use std::alloc::Global;
 
 // The error that tells a cause: a name with its ASCII letters lowered. Where there is no memory for the name, the error
 // tells that.
-pub(crate) fn told(alloc: Global, cause: Cause<'_>) -> ElfError
+pub(crate) fn cause_error(alloc: Global, cause: Cause<'_>) -> ElfError
     ensures { Refuses result (Err (cause_model cause.entry)) }
 {
     match cause {
@@ -32,7 +32,7 @@ pub(crate) fn told(alloc: Global, cause: Cause<'_>) -> ElfError
 
 // No ABI has this name.
 fn unknown_abi(alloc: Global, name: &str) -> ElfError
-    ensures { Refuses result (Err (UnknownAbi (lowered name.now))) }
+    ensures { Refuses result (Err (UnknownAbi (lowercase_name name.now))) }
 {
     match name.to_ascii_lowercase(alloc) {
         Ok(name) => ElfError::Modify(ModifyCause::UnknownAbi(name)),
