@@ -1,5 +1,5 @@
 -- Each edit writes its part.
-use Rattle.std.proofs.Common.{ap, refl, rules, sym, ◌∙◌}
+use Rattle.std.proofs.Common.{ap, rules, sym, ◌∙◌}
 use Rattle.std.proofs.lemmas.Nat.{and_le_l}
 use Rattle.elf_edits.specs.Edit.{SetInterpreter, SetOsAbi}
 use Rattle.elf_edits.specs.EditModel.{edit_model}

@@ -1,12 +1,12 @@
 //! The bytes that an image is written to.
-ghost use Rattle.std.specs.Prelude.{◌≡◌, false, true, IfErr, IfOk, IfSome, IsOkAnd, IsTrue, OnOk};
+ghost use Rattle.std.specs.Prelude.{◌≡◌, true, IfErr, IfOk, IfSome, IsTrue};
 ghost use Rattle.byte_store.specs.Composed.{IsDifference, made_of};
 ghost use Rattle.elf_image.specs.Kept.{image_at_read};
 ghost use Rattle.elf_layout_plan.specs.Plan.{IsPlan, resized};
 ghost use Rattle.elf_layout_plan.specs.Refusals.{do_sizes_of_image_fit, sizes_of_image};
 ghost use Rattle.elf_layout_sizes.specs.MadeTables.{IsMadeOfList};
 ghost use Rattle.elf_write_spec.specs.Whole.{IsWhole};
-ghost use Rattle.arwen_elf.specs.Written.{GetsImage, IsEditWritten, IsImageWritten, IsIo, IsNoDifference, IsNoEdit, IsNoImage, IsNotWritten, IsTold, MayNotWrite};
+ghost use Rattle.arwen_elf.specs.Written.{AnswersBytes, AnswersPieces, AnswersWrite, IsEditWritten, IsImageWritten, IsNoDifference, IsNoEdit, IsNoImage, IsTold, MayNotWrite};
 
 use crate::elf::rewriter::writer::Writer;
 use byte_store::Difference;
@@ -83,7 +83,7 @@ fn pieces_by<'a, 'data>(
 }
 
 // The same, by the new sizes of its sections.
-fn pieces_sized<'a, 'data>(
+fn pieces_by_sizes<'a, 'data>(
     alloc: Global,
     read: &'a Builder<'data>,
     image: &'a Builder<'data>,
@@ -118,7 +118,7 @@ fn edited_pieces(alloc: Global, image: &Builder<'_>) -> std::result::Result<Diff
         return Err(LayoutFault::Memory);
     };
     match new_sizes_with_strings(alloc, &read, image) {
-        Ok(new) => pieces_sized(alloc, &read, image, new),
+        Ok(new) => pieces_by_sizes(alloc, &read, image, new),
         Err(fault) => Err(fault),
     }
 }
@@ -149,7 +149,7 @@ fn elf_error_of(fault: LayoutFault) -> ElfError
 
 impl<'data> Writer<'data> {
     // The bytes of the file that is written, where nothing was edited those that were read, which takes no memory.
-    fn written(&self, alloc: Global) -> Result<ByteString<'data>>
+    fn output_bytes(&self, alloc: Global) -> Result<ByteString<'data>>
         ensures bytes { IfOk result (λ file. IsImageWritten self.now file.bytes) }
         ensures fault { IfErr result (IsNoImage self.now) }
         ensures edited { IfErr result (λ _. self.now.changed ≡ true) }
@@ -168,8 +168,7 @@ impl<'data> Writer<'data> {
     /// edited image by its section headers and to a loader. Errors: `Modify(Overlap)` where two blocks of memory overlap
     /// that can't move, `Write(NumberTooLarge)` where a number is past its field, `Memory`. The image stays as it is.
     pub fn image_bytes(&self, alloc: Global) -> Result<Vec<u8>>
-        ensures bytes { IfOk result (λ bytes. IsImageWritten self.now bytes.items) }
-        ensures fault { IfErr result (IsNoImage self.now) }
+        ensures { AnswersBytes self.now result }
     {
         let image = self.builder();
         if !image.changed() {
@@ -185,11 +184,7 @@ impl<'data> Writer<'data> {
     /// takes no memory. Costs what is written anew and what doesn't stay, not what the bytes weigh. Errors: those of
     /// `image_bytes`. The image stays as it is.
     pub fn image_pieces(&self, alloc: Global) -> Result<Difference>
-        ensures makeable { IfOk result (λ d. IsDifference self.now.source d) }
-        ensures bytes { IfOk result (λ d. IsImageWritten self.now (made_of self.now.source d)) }
-        ensures fault { IfErr result (IsNoImage self.now) }
-        ensures unchanged { self.now.changed ≡ false
-            → IsOkAnd result (IsNoDifference self.now.source) }
+        ensures { AnswersPieces self.now result }
     {
         let image = self.builder();
         if !image.changed() {
@@ -205,12 +200,9 @@ impl<'data> Writer<'data> {
     /// edited take no memory. Errors: those of `image_bytes`, and then the writer has got nothing; `Io` where a write
     /// failed, took nothing or was interrupted 1,001 times in a row, and then the writer has got the first of the bytes.
     pub fn write<W: CountedWrite>(&self, alloc: Global, w: &mut W) -> Result<()>
-        ensures ok { OnOk result (GetsImage self.now (W.contents w.old) (W.contents w.new)) }
-        ensures err { IfErr result
-            (IsNotWritten W.contents W.failed self.now w.old w.new) }
-        ensures unchanged { self.now.changed ≡ false → IfErr result IsIo }
+        ensures { AnswersWrite W.contents W.failed self.now w.old w.new result }
     {
-        let bytes = self.written(alloc)?;
+        let bytes = self.output_bytes(alloc)?;
         match write_all_counted(bytes.as_slice(), w) {
             Ok(()) => Ok(()),
             Err(error) => Err(ElfError::Io(error)),
@@ -222,7 +214,7 @@ impl<'data> Writer<'data> {
     pub fn write_to_path<R: Files + AllocGlobal>(&self, rt: &R, path: &str) -> Result<()>
         ensures { IfErr result (MayNotWrite self.now) }
     {
-        let bytes = self.written(rt.alloc())?;
+        let bytes = self.output_bytes(rt.alloc())?;
         let mut file = Sink::new(fs::create(rt, path)?);
         match write_all_counted(bytes.as_slice(), &mut file) {
             Ok(()) => Ok(()),
