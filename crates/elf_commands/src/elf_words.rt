@@ -13,7 +13,7 @@ use crate::elf::{
 };
 use crate::tables::elf_edit_table;
 use command_words::{
-    EditFault, EditKind, EditsError, Form, KeyValueError, Values, decimal_number, find_row,
+    EditFault, EditKind, EditsError, ValueForm, KeyValueError, Values, decimal_number, find_row,
     no_edit, other_words, parse_key_val, values_without_path,
 };
 use elf_edits::ElfEdit;
@@ -59,7 +59,7 @@ fn edit_without_path(
     alloc: Global,
     group: usize,
     name: &str,
-    form: &Form,
+    form: &ValueForm,
     words: &[&str],
 ) -> Result<Option<ElfEdit>, EditsError>
     ensures ok { IfOk result (λ edit. option_map made edit

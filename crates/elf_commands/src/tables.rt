@@ -10,7 +10,7 @@ use crate::elf::{
     print_soname, remove_needed, remove_rpath, replace_needed, set_execstack, set_interpreter,
     set_os_abi, set_page_size, set_rpath, set_soname, shrink_rpath,
 };
-use command_words::{Form, Row, Value, ValueOption};
+use command_words::{ValueForm, Row, Value, ValueOption};
 
 /// What help says of `apply` of edits of an ELF file below its values.
 const ELF_EDITS: &str = "Edits:
@@ -42,49 +42,49 @@ pub static ELF_ROWS: [Row; 23] = [
     Row {
         name: add_debug_tag::NAME,
         about: "Add an entry for a debugger",
-        form: Form::Path,
+        form: ValueForm::Path,
         is_edit: true,
         more: "",
     },
     Row {
         name: clear_execstack::NAME,
         about: "Take the permission to run from the stack",
-        form: Form::Path,
+        form: ValueForm::Path,
         is_edit: true,
         more: "",
     },
     Row {
         name: force_rpath::NAME,
         about: "Make every DT_RUNPATH a DT_RPATH",
-        form: Form::Path,
+        form: ValueForm::Path,
         is_edit: true,
         more: "",
     },
     Row {
         name: no_default_lib::NAME,
         about: "Leave out the default directories",
-        form: Form::Path,
+        form: ValueForm::Path,
         is_edit: true,
         more: "",
     },
     Row {
         name: remove_rpath::NAME,
         about: "Remove the run path",
-        form: Form::Path,
+        form: ValueForm::Path,
         is_edit: true,
         more: "",
     },
     Row {
         name: set_execstack::NAME,
         about: "Give the stack the permission to run",
-        form: Form::Path,
+        form: ValueForm::Path,
         is_edit: true,
         more: "",
     },
     Row {
         name: add_rpath::NAME,
         about: "Add a directory to the run path",
-        form: Form::Text(Value {
+        form: ValueForm::Text(Value {
             name: "NEW",
             help: "Directory to add",
         }),
@@ -94,7 +94,7 @@ pub static ELF_ROWS: [Row; 23] = [
     Row {
         name: set_rpath::NAME,
         about: "Set the run path",
-        form: Form::Text(Value {
+        form: ValueForm::Text(Value {
             name: "NEW",
             help: "Directories, with a colon between two",
         }),
@@ -104,7 +104,7 @@ pub static ELF_ROWS: [Row; 23] = [
     Row {
         name: set_interpreter::NAME,
         about: "Set the interpreter",
-        form: Form::Text(Value {
+        form: ValueForm::Text(Value {
             name: "INTERPRETER",
             help: "Path of the interpreter",
         }),
@@ -114,7 +114,7 @@ pub static ELF_ROWS: [Row; 23] = [
     Row {
         name: set_os_abi::NAME,
         about: "Set the ABI byte",
-        form: Form::Text(Value {
+        form: ValueForm::Text(Value {
             name: "ABI",
             help: "Name of the ABI",
         }),
@@ -124,7 +124,7 @@ pub static ELF_ROWS: [Row; 23] = [
     Row {
         name: set_soname::NAME,
         about: "Set the library's own name",
-        form: Form::Text(Value {
+        form: ValueForm::Text(Value {
             name: "NAME",
             help: "New name",
         }),
@@ -134,7 +134,7 @@ pub static ELF_ROWS: [Row; 23] = [
     Row {
         name: set_page_size::NAME,
         about: "Set the page size",
-        form: Form::Text(Value {
+        form: ValueForm::Text(Value {
             name: "SIZE",
             help: "Bytes, a power of two from 1024 on",
         }),
@@ -144,7 +144,7 @@ pub static ELF_ROWS: [Row; 23] = [
     Row {
         name: add_needed::NAME,
         about: "Add needed libraries",
-        form: Form::Words(Value {
+        form: ValueForm::Words(Value {
             name: "NEW",
             help: "Names of the libraries",
         }),
@@ -154,7 +154,7 @@ pub static ELF_ROWS: [Row; 23] = [
     Row {
         name: remove_needed::NAME,
         about: "Remove needed libraries",
-        form: Form::Words(Value {
+        form: ValueForm::Words(Value {
             name: "OLD",
             help: "Names of the libraries",
         }),
@@ -164,7 +164,7 @@ pub static ELF_ROWS: [Row; 23] = [
     Row {
         name: replace_needed::NAME,
         about: "Replace needed libraries, all at once",
-        form: Form::Words(Value {
+        form: ValueForm::Words(Value {
             name: "OLD=NEW",
             help: "Pairs of an old and a new name",
         }),
@@ -174,7 +174,7 @@ pub static ELF_ROWS: [Row; 23] = [
     Row {
         name: apply_elf::NAME,
         about: "Make several edits, all or none",
-        form: Form::Words(Value {
+        form: ValueForm::Words(Value {
             name: "EDITS",
             help: "Edits with their words, with a word `+` between two edits",
         }),
@@ -184,7 +184,7 @@ pub static ELF_ROWS: [Row; 23] = [
     Row {
         name: shrink_rpath::NAME,
         about: "Leave out of the run path directories that have no needed library",
-        form: Form::Options(ValueOption {
+        form: ValueForm::Options(ValueOption {
             long: "allowed-rpath-prefixes",
             short: 'a',
             value: Value {
@@ -198,42 +198,42 @@ pub static ELF_ROWS: [Row; 23] = [
     Row {
         name: print_rpath::NAME,
         about: "Print the run path",
-        form: Form::Path,
+        form: ValueForm::Path,
         is_edit: false,
         more: "",
     },
     Row {
         name: print_needed::NAME,
         about: "Print the needed libraries",
-        form: Form::Path,
+        form: ValueForm::Path,
         is_edit: false,
         more: "",
     },
     Row {
         name: print_soname::NAME,
         about: "Print the library's own name",
-        form: Form::Path,
+        form: ValueForm::Path,
         is_edit: false,
         more: "",
     },
     Row {
         name: print_interpreter::NAME,
         about: "Print the interpreter",
-        form: Form::Path,
+        form: ValueForm::Path,
         is_edit: false,
         more: "",
     },
     Row {
         name: print_os_abi::NAME,
         about: "Print the ABI byte",
-        form: Form::Path,
+        form: ValueForm::Path,
         is_edit: false,
         more: "",
     },
     Row {
         name: print_execstack::NAME,
         about: "Print whether the stack may be run",
-        form: Form::Path,
+        form: ValueForm::Path,
         is_edit: false,
         more: "",
     },
