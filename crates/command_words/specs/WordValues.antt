@@ -24,8 +24,8 @@ no_pair place = record { kind = KeyValue; word = place; takes = 0 }
 -- ---- pairs
 
 -- a pair of texts
-abbrev pub pair_model : String Global × String Global → Text × Text
-pair_model pair = (string_bytes pair.0, string_bytes pair.1)
+abbrev pub text_pair_model : String Global × String Global → Text × Text
+text_pair_model pair = (string_bytes pair.0, string_bytes pair.1)
 
 -- a pair before others; the first word that is none counts
 abbrev pub then_pairs : ℕ → Option (Text × Text) → Result (List (Text × Text)) Wrong

@@ -1,7 +1,7 @@
 //! Values of commands that not every word is: numbers, and pairs of a key and a value.
 ghost use Rattle.std.specs.Prelude.{◌≡◌, Ok, Some as some, IfErr, IfOk, map, string_bytes};
 ghost use Rattle.command_words.specs.KeyValue.{decimal_number as number_written, key_value};
-ghost use Rattle.command_words.specs.WordValues.{TellsNoNumber, TellsNoPair, TellsNoPairs, pair_model, pairs_from};
+ghost use Rattle.command_words.specs.WordValues.{TellsNoNumber, TellsNoPair, TellsNoPairs, text_pair_model, pairs_from};
 ghost use Rattle.command_words.specs.declared.word_values.ValueError.TheVariants.{Memory};
 
 use crate::key_value::{KeyValueError, decimal_number, parse_key_val};
@@ -57,7 +57,7 @@ pub fn number_of(word: String) -> Result<u32, ValueError>
 /// The pairs that words KEY=value are. Errors: `NoPair` for the first word without a `=`, `Memory`.
 pub fn pairs_of(alloc: Global, words: &[String]) -> Result<Vec<(String, String)>, ValueError>
     ensures ok { IfOk result (λ pairs.
-        pairs_from 1 (map string_bytes words.now) ≡ Ok (map pair_model pairs.items)) }
+        pairs_from 1 (map string_bytes words.now) ≡ Ok (map text_pair_model pairs.items)) }
     ensures err { IfErr result (TellsNoPairs (map string_bytes words.now)) }
 {
     let mut pairs = Vec::with_capacity(alloc, words.len())?;
@@ -69,7 +69,7 @@ pub fn pairs_of(alloc: Global, words: &[String]) -> Result<Vec<(String, String)>
 
 /// The pair that the word at this place is.
 fn pair_of(alloc: Global, place: usize, word: &str) -> Result<(String, String), ValueError>
-    ensures ok { IfOk result (λ pair. key_value word.now ≡ some (pair_model pair)) }
+    ensures ok { IfOk result (λ pair. key_value word.now ≡ some (text_pair_model pair)) }
     ensures err { IfErr result (TellsNoPair place word.now) }
 {
     match parse_key_val(alloc, word) {

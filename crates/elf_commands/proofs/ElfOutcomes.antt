@@ -23,10 +23,10 @@ use Rattle.byte_store.specs.Composed.{made_of}
 use Rattle.byte_store.specs.declared.composed.Difference.{Difference}
 use Rattle.command_words.specs.Rows.{Text}
 use Rattle.elf_commands.specs.ElfEngine.{AreEditsAsked, IsElfEdited, LeavesElf, Makes, MayFailAs, ShowsEdits, TellsEachFile, TellsEdit, TellsElfOf, TellsRun, elf_refusal}
-use Rattle.command_faults.specs.Fault.{answer_to_elf, answer_to_elf_fault}
+use Rattle.elf_commands.specs.ElfErrors.{answer_to_elf, answer_to_elf_fault}
 use Rattle.elf_commands.specs.Prints.{PrintMayFail, TellsElf}
-use Rattle.command_faults.specs.declared.error.ArwenError.{ArwenError}
-use Rattle.command_faults.specs.declared.error.ArwenError.TheVariants.{Edits, Elf, ElfBatch, Io, Line, Macho, MachoBatch, Memory}
+use Rattle.elf_commands.specs.declared.error.ElfCommandError.{ElfCommandError}
+use Rattle.elf_commands.specs.declared.error.ElfCommandError.TheVariants.{Edits, Elf, ElfBatch, Io, Memory}
 
 -- ## What edits keep
 
@@ -193,67 +193,52 @@ no_fault_yet prefixes file (elf.Modify cause) tells = tells
 no_fault_yet prefixes file elf.InvalidDtNeededEncoding tells = tells
 
 -- so it tells a want of memory alone
-pub only_memory : (prefixes : List Text) (file : List ℕ) (e : ArwenError) → TellsEdit (shrinking prefixes) file e → e ≡ Memory
+pub only_memory : (prefixes : List Text) (file : List ℕ) (e : ElfCommandError) → TellsEdit (shrinking prefixes) file e → e ≡ Memory
 only_memory prefixes file Memory tells = refl
 only_memory prefixes file (Edits wrong) tells = absurd (cc)
 only_memory prefixes file (Elf e) tells = absurd (no_fault_yet prefixes file e tells)
 only_memory prefixes file (ElfBatch e) tells = absurd tells
 only_memory prefixes file (Io e) tells = absurd tells
-only_memory prefixes file (Line text status) tells = absurd tells
-only_memory prefixes file (Macho e) tells = absurd tells
-only_memory prefixes file (MachoBatch e) tells = absurd tells
 
-prints_tell : {W : Type 0} (file : List ℕ) (old new : W) (e : ArwenError) → new ≡ old → TellsEdit printing file e → TellsElf (image_of file) old new e
+prints_tell : {W : Type 0} (file : List ℕ) (old new : W) (e : ElfCommandError) → new ≡ old → TellsEdit printing file e → TellsElf (image_of file) old new e
 prints_tell file old new Memory same tells = same
 prints_tell file old new (Edits wrong) same tells = absurd (cc)
 prints_tell file old new (Elf e) same tells = absurd (no_fault file e tells)
 prints_tell file old new (ElfBatch e) same tells = absurd tells
 prints_tell file old new (Io e) same tells = absurd tells
-prints_tell file old new (Line text status) same tells = absurd tells
-prints_tell file old new (Macho e) same tells = absurd tells
-prints_tell file old new (MachoBatch e) same tells = absurd tells
 
 -- an error of reading edits
-pub tells_words : {W : Type 0} (a : ElfAsked) (file : List ℕ) (old new : W) (e : ArwenError) → new ≡ old → TellsEachFile a e → TellsRun a file old new e
+pub tells_words : {W : Type 0} (a : ElfAsked) (file : List ℕ) (old new : W) (e : ElfCommandError) → new ≡ old → TellsEachFile a e → TellsRun a file old new e
 tells_words (one edit) file old new e same tells = (same, tells file)
 tells_words (several read) file old new e same tells = (same, tells file)
 tells_words (shrinking prefixes) file old new e same tells =
-    let P : ArwenError → Type 0 = λ x. TellsElf (image_of file) old new x in subst P (sym (only_memory prefixes file e (tells file))) same
+    let P : ElfCommandError → Type 0 = λ x. TellsElf (image_of file) old new x in subst P (sym (only_memory prefixes file e (tells file))) same
 tells_words printing file old new e same tells = prints_tell file old new e same (tells file)
 
 -- ## Why a command may fail
 
-prints_fail : (file : List ℕ) (e : ArwenError) → TellsEdit printing file e → PrintMayFail e
+prints_fail : (file : List ℕ) (e : ElfCommandError) → TellsEdit printing file e → PrintMayFail e
 prints_fail file Memory tells = tt
 prints_fail file (Edits wrong) tells = absurd (cc)
 prints_fail file (Elf e) tells = absurd (no_fault file e tells)
 prints_fail file (ElfBatch e) tells = absurd tells
 prints_fail file (Io e) tells = tt
-prints_fail file (Line text status) tells = absurd tells
-prints_fail file (Macho e) tells = absurd tells
-prints_fail file (MachoBatch e) tells = absurd tells
 
 -- an error that tells of some file
-pub may_fail : (a : ElfAsked) (file : List ℕ) (e : ArwenError) → TellsEdit a file e → MayFailAs a e
+pub may_fail : (a : ElfAsked) (file : List ℕ) (e : ElfCommandError) → TellsEdit a file e → MayFailAs a e
 may_fail printing file e tells = prints_fail file e tells
 may_fail (shrinking prefixes) file e tells =
-    let P : ArwenError → Type 0 = λ x. MayFailAs (shrinking prefixes) x in subst P (sym (only_memory prefixes file e tells)) tt
+    let P : ElfCommandError → Type 0 = λ x. MayFailAs (shrinking prefixes) x in subst P (sym (only_memory prefixes file e tells)) tt
 may_fail (one edit) file Memory tells = tt
 may_fail (one edit) file (Io e) tells = tt
 may_fail (one edit) file (Edits wrong) tells = (file, ([], tells))
 may_fail (one edit) file (Elf e) tells = (file, ([], tells))
 may_fail (one edit) file (ElfBatch e) tells = (file, ([], tells))
-may_fail (one edit) file (Line text status) tells = (file, ([], tells))
-may_fail (one edit) file (Macho e) tells = (file, ([], tells))
-may_fail (one edit) file (MachoBatch e) tells = (file, ([], tells))
 may_fail (several read) file Memory tells = tt
 may_fail (several read) file (Io e) tells = tt
 may_fail (several read) file (Edits wrong) tells = (file, ([], tells))
 may_fail (several read) file (Elf e) tells = (file, ([], tells))
 may_fail (several read) file (ElfBatch e) tells = (file, ([], tells))
-may_fail (several read) file (Line text status) tells = (file, ([], tells))
-may_fail (several read) file (Macho e) tells = (file, ([], tells))
-may_fail (several read) file (MachoBatch e) tells = (file, ([], tells))
 
 -- ## What differs
 

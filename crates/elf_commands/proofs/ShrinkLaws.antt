@@ -24,7 +24,7 @@ use Rattle.elf_apply.specs.declared.error.ElfError.TheVariants as elf
 use Rattle.elf_commands.specs.ElfAsked.{one, shrinking}
 use Rattle.elf_commands.specs.ElfEngine.{IsElfEdited, LeavesElf, MayFailAs, RunsElf, TellsEdit, TellsRun}
 use Rattle.elf_commands.specs.ElfAsked.{elf_asked}
-use Rattle.command_faults.specs.Fault.{answer_to_elf, answer_to_replaced}
+use Rattle.elf_commands.specs.ElfErrors.{answer_to_elf, answer_to_replaced}
 use Rattle.elf_commands.specs.Meaning.{elf_command_model}
 use Rattle.command_words.specs.Rows.{Text}
 use Rattle.elf_commands.specs.ShrinkRuns.{AreChanged, AreFoundIn, FailsShrink, IsQuiet, IsShrunkBy, RunsCommand, ShrinksStore, TellsCommand, TellsShrink, TellsShrunk}
@@ -32,8 +32,8 @@ use Rattle.elf_commands.specs.Shrinking.{AreFound, Finding}
 use Rattle.elf_commands.specs.declared.command.ElfCommand.{ElfCommand}
 use Rattle.elf_commands.specs.declared.command.ElfCommand.TheVariants as command
 use Rattle.elf_commands.specs.declared.elf.shrink_rpath.Args.{Args}
-use Rattle.command_faults.specs.declared.error.ArwenError.{ArwenError}
-use Rattle.command_faults.specs.declared.error.ArwenError.TheVariants.{Edits, Elf, ElfBatch, Io, Line, Macho, MachoBatch, Memory}
+use Rattle.elf_commands.specs.declared.error.ElfCommandError.{ElfCommandError}
+use Rattle.elf_commands.specs.declared.error.ElfCommandError.TheVariants.{Edits, Elf, ElfBatch, Io, Memory}
 use Rattle.elf_commands.proofs.ElfOutcomes.{edited_to, leaves_pieces, made_of_edits, one_refused, source_is, tells_no_image}
 
 -- ## One edit as a batch
@@ -164,7 +164,7 @@ shrinks_store finds prefixes old new said told loaded d text all shrunk becomes 
     record { difference = d; text = text; shrunk = subst P (all file known) shrunk; made = becomes file known; gets = gets }
 
 -- nothing was written
-pub shrink_refused : (finds : Finding) (prefixes : List Text) (old : Option (List ℕ)) (loaded : List ℕ) (e : ArwenError) → IsAll old loaded → TellsShrunk finds prefixes loaded e
+pub shrink_refused : (finds : Finding) (prefixes : List Text) (old : Option (List ℕ)) (loaded : List ℕ) (e : ElfCommandError) → IsAll old loaded → TellsShrunk finds prefixes loaded e
     → FailsShrink finds prefixes old old e
 shrink_refused finds prefixes old loaded (Io e) all tells = inl refl
 shrink_refused finds prefixes old loaded Memory all tells = (refl, λ file known. tt)
@@ -174,12 +174,6 @@ shrink_refused finds prefixes old loaded (Elf e) all tells =
     let P : List ℕ → Type 0 = λ l. TellsShrunk finds prefixes l (Elf e) in (refl, λ file known. subst P (all file known) tells)
 shrink_refused finds prefixes old loaded (ElfBatch e) all tells =
     let P : List ℕ → Type 0 = λ l. TellsShrunk finds prefixes l (ElfBatch e) in (refl, λ file known. subst P (all file known) tells)
-shrink_refused finds prefixes old loaded (Line text status) all tells =
-    let P : List ℕ → Type 0 = λ l. TellsShrunk finds prefixes l (Line text status) in (refl, λ file known. subst P (all file known) tells)
-shrink_refused finds prefixes old loaded (Macho e) all tells =
-    let P : List ℕ → Type 0 = λ l. TellsShrunk finds prefixes l (Macho e) in (refl, λ file known. subst P (all file known) tells)
-shrink_refused finds prefixes old loaded (MachoBatch e) all tells =
-    let P : List ℕ → Type 0 = λ l. TellsShrunk finds prefixes l (MachoBatch e) in (refl, λ file known. subst P (all file known) tells)
 
 -- the difference was not made
 pub shrink_failed : {S : Type 0} (finds : Finding) (prefixes : List Text) (contents : S → Option (List ℕ)) (old new : S) (loaded : List ℕ) (d : Difference) (text : Text) (e : ReplaceError)
@@ -190,15 +184,12 @@ shrink_failed finds prefixes contents old new loaded d text (replace.Write e) al
     record { difference = d; text = text; shrunk = subst P (all file known) shrunk; left = e.left; part = part })
 
 -- such an error is one that the command may have
-pub shrink_may_fail : (finds : Finding) (prefixes : List Text) (file : List ℕ) (e : ArwenError) → TellsShrunk finds prefixes file e → MayFailAs (shrinking prefixes) e
+pub shrink_may_fail : (finds : Finding) (prefixes : List Text) (file : List ℕ) (e : ElfCommandError) → TellsShrunk finds prefixes file e → MayFailAs (shrinking prefixes) e
 shrink_may_fail finds prefixes file Memory tells = tt
 shrink_may_fail finds prefixes file (Io e) tells = tt
 shrink_may_fail finds prefixes file (Edits wrong) tells = let (answers, found, tells) = tells in (file, (answers, tells))
 shrink_may_fail finds prefixes file (Elf e) tells = let (answers, found, tells) = tells in (file, (answers, tells))
 shrink_may_fail finds prefixes file (ElfBatch e) tells = let (answers, found, tells) = tells in (file, (answers, tells))
-shrink_may_fail finds prefixes file (Line text status) tells = let (answers, found, tells) = tells in (file, (answers, tells))
-shrink_may_fail finds prefixes file (Macho e) tells = let (answers, found, tells) = tells in (file, (answers, tells))
-shrink_may_fail finds prefixes file (MachoBatch e) tells = let (answers, found, tells) = tells in (file, (answers, tells))
 
 pub replaced_may_fail : (prefixes : List Text) (e : ReplaceError) → MayFailAs (shrinking prefixes) (answer_to_replaced e)
 replaced_may_fail prefixes replace.Memory = tt
@@ -208,15 +199,12 @@ pub replaced_is_quiet : {W : Type 0} (old new : W) (e : ReplaceError) → IsQuie
 replaced_is_quiet old new replace.Memory = tt
 replaced_is_quiet old new (replace.Write e) = tt
 
-pub refused_is_quiet : {W : Type 0} (w : W) (e : ArwenError) → IsQuiet w w e
+pub refused_is_quiet : {W : Type 0} (w : W) (e : ElfCommandError) → IsQuiet w w e
 refused_is_quiet w Memory = tt
 refused_is_quiet w (Io e) = tt
 refused_is_quiet w (Edits wrong) = refl
 refused_is_quiet w (Elf e) = refl
 refused_is_quiet w (ElfBatch e) = refl
-refused_is_quiet w (Line text status) = refl
-refused_is_quiet w (Macho e) = refl
-refused_is_quiet w (MachoBatch e) = refl
 
 -- ## Any command
 
@@ -225,7 +213,7 @@ pub others_run : (asked : ElfCommand) → ((args : Args) → asked ≡ command.S
 others_run (command.ShrinkRpath args) other found file answer old new runs = absurd (other args refl)
 others_run asked other found file answer old new runs = runs
 
-pub others_tell : {W : Type 0} (asked : ElfCommand) → ((args : Args) → asked ≡ command.ShrinkRpath args → ⊥) → (found : List Answer) (file : List ℕ) (old new : W) (e : ArwenError)
+pub others_tell : {W : Type 0} (asked : ElfCommand) → ((args : Args) → asked ≡ command.ShrinkRpath args → ⊥) → (found : List Answer) (file : List ℕ) (old new : W) (e : ElfCommandError)
     → TellsRun (elf_asked (elf_command_model asked)) file old new e → TellsCommand (elf_command_model asked) found file old new e
 others_tell (command.ShrinkRpath args) other found file old new e tells = absurd (other args refl)
 others_tell asked other found file old new e tells = tells

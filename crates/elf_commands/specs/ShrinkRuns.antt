@@ -20,8 +20,8 @@ use Rattle.elf_commands.specs.ElfEngine.{IsElfEdited, LeavesElf, RunsElf, TellsE
 use Rattle.elf_commands.specs.Meaning.{ElfMeaning, shrink_elf}
 use Rattle.command_words.specs.Rows.{Text}
 use Rattle.elf_commands.specs.Shrinking.{AreFound, Finding, removal_lines}
-use Rattle.command_faults.specs.declared.error.ArwenError.{ArwenError}
-use Rattle.command_faults.specs.declared.error.ArwenError.TheVariants.{Io, Memory}
+use Rattle.elf_commands.specs.declared.error.ElfCommandError.{ElfCommandError}
+use Rattle.elf_commands.specs.declared.error.ElfCommandError.TheVariants.{Io, Memory}
 
 -- the lines of just the directories that an edit takes out of the run paths of the file that was read
 abbrev pub TellsRemoved : Edit → Result Image ElfFault → Text → Type 0
@@ -48,7 +48,7 @@ abbrev pub RunsShrink : Edit → List ℕ → Option (Vec ℕ Global) → Option
 RunsShrink edit file answer old new = IsElfEdited (one edit) file answer × GetsRemoved edit (image_of file) old new
 
 -- an error: the writer failed once the new bytes were there; or the edit is refused, and the writer got nothing
-abbrev pub TellsShrink : {W : Type 0} → Edit → List ℕ → W → W → ArwenError → Type 0
+abbrev pub TellsShrink : {W : Type 0} → Edit → List ℕ → W → W → ElfCommandError → Type 0
 TellsShrink edit file old new (Io e) = (answer : Option (Vec ℕ Global)) × IsElfEdited (one edit) file answer
 TellsShrink edit file old new e = (new ≡ old) × TellsEdit (one edit) file e
 
@@ -66,7 +66,7 @@ pub record IsShrunkBy (finds : Finding) (prefixes : List Text) (file : List ℕ)
   pub told : TellsRemoved (ShrinkRunPath prefixes answers) (image_of file) text
 
 -- an error by some such answers; want of memory may come before there are any
-abbrev pub TellsShrunk : Finding → List Text → List ℕ → ArwenError → Type 0
+abbrev pub TellsShrunk : Finding → List Text → List ℕ → ElfCommandError → Type 0
 TellsShrunk finds prefixes file Memory = ⊤
 TellsShrunk finds prefixes file e = (answers : List Answer) × AreFoundIn finds file answers
     × TellsEdit (one (ShrinkRunPath prefixes answers)) file e
@@ -91,18 +91,18 @@ pub record IsShrinkTorn (finds : Finding) (prefixes : List Text) (file : List �
   pub part : IsLeft left difference.growth.items (owned_patches difference.pieces.items) old new
 
 -- what an error leaves and tells: only a write that failed changes bytes, where the edit was accepted
-abbrev pub FailsShrink : Finding → List Text → Option (List ℕ) → Option (List ℕ) → ArwenError → Type 0
+abbrev pub FailsShrink : Finding → List Text → Option (List ℕ) → Option (List ℕ) → ElfCommandError → Type 0
 FailsShrink finds prefixes old new (Io e) = Stays old new ⊎ ((file : List ℕ) → old ≡ Some file → IsShrinkTorn finds prefixes file old new)
 FailsShrink finds prefixes old new e = Stays old new × ((file : List ℕ) → old ≡ Some file → TellsShrunk finds prefixes file e)
 
 -- lines are told only once nothing is refused any more
-abbrev pub IsQuiet : {W : Type 0} → W → W → ArwenError → Type 0
+abbrev pub IsQuiet : {W : Type 0} → W → W → ElfCommandError → Type 0
 IsQuiet old new (Io e) = ⊤
 IsQuiet old new Memory = ⊤
 IsQuiet old new e = new ≡ old
 
 -- what an error tells of the bytes at a path; one of reading or writing them tells nothing
-abbrev pub TellsShrunkPath : Finding → List Text → Option (List ℕ) → ArwenError → Type 0
+abbrev pub TellsShrunkPath : Finding → List Text → Option (List ℕ) → ElfCommandError → Type 0
 TellsShrunkPath finds prefixes known (Io e) = ⊤
 TellsShrunkPath finds prefixes known e = (file : List ℕ) → known ≡ Some file → TellsShrunk finds prefixes file e
 
@@ -114,6 +114,6 @@ RunsCommand (shrink_elf path prefixes) found file answer old new = RunsShrink (S
 RunsCommand meaning found file answer old new = RunsElf meaning (elf_asked meaning) file answer old new
 
 -- an error of a run
-abbrev pub TellsCommand : {W : Type 0} → ElfMeaning → List Answer → List ℕ → W → W → ArwenError → Type 0
+abbrev pub TellsCommand : {W : Type 0} → ElfMeaning → List Answer → List ℕ → W → W → ElfCommandError → Type 0
 TellsCommand (shrink_elf path prefixes) found file old new e = TellsShrink (ShrinkRunPath prefixes found) file old new e
 TellsCommand meaning found file old new e = TellsRun (elf_asked meaning) file old new e

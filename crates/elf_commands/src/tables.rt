@@ -1,11 +1,10 @@
 //! The commands for ELF files, as help shows them.
 ghost use Rattle.std.specs.Prelude.{◌≡◌, map};
 ghost use Rattle.command_words.specs.Rows.{named_of, row_model};
-ghost use Rattle.elf_commands.specs.ElfWords.{elf_edit_lines};
 ghost use Rattle.elf_commands.specs.Meaning.{elf_lines};
 
 use crate::elf::{
-    add_debug_tag, add_needed, add_rpath, apply as apply_elf, clear_execstack, force_rpath,
+    add_debug_tag, add_needed, add_rpath, apply, clear_execstack, force_rpath,
     no_default_lib, print_execstack, print_interpreter, print_needed, print_os_abi, print_rpath,
     print_soname, remove_needed, remove_rpath, replace_needed, set_execstack, set_interpreter,
     set_os_abi, set_page_size, set_rpath, set_soname, shrink_rpath,
@@ -34,10 +33,7 @@ Example:
   arwen elf apply libgreet.so set-soname libgreet.so.1 + add-rpath /opt/lib
 ";
 
-/// How many of the commands for ELF files are edits, which stand first.
-const ELF_EDITS_COUNT: usize = 15;
-
-/// The commands for ELF files: first the edits that `apply` takes, then the others.
+/// The commands for ELF files.
 pub static ELF_ROWS: [Row; 23] = [
     Row {
         name: add_debug_tag::NAME,
@@ -172,7 +168,7 @@ pub static ELF_ROWS: [Row; 23] = [
         more: "",
     },
     Row {
-        name: apply_elf::NAME,
+        name: apply::NAME,
         about: "Make several edits, all or none",
         form: ValueForm::Words(Value {
             name: "EDITS",
@@ -244,11 +240,4 @@ pub fn elf_table() -> &'static [Row]
     ensures { map row_model result.now ≡ map named_of elf_lines }
 {
     ELF_ROWS.as_slice()
-}
-
-/// The edits of ELF files, as `apply` takes them.
-pub fn elf_edit_table() -> &'static [Row]
-    ensures { map row_model result.now ≡ map named_of elf_edit_lines }
-{
-    &elf_table()[..ELF_EDITS_COUNT]
 }

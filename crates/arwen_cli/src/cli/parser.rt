@@ -3,7 +3,7 @@ ghost use Rattle.std.specs.Prelude.{◌≡◌, ◌<◌, [], Some, false, IfOk, I
 ghost use Rattle.std.specs.Prelude.{unwrap_or};
 ghost use Rattle.clap.specs.Words.{all_of, app_of, fault_of, first_of, found_of, kind_of, new_app, rows_of};
 ghost use Rattle.clap.specs.Words.{rule_of, with_rule, with_subcommand};
-ghost use Rattle.command_faults.specs.Fault.{IsOfLine};
+ghost use Rattle.arwen_cli.specs.Fault.{IsOfLine};
 ghost use Rattle.command_words.specs.Rows.{given_model, kind_model, row_model, texts};
 ghost use Rattle.arwen_cli.specs.Parser.{IsTaken, Matches, MatchesBy, RefusesNone, MayRefuseFound, MayRefuseValues, first_id, found_by};
 ghost use Rattle.arwen_cli.specs.Parser.{found_values, has_globals, is_table, leaf_app, leaf_of, line_app};
@@ -12,7 +12,7 @@ ghost use Rattle.arwen_cli.specs.Parser.{values_rule, with_options, with_path, w
 
 use crate::cli::ArwenError;
 use crate::cli::line::{or_memory, or_usage, usage};
-use arwen_commands::{ValueForm, Row, Value, ValueOption, Values, copies, find_row};
+use command_words::{Row, Value, ValueForm, ValueOption, Values, copies, find_row};
 use clap::error::ErrorKind;
 use clap::{Arg, ArgAction, ArgMatches, Error};
 use std::alloc::{AllocError, Global};

@@ -19,7 +19,7 @@ use crate::elf::shrinking::run_shrink;
 use crate::elf_words::parse_elf_edits;
 use arwen_elf::elf::{ElfBatchError, ElfContainer, ElfError, ProbeAnswer};
 use byte_store::Difference;
-use command_faults::ArwenError;
+use crate::error::ElfCommandError;
 use command_words::words_of;
 use elf_edits::ElfEdit;
 use elf_edits::laws::{batches_are_their_edits, edits_show};
@@ -39,7 +39,7 @@ pub fn run_elf<W: Write>(
     command: &ElfCommand,
     probe: &[ProbeAnswer<'_>],
     out: &mut W,
-) -> Result<Option<Vec<u8>>, ArwenError>
+) -> Result<Option<Vec<u8>>, ElfCommandError>
     ensures ran { IfOk result (λ new. RunsCommand (elf_command_model command.now)
         (map answer_model probe.now) bytes.now new (W.contents out.old) (W.contents out.new)) }
     ensures err { IfErr result (TellsCommand (elf_command_model command.now)
@@ -57,7 +57,7 @@ fn run_unprobed<W: Write>(
     bytes: &[u8],
     command: &ElfCommand,
     out: &mut W,
-) -> Result<Option<Vec<u8>>, ArwenError>
+) -> Result<Option<Vec<u8>>, ElfCommandError>
     ensures ran { IfOk result (λ new. RunsElf (elf_command_model command.now)
         (elf_asked (elf_command_model command.now)) bytes.now new
         (W.contents out.old) (W.contents out.new)) }
@@ -77,7 +77,7 @@ fn run_unprobed<W: Write>(
 pub(crate) fn edits_asked(
     alloc: Global,
     command: &ElfCommand,
-) -> Result<Option<Vec<ElfEdit>>, ArwenError>
+) -> Result<Option<Vec<ElfEdit>>, ElfCommandError>
     ensures ok { IfOk result (AreAskedIf (elf_asked (elf_command_model command.now))) }
     ensures err { IfErr result (TellsEachFile (elf_asked (elf_command_model command.now))) }
 {
@@ -99,7 +99,7 @@ pub(crate) fn edited(
     bytes: &[u8],
     command: &ElfCommand,
     edits: &[ElfEdit],
-) -> Result<Option<Vec<u8>>, ArwenError>
+) -> Result<Option<Vec<u8>>, ElfCommandError>
     requires { AreEditsAsked (elf_asked (elf_command_model command.now)) (edits_model edits.now) }
     ensures ok { IfOk result (IsElfEdited (elf_asked (elf_command_model command.now)) bytes.now) }
     ensures left { IfOk result (λ new. LeavesElf (elf_asked (elf_command_model command.now)) bytes.now
@@ -125,7 +125,7 @@ pub(crate) fn edited_pieces(
     bytes: &[u8],
     command: &ElfCommand,
     edits: &[ElfEdit],
-) -> Result<Difference, ArwenError>
+) -> Result<Difference, ElfCommandError>
     requires { AreEditsAsked (elf_asked (elf_command_model command.now)) (edits_model edits.now) }
     ensures makeable { IfOk result (λ d. IsDifference bytes.now d) }
     ensures left { IfOk result (λ d. LeavesElf (elf_asked (elf_command_model command.now)) bytes.now
@@ -144,12 +144,12 @@ pub(crate) fn edited_pieces(
 }
 
 /// A refused edit as it is answered to a command. Of several it is told which one is refused.
-fn refusal(command: &ElfCommand, error: ElfBatchError) -> ArwenError
+fn refusal(command: &ElfCommand, error: ElfBatchError) -> ElfCommandError
     ensures { result ≡ elf_refusal (elf_asked (elf_command_model command.now)) error }
 {
     match command {
-        ElfCommand::Apply(_) => ArwenError::from(error),
-        _ => ArwenError::from(error.fault),
+        ElfCommand::Apply(_) => ElfCommandError::from(error),
+        _ => ElfCommandError::from(error.fault),
     }
 }
 
@@ -159,7 +159,7 @@ pub(crate) fn print_bytes<W: Write>(
     bytes: &[u8],
     command: &ElfCommand,
     out: &mut W,
-) -> Result<(), ArwenError>
+) -> Result<(), ElfCommandError>
     ensures printed { IfOk result (λ _. Prints (elf_command_model command.now) (image_of bytes.now)
         (W.contents out.old) (W.contents out.new)) }
     ensures err { IfErr result (λ e. TellsElf (image_of bytes.now) out.old out.new e) }

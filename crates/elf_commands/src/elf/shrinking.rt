@@ -12,14 +12,14 @@ ghost use Rattle.elf_commands.specs.ElfEngine.{MayFailAs};
 ghost use Rattle.elf_commands.specs.ShrinkRuns.{AreChanged, FailsShrink, IsQuiet, IsShrunkBy, RunsShrink, ShrinksStore, Steps, TellsShrink, TellsShrunk, TellsShrunkPath};
 
 use crate::elf::editing::make_opened;
-use crate::elf::load_elf;
+use crate::elf::printing::load_elf;
 use crate::elf::notes::Notes;
 use crate::elf::probing::{FileProbe, Probe, answers_of, removal_text};
-use crate::elf::shrink_rpath::Args;
-use crate::elf_values::texts_of;
+use crate::elf::commands::shrink_rpath::Args;
+use crate::texts::texts_of;
 use arwen_elf::elf::{ElfContainer, ElfError, ProbeAnswer, Removed};
 use byte_store::{Difference, Opens, RuntimeFiles, Store};
-use command_faults::ArwenError;
+use crate::error::ElfCommandError;
 use elf_edits::laws::{batches_are_their_edits, edits_show};
 use elf_image::laws::read_images_hold_parts;
 use std::alloc::Global;
@@ -51,9 +51,9 @@ fn shrunk_with<'a>(
 }
 
 /// The bytes of an image; `None` where it is as it was read.
-fn changed_bytes(alloc: Global, elf: &ElfContainer<'_>) -> Result<Option<Vec<u8>>, ElfError>
-    ensures ok { IfOk result (AreChanged elf.now.inner) }
-    ensures err { IfErr result (IsNoImage elf.now.inner) }
+fn changed_bytes(alloc: Global, elf: ElfContainer<'_>) -> Result<Option<Vec<u8>>, ElfError>
+    ensures ok { IfOk result (AreChanged elf.entry.inner) }
+    ensures err { IfErr result (IsNoImage elf.entry.inner) }
 {
     if !elf.inner.builder().changed() {
         return Ok(None);
@@ -70,7 +70,7 @@ pub(crate) fn run_shrink<W: Write>(
     args: &Args,
     probe: &[ProbeAnswer<'_>],
     out: &mut W,
-) -> Result<Option<Vec<u8>>, ArwenError>
+) -> Result<Option<Vec<u8>>, ElfCommandError>
     ensures ran { IfOk result (λ new. RunsShrink (ShrinkRunPath
         (map string_bytes args.now.allowed_rpath_prefixes.items) (map answer_model probe.now))
         bytes.now new (W.contents out.old) (W.contents out.new)) }
@@ -83,8 +83,8 @@ pub(crate) fn run_shrink<W: Write>(
     let elf = ElfContainer::parse(alloc, bytes)?;
     let prefixes = args.allowed_rpath_prefixes.as_slice();
     let (elf, removed) = shrunk_with(alloc, elf, prefixes, probe)?;
-    let new = changed_bytes(alloc, &elf)?;
-    let text = removal_text(alloc, removed.as_slice())?;
+    let new = changed_bytes(alloc, elf)?;
+    let text = removal_text(alloc, removed)?;
     out.write_all(text.as_bytes())?;
     Ok(new)
 }
@@ -95,7 +95,7 @@ fn shrunk_pieces<P: Probe>(
     bytes: &[u8],
     prefixes: &[String],
     probe: &P,
-) -> Result<Shrunk, ArwenError>
+) -> Result<Shrunk, ElfCommandError>
     ensures makeable { IfOk result (λ made. IsDifference bytes.now made.difference) }
     ensures shrunk { IfOk result (λ made. IsShrunkBy (P.may_find probe.now)
         (map string_bytes prefixes.now) bytes.now made.difference (string_bytes made.text)) }
@@ -108,7 +108,7 @@ fn shrunk_pieces<P: Probe>(
     let answers = answers_of(alloc, &elf, probe)?;
     let (elf, removed) = shrunk_with(alloc, elf, prefixes, answers.as_slice())?;
     let difference = elf.image_pieces(alloc)?;
-    let text = removal_text(alloc, removed.as_slice())?;
+    let text = removal_text(alloc, removed)?;
     Ok(Shrunk { difference, text })
 }
 
@@ -122,12 +122,12 @@ pub fn shrink_store<S: Store, P: Probe, W: Write>(
     args: &Args,
     probe: &P,
     out: &mut W,
-) -> Result<(), ArwenError>
+) -> Result<(), ElfCommandError>
     ensures shrunk { OnOk result (ShrinksStore (P.may_find probe.now)
         (map string_bytes args.now.allowed_rpath_prefixes.items) (S.contents store.old)
         (S.contents store.new) (W.contents out.old) (W.contents out.new)) }
-    ensures err { IfErr result (λ e. MayFailAs
-        (shrinking (map string_bytes args.now.allowed_rpath_prefixes.items)) e) }
+    ensures err { IfErr result (MayFailAs
+        (shrinking (map string_bytes args.now.allowed_rpath_prefixes.items))) }
     ensures left { IfErr result (FailsShrink (P.may_find probe.now)
         (map string_bytes args.now.allowed_rpath_prefixes.items)
         (S.contents store.old) (S.contents store.new)) }
@@ -146,13 +146,13 @@ fn shrink_loaded<S: Store, P: Probe, W: Write>(
     prefixes: &[String],
     probe: &P,
     out: &mut W,
-) -> Result<(), ArwenError>
+) -> Result<(), ElfCommandError>
     requires whole { IsAll (S.contents store.old) bytes.now }
     requires length { HasLength (S.contents store.old) (length bytes.now) }
     ensures shrunk { OnOk result (ShrinksStore (P.may_find probe.now)
         (map string_bytes prefixes.now) (S.contents store.old)
         (S.contents store.new) (W.contents out.old) (W.contents out.new)) }
-    ensures err { IfErr result (λ e. MayFailAs (shrinking (map string_bytes prefixes.now)) e) }
+    ensures err { IfErr result (MayFailAs (shrinking (map string_bytes prefixes.now))) }
     ensures left { IfErr result (FailsShrink (P.may_find probe.now)
         (map string_bytes prefixes.now) (S.contents store.old) (S.contents store.new)) }
     ensures quiet { IfErr result (IsQuiet out.old out.new) }
@@ -170,13 +170,13 @@ pub fn shrink_path<'p, O: Opens<'p>, P: Probe, W: Write>(
     args: &'p Args,
     probe: &P,
     out: &mut W,
-) -> Result<O::Opened, ArwenError>
+) -> Result<O::Opened, ElfCommandError>
     ensures shrunk { IfOk result (λ store. ShrinksStore (P.may_find probe.now)
         (map string_bytes args.now.allowed_rpath_prefixes.items)
         (O.contents files.now (string_bytes args.now.path_to_binary))
         (O.Opened.contents store) (W.contents out.old) (W.contents out.new)) }
-    ensures err { IfErr result (λ e. MayFailAs
-        (shrinking (map string_bytes args.now.allowed_rpath_prefixes.items)) e) }
+    ensures err { IfErr result (MayFailAs
+        (shrinking (map string_bytes args.now.allowed_rpath_prefixes.items))) }
     ensures tells { IfErr result (TellsShrunkPath (P.may_find probe.now)
         (map string_bytes args.now.allowed_rpath_prefixes.items)
         (O.contents files.now (string_bytes args.now.path_to_binary))) }
@@ -189,10 +189,20 @@ pub fn shrink_path<'p, O: Opens<'p>, P: Probe, W: Write>(
 /// Shrinks the run paths of a file in its place. What it tells goes to the standard error.
 pub(crate) fn shrink_file<R: Files + Eprint + AllocGlobal>(
     rt: &R,
-    args: &Args,
-) -> Result<(), ArwenError>
-    ensures { IfErr result (λ e. MayFailAs
-        (shrinking (map string_bytes args.now.allowed_rpath_prefixes.items)) e) }
+    args: Args,
+) -> Result<(), ElfCommandError>
+    ensures { IfErr result (MayFailAs
+        (shrinking (map string_bytes args.allowed_rpath_prefixes.items))) }
+{
+    let answer = shrink_lent(rt, &args);
+    drop(args);
+    answer
+}
+
+/// The same by values that are lent.
+fn shrink_lent<R: Files + Eprint + AllocGlobal>(rt: &R, args: &Args) -> Result<(), ElfCommandError>
+    ensures { IfErr result (MayFailAs
+        (shrinking (map string_bytes args.now.allowed_rpath_prefixes.items))) }
 {
     let files = RuntimeFiles { files: rt };
     let probe = FileProbe { files: rt };

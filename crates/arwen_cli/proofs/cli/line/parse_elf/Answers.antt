@@ -3,7 +3,7 @@ use Rattle.std.proofs.Common.{List, Bor, Some, codes, map, sym, ap, ◌∙◌, s
 use Rattle.std.specs.Option.{option_map}
 use Rattle.std.proofs.lemmas.Result.{IfErr-weaker, IfOk-weaker, err_from_is_err_and}
 use Rattle.elf_commands.specs.ElfAsked.{command_meant}
-use Rattle.command_faults.specs.Fault.{IsOfLine}
+use Rattle.arwen_cli.specs.Fault.{IsOfLine}
 use Rattle.elf_commands.specs.Meaning.{elf_lines}
 use Rattle.command_words.specs.Rows.{Named, Text, given_model, meant_with}
 use Rattle.arwen_cli.specs.Parser.{IsTaken}
