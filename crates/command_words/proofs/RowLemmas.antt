@@ -96,19 +96,27 @@ module _ {M E : Type 0} (edit_by : M → Result E Wrong) (lines : List (Line M))
       by_flag true fixed found = absurd (cc)
       by_flag false fixed found = rw fixed (cc)
 
-  -- a group means what the row that it names says, where that is a row of the lines
-  pub by_row : (words : List Text) (row : Named) (rest : List Text) → row_asked (map named_of lines) words ≡ Ok (row, rest)
+  by_named : (words : List Text) (row : Named) (rest : List Text) → row_asked (map named_of lines) words ≡ Ok (row, rest)
       → group_edit edit_by lines words ≡ given_edit edit_by row.kind rest (asked_for row.name row.kind rest)
-  by_row [] row rest e = absurd (cc)
-  by_row (name ∷ words) row rest e =
+  by_named [] row rest e = absurd (cc)
+  by_named (name ∷ words) row rest e =
       let p = edit_parts (named (map named_of lines) name) words row rest e in
       let known = known_line name (line_named lines name) refl row words (sym p.0 ∙ named-map lines name) p.1 in
       let asked : Text → Result E Wrong = λ n. given_edit edit_by row.kind rest (asked_for n row.kind rest) in
       known ∙ ap (λ ws. given_edit edit_by row.kind ws (asked_for name row.kind ws)) p.2 ∙ ap asked (sym (named_is (map named_of lines) name row p.0))
 
-  pub no_row : (words : List Text) (wrong : Wrong) → row_asked (map named_of lines) words ≡ Err wrong → group_edit edit_by lines words ≡ Err wrong
-  no_row [] wrong e = cc
-  no_row (name ∷ words) wrong e = by_none words (line_named lines name) wrong (ap (λ o. edit_named o words) (sym (named-map lines name)) ∙ e)
+  none_named : (words : List Text) (wrong : Wrong) → row_asked (map named_of lines) words ≡ Err wrong → group_edit edit_by lines words ≡ Err wrong
+  none_named [] wrong e = cc
+  none_named (name ∷ words) wrong e = by_none words (line_named lines name) wrong (ap (λ o. edit_named o words) (sym (named-map lines name)) ∙ e)
+
+  -- a group means what the command asks for that the row has which the group names in a table of the lines
+  pub by_row : (table : List Named) (words : List Text) (row : Named) (rest : List Text) (asked : Option M) → table ≡ map named_of lines → row_asked table words ≡ Ok (row, rest)
+      → asked ≡ option_and_then (meant_with lines row.name) (given_without_path row.kind rest) → group_edit edit_by lines words ≡ given_edit edit_by row.kind rest asked
+  by_row table words row rest asked is names asks =
+      by_named words row rest (ap (λ t. row_asked t words) (sym is) ∙ names) ∙ ap (given_edit edit_by row.kind rest) (sym asks)
+
+  pub no_row : (table : List Named) (words : List Text) (wrong : Wrong) → table ≡ map named_of lines → row_asked table words ≡ Err wrong → group_edit edit_by lines words ≡ Err wrong
+  no_row table words wrong is names = none_named words wrong (ap (λ t. row_asked t words) (sym is) ∙ names)
 
 -- ---- values
 

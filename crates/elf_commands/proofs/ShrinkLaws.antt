@@ -31,7 +31,7 @@ use Rattle.elf_commands.specs.ShrinkRuns.{AreChanged, AreFoundIn, FailsShrink, I
 use Rattle.elf_commands.specs.Shrinking.{AreFound, Finding}
 use Rattle.elf_commands.specs.declared.command.ElfCommand.{ElfCommand}
 use Rattle.elf_commands.specs.declared.command.ElfCommand.TheVariants as command
-use Rattle.elf_commands.specs.declared.elf.shrink_rpath.Args.{Args}
+use Rattle.elf_commands.specs.declared.elf.commands.shrink_rpath.Args.{Args}
 use Rattle.elf_commands.specs.declared.error.ElfCommandError.{ElfCommandError}
 use Rattle.elf_commands.specs.declared.error.ElfCommandError.TheVariants.{Edits, Elf, ElfBatch, Io, Memory}
 use Rattle.elf_commands.proofs.ElfOutcomes.{edited_to, leaves_pieces, made_of_edits, one_refused, source_is, tells_no_image}

@@ -1,7 +1,7 @@
 //! What is asked of an ELF file, with its values.
 use crate::elf::{
-    add_debug_tag, add_needed, add_rpath, apply, clear_execstack, force_rpath,
-    no_default_lib, path_alone, print_execstack, print_interpreter, print_needed, print_os_abi, print_rpath,
+    add_debug_tag, add_needed, add_rpath, apply, clear_execstack, force_rpath, no_default_lib,
+    path_alone, print_execstack, print_interpreter, print_needed, print_os_abi, print_rpath,
     print_soname, remove_needed, remove_rpath, replace_needed, set_execstack, set_interpreter,
     set_os_abi, set_page_size, set_rpath, set_soname, shrink_rpath,
 };

@@ -13,13 +13,13 @@ mod shrinking;
 
 use crate::command::ElfCommand;
 use crate::error::ElfCommandError;
+pub(crate) use commands::path_alone;
 pub use commands::{
     add_debug_tag, add_needed, add_rpath, apply, clear_execstack, force_rpath, no_default_lib,
     print_execstack, print_interpreter, print_needed, print_os_abi, print_rpath, print_soname,
     remove_needed, remove_rpath, replace_needed, set_execstack, set_interpreter, set_os_abi,
     set_page_size, set_rpath, set_soname, shrink_rpath,
 };
-pub(crate) use commands::path_alone;
 use editing::edit_file;
 pub use editing::{edit_path, edit_store};
 pub use engine::run_elf;

@@ -6,8 +6,8 @@ mod command;
 pub mod elf;
 mod elf_words;
 mod error;
-mod texts;
 mod tables;
+mod texts;
 
 pub use command::ElfCommand;
 pub use elf_words::parse_elf_edits;

@@ -4,12 +4,12 @@ ghost use Rattle.command_words.specs.Rows.{named_of, row_model};
 ghost use Rattle.elf_commands.specs.Meaning.{elf_lines};
 
 use crate::elf::{
-    add_debug_tag, add_needed, add_rpath, apply, clear_execstack, force_rpath,
-    no_default_lib, print_execstack, print_interpreter, print_needed, print_os_abi, print_rpath,
-    print_soname, remove_needed, remove_rpath, replace_needed, set_execstack, set_interpreter,
-    set_os_abi, set_page_size, set_rpath, set_soname, shrink_rpath,
+    add_debug_tag, add_needed, add_rpath, apply, clear_execstack, force_rpath, no_default_lib,
+    print_execstack, print_interpreter, print_needed, print_os_abi, print_rpath, print_soname,
+    remove_needed, remove_rpath, replace_needed, set_execstack, set_interpreter, set_os_abi,
+    set_page_size, set_rpath, set_soname, shrink_rpath,
 };
-use command_words::{ValueForm, Row, Value, ValueOption};
+use command_words::{Row, Value, ValueForm, ValueOption};
 
 /// What help says of `apply` of edits of an ELF file below its values.
 const ELF_EDITS: &str = "Edits:

@@ -16,12 +16,11 @@ pub(crate) mod path_alone {
 
 /// `add-debug-tag`: adds an entry for a debugger (gABI, Dynamic Section, DT_DEBUG).
 pub mod add_debug_tag {
+    pub use super::path_alone::Args;
     use crate::command::ElfCommand;
     use crate::elf::editing::edit_file;
     use crate::error::ElfCommandError;
     use std::rt::Files;
-
-    pub use super::path_alone::Args;
 
     /// The word that names the command.
     pub const NAME: &str = "add-debug-tag";
@@ -36,12 +35,11 @@ pub mod add_debug_tag {
 
 /// `clear-exec-stack`: takes the permission to run from the stack (GNU extension, PT_GNU_STACK).
 pub mod clear_execstack {
+    pub use super::path_alone::Args;
     use crate::command::ElfCommand;
     use crate::elf::editing::edit_file;
     use crate::error::ElfCommandError;
     use std::rt::Files;
-
-    pub use super::path_alone::Args;
 
     /// The word that names the command.
     pub const NAME: &str = "clear-exec-stack";
@@ -56,12 +54,11 @@ pub mod clear_execstack {
 
 /// `force-rpath`: makes every DT_RUNPATH a DT_RPATH (gABI, Dynamic Section).
 pub mod force_rpath {
+    pub use super::path_alone::Args;
     use crate::command::ElfCommand;
     use crate::elf::editing::edit_file;
     use crate::error::ElfCommandError;
     use std::rt::Files;
-
-    pub use super::path_alone::Args;
 
     /// The word that names the command.
     pub const NAME: &str = "force-rpath";
@@ -76,12 +73,11 @@ pub mod force_rpath {
 
 /// `no-default-lib`: leaves out the default directories of libraries (DT_FLAGS_1, DF_1_NODEFLIB).
 pub mod no_default_lib {
+    pub use super::path_alone::Args;
     use crate::command::ElfCommand;
     use crate::elf::editing::edit_file;
     use crate::error::ElfCommandError;
     use std::rt::Files;
-
-    pub use super::path_alone::Args;
 
     /// The word that names the command.
     pub const NAME: &str = "no-default-lib";
@@ -96,12 +92,11 @@ pub mod no_default_lib {
 
 /// `remove-rpath`: removes the run path (gABI, Dynamic Section).
 pub mod remove_rpath {
+    pub use super::path_alone::Args;
     use crate::command::ElfCommand;
     use crate::elf::editing::edit_file;
     use crate::error::ElfCommandError;
     use std::rt::Files;
-
-    pub use super::path_alone::Args;
 
     /// The word that names the command.
     pub const NAME: &str = "remove-rpath";
@@ -116,12 +111,11 @@ pub mod remove_rpath {
 
 /// `set-exec-stack`: gives the stack the permission to run (GNU extension, PT_GNU_STACK).
 pub mod set_execstack {
+    pub use super::path_alone::Args;
     use crate::command::ElfCommand;
     use crate::elf::editing::edit_file;
     use crate::error::ElfCommandError;
     use std::rt::Files;
-
-    pub use super::path_alone::Args;
 
     /// The word that names the command.
     pub const NAME: &str = "set-exec-stack";
@@ -436,18 +430,20 @@ pub mod shrink_rpath {
 
 /// `print-rpath`: prints the run path.
 pub mod print_rpath {
+    pub use super::path_alone::Args;
     use crate::command::ElfCommand;
     use crate::elf::printing::print_file;
     use crate::error::ElfCommandError;
     use std::rt::Files;
 
-    pub use super::path_alone::Args;
-
     /// The word that names the command.
     pub const NAME: &str = "print-rpath";
 
     /// Prints to the standard output.
-    pub fn execute<R: Files + Print + AllocGlobal>(rt: &R, args: Args) -> Result<(), ElfCommandError>
+    pub fn execute<R: Files + Print + AllocGlobal>(
+        rt: &R,
+        args: Args,
+    ) -> Result<(), ElfCommandError>
         ensures { IfErr result PrintMayFail }
     {
         print_file(rt, ElfCommand::PrintRpath(args))
@@ -456,18 +452,20 @@ pub mod print_rpath {
 
 /// `print-needed`: prints the needed libraries.
 pub mod print_needed {
+    pub use super::path_alone::Args;
     use crate::command::ElfCommand;
     use crate::elf::printing::print_file;
     use crate::error::ElfCommandError;
     use std::rt::Files;
 
-    pub use super::path_alone::Args;
-
     /// The word that names the command.
     pub const NAME: &str = "print-needed";
 
     /// Prints to the standard output.
-    pub fn execute<R: Files + Print + AllocGlobal>(rt: &R, args: Args) -> Result<(), ElfCommandError>
+    pub fn execute<R: Files + Print + AllocGlobal>(
+        rt: &R,
+        args: Args,
+    ) -> Result<(), ElfCommandError>
         ensures { IfErr result PrintMayFail }
     {
         print_file(rt, ElfCommand::PrintNeeded(args))
@@ -476,18 +474,20 @@ pub mod print_needed {
 
 /// `print-soname`: prints the library's own name.
 pub mod print_soname {
+    pub use super::path_alone::Args;
     use crate::command::ElfCommand;
     use crate::elf::printing::print_file;
     use crate::error::ElfCommandError;
     use std::rt::Files;
 
-    pub use super::path_alone::Args;
-
     /// The word that names the command.
     pub const NAME: &str = "print-soname";
 
     /// Prints to the standard output.
-    pub fn execute<R: Files + Print + AllocGlobal>(rt: &R, args: Args) -> Result<(), ElfCommandError>
+    pub fn execute<R: Files + Print + AllocGlobal>(
+        rt: &R,
+        args: Args,
+    ) -> Result<(), ElfCommandError>
         ensures { IfErr result PrintMayFail }
     {
         print_file(rt, ElfCommand::PrintSoname(args))
@@ -496,18 +496,20 @@ pub mod print_soname {
 
 /// `print-interpreter`: prints the interpreter.
 pub mod print_interpreter {
+    pub use super::path_alone::Args;
     use crate::command::ElfCommand;
     use crate::elf::printing::print_file;
     use crate::error::ElfCommandError;
     use std::rt::Files;
 
-    pub use super::path_alone::Args;
-
     /// The word that names the command.
     pub const NAME: &str = "print-interpreter";
 
     /// Prints to the standard output.
-    pub fn execute<R: Files + Print + AllocGlobal>(rt: &R, args: Args) -> Result<(), ElfCommandError>
+    pub fn execute<R: Files + Print + AllocGlobal>(
+        rt: &R,
+        args: Args,
+    ) -> Result<(), ElfCommandError>
         ensures { IfErr result PrintMayFail }
     {
         print_file(rt, ElfCommand::PrintInterpreter(args))
@@ -516,18 +518,20 @@ pub mod print_interpreter {
 
 /// `print-os-abi`: prints the ABI byte.
 pub mod print_os_abi {
+    pub use super::path_alone::Args;
     use crate::command::ElfCommand;
     use crate::elf::printing::print_file;
     use crate::error::ElfCommandError;
     use std::rt::Files;
 
-    pub use super::path_alone::Args;
-
     /// The word that names the command.
     pub const NAME: &str = "print-os-abi";
 
     /// Prints to the standard output.
-    pub fn execute<R: Files + Print + AllocGlobal>(rt: &R, args: Args) -> Result<(), ElfCommandError>
+    pub fn execute<R: Files + Print + AllocGlobal>(
+        rt: &R,
+        args: Args,
+    ) -> Result<(), ElfCommandError>
         ensures { IfErr result PrintMayFail }
     {
         print_file(rt, ElfCommand::PrintOsAbi(args))
@@ -536,18 +540,20 @@ pub mod print_os_abi {
 
 /// `print-exec-stack`: prints whether the stack may be run.
 pub mod print_execstack {
+    pub use super::path_alone::Args;
     use crate::command::ElfCommand;
     use crate::elf::printing::print_file;
     use crate::error::ElfCommandError;
     use std::rt::Files;
 
-    pub use super::path_alone::Args;
-
     /// The word that names the command.
     pub const NAME: &str = "print-exec-stack";
 
     /// Prints to the standard output.
-    pub fn execute<R: Files + Print + AllocGlobal>(rt: &R, args: Args) -> Result<(), ElfCommandError>
+    pub fn execute<R: Files + Print + AllocGlobal>(
+        rt: &R,
+        args: Args,
+    ) -> Result<(), ElfCommandError>
         ensures { IfErr result PrintMayFail }
     {
         print_file(rt, ElfCommand::PrintExecStack(args))

@@ -12,10 +12,10 @@ ghost use Rattle.elf_commands.specs.Meaning.{elf_file_of, elf_command_model};
 use crate::command::ElfCommand;
 use crate::elf::engine::{edited_pieces, edits_asked};
 use crate::elf::printing::load_elf;
+use crate::error::ElfCommandError;
 use byte_store::{
     Difference, Left, Opens, ReplaceError, RuntimeFiles, Store, WriteError, make_difference,
 };
-use crate::error::ElfCommandError;
 use elf_edits::ElfEdit;
 use std::alloc::Global;
 use std::rt::Files;

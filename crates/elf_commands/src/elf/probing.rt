@@ -178,8 +178,18 @@ pub(crate) fn removal_text(alloc: Global, removed: Vec<Removed>) -> Result<Strin
     ensures { IfOk result (λ text.
         string_bytes text ≡ removal_lines (map removal_model removed.items)) }
 {
+    let text = removal_text_of(alloc, removed.as_slice());
+    drop(removed);
+    text
+}
+
+/// The same of directories that are lent.
+fn removal_text_of(alloc: Global, removed: &[Removed]) -> Result<String, AllocError>
+    ensures { IfOk result (λ text.
+        string_bytes text ≡ removal_lines (map removal_model removed.now)) }
+{
     let mut text = String::new(alloc);
-    for one in removed.as_slice() {
+    for one in removed {
         put_removal(alloc, &mut text, one)?;
     }
     Ok(text)

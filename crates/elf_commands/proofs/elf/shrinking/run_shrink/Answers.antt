@@ -56,7 +56,7 @@ returns-clause-ran g c =
         (
           c.in_ok-elf.elf.inner,
           c.in_ok-elf.ensures.reads.0,
-          c.in_ok-text.ensures ∙ ap (λ l. removal_lines (map removal_model l)) c.as_slice.ensures.value ∙ ap removal_lines steps.are,
+          c.in_ok-text.ensures ∙ ap removal_lines steps.are,
         ),
         subst Gets c.as_bytes.ensures.value c.in_ok-write_all.ensures.bytes,
       ),

@@ -67,6 +67,6 @@ returns-clause-shrunk g c =
       told = (
         read,
         c.in_ok-elf.ensures.reads.0,
-        c.in_ok-text.ensures ∙ ap (λ l. removal_lines (map removal_model l)) c.as_slice-2.ensures.value ∙ ap removal_lines steps.are,
+        c.in_ok-text.ensures ∙ ap removal_lines steps.are,
       );
     }

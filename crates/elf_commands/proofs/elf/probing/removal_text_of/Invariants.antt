@@ -1,7 +1,7 @@
 use Rattle.std.proofs.Common.{◌≡◌, map, string_bytes, take}
 use Rattle.elf_edits.specs.ShrunkModel.{removal_model}
 use Rattle.elf_commands.specs.Shrinking.{removal_lines}
-use Rattle.elf_commands.proofs.elf.probing.removal_text.Given as goal
+use Rattle.elf_commands.proofs.elf.probing.removal_text_of.Given as goal
 
 -- the lines of those that were gone over
 abbrev pub invariant-loop-one : goal.invariant-loop-one
