@@ -174,6 +174,10 @@ abbrev pub MayRefuseTaken : {M : Type 0} → Text → List (Line (Result M Wrong
 MayRefuseTaken {M} first lines list error = (meaning : M) → MeansTaken first lines list meaning
     → error ≡ Memory
 
+-- where values are what a command takes, the error is want of memory
+abbrev pub MayRefuseReading : {M : Type 0} → Option (Result M Wrong) → ArwenError → Type 0
+MayRefuseReading {M} read error = (meaning : M) → read ≡ Some (Ok meaning) → error ≡ Memory
+
 -- ---- a parse that is told a command
 
 -- it takes the words, and finds the command that they name

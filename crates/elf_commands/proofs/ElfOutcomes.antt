@@ -1,5 +1,6 @@
 -- What edits of an ELF file keep and show, and which answers tell why there are no bytes.
-use Rattle.std.proofs.Common.{◌≡◌, ◌+◌, [], ◌∷◌, ◌∙◌, Bool, ℕ, List, Some, Result, Ok, Err, true, false, refl, sym, ap, subst, inl, inr}
+use Rattle.std.proofs.Common.{◌≡◌, ◌+◌, [], ◌∷◌, ◌∙◌, Bool, ℕ, List, Option, Some, None, Result, Ok, Err, true, false, refl, sym, ap, subst, inl, inr}
+use Rattle.std.specs.Prelude.{IfOk, IsOkAnd}
 use Rattle.std.specs.declared.alloc.Global.{Global}
 use Rattle.std.specs.declared.vec.Vec.{Vec}
 use Rattle.elf_format.specs.declared.header.Header.{Header}
@@ -22,11 +23,16 @@ use Rattle.elf_commands.specs.ElfStores.{ChangesNothing}
 use Rattle.byte_store.specs.Composed.{made_of}
 use Rattle.byte_store.specs.declared.composed.Difference.{Difference}
 use Rattle.command_words.specs.Rows.{Text}
-use Rattle.elf_commands.specs.ElfEngine.{AreEditsAsked, IsElfEdited, LeavesElf, Makes, MayFailAs, ShowsEdits, TellsEachFile, TellsEdit, TellsElfOf, TellsRun, elf_refusal}
+use Rattle.elf_commands.specs.ElfEngine.{AreChanged, AreEditsAsked, IsElfEdited, LeavesElf, Makes, MayFailAs, ShowsEdits, TellsEachFile, TellsEdit, TellsElfOf, TellsNoImage, TellsRun, bytes_left, elf_refusal}
 use Rattle.elf_commands.specs.ElfErrors.{answer_to_elf, answer_to_elf_fault}
 use Rattle.elf_commands.specs.Prints.{PrintMayFail, TellsElf}
 use Rattle.elf_commands.specs.declared.error.ElfCommandError.{ElfCommandError}
 use Rattle.elf_commands.specs.declared.error.ElfCommandError.TheVariants.{Edits, Elf, ElfBatch, Io, Memory}
+
+-- what holds of an answer that is there holds of any
+pub if_ok_and : {A E : Type 0} (P : A → Type 0) (r : Result A E) → IsOkAnd r P → IfOk r P
+if_ok_and P (Ok a) holds = holds
+if_ok_and P (Err e) holds = tt
 
 -- ## What edits keep
 
@@ -113,6 +119,51 @@ edited_to edits_show batches a edits file read made new are is views runs other 
       subst (λ (v : Vec ℕ Global). ShowsEdits edits file v.items) same (shows_edits edits_show batches edits file new.items read made views runs (written.edited other));
 }
 
+module _ (a : ElfAsked) (edits : List Edit) (file : List ℕ) (read made : Image) (answer : Option (Vec ℕ Global)) (are : AreEditsAsked a edits) (is : image_of file ≡ Ok read) (runs : run edits read ≡ Ok made) (changed : AreChanged made answer) where
+  -- the answer for an edited image is that for its file
+  pub edited_answer : EditsShow → BatchesAreTheirEdits → ShowsBothViews file read → IsElfEdited a file answer
+  edited_answer edits_show batches views = by_mark made.changed refl
+    where
+      by_mark : (mark : Bool) → made.changed ≡ mark → IsElfEdited a file answer
+      by_mark true other =
+          let (new, is_new, written) = changed.other other in
+          let P : Option (Vec ℕ Global) → Type 0 = λ o. IsElfEdited a file o in
+          subst P (sym is_new)
+          (edited_to edits_show batches a edits file read made new are is views runs other (record { unchanged = λ same. absurd (cc); edited = λ _. written }))
+      by_mark false same =
+          let P : Option (Vec ℕ Global) → Type 0 = λ o. IsElfEdited a file o in
+          subst P (sym (changed.same same)) (record {
+            edits = edits;
+            are = are;
+            edited = record {
+              made = made;
+              makes = made_of_edits edits file read made is runs;
+              unchanged = λ _. refl;
+              changed = λ other. absurd (cc);
+            };
+            shows = λ new is_new. absurd (cc);
+          })
+
+  pub answer_left : EditsShow → ReadImagesHoldParts → LeavesElf a file (bytes_left file answer)
+  answer_left edits_show hold_parts = by_mark made.changed refl
+    where
+      by_mark : (mark : Bool) → made.changed ≡ mark → LeavesElf a file (bytes_left file answer)
+      by_mark true other =
+          let (new, is_new, written) = changed.other other in
+          let P : Option (Vec ℕ Global) → Type 0 = λ o. LeavesElf a file (bytes_left file o) in
+          subst P (sym is_new) (record {
+            edits = edits;
+            are = are;
+            left = record {
+              made = made;
+              makes = made_of_edits edits file read made is runs;
+              written = record { unchanged = λ same. absurd (cc); edited = λ _. written };
+            };
+          })
+      by_mark false same =
+          let P : Option (Vec ℕ Global) → Type 0 = λ o. LeavesElf a file (bytes_left file o) in
+          subst P (sym (changed.same same)) (leaves_file edits_show hold_parts a edits file read made are is runs same)
+
 -- ## Why there are no bytes
 
 pub one_refused : (edit : Edit) (file : List ℕ) (read : Image) (index : ℕ) (e : ElfError) → image_of file ≡ Ok read → RefusesAt index e (run (edit ∷ []) read) → TellsEdit (one edit) file (answer_to_elf e)
@@ -162,6 +213,10 @@ tells_no_image (several read_as) edits file made e are makes none = subst (λ r.
     unwritten edits file made elf.InvalidDtNeededEncoding makes none = inr (record { made = made; makes = makes; none = none })
 tells_no_image (shrinking prefixes) edits file made e are makes none = absurd are
 tells_no_image printing edits file made e are makes none = absurd are
+
+pub tells_no_bytes : (a : ElfAsked) (edits : List Edit) (file : List ℕ) (made : Image) (e : ElfCommandError) → AreEditsAsked a edits → Makes edits file made → TellsNoImage made e → TellsEdit a file e
+tells_no_bytes a edits file made e are makes told =
+    let P : ElfCommandError → Type 0 = λ x. TellsEdit a file x in subst P (sym told.2) (tells_no_image a edits file made told.0 are makes told.1)
 
 -- ## A run
 

@@ -94,6 +94,15 @@ TellsEdit a file (Elf e) = TellsElfOf a file e
 TellsEdit a file (ElfBatch e) = TellsBatchOf a file e
 TellsEdit a file e = ⊥
 
+-- new bytes of an image that was changed, and none of one that wasn't
+pub record AreChanged (made : Image) (answer : Option (Vec ℕ Global)) : Type 0 where
+  pub same : made.changed ≡ false → answer ≡ None
+  pub other : made.changed ≡ true → (new : Vec ℕ Global) × (answer ≡ Some new) × IsEditWritten made new.items
+
+-- the error is that of an image that has no bytes
+abbrev pub TellsNoImage : Image → ElfCommandError → Type 0
+TellsNoImage made e = (cause : ElfError) × IsNoImage made cause × (e ≡ answer_to_elf cause)
+
 -- ---- a run over bytes
 
 -- edits that are asked for

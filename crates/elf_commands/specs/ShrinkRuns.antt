@@ -1,22 +1,26 @@
 -- What a command makes of a file whose run paths shrink, what it tells, and why it makes nothing.
-use Rattle.std.specs.Prelude.{ℕ, ◌≡◌, ◌⊎◌, List, map, Option, Some, None, Ok, Result, true, false, ⊤}
+use Rattle.std.specs.Prelude.{ℕ, ◌≡◌, ◌⊎◌, List, map, Option, Some, None, Ok, Result, ⊤}
 use Rattle.std.specs.Io.KnownBytes.{Appends}
 use Rattle.std.specs.declared.alloc.Global.{Global}
 use Rattle.std.specs.declared.vec.Vec.{Vec}
 use Rattle.byte_store.specs.Known.{Stays}
-use Rattle.byte_store.specs.Composed.{made_of, owned_patches}
+use Rattle.byte_store.specs.Composed.{IsDifference, made_of, owned_patches}
 use Rattle.byte_store.specs.Fault.{IsLeft}
 use Rattle.byte_store.specs.declared.writing.Left.{Left}
 use Rattle.byte_store.specs.declared.composed.Difference.{Difference}
 use Rattle.elf_edits.specs.Edit.{Answer, Edit, ShrinkRunPath}
 use Rattle.elf_edits.specs.Edited.{removed_by, step}
+use Rattle.elf_edits.specs.Shrunk.{Removal}
 use Rattle.elf_edits.specs.ShrunkModel.{removal_model}
+use Rattle.elf_apply.specs.Told.{Refuses}
+use Rattle.elf_apply.specs.declared.error.ElfError.{ElfError}
 use Rattle.elf_edits.specs.declared.shrink.Removed.{Removed}
 use Rattle.elf_format.specs.declared.fault.ElfFault.{ElfFault}
 use Rattle.elf_image.specs.Image.{Image, image_of, shown}
-use Rattle.arwen_elf.specs.Written.{IsEditWritten}
+use Rattle.arwen_elf.specs.Written.{IsImageWritten, IsNoImage}
 use Rattle.elf_commands.specs.ElfAsked.{elf_asked, one}
-use Rattle.elf_commands.specs.ElfEngine.{IsElfEdited, LeavesElf, RunsElf, TellsEdit, TellsRun}
+use Rattle.elf_commands.specs.ElfEngine.{AreChanged, IsElfEdited, LeavesElf, RunsElf, TellsEdit, TellsNoImage, TellsRun}
+use Rattle.elf_commands.specs.ElfErrors.{answer_to_elf}
 use Rattle.elf_commands.specs.Meaning.{ElfMeaning, shrink_elf}
 use Rattle.command_words.specs.Rows.{Text}
 use Rattle.elf_commands.specs.Shrinking.{AreFound, Finding, removal_lines}
@@ -36,10 +40,28 @@ pub record Steps (edit : Edit) (old new : Image) (removed : Vec Removed Global) 
   pub makes : step edit old ≡ Ok new
   pub are : map removal_model removed.items ≡ removed_by edit old
 
--- new bytes of an image that was changed, and none of one that wasn't
-pub record AreChanged (made : Image) (answer : Option (Vec ℕ Global)) : Type 0 where
-  pub same : made.changed ≡ false → answer ≡ None
-  pub other : made.changed ≡ true → (new : Vec ℕ Global) × (answer ≡ Some new) × IsEditWritten made new.items
+-- an image is answered, and a writer gets the lines of directories
+abbrev pub IsRemovalTold : Image → List Removal → Option (Vec ℕ Global) → Option (List ℕ) → Option (List ℕ) → Type 0
+IsRemovalTold made removed answer old new = AreChanged made answer × Appends old new (removal_lines removed)
+
+-- an error of that: the writer failed once the answer was there; or there is none, and the writer got nothing
+abbrev pub TellsUntold : {W : Type 0} → Image → W → W → ElfCommandError → Type 0
+TellsUntold made old new (Io e) = (answer : Option (Vec ℕ Global)) × AreChanged made answer
+TellsUntold made old new e = (new ≡ old) × TellsNoImage made e
+
+-- what differs from the bytes of a file once an edit of its image took directories out of run paths, and their lines
+pub record IsShrunkImage (edit : Edit) (read : Image) (d : Difference) (text : Text) : Type 0 where
+  pub made : Image
+  pub makes : step edit read ≡ Ok made
+  pub makeable : IsDifference made.source d
+  pub written : IsImageWritten made (made_of made.source d)
+  pub told : text ≡ removal_lines (removed_by edit read)
+
+-- an error of that: the edit is refused, or the edited image has no bytes
+abbrev pub TellsUnshrunk : Edit → Image → ElfCommandError → Type 0
+TellsUnshrunk edit read e = (cause : ElfError)
+    × (Refuses cause (step edit read) ⊎ ((made : Image) × (step edit read ≡ Ok made) × IsNoImage made cause))
+    × (e ≡ answer_to_elf cause)
 
 -- ---- over bytes
 

@@ -2,16 +2,17 @@
 ghost use Rattle.std.specs.Prelude.{◌≡◌, None, Some, codes, false, IfErr, IfOk, MatchResult, map};
 ghost use Rattle.arwen_cli.specs.Fault.{IsOfLine, status_of};
 ghost use Rattle.arwen_cli.specs.Meaning.{Meaning};
-ghost use Rattle.elf_commands.specs.Meaning.{elf_lines, elf_command_model};
+ghost use Rattle.command_words.specs.Rows.{given_model, meant_with};
+ghost use Rattle.elf_commands.specs.Meaning.{elf_lines, elf_command_model, reading_of};
 ghost use Rattle.macho_commands.specs.Meaning.{macho_lines};
 ghost use Rattle.macho_commands.specs.Meaning.{macho_command_model};
 ghost use Rattle.arwen_cli.specs.Meaning.{shown};
 ghost use Rattle.arwen_cli.specs.Line.{has_option, meaning_of};
-ghost use Rattle.arwen_cli.specs.Parser.{MayRefuse, MayRefuseTaken, MeansBy, MeansTaken};
+ghost use Rattle.arwen_cli.specs.Parser.{MayRefuse, MayRefuseReading, MayRefuseTaken, MeansBy, MeansTaken};
 
 use crate::cli::parser::{First, parse_values};
 use crate::cli::{ArwenError, Command, ElfCommand, MachoCommand};
-use command_words::ValueError;
+use command_words::{ValueError, Values};
 use elf_commands::elf_table;
 use macho_commands::macho_table;
 use std::alloc::{AllocError, Global};
@@ -172,6 +173,17 @@ fn parse_elf(alloc: Global, words: &[&str]) -> Result<ElfCommand, ArwenError>
     ensures err { IfErr result (λ error. IsOfLine error) }
 {
     let (name, values) = parse_values(alloc, ELF, elf_table(), words)?;
+    elf_command(alloc, name, values)
+}
+
+/// The command for ELF files of a name with its values.
+fn elf_command(alloc: Global, name: &str, values: Values) -> Result<ElfCommand, ArwenError>
+    ensures means { IfOk result (λ command.
+        meant_with elf_lines name.now (given_model values) ≡ Some (reading_of command)) }
+    ensures refused { IfErr result
+        (MayRefuseReading (meant_with elf_lines name.now (given_model values))) }
+    ensures err { IfErr result (λ error. IsOfLine error) }
+{
     match ElfCommand::with_values(alloc, name, values) {
         Ok(command) => or_usage(alloc, command),
         Err(error) => Err(no_value(alloc, error)),
