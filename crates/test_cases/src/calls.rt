@@ -1,7 +1,7 @@
 //! The calls that work on bytes and on a writer, and touch no file.
 use crate::changes::print_rows;
 use crate::{tell, tell_answer};
-use arwen_cli::cli::{ArwenError, ElfCommand, MachoCommand, run_elf, run_macho};
+use arwen_cli::cli::{ArwenError, ElfCommand, ElfCommandError, MachoCommand, MachoCommandError, run_elf, run_macho};
 use std::io;
 use std::io::{Cursor, Write};
 
@@ -18,10 +18,11 @@ pub(crate) fn edit(rt: &HostRuntime, bytes: &[u8], command: &MachoCommand) -> io
 
 /// The bytes of a file after a command, made again where memory was refused.
 fn edited(rt: &HostRuntime, bytes: &[u8], command: &MachoCommand) -> Result<Vec<u8>, ArwenError> {
-    match run_macho(rt.alloc(), bytes, command) {
-        Err(ArwenError::Memory) => run_macho(rt.alloc(), bytes, command),
+    let new = match run_macho(rt.alloc(), bytes, command) {
+        Err(MachoCommandError::Memory) => run_macho(rt.alloc(), bytes, command),
         answer => answer,
-    }
+    };
+    Ok(new?)
 }
 
 /// Prints what a command for ELF files makes of the bytes of a file: the rows that an edit changes, or what is
@@ -66,8 +67,9 @@ fn run<W: Write>(
     command: &ElfCommand,
     page: &mut W,
 ) -> Result<Option<Vec<u8>>, ArwenError> {
-    match run_elf(rt.alloc(), bytes, command, &[], page) {
-        Err(ArwenError::Memory) => run_elf(rt.alloc(), bytes, command, &[], page),
+    let new = match run_elf(rt.alloc(), bytes, command, &[], page) {
+        Err(ElfCommandError::Memory) => run_elf(rt.alloc(), bytes, command, &[], page),
         answer => answer,
-    }
+    };
+    Ok(new?)
 }

@@ -1,7 +1,7 @@
 ghost use Rattle.std.specs.Prelude.{◌≡◌};
 ghost use Rattle.std.specs.Io.{WritesAtMost};
 
-use arwen_commands::{ArwenError, MachoCommand, add, patch_store};
+use arwen_cli::cli::{MachoCommand, MachoCommandError, add, patch_store};
 use byte_store::{Failures, MemoryStore, Store};
 use std::alloc::{AllocError, Global};
 use std::io;
@@ -122,9 +122,9 @@ fn patched(
     store: &mut Failing,
     command: &MachoCommand,
     old: &[u8],
-) -> Result<(), ArwenError> {
+) -> Result<(), MachoCommandError> {
     let answer = patch_store(alloc, store, command);
-    if let Err(ArwenError::Memory) = &answer {
+    if let Err(MachoCommandError::Memory) = &answer {
         assert_eq!(rt; store.inner.bytes.as_slice(), old);
         return patch_store(alloc, store, command);
     }
@@ -150,7 +150,7 @@ fn expect_left(
     let answer = patched(rt, alloc, &mut store, &command, old.as_slice());
     let is_right = match answer {
         Ok(()) => writes >= 2,
-        Err(ArwenError::Io(_)) => writes < 2,
+        Err(MachoCommandError::Io(_)) => writes < 2,
         Err(_) => false,
     };
     assert!(rt; is_right, "{writes}");

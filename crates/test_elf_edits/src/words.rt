@@ -1,5 +1,6 @@
 //! Words of a line, and what they are read as.
-use arwen_commands::{EditsError, KeyValueError, parse_elf_edits, parse_key_val};
+use command_words::{EditsError, KeyValueError, parse_key_val};
+use elf_commands::parse_elf_edits;
 use elf_edits::ElfEdit;
 use std::alloc::{AllocError, Global};
 

@@ -1,5 +1,6 @@
 //! Words of a line that are edits.
-use arwen_commands::{EditsError, parse_elf_edits};
+use command_words::EditsError;
+use elf_commands::parse_elf_edits;
 use elf_edits::ElfEdit;
 use std::alloc::{AllocError, Global};
 
