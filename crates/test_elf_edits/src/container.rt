@@ -171,12 +171,24 @@ fn called(alloc: Global, file: &mut ElfContainer<'_>, edit: &ElfEdit) -> Result<
         ElfEdit::ForceRpath => file.force_rpath(),
         ElfEdit::RemoveRpath => file.remove_runpath(),
         ElfEdit::SetPageSize(size) => file.set_page_size(*size),
-        ElfEdit::AddRpath(text) => file.add_runpath(alloc, text.as_slice()),
+        ElfEdit::AddRpath(texts) => add_runpaths(alloc, file, texts.as_slice()),
         ElfEdit::SetRpath(text) => file.set_runpath(alloc, text.as_slice()),
         ElfEdit::SetSoname(text) => file.set_soname(alloc, text.as_slice()),
         ElfEdit::SetInterpreter(text) => file.set_interpreter(alloc, text.as_slice()),
         ElfEdit::SetOsAbi(name) => file.set_os_abi(alloc, name.as_str()),
         other => called_otherwise(alloc, file, other),
+    }
+}
+
+/// Adds directories to the run path by the call for one, or by that for several.
+fn add_runpaths(
+    alloc: Global,
+    file: &mut ElfContainer<'_>,
+    texts: &[Vec<u8>],
+) -> Result<(), ElfError> {
+    match texts {
+        [text] => file.add_runpath(alloc, text.as_slice()),
+        texts => file.inner.elf_add_runpath(alloc, texts),
     }
 }
 

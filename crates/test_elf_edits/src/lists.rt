@@ -2,7 +2,7 @@
 use crate::entries::{entries_of, shown, shown_text};
 use crate::words::{Read, edits_of, plain};
 use elf_edits::abi::{abi_number, with_nul};
-use elf_edits::{Cause, EditCall, ElfEdit, Facts, NewList, cause_of_edit, edited, edited_by};
+use elf_edits::{Cause, ElfEdit, Facts, NewList, cause_of, edit_list};
 use elf_image::Dynamic;
 use std::alloc::{AllocError, Global};
 
@@ -65,7 +65,7 @@ fn edit_all(
 /// The first edit that is refused, and why.
 fn first_cause<'e>(edits: &'e [ElfEdit], facts: &Facts) -> Option<(usize, Cause<'e>)> {
     for (index, edit) in edits.iter().enumerate() {
-        if let Some(cause) = cause_of_edit(edit, facts) {
+        if let Some(cause) = cause_of(edit, facts) {
             return Some((index, cause));
         }
     }
@@ -107,7 +107,7 @@ fn edited_all(
 
 /// The same list.
 fn unchanged<'d>(alloc: Global, entries: &[Dynamic<'d>]) -> Result<NewList<'d>, AllocError> {
-    edited(alloc, &EditCall::ClearExecStack, entries)
+    edit_list(alloc, &ElfEdit::ClearExecStack, entries)
 }
 
 /// The list after one more edit.
@@ -116,7 +116,7 @@ fn edited_once<'d>(
     edit: &ElfEdit,
     list: &NewList<'d>,
 ) -> Result<NewList<'d>, AllocError> {
-    let mut made = edited_by(alloc, edit, list.entries.as_slice())?;
+    let mut made = edit_list(alloc, edit, list.entries.as_slice())?;
     made.is_touched = made.is_touched || list.is_touched;
     Ok(made)
 }

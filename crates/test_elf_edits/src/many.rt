@@ -1,5 +1,5 @@
 //! Edits of a long list.
-use elf_edits::{ElfEdit, edited_by};
+use elf_edits::{ElfEdit, edit_list};
 use elf_image::Dynamic;
 use elf_image::constants::{DT_NEEDED, DT_RUNPATH};
 use patch_bytes::ByteString;
@@ -62,10 +62,17 @@ fn pairs(alloc: Global, needed: u32) -> Result<Vec<(Vec<u8>, Vec<u8>)>, AllocErr
     Ok(made)
 }
 
+/// A directory that is added.
+fn directories(alloc: Global) -> Result<Vec<Vec<u8>>, AllocError> {
+    let mut made = Vec::new(alloc);
+    made.push(Vec::from_slice(alloc, b"/more")?)?;
+    Ok(made)
+}
+
 /// Edits with as many values as libraries are needed.
 fn long_edits(alloc: Global, needed: u32) -> Result<Vec<ElfEdit>, AllocError> {
     let mut edits = Vec::new(alloc);
-    edits.push(ElfEdit::AddRpath(Vec::from_slice(alloc, b"/more")?))?;
+    edits.push(ElfEdit::AddRpath(directories(alloc)?))?;
     edits.push(ElfEdit::AddNeeded(names(alloc, needed)?))?;
     edits.push(ElfEdit::RemoveNeeded(names(alloc, needed)?))?;
     edits.push(ElfEdit::ReplaceNeeded(pairs(alloc, needed)?))?;
@@ -84,7 +91,7 @@ fn text_len(entry: &Dynamic<'_>) -> usize {
 
 /// How many entries there are after an edit, and how many bytes their texts have.
 fn counted(alloc: Global, edit: &ElfEdit, entries: &[Dynamic<'_>]) -> Result<String, AllocError> {
-    let made = edited_by(alloc, edit, entries)?;
+    let made = edit_list(alloc, edit, entries)?;
     let count = made.entries.len();
     let mut bytes = 0usize;
     for entry in made.entries.as_slice() {

@@ -1,8 +1,7 @@
 //! Run paths that shrink.
 use crate::entries::{entries_of, shown, shown_text};
 use crate::words::split;
-use elf_edits::shrinking::{shrink, shrink_questions};
-use elf_edits::{ProbeAnswer, Reason, Removed};
+use elf_edits_shrink::{ProbeAnswer, Reason, Removed, shrink_list, shrink_questions};
 use patch_bytes::ByteString;
 use std::alloc::{AllocError, Global};
 
@@ -87,7 +86,7 @@ pub(crate) fn shrunk(alloc: Global, line: &str) -> Result<String, AllocError> {
     let entries = entries_of(alloc, entries)?;
     let prefixes = texts_of(alloc, prefixes)?;
     let answers = answers_of(alloc, answers)?;
-    let list = shrink(
+    let list = shrink_list(
         alloc,
         MACHINE,
         prefixes.as_slice(),

@@ -4,9 +4,9 @@ ghost use Rattle.std.specs.Prelude.{◌≡◌, ◌==◌, find};
 use crate::blocks::table_load;
 use crate::following::{Anchor, added_flags, anchor_of, count_moved, is_moved};
 use crate::plain::{Part, Piece, Plain};
-use elf_format::constants::{EM_MIPS, PT_LOAD};
-use elf_layout_plan::constants::{
-    EM_AARCH64, EM_ALPHA, EM_IA_64, EM_LOONGARCH, EM_PPC, EM_PPC64, EM_SPARC, EM_SPARCV9, EM_TILEGX,
+use elf_format::constants::{
+    EM_AARCH64, EM_ALPHA, EM_IA_64, EM_LOONGARCH, EM_MIPS, EM_PPC, EM_PPC64, EM_SPARC, EM_SPARCV9,
+    EM_TILEGX, PT_LOAD,
 };
 use std::alloc::{AllocError, Global};
 
