@@ -1,7 +1,9 @@
 //! The calls that work on bytes and on a writer, and touch no file.
 use crate::changes::print_rows;
 use crate::{tell, tell_answer};
-use arwen_cli::cli::{ArwenError, ElfCommand, ElfCommandError, MachoCommand, MachoCommandError, run_elf, run_macho};
+use arwen_cli::cli::{
+    ArwenError, ElfCommand, ElfCommandError, MachoCommand, MachoCommandError, run_elf, run_macho,
+};
 use std::io;
 use std::io::{Cursor, Write};
 

@@ -12,9 +12,9 @@ ghost use Rattle.arwen_cli.specs.Parser.{values_rule, with_options, with_path, w
 
 use crate::cli::ArwenError;
 use crate::cli::line::{or_memory, or_usage, usage};
-use command_words::{Row, Value, ValueForm, ValueOption, Values, copies, find_row};
 use clap::error::ErrorKind;
 use clap::{Arg, ArgAction, ArgMatches, Error};
+use command_words::{Row, Value, ValueForm, ValueOption, Values, copies, find_row};
 use std::alloc::{AllocError, Global};
 
 /// A first word of lines.

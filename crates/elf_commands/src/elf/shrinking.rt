@@ -72,7 +72,12 @@ pub(crate) fn run_shrink<W: Write>(
     edits_show();
     batches_are_their_edits();
     let mut elf = ElfContainer::parse(alloc, bytes)?;
-    match shrink_image(alloc, &mut elf, args.allowed_rpath_prefixes.as_slice(), probe) {
+    match shrink_image(
+        alloc,
+        &mut elf,
+        args.allowed_rpath_prefixes.as_slice(),
+        probe,
+    ) {
         Ok(removed) => tell_removed(alloc, elf, removed, out),
         Err(error) => {
             drop(elf);
