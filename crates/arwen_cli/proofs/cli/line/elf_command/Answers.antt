@@ -16,6 +16,6 @@ returns-in-Ok-clause-refused c =
     IfErr-weaker c.or_usage.result _ _ (λ error none meaning read.
     absurd (some≢none _ (ap (option_map reading_of) (sym none) ∙ c.in-Ok.ensures.ok ∙ read))) c.or_usage.ensures.none
 
-pub returns-clause-refused : goal.returns-clause-refused
-returns-clause-refused c meaning read =
+pub returns-in-Err-clause-refused : goal.returns-in-Err-clause-refused
+returns-in-Err-clause-refused c meaning read =
     c.no_value.ensures.memory (of_memory _ meaning c.in-Err.error c.in-Err.ensures.err read)
