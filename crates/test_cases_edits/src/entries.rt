@@ -34,35 +34,42 @@ fn name_of(tag: u64) -> Option<&'static str> {
     None
 }
 
-/// The entry that a word TAG=VALUE is.
-fn entry_of<'d>(alloc: Global, word: &str) -> Result<Dynamic<'d>, AllocError> {
+/// Adds the entry that a word TAG=VALUE is.
+fn add_entry(alloc: Global, word: &str, entries: &mut Vec<Dynamic<'_>>) -> Result<(), AllocError> {
     let (name, value) = word.split_once('=').unwrap_or((word, ""));
     let tag = tag_of(name);
     match name {
-        "STRTAB" => Ok(Dynamic::Auto { tag }),
-        "DEBUG" | "FLAGS_1" => Ok(Dynamic::Integer {
+        "STRTAB" => entries.push(Dynamic::Auto { tag })?,
+        "DEBUG" | "FLAGS_1" => entries.push(Dynamic::Integer {
             tag,
             val: value.parse::<u64>().unwrap_or(0),
-        }),
-        _ => text_entry(alloc, tag, value),
+        })?,
+        _ => add_text(alloc, tag, value, entries)?,
     }
+    Ok(())
 }
 
-/// An entry with a text.
-fn text_entry<'d>(alloc: Global, tag: u64, text: &str) -> Result<Dynamic<'d>, AllocError> {
+/// Adds an entry with a text.
+pub(crate) fn add_text(
+    alloc: Global,
+    tag: u64,
+    text: &str,
+    entries: &mut Vec<Dynamic<'_>>,
+) -> Result<(), AllocError> {
     let val = ByteString::owned(Vec::from_slice(alloc, text.as_bytes())?);
-    Ok(Dynamic::Text { tag, val })
+    entries.push(Dynamic::Text { tag, val })?;
+    Ok(())
 }
 
 /// The entries that the words of a line are.
 pub(crate) fn entries_of<'d>(alloc: Global, line: &str) -> Result<Vec<Dynamic<'d>>, AllocError> {
-    let mut made = Vec::new(alloc);
+    let mut entries = Vec::new(alloc);
     for word in line.split(' ') {
         if !word.is_empty() {
-            made.push(entry_of(alloc, word)?)?;
+            add_entry(alloc, word, &mut entries)?;
         }
     }
-    Ok(made)
+    Ok(entries)
 }
 
 /// Puts down bytes as text, a character each; a NUL is `~`.

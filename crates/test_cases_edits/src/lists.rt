@@ -107,14 +107,36 @@ fn put_edited(
     entries: &[Dynamic<'_>],
     out: &mut String,
 ) -> Result<(), AllocError> {
-    let Some((first, others)) = edits.split_first() else {
-        return put_list(entries, out);
-    };
-    let mut list = edited_by(alloc, first, entries)?;
-    for edit in others {
-        list = edited_once(alloc, edit, &list)?;
+    match edits.split_first() {
+        None => put_list(entries, out),
+        Some((first, others)) => put_edited_first(alloc, first, others, entries, out),
     }
-    put_new_list(&list, out)
+}
+
+/// Puts down the list after an edit and others.
+fn put_edited_first(
+    alloc: Global,
+    first: &ElfEdit,
+    others: &[ElfEdit],
+    entries: &[Dynamic<'_>],
+    out: &mut String,
+) -> Result<(), AllocError> {
+    let list = edited_by(alloc, first, entries)?;
+    put_edited_on(alloc, others, &list, out)
+}
+
+/// Puts down a list after further edits.
+fn put_edited_on(
+    alloc: Global,
+    edits: &[ElfEdit],
+    list: &NewList<'_>,
+    out: &mut String,
+) -> Result<(), AllocError> {
+    let Some((first, others)) = edits.split_first() else {
+        return put_new_list(list, out);
+    };
+    let made = edited_once(alloc, first, list)?;
+    put_edited_on(alloc, others, &made, out)
 }
 
 /// The list after one more edit.

@@ -1,10 +1,10 @@
 //! Edits of a long list.
+use crate::entries::add_text;
 use crate::words::put_fault;
 use arwen_cli::elf::ElfEdit;
 use elf_edits::edited_by;
 use elf_image::Dynamic;
 use elf_image::constants::{DT_NEEDED, DT_RUNPATH};
-use patch_bytes::ByteString;
 use std::alloc::{AllocError, Global};
 use test_cases_files::words::{edits_of, split_kind};
 
@@ -43,28 +43,26 @@ fn edit_by_words(
 
 /// A list of so many run paths, and behind them so many needed libraries.
 fn long_list<'d>(alloc: Global, paths: u32, needed: u32) -> Result<Vec<Dynamic<'d>>, AllocError> {
-    let mut made = Vec::new(alloc);
-    put_entries(alloc, DT_RUNPATH, "/path", paths, &mut made)?;
-    put_entries(alloc, DT_NEEDED, "lib", needed, &mut made)?;
-    Ok(made)
+    let mut entries = Vec::new(alloc);
+    for number in 0..paths {
+        add_numbered(alloc, DT_RUNPATH, "/path", number, &mut entries)?;
+    }
+    for number in 0..needed {
+        add_numbered(alloc, DT_NEEDED, "lib", number, &mut entries)?;
+    }
+    Ok(entries)
 }
 
-/// Puts down so many entries of a tag, whose texts have numbers behind them.
-fn put_entries(
+/// Adds an entry whose text has a number behind it.
+fn add_numbered(
     alloc: Global,
     tag: u64,
     front: &str,
-    count: u32,
-    made: &mut Vec<Dynamic<'_>>,
+    number: u32,
+    entries: &mut Vec<Dynamic<'_>>,
 ) -> Result<(), AllocError> {
-    for number in 0..count {
-        let text = format!(in alloc; "{front}{number}")?;
-        made.push(Dynamic::Text {
-            tag,
-            val: ByteString::owned(text.into_bytes()),
-        })?;
-    }
-    Ok(())
+    let text = format!(in alloc; "{front}{number}")?;
+    add_text(alloc, tag, text.as_str(), entries)
 }
 
 /// Puts down words of edits, some of which have as many values as libraries are needed.

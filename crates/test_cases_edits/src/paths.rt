@@ -20,13 +20,19 @@ pub(crate) fn show_questions(
     put_questions(alloc, entries.as_slice(), out)
 }
 
-/// Puts down what has to be looked for, a line for each directory and library.
+/// Puts down what has to be looked for.
 fn put_questions(
     alloc: Global,
     entries: &[Dynamic<'_>],
     out: &mut String,
 ) -> Result<(), AllocError> {
-    for (directory, needed) in shrink_questions(alloc, entries)?.as_slice() {
+    let questions = shrink_questions(alloc, entries)?;
+    put_pairs(questions.as_slice(), out)
+}
+
+/// Puts down pairs of a directory and a library, a line for each.
+fn put_pairs(pairs: &[(&[u8], &[u8])], out: &mut String) -> Result<(), AllocError> {
+    for (directory, needed) in pairs {
         put_text(directory, out)?;
         out.push(' ')?;
         put_text(needed, out)?;

@@ -39,7 +39,15 @@ pub(crate) fn file_bytes<R: Files + AllocGlobal>(rt: &R) -> io::Result<Vec<u8>> 
 pub(crate) fn copy<R: Files + AllocGlobal>(rt: &R, name: &str) -> io::Result<()> {
     match content(rt, name)? {
         Some(bytes) => fs::write(rt, FILE, bytes.as_slice()),
-        None => fs::remove_file(rt, FILE),
+        None => remove(rt),
+    }
+}
+
+/// Takes the file away, where there is one.
+fn remove<R: Files + AllocGlobal>(rt: &R) -> io::Result<()> {
+    match fs::remove_file(rt, FILE) {
+        Err(error) if error.kind() == io::ErrorKind::NotFound => Ok(()),
+        answer => answer,
     }
 }
 
