@@ -1,5 +1,6 @@
 //! The calls on the program header for the stack.
 
+use crate::Runtime;
 use crate::edits::tell;
 use crate::images::read;
 use crate::words::number;
@@ -29,7 +30,7 @@ const CALLS: [Call; 4] = [
 ];
 
 /// Prints what comes of each call on an image of a file, whose lent flags are set.
-pub(crate) fn print_stacks(rt: &HostRuntime, bytes: &[u8], words: &str) -> io::Result<()> {
+pub(crate) fn print_stacks(rt: &impl Runtime, bytes: &[u8], words: &str) -> io::Result<()> {
     let flags = u32::try_from(number(words)).unwrap_or(0);
     for call in CALLS {
         print_stack(rt, bytes, call, flags)?;
@@ -37,7 +38,7 @@ pub(crate) fn print_stacks(rt: &HostRuntime, bytes: &[u8], words: &str) -> io::R
     Ok(())
 }
 
-fn print_stack(rt: &HostRuntime, bytes: &[u8], call: Call, flags: u32) -> io::Result<()> {
+fn print_stack(rt: &impl Runtime, bytes: &[u8], call: Call, flags: u32) -> io::Result<()> {
     match read(rt.alloc(), bytes) {
         Ok(mut image) => print_call(rt, &mut image, call, flags),
         Err(fault) => println!(rt; "{fault:?}"),
@@ -45,14 +46,19 @@ fn print_stack(rt: &HostRuntime, bytes: &[u8], call: Call, flags: u32) -> io::Re
 }
 
 /// Prints what comes of a call, and the image.
-fn print_call(rt: &HostRuntime, image: &mut Builder<'_>, call: Call, flags: u32) -> io::Result<()> {
+fn print_call(
+    rt: &impl Runtime,
+    image: &mut Builder<'_>,
+    call: Call,
+    flags: u32,
+) -> io::Result<()> {
     print!(rt; "{call:?} ")?;
     tell_old(rt, set(rt.alloc(), image, call, flags))?;
     print_image(rt, image)
 }
 
 /// Prints the flags that were there, or why none were lent.
-fn tell_old(rt: &HostRuntime, answer: Result<Option<u32>, ElfError>) -> io::Result<()> {
+fn tell_old(rt: &impl Runtime, answer: Result<Option<u32>, ElfError>) -> io::Result<()> {
     match answer {
         Ok(old) => println!(rt; "{old:?}"),
         Err(error) => tell(rt, &error),
@@ -60,7 +66,7 @@ fn tell_old(rt: &HostRuntime, answer: Result<Option<u32>, ElfError>) -> io::Resu
 }
 
 /// Prints the flags of the stack, how many program headers there are, and whether something was edited.
-fn print_image(rt: &HostRuntime, image: &Builder<'_>) -> io::Result<()> {
+fn print_image(rt: &impl Runtime, image: &Builder<'_>) -> io::Result<()> {
     let flags = image.stack().map(|stack| stack.p_flags());
     let (count, is_changed) = (image.segments().len(), image.changed());
     println!(rt; "stack {flags:?}, {count} headers, changed {is_changed}")

@@ -1,5 +1,6 @@
 //! The image of a file.
 
+use crate::Runtime;
 use crate::lists::{print_definition, print_entries, print_need, print_segments, print_symbols};
 use crate::rows::{Row, Text};
 use elf_image::constants::SHT_DYNSYM;
@@ -16,14 +17,14 @@ pub(crate) fn read<'f>(alloc: Global, bytes: &'f [u8]) -> Result<Builder<'f>, El
 }
 
 /// Prints the image of a file, or why it is refused.
-pub(crate) fn print_file(rt: &HostRuntime, bytes: &[u8]) -> io::Result<()> {
+pub(crate) fn print_file(rt: &impl Runtime, bytes: &[u8]) -> io::Result<()> {
     match read(rt.alloc(), bytes) {
         Ok(image) => print_image(rt, bytes, &image),
         Err(fault) => println!(rt; "{fault:?}"),
     }
 }
 
-fn print_image(rt: &HostRuntime, bytes: &[u8], image: &Builder<'_>) -> io::Result<()> {
+fn print_image(rt: &impl Runtime, bytes: &[u8], image: &Builder<'_>) -> io::Result<()> {
     print_outline(rt, bytes, image)?;
     print_segments(rt, image.segments())?;
     print_sections(rt, image.sections())?;
@@ -35,7 +36,7 @@ fn print_image(rt: &HostRuntime, bytes: &[u8], image: &Builder<'_>) -> io::Resul
     print_copies(rt, image)
 }
 
-fn print_outline(rt: &HostRuntime, bytes: &[u8], image: &Builder<'_>) -> io::Result<()> {
+fn print_outline(rt: &impl Runtime, bytes: &[u8], image: &Builder<'_>) -> io::Result<()> {
     let (class, order) = (image.class(), image.order());
     println!(rt; "{class:?} {order:?} {:?}", image.header())?;
     let (is_changed, page_size) = (image.changed(), image.page_size());
@@ -60,7 +61,7 @@ fn numbers(section: &Section<'_>) -> [u64; 9] {
 }
 
 /// Prints of each section its name, what its bytes are, the numbers and the bytes.
-fn print_sections(rt: &HostRuntime, sections: &[Section<'_>]) -> io::Result<()> {
+fn print_sections(rt: &impl Runtime, sections: &[Section<'_>]) -> io::Result<()> {
     for section in sections {
         let (name, numbers) = (Text(section.name.as_slice()), numbers(section));
         println!(rt;
@@ -72,7 +73,7 @@ fn print_sections(rt: &HostRuntime, sections: &[Section<'_>]) -> io::Result<()> 
     Ok(())
 }
 
-fn print_versions(rt: &HostRuntime, image: &Builder<'_>) -> io::Result<()> {
+fn print_versions(rt: &impl Runtime, image: &Builder<'_>) -> io::Result<()> {
     for definition in &image.versions().definitions {
         print_definition(rt, definition)?;
     }
@@ -83,7 +84,7 @@ fn print_versions(rt: &HostRuntime, image: &Builder<'_>) -> io::Result<()> {
 }
 
 /// Prints where sections stand: those of numbers at read, of types, and those that sections lean on.
-fn print_places(rt: &HostRuntime, image: &Builder<'_>) -> io::Result<()> {
+fn print_places(rt: &impl Runtime, image: &Builder<'_>) -> io::Result<()> {
     let numbered = (image.section_position(4), image.section_position(40));
     let typed = (image.type_position(SHT_DYNSYM), image.type_position(99));
     println!(rt; "numbers 4 and 40 at {numbered:?}, types 11 and 99 at {typed:?}")?;
@@ -105,7 +106,7 @@ fn print_places(rt: &HostRuntime, image: &Builder<'_>) -> io::Result<()> {
     )
 }
 
-fn print_links(rt: &HostRuntime, image: &Builder<'_>) -> io::Result<()> {
+fn print_links(rt: &impl Runtime, image: &Builder<'_>) -> io::Result<()> {
     print!(rt; "links")?;
     for i in 0..image.sections().len() {
         print!(rt; " {:?}", image.link_position(i))?;
@@ -144,7 +145,7 @@ fn are_dynamic_symbols_numbered(image: &Builder<'_>) -> bool {
 }
 
 /// Prints whether a copy of the image is the same, and the image that is read once more after an edit of a copy.
-fn print_copies(rt: &HostRuntime, image: &Builder<'_>) -> io::Result<()> {
+fn print_copies(rt: &impl Runtime, image: &Builder<'_>) -> io::Result<()> {
     let is_copied = match is_copy_same(rt.alloc(), image) {
         Err(_) => is_copy_same(rt.alloc(), image)?,
         Ok(is_same) => is_same,

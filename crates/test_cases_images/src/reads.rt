@@ -1,12 +1,13 @@
 //! What the writer and the container read of a file.
 
+use crate::Runtime;
 use crate::edits::{parse, tell};
 use crate::rows::Text;
 use arwen_elf::elf::{BuilderExt, ElfContainer, ElfError, Writer};
 use std::alloc::Global;
 use std::io;
 
-pub(crate) fn print_reads(rt: &HostRuntime, bytes: &[u8]) -> io::Result<()> {
+pub(crate) fn print_reads(rt: &impl Runtime, bytes: &[u8]) -> io::Result<()> {
     println!(rt; "machine {:?}", arwen_elf::machine_of(bytes))?;
     match parse(rt.alloc(), bytes) {
         Ok(file) => print_file(rt, bytes, &file),
@@ -14,7 +15,7 @@ pub(crate) fn print_reads(rt: &HostRuntime, bytes: &[u8]) -> io::Result<()> {
     }
 }
 
-fn print_file(rt: &HostRuntime, bytes: &[u8], file: &ElfContainer<'_>) -> io::Result<()> {
+fn print_file(rt: &impl Runtime, bytes: &[u8], file: &ElfContainer<'_>) -> io::Result<()> {
     print_texts(rt, &file.inner)?;
     print_numbers(rt, &file.inner)?;
     print_needed(rt, &file.inner)?;
@@ -27,7 +28,7 @@ fn print_file(rt: &HostRuntime, bytes: &[u8], file: &ElfContainer<'_>) -> io::Re
 }
 
 /// Prints the run path, the file's own name and its interpreter.
-fn print_texts(rt: &HostRuntime, file: &Writer<'_>) -> io::Result<()> {
+fn print_texts(rt: &impl Runtime, file: &Writer<'_>) -> io::Result<()> {
     let texts = [
         file.elf_runpath(),
         file.elf_soname(),
@@ -37,7 +38,7 @@ fn print_texts(rt: &HostRuntime, file: &Writer<'_>) -> io::Result<()> {
 }
 
 /// Prints type, machine, ABI byte and page size, the flags of the stack, both ways, and its alignment.
-fn print_numbers(rt: &HostRuntime, file: &Writer<'_>) -> io::Result<()> {
+fn print_numbers(rt: &impl Runtime, file: &Writer<'_>) -> io::Result<()> {
     let header = file.header();
     let numbers = [
         header.e_type as u32,
@@ -54,7 +55,7 @@ fn print_numbers(rt: &HostRuntime, file: &Writer<'_>) -> io::Result<()> {
     println!(rt; "numbers {numbers:?}, stack {flags:?} {alignment:?}")
 }
 
-fn print_needed(rt: &HostRuntime, file: &Writer<'_>) -> io::Result<()> {
+fn print_needed(rt: &impl Runtime, file: &Writer<'_>) -> io::Result<()> {
     for text in file.elf_needed() {
         println!(rt; "needed {}", Text(text))?;
     }
@@ -69,7 +70,7 @@ fn directories(alloc: Global, file: &ElfContainer<'_>) -> Result<Vec<String>, El
     }
 }
 
-fn print_directories(rt: &HostRuntime, file: &ElfContainer<'_>) -> io::Result<()> {
+fn print_directories(rt: &impl Runtime, file: &ElfContainer<'_>) -> io::Result<()> {
     match directories(rt.alloc(), file) {
         Ok(directories) => println!(rt; "directories {directories:?}"),
         Err(error) => tell(rt, &error),

@@ -1,5 +1,6 @@
 //! Why files are refused.
 
+use crate::Runtime;
 use crate::edits::parse;
 use crate::images::read;
 use arwen_elf::elf::{ElfError, Writer};
@@ -43,7 +44,7 @@ fn faults_of(alloc: Global, bytes: &[u8]) -> Faults {
     ]
 }
 
-pub(crate) fn print_faults(rt: &HostRuntime, bytes: &[u8]) -> io::Result<()> {
+pub(crate) fn print_faults(rt: &impl Runtime, bytes: &[u8]) -> io::Result<()> {
     let [image, writer, container] = faults_of(rt.alloc(), bytes);
     if image == writer && image == container {
         return print_fault(rt, image);
@@ -52,7 +53,7 @@ pub(crate) fn print_faults(rt: &HostRuntime, bytes: &[u8]) -> io::Result<()> {
 }
 
 /// Prints the fault that all three tell.
-fn print_fault(rt: &HostRuntime, fault: Option<ElfFault>) -> io::Result<()> {
+fn print_fault(rt: &impl Runtime, fault: Option<ElfFault>) -> io::Result<()> {
     match fault {
         None => println!(rt; "accepted"),
         Some(fault) => println!(rt; "{fault:?}"),
@@ -60,7 +61,7 @@ fn print_fault(rt: &HostRuntime, fault: Option<ElfFault>) -> io::Result<()> {
 }
 
 /// Prints how many fronts of a file all three refuse as cut, and the faults of other fronts.
-pub(crate) fn print_fronts(rt: &HostRuntime, bytes: &[u8]) -> io::Result<()> {
+pub(crate) fn print_fronts(rt: &impl Runtime, bytes: &[u8]) -> io::Result<()> {
     let mut count = 0u64;
     for n in 0..bytes.len() {
         let faults = faults_of(rt.alloc(), &bytes[..n]);

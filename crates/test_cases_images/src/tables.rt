@@ -1,5 +1,6 @@
 //! Tables of symbols, and their names in string tables.
 
+use crate::Runtime;
 use crate::lists::print_symbols;
 use crate::words::{bytes_of, first};
 use elf_format::texts::text;
@@ -54,14 +55,14 @@ fn parts_of(alloc: Global, words: &str) -> Result<Parts, AllocError> {
 }
 
 /// Prints the symbols of a table, or that a name is missing.
-pub(crate) fn print_table(rt: &HostRuntime, words: &str) -> io::Result<()> {
+pub(crate) fn print_table(rt: &impl Runtime, words: &str) -> io::Result<()> {
     match parts_of(rt.alloc(), words) {
         Err(_) => print_parts(rt, &parts_of(rt.alloc(), words)?),
         Ok(parts) => print_parts(rt, &parts),
     }
 }
 
-fn print_parts(rt: &HostRuntime, parts: &Parts) -> io::Result<()> {
+fn print_parts(rt: &impl Runtime, parts: &Parts) -> io::Result<()> {
     let versions = match &parts.versions {
         Some(versions) => Some(versions.as_slice()),
         None => None,
@@ -72,17 +73,17 @@ fn print_parts(rt: &HostRuntime, parts: &Parts) -> io::Result<()> {
     }
 }
 
-fn print_read(rt: &HostRuntime, symbols: &Symbols<'_>) -> io::Result<()> {
+fn print_read(rt: &impl Runtime, symbols: &Symbols<'_>) -> io::Result<()> {
     print_count(rt, symbols)?;
     print_symbols(rt, "symbol", &symbols.same())
 }
 
-fn print_count(rt: &HostRuntime, symbols: &Symbols<'_>) -> io::Result<()> {
+fn print_count(rt: &impl Runtime, symbols: &Symbols<'_>) -> io::Result<()> {
     println!(rt; "{} symbols, empty {}", symbols.len(), symbols.is_empty())
 }
 
 /// Prints the versions that have no name, and no symbols.
-pub(crate) fn print_constants(rt: &HostRuntime) -> io::Result<()> {
+pub(crate) fn print_constants(rt: &impl Runtime) -> io::Result<()> {
     println!(rt; "{:?} {:?}", VersionId::local(), VersionId::global())?;
     print_count(rt, &Symbols::none())
 }
@@ -101,14 +102,14 @@ fn is_read(texts: &[u8], place: u8) -> bool {
 }
 
 /// Prints at which of the first 20 places of a string table a name is that a symbol can have, and a text.
-pub(crate) fn print_places(rt: &HostRuntime, words: &str) -> io::Result<()> {
+pub(crate) fn print_places(rt: &impl Runtime, words: &str) -> io::Result<()> {
     match bytes_of(rt.alloc(), words) {
         Err(_) => print_each(rt, &bytes_of(rt.alloc(), words)?),
         Ok(texts) => print_each(rt, &texts),
     }
 }
 
-fn print_each(rt: &HostRuntime, texts: &[u8]) -> io::Result<()> {
+fn print_each(rt: &impl Runtime, texts: &[u8]) -> io::Result<()> {
     print!(rt; "names")?;
     for place in 0..20 {
         if is_read(texts, place) {

@@ -1,5 +1,6 @@
 //! What a writer gets of a file.
 
+use crate::Runtime;
 use crate::edits::{edit_all, parse, tell, tell_answer};
 use crate::taker::Taker;
 use crate::words::{first, place};
@@ -22,7 +23,7 @@ fn write_again(
 }
 
 /// Prints what comes of writing a file after edits to a writer that takes so many bytes, and so many at a time.
-pub(crate) fn print_taken(rt: &HostRuntime, bytes: &[u8], words: &str) -> io::Result<()> {
+pub(crate) fn print_taken(rt: &impl Runtime, bytes: &[u8], words: &str) -> io::Result<()> {
     let (room, words) = first(words);
     let (step, words) = first(words);
     match parse(rt.alloc(), bytes) {
@@ -32,7 +33,7 @@ pub(crate) fn print_taken(rt: &HostRuntime, bytes: &[u8], words: &str) -> io::Re
 }
 
 fn print_edited(
-    rt: &HostRuntime,
+    rt: &impl Runtime,
     file: &mut ElfContainer<'_>,
     size: (usize, usize),
     words: &str,
@@ -42,7 +43,7 @@ fn print_edited(
 }
 
 fn print_written(
-    rt: &HostRuntime,
+    rt: &impl Runtime,
     file: &ElfContainer<'_>,
     size: (usize, usize),
 ) -> io::Result<()> {
@@ -54,7 +55,7 @@ fn print_written(
 
 /// Prints what comes of it, where the writer wants these bytes.
 fn print_answer(
-    rt: &HostRuntime,
+    rt: &impl Runtime,
     file: &ElfContainer<'_>,
     want: &[u8],
     (room, step): (usize, usize),
@@ -66,7 +67,7 @@ fn print_answer(
 }
 
 /// Prints how many fronts of a file a writer gets, and then fails, that takes no more bytes than these.
-pub(crate) fn print_fronts(rt: &HostRuntime, bytes: &[u8], words: &str) -> io::Result<()> {
+pub(crate) fn print_fronts(rt: &impl Runtime, bytes: &[u8], words: &str) -> io::Result<()> {
     match parse(rt.alloc(), bytes) {
         Ok(file) => print_all(rt, &file, bytes, place(words)),
         Err(error) => tell(rt, &error),
@@ -74,7 +75,7 @@ pub(crate) fn print_fronts(rt: &HostRuntime, bytes: &[u8], words: &str) -> io::R
 }
 
 fn print_all(
-    rt: &HostRuntime,
+    rt: &impl Runtime,
     file: &ElfContainer<'_>,
     bytes: &[u8],
     step: usize,

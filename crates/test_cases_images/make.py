@@ -1,7 +1,7 @@
 #!/usr/bin/env python3
 """Makes the small ELF files that the cases of files are run on.
 
-    python3 crates/test_cases_files/make.py [FOLDER]
+    python3 crates/test_cases_images/make.py [FOLDER]
 
 The files are written into FOLDER, or into the folder `data` of the program `test_cases`. The records are those of the
 System V gABI and of GNU's symbol versions. `elf-linked` is made by gcc and GNU ld, of which versions 12.2 and 2.40 made the

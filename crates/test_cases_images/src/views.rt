@@ -1,5 +1,6 @@
 //! What the plain readers show of a file.
 
+use crate::Runtime;
 use crate::lists::print_symbol;
 use crate::rows::Text;
 use crate::words::number;
@@ -12,7 +13,7 @@ use test_elf_plain::view::{
 use test_elf_plain::{ViewFault, loader_view, section_view};
 
 /// Prints what a file shows through its section headers.
-pub(crate) fn print_by_sections(rt: &HostRuntime, bytes: &[u8]) -> io::Result<()> {
+pub(crate) fn print_by_sections(rt: &impl Runtime, bytes: &[u8]) -> io::Result<()> {
     match by_sections(rt.alloc(), bytes) {
         Ok(view) => print_view(rt, &view),
         Err(fault) => println!(rt; "{fault}"),
@@ -28,7 +29,7 @@ fn by_sections(alloc: Global, bytes: &[u8]) -> Result<ShownView<'_>, ViewFault> 
 }
 
 /// Prints what a loader sees that is told of so many symbols.
-pub(crate) fn print_loaded(rt: &HostRuntime, bytes: &[u8], words: &str) -> io::Result<()> {
+pub(crate) fn print_loaded(rt: &impl Runtime, bytes: &[u8], words: &str) -> io::Result<()> {
     match loaded(rt.alloc(), bytes, number(words)) {
         Ok(view) => print_view(rt, &view),
         Err(fault) => println!(rt; "{fault}"),
@@ -43,7 +44,7 @@ fn loaded(alloc: Global, bytes: &[u8], count: u64) -> Result<ShownView<'_>, View
     }
 }
 
-fn print_view(rt: &HostRuntime, view: &ShownView<'_>) -> io::Result<()> {
+fn print_view(rt: &impl Runtime, view: &ShownView<'_>) -> io::Result<()> {
     let (os_abi, flags) = (view.os_abi, view.stack_flags);
     println!(rt;
         "abi {os_abi}, stack {flags:?}, interpreter {:?}",
@@ -80,14 +81,14 @@ fn lent<'a>(symbol: &'a ShownSymbol) -> Symbol<'a> {
     }
 }
 
-fn print_symbols(rt: &HostRuntime, symbols: &[ShownSymbol]) -> io::Result<()> {
+fn print_symbols(rt: &impl Runtime, symbols: &[ShownSymbol]) -> io::Result<()> {
     for symbol in symbols {
         print_symbol(rt, "dynamic symbol", &lent(symbol))?;
     }
     Ok(())
 }
 
-fn print_definitions(rt: &HostRuntime, definitions: &[ShownDefinition]) -> io::Result<()> {
+fn print_definitions(rt: &impl Runtime, definitions: &[ShownDefinition]) -> io::Result<()> {
     for definition in definitions {
         print!(rt; "defines {} {}", definition.index, definition.flags)?;
         print_names(rt, &definition.names)?;
@@ -95,14 +96,14 @@ fn print_definitions(rt: &HostRuntime, definitions: &[ShownDefinition]) -> io::R
     Ok(())
 }
 
-fn print_names(rt: &HostRuntime, names: &[Vec<u8>]) -> io::Result<()> {
+fn print_names(rt: &impl Runtime, names: &[Vec<u8>]) -> io::Result<()> {
     for name in names {
         print!(rt; " {}", Text(name))?;
     }
     println!(rt;)
 }
 
-fn print_needs(rt: &HostRuntime, needs: &[ShownNeeds]) -> io::Result<()> {
+fn print_needs(rt: &impl Runtime, needs: &[ShownNeeds]) -> io::Result<()> {
     for need in needs {
         print!(rt; "needs {}", Text(&need.file))?;
         print_versions(rt, &need.versions)?;
@@ -110,7 +111,7 @@ fn print_needs(rt: &HostRuntime, needs: &[ShownNeeds]) -> io::Result<()> {
     Ok(())
 }
 
-fn print_versions(rt: &HostRuntime, versions: &[ShownName]) -> io::Result<()> {
+fn print_versions(rt: &impl Runtime, versions: &[ShownName]) -> io::Result<()> {
     for version in versions {
         let (index, flags) = (version.index, version.flags);
         print!(rt; ", {index} {flags} {}", Text(&version.name))?;
@@ -118,14 +119,14 @@ fn print_versions(rt: &HostRuntime, versions: &[ShownName]) -> io::Result<()> {
     println!(rt;)
 }
 
-fn print_entries(rt: &HostRuntime, entries: &[EntryView]) -> io::Result<()> {
+fn print_entries(rt: &impl Runtime, entries: &[EntryView]) -> io::Result<()> {
     for entry in entries {
         print_entry(rt, entry)?;
     }
     Ok(())
 }
 
-fn print_entry(rt: &HostRuntime, entry: &EntryView) -> io::Result<()> {
+fn print_entry(rt: &impl Runtime, entry: &EntryView) -> io::Result<()> {
     match entry {
         EntryView::Auto(tag) => println!(rt; "entry {tag}"),
         EntryView::Integer(tag, val) => println!(rt; "entry {tag} = {val}"),

@@ -1,5 +1,6 @@
 //! The bytes of files after edits.
 
+use crate::Runtime;
 use crate::edits::{edit_all, parse, tell};
 use crate::files::{put, resized, save};
 use crate::rows::print_rows;
@@ -9,7 +10,7 @@ use std::alloc::{AllocError, Global};
 use std::io;
 
 /// Prints what is written of a file after edits.
-pub(crate) fn print_file(rt: &HostRuntime, bytes: &[u8], words: &str) -> io::Result<()> {
+pub(crate) fn print_file(rt: &impl Runtime, bytes: &[u8], words: &str) -> io::Result<()> {
     match parse(rt.alloc(), bytes) {
         Ok(mut file) => print_edited(rt, bytes, &mut file, words),
         Err(error) => tell(rt, &error),
@@ -18,7 +19,7 @@ pub(crate) fn print_file(rt: &HostRuntime, bytes: &[u8], words: &str) -> io::Res
 
 /// Edits a file, and prints what is written of it.
 fn print_edited(
-    rt: &HostRuntime,
+    rt: &impl Runtime,
     bytes: &[u8],
     file: &mut ElfContainer<'_>,
     words: &str,
@@ -28,7 +29,7 @@ fn print_edited(
     print_written(rt, bytes, file)
 }
 
-fn print_written(rt: &HostRuntime, bytes: &[u8], file: &ElfContainer<'_>) -> io::Result<()> {
+fn print_written(rt: &impl Runtime, bytes: &[u8], file: &ElfContainer<'_>) -> io::Result<()> {
     match image_bytes(rt.alloc(), &file.inner) {
         Ok(new) => print_new(rt, bytes, file, &new),
         Err(error) => tell(rt, &error),
@@ -52,7 +53,7 @@ pub(crate) fn container_bytes(alloc: Global, file: &ElfContainer<'_>) -> Result<
 }
 
 /// Prints the rows that are written anew, and whether the pieces that differ make the same bytes. Makes the file of them.
-fn print_new(rt: &HostRuntime, old: &[u8], file: &ElfContainer<'_>, new: &[u8]) -> io::Result<()> {
+fn print_new(rt: &impl Runtime, old: &[u8], file: &ElfContainer<'_>, new: &[u8]) -> io::Result<()> {
     print_rows(rt, old, new)?;
     print_difference(rt, old, file, new)?;
     save(rt, new)
@@ -60,7 +61,7 @@ fn print_new(rt: &HostRuntime, old: &[u8], file: &ElfContainer<'_>, new: &[u8]) 
 
 /// Prints whether the pieces that differ make the same bytes.
 fn print_difference(
-    rt: &HostRuntime,
+    rt: &impl Runtime,
     old: &[u8],
     file: &ElfContainer<'_>,
     new: &[u8],
@@ -79,7 +80,12 @@ fn pieces(alloc: Global, file: &ElfContainer<'_>) -> Result<Difference, ElfError
     }
 }
 
-fn print_made(rt: &HostRuntime, old: &[u8], difference: &Difference, new: &[u8]) -> io::Result<()> {
+fn print_made(
+    rt: &impl Runtime,
+    old: &[u8],
+    difference: &Difference,
+    new: &[u8],
+) -> io::Result<()> {
     let is_made = match makes(rt.alloc(), old, difference, new) {
         Err(_) => makes(rt.alloc(), old, difference, new)?,
         Ok(is_made) => is_made,

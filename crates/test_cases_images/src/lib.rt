@@ -55,9 +55,15 @@ mod writers;
 mod written;
 
 use std::io;
+use std::rt::Files;
+
+/// A runtime that prints, and has files and memory.
+pub(crate) trait Runtime: Files + Print + AllocGlobal {}
+
+impl<R: Files + Print + AllocGlobal> Runtime for R {}
 
 /// Prints each line of a text, and what comes of it.
-pub fn run(rt: &HostRuntime, cases: &str) -> io::Result<()> {
+pub fn run<R: Files + Print + AllocGlobal>(rt: &R, cases: &str) -> io::Result<()> {
     for line in cases.lines() {
         println!(rt; "{line}")?;
         step(rt, line)?;
@@ -66,7 +72,7 @@ pub fn run(rt: &HostRuntime, cases: &str) -> io::Result<()> {
 }
 
 /// Does what a line says.
-fn step(rt: &HostRuntime, line: &str) -> io::Result<()> {
+fn step(rt: &impl Runtime, line: &str) -> io::Result<()> {
     let (kind, words) = line.split_once(' ').unwrap_or((line, ""));
     match kind {
         "" | "#" => Ok(()),
@@ -80,13 +86,13 @@ fn step(rt: &HostRuntime, line: &str) -> io::Result<()> {
 }
 
 /// Does what a line says to the file.
-fn on_file(rt: &HostRuntime, kind: &str, words: &str) -> io::Result<()> {
+fn on_file(rt: &impl Runtime, kind: &str, words: &str) -> io::Result<()> {
     let bytes = files::content(rt, files::FILE)?;
     on_bytes(rt, &bytes, kind, words)
 }
 
 /// Does what a line says to the bytes of the file.
-fn on_bytes(rt: &HostRuntime, bytes: &[u8], kind: &str, words: &str) -> io::Result<()> {
+fn on_bytes(rt: &impl Runtime, bytes: &[u8], kind: &str, words: &str) -> io::Result<()> {
     match kind {
         "i" => images::print_file(rt, bytes),
         "f" => faults::print_faults(rt, bytes),
@@ -101,7 +107,7 @@ fn on_bytes(rt: &HostRuntime, bytes: &[u8], kind: &str, words: &str) -> io::Resu
 }
 
 /// Does what a line with an edit says to the bytes of the file.
-fn on_edited(rt: &HostRuntime, bytes: &[u8], kind: &str, words: &str) -> io::Result<()> {
+fn on_edited(rt: &impl Runtime, bytes: &[u8], kind: &str, words: &str) -> io::Result<()> {
     match kind {
         "s" => stacks::print_stacks(rt, bytes, words),
         "t" => dynamic_lists::print_edits(rt, bytes),

@@ -1,5 +1,6 @@
 //! The file that lines work on.
 
+use crate::Runtime;
 use crate::words::{bytes_of, first, place};
 use std::alloc::{AllocError, Global};
 use std::{fs, io};
@@ -8,7 +9,7 @@ use std::{fs, io};
 pub(crate) const FILE: &str = "file";
 
 /// The bytes of a file, read again where memory was refused.
-pub(crate) fn content(rt: &HostRuntime, path: &str) -> io::Result<Vec<u8>> {
+pub(crate) fn content(rt: &impl Runtime, path: &str) -> io::Result<Vec<u8>> {
     match fs::read(rt, path) {
         Err(_) => fs::read(rt, path),
         read => read,
@@ -16,7 +17,7 @@ pub(crate) fn content(rt: &HostRuntime, path: &str) -> io::Result<Vec<u8>> {
 }
 
 /// Makes the file a copy of another with changes, tried again where memory was refused.
-pub(crate) fn make(rt: &HostRuntime, words: &str) -> io::Result<()> {
+pub(crate) fn make(rt: &impl Runtime, words: &str) -> io::Result<()> {
     let (name, changes) = first(words);
     match changed(rt, name, changes) {
         Err(_) => save(rt, &changed(rt, name, changes)?),
@@ -25,12 +26,12 @@ pub(crate) fn make(rt: &HostRuntime, words: &str) -> io::Result<()> {
 }
 
 /// Makes the file of bytes.
-pub(crate) fn save(rt: &HostRuntime, bytes: &[u8]) -> io::Result<()> {
+pub(crate) fn save(rt: &impl Runtime, bytes: &[u8]) -> io::Result<()> {
     fs::write(rt, FILE, bytes)
 }
 
 /// The bytes of a file with changes.
-fn changed(rt: &HostRuntime, name: &str, changes: &str) -> io::Result<Vec<u8>> {
+fn changed(rt: &impl Runtime, name: &str, changes: &str) -> io::Result<Vec<u8>> {
     let mut bytes = content(rt, name)?;
     for change in changes.split(' ') {
         bytes = changed_once(rt.alloc(), bytes, change)?;

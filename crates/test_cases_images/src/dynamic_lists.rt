@@ -2,6 +2,7 @@
 ghost use Rattle.std.specs.Prelude.{◌≡◌};
 ghost use Rattle.elf_image.specs.DynamicList.{tag_at as tag_listed};
 
+use crate::Runtime;
 use crate::images::read;
 use elf_image::Builder;
 use elf_image::constants::{DT_NEEDED, DT_RPATH, DT_RUNPATH};
@@ -36,7 +37,7 @@ fn tag_at(image: &Builder<'_>, i: usize) -> Option<u64>
 }
 
 /// Prints the tags of the dynamic list, and whether something was edited.
-fn print_tags(rt: &HostRuntime, image: &Builder<'_>) -> io::Result<()> {
+fn print_tags(rt: &impl Runtime, image: &Builder<'_>) -> io::Result<()> {
     for entry in image.dynamic_data().unwrap_or_default() {
         print!(rt; " {}", entry.tag())?;
     }
@@ -66,7 +67,7 @@ fn copy<'d>(alloc: Global, image: &Builder<'d>) -> Result<Builder<'d>, AllocErro
 }
 
 /// Prints what an edit makes of a copy of an image.
-fn print_edit(rt: &HostRuntime, image: &Builder<'_>, edit: Edit) -> io::Result<()> {
+fn print_edit(rt: &impl Runtime, image: &Builder<'_>, edit: Edit) -> io::Result<()> {
     print!(rt; "{edit:?}")?;
     let mut copy = copy(rt.alloc(), image)?;
     change(&mut copy, edit);
@@ -74,7 +75,7 @@ fn print_edit(rt: &HostRuntime, image: &Builder<'_>, edit: Edit) -> io::Result<(
 }
 
 /// Prints what each edit makes of a copy, and the image behind them.
-fn print_all(rt: &HostRuntime, image: &Builder<'_>) -> io::Result<()> {
+fn print_all(rt: &impl Runtime, image: &Builder<'_>) -> io::Result<()> {
     for edit in EDITS {
         print_edit(rt, image, edit)?;
     }
@@ -83,7 +84,7 @@ fn print_all(rt: &HostRuntime, image: &Builder<'_>) -> io::Result<()> {
 }
 
 /// Prints what each edit makes of a copy of a file's image, and the image behind them.
-pub(crate) fn print_edits(rt: &HostRuntime, bytes: &[u8]) -> io::Result<()> {
+pub(crate) fn print_edits(rt: &impl Runtime, bytes: &[u8]) -> io::Result<()> {
     match read(rt.alloc(), bytes) {
         Ok(image) => print_all(rt, &image),
         Err(fault) => println!(rt; "{fault:?}"),

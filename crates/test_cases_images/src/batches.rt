@@ -1,5 +1,6 @@
 //! Batch after batch of edits.
 
+use crate::Runtime;
 use crate::edits::{parse, tell};
 use crate::words::number;
 use arwen_elf::elf::{ElfBatchError, ElfContainer, ElfEdit, ElfError, Writer};
@@ -33,7 +34,7 @@ fn apply(alloc: Global, file: &mut Writer<'_>, words: &str) -> Result<Answers, A
 }
 
 /// Applies batches to a file, and prints what comes of each, and the run path and the page size behind them.
-pub(crate) fn print_batches(rt: &HostRuntime, bytes: &[u8], words: &str) -> io::Result<()> {
+pub(crate) fn print_batches(rt: &impl Runtime, bytes: &[u8], words: &str) -> io::Result<()> {
     match parse(rt.alloc(), bytes) {
         Ok(mut file) => print_applied(rt, &mut file, words),
         Err(error) => tell(rt, &error),
@@ -48,13 +49,13 @@ fn applied(alloc: Global, file: &mut Writer<'_>, words: &str) -> Result<Answers,
     }
 }
 
-fn print_applied(rt: &HostRuntime, file: &mut ElfContainer<'_>, words: &str) -> io::Result<()> {
+fn print_applied(rt: &impl Runtime, file: &mut ElfContainer<'_>, words: &str) -> io::Result<()> {
     print_answers(rt, applied(rt.alloc(), &mut file.inner, words)?)?;
     let path = file.inner.elf_runpath();
     println!(rt; "run path {path:?}, page size {}", file.get_page_size())
 }
 
-fn print_answers(rt: &HostRuntime, answers: Answers) -> io::Result<()> {
+fn print_answers(rt: &impl Runtime, answers: Answers) -> io::Result<()> {
     for answer in &answers {
         print_batch(rt, answer)?;
     }
@@ -62,7 +63,7 @@ fn print_answers(rt: &HostRuntime, answers: Answers) -> io::Result<()> {
 }
 
 /// Prints what came of a batch.
-fn print_batch(rt: &HostRuntime, answer: &Result<(), ElfBatchError>) -> io::Result<()> {
+fn print_batch(rt: &impl Runtime, answer: &Result<(), ElfBatchError>) -> io::Result<()> {
     match answer {
         Ok(()) => println!(rt; "done"),
         Err(error) => tell(rt, &error.fault),
