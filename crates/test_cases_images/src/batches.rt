@@ -51,6 +51,11 @@ fn applied(alloc: Global, file: &mut Writer<'_>, words: &str) -> Result<Answers,
 
 fn print_applied(rt: &impl Runtime, file: &mut ElfContainer<'_>, words: &str) -> io::Result<()> {
     print_answers(rt, applied(rt.alloc(), &mut file.inner, words)?)?;
+    print_file(rt, file)
+}
+
+/// Prints the run path and the page size.
+fn print_file(rt: &impl Runtime, file: &ElfContainer<'_>) -> io::Result<()> {
     let path = file.inner.elf_runpath();
     println!(rt; "run path {path:?}, page size {}", file.get_page_size())
 }

@@ -83,7 +83,7 @@ fn set(
         Call::Stack => Ok(replaced(image.stack_mut(), flags)),
         Call::GnuStack => Ok(replaced(image.gnu_stack_mut(), flags)),
         Call::AddStack => Ok(added(alloc, image, flags)?),
-        Call::AddGnuStack => added_for_gnu(alloc, image, flags),
+        Call::AddGnuStack => had_again(alloc, image, flags),
     }
 }
 
@@ -110,20 +110,16 @@ fn added(alloc: Global, image: &mut Builder<'_>, flags: u32) -> Result<Option<u3
     Ok(Some(std::mem::replace(lent, flags)))
 }
 
-/// Has a header, again where memory was refused.
-fn added_for_gnu(
-    alloc: Global,
-    image: &mut Builder<'_>,
-    flags: u32,
-) -> Result<Option<u32>, ElfError> {
-    match image.add_gnu_stack(alloc) {
-        Ok(lent) => return Ok(Some(std::mem::replace(lent, flags))),
-        Err(ElfError::Memory) => {}
-        Err(error) => return Err(error),
-    }
-    if image.changed() {
-        return Err(ElfError::Memory);
-    }
+/// Has a header.
+fn had(alloc: Global, image: &mut Builder<'_>, flags: u32) -> Result<Option<u32>, ElfError> {
     let lent = image.add_gnu_stack(alloc)?;
     Ok(Some(std::mem::replace(lent, flags)))
+}
+
+/// Has a header, again where memory was refused.
+fn had_again(alloc: Global, image: &mut Builder<'_>, flags: u32) -> Result<Option<u32>, ElfError> {
+    match had(alloc, image, flags) {
+        Err(ElfError::Memory) if !image.changed() => had(alloc, image, flags),
+        answer => answer,
+    }
 }

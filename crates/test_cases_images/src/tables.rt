@@ -96,9 +96,8 @@ fn record_with(place: u8) -> [u8; 24] {
 }
 
 /// Whether a table of one record is read.
-fn is_read(texts: &[u8], place: u8) -> bool {
-    let record = record_with(place);
-    Symbols::read(form_of("64", "little"), texts, &record, None).is_some()
+fn is_read<'a>(texts: &'a [u8], record: &'a [u8]) -> bool {
+    Symbols::read(form_of("64", "little"), texts, record, None).is_some()
 }
 
 /// Prints at which of the first 20 places of a string table a name is that a symbol can have, and a text.
@@ -112,12 +111,21 @@ pub(crate) fn print_places(rt: &impl Runtime, words: &str) -> io::Result<()> {
 fn print_each(rt: &impl Runtime, texts: &[u8]) -> io::Result<()> {
     print!(rt; "names")?;
     for place in 0..20 {
-        if is_read(texts, place) {
-            print!(rt; " {place}")?;
-        }
-        if is_read(texts, place) != text(texts.len(), texts, place as u64).is_ok() {
-            print!(rt; " or not")?;
-        }
+        print_place(rt, texts, place)?;
     }
     println!(rt;)
+}
+
+/// Prints a place where a name is, and says so where a text is not there alike.
+fn print_place(rt: &impl Runtime, texts: &[u8], place: u8) -> io::Result<()> {
+    let record = record_with(place);
+    let (is_name, is_text) = (
+        is_read(texts, &record),
+        text(texts.len(), texts, place as u64).is_ok(),
+    );
+    match (is_name, is_text) {
+        (true, true) => print!(rt; " {place}"),
+        (false, false) => Ok(()),
+        _ => print!(rt; " {place} {is_name} {is_text}"),
+    }
 }
