@@ -2,7 +2,7 @@
 //!
 //! The file `cases` names them in order. What a line does is said in the library of the folder that its file lies in:
 //! `line` in `test_cases_line`, `edits` in `test_cases_edits`, `plans` in `test_cases_plans`, `layouts` in
-//! `test_cases_layouts`. Printed is a heading with each file's name, and below it each of its lines with what comes of it.
+//! `test_cases_layouts`, `images` in `test_cases_images`. Printed is a heading with each file's name, and below it each of its lines with what comes of it.
 #![tactic(auto)]
 
 use std::io;
@@ -26,6 +26,7 @@ fn run(rt: &HostRuntime, name: &str) -> io::Result<()> {
         "edits" => test_cases_edits::run(rt, lines),
         "plans" => test_cases_plans::run(rt, lines),
         "layouts" => test_cases_layouts::run(rt, lines),
+        "images" => test_cases_images::run(rt, lines),
         _ => println!(rt; "no lines of this kind"),
     }
 }

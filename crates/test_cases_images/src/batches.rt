@@ -1,0 +1,76 @@
+//! Batch after batch of edits.
+
+use crate::Runtime;
+use crate::edits::{parse, tell};
+use crate::words::number;
+use arwen_elf::elf::{ElfBatchError, ElfContainer, ElfEdit, ElfError, Writer};
+use std::alloc::{AllocError, Global};
+use std::io;
+
+/// The batch that a word is: the run path goes, or a page size is set.
+fn batch_of(alloc: Global, word: &str) -> Result<Vec<ElfEdit>, AllocError> {
+    let mut batch = Vec::new(alloc);
+    batch.push(match u32::try_from(number(word)).unwrap_or(0) {
+        0 => ElfEdit::RemoveRpath,
+        size => ElfEdit::SetPageSize(size),
+    })?;
+    Ok(batch)
+}
+
+fn batches_of(alloc: Global, words: &str) -> Result<Vec<Vec<ElfEdit>>, AllocError> {
+    let mut batches = Vec::new(alloc);
+    for word in words.split(' ') {
+        batches.push(batch_of(alloc, word)?)?;
+    }
+    Ok(batches)
+}
+
+/// Answers of batches.
+type Answers = Vec<Result<(), ElfBatchError>>;
+
+fn apply(alloc: Global, file: &mut Writer<'_>, words: &str) -> Result<Answers, AllocError> {
+    let batches = batches_of(alloc, words)?;
+    file.apply_each(alloc, &batches)
+}
+
+/// Applies batches to a file, and prints what comes of each, and the run path and the page size behind them.
+pub(crate) fn print_batches(rt: &impl Runtime, bytes: &[u8], words: &str) -> io::Result<()> {
+    match parse(rt.alloc(), bytes) {
+        Ok(mut file) => print_applied(rt, &mut file, words),
+        Err(error) => tell(rt, &error),
+    }
+}
+
+/// The answers of batches, applied again where there was no memory for the answers.
+fn applied(alloc: Global, file: &mut Writer<'_>, words: &str) -> Result<Answers, AllocError> {
+    match apply(alloc, file, words) {
+        Err(_) => apply(alloc, file, words),
+        answers => answers,
+    }
+}
+
+fn print_applied(rt: &impl Runtime, file: &mut ElfContainer<'_>, words: &str) -> io::Result<()> {
+    print_answers(rt, applied(rt.alloc(), &mut file.inner, words)?)?;
+    print_file(rt, file)
+}
+
+/// Prints the run path and the page size.
+fn print_file(rt: &impl Runtime, file: &ElfContainer<'_>) -> io::Result<()> {
+    let path = file.inner.elf_runpath();
+    println!(rt; "run path {path:?}, page size {}", file.get_page_size())
+}
+
+fn print_answers(rt: &impl Runtime, answers: Answers) -> io::Result<()> {
+    for answer in &answers {
+        print_batch(rt, answer)?;
+    }
+    Ok(())
+}
+
+/// Prints what came of a batch.
+fn print_batch(rt: &impl Runtime, answer: &Result<(), ElfBatchError>) -> io::Result<()> {
+    match answer {
+        Ok(()) => println!(rt; "done"),
+        Err(error) => tell(rt, &error.fault),
+    }
+}

@@ -1,0 +1,92 @@
+//! The editing calls of an image on its dynamic list.
+ghost use Rattle.std.specs.Prelude.{◌≡◌};
+ghost use Rattle.elf_image.specs.DynamicList.{tag_at as tag_listed};
+
+use crate::Runtime;
+use crate::images::read;
+use elf_image::Builder;
+use elf_image::constants::{DT_NEEDED, DT_RPATH, DT_RUNPATH};
+use std::alloc::{AllocError, Global};
+use std::io;
+
+/// An edit of a dynamic list.
+#[derive(Clone, Copy, Debug)]
+enum Edit {
+    /// The second entry goes, where it is a DT_RUNPATH.
+    DeleteSecond,
+    /// Every DT_NEEDED goes.
+    DeleteNeeded,
+    /// The first entry becomes a DT_RPATH, where it is a DT_NEEDED.
+    RetagFirst,
+    /// Every DT_RUNPATH becomes a DT_RPATH.
+    RetagRunPaths,
+}
+
+const EDITS: [Edit; 4] = [
+    Edit::DeleteSecond,
+    Edit::DeleteNeeded,
+    Edit::RetagFirst,
+    Edit::RetagRunPaths,
+];
+
+/// The tag of an entry of the dynamic list.
+fn tag_at(image: &Builder<'_>, i: usize) -> Option<u64>
+    ensures { result ≡ tag_listed image.now.entries i }
+{
+    Some(image.dynamic_data()?.get(i)?.tag())
+}
+
+/// Prints the tags of the dynamic list, and whether something was edited.
+fn print_tags(rt: &impl Runtime, image: &Builder<'_>) -> io::Result<()> {
+    for entry in image.dynamic_data().unwrap_or_default() {
+        print!(rt; " {}", entry.tag())?;
+    }
+    println!(rt; ", changed {}", image.changed())
+}
+
+/// Does an edit.
+fn change(image: &mut Builder<'_>, edit: Edit) {
+    match edit {
+        Edit::DeleteSecond => if tag_at(image, 1) == Some(DT_RUNPATH) {
+            image.delete_dynamic(1);
+        },
+        Edit::DeleteNeeded => image.delete_dynamic_tag(DT_NEEDED),
+        Edit::RetagFirst => if tag_at(image, 0) == Some(DT_NEEDED) {
+            image.retag(0, DT_RPATH);
+        },
+        Edit::RetagRunPaths => image.retag_all(DT_RUNPATH, DT_RPATH),
+    }
+}
+
+/// A copy of an image, made again where memory was refused.
+fn copy<'d>(alloc: Global, image: &Builder<'d>) -> Result<Builder<'d>, AllocError> {
+    match image.try_clone(alloc) {
+        Err(_) => image.try_clone(alloc),
+        copy => copy,
+    }
+}
+
+/// Prints what an edit makes of a copy of an image.
+fn print_edit(rt: &impl Runtime, image: &Builder<'_>, edit: Edit) -> io::Result<()> {
+    print!(rt; "{edit:?}")?;
+    let mut copy = copy(rt.alloc(), image)?;
+    change(&mut copy, edit);
+    print_tags(rt, &copy)
+}
+
+/// Prints what each edit makes of a copy, and the image behind them.
+fn print_all(rt: &impl Runtime, image: &Builder<'_>) -> io::Result<()> {
+    for edit in EDITS {
+        print_edit(rt, image, edit)?;
+    }
+    print!(rt; "Image")?;
+    print_tags(rt, image)
+}
+
+/// Prints what each edit makes of a copy of a file's image, and the image behind them.
+pub(crate) fn print_edits(rt: &impl Runtime, bytes: &[u8]) -> io::Result<()> {
+    match read(rt.alloc(), bytes) {
+        Ok(image) => print_all(rt, &image),
+        Err(fault) => println!(rt; "{fault:?}"),
+    }
+}

@@ -1,0 +1,98 @@
+//! Edits of files by the calls of their writer.
+
+use crate::Runtime;
+use crate::words::{first, number, texts_of};
+use arwen_elf::elf::{ElfContainer, ElfError, Writer};
+use std::alloc::{AllocError, Global};
+use std::collections::HashSet;
+use std::io;
+
+/// A file, read again where memory was refused.
+pub(crate) fn parse<'f>(alloc: Global, bytes: &'f [u8]) -> Result<ElfContainer<'f>, ElfError> {
+    match ElfContainer::parse(alloc, bytes) {
+        Err(ElfError::Memory) => ElfContainer::parse(alloc, bytes),
+        read => read,
+    }
+}
+
+/// Prints why something was refused.
+pub(crate) fn tell(rt: &impl Runtime, error: &ElfError) -> io::Result<()> {
+    match error {
+        ElfError::Modify(cause) => println!(rt; "refused: {cause}"),
+        _ => println!(rt; "refused: {error}"),
+    }
+}
+
+/// Prints what came of a call.
+pub(crate) fn tell_answer(rt: &impl Runtime, answer: &Result<(), ElfError>) -> io::Result<()> {
+    match answer {
+        Ok(()) => println!(rt; "done"),
+        Err(error) => tell(rt, error),
+    }
+}
+
+/// The names as a set.
+fn set_of(alloc: Global, words: &str) -> Result<HashSet<Vec<u8>>, AllocError> {
+    let mut names = HashSet::new(alloc);
+    for word in words.split(' ') {
+        names.insert(Vec::from_slice(alloc, word.as_bytes())?)?;
+    }
+    Ok(names)
+}
+
+/// Does an edit of the run paths.
+fn edit_paths(
+    alloc: Global,
+    file: &mut Writer<'_>,
+    name: &str,
+    values: &str,
+) -> Result<(), ElfError> {
+    match name {
+        "add-rpath" => {
+            let texts = texts_of(alloc, values)?;
+            file.elf_add_runpath(alloc, &texts)
+        }
+        "set-rpath" => file.elf_set_runpath(alloc, values.as_bytes()),
+        "remove-rpath" => file.elf_delete_runpath(),
+        _ => Ok(()),
+    }
+}
+
+/// Does the edit that words are.
+fn edit(alloc: Global, file: &mut Writer<'_>, words: &str) -> Result<(), ElfError> {
+    let (name, values) = first(words);
+    match name {
+        "remove-needed" => {
+            let names = set_of(alloc, values)?;
+            file.elf_delete_needed(alloc, &names)
+        }
+        "set-soname" => file.elf_set_soname(alloc, values.as_bytes()),
+        "set-exec-stack" => file.elf_set_exec_stack(alloc),
+        "set-page-size" => file.elf_set_page_size(u32::try_from(number(values)).unwrap_or(0)),
+        _ => edit_paths(alloc, file, name, values),
+    }
+}
+
+/// Does an edit, again where memory was refused.
+fn edit_again(alloc: Global, file: &mut Writer<'_>, words: &str) -> Result<(), ElfError> {
+    match edit(alloc, file, words) {
+        Err(ElfError::Memory) => edit(alloc, file, words),
+        answer => answer,
+    }
+}
+
+/// Does edits with a `+` between two, and tells the ones that are refused.
+pub(crate) fn edit_all(rt: &impl Runtime, file: &mut Writer<'_>, words: &str) -> io::Result<()> {
+    for words in words.split(" + ") {
+        tell_refused(rt, edit_again(rt.alloc(), file, words))?;
+    }
+    Ok(())
+}
+
+/// Prints why an edit was refused, where it was.
+fn tell_refused(rt: &impl Runtime, answer: Result<(), ElfError>) -> io::Result<()> {
+    match answer {
+        Ok(()) => Ok(()),
+        Err(error) => tell(rt, &error),
+    }
+}

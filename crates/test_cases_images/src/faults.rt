@@ -1,0 +1,75 @@
+//! Why files are refused.
+
+use crate::Runtime;
+use crate::edits::parse;
+use crate::images::read;
+use arwen_elf::elf::{ElfError, Writer};
+use elf_image::ElfFault;
+use std::alloc::Global;
+use std::io;
+
+/// The fault of a file as the image, the writer and the container tell it; `None` where the file is read.
+type Faults = [Option<ElfFault>; 3];
+
+/// The fault for which the image refuses a file.
+fn image_fault(alloc: Global, bytes: &[u8]) -> Option<ElfFault> {
+    match read(alloc, bytes) {
+        Ok(_) => None,
+        Err(fault) => Some(fault),
+    }
+}
+
+/// The writer of a file, read again where memory was refused.
+fn writer<'f>(alloc: Global, bytes: &'f [u8]) -> Result<Writer<'f>, ElfError> {
+    match Writer::read(alloc, bytes) {
+        Err(ElfError::Memory) => Writer::read(alloc, bytes),
+        read => read,
+    }
+}
+
+/// The fault of an answer; `Memory` for another error than one of a read rule.
+fn fault_of<T>(answer: &Result<T, ElfError>) -> Option<ElfFault> {
+    match answer {
+        Ok(_) => None,
+        Err(ElfError::Parse(fault)) => Some(*fault),
+        Err(_) => Some(ElfFault::Memory),
+    }
+}
+
+fn faults_of(alloc: Global, bytes: &[u8]) -> Faults {
+    [
+        image_fault(alloc, bytes),
+        fault_of(&writer(alloc, bytes)),
+        fault_of(&parse(alloc, bytes)),
+    ]
+}
+
+pub(crate) fn print_faults(rt: &impl Runtime, bytes: &[u8]) -> io::Result<()> {
+    let [image, writer, container] = faults_of(rt.alloc(), bytes);
+    if image == writer && image == container {
+        return print_fault(rt, image);
+    }
+    println!(rt; "image {image:?}, writer {writer:?}, container {container:?}")
+}
+
+/// Prints the fault that all three tell.
+fn print_fault(rt: &impl Runtime, fault: Option<ElfFault>) -> io::Result<()> {
+    match fault {
+        None => println!(rt; "accepted"),
+        Some(fault) => println!(rt; "{fault:?}"),
+    }
+}
+
+/// Prints how many fronts of a file all three refuse as cut, and the faults of other fronts.
+pub(crate) fn print_fronts(rt: &impl Runtime, bytes: &[u8]) -> io::Result<()> {
+    let mut count = 0u64;
+    for n in 0..bytes.len() {
+        let faults = faults_of(rt.alloc(), &bytes[..n]);
+        if faults == [Some(ElfFault::Truncated); 3] {
+            count = count.wrapping_add(1);
+        } else {
+            println!(rt; "{n} bytes: {faults:?}")?;
+        }
+    }
+    println!(rt; "{count} fronts are truncated")
+}

@@ -1,0 +1,80 @@
+//! The file that lines work on.
+
+use crate::Runtime;
+use crate::words::{bytes_of, first, place};
+use std::alloc::{AllocError, Global};
+use std::{fs, io};
+
+/// The file that lines work on.
+pub(crate) const FILE: &str = "file";
+
+/// The bytes of a file, read again where memory was refused.
+pub(crate) fn content(rt: &impl Runtime, path: &str) -> io::Result<Vec<u8>> {
+    match fs::read(rt, path) {
+        Err(_) => fs::read(rt, path),
+        read => read,
+    }
+}
+
+/// Makes the file a copy of another with changes, tried again where memory was refused.
+pub(crate) fn make(rt: &impl Runtime, words: &str) -> io::Result<()> {
+    let (name, changes) = first(words);
+    match changed(rt, name, changes) {
+        Err(_) => save(rt, &changed(rt, name, changes)?),
+        Ok(bytes) => save(rt, &bytes),
+    }
+}
+
+/// Makes the file of bytes.
+pub(crate) fn save(rt: &impl Runtime, bytes: &[u8]) -> io::Result<()> {
+    fs::write(rt, FILE, bytes)
+}
+
+/// The bytes of a file with changes.
+fn changed(rt: &impl Runtime, name: &str, changes: &str) -> io::Result<Vec<u8>> {
+    let mut bytes = content(rt, name)?;
+    for change in changes.split(' ') {
+        bytes = changed_once(rt.alloc(), bytes, change)?;
+    }
+    Ok(bytes)
+}
+
+/// Bytes with a change.
+fn changed_once(alloc: Global, bytes: Vec<u8>, change: &str) -> Result<Vec<u8>, AllocError> {
+    match (change.split_once(':'), change.split_once("..")) {
+        (Some((offset, hex)), _) => overwritten(alloc, bytes, place(offset), hex),
+        (None, Some(("", length))) => resized(alloc, &bytes, place(length)),
+        (None, Some((start, _))) => Vec::from_slice(
+            alloc,
+            bytes.get(place(start)..).unwrap_or(&[]),
+        ),
+        _ => Ok(bytes),
+    }
+}
+
+/// Bytes with others at an offset, as far as they reach.
+fn overwritten(
+    alloc: Global,
+    bytes: Vec<u8>,
+    offset: usize,
+    hex: &str,
+) -> Result<Vec<u8>, AllocError> {
+    let part = bytes_of(alloc, hex)?;
+    let mut bytes = bytes;
+    put(&mut bytes, offset, &part);
+    Ok(bytes)
+}
+
+/// Puts bytes at an offset, as far as they reach.
+pub(crate) fn put(bytes: &mut [u8], offset: usize, part: &[u8]) {
+    for (old, new) in bytes.iter_mut().skip(offset).zip(part) {
+        *old = *new;
+    }
+}
+
+/// So many bytes: the first of these, and zeros behind them.
+pub(crate) fn resized(alloc: Global, bytes: &[u8], length: usize) -> Result<Vec<u8>, AllocError> {
+    let mut made = vec![in alloc; 0u8; length]?;
+    put(&mut made, 0, bytes);
+    Ok(made)
+}

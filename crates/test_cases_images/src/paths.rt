@@ -1,0 +1,57 @@
+//! Files that are written to a path.
+
+use crate::Runtime;
+use crate::edits::{edit_all, parse, tell, tell_answer};
+use crate::files::content;
+use crate::words::first;
+use crate::written::container_bytes;
+use arwen_elf::elf::{ElfContainer, ElfError};
+use std::{fs, io};
+
+/// Prints what comes of writing a file after edits to a path.
+pub(crate) fn print_path(rt: &impl Runtime, bytes: &[u8], words: &str) -> io::Result<()> {
+    let (path, words) = first(words);
+    match parse(rt.alloc(), bytes) {
+        Ok(mut file) => print_edited(rt, &mut file, path, words),
+        Err(error) => tell(rt, &error),
+    }
+}
+
+fn print_edited(
+    rt: &impl Runtime,
+    file: &mut ElfContainer<'_>,
+    path: &str,
+    words: &str,
+) -> io::Result<()> {
+    edit_all(rt, &mut file.inner, words)?;
+    let _ = fs::write(rt, path, b"abc".as_slice());
+    print_written(rt, file, path)?;
+    print_written(rt, file, path)?;
+    let _ = fs::remove_file(rt, path);
+    Ok(())
+}
+
+/// Writes it, and prints what came of it.
+fn print_written(rt: &impl Runtime, file: &ElfContainer<'_>, path: &str) -> io::Result<()> {
+    tell_path(rt, file, path)?;
+    match content(rt, path) {
+        Ok(found) => print_found(rt, file, &found),
+        Err(_) => println!(rt; "no file"),
+    }
+}
+
+/// Writes it, again where memory was refused.
+fn tell_path(rt: &impl Runtime, file: &ElfContainer<'_>, path: &str) -> io::Result<()> {
+    match file.write_to_path(rt, path) {
+        Err(ElfError::Memory) => tell_answer(rt, &file.write_to_path(rt, path)),
+        answer => tell_answer(rt, &answer),
+    }
+}
+
+/// Prints whether the file has the bytes that are written, or else how many it has.
+fn print_found(rt: &impl Runtime, file: &ElfContainer<'_>, found: &[u8]) -> io::Result<()> {
+    match container_bytes(rt.alloc(), file) {
+        Ok(want) => println!(rt; "the file is the same {}", want.as_slice() == found),
+        Err(_) => println!(rt; "the file has {} bytes", found.len()),
+    }
+}

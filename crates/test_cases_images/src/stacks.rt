@@ -1,0 +1,125 @@
+//! The calls on the program header for the stack.
+
+use crate::Runtime;
+use crate::edits::tell;
+use crate::images::read;
+use crate::words::number;
+use arwen_elf::elf::{BuilderExt, ElfError};
+use elf_image::Builder;
+use std::alloc::{AllocError, Global};
+use std::io;
+
+/// How flags are lent.
+#[derive(Clone, Copy, Debug)]
+enum Call {
+    /// By the image.
+    Stack,
+    /// By the image, a new header's.
+    AddStack,
+    /// By what is asked of an image besides its own functions.
+    GnuStack,
+    /// The same, a new header's where there is none.
+    AddGnuStack,
+}
+
+const CALLS: [Call; 4] = [
+    Call::Stack,
+    Call::AddStack,
+    Call::GnuStack,
+    Call::AddGnuStack,
+];
+
+/// Prints what comes of each call on an image of a file, whose lent flags are set.
+pub(crate) fn print_stacks(rt: &impl Runtime, bytes: &[u8], words: &str) -> io::Result<()> {
+    let flags = u32::try_from(number(words)).unwrap_or(0);
+    for call in CALLS {
+        print_stack(rt, bytes, call, flags)?;
+    }
+    Ok(())
+}
+
+fn print_stack(rt: &impl Runtime, bytes: &[u8], call: Call, flags: u32) -> io::Result<()> {
+    match read(rt.alloc(), bytes) {
+        Ok(mut image) => print_call(rt, &mut image, call, flags),
+        Err(fault) => println!(rt; "{fault:?}"),
+    }
+}
+
+/// Prints what comes of a call, and the image.
+fn print_call(
+    rt: &impl Runtime,
+    image: &mut Builder<'_>,
+    call: Call,
+    flags: u32,
+) -> io::Result<()> {
+    print!(rt; "{call:?} ")?;
+    tell_old(rt, set(rt.alloc(), image, call, flags))?;
+    print_image(rt, image)
+}
+
+/// Prints the flags that were there, or why none were lent.
+fn tell_old(rt: &impl Runtime, answer: Result<Option<u32>, ElfError>) -> io::Result<()> {
+    match answer {
+        Ok(old) => println!(rt; "{old:?}"),
+        Err(error) => tell(rt, &error),
+    }
+}
+
+/// Prints the flags of the stack, how many program headers there are, and whether something was edited.
+fn print_image(rt: &impl Runtime, image: &Builder<'_>) -> io::Result<()> {
+    let flags = image.stack().map(|stack| stack.p_flags());
+    let (count, is_changed) = (image.segments().len(), image.changed());
+    println!(rt; "stack {flags:?}, {count} headers, changed {is_changed}")
+}
+
+/// Sets the flags that are lent, where they are, and gives those that were there.
+fn set(
+    alloc: Global,
+    image: &mut Builder<'_>,
+    call: Call,
+    flags: u32,
+) -> Result<Option<u32>, ElfError> {
+    match call {
+        Call::Stack => Ok(replaced(image.stack_mut(), flags)),
+        Call::GnuStack => Ok(replaced(image.gnu_stack_mut(), flags)),
+        Call::AddStack => Ok(added(alloc, image, flags)?),
+        Call::AddGnuStack => had_again(alloc, image, flags),
+    }
+}
+
+/// Sets flags, and gives the old ones.
+fn replaced(lent: Option<&mut u32>, flags: u32) -> Option<u32> {
+    match lent {
+        Some(lent) => Some(std::mem::replace(lent, flags)),
+        None => None,
+    }
+}
+
+/// Adds a header where there is none, again where memory was refused.
+fn added(alloc: Global, image: &mut Builder<'_>, flags: u32) -> Result<Option<u32>, AllocError> {
+    if image.stack().is_some() {
+        return Ok(None);
+    }
+    if let Ok(lent) = image.add_stack(alloc) {
+        return Ok(Some(std::mem::replace(lent, flags)));
+    }
+    if image.changed() {
+        return Err(AllocError);
+    }
+    let lent = image.add_stack(alloc)?;
+    Ok(Some(std::mem::replace(lent, flags)))
+}
+
+/// Has a header.
+fn had(alloc: Global, image: &mut Builder<'_>, flags: u32) -> Result<Option<u32>, ElfError> {
+    let lent = image.add_gnu_stack(alloc)?;
+    Ok(Some(std::mem::replace(lent, flags)))
+}
+
+/// Has a header, again where memory was refused.
+fn had_again(alloc: Global, image: &mut Builder<'_>, flags: u32) -> Result<Option<u32>, ElfError> {
+    match had(alloc, image, flags) {
+        Err(ElfError::Memory) if !image.changed() => had(alloc, image, flags),
+        answer => answer,
+    }
+}

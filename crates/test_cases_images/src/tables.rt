@@ -1,0 +1,131 @@
+//! Tables of symbols, and their names in string tables.
+
+use crate::Runtime;
+use crate::lists::print_symbols;
+use crate::words::{bytes_of, first};
+use elf_format::texts::text;
+use elf_image::{Form, Symbols, VersionId};
+use patch_bytes::{ByteOrder2, Wide};
+use std::alloc::{AllocError, Global};
+use std::io;
+
+/// A table of symbols in parts.
+#[derive(Drop)]
+struct Parts {
+    form: Form,
+    texts: Vec<u8>,
+    records: Vec<u8>,
+    versions: Option<Vec<u8>>,
+}
+
+/// The form that a class and an order are.
+fn form_of(class: &str, order: &str) -> Form {
+    Form {
+        wide: if class == "64" { Wide::W64 } else { Wide::W32 },
+        order: if order == "little" {
+            ByteOrder2::Little
+        } else {
+            ByteOrder2::Big
+        },
+    }
+}
+
+/// The versions that words are, none without words.
+fn versions_of(alloc: Global, words: &str) -> Result<Option<Vec<u8>>, AllocError> {
+    match words {
+        "" => Ok(None),
+        word => Ok(Some(bytes_of(alloc, word)?)),
+    }
+}
+
+/// The parts that words are.
+fn parts_of(alloc: Global, words: &str) -> Result<Parts, AllocError> {
+    let (class, words) = first(words);
+    let (order, words) = first(words);
+    let (texts, words) = first(words);
+    let (records, versions) = first(words);
+    let texts = bytes_of(alloc, texts)?;
+    let records = bytes_of(alloc, records)?;
+    Ok(Parts {
+        form: form_of(class, order),
+        texts,
+        records,
+        versions: versions_of(alloc, versions)?,
+    })
+}
+
+/// Prints the symbols of a table, or that a name is missing.
+pub(crate) fn print_table(rt: &impl Runtime, words: &str) -> io::Result<()> {
+    match parts_of(rt.alloc(), words) {
+        Err(_) => print_parts(rt, &parts_of(rt.alloc(), words)?),
+        Ok(parts) => print_parts(rt, &parts),
+    }
+}
+
+fn print_parts(rt: &impl Runtime, parts: &Parts) -> io::Result<()> {
+    let versions = match &parts.versions {
+        Some(versions) => Some(versions.as_slice()),
+        None => None,
+    };
+    match Symbols::read(parts.form, &parts.texts, &parts.records, versions) {
+        Some(symbols) => print_read(rt, &symbols),
+        None => println!(rt; "a name is missing"),
+    }
+}
+
+fn print_read(rt: &impl Runtime, symbols: &Symbols<'_>) -> io::Result<()> {
+    print_count(rt, symbols)?;
+    print_symbols(rt, "symbol", &symbols.same())
+}
+
+fn print_count(rt: &impl Runtime, symbols: &Symbols<'_>) -> io::Result<()> {
+    println!(rt; "{} symbols, empty {}", symbols.len(), symbols.is_empty())
+}
+
+/// Prints the versions that have no name, and no symbols.
+pub(crate) fn print_constants(rt: &impl Runtime) -> io::Result<()> {
+    println!(rt; "{:?} {:?}", VersionId::local(), VersionId::global())?;
+    print_count(rt, &Symbols::none())
+}
+
+/// A record of zeros, its name at a place below 256.
+fn record_with(place: u8) -> [u8; 24] {
+    let mut record = [0; 24];
+    record[0] = place;
+    record
+}
+
+/// Whether a table of one record is read.
+fn is_read<'a>(texts: &'a [u8], record: &'a [u8]) -> bool {
+    Symbols::read(form_of("64", "little"), texts, record, None).is_some()
+}
+
+/// Prints at which of the first 20 places of a string table a name is that a symbol can have, and a text.
+pub(crate) fn print_places(rt: &impl Runtime, words: &str) -> io::Result<()> {
+    match bytes_of(rt.alloc(), words) {
+        Err(_) => print_each(rt, &bytes_of(rt.alloc(), words)?),
+        Ok(texts) => print_each(rt, &texts),
+    }
+}
+
+fn print_each(rt: &impl Runtime, texts: &[u8]) -> io::Result<()> {
+    print!(rt; "names")?;
+    for place in 0..20 {
+        print_place(rt, texts, place)?;
+    }
+    println!(rt;)
+}
+
+/// Prints a place where a name is, and says so where a text is not there alike.
+fn print_place(rt: &impl Runtime, texts: &[u8], place: u8) -> io::Result<()> {
+    let record = record_with(place);
+    let (is_name, is_text) = (
+        is_read(texts, &record),
+        text(texts.len(), texts, place as u64).is_ok(),
+    );
+    match (is_name, is_text) {
+        (true, true) => print!(rt; " {place}"),
+        (false, false) => Ok(()),
+        _ => print!(rt; " {place} {is_name} {is_text}"),
+    }
+}
