@@ -22,13 +22,13 @@ use test_cases_files::{Cases, run_cases};
 
 /// Runs lines, and prints each with what comes of it.
 pub fn run<R: Files + Print + AllocGlobal>(rt: &R, lines: &str) -> io::Result<()> {
-    run_cases(rt, &Plans, lines)
+    run_cases(rt, &PlanCases, lines)
 }
 
 /// Lines of plans.
-struct Plans;
+struct PlanCases;
 
-impl Cases for Plans {
+impl Cases for PlanCases {
     fn is_on_files(&self, line: &str) -> bool {
         split_kind(line).0 == "!"
     }
