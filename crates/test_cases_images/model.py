@@ -31,7 +31,6 @@ TABLE_TAGS = {4, 5, 6, 10, 11, 0x6FFFFEF5, 0x6FFFFFF0, DT_VERDEF, DT_VERDEFNUM, 
 EM_SPARC, EM_MIPS, EM_SPARC64, EM_AARCH64 = 2, 8, 43, 183
 PAGES = {EM_MIPS: 65536, EM_AARCH64: 65536, EM_SPARC: 8192, EM_SPARC64: 8192}
 
-PARSE = "refused: A parse error occurred while reading the file"
 FAILED = "refused: I/O error occurred while writing the file"
 OVERLAP = "refused: Overlapping immovable sections"
 MIPS = "refused: MIPS images can't be modified"
@@ -242,79 +241,122 @@ def entry_lines(elf):
     return lines
 
 
-def list_lines(symbols, elf):
-    lines = [symbol_line("dynamic symbol", symbol) for symbol in symbols]
-    return lines, [definition_line(one) for one in elf.definitions()], [need_line(one) for one in elf.needs()]
-
-
-def place_lines(elf):
+def places(elf):
     """Where sections stand."""
-    position = lambda number: number if number < len(elf.sections) else None
+    position = lambda number: option(number if number < len(elf.sections) else None)
     interpreter = elf.header(PT_INTERP)
     for number, section in enumerate(elf.sections):
         if interpreter and (section[1], section[4], section[3], section[5]) == (SHT_PROGBITS, *interpreter[2:4], interpreter[5]):
             interpreter = number
             break
     user = elf.find(SHT_DYNAMIC) if elf.find(SHT_DYNAMIC) is not None else elf.find(SHT_DYNSYM)
-    strings = None if user is None else elf.sections[user][6]
-    typed = (option(elf.find(SHT_DYNSYM)), option(elf.find(99)))
-    return [
-        "numbers 4 and 40 at (%s, %s), types 11 and 99 at (%s, %s)" % (option(position(4)), option(position(40)), *typed),
-        "interpreter at %s, strings at %s, %d headers read" % (option(interpreter), option(strings), len(elf.segments)),
-        "links" + "".join(" " + option(position(section[6])) for section in elf.sections),
-        "read true true true, kept true",
-        "copied true, read again true",
-    ]
+    return record("Places", {
+        "fifth": position(4),
+        "past_all": position(40),
+        "dynamic_symbols": option(elf.find(SHT_DYNSYM)),
+        "of_no_type": option(elf.find(99)),
+        "interpreter": option(interpreter),
+        "strings": option(None if user is None else elf.sections[user][6]),
+        "segments_read": len(elf.segments),
+        "are_symbols_numbered": "(true, true)",
+        "are_symbols_kept": "true",
+    })
+
+
+def record(name, fields):
+    return "%s { %s }" % (name, ", ".join("%s: %s" % field for field in fields.items()))
+
+
+def outline(elf):
+    fields = (elf.abi, elf.abi_version, elf.kind, elf.machine, elf.entry, elf.flags, elf.phoff, elf.shoff, elf.names)
+    words = "os_abi abi_version e_type e_machine e_entry e_flags e_phoff e_shoff e_shstrndx".split()
+    return record("Outline", {
+        "class": "W64" if elf.wide else "W32",
+        "order": "Little" if elf.order == "<" else "Big",
+        "header": record("Header", dict(zip(words, fields))),
+        "interpreter": option(elf.interpreter(), numbers),
+        "page_size": "None",
+        "is_changed": "false",
+        "is_source": "true",
+    })
 
 
 def image_lines(data):
     elf = Elf(data)
-    fields = (elf.abi, elf.abi_version, elf.kind, elf.machine, elf.entry, elf.flags, elf.phoff, elf.shoff, elf.names)
-    words = "os_abi abi_version e_type e_machine e_entry e_flags e_phoff e_shoff e_shstrndx".split()
-    shown = ", ".join("%s: %d" % pair for pair in zip(words, fields))
-    form = ("W64" if elf.wide else "W32", "Little" if elf.order == "<" else "Big")
-    lines = ["%s %s Header { %s }" % (*form, shown), "changed false, page size None, source true"]
-    lines.append("interpreter " + option(elf.interpreter(), numbers))
-    lines += ["segment " + numbers(segment) for segment in elf.segments]
+    lines = [outline(elf)] + ["segment " + numbers(segment) for segment in elf.segments]
     for number, section in enumerate(elf.sections):
-        name = text(elf.named(elf.names, section[0]))
-        lines.append("section %s %s %s%s" % (name, KINDS[section[1]], numbers(section[1:]), row(elf.body(number))))
+        name, link = text(elf.named(elf.names, section[0])), option(section[6] if section[6] < len(elf.sections) else None)
+        facts = (name, KINDS[section[1]], number, link, numbers(section[1:]), row(elf.body(number)))
+        lines.append("section %s ((%s, %d, %s), %s)%s" % facts)
     lines += [symbol_line("symbol", symbol) for symbol in elf.symbols(SHT_SYMTAB)]
-    return lines + sum(list_lines(elf.symbols(SHT_DYNSYM), elf), []) + entry_lines(elf) + place_lines(elf)
+    lines += [symbol_line("dynamic symbol", symbol) for symbol in elf.symbols(SHT_DYNSYM)]
+    lines += [definition_line(one) for one in elf.definitions()] + [need_line(one) for one in elf.needs()]
+    return lines + entry_lines(elf) + [places(elf), "copied true, read again true"]
+
+
+def listed(values):
+    return "[" + ", ".join(values) + "]"
+
+
+def shown_entry(elf, entry):
+    tag, value = entry
+    if tag in TEXT_TAGS:
+        return "Text(%d, %s)" % (tag, numbers(elf.named(elf.sections[elf.find(SHT_DYNAMIC)][6], value)))
+    return "Auto(%d)" % tag if tag in TABLE_TAGS else "Integer(%d, %d)" % entry
+
+
+def shown_symbol(symbol):
+    words = "st_info st_other st_shndx st_value st_size".split()
+    fields = {"name": numbers(symbol[0]), **dict(zip(words, symbol[1])), "version": version(symbol[2])}
+    return record("ShownSymbol", fields)
+
+
+def shown_definition(definition):
+    index, flags, names = definition
+    return record("ShownDefinition", {"index": index, "flags": flags, "names": listed(map(numbers, names))})
+
+
+def shown_need(need):
+    name = lambda one: record("ShownName", {"index": one[0], "name": numbers(one[2]), "flags": one[1]})
+    return record("ShownNeeds", {"file": numbers(need[0]), "versions": listed(map(name, need[1]))})
 
 
 def view_lines(data, count=None):
     """The view, of so many dynamic symbols."""
     elf = Elf(data)
     tags = {tag for tag, _ in elf.entries() or []}
-    symbols, definitions, needs = list_lines(elf.symbols(SHT_DYNSYM)[:count], elf)
-    outline = (elf.abi, option(elf.stack()), option(elf.interpreter(), numbers))
-    lines = ["abi %d, stack %s, interpreter %s" % outline]
-    lines += symbols if DT_SYMTAB in tags else ["no dynamic symbols"]
-    lines += definitions if {DT_VERDEF, DT_VERDEFNUM} <= tags else ["defines nothing"]
-    lines += needs if {DT_VERNEED, DT_VERNEEDNUM} <= tags else ["needs nothing"]
-    return lines + entry_lines(elf)
+    part = lambda wanted, shown, values: "Some(%s)" % listed(map(shown, values)) if wanted <= tags else "None"
+    view = record("ShownView", {
+        "os_abi": elf.abi,
+        "stack_flags": option(elf.stack()),
+        "interpreter": option(elf.interpreter(), numbers),
+        "entries": option(elf.entries(), lambda entries: listed(shown_entry(elf, entry) for entry in entries)),
+        "symbols": part({DT_SYMTAB}, shown_symbol, elf.symbols(SHT_DYNSYM)[:count]),
+        "definitions": part({DT_VERDEF, DT_VERDEFNUM}, shown_definition, elf.definitions()),
+        "needs": part({DT_VERNEED, DT_VERNEEDNUM}, shown_need, elf.needs()),
+    })
+    return ["Ok(%s)" % view]
 
 
-def read_lines(data, is_accepted):
-    machine = None
-    if len(data) >= 20 and data[:4] == b"\x7fELF":
-        (machine,) = struct.unpack_from("<H" if data[5] == 1 else ">H", data, 18)
-    if not is_accepted:
-        return ["machine " + option(machine), PARSE]
+def machine(data):
+    """The machine that the first bytes of a file tell."""
+    if len(data) < 20 or data[:4] != b"\x7fELF":
+        return None
+    return struct.unpack_from("<H" if data[5] == 1 else ">H", data, 18)[0]
+
+
+def read_lines(data):
     elf = Elf(data)
     searched = (elf.texts(DT_RUNPATH) + elf.texts(DT_RPATH) + [b""])[0].decode("utf-8", "replace")
     directories = searched.split(":") if searched else []
     texts = (elf.run_path(), (elf.texts(DT_SONAME) + [None])[0], elf.interpreter())
     stack = elf.header(PT_GNU_STACK)
     flags, align = option(elf.stack()), option(stack and stack[7])
-    measures = numbers((elf.kind, elf.machine, elf.abi, elf.page_size()))
+    measures = numbers((elf.kind, elf.machine, elf.abi, elf.page_size(), elf.page_size()))
     return [
-        "machine " + option(machine),
-        "texts [%s]" % ", ".join(option(one, numbers) for one in texts),
-        "numbers %s, stack (%s, %s) %s" % (measures, flags, flags, align),
+        "([%s], (%s, true))" % (", ".join(option(one, numbers) for one in texts), measures),
+        "stack (%s, %s, %s)" % (flags, flags, align),
         *("needed " + text(name) for name in elf.texts(DT_NEEDED)),
-        "page size %d, holds its bytes true" % elf.page_size(),
         "directories [%s]" % ", ".join(map(quoted, directories)),
     ]
 
@@ -386,29 +428,26 @@ WHOLE_NAME = "elf-small 96:41 248:8f 296:c8 319:78"
 def loaded_lines(name, data, count):
     """What a loader sees."""
     if FAULTS.get(name) == "Truncated" or name == CUT_NAME or (name == "elf-versioned" and count > 3):
-        return ["Absent"]
+        return ["Err(Absent)"]
     if name == WHOLE_NAME:
-        small = view_lines(data[:248] + b"\1" + data[249:296] + b"\x0e" + data[297:])
-        return [line.replace("1 libc.so.6", "1 x") for line in small]
+        (small,) = view_lines(data[:248] + b"\1" + data[249:296] + b"\x0e" + data[297:])
+        return [small.replace(numbers(b"libc.so.6"), numbers(b"x"))]
     return view_lines(data, count)
 
 
 # ---- lines that edit
 
 
-def stack_lines(data, flags):
-    """What comes of each call that lends the flags of the stack."""
+def stack_lines(data, call, flags):
+    """What comes of a call that lends the flags of the stack."""
     elf = Elf(data)
     old, count, is_mips = elf.stack(), len(elf.segments), elf.machine == EM_MIPS
     image = lambda value, count, is_changed: "stack %s, %d headers, changed %s" % (option(value), count, truth(is_changed))
-    same, added = image(old, count, False), image(flags, count + 1, True)
-    there = same if old is None else image(flags, count, True)
-    lines = ["Stack " + option(old), there]
-    lines += ["AddStack Some(7)", added] if old is None else ["AddStack None", same]
-    if is_mips:
-        return lines + ["GnuStack None", same, "AddGnuStack " + MIPS, same]
-    lines += ["GnuStack " + option(old), there]
-    return lines + (["AddGnuStack Some(7)", added] if old is None else ["AddGnuStack " + option(old), there])
+    if call == "add-gnu-stack" and is_mips:
+        return [MIPS, image(old, count, False)]
+    if call == "add-stack" and old is not None or call == "gnu-stack" and is_mips or "add" not in call and old is None:
+        return ["None", image(old, count, False)]
+    return [option(7 if old is None else old), image(flags, count + (old is None), True)]
 
 
 def tag_lines(data):
@@ -528,13 +567,13 @@ def written_lines(old, new):
     for at in range(0, len(new), 16):
         if old[at : at + 16] != new[at : at + 16]:
             lines.append("%06x%s" % (at, row(new[at : at + 16])))
-    return lines + ["pieces %s, made of them true" % truth(new != old)]
+    return lines + ["pieces %s, made Ok(true)" % truth(new != old)]
 
 
 def taken_line(new, room):
     if new is None:
-        return "taken Some(0), " + OVERLAP
-    return "taken Some(%d), %s" % (min(room, len(new)), "done" if room >= len(new) else FAILED)
+        return "Some(0) Err(Modify(Overlap))"
+    return "Some(%d) %s" % (min(room, len(new)), "Ok(())" if room >= len(new) else "Err(Io(Kind(StorageFull)))")
 
 
 def path_lines(path, new):
@@ -615,11 +654,12 @@ class Model:
         fault = FAULTS.get(self.name)
         answers = {
             "i": lambda: image_lines(self.data),
-            "f": lambda: [fault or "accepted"],
+            "f": lambda: [listed([option(fault)] * 3)],
             "F": lambda: ["%d fronts are truncated" % len(self.data)],
-            "v": lambda: ["Absent"] if fault else view_lines(self.data),
+            "m": lambda: [option(machine(self.data))],
+            "v": lambda: ["Err(Absent)"] if fault else view_lines(self.data),
             "l": lambda: loaded_lines(self.name, self.data, int(words)),
-            "r": lambda: read_lines(self.data, fault is None),
+            "r": lambda: read_lines(self.data),
             "p": lambda: print_lines(self.data),
             "q": lambda: [FAILED],
             "y": lambda: table_lines(words.split(" ")),
@@ -631,23 +671,22 @@ class Model:
 
     def edit(self, kind, words):
         """What comes of a line that edits or writes."""
-        first, _, rest = words.partition(" ")
+        words, _, edits = words.partition(":")
+        words, edits = words.split(), edits.strip()
         if kind == "s":
-            return stack_lines(self.data, int(words))
+            return stack_lines(self.data, words[0], int(words[1]))
         if kind == "t":
             return tag_lines(self.data)
         if kind == "a":
             return BATCHES
         if kind == "w":
-            return self.write(words)
+            return self.write(edits)
         if kind == "K":
             return ["%d fronts are taken" % len(self.data)]
-        if kind == "k":
-            edits = rest.partition(" ")[2]
-            if edits == "set-page-size 1000":
-                return [PAGE_SIZE, taken_line(self.data, int(first))]
-            return [taken_line(written(self.name, self.data, edits), int(first))]
-        return path_lines(first, written(self.name, self.data, rest))
+        if edits == "set-page-size 1000":
+            return [PAGE_SIZE, taken_line(self.data, int(words[0]))]
+        new = written(self.name, self.data, edits)
+        return [taken_line(new, int(words[0]))] if kind == "k" else path_lines(words[0], new)
 
     def answer(self, line):
         kind, _, words = line.partition(" ")

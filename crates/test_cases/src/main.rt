@@ -2,7 +2,8 @@
 //!
 //! The file `cases` names them in order. What a line does is said in the library of the folder that its file lies in:
 //! `line` in `test_cases_line`, `edits` in `test_cases_edits`, `plans` in `test_cases_plans`, `layouts` in
-//! `test_cases_layouts`, `images` in `test_cases_images`. Printed is a heading with each file's name, and below it each of its lines with what comes of it.
+//! `test_cases_layouts`, `images` in `test_cases_images`. Printed is a heading with each file's name, and below it each of
+//! its lines with what comes of it.
 #![tactic(auto)]
 
 use std::io;

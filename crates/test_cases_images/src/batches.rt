@@ -1,7 +1,7 @@
 //! Batch after batch of edits.
 
 use crate::Runtime;
-use crate::edits::{parse, tell};
+use crate::edits::tell;
 use crate::words::number;
 use arwen_elf::elf::{ElfBatchError, ElfContainer, ElfEdit, ElfError, Writer};
 use std::alloc::{AllocError, Global};
@@ -33,14 +33,6 @@ fn apply(alloc: Global, file: &mut Writer<'_>, words: &str) -> Result<Answers, A
     file.apply_each(alloc, &batches)
 }
 
-/// Applies batches to a file, and prints what comes of each, and the run path and the page size behind them.
-pub(crate) fn print_batches(rt: &impl Runtime, bytes: &[u8], words: &str) -> io::Result<()> {
-    match parse(rt.alloc(), bytes) {
-        Ok(mut file) => print_applied(rt, &mut file, words),
-        Err(error) => tell(rt, &error),
-    }
-}
-
 /// The answers of batches, applied again where there was no memory for the answers.
 fn applied(alloc: Global, file: &mut Writer<'_>, words: &str) -> Result<Answers, AllocError> {
     match apply(alloc, file, words) {
@@ -49,7 +41,12 @@ fn applied(alloc: Global, file: &mut Writer<'_>, words: &str) -> Result<Answers,
     }
 }
 
-fn print_applied(rt: &impl Runtime, file: &mut ElfContainer<'_>, words: &str) -> io::Result<()> {
+/// Applies batches to a file, and prints what comes of each, and the run path and the page size behind them.
+pub(crate) fn print_batches(
+    rt: &impl Runtime,
+    file: &mut ElfContainer<'_>,
+    words: &str,
+) -> io::Result<()> {
     print_answers(rt, applied(rt.alloc(), &mut file.inner, words)?)?;
     print_file(rt, file)
 }

@@ -3,7 +3,6 @@ ghost use Rattle.std.specs.Prelude.{◌≡◌};
 ghost use Rattle.elf_image.specs.DynamicList.{tag_at as tag_listed};
 
 use crate::Runtime;
-use crate::images::read;
 use elf_image::Builder;
 use elf_image::constants::{DT_NEEDED, DT_RPATH, DT_RUNPATH};
 use std::alloc::{AllocError, Global};
@@ -74,19 +73,11 @@ fn print_edit(rt: &impl Runtime, image: &Builder<'_>, edit: Edit) -> io::Result<
     print_tags(rt, &copy)
 }
 
-/// Prints what each edit makes of a copy, and the image behind them.
-fn print_all(rt: &impl Runtime, image: &Builder<'_>) -> io::Result<()> {
+/// Prints what each edit makes of a copy of an image, and the image behind them.
+pub(crate) fn print_edits(rt: &impl Runtime, image: &Builder<'_>) -> io::Result<()> {
     for edit in EDITS {
         print_edit(rt, image, edit)?;
     }
     print!(rt; "Image")?;
     print_tags(rt, image)
-}
-
-/// Prints what each edit makes of a copy of a file's image, and the image behind them.
-pub(crate) fn print_edits(rt: &impl Runtime, bytes: &[u8]) -> io::Result<()> {
-    match read(rt.alloc(), bytes) {
-        Ok(image) => print_all(rt, &image),
-        Err(fault) => println!(rt; "{fault:?}"),
-    }
 }

@@ -4,6 +4,7 @@ use crate::Runtime;
 use crate::edits::parse;
 use crate::images::read;
 use arwen_elf::elf::{ElfError, Writer};
+use arwen_elf::machine_of;
 use elf_image::ElfFault;
 use std::alloc::Global;
 use std::io;
@@ -44,20 +45,14 @@ fn faults_of(alloc: Global, bytes: &[u8]) -> Faults {
     ]
 }
 
+/// Prints the faults of a file.
 pub(crate) fn print_faults(rt: &impl Runtime, bytes: &[u8]) -> io::Result<()> {
-    let [image, writer, container] = faults_of(rt.alloc(), bytes);
-    if image == writer && image == container {
-        return print_fault(rt, image);
-    }
-    println!(rt; "image {image:?}, writer {writer:?}, container {container:?}")
+    println!(rt; "{:?}", faults_of(rt.alloc(), bytes))
 }
 
-/// Prints the fault that all three tell.
-fn print_fault(rt: &impl Runtime, fault: Option<ElfFault>) -> io::Result<()> {
-    match fault {
-        None => println!(rt; "accepted"),
-        Some(fault) => println!(rt; "{fault:?}"),
-    }
+/// Prints the machine that the first bytes of a file tell.
+pub(crate) fn print_machine(rt: &impl Runtime, bytes: &[u8]) -> io::Result<()> {
+    println!(rt; "{:?}", machine_of(bytes))
 }
 
 /// Prints how many fronts of a file all three refuse as cut, and the faults of other fronts.

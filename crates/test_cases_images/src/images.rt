@@ -1,10 +1,12 @@
 //! The image of a file.
+ghost use Rattle.std.specs.Prelude.{◌<◌, length};
 
 use crate::Runtime;
 use crate::lists::{print_definition, print_entries, print_need, print_segments, print_symbols};
 use crate::rows::{Row, Text};
 use elf_image::constants::SHT_DYNSYM;
-use elf_image::{Builder, ElfFault, Section};
+use elf_image::{Builder, ElfFault, Header, Section, SectionData};
+use patch_bytes::{ByteOrder2, Wide};
 use std::alloc::{AllocError, Global};
 use std::io;
 
@@ -16,33 +18,42 @@ pub(crate) fn read<'f>(alloc: Global, bytes: &'f [u8]) -> Result<Builder<'f>, El
     }
 }
 
-/// Prints the image of a file, or why it is refused.
-pub(crate) fn print_file(rt: &impl Runtime, bytes: &[u8]) -> io::Result<()> {
-    match read(rt.alloc(), bytes) {
-        Ok(image) => print_image(rt, bytes, &image),
-        Err(fault) => println!(rt; "{fault:?}"),
-    }
-}
-
-fn print_image(rt: &impl Runtime, bytes: &[u8], image: &Builder<'_>) -> io::Result<()> {
-    print_outline(rt, bytes, image)?;
-    print_segments(rt, image.segments())?;
-    print_sections(rt, image.sections())?;
-    print_symbols(rt, "symbol", image.symbols())?;
-    print_symbols(rt, "dynamic symbol", image.dynamic_symbols())?;
-    print_versions(rt, image)?;
-    print_entries(rt, image.dynamic_data())?;
-    print_places(rt, image)?;
+/// Prints the image of bytes.
+pub(crate) fn print_image(rt: &impl Runtime, bytes: &[u8], image: &Builder<'_>) -> io::Result<()> {
+    println!(rt; "{:?}", outline_of(bytes, image))?;
+    print_headers(rt, image)?;
+    print_lists(rt, image)?;
+    println!(rt; "{:?}", places_of(image))?;
     print_copies(rt, image)
 }
 
-fn print_outline(rt: &impl Runtime, bytes: &[u8], image: &Builder<'_>) -> io::Result<()> {
-    let (class, order) = (image.class(), image.order());
-    println!(rt; "{class:?} {order:?} {:?}", image.header())?;
-    let (is_changed, page_size) = (image.changed(), image.page_size());
-    let is_source = image.source() == bytes;
-    println!(rt; "changed {is_changed}, page size {page_size:?}, source {is_source}")?;
-    println!(rt; "interpreter {:?}", image.interp_data())
+/// What an image shows besides lists.
+#[derive(Debug, Drop)]
+struct Outline<'a> {
+    class: Wide,
+    order: ByteOrder2,
+    header: &'a Header,
+    interpreter: Option<&'a [u8]>,
+    page_size: Option<u32>,
+    is_changed: bool,
+    is_source: bool,
+}
+
+fn outline_of<'a>(bytes: &[u8], image: &'a Builder<'_>) -> Outline<'a> {
+    Outline {
+        class: image.class(),
+        order: image.order(),
+        header: image.header(),
+        interpreter: image.interp_data(),
+        page_size: image.page_size(),
+        is_changed: image.changed(),
+        is_source: image.source() == bytes,
+    }
+}
+
+fn print_headers(rt: &impl Runtime, image: &Builder<'_>) -> io::Result<()> {
+    print_segments(rt, image.segments())?;
+    print_sections(rt, image)
 }
 
 /// The numbers of a section header.
@@ -60,17 +71,36 @@ fn numbers(section: &Section<'_>) -> [u64; 9] {
     ]
 }
 
-/// Prints of each section its name, what its bytes are, the numbers and the bytes.
-fn print_sections(rt: &impl Runtime, sections: &[Section<'_>]) -> io::Result<()> {
-    for section in sections {
-        let (name, numbers) = (Text(section.name.as_slice()), numbers(section));
-        println!(rt;
-            "section {name} {:?} {numbers:?}{}",
-            section.kind,
-            Row(section.content)
-        )?;
+/// What the bytes of a section are, the number that it had at read, and where the section stands that it leans on.
+fn facts(image: &Builder<'_>, i: usize) -> (SectionData, usize, Option<usize>)
+    requires { i < length image.now.sections }
+{
+    let kind = image.sections()[i].kind;
+    (kind, image.read_section(i), image.link_position(i))
+}
+
+/// Prints of each section its name, facts, numbers and bytes.
+fn print_sections(rt: &impl Runtime, image: &Builder<'_>) -> io::Result<()> {
+    for i in 0..image.sections().len() {
+        print_section(rt, &image.sections()[i], facts(image, i))?;
     }
     Ok(())
+}
+
+fn print_section(
+    rt: &impl Runtime,
+    section: &Section<'_>,
+    facts: (SectionData, usize, Option<usize>),
+) -> io::Result<()> {
+    let (name, bytes) = (Text(section.name.as_slice()), Row(section.content));
+    println!(rt; "section {name} {:?}{bytes}", (facts, numbers(section)))
+}
+
+fn print_lists(rt: &impl Runtime, image: &Builder<'_>) -> io::Result<()> {
+    print_symbols(rt, "symbol", image.symbols())?;
+    print_symbols(rt, "dynamic symbol", image.dynamic_symbols())?;
+    print_versions(rt, image)?;
+    print_entries(rt, image.dynamic_data())
 }
 
 fn print_versions(rt: &impl Runtime, image: &Builder<'_>) -> io::Result<()> {
@@ -83,45 +113,35 @@ fn print_versions(rt: &impl Runtime, image: &Builder<'_>) -> io::Result<()> {
     Ok(())
 }
 
-/// Prints where sections stand: those of numbers at read, of types, and those that sections lean on.
-fn print_places(rt: &impl Runtime, image: &Builder<'_>) -> io::Result<()> {
-    let numbered = (image.section_position(4), image.section_position(40));
-    let typed = (image.type_position(SHT_DYNSYM), image.type_position(99));
-    println!(rt; "numbers 4 and 40 at {numbered:?}, types 11 and 99 at {typed:?}")?;
-    let (interpreter, strings) = (
-        image.interpreter_position(),
-        image.dynamic_strings_position(),
-    );
-    let count = image.read_segment_count();
-    println!(rt; "interpreter at {interpreter:?}, strings at {strings:?}, {count} headers read")?;
-    print_links(rt, image)?;
-    let (symbols, dynamic_symbols) = (
-        are_symbols_numbered(image),
-        are_dynamic_symbols_numbered(image),
-    );
-    let is_kept = image.keeps_symbols();
-    println!(rt;
-        "read {} {symbols} {dynamic_symbols}, kept {is_kept}",
-        are_sections_numbered(image)
-    )
+/// Where parts of an image stand, and whether they have their numbers of read.
+#[derive(Debug, Drop)]
+struct Places {
+    fifth: Option<usize>,
+    past_all: Option<usize>,
+    dynamic_symbols: Option<usize>,
+    of_no_type: Option<usize>,
+    interpreter: Option<usize>,
+    strings: Option<usize>,
+    segments_read: usize,
+    are_symbols_numbered: (bool, bool),
+    are_symbols_kept: bool,
 }
 
-fn print_links(rt: &impl Runtime, image: &Builder<'_>) -> io::Result<()> {
-    print!(rt; "links")?;
-    for i in 0..image.sections().len() {
-        print!(rt; " {:?}", image.link_position(i))?;
+fn places_of(image: &Builder<'_>) -> Places {
+    Places {
+        fifth: image.section_position(4),
+        past_all: image.section_position(40),
+        dynamic_symbols: image.type_position(SHT_DYNSYM),
+        of_no_type: image.type_position(99),
+        interpreter: image.interpreter_position(),
+        strings: image.dynamic_strings_position(),
+        segments_read: image.read_segment_count(),
+        are_symbols_numbered: (
+            are_symbols_numbered(image),
+            are_dynamic_symbols_numbered(image),
+        ),
+        are_symbols_kept: image.keeps_symbols(),
     }
-    println!(rt;)
-}
-
-/// Whether each section has its position as its number.
-fn are_sections_numbered(image: &Builder<'_>) -> bool {
-    for i in 0..image.sections().len() {
-        if image.read_section(i) != i {
-            return false;
-        }
-    }
-    true
 }
 
 /// Whether each static symbol has its position as its number.
@@ -144,17 +164,18 @@ fn are_dynamic_symbols_numbered(image: &Builder<'_>) -> bool {
     true
 }
 
-/// Prints whether a copy of the image is the same, and the image that is read once more after an edit of a copy.
+/// Prints whether a copy of the image shows the same, and the image that is read once more from an edited copy.
 fn print_copies(rt: &impl Runtime, image: &Builder<'_>) -> io::Result<()> {
-    let is_copied = match is_copy_same(rt.alloc(), image) {
-        Err(_) => is_copy_same(rt.alloc(), image)?,
-        Ok(is_same) => is_same,
-    };
-    let is_read = match is_same_when_read_again(rt.alloc(), image) {
-        Err(_) => is_same_when_read_again(rt.alloc(), image)?,
-        Ok(is_same) => is_same,
+    let (is_copied, is_read) = match copies_made(rt.alloc(), image) {
+        Err(_) => copies_made(rt.alloc(), image)?,
+        Ok(made) => made,
     };
     println!(rt; "copied {is_copied}, read again {is_read}")
+}
+
+fn copies_made(alloc: Global, image: &Builder<'_>) -> Result<(bool, bool), AllocError> {
+    let is_copied = is_copy_same(alloc, image)?;
+    Ok((is_copied, is_same_when_read_again(alloc, image)?))
 }
 
 /// Whether images show the same.
@@ -168,21 +189,16 @@ fn is_copy_same(alloc: Global, image: &Builder<'_>) -> Result<bool, AllocError> 
     is_same(alloc, image, &copy)
 }
 
-fn is_same_when_read_again(alloc: Global, image: &Builder<'_>) -> Result<bool, AllocError> {
+/// A copy of an image with another ABI byte.
+fn edited<'d>(alloc: Global, image: &Builder<'d>) -> Result<Builder<'d>, AllocError> {
     let mut copy = image.try_clone(alloc)?;
     copy.set_os_abi(97);
-    if !copy.keeps_symbols() {
-        return Ok(false);
-    }
-    read_again_is_same(alloc, image, &copy)
+    Ok(copy)
 }
 
-/// Whether an edited image shows what another does when it is read again.
-fn read_again_is_same(
-    alloc: Global,
-    image: &Builder<'_>,
-    edited: &Builder<'_>,
-) -> Result<bool, AllocError> {
-    let read = edited.read_again(alloc)?;
-    is_same(alloc, image, &read)
+/// Whether an edited copy keeps its symbols, and what is read once more of it shows what the image does.
+fn is_same_when_read_again(alloc: Global, image: &Builder<'_>) -> Result<bool, AllocError> {
+    let copy = edited(alloc, image)?;
+    let read = copy.read_again(alloc)?;
+    Ok(copy.keeps_symbols() && is_same(alloc, image, &read)?)
 }

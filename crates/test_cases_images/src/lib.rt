@@ -1,4 +1,4 @@
-//! Runs the reader, the edits and the writer of ELF files on the cases of a text, and prints what came of each.
+//! Runs the reader, the edits and the writer of ELF files on lines of cases, and prints what came of each.
 //!
 //! Each line is printed again, and below it what came of it. Lines work on `file`, which is made first:
 //!
@@ -9,27 +9,29 @@
 //!
 //! - `i` prints the image of `file`: its headers and sections with their bytes, symbols, versions and dynamic list, where
 //!   sections stand, and whether a copy and a second reading show the same.
-//! - `f` prints the fault for which the image, the writer and the container refuse `file`, and `F` counts its fronts that
-//!   all three refuse as cut.
+//! - `f` prints the faults for which the image, the writer and the container refuse `file`, and `F` counts its fronts that
+//!   all three refuse as cut. `m` prints the machine that its first bytes tell.
 //! - `v` prints the view by section headers of the plain reader, `l N` the view of a loader that is told of N symbols.
 //! - `r` prints what the writer and the container read, and `p` what the container prints. `q` prints needed libraries to
 //!   a page of three bytes.
-//! - `y CLASS ORDER TEXTS RECORDS VERSIONS` reads a table of symbols, its parts in hex, `-` for no bytes. `n TEXTS` tells at which of the
-//!   first 20 places of a string table a name is.
+//! - `y CLASS ORDER TEXTS RECORDS VERSIONS` reads a table of symbols, its parts in hex, `-` for no bytes. `n TEXTS` tells
+//!   at which of the first 20 places of a string table a name is.
 //! - `e` prints the texts of errors, `c` versions without a name and no symbols.
 //!
 //! Editing:
 //!
-//! - `s FLAGS` sets the flags of the stack that each call lends, and `t` edits the dynamic list of copies of the image.
+//! - `s CALL FLAGS` sets the flags of the stack that a call lends: `stack` or `gnu-stack`, or one that adds a header where
+//!   there is none, `add-stack` or `add-gnu-stack`.
+//! - `t` edits the dynamic list of copies of the image.
 //! - `a SIZE ..` applies batch after batch: the run path goes where a size is 0, else the page size is set.
 //!
-//! Writing, after edits that stand in words with a `+` between two:
+//! Writing, after edits, which stand in words behind a `:` with a `+` between two:
 //!
-//! - `w EDIT + EDIT ..` prints the rows of 16 bytes that are written anew, or the fault, and whether the pieces that differ
-//!   make the same bytes. `file` has these bytes then.
-//! - `k ROOM STEP EDIT + EDIT ..` writes to a writer that takes so many bytes, and so many at a time. `K STEP EDIT ..` does
-//!   so with each room that is too little.
-//! - `P PATH EDIT + EDIT ..` writes to a path twice, at which three bytes stood, and takes it away.
+//! - `w : EDIT + EDIT ..` prints the rows of 16 bytes that are written anew, or the fault, and whether the pieces that
+//!   differ make the same bytes. `file` has these bytes then.
+//! - `k ROOM STEP : EDIT ..` writes to a writer that takes so many bytes, and so many at a time. `K STEP : EDIT ..` does so
+//!   with each room that is too little.
+//! - `P PATH : EDIT ..` writes to a path twice, at which three bytes stood, and takes it away.
 //!
 //! An edit is a call of the writer and its values, as `add-rpath /a /b`. Nothing comes of other lines.
 #![tactic(auto)]
@@ -54,6 +56,8 @@ mod words;
 mod writers;
 mod written;
 
+use arwen_elf::elf::ElfContainer;
+use elf_image::Builder;
 use std::io;
 use std::rt::Files;
 
@@ -62,9 +66,9 @@ pub(crate) trait Runtime: Files + Print + AllocGlobal {}
 
 impl<R: Files + Print + AllocGlobal> Runtime for R {}
 
-/// Prints each line of a text, and what comes of it.
-pub fn run<R: Files + Print + AllocGlobal>(rt: &R, cases: &str) -> io::Result<()> {
-    for line in cases.lines() {
+/// Prints each line, and what comes of it.
+pub fn run<R: Files + Print + AllocGlobal>(rt: &R, lines: &str) -> io::Result<()> {
+    for line in lines.lines() {
         println!(rt; "{line}")?;
         step(rt, line)?;
     }
@@ -73,7 +77,7 @@ pub fn run<R: Files + Print + AllocGlobal>(rt: &R, cases: &str) -> io::Result<()
 
 /// Does what a line says.
 fn step(rt: &impl Runtime, line: &str) -> io::Result<()> {
-    let (kind, words) = line.split_once(' ').unwrap_or((line, ""));
+    let (kind, words) = words::first(line);
     match kind {
         "" | "#" => Ok(()),
         "=" => files::make(rt, words),
@@ -94,28 +98,78 @@ fn on_file(rt: &impl Runtime, kind: &str, words: &str) -> io::Result<()> {
 /// Does what a line says to the bytes of the file.
 fn on_bytes(rt: &impl Runtime, bytes: &[u8], kind: &str, words: &str) -> io::Result<()> {
     match kind {
-        "i" => images::print_file(rt, bytes),
         "f" => faults::print_faults(rt, bytes),
         "F" => faults::print_fronts(rt, bytes),
+        "m" => faults::print_machine(rt, bytes),
         "v" => views::print_by_sections(rt, bytes),
         "l" => views::print_loaded(rt, bytes, words),
-        "r" => reads::print_reads(rt, bytes),
-        "p" => prints::print_prints(rt, bytes),
-        "q" => prints::print_to_little(rt, bytes),
-        _ => on_edited(rt, bytes, kind, words),
+        "i" | "s" | "t" => on_image(rt, bytes, kind, words),
+        _ => on_container(rt, bytes, kind, words),
     }
 }
 
-/// Does what a line with an edit says to the bytes of the file.
-fn on_edited(rt: &impl Runtime, bytes: &[u8], kind: &str, words: &str) -> io::Result<()> {
+/// Does what a line says to the image of the file.
+fn on_image(rt: &impl Runtime, bytes: &[u8], kind: &str, words: &str) -> io::Result<()> {
+    match images::read(rt.alloc(), bytes) {
+        Ok(mut image) => on_read(rt, bytes, &mut image, kind, words),
+        Err(fault) => println!(rt; "{fault:?}"),
+    }
+}
+
+/// Does what a line says to the image of bytes.
+fn on_read(
+    rt: &impl Runtime,
+    bytes: &[u8],
+    image: &mut Builder<'_>,
+    kind: &str,
+    words: &str,
+) -> io::Result<()> {
     match kind {
-        "s" => stacks::print_stacks(rt, bytes, words),
-        "t" => dynamic_lists::print_edits(rt, bytes),
-        "a" => batches::print_batches(rt, bytes, words),
-        "w" => written::print_file(rt, bytes, words),
-        "k" => writers::print_taken(rt, bytes, words),
-        "K" => writers::print_fronts(rt, bytes, words),
-        "P" => paths::print_path(rt, bytes, words),
+        "i" => images::print_image(rt, bytes, image),
+        "s" => stacks::print_stack(rt, image, words),
+        _ => dynamic_lists::print_edits(rt, image),
+    }
+}
+
+/// Does what a line says to the container of the file.
+fn on_container(rt: &impl Runtime, bytes: &[u8], kind: &str, words: &str) -> io::Result<()> {
+    match edits::parse(rt.alloc(), bytes) {
+        Ok(mut file) => on_parsed(rt, &mut file, kind, words),
+        Err(error) => edits::tell(rt, &error),
+    }
+}
+
+/// Does what a line says to a container, after edits.
+fn on_parsed(
+    rt: &impl Runtime,
+    file: &mut ElfContainer<'_>,
+    kind: &str,
+    words: &str,
+) -> io::Result<()> {
+    let (words, edits) = words.split_once(':').unwrap_or((words, ""));
+    edits::edit_all(rt, &mut file.inner, edits.trim())?;
+    let words = words.trim();
+    match kind {
+        "a" => batches::print_batches(rt, file, words),
+        _ => on_edited(rt, file, kind, words),
+    }
+}
+
+/// Does what a line says to a container that is edited.
+fn on_edited(
+    rt: &impl Runtime,
+    file: &ElfContainer<'_>,
+    kind: &str,
+    words: &str,
+) -> io::Result<()> {
+    match kind {
+        "r" => reads::print_file(rt, file),
+        "p" => prints::print_each(rt, file),
+        "q" => prints::print_little(rt, file),
+        "w" => written::print_written(rt, file),
+        "k" => writers::print_taken(rt, file, words),
+        "K" => writers::print_fronts(rt, file, words),
+        "P" => paths::print_path(rt, file, words),
         _ => Ok(()),
     }
 }

@@ -1,29 +1,14 @@
 //! Files that are written to a path.
 
 use crate::Runtime;
-use crate::edits::{edit_all, parse, tell, tell_answer};
+use crate::edits::tell_answer;
 use crate::files::content;
-use crate::words::first;
 use crate::written::container_bytes;
 use arwen_elf::elf::{ElfContainer, ElfError};
 use std::{fs, io};
 
-/// Prints what comes of writing a file after edits to a path.
-pub(crate) fn print_path(rt: &impl Runtime, bytes: &[u8], words: &str) -> io::Result<()> {
-    let (path, words) = first(words);
-    match parse(rt.alloc(), bytes) {
-        Ok(mut file) => print_edited(rt, &mut file, path, words),
-        Err(error) => tell(rt, &error),
-    }
-}
-
-fn print_edited(
-    rt: &impl Runtime,
-    file: &mut ElfContainer<'_>,
-    path: &str,
-    words: &str,
-) -> io::Result<()> {
-    edit_all(rt, &mut file.inner, words)?;
+/// Prints what comes of writing a file to a path, at which three bytes stood.
+pub(crate) fn print_path(rt: &impl Runtime, file: &ElfContainer<'_>, path: &str) -> io::Result<()> {
     let _ = fs::write(rt, path, b"abc".as_slice());
     print_written(rt, file, path)?;
     print_written(rt, file, path)?;

@@ -1,7 +1,7 @@
 //! What the container prints of a file.
 
 use crate::Runtime;
-use crate::edits::{parse, tell, tell_answer};
+use crate::edits::{tell, tell_answer};
 use arwen_elf::elf::{ElfContainer, ElfError};
 use std::alloc::Global;
 use std::io;
@@ -81,38 +81,24 @@ fn print_once(rt: &impl Runtime, file: &ElfContainer<'_>, what: What) -> io::Res
     }
 }
 
-fn print_each(rt: &impl Runtime, file: &ElfContainer<'_>) -> io::Result<()> {
+/// Prints what each of the container's prints writes.
+pub(crate) fn print_each(rt: &impl Runtime, file: &ElfContainer<'_>) -> io::Result<()> {
     for what in PRINTS {
         print_once(rt, file, what)?;
     }
     Ok(())
 }
 
-/// Prints what each of the container's prints writes.
-pub(crate) fn print_prints(rt: &impl Runtime, bytes: &[u8]) -> io::Result<()> {
-    match parse(rt.alloc(), bytes) {
-        Ok(file) => print_each(rt, &file),
-        Err(error) => tell(rt, &error),
-    }
-}
-
 /// The print of needed libraries to a page of three bytes.
-fn print_little(alloc: Global, file: &ElfContainer<'_>) -> Result<(), ElfError> {
+fn print_to_little(alloc: Global, file: &ElfContainer<'_>) -> Result<(), ElfError> {
     let mut page = Cursor::new([0u8; 3]);
     print(alloc, file, What::Needed, &mut page)
 }
 
 /// Prints what comes of a print of needed libraries to a page of three bytes.
-pub(crate) fn print_to_little(rt: &impl Runtime, bytes: &[u8]) -> io::Result<()> {
-    match parse(rt.alloc(), bytes) {
-        Ok(file) => tell_little(rt, &file),
-        Err(error) => tell(rt, &error),
-    }
-}
-
-fn tell_little(rt: &impl Runtime, file: &ElfContainer<'_>) -> io::Result<()> {
-    match print_little(rt.alloc(), file) {
-        Err(ElfError::Memory) => tell_answer(rt, &print_little(rt.alloc(), file)),
+pub(crate) fn print_little(rt: &impl Runtime, file: &ElfContainer<'_>) -> io::Result<()> {
+    match print_to_little(rt.alloc(), file) {
+        Err(ElfError::Memory) => tell_answer(rt, &print_to_little(rt.alloc(), file)),
         answer => tell_answer(rt, &answer),
     }
 }

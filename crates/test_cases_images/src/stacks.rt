@@ -2,57 +2,20 @@
 
 use crate::Runtime;
 use crate::edits::tell;
-use crate::images::read;
-use crate::words::number;
+use crate::words::{first, number};
 use arwen_elf::elf::{BuilderExt, ElfError};
 use elf_image::Builder;
 use std::alloc::{AllocError, Global};
 use std::io;
 
-/// How flags are lent.
-#[derive(Clone, Copy, Debug)]
-enum Call {
-    /// By the image.
-    Stack,
-    /// By the image, a new header's.
-    AddStack,
-    /// By what is asked of an image besides its own functions.
-    GnuStack,
-    /// The same, a new header's where there is none.
-    AddGnuStack,
-}
-
-const CALLS: [Call; 4] = [
-    Call::Stack,
-    Call::AddStack,
-    Call::GnuStack,
-    Call::AddGnuStack,
-];
-
-/// Prints what comes of each call on an image of a file, whose lent flags are set.
-pub(crate) fn print_stacks(rt: &impl Runtime, bytes: &[u8], words: &str) -> io::Result<()> {
-    let flags = u32::try_from(number(words)).unwrap_or(0);
-    for call in CALLS {
-        print_stack(rt, bytes, call, flags)?;
-    }
-    Ok(())
-}
-
-fn print_stack(rt: &impl Runtime, bytes: &[u8], call: Call, flags: u32) -> io::Result<()> {
-    match read(rt.alloc(), bytes) {
-        Ok(mut image) => print_call(rt, &mut image, call, flags),
-        Err(fault) => println!(rt; "{fault:?}"),
-    }
-}
-
-/// Prints what comes of a call, and the image.
-fn print_call(
+/// Prints what comes of a call whose lent flags are set, and the image.
+pub(crate) fn print_stack(
     rt: &impl Runtime,
     image: &mut Builder<'_>,
-    call: Call,
-    flags: u32,
+    words: &str,
 ) -> io::Result<()> {
-    print!(rt; "{call:?} ")?;
+    let (call, flags) = first(words);
+    let flags = u32::try_from(number(flags)).unwrap_or(0);
     tell_old(rt, set(rt.alloc(), image, call, flags))?;
     print_image(rt, image)
 }
@@ -76,14 +39,14 @@ fn print_image(rt: &impl Runtime, image: &Builder<'_>) -> io::Result<()> {
 fn set(
     alloc: Global,
     image: &mut Builder<'_>,
-    call: Call,
+    call: &str,
     flags: u32,
 ) -> Result<Option<u32>, ElfError> {
     match call {
-        Call::Stack => Ok(replaced(image.stack_mut(), flags)),
-        Call::GnuStack => Ok(replaced(image.gnu_stack_mut(), flags)),
-        Call::AddStack => Ok(added(alloc, image, flags)?),
-        Call::AddGnuStack => had_again(alloc, image, flags),
+        "stack" => Ok(replaced(image.stack_mut(), flags)),
+        "gnu-stack" => Ok(replaced(image.gnu_stack_mut(), flags)),
+        "add-stack" => Ok(added(alloc, image, flags)?),
+        _ => had_again(alloc, image, flags),
     }
 }
 

@@ -1,7 +1,6 @@
 //! What a writer gets of a file.
 
 use crate::Runtime;
-use crate::edits::{edit_all, parse, tell, tell_answer};
 use crate::taker::Taker;
 use crate::words::{first, place};
 use crate::written::container_bytes;
@@ -22,64 +21,33 @@ fn write_again(
     }
 }
 
-/// Prints what comes of writing a file after edits to a writer that takes so many bytes, and so many at a time.
-pub(crate) fn print_taken(rt: &impl Runtime, bytes: &[u8], words: &str) -> io::Result<()> {
-    let (room, words) = first(words);
-    let (step, words) = first(words);
-    match parse(rt.alloc(), bytes) {
-        Ok(mut file) => print_edited(rt, &mut file, (place(room), place(step)), words),
-        Err(error) => tell(rt, &error),
-    }
-}
-
-fn print_edited(
+/// Prints what comes of writing a file to a writer that takes so many bytes, and so many at a time.
+pub(crate) fn print_taken(
     rt: &impl Runtime,
-    file: &mut ElfContainer<'_>,
-    size: (usize, usize),
+    file: &ElfContainer<'_>,
     words: &str,
 ) -> io::Result<()> {
-    edit_all(rt, &mut file.inner, words)?;
-    print_written(rt, file, size)
-}
-
-fn print_written(
-    rt: &impl Runtime,
-    file: &ElfContainer<'_>,
-    size: (usize, usize),
-) -> io::Result<()> {
+    let (room, step) = first(words);
     match container_bytes(rt.alloc(), file) {
-        Ok(want) => print_answer(rt, file, &want, size),
-        Err(_) => print_answer(rt, file, &[], size),
+        Ok(want) => print_answer(rt, file, Taker::new(&want, place(room), place(step))),
+        Err(_) => print_answer(rt, file, Taker::new(&[], place(room), place(step))),
     }
 }
 
-/// Prints what comes of it, where the writer wants these bytes.
-fn print_answer(
-    rt: &impl Runtime,
-    file: &ElfContainer<'_>,
-    want: &[u8],
-    (room, step): (usize, usize),
-) -> io::Result<()> {
-    let mut sink = Sink::new(Taker::new(want, room, step));
+/// Prints how many bytes a writer took, if they are the first ones that it wants, and what came of writing.
+fn print_answer(rt: &impl Runtime, file: &ElfContainer<'_>, taker: Taker<'_>) -> io::Result<()> {
+    let mut sink = Sink::new(taker);
     let answer = write_again(rt.alloc(), file, &mut sink);
-    print!(rt; "taken {:?}, ", sink.get_ref().taken())?;
-    tell_answer(rt, &answer)
+    println!(rt; "{:?} {answer:?}", sink.get_ref().taken())
 }
 
 /// Prints how many fronts of a file a writer gets, and then fails, that takes no more bytes than these.
-pub(crate) fn print_fronts(rt: &impl Runtime, bytes: &[u8], words: &str) -> io::Result<()> {
-    match parse(rt.alloc(), bytes) {
-        Ok(file) => print_all(rt, &file, bytes, place(words)),
-        Err(error) => tell(rt, &error),
-    }
-}
-
-fn print_all(
+pub(crate) fn print_fronts(
     rt: &impl Runtime,
     file: &ElfContainer<'_>,
-    bytes: &[u8],
-    step: usize,
+    words: &str,
 ) -> io::Result<()> {
+    let (bytes, step) = (file.bytes(), place(words));
     let mut count = 0u64;
     for room in 0..bytes.len() {
         if is_front_taken(rt.alloc(), file, Taker::new(bytes, room, step), room) {

@@ -1,7 +1,7 @@
 //! The bytes of files after edits.
 
 use crate::Runtime;
-use crate::edits::{edit_all, parse, tell};
+use crate::edits::tell;
 use crate::files::{put, resized, save};
 use crate::rows::print_rows;
 use arwen_elf::elf::{ElfContainer, ElfError, Writer};
@@ -9,29 +9,11 @@ use byte_store::Difference;
 use std::alloc::{AllocError, Global};
 use std::io;
 
-/// Prints what is written of a file after edits.
-pub(crate) fn print_file(rt: &impl Runtime, bytes: &[u8], words: &str) -> io::Result<()> {
-    match parse(rt.alloc(), bytes) {
-        Ok(mut file) => print_edited(rt, bytes, &mut file, words),
-        Err(error) => tell(rt, &error),
-    }
-}
-
-/// Edits a file, and prints what is written of it.
-fn print_edited(
-    rt: &impl Runtime,
-    bytes: &[u8],
-    file: &mut ElfContainer<'_>,
-    words: &str,
-) -> io::Result<()> {
-    edit_all(rt, &mut file.inner, words)?;
+/// Prints what is written of a file, or why it is not written.
+pub(crate) fn print_written(rt: &impl Runtime, file: &ElfContainer<'_>) -> io::Result<()> {
     println!(rt; "changed {}", file.inner.builder().changed())?;
-    print_written(rt, bytes, file)
-}
-
-fn print_written(rt: &impl Runtime, bytes: &[u8], file: &ElfContainer<'_>) -> io::Result<()> {
     match image_bytes(rt.alloc(), &file.inner) {
-        Ok(new) => print_new(rt, bytes, file, &new),
+        Ok(new) => print_new(rt, file, &new),
         Err(error) => tell(rt, &error),
     }
 }
@@ -53,21 +35,16 @@ pub(crate) fn container_bytes(alloc: Global, file: &ElfContainer<'_>) -> Result<
 }
 
 /// Prints the rows that are written anew, and whether the pieces that differ make the same bytes. Makes the file of them.
-fn print_new(rt: &impl Runtime, old: &[u8], file: &ElfContainer<'_>, new: &[u8]) -> io::Result<()> {
-    print_rows(rt, old, new)?;
-    print_difference(rt, old, file, new)?;
+fn print_new(rt: &impl Runtime, file: &ElfContainer<'_>, new: &[u8]) -> io::Result<()> {
+    print_rows(rt, file.bytes(), new)?;
+    print_difference(rt, file, new)?;
     save(rt, new)
 }
 
 /// Prints whether the pieces that differ make the same bytes.
-fn print_difference(
-    rt: &impl Runtime,
-    old: &[u8],
-    file: &ElfContainer<'_>,
-    new: &[u8],
-) -> io::Result<()> {
+fn print_difference(rt: &impl Runtime, file: &ElfContainer<'_>, new: &[u8]) -> io::Result<()> {
     match pieces(rt.alloc(), file) {
-        Ok(difference) => print_made(rt, old, &difference, new),
+        Ok(difference) => print_made(rt, file.bytes(), &difference, new),
         Err(error) => tell(rt, &error),
     }
 }
@@ -80,20 +57,31 @@ fn pieces(alloc: Global, file: &ElfContainer<'_>) -> Result<Difference, ElfError
     }
 }
 
+/// Prints whether there are pieces, and whether they make the new bytes of the old ones.
 fn print_made(
     rt: &impl Runtime,
     old: &[u8],
     difference: &Difference,
     new: &[u8],
 ) -> io::Result<()> {
-    let is_made = match makes(rt.alloc(), old, difference, new) {
-        Err(_) => makes(rt.alloc(), old, difference, new)?,
-        Ok(is_made) => is_made,
-    };
+    let has_pieces = !difference.pieces.is_empty();
     println!(rt;
-        "pieces {}, made of them {is_made}",
-        !difference.pieces.is_empty()
+        "pieces {has_pieces}, made {:?}",
+        makes_again(rt.alloc(), old, difference, new)
     )
+}
+
+/// Whether a difference makes bytes of others, tried again where memory was refused.
+fn makes_again(
+    alloc: Global,
+    old: &[u8],
+    difference: &Difference,
+    new: &[u8],
+) -> Result<bool, AllocError> {
+    match makes(alloc, old, difference, new) {
+        Err(_) => makes(alloc, old, difference, new),
+        made => made,
+    }
 }
 
 /// Whether a difference makes bytes of others.

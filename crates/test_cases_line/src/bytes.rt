@@ -1,7 +1,6 @@
 //! The calls that work on bytes and on a writer, and touch no file.
 use crate::changes::print_rows;
 use crate::faults::{tell, tell_answer};
-use crate::reading::line_command;
 use crate::runs::file_bytes;
 use arwen_cli::cli::{
     ArwenError, Command, ElfCommand, ElfCommandError, MachoCommand, MachoCommandError, run_elf,
@@ -14,30 +13,19 @@ use std::rt::Files;
 /// What a command for ELF files answers: new bytes where it is an edit that changes some.
 type Answer = Result<Option<Vec<u8>>, ArwenError>;
 
-/// Does what the words of a line ask to the bytes of the file, and prints what comes of it, text that a command prints
-/// as such or as what stands on a page.
+/// Does what a command asks to the bytes of the file, and prints what comes of it, text that a command prints as such or
+/// as what stands on a page.
 pub(crate) fn run<R: Files + Print + AllocGlobal>(
     rt: &R,
-    line: &str,
-    is_text: bool,
-) -> io::Result<()> {
-    let command = line_command(rt, line);
-    run_command(rt, &command, is_text)
-}
-
-/// Does what a command asks.
-fn run_command<R: Files + Print + AllocGlobal>(
-    rt: &R,
-    command: &Result<Command, ArwenError>,
+    command: &Command,
     is_text: bool,
 ) -> io::Result<()> {
     let bytes = file_bytes(rt)?;
     match command {
-        Ok(Command::Macho(_)) if is_text => Ok(()),
-        Ok(Command::Macho(command)) => edit_macho(rt, bytes.as_slice(), command),
-        Ok(Command::Elf(command)) if is_text => elf_text(rt, bytes.as_slice(), command),
-        Ok(Command::Elf(command)) => elf_page(rt, bytes.as_slice(), command),
-        Err(error) => tell(rt, error),
+        Command::Macho(command) if !is_text => edit_macho(rt, bytes.as_slice(), command),
+        Command::Macho(_) => Ok(()),
+        Command::Elf(command) if is_text => elf_text(rt, bytes.as_slice(), command),
+        Command::Elf(command) => elf_page(rt, bytes.as_slice(), command),
     }
 }
 
@@ -71,11 +59,25 @@ fn edited_macho<R: AllocGlobal>(
 fn elf_page<R: Print + AllocGlobal>(rt: &R, bytes: &[u8], command: &ElfCommand) -> io::Result<()> {
     let mut page = Cursor::new([0; 8]);
     let answer = answer_of(rt, bytes, command, &mut page);
-    tell_answer(rt, &answer)?;
-    match (&answer, command.is_print()) {
-        (Ok(Some(new)), _) => print_rows(rt, bytes, new.as_slice()),
-        (_, true) => print_rows(rt, &[0; 8], page.get_ref()),
-        (_, false) => println!(rt; "no new bytes"),
+    if command.is_print() {
+        print_page(rt, &answer, page.get_ref())
+    } else {
+        print_edit(rt, bytes, &answer)
+    }
+}
+
+/// Prints the status, the fault, and what a command printed on a page.
+fn print_page<R: Print>(rt: &R, answer: &Answer, page: &[u8]) -> io::Result<()> {
+    tell_answer(rt, answer)?;
+    print_rows(rt, &[0; 8], page)
+}
+
+/// Prints the status, the fault, and the rows that an edit changes.
+fn print_edit<R: Print>(rt: &R, bytes: &[u8], answer: &Answer) -> io::Result<()> {
+    tell_answer(rt, answer)?;
+    match answer {
+        Ok(Some(new)) => print_rows(rt, bytes, new.as_slice()),
+        _ => println!(rt; "no new bytes"),
     }
 }
 
@@ -84,12 +86,18 @@ fn elf_page<R: Print + AllocGlobal>(rt: &R, bytes: &[u8], command: &ElfCommand) 
 fn elf_text<R: Print + AllocGlobal>(rt: &R, bytes: &[u8], command: &ElfCommand) -> io::Result<()> {
     let mut sheet = Cursor::new([0; 256]);
     let answer = answer_of(rt, bytes, command, &mut sheet);
-    print_text(rt, sheet.get_ref(), sheet.position())?;
-    tell_answer(rt, &answer)?;
-    match &answer {
-        Ok(Some(new)) => print_rows(rt, bytes, new.as_slice()),
-        _ => println!(rt; "no new bytes"),
-    }
+    print_sheet(rt, bytes, &answer, (sheet.get_ref(), sheet.position()))
+}
+
+/// Prints what stands on a sheet before a position, and what came of an edit.
+fn print_sheet<R: Print>(
+    rt: &R,
+    bytes: &[u8],
+    answer: &Answer,
+    (sheet, end): (&[u8], u64),
+) -> io::Result<()> {
+    print_text(rt, sheet, end)?;
+    print_edit(rt, bytes, answer)
 }
 
 /// Prints what stands on a sheet before a position.

@@ -24,6 +24,8 @@ mod modules;
 mod reading;
 mod runs;
 
+use reading::Use;
+use runs::Way;
 use std::io;
 use std::rt::Files;
 use test_cases_files::words::split_kind;
@@ -42,13 +44,13 @@ fn step<R: Files + Print + Eprint + AllocGlobal>(rt: &R, line: &str) -> io::Resu
     let (kind, words) = split_kind(line);
     match kind {
         "=" => runs::copy(rt, words),
-        ">" => runs::run(rt, words, runs::Way::Line),
-        "m" => runs::run(rt, words, runs::Way::Module),
-        "*" => runs::run(rt, words, runs::Way::Library),
-        "?" => reading::show(rt, words),
-        "h" => reading::show_text(rt, words),
-        "!" => bytes::run(rt, words, false),
-        "p" => bytes::run(rt, words, true),
+        ">" => runs::run(rt, words, Way::Line),
+        "m" => runs::run(rt, words, Way::Module),
+        "*" => runs::run(rt, words, Way::Library),
+        "?" => reading::read(rt, words, Use::Show),
+        "h" => reading::read(rt, words, Use::ShowText),
+        "!" => reading::read(rt, words, Use::OnPage),
+        "p" => reading::read(rt, words, Use::AsText),
         _ => Ok(()),
     }
 }

@@ -12,14 +12,14 @@ pub(crate) fn relocate<R: Files + AllocGlobal>(
     words: &[&str],
 ) -> Result<(), ArwenError> {
     let bytes = fs::read(rt, path)?;
-    let new = relocated(rt.alloc(), bytes.as_slice(), words)?;
+    let new = relocated(rt.alloc(), bytes, words)?;
     Ok(fs::write(rt, path, new.as_slice())?)
 }
 
 /// The bytes of a library with both.
-fn relocated(alloc: Global, bytes: &[u8], words: &[&str]) -> Result<Vec<u8>, ArwenError> {
+fn relocated(alloc: Global, bytes: Vec<u8>, words: &[&str]) -> Result<Vec<u8>, ArwenError> {
     let edits = edits_of(alloc, words)?;
-    edited(alloc, bytes, edits.as_slice())
+    edited(alloc, bytes.as_slice(), edits.as_slice())
 }
 
 /// The two edits.

@@ -1,8 +1,10 @@
 //! The words of a line, and the command that they mean.
+use crate::bytes;
 use crate::faults::tell;
 use arwen_cli::cli::{ArwenError, Command, parse_line};
 use std::alloc::AllocError;
 use std::io;
+use std::rt::Files;
 use test_cases_files::words::split_words;
 
 /// The words of a line, split again where memory was refused.
@@ -24,24 +26,68 @@ pub(crate) fn command_of<R: AllocGlobal>(rt: &R, words: &[&str]) -> Result<Comma
     }
 }
 
+/// What is done with a command that was read.
+#[derive(Clone, Copy)]
+pub(crate) enum Use {
+    /// It is printed.
+    Show,
+    /// The text is printed with which the line was answered.
+    ShowText,
+    /// It is done to bytes; a command that prints prints on a page.
+    OnPage,
+    /// It is done to bytes; what a command prints is printed as text.
+    AsText,
+}
+
 /// The command that the words of a line mean.
-pub(crate) fn line_command<R: AllocGlobal>(rt: &R, line: &str) -> Result<Command, ArwenError> {
+fn line_command<R: AllocGlobal>(rt: &R, line: &str) -> Result<Command, ArwenError> {
     let words = words_of(rt, line)?;
     command_of(rt, words.as_slice())
 }
 
-/// Prints the command that the words of a line mean.
-pub(crate) fn show<R: Print + AllocGlobal>(rt: &R, line: &str) -> io::Result<()> {
-    match line_command(rt, line) {
-        Ok(command) => println!(rt; "{command:?}"),
-        Err(error) => tell(rt, &error),
+/// Reads the words of a line, and uses the command that they mean.
+pub(crate) fn read<R: Files + Print + AllocGlobal>(
+    rt: &R,
+    line: &str,
+    for_use: Use,
+) -> io::Result<()> {
+    let command = line_command(rt, line);
+    use_line(rt, &command, for_use)
+}
+
+/// Uses a command, or the answer to words that mean none.
+fn use_line<R: Files + Print + AllocGlobal>(
+    rt: &R,
+    command: &Result<Command, ArwenError>,
+    for_use: Use,
+) -> io::Result<()> {
+    match command {
+        Ok(command) => use_command(rt, command, for_use),
+        Err(error) => use_answer(rt, error, for_use),
     }
 }
 
-/// Prints the status and the text that the words of a line are answered with.
-pub(crate) fn show_text<R: Print + AllocGlobal>(rt: &R, line: &str) -> io::Result<()> {
-    match &line_command(rt, line) {
-        Err(ArwenError::Line { text, status }) => print!(rt; "status {status}:\n{text}"),
-        _ => println!(rt; "no text"),
+/// Uses a command.
+fn use_command<R: Files + Print + AllocGlobal>(
+    rt: &R,
+    command: &Command,
+    for_use: Use,
+) -> io::Result<()> {
+    match for_use {
+        Use::Show => println!(rt; "{command:?}"),
+        Use::ShowText => println!(rt; "no text"),
+        Use::OnPage => bytes::run(rt, command, false),
+        Use::AsText => bytes::run(rt, command, true),
+    }
+}
+
+/// Prints the answer to words that mean no command: all of its text, or the status and its first line.
+fn use_answer<R: Print>(rt: &R, error: &ArwenError, for_use: Use) -> io::Result<()> {
+    match (for_use, error) {
+        (Use::ShowText, ArwenError::Line { text, status }) => {
+            print!(rt; "status {status}:\n{text}")
+        }
+        (Use::ShowText, _) => println!(rt; "no text"),
+        _ => tell(rt, error),
     }
 }

@@ -68,9 +68,19 @@ fn run_from<R: Files + Print + Eprint + AllocGlobal>(
     way: Way,
     before: &Option<Vec<u8>>,
 ) -> io::Result<()> {
-    let answer = line_answer(rt, line, way, before);
-    tell_answer(rt, &answer)?;
+    run_line(rt, line, way, before)?;
     print_file(rt, before)
+}
+
+/// Does what the words of a line ask, and prints the status and the fault.
+fn run_line<R: Files + Print + Eprint + AllocGlobal>(
+    rt: &R,
+    line: &str,
+    way: Way,
+    before: &Option<Vec<u8>>,
+) -> io::Result<()> {
+    let answer = line_answer(rt, line, way, before);
+    tell_answer(rt, &answer)
 }
 
 /// Prints what became of the file.
@@ -116,7 +126,17 @@ fn answer_again<R: Files + Print + Eprint + AllocGlobal>(
 
 /// Says so where a command that was refused memory did not leave the file as it was.
 fn check_file<R: Files + Print + AllocGlobal>(rt: &R, before: &Option<Vec<u8>>) -> io::Result<()> {
-    if content(rt, FILE)? == *before {
+    let after = content(rt, FILE)?;
+    check_same(rt, before, &after)
+}
+
+/// Says so where two contents differ.
+fn check_same<R: Print>(
+    rt: &R,
+    before: &Option<Vec<u8>>,
+    after: &Option<Vec<u8>>,
+) -> io::Result<()> {
+    if before == after {
         return Ok(());
     }
     println!(rt; "refused memory, and changed the file")
