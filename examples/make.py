@@ -1,14 +1,17 @@
 #!/usr/bin/env python3
-"""Makes the small Mach-O files of this folder, in every form of header.
+"""Makes the small files of this folder: Mach-O files in every form of header, and two ELF files.
 
-    python3 examples/make.py [FOLDER]
+    python3 examples/make.py [FOLDER]           the Mach-O files
+    python3 examples/make.py --elf [FOLDER]     the ELF files
 
-The files are written into FOLDER, or into the folder of this script. Python's standard library is
-enough. The records are those of Apple's mach-o/loader.h and mach-o/fat.h.
+The files are written into FOLDER, or into the folder of this script. For Mach-O files Python's standard library is
+enough; the records are those of Apple's mach-o/loader.h and mach-o/fat.h. For ELF files gcc and GNU ld have to be there,
+on Linux for x86-64.
 """
 
 import os
 import struct
+import subprocess
 import sys
 
 # Kinds of file and flags of the header.
@@ -173,12 +176,40 @@ def files():
     }
 
 
+# A program and the library that it needs, as C.
+GREET = "void greet(void);\nint main(void) { greet(); return 0; }\n"
+LIBGREET = "#include <stdio.h>\nvoid greet(void) { puts(\"Hello from libgreet.so\"); }\n"
+
+
+def compile_elf(source, out, *options):
+    """Compiles C to a small file without symbols that nothing needs."""
+    words = ["gcc", "-O2", "-s", "-Wl,-z,noseparate-code", "-o", out, "-x", "c", "-", "-x", "none", *options]
+    subprocess.run(words, input=source.encode(), check=True)
+
+
+def make_elf(folder):
+    """A library with a name of its own, and a program that needs it and has no run path."""
+    library = os.path.join(folder, "libgreet.so")
+    compile_elf(LIBGREET, library, "-fPIC", "-shared", "-Wl,-soname,libgreet.so")
+    compile_elf(GREET, os.path.join(folder, "greet"), library)
+
+
 def main():
-    folder = sys.argv[1] if len(sys.argv) > 1 else os.path.dirname(os.path.abspath(__file__))
+    words = sys.argv[1:]
+    is_elf = words[:1] == ["--elf"]
+    words = words[is_elf:]
+    if len(words) > 1 or any(word.startswith("-") for word in words):
+        print(__doc__)
+        return 0 if words in (["-h"], ["--help"]) else 2
+    folder = words[0] if words else os.path.dirname(os.path.abspath(__file__))
+    if is_elf:
+        make_elf(folder)
+        return 0
     for name, data in files().items():
         with open(os.path.join(folder, name), "wb") as out:
             out.write(data)
+    return 0
 
 
 if __name__ == "__main__":
-    main()
+    sys.exit(main())

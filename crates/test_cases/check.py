@@ -3,18 +3,19 @@
 
     python3 crates/test_cases/check.py [STDOUT]
 
-STDOUT is what the program printed, or the file `stdout` beside this script. The rows that were printed are laid over the
-file that was edited; what the new bytes show, by their section headers and by their program headers alone, has to be
-what the model of crates/test_elf_edits makes of what the old bytes showed. Where an edit was refused, the model has to
-know why, but for a refused layout, which it can't foresee. Files that were not read are passed over. Python's standard
-library is enough.
+STDOUT is what the program printed, or the file `stdout` beside this script. Of the command line's files of lines the rows
+that were printed are laid over the file that was edited; what the new bytes show, by their section headers and by their
+program headers alone, has to be what the model makes of what the old bytes showed. Where an edit was refused, the model
+has to know why, but for a refused layout, which it can't foresee. Files that were not read are passed over. The files of
+lines about edits have to print what the model says. Python's standard library is enough.
 """
 
 import os
+import re
 import sys
 
 HERE = os.path.dirname(os.path.abspath(__file__))
-sys.path.insert(0, os.path.join(HERE, "..", "test_elf_edits"))
+sys.path.insert(0, HERE)
 sys.dont_write_bytecode = True
 import model  # noqa: E402
 
@@ -191,11 +192,20 @@ def compare(data, words, lines):
     return new, None
 
 
+def parts(text):
+    """What was printed of each file of lines, without the heading."""
+    found = {}
+    for part in re.split("^==== ", text, flags=re.M)[1:]:
+        name, _, printed = part.partition("\n")
+        found[name] = printed
+    return found
+
+
 def steps(text):
-    """The lines of the cases, each with what was printed of it."""
+    """The lines of a file, each with what was printed of it."""
     found = []
     for line in text.split("\n"):
-        if line[:2] in ("= ", "> ", "! ", "? ", "* ", "h ", "p ") or line[:1] in ("#", "", "?", ">"):
+        if line[:2] in ("= ", "> ", "m ", "! ", "? ", "* ", "h ", "p ") or line[:1] in ("#", "", "?", ">"):
             found.append((line, []))
         elif found:
             found[-1][1].append(line)
@@ -207,36 +217,56 @@ def is_checked(status):
     return not status.startswith("status 2: error: ") and UNREAD not in status
 
 
-def main():
-    folder = os.path.join(HERE, "data")
-    with open(sys.argv[1] if len(sys.argv) > 1 else os.path.join(HERE, "stdout"), errors="replace") as text:
-        lines = steps(text.read())
+def is_edit(line, printed):
+    """Whether a line is an edit of an ELF file that was read."""
+    kind, *words = line.split(" ")
+    names = model.ALONE + model.ONE + model.MANY + ["apply", "shrink-rpath"]
+    is_named = words[:1] == ["elf"] and len(words) > 2 and words[1] in names
+    return kind in (">", "m", "!", "p") and is_named and printed[:1] != [] and is_checked(printed[0])
+
+
+def check_edit(data, line, printed):
+    """The new bytes of a file, and what is wrong with the answer to a line that edits it."""
+    kind, *words = line.split(" ")
+    if words[1] == "shrink-rpath":
+        return compare_shrunk(data, words[1:], printed, kind == "p")
+    return compare(data, words[1:], printed)
+
+
+def check_lines(text, folder):
+    """How many edits there are in a file of lines on the command line, and how many of them are wrong."""
     data, count, wrong = None, 0, 0
-    for line, printed in lines:
+    for line, printed in steps(text):
         kind, *words = line.split(" ")
         if kind == "=":
             path = os.path.join(folder, words[0])
-            data = open(path, "rb").read() if os.path.isfile(path) else None
-        names = model.ALONE + model.ONE + model.MANY + ["apply", "shrink-rpath"]
-        edits = words[:1] == ["elf"] and len(words) > 2 and words[1] in names
-        if kind not in (">", "!", "p") or not edits or printed[:1] == [] or not is_checked(printed[0]):
+            data = model.content(folder, words[0]) if os.path.isfile(path) else None
+        if not is_edit(line, printed):
             continue
         try:
             shows(data)
         except (ValueError, TypeError, IndexError, KeyError, model.struct.error):
             continue
-        if words[1] == "shrink-rpath":
-            new, why = compare_shrunk(data, words[1:], printed, kind == "p")
-        else:
-            new, why = compare(data, words[1:], printed)
+        new, why = check_edit(data, line, printed)
         count += 1
         if why is not None:
             wrong += 1
             print("%s\n    %s" % (line, why))
-        if kind == ">":
+        if kind in (">", "m"):
             data = new
+    return count, wrong
+
+
+def main():
+    folder = os.path.join(HERE, "data")
+    with open(sys.argv[1] if len(sys.argv) > 1 else os.path.join(HERE, "stdout"), errors="replace") as text:
+        printed = parts(text.read())
+    counts = [check_lines(text, folder) for name, text in printed.items() if name.startswith("line/")]
+    count, wrong = sum(count for count, _ in counts), sum(wrong for _, wrong in counts)
     print("%d edits of ELF files, %d of them wrong" % (count, wrong))
-    return 1 if wrong else 0
+    others = [name for name in model.names_of(folder) if parts(model.printed(folder, name)) != {name: printed.get(name)}]
+    print("files of lines about edits that print something else: %s" % (" ".join(others) or "none"))
+    return 1 if wrong or others else 0
 
 
 if __name__ == "__main__":

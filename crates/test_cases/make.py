@@ -1,5 +1,5 @@
 #!/usr/bin/env python3
-"""Makes the small files of this crate's folder `data` that its cases are run on.
+"""Makes the small files of this crate's folder `data` that its lines on the command line are run on.
 
     python3 crates/test_cases/make.py [FOLDER]
 

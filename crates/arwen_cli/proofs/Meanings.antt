@@ -1,17 +1,17 @@
 -- What a name and the words behind it mean is what its command asks for with its values.
-use Rattle.std.proofs.Common.{◌≡◌, ◌≢◌, ◌∷◌, [], ◌≤◌, List, Option, Some, None, Bor, true, false, length, map, arith, inl, inr, refl, sym, ap, ◌∙◌, subst, codes}
+use Rattle.std.proofs.Common.{◌≡◌, ◌≢◌, ◌∷◌, [], ◌≤◌, List, Option, Some, None, Ok, Err, Bor, true, false, length, map, arith, inl, inr, refl, sym, ap, ◌∙◌, subst, codes}
 use Rattle.std.specs.Prelude.{option_and_then, option_map, slice_get}
 use Rattle.std.proofs.lemmas.List.{length-map}
 use Rattle.clap.specs.Lexer.{usize_max}
 use Rattle.command_words.proofs.ForCallers.{meant_with-named, named-map}
-use Rattle.elf_commands.specs.Meaning.{ElfMeaning, elf_lines}
+use Rattle.elf_commands.specs.Meaning.{ElfMeaning, Reading, elf_lines}
 use Rattle.macho_commands.specs.Meaning.{MachoMeaning, macho_lines}
-use Rattle.arwen_commands.specs.Meaning.{Meaning, of_elf, of_macho}
+use Rattle.arwen_cli.specs.Meaning.{Meaning, of_elf, of_macho}
 use Rattle.command_words.specs.Rows.{Given, Line, Named, Text, asked_by_words, asked_with, given_by, kind_of, line_named, meant_by, meant_with, named, named_of}
-use Rattle.elf_commands.specs.ElfAsked.{TellsNoValue}
-use Rattle.command_faults.specs.Fault.{IsOfLine}
-use Rattle.command_faults.specs.declared.error.ArwenError.{ArwenError}
-use Rattle.command_faults.specs.declared.error.ArwenError.TheVariants as error
+use Rattle.command_words.specs.Groups.{Wrong}
+use Rattle.command_words.specs.WordValues.{TellsNoValue}
+use Rattle.command_words.specs.declared.word_values.ValueError.{ValueError}
+use Rattle.command_words.specs.declared.word_values.ValueError.TheVariants as value
 use Rattle.arwen_cli.specs.Line.{has_option, if_taken, meaning_of}
 use Rattle.arwen_cli.specs.Parser.{IsTaken, MeansBy, MeansTaken, is_table}
 use Rattle.arwen_cli.proofs.Named.{differs}
@@ -98,27 +98,11 @@ no_meaning first lines words taken m is by none = some≢none m (none ∙ found_
 
 -- ---- values that are not what a command takes
 
--- their error is one of a line
-pub of_line : (meant : Option (Option ElfMeaning)) (e : ArwenError) → TellsNoValue meant e → IsOfLine e
-of_line meant error.Memory told = tt
-of_line meant (error.Line text status) told = tt
-of_line meant (error.Macho e) told = told
-of_line meant (error.Elf e) told = told
-of_line meant (error.Io e) told = told
-of_line meant (error.Edits e) told = told
-of_line meant (error.MachoBatch e) told = told
-of_line meant (error.ElfBatch e) told = told
-
 -- where the command takes the values, it is want of memory
-pub of_memory : (meant : Option (Option ElfMeaning)) (m : ElfMeaning) (e : ArwenError) → TellsNoValue meant e → meant ≡ Some (Some m) → e ≡ error.Memory
-of_memory meant m error.Memory told is = refl
-of_memory meant m (error.Line text status) told is = absurd (cc)
-of_memory meant m (error.Macho e) told is = absurd told
-of_memory meant m (error.Elf e) told is = absurd told
-of_memory meant m (error.Io e) told is = absurd told
-of_memory meant m (error.Edits e) told is = absurd told
-of_memory meant m (error.MachoBatch e) told is = absurd told
-of_memory meant m (error.ElfBatch e) told is = absurd told
+pub of_memory : (read : Option Reading) (m : ElfMeaning) (e : ValueError) → TellsNoValue read e → read ≡ Some (Ok m) → e ≡ value.Memory
+of_memory read m value.Memory told is = refl
+of_memory read m (value.NoNumber word) told is = absurd (cc)
+of_memory read m (value.NoPair word place) told is = absurd (cc)
 
 -- ---- a whole line
 
@@ -129,9 +113,10 @@ module _ {A B : Type 0} (f : A → B) where
   made_of (Some a) b e = (a, refl)
 
 -- a command that takes its values was named
-taken_of : (o : Option (Option ElfMeaning)) (m : ElfMeaning) → if_taken o ≡ Some m → o ≡ Some (Some m)
+taken_of : (o : Option Reading) (m : ElfMeaning) → if_taken o ≡ Some m → o ≡ Some (Ok m)
 taken_of None m e = absurd (some≢none m e)
-taken_of (Some taken) m e = ap (λ (t : Option ElfMeaning). Some t) e
+taken_of (Some (Ok taken)) m e = cc
+taken_of (Some (Err wrong)) m e = absurd (some≢none m e)
 
 -- the words behind the first
 first_word : (words : List (Bor Text)) (first : Bor Text) (known : Text) → Some first ≡ slice_get words 0 → first.now ≡ known → (rest : List (Bor Text)) × (texts words ≡ known ∷ texts rest) × (length rest ≤ length words)
@@ -155,7 +140,7 @@ module _ (words : List (Bor Text)) (first : Bor Text) (is : Some first ≡ slice
   elf_means m named by =
       let w = first_word words first (codes "elf") is named in
       let at = subst (λ ws. MeansTaken (codes "elf") elf_lines ws m) w.1 by in
-      let n = means_of (codes "elf") elf_lines refl (texts w.0) (Some m) at (behind (codes "elf") w.0 w.1) in
+      let n = means_of (codes "elf") elf_lines refl (texts w.0) (Ok m) at (behind (codes "elf") w.0 w.1) in
       ap meaning_of (w.1 ∙ ap (λ ws. codes "elf" ∷ ws) n.2) ∙ ap (λ asked. option_map of_elf (if_taken asked)) n.3
 
   macho_by : (m : Meaning) (rest : List Text) → has_option rest ≡ false → length rest ≤ usize_max → meaning_of (codes "macho" ∷ rest) ≡ Some m → (taken : MachoMeaning) × MeansBy (codes "macho") macho_lines (codes "macho" ∷ rest) taken
@@ -169,7 +154,7 @@ module _ (words : List (Bor Text)) (first : Bor Text) (is : Some first ≡ slice
   elf_by m (name ∷ rest) p fits meant =
       let made = made_of of_elf (if_taken (meant_by elf_lines name rest)) m meant in
       let taken = taken_of (meant_by elf_lines name rest) made.0 made.1 in
-      (made.0, means_by (codes "elf") elf_lines refl name rest (Some made.0) p (omega arith) taken)
+      (made.0, means_by (codes "elf") elf_lines refl name rest (Ok made.0) p (omega arith) taken)
 
   pub macho_passes : (m : Meaning) → first.now ≡ codes "macho" → length words ≤ usize_max → meaning_of (texts words) ≡ Some m → (taken : MachoMeaning) × MeansBy (codes "macho") macho_lines (texts words) taken
   macho_passes m named fits meant =

@@ -1,2 +1,4 @@
+pub mod Fault
 pub mod Line
+pub mod Meaning
 pub mod Parser

@@ -1,22 +1,25 @@
 -- What the words of a line mean, those behind the program's name.
-use Rattle.std.specs.Prelude.{◌==◌, Bool, false, List, [], ◌∷◌, Option, Some, None, codes}
+use Rattle.std.specs.Prelude.{◌==◌, ◌≡◌, Bool, false, List, [], ◌∷◌, Option, Some, None, codes}
 use Rattle.std.specs.Prelude.{if◌then◌else◌, option_and_then, option_map}
 use Rattle.std.specs.List.{list_any}
+use Rattle.std.specs.Result.{result_ok}
 use Rattle.std.specs.Str.{bytes_eq}
-use Rattle.elf_commands.specs.ElfEngine.{ElfMayFail}
+use Rattle.elf_commands.specs.ElfEngine.{ElfMayFail as CommandMayFail}
+use Rattle.elf_commands.specs.Meaning.{ElfMeaning, Reading, elf_lines}
+use Rattle.elf_commands.specs.declared.error.ElfCommandError.{ElfCommandError}
 use Rattle.macho_commands.specs.Engine.{MayFail}
-use Rattle.command_faults.specs.Fault.{IsOfLine}
-use Rattle.elf_commands.specs.Meaning.{ElfMeaning, elf_lines}
-use Rattle.arwen_commands.specs.Meaning.{Meaning, of_elf, of_macho}
-use Rattle.macho_commands.specs.Meaning.{macho_lines}
+use Rattle.macho_commands.specs.Meaning.{MachoMeaning, macho_lines}
+use Rattle.macho_commands.specs.declared.error.MachoCommandError.{MachoCommandError}
+use Rattle.arwen_cli.specs.Fault.{IsOfLine, answer_to_elf_command, answer_to_macho_command}
+use Rattle.arwen_cli.specs.Meaning.{Meaning, of_elf, of_macho}
 use Rattle.command_words.specs.Rows.{Text, meant_by}
-use Rattle.command_faults.specs.declared.error.ArwenError.{ArwenError}
+use Rattle.arwen_cli.specs.declared.cli.error.ArwenError.{ArwenError}
 
 -- ---- what words mean
 
 -- what a command for ELF files asks for; nothing where a value is not what the command takes
-abbrev pub if_taken : Option (Option ElfMeaning) → Option ElfMeaning
-if_taken asked = option_and_then (λ taken. taken) asked
+abbrev pub if_taken : Option Reading → Option ElfMeaning
+if_taken asked = option_and_then result_ok asked
 
 -- the first word names the commands, the second a command, and those behind it are its values in order
 abbrev pub meaning_of : List Text → Option Meaning
@@ -40,8 +43,20 @@ has_option words = list_any begins_with_hyphen words
 
 -- ---- what comes of words
 
+-- the error of a command: the program's answer to one that the command may have
+abbrev pub MachoMayFail : MachoMeaning → ArwenError → Type 0
+MachoMayFail meaning e =
+    (cause : MachoCommandError) × MayFail meaning cause × (e ≡ answer_to_macho_command cause)
+
+abbrev pub ElfMayFail : ElfMeaning → ArwenError → Type 0
+ElfMayFail meaning e =
+    (cause : ElfCommandError) × CommandMayFail meaning cause × (e ≡ answer_to_elf_command cause)
+
+abbrev pub MeaningMayFail : Meaning → ArwenError → Type 0
+MeaningMayFail (of_macho meaning) e = MachoMayFail meaning e
+MeaningMayFail (of_elf meaning) e = ElfMayFail meaning e
+
 -- the error of a line: that of the command that it means, or else of the line
 abbrev pub LineMayFail : Option Meaning → ArwenError → Type 0
-LineMayFail (Some (of_macho meaning)) e = MayFail meaning e
-LineMayFail (Some (of_elf meaning)) e = ElfMayFail meaning e
+LineMayFail (Some meaning) e = MeaningMayFail meaning e
 LineMayFail None e = IsOfLine e

@@ -1,5 +1,5 @@
 -- What the parser of lines is told of a first word's commands, and what is made of what it finds.
-use Rattle.std.specs.Prelude.{ℕ, ◌≡◌, Bool, true, false, List, [], ◌∷◌, Option, Some, None, codes, map, not}
+use Rattle.std.specs.Prelude.{ℕ, ◌≡◌, Bool, true, false, List, [], ◌∷◌, Option, Some, None, Ok, Result, codes, map, not}
 use Rattle.std.specs.Prelude.{option_and_then, option_map, unwrap_or}
 use Rattle.std.specs.List.{list_all}
 use Rattle.std.specs.Str.{bytes_eq}
@@ -10,14 +10,15 @@ use Rattle.clap.specs.declared.builder.command.Command.TheViews.{out-Command}
 use Rattle.clap.specs.declared.builder.action.ArgAction.TheVariants.{Append}
 use Rattle.clap.specs.declared.parser.matches.ArgMatches.{ArgMatches}
 use Rattle.clap.specs.Lexer.{usize_max}
+use Rattle.command_words.specs.Groups.{Wrong}
 use Rattle.command_words.specs.Rows.{Given, Kind, Line, Named, Text, meant_with, named, named_of, options}
 use Rattle.command_words.specs.Rows.{path, path_alone, path_and_options, path_and_words, text}
 use Rattle.command_words.specs.Rows.{text_and_path, texts, texts_and_path, words}
 use Rattle.command_words.specs.Rows.{given_model}
 use Rattle.command_words.specs.declared.rows.Values.{Values}
 use Rattle.std.specs.Borrow.{Bor}
-use Rattle.command_faults.specs.declared.error.ArwenError.{ArwenError}
-use Rattle.command_faults.specs.declared.error.ArwenError.TheVariants.{Memory}
+use Rattle.arwen_cli.specs.declared.cli.error.ArwenError.{ArwenError}
+use Rattle.arwen_cli.specs.declared.cli.error.ArwenError.TheVariants.{Memory}
 
 -- ---- the commands
 
@@ -164,14 +165,18 @@ MayRefuse {M} first lines list error = (meaning : M) → MeansBy first lines lis
     → error ≡ Memory
 
 -- the same of commands that take not every value: the values that the parser finds ask for this
-abbrev pub MeansTaken : {M : Type 0} → Text → List (Line (Option M)) → List Text → M → Type 0
-MeansTaken first lines list meaning = MeansBy first lines list (Some meaning)
+abbrev pub MeansTaken : {M : Type 0} → Text → List (Line (Result M Wrong)) → List Text → M → Type 0
+MeansTaken first lines list meaning = MeansBy first lines list (Ok meaning)
 
 -- where the words mean a command with values that it takes, the error is want of memory
-abbrev pub MayRefuseTaken : {M : Type 0} → Text → List (Line (Option M)) → List Text → ArwenError
+abbrev pub MayRefuseTaken : {M : Type 0} → Text → List (Line (Result M Wrong)) → List Text → ArwenError
     → Type 0
 MayRefuseTaken {M} first lines list error = (meaning : M) → MeansTaken first lines list meaning
     → error ≡ Memory
+
+-- where values are what a command takes, the error is want of memory
+abbrev pub MayRefuseReading : {M : Type 0} → Option (Result M Wrong) → ArwenError → Type 0
+MayRefuseReading {M} read error = (meaning : M) → read ≡ Some (Ok meaning) → error ≡ Memory
 
 -- ---- a parse that is told a command
 

@@ -1,21 +1,32 @@
 //! The command line: what the words of a line mean, and doing it.
 ghost use Rattle.std.specs.Prelude.{◌≡◌, false, IfErr, IsSome, OnOk, map};
-ghost use Rattle.arwen_cli.specs.Line.{LineMayFail, has_option, meaning_of};
+ghost use Rattle.arwen_cli.specs.Line.{ElfMayFail, LineMayFail, MachoMayFail, MeaningMayFail, has_option, meaning_of};
+ghost use Rattle.arwen_cli.specs.Meaning.{shown};
+ghost use Rattle.elf_commands.specs.Meaning.{elf_command_model};
+ghost use Rattle.macho_commands.specs.Meaning.{macho_command_model};
 
+mod command;
+mod error;
+mod file;
 mod line;
 mod parser;
 
-pub use arwen_commands::elf::{
+pub use command::Command;
+pub use command_words::{
+    EditFault, EditKind, EditsError, KeyValueError, MOST_BYTES, ValueError, parse_key_val,
+};
+pub use elf_commands::elf::{
     FileProbe, Probe, edit_path, edit_store, print_path, print_store, run_elf, shrink_path,
     shrink_store,
 };
-pub use arwen_commands::{
-    ArwenError, Command, EditFault, EditKind, EditsError, ElfCommand, FaultLine, KeyValueError,
-    MOST_BYTES, MachoCommand, add, apply, change, delete, elf, install_id, install_name,
-    macho_execute, parse_elf_edits, parse_key_val, parse_macho_edits, patch_path, patch_store,
-    read_bytes, run_macho,
-};
+pub use elf_commands::{ElfCommand, ElfCommandError, elf, parse_elf_edits};
+pub use error::{ArwenError, FaultLine};
+pub use file::read_bytes;
 pub use line::parse_line;
+pub use macho_commands::{
+    MachoCommand, MachoCommandError, add, apply, change, delete, install_id, install_name,
+    macho_execute, parse_macho_edits, patch_path, patch_store, run_macho,
+};
 use std::rt::Files;
 
 /// Does what the words behind the program's name ask. A line that asks for help, and one that is
@@ -29,8 +40,36 @@ pub fn execute<R: Files + Print + Eprint + AllocGlobal>(
     ensures err { IfErr result (λ e. has_option (map (λ w. w.now) words.now) ≡ false
         → LineMayFail (meaning_of (map (λ w. w.now) words.now)) e) }
 {
-    match parse_line(rt.alloc(), words)? {
-        Command::Macho(macho) => macho_execute(rt, macho),
-        Command::Elf(elf) => elf::execute(rt, elf),
+    let command = parse_line(rt.alloc(), words)?;
+    execute_command(rt, command)
+}
+
+/// Does what a command asks.
+fn execute_command<R: Files + Print + Eprint + AllocGlobal>(
+    rt: &R,
+    command: Command,
+) -> Result<(), ArwenError>
+    ensures { IfErr result (MeaningMayFail (shown command)) }
+{
+    match command {
+        Command::Macho(macho) => execute_macho(rt, macho),
+        Command::Elf(elf) => execute_elf(rt, elf),
     }
+}
+
+/// Does what is asked of a Mach-O file.
+fn execute_macho<R: Files + AllocGlobal>(rt: &R, macho: MachoCommand) -> Result<(), ArwenError>
+    ensures { IfErr result (MachoMayFail (macho_command_model macho)) }
+{
+    Ok(macho_execute(rt, macho)?)
+}
+
+/// Does what is asked of an ELF file.
+fn execute_elf<R: Files + Print + Eprint + AllocGlobal>(
+    rt: &R,
+    elf: ElfCommand,
+) -> Result<(), ArwenError>
+    ensures { IfErr result (ElfMayFail (elf_command_model elf)) }
+{
+    Ok(elf::execute(rt, elf)?)
 }

@@ -1,7 +1,10 @@
 -- The bytes that an image is written to, and why there are none.
-use Rattle.std.specs.Prelude.{ℕ, ◌≡◌, ◌⊎◌, List, [], length, Option, true, false}
+use Rattle.std.specs.Prelude.{ℕ, ◌≡◌, ◌⊎◌, List, [], length, Option, Result, IfErr, IfOk, IsOkAnd, OnOk, true, false}
+use Rattle.std.specs.declared.alloc.Global.{Global}
+use Rattle.std.specs.declared.vec.Vec.{Vec}
 use Rattle.std.specs.Io.KnownBytes.{Appends}
 use Rattle.byte_store.specs.declared.composed.Difference.{Difference}
+use Rattle.byte_store.specs.Composed.{IsDifference, made_of}
 use Rattle.elf_format.specs.declared.fault.ElfFault.TheVariants.{NumberTooLarge}
 use Rattle.elf_image.specs.Image.{Image}
 use Rattle.elf_layout_plan.specs.declared.fault.LayoutFault.{LayoutFault}
@@ -98,3 +101,23 @@ IsIo other = ⊥
 abbrev pub MayNotWrite : Image → ElfError → Type 0
 MayNotWrite image (Io fault) = Unit {0}
 MayNotWrite image other = IsNoImage image other
+
+-- ## Answers
+
+-- what is answered where the bytes of an image are asked for: they, or why there are none
+pub record AnswersBytes (image : Image) (answer : Result (Vec ℕ Global) ElfError) : Type 0 where
+  pub bytes : IfOk answer (λ bytes. IsImageWritten image bytes.items)
+  pub fault : IfErr answer (IsNoImage image)
+
+-- what is answered where that of the bytes is asked for that differs from those that were read: it, and nothing where nothing was edited
+pub record AnswersPieces (image : Image) (answer : Result Difference ElfError) : Type 0 where
+  pub makeable : IfOk answer (λ d. IsDifference image.source d)
+  pub bytes : IfOk answer (λ d. IsImageWritten image (made_of image.source d))
+  pub fault : IfErr answer (IsNoImage image)
+  pub unchanged : image.changed ≡ false → IsOkAnd answer (IsNoDifference image.source)
+
+-- what is answered where an image is written, and what the writer gets; the bytes that were read are written unless a write fails
+pub record AnswersWrite {W : Type 0} (contents : W → Option (List ℕ)) (failed : W → ℕ) (image : Image) (old new : W) (answer : Result (Unit {0}) ElfError) : Type 0 where
+  pub ok : OnOk answer (GetsImage image (contents old) (contents new))
+  pub err : IfErr answer (IsNotWritten contents failed image old new)
+  pub unchanged : image.changed ≡ false → IfErr answer IsIo

@@ -1,6 +1,7 @@
 pub mod PutLaws
 pub mod LaidLaws
 pub mod LoadLaws
+pub mod CauseLaws
 pub mod RunLaws
 pub mod DifferenceLaws
 pub mod GapLaws

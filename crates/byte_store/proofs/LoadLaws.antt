@@ -43,3 +43,7 @@ all_first most known bytes below first all knows =
 -- and so many
 pub all_length : (old new : Option (List ℕ)) (bytes : List ℕ) (n : ℕ) → n ≡ length bytes → Stays old new → IsAll old bytes → HasLength new n
 all_length old new bytes n is kept whole all knows = ap length (sym (whole all (sym kept ∙ knows))) ∙ sym is
+
+-- read after other calls
+pub first_from : (most : ℕ) (old mid : Option (List ℕ)) (bytes : List ℕ) → Stays old mid → IsFirst most mid bytes → IsFirst most old bytes
+first_from most old mid bytes kept first all knows = first all (kept ∙ knows)

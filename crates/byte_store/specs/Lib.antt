@@ -1,3 +1,4 @@
+pub mod Counts
 pub mod Known
 pub mod Laid
 pub mod Laws
@@ -6,3 +7,4 @@ pub mod Replaced
 pub mod Composed
 pub mod Gaps
 pub mod Shown
+pub mod Causes

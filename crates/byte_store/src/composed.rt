@@ -1,5 +1,6 @@
 //! Bytes composed of a source and of pieces: what of them differs from the source, and stores in which that is made.
 ghost use Rattle.std.specs.Prelude.{◌≡◌, ◌+◌, ◌<◌, ◌≤◌, ◌^◌, All, IfErr, IfOk, IsOk, List, OnOk, length, ℕ};
+ghost use Rattle.byte_store.specs.Causes.{IsNotWritten};
 ghost use Rattle.byte_store.specs.Known.{Becomes, HasLength};
 ghost use Rattle.byte_store.specs.Laid.{LiesIn, patches_of};
 ghost use Rattle.byte_store.specs.Composed.{IsComposed, IsDifference, IsNotMade, made_of, owned_patches};
@@ -72,6 +73,11 @@ pub fn composed_difference(
 /// Makes a difference in a store that has so many bytes: first what comes behind them, then the pieces, a shorter length
 /// last (`write_changes`), after all memory that is wanted is there. A difference that changes nothing does not open the
 /// store for writing.
+///
+/// # Errors
+///
+/// `Memory`, where a growth was refused and nothing was written; `Write` with the error of the call that failed,
+/// which the store counted, and with what it left.
 pub fn make_difference<S: Store>(
     alloc: Global,
     store: &mut S,
@@ -89,6 +95,9 @@ pub fn make_difference<S: Store>(
         (IsNotMade S.contents difference.now store.old store.new) }
     ensures idle { length difference.now.growth.items ≡ 0 → length difference.now.pieces.items ≡ 0
         → old_length ≤ difference.now.new_length → IsOkAndSame result store.old store.new }
+    ensures grows { S.failed store.old ≤ S.failed store.new }
+    ensures cause { IfErr result (IsNotWritten S.may_fail_write S.may_take_none
+        (S.failed store.old) (S.failed store.new)) }
 {
     let pieces = lent_pieces(alloc, &difference.pieces)?;
     let changes = Changes {

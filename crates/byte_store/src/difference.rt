@@ -1,5 +1,6 @@
 //! Stores whose bytes become others: what differs is written, and nothing else.
 ghost use Rattle.std.specs.Prelude.{◌≡◌, ◌+◌, ◌<◌, ◌≤◌, ◌^◌, ◌↔◌, [], All, IfErr, IfOk, IsOkAnd, IsTrue, OnOk, length, slice_range};
+ghost use Rattle.byte_store.specs.Causes.{EndsBy, IsNotWritten};
 ghost use Rattle.byte_store.specs.Known.{Becomes, HasLength, IsAll};
 ghost use Rattle.byte_store.specs.Laid.{LiesIn, changed, laid, patches_of};
 ghost use Rattle.byte_store.specs.Composed.{IsChange, Stands};
@@ -59,6 +60,11 @@ impl Error for ReplaceError {}
 /// Turns the bytes of a store into new ones. Only blocks of 4,096 bytes that differ are written,
 /// after all memory that is wanted is there: first what lies behind the old end, then the blocks,
 /// a shorter length last (`write_changes`). Bytes that are the same do not open it for writing.
+///
+/// # Errors
+///
+/// `Memory`, where a growth was refused and nothing was written; `Write` with the error of the call that failed,
+/// which the store counted, and with what it left.
 pub fn replace<S: Store>(
     alloc: Global,
     store: &mut S,
@@ -71,6 +77,9 @@ pub fn replace<S: Store>(
     ensures err { IfErr result
         (IsNotReplaced S.contents old.now new.now store.old store.new) }
     ensures idle { old.now ≡ new.now → IsOkAndSame result store.old store.new }
+    ensures grows { S.failed store.old ≤ S.failed store.new }
+    ensures cause { IfErr result (IsNotWritten S.may_fail_write S.may_take_none
+        (S.failed store.old) (S.failed store.new)) }
 {
     let common = old.len().min(new.len());
     let pieces = differences(alloc, &old[..common], &new[..common])?;
@@ -102,6 +111,9 @@ pub(crate) fn open_and_write<S: Store>(
     ensures err { IfErr result (λ e.
         IsLeftBy changes.now e.left (S.contents store.old) (S.contents store.new)) }
     ensures idle { IsIdle changes.now → IsOkAndSame result store.old store.new }
+    ensures grows { S.failed store.old ≤ S.failed store.new }
+    ensures cause { IfErr result (λ e. EndsBy S.may_fail_write S.may_take_none e.error
+        (S.failed store.old) (S.failed store.new)) }
 {
     if changes.growth.is_empty()
         && changes.pieces.is_empty()

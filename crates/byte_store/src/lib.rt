@@ -3,6 +3,7 @@
 
 pub mod composed;
 pub mod difference;
+pub mod failures;
 pub mod file;
 mod gaps;
 pub mod laws;
@@ -16,9 +17,10 @@ pub mod writing;
 
 pub use crate::composed::{Difference, OwnedPiece, Span, composed_difference, make_difference};
 pub use crate::difference::{ReplaceError, replace};
+pub use crate::failures::Failures;
 pub use crate::file::{FileStore, RuntimeFiles};
-pub use crate::memory::{MemoryFile, MemoryStore};
-pub use crate::opens::Opens;
+pub use crate::memory::{MemoryFile, MemoryFolder, MemoryStore};
+pub use crate::opens::{Creates, Opens};
 pub use crate::pieces::Piece;
 pub use crate::reading::{ReadError, load_up_to, load_whole, read_up_to, read_whole};
 pub use crate::stores::Store;

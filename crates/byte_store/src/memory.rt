@@ -1,12 +1,17 @@
 //! A store in memory.
-ghost use Rattle.std.specs.Prelude.{◌≡◌, ◌+◌, ◌<◌, ◌≤◌, false, Some, IfOk, IsOk, IsTrue, OnErr, OnOk, drop, length, take, vec_len};
+ghost use Rattle.std.specs.Prelude.{◌≡◌, ◌+◌, ◌<◌, ◌≤◌, [], false, true, Some, IfErr, IfOk, IsOk, OnErr, OnOk, drop, length, take, vec_len};
 ghost use Rattle.std.specs.Io.{ReadsAtMost, WritesAtMost};
-ghost use Rattle.byte_store.specs.Known.{HasLength, ReadsFrom, Stays, WritesAt, bytes_at, put_at};
+ghost use Rattle.std.specs.IoError.{error_kind};
+ghost use Rattle.byte_store.specs.Counts.{CountsCall, CountsWrite};
+ghost use Rattle.byte_store.specs.Causes.{FailsPut, IsOfMemory, IsOfPath};
+ghost use Rattle.byte_store.specs.Known.{HasLength, ReadsFrom, Resizes, WritesAt, bytes_at, put_at};
 
-use crate::opens::Opens;
+use crate::failures::Failures;
+use crate::opens::{Creates, Opens};
 use crate::stores::Store;
 use std::alloc::Global;
 use std::io;
+use std::io::ErrorKind;
 
 /// A store whose bytes are in memory.
 #[derive(Debug, Drop)]
@@ -15,6 +20,8 @@ pub struct MemoryStore {
     pub bytes: Vec<u8>,
     /// Whether it has been opened for writing.
     pub is_open: bool,
+    /// How many of its calls failed.
+    pub failures: Failures,
 }
 
 impl MemoryStore {
@@ -22,22 +29,34 @@ impl MemoryStore {
     pub fn new(bytes: Vec<u8>) -> MemoryStore
         ensures bytes { result.bytes ≡ bytes }
         ensures open { result.is_open ≡ false }
+        ensures failures { result.failures.count ≡ 0 }
     {
         MemoryStore {
             bytes,
             is_open: false,
+            failures: Failures::none(),
         }
     }
 }
 
+// Reads never fail, and writes only where there is no memory or where they begin behind the end.
 impl Store for MemoryStore {
     ghost contents = { λ store. Some store.bytes.items };
 
     ghost is_writable = { λ store. store.is_open };
 
-    fn length(&self) -> io::Result<u64>
-        ensures value { result ≡ Ok (vec_len self.now.bytes) }
-        ensures known { IfOk result (λ n. HasLength (Some self.now.bytes.items) n) }
+    ghost failed = { λ store. store.failures.count };
+
+    ghost may_fail_read = { λ _. ⊥ };
+
+    ghost may_fail_write = { IsOfMemory };
+
+    ghost may_take_none = { ⊥ };
+
+    fn length(&mut self) -> io::Result<u64>
+        ensures value { result ≡ Ok (vec_len self.old.bytes) }
+        ensures length { IfOk result (λ n. HasLength (Some self.old.bytes.items) n) }
+        ensures same { self.new ≡ self.old }
     {
         Ok(self.bytes.len() as u64)
     }
@@ -46,16 +65,14 @@ impl Store for MemoryStore {
         ensures succeeds { IsOk result }
         ensures bound { ReadsAtMost result buffer.new }
         ensures bytes { ReadsFrom offset result (Some self.old.bytes.items) buffer.new }
-        ensures kept { Stays (Some self.old.bytes.items) (Some self.new.bytes.items) }
-        ensures open { self.new.is_open ≡ self.old.is_open }
+        ensures same { self.new ≡ self.old }
     {
         Ok(copy_from(self.bytes.as_slice(), offset, buffer))
     }
 
     fn open_for_writing(&mut self) -> io::Result<()>
         ensures succeeds { IsOk result }
-        ensures open { OnOk result (IsTrue self.new.is_open) }
-        ensures kept { Stays (Some self.old.bytes.items) (Some self.new.bytes.items) }
+        ensures open { self.new ≡ record self.old { is_open = true } }
     {
         self.is_open = true;
         Ok(())
@@ -67,13 +84,29 @@ impl Store for MemoryStore {
         ensures bytes { WritesAt offset bytes.now result
             (Some self.old.bytes.items) (Some self.new.bytes.items) }
         ensures open { self.new.is_open ≡ self.old.is_open }
+        ensures counted { CountsWrite result (length bytes.now)
+            self.old.failures.count self.new.failures.count }
+        ensures cause { IfErr result (λ e. FailsPut (vec_len self.old.bytes) offset e) }
     {
-        put(&mut self.bytes, offset, bytes)
+        let answer = put(&mut self.bytes, offset, bytes);
+        self.failures.count_write(&answer, bytes.len());
+        answer
     }
 
-    fn set_length(&mut self, length: u64) -> io::Result<()> {
-        self.bytes.resize(length as usize, 0)?;
-        Ok(())
+    fn set_length(&mut self, length: u64) -> io::Result<()>
+        ensures bytes { Resizes length result
+            (Some self.old.bytes.items) (Some self.new.bytes.items) }
+        ensures open { self.new.is_open ≡ self.old.is_open }
+        ensures counted { CountsCall result self.old.failures.count self.new.failures.count }
+        ensures cause { IfErr result (λ e. error_kind e ≡ ErrorKind.OutOfMemory) }
+    {
+        let answer = resize(&mut self.bytes, length as usize);
+        self.failures.count_call(&answer);
+        answer
+    }
+
+    fn failures(&self) -> u64 {
+        self.failures.count
     }
 }
 
@@ -93,12 +126,34 @@ impl<'a, 'p> Opens<'p> for MemoryFile<'a> {
 
     ghost contents = { λ file path. bytes_at file.path.now file.bytes.now path };
 
+    ghost may_fail = { λ file path e. IsOfPath file.path.now path e };
+
     fn open(&self, path: &'p str) -> io::Result<MemoryStore> {
         if path != self.path {
             let message = "there is no such file";
-            return Err(io::Error::new(io::ErrorKind::NotFound, message));
+            return Err(io::Error::new(ErrorKind::NotFound, message));
         }
         Ok(MemoryStore::new(Vec::from_slice(self.alloc, self.bytes)?))
+    }
+}
+
+/// A folder in memory, in which there is a file at any path as soon as it is created: a vector.
+#[derive(Clone, Copy)]
+pub struct MemoryFolder {
+    /// What the vectors keep, and take memory from as they grow.
+    pub alloc: Global,
+}
+
+// A vector takes no memory until it grows.
+impl<'p> Creates<'p> for MemoryFolder {
+    type Created = Vec<u8>;
+
+    ghost is_new = { λ known. known ≡ Some [] };
+
+    ghost may_fail = { λ _ _ _. ⊥ };
+
+    fn create(&self, _path: &'p str) -> io::Result<Vec<u8>> {
+        Ok(Vec::new(self.alloc))
     }
 }
 
@@ -130,11 +185,12 @@ fn put(bytes: &mut Vec<u8>, offset: u64, part: &[u8]) -> io::Result<usize>
     ensures bytes { IfOk result (λ n. offset ≤ vec_len bytes.old
         → bytes.new.items ≡ put_at offset (take n part.now) bytes.old.items) }
     ensures err { OnErr result (bytes.new.items ≡ bytes.old.items) }
+    ensures cause { IfErr result (λ e. FailsPut (vec_len bytes.old) offset e) }
 {
     let begin = offset as usize;
     if begin > bytes.len() {
         let message = "a write begins behind the end";
-        return Err(io::Error::new(io::ErrorKind::InvalidInput, message));
+        return Err(io::Error::new(ErrorKind::InvalidInput, message));
     }
     if begin == bytes.len() {
         bytes.extend_from_slice(part)?;
@@ -143,6 +199,15 @@ fn put(bytes: &mut Vec<u8>, offset: u64, part: &[u8]) -> io::Result<usize>
     let count = part.len().min(bytes.len() - begin);
     put_within(bytes.as_mut_slice(), begin, &part[..count]);
     Ok(count)
+}
+
+/// Cuts bytes to a length, or puts zeros behind them up to there.
+fn resize(bytes: &mut Vec<u8>, length: usize) -> io::Result<()>
+    ensures bytes { Resizes length result (Some bytes.old.items) (Some bytes.new.items) }
+    ensures cause { IfErr result (λ e. error_kind e ≡ ErrorKind.OutOfMemory) }
+{
+    bytes.resize(length, 0)?;
+    Ok(())
 }
 
 /// Writes a part over the bytes from a position on.

@@ -1,7 +1,9 @@
 //! Readers and stores, read whole into the buffer that is kept.
-ghost use Rattle.std.specs.Prelude.{◌≡◌, ◌++◌, ◌+◌, ◌<◌, ◌≤◌, ℕ, List, IfOk, IsTrue, OnErr, OnOk, drop, length, replicate, take, vec_len};
+ghost use Rattle.std.specs.Prelude.{◌≡◌, ◌++◌, ◌+◌, ◌-◌, ◌<◌, ◌≤◌, ℕ, List, false, IfErr, IfOk, IsTrue, OnErr, OnOk, drop, length, replicate, take, vec_len};
 ghost use Rattle.std.specs.IoError.{error_kind};
 ghost use Rattle.std.specs.Io.KnownBytes.{Consumes, IsAtEnd, Keeps};
+ghost use Rattle.byte_store.specs.Causes.{FailsRead, HasFailed, IsNotRead, IsNotWhole};
+ghost use Rattle.byte_store.specs.Counts.{CountsCall};
 ghost use Rattle.byte_store.specs.Known.{EndsWithin, HasLength, IsAll, IsFirst, KeepsFront, ReadsInto, Stays};
 
 use crate::stores::Store;
@@ -102,7 +104,12 @@ pub fn read_whole<F: Read>(
     Ok(bytes)
 }
 
-/// The bytes of a store, or the first `most` where it has more.
+/// The bytes of a store, or the first `most` where it has more. An interrupted read is made again.
+///
+/// # Errors
+///
+/// `Memory`, where a growth was refused; `Io` with the error of the call that failed, which the store counted, or
+/// of the kind `Other` where 4,294,967,295 reads did not reach the end.
 pub fn load_up_to<S: Store>(alloc: Global, store: &mut S, most: usize) -> Result<Vec<u8>, ReadError>
     ensures read { IfOk result (λ bytes. IsFirst most (S.contents store.old) bytes.items) }
     ensures whole { IfOk result (λ bytes.
@@ -111,6 +118,9 @@ pub fn load_up_to<S: Store>(alloc: Global, store: &mut S, most: usize) -> Result
         vec_len bytes < most → HasLength (S.contents store.new) (vec_len bytes)) }
     ensures bound { IfOk result (λ bytes. vec_len bytes ≤ most) }
     ensures kept { Stays (S.contents store.old) (S.contents store.new) }
+    ensures grows { S.failed store.old ≤ S.failed store.new }
+    ensures cause { IfErr result (λ e. IsNotRead S.may_fail_read
+        (S.contents store.old) (S.failed store.old) (S.failed store.new) e) }
 {
     let expected = store.length()?;
     let room = room_for(alloc, expected, most)?;
@@ -119,12 +129,19 @@ pub fn load_up_to<S: Store>(alloc: Global, store: &mut S, most: usize) -> Result
 }
 
 /// The bytes of a store. More than `most` are a fault.
+///
+/// # Errors
+///
+/// Those of `load_up_to`, and `Io` of the kind `FileTooLarge` where there are more than `most` bytes.
 pub fn load_whole<S: Store>(alloc: Global, store: &mut S, most: usize) -> Result<Vec<u8>, ReadError>
     requires { most < usize.MAX }
     ensures read { IfOk result (λ bytes. IsAll (S.contents store.old) bytes.items) }
     ensures length { IfOk result (λ bytes. HasLength (S.contents store.new) (vec_len bytes)) }
     ensures bound { IfOk result (λ bytes. vec_len bytes ≤ most) }
     ensures kept { Stays (S.contents store.old) (S.contents store.new) }
+    ensures grows { S.failed store.old ≤ S.failed store.new }
+    ensures cause { IfErr result (λ e. IsNotWhole S.may_fail_read most
+        (S.contents store.old) (S.failed store.old) (S.failed store.new) e) }
 {
     let bytes = load_up_to(alloc, store, most + 1)?;
     if bytes.len() > most {
@@ -200,8 +217,11 @@ fn load_into<S: Store>(store: &mut S, mut bytes: Vec<u8>, most: usize) -> Result
     ensures read { IfOk result (λ bytes. IsFirst most (S.contents store.old) bytes.items) }
     ensures bound { IfOk result (λ bytes. vec_len bytes ≤ most) }
     ensures kept { Stays (S.contents store.old) (S.contents store.new) }
+    ensures grows { S.failed store.old ≤ S.failed store.new }
+    ensures cause { IfErr result (λ e. IsNotRead S.may_fail_read
+        (S.contents store.old) (S.failed store.old) (S.failed store.new) e) }
 {
-    for _ in 0..MOST_READS {
+    for _read in 0..MOST_READS {
         if bytes.len() >= most {
             return Ok(bytes);
         }
@@ -222,6 +242,12 @@ fn load_once<S: Store>(store: &mut S, bytes: &mut Vec<u8>, most: usize) -> Resul
         → EndsWithin (S.contents store.old) (vec_len bytes.new)) }
     ensures kept { Stays (S.contents store.old) (S.contents store.new) }
     ensures bound { OnOk result (vec_len bytes.new ≤ most) }
+    ensures grows { S.failed store.old ≤ S.failed store.new }
+    ensures some { IfOk result (λ is_at_end. is_at_end ≡ false → HasFailed S.may_fail_read
+        (vec_len bytes.old + 1 - vec_len bytes.new) (S.failed store.old) (S.failed store.new)) }
+    ensures more { OnOk result (vec_len bytes.old ≤ vec_len bytes.new) }
+    ensures cause { IfErr result (λ e.
+        FailsRead S.may_fail_read (S.failed store.old) (S.failed store.new) e) }
 {
     let filled = bytes.len();
     make_room(bytes, most)?;
@@ -245,6 +271,8 @@ fn load_behind<S: Store>(store: &mut S, buffer: &mut [u8], at: usize) -> io::Res
     ensures fits { IfOk result (λ n. at + n ≤ length buffer.new) }
     ensures ok { IfOk result (λ n. ReadsInto n at (S.contents store.old) buffer.new) }
     ensures kept { Stays (S.contents store.old) (S.contents store.new) }
+    ensures counted { CountsCall result (S.failed store.old) (S.failed store.new) }
+    ensures cause { IfErr result (λ e. S.may_fail_read e) }
 {
     store.read_at(at as u64, &mut buffer[at..])
 }

@@ -1,5 +1,8 @@
 //! Runs of writes: what lies behind the old end, the pieces, and a shorter length last.
-ghost use Rattle.std.specs.Prelude.{◌≡◌, ◌+◌, ◌++◌, ◌<◌, ◌≤◌, ◌^◌, [], All, IfErr, IfOk, IsTrue, OnErr, OnOk, length, take};
+ghost use Rattle.std.specs.Prelude.{◌≡◌, ◌≢◌, ◌+◌, ◌*◌, ◌++◌, ◌<◌, ◌≤◌, ◌^◌, [], All, IfErr, IfOk, IsTrue, OnErr, OnOk, length, take};
+ghost use Rattle.std.specs.IoError.{error_kind};
+ghost use Rattle.byte_store.specs.Causes.{EndsBy};
+ghost use Rattle.byte_store.specs.Counts.{Rises};
 ghost use Rattle.byte_store.specs.Known.{Becomes, HasLength, Puts, PutsFirst};
 ghost use Rattle.byte_store.specs.Laid.{Lays, LaysAndCuts, LaysFirst, LiesIn, changed, laid, patches_of};
 ghost use Rattle.byte_store.specs.Fault.{BecomesLaid, IsIdle, IsLeftBy, IsLeftByGrowth, IsOkAndSame};
@@ -7,6 +10,7 @@ ghost use Rattle.byte_store.specs.Fault.{BecomesLaid, IsIdle, IsLeftBy, IsLeftBy
 use crate::pieces::Piece;
 use crate::stores::Store;
 use std::error::Error;
+use std::io::ErrorKind;
 use std::{fmt, io};
 
 /// How often a write is made, as long as it is interrupted: once, and 1,000 times again.
@@ -59,6 +63,11 @@ impl Error for WriteError {}
 /// pieces, a shorter length last. Takes no memory. Where the growth can't be written, the old length is
 /// set again. An interrupted write is made again, at most 1,000 times in a row; one that takes no byte
 /// is an error. Changes that change nothing write nothing.
+///
+/// # Errors
+///
+/// The error of the call that failed, which the store counted; one of the kind `WriteZero` where a write took no
+/// byte, and one of the kind `TimedOut` at the 1,001st interruption in a row. It tells what the store has.
 pub fn write_changes<S: Store>(store: &mut S, changes: &Changes<'_>) -> Result<(), WriteError>
     requires open { IsTrue (S.is_writable store.old) }
     requires old { HasLength (S.contents store.old) changes.now.old_length }
@@ -72,6 +81,9 @@ pub fn write_changes<S: Store>(store: &mut S, changes: &Changes<'_>) -> Result<(
     ensures err { IfErr result (λ e.
         IsLeftBy changes.now e.left (S.contents store.old) (S.contents store.new)) }
     ensures idle { IsIdle changes.now → IsOkAndSame result store.old store.new }
+    ensures grows { S.failed store.old ≤ S.failed store.new }
+    ensures cause { IfErr result (λ e. EndsBy S.may_fail_write S.may_take_none e.error
+        (S.failed store.old) (S.failed store.new)) }
 {
     grow(store, changes.old_length, changes.growth)?;
     let length = changes.old_length + changes.growth.len() as u64;
@@ -98,6 +110,9 @@ fn lay_and_cut<S: Store>(
     ensures err { OnErr result
         (LaysFirst (patches_of pieces.now) (S.contents store.old) (S.contents store.new)) }
     ensures idle { length pieces.now ≡ 0 → len ≤ new_length → IsOkAndSame result store.old store.new }
+    ensures grows { S.failed store.old ≤ S.failed store.new }
+    ensures cause { IfErr result (λ e.
+        EndsBy S.may_fail_write S.may_take_none e (S.failed store.old) (S.failed store.new)) }
 {
     lay(store, pieces)?;
     if new_length < len {
@@ -117,6 +132,10 @@ pub fn write_pieces<S: Store>(store: &mut S, len: u64, pieces: &[Piece<'_>]) -> 
     ensures err { OnErr result (BecomesLaid (patches_of pieces.now)
         (S.contents store.old) (S.contents store.new)) }
     ensures idle { length pieces.now ≡ 0 → IsOkAndSame result store.old store.new }
+    ensures grows { S.failed store.old ≤ S.failed store.new }
+    ensures cause { IfErr result (λ e.
+        EndsBy S.may_fail_write S.may_take_none e (S.failed store.old) (S.failed store.new)) }
+    ensures retried { IfErr result (λ e. error_kind e ≢ ErrorKind.Interrupted) }
 {
     lay(store, pieces)
 }
@@ -131,6 +150,10 @@ fn lay<S: Store>(store: &mut S, pieces: &[Piece<'_>]) -> io::Result<()>
         (LaysFirst (patches_of pieces.now) (S.contents store.old) (S.contents store.new)) }
     ensures idle { length pieces.now ≡ 0 → IsOkAndSame result store.old store.new }
     ensures open { S.is_writable store.new ≡ S.is_writable store.old }
+    ensures grows { S.failed store.old ≤ S.failed store.new }
+    ensures cause { IfErr result (λ e.
+        EndsBy S.may_fail_write S.may_take_none e (S.failed store.old) (S.failed store.new)) }
+    ensures retried { IfErr result (λ e. error_kind e ≢ ErrorKind.Interrupted) }
 {
     for piece in pieces {
         put_all(store, piece.offset, piece.bytes)?;
@@ -149,6 +172,9 @@ fn grow<S: Store>(store: &mut S, old_length: u64, growth: &[u8]) -> Result<(), W
         IsLeftByGrowth growth.now e.left (S.contents store.old) (S.contents store.new)) }
     ensures idle { length growth.now ≡ 0 → IsOkAndSame result store.old store.new }
     ensures open { OnOk result (S.is_writable store.new ≡ S.is_writable store.old) }
+    ensures grows { S.failed store.old ≤ S.failed store.new }
+    ensures cause { IfErr result (λ e. EndsBy S.may_fail_write S.may_take_none e.error
+        (S.failed store.old) (S.failed store.new)) }
 {
     match put_all(store, old_length, growth) {
         Ok(()) => Ok(()),
@@ -174,6 +200,12 @@ fn put_all<S: Store>(store: &mut S, offset: u64, part: &[u8]) -> io::Result<()>
         (PutsFirst offset part.now (S.contents store.old) (S.contents store.new)) }
     ensures idle { length part.now ≡ 0 → IsOkAndSame result store.old store.new }
     ensures open { S.is_writable store.new ≡ S.is_writable store.old }
+    ensures interruptions { OnOk result
+        (Rises 0 (1000 * length part.now) (S.failed store.old) (S.failed store.new)) }
+    ensures grows { S.failed store.old ≤ S.failed store.new }
+    ensures cause { IfErr result (λ e.
+        EndsBy S.may_fail_write S.may_take_none e (S.failed store.old) (S.failed store.new)) }
+    ensures retried { IfErr result (λ e. error_kind e ≢ ErrorKind.Interrupted) }
 {
     let mut done = 0;
     while done < part.len() {
@@ -185,20 +217,26 @@ fn put_all<S: Store>(store: &mut S, offset: u64, part: &[u8]) -> io::Result<()>
 /// Writes some bytes of a part, at least one.
 fn put_some<S: Store>(store: &mut S, offset: u64, part: &[u8]) -> io::Result<usize>
     requires open { IsTrue (S.is_writable store.old) }
+    requires some { 0 < length part.now }
     ensures count { IfOk result (λ n. (0 < n) × (n ≤ length part.now)) }
     ensures ok { IfOk result (λ n.
         Puts offset (take n part.now) (S.contents store.old) (S.contents store.new)) }
     ensures err { OnErr result (Puts offset [] (S.contents store.old) (S.contents store.new)) }
     ensures open { S.is_writable store.new ≡ S.is_writable store.old }
+    ensures interruptions { OnOk result (Rises 0 1000 (S.failed store.old) (S.failed store.new)) }
+    ensures failures { OnErr result (Rises 1 1001 (S.failed store.old) (S.failed store.new)) }
+    ensures cause { IfErr result (λ e.
+        EndsBy S.may_fail_write S.may_take_none e (S.failed store.old) (S.failed store.new)) }
+    ensures retried { IfErr result (λ e. error_kind e ≢ ErrorKind.Interrupted) }
 {
-    for _ in 0..MOST_TRIES {
+    for _tried in 0..MOST_TRIES {
         match store.write_at(offset, part) {
-            Ok(0) => return Err(io::Error::new(io::ErrorKind::WriteZero, "a write took no byte")),
+            Ok(0) => return Err(io::Error::new(ErrorKind::WriteZero, "a write took no byte")),
             Ok(count) => return Ok(count),
-            Err(error) if error.kind() == io::ErrorKind::Interrupted => {}
+            Err(error) if error.kind() == ErrorKind::Interrupted => {}
             Err(error) => return Err(error),
         }
     }
     let message = "a write was interrupted 1001 times";
-    Err(io::Error::new(io::ErrorKind::TimedOut, message))
+    Err(io::Error::new(ErrorKind::TimedOut, message))
 }

@@ -3,8 +3,8 @@ use Rattle.std.specs.Prelude.{◌≡◌, ◌+◌, ℕ, Bool, List, [], ◌∷◌
 use Rattle.std.specs.Prelude.{codes, if◌then◌else◌, length, min, option_and_then}
 use Rattle.std.specs.List.{slice_split}
 use Rattle.std.specs.Str.{bytes_eq}
-use Rattle.command_words.specs.Rows.{Kind, Line, Text, asked_with, count_of, given_without_path}
-use Rattle.command_words.specs.Rows.{kind_of, line_named}
+use Rattle.command_words.specs.Rows.{Kind, Line, Named, Text, asked_with, count_of, given_without_path}
+use Rattle.command_words.specs.Rows.{kind_of, line_named, named}
 use Rattle.command_words.specs.declared.edits.EditFault.{EditFault}
 use Rattle.command_words.specs.declared.edits.EditKind.{EditKind}
 use Rattle.command_words.specs.declared.edits.EditKind.TheVariants.{Empty, UnknownEdit, WrongWords}
@@ -54,6 +54,16 @@ module _ {M E : Type 0} (edit_by : M → Result E Wrong) where
   group_edit lines [] = Err no_words
   group_edit lines (name ∷ words) = line_edit (line_named lines name) words
 
+-- the row of an edit, and the words behind its name; no edit where the row is that of another command
+abbrev pub edit_named : Option Named → List Text → Result (Named × List Text) Wrong
+edit_named None words = Err no_edit
+edit_named (Some row) words = if row.is_edit then Ok (row, words) else Err no_edit
+
+-- the row of the edit that a group names by its first word, and the words behind it
+abbrev pub row_asked : List Named → List Text → Result (Named × List Text) Wrong
+row_asked rows [] = Err no_words
+row_asked rows (name ∷ words) = edit_named (named rows name) words
+
 -- ---- all groups
 
 -- the word that stands between two groups
@@ -93,6 +103,10 @@ module _ {E : Type 0} where
   abbrev pub TellsFault : Result (List E) EditFault → EditsError → Type 0
   TellsFault meant (Fault fault) = meant ≡ Err fault
   TellsFault meant Memory = Unit {0}
+
+  -- the error is the fault that the words of this group have
+  abbrev pub IsWrong : ℕ → Result E Wrong → EditsError → Type 0
+  IsWrong group meant e = (wrong : Wrong) × (meant ≡ Err wrong) × (e ≡ Fault (fault_at group wrong))
 
   -- the error is the fault that the words of this group have, or want of memory
   abbrev pub TellsWrong : ℕ → Result E Wrong → EditsError → Type 0

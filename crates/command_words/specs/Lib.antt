@@ -1,3 +1,4 @@
 pub mod Groups
 pub mod KeyValue
 pub mod Rows
+pub mod WordValues

@@ -2,8 +2,8 @@
 use Rattle.std.specs.Prelude.{ℕ, Bool, List, [], ◌∷◌, ◌++◌, Option, Some, None}
 use Rattle.std.specs.Prelude.{if◌then◌else◌, map, option_and_then, string_bytes}
 use Rattle.std.specs.Str.{bytes_eq}
-use Rattle.command_words.specs.declared.rows.Form.{Form}
-use Rattle.command_words.specs.declared.rows.Form.TheVariants as form
+use Rattle.command_words.specs.declared.rows.ValueForm.{ValueForm}
+use Rattle.command_words.specs.declared.rows.ValueForm.TheVariants as form
 use Rattle.command_words.specs.declared.rows.Row.{Row}
 use Rattle.command_words.specs.declared.rows.Values.{Values}
 use Rattle.command_words.specs.declared.rows.Values.TheVariants as values
@@ -124,7 +124,7 @@ named (row ∷ rows) name = if bytes_eq name row.name then Some row else named r
 
 -- ---- what the program's tables and values show
 
-abbrev pub kind_model : Form → Kind
+abbrev pub kind_model : ValueForm → Kind
 kind_model form.Path = path_alone
 kind_model (form.Text value) = text_and_path
 kind_model (form.Texts first second) = texts_and_path

@@ -1,10 +1,12 @@
 //! The words of several edits on one line, whatever kind of file they are of.
-ghost use Rattle.std.specs.Prelude.{◌≡◌, IfOk, map, option_map, string_bytes};
-ghost use Rattle.command_words.specs.Groups.{fault_at, other_words as wrong_words};
-ghost use Rattle.command_words.specs.Rows.{given_model, given_without_path, kind_model};
+ghost use Rattle.std.specs.Prelude.{◌≡◌, Ok, IfErr, IfOk, map, option_map, string_bytes};
+ghost use Rattle.command_words.specs.Groups.{IsWrong, fault_at, other_words as wrong_words, row_asked};
+ghost use Rattle.command_words.specs.Rows.{given_model, given_without_path, kind_model, row_model};
+ghost use Rattle.command_words.specs.WordValues.{value_answer};
 ghost use Rattle.command_words.specs.declared.edits.EditsError.TheVariants.{Memory};
 
-use crate::rows::{Form, Values};
+use crate::rows::{Row, ValueForm, Values, find_row};
+use crate::word_values::ValueError;
 use std::alloc::{AllocError, AllocFailed, Global};
 use std::fmt;
 use thiserror::Error;
@@ -111,9 +113,35 @@ pub fn no_edit(group: usize, kind: EditKind) -> EditsError
     })
 }
 
+/// The row of the edit that the group of this number names by its first word, and the words behind it. Errors:
+/// `Empty` where there is no word, `UnknownEdit` where the first names no edit. Takes no memory.
+pub fn edit_row<'a>(
+    rows: &'static [Row],
+    group: usize,
+    words: &'a [&'a str],
+) -> Result<(&'static Row, &'a [&'a str]), EditsError>
+    ensures ok { IfOk result (λ found.
+        row_asked (map row_model rows.entry.now) (map (λ w. w.now) words.entry.now)
+        ≡ Ok (row_model found.0.now, map (λ w. w.now) found.1.now)) }
+    ensures err { IfErr result (IsWrong group
+        (row_asked (map row_model rows.entry.now) (map (λ w. w.now) words.entry.now))) }
+{
+    let Some((name, words)) = words.split_first() else {
+        return Err(no_edit(group, EditKind::Empty));
+    };
+    let Some(row) = find_row(rows, name) else {
+        return Err(no_edit(group, EditKind::UnknownEdit));
+    };
+    if row.is_edit {
+        Ok((row, words))
+    } else {
+        Err(no_edit(group, EditKind::UnknownEdit))
+    }
+}
+
 /// The error of the group of this number with another number of words than its edit takes: at the first
 /// word that is missing or too many.
-pub fn other_words(group: usize, form: &Form, words: &[&str]) -> EditsError
+pub fn other_words(group: usize, form: &ValueForm, words: &[&str]) -> EditsError
     ensures { result ≡ EditsError.Fault (fault_at group
         (wrong_words (kind_model form.now) (map (λ w. w.now) words.now))) }
 {
@@ -126,11 +154,28 @@ pub fn other_words(group: usize, form: &Form, words: &[&str]) -> EditsError
     })
 }
 
+/// The error of the group of this number whose values are not what its edit takes.
+pub fn no_values(group: usize, error: ValueError) -> EditsError
+    ensures { result ≡ value_answer group error }
+{
+    let (kind, word, takes) = match error {
+        ValueError::NoNumber(_) => (EditKind::Number, 1, 1),
+        ValueError::NoPair { place, .. } => (EditKind::KeyValue, place, 0),
+        ValueError::Memory => return EditsError::Memory,
+    };
+    EditsError::Fault(EditFault {
+        group,
+        kind,
+        word,
+        takes,
+    })
+}
+
 /// The values that the words of a group are, with an empty path; `None` where there are too many words or
 /// too few. Error: `AllocError`.
 pub fn values_without_path(
     alloc: Global,
-    form: &Form,
+    form: &ValueForm,
     words: &[&str],
 ) -> Result<Option<Values>, AllocError>
     ensures { IfOk result (λ values. option_map given_model values
@@ -138,18 +183,18 @@ pub fn values_without_path(
 {
     let path = String::new(alloc);
     match (form, words) {
-        (Form::Path, []) => Ok(Some(Values::Path(path))),
-        (Form::Text(_), [word]) => {
+        (ValueForm::Path, []) => Ok(Some(Values::Path(path))),
+        (ValueForm::Text(_), [word]) => {
             let value = String::from_str(alloc, word)?;
             Ok(Some(Values::Text(value, path)))
         }
-        (Form::Texts(..), [first, second]) => {
+        (ValueForm::Texts(..), [first, second]) => {
             let first = String::from_str(alloc, first)?;
             let second = String::from_str(alloc, second)?;
             Ok(Some(Values::Texts(first, second, path)))
         }
-        (Form::Words(_), words) => Ok(Some(Values::Words(path, copies(alloc, words)?))),
-        (Form::Options(_), []) => Ok(Some(Values::Options(path, Vec::new(alloc)))),
+        (ValueForm::Words(_), words) => Ok(Some(Values::Words(path, copies(alloc, words)?))),
+        (ValueForm::Options(_), []) => Ok(Some(Values::Options(path, Vec::new(alloc)))),
         _ => Ok(None),
     }
 }

@@ -1,14 +1,18 @@
-//! The words of a command: the rows that say how each is written, the values that it takes, pairs and
-//! numbers, and the groups of words that are edits, whatever kind of file they are of.
+//! What the commands for either kind of file share: the rows that say how each is written, the values that it
+//! takes, pairs and numbers, the groups of words that are edits, and how much of a file is read.
 #![tactic(auto)]
 
 mod edits;
+mod file;
 mod key_value;
 mod rows;
+mod word_values;
 
 pub use edits::{
-    EditFault, EditKind, EditsError, copied, copies, no_edit, other_words, values_without_path,
-    words_of,
+    EditFault, EditKind, EditsError, copied, copies, edit_row, no_edit, no_values, other_words,
+    values_without_path, words_of,
 };
+pub use file::MOST_BYTES;
 pub use key_value::{KeyValueError, decimal_number, parse_key_val};
-pub use rows::{Form, Row, Value, ValueOption, Values, find_row};
+pub use rows::{Row, Value, ValueForm, ValueOption, Values, find_row};
+pub use word_values::{ValueError, number_of, pairs_of};

@@ -24,7 +24,7 @@ pub struct ValueOption {
 
 /// The values that a command takes, in the order of its words. The path of its file is one of them.
 #[derive(Clone, Copy, Debug)]
-pub enum Form {
+pub enum ValueForm {
     /// The path alone.
     Path,
     /// A text and the path.
@@ -37,7 +37,7 @@ pub enum Form {
     Options(ValueOption),
 }
 
-impl Form {
+impl ValueForm {
     ghost use Rattle.std.specs.Prelude.{◌≡◌};
     ghost use Rattle.command_words.specs.Rows.{count_of, kind_model};
 
@@ -46,9 +46,9 @@ impl Form {
         ensures { result ≡ count_of (kind_model self.now) }
     {
         match self {
-            Form::Text(_) => 1,
-            Form::Texts(..) => 2,
-            Form::Path | Form::Words(_) | Form::Options(_) => 0,
+            ValueForm::Text(_) => 1,
+            ValueForm::Texts(..) => 2,
+            ValueForm::Path | ValueForm::Words(_) | ValueForm::Options(_) => 0,
         }
     }
 }
@@ -61,7 +61,7 @@ pub struct Row {
     /// What the command does.
     pub about: &'static str,
     /// The values that it takes.
-    pub form: Form,
+    pub form: ValueForm,
     /// Whether `apply` takes it as an edit.
     pub is_edit: bool,
     /// What help says below the values; empty where that is nothing.

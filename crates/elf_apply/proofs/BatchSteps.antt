@@ -2,10 +2,10 @@
 use Rattle.std.proofs.Common.{◌≡◌, ◌<◌, ◌≤◌, ◌+◌, ℕ, zero, suc, List, [], ◌∷◌, ◌++◌, length, drop, take, get_or, refl, sym, ap, subst, ◌∙◌, Option, Some, None, Result, Ok, Err, IsOk, add-one, drop-cons, arith}
 use Rattle.std.proofs.lemmas.List.{drop_all, map_more}
 use Rattle.elf_image.specs.Image.{Image}
-use Rattle.elf_edits.specs.declared.call.ElfEdit.{ElfEdit}
+use Rattle.elf_edits.specs.declared.edit.ElfEdit.{ElfEdit}
 use Rattle.elf_edits.specs.declared.facts.Facts.{Facts}
 use Rattle.elf_edits.specs.Batch.{Refusal, run}
-use Rattle.elf_edits.specs.Called.{edit_model}
+use Rattle.elf_edits.specs.EditModel.{edit_model}
 use Rattle.elf_edits.specs.Cause.{Cause, first_cause}
 use Rattle.elf_edits.specs.Decided.{all_edited, first_refusal, refusal_or}
 use Rattle.elf_edits.specs.Edit.{Edit}

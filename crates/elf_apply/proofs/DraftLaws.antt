@@ -14,11 +14,11 @@ use Rattle.elf_image.specs.Options.{first_there}
 use Rattle.elf_image.specs.Segments.{with_stack_added, with_stack_flags}
 use Rattle.elf_edits.specs.declared.constants.TheConstants.{STACK_FLAGS}
 use Rattle.elf_edits.specs.declared.list.NewList.{NewList}
-use Rattle.elf_edits.specs.Abi.{abi_number, lowered, with_nul}
+use Rattle.elf_edits.specs.Abi.{abi_number, lowercase_name, with_nul}
 use Rattle.elf_edits.specs.Cause.{NoDynamic, NoInterpreter, UnknownAbi, cause_if, facts_of, first_cause}
 use Rattle.elf_edits.specs.Edit.{Edit, AddDebugEntry, AddNeeded, AddRunPath, ClearExecStack, DeleteNeeded, DeleteRunPath, NoDefaultLibrary, ReplaceNeeded, SetExecStack, SetInterpreter, SetOsAbi, SetPageSize, SetRunPath, SetSoname, ShrinkRunPath, UseRpath, UseRunpath, all_but_last}
 use Rattle.elf_edits.specs.Edited.{edited_image, is_list_with, touches_rest, with_align, with_load_align, with_run, with_stack_changed, without_run}
-use Rattle.elf_edits.specs.Entries.{edited_entries, retagged, touches_entries, with_tag}
+use Rattle.elf_edits.specs.Entries.{edited_entries, touches_entries, with_tag, with_tags_changed}
 use Rattle.elf_image.specs.Image.{entry_tag, lists_tag}
 use Rattle.elf_image.specs.declared.dynamic.Dynamic.{Dynamic}
 use Rattle.std.specs.declared.alloc.Global.{Global}
@@ -127,7 +127,7 @@ named (Some n) h = (n, refl)
 pub os_abi_written : (name : List ℕ) (number : Option ℕ) (image : Image) (d : Draft) → IsFree (SetOsAbi name) (facts_of image) → IsDraftOf image d → number ≡ abi_number name → Writes (SetOsAbi name) image d (record d { os_abi = number })
 unfolding drafted edited_image image_with
 os_abi_written name number image d free is same =
-    let found = named (abi_number name) (stands_not (is_none (abi_number name)) (UnknownAbi (lowered name)) free.own) in
+    let found = named (abi_number name) (stands_not (is_none (abi_number name)) (UnknownAbi (lowercase_name name)) free.own) in
     subst (λ (o : Option ℕ). Writes (SetOsAbi name) image d (record d { os_abi = o })) (sym (same ∙ found.1)) (by_number found.0 found.1)
   where
     marked : (n : ℕ) → is_written (record d { os_abi = Some n }) ≡ true
@@ -521,21 +521,21 @@ can_put_entries d old now is same = record {
 }
 
 -- entries with a tag, and without
-pub retagged_some : (old new : ℕ) (image : Image) (found : Bool) → found ≡ lists_tag old (unwrap_or image.entries []) → found ≡ true → record image { changed = true; entries = option_map (retagged old new) image.entries } ≡ with_retagged old new image
-retagged_some old new image found is holds = ap (λ b. record image { changed = b; entries = option_map (retagged old new) image.entries }) (sym (or_true image.changed) ∙ ap (λ b. image.changed || b) (sym holds ∙ is))
+pub retagged_some : (old new : ℕ) (image : Image) (found : Bool) → found ≡ lists_tag old (unwrap_or image.entries []) → found ≡ true → record image { changed = true; entries = option_map (with_tags_changed old new) image.entries } ≡ with_retagged old new image
+retagged_some old new image found is holds = ap (λ b. record image { changed = b; entries = option_map (with_tags_changed old new) image.entries }) (sym (or_true image.changed) ∙ ap (λ b. image.changed || b) (sym holds ∙ is))
 
-none_retagged : (old new : ℕ) (es : List Entry) → lists_tag old es ≡ false → retagged old new es ≡ es
+none_retagged : (old new : ℕ) (es : List Entry) → lists_tag old es ≡ false → with_tags_changed old new es ≡ es
 none_retagged old new [] none = refl
 none_retagged old new (e ∷ es) none =
     let parts = or_parts (entry_tag e == old) (lists_tag old es) none in
-    ap (λ x. x ∷ retagged old new es) (cond-false (entry_tag e == old) (with_tag new e) e parts.0) ∙ ap (λ l. e ∷ l) (none_retagged old new es parts.1)
+    ap (λ x. x ∷ with_tags_changed old new es) (cond-false (entry_tag e == old) (with_tag new e) e parts.0) ∙ ap (λ l. e ∷ l) (none_retagged old new es parts.1)
 
 pub retagged_none : (old new : ℕ) (image : Image) (found : Bool) → found ≡ lists_tag old (unwrap_or image.entries []) → found ≡ false → image ≡ with_retagged old new image
 retagged_none old new image found is fails =
-    sym (ap (λ b. record image { changed = image.changed || b; entries = option_map (retagged old new) image.entries }) (sym is ∙ fails)
-    ∙ ap (λ b. record image { changed = b; entries = option_map (retagged old new) image.entries }) (or_false image.changed)
+    sym (ap (λ b. record image { changed = image.changed || b; entries = option_map (with_tags_changed old new) image.entries }) (sym is ∙ fails)
+    ∙ ap (λ b. record image { changed = b; entries = option_map (with_tags_changed old new) image.entries }) (or_false image.changed)
     ∙ ap (λ (o : Option (List Entry)). record image { changed = image.changed; entries = o }) (by_list image.entries (sym is ∙ fails)))
   where
-    by_list : (o : Option (List Entry)) → lists_tag old (unwrap_or o []) ≡ false → option_map (retagged old new) o ≡ o
+    by_list : (o : Option (List Entry)) → lists_tag old (unwrap_or o []) ≡ false → option_map (with_tags_changed old new) o ≡ o
     by_list None h = refl
     by_list (Some es) h = ap Some (none_retagged old new es h)

@@ -6,14 +6,15 @@ use Rattle.elf_image.specs.Dynamic.{Entry}
 use Rattle.elf_image.specs.DynamicList.{IsListed, KeepsTables}
 use Rattle.elf_image.specs.Image.{Image}
 use Rattle.elf_image.specs.ImageModel.{entry_model}
-use Rattle.elf_edits.specs.declared.shrinking.ShrunkList.{ShrunkList}
 use Rattle.elf_edits.specs.declared.facts.Facts.{Facts}
 use Rattle.elf_edits.specs.Cause.{cause, facts_of, first_cause}
 use Rattle.elf_edits.specs.Edit.{Answer, Edit, ShrinkRunPath}
-use Rattle.elf_edits.specs.Edited.{is_list_with, removed_by, step}
+use Rattle.elf_edits.specs.Edited.{is_list_with, step}
 use Rattle.elf_edits.specs.Entries.{directories_removed, edited_entries, search_of, touches_entries, with_run_paths_shrunk}
-use Rattle.elf_edits.specs.ShrunkModel.{removal_model}
 use Rattle.elf_edits.specs.Texts.{has_some}
+use Rattle.elf_edits_shrink.specs.declared.lists.ShrunkList.{ShrunkList}
+use Rattle.elf_edits_shrink.specs.Removals.{removed_by}
+use Rattle.elf_edits_shrink.specs.ShrinkModel.{removal_model}
 use Rattle.elf_edits.proofs.ForCallers.{is_free, lists_again, step_is, untouched}
 use Rattle.elf_apply.specs.Drafted.{IsShrunkOf, ListsEntries}
 use Rattle.elf_apply.proofs.DraftLaws.{listed_in, or_false, or_true, rest_stays}

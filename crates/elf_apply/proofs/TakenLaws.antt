@@ -1,5 +1,5 @@
 -- What edits leave, by what was written, and what their errors tell.
-use Rattle.std.proofs.Common.{◌≡◌, ℕ, Bool, true, false, not, ◌||◌, List, [], ◌∷◌, refl, sym, ap, subst, ◌∙◌, Option, Some, None, option_map, Result, Ok, Err}
+use Rattle.std.proofs.Common.{◌≡◌, ℕ, ◌+◌, Bool, true, false, not, ◌||◌, List, [], ◌∷◌, refl, sym, ap, subst, ◌∙◌, Option, Some, None, option_map, Result, Ok, Err}
 use Rattle.std.specs.Prelude.{codes, ◌==◌, unwrap_or}
 use Rattle.std.specs.List.{list_any}
 use Rattle.std.proofs.lemmas.Bool.{cond-true, cond-false}
@@ -8,12 +8,13 @@ use Rattle.elf_image.specs.Dynamic.{Entry}
 use Rattle.elf_image.specs.DynamicList.{without_tag}
 use Rattle.elf_image.specs.Image.{Image, entry_tag, lists_tag}
 use Rattle.elf_image.specs.Options.{first_there}
-use Rattle.elf_edits.specs.declared.call.ElfEdit.{ElfEdit}
+use Rattle.elf_edits.specs.declared.edit.ElfEdit.{ElfEdit}
 use Rattle.elf_edits.specs.declared.facts.Facts.{Facts}
-use Rattle.elf_edits.specs.Batch.{Refusal, run, run_from}
+use Rattle.elf_edits.specs.Batch.{Refusal, answer_at, run, run_from, then_on}
 use Rattle.elf_edits.specs.Cause.{BadPageSize, Cause, MipsImage, NoDynamic, cause, cause_if, facts_of, first_cause, is_page_size, lists_run_path}
 use Rattle.elf_edits.specs.Decided.{all_edited, first_refusal, unless_refused}
 use Rattle.elf_edits.specs.Edit.{DeleteRunPath, Edit, SetPageSize, UseRpath, UseRunpath}
+use Rattle.elf_edits.specs.EditModel.{edit_model}
 use Rattle.elf_edits.specs.Edited.{edited_image, is_list_with, step, with_load_align}
 use Rattle.elf_edits.specs.Entries.{edited_entries, is_run_path, touches_entries, without_run_paths}
 use Rattle.elf_edits.proofs.ForCallers.{batch_decided, step_is, step_refused, untouched}
@@ -21,15 +22,12 @@ use Rattle.elf_apply.specs.declared.draft.Draft.{Draft}
 use Rattle.elf_apply.specs.declared.error.ElfError.{ElfError}
 use Rattle.elf_apply.specs.declared.error.ElfError.TheVariants.{InvalidDtNeededEncoding, Io, Memory, Modify, Parse, Write}
 use Rattle.elf_apply.specs.declared.error.ModifyCause.{ModifyCause}
-use Rattle.elf_apply.specs.Drafted.{OnlyShows, Writes, drafted, with_retagged}
+use Rattle.elf_apply.specs.Drafted.{OnlyShows, drafted, with_retagged}
 use Rattle.elf_apply.specs.Taken.{edits_model}
 use Rattle.elf_apply.specs.Told.{IsRefusedAt, IsRefusedFor, Refuses, RefusesAt, cause_told}
 use Rattle.elf_apply.proofs.DraftLaws.{by_test, image_with, or_false, or_true, page_size_edit}
 
 -- ## One edit
-
-pub taken : (edit : Edit) (old new : Image) (d : Draft) → cause edit old ≡ None → OnlyShows old (edited_image edit old) d → new ≡ drafted d old → step edit old ≡ Ok new
-taken edit old new d none only put = step_is edit old none ∙ ap Ok (sym (put ∙ only.shows))
 
 pub refused : (edit : Edit) (old : Image) (e : ElfError) (reason : Cause) → Refuses e (Err reason) → cause edit old ≡ Some reason → Refuses e (step edit old)
 refused edit old e reason tells some = subst (λ (answer : Result Image Cause). Refuses e answer) (sym (step_refused edit old reason some)) tells
@@ -63,6 +61,43 @@ batch_refused edits old e index reason tells some =
     subst (λ (answer : Result Image Refusal). RefusesAt index e answer)
     (sym (batch_decided edits 0 old ∙ ap (λ o. unless_refused o (all_edited (edits_model edits) old)) some))
     (told_at e index reason tells)
+
+-- ## One edit, a batch of one
+
+behind : ℕ → Result Image Cause → Result Image Refusal
+behind done answer = then_on (answer_at done answer) (run_from (done + 1) [])
+
+step_taken : (answer : Result Image Cause) (new : Image) → behind 0 answer ≡ Ok new → answer ≡ Ok new
+unfolding behind run_from
+step_taken (Ok image) new h = cc
+step_taken (Err cause) new h = absurd (cc)
+
+step_refused_for : (told : Option Cause) (index : ℕ) (answer : Result Image Cause) → IsRefusedAt index told (behind 0 answer) → IsRefusedFor told answer
+unfolding behind run_from
+step_refused_for None index answer h = h
+step_refused_for (Some cause) index (Ok image) h = absurd (cc)
+step_refused_for (Some cause) index (Err reason) h =
+    let same : record { index = 0; cause = reason } ≡ record { index = index; cause = cause } = cc in
+    ap (λ (refusal : Refusal). Err refusal.cause) same
+
+step_refuses : (e : ElfError) (index : ℕ) (answer : Result Image Cause) → RefusesAt index e (behind 0 answer) → Refuses e answer
+step_refuses Memory index answer h = tt
+step_refuses (Modify c) index answer h = step_refused_for (cause_told c) index answer h
+step_refuses (Io fault) index answer h = h
+step_refuses (Parse fault) index answer h = h
+step_refuses (Write fault) index answer h = h
+step_refuses InvalidDtNeededEncoding index answer h = h
+
+run_of_one : (edits : List ElfEdit) (edit : ElfEdit) (old : Image) → edits ≡ edit ∷ [] → run (edits_model edits) old ≡ behind 0 (step (edit_model edit) old)
+unfolding behind run_from
+run_of_one edits edit old one = ap (λ l. run (edits_model l) old) one
+
+pub one_taken : (edits : List ElfEdit) (edit : ElfEdit) (old new : Image) → edits ≡ edit ∷ [] → run (edits_model edits) old ≡ Ok new → step (edit_model edit) old ≡ Ok new
+one_taken edits edit old new one taken = step_taken (step (edit_model edit) old) new (sym (run_of_one edits edit old one) ∙ taken)
+
+pub one_refused : (edits : List ElfEdit) (edit : ElfEdit) (old : Image) (e : ElfError) (index : ℕ) → edits ≡ edit ∷ [] → RefusesAt index e (run (edits_model edits) old) → Refuses e (step (edit_model edit) old)
+one_refused edits edit old e index one tells =
+    step_refuses e index (step (edit_model edit) old) (subst (λ (answer : Result Image Refusal). RefusesAt index e answer) (run_of_one edits edit old one) tells)
 
 -- ## In place
 
@@ -194,8 +229,3 @@ plain_taken edit task old new facts plain same h put =
 pub deleted_twice : (old once twice : Image) → once ≡ record old { changed = true; entries = option_map (without_tag DT_RPATH) old.entries }
     → twice ≡ record once { changed = true; entries = option_map (without_tag DT_RUNPATH) once.entries } → twice ≡ record old { changed = true; entries = option_map (without_tag DT_RUNPATH) (option_map (without_tag DT_RPATH) old.entries) }
 deleted_twice old once twice first second = second ∙ ap (λ (image : Image). record image { changed = true; entries = option_map (without_tag DT_RUNPATH) image.entries }) first
-
--- what an edit wrote upon nothing
-pub only_after : (edit : Edit) (image known : Image) (first d : Draft) → known ≡ image → OnlyShows known known first → Writes edit known first d → OnlyShows image (edited_image edit image) d
-only_after edit image known first d same start wrote =
-    subst (λ (i : Image). OnlyShows i (edited_image edit i) d) same (record { shows = wrote.shows ∙ ap (edited_image edit) start.shows; draft = wrote.draft })

@@ -11,13 +11,14 @@ use Rattle.elf_image.specs.Options.{first_there}
 use Rattle.elf_edits.specs.declared.constants.TheConstants.{STACK_FLAGS}
 use Rattle.elf_edits.specs.Edit.{all_but_last}
 use Rattle.elf_edits.specs.Edited.{with_load_align, with_stack_changed}
-use Rattle.elf_edits.specs.declared.shrinking.ShrunkList.{ShrunkList}
-use Rattle.elf_edits.specs.Entries.{edited_entries, retagged}
-use Rattle.elf_edits.specs.ShrunkModel.{removal_model}
+use Rattle.elf_edits.specs.Entries.{edited_entries, with_tags_changed}
 use Rattle.elf_edits.specs.Texts.{holds_nul}
 use Rattle.elf_edits.specs.declared.list.NewList.{NewList}
 use Rattle.elf_edits.specs.Edit.{Edit}
-use Rattle.elf_edits.specs.Edited.{edited_image, removed_by}
+use Rattle.elf_edits.specs.Edited.{edited_image}
+use Rattle.elf_edits_shrink.specs.declared.lists.ShrunkList.{ShrunkList}
+use Rattle.elf_edits_shrink.specs.Removals.{removed_by}
+use Rattle.elf_edits_shrink.specs.ShrinkModel.{removal_model}
 use Rattle.elf_image.specs.declared.dynamic.Dynamic.{Dynamic}
 use Rattle.std.specs.declared.alloc.Global.{Global}
 use Rattle.std.specs.declared.vec.Vec.{Vec}
@@ -122,7 +123,7 @@ pub record CanPutEntries (image : Image) (list : Option (Vec Dynamic Global)) : 
 abbrev pub with_retagged : ℕ → ℕ → Image → Image
 with_retagged old new image = record image {
   changed = image.changed || lists_tag old (unwrap_or image.entries []);
-  entries = option_map (retagged old new) image.entries;
+  entries = option_map (with_tags_changed old new) image.entries;
 }
 
 -- a list whose run paths shrank, with the directories that went

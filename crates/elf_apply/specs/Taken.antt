@@ -3,15 +3,16 @@ use Rattle.std.specs.Prelude.{◌≡◌, List, [], ◌∷◌, map, Result, Ok, E
 use Rattle.std.specs.declared.alloc.Global.{Global}
 use Rattle.std.specs.declared.vec.Vec.{Vec}
 use Rattle.elf_image.specs.Image.{Image}
-use Rattle.elf_edits.specs.declared.call.ElfEdit.{ElfEdit}
-use Rattle.elf_edits.specs.declared.shrink.ProbeAnswer.{ProbeAnswer}
-use Rattle.elf_edits.specs.declared.shrink.Removed.{Removed}
+use Rattle.elf_edits.specs.declared.edit.ElfEdit.{ElfEdit}
 use Rattle.elf_edits.specs.Batch.{Refusal, run}
-use Rattle.elf_edits.specs.Called.{Bytes, answer_model, edit_model, texts_model}
+use Rattle.elf_edits.specs.EditModel.{Bytes, edit_model, texts_model}
 use Rattle.elf_edits.specs.Cause.{Cause}
 use Rattle.elf_edits.specs.Edit.{Edit, ShrinkRunPath}
-use Rattle.elf_edits.specs.Edited.{removed_by, step}
-use Rattle.elf_edits.specs.ShrunkModel.{removal_model}
+use Rattle.elf_edits.specs.Edited.{step}
+use Rattle.elf_edits_shrink.specs.declared.probe.ProbeAnswer.{ProbeAnswer}
+use Rattle.elf_edits_shrink.specs.declared.removal.Removed.{Removed}
+use Rattle.elf_edits_shrink.specs.Removals.{removed_by}
+use Rattle.elf_edits_shrink.specs.ShrinkModel.{answer_model, removal_model}
 use Rattle.elf_apply.specs.declared.batch.ElfBatchError.{ElfBatchError}
 use Rattle.elf_apply.specs.declared.error.ElfError.{ElfError}
 use Rattle.elf_apply.specs.Told.{Refuses, RefusesBatch, TellsCause}

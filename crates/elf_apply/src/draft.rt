@@ -2,9 +2,8 @@
 ghost use Rattle.std.specs.Prelude.{◌≡◌, [], false, IfOk, MatchResult, None as none, Some as some, map, option_map, unwrap_or};
 ghost use Rattle.patch_bytes.specs.ByteString.{owned_string};
 ghost use Rattle.elf_edits.specs.Abi.{with_nul as stored_with_nul};
-ghost use Rattle.elf_edits.specs.Called.{call_model, edit_model, texts_model};
 ghost use Rattle.elf_edits.specs.Cause.{facts_of, first_cause};
-ghost use Rattle.elf_edits.specs.Edit.{DeleteNeeded};
+ghost use Rattle.elf_edits.specs.EditModel.{edit_model};
 ghost use Rattle.elf_edits.specs.Edited.{touches_rest};
 ghost use Rattle.elf_image.specs.Image.{Image};
 ghost use Rattle.elf_image.specs.ImageModel.{entry_model, text_model};
@@ -13,7 +12,7 @@ ghost use Rattle.elf_apply.specs.Drafted.{CanPutEntries, CanPutInterpreter, IsDr
 
 use elf_edits::abi::{abi_number, with_nul};
 use elf_edits::constants::STACK_FLAGS;
-use elf_edits::{EditCall, ElfEdit, NewList, edited, edited_by, without_names};
+use elf_edits::{ElfEdit, NewList, edit_list};
 use elf_image::constants::PF_X;
 use elf_image::{Builder, Dynamic};
 use patch_bytes::ByteString;
@@ -92,15 +91,15 @@ impl<'data> Draft<'data> {
         &mut self,
         alloc: Global,
         builder: &Builder<'data>,
-        call: &EditCall<'_>,
+        edit: &ElfEdit,
     ) -> Result<(), AllocError>
-        requires list { touches_rest (call_model call.now) ≡ false }
-        requires free { first_cause (call_model call.now) (facts_of builder.now) ≡ none }
+        requires list { touches_rest (edit_model edit.now) ≡ false }
+        requires free { first_cause (edit_model edit.now) (facts_of builder.now) ≡ none }
         requires listed { ListsEntries builder.now }
         requires draft { IsDraftOf builder.now self.old }
-        ensures { IfOk result (λ _. Writes (call_model call.now) builder.now self.old self.new) }
+        ensures { IfOk result (λ _. Writes (edit_model edit.now) builder.now self.old self.new) }
     {
-        let made = edited(alloc, call, self.list(builder))?;
+        let made = edit_list(alloc, edit, self.list(builder))?;
         self.note_list(made);
         Ok(())
     }
@@ -111,61 +110,6 @@ impl<'data> Draft<'data> {
         &mut self,
         alloc: Global,
         builder: &Builder<'data>,
-        call: &EditCall<'_>,
-    ) -> Result<(), AllocError>
-        requires free { first_cause (call_model call.now) (facts_of builder.now) ≡ none }
-        requires listed { ListsEntries builder.now }
-        requires draft { IsDraftOf builder.now self.old }
-        ensures { IfOk result (λ _. Writes (call_model call.now) builder.now self.old self.new) }
-    {
-        match call {
-            EditCall::SetInterpreter(bytes) => self.write_interpreter(alloc, bytes),
-            EditCall::SetOsAbi(name) => {
-                self.os_abi = abi_number(name);
-                Ok(())
-            }
-            EditCall::ClearExecStack => {
-                let flags = self.flags(builder);
-                self.stack_flags = Some(flags - (flags & PF_X));
-                Ok(())
-            }
-            EditCall::SetExecStack => {
-                self.stack_flags = Some(self.flags(builder) | PF_X);
-                Ok(())
-            }
-            EditCall::SetPageSize(size) => {
-                self.page_size = Some(*size);
-                Ok(())
-            }
-            edit_of_list => self.write_list(alloc, builder, edit_of_list),
-        }
-    }
-
-    // Writes the list without needed libraries of these names.
-    pub(crate) fn write_without(
-        &mut self,
-        alloc: Global,
-        builder: &Builder<'data>,
-        names: &[Vec<u8>],
-    ) -> Result<(), AllocError>
-        requires free { first_cause (DeleteNeeded (texts_model names.now)) (facts_of builder.now)
-            ≡ none }
-        requires listed { ListsEntries builder.now }
-        requires draft { IsDraftOf builder.now self.old }
-        ensures { IfOk result (λ _. Writes (DeleteNeeded (texts_model names.now)) builder.now
-            self.old self.new) }
-    {
-        let made = without_names(alloc, names, self.list(builder))?;
-        self.note_list(made);
-        Ok(())
-    }
-
-    // The same of an edit of a batch.
-    #[tactic(none)]
-    pub(crate) fn write_edit(
-        &mut self,
-        alloc: Global,
-        builder: &Builder<'data>,
         edit: &ElfEdit,
     ) -> Result<(), AllocError>
         requires free { first_cause (edit_model edit.now) (facts_of builder.now) ≡ none }
@@ -173,12 +117,27 @@ impl<'data> Draft<'data> {
         requires draft { IsDraftOf builder.now self.old }
         ensures { IfOk result (λ _. Writes (edit_model edit.now) builder.now self.old self.new) }
     {
-        if let Some(call) = edit.lend() {
-            return self.write(alloc, builder, &call);
+        match edit {
+            ElfEdit::SetInterpreter(bytes) => self.write_interpreter(alloc, bytes.as_slice()),
+            ElfEdit::SetOsAbi(name) => {
+                self.os_abi = abi_number(name.as_str());
+                Ok(())
+            }
+            ElfEdit::ClearExecStack => {
+                let flags = self.flags(builder);
+                self.stack_flags = Some(flags - (flags & PF_X));
+                Ok(())
+            }
+            ElfEdit::SetExecStack => {
+                self.stack_flags = Some(self.flags(builder) | PF_X);
+                Ok(())
+            }
+            ElfEdit::SetPageSize(size) => {
+                self.page_size = Some(*size);
+                Ok(())
+            }
+            edit_of_list => self.write_list(alloc, builder, edit_of_list),
         }
-        let made = edited_by(alloc, edit, self.list(builder))?;
-        self.note_list(made);
-        Ok(())
     }
 
     // Puts what was written in place. There is want of memory only where a program header is added for the stack,

@@ -7,7 +7,7 @@ ghost use Rattle.elf_apply.specs.Drafted.{stack_flags_of};
 ghost use Rattle.elf_apply.specs.StackLent.{LendsAddedFlags, LendsFlagsThere, LendsStackFlags, TellsWhy, flags_to_lend, stack_cause};
 
 use crate::error::ElfError;
-use crate::told::stack_refusal;
+use crate::refusals::stack_refusal;
 use elf_edits::image_facts;
 use elf_image::constants::{EM_MIPS, PT_GNU_STACK};
 use elf_image::{Builder, Segment};

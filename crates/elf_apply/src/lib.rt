@@ -6,5 +6,9 @@ pub mod batch;
 mod draft;
 pub mod error;
 pub mod ext;
+mod refusals;
 pub mod steps;
-mod told;
+
+pub use crate::steps::{
+    apply, delete_run_paths, edit, set_page_size, shrink_run_paths, use_rpath, use_runpath,
+};

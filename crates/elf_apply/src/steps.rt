@@ -1,13 +1,10 @@
 //! One edit, and a batch of edits, upon an image.
 ghost use Rattle.std.specs.Prelude.{◌≡◌, IfOk, IsOk, IsTrue, None as none, [], map, option_map, unwrap_or};
-ghost use Rattle.elf_edits.specs.Called.{call_model, texts_model};
-ghost use Rattle.elf_edits.specs.Cause.{cause as first_cause_against, facts_of};
+ghost use Rattle.elf_edits.specs.Cause.{facts_of};
 ghost use Rattle.elf_edits.specs.Decided.{all_edited, first_refusal as first_refusal_of};
-ghost use Rattle.elf_edits.specs.Edit.{DeleteNeeded, DeleteRunPath, SetPageSize, UseRpath, UseRunpath};
-ghost use Rattle.elf_edits.specs.Edited.{edited_image};
-ghost use Rattle.elf_edits.specs.Entries.{has_tag as has_that_tag};
+ghost use Rattle.elf_edits.specs.Edit.{DeleteRunPath, SetPageSize, UseRpath, UseRunpath};
+ghost use Rattle.elf_edits.specs.EditModel.{edit_model};
 ghost use Rattle.elf_image.specs.DynamicList.{can_follow};
-ghost use Rattle.elf_image.specs.Image.{lists_tag as has_entry_with};
 ghost use Rattle.elf_image.specs.ImageModel.{entry_model};
 ghost use Rattle.elf_apply.specs.Drafted.{IsShrunkOf, ListsEntries, OnlyShows, with_retagged};
 ghost use Rattle.elf_apply.specs.Taken.{RemovedAre, TakesBatch, TakesEdit, TakesInPlace, edits_model, shrink_model};
@@ -16,15 +13,14 @@ ghost use Rattle.elf_apply.specs.Told.{refusal_model};
 use crate::batch::ElfBatchError;
 use crate::draft::Draft;
 use crate::error::{ElfError, Result};
-use crate::told::{list_refusal, page_size_refusal, told};
-use elf_edits::shrinking::shrink;
-use elf_edits::{
-    Cause, EditCall, ElfEdit, Facts, ProbeAnswer, Removed, ShrunkList, Task, cause_of,
-    cause_of_edit, image_facts, removal_cause, shrink_cause,
-};
+use crate::refusals::{cause_error, list_refusal, page_size_refusal};
+use elf_edits::list::any_with_tag;
+use elf_edits::{Cause, ElfEdit, Facts, Task, cause_of, image_facts};
+use elf_edits_shrink::{ProbeAnswer, Removed, ShrunkList, shrink_cause, shrink_list};
 use elf_image::constants::{DT_RPATH, DT_RUNPATH};
 use elf_image::{Builder, Dynamic};
 use std::alloc::{AllocError, Global};
+use std::slice;
 
 // The image, of which a proof then knows that each entry of its list may stand there.
 fn known_image<'s, 'data>(builder: &'s Builder<'data>) -> &'s Builder<'data>
@@ -35,62 +31,8 @@ fn known_image<'s, 'data>(builder: &'s Builder<'data>) -> &'s Builder<'data>
     builder
 }
 
-// What an edit writes, against which no cause stands.
-fn written<'data>(
-    alloc: Global,
-    builder: &Builder<'data>,
-    call: &EditCall<'_>,
-) -> std::result::Result<Draft<'data>, AllocError>
-    requires { first_cause_against (call_model call.now) builder.now ≡ none }
-    ensures { IfOk result (OnlyShows builder.now (edited_image (call_model call.now) builder.now)) }
-{
-    let mut draft = Draft::new();
-    draft.write(alloc, known_image(builder), call)?;
-    Ok(draft)
-}
-
-/// One edit: a batch of one, with values that are lent. Errors: `Modify` with the cause that stands against it,
-/// `Memory`; the image is then as it was.
-pub fn edit(builder: &mut Builder<'_>, alloc: Global, call: &EditCall<'_>) -> Result<()>
-    ensures { TakesEdit (call_model call.now) builder.old builder.new result }
-{
-    if let Some(cause) = cause_of(call, &image_facts(builder)) {
-        return Err(told(alloc, cause));
-    }
-    let draft = written(alloc, builder, call)?;
-    draft.put_in_place(alloc, builder)?;
-    Ok(())
-}
-
-// What dropping needed libraries of these names writes.
-fn written_without<'data>(
-    alloc: Global,
-    builder: &Builder<'data>,
-    names: &[Vec<u8>],
-) -> std::result::Result<Draft<'data>, AllocError>
-    requires { first_cause_against (DeleteNeeded (texts_model names.now)) builder.now ≡ none }
-    ensures { IfOk result (OnlyShows builder.now
-        (edited_image (DeleteNeeded (texts_model names.now)) builder.now)) }
-{
-    let mut draft = Draft::new();
-    draft.write_without(alloc, known_image(builder), names)?;
-    Ok(draft)
-}
-
-/// Drops the needed libraries of these names (gABI, Dynamic Section, `DT_NEEDED`). Errors as of `edit`.
-pub fn delete_needed(builder: &mut Builder<'_>, alloc: Global, names: &[Vec<u8>]) -> Result<()>
-    ensures { TakesEdit (DeleteNeeded (texts_model names.now)) builder.old builder.new result }
-{
-    if let Some(cause) = removal_cause(names, &image_facts(builder)) {
-        return Err(told(alloc, cause));
-    }
-    let draft = written_without(alloc, builder, names)?;
-    draft.put_in_place(alloc, builder)?;
-    Ok(())
-}
-
 // What the edits of a batch write, none of which is refused.
-fn all_written<'data>(
+fn draft_of<'data>(
     alloc: Global,
     builder: &Builder<'data>,
     edits: &[ElfEdit],
@@ -101,7 +43,7 @@ fn all_written<'data>(
     let builder = known_image(builder);
     let mut draft = Draft::new();
     for edit in edits {
-        draft.write_edit(alloc, builder, edit)?;
+        draft.write(alloc, builder, edit)?;
     }
     Ok(draft)
 }
@@ -112,7 +54,7 @@ fn first_refusal<'e>(edits: &'e [ElfEdit], facts: &Facts) -> Option<(usize, Caus
         ≡ first_refusal_of facts.now 0 (edits_model edits.now) }
 {
     for (index, edit) in edits.iter().enumerate() {
-        if let Some(cause) = cause_of_edit(edit, facts) {
+        if let Some(cause) = cause_of(edit, facts) {
             return Some((index, cause));
         }
     }
@@ -133,12 +75,23 @@ pub fn apply(
         return Ok(());
     }
     if let Some((index, cause)) = first_refusal(edits, &image_facts(builder)) {
-        let fault = told(alloc, cause);
+        let fault = cause_error(alloc, cause);
         return Err(ElfBatchError { index, fault });
     }
-    let draft = all_written(alloc, builder, edits)?;
+    let draft = draft_of(alloc, builder, edits)?;
     draft.put_in_place(alloc, builder)?;
     Ok(())
+}
+
+/// One edit: a batch of one. Errors: `Modify` with the cause that stands against it, `Memory`; the image is then as it
+/// was.
+pub fn edit(builder: &mut Builder<'_>, alloc: Global, edit: &ElfEdit) -> Result<()>
+    ensures { TakesEdit (edit_model edit.now) builder.old builder.new result }
+{
+    match apply(builder, alloc, slice::from_ref(edit)) {
+        Ok(()) => Ok(()),
+        Err(refused) => Err(refused.fault),
+    }
 }
 
 /// Drops every run path (`DT_RPATH`, `DT_RUNPATH`). Takes no memory. Errors: `Modify`.
@@ -156,29 +109,6 @@ pub fn delete_run_paths(builder: &mut Builder<'_>) -> Result<()>
     Ok(())
 }
 
-// Whether the entry has this tag.
-fn has_tag(entry: &Dynamic<'_>, tag: u64) -> bool
-    ensures { result ≡ has_that_tag tag (entry_model entry.now) }
-{
-    match entry {
-        Dynamic::Auto { tag: own } => *own == tag,
-        Dynamic::Integer { tag: own, .. } => *own == tag,
-        Dynamic::Text { tag: own, .. } => *own == tag,
-    }
-}
-
-// Whether an entry has this tag.
-fn lists_tag(entries: &[Dynamic<'_>], tag: u64) -> bool
-    ensures { result ≡ has_entry_with tag (map entry_model entries.now) }
-{
-    for entry in entries {
-        if has_tag(entry, tag) {
-            return true;
-        }
-    }
-    false
-}
-
 // The entries of the dynamic list, none without one.
 fn entries<'s, 'data>(builder: &'s Builder<'data>) -> &'s [Dynamic<'data>]
     ensures { map entry_model result.now ≡ unwrap_or builder.now.entries [] }
@@ -191,7 +121,7 @@ fn retag(builder: &mut Builder<'_>, old: u64, new: u64)
     requires { IsTrue (can_follow new old) }
     ensures { builder.new ≡ with_retagged old new builder.old }
 {
-    if lists_tag(entries(builder), old) {
+    if any_with_tag(entries(builder), old) {
         builder.retag_all(old, new);
     }
 }
@@ -231,7 +161,7 @@ pub fn set_page_size(builder: &mut Builder<'_>, size: u32) -> Result<()>
 }
 
 // The list with run paths that shrink, where no cause stands against it.
-fn shrunk<'data>(
+fn shrink_image_list<'data>(
     alloc: Global,
     builder: &Builder<'data>,
     prefixes: &[Vec<u8>],
@@ -240,7 +170,7 @@ fn shrunk<'data>(
     ensures { IfOk result (IsShrunkOf (shrink_model prefixes.now probe.now) builder.now) }
 {
     let machine = builder.header().e_machine;
-    shrink(alloc, machine, prefixes, probe, entries(builder))
+    shrink_list(alloc, machine, prefixes, probe, entries(builder))
 }
 
 /// Shrinks the run paths, and answers the directories that went. Errors: `Modify`, `Memory`; the image is then as
@@ -255,9 +185,9 @@ pub fn shrink_run_paths(
     ensures removed { IfOk result (RemovedAre (shrink_model prefixes.now probe.now) builder.old) }
 {
     if let Some(cause) = shrink_cause(prefixes, &image_facts(builder)) {
-        return Err(told(alloc, cause));
+        return Err(cause_error(alloc, cause));
     }
-    let made = shrunk(alloc, known_image(builder), prefixes, probe)?;
+    let made = shrink_image_list(alloc, known_image(builder), prefixes, probe)?;
     let ShrunkList { entries, removed } = made;
     if !removed.is_empty() {
         builder.set_dynamic(entries);

@@ -1,5 +1,6 @@
 -- What edits of an ELF file keep and show, and which answers tell why there are no bytes.
-use Rattle.std.proofs.Common.{◌≡◌, ◌+◌, [], ◌∷◌, ◌∙◌, Bool, ℕ, List, Some, Result, Ok, Err, true, false, refl, sym, ap, subst, inl, inr}
+use Rattle.std.proofs.Common.{◌≡◌, ◌+◌, [], ◌∷◌, ◌∙◌, Bool, ℕ, List, Option, Some, None, Result, Ok, Err, true, false, refl, sym, ap, subst, inl, inr}
+use Rattle.std.specs.Prelude.{IfOk, IsOkAnd}
 use Rattle.std.specs.declared.alloc.Global.{Global}
 use Rattle.std.specs.declared.vec.Vec.{Vec}
 use Rattle.elf_format.specs.declared.header.Header.{Header}
@@ -22,11 +23,16 @@ use Rattle.elf_commands.specs.ElfStores.{ChangesNothing}
 use Rattle.byte_store.specs.Composed.{made_of}
 use Rattle.byte_store.specs.declared.composed.Difference.{Difference}
 use Rattle.command_words.specs.Rows.{Text}
-use Rattle.elf_commands.specs.ElfEngine.{AreEditsAsked, IsElfEdited, LeavesElf, Makes, MayFailAs, ShowsEdits, TellsEachFile, TellsEdit, TellsElfOf, TellsRun, elf_refusal}
-use Rattle.command_faults.specs.Fault.{answer_to_elf, answer_to_elf_fault}
+use Rattle.elf_commands.specs.ElfEngine.{AreChanged, AreEditsAsked, IsElfEdited, LeavesElf, Makes, MayFailAs, ShowsEdits, TellsEachFile, TellsEdit, TellsElfOf, TellsNoImage, TellsRun, bytes_left, elf_refusal}
+use Rattle.elf_commands.specs.ElfErrors.{answer_to_elf, answer_to_elf_fault}
 use Rattle.elf_commands.specs.Prints.{PrintMayFail, TellsElf}
-use Rattle.command_faults.specs.declared.error.ArwenError.{ArwenError}
-use Rattle.command_faults.specs.declared.error.ArwenError.TheVariants.{Edits, Elf, ElfBatch, Io, Line, Macho, MachoBatch, Memory}
+use Rattle.elf_commands.specs.declared.error.ElfCommandError.{ElfCommandError}
+use Rattle.elf_commands.specs.declared.error.ElfCommandError.TheVariants.{Edits, Elf, ElfBatch, Io, Memory}
+
+-- what holds of an answer that is there holds of any
+pub if_ok_and : {A E : Type 0} (P : A → Type 0) (r : Result A E) → IsOkAnd r P → IfOk r P
+if_ok_and P (Ok a) holds = holds
+if_ok_and P (Err e) holds = tt
 
 -- ## What edits keep
 
@@ -113,6 +119,51 @@ edited_to edits_show batches a edits file read made new are is views runs other 
       subst (λ (v : Vec ℕ Global). ShowsEdits edits file v.items) same (shows_edits edits_show batches edits file new.items read made views runs (written.edited other));
 }
 
+module _ (a : ElfAsked) (edits : List Edit) (file : List ℕ) (read made : Image) (answer : Option (Vec ℕ Global)) (are : AreEditsAsked a edits) (is : image_of file ≡ Ok read) (runs : run edits read ≡ Ok made) (changed : AreChanged made answer) where
+  -- the answer for an edited image is that for its file
+  pub edited_answer : EditsShow → BatchesAreTheirEdits → ShowsBothViews file read → IsElfEdited a file answer
+  edited_answer edits_show batches views = by_mark made.changed refl
+    where
+      by_mark : (mark : Bool) → made.changed ≡ mark → IsElfEdited a file answer
+      by_mark true other =
+          let (new, is_new, written) = changed.other other in
+          let P : Option (Vec ℕ Global) → Type 0 = λ o. IsElfEdited a file o in
+          subst P (sym is_new)
+          (edited_to edits_show batches a edits file read made new are is views runs other (record { unchanged = λ same. absurd (cc); edited = λ _. written }))
+      by_mark false same =
+          let P : Option (Vec ℕ Global) → Type 0 = λ o. IsElfEdited a file o in
+          subst P (sym (changed.same same)) (record {
+            edits = edits;
+            are = are;
+            edited = record {
+              made = made;
+              makes = made_of_edits edits file read made is runs;
+              unchanged = λ _. refl;
+              changed = λ other. absurd (cc);
+            };
+            shows = λ new is_new. absurd (cc);
+          })
+
+  pub answer_left : EditsShow → ReadImagesHoldParts → LeavesElf a file (bytes_left file answer)
+  answer_left edits_show hold_parts = by_mark made.changed refl
+    where
+      by_mark : (mark : Bool) → made.changed ≡ mark → LeavesElf a file (bytes_left file answer)
+      by_mark true other =
+          let (new, is_new, written) = changed.other other in
+          let P : Option (Vec ℕ Global) → Type 0 = λ o. LeavesElf a file (bytes_left file o) in
+          subst P (sym is_new) (record {
+            edits = edits;
+            are = are;
+            left = record {
+              made = made;
+              makes = made_of_edits edits file read made is runs;
+              written = record { unchanged = λ same. absurd (cc); edited = λ _. written };
+            };
+          })
+      by_mark false same =
+          let P : Option (Vec ℕ Global) → Type 0 = λ o. LeavesElf a file (bytes_left file o) in
+          subst P (sym (changed.same same)) (leaves_file edits_show hold_parts a edits file read made are is runs same)
+
 -- ## Why there are no bytes
 
 pub one_refused : (edit : Edit) (file : List ℕ) (read : Image) (index : ℕ) (e : ElfError) → image_of file ≡ Ok read → RefusesAt index e (run (edit ∷ []) read) → TellsEdit (one edit) file (answer_to_elf e)
@@ -163,6 +214,10 @@ tells_no_image (several read_as) edits file made e are makes none = subst (λ r.
 tells_no_image (shrinking prefixes) edits file made e are makes none = absurd are
 tells_no_image printing edits file made e are makes none = absurd are
 
+pub tells_no_bytes : (a : ElfAsked) (edits : List Edit) (file : List ℕ) (made : Image) (e : ElfCommandError) → AreEditsAsked a edits → Makes edits file made → TellsNoImage made e → TellsEdit a file e
+tells_no_bytes a edits file made e are makes told =
+    let P : ElfCommandError → Type 0 = λ x. TellsEdit a file x in subst P (sym told.2) (tells_no_image a edits file made told.0 are makes told.1)
+
 -- ## A run
 
 -- an accepted file isn't printed
@@ -193,67 +248,52 @@ no_fault_yet prefixes file (elf.Modify cause) tells = tells
 no_fault_yet prefixes file elf.InvalidDtNeededEncoding tells = tells
 
 -- so it tells a want of memory alone
-pub only_memory : (prefixes : List Text) (file : List ℕ) (e : ArwenError) → TellsEdit (shrinking prefixes) file e → e ≡ Memory
+pub only_memory : (prefixes : List Text) (file : List ℕ) (e : ElfCommandError) → TellsEdit (shrinking prefixes) file e → e ≡ Memory
 only_memory prefixes file Memory tells = refl
 only_memory prefixes file (Edits wrong) tells = absurd (cc)
 only_memory prefixes file (Elf e) tells = absurd (no_fault_yet prefixes file e tells)
 only_memory prefixes file (ElfBatch e) tells = absurd tells
 only_memory prefixes file (Io e) tells = absurd tells
-only_memory prefixes file (Line text status) tells = absurd tells
-only_memory prefixes file (Macho e) tells = absurd tells
-only_memory prefixes file (MachoBatch e) tells = absurd tells
 
-prints_tell : {W : Type 0} (file : List ℕ) (old new : W) (e : ArwenError) → new ≡ old → TellsEdit printing file e → TellsElf (image_of file) old new e
+prints_tell : {W : Type 0} (file : List ℕ) (old new : W) (e : ElfCommandError) → new ≡ old → TellsEdit printing file e → TellsElf (image_of file) old new e
 prints_tell file old new Memory same tells = same
 prints_tell file old new (Edits wrong) same tells = absurd (cc)
 prints_tell file old new (Elf e) same tells = absurd (no_fault file e tells)
 prints_tell file old new (ElfBatch e) same tells = absurd tells
 prints_tell file old new (Io e) same tells = absurd tells
-prints_tell file old new (Line text status) same tells = absurd tells
-prints_tell file old new (Macho e) same tells = absurd tells
-prints_tell file old new (MachoBatch e) same tells = absurd tells
 
 -- an error of reading edits
-pub tells_words : {W : Type 0} (a : ElfAsked) (file : List ℕ) (old new : W) (e : ArwenError) → new ≡ old → TellsEachFile a e → TellsRun a file old new e
+pub tells_words : {W : Type 0} (a : ElfAsked) (file : List ℕ) (old new : W) (e : ElfCommandError) → new ≡ old → TellsEachFile a e → TellsRun a file old new e
 tells_words (one edit) file old new e same tells = (same, tells file)
 tells_words (several read) file old new e same tells = (same, tells file)
 tells_words (shrinking prefixes) file old new e same tells =
-    let P : ArwenError → Type 0 = λ x. TellsElf (image_of file) old new x in subst P (sym (only_memory prefixes file e (tells file))) same
+    let P : ElfCommandError → Type 0 = λ x. TellsElf (image_of file) old new x in subst P (sym (only_memory prefixes file e (tells file))) same
 tells_words printing file old new e same tells = prints_tell file old new e same (tells file)
 
 -- ## Why a command may fail
 
-prints_fail : (file : List ℕ) (e : ArwenError) → TellsEdit printing file e → PrintMayFail e
+prints_fail : (file : List ℕ) (e : ElfCommandError) → TellsEdit printing file e → PrintMayFail e
 prints_fail file Memory tells = tt
 prints_fail file (Edits wrong) tells = absurd (cc)
 prints_fail file (Elf e) tells = absurd (no_fault file e tells)
 prints_fail file (ElfBatch e) tells = absurd tells
 prints_fail file (Io e) tells = tt
-prints_fail file (Line text status) tells = absurd tells
-prints_fail file (Macho e) tells = absurd tells
-prints_fail file (MachoBatch e) tells = absurd tells
 
 -- an error that tells of some file
-pub may_fail : (a : ElfAsked) (file : List ℕ) (e : ArwenError) → TellsEdit a file e → MayFailAs a e
+pub may_fail : (a : ElfAsked) (file : List ℕ) (e : ElfCommandError) → TellsEdit a file e → MayFailAs a e
 may_fail printing file e tells = prints_fail file e tells
 may_fail (shrinking prefixes) file e tells =
-    let P : ArwenError → Type 0 = λ x. MayFailAs (shrinking prefixes) x in subst P (sym (only_memory prefixes file e tells)) tt
+    let P : ElfCommandError → Type 0 = λ x. MayFailAs (shrinking prefixes) x in subst P (sym (only_memory prefixes file e tells)) tt
 may_fail (one edit) file Memory tells = tt
 may_fail (one edit) file (Io e) tells = tt
 may_fail (one edit) file (Edits wrong) tells = (file, ([], tells))
 may_fail (one edit) file (Elf e) tells = (file, ([], tells))
 may_fail (one edit) file (ElfBatch e) tells = (file, ([], tells))
-may_fail (one edit) file (Line text status) tells = (file, ([], tells))
-may_fail (one edit) file (Macho e) tells = (file, ([], tells))
-may_fail (one edit) file (MachoBatch e) tells = (file, ([], tells))
 may_fail (several read) file Memory tells = tt
 may_fail (several read) file (Io e) tells = tt
 may_fail (several read) file (Edits wrong) tells = (file, ([], tells))
 may_fail (several read) file (Elf e) tells = (file, ([], tells))
 may_fail (several read) file (ElfBatch e) tells = (file, ([], tells))
-may_fail (several read) file (Line text status) tells = (file, ([], tells))
-may_fail (several read) file (Macho e) tells = (file, ([], tells))
-may_fail (several read) file (MachoBatch e) tells = (file, ([], tells))
 
 -- ## What differs
 

@@ -8,20 +8,17 @@ use Rattle.byte_store.specs.declared.difference.ReplaceError.TheVariants as repl
 use Rattle.elf_commands.specs.ElfAsked.{ElfAsked}
 use Rattle.elf_commands.specs.ElfEngine.{LeavesElf, TellsEachFile}
 use Rattle.elf_commands.specs.ElfStores.{FailsElf}
-use Rattle.command_faults.specs.Fault.{answer_to_replaced}
-use Rattle.command_faults.specs.declared.error.ArwenError.{ArwenError}
-use Rattle.command_faults.specs.declared.error.ArwenError.TheVariants.{Edits, Elf, ElfBatch, Io, Line, Macho, MachoBatch, Memory}
+use Rattle.elf_commands.specs.ElfErrors.{answer_to_replaced}
+use Rattle.elf_commands.specs.declared.error.ElfCommandError.{ElfCommandError}
+use Rattle.elf_commands.specs.declared.error.ElfCommandError.TheVariants.{Edits, Elf, ElfBatch, Io, Memory}
 
 -- an error that tells of each file
-pub words_refused : (a : ElfAsked) (old mid : Option (List ℕ)) (e : ArwenError) → Stays old mid → TellsEachFile a e → FailsElf a old mid e
+pub words_refused : (a : ElfAsked) (old mid : Option (List ℕ)) (e : ElfCommandError) → Stays old mid → TellsEachFile a e → FailsElf a old mid e
 words_refused a old mid Memory kept tells = (kept, λ file known. tells file)
 words_refused a old mid (Io e) kept tells = inl kept
 words_refused a old mid (Edits wrong) kept tells = (kept, λ file known. tells file)
 words_refused a old mid (Elf e) kept tells = (kept, λ file known. tells file)
 words_refused a old mid (ElfBatch e) kept tells = (kept, λ file known. tells file)
-words_refused a old mid (Line text status) kept tells = (kept, λ file known. tells file)
-words_refused a old mid (Macho e) kept tells = (kept, λ file known. tells file)
-words_refused a old mid (MachoBatch e) kept tells = (kept, λ file known. tells file)
 
 -- edits that leave these bytes of a difference
 leaves_of : (a : ElfAsked) (old : Option (List ℕ)) (loaded file : List ℕ) (d : Difference) → IsAll old loaded → old ≡ Some file → LeavesElf a loaded (made_of loaded d) → LeavesElf a file (made_of file d)

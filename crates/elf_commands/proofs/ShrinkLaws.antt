@@ -1,9 +1,9 @@
 -- What comes of run paths that shrink.
-use Rattle.std.proofs.Common.{◌≡◌, ◌+◌, [], ◌∷◌, ◌∙◌, Bool, ℕ, List, Option, Some, None, Result, Ok, Err, true, false, refl, sym, ap, subst, inl, inr}
+use Rattle.std.proofs.Common.{◌≡◌, ◌+◌, [], ◌∷◌, ◌∙◌, ℕ, List, Option, Some, None, Result, Ok, Err, map, refl, sym, ap, subst, inl, inr}
 use Rattle.std.specs.Io.KnownBytes.{Appends}
 use Rattle.std.specs.declared.alloc.Global.{Global}
 use Rattle.std.specs.declared.vec.Vec.{Vec}
-use Rattle.byte_store.specs.Composed.{IsNotMade, made_of}
+use Rattle.byte_store.specs.Composed.{IsDifference, IsNotMade, made_of}
 use Rattle.byte_store.specs.Known.{Becomes, IsAll}
 use Rattle.byte_store.specs.declared.composed.Difference.{Difference}
 use Rattle.byte_store.specs.declared.difference.ReplaceError.{ReplaceError}
@@ -12,6 +12,8 @@ use Rattle.elf_edits.specs.Batch.{answer_at, run, run_from, then_on}
 use Rattle.elf_edits.specs.Cause.{Cause}
 use Rattle.elf_edits.specs.Edit.{Answer, Edit, ShrinkRunPath}
 use Rattle.elf_edits.specs.Edited.{step}
+use Rattle.elf_edits_shrink.specs.ShrinkModel.{removal_model}
+use Rattle.elf_edits_shrink.specs.declared.removal.Removed.{Removed}
 use Rattle.elf_edits.specs.Laws.{BatchesAreTheirEdits, EditsShow}
 use Rattle.elf_image.specs.Image.{Image, image_of, shown}
 use Rattle.elf_image.specs.ReadImage.{ReadImagesHoldParts}
@@ -22,19 +24,19 @@ use Rattle.arwen_elf.specs.Written.{IsImageWritten, IsNoImage}
 use Rattle.elf_apply.specs.declared.error.ElfError.{ElfError}
 use Rattle.elf_apply.specs.declared.error.ElfError.TheVariants as elf
 use Rattle.elf_commands.specs.ElfAsked.{one, shrinking}
-use Rattle.elf_commands.specs.ElfEngine.{IsElfEdited, LeavesElf, MayFailAs, RunsElf, TellsEdit, TellsRun}
+use Rattle.elf_commands.specs.ElfEngine.{AreChanged, IsElfEdited, LeavesElf, MayFailAs, RunsElf, TellsEdit, TellsNoImage, TellsRun}
 use Rattle.elf_commands.specs.ElfAsked.{elf_asked}
-use Rattle.command_faults.specs.Fault.{answer_to_elf, answer_to_replaced}
+use Rattle.elf_commands.specs.ElfErrors.{answer_to_elf, answer_to_replaced}
 use Rattle.elf_commands.specs.Meaning.{elf_command_model}
 use Rattle.command_words.specs.Rows.{Text}
-use Rattle.elf_commands.specs.ShrinkRuns.{AreChanged, AreFoundIn, FailsShrink, IsQuiet, IsShrunkBy, RunsCommand, ShrinksStore, TellsCommand, TellsShrink, TellsShrunk}
-use Rattle.elf_commands.specs.Shrinking.{AreFound, Finding}
+use Rattle.elf_commands.specs.ShrinkRuns.{AreFoundIn, FailsShrink, IsQuiet, IsRemovalTold, IsShrunkBy, IsShrunkImage, RunsCommand, RunsShrink, ShrinksStore, Steps, TellsCommand, TellsShrink, TellsShrunk, TellsShrunkPath, TellsUnshrunk, TellsUntold}
+use Rattle.elf_commands.specs.Shrinking.{AreFound, Finding, removal_lines}
 use Rattle.elf_commands.specs.declared.command.ElfCommand.{ElfCommand}
 use Rattle.elf_commands.specs.declared.command.ElfCommand.TheVariants as command
-use Rattle.elf_commands.specs.declared.elf.shrink_rpath.Args.{Args}
-use Rattle.command_faults.specs.declared.error.ArwenError.{ArwenError}
-use Rattle.command_faults.specs.declared.error.ArwenError.TheVariants.{Edits, Elf, ElfBatch, Io, Line, Macho, MachoBatch, Memory}
-use Rattle.elf_commands.proofs.ElfOutcomes.{edited_to, leaves_pieces, made_of_edits, one_refused, source_is, tells_no_image}
+use Rattle.elf_commands.specs.declared.elf.commands.shrink_rpath.Args.{Args}
+use Rattle.elf_commands.specs.declared.error.ElfCommandError.{ElfCommandError}
+use Rattle.elf_commands.specs.declared.error.ElfCommandError.TheVariants.{Edits, Elf, ElfBatch, Io, Memory}
+use Rattle.elf_commands.proofs.ElfOutcomes.{edited_answer, leaves_pieces, made_of_edits, one_refused, source_is, tells_no_image}
 
 -- ## One edit as a batch
 
@@ -82,33 +84,31 @@ quiet_shrink edit file w (elf.Io e) tells = (refl, tells)
 quiet_shrink edit file w (elf.Write fault) tells = (refl, tells)
 quiet_shrink edit file w elf.InvalidDtNeededEncoding tells = (refl, tells)
 
+-- the answer for an image with shrunk run paths is that for its file
 pub shrunk_bytes : EditsShow → BatchesAreTheirEdits → (edit : Edit) (file : List ℕ) (read made : Image) (answer : Option (Vec ℕ Global)) → image_of file ≡ Ok read → ShowsBothViews file read
     → step edit read ≡ Ok made → AreChanged made answer → IsElfEdited (one edit) file answer
-shrunk_bytes edits_show batches edit file read made answer is views makes are = by_mark made.changed refl
-  where
-    runs : run (edit ∷ []) read ≡ Ok made
-    runs = ran_once edit read made makes
+shrunk_bytes edits_show batches edit file read made answer is views makes changed =
+    edited_answer (one edit) (edit ∷ []) file read made answer refl is (ran_once edit read made makes) changed edits_show batches views
 
-    by_mark : (mark : Bool) → made.changed ≡ mark → IsElfEdited (one edit) file answer
-    by_mark true other =
-        let (new, is_new, written) = are.other other in
-        let P : Option (Vec ℕ Global) → Type 0 = λ o. IsElfEdited (one edit) file o in
-        subst P (sym is_new)
-        (edited_to edits_show batches (one edit) (edit ∷ []) file read made new refl is views runs other
-        (record { unchanged = λ same. absurd (cc); edited = λ _. written }))
-    by_mark false same =
-        let P : Option (Vec ℕ Global) → Type 0 = λ o. IsElfEdited (one edit) file o in
-        subst P (sym (are.same same)) (record {
-          edits = edit ∷ [];
-          are = refl;
-          edited = record {
-            made = made;
-            makes = made_of_edits (edit ∷ []) file read made is runs;
-            unchanged = λ _. refl;
-            changed = λ other. absurd (cc);
-          };
-          shows = λ new is_new. absurd (cc);
-        })
+-- what is told of the image is told of the file
+pub runs_shrink : EditsShow → BatchesAreTheirEdits → (edit : Edit) (file : List ℕ) (read made : Image) (removed : Vec Removed Global) (answer : Option (Vec ℕ Global)) (old new : Option (List ℕ)) → image_of file ≡ Ok read
+    → ShowsBothViews file read → Steps edit read made removed → IsRemovalTold made (map removal_model removed.items) answer old new → RunsShrink edit file answer old new
+runs_shrink edits_show batches edit file read made removed answer old new is views steps told = (
+  shrunk_bytes edits_show batches edit file read made answer is views steps.makes told.0,
+  (removal_lines (map removal_model removed.items), (read, is, ap removal_lines steps.are), told.1),
+)
+
+unmade : {W : Type 0} (edit : Edit) (file : List ℕ) (read made : Image) (old new : W) (e : ElfCommandError) → image_of file ≡ Ok read → step edit read ≡ Ok made → TellsNoImage made e → TellsEdit (one edit) file e
+unmade edit file read made old new e is makes none =
+    let P : ElfCommandError → Type 0 = λ x. TellsEdit (one edit) file x in subst P (sym none.2) (tells_unmade edit file read made none.0 is makes none.1)
+
+pub tells_shrink : {W : Type 0} → EditsShow → BatchesAreTheirEdits → (edit : Edit) (file : List ℕ) (read made : Image) (old new : W) (e : ElfCommandError) → image_of file ≡ Ok read → ShowsBothViews file read
+    → step edit read ≡ Ok made → TellsUntold made old new e → TellsShrink edit file old new e
+tells_shrink edits_show batches edit file read made old new (Io e) is views makes told = (told.0, shrunk_bytes edits_show batches edit file read made told.0 is views makes told.1)
+tells_shrink edits_show batches edit file read made old new Memory is views makes told = (told.0, tt)
+tells_shrink edits_show batches edit file read made old new (Elf e) is views makes told = (told.0, unmade edit file read made old new (Elf e) is makes told.1)
+tells_shrink edits_show batches edit file read made old new (ElfBatch e) is views makes told = (told.0, unmade edit file read made old new (ElfBatch e) is makes told.1)
+tells_shrink edits_show batches edit file read made old new (Edits e) is views makes told = (told.0, unmade edit file read made old new (Edits e) is makes told.1)
 
 -- ## Over a store
 
@@ -156,6 +156,41 @@ told_shrunk finds prefixes file answers (elf.Io e) found tells = (answers, found
 told_shrunk finds prefixes file answers (elf.Write fault) found tells = (answers, found, tells)
 told_shrunk finds prefixes file answers elf.InvalidDtNeededEncoding found tells = (answers, found, tells)
 
+-- what an error of an image that was read tells of its file
+pub unshrunk_file : (finds : Finding) (prefixes : List Text) (file : List ℕ) (read : Image) (answers : List Answer) (e : ElfCommandError) → image_of file ≡ Ok read → AreFoundIn finds file answers
+    → TellsUnshrunk (ShrinkRunPath prefixes answers) read e → TellsShrunk finds prefixes file e
+unshrunk_file finds prefixes file read answers e is found (cause, why, told) =
+    let edit : Edit = ShrinkRunPath prefixes answers in
+    let tells : TellsEdit (one edit) file (answer_to_elf cause) = elim why [
+      | inl refuses ↦ tells_unshrunk edit file read cause is refuses
+      | inr none ↦ tells_unmade edit file read none.0 cause is none.1 none.2
+    ] in
+    let P : ElfCommandError → Type 0 = λ x. TellsShrunk finds prefixes file x in
+    subst P (sym told) (told_shrunk finds prefixes file answers cause found tells)
+
+-- what differs from the bytes of a file that was read, by answers that are found
+pub shrunk_file : EditsShow → ReadImagesHoldParts → (finds : Finding) (prefixes : List Text) (file : List ℕ) (read : Image) (answers : List Answer) (d : Difference) (text : Text) → image_of file ≡ Ok read
+    → AreFoundIn finds file answers → IsShrunkImage (ShrinkRunPath prefixes answers) read d text → IsShrunkBy finds prefixes file d text
+shrunk_file edits_show hold_parts finds prefixes file read answers d text is found shrunk = record {
+  answers = answers;
+  found = found;
+  leaves = leaves_shrunk edits_show hold_parts (ShrinkRunPath prefixes answers) file read shrunk.made d is shrunk.makes shrunk.written;
+  told = (read, is, shrunk.told);
+}
+
+pub shrunk_makeable : EditsShow → ReadImagesHoldParts → (edit : Edit) (file : List ℕ) (read : Image) (d : Difference) (text : Text) → image_of file ≡ Ok read → IsShrunkImage edit read d text → IsDifference file d
+shrunk_makeable edits_show hold_parts edit file read d text is shrunk =
+    let P : List ℕ → Type 0 = λ l. IsDifference l d in
+    subst P (source_of_shrunk edits_show hold_parts edit file read shrunk.made is shrunk.makes) shrunk.makeable
+
+-- what the error of a store tells of its path
+pub tells_path : (finds : Finding) (prefixes : List Text) (old new : Option (List ℕ)) (e : ElfCommandError) → FailsShrink finds prefixes old new e → TellsShrunkPath finds prefixes old e
+tells_path finds prefixes old new (Io e) fails = tt
+tells_path finds prefixes old new Memory fails = fails.1
+tells_path finds prefixes old new (Elf e) fails = fails.1
+tells_path finds prefixes old new (ElfBatch e) fails = fails.1
+tells_path finds prefixes old new (Edits e) fails = fails.1
+
 -- the difference was made, and the lines were told
 pub shrinks_store : (finds : Finding) (prefixes : List Text) (old new said told : Option (List ℕ)) (loaded : List ℕ) (d : Difference) (text : Text) → IsAll old loaded
     → IsShrunkBy finds prefixes loaded d text → Becomes (λ source. made_of source d) old new → Appends said told text → ShrinksStore finds prefixes old new said told
@@ -164,7 +199,7 @@ shrinks_store finds prefixes old new said told loaded d text all shrunk becomes 
     record { difference = d; text = text; shrunk = subst P (all file known) shrunk; made = becomes file known; gets = gets }
 
 -- nothing was written
-pub shrink_refused : (finds : Finding) (prefixes : List Text) (old : Option (List ℕ)) (loaded : List ℕ) (e : ArwenError) → IsAll old loaded → TellsShrunk finds prefixes loaded e
+pub shrink_refused : (finds : Finding) (prefixes : List Text) (old : Option (List ℕ)) (loaded : List ℕ) (e : ElfCommandError) → IsAll old loaded → TellsShrunk finds prefixes loaded e
     → FailsShrink finds prefixes old old e
 shrink_refused finds prefixes old loaded (Io e) all tells = inl refl
 shrink_refused finds prefixes old loaded Memory all tells = (refl, λ file known. tt)
@@ -174,12 +209,6 @@ shrink_refused finds prefixes old loaded (Elf e) all tells =
     let P : List ℕ → Type 0 = λ l. TellsShrunk finds prefixes l (Elf e) in (refl, λ file known. subst P (all file known) tells)
 shrink_refused finds prefixes old loaded (ElfBatch e) all tells =
     let P : List ℕ → Type 0 = λ l. TellsShrunk finds prefixes l (ElfBatch e) in (refl, λ file known. subst P (all file known) tells)
-shrink_refused finds prefixes old loaded (Line text status) all tells =
-    let P : List ℕ → Type 0 = λ l. TellsShrunk finds prefixes l (Line text status) in (refl, λ file known. subst P (all file known) tells)
-shrink_refused finds prefixes old loaded (Macho e) all tells =
-    let P : List ℕ → Type 0 = λ l. TellsShrunk finds prefixes l (Macho e) in (refl, λ file known. subst P (all file known) tells)
-shrink_refused finds prefixes old loaded (MachoBatch e) all tells =
-    let P : List ℕ → Type 0 = λ l. TellsShrunk finds prefixes l (MachoBatch e) in (refl, λ file known. subst P (all file known) tells)
 
 -- the difference was not made
 pub shrink_failed : {S : Type 0} (finds : Finding) (prefixes : List Text) (contents : S → Option (List ℕ)) (old new : S) (loaded : List ℕ) (d : Difference) (text : Text) (e : ReplaceError)
@@ -190,15 +219,12 @@ shrink_failed finds prefixes contents old new loaded d text (replace.Write e) al
     record { difference = d; text = text; shrunk = subst P (all file known) shrunk; left = e.left; part = part })
 
 -- such an error is one that the command may have
-pub shrink_may_fail : (finds : Finding) (prefixes : List Text) (file : List ℕ) (e : ArwenError) → TellsShrunk finds prefixes file e → MayFailAs (shrinking prefixes) e
+pub shrink_may_fail : (finds : Finding) (prefixes : List Text) (file : List ℕ) (e : ElfCommandError) → TellsShrunk finds prefixes file e → MayFailAs (shrinking prefixes) e
 shrink_may_fail finds prefixes file Memory tells = tt
 shrink_may_fail finds prefixes file (Io e) tells = tt
 shrink_may_fail finds prefixes file (Edits wrong) tells = let (answers, found, tells) = tells in (file, (answers, tells))
 shrink_may_fail finds prefixes file (Elf e) tells = let (answers, found, tells) = tells in (file, (answers, tells))
 shrink_may_fail finds prefixes file (ElfBatch e) tells = let (answers, found, tells) = tells in (file, (answers, tells))
-shrink_may_fail finds prefixes file (Line text status) tells = let (answers, found, tells) = tells in (file, (answers, tells))
-shrink_may_fail finds prefixes file (Macho e) tells = let (answers, found, tells) = tells in (file, (answers, tells))
-shrink_may_fail finds prefixes file (MachoBatch e) tells = let (answers, found, tells) = tells in (file, (answers, tells))
 
 pub replaced_may_fail : (prefixes : List Text) (e : ReplaceError) → MayFailAs (shrinking prefixes) (answer_to_replaced e)
 replaced_may_fail prefixes replace.Memory = tt
@@ -208,15 +234,12 @@ pub replaced_is_quiet : {W : Type 0} (old new : W) (e : ReplaceError) → IsQuie
 replaced_is_quiet old new replace.Memory = tt
 replaced_is_quiet old new (replace.Write e) = tt
 
-pub refused_is_quiet : {W : Type 0} (w : W) (e : ArwenError) → IsQuiet w w e
+pub refused_is_quiet : {W : Type 0} (w : W) (e : ElfCommandError) → IsQuiet w w e
 refused_is_quiet w Memory = tt
 refused_is_quiet w (Io e) = tt
 refused_is_quiet w (Edits wrong) = refl
 refused_is_quiet w (Elf e) = refl
 refused_is_quiet w (ElfBatch e) = refl
-refused_is_quiet w (Line text status) = refl
-refused_is_quiet w (Macho e) = refl
-refused_is_quiet w (MachoBatch e) = refl
 
 -- ## Any command
 
@@ -225,7 +248,7 @@ pub others_run : (asked : ElfCommand) → ((args : Args) → asked ≡ command.S
 others_run (command.ShrinkRpath args) other found file answer old new runs = absurd (other args refl)
 others_run asked other found file answer old new runs = runs
 
-pub others_tell : {W : Type 0} (asked : ElfCommand) → ((args : Args) → asked ≡ command.ShrinkRpath args → ⊥) → (found : List Answer) (file : List ℕ) (old new : W) (e : ArwenError)
+pub others_tell : {W : Type 0} (asked : ElfCommand) → ((args : Args) → asked ≡ command.ShrinkRpath args → ⊥) → (found : List Answer) (file : List ℕ) (old new : W) (e : ElfCommandError)
     → TellsRun (elf_asked (elf_command_model asked)) file old new e → TellsCommand (elf_command_model asked) found file old new e
 others_tell (command.ShrinkRpath args) other found file old new e tells = absurd (other args refl)
 others_tell asked other found file old new e tells = tells

@@ -1,14 +1,10 @@
 -- What a command for ELF files asks of the bytes of its file.
-use Rattle.std.specs.Prelude.{ℕ, ◌≡◌, Bool, true, false, List, Option, Some, None, Result, Err, ⊤}
+use Rattle.std.specs.Prelude.{Bool, true, false, List, Result}
 use Rattle.elf_edits.specs.Edit.{Answer, Edit, ShrinkRunPath}
 use Rattle.elf_commands.specs.ElfWords.{elf_edits_of}
-use Rattle.command_words.specs.Groups.{Wrong}
 use Rattle.command_words.specs.Rows.{Text}
-use Rattle.elf_commands.specs.Meaning.{ElfMeaning, apply_elf, edit_elf, elf_command_model, shrink_elf}
-use Rattle.elf_commands.specs.declared.command.ElfCommand.{ElfCommand}
+use Rattle.elf_commands.specs.Meaning.{ElfMeaning, apply_elf, edit_elf, shrink_elf}
 use Rattle.command_words.specs.declared.edits.EditFault.{EditFault}
-use Rattle.command_faults.specs.declared.error.ArwenError.{ArwenError}
-use Rattle.command_faults.specs.declared.error.ArwenError.TheVariants.{Line, Memory}
 
 -- one edit, those that words name, that the run path shrinks with these prefixes, or nothing but to print
 pub data ElfAsked : Type 0 where
@@ -38,35 +34,3 @@ abbrev pub asks_edits : ElfAsked → Bool
 asks_edits (one edit) = true
 asks_edits (several edits) = true
 asks_edits _ = false
-
--- the edit that a command asks for
-abbrev pub elf_edit_asked : ElfMeaning → Option Edit
-elf_edit_asked (edit_elf edit path) = Some edit
-elf_edit_asked _ = None
-
--- a command, as what the table of commands gives for its values
-abbrev pub command_meant : ElfCommand → Option ElfMeaning
-command_meant command = Some (elf_command_model command)
-
--- the error is that of a line with a value that is not what the command takes, or want of memory
-abbrev pub TellsNoValue : Option (Option ElfMeaning) → ArwenError → Type 0
-TellsNoValue meant Memory = ⊤
-TellsNoValue meant (Line text status) = meant ≡ Some None
-TellsNoValue meant _ = ⊥
-
--- the same of a word that is no number, and of words that are no pairs
-abbrev pub TellsNone : {A : Type 0} → Option A → ArwenError → Type 0
-TellsNone meant Memory = ⊤
-TellsNone meant (Line text status) = meant ≡ None
-TellsNone meant _ = ⊥
-
-abbrev pub TellsNoNumber : Option ℕ → ArwenError → Type 0
-TellsNoNumber meant e = TellsNone meant e
-
-abbrev pub TellsNoPair : Option (Text × Text) → ArwenError → Type 0
-TellsNoPair meant e = TellsNone meant e
-
-abbrev pub TellsNoPairs : Result (List (Text × Text)) Wrong → ArwenError → Type 0
-TellsNoPairs meant Memory = ⊤
-TellsNoPairs meant (Line text status) = (wrong : Wrong) × (meant ≡ Err wrong)
-TellsNoPairs meant _ = ⊥

@@ -10,18 +10,18 @@ use Rattle.elf_apply.specs.declared.error.ElfError.TheVariants as elf
 use Rattle.elf_edits.specs.Batch.{run}
 use Rattle.elf_edits.specs.Edit.{Answer, Edit}
 use Rattle.elf_edits.specs.Laws.{viewed}
-use Rattle.elf_edits.specs.declared.call.ElfEdit.{ElfEdit}
+use Rattle.elf_edits.specs.declared.edit.ElfEdit.{ElfEdit}
 use Rattle.elf_image.specs.Image.{Image, image_of, shown}
 use Rattle.elf_image.specs.Views.{View, dynamic_symbol_count, loader_view, section_view}
 use Rattle.elf_image.specs.Kept.{image_at_read}
 use Rattle.elf_write_spec.specs.Final.{final_view}
 use Rattle.elf_commands.specs.ElfAsked.{ElfAsked, answered, asks_edits, elf_asked, one, printing, several, shrinking}
 use Rattle.elf_commands.specs.ElfWords.{edits_model}
-use Rattle.command_faults.specs.Fault.{answer_to_elf, answer_to_elf_batch}
+use Rattle.elf_commands.specs.ElfErrors.{answer_to_elf, answer_to_elf_batch}
 use Rattle.elf_commands.specs.Meaning.{ElfMeaning}
 use Rattle.elf_commands.specs.Prints.{PrintMayFail, Prints, TellsElf}
-use Rattle.command_faults.specs.declared.error.ArwenError.{ArwenError}
-use Rattle.command_faults.specs.declared.error.ArwenError.TheVariants.{Edits, Elf, ElfBatch, Io, Memory}
+use Rattle.elf_commands.specs.declared.error.ElfCommandError.{ElfCommandError}
+use Rattle.elf_commands.specs.declared.error.ElfCommandError.TheVariants.{Edits, Elf, ElfBatch, Io, Memory}
 
 -- ---- what is written
 
@@ -87,12 +87,21 @@ abbrev pub TellsBatchOf : ElfAsked → List ℕ → ElfBatchError → Type 0
 TellsBatchOf (several (Ok edits)) file e = IsRefusedAt edits file e.index e.fault
 TellsBatchOf a file e = ⊥
 
-abbrev pub TellsEdit : ElfAsked → List ℕ → ArwenError → Type 0
+abbrev pub TellsEdit : ElfAsked → List ℕ → ElfCommandError → Type 0
 TellsEdit a file Memory = ⊤
 TellsEdit a file (Edits wrong) = a ≡ several (Err wrong)
 TellsEdit a file (Elf e) = TellsElfOf a file e
 TellsEdit a file (ElfBatch e) = TellsBatchOf a file e
 TellsEdit a file e = ⊥
+
+-- new bytes of an image that was changed, and none of one that wasn't
+pub record AreChanged (made : Image) (answer : Option (Vec ℕ Global)) : Type 0 where
+  pub same : made.changed ≡ false → answer ≡ None
+  pub other : made.changed ≡ true → (new : Vec ℕ Global) × (answer ≡ Some new) × IsEditWritten made new.items
+
+-- the error is that of an image that has no bytes
+abbrev pub TellsNoImage : Image → ElfCommandError → Type 0
+TellsNoImage made e = (cause : ElfError) × IsNoImage made cause × (e ≡ answer_to_elf cause)
 
 -- ---- a run over bytes
 
@@ -133,27 +142,27 @@ AreAskedIf a (Some edits) = AreEditsAsked a (edits_model edits.items)
 AreAskedIf a None = asks_edits a ≡ false
 
 -- an error tells the outcome of each file, since no file was looked at
-abbrev pub TellsEachFile : ElfAsked → ArwenError → Type 0
+abbrev pub TellsEachFile : ElfAsked → ElfCommandError → Type 0
 TellsEachFile a e = (file : List ℕ) → TellsEdit a file e
 
 -- an error of a run; only a writer that fails may have got something
-abbrev pub TellsRun : {W : Type 0} → ElfAsked → List ℕ → W → W → ArwenError → Type 0
+abbrev pub TellsRun : {W : Type 0} → ElfAsked → List ℕ → W → W → ElfCommandError → Type 0
 TellsRun printing file old new e = TellsElf (image_of file) old new e
 TellsRun (shrinking prefixes) file old new e = TellsElf (image_of file) old new e
 TellsRun a file old new e = (new ≡ old) × TellsEdit a file e
 
 -- a refused edit as it is answered to a command: of several it is told which one is refused
-abbrev pub elf_refusal : ElfAsked → ElfBatchError → ArwenError
+abbrev pub elf_refusal : ElfAsked → ElfBatchError → ElfCommandError
 elf_refusal (several read) e = answer_to_elf_batch e
 elf_refusal a e = answer_to_elf e.fault
 
 -- ---- why a command may fail. No clause can say that a file can be read or written
 
-abbrev pub MayFailAs : ElfAsked → ArwenError → Type 0
+abbrev pub MayFailAs : ElfAsked → ElfCommandError → Type 0
 MayFailAs printing e = PrintMayFail e
 MayFailAs a Memory = ⊤
 MayFailAs a (Io e) = ⊤
 MayFailAs a e = (file : List ℕ) × ((found : List Answer) × TellsEdit (answered found a) file e)
 
-abbrev pub ElfMayFail : ElfMeaning → ArwenError → Type 0
+abbrev pub ElfMayFail : ElfMeaning → ElfCommandError → Type 0
 ElfMayFail meaning e = MayFailAs (elf_asked meaning) e

@@ -9,8 +9,8 @@ use Rattle.elf_commands.specs.ElfAsked.{ElfAsked, printing, shrinking}
 use Rattle.elf_edits.specs.Edit.{Edit}
 use Rattle.elf_image.specs.Image.{Image}
 use Rattle.elf_commands.specs.ElfEngine.{AreEditsAsked, LeavesElf, Makes, TellsEdit}
-use Rattle.command_faults.specs.declared.error.ArwenError.{ArwenError}
-use Rattle.command_faults.specs.declared.error.ArwenError.TheVariants.{Io}
+use Rattle.elf_commands.specs.declared.error.ElfCommandError.{ElfCommandError}
+use Rattle.elf_commands.specs.declared.error.ElfCommandError.TheVariants.{Io}
 
 -- known bytes become those that the edits leave that are asked for; those of a command that prints, or asks first what is found, stay
 abbrev pub IsElfPatched : ElfAsked → Option (List ℕ) → Option (List ℕ) → Type 0
@@ -41,11 +41,11 @@ pub record IsNothing (old_length : ℕ) (d : Difference) : Type 0 where
   pub end : old_length ≤ d.new_length
 
 -- what an error leaves and tells: only a write that failed changes bytes, where the command was accepted
-abbrev pub FailsElf : ElfAsked → Option (List ℕ) → Option (List ℕ) → ArwenError → Type 0
+abbrev pub FailsElf : ElfAsked → Option (List ℕ) → Option (List ℕ) → ElfCommandError → Type 0
 FailsElf a old new (Io e) = Stays old new ⊎ ((file : List ℕ) → old ≡ Some file → IsElfTorn a file old new)
 FailsElf a old new e = Stays old new × ((file : List ℕ) → old ≡ Some file → TellsEdit a file e)
 
 -- what the error of a command tells of the bytes at its path; one of reading or writing them tells nothing
-abbrev pub TellsElfPath : ElfAsked → Option (List ℕ) → ArwenError → Type 0
+abbrev pub TellsElfPath : ElfAsked → Option (List ℕ) → ElfCommandError → Type 0
 TellsElfPath a known (Io e) = ⊤
 TellsElfPath a known e = (file : List ℕ) → known ≡ Some file → TellsEdit a file e

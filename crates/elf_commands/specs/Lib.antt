@@ -1,5 +1,6 @@
 pub mod ElfAsked
 pub mod ElfEngine
+pub mod ElfErrors
 pub mod ElfStores
 pub mod ElfWords
 pub mod Meaning

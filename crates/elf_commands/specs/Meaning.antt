@@ -1,12 +1,13 @@
 -- What a command for ELF files asks for, with its texts as bytes.
-use Rattle.std.specs.Prelude.{◌∷◌, [], ◌++◌, List, Option, Some, None, Ok, Err, codes, false, map}
-use Rattle.std.specs.Prelude.{String, string_bytes}
-use Rattle.std.specs.declared.alloc.Global.{Global}
+use Rattle.std.specs.Prelude.{ℕ, ◌∷◌, [], Bool, List, Option, Some, None, Result, Ok, Err, codes, false, map, true}
+use Rattle.std.specs.Prelude.{string_bytes}
 use Rattle.elf_edits.specs.Edit.{Edit, AddDebugEntry, AddNeeded, AddRunPath, ClearExecStack, DeleteNeeded}
 use Rattle.elf_edits.specs.Edit.{DeleteRunPath, NoDefaultLibrary, ReplaceNeeded, SetExecStack}
 use Rattle.elf_edits.specs.Edit.{SetInterpreter, SetOsAbi, SetPageSize, SetRunPath, SetSoname, UseRpath}
-use Rattle.command_words.specs.Rows.{Asks, Line, Text, by_options, by_path, by_text, by_texts, by_words}
-use Rattle.elf_commands.specs.ElfWords.{Reading, elf_edit_lines}
+use Rattle.command_words.specs.Groups.{Wrong}
+use Rattle.command_words.specs.KeyValue.{decimal_number}
+use Rattle.command_words.specs.Rows.{Asks, Line, Text, by_options, by_path, by_text, by_words}
+use Rattle.command_words.specs.WordValues.{no_number, text_pair_model, pairs_from}
 use Rattle.elf_commands.specs.declared.command.ElfCommand.{ElfCommand}
 use Rattle.elf_commands.specs.declared.command.ElfCommand.TheVariants as elf
 
@@ -23,40 +24,70 @@ pub data ElfMeaning : Type 0 where
   print_os_abi : Text → ElfMeaning
   print_exec_stack : Text → ElfMeaning
 
+-- what a command asks for with its values, or what is wrong with them
+abbrev pub Reading : Type 0
+Reading = Result ElfMeaning Wrong
+
+-- ---- values that not every word is
+
+-- what a number asks for, and what pairs of texts do
+abbrev pub number_read : (ℕ → ElfMeaning) → Option ℕ → Reading
+number_read meaning (Some number) = Ok (meaning number)
+number_read meaning None = Err no_number
+
+abbrev pub pairs_read : (List (Text × Text) → ElfMeaning) → Result (List (Text × Text)) Wrong → Reading
+pairs_read meaning (Ok pairs) = Ok (meaning pairs)
+pairs_read meaning (Err wrong) = Err wrong
+
 -- ---- the commands by their names
 
--- what a command for ELF files asks for with its values; none where they are not what it takes
-abbrev pub ElfAsks : Type 0
-ElfAsks = Asks (Option ElfMeaning)
+-- an edit by no value, a text, a number, texts, and pairs of texts
+abbrev pub by_none : Edit → Asks Reading
+by_none edit = by_path (λ path. Ok (edit_elf edit path))
 
--- an edit of the file at a path
-abbrev pub edit_at : Text → Reading → Option ElfMeaning
-edit_at path (Ok read) = Some (edit_elf read path)
-edit_at path (Err wrong) = None
+abbrev pub by_one : (Text → Edit) → Asks Reading
+by_one edit = by_text (λ value path. Ok (edit_elf (edit value) path))
 
--- a command that asks for the edit of its values
-abbrev pub asks_at : Asks Reading → ElfAsks
-asks_at (by_path read) = by_path (λ path. edit_at path (read path))
-asks_at (by_text read) = by_text (λ value path. edit_at path (read value path))
-asks_at (by_texts read) = by_texts (λ first second path. edit_at path (read first second path))
-asks_at (by_words read) = by_words (λ path words. edit_at path (read path words))
-asks_at (by_options long short read) = by_options long short (λ path list. edit_at path (read path list))
+abbrev pub by_number : (ℕ → Edit) → Asks Reading
+by_number edit =
+    by_text (λ value path. number_read (λ number. edit_elf (edit number) path) (decimal_number value))
 
-abbrev pub edit_line_at : Line Reading → Line (Option ElfMeaning)
-edit_line_at line =
-    record { name = line.name; is_edit = line.is_edit; asks = asks_at line.asks }
+abbrev pub by_many : (List Text → Edit) → Asks Reading
+by_many edit = by_words (λ path words. Ok (edit_elf (edit words) path))
 
-abbrev pub other_line : Text → ElfAsks → Line (Option ElfMeaning)
+abbrev pub by_pairs : (List (Text × Text) → Edit) → Asks Reading
+by_pairs edit =
+    by_words (λ path words. pairs_read (λ pairs. edit_elf (edit pairs) path) (pairs_from 1 words))
+
+abbrev pub edit_line : Text → Asks Reading → Line Reading
+edit_line name asks = record { name = name; is_edit = true; asks = asks }
+
+-- the commands that `apply` does not take
+abbrev pub other_line : Text → Asks Reading → Line Reading
 other_line name asks = record { name = name; is_edit = false; asks = asks }
 
-abbrev pub print_line : Text → (Text → ElfMeaning) → Line (Option ElfMeaning)
-print_line name meaning = other_line name (by_path (λ path. Some (meaning path)))
+abbrev pub print_line : Text → (Text → ElfMeaning) → Line Reading
+print_line name meaning = other_line name (by_path (λ path. Ok (meaning path)))
 
--- the commands that aren't an edit by themselves
-abbrev pub elf_other_lines : List (Line (Option ElfMeaning))
-elf_other_lines =
-    other_line (codes "apply") (by_words (λ path words. Some (apply_elf path words)))
-    ∷ other_line (codes "shrink-rpath") (by_options (codes "allowed-rpath-prefixes") 97 (λ path prefixes. Some (shrink_elf path prefixes)))
+abbrev pub elf_lines : List (Line Reading)
+elf_lines = edit_line (codes "add-debug-tag") (by_none AddDebugEntry)
+    ∷ edit_line (codes "clear-exec-stack") (by_none ClearExecStack)
+    ∷ edit_line (codes "force-rpath") (by_none UseRpath)
+    ∷ edit_line (codes "no-default-lib") (by_none NoDefaultLibrary)
+    ∷ edit_line (codes "remove-rpath") (by_none DeleteRunPath)
+    ∷ edit_line (codes "set-exec-stack") (by_none SetExecStack)
+    ∷ edit_line (codes "add-rpath") (by_one (λ text. AddRunPath (text ∷ [])))
+    ∷ edit_line (codes "set-rpath") (by_one SetRunPath)
+    ∷ edit_line (codes "set-interpreter") (by_one SetInterpreter)
+    ∷ edit_line (codes "set-os-abi") (by_one SetOsAbi)
+    ∷ edit_line (codes "set-soname") (by_one SetSoname)
+    ∷ edit_line (codes "set-page-size") (by_number SetPageSize)
+    ∷ edit_line (codes "add-needed") (by_many AddNeeded)
+    ∷ edit_line (codes "remove-needed") (by_many DeleteNeeded)
+    ∷ edit_line (codes "replace-needed") (by_pairs ReplaceNeeded)
+    ∷ other_line (codes "apply") (by_words (λ path words. Ok (apply_elf path words)))
+    ∷ other_line (codes "shrink-rpath")
+    (by_options (codes "allowed-rpath-prefixes") 97 (λ path prefixes. Ok (shrink_elf path prefixes)))
     ∷ print_line (codes "print-rpath") print_rpath
     ∷ print_line (codes "print-needed") print_needed
     ∷ print_line (codes "print-soname") print_soname
@@ -65,14 +96,7 @@ elf_other_lines =
     ∷ print_line (codes "print-exec-stack") print_exec_stack
     ∷ []
 
-abbrev pub elf_lines : List (Line (Option ElfMeaning))
-elf_lines = map edit_line_at elf_edit_lines ++ elf_other_lines
-
 -- ---- what a value of the program stands for
-
--- a pair of texts
-abbrev pub text_pair_model : String Global × String Global → Text × Text
-text_pair_model pair = (string_bytes pair.0, string_bytes pair.1)
 
 abbrev pub elf_command_model : ElfCommand → ElfMeaning
 elf_command_model (elf.AddDebugTag args) = edit_elf AddDebugEntry (string_bytes args.path_to_binary)
@@ -109,6 +133,10 @@ elf_command_model (elf.PrintSoname args) = print_soname (string_bytes args.path_
 elf_command_model (elf.PrintInterpreter args) = print_interpreter (string_bytes args.path_to_binary)
 elf_command_model (elf.PrintOsAbi args) = print_os_abi (string_bytes args.path_to_binary)
 elf_command_model (elf.PrintExecStack args) = print_exec_stack (string_bytes args.path_to_binary)
+
+-- a command, as what the table of commands gives for its values
+abbrev pub reading_of : ElfCommand → Reading
+reading_of command = Ok (elf_command_model command)
 
 -- the ELF file that is edited or read
 abbrev pub elf_file_of : ElfMeaning → Text

@@ -8,8 +8,8 @@ use Rattle.elf_apply.specs.declared.error.ElfError.TheVariants as elf
 use Rattle.elf_image.specs.Image.{Image, image_of, shown}
 use Rattle.elf_image.specs.Views.{View}
 use Rattle.elf_format.specs.declared.fault.ElfFault.{ElfFault}
-use Rattle.command_faults.specs.declared.error.ArwenError.{ArwenError}
-use Rattle.command_faults.specs.declared.error.ArwenError.TheVariants.{Elf, Io, Memory}
+use Rattle.elf_commands.specs.declared.error.ElfCommandError.{ElfCommandError}
+use Rattle.elf_commands.specs.declared.error.ElfCommandError.TheVariants.{Elf, Io, Memory}
 use Rattle.elf_commands.specs.Meaning.{ElfMeaning, apply_elf, edit_elf, print_exec_stack, print_interpreter, print_needed}
 use Rattle.elf_commands.specs.Meaning.{print_os_abi, print_rpath, print_soname, shrink_elf}
 
@@ -38,7 +38,7 @@ TellsElfFault read old new (elf.Parse fault) = (read ≡ Err fault) × (new ≡ 
 TellsElfFault read old new (elf.Io e) = (image : Image) × (read ≡ Ok image)
 TellsElfFault read old new _ = ⊥
 
-abbrev pub TellsElf : {W : Type 0} → Result Image ElfFault → W → W → ArwenError → Type 0
+abbrev pub TellsElf : {W : Type 0} → Result Image ElfFault → W → W → ElfCommandError → Type 0
 TellsElf read old new Memory = new ≡ old
 TellsElf read old new (Elf e) = TellsElfFault read old new e
 TellsElf read old new _ = ⊥
@@ -50,7 +50,7 @@ PrintMayFailBy (elf.Parse fault) = (file : List ℕ) × (image_of file ≡ Err f
 PrintMayFailBy (elf.Io e) = ⊤
 PrintMayFailBy _ = ⊥
 
-abbrev pub PrintMayFail : ArwenError → Type 0
+abbrev pub PrintMayFail : ElfCommandError → Type 0
 PrintMayFail Memory = ⊤
 PrintMayFail (Io e) = ⊤
 PrintMayFail (Elf e) = PrintMayFailBy e
@@ -64,7 +64,7 @@ PrintsStored meaning known old new =
     (file : List ℕ) → known ≡ Some file → Prints meaning (image_of file) old new
 
 -- what an error tells of known bytes; only a writer that fails may have got something
-abbrev pub TellsStored : {W : Type 0} → Option (List ℕ) → W → W → ArwenError → Type 0
+abbrev pub TellsStored : {W : Type 0} → Option (List ℕ) → W → W → ElfCommandError → Type 0
 TellsStored known old new Memory = new ≡ old
 TellsStored known old new (Io e) = new ≡ old
 TellsStored known old new (Elf e) = (file : List ℕ) → known ≡ Some file → TellsElfFault (image_of file) old new e

@@ -1,27 +1,32 @@
 -- What a command makes of a file whose run paths shrink, what it tells, and why it makes nothing.
-use Rattle.std.specs.Prelude.{ℕ, ◌≡◌, ◌⊎◌, List, map, Option, Some, None, Ok, Result, true, false, ⊤}
+use Rattle.std.specs.Prelude.{ℕ, ◌≡◌, ◌⊎◌, List, map, Option, Some, None, Ok, Result, ⊤}
 use Rattle.std.specs.Io.KnownBytes.{Appends}
 use Rattle.std.specs.declared.alloc.Global.{Global}
 use Rattle.std.specs.declared.vec.Vec.{Vec}
 use Rattle.byte_store.specs.Known.{Stays}
-use Rattle.byte_store.specs.Composed.{made_of, owned_patches}
+use Rattle.byte_store.specs.Composed.{IsDifference, made_of, owned_patches}
 use Rattle.byte_store.specs.Fault.{IsLeft}
 use Rattle.byte_store.specs.declared.writing.Left.{Left}
 use Rattle.byte_store.specs.declared.composed.Difference.{Difference}
 use Rattle.elf_edits.specs.Edit.{Answer, Edit, ShrinkRunPath}
-use Rattle.elf_edits.specs.Edited.{removed_by, step}
-use Rattle.elf_edits.specs.ShrunkModel.{removal_model}
-use Rattle.elf_edits.specs.declared.shrink.Removed.{Removed}
+use Rattle.elf_edits_shrink.specs.Removals.{removed_by}
+use Rattle.elf_edits.specs.Edited.{step}
+use Rattle.elf_edits.specs.Shrunk.{Removal}
+use Rattle.elf_edits_shrink.specs.ShrinkModel.{removal_model}
+use Rattle.elf_apply.specs.Told.{Refuses}
+use Rattle.elf_apply.specs.declared.error.ElfError.{ElfError}
+use Rattle.elf_edits_shrink.specs.declared.removal.Removed.{Removed}
 use Rattle.elf_format.specs.declared.fault.ElfFault.{ElfFault}
 use Rattle.elf_image.specs.Image.{Image, image_of, shown}
-use Rattle.arwen_elf.specs.Written.{IsEditWritten}
+use Rattle.arwen_elf.specs.Written.{IsImageWritten, IsNoImage}
 use Rattle.elf_commands.specs.ElfAsked.{elf_asked, one}
-use Rattle.elf_commands.specs.ElfEngine.{IsElfEdited, LeavesElf, RunsElf, TellsEdit, TellsRun}
+use Rattle.elf_commands.specs.ElfEngine.{AreChanged, IsElfEdited, LeavesElf, RunsElf, TellsEdit, TellsNoImage, TellsRun}
+use Rattle.elf_commands.specs.ElfErrors.{answer_to_elf}
 use Rattle.elf_commands.specs.Meaning.{ElfMeaning, shrink_elf}
 use Rattle.command_words.specs.Rows.{Text}
 use Rattle.elf_commands.specs.Shrinking.{AreFound, Finding, removal_lines}
-use Rattle.command_faults.specs.declared.error.ArwenError.{ArwenError}
-use Rattle.command_faults.specs.declared.error.ArwenError.TheVariants.{Io, Memory}
+use Rattle.elf_commands.specs.declared.error.ElfCommandError.{ElfCommandError}
+use Rattle.elf_commands.specs.declared.error.ElfCommandError.TheVariants.{Io, Memory}
 
 -- the lines of just the directories that an edit takes out of the run paths of the file that was read
 abbrev pub TellsRemoved : Edit → Result Image ElfFault → Text → Type 0
@@ -36,10 +41,28 @@ pub record Steps (edit : Edit) (old new : Image) (removed : Vec Removed Global) 
   pub makes : step edit old ≡ Ok new
   pub are : map removal_model removed.items ≡ removed_by edit old
 
--- new bytes of an image that was changed, and none of one that wasn't
-pub record AreChanged (made : Image) (answer : Option (Vec ℕ Global)) : Type 0 where
-  pub same : made.changed ≡ false → answer ≡ None
-  pub other : made.changed ≡ true → (new : Vec ℕ Global) × (answer ≡ Some new) × IsEditWritten made new.items
+-- an image is answered, and a writer gets the lines of directories
+abbrev pub IsRemovalTold : Image → List Removal → Option (Vec ℕ Global) → Option (List ℕ) → Option (List ℕ) → Type 0
+IsRemovalTold made removed answer old new = AreChanged made answer × Appends old new (removal_lines removed)
+
+-- an error of that: the writer failed once the answer was there; or there is none, and the writer got nothing
+abbrev pub TellsUntold : {W : Type 0} → Image → W → W → ElfCommandError → Type 0
+TellsUntold made old new (Io e) = (answer : Option (Vec ℕ Global)) × AreChanged made answer
+TellsUntold made old new e = (new ≡ old) × TellsNoImage made e
+
+-- what differs from the bytes of a file once an edit of its image took directories out of run paths, and their lines
+pub record IsShrunkImage (edit : Edit) (read : Image) (d : Difference) (text : Text) : Type 0 where
+  pub made : Image
+  pub makes : step edit read ≡ Ok made
+  pub makeable : IsDifference made.source d
+  pub written : IsImageWritten made (made_of made.source d)
+  pub told : text ≡ removal_lines (removed_by edit read)
+
+-- an error of that: the edit is refused, or the edited image has no bytes
+abbrev pub TellsUnshrunk : Edit → Image → ElfCommandError → Type 0
+TellsUnshrunk edit read e = (cause : ElfError)
+    × (Refuses cause (step edit read) ⊎ ((made : Image) × (step edit read ≡ Ok made) × IsNoImage made cause))
+    × (e ≡ answer_to_elf cause)
 
 -- ---- over bytes
 
@@ -48,7 +71,7 @@ abbrev pub RunsShrink : Edit → List ℕ → Option (Vec ℕ Global) → Option
 RunsShrink edit file answer old new = IsElfEdited (one edit) file answer × GetsRemoved edit (image_of file) old new
 
 -- an error: the writer failed once the new bytes were there; or the edit is refused, and the writer got nothing
-abbrev pub TellsShrink : {W : Type 0} → Edit → List ℕ → W → W → ArwenError → Type 0
+abbrev pub TellsShrink : {W : Type 0} → Edit → List ℕ → W → W → ElfCommandError → Type 0
 TellsShrink edit file old new (Io e) = (answer : Option (Vec ℕ Global)) × IsElfEdited (one edit) file answer
 TellsShrink edit file old new e = (new ≡ old) × TellsEdit (one edit) file e
 
@@ -66,7 +89,7 @@ pub record IsShrunkBy (finds : Finding) (prefixes : List Text) (file : List ℕ)
   pub told : TellsRemoved (ShrinkRunPath prefixes answers) (image_of file) text
 
 -- an error by some such answers; want of memory may come before there are any
-abbrev pub TellsShrunk : Finding → List Text → List ℕ → ArwenError → Type 0
+abbrev pub TellsShrunk : Finding → List Text → List ℕ → ElfCommandError → Type 0
 TellsShrunk finds prefixes file Memory = ⊤
 TellsShrunk finds prefixes file e = (answers : List Answer) × AreFoundIn finds file answers
     × TellsEdit (one (ShrinkRunPath prefixes answers)) file e
@@ -91,18 +114,18 @@ pub record IsShrinkTorn (finds : Finding) (prefixes : List Text) (file : List �
   pub part : IsLeft left difference.growth.items (owned_patches difference.pieces.items) old new
 
 -- what an error leaves and tells: only a write that failed changes bytes, where the edit was accepted
-abbrev pub FailsShrink : Finding → List Text → Option (List ℕ) → Option (List ℕ) → ArwenError → Type 0
+abbrev pub FailsShrink : Finding → List Text → Option (List ℕ) → Option (List ℕ) → ElfCommandError → Type 0
 FailsShrink finds prefixes old new (Io e) = Stays old new ⊎ ((file : List ℕ) → old ≡ Some file → IsShrinkTorn finds prefixes file old new)
 FailsShrink finds prefixes old new e = Stays old new × ((file : List ℕ) → old ≡ Some file → TellsShrunk finds prefixes file e)
 
 -- lines are told only once nothing is refused any more
-abbrev pub IsQuiet : {W : Type 0} → W → W → ArwenError → Type 0
+abbrev pub IsQuiet : {W : Type 0} → W → W → ElfCommandError → Type 0
 IsQuiet old new (Io e) = ⊤
 IsQuiet old new Memory = ⊤
 IsQuiet old new e = new ≡ old
 
 -- what an error tells of the bytes at a path; one of reading or writing them tells nothing
-abbrev pub TellsShrunkPath : Finding → List Text → Option (List ℕ) → ArwenError → Type 0
+abbrev pub TellsShrunkPath : Finding → List Text → Option (List ℕ) → ElfCommandError → Type 0
 TellsShrunkPath finds prefixes known (Io e) = ⊤
 TellsShrunkPath finds prefixes known e = (file : List ℕ) → known ≡ Some file → TellsShrunk finds prefixes file e
 
@@ -114,6 +137,6 @@ RunsCommand (shrink_elf path prefixes) found file answer old new = RunsShrink (S
 RunsCommand meaning found file answer old new = RunsElf meaning (elf_asked meaning) file answer old new
 
 -- an error of a run
-abbrev pub TellsCommand : {W : Type 0} → ElfMeaning → List Answer → List ℕ → W → W → ArwenError → Type 0
+abbrev pub TellsCommand : {W : Type 0} → ElfMeaning → List Answer → List ℕ → W → W → ElfCommandError → Type 0
 TellsCommand (shrink_elf path prefixes) found file old new e = TellsShrink (ShrinkRunPath prefixes found) file old new e
 TellsCommand meaning found file old new e = TellsRun (elf_asked meaning) file old new e

@@ -5,7 +5,7 @@ use Rattle.std.specs.List.{ends_with, flat_map, starts_with}
 use Rattle.std.specs.Str.Lossy.{utf8_lossy}
 use Rattle.arwen_elf.specs.Reads.{entries_shown}
 use Rattle.elf_edits.specs.Edit.{Answer}
-use Rattle.elf_edits.specs.Entries.{shrink_questions}
+use Rattle.elf_edits_shrink.specs.Questions.{shrink_questions}
 use Rattle.elf_edits.specs.Shrunk.{NoLibrary, Prefix, Reason, Removal}
 use Rattle.elf_format.specs.Machine.{machine_of}
 use Rattle.elf_image.specs.Views.{View}
@@ -33,10 +33,13 @@ IsFound finds a = finds a.directory a.needed a.machine
 abbrev pub asked_of : Answer → Text × Text
 asked_of a = (a.directory, a.needed)
 
--- the answers are for just the pairs that have to be looked for, in their order, and each is one that may be found
+-- the answers are for just these pairs, in their order, and each is one that may be found
+abbrev pub AreAnswers : Finding → List (Text × Text) → List Answer → Type 0
+AreAnswers finds questions answers = (map asked_of answers ≡ questions) × All (IsFound finds) answers
+
+-- the answers are for just the pairs that have to be looked for
 abbrev pub AreFound : Finding → View → List Answer → Type 0
-AreFound finds view answers =
-    (map asked_of answers ≡ shrink_questions (entries_shown view)) × All (IsFound finds) answers
+AreFound finds view answers = AreAnswers finds (shrink_questions (entries_shown view)) answers
 
 -- an answer for this directory and this library
 abbrev pub Answers : Finding → Text → Text → Answer → Type 0

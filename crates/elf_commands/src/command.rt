@@ -1,15 +1,15 @@
 //! What is asked of an ELF file, with its values.
 use crate::elf::{
-    add_debug_tag, add_needed, add_rpath, apply as apply_elf, clear_execstack, force_rpath,
-    no_default_lib, print_execstack, print_interpreter, print_needed, print_os_abi, print_rpath,
+    add_debug_tag, add_needed, add_rpath, apply, clear_execstack, force_rpath, no_default_lib,
+    path_alone, print_execstack, print_interpreter, print_needed, print_os_abi, print_rpath,
     print_soname, remove_needed, remove_rpath, replace_needed, set_execstack, set_interpreter,
     set_os_abi, set_page_size, set_rpath, set_soname, shrink_rpath,
 };
-use crate::elf_values::{bytes_of, number_of, pairs_copied, pairs_of, texts_of};
-use command_faults::ArwenError;
-use command_words::{Values, copied};
+use crate::texts::{bytes_of, pairs_copied, texts_of};
+use command_words::{ValueError, Values, copied, number_of, pairs_of};
 use elf_edits::ElfEdit;
 use std::alloc::{AllocError, Global};
+use std::slice;
 
 /// What is asked of an ELF file.
 #[derive(Debug, Drop)]
@@ -45,7 +45,7 @@ pub enum ElfCommand {
     /// Replace needed libraries, all at once.
     ReplaceNeeded(replace_needed::Args),
     /// Several of these edits, all or none.
-    Apply(apply_elf::Args),
+    Apply(apply::Args),
     /// Leave directories out of the run path.
     ShrinkRpath(shrink_rpath::Args),
     /// Print the run path.
@@ -64,26 +64,28 @@ pub enum ElfCommand {
 
 impl ElfCommand {
     ghost use Rattle.std.specs.Prelude.{◌≡◌, Some as some, IfErr, IfOk, map, option_map, string_bytes};
-    ghost use Rattle.elf_edits.specs.Called.{edit_model};
-    ghost use Rattle.elf_commands.specs.ElfAsked.{TellsNoValue, command_meant, elf_asked, elf_edit_asked, is_printing};
-    ghost use Rattle.elf_commands.specs.Meaning.{elf_file_of, elf_lines, elf_command_model};
+    ghost use Rattle.elf_edits.specs.EditModel.{edit_model};
+    ghost use Rattle.elf_commands.specs.ElfAsked.{elf_asked, is_printing};
+    ghost use Rattle.elf_commands.specs.ElfWords.{elf_edit_asked};
+    ghost use Rattle.elf_commands.specs.Meaning.{elf_file_of, elf_lines, elf_command_model, reading_of};
     ghost use Rattle.command_words.specs.Rows.{given_model, meant_with, options, path, text, words as words_given};
+    ghost use Rattle.command_words.specs.WordValues.{TellsNoValue};
 
     /// The command of a name with its values; `None` where no command of that name takes such
-    /// values. Errors: `Line` where a value is not what the command takes, `Memory`.
+    /// values. Errors: `NoNumber` or `NoPair` where a value is not what the command takes, `Memory`.
     pub fn with_values(
         alloc: Global,
         name: &str,
         values: Values,
-    ) -> Result<Option<ElfCommand>, ArwenError>
-        ensures ok { IfOk result (λ command. option_map command_meant command
+    ) -> Result<Option<ElfCommand>, ValueError>
+        ensures ok { IfOk result (λ command. option_map reading_of command
             ≡ meant_with elf_lines name.now (given_model values)) }
         ensures err { IfErr result
             (TellsNoValue (meant_with elf_lines name.now (given_model values))) }
     {
         match values {
             Values::Path(file) => Ok(ElfCommand::with_path(name, file)),
-            Values::Text(value, file) => ElfCommand::with_text(alloc, name, value, file),
+            Values::Text(value, file) => ElfCommand::with_text(name, value, file),
             Values::Texts(..) => Ok(None),
             Values::Words(file, words) => ElfCommand::with_words(alloc, name, file, words),
             Values::Options(file, values) => Ok(ElfCommand::with_options(name, file, values)),
@@ -92,42 +94,34 @@ impl ElfCommand {
 
     /// The command of a name that takes the path alone.
     fn with_path(name: &str, path_to_binary: String) -> Option<ElfCommand>
-        ensures { option_map command_meant result
+        ensures { option_map reading_of result
             ≡ meant_with elf_lines name.now (path (string_bytes path_to_binary)) }
     {
+        let args = path_alone::Args { path_to_binary };
         Some(match name {
-            add_debug_tag::NAME => ElfCommand::AddDebugTag(add_debug_tag::Args { path_to_binary }),
-            clear_execstack::NAME => ElfCommand::ClearExecStack(clear_execstack::Args {
-                path_to_binary,
-            }),
-            force_rpath::NAME => ElfCommand::ForceRpath(force_rpath::Args { path_to_binary }),
-            no_default_lib::NAME => ElfCommand::NoDefaultLib(no_default_lib::Args {
-                path_to_binary,
-            }),
-            remove_rpath::NAME => ElfCommand::RemoveRpath(remove_rpath::Args { path_to_binary }),
-            set_execstack::NAME => ElfCommand::SetExecStack(set_execstack::Args { path_to_binary }),
-            print_rpath::NAME => ElfCommand::PrintRpath(print_rpath::Args { path_to_binary }),
-            print_needed::NAME => ElfCommand::PrintNeeded(print_needed::Args { path_to_binary }),
-            print_soname::NAME => ElfCommand::PrintSoname(print_soname::Args { path_to_binary }),
-            print_interpreter::NAME => ElfCommand::PrintInterpreter(print_interpreter::Args {
-                path_to_binary,
-            }),
-            print_os_abi::NAME => ElfCommand::PrintOsAbi(print_os_abi::Args { path_to_binary }),
-            print_execstack::NAME => ElfCommand::PrintExecStack(print_execstack::Args {
-                path_to_binary,
-            }),
+            add_debug_tag::NAME => ElfCommand::AddDebugTag(args),
+            clear_execstack::NAME => ElfCommand::ClearExecStack(args),
+            force_rpath::NAME => ElfCommand::ForceRpath(args),
+            no_default_lib::NAME => ElfCommand::NoDefaultLib(args),
+            remove_rpath::NAME => ElfCommand::RemoveRpath(args),
+            set_execstack::NAME => ElfCommand::SetExecStack(args),
+            print_rpath::NAME => ElfCommand::PrintRpath(args),
+            print_needed::NAME => ElfCommand::PrintNeeded(args),
+            print_soname::NAME => ElfCommand::PrintSoname(args),
+            print_interpreter::NAME => ElfCommand::PrintInterpreter(args),
+            print_os_abi::NAME => ElfCommand::PrintOsAbi(args),
+            print_execstack::NAME => ElfCommand::PrintExecStack(args),
             _ => return None,
         })
     }
 
     /// The command of a name that takes a text and the path.
     fn with_text(
-        alloc: Global,
         name: &str,
         value: String,
         path_to_binary: String,
-    ) -> Result<Option<ElfCommand>, ArwenError>
-        ensures ok { IfOk result (λ command. option_map command_meant command ≡ meant_with elf_lines
+    ) -> Result<Option<ElfCommand>, ValueError>
+        ensures ok { IfOk result (λ command. option_map reading_of command ≡ meant_with elf_lines
             name.now (text (string_bytes value) (string_bytes path_to_binary))) }
         ensures err { IfErr result (TellsNoValue (meant_with elf_lines
             name.now (text (string_bytes value) (string_bytes path_to_binary)))) }
@@ -154,7 +148,7 @@ impl ElfCommand {
                 path_to_binary,
             }),
             set_page_size::NAME => ElfCommand::SetPageSize(set_page_size::Args {
-                page_size: number_of(alloc, value.as_str())?,
+                page_size: number_of(value)?,
                 path_to_binary,
             }),
             _ => return Ok(None),
@@ -167,8 +161,8 @@ impl ElfCommand {
         name: &str,
         path_to_binary: String,
         words: Vec<String>,
-    ) -> Result<Option<ElfCommand>, ArwenError>
-        ensures ok { IfOk result (λ command. option_map command_meant command ≡ meant_with elf_lines
+    ) -> Result<Option<ElfCommand>, ValueError>
+        ensures ok { IfOk result (λ command. option_map reading_of command ≡ meant_with elf_lines
             name.now (words_given (string_bytes path_to_binary) (map string_bytes words.items))) }
         ensures err { IfErr result (TellsNoValue (meant_with elf_lines
             name.now (words_given (string_bytes path_to_binary) (map string_bytes words.items)))) }
@@ -186,7 +180,7 @@ impl ElfCommand {
                 path_to_binary,
                 dt_needed: pairs_of(alloc, words.as_slice())?,
             }),
-            apply_elf::NAME => ElfCommand::Apply(apply_elf::Args {
+            apply::NAME => ElfCommand::Apply(apply::Args {
                 path_to_binary,
                 edits: words,
             }),
@@ -196,7 +190,7 @@ impl ElfCommand {
 
     /// The command of a name that takes the path and the values of an option.
     fn with_options(name: &str, path_to_binary: String, values: Vec<String>) -> Option<ElfCommand>
-        ensures { option_map command_meant result ≡ meant_with elf_lines name.now
+        ensures { option_map reading_of result ≡ meant_with elf_lines name.now
             (options (string_bytes path_to_binary) (map string_bytes values.items)) }
     {
         match name {
@@ -221,7 +215,9 @@ impl ElfCommand {
             ElfCommand::NoDefaultLib(_) => ElfEdit::NoDefaultLib,
             ElfCommand::RemoveRpath(_) => ElfEdit::RemoveRpath,
             ElfCommand::SetExecStack(_) => ElfEdit::SetExecStack,
-            ElfCommand::AddRpath(args) => ElfEdit::AddRpath(bytes_of(alloc, &args.new_rpath)?),
+            ElfCommand::AddRpath(args) => {
+                ElfEdit::AddRpath(texts_of(alloc, slice::from_ref(&args.new_rpath))?)
+            }
             ElfCommand::SetRpath(args) => ElfEdit::SetRpath(bytes_of(alloc, &args.new_rpath)?),
             ElfCommand::SetInterpreter(args) => {
                 ElfEdit::SetInterpreter(bytes_of(alloc, &args.interpreter)?)

@@ -4,10 +4,12 @@
 
 mod command;
 pub mod elf;
-mod elf_values;
 mod elf_words;
+mod error;
 mod tables;
+mod texts;
 
 pub use command::ElfCommand;
 pub use elf_words::parse_elf_edits;
-pub use tables::{elf_edit_table, elf_table};
+pub use error::ElfCommandError;
+pub use tables::elf_table;

@@ -1,16 +1,15 @@
 //! The commands for ELF files, as help shows them.
 ghost use Rattle.std.specs.Prelude.{◌≡◌, map};
 ghost use Rattle.command_words.specs.Rows.{named_of, row_model};
-ghost use Rattle.elf_commands.specs.ElfWords.{elf_edit_lines};
 ghost use Rattle.elf_commands.specs.Meaning.{elf_lines};
 
 use crate::elf::{
-    add_debug_tag, add_needed, add_rpath, apply as apply_elf, clear_execstack, force_rpath,
-    no_default_lib, print_execstack, print_interpreter, print_needed, print_os_abi, print_rpath,
-    print_soname, remove_needed, remove_rpath, replace_needed, set_execstack, set_interpreter,
-    set_os_abi, set_page_size, set_rpath, set_soname, shrink_rpath,
+    add_debug_tag, add_needed, add_rpath, apply, clear_execstack, force_rpath, no_default_lib,
+    print_execstack, print_interpreter, print_needed, print_os_abi, print_rpath, print_soname,
+    remove_needed, remove_rpath, replace_needed, set_execstack, set_interpreter, set_os_abi,
+    set_page_size, set_rpath, set_soname, shrink_rpath,
 };
-use command_words::{Form, Row, Value, ValueOption};
+use command_words::{Row, Value, ValueForm, ValueOption};
 
 /// What help says of `apply` of edits of an ELF file below its values.
 const ELF_EDITS: &str = "Edits:
@@ -34,57 +33,54 @@ Example:
   arwen elf apply libgreet.so set-soname libgreet.so.1 + add-rpath /opt/lib
 ";
 
-/// How many of the commands for ELF files are edits, which stand first.
-const ELF_EDITS_COUNT: usize = 15;
-
-/// The commands for ELF files: first the edits that `apply` takes, then the others.
+/// The commands for ELF files.
 pub static ELF_ROWS: [Row; 23] = [
     Row {
         name: add_debug_tag::NAME,
         about: "Add an entry for a debugger",
-        form: Form::Path,
+        form: ValueForm::Path,
         is_edit: true,
         more: "",
     },
     Row {
         name: clear_execstack::NAME,
         about: "Take the permission to run from the stack",
-        form: Form::Path,
+        form: ValueForm::Path,
         is_edit: true,
         more: "",
     },
     Row {
         name: force_rpath::NAME,
         about: "Make every DT_RUNPATH a DT_RPATH",
-        form: Form::Path,
+        form: ValueForm::Path,
         is_edit: true,
         more: "",
     },
     Row {
         name: no_default_lib::NAME,
         about: "Leave out the default directories",
-        form: Form::Path,
+        form: ValueForm::Path,
         is_edit: true,
         more: "",
     },
     Row {
         name: remove_rpath::NAME,
         about: "Remove the run path",
-        form: Form::Path,
+        form: ValueForm::Path,
         is_edit: true,
         more: "",
     },
     Row {
         name: set_execstack::NAME,
         about: "Give the stack the permission to run",
-        form: Form::Path,
+        form: ValueForm::Path,
         is_edit: true,
         more: "",
     },
     Row {
         name: add_rpath::NAME,
         about: "Add a directory to the run path",
-        form: Form::Text(Value {
+        form: ValueForm::Text(Value {
             name: "NEW",
             help: "Directory to add",
         }),
@@ -94,7 +90,7 @@ pub static ELF_ROWS: [Row; 23] = [
     Row {
         name: set_rpath::NAME,
         about: "Set the run path",
-        form: Form::Text(Value {
+        form: ValueForm::Text(Value {
             name: "NEW",
             help: "Directories, with a colon between two",
         }),
@@ -104,7 +100,7 @@ pub static ELF_ROWS: [Row; 23] = [
     Row {
         name: set_interpreter::NAME,
         about: "Set the interpreter",
-        form: Form::Text(Value {
+        form: ValueForm::Text(Value {
             name: "INTERPRETER",
             help: "Path of the interpreter",
         }),
@@ -114,7 +110,7 @@ pub static ELF_ROWS: [Row; 23] = [
     Row {
         name: set_os_abi::NAME,
         about: "Set the ABI byte",
-        form: Form::Text(Value {
+        form: ValueForm::Text(Value {
             name: "ABI",
             help: "Name of the ABI",
         }),
@@ -124,7 +120,7 @@ pub static ELF_ROWS: [Row; 23] = [
     Row {
         name: set_soname::NAME,
         about: "Set the library's own name",
-        form: Form::Text(Value {
+        form: ValueForm::Text(Value {
             name: "NAME",
             help: "New name",
         }),
@@ -134,7 +130,7 @@ pub static ELF_ROWS: [Row; 23] = [
     Row {
         name: set_page_size::NAME,
         about: "Set the page size",
-        form: Form::Text(Value {
+        form: ValueForm::Text(Value {
             name: "SIZE",
             help: "Bytes, a power of two from 1024 on",
         }),
@@ -144,7 +140,7 @@ pub static ELF_ROWS: [Row; 23] = [
     Row {
         name: add_needed::NAME,
         about: "Add needed libraries",
-        form: Form::Words(Value {
+        form: ValueForm::Words(Value {
             name: "NEW",
             help: "Names of the libraries",
         }),
@@ -154,7 +150,7 @@ pub static ELF_ROWS: [Row; 23] = [
     Row {
         name: remove_needed::NAME,
         about: "Remove needed libraries",
-        form: Form::Words(Value {
+        form: ValueForm::Words(Value {
             name: "OLD",
             help: "Names of the libraries",
         }),
@@ -164,7 +160,7 @@ pub static ELF_ROWS: [Row; 23] = [
     Row {
         name: replace_needed::NAME,
         about: "Replace needed libraries, all at once",
-        form: Form::Words(Value {
+        form: ValueForm::Words(Value {
             name: "OLD=NEW",
             help: "Pairs of an old and a new name",
         }),
@@ -172,9 +168,9 @@ pub static ELF_ROWS: [Row; 23] = [
         more: "",
     },
     Row {
-        name: apply_elf::NAME,
+        name: apply::NAME,
         about: "Make several edits, all or none",
-        form: Form::Words(Value {
+        form: ValueForm::Words(Value {
             name: "EDITS",
             help: "Edits with their words, with a word `+` between two edits",
         }),
@@ -184,7 +180,7 @@ pub static ELF_ROWS: [Row; 23] = [
     Row {
         name: shrink_rpath::NAME,
         about: "Leave out of the run path directories that have no needed library",
-        form: Form::Options(ValueOption {
+        form: ValueForm::Options(ValueOption {
             long: "allowed-rpath-prefixes",
             short: 'a',
             value: Value {
@@ -198,42 +194,42 @@ pub static ELF_ROWS: [Row; 23] = [
     Row {
         name: print_rpath::NAME,
         about: "Print the run path",
-        form: Form::Path,
+        form: ValueForm::Path,
         is_edit: false,
         more: "",
     },
     Row {
         name: print_needed::NAME,
         about: "Print the needed libraries",
-        form: Form::Path,
+        form: ValueForm::Path,
         is_edit: false,
         more: "",
     },
     Row {
         name: print_soname::NAME,
         about: "Print the library's own name",
-        form: Form::Path,
+        form: ValueForm::Path,
         is_edit: false,
         more: "",
     },
     Row {
         name: print_interpreter::NAME,
         about: "Print the interpreter",
-        form: Form::Path,
+        form: ValueForm::Path,
         is_edit: false,
         more: "",
     },
     Row {
         name: print_os_abi::NAME,
         about: "Print the ABI byte",
-        form: Form::Path,
+        form: ValueForm::Path,
         is_edit: false,
         more: "",
     },
     Row {
         name: print_execstack::NAME,
         about: "Print whether the stack may be run",
-        form: Form::Path,
+        form: ValueForm::Path,
         is_edit: false,
         more: "",
     },
@@ -244,11 +240,4 @@ pub fn elf_table() -> &'static [Row]
     ensures { map row_model result.now ≡ map named_of elf_lines }
 {
     ELF_ROWS.as_slice()
-}
-
-/// The edits of ELF files, as `apply` takes them.
-pub fn elf_edit_table() -> &'static [Row]
-    ensures { map row_model result.now ≡ map named_of elf_edit_lines }
-{
-    &elf_table()[..ELF_EDITS_COUNT]
 }

@@ -1,19 +1,15 @@
 -- Steps of looking for a cause.
-use Rattle.std.proofs.Common.{◌≡◌, ℕ, Bool, true, false, ◌||◌, List, [], ◌∷◌, refl, sym, ap, ◌∙◌, Option, Some, None, is_some, option_map}
+use Rattle.std.proofs.Common.{◌≡◌, true, false, refl, sym, ap, ◌∙◌, Option, Some, None, is_some, option_map}
 use Rattle.std.specs.Prelude.{◌==◌}
-use Rattle.std.specs.List.{flat_map, list_any}
+use Rattle.std.specs.List.{list_any}
 use Rattle.std.proofs.lemmas.Bool.{cond-true, cond-false, eq-eqb, ne_eqb, true≢false}
-use Rattle.std.proofs.lemmas.List.Concat.{flat_map-append}
-use Rattle.std.proofs.lemmas.List.Folds.{list_any-append}
 use Rattle.elf_format.specs.declared.constants.TheConstants.{EM_MIPS}
 use Rattle.elf_image.specs.Options.{first_there}
 use Rattle.elf_edits.specs.declared.facts.Facts.{Facts}
-use Rattle.elf_edits.specs.Called.{Bytes, pair_model, pairs_of_map}
 use Rattle.elf_edits.specs.Cause.{Cause, MipsImage, NulInText, cause_if, first_cause, interpreter_missing, list_missing, own_cause}
-use Rattle.elf_edits.specs.CauseModel.{pair_holds_nul}
 use Rattle.elf_edits.specs.Edit.{Edit, task_of, texts_of}
 use Rattle.elf_edits.specs.Texts.{holds_nul}
-use Rattle.elf_edits.proofs.CodeLaws.{first_of_three}
+use Rattle.elf_edits.proofs.ListLaws.{first_of_three}
 
 -- what is missing comes before the others
 module _ (edit : Edit) (facts : Facts) where
@@ -62,22 +58,3 @@ module _ (edit : Edit) (facts : Facts) where
       → is_some found ≡ false → list_any holds_nul (texts_of edit) ≡ false → own_cause edit facts ≡ first_cause edit facts
   unfolding the_others
   for_its_own f found h e there nul = sym (none_missing f found h e there ∙ ap (λ o. first_there o (own_cause edit facts)) (cond-false (list_any holds_nul (texts_of edit)) (Some NulInText) None nul))
-
--- ## The texts of a map
-
-or_round : (a b c : Bool) → (a || (b || (c || false))) ≡ ((b || c) || a)
-or_round true true c = refl
-or_round true false true = refl
-or_round true false false = refl
-or_round false true c = refl
-or_round false false true = refl
-or_round false false false = refl
-
-pub nul_in_pairs : (pairs : List (Bytes × Bytes)) → list_any pair_holds_nul pairs ≡ list_any holds_nul (flat_map (λ (p : List ℕ × List ℕ). p.0 ∷ p.1 ∷ []) (pairs_of_map pairs))
-unfolding pairs_of_map
-nul_in_pairs [] = refl
-nul_in_pairs (x ∷ pairs) =
-    ap (λ b. pair_holds_nul x || b) (nul_in_pairs pairs)
-    ∙ sym (ap (list_any holds_nul) (flat_map-append (λ (p : List ℕ × List ℕ). p.0 ∷ p.1 ∷ []) (pairs_of_map pairs) (pair_model x ∷ []))
-    ∙ list_any-append holds_nul (flat_map (λ (p : List ℕ × List ℕ). p.0 ∷ p.1 ∷ []) (pairs_of_map pairs)) (x.0.items ∷ x.1.items ∷ [])
-    ∙ or_round (list_any holds_nul (flat_map (λ (p : List ℕ × List ℕ). p.0 ∷ p.1 ∷ []) (pairs_of_map pairs))) (holds_nul x.0.items) (holds_nul x.1.items))

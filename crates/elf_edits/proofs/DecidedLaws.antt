@@ -1,6 +1,6 @@
 -- A batch is decided by the facts at its start.
-use Rattle.std.proofs.Common.{◌≡◌, ℕ, ◌+◌, Bool, true, false, not, ◌&&◌, List, [], ◌∷◌, ◌++◌, length, map, refl, sym, ap, ◌∙◌, Option, Some, None, is_some, option_map, Result, Ok, Err}
-use Rattle.std.specs.Prelude.{if◌then◌else◌, ◌==◌, is_none, nat_le}
+use Rattle.std.proofs.Common.{◌≡◌, ℕ, ◌+◌, Bool, true, false, not, ◌&&◌, List, [], ◌∷◌, ◌++◌, length, map, refl, sym, ap, ◌∙◌, Option, Some, None, is_some, option_map, Ok, Err}
+use Rattle.std.specs.Prelude.{◌==◌, is_none, nat_le}
 use Rattle.std.specs.List.{list_any}
 use Rattle.std.proofs.lemmas.Bool.{cond-true, cond-false}
 use Rattle.std.proofs.lemmas.List.{length-map}
@@ -9,12 +9,12 @@ use Rattle.elf_format.specs.declared.records.SegmentHeader.{SegmentHeader}
 use Rattle.elf_image.specs.File.{segment_of_type}
 use Rattle.elf_image.specs.Image.{Image}
 use Rattle.elf_image.specs.Options.{first_there}
-use Rattle.elf_edits.specs.declared.call.ElfEdit.{ElfEdit}
-use Rattle.elf_edits.specs.declared.call.ElfEdit.TheVariants as edits
-use Rattle.elf_edits.specs.declared.constants.TheConstants.{MOST_SEGMENTS, STACK_FLAGS}
+use Rattle.elf_edits.specs.declared.edit.ElfEdit.{ElfEdit}
+use Rattle.elf_edits.specs.declared.edit.ElfEdit.TheVariants as edits
+use Rattle.elf_edits.specs.declared.constants.TheConstants.{MOST_SEGMENTS}
 use Rattle.elf_edits.specs.declared.facts.Facts.{Facts}
-use Rattle.elf_edits.specs.Batch.{Refusal, answer_at, run, run_from, then_on}
-use Rattle.elf_edits.specs.Called.{edit_model}
+use Rattle.elf_edits.specs.Batch.{answer_at, run_from, then_on}
+use Rattle.elf_edits.specs.EditModel.{edit_model}
 use Rattle.elf_edits.specs.Cause.{Cause, NoInterpreter, NulInText, MipsImage, TooManyHeaders, cause, cause_if, facts_of, first_cause, has_no_room_for_stack, interpreter_missing, list_missing, own_cause}
 use Rattle.elf_edits.specs.Decided.{all_edited, first_refusal, refusal_or, unless_refused}
 use Rattle.elf_edits.specs.Edit.{Edit, AddDebugEntry, AddNeeded, AddRunPath, ClearExecStack, DeleteNeeded, DeleteRunPath, NoDefaultLibrary, ReplaceNeeded, SetExecStack, SetInterpreter, SetOsAbi, SetPageSize, SetRunPath, SetSoname, ShrinkRunPath, UseRpath, UseRunpath, task_of, texts_of}
@@ -164,7 +164,7 @@ asks_no_run_path : (edit : ElfEdit) (facts : Facts) (b : Bool) → first_cause (
 unfolding first_cause
 asks_no_run_path edits.AddDebugTag facts b = refl
 asks_no_run_path (edits.AddNeeded names) facts b = refl
-asks_no_run_path (edits.AddRpath text) facts b = refl
+asks_no_run_path (edits.AddRpath texts) facts b = refl
 asks_no_run_path edits.ClearExecStack facts b = refl
 asks_no_run_path edits.ForceRpath facts b = refl
 asks_no_run_path edits.NoDefaultLib facts b = refl

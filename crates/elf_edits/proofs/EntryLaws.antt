@@ -1,22 +1,19 @@
 -- What edits make of the dynamic list.
-use Rattle.std.proofs.Common.{◌≡◌, ℕ, Bool, true, false, not, List, [], ◌∷◌, ◌++◌, map, filter, refl, sym, ap, subst, ◌∙◌, Option, Some, None}
+use Rattle.std.proofs.Common.{◌≡◌, ℕ, Bool, true, false, not, List, [], ◌∷◌, ◌++◌, map, refl, sym, ap, subst, ◌∙◌, Option, Some, None}
 use Rattle.std.specs.Prelude.{if◌then◌else◌, All, unwrap_or}
-use Rattle.std.specs.List.{list_any, filter_map, cons_option}
+use Rattle.std.specs.List.{list_any}
 use Rattle.std.specs.Str.{bytes_eq}
 use Rattle.std.proofs.lemmas.Bool.{both_ways, cond-true, cond-false, or_right}
 use Rattle.std.proofs.lemmas.List.Elements.{All-push}
 use Rattle.std.proofs.lemmas.List.Folds.{list_any-append}
 use Rattle.std.proofs.lemmas.Slice.Eq.{bytes_eq-Decides}
-use Rattle.std.proofs.lemmas.List.Splits.{join_with_byte-slice_split}
 use Rattle.elf_format.specs.declared.constants.TheConstants.{DT_NEEDED, DT_RUNPATH}
 use Rattle.elf_image.specs.Dynamic.{Auto, Entry, Integer, Text}
 use Rattle.elf_image.specs.Image.{entry_tag}
 use Rattle.elf_image.specs.Options.{first_there}
-use Rattle.elf_edits.specs.declared.constants.TheConstants.{COLON}
 use Rattle.elf_edits.specs.Entries.{changed_where, edited_entries, has_tag, is_run_path, needed_names, needs_one_of, text_if, with_text, with_text_changed, with_text_set}
-use Rattle.elf_edits.specs.Laws.{MapsAtOnce, OthersStayInOrder, RunPathsAreSet, ShrinkingTells, swap_of}
-use Rattle.elf_edits.specs.Shrunk.{Removal, Search, reason_of, stays}
-use Rattle.elf_edits.specs.Texts.{directories_in, joined, value_of}
+use Rattle.elf_edits.specs.Laws.{MapsAtOnce, OthersStayInOrder, RunPathsAreSet, swap_of}
+use Rattle.elf_edits.specs.Texts.{value_of}
 use Rattle.elf_edits.proofs.ListLaws.{All-map_each, All-of_none, by_test, filter-filter, flat_map-changed, list_any-map, none_kept}
 
 -- ## The run path is set
@@ -169,36 +166,4 @@ maps_at_once = record {
   swapped_back = λ machine f g es.
       all_renamed (swap_name f g) (changed_where (has_tag DT_NEEDED) (with_text_changed (swap_name f g)) es)
       ∙ ap (map (swap_name f g)) (all_renamed (swap_name f g) es) ∙ all_swapped_back f g (needed_names es);
-}
-
--- ## Run paths that shrink
-
-module _ (s : Search) where
-  going : List ℕ → Option Removal
-  going directory = if stays s directory then None else Some (record { directory = directory; reason = reason_of s directory })
-
-  told : (ds : List (List ℕ)) → map (λ r. r.directory) (filter_map going ds) ≡ filter (λ d. not (stays s d)) ds
-  unfolding going
-  told [] = refl
-  told (d ∷ ds) = by_test (stays s d)
-      (λ holds. ap (λ o. map (λ (r : Removal). r.directory) (cons_option o (filter_map going ds))) (cond-true (stays s d) None (Some (record { directory = d; reason = reason_of s d })) holds)
-      ∙ told ds ∙ sym (cond-false (not (stays s d)) (d ∷ filter (λ e. not (stays s e)) ds) (filter (λ e. not (stays s e)) ds) (ap not holds)))
-      (λ fails. ap (λ o. map (λ (r : Removal). r.directory) (cons_option o (filter_map going ds))) (cond-false (stays s d) None (Some (record { directory = d; reason = reason_of s d })) fails)
-      ∙ ap (λ l. d ∷ l) (told ds) ∙ sym (cond-true (not (stays s d)) (d ∷ filter (λ e. not (stays s e)) ds) (filter (λ e. not (stays s e)) ds) (ap not fails)))
-
-  all_stay : (ds : List (List ℕ)) → filter_map going ds ≡ [] → filter (stays s) ds ≡ ds
-  unfolding going
-  all_stay [] none = refl
-  all_stay (d ∷ ds) none = by_test (stays s d)
-      (λ holds. cond-true (stays s d) (d ∷ filter (stays s) ds) (filter (stays s) ds) holds
-      ∙ ap (λ l. d ∷ l) (all_stay ds (sym (ap (λ o. cons_option o (filter_map going ds)) (cond-true (stays s d) None (Some (record { directory = d; reason = reason_of s d })) holds)) ∙ none)))
-      (λ fails.
-      let some : record { directory = d; reason = reason_of s d } ∷ filter_map going ds ≡ [] = sym (ap (λ o. cons_option o (filter_map going ds)) (cond-false (stays s d) None (Some (record { directory = d; reason = reason_of s d })) fails)) ∙ none in
-      cc)
-
-pub shrinking_tells : ShrinkingTells
-unfolding going
-shrinking_tells = record {
-  told = λ s text. told s (directories_in text);
-  none_gone = λ s text none. ap joined (all_stay s (directories_in text) none) ∙ join_with_byte-slice_split COLON text;
 }

@@ -11,3 +11,8 @@ pub use Rattle.elf_edits.proofs.ListedLaws.{ListsAgain, lists_again}
 pub use Rattle.elf_edits.proofs.UntouchedLaws.{untouched}
 -- a stored interpreter has a NUL last or nowhere
 pub use Rattle.elf_edits.proofs.StoredLaws.{stored_whole}
+-- cases on a test; the first of some options; one more element, and one more library of a set
+pub use Rattle.elf_edits.proofs.ListLaws.{by_test, there_or_none}
+pub use Rattle.elf_edits.proofs.LookupSteps.{one_more, other_way}
+-- a run path of which no directory goes is as it was
+pub use Rattle.elf_edits.proofs.ShrunkLaws.{none_gone}

@@ -4,13 +4,10 @@ pub mod EntryLaws
 pub mod TwiceLaws
 pub mod ShownLaws
 pub mod BatchLaws
-pub mod StepLaws
-pub mod CodeLaws
+pub mod TextSteps
+pub mod LookupSteps
 pub mod ListSteps
 pub mod CauseSteps
-pub mod AnswerSteps
-pub mod ShrinkSteps
-pub mod GatherSteps
 pub mod ShrunkLaws
 pub mod UntouchedLaws
 pub mod DecidedLaws

@@ -1,17 +1,27 @@
 -- Lists of entries that are changed, filtered and looked through.
-use Rattle.std.proofs.Common.{◌≡◌, Bool, true, false, not, ◌||◌, List, [], ◌∷◌, ◌++◌, map, filter, refl, sym, ap, ◌∙◌}
+use Rattle.std.proofs.Common.{◌≡◌, Bool, true, false, not, ◌||◌, List, [], ◌∷◌, ◌++◌, map, filter, refl, sym, ap, ◌∙◌, Option, Some, None}
 use Rattle.std.specs.Prelude.{All}
 use Rattle.std.specs.List.{list_any, flat_map}
 use Rattle.std.proofs.lemmas.Bool.{both_ways, cond-true, cond-false, or_parts}
 use Rattle.std.proofs.lemmas.List.{map-append}
 use Rattle.std.proofs.lemmas.List.Elements.{All-nil, All-cons}
 use Rattle.elf_image.specs.Dynamic.{Entry}
+use Rattle.elf_image.specs.Options.{first_there}
 use Rattle.elf_edits.specs.Entries.{changed_where}
 
 -- cases on a test, with what it is
 pub by_test : {P : Type 0} (b : Bool) → (b ≡ true → P) → (b ≡ false → P) → P
 by_test true then_so else_so = then_so refl
 by_test false then_so else_so = else_so refl
+
+-- the first of some options
+pub there_or_none : {A : Type 0} (o : Option A) → first_there o None ≡ o
+there_or_none None = refl
+there_or_none (Some x) = refl
+
+pub first_of_three : {A : Type 0} (o p q : Option A) → first_there (first_there o p) q ≡ first_there o (first_there p q)
+first_of_three None p q = refl
+first_of_three (Some x) p q = refl
 
 -- elements that are changed alike in what a test looks at
 pub list_any-map : {A : Type 0} (test : A → Bool) (change : A → A) → ((x : A) → test (change x) ≡ test x) → (xs : List A) → list_any test (map change xs) ≡ list_any test xs

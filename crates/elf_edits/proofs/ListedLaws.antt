@@ -1,11 +1,11 @@
 -- An edited list is a list again: its entries may stand before a DT_NULL, and it names the same tables.
 use Rattle.std.proofs.Common.{◌≡◌, ℕ, Bool, true, false, not, ◌||◌, List, [], ◌∷◌, ◌++◌, map, filter, refl, sym, ap, subst, ◌∙◌, Option, Some, None, inl, inr, arith}
-use Rattle.std.specs.Prelude.{if◌then◌else◌, ◌==◌, All, bit_or, unwrap_or}
-use Rattle.std.specs.List.{cons_option, filter_map, flat_map, list_any}
+use Rattle.std.specs.Prelude.{if◌then◌else◌, ◌==◌, All, unwrap_or}
+use Rattle.std.specs.List.{cons_option, flat_map, list_any}
 use Rattle.std.specs.Str.{bytes_eq}
 use Rattle.std.proofs.lemmas.Bool.{cond-true, cond-false, eqb-true, or_cases, or_parts}
 use Rattle.std.proofs.lemmas.List.{append-nil}
-use Rattle.std.proofs.lemmas.List.Elements.{All-nil, All-cons, All-head, All-tail, All-filter, All-push, filter_map-append}
+use Rattle.std.proofs.lemmas.List.Elements.{All-cons, All-head, All-tail, All-filter, All-push, filter_map-append}
 use Rattle.std.proofs.lemmas.List.Folds.{list_any-append}
 use Rattle.std.proofs.lemmas.List.Splits.{join_with_byte-slice_split}
 use Rattle.elf_format.specs.declared.constants.TheConstants.{DT_DEBUG, DT_FLAGS_1, DT_NEEDED, DT_NULL, DT_RPATH, DT_RUNPATH, DT_SONAME}
@@ -16,8 +16,8 @@ use Rattle.elf_image.specs.Options.{first_there}
 use Rattle.elf_edits.specs.declared.constants.TheConstants.{COLON, DF_1_NODEFLIB}
 use Rattle.elf_edits.specs.Edit.{Edit, AddDebugEntry, AddNeeded, AddRunPath, ClearExecStack, DeleteNeeded, DeleteRunPath, NoDefaultLibrary, ReplaceNeeded, SetExecStack, SetInterpreter, SetOsAbi, SetPageSize, SetRunPath, SetSoname, ShrinkRunPath, UseRpath, UseRunpath, texts_of}
 use Rattle.elf_edits.specs.Entries.{changed_where, edited_entries, has_tag, is_run_path, needs_one_of, not_needed_yet, search_of, text_if, with_bits, with_directories, with_each_added, with_tag, with_text, with_text_changed}
-use Rattle.elf_edits.specs.Shrunk.{Search, shrunk, stays}
-use Rattle.elf_edits.specs.Texts.{directories_in, holds_nul, is_among, joined, value_of}
+use Rattle.elf_edits.specs.Shrunk.{Search, shrunk_text, stays}
+use Rattle.elf_edits.specs.Texts.{directories_in, holds_nul, is_among, joined_by_colons, value_of}
 use Rattle.elf_edits.proofs.ListLaws.{by_test}
 
 -- ## One entry
@@ -205,21 +205,21 @@ added_whole (added ∷ texts) none text whole =
     let parts = or_parts (holds_nul added) (list_any holds_nul texts) none in
     added_whole texts parts.1 (with_directories text added) (directory_whole text added whole parts.0)
 
-joined_whole : (texts : List (List ℕ)) → list_any holds_nul texts ≡ false → holds_nul (joined texts) ≡ false
+joined_whole : (texts : List (List ℕ)) → list_any holds_nul texts ≡ false → holds_nul (joined_by_colons texts) ≡ false
 joined_whole [] none = refl
 joined_whole (text ∷ []) none = (or_parts (holds_nul text) false none).0
 joined_whole (text ∷ next ∷ texts) none =
     let parts = or_parts (holds_nul text) (list_any holds_nul (next ∷ texts)) none in
-    behind_whole text (joined (next ∷ texts)) parts.0 (joined_whole (next ∷ texts) parts.1)
+    behind_whole text (joined_by_colons (next ∷ texts)) parts.0 (joined_whole (next ∷ texts) parts.1)
 
-parts_whole : (texts : List (List ℕ)) → holds_nul (joined texts) ≡ false → list_any holds_nul texts ≡ false
+parts_whole : (texts : List (List ℕ)) → holds_nul (joined_by_colons texts) ≡ false → list_any holds_nul texts ≡ false
 parts_whole [] whole = refl
 parts_whole (text ∷ []) whole = both_none (holds_nul text) false whole refl
 parts_whole (text ∷ next ∷ texts) whole =
-    let parts = or_parts (holds_nul text) (holds_nul (joined (next ∷ texts))) (sym (list_any-append (λ byte. byte == 0) text (COLON ∷ joined (next ∷ texts))) ∙ whole) in
+    let parts = or_parts (holds_nul text) (holds_nul (joined_by_colons (next ∷ texts))) (sym (list_any-append (λ byte. byte == 0) text (COLON ∷ joined_by_colons (next ∷ texts))) ∙ whole) in
     both_none (holds_nul text) (list_any holds_nul (next ∷ texts)) parts.0 (parts_whole (next ∷ texts) parts.1)
 
-shrunk_whole : (s : Search) (text : List ℕ) → holds_nul text ≡ false → holds_nul (shrunk s text) ≡ false
+shrunk_whole : (s : Search) (text : List ℕ) → holds_nul text ≡ false → holds_nul (shrunk_text s text) ≡ false
 shrunk_whole s text whole =
     joined_whole (filter (stays s) (directories_in text))
     (none_kept_of holds_nul (stays s) (directories_in text) (parts_whole (directories_in text) (ap holds_nul (join_with_byte-slice_split COLON text) ∙ whole)))
@@ -267,9 +267,9 @@ lists_again machine (SetRunPath text) es whole all =
     one_of_two (list_any is_run_path es) es (changed_where is_run_path (with_text text) es) (es ++ Text DT_RUNPATH text ∷ [])
     (changed_again is_run_path (with_text text) (with_run_path_set text none) es all) (last_again es (Text DT_RUNPATH text) all (listed_text DT_RUNPATH text for_runpath none) refl)
 lists_again machine (AddRunPath texts) es whole all =
-    one_of_two (list_any is_run_path es) es (changed_where is_run_path (with_text_changed (with_each_added texts)) es) (es ++ Text DT_RUNPATH (joined texts) ∷ [])
+    one_of_two (list_any is_run_path es) es (changed_where is_run_path (with_text_changed (with_each_added texts)) es) (es ++ Text DT_RUNPATH (joined_by_colons texts) ∷ [])
     (changed_again is_run_path (with_text_changed (with_each_added texts)) (λ e h listed. text_changed (with_each_added texts) (added_whole texts whole) e listed) es all)
-    (last_again es (Text DT_RUNPATH (joined texts)) all (listed_text DT_RUNPATH (joined texts) for_runpath (joined_whole texts whole)) refl)
+    (last_again es (Text DT_RUNPATH (joined_by_colons texts)) all (listed_text DT_RUNPATH (joined_by_colons texts) for_runpath (joined_whole texts whole)) refl)
 lists_again machine UseRunpath es whole all = changed_again (has_tag DT_RPATH) (with_tag DT_RUNPATH) (λ e h listed. tag_set DT_RPATH for_rpath DT_RUNPATH for_runpath e listed (has_tag_is DT_RPATH e h)) es all
 lists_again machine UseRpath es whole all = changed_again (has_tag DT_RUNPATH) (with_tag DT_RPATH) (λ e h listed. tag_set DT_RUNPATH for_runpath DT_RPATH for_rpath e listed (has_tag_is DT_RUNPATH e h)) es all
 lists_again machine (DeleteNeeded names) es whole all = kept_again (λ e. not (needs_one_of names e)) (needed_no_table names) es all
@@ -284,7 +284,7 @@ lists_again machine NoDefaultLibrary es whole all =
     one_of_two (lists_tag DT_FLAGS_1 es) es (changed_where (has_tag DT_FLAGS_1) (with_bits DF_1_NODEFLIB) es) (es ++ Integer DT_FLAGS_1 DF_1_NODEFLIB ∷ [])
     (changed_again (has_tag DT_FLAGS_1) (with_bits DF_1_NODEFLIB) (λ e h listed. bits_set DF_1_NODEFLIB e listed) es all) (last_again es (Integer DT_FLAGS_1 DF_1_NODEFLIB) all (listed_number DT_FLAGS_1 DF_1_NODEFLIB for_flags) refl)
 lists_again machine (ShrinkRunPath prefixes answers) es whole all =
-    changed_again is_run_path (with_text_changed (shrunk (search_of machine prefixes answers es))) (λ e h listed. text_changed (shrunk (search_of machine prefixes answers es)) (shrunk_whole (search_of machine prefixes answers es)) e listed) es all
+    changed_again is_run_path (with_text_changed (shrunk_text (search_of machine prefixes answers es))) (λ e h listed. text_changed (shrunk_text (search_of machine prefixes answers es)) (shrunk_whole (search_of machine prefixes answers es)) e listed) es all
 lists_again machine (SetInterpreter bytes) es whole all = as_it_was es all
 lists_again machine (SetOsAbi name) es whole all = as_it_was es all
 lists_again machine ClearExecStack es whole all = as_it_was es all

@@ -17,9 +17,9 @@ use Rattle.elf_edits.specs.Edit.{Edit, AddDebugEntry, AddNeeded, AddRunPath, Cle
 use Rattle.elf_edits.specs.Edited.{edited_image, edited_segments, edited_view, stack_change, stack_flags_changed, step, touches, with_align, with_stack_changed}
 use Rattle.elf_edits.specs.Entries.{changed_where, edited_entries, has_tag, is_run_path, needs_one_of, with_tag, with_text, with_text_changed, with_bits, with_each_added, not_needed_yet, search_of}
 use Rattle.elf_edits.specs.declared.constants.TheConstants.{DF_1_NODEFLIB}
-use Rattle.elf_edits.specs.Shrunk.{shrunk}
+use Rattle.elf_edits.specs.Shrunk.{shrunk_text}
 use Rattle.elf_edits.specs.Laws.{EditsShow, KeepsTheRest}
-use Rattle.elf_edits.specs.Texts.{is_among, joined, value_of}
+use Rattle.elf_edits.specs.Texts.{is_among, joined_by_colons, value_of}
 use Rattle.elf_edits.proofs.ListLaws.{by_test, list_any-filter, list_any-map}
 
 -- ## Tags that no edit touches
@@ -94,7 +94,7 @@ module _ (tag : ℕ) (is : IsUntouched tag) where
   tags_kept machine AddDebugEntry es = one_of_two (lists_tag DT_DEBUG es) es es (es ++ Integer DT_DEBUG 0 ∷ []) refl (added_last es (Integer DT_DEBUG 0) is.debug)
   tags_kept machine DeleteRunPath es = list_any-filter (has_tag tag) (λ e. not (is_run_path e)) run_path_not_it es
   tags_kept machine (SetRunPath text) es = one_of_two (list_any is_run_path es) es (changed_where is_run_path (with_text text) es) (es ++ Text DT_RUNPATH text ∷ []) (kept_tag is_run_path (with_text text) (λ e _. refl) es) (added_last es (Text DT_RUNPATH text) is.runpath)
-  tags_kept machine (AddRunPath texts) es = one_of_two (list_any is_run_path es) es (changed_where is_run_path (with_text_changed (with_each_added texts)) es) (es ++ Text DT_RUNPATH (joined texts) ∷ []) (kept_tag is_run_path (with_text_changed (with_each_added texts)) (λ e _. changed_text (with_each_added texts) e) es) (added_last es (Text DT_RUNPATH (joined texts)) is.runpath)
+  tags_kept machine (AddRunPath texts) es = one_of_two (list_any is_run_path es) es (changed_where is_run_path (with_text_changed (with_each_added texts)) es) (es ++ Text DT_RUNPATH (joined_by_colons texts) ∷ []) (kept_tag is_run_path (with_text_changed (with_each_added texts)) (λ e _. changed_text (with_each_added texts) e) es) (added_last es (Text DT_RUNPATH (joined_by_colons texts)) is.runpath)
   tags_kept machine UseRunpath es = kept_tag (has_tag DT_RPATH) (with_tag DT_RUNPATH) (λ e h. changed_tag DT_RPATH DT_RUNPATH e is.rpath is.runpath h) es
   tags_kept machine UseRpath es = kept_tag (has_tag DT_RUNPATH) (with_tag DT_RPATH) (λ e h. changed_tag DT_RUNPATH DT_RPATH e is.runpath is.rpath h) es
   tags_kept machine (DeleteNeeded names) es = list_any-filter (has_tag tag) (λ e. not (needs_one_of names e)) (needed_not_it names) es
@@ -102,7 +102,7 @@ module _ (tag : ℕ) (is : IsUntouched tag) where
   tags_kept machine (AddNeeded names) es = put_before (not_needed_yet names es) es
   tags_kept machine (SetSoname text) es = one_of_two (lists_tag DT_SONAME es) es (changed_where (has_tag DT_SONAME) (with_text text) es) (es ++ Text DT_SONAME text ∷ []) (kept_tag (has_tag DT_SONAME) (with_text text) (λ e _. refl) es) (added_last es (Text DT_SONAME text) is.soname)
   tags_kept machine NoDefaultLibrary es = one_of_two (lists_tag DT_FLAGS_1 es) es (changed_where (has_tag DT_FLAGS_1) (with_bits DF_1_NODEFLIB) es) (es ++ Integer DT_FLAGS_1 DF_1_NODEFLIB ∷ []) (kept_tag (has_tag DT_FLAGS_1) (with_bits DF_1_NODEFLIB) (λ e _. changed_bits DF_1_NODEFLIB e) es) (added_last es (Integer DT_FLAGS_1 DF_1_NODEFLIB) is.flags)
-  tags_kept machine (ShrinkRunPath prefixes answers) es = kept_tag is_run_path (with_text_changed (shrunk (search_of machine prefixes answers es))) (λ e _. changed_text (shrunk (search_of machine prefixes answers es)) e) es
+  tags_kept machine (ShrinkRunPath prefixes answers) es = kept_tag is_run_path (with_text_changed (shrunk_text (search_of machine prefixes answers es))) (λ e _. changed_text (shrunk_text (search_of machine prefixes answers es)) e) es
   tags_kept machine (SetInterpreter bytes) es = refl
   tags_kept machine (SetOsAbi name) es = refl
   tags_kept machine ClearExecStack es = refl

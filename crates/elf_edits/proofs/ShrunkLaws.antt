@@ -5,8 +5,8 @@ use Rattle.std.specs.List.{filter_map, cons_option}
 use Rattle.std.proofs.lemmas.Bool.{cond-true, cond-false}
 use Rattle.std.proofs.lemmas.List.Splits.{join_with_byte-slice_split}
 use Rattle.elf_edits.specs.declared.constants.TheConstants.{COLON}
-use Rattle.elf_edits.specs.Shrunk.{Removal, Search, reason_of, removed_from, shrunk, stays}
-use Rattle.elf_edits.specs.Texts.{directories_in, joined}
+use Rattle.elf_edits.specs.Shrunk.{Removal, Search, reason_of, removed_from, shrunk_text, stays}
+use Rattle.elf_edits.specs.Texts.{directories_in, joined_by_colons}
 use Rattle.elf_edits.proofs.ListLaws.{by_test}
 
 module _ (s : Search) where
@@ -23,6 +23,6 @@ module _ (s : Search) where
       let some : record { directory = d; reason = reason_of s d } ∷ filter_map going ds ≡ [] = sym (ap (λ o. cons_option o (filter_map going ds)) (cond-false (stays s d) None (Some (record { directory = d; reason = reason_of s d })) fails)) ∙ none in
       cc)
 
-  pub none_gone : (text : List ℕ) → removed_from s text ≡ [] → shrunk s text ≡ text
+  pub none_gone : (text : List ℕ) → removed_from s text ≡ [] → shrunk_text s text ≡ text
   unfolding going
-  none_gone text none = ap joined (all_stay (directories_in text) none) ∙ join_with_byte-slice_split COLON text
+  none_gone text none = ap joined_by_colons (all_stay (directories_in text) none) ∙ join_with_byte-slice_split COLON text

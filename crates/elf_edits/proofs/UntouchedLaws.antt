@@ -1,5 +1,5 @@
 -- An edit that touches no entry leaves the list as it was.
-use Rattle.std.proofs.Common.{◌≡◌, ℕ, Bool, true, false, not, ◌||◌, List, [], ◌∷◌, ◌++◌, map, filter, refl, sym, ap, ◌∙◌, Option, Some, None, is_some}
+use Rattle.std.proofs.Common.{◌≡◌, ℕ, Bool, true, false, not, List, [], ◌∷◌, ◌++◌, map, filter, refl, sym, ap, ◌∙◌, Option, Some, None, is_some}
 use Rattle.std.specs.Prelude.{if◌then◌else◌, unwrap_or}
 use Rattle.std.specs.List.{flat_map, list_any}
 use Rattle.std.proofs.lemmas.Bool.{cond-true, cond-false, or_parts}
@@ -8,8 +8,8 @@ use Rattle.elf_format.specs.declared.constants.TheConstants.{DT_DEBUG, DT_NEEDED
 use Rattle.elf_image.specs.Dynamic.{Auto, Entry, Integer, Text}
 use Rattle.elf_image.specs.Image.{lists_tag}
 use Rattle.elf_edits.specs.Edit.{Edit, AddDebugEntry, AddNeeded, AddRunPath, ClearExecStack, DeleteNeeded, DeleteRunPath, NoDefaultLibrary, ReplaceNeeded, SetExecStack, SetInterpreter, SetOsAbi, SetPageSize, SetRunPath, SetSoname, ShrinkRunPath, UseRpath, UseRunpath}
-use Rattle.elf_edits.specs.Entries.{changed_where, directories_removed, edited_entries, has_tag, is_replaced, is_run_path, needs_one_of, not_needed_yet, search_of, text_if, touches_entries, with_needed_replaced, with_run_paths_shrunk, with_tag, with_text_changed}
-use Rattle.elf_edits.specs.Shrunk.{Removal, Search, removed_from, shrunk}
+use Rattle.elf_edits.specs.Entries.{directories_removed, edited_entries, has_tag, is_replaced, is_run_path, needs_one_of, not_needed_yet, search_of, text_if, touches_entries, with_needed_replaced, with_run_paths_shrunk, with_tag, with_text_changed}
+use Rattle.elf_edits.specs.Shrunk.{Removal, Search, removed_from, shrunk_text}
 use Rattle.elf_edits.specs.Texts.{has_some, value_of}
 use Rattle.elf_edits.proofs.ListLaws.{by_test, changed_where_none}
 use Rattle.elf_edits.proofs.ShrunkLaws.{none_gone}
@@ -81,16 +81,16 @@ module _ (s : Search) where
   unfolding gone_from
   gone_first e es = flat_map-append (removed_from s) (text_if is_run_path e) (flat_map (text_if is_run_path) es)
 
-  not_shrunk : (e : Entry) → gone_from e ≡ [] → (if is_run_path e then with_text_changed (shrunk s) e else e) ≡ e
+  not_shrunk : (e : Entry) → gone_from e ≡ [] → (if is_run_path e then with_text_changed (shrunk_text s) e else e) ≡ e
   unfolding gone_from
   not_shrunk (Auto tag) h = same_either (is_run_path (Auto tag)) (Auto tag)
   not_shrunk (Integer tag value) h = same_either (is_run_path (Integer tag value)) (Integer tag value)
   not_shrunk (Text tag text) h = by_test (is_run_path (Text tag text))
       (λ holds.
       let one : removed_from s text ++ [] ≡ [] = sym (ap (flat_map (removed_from s)) (cond-true (is_run_path (Text tag text)) (text ∷ []) [] holds)) ∙ h in
-      cond-true (is_run_path (Text tag text)) (Text tag (shrunk s text)) (Text tag text) holds
+      cond-true (is_run_path (Text tag text)) (Text tag (shrunk_text s text)) (Text tag text) holds
       ∙ ap (Text tag) (none_gone s text (none_in_front (removed_from s text) [] one)))
-      (λ fails. cond-false (is_run_path (Text tag text)) (Text tag (shrunk s text)) (Text tag text) fails)
+      (λ fails. cond-false (is_run_path (Text tag text)) (Text tag (shrunk_text s text)) (Text tag text) fails)
 
   none_shrunk : (es : List Entry) → directories_removed s es ≡ [] → with_run_paths_shrunk s es ≡ es
   none_shrunk [] none = refl

@@ -18,8 +18,8 @@ abbrev pub abi_names : List (List ℕ × ℕ)
 abi_names = (codes "sysv", 0) ∷ (codes "hpux", 1) ∷ (codes "netbsd", 2) ∷ (codes "linux", 3) ∷ hurd_and_later
 
 -- the name with its ASCII letters lowered, and no other letters
-abbrev pub lowered : List ℕ → List ℕ
-lowered name = str_to_ascii_lowercase name
+abbrev pub lowercase_name : List ℕ → List ℕ
+lowercase_name name = str_to_ascii_lowercase name
 
 -- the number of a name with small letters
 abbrev pub number_among : List (List ℕ × ℕ) → List ℕ → Option ℕ
@@ -27,7 +27,7 @@ number_among rows name = find (λ row. bytes_eq name row.0) rows >>= (λ row. So
 
 -- the number of a name, whatever the case of its ASCII letters; none for an unknown name
 unfoldable pub abi_number : List ℕ → Option ℕ
-abi_number name = number_among abi_names (lowered name)
+abi_number name = number_among abi_names (lowercase_name name)
 
 -- what is stored of an interpreter's bytes: a NUL is put behind them, unless they are empty or end with one
 abbrev pub with_nul : List ℕ → List ℕ

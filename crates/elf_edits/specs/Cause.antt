@@ -9,7 +9,7 @@ use Rattle.elf_image.specs.Image.{Image}
 use Rattle.elf_image.specs.Options.{first_there}
 use Rattle.elf_edits.specs.declared.constants.TheConstants.{MOST_SEGMENTS, SMALLEST_PAGE}
 use Rattle.elf_edits.specs.declared.facts.Facts.{Facts}
-use Rattle.elf_edits.specs.Abi.{abi_number, lowered}
+use Rattle.elf_edits.specs.Abi.{abi_number, lowercase_name}
 use Rattle.elf_edits.specs.Edit.{Edit, ClearExecStack, SetExecStack, SetInterpreter, SetOsAbi, SetPageSize, ShrinkRunPath, task_of, texts_of}
 use Rattle.elf_edits.specs.Entries.{is_run_path}
 use Rattle.elf_edits.specs.Texts.{holds_nul}
@@ -71,7 +71,7 @@ interpreter_missing _ facts = None
 
 -- what stands against one kind of edit alone
 abbrev pub own_cause : Edit → Facts → Option Cause
-own_cause (SetOsAbi name) facts = cause_if (is_none (abi_number name)) (UnknownAbi (lowered name))
+own_cause (SetOsAbi name) facts = cause_if (is_none (abi_number name)) (UnknownAbi (lowercase_name name))
 own_cause (SetPageSize size) facts = cause_if (not (is_page_size size)) (BadPageSize size)
 own_cause (ShrinkRunPath prefixes answers) facts = cause_if (not facts.has_run_path) NoRunPath
 own_cause ClearExecStack facts = cause_if facts.is_full TooManyHeaders

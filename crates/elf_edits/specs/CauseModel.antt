@@ -1,13 +1,11 @@
 -- Causes as the code tells them.
-use Rattle.std.specs.Prelude.{ℕ, List, Bool, ◌||◌, codes}
+use Rattle.std.specs.Prelude.{ℕ, List, codes}
 use Rattle.elf_edits.specs.declared.cause.Cause.{Cause as CauseTold}
 use Rattle.elf_edits.specs.declared.cause.Cause.TheVariants as told
 use Rattle.elf_edits.specs.declared.task.Task.{Task}
 use Rattle.elf_edits.specs.declared.task.Task.TheVariants as tasks
-use Rattle.elf_edits.specs.Abi.{lowered}
-use Rattle.elf_edits.specs.Called.{Bytes}
+use Rattle.elf_edits.specs.Abi.{lowercase_name}
 use Rattle.elf_edits.specs.Cause.{BadPageSize, Cause, MipsImage, NoDynamic, NoInterpreter, NoRunPath, NulInText, TooManyHeaders, UnknownAbi}
-use Rattle.elf_edits.specs.Texts.{holds_nul}
 
 -- the words for a task
 abbrev pub words_of : Task → List ℕ
@@ -29,11 +27,7 @@ cause_model told.MipsImage = MipsImage
 cause_model (told.NoDynamic task) = NoDynamic (words_of task)
 cause_model told.NoInterpreter = NoInterpreter
 cause_model told.NulInText = NulInText
-cause_model (told.UnknownAbi name) = UnknownAbi (lowered name.now)
+cause_model (told.UnknownAbi name) = UnknownAbi (lowercase_name name.now)
 cause_model (told.BadPageSize size) = BadPageSize size
 cause_model told.NoRunPath = NoRunPath
 cause_model told.TooManyHeaders = TooManyHeaders
-
--- a key or its value has a NUL
-abbrev pub pair_holds_nul : Bytes × Bytes → Bool
-pair_holds_nul pair = holds_nul pair.0.items || holds_nul pair.1.items

@@ -9,9 +9,8 @@ use Rattle.elf_image.specs.Views.{View}
 use Rattle.elf_edits.specs.declared.constants.TheConstants.{STACK_ALIGN, STACK_FLAGS}
 use Rattle.elf_edits.specs.Abi.{abi_number, with_nul}
 use Rattle.elf_edits.specs.Cause.{Cause, cause}
-use Rattle.elf_edits.specs.Edit.{Edit, ClearExecStack, SetExecStack, SetInterpreter, SetOsAbi, SetPageSize, ShrinkRunPath}
-use Rattle.elf_edits.specs.Entries.{directories_removed, edited_entries, search_of, touches_entries}
-use Rattle.elf_edits.specs.Shrunk.{Removal}
+use Rattle.elf_edits.specs.Edit.{Edit, ClearExecStack, SetExecStack, SetInterpreter, SetOsAbi, SetPageSize}
+use Rattle.elf_edits.specs.Entries.{edited_entries, touches_entries}
 
 -- ## Besides the dynamic list
 
@@ -113,8 +112,3 @@ edited_image edit image = record image {
 -- One edit: the image after it, or the first cause that stands against it.
 unfoldable pub step : Edit → Image → Result Image Cause
 step edit image = elim (cause edit image) [ None ↦ Ok (edited_image edit image) | Some reason ↦ Err reason ]
-
--- the directories that an edit removes from run paths, in order, with their reasons
-abbrev pub removed_by : Edit → Image → List Removal
-removed_by (ShrinkRunPath prefixes answers) image = elim image.entries [ None ↦ [] | Some es ↦ directories_removed (search_of image.header.e_machine prefixes answers es) es ]
-removed_by _ image = []

@@ -1,13 +1,13 @@
 -- What each edit makes of the dynamic list (gABI, Dynamic Section). All are functions of the list alone.
-use Rattle.std.specs.Prelude.{ℕ, List, [], ◌∷◌, ◌++◌, map, filter, Bool, true, false, not, ◌||◌, is_some, unwrap_or, ◌==◌, if◌then◌else◌, bit_or}
+use Rattle.std.specs.Prelude.{ℕ, List, [], ◌∷◌, ◌++◌, map, filter, Bool, true, false, not, ◌||◌, is_some, Option, unwrap_or, ◌==◌, if◌then◌else◌, bit_or}
 use Rattle.std.specs.List.{flat_map, list_any}
 use Rattle.elf_format.specs.declared.constants.TheConstants.{DT_DEBUG, DT_FLAGS_1, DT_NEEDED, DT_RPATH, DT_RUNPATH, DT_SONAME}
 use Rattle.elf_image.specs.Dynamic.{Auto, Entry, Integer, Text}
 use Rattle.elf_image.specs.Image.{entry_tag, lists_tag}
 use Rattle.elf_edits.specs.declared.constants.TheConstants.{COLON, DF_1_NODEFLIB}
 use Rattle.elf_edits.specs.Edit.{Answer, Edit, AddDebugEntry, AddNeeded, AddRunPath, ClearExecStack, DeleteNeeded, DeleteRunPath, NoDefaultLibrary, ReplaceNeeded, SetExecStack, SetInterpreter, SetOsAbi, SetPageSize, SetRunPath, SetSoname, ShrinkRunPath, UseRpath, UseRunpath}
-use Rattle.elf_edits.specs.Shrunk.{Removal, Search, machine_found, questions_of, removed_from, shrunk}
-use Rattle.elf_edits.specs.Texts.{has_some, is_among, joined, value_of}
+use Rattle.elf_edits.specs.Shrunk.{Removal, Search, machine_found, removed_from, shrunk_text}
+use Rattle.elf_edits.specs.Texts.{first_in, has_some, is_among, joined_by_colons, value_of}
 
 -- ## Entries
 
@@ -47,6 +47,10 @@ text_if test (Text tag text) = if test (Text tag text) then text ∷ [] else []
 abbrev pub needed_names : List Entry → List (List ℕ)
 needed_names entries = flat_map (text_if (has_tag DT_NEEDED)) entries
 
+-- the library that an entry needs
+abbrev pub first_needed : Entry → Option (List ℕ)
+first_needed e = first_in (text_if (has_tag DT_NEEDED) e)
+
 abbrev pub run_paths : List Entry → List (List ℕ)
 run_paths entries = flat_map (text_if is_run_path) entries
 
@@ -80,11 +84,11 @@ with_each_added (added ∷ more) text = with_each_added more (with_directories t
 abbrev pub with_run_paths_added : List (List ℕ) → List Entry → List Entry
 with_run_paths_added texts entries =
     if list_any is_run_path entries then changed_where is_run_path (with_text_changed (with_each_added texts)) entries
-    else entries ++ Text DT_RUNPATH (joined texts) ∷ []
+    else entries ++ Text DT_RUNPATH (joined_by_colons texts) ∷ []
 
 -- every entry with the one tag gets the other
-abbrev pub retagged : ℕ → ℕ → List Entry → List Entry
-retagged old new entries = changed_where (has_tag old) (with_tag new) entries
+abbrev pub with_tags_changed : ℕ → ℕ → List Entry → List Entry
+with_tags_changed old new entries = changed_where (has_tag old) (with_tag new) entries
 
 -- the entry needs one of these libraries
 abbrev pub needs_one_of : List (List ℕ) → Entry → Bool
@@ -124,15 +128,11 @@ search_of machine prefixes answers entries = record { prefixes = prefixes; neede
 
 -- every run path is shrunk; an entry whose directories all go stays, with the empty text
 abbrev pub with_run_paths_shrunk : Search → List Entry → List Entry
-with_run_paths_shrunk s entries = changed_where is_run_path (with_text_changed (shrunk s)) entries
+with_run_paths_shrunk s entries = changed_where is_run_path (with_text_changed (shrunk_text s)) entries
 
 -- the directories that go, in the order of the entries
 abbrev pub directories_removed : Search → List Entry → List Removal
 directories_removed s entries = flat_map (removed_from s) (run_paths entries)
-
--- what has to be looked for before a run path is shrunk
-abbrev pub shrink_questions : List Entry → List (List ℕ × List ℕ)
-shrink_questions entries = questions_of (needed_names entries) (run_paths entries)
 
 -- ## All of them
 
@@ -142,8 +142,8 @@ edited_entries machine AddDebugEntry es = with_last_unless_there (Integer DT_DEB
 edited_entries machine DeleteRunPath es = without_run_paths es
 edited_entries machine (SetRunPath text) es = with_text_set is_run_path DT_RUNPATH text es
 edited_entries machine (AddRunPath texts) es = with_run_paths_added texts es
-edited_entries machine UseRunpath es = retagged DT_RPATH DT_RUNPATH es
-edited_entries machine UseRpath es = retagged DT_RUNPATH DT_RPATH es
+edited_entries machine UseRunpath es = with_tags_changed DT_RPATH DT_RUNPATH es
+edited_entries machine UseRpath es = with_tags_changed DT_RUNPATH DT_RPATH es
 edited_entries machine (DeleteNeeded names) es = without_needed names es
 edited_entries machine (ReplaceNeeded pairs) es = with_needed_replaced pairs es
 edited_entries machine (AddNeeded names) es = with_needed_added names es

@@ -9,8 +9,7 @@ use Rattle.elf_edits.specs.Cause.{Cause, cause}
 use Rattle.elf_edits.specs.Edit.{Edit, AddDebugEntry, DeleteNeeded, NoDefaultLibrary, ReplaceNeeded, SetRunPath, UseRpath}
 use Rattle.elf_edits.specs.Edited.{edited_view, step, touches}
 use Rattle.elf_edits.specs.Entries.{edited_entries, is_run_path, needed_names, needs_one_of}
-use Rattle.elf_edits.specs.Shrunk.{Search, removed_from, shrunk, stays}
-use Rattle.elf_edits.specs.Texts.{directories_in, value_of}
+use Rattle.elf_edits.specs.Texts.{value_of}
 
 -- ## One edit
 
@@ -96,8 +95,3 @@ pub record MapsAtOnce : Type 0 where
   pub first_swapped : (f g : List ℕ) → value_of (swap_of f g) f ≡ Some g
   pub second_swapped : (f g : List ℕ) → value_of (swap_of f g) g ≡ Some f
   pub swapped_back : (machine : ℕ) (f g : List ℕ) (es : List Entry) → needed_names (edited_entries machine (ReplaceNeeded (swap_of f g)) (edited_entries machine (ReplaceNeeded (swap_of f g)) es)) ≡ needed_names es
-
--- What goes from a run path is told, each directory that doesn't stay, in order; where none goes, the text is as it was.
-pub record ShrinkingTells : Type 0 where
-  pub told : (s : Search) (text : List ℕ) → map (λ r. r.directory) (removed_from s text) ≡ filter (λ directory. not (stays s directory)) (directories_in text)
-  pub none_gone : (s : Search) (text : List ℕ) → removed_from s text ≡ [] → shrunk s text ≡ text

@@ -7,9 +7,8 @@ pub mod Cause
 pub mod Edited
 pub mod Batch
 pub mod Decided
-pub mod Called
+pub mod EditModel
 pub mod CauseModel
-pub mod ShrunkModel
-pub mod Steps
+pub mod Changes
 pub mod Laws
 pub mod Rows

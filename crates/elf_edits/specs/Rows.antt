@@ -1,5 +1,5 @@
 -- Small lists and images, and what the edits make of them. Each row is computed.
-use Rattle.std.specs.Prelude.{ℕ, ◌≡◌, List, [], ◌∷◌, ◌++◌, true, false, Option, Some, None, Ok, Err, codes, replicate}
+use Rattle.std.specs.Prelude.{ℕ, ◌≡◌, List, [], ◌∷◌, ◌++◌, true, false, Some, None, Ok, Err, codes, replicate}
 use Rattle.patch_bytes.specs.declared.number.ByteOrder2.TheVariants.{Little}
 use Rattle.patch_bytes.specs.declared.number.Wide.TheVariants.{W64}
 use Rattle.elf_format.specs.declared.constants.TheConstants.{EM_MIPS}
@@ -8,12 +8,10 @@ use Rattle.elf_image.specs.Dynamic.{Auto, Entry, Integer, Text}
 use Rattle.elf_image.specs.Image.{Image}
 use Rattle.elf_edits.specs.Abi.{abi_number, with_nul}
 use Rattle.elf_edits.specs.Batch.{answers, left_by_all, run}
-use Rattle.elf_edits.specs.Cause.{BadPageSize, MipsImage, NoDynamic, NoInterpreter, NoRunPath, NulInText, TooManyHeaders, UnknownAbi, cause}
-use Rattle.elf_edits.specs.Edit.{Answer, Edit, AddDebugEntry, AddNeeded, AddRunPath, ClearExecStack, DeleteNeeded, DeleteRunPath, NoDefaultLibrary, ReplaceNeeded, SetExecStack, SetInterpreter, SetOsAbi, SetPageSize, SetRunPath, SetSoname, ShrinkRunPath, UseRpath, UseRunpath}
-use Rattle.elf_edits.specs.Edited.{added_stack, removed_by, step}
-use Rattle.elf_edits.specs.Entries.{edited_entries, shrink_questions}
-use Rattle.elf_edits.specs.Shrunk.{NoLibrary, Prefix, Removal}
-use Rattle.elf_edits.specs.Texts.{has_some}
+use Rattle.elf_edits.specs.Cause.{BadPageSize, MipsImage, NoDynamic, NoInterpreter, NulInText, TooManyHeaders, UnknownAbi, cause}
+use Rattle.elf_edits.specs.Edit.{Edit, AddDebugEntry, AddNeeded, AddRunPath, ClearExecStack, DeleteNeeded, DeleteRunPath, NoDefaultLibrary, ReplaceNeeded, SetExecStack, SetInterpreter, SetOsAbi, SetPageSize, SetRunPath, SetSoname, UseRpath, UseRunpath}
+use Rattle.elf_edits.specs.Edited.{added_stack, step}
+use Rattle.elf_edits.specs.Entries.{edited_entries}
 
 -- x86-64
 abbrev pub machine : ℕ
@@ -69,15 +67,6 @@ pub record OtherEntryRows : Type 0 where
   pub debug : edited_entries machine AddDebugEntry (Auto 5 ∷ []) ≡ Auto 5 ∷ Integer 21 0 ∷ []
   pub debug_there : edited_entries machine AddDebugEntry (Integer 21 7 ∷ Auto 5 ∷ []) ≡ Integer 21 7 ∷ Auto 5 ∷ []
 
--- ## Shrinking
-
--- a library found in a directory, for a machine
-abbrev pub found : List ℕ → List ℕ → Option ℕ → Answer
-found directory name m = record { directory = directory; needed = name; machine = m }
-
-abbrev pub gone : List ℕ → Removal
-gone directory = record { directory = directory; reason = NoLibrary }
-
 -- ## A small library: it needs libc.so.6 and has the run path /a
 
 abbrev pub small_segments : List SegmentHeader
@@ -111,35 +100,6 @@ small_image = record {
 
 abbrev pub with_entries : List Entry → Image
 with_entries es = record small_image { entries = Some es }
-
--- ## Shrinking
-
-abbrev pub foo : List ℕ
-foo = codes "libfoo.so"
-
-abbrev pub searching : List ℕ → Image
-searching text = with_entries (needed foo ∷ runpath text ∷ [])
-
--- a run path shrinks to a text, with these directories removed
-pub record ShrinksTo (edit : Edit) (from to : List ℕ) (removals : List Removal) : Type 0 where
-  pub left : step edit (searching from) ≡ Ok (record (searching to) { changed = has_some removals })
-  pub removed : removed_by edit (searching from) ≡ removals
-
-pub record ShrinkRows : Type 0 where
-  pub found_in_one : ShrinksTo (ShrinkRunPath [] (found (codes "/foo/lib") foo (Some machine) ∷ [])) (codes "/lib:/usr/lib:/foo/lib") (codes "/foo/lib")
-      (gone (codes "/lib") ∷ gone (codes "/usr/lib") ∷ [])
-  pub found_nowhere : ShrinksTo (ShrinkRunPath [] []) (codes "/lib:/foo/lib") [] (gone (codes "/lib") ∷ gone (codes "/foo/lib") ∷ [])
-  pub not_absolute : ShrinksTo (ShrinkRunPath [] []) (codes "$ORIGIN:/lib::lib") (codes "$ORIGIN::lib") (gone (codes "/lib") ∷ [])
-  pub nothing_goes : ShrinksTo (ShrinkRunPath [] (found (codes "/lib") foo (Some machine) ∷ [])) (codes "/lib:/lib") (codes "/lib:/lib") []
-  pub another_machine : ShrinksTo (ShrinkRunPath [] (found (codes "/lib") foo (Some 3) ∷ found (codes "/usr/lib") foo None ∷ [])) (codes "/lib:/usr/lib") [] (gone (codes "/lib") ∷ gone (codes "/usr/lib") ∷ [])
-  pub first_answer_counts : ShrinksTo (ShrinkRunPath [] (found (codes "/lib") foo None ∷ found (codes "/lib") foo (Some machine) ∷ [])) (codes "/lib") [] (gone (codes "/lib") ∷ [])
-  -- a prefix is one of bytes; what it doesn't begin goes for that reason, found or not
-  pub by_prefixes : ShrinksTo (ShrinkRunPath (codes "/opt" ∷ codes "/us" ∷ []) (found (codes "/lib") foo (Some machine) ∷ found (codes "/usr/lib") foo (Some machine) ∷ [])) (codes "/lib:/usr/lib:/opt") (codes "/usr/lib")
-      (record { directory = codes "/lib"; reason = Prefix } ∷ gone (codes "/opt") ∷ [])
-  pub no_run_path : step (ShrinkRunPath [] []) (with_entries (Auto 5 ∷ [])) ≡ Err NoRunPath
-  pub questions : shrink_questions small_entries ≡ (codes "/a", codes "libc.so.6") ∷ []
-  pub all_questions : shrink_questions (needed (codes "a") ∷ rpath (codes "/x:y:/z") ∷ needed (codes "b") ∷ runpath (codes "/w") ∷ [])
-      ≡ (codes "/x", codes "a") ∷ (codes "/x", codes "b") ∷ (codes "/z", codes "a") ∷ (codes "/z", codes "b") ∷ (codes "/w", codes "a") ∷ (codes "/w", codes "b") ∷ []
 
 -- ## Names, bytes, stack, pages
 
@@ -205,14 +165,12 @@ pub record RefusalRows : Type 0 where
   pub replaced_by : cause (ReplaceNeeded (([], with_nul_in_it) ∷ [])) small_image ≡ Some NulInText
   pub needed_more : cause (AddNeeded (with_nul_in_it ∷ [])) small_image ≡ Some NulInText
   pub named : cause (SetSoname with_nul_in_it) small_image ≡ Some NulInText
-  pub prefixes : cause (ShrinkRunPath (with_nul_in_it ∷ []) []) small_image ≡ Some NulInText
   pub abi : cause (SetOsAbi with_nul_in_it) small_image ≡ Some NulInText
-  -- the machine comes first, then the list, then the texts, then the rest
+  -- the machine comes first, then the list or the interpreter, then the texts, then the rest
   pub machine_first : cause (SetRunPath with_nul_in_it) mips_image ≡ Some MipsImage
   pub pages_of_mips : cause (SetPageSize 3) mips_image ≡ Some MipsImage
   pub list_next : cause (SetRunPath with_nul_in_it) (record small_image { entries = None }) ≡ Some (NoDynamic (codes "set runpath"))
   pub interpreter_next : cause (SetInterpreter with_nul_in_it) small_image ≡ Some NoInterpreter
-  pub texts_next : cause (ShrinkRunPath (with_nul_in_it ∷ []) []) (with_entries []) ≡ Some NulInText
   pub list_of_defaults : cause NoDefaultLibrary (record small_image { entries = None }) ≡ Some (NoDynamic (codes "set soname"))
 
 -- an edit leaves the image as it was, the mark too
@@ -230,7 +188,6 @@ pub record MarkRows : Type 0 where
   pub no_such_key : LeavesAll (ReplaceNeeded ((codes "a", codes "b") ∷ [])) small_image
   pub needed_already : LeavesAll (AddNeeded (codes "libc.so.6" ∷ [])) small_image
   pub debug_there : LeavesAll AddDebugEntry (with_entries (Integer 21 0 ∷ []))
-  pub nothing_shrinks : LeavesAll (ShrinkRunPath [] (found (codes "/a") (codes "libc.so.6") (Some machine) ∷ [])) small_image
   pub equal_run_path : Marks (SetRunPath (codes "/a")) small_image
   pub no_directories : Marks (AddRunPath []) small_image
   pub equal_library : Marks (ReplaceNeeded ((codes "libc.so.6", codes "libc.so.6") ∷ [])) small_image

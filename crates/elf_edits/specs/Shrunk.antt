@@ -1,12 +1,12 @@
 -- A run path without the directories in which no needed library is found.
 use Rattle.std.specs.Prelude.{ℕ, List, [], ◌∷◌, filter, find, Bool, true, not, ◌&&◌, ◌||◌, Option, Some, None, nat_eq, ◌==◌, if◌then◌else◌}
-use Rattle.std.specs.List.{filter_map, flat_map, list_any, starts_with}
+use Rattle.std.specs.List.{filter_map, list_any, starts_with}
 use Rattle.std.specs.Str.{bytes_eq}
 use Rattle.patch_bytes.specs.Memory.{◌>>=◌}
 use Rattle.elf_image.specs.Options.{is_some_and}
 use Rattle.elf_edits.specs.declared.constants.TheConstants.{SLASH}
 use Rattle.elf_edits.specs.Edit.{Answer}
-use Rattle.elf_edits.specs.Texts.{directories_in, joined}
+use Rattle.elf_edits.specs.Texts.{directories_in, joined_by_colons}
 
 -- What directories are judged by: the prefixes that are allowed, none for all; the needed libraries; the machine
 -- that they have to be for; and the machine that was found for a directory and a library.
@@ -41,8 +41,8 @@ abbrev pub stays : Search → List ℕ → Bool
 stays s directory = not (is_absolute directory) || (is_allowed s.prefixes directory && is_found_in s directory)
 
 -- the text with the directories that stay
-abbrev pub shrunk : Search → List ℕ → List ℕ
-shrunk s text = joined (filter (stays s) (directories_in text))
+abbrev pub shrunk_text : Search → List ℕ → List ℕ
+shrunk_text s text = joined_by_colons (filter (stays s) (directories_in text))
 
 -- Why a directory goes: no prefix begins it, or no needed library was found there.
 pub data Reason : Type 0 where
@@ -60,11 +60,3 @@ reason_of s directory = if is_allowed s.prefixes directory then NoLibrary else P
 -- the directories that go from a text, in order, with their reasons
 abbrev pub removed_from : Search → List ℕ → List Removal
 removed_from s text = filter_map (λ directory. if stays s directory then None else Some (record { directory = directory; reason = reason_of s directory })) (directories_in text)
-
--- the pairs of an absolute directory and a library
-abbrev pub pairs_of : List (List ℕ) → List (List ℕ) → List (List ℕ × List ℕ)
-pairs_of needed directories = flat_map (λ directory. flat_map (λ name. (directory, name) ∷ []) needed) (filter is_absolute directories)
-
--- those that have to be looked for, in the order of the texts
-abbrev pub questions_of : List (List ℕ) → List (List ℕ) → List (List ℕ × List ℕ)
-questions_of needed texts = flat_map (λ text. pairs_of needed (directories_in text)) texts

@@ -22,8 +22,8 @@ abbrev pub directories_in : List ℕ → List (List ℕ)
 directories_in text = slice_split (λ byte. byte == COLON) text
 
 -- directories with a colon between each two
-abbrev pub joined : List (List ℕ) → List ℕ
-joined directories = join_with_byte COLON directories
+abbrev pub joined_by_colons : List (List ℕ) → List ℕ
+joined_by_colons directories = join_with_byte COLON directories
 
 -- each text behind a colon
 abbrev pub behind_colons : List (List ℕ) → List ℕ

@@ -2,20 +2,20 @@
 ghost use Rattle.std.specs.Prelude.{◌≡◌, IfOk, map};
 ghost use Rattle.std.specs.Char.{to_ascii_lowercase};
 ghost use Rattle.std.specs.Str.{bytes_eq};
-ghost use Rattle.elf_edits.specs.Abi.{abi_names, abi_number as number_of_name, hurd_and_later, irix_and_later, lowered, number_among, openvms_and_later, with_nul as stored_with_nul};
+ghost use Rattle.elf_edits.specs.Abi.{abi_names, abi_number as number_of_name, hurd_and_later, irix_and_later, lowercase_name, number_among, openvms_and_later, with_nul as stored_with_nul};
 
 use std::alloc::{AllocError, Global};
 
 // Whether a name is this one but for the case of its ASCII letters.
 fn is_name(name: &str, own: &str) -> bool
     requires { map to_ascii_lowercase own.now ≡ own.now }
-    ensures { result ≡ bytes_eq (lowered name.now) own.now }
+    ensures { result ≡ bytes_eq (lowercase_name name.now) own.now }
 {
     name.eq_ignore_ascii_case(own)
 }
 
 fn openvms_or_later(name: &str) -> Option<u8>
-    ensures { result ≡ number_among openvms_and_later (lowered name.now) }
+    ensures { result ≡ number_among openvms_and_later (lowercase_name name.now) }
 {
     if is_name(name, "openvms") {
         Some(13)
@@ -33,7 +33,7 @@ fn openvms_or_later(name: &str) -> Option<u8>
 }
 
 fn irix_or_later(name: &str) -> Option<u8>
-    ensures { result ≡ number_among irix_and_later (lowered name.now) }
+    ensures { result ≡ number_among irix_and_later (lowercase_name name.now) }
 {
     if is_name(name, "irix") {
         Some(8)
@@ -51,7 +51,7 @@ fn irix_or_later(name: &str) -> Option<u8>
 }
 
 fn hurd_or_later(name: &str) -> Option<u8>
-    ensures { result ≡ number_among hurd_and_later (lowered name.now) }
+    ensures { result ≡ number_among hurd_and_later (lowercase_name name.now) }
 {
     if is_name(name, "hurd") || is_name(name, "gnu-hurd") || is_name(name, "gnu hurd") {
         Some(4)

@@ -1,5 +1,5 @@
 //! What is proved of the edits themselves. The functions do nothing: each stands for the law that is its contract.
-ghost use Rattle.elf_edits.specs.Laws.{BatchesAreTheirEdits, EditsShow, ListsOfBatches, MapsAtOnce, OthersStayInOrder, RunPathsAreSet, ShrinkingTells, TwiceIsOnce};
+ghost use Rattle.elf_edits.specs.Laws.{BatchesAreTheirEdits, EditsShow, ListsOfBatches, MapsAtOnce, OthersStayInOrder, RunPathsAreSet, TwiceIsOnce};
 
 /// An edited image shows the edited view, and all that edits leave is as it was.
 #[tactic(auto, using(crate::proofs::ShownLaws::edits_show))]
@@ -41,10 +41,4 @@ pub fn others_stay_in_order()
 #[tactic(auto, using(crate::proofs::EntryLaws::maps_at_once))]
 pub fn maps_at_once()
     ensures { MapsAtOnce }
-{}
-
-/// A run path that shrinks tells which directories go, and is as it was where none does.
-#[tactic(auto, using(crate::proofs::EntryLaws::shrinking_tells))]
-pub fn shrinking_tells()
-    ensures { ShrinkingTells }
 {}

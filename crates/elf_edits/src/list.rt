@@ -1,248 +1,26 @@
 //! The dynamic list after an edit.
-ghost use Rattle.std.specs.Prelude.{◌≡◌, ◌++◌, ℕ, IfOk, List, map, option_map, Some as some};
+ghost use Rattle.std.specs.Prelude.{◌≡◌, ◌++◌, ◌∷◌, [], false, true, not, if◌then◌else◌, IfOk, filter, map};
 ghost use Rattle.std.specs.HashSet.{keys};
-ghost use Rattle.std.specs.List.{filter_map, list_any};
-ghost use Rattle.std.specs.Str.{bytes_eq};
-ghost use Rattle.elf_image.specs.Dynamic.{Text as text_of_tag};
+ghost use Rattle.std.specs.List.{list_any};
+ghost use Rattle.elf_image.specs.Dynamic.{Integer as number_of_tag, Text as text_of_tag};
+ghost use Rattle.elf_image.specs.Image.{lists_tag};
 ghost use Rattle.elf_image.specs.ImageModel.{entry_model};
-ghost use Rattle.elf_image.specs.Answers.{borrowed};
-ghost use Rattle.elf_edits.specs.Called.{call_model, pairs_of_map, texts_model};
-ghost use Rattle.elf_edits.specs.Entries.{edited_entries, has_tag as has_that_tag, is_run_path as has_run_path, is_replaced as is_replaced_by, needed_names, needs_one_of as needs_any, not_needed_yet, touches_entries};
-ghost use Rattle.elf_edits.specs.Steps.{entry_after, first_needed, put_before, put_behind as put_last};
-ghost use Rattle.elf_edits.specs.Texts.{is_among, joined as joined_by_colons};
-ghost use Rattle.std.specs.Option.{option_to_list};
+ghost use Rattle.elf_edits.specs.Changes.{IsEditedList, IsNewList, change_model, has_name, test_model};
+ghost use Rattle.elf_edits.specs.EditModel.{edit_model, pairs_model, texts_model};
+ghost use Rattle.elf_edits.specs.Entries.{changed_where, has_tag as has_that_tag, is_replaced, is_run_path as has_run_path, needs_one_of, not_needed_yet, with_tags_changed, with_last_unless_there, with_needed_added, with_needed_replaced, with_run_paths_added, with_text_set, without_default_directories, without_needed};
+ghost use Rattle.elf_edits.specs.Texts.{has_some, joined_by_colons};
 
-use crate::call::EditCall;
+use crate::changes::{EntryChange, EntryTest};
 use crate::constants::DF_1_NODEFLIB;
-use crate::entries::{
-    changed, has_tag, is_dropped, is_replaced, is_run_path, needs_one_of, text_entry,
-};
-use crate::texts::joined;
+use crate::edit::ElfEdit;
+use crate::entries::{copy_entry, text_entry};
+use crate::lookups::{map_of, needed_set, set_of};
+use crate::texts::join;
 use elf_image::Dynamic;
 use elf_image::constants::{DT_DEBUG, DT_FLAGS_1, DT_NEEDED, DT_RPATH, DT_RUNPATH, DT_SONAME};
 use patch_bytes::ByteString;
 use std::alloc::{AllocError, Global};
-use std::collections::{HashMap, HashSet};
-
-// Whether an entry has a run path.
-pub(crate) fn any_run_path(entries: &[Dynamic<'_>]) -> bool
-    ensures { result ≡ list_any has_run_path (map entry_model entries.now) }
-{
-    for entry in entries {
-        if is_run_path(entry) {
-            return true;
-        }
-    }
-    false
-}
-
-// Whether an entry has this tag.
-pub(crate) fn any_with_tag(entries: &[Dynamic<'_>], tag: u64) -> bool
-    ensures { result ≡ list_any (has_that_tag tag) (map entry_model entries.now) }
-{
-    for entry in entries {
-        if has_tag(entry, tag) {
-            return true;
-        }
-    }
-    false
-}
-
-// The entries that are kept, changed, behind others.
-fn put_entries<'d>(
-    alloc: Global,
-    call: &EditCall<'_>,
-    entries: &[Dynamic<'d>],
-    made: &mut Vec<Dynamic<'d>>,
-) -> Result<(), AllocError>
-    ensures { IfOk result (λ _. map entry_model made.new.items
-        ≡ map entry_model made.old.items
-        ++ filter_map (entry_after (call_model call.now)) (map entry_model entries.now)) }
-{
-    for entry in entries {
-        if !is_dropped(call, entry) {
-            made.push(changed(alloc, call, entry)?)?;
-        }
-    }
-    Ok(())
-}
-
-// The name of the library that an entry needs.
-pub(crate) fn needed_name<'e>(entry: &'e Dynamic<'_>) -> Option<&'e [u8]>
-    ensures { option_map borrowed result ≡ first_needed (entry_model entry.now) }
-{
-    match entry {
-        Dynamic::Text { tag, val } if *tag == DT_NEEDED => Some(val.as_slice()),
-        _ => None,
-    }
-}
-
-// The names of the libraries that are needed.
-fn needed_set<'e>(
-    alloc: Global,
-    entries: &'e [Dynamic<'_>],
-) -> Result<HashSet<&'e [u8]>, AllocError>
-    ensures { IfOk result (λ set. (name : List ℕ) →
-        list_any (λ k. bytes_eq name k.now) (keys set)
-        ≡ is_among (needed_names (map entry_model entries.now)) name) }
-{
-    let mut set = HashSet::new(alloc);
-    for entry in entries {
-        if let Some(name) = needed_name(entry) {
-            set.insert(name)?;
-        }
-    }
-    Ok(set)
-}
-
-// The entries for names that are not needed yet.
-fn added_needed<'d>(
-    alloc: Global,
-    names: &[Vec<u8>],
-    entries: &[Dynamic<'_>],
-) -> Result<Vec<Dynamic<'d>>, AllocError>
-    ensures { IfOk result (λ made. map entry_model made.items
-        ≡ map (text_of_tag DT_NEEDED) (not_needed_yet (texts_model names.now)
-        (map entry_model entries.now))) }
-{
-    let set = needed_set(alloc, entries)?;
-    let mut made = Vec::new(alloc);
-    for name in names {
-        if !set.contains(name.as_slice()) {
-            made.push(text_entry(alloc, DT_NEEDED, name.as_slice())?)?;
-        }
-    }
-    Ok(made)
-}
-
-// What is put before all entries.
-fn put_first<'d>(
-    alloc: Global,
-    call: &EditCall<'_>,
-    entries: &[Dynamic<'_>],
-) -> Result<Vec<Dynamic<'d>>, AllocError>
-    ensures { IfOk result (λ made. map entry_model made.items
-        ≡ put_before (call_model call.now) (map entry_model entries.now)) }
-{
-    match call {
-        EditCall::AddNeeded(names) => added_needed(alloc, names, entries),
-        _ => Ok(Vec::new(alloc)),
-    }
-}
-
-// What is put behind all entries.
-fn last_entry<'d>(
-    alloc: Global,
-    call: &EditCall<'_>,
-    entries: &[Dynamic<'_>],
-) -> Result<Option<Dynamic<'d>>, AllocError>
-    ensures { IfOk result (λ made. map entry_model (option_to_list made)
-        ≡ put_last (call_model call.now) (map entry_model entries.now)) }
-{
-    match call {
-        EditCall::AddDebugEntry => if any_with_tag(entries, DT_DEBUG) {
-            Ok(None)
-        } else {
-            Ok(Some(Dynamic::Integer {
-                tag: DT_DEBUG,
-                val: 0,
-            }))
-        },
-        EditCall::SetRunPath(text) => if any_run_path(entries) {
-            Ok(None)
-        } else {
-            own_text(alloc, DT_RUNPATH, text)
-        },
-        EditCall::AddRunPath(texts) => if any_run_path(entries) {
-            Ok(None)
-        } else {
-            joined_texts(alloc, texts)
-        },
-        EditCall::SetSoname(text) => if any_with_tag(entries, DT_SONAME) {
-            Ok(None)
-        } else {
-            own_text(alloc, DT_SONAME, text)
-        },
-        EditCall::NoDefaultLibrary => if any_with_tag(entries, DT_FLAGS_1) {
-            Ok(None)
-        } else {
-            Ok(Some(Dynamic::Integer {
-                tag: DT_FLAGS_1,
-                val: DF_1_NODEFLIB,
-            }))
-        },
-        _ => Ok(None),
-    }
-}
-
-// An entry with a text.
-fn own_text<'d>(alloc: Global, tag: u64, text: &[u8]) -> Result<Option<Dynamic<'d>>, AllocError>
-    ensures { IfOk result (λ made. option_map entry_model made ≡ some (text_of_tag tag text.now)) }
-{
-    Ok(Some(text_entry(alloc, tag, text)?))
-}
-
-// A run path of texts.
-fn joined_texts<'d>(alloc: Global, texts: &[Vec<u8>]) -> Result<Option<Dynamic<'d>>, AllocError>
-    ensures { IfOk result (λ made. option_map entry_model made
-        ≡ some (text_of_tag DT_RUNPATH (joined_by_colons (texts_model texts.now)))) }
-{
-    let text = joined(alloc, texts)?;
-    Ok(Some(Dynamic::Text {
-        tag: DT_RUNPATH,
-        val: ByteString::owned(text),
-    }))
-}
-
-// Whether an entry needs one of these libraries.
-fn any_needs(entries: &[Dynamic<'_>], names: &HashSet<Vec<u8>>) -> bool
-    ensures { result ≡ list_any (needs_any (texts_model (keys names.now)))
-        (map entry_model entries.now) }
-{
-    for entry in entries {
-        if needs_one_of(entry, names) {
-            return true;
-        }
-    }
-    false
-}
-
-// Whether an entry needs a library that a map has.
-fn any_replaced(entries: &[Dynamic<'_>], names: &HashMap<Vec<u8>, Vec<u8>>) -> bool
-    ensures { result ≡ list_any (is_replaced_by (pairs_of_map names.now.entries))
-        (map entry_model entries.now) }
-{
-    for entry in entries {
-        if is_replaced(entry, names) {
-            return true;
-        }
-    }
-    false
-}
-
-// Whether an edit adds, removes or writes something, where `made` is the list after it.
-#[tactic(auto, unfolding(crate::specs::Entries::touches_entries))]
-fn touches(call: &EditCall<'_>, entries: &[Dynamic<'_>], made: &[Dynamic<'_>]) -> bool
-    requires { map entry_model made.now
-        ≡ edited_entries 0 (call_model call.now) (map entry_model entries.now) }
-    ensures { (machine : ℕ) → result
-        ≡ touches_entries machine (call_model call.now) (map entry_model entries.now) }
-{
-    match call {
-        EditCall::AddDebugEntry => !any_with_tag(entries, DT_DEBUG),
-        EditCall::DeleteRunPath => any_run_path(entries),
-        EditCall::UseRunpath => any_with_tag(entries, DT_RPATH),
-        EditCall::UseRpath => any_with_tag(entries, DT_RUNPATH),
-        EditCall::DeleteNeeded(names) => any_needs(entries, names),
-        EditCall::ReplaceNeeded(names) => any_replaced(entries, names),
-        EditCall::AddNeeded(_) => entries.len() < made.len(),
-        EditCall::SetRunPath(_) => true,
-        EditCall::AddRunPath(_) => true,
-        EditCall::SetSoname(_) => true,
-        EditCall::NoDefaultLibrary => true,
-        _ => false,
-    }
-}
+use std::collections::HashSet;
 
 /// A dynamic list after an edit.
 #[derive(Drop)]
@@ -253,42 +31,390 @@ pub struct NewList<'d> {
     pub is_touched: bool,
 }
 
-// The entries after an edit.
-fn edited_list<'d>(
+/// Whether an entry has this tag. Takes no memory.
+pub fn any_with_tag(entries: &[Dynamic<'_>], tag: u64) -> bool
+    ensures { result ≡ list_any (has_that_tag tag) (map entry_model entries.now) }
+{
+    EntryTest::Tag(tag).holds_of_any(entries)
+}
+
+// Whether an entry has a run path.
+pub(crate) fn any_run_path(entries: &[Dynamic<'_>]) -> bool
+    ensures { result ≡ list_any has_run_path (map entry_model entries.now) }
+{
+    EntryTest::RunPath.holds_of_any(entries)
+}
+
+// Puts copies of entries behind others.
+fn put_copies<'d>(
     alloc: Global,
-    call: &EditCall<'_>,
+    entries: &[Dynamic<'d>],
+    made: &mut Vec<Dynamic<'d>>,
+) -> Result<(), AllocError>
+    ensures { IfOk result (λ _. map entry_model made.new.items
+        ≡ map entry_model made.old.items ++ map entry_model entries.now) }
+{
+    for entry in entries {
+        made.push(copy_entry(alloc, entry)?)?;
+    }
+    Ok(())
+}
+
+// The list as it is, which no edit wrote.
+fn copy_list<'d>(alloc: Global, entries: &[Dynamic<'d>]) -> Result<NewList<'d>, AllocError>
+    ensures { IfOk result (IsNewList (map entry_model entries.now) false) }
+{
+    let mut made = Vec::new(alloc);
+    put_copies(alloc, entries, &mut made)?;
+    Ok(NewList {
+        entries: made,
+        is_touched: false,
+    })
+}
+
+// The list with an entry put last.
+fn with_last<'d>(
+    alloc: Global,
+    entries: &[Dynamic<'d>],
+    last: Dynamic<'d>,
+) -> Result<NewList<'d>, AllocError>
+    ensures { IfOk result (IsNewList (map entry_model entries.now ++ entry_model last.entry ∷ [])
+        true) }
+{
+    let mut made = Vec::new(alloc);
+    put_copies(alloc, entries, &mut made)?;
+    made.push(last)?;
+    Ok(NewList {
+        entries: made,
+        is_touched: true,
+    })
+}
+
+// The list with an entry of this text put last.
+fn with_last_text<'d>(
+    alloc: Global,
+    entries: &[Dynamic<'d>],
+    tag: u64,
+    text: &[u8],
+) -> Result<NewList<'d>, AllocError>
+    ensures { IfOk result (IsNewList
+        (map entry_model entries.now ++ text_of_tag tag text.now ∷ []) true) }
+{
+    let last = text_entry(alloc, tag, text)?;
+    with_last(alloc, entries, last)
+}
+
+// An entry, changed where an edit is about it.
+fn change_entry<'d>(
+    alloc: Global,
+    test: &EntryTest<'_, '_>,
+    change: &EntryChange<'_, '_>,
+    entry: &Dynamic<'d>,
+) -> Result<Dynamic<'d>, AllocError>
+    ensures { IfOk result (λ made. entry_model made
+        ≡ (if test_model test.now (entry_model entry.now)
+        then change_model change.now (entry_model entry.now) else entry_model entry.now)) }
+{
+    if test.holds(entry) {
+        change.apply(alloc, entry)
+    } else {
+        copy_entry(alloc, entry)
+    }
+}
+
+// The list with the entries changed that an edit is about, which wrote them.
+fn change_entries<'d>(
+    alloc: Global,
+    test: &EntryTest<'_, '_>,
+    change: &EntryChange<'_, '_>,
+    entries: &[Dynamic<'d>],
+) -> Result<NewList<'d>, AllocError>
+    ensures { IfOk result (IsNewList (changed_where (test_model test.now) (change_model change.now)
+        (map entry_model entries.now)) true) }
+{
+    let mut made = Vec::new(alloc);
+    for entry in entries {
+        made.push(change_entry(alloc, test, change, entry)?)?;
+    }
+    Ok(NewList {
+        entries: made,
+        is_touched: true,
+    })
+}
+
+// The same of an edit that wrote nothing where it is about no entry.
+fn change_where<'d>(
+    alloc: Global,
+    test: &EntryTest<'_, '_>,
+    change: &EntryChange<'_, '_>,
+    entries: &[Dynamic<'d>],
+) -> Result<NewList<'d>, AllocError>
+    ensures { IfOk result (IsNewList (changed_where (test_model test.now) (change_model change.now)
+        (map entry_model entries.now)) (list_any (test_model test.now)
+        (map entry_model entries.now))) }
+{
+    if test.holds_of_any(entries) {
+        change_entries(alloc, test, change, entries)
+    } else {
+        copy_list(alloc, entries)
+    }
+}
+
+// The entries that an edit is not about.
+fn entries_without<'d>(
+    alloc: Global,
+    test: &EntryTest<'_, '_>,
     entries: &[Dynamic<'d>],
 ) -> Result<Vec<Dynamic<'d>>, AllocError>
-    ensures { IfOk result (λ made. (machine : ℕ) →
-        map entry_model made.items
-        ≡ edited_entries machine (call_model call.now) (map entry_model entries.now)) }
+    ensures { IfOk result (λ made. map entry_model made.items
+        ≡ filter (λ e. not (test_model test.now e)) (map entry_model entries.now)) }
 {
-    let mut made = put_first(alloc, call, entries)?;
-    put_entries(alloc, call, entries, &mut made)?;
-    if let Some(last) = last_entry(alloc, call, entries)? {
-        made.push(last)?;
+    let mut made = Vec::new(alloc);
+    for entry in entries {
+        if !test.holds(entry) {
+            made.push(copy_entry(alloc, entry)?)?;
+        }
     }
     Ok(made)
 }
 
-/// The dynamic list after an edit, and whether it wrote something. Texts that are lent stay lent, those that the edit
-/// writes are owned. The cost is in proportion to the list and the edit's texts. Error: `AllocError`.
-pub fn edited<'d>(
+// The list without the entries that an edit is about.
+fn delete_where<'d>(
     alloc: Global,
-    call: &EditCall<'_>,
+    test: &EntryTest<'_, '_>,
     entries: &[Dynamic<'d>],
 ) -> Result<NewList<'d>, AllocError>
-    ensures list { IfOk result (λ made. (machine : ℕ) →
-        map entry_model made.entries.items
-        ≡ edited_entries machine (call_model call.now) (map entry_model entries.now)) }
-    ensures touched { IfOk result (λ made. (machine : ℕ) →
-        made.is_touched ≡ touches_entries machine (call_model call.now)
-        (map entry_model entries.now)) }
+    ensures { IfOk result (IsNewList (filter (λ e. not (test_model test.now e))
+        (map entry_model entries.now)) (list_any (test_model test.now)
+        (map entry_model entries.now))) }
 {
-    let made = edited_list(alloc, call, entries)?;
-    let is_touched = touches(call, entries, made.as_slice());
+    let made = entries_without(alloc, test, entries)?;
+    Ok(NewList {
+        entries: made,
+        is_touched: test.holds_of_any(entries),
+    })
+}
+
+// The list with a DT_RPATH for each DT_RUNPATH.
+fn use_rpath<'d>(alloc: Global, entries: &[Dynamic<'d>]) -> Result<NewList<'d>, AllocError>
+    ensures { IfOk result (IsNewList (with_tags_changed DT_RUNPATH DT_RPATH (map entry_model entries.now))
+        (lists_tag DT_RUNPATH (map entry_model entries.now))) }
+{
+    let test = EntryTest::Tag(DT_RUNPATH);
+    change_where(alloc, &test, &EntryChange::Tag(DT_RPATH), entries)
+}
+
+// The list with an entry for a debugger.
+fn add_debug_entry<'d>(alloc: Global, entries: &[Dynamic<'d>]) -> Result<NewList<'d>, AllocError>
+    ensures { IfOk result (IsNewList
+        (with_last_unless_there (number_of_tag DT_DEBUG 0) (map entry_model entries.now))
+        (not (lists_tag DT_DEBUG (map entry_model entries.now)))) }
+{
+    if any_with_tag(entries, DT_DEBUG) {
+        copy_list(alloc, entries)
+    } else {
+        let last = Dynamic::Integer {
+            tag: DT_DEBUG,
+            val: 0,
+        };
+        with_last(alloc, entries, last)
+    }
+}
+
+// The list with this text in the entries that an edit is about; without one, with an entry of the text last.
+fn set_text<'d>(
+    alloc: Global,
+    test: &EntryTest<'_, '_>,
+    tag: u64,
+    text: &[u8],
+    entries: &[Dynamic<'d>],
+) -> Result<NewList<'d>, AllocError>
+    ensures { IfOk result (IsNewList (with_text_set (test_model test.now) tag text.now
+        (map entry_model entries.now)) true) }
+{
+    if test.holds_of_any(entries) {
+        change_entries(alloc, test, &EntryChange::Text(text), entries)
+    } else {
+        with_last_text(alloc, entries, tag, text)
+    }
+}
+
+// The list with a run path of directories put last.
+fn with_last_run_path<'d>(
+    alloc: Global,
+    directories: &[Vec<u8>],
+    entries: &[Dynamic<'d>],
+) -> Result<NewList<'d>, AllocError>
+    ensures { IfOk result (IsNewList (map entry_model entries.now
+        ++ text_of_tag DT_RUNPATH (joined_by_colons (texts_model directories.now)) ∷ []) true) }
+{
+    let val = ByteString::owned(join(alloc, directories)?);
+    with_last(
+        alloc,
+        entries,
+        Dynamic::Text {
+            tag: DT_RUNPATH,
+            val,
+        },
+    )
+}
+
+// The list with directories added to each run path; without one, with a run path of them last.
+fn add_directories<'d>(
+    alloc: Global,
+    directories: &[Vec<u8>],
+    entries: &[Dynamic<'d>],
+) -> Result<NewList<'d>, AllocError>
+    ensures { IfOk result (IsNewList (with_run_paths_added (texts_model directories.now)
+        (map entry_model entries.now)) true) }
+{
+    if any_run_path(entries) {
+        let change = EntryChange::Directories(directories);
+        change_entries(alloc, &EntryTest::RunPath, &change, entries)
+    } else {
+        with_last_run_path(alloc, directories, entries)
+    }
+}
+
+// The list with DF_1_NODEFLIB in each DT_FLAGS_1; without one, with one last.
+fn leave_out_defaults<'d>(alloc: Global, entries: &[Dynamic<'d>]) -> Result<NewList<'d>, AllocError>
+    ensures { IfOk result (IsNewList (without_default_directories (map entry_model entries.now))
+        true) }
+{
+    let test = EntryTest::Tag(DT_FLAGS_1);
+    if test.holds_of_any(entries) {
+        change_entries(alloc, &test, &EntryChange::Bits(DF_1_NODEFLIB), entries)
+    } else {
+        let last = Dynamic::Integer {
+            tag: DT_FLAGS_1,
+            val: DF_1_NODEFLIB,
+        };
+        with_last(alloc, entries, last)
+    }
+}
+
+// The list without needed libraries of these names.
+fn delete_needed<'d>(
+    alloc: Global,
+    names: &[Vec<u8>],
+    entries: &[Dynamic<'d>],
+) -> Result<NewList<'d>, AllocError>
+    ensures { IfOk result (IsNewList (without_needed (texts_model names.now)
+        (map entry_model entries.now)) (list_any (needs_one_of (texts_model names.now))
+        (map entry_model entries.now))) }
+{
+    let set = set_of(alloc, names)?;
+    delete_where(alloc, &EntryTest::Needs(&set), entries)
+}
+
+// The list with needed libraries replaced; of a repeated old name the last pair counts.
+fn replace_needed<'d>(
+    alloc: Global,
+    pairs: &[(Vec<u8>, Vec<u8>)],
+    entries: &[Dynamic<'d>],
+) -> Result<NewList<'d>, AllocError>
+    ensures { IfOk result (IsNewList (with_needed_replaced (pairs_model pairs.now)
+        (map entry_model entries.now)) (list_any (is_replaced (pairs_model pairs.now))
+        (map entry_model entries.now))) }
+{
+    let names = map_of(alloc, pairs)?;
+    change_where(
+        alloc,
+        &EntryTest::Renamed(&names),
+        &EntryChange::Name(&names),
+        entries,
+    )
+}
+
+// The entries for names that are not in a set.
+fn entries_for_new<'d>(
+    alloc: Global,
+    names: &[Vec<u8>],
+    set: &HashSet<&[u8]>,
+) -> Result<Vec<Dynamic<'d>>, AllocError>
+    ensures { IfOk result (λ made. map entry_model made.items
+        ≡ map (text_of_tag DT_NEEDED) (filter (λ name. not (has_name (keys set.now) name))
+        (texts_model names.now))) }
+{
+    let mut made = Vec::new(alloc);
+    for name in names {
+        if !set.contains(name.as_slice()) {
+            made.push(text_entry(alloc, DT_NEEDED, name.as_slice())?)?;
+        }
+    }
+    Ok(made)
+}
+
+// The entries for names of libraries that are not needed yet.
+fn new_needed<'d>(
+    alloc: Global,
+    names: &[Vec<u8>],
+    entries: &[Dynamic<'_>],
+) -> Result<Vec<Dynamic<'d>>, AllocError>
+    ensures { IfOk result (λ made. map entry_model made.items
+        ≡ map (text_of_tag DT_NEEDED) (not_needed_yet (texts_model names.now)
+        (map entry_model entries.now))) }
+{
+    let set = needed_set(alloc, entries)?;
+    entries_for_new(alloc, names, &set)
+}
+
+// The list with the libraries that are not needed yet before all entries.
+fn add_needed<'d>(
+    alloc: Global,
+    names: &[Vec<u8>],
+    entries: &[Dynamic<'d>],
+) -> Result<NewList<'d>, AllocError>
+    ensures { IfOk result (IsNewList (with_needed_added (texts_model names.now)
+        (map entry_model entries.now)) (has_some (not_needed_yet (texts_model names.now)
+        (map entry_model entries.now)))) }
+{
+    let mut made = new_needed(alloc, names, entries)?;
+    let is_touched = !made.is_empty();
+    put_copies(alloc, entries, &mut made)?;
     Ok(NewList {
         entries: made,
         is_touched,
     })
+}
+
+/// The dynamic list after an edit, and whether the edit wrote something; an edit of something else leaves it. Texts that
+/// are lent stay lent, those that the edit writes are owned. The cost is in proportion to the list and the edit's texts.
+/// Error: `AllocError`.
+pub fn edit_list<'d>(
+    alloc: Global,
+    edit: &ElfEdit,
+    entries: &[Dynamic<'d>],
+) -> Result<NewList<'d>, AllocError>
+    ensures { IfOk result (IsEditedList (edit_model edit.now) (map entry_model entries.now)) }
+{
+    match edit {
+        ElfEdit::AddDebugTag => add_debug_entry(alloc, entries),
+        ElfEdit::AddNeeded(names) => add_needed(alloc, names.as_slice(), entries),
+        ElfEdit::AddRpath(directories) => add_directories(alloc, directories.as_slice(), entries),
+        ElfEdit::ForceRpath => use_rpath(alloc, entries),
+        ElfEdit::NoDefaultLib => leave_out_defaults(alloc, entries),
+        ElfEdit::RemoveNeeded(names) => delete_needed(alloc, names.as_slice(), entries),
+        ElfEdit::RemoveRpath => delete_where(alloc, &EntryTest::RunPath, entries),
+        ElfEdit::ReplaceNeeded(pairs) => replace_needed(alloc, pairs.as_slice(), entries),
+        ElfEdit::SetRpath(text) => {
+            set_text(
+                alloc,
+                &EntryTest::RunPath,
+                DT_RUNPATH,
+                text.as_slice(),
+                entries,
+            )
+        }
+        ElfEdit::SetSoname(text) => {
+            set_text(
+                alloc,
+                &EntryTest::Tag(DT_SONAME),
+                DT_SONAME,
+                text.as_slice(),
+                entries,
+            )
+        }
+        _ => copy_list(alloc, entries),
+    }
 }

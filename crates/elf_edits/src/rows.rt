@@ -1,6 +1,6 @@
 //! Small lists and images, and what the edits make of them. The functions do nothing: the contract of each is
 //! computed.
-ghost use Rattle.elf_edits.specs.Rows.{AbiRows, BatchRows, InterpreterRows, MarkRows, NeededRows, OtherEntryRows, PageRows, RefusalRows, RunPathRows, ShrinkRows, StackRows};
+ghost use Rattle.elf_edits.specs.Rows.{AbiRows, BatchRows, InterpreterRows, MarkRows, NeededRows, OtherEntryRows, PageRows, RefusalRows, RunPathRows, StackRows};
 
 /// Run paths, needed libraries and the other entries.
 pub fn list_rows()
@@ -21,11 +21,6 @@ pub fn value_rows()
 pub fn refusal_rows()
     ensures causes { RefusalRows }
     ensures marks { MarkRows }
-{}
-
-/// Run paths that shrink, with the directories that go, and what has to be looked for.
-pub fn shrink_rows()
-    ensures { ShrinkRows }
 {}
 
 /// Batches, and lists of batches.

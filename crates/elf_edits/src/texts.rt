@@ -1,14 +1,58 @@
-//! Texts of run paths.
-ghost use Rattle.std.specs.Prelude.{◌≡◌, ◌++◌, IfOk};
-ghost use Rattle.elf_edits.specs.Called.{texts_model};
+//! Texts of run paths, and NULs in texts.
+ghost use Rattle.std.specs.Prelude.{◌≡◌, ◌∷◌, [], ◌++◌, IfOk};
+ghost use Rattle.std.specs.List.{flat_map, list_any};
+ghost use Rattle.elf_edits.specs.Edit.{all_but_last};
+ghost use Rattle.elf_edits.specs.EditModel.{pairs_model, texts_model};
 ghost use Rattle.elf_edits.specs.Entries.{with_directories, with_each_added};
-ghost use Rattle.elf_edits.specs.Texts.{behind_colons, joined as joined_by_colons};
+ghost use Rattle.elf_edits.specs.Texts.{behind_colons, holds_nul as nul_in, joined_by_colons};
 
 use crate::constants::COLON;
 use std::alloc::{AllocError, Global};
 
-// A text with another behind a colon, alone where the first is empty.
-fn put_directories(text: &mut Vec<u8>, added: &[u8]) -> Result<(), AllocError>
+// Whether a text holds a NUL.
+pub(crate) fn holds_nul(text: &[u8]) -> bool
+    ensures { result ≡ nul_in text.now }
+{
+    text.contains(&0)
+}
+
+/// Whether one of some texts holds a NUL. Takes no memory.
+pub fn any_nul(texts: &[Vec<u8>]) -> bool
+    ensures { result ≡ list_any nul_in (texts_model texts.now) }
+{
+    for text in texts {
+        if holds_nul(text.as_slice()) {
+            return true;
+        }
+    }
+    false
+}
+
+// Whether a text of some pairs does.
+pub(crate) fn any_nul_in_pairs(pairs: &[(Vec<u8>, Vec<u8>)]) -> bool
+    ensures { result ≡ list_any nul_in (flat_map (λ pair. pair.0 ∷ pair.1 ∷ [])
+        (pairs_model pairs.now)) }
+{
+    for (old, new) in pairs {
+        if holds_nul(old.as_slice()) || holds_nul(new.as_slice()) {
+            return true;
+        }
+    }
+    false
+}
+
+// Whether bytes before the last one do.
+pub(crate) fn nul_before_end(bytes: &[u8]) -> bool
+    ensures { result ≡ list_any nul_in (all_but_last bytes.now ∷ []) }
+{
+    match bytes.len().checked_sub(1) {
+        None => false,
+        Some(last) => holds_nul(&bytes[..last]),
+    }
+}
+
+// Puts a directory behind a text: behind a colon, or alone where the text is empty.
+fn add_directory(text: &mut Vec<u8>, added: &[u8]) -> Result<(), AllocError>
     ensures { IfOk result (λ _. text.new.items ≡ with_directories text.old.items added.now) }
 {
     if !text.is_empty() {
@@ -17,17 +61,18 @@ fn put_directories(text: &mut Vec<u8>, added: &[u8]) -> Result<(), AllocError>
     text.extend_from_slice(added)
 }
 
-// A run path with each of some texts added in turn.
-pub(crate) fn with_added(
+// A run path with each of some directories added in turn.
+pub(crate) fn with_each_directory(
     alloc: Global,
     text: &[u8],
-    texts: &[Vec<u8>],
+    directories: &[Vec<u8>],
 ) -> Result<Vec<u8>, AllocError>
-    ensures { IfOk result (λ made. made.items ≡ with_each_added (texts_model texts.now) text.now) }
+    ensures { IfOk result (λ made. made.items
+        ≡ with_each_added (texts_model directories.now) text.now) }
 {
     let mut made = Vec::from_slice(alloc, text)?;
-    for added in texts {
-        put_directories(&mut made, added.as_slice())?;
+    for added in directories {
+        add_directory(&mut made, added.as_slice())?;
     }
     Ok(made)
 }
@@ -45,7 +90,7 @@ fn put_behind(made: &mut Vec<u8>, texts: &[Vec<u8>]) -> Result<(), AllocError>
 }
 
 // Texts with a colon between each two.
-pub(crate) fn joined(alloc: Global, texts: &[Vec<u8>]) -> Result<Vec<u8>, AllocError>
+pub(crate) fn join(alloc: Global, texts: &[Vec<u8>]) -> Result<Vec<u8>, AllocError>
     ensures { IfOk result (λ made. made.items ≡ joined_by_colons (texts_model texts.now)) }
 {
     if texts.is_empty() {

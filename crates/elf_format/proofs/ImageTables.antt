@@ -1,7 +1,7 @@
 -- What an image has of the dynamic tables is what the section headers show of them.
-use Rattle.std.proofs.Common.{◌≡◌, ℕ, zero, suc, ◌*◌, ◌/◌, ◌%◌, Bool, true, false, cond, eqb, List, [], ◌∷◌, length, map, drop, replicate, refl, sym, ap, ◌∙◌, subst, Option, Some, None, arith}
+use Rattle.std.proofs.Common.{◌≡◌, ℕ, ◌*◌, ◌/◌, ◌%◌, Bool, true, false, cond, eqb, List, ◌∷◌, length, map, replicate, refl, sym, ap, ◌∙◌, subst, Option, Some, None, arith, []}
 use Rattle.std.specs.Prelude.{◌&&◌, ◌||◌, find, is_some}
-use Rattle.std.proofs.lemmas.List.{length-replicate, map-id, take_all}
+use Rattle.std.proofs.lemmas.List.{map-id, take_all}
 use Rattle.std.proofs.lemmas.Option.{same_Some}
 use Rattle.std.proofs.lemmas.Bool.{and_parts, cond-true, cond_both, eqb-true}
 use Rattle.patch_bytes.specs.Number.{field}
@@ -21,6 +21,7 @@ use Rattle.elf_format.specs.Views.{NamedSymbol, Table, defined_versions, dynamic
 use Rattle.elf_format.proofs.Agreement.{defined_versions-keeps, dynamic_symbols-keeps, each-agrees, needed_versions-keeps, shown_entry-keeps}
 use Rattle.elf_format.proofs.Placed.{find_some}
 use Rattle.elf_format.proofs.ViewsAgree.{definitions_whole, first_by_tag-Keeps, found_by_type, length-bytes, nat_le_refl, needs_whole, symbols_bytes, symbols_right, table_there, test_at, there_and, there_if, version_symbols_right, versions_right, whole_count, whole_entries}
+use Rattle.elf_format.proofs.Lengths.{length-records, length-versions_read}
 
 -- ## Tags
 
@@ -62,11 +63,6 @@ asked_shown false o x h = refl
 
 -- ## Symbols
 
-length-records : {A : Type 0} → (decode : List ℕ → A) (size count : ℕ) (bytes : List ℕ) → length (records decode size count bytes) ≡ count
-unfolding records
-length-records decode size zero bytes = refl
-length-records decode size (suc count) bytes = ap suc (length-records decode size count (drop size bytes))
-
 -- the versions that a loader sees
 seen_versions : Bool → ℕ → List (Option VersionId) → List (Option VersionId)
 seen_versions true count versions = versions
@@ -88,11 +84,6 @@ seen_named : (b : Bool) (ys : List SymbolNumbers) (names : List (List ℕ)) (ver
 unfolding seen_versions
 seen_named true ys names versions h = sym (map-id (named_symbols ys names versions))
 seen_named false ys names versions h = sym (unversioned ys names versions h)
-
-length-versions_read : (p : Parts) (o : Option SectionHeader) (count : ℕ) → length (versions_read p o count) ≡ count
-unfolding versions_read
-length-versions_read p None count = length-replicate count None
-length-versions_read p (Some s) count = length-records (λ b. Some (version_id p.opened.form b)) 2 count (section_bytes (file_of p) s)
 
 module _ (p : Parts) (rules : MeetsRules p) where
   -- the versions of all symbols

@@ -143,8 +143,17 @@ module _ (p : Parts) where
       ∙ ap (λ b. section_names_end p && symbols_are_named p (texts_of p) SHT_SYMTAB && symbols_are_named p (dynamic_texts_of p) SHT_DYNSYM && entry_texts_end p && definition_texts_end p && b)
       (needs_texted p (section_of_type SHT_GNU_VERNEED p.sections))
 
--- What an image of parts has that is shown, and its numbers at read.
+-- What an image of parts has, what of it is shown, and its numbers at read.
 pub record IsImageOf (p : Parts) (image : Image) : Type 0 where
+  pub source : image.source ≡ file_of p
+  pub changed : image.changed ≡ false
+  pub form : image.form ≡ p.opened.form
+  pub header : image.header ≡ image_header p.opened.header
+  pub segments : image.segments ≡ p.segments
+  pub sections : each (section_read p) p.sections ≡ Some image.sections
+  pub symbols : static_symbols p (section_of_type SHT_SYMTAB p.sections) ≡ Some image.symbols
+  pub interpreter : image.interpreter ≡ interpreter_read p
+  pub page_size : image.page_size ≡ None
   pub outline : shown_outline image ≡ outline_of p.opened p.segments (interpreter_read p)
   pub dynamic_symbols : dynamic_symbols_read p (section_of_type SHT_DYNSYM p.sections) ≡ Some image.dynamic_symbols
   pub entries : entries_read p (section_of_type SHT_DYNAMIC p.sections) ≡ Some image.entries
@@ -158,14 +167,23 @@ pub image_made : (p : Parts) (image : Image) → image_in p ≡ Some image → I
 unfolding sections symbols dynamic_symbols entries definitions needs image_by
 image_made p image h =
     let make : List ImageSection → List NamedSymbol → List NamedSymbol → Option (List Entry) → List VersionDefinition → List VersionNeeds → Image = image_by p in
-    let (ss, _, h1) = bind_some (sections p) (λ ss. symbols p >>= λ ys. dynamic_symbols p >>= λ ds. entries p >>= λ es. definitions p >>= λ vs. needs p >>= λ ns. Some (make ss ys ds es vs ns)) image (sym (by_parts p) ∙ h) in
-    let (ys, _, h2) = bind_some (symbols p) (λ ys. dynamic_symbols p >>= λ ds. entries p >>= λ es. definitions p >>= λ vs. needs p >>= λ ns. Some (make ss ys ds es vs ns)) image h1 in
+    let (ss, ss_there, h1) = bind_some (sections p) (λ ss. symbols p >>= λ ys. dynamic_symbols p >>= λ ds. entries p >>= λ es. definitions p >>= λ vs. needs p >>= λ ns. Some (make ss ys ds es vs ns)) image (sym (by_parts p) ∙ h) in
+    let (ys, ys_there, h2) = bind_some (symbols p) (λ ys. dynamic_symbols p >>= λ ds. entries p >>= λ es. definitions p >>= λ vs. needs p >>= λ ns. Some (make ss ys ds es vs ns)) image h1 in
     let (ds, ds_there, h3) = bind_some (dynamic_symbols p) (λ ds. entries p >>= λ es. definitions p >>= λ vs. needs p >>= λ ns. Some (make ss ys ds es vs ns)) image h2 in
     let (es, es_there, h4) = bind_some (entries p) (λ es. definitions p >>= λ vs. needs p >>= λ ns. Some (make ss ys ds es vs ns)) image h3 in
     let (vs, vs_there, h5) = bind_some (definitions p) (λ vs. needs p >>= λ ns. Some (make ss ys ds es vs ns)) image h4 in
     let (ns, ns_there, h6) = bind_some (needs p) (λ ns. Some (make ss ys ds es vs ns)) image h5 in
     let same : make ss ys ds es vs ns ≡ image = same_Some (make ss ys ds es vs ns) image h6 in
     record {
+      source = ap (λ i. i.source) (sym same);
+      changed = ap (λ i. i.changed) (sym same);
+      form = ap (λ i. i.form) (sym same);
+      header = ap (λ i. i.header) (sym same);
+      segments = ap (λ i. i.segments) (sym same);
+      sections = ss_there ∙ ap (λ i. Some i.sections) same;
+      symbols = ys_there ∙ ap (λ i. Some i.symbols) same;
+      interpreter = ap (λ i. i.interpreter) (sym same);
+      page_size = ap (λ i. i.page_size) (sym same);
       outline = ap shown_outline (sym same);
       dynamic_symbols = ds_there ∙ ap (λ i. Some i.dynamic_symbols) same;
       entries = es_there ∙ ap (λ i. Some i.entries) same;

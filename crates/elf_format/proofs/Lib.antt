@@ -10,6 +10,7 @@ pub mod ReadingSteps
 pub mod TableSteps
 pub mod EntrySteps
 pub mod ChainSteps
+pub mod Lengths
 pub mod ImageTexts
 pub mod ImageTables
 pub mod ImageShows

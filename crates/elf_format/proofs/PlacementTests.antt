@@ -56,19 +56,19 @@ lies_in-means r outer =
     Decides-like (lies_in r outer) (λ h. record { begins = h.0; ends = h.1 }) (λ h. (h.begins, h.ends))
     (Decides-and (leb outer.start r.start) (leb (end_of r) (end_of outer)) (Decides-leb outer.start r.start) (Decides-leb (end_of r) (end_of outer)))
 
-apart-empty : (r s : Range) → r.size ≡ 0 → apart r s ≡ true
+pub apart-empty : (r s : Range) → r.size ≡ 0 → apart r s ≡ true
 apart-empty r s e = grind (arith, nat_tests)
 
-apart-from_empty : (r s : Range) → s.size ≡ 0 → apart r s ≡ true
+pub apart-from_empty : (r s : Range) → s.size ≡ 0 → apart r s ≡ true
 apart-from_empty r s e = grind (arith, nat_tests)
 
-apart-before : (r s : Range) → end_of r ≤ s.start → apart r s ≡ true
+pub apart-before : (r s : Range) → end_of r ≤ s.start → apart r s ≡ true
 apart-before r s e = grind (arith, nat_tests)
 
-apart-behind : (r s : Range) → end_of s ≤ r.start → apart r s ≡ true
+pub apart-behind : (r s : Range) → end_of s ≤ r.start → apart r s ≡ true
 apart-behind r s e = grind (arith, nat_tests)
 
-apart-tells : (r s : Range) → apart r s ≡ true → (r.size ≡ 0) ⊎ ((s.size ≡ 0) ⊎ ((end_of r ≤ s.start) ⊎ (end_of s ≤ r.start)))
+pub apart-tells : (r s : Range) → apart r s ≡ true → (r.size ≡ 0) ⊎ ((s.size ≡ 0) ⊎ ((end_of r ≤ s.start) ⊎ (end_of s ≤ r.start)))
 apart-tells r s h = grind (arith, nat_tests)
 
 shares_nothing : (r s : Range) → apart r s ≡ true → SharesNothing r s

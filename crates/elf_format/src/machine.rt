@@ -1,6 +1,10 @@
 ghost use Rattle.std.specs.Prelude.{◌≡◌};
-ghost use Rattle.elf_format.specs.Machine.{machine_of as machine_told};
+ghost use Rattle.elf_format.specs.Machine.{default_page_size as page_size_of, machine_of as machine_told};
 
+use crate::constants::{
+    EM_AARCH64, EM_ALPHA, EM_IA_64, EM_LOONGARCH, EM_MIPS, EM_PPC, EM_PPC64, EM_SPARC, EM_SPARCV9,
+    EM_TILEGX,
+};
 use crate::numbers::half_at;
 use crate::opening::{form, has_magic};
 
@@ -15,4 +19,16 @@ pub fn machine_of(bytes: &[u8]) -> Option<u16>
     }
     let form = form(bytes)?;
     Some(half_at(form, bytes, 18))
+}
+
+/// The pages that files of a machine are laid out for where nothing tells their size, in bytes. Takes no memory.
+pub fn default_page_size(machine: u16) -> u32
+    ensures { result ≡ page_size_of machine }
+{
+    match machine {
+        EM_ALPHA | EM_IA_64 | EM_MIPS | EM_PPC | EM_PPC64 | EM_AARCH64 | EM_TILEGX | EM_LOONGARCH =>
+            65536,
+        EM_SPARC | EM_SPARCV9 => 8192,
+        _ => 4096,
+    }
 }

@@ -9,7 +9,7 @@ use crate::constants::{ELFCLASS32, ELFCLASS64, ELFDATA2LSB, ELFDATA2MSB, EV_CURR
 use crate::form::Form;
 use crate::numbers::read_file_header;
 use crate::records::{FileHeader, SectionHeader, SegmentHeader};
-use crate::tables::{read_sections, read_segments};
+use crate::tables::read_records;
 use crate::view_fault::ViewFault;
 use patch_bytes::{ByteOrder2, Wide};
 use std::alloc::Global;
@@ -128,7 +128,7 @@ pub fn segments(
 {
     let size = form.segment_header_size();
     let bytes = file_table(file, header.e_phoff, header.e_phnum as u64, size as u64)?;
-    Ok(read_segments(alloc, form, size, header.e_phnum as usize, bytes)?)
+    Ok(read_records(alloc, form, size, header.e_phnum as usize, bytes)?)
 }
 
 /// The section headers (gABI, Sections); `Absent` where the table doesn't lie in the file, `Memory` where there
@@ -144,5 +144,5 @@ pub fn sections(
 {
     let size = form.section_header_size();
     let bytes = file_table(file, header.e_shoff, header.e_shnum as u64, size as u64)?;
-    Ok(read_sections(alloc, form, size, header.e_shnum as usize, bytes)?)
+    Ok(read_records(alloc, form, size, header.e_shnum as usize, bytes)?)
 }

@@ -30,86 +30,68 @@ pub fn range(bytes: &[u8], place: u64, size: u64) -> Result<&[u8], ViewFault>
     Ok(&bytes[place as usize..(place + size) as usize])
 }
 
-/// The segments whose records, of one size, stand end to end (gABI, Program Header).
-pub fn read_segments(
-    alloc: Global,
-    form: Form,
-    size: usize,
-    count: usize,
-    bytes: &[u8],
-) -> Result<Vec<SegmentHeader>, AllocError>
-    requires { count * size ≤ length bytes.now }
-    ensures { IfOk result (λ v. v.items ≡ records (segment_header form) size count bytes.now) }
-{
-    let mut made = Vec::new(alloc);
-    let mut rest = bytes;
-    for _ in 0..count {
-        let (record, after) = rest.split_at(size);
-        made.push(read_segment_header(form, record))?;
-        rest = after;
-    }
-    Ok(made)
+/// A record of a table whose records have one size.
+pub trait Record: Drop {
+    ghost use Rattle.std.specs.Prelude.{ℕ, List};
+    ghost use Rattle.elf_format.specs.declared.form.Form.{Form};
+
+    ghost decode: { Form → List ℕ → Self };
+
+    /// What its bytes show.
+    fn read(form: Form, bytes: &[u8]) -> Self
+        ensures { result ≡ decode form bytes.now };
 }
 
-/// The sections whose records, of one size, stand end to end (gABI, Sections).
-pub fn read_sections(
-    alloc: Global,
-    form: Form,
-    size: usize,
-    count: usize,
-    bytes: &[u8],
-) -> Result<Vec<SectionHeader>, AllocError>
-    requires { count * size ≤ length bytes.now }
-    ensures { IfOk result (λ v. v.items ≡ records (section_header form) size count bytes.now) }
-{
-    let mut made = Vec::new(alloc);
-    let mut rest = bytes;
-    for _ in 0..count {
-        let (record, after) = rest.split_at(size);
-        made.push(read_section_header(form, record))?;
-        rest = after;
+impl Record for SegmentHeader {
+    ghost decode = { segment_header };
+
+    fn read(form: Form, bytes: &[u8]) -> Self {
+        read_segment_header(form, bytes)
     }
-    Ok(made)
 }
 
-/// The symbols whose records, of one size, stand end to end (gABI, Symbol Table).
-pub fn read_symbols(
-    alloc: Global,
-    form: Form,
-    size: usize,
-    count: usize,
-    bytes: &[u8],
-) -> Result<Vec<SymbolNumbers>, AllocError>
-    requires { count * size ≤ length bytes.now }
-    ensures { IfOk result (λ v. v.items ≡ records (symbol_numbers form) size count bytes.now) }
-{
-    let mut made = Vec::new(alloc);
-    let mut rest = bytes;
-    for _ in 0..count {
-        let (record, after) = rest.split_at(size);
-        made.push(read_symbol_numbers(form, record))?;
-        rest = after;
+impl Record for SectionHeader {
+    ghost decode = { section_header };
+
+    fn read(form: Form, bytes: &[u8]) -> Self {
+        read_section_header(form, bytes)
     }
-    Ok(made)
 }
 
-/// The versions whose records, of one size, stand end to end (GNU symbol versioning, `.gnu.version`).
-pub fn read_versions(
+impl Record for SymbolNumbers {
+    ghost decode = { symbol_numbers };
+
+    fn read(form: Form, bytes: &[u8]) -> Self {
+        read_symbol_numbers(form, bytes)
+    }
+}
+
+impl Record for Option<VersionId> {
+    ghost decode = { λ form bytes. Some (version_id form bytes) };
+
+    fn read(form: Form, bytes: &[u8]) -> Self {
+        Some(read_version_id(form, bytes))
+    }
+}
+
+/// The records of a table, which have one size and stand end to end: program headers (gABI, Program Header), section
+/// headers (gABI, Sections), symbols (gABI, Symbol Table) or versions of symbols (GNU symbol versioning,
+/// `.gnu.version`).
+pub fn read_records<R: Record>(
     alloc: Global,
     form: Form,
     size: usize,
     count: usize,
     bytes: &[u8],
-) -> Result<Vec<Option<VersionId>>, AllocError>
+) -> Result<Vec<R>, AllocError>
     requires { count * size ≤ length bytes.now }
-    ensures { IfOk result (λ v.
-        v.items ≡ records (λ b. Some (version_id form b)) size count bytes.now) }
+    ensures { IfOk result (λ v. v.items ≡ records (R.decode form) size count bytes.now) }
 {
     let mut made = Vec::new(alloc);
     let mut rest = bytes;
     for _ in 0..count {
         let (record, after) = rest.split_at(size);
-        made.push(Some(read_version_id(form, record)))?;
+        made.push(R::read(form, record))?;
         rest = after;
     }
     Ok(made)

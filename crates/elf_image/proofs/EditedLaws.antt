@@ -1,9 +1,9 @@
 -- An image that was read is one that was edited in no way.
-use Rattle.std.proofs.Common.{◌≡◌, ◌≢◌, ℕ, zero, suc, ◌+◌, ◌<◌, Bool, true, false, cond, List, [], ◌∷◌, ◌++◌, length, get_or, refl, sym, ap, ◌∙◌, subst, inl, inr, Option, Some, None, Ok, All, arith}
+use Rattle.std.proofs.Common.{◌≡◌, ◌≢◌, ℕ, zero, suc, ◌+◌, ◌<◌, Bool, true, false, cond, List, ◌∷◌, length, refl, sym, ap, ◌∙◌, subst, inl, Option, Some, None, Ok, All, arith, []}
 use Rattle.std.specs.Prelude.{◌==◌, ◌||◌, if◌then◌else◌, slice_index, unwrap_or}
 use Rattle.std.specs.List.{slice_get}
-use Rattle.std.proofs.lemmas.Bool.{cases_lt, cond_both, ne_eqb, or_from, not_from_false, true≢false}
-use Rattle.std.proofs.lemmas.List.{append-nil, get_or_append_left, get_or-append-add, length-append}
+use Rattle.std.proofs.lemmas.Bool.{cond_both, ne_eqb, or_from, not_from_false, true≢false}
+use Rattle.std.proofs.lemmas.List.{append-nil}
 use Rattle.std.proofs.lemmas.List.Elements.{All-cons, All-nil}
 use Rattle.std.proofs.lemmas.Option.{none-some, same_Some, slice_get_within}
 use Rattle.patch_bytes.specs.Memory.{◌>>=◌, Memory, bytes_at, text_at}
@@ -24,6 +24,7 @@ use Rattle.elf_image.specs.DynamicList.{IsListed, holds_nul}
 use Rattle.elf_image.specs.Edited.{AreEntriesOf, AreKept, ArePicked, AreSegments, IsEdited, IsEditOf, IsInterpreterOf, IsName, IsSameDynamicSymbol, IsSameSection, IsSameSymbol, kept_segment}
 use Rattle.elf_image.specs.ReadImage.{AreDynamicSymbols, AreStaticSymbols, HoldsParts}
 use Rattle.elf_image.proofs.ReadImageLaws.{read_images_hold_parts}
+use Rattle.elf_format.proofs.ForCallers.Lengths.{length-counted, slice_index-counted}
 
 -- ## Texts
 
@@ -47,31 +48,16 @@ name_whole room texts a text h = not_from_false (holds_nul text) (text_whole roo
 
 -- ## Numbers at read
 
-length-counted : (n : ℕ) → length (counted n) ≡ n
-unfolding counted
-length-counted zero = refl
-length-counted (suc n) = length-append (counted n) (n ∷ []) ∙ ap (λ k. k + 1) (length-counted n) ∙ omega arith
-
-pub counted-at : (n i : ℕ) → i < n → slice_index (counted n) i ≡ i
-unfolding counted
-counted-at zero i below = absurd (omega arith)
-counted-at (suc n) i below = elim (cases_lt i n) [
-  | inl less ↦ get_or_append_left (counted n) (n ∷ []) 0 i (subst (λ k. i < k) (sym (length-counted n)) less) ∙ counted-at n i less
-  | inr past ↦
-      let same : i ≡ length (counted n) + 0 = omega (arith, length-counted n) in
-      ap (λ k. get_or (counted n ++ n ∷ []) k 0) same ∙ get_or-append-add (counted n) (n ∷ []) 0 0 ∙ omega arith
-]
-
 -- what was read stands at its own number
 picked : {A : Type 0} → (IsSame : A → A → Type 0) (xs : List A) (numbers : List ℕ) → numbers ≡ counted (length xs) → ((i : ℕ) (x : A) → slice_get xs i ≡ Some x → IsSame x x) → ArePicked IsSame xs numbers xs
 picked IsSame xs numbers is same = subst (λ ns. ArePicked IsSame xs ns xs) (sym is) (record {
   numbered = length-counted (length xs);
   rising = λ i j before within.
       let inside : j < length xs = subst (λ n. j < n) (length-counted (length xs)) within in
-      let first : slice_index (counted (length xs)) i ≡ i = counted-at (length xs) i (omega arith) in
-      let second : slice_index (counted (length xs)) j ≡ j = counted-at (length xs) j inside in
+      let first : slice_index (counted (length xs)) i ≡ i = slice_index-counted (length xs) i (omega arith) in
+      let second : slice_index (counted (length xs)) j ≡ j = slice_index-counted (length xs) j inside in
       omega arith;
-  same = λ i x at. (x, ap (slice_get xs) (counted-at (length xs) i (slice_get_within xs i x at)) ∙ at, same i x at);
+  same = λ i x at. (x, ap (slice_get xs) (slice_index-counted (length xs) i (slice_get_within xs i x at)) ∙ at, same i x at);
 })
 
 -- ## Program headers

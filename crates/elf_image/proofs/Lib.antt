@@ -7,6 +7,8 @@ pub mod EditedLaws
 pub mod SegmentsKept
 pub mod EntriesKept
 pub mod Kept
+pub mod KeptSections
 pub mod LookupSteps
 pub mod CopySteps
 pub mod SymbolLists
+pub mod ForCallers

@@ -1,5 +1,5 @@
 -- The first that passes a test, in a list that is seen element by element; and how many program headers were read.
-use Rattle.std.proofs.Common.{◌≡◌, ℕ, zero, suc, ◌+◌, ◌*◌, Bool, true, false, cond, List, [], ◌∷◌, map, length, drop, refl, sym, ap, ◌∙◌, subst, Option, Some, None, option_map, Result, Ok, Err}
+use Rattle.std.proofs.Common.{◌≡◌, ℕ, ◌+◌, Bool, true, false, cond, List, ◌∷◌, map, length, refl, sym, ap, ◌∙◌, subst, Option, Some, None, option_map, Result, Ok, Err, []}
 use Rattle.std.specs.Prelude.{find, if◌then◌else◌, nat_le, position}
 use Rattle.std.specs.List.{position_from}
 use Rattle.std.proofs.lemmas.Iterator.Adapters.{position_from-zero}
@@ -7,15 +7,14 @@ use Rattle.std.proofs.lemmas.Option.{none-some, same_Some}
 use Rattle.patch_bytes.specs.Memory.{◌>>=◌}
 use Rattle.patch_bytes.specs.Number.{field}
 use Rattle.elf_format.specs.declared.fault.ElfFault.{ElfFault}
-use Rattle.elf_format.specs.declared.records.SegmentHeader.{SegmentHeader}
-use Rattle.elf_format.specs.File.{Opened, bytes_in, form_of, opened_of, segments_of}
+use Rattle.elf_format.specs.File.{Opened, bytes_in, form_of, opened_of}
 use Rattle.elf_format.specs.declared.form.Form.{Form}
-use Rattle.elf_format.specs.Form.{records}
 use Rattle.elf_format.specs.Image.{Image, image_of}
 use Rattle.elf_format.specs.declared.records.FileHeader.{FileHeader}
-use Rattle.elf_format.specs.Records.{file_header, file_header_size, segment_header, segment_header_size}
+use Rattle.elf_format.specs.Records.{file_header, file_header_size}
 use Rattle.elf_image.specs.Edited.{IsEdited}
 use Rattle.elf_image.proofs.ReadImageLaws.{read_images_hold_parts}
+use Rattle.elf_format.proofs.ForCallers.Lengths.{length-segments}
 
 -- ## The first that passes
 
@@ -36,21 +35,6 @@ module _ {A B : Type 0} (f : A → B) (test : B → Bool) where
   find-map (x ∷ xs) = first_mapped (test (f x)) x (find (λ y. test (f y)) xs) ∙ ap (λ o. if test (f x) then Some (f x) else o) (find-map xs)
 
 -- ## Program headers
-
-length-records : {A : Type 0} → (decode : List ℕ → A) (size count : ℕ) (bytes : List ℕ) → length (records decode size count bytes) ≡ count
-unfolding records
-length-records decode size zero bytes = refl
-length-records decode size (suc count) bytes = ap suc (length-records decode size count (drop size bytes))
-
-length-read : (o : Opened) (there : Option (List ℕ)) (segments : List SegmentHeader)
-    → (there >>= λ bytes. Some (records (segment_header o.form) (segment_header_size o.form) o.header.e_phnum bytes)) ≡ Some segments → length segments ≡ o.header.e_phnum
-length-read o None segments e = absurd (none-some segments e)
-length-read o (Some bytes) segments e =
-    ap length (sym (same_Some (records (segment_header o.form) (segment_header_size o.form) o.header.e_phnum bytes) segments e)) ∙ length-records (segment_header o.form) (segment_header_size o.form) o.header.e_phnum bytes
-
-length-segments : (o : Opened) (segments : List SegmentHeader) → segments_of o ≡ Some segments → length segments ≡ o.header.e_phnum
-unfolding segments_of
-length-segments o segments e = length-read o (bytes_in o.file o.header.e_phoff (o.header.e_phnum * segment_header_size o.form)) segments e
 
 -- the header that was opened is spelled in the file's first bytes, in the file's form
 header-opened : (file : List ℕ) (form : Option Form) (o : Opened)

@@ -1,26 +1,25 @@
 -- The image of an accepted file holds its parts.
-use Rattle.std.proofs.Common.{◌≡◌, ℕ, zero, suc, List, [], ◌∷◌, drop, length, replicate, refl, sym, ap, ◌∙◌, subst, Option, Some, None, false, arith}
+use Rattle.std.proofs.Common.{◌≡◌, ℕ, zero, suc, List, ◌∷◌, length, replicate, refl, sym, ap, ◌∙◌, subst, Option, Some, None, arith, []}
 use Rattle.std.specs.List.{slice_get}
 use Rattle.std.proofs.lemmas.List.{length-replicate}
 use Rattle.std.proofs.lemmas.Option.{none-some, same_Some}
 use Rattle.patch_bytes.specs.Memory.{◌>>=◌, Memory, text_at}
 use Rattle.patch_bytes.proofs.MemoryLaws.{bind_some}
-use Rattle.elf_format.specs.declared.constants.TheConstants.{SHT_DYNAMIC, SHT_DYNSYM, SHT_GNU_VERDEF, SHT_GNU_VERNEED, SHT_GNU_VERSYM, SHT_SYMTAB}
+use Rattle.elf_format.specs.declared.constants.TheConstants.{SHT_DYNSYM, SHT_GNU_VERSYM, SHT_SYMTAB}
 use Rattle.elf_format.specs.declared.records.SectionHeader.{SectionHeader}
 use Rattle.elf_format.specs.declared.records.SymbolNumbers.{SymbolNumbers}
 use Rattle.elf_format.specs.declared.version_id.VersionId.{VersionId}
-use Rattle.elf_format.specs.Dynamic.{Entry}
-use Rattle.elf_format.specs.File.{Parts, linked_section, section_bytes, section_of_type}
-use Rattle.elf_format.specs.Form.{records}
-use Rattle.elf_format.specs.Image.{Image, ImageSection, counted, definitions_read, dynamic_symbols_read, entries_read, image_header, image_in, interpreter_read, needs_read, section_name, section_read, static_symbols, symbols_of, versions_read}
+use Rattle.elf_format.specs.File.{Parts, linked_section, section_of_type}
+use Rattle.elf_format.specs.Image.{Image, ImageSection, dynamic_symbols_read, image_in, section_name, section_read, static_symbols, symbols_of, versions_read}
 use Rattle.elf_format.specs.Options.{each}
 use Rattle.elf_format.specs.Rules.{accepted_parts, dynamic_texts_of, file_of, texts_of}
-use Rattle.elf_format.specs.Versions.{VersionDefinition, VersionNeeds, version_id}
 use Rattle.elf_format.specs.Views.{NamedSymbol, named_symbols, names_of}
-use Rattle.elf_format.proofs.ImageShows.{image_from}
-use Rattle.elf_format.proofs.Accepted.{accepted}
+use Rattle.elf_format.proofs.ForCallers.ImageShows.{image_from}
+use Rattle.elf_format.proofs.ForCallers.Accepted.{accepted}
 use Rattle.elf_image.specs.ReadImage.{AreDynamicSymbols, AreSectionsOf, AreStaticSymbols, AreSymbolsOf, HoldsParts, IsSectionOf, IsSymbolOf, ReadImagesHoldParts, section_with}
 use Rattle.elf_image_symbols.specs.TableSymbols.{kept_as}
+use Rattle.elf_format.proofs.ForCallers.Lengths.{length-versions_read}
+use Rattle.elf_format.proofs.ForCallers.ImageTexts.{image_made}
 
 -- ## Values that are there one by one
 
@@ -122,96 +121,36 @@ static_are p None symbols h = sym (same_Some [] symbols h)
 static_are p (Some s) symbols h =
     symbols_are (length (file_of p)) (texts_of p (linked_section p.sections s)) (symbols_of p s) (replicate (length (symbols_of p s)) None) symbols (length-replicate (length (symbols_of p s)) None) h
 
-length-records : {A : Type 0} → (decode : List ℕ → A) (size count : ℕ) (bytes : List ℕ) → length (records decode size count bytes) ≡ count
-unfolding records
-length-records decode size zero bytes = refl
-length-records decode size (suc count) bytes = ap suc (length-records decode size count (drop size bytes))
-
-length-versions : (p : Parts) (o : Option SectionHeader) (count : ℕ) → length (versions_read p o count) ≡ count
-unfolding versions_read
-length-versions p None count = length-replicate count None
-length-versions p (Some s) count = length-records (λ b. Some (version_id p.opened.form b)) 2 count (section_bytes (file_of p) s)
-
 dynamic_are : (p : Parts) (o : Option SectionHeader) (symbols : List NamedSymbol) → dynamic_symbols_read p o ≡ Some symbols → AreDynamicSymbols p (section_of_type SHT_GNU_VERSYM p.sections) o symbols
 unfolding dynamic_symbols_read
 dynamic_are p None symbols h = sym (same_Some [] symbols h)
 dynamic_are p (Some s) symbols h =
     symbols_are (length (file_of p)) (dynamic_texts_of p (linked_section p.sections s)) (symbols_of p s) (versions_read p (section_of_type SHT_GNU_VERSYM p.sections) (length (symbols_of p s))) symbols
-    (length-versions p (section_of_type SHT_GNU_VERSYM p.sections) (length (symbols_of p s))) h
+    (length-versions_read p (section_of_type SHT_GNU_VERSYM p.sections) (length (symbols_of p s))) h
 
 -- ## All parts
 
-image_by : Parts → List ImageSection → List NamedSymbol → List NamedSymbol → Option (List Entry) → List VersionDefinition → List VersionNeeds → Image
-image_by p sections symbols dynamic_symbols entries definitions needs = record {
-  source = file_of p;
-  changed = false;
-  form = p.opened.form;
-  header = image_header p.opened.header;
-  segments = p.segments;
-  sections = sections;
-  symbols = symbols;
-  dynamic_symbols = dynamic_symbols;
-  definitions = definitions;
-  needs = needs;
-  entries = entries;
-  interpreter = interpreter_read p;
-  section_numbers = counted (length sections);
-  symbol_numbers = counted (length symbols);
-  dynamic_symbol_numbers = counted (length dynamic_symbols);
-  page_size = None;
-}
-
-module _ (p : Parts) where
-  sections : Option (List ImageSection)
-  sections = each (section_read p) p.sections
-
-  symbols : Option (List NamedSymbol)
-  symbols = static_symbols p (section_of_type SHT_SYMTAB p.sections)
-
-  dynamic_symbols : Option (List NamedSymbol)
-  dynamic_symbols = dynamic_symbols_read p (section_of_type SHT_DYNSYM p.sections)
-
-  entries : Option (Option (List Entry))
-  entries = entries_read p (section_of_type SHT_DYNAMIC p.sections)
-
-  definitions : Option (List VersionDefinition)
-  definitions = definitions_read p (section_of_type SHT_GNU_VERDEF p.sections)
-
-  needs : Option (List VersionNeeds)
-  needs = needs_read p (section_of_type SHT_GNU_VERNEED p.sections)
-
-  by_parts : image_in p ≡ (sections >>= λ ss. symbols >>= λ ys. dynamic_symbols >>= λ ds. entries >>= λ es. definitions >>= λ vs. needs >>= λ ns. Some (image_by p ss ys ds es vs ns))
-  unfolding image_in sections symbols dynamic_symbols entries definitions needs image_by
-  by_parts = refl
-
-  pub holds_parts : (image : Image) → image_in p ≡ Some image → HoldsParts p image
-  unfolding sections symbols dynamic_symbols entries definitions needs image_by
-  holds_parts image h =
-      let make : List ImageSection → List NamedSymbol → List NamedSymbol → Option (List Entry) → List VersionDefinition → List VersionNeeds → Image = image_by p in
-      let (ss, ss_there, h1) = bind_some sections (λ ss. symbols >>= λ ys. dynamic_symbols >>= λ ds. entries >>= λ es. definitions >>= λ vs. needs >>= λ ns. Some (make ss ys ds es vs ns)) image (sym by_parts ∙ h) in
-      let (ys, ys_there, h2) = bind_some symbols (λ ys. dynamic_symbols >>= λ ds. entries >>= λ es. definitions >>= λ vs. needs >>= λ ns. Some (make ss ys ds es vs ns)) image h1 in
-      let (ds, ds_there, h3) = bind_some dynamic_symbols (λ ds. entries >>= λ es. definitions >>= λ vs. needs >>= λ ns. Some (make ss ys ds es vs ns)) image h2 in
-      let (es, es_there, h4) = bind_some entries (λ es. definitions >>= λ vs. needs >>= λ ns. Some (make ss ys ds es vs ns)) image h3 in
-      let (vs, vs_there, h5) = bind_some definitions (λ vs. needs >>= λ ns. Some (make ss ys ds es vs ns)) image h4 in
-      let (ns, ns_there, h6) = bind_some needs (λ ns. Some (make ss ys ds es vs ns)) image h5 in
-      subst (λ (i : Image). HoldsParts p i) {x = make ss ys ds es vs ns} (same_Some (make ss ys ds es vs ns) image h6) (record {
-        source = refl;
-        changed = refl;
-        form = refl;
-        header = refl;
-        segments = refl;
-        sections = sections_are p ss ss_there;
-        symbols = static_are p (section_of_type SHT_SYMTAB p.sections) ys ys_there;
-        dynamic_symbols = dynamic_are p (section_of_type SHT_DYNSYM p.sections) ds ds_there;
-        entries = es_there;
-        definitions = vs_there;
-        needs = ns_there;
-        interpreter = refl;
-        section_numbers = refl;
-        symbol_numbers = refl;
-        dynamic_symbol_numbers = refl;
-        page_size = refl;
-      })
+holds_parts : (p : Parts) (image : Image) → image_in p ≡ Some image → HoldsParts p image
+holds_parts p image h =
+    let made = image_made p image h in
+    record {
+      source = made.source;
+      changed = made.changed;
+      form = made.form;
+      header = made.header;
+      segments = made.segments;
+      sections = sections_are p image.sections made.sections;
+      symbols = static_are p (section_of_type SHT_SYMTAB p.sections) image.symbols made.symbols;
+      dynamic_symbols = dynamic_are p (section_of_type SHT_DYNSYM p.sections) image.dynamic_symbols made.dynamic_symbols;
+      entries = made.entries;
+      definitions = made.definitions;
+      needs = made.needs;
+      interpreter = made.interpreter;
+      section_numbers = made.section_numbers;
+      symbol_numbers = made.symbol_numbers;
+      dynamic_symbol_numbers = made.dynamic_symbol_numbers;
+      page_size = made.page_size;
+    }
 
 -- the law
 pub read_images_hold_parts : ReadImagesHoldParts

@@ -11,7 +11,7 @@ use Rattle.elf_image_rules.specs.Read.{Refuses}
 use Rattle.elf_format.specs.Rules.{◌>>=◌, accepted_parts, checked, do_texts_end, placement_rules, rule, there_or}
 use Rattle.elf_image.specs.ImageSteps.{TextsRead, image_by_groups}
 use Rattle.elf_image.proofs.ImageSteps.{image_in-groups}
-use Rattle.elf_format.proofs.ImageShows.{accepted_by_parts, texts_there}
+use Rattle.elf_format.proofs.ForCallers.ImageShows.{accepted_by_parts, texts_there}
 
 -- a refusal without want of memory is the answer
 pub refused_is : {A : Type 0} → (e : ElfFault) (r : Result A ElfFault) → Refuses e r → (e ≡ faults.Memory → ⊥) → r ≡ Err e

@@ -44,6 +44,10 @@ kept_at_number number image = find (λ s. s.number == number) (kept_sections ima
 abbrev pub link_of_type : ℕ → Image → Option ℕ
 link_of_type type image = kept_of_type type image >>= λ s. Some s.section.sh_link
 
+-- the same, of sections alone
+abbrev pub link_in_sections : ℕ → List ImageSection → Option ℕ
+link_in_sections type sections = find (λ s. s.sh_type == type) sections >>= λ s. Some s.sh_link
+
 -- the dynamic strings: those of the dynamic list, or without one those of the dynamic symbols
 abbrev pub dynamic_strings_number : Image → Option ℕ
 dynamic_strings_number image = first_there (link_of_type SHT_DYNAMIC image) (link_of_type SHT_DYNSYM image)

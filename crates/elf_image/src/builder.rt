@@ -71,6 +71,14 @@ impl<'data> Builder<'data> {
         self.form.order
     }
 
+    /// How the numbers of the file are spelled: the class and the byte order (gABI, ELF Header, ELF Identification). Takes
+    /// no memory.
+    pub fn form(&self) -> Form
+        ensures { result ≡ self.now.form }
+    {
+        self.form
+    }
+
     /// What the file header says (gABI, ELF Header). Takes no memory.
     pub fn header(&self) -> &Header
         ensures { result.now ≡ self.now.header }

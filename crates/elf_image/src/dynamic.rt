@@ -28,8 +28,21 @@ impl Dynamic<'_> {
         }
     }
 
+    ghost use Rattle.std.specs.Prelude.{◌==◌, if◌then◌else◌};
+    ghost use Rattle.elf_format.specs.Image.{entry_tag};
     ghost use Rattle.elf_image.specs.DynamicList.{with_tag};
     ghost use Rattle.elf_image.specs.ImageModel.{entry_model};
+
+    /// Whether the entry has a tag.
+    pub fn has_tag(&self, tag: u64) -> bool
+        ensures { result ≡ (entry_tag (entry_model self.now) == tag) }
+    {
+        match self {
+            Dynamic::Auto { tag: own } => *own == tag,
+            Dynamic::Integer { tag: own, .. } => *own == tag,
+            Dynamic::Text { tag: own, .. } => *own == tag,
+        }
+    }
 
     // Gives the entry another tag.
     pub(crate) fn set_tag(&mut self, new: u64)
@@ -42,16 +55,13 @@ impl Dynamic<'_> {
         }
     }
 
-    ghost use Rattle.std.specs.Prelude.{◌==◌, if◌then◌else◌};
-    ghost use Rattle.elf_format.specs.Image.{entry_tag};
-
     // Gives the entry the new tag where it has the old one.
     pub(crate) fn change_tag(&mut self, old: u64, new: u64)
         ensures { entry_model self.new
             ≡ (if entry_tag (entry_model self.old) == old then with_tag new (entry_model self.old)
             else entry_model self.old) }
     {
-        if self.tag() == old {
+        if self.has_tag(old) {
             self.set_tag(new);
         }
     }

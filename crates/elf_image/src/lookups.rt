@@ -3,6 +3,7 @@ ghost use Rattle.std.specs.Prelude.{◌≡◌, ◌<◌, length, map, option_map,
 ghost use Rattle.elf_image.specs.ImageModel.{section_model, segment_model};
 ghost use Rattle.elf_format.specs.declared.constants.TheConstants.{PT_INTERP as INTERP};
 ghost use Rattle.elf_image.specs.File.{segment_of_type};
+ghost use Rattle.elf_image.specs.Kept.{interpreter_number as number_of_interpreter, link_of_type as link_of_kind, link_in_sections};
 ghost use Rattle.elf_image.specs.Lookups.{CountsReadSegments, dynamic_strings_position as strings_position, has_interpreter, interpreter_position as interpreter_at, link_position as link_at, section_position as section_at, type_position as type_at};
 
 use crate::builder::{Builder, Segment};
@@ -47,6 +48,27 @@ impl<'data> Builder<'data> {
         interpreter_section(segment, &self.sections)
     }
 
+    /// The number at read of the section with the interpreter's bytes (gABI, Program Header, `PT_INTERP`); `None`
+    /// without one. Takes no memory.
+    pub fn interpreter_number(&self) -> Option<usize>
+        ensures { result ≡ number_of_interpreter self.now }
+    {
+        // the image has as many numbers of sections as sections
+        let _source = self.source();
+        let at = self.interpreter_position()?;
+        Some(self.read_section(at))
+    }
+
+    /// The number of the section that the first of a type links to (gABI, Sections, `sh_link`); `None` without one of
+    /// that type. Takes no memory.
+    pub fn link_of_type(&self, kind: u32) -> Option<usize>
+        ensures { result ≡ link_of_kind kind self.now }
+    {
+        // the image has as many numbers of sections as sections
+        let _source = self.source();
+        first_link(self.sections(), kind)
+    }
+
     /// Where the dynamic strings stand (gABI, Dynamic Section, `DT_STRTAB`): the section that the dynamic list links
     /// to, or without a list the one that the dynamic symbols link to. Takes no memory.
     pub fn dynamic_strings_position(&self) -> Option<usize>
@@ -67,6 +89,18 @@ impl<'data> Builder<'data> {
         let header = read_file_header(self.form, part(self.source, 0, size));
         header.e_phnum as usize
     }
+}
+
+// The link of the first section of a type.
+fn first_link(sections: &[Section<'_>], kind: u32) -> Option<usize>
+    ensures { result ≡ link_in_sections kind (map section_model sections.now) }
+{
+    for section in sections {
+        if section.sh_type == kind {
+            return Some(section.sh_link as usize);
+        }
+    }
+    None
 }
 
 // The program header of the interpreter.

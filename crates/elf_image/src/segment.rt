@@ -19,6 +19,13 @@ pub struct Segment {
 impl Segment {
     ghost use Rattle.elf_image.specs.Segments.{with_align};
 
+    /// All its numbers.
+    pub fn numbers(&self) -> SegmentHeader
+        ensures { result ≡ segment_model self.now }
+    {
+        self.numbers
+    }
+
     /// What the segment is for, as `PT_LOAD`.
     pub fn p_type(&self) -> u32
         ensures { result ≡ (segment_model self.now).p_type }

@@ -6,8 +6,8 @@ use Rattle.elf_format.specs.Dynamic.{entries_at}
 use Rattle.elf_format.specs.declared.form.Form.{Form}
 use Rattle.elf_format.specs.declared.records.EntryNumbers.{EntryNumbers}
 use Rattle.elf_format.specs.Records.{entry_numbers, entry_size}
-use Rattle.elf_format.proofs.EntrySteps.{entries_end, entries_goes, entries_none, entries_short}
-use Rattle.elf_format.proofs.ReadingSteps.{with_front}
+use Rattle.elf_format.proofs.ForCallers.EntrySteps.{entries_end, entries_goes, entries_none, entries_short}
+use Rattle.elf_format.proofs.ForCallers.ReadingSteps.{with_front}
 
 -- entries in front of a list don't change whether it is there
 there-with_front : (front : List EntryNumbers) (o : Option (List EntryNumbers)) → is_some (with_front front o) ≡ is_some o

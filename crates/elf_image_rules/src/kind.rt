@@ -12,7 +12,7 @@ use elf_format::form::Form;
 use elf_format::lookups::section_bytes;
 use elf_format::numbers::{part, read_half, read_section_header};
 use elf_format::records::{FileHeader, SectionHeader};
-use elf_format::tables::read_sections;
+use elf_format::tables::read_records;
 use std::alloc::{AllocError, Global};
 
 /// Records of one size that stand end to end in the file: where the first stands, and how many they are.
@@ -111,7 +111,7 @@ fn sections_there(
     let size = form.section_header_size();
     let rest = bytes_from(file, header.e_shoff as usize);
     let count = (rest.len() / size).min(header.e_shnum as usize);
-    read_sections(alloc, form, size, count, rest)
+    read_records(alloc, form, size, count, rest)
 }
 
 // The symbol tables of sections.

@@ -11,7 +11,7 @@ use Rattle.elf_format.specs.Form.{records}
 use Rattle.elf_format.specs.Options.{each}
 use Rattle.elf_format.specs.declared.records.SymbolNumbers.{SymbolNumbers}
 use Rattle.elf_format.specs.Views.{names_of}
-use Rattle.elf_format.proofs.ReadingSteps.{text_at-in, text_in, text_missing}
+use Rattle.elf_format.proofs.ForCallers.ReadingSteps.{text_at-in, text_in, text_missing}
 
 -- what is made of a value is there where the value is
 pub some_made : {A B : Type 0} → (o : Option A) (f : A → B) → is_some (o >>= (λ x. Some (f x))) ≡ is_some o

@@ -11,7 +11,7 @@ use Rattle.elf_format.specs.Answers.{borrowed}
 use Rattle.elf_format.specs.Form.{by_class}
 use Rattle.elf_format.specs.Records.{symbol_numbers, symbol_size}
 use Rattle.elf_format.specs.Views.{NamedSymbol}
-use Rattle.elf_format.proofs.ReadingSteps.{no_symbol}
+use Rattle.elf_format.proofs.ForCallers.ReadingSteps.{no_symbol}
 use Rattle.elf_image_symbols.specs.declared.symbols.Symbols.TheInside.{Inside}
 use Rattle.elf_image_symbols.specs.SymbolsModel.{HaveNames, symbols_model}
 use Rattle.elf_image_symbols.specs.TableSymbols.{kept_as, version_at}

@@ -1,5 +1,5 @@
 -- The symbols of a table, one by one.
-use Rattle.std.proofs.Common.{◌≡◌, ◌≤◌, ◌<◌, true, false, subst, ℕ, zero, suc, ◌+◌, ◌*◌, ◌/◌, List, [], ◌∷◌, length, take, drop, replicate, refl, sym, ap, ◌∙◌, Option, Some, None, arith}
+use Rattle.std.proofs.Common.{◌≡◌, ◌≤◌, ◌<◌, true, false, subst, ℕ, zero, suc, ◌+◌, ◌*◌, ◌/◌, List, ◌∷◌, length, take, drop, replicate, refl, sym, ap, ◌∙◌, Option, Some, None, arith, []}
 use Rattle.std.specs.Prelude.{is_some, unwrap_or}
 use Rattle.std.specs.List.{slice_get}
 use Rattle.std.proofs.Math.Nat.{add_comm, suc-mul, zero-mul}
@@ -18,6 +18,7 @@ use Rattle.elf_format.specs.Versions.{version_id}
 use Rattle.elf_format.specs.Views.{NamedSymbol, named_symbols, names_of}
 use Rattle.elf_image_symbols.specs.TableSymbols.{kept_as, named_symbol, symbols_from, table_symbols, version_at, versions_in}
 use Rattle.elf_image_symbols.proofs.NameSteps.{same_names, some_made}
+use Rattle.elf_format.proofs.ForCallers.Lengths.{length-records}
 
 -- ## Versions of symbols
 
@@ -53,11 +54,6 @@ unfolding named_symbols
 join_one y ys v vs None names tail e = refl
 join_one y ys v vs (Some n) None tail e = ap (λ t. t >>= (λ ss. Some (kept_as y v n ∷ ss))) e
 join_one y ys v vs (Some n) (Some ns) tail e = ap (λ t. t >>= (λ ss. Some (kept_as y v n ∷ ss))) e
-
-length-records : {A : Type 0} → (decode : List ℕ → A) (size count : ℕ) (bytes : List ℕ) → length (records decode size count bytes) ≡ count
-unfolding records
-length-records decode size zero bytes = refl
-length-records decode size (suc count) bytes = ap suc (length-records decode size count (drop size bytes))
 
 module _ (form : Form) (room : ℕ) (texts : Memory) (versions : Option (List ℕ)) where
   join_all : (count i : ℕ) (bytes : List ℕ)

@@ -1,3 +1,4 @@
 pub mod WalkSteps
 pub mod VersionSteps
 pub mod KeptSteps
+pub mod ForCallers

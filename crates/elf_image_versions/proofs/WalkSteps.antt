@@ -13,8 +13,8 @@ use Rattle.elf_format.specs.Answers.{Gives, whole_step}
 use Rattle.elf_format.specs.declared.records.NeedNameNumbers.{NeedNameNumbers}
 use Rattle.elf_format.specs.Versions.{DefinitionNumbers, NeedNumbers, Step, definition_at, definition_name_at, need_at, need_name_at, is_whole_walk, values_of, walked}
 use Rattle.elf_image_versions.specs.WalkSteps.{IsFound, IsWalk}
-use Rattle.elf_format.proofs.ChainSteps.{definition_name-past, eqb-suc, need_name-past}
-use Rattle.elf_format.proofs.TableSteps.{bytes_at-past}
+use Rattle.elf_format.proofs.ForCallers.ChainSteps.{definition_name-past, eqb-suc, need_name-past}
+use Rattle.elf_format.proofs.ForCallers.TableSteps.{bytes_at-past}
 
 -- ## What is found
 

@@ -7,7 +7,7 @@ use Rattle.elf_layout_plan.specs.Memory.{Resized}
 use Rattle.elf_layout_plan.specs.Plan.{IsOverlapping, IsPlan, IsTooLarge, Layout, most_added, resized}
 use Rattle.elf_layout_plan.specs.Refusals.{IsNoPlan, IsStuckAsked}
 use Rattle.elf_layout_plan.specs.Rounds.{IsAsked}
-use Rattle.elf_layout_plan.proofs.RoundLaws.{rounds_are_asked, rounds_end}
+use Rattle.elf_layout_plan.proofs.ForCallers.RoundLaws.{rounds_are_asked, rounds_end}
 use Rattle.elf_layout_moves.specs.Inner.{IsResized}
 use Rattle.elf_layout_segments.specs.AnchorPositions.{IsNoEnd}
 use Rattle.elf_layout.specs.Inner.{HasNoPlan}

@@ -5,7 +5,7 @@ use Rattle.std.proofs.lemmas.List.{length-map}
 use Rattle.std.proofs.lemmas.Option.{same_Some, slice_get-map, slice_get_past}
 use Rattle.elf_image.specs.declared.section.Section.{Section}
 use Rattle.elf_image.specs.ImageModel.{section_model}
-use Rattle.elf_format.specs.Image.{Image, ImageSection}
+use Rattle.elf_format.specs.Image.{ImageSection}
 use Rattle.elf_image.specs.Edited.{IsEdited}
 use Rattle.elf_image.specs.Kept.{kept_from, kept_sections}
 use Rattle.elf_layout_plan.specs.Memory.{Resized, SizedSection, sized_from, sized_sections}
@@ -13,10 +13,7 @@ use Rattle.elf_layout_plan.specs.Sizes.{new_sizes}
 use Rattle.elf_layout.specs.declared.sized.SectionNumbers.{SectionNumbers}
 use Rattle.elf_layout_moves.specs.Inner.{IsResized}
 use Rattle.elf_layout.specs.Numbers.{numbers_of}
-
--- each section has a number at read
-pub numbered : (image : Image) → IsEdited image → length image.section_numbers ≡ length image.sections
-numbered image e = e.is_edit.sections.numbered
+use Rattle.elf_image.proofs.ForCallers.KeptSections.{as_many, length-kept}
 
 -- the numbers of a section at a position and its size, where both are there
 abbrev pub both : ℕ → Option ImageSection → Option ℕ → Option SectionNumbers
@@ -50,20 +47,14 @@ sized_length p (n ∷ ns) [] sizes a b = let no : ⊥ = omega arith in absurd no
 sized_length p (n ∷ ns) (s ∷ ss) [] a b = let no : ⊥ = omega arith in absurd no
 sized_length p (n ∷ ns) (s ∷ ss) (size ∷ sizes) a b = ap suc (sized_length (p + 1) ns ss sizes (omega arith) (omega arith))
 
-kept_length : (p : ℕ) (ns : List ℕ) (ss : List ImageSection) → length ns ≡ length ss → length (kept_from p ns ss) ≡ length ss
-kept_length p [] [] a = refl
-kept_length p [] (s ∷ ss) a = let no : ⊥ = omega arith in absurd no
-kept_length p (n ∷ ns) [] a = let no : ⊥ = omega arith in absurd no
-kept_length p (n ∷ ns) (s ∷ ss) a = ap suc (kept_length (p + 1) ns ss (omega arith))
-
 -- as many sizes as sections
 pub sizes_length : (r : Resized) → IsResized r → IsEdited r.image → length r.sizes ≡ length r.image.sections
 unfolding new_sizes
 sizes_length r is e =
-    ap length is.sizes ∙ length-map (kept_sections r.image) _ ∙ kept_length 0 r.image.section_numbers r.image.sections (numbered r.image e)
+    ap length is.sizes ∙ length-map (kept_sections r.image) _ ∙ length-kept r.image (as_many r.image e)
 
 pub count_sized : (r : Resized) → IsResized r → IsEdited r.image → length (sized_sections r) ≡ length r.image.sections
-count_sized r is e = sized_length 0 r.image.section_numbers r.image.sections r.sizes (numbered r.image e) (sizes_length r is e)
+count_sized r is e = sized_length 0 r.image.section_numbers r.image.sections r.sizes (as_many r.image e) (sizes_length r is e)
 
 -- each section has its own position
 pub position_at : (p : ℕ) (ns : List ℕ) (ss : List ImageSection) (sizes : List ℕ) (i : ℕ) (s : SizedSection)
@@ -85,7 +76,7 @@ module _ (r : Resized) (e : IsEdited r.image) (found : List Section) (seen : map
   here : option_map numbers_of (slice_get (sized_sections r) i) ≡ both i (option_map section_model (slice_get found i)) (slice_get r.sizes i)
   here =
       let at : 0 + i ≡ i = omega arith in
-      sized_get 0 r.image.section_numbers r.image.sections r.sizes i (numbered r.image e)
+      sized_get 0 r.image.section_numbers r.image.sections r.sizes i (as_many r.image e)
       ∙ ap (λ (q : ℕ). both q (slice_get r.image.sections i) (slice_get r.sizes i)) at
       ∙ ap (λ (o : Option ImageSection). both i o (slice_get r.sizes i))
       (ap (λ (l : List ImageSection). slice_get l i) (sym seen) ∙ slice_get-map section_model found i)

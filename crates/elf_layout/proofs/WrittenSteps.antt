@@ -42,7 +42,8 @@ use Rattle.elf_layout_segments.specs.SplitCounts.{chosen_begins, is_chosen}
 use Rattle.elf_layout_segments.specs.Sections.{AreSized, indexed_sections}
 use Rattle.elf_layout.specs.Targets.{AreBegins, Begins, IsMisfit, Span, added_behind, do_headings_fit, does_table_fit, fits_word, header_at, headings_at, headings_for, headings_found, headings_model, is_anchored_well, is_physical_well, is_well_at, left_behind, sized_table, span_over, target_of_span, targets_at, targets_found, targets_over_notes, targets_model}
 use Rattle.elf_layout.proofs.SpanSteps.{span_found, span_step, span_with}
-use Rattle.elf_layout_segments.proofs.ForCallers.{AreNotesOf, AreThere, IsThere, begins_as_positions, anchor-there, length-kept, length-sized, marked-is}
+use Rattle.elf_layout_segments.proofs.ForCallers.{AreNotesOf, AreThere, IsThere, begins_as_positions, anchor-there, length-sized, marked-is}
+use Rattle.elf_image.proofs.ForCallers.KeptSections.{length-kept}
 
 -- ## Several places
 

@@ -114,9 +114,7 @@ fn place_sets(
         let Some(load) = place_load(r, moved, *flags, at, align, slots) else {
             return Err(LayoutFault::NumberTooLarge);
         };
-        let Ok(()) = loads.push(load) else {
-            return Err(LayoutFault::Memory);
-        };
+        loads.push(load)?;
         at = At {
             offset: load.p_offset + load.p_filesz,
             address: u128::from(load.p_vaddr) + u128::from(load.p_memsz),
@@ -143,8 +141,6 @@ pub(crate) fn place_added(
         (flat_map (λ load. load.slots) (added_loads r.now moved.now))) }
     ensures fault { IfErr result (StandsTooFar r.now moved.now) }
 {
-    let Ok(sets) = added_flags(alloc, r, moved) else {
-        return Err(LayoutFault::Memory);
-    };
+    let sets = added_flags(alloc, r, moved)?;
     place_sets(alloc, r, moved, &sets, kept_end, slots)
 }

@@ -255,8 +255,6 @@ pub(crate) fn push_written(
     let Some(headings) = headings_of(form, places, notes, size, p, anchor) else {
         return Err(LayoutFault::NumberTooLarge);
     };
-    match push_headings(made, headings) {
-        Ok(()) => Ok(()),
-        Err(_) => Err(LayoutFault::Memory),
-    }
+    push_headings(made, headings)?;
+    Ok(())
 }

@@ -42,10 +42,8 @@ fn standing_for(
     ensures stands { IfOk result (λ standing. IsStanding r.now moved.now standing) }
     ensures fault { IfErr result (StandsTooFar r.now moved.now) }
 {
-    match kept_end(alloc, r, anchors, moved, marks, headers) {
-        Ok(end) => find_places(alloc, r, moved, marks, end, headers),
-        Err(_) => Err(LayoutFault::Memory),
-    }
+    let end = kept_end(alloc, r, anchors, moved, marks, headers)?;
+    find_places(alloc, r, moved, marks, end, headers)
 }
 
 // How many program headers are written once the sections at these positions move.
@@ -106,9 +104,7 @@ fn parts_after(
     ensures parts { IfOk result (λ parts. AreParts r.now rounds.now (parts_model parts)) }
     ensures fault { IfErr result (StandsTooFar r.now rounds.now.moved.items) }
 {
-    let Ok(headers) = headers_for(alloc, r, anchors, &rounds.moved, marks) else {
-        return Err(LayoutFault::Memory);
-    };
+    let headers = headers_for(alloc, r, anchors, &rounds.moved, marks)?;
     let standing = standing_for(alloc, r, anchors, &rounds.moved, marks, headers)?;
     parts_with(alloc, r, anchors, rounds, marks, headers, standing)
 }
@@ -125,9 +121,7 @@ fn plan_after(
     ensures plan { IfOk result (λ plan. IsPlan r.now plan) }
     ensures fault { IfErr result (HasNoPlan r.now) }
 {
-    let Ok(marks) = marks_of(alloc, r, &rounds.moved) else {
-        return Err(LayoutFault::Memory);
-    };
+    let marks = marks_of(alloc, r, &rounds.moved)?;
     let parts = parts_after(alloc, r, anchors, rounds, &marks)?;
     if !do_parts_fit(r.image, &parts) {
         return Err(LayoutFault::NumberTooLarge);
@@ -147,9 +141,7 @@ pub(crate) fn plan_of(alloc: Global, r: &Resizing<'_, '_>) -> Result<Plan, Layou
 {
     // The read tells the proof that the sizes are those of the image.
     let _sizes = r.sizes;
-    let Ok(anchors) = anchors(alloc, r) else {
-        return Err(LayoutFault::Memory);
-    };
+    let anchors = anchors(alloc, r)?;
     let rounds = look_in_rounds(alloc, r, &anchors)?;
     plan_after(alloc, r, &anchors, &rounds)
 }
@@ -232,8 +224,6 @@ pub fn lay_out(alloc: Global, image: &Builder<'_>) -> Result<Plan, LayoutFault>
     ensures promises { IfOk result (λ plan. IsPromised image.now plan) }
     ensures fault { IfErr result (IsNoLayout image.now) }
 {
-    let Ok(read) = read_again(alloc, image) else {
-        return Err(LayoutFault::Memory);
-    };
+    let read = read_again(alloc, image)?;
     lay_out_again(alloc, &read, image)
 }

@@ -59,10 +59,7 @@ fn do_segments_fit(form: Form, segments: &[SegmentHeader]) -> bool
 pub(crate) fn do_parts_fit(image: &Builder<'_>, parts: &PlanParts) -> bool
     ensures { result ≡ parts_fit image.now.form (parts_model parts.now) }
 {
-    let form = Form {
-        wide: image.class(),
-        order: image.order(),
-    };
+    let form = image.form();
     do_places_fit(form, &parts.places)
         && do_segments_fit(form, &parts.segments)
         && does_field_fit(form, parts.e_phoff)

@@ -4,18 +4,16 @@ ghost use Rattle.elf_format.specs.File.{is_loaded, loads_of};
 ghost use Rattle.elf_format.specs.Placement.{memory_part};
 ghost use Rattle.elf_format.specs.Ranges.{end_of};
 ghost use Rattle.elf_image.specs.ImageModel.{segment_model};
-ghost use Rattle.elf_layout_plan.specs.Added.{default_page_size as page_size_of, greatest, load_alignment as align_of_loads, memory_end as end_of_memory};
+ghost use Rattle.elf_layout_plan.specs.Added.{greatest, load_alignment as align_of_loads, memory_end as end_of_memory};
 ghost use Rattle.elf_layout_plan.specs.Memory.{SizedSection, sized_sections};
 ghost use Rattle.elf_layout.specs.Numbers.{numbers_of};
 ghost use Rattle.elf_layout.specs.Slots.{end_at, has_memory, value_where};
 
 use crate::sized::{SectionNumbers, section_count, sized_at};
-use elf_format::constants::{EM_MIPS, PT_LOAD, SHF_ALLOC, SHF_TLS, SHT_NOBITS, SHT_NULL};
+use elf_format::constants::{PT_LOAD, SHF_ALLOC, SHF_TLS, SHT_NOBITS, SHT_NULL};
+use elf_format::machine::default_page_size;
 use elf_image::Segment;
 use elf_layout_moves::resizing::Resizing;
-use elf_layout_plan::constants::{
-    EM_AARCH64, EM_ALPHA, EM_IA_64, EM_LOONGARCH, EM_PPC, EM_PPC64, EM_SPARC, EM_SPARCV9, EM_TILEGX,
-};
 
 // The end of a segment in memory, 0 where it isn't loaded.
 fn load_end(segment: &Segment<'_>) -> u128
@@ -103,18 +101,6 @@ fn greatest_align(segments: &[Segment<'_>]) -> u64
     found
 }
 
-// The pages of a machine, where nothing tells their size.
-fn default_page_size(machine: u16) -> u64
-    ensures { result ≡ page_size_of machine }
-{
-    match machine {
-        EM_ALPHA | EM_IA_64 | EM_MIPS | EM_PPC | EM_PPC64 | EM_AARCH64 | EM_TILEGX | EM_LOONGARCH =>
-            65536,
-        EM_SPARC | EM_SPARCV9 => 8192,
-        _ => 4096,
-    }
-}
-
 // The page size that was set, or without one the greatest alignment of the loaded segments that were read, or the machine's
 // pages where they tell none.
 #[tactic(auto, unfolding(elf_layout_plan::specs::Added::load_alignment))]
@@ -126,7 +112,7 @@ pub(crate) fn load_alignment(r: &Resizing<'_, '_>) -> u64
     }
     let found = greatest_align(r.read.segments());
     if found == 0 {
-        default_page_size(r.read.header().e_machine)
+        u64::from(default_page_size(r.read.header().e_machine))
     } else {
         found
     }

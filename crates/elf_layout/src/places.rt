@@ -103,9 +103,7 @@ pub(crate) fn place_all(
         let Some(place) = place_section(section, slot, unloaded, end) else {
             return Err(LayoutFault::NumberTooLarge);
         };
-        let Ok(()) = places.push(place) else {
-            return Err(LayoutFault::Memory);
-        };
+        places.push(place)?;
     }
     Ok(places)
 }

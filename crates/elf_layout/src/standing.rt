@@ -73,9 +73,7 @@ pub(crate) fn find_places(
     ensures stands { IfOk result (λ standing. IsStanding r.now moved.now standing) }
     ensures fault { IfErr result (StandsTooFar r.now moved.now) }
 {
-    let Ok(mut slots) = no_slots(alloc, r) else {
-        return Err(LayoutFault::Memory);
-    };
+    let mut slots = no_slots(alloc, r)?;
     let added = place_added(alloc, r, moved, kept_end, &mut slots)?;
     let behind = place_behind(alloc, r, &slots, added.end, headers)?;
     Ok(Standing {

@@ -77,9 +77,7 @@ pub(crate) fn place_all_unloaded(
         let Some(place) = place_unloaded(section, end) else {
             return Err(LayoutFault::NumberTooLarge);
         };
-        let Ok(()) = offsets.push(place.offset) else {
-            return Err(LayoutFault::Memory);
-        };
+        offsets.push(place.offset)?;
         end = place.end;
     }
     Ok(Unloaded { offsets, end })

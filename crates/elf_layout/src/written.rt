@@ -16,7 +16,7 @@ use elf_format::records::SegmentHeader;
 use elf_layout_moves::resizing::Resizing;
 use elf_layout_plan::{LayoutFault, SectionPlace};
 use elf_layout_segments::anchors::AnchorAt;
-use elf_layout_segments::reading::{form_of, sections_are_sized, segment_at};
+use elf_layout_segments::reading::{sections_are_sized, segment_at};
 use std::alloc::{AllocError, Global};
 
 // How many of those behind a header are loaded, where so many are that are left.
@@ -83,11 +83,9 @@ fn all_written(
     ensures fault { IfErr result (StandsTooFar r.now moved.now) }
 {
     sections_are_sized(r);
-    let form = form_of(r);
+    let form = r.form();
     let size = headers as u128 * form.segment_header_size() as u128;
-    let Ok(notes) = notes_of(alloc, r, marks, places) else {
-        return Err(LayoutFault::Memory);
-    };
+    let notes = notes_of(alloc, r, marks, places)?;
     let mut made = Vec::new(alloc);
     for i in 0..anchors.len() {
         let p = segment_at(r, i);
@@ -117,8 +115,6 @@ pub(crate) fn written_segments(
     ensures fault { IfErr result (StandsTooFar r.now moved.now) }
 {
     let made = all_written(alloc, r, anchors, moved, marks, &standing.places, headers)?;
-    match with_loads(alloc, &made, &standing.loads) {
-        Ok(all) => Ok(all),
-        Err(_) => Err(LayoutFault::Memory),
-    }
+    let all = with_loads(alloc, &made, &standing.loads)?;
+    Ok(all)
 }

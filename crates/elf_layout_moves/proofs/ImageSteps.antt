@@ -1,17 +1,15 @@
 -- The sections of an image one by one, with their numbers at read and their new sizes.
 use Rattle.std.proofs.Common.{◌≡◌, ℕ, ◌+◌, ◌<◌, List, [], ◌∷◌, ◌++◌, true, false, append_assoc, drop, get_or, length, map, refl, sym, ap, ◌∙◌, arith}
 use Rattle.std.specs.Prelude.{Some, slice_get, slice_index}
-use Rattle.std.proofs.lemmas.Bool.{eq-eqb, ne_eqb}
 use Rattle.std.proofs.lemmas.List.{length-map}
 use Rattle.std.proofs.lemmas.Option.{slice_get-get_or, slice_get-map, slice_get_read}
 use Rattle.elf_format.specs.Image.{Image, ImageSection}
-use Rattle.elf_format.specs.declared.records.SegmentHeader.{SegmentHeader}
 use Rattle.elf_image.specs.ImageModel.{section_model}
 use Rattle.elf_image.specs.declared.section.Section.{Section}
 use Rattle.elf_layout_plan.specs.Blocks.{Block}
-use Rattle.elf_image.specs.Kept.{KeptSection, dynamic_strings_number, interpreter_number, stands_as_interpreter}
+use Rattle.elf_image.specs.Kept.{KeptSection, dynamic_strings_number, interpreter_number}
 use Rattle.elf_layout_plan.specs.Memory.{Resized, SizedSection, sized_from, takes_memory}
-use Rattle.elf_layout_moves.specs.ImageBlocks.{AreNumbered, kept_behind, link_from, made_block, number_from, section_blocks_from, sized_at}
+use Rattle.elf_layout_moves.specs.ImageBlocks.{AreNumbered, kept_behind, made_block, section_blocks_from, sized_at}
 use Rattle.elf_layout_moves.proofs.MoverLaws.{drop_here}
 
 -- a section that is looked at is the image's
@@ -30,22 +28,6 @@ kept_at image k s = record { position = k; number = slice_index image.section_nu
 module _ (image : Image) (numbered : AreNumbered image) (k : ℕ) (s : ImageSection) (within : k < length image.sections) (at : slice_get image.sections k ≡ Some s) where
   pub kept_next : kept_behind image k ≡ kept_at image k s ∷ kept_behind image (k + 1)
   kept_next = rw (drop_here image.section_numbers k (slice_index image.section_numbers k) (slice_get-get_or image.section_numbers k 0 (omega (arith, numbered))), drop_here image.sections k s at)
-
-  -- ## The interpreter's number
-
-  pub number_found : (p : SegmentHeader) → stands_as_interpreter p s ≡ true → number_from image p k ≡ Some (slice_index image.section_numbers k)
-  number_found p is = rw (kept_next, is)
-
-  pub number_passed : (p : SegmentHeader) → stands_as_interpreter p s ≡ false → number_from image p k ≡ number_from image p (k + 1)
-  number_passed p isnt = rw (kept_next, isnt)
-
-  -- ## What the first of a type links to
-
-  pub link_found : (type : ℕ) → s.sh_type ≡ type → link_from image type k ≡ Some s.sh_link
-  link_found type is = rw (kept_next, eq-eqb s.sh_type type is)
-
-  pub link_passed : (type : ℕ) → (s.sh_type ≡ type → ⊥) → link_from image type k ≡ link_from image type (k + 1)
-  link_passed type isnt = rw (kept_next, ne_eqb s.sh_type type isnt)
 
 -- ## Blocks
 

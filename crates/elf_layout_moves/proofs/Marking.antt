@@ -1,20 +1,16 @@
 -- Marks at the positions that are told, one after the other.
-use Rattle.std.proofs.Common.{◌≡◌, ℕ, ◌+◌, ◌<◌, ◌≤◌, zero, suc, List, [], ◌∷◌, ◌++◌, Bool, true, false, ◌||◌, length, map, set, take, get_or, replicate, refl, sym, ap, subst, ◌∙◌, inl, inr, arith}
+use Rattle.std.proofs.Common.{◌≡◌, ℕ, ◌+◌, ◌<◌, ◌≤◌, zero, suc, List, ◌∷◌, ◌++◌, Bool, true, false, ◌||◌, length, map, set, take, get_or, replicate, refl, sym, ap, subst, ◌∙◌, inl, inr, arith, []}
 use Rattle.std.specs.Prelude.{◌==◌}
 use Rattle.std.proofs.lemmas.Bool.{cases_eq, cases_lt, eq-eqb, ne_eqb, or_right}
-use Rattle.std.proofs.lemmas.List.{ext_get_or, get_or-append-add, get_or-set_other, get_or-set_same, get_or_append_left, length-append, length-map, length-set, map-append, take_all, take_more}
+use Rattle.std.proofs.lemmas.List.{ext_get_or, get_or-append-add, get_or-set_other, get_or-set_same, get_or_append_left, length-map, length-set, map-append, take_all, take_more}
 use Rattle.std.proofs.lemmas.List.Folds.{list_any-append}
 use Rattle.elf_format.specs.Image.{counted}
 use Rattle.elf_format.specs.Options.{is_one_of}
+use Rattle.elf_format.proofs.ForCallers.Lengths.{length-counted}
 
 -- the marks of so many sections
 abbrev pub marking : List ℕ → ℕ → List Bool
 marking positions n = map (is_one_of positions) (counted n)
-
-length-counted : (n : ℕ) → length (counted n) ≡ n
-unfolding counted
-length-counted zero = refl
-length-counted (suc n) = length-append (counted n) (n ∷ []) ∙ ap (λ k. k + 1) (length-counted n) ∙ omega arith
 
 pub length-marking : (positions : List ℕ) (n : ℕ) → length (marking positions n) ≡ n
 length-marking positions n = length-map (counted n) (is_one_of positions) ∙ length-counted n

@@ -22,6 +22,7 @@ use Rattle.elf_layout_moves.specs.ImageBlocks.{AreNumbered}
 use Rattle.elf_layout_moves.specs.Inner.{IsResized}
 use Rattle.elf_layout_moves.proofs.SomeTwo.{none_of_two}
 use mathlib.Core.Path.{fun_ext}
+use Rattle.elf_image.proofs.ForCallers.KeptSections.{length-kept}
 
 -- ## The blocks
 
@@ -153,15 +154,10 @@ same_apart blocks found moved same apart =
 
 -- ## Images with new sizes
 
-kept_length : (k : ℕ) (ns : List ℕ) (ss : List ImageSection) → length ns ≡ length ss → length (kept_from k ns ss) ≡ length ss
-kept_length k [] ss same = same
-kept_length k (n ∷ ns) [] same = absurd (omega (arith, same))
-kept_length k (n ∷ ns) (s ∷ ss) same = ap suc (kept_length (k + 1) ns ss (omega (arith, same)))
-
 pub as_many_sizes : (r : Resized) → IsResized r → AreNumbered r.image → length r.sizes ≡ length r.image.sections
 unfolding new_sizes
 as_many_sizes r is numbered =
-    ap length is.sizes ∙ length-map (kept_sections r.image) (new_size r.read r.image) ∙ kept_length 0 r.image.section_numbers r.image.sections numbered
+    ap length is.sizes ∙ length-map (kept_sections r.image) (new_size r.read r.image) ∙ length-kept r.image numbered
 
 -- ## The sections that move
 

@@ -13,7 +13,7 @@ use Rattle.elf_format.specs.Options.{is_one_of}
 use Rattle.elf_layout_plan.specs.Blocks.{Block, earlier_moves, has_cause, have_causes, is_block_of, is_block_of_some, is_earlier, is_kept_out, is_stuck, is_stuck_pair, later_moves, overlaps, some_two, stay_apart}
 use Rattle.elf_layout_plan.specs.declared.fault.LayoutFault.{LayoutFault}
 use Rattle.elf_layout_plan.specs.declared.fault.LayoutFault.TheVariants as faults
-use Rattle.elf_layout_moves.specs.BlockSteps.{AreClear, AreMovers, AreOrdered, AreRanges, IsStuckFault, IsWhole, has_load, is_out, marked_of}
+use Rattle.elf_layout_moves.specs.BlockSteps.{AreClear, AreMovers, AreOrdered, AreRanges, IsStuckFault, IsWhole, has_load, moves_as_stray, marked_of}
 use Rattle.elf_layout_moves.proofs.OrderSteps.{by_rest}
 use Rattle.elf_layout_moves.proofs.RangeLaws.{has_cause_there, marked_can, none_stuck_there, stay_apart_there}
 use Rattle.elf_layout_moves.proofs.SomeTwo.{holds_of_two, some_two-IsPermutation, some_two-part, some_two-without}
@@ -199,23 +199,23 @@ in_second [] ys k x at = (k, at)
 in_second (y ∷ xs) ys k x at = let (j, there) = in_second xs ys k x at in (suc j, there)
 
 module _ (blocks sorted : List Block) (loaded : Bool) (told : loaded ≡ has_load blocks) (wholes : All IsWhole blocks)
-    (same : IsPermutation (filter (λ b. not (is_out loaded b)) blocks) sorted) where
+    (same : IsPermutation (filter (λ b. not (moves_as_stray loaded b)) blocks) sorted) where
   abbrev outs : List Block
-  outs = filter (λ b. is_out loaded b) blocks
+  outs = filter (λ b. moves_as_stray loaded b) blocks
 
   abbrev others : List Block
-  others = filter (λ b. not (is_out loaded b)) blocks
+  others = filter (λ b. not (moves_as_stray loaded b)) blocks
 
   same_two : (test : Block → Block → Bool) → some_two test blocks ≡ some_two test (outs ++ sorted)
   same_two test = some_two-IsPermutation test blocks (outs ++ sorted)
-      (IsPermutation-trans blocks (outs ++ others) (outs ++ sorted) (IsPermutation-filter_both (λ b. is_out loaded b) (λ b. not (is_out loaded b)) (λ b. refl) blocks)
+      (IsPermutation-trans blocks (outs ++ others) (outs ++ sorted) (IsPermutation-filter_both (λ b. moves_as_stray loaded b) (λ b. not (moves_as_stray loaded b)) (λ b. refl) blocks)
       (IsPermutation-append_right outs others sorted same))
 
   -- none of the others is kept out
   no_stray : loaded ≡ true → All (λ (b : Block). b.is_stray ≡ false) others
   no_stray is k d within =
-      let passes : not (is_out loaded (get_or others k d)) ≡ true = filter_passes (λ b. not (is_out loaded b)) blocks k d within in
-      elim (and_cases loaded (get_or others k d).is_stray (not-true (is_out loaded (get_or others k d)) passes)) [
+      let passes : not (moves_as_stray loaded (get_or others k d)) ≡ true = filter_passes (λ b. not (moves_as_stray loaded b)) blocks k d within in
+      elim (and_cases loaded (get_or others k d).is_stray (not-true (moves_as_stray loaded (get_or others k d)) passes)) [
         | inl isnt ↦ absurd (both_ways loaded isnt is)
         | inr straight ↦ straight
       ]
@@ -232,7 +232,7 @@ module _ (blocks sorted : List Block) (loaded : Bool) (told : loaded ≡ has_loa
         (All-permutation (λ (b : Block). b.is_stray ≡ false) others sorted same (no_stray is)) at)
     | inr isnt ↦ inr (λ k x at. at_place (λ (b : Block). b.is_load_start ≡ false) sorted k x
         (All-permutation (λ (b : Block). b.is_load_start ≡ false) others sorted same
-        (All-filter (λ b. not (is_out loaded b)) (λ (b : Block). b.is_load_start ≡ false) blocks (no_load isnt))) at)
+        (All-filter (λ b. not (moves_as_stray loaded b)) (λ (b : Block). b.is_load_start ≡ false) blocks (no_load isnt))) at)
   ]
 
   -- what is stuck among the others is stuck
@@ -247,9 +247,9 @@ module _ (blocks sorted : List Block) (loaded : Bool) (told : loaded ≡ has_loa
   -- a stray block is one of the image's, where there is a loaded segment
   out_is : (k : ℕ) (o : Block) → slice_get outs k ≡ Some o → Contains blocks o × (o.is_stray ≡ true) × (has_load blocks ≡ true)
   out_is k o at =
-      let passes = at_place (λ (b : Block). is_out loaded b ≡ true) outs k o (filter_passes (λ b. is_out loaded b) blocks) at in
+      let passes = at_place (λ (b : Block). moves_as_stray loaded b ≡ true) outs k o (filter_passes (λ b. moves_as_stray loaded b) blocks) at in
       let parts = and_parts loaded o.is_stray passes in
-      (at_place (Contains blocks) outs k o (All-filter (λ b. is_out loaded b) (Contains blocks) blocks (All-contains_itself blocks)) at, parts.1, sym told ∙ parts.0)
+      (at_place (Contains blocks) outs k o (All-filter (λ b. moves_as_stray loaded b) (Contains blocks) blocks (All-contains_itself blocks)) at, parts.1, sym told ∙ parts.0)
 
   pub out_stuck : (k : ℕ) (o : Block) → slice_get outs k ≡ Some o → o.priority ≡ 0 → is_stuck blocks ≡ true
   out_stuck k o at stays = let is = out_is k o at in stray_stuck blocks wholes o is.0 is.1 is.2 stays
@@ -297,7 +297,7 @@ module _ (blocks sorted : List Block) (loaded : Bool) (told : loaded ≡ has_loa
       all_there k x at = elim (in_either outs found k x at) [
         | inl out ↦ (out_is k x out).0
         | inr other ↦ All-contains (Contains blocks) sorted x (All-permutation (Contains blocks) others sorted same
-            (All-filter (λ b. not (is_out loaded b)) (Contains blocks) blocks (All-contains_itself blocks))) (move.there other.0 x other.1)
+            (All-filter (λ b. not (moves_as_stray loaded b)) (Contains blocks) blocks (All-contains_itself blocks))) (move.there other.0 x other.1)
       ]
 
       pub all_movers : AreMovers blocks (outs ++ found)
@@ -313,11 +313,11 @@ module _ (blocks sorted : List Block) (loaded : Bool) (told : loaded ≡ has_loa
 
 -- one of them can't move: it is stuck
 pub fixed_stuck : (blocks : List Block) (loaded : Bool) → loaded ≡ has_load blocks → All IsWhole blocks
-    → list_any (λ b. b.priority == 0) (filter (λ b. is_out loaded b) blocks) ≡ true → is_stuck blocks ≡ true
+    → list_any (λ b. b.priority == 0) (filter (λ b. moves_as_stray loaded b) blocks) ≡ true → is_stuck blocks ≡ true
 fixed_stuck blocks loaded told wholes some =
-    let found : List Block = filter (λ b. is_out loaded b) blocks in
+    let found : List Block = filter (λ b. moves_as_stray loaded b) blocks in
     let (k, o, within, there, stays) = Any-from_list_any (λ (b : Block). b.priority == 0) found some in
-    out_stuck blocks (filter (λ b. not (is_out loaded b)) blocks) loaded told wholes (IsPermutation-refl (filter (λ b. not (is_out loaded b)) blocks)) k o
+    out_stuck blocks (filter (λ b. not (moves_as_stray loaded b)) blocks) loaded told wholes (IsPermutation-refl (filter (λ b. not (moves_as_stray loaded b)) blocks)) k o
     (slice_get-get_or found k o within ∙ ap Some there) (eqb-true o.priority 0 stays)
 
 -- none is one that can't

@@ -19,8 +19,8 @@ abbrev pub has_load : List Block → Bool
 has_load blocks = list_any (λ b. b.is_load_start) blocks
 
 -- a stray block, where there is a loaded segment
-abbrev pub is_out : Bool → Block → Bool
-is_out loaded b = loaded && b.is_stray
+abbrev pub moves_as_stray : Bool → Block → Bool
+moves_as_stray loaded b = loaded && b.is_stray
 
 -- those that are marked
 abbrev pub marked_of : List Block → List Bool → List Block

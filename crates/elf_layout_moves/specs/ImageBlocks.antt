@@ -1,13 +1,12 @@
 -- How the blocks of an image are found: what the steps hand to each other.
-use Rattle.std.specs.Prelude.{ℕ, ◌+◌, ◌-◌, ◌≡◌, List, [], ◌∷◌, length, map, filter, find, drop, Bool, false, Option, Some, ◌==◌, ◌&&◌, ◌||◌, if◌then◌else◌, slice_index}
+use Rattle.std.specs.Prelude.{ℕ, ◌+◌, ◌-◌, ◌≡◌, List, [], ◌∷◌, length, map, filter, drop, Bool, false, Option, Some, ◌==◌, ◌&&◌, ◌||◌, if◌then◌else◌, slice_index}
 use Rattle.std.specs.Option.{option_map}
-use Rattle.patch_bytes.specs.Memory.{◌>>=◌}
 use Rattle.elf_format.specs.declared.constants.TheConstants.{SHT_DYNSYM, SHT_GNU_HASH, SHT_GNU_VERDEF, SHT_GNU_VERNEED, SHT_GNU_VERSYM, SHT_HASH, SHT_NOTE, SHT_STRTAB}
 use Rattle.elf_format.specs.Image.{Image, ImageSection}
 use Rattle.elf_format.specs.Options.{is_one_of, is_some_and}
 use Rattle.elf_format.specs.declared.records.SegmentHeader.{SegmentHeader}
 use Rattle.elf_layout_plan.specs.Blocks.{Block}
-use Rattle.elf_image.specs.Kept.{KeptSection, kept_from, stands_as_interpreter}
+use Rattle.elf_image.specs.Kept.{KeptSection, kept_from}
 use Rattle.elf_layout_plan.specs.Memory.{Resized, SizedSection, is_stray, section_block, sized_from, takes_memory}
 
 -- each section has a number at read
@@ -21,14 +20,6 @@ address_of offset load = option_map (λ p. p.p_vaddr + offset - p.p_offset) load
 -- the sections from a position on
 abbrev pub kept_behind : Image → ℕ → List KeptSection
 kept_behind image k = kept_from k (drop k image.section_numbers) (drop k image.sections)
-
--- the number at read of the first of them that stands where the interpreter's program header says
-abbrev pub number_from : Image → SegmentHeader → ℕ → Option ℕ
-number_from image p k = find (λ s. stands_as_interpreter p s.section) (kept_behind image k) >>= λ s. Some s.number
-
--- what the first of them of a type links to
-abbrev pub link_from : Image → ℕ → ℕ → Option ℕ
-link_from image type k = find (λ s. s.section.sh_type == type) (kept_behind image k) >>= λ s. Some s.section.sh_link
 
 -- a section at a position, with its number at read and its new size
 abbrev pub sized_at : ℕ → ℕ → ImageSection → ℕ → SizedSection

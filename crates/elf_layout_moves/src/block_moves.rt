@@ -4,7 +4,7 @@ ghost use Rattle.std.specs.List.{filter_map, list_any};
 ghost use Rattle.elf_layout_plan.specs.MovedBlocks.{HasStuck, IsOrdered, MoveForCause, StayApart};
 ghost use Rattle.elf_layout_plan.specs.declared.fault.LayoutFault.TheVariants.{Overlap};
 ghost use Rattle.elf_layout_plan.specs.Blocks.{Block as Taken, has_cause, have_causes, is_stuck, stay_apart};
-ghost use Rattle.elf_layout_moves.specs.BlockSteps.{AreClear, AreMovers, AreOrdered, AreRanges, HasStuckFault, IsRangeOf, IsStuckFault, IsWhole, has_load, is_out, marked_of};
+ghost use Rattle.elf_layout_moves.specs.BlockSteps.{AreClear, AreMovers, AreOrdered, AreRanges, HasStuckFault, IsRangeOf, IsStuckFault, IsWhole, has_load, moves_as_stray, marked_of};
 
 use crate::blocks::MemoryBlock;
 use elf_layout_plan::{Block, LayoutFault, Steps, walk_blocks};
@@ -32,7 +32,7 @@ fn stray_blocks(
     blocks: &[MemoryBlock],
     loaded: bool,
 ) -> Result<Vec<MemoryBlock>, AllocError>
-    ensures { IfOk result (λ found. found.items ≡ filter (λ b. is_out loaded b) blocks.now) }
+    ensures { IfOk result (λ found. found.items ≡ filter (λ b. moves_as_stray loaded b) blocks.now) }
 {
     blocks
         .iter()
@@ -47,7 +47,7 @@ fn inside_blocks(
     blocks: &[MemoryBlock],
     loaded: bool,
 ) -> Result<Vec<MemoryBlock>, AllocError>
-    ensures { IfOk result (λ found. found.items ≡ filter (λ b. not (is_out loaded b)) blocks.now) }
+    ensures { IfOk result (λ found. found.items ≡ filter (λ b. not (moves_as_stray loaded b)) blocks.now) }
 {
     blocks
         .iter()
@@ -120,15 +120,13 @@ fn marks(alloc: Global, ranges: &[Block]) -> Result<Vec<bool>, LayoutFault>
     ensures many { IfOk result (λ marks. length marks.items ≡ length ranges.now) }
     ensures fault { IfErr result (HasStuckFault ranges.now) }
 {
-    let Ok(mut marks) = vec![in alloc; false; ranges.len()] else {
-        return Err(LayoutFault::Memory);
-    };
+    let mut marks = vec![in alloc; false; ranges.len()]?;
     walk_on::<Brand>(Blank::new(1), ranges, &mut marks)?;
     Ok(marks)
 }
 
 // Those that are marked.
-fn marked(
+fn marked_blocks(
     alloc: Global,
     blocks: &[MemoryBlock],
     marks: &[bool],
@@ -152,13 +150,9 @@ fn walk_in_order(alloc: Global, sorted: &[MemoryBlock]) -> Result<Vec<MemoryBloc
     ensures movers { IfOk result (λ movers. AreMovers sorted.now movers.items) }
     ensures fault { IfErr result (IsStuckFault sorted.now) }
 {
-    let Ok(ranges) = ranges(alloc, sorted) else {
-        return Err(LayoutFault::Memory);
-    };
+    let ranges = ranges(alloc, sorted)?;
     let marks = marks(alloc, &ranges)?;
-    let Ok(found) = marked(alloc, sorted, &marks) else {
-        return Err(LayoutFault::Memory);
-    };
+    let found = marked_blocks(alloc, sorted, &marks)?;
     Ok(found)
 }
 
@@ -170,7 +164,7 @@ fn others_in_order(
 ) -> Result<Vec<MemoryBlock>, AllocError>
     ensures ordered { IfOk result (λ sorted. AreOrdered sorted.items) }
     ensures same { IfOk result (λ sorted.
-        IsPermutation (filter (λ b. not (is_out loaded b)) blocks.now) sorted.items) }
+        IsPermutation (filter (λ b. not (moves_as_stray loaded b)) blocks.now) sorted.items) }
 {
     let mut others = inside_blocks(alloc, blocks, loaded)?;
     put_in_order(&mut others);
@@ -184,19 +178,13 @@ fn movers_of(alloc: Global, blocks: &[MemoryBlock]) -> Result<Vec<MemoryBlock>, 
     ensures fault { IfErr result (IsStuckFault blocks.now) }
 {
     let loaded = is_some_load(blocks);
-    let Ok(mut movers) = stray_blocks(alloc, blocks, loaded) else {
-        return Err(LayoutFault::Memory);
-    };
+    let mut movers = stray_blocks(alloc, blocks, loaded)?;
     if is_some_fixed(&movers) {
         return Err(LayoutFault::Overlap);
     }
-    let Ok(others) = others_in_order(alloc, blocks, loaded) else {
-        return Err(LayoutFault::Memory);
-    };
+    let others = others_in_order(alloc, blocks, loaded)?;
     let found = walk_in_order(alloc, &others)?;
-    if movers.extend_from_slice(&found).is_err() {
-        return Err(LayoutFault::Memory);
-    }
+    movers.extend_from_slice(&found)?;
     Ok(movers)
 }
 
@@ -219,8 +207,6 @@ pub(crate) fn moved_positions(
     ensures fault { IfErr result (IsStuckFault blocks.now) }
 {
     let movers = movers_of(alloc, blocks)?;
-    let Ok(moved) = sections_of(alloc, &movers) else {
-        return Err(LayoutFault::Memory);
-    };
+    let moved = sections_of(alloc, &movers)?;
     Ok(moved)
 }

@@ -1,26 +1,24 @@
 // The blocks of memory that an image takes.
-ghost use Rattle.std.specs.Prelude.{◌≡◌, ◌&&◌, ◌+◌, ◌*◌, ◌^◌, ◌<◌, ◌≤◌, ◌∷◌, ◌++◌, [], IfOk, IsTrue, OnOk, ◌==◌, None, Some, false, true, filter, length, slice_get, map, option_map, slice_index};
+ghost use Rattle.std.specs.Prelude.{◌≡◌, ◌&&◌, ◌+◌, ◌*◌, ◌^◌, ◌<◌, ◌≤◌, ◌∷◌, ◌++◌, [], IfOk, IsTrue, OnOk, ◌==◌, None, Some, false, true, filter, length, slice_get, map, slice_index};
 ghost use Rattle.std.specs.List.{flat_map, list_any};
-ghost use Rattle.elf_format.specs.File.{is_loaded, loads_of, segment_of_type};
-ghost use Rattle.elf_format.specs.declared.constants.TheConstants.{PT_INTERP as INTERP};
+ghost use Rattle.elf_format.specs.File.{is_loaded, loads_of};
 ghost use Rattle.elf_format.specs.Image.{ImageSection};
-ghost use Rattle.elf_format.specs.Options.{is_some_and, list_at};
+ghost use Rattle.elf_format.specs.Options.{list_at};
 ghost use Rattle.elf_format.specs.Placement.{file_part, shows_at};
 ghost use Rattle.elf_format.specs.Ranges.{lies_in, range};
 ghost use Rattle.elf_format.specs.Records.{segment_header_size};
 ghost use Rattle.elf_image.specs.ImageModel.{section_model, segment_model};
-ghost use Rattle.elf_image.specs.Kept.{dynamic_strings_number, interpreter_number, link_of_type, stands_as_interpreter};
+ghost use Rattle.elf_image.specs.Kept.{dynamic_strings_number, interpreter_number};
 ghost use Rattle.elf_layout_plan.specs.Memory.{blocks_with, edge_blocks, fixed_block, header_blocks, loaded_over, takes_memory};
-ghost use Rattle.elf_layout_moves.specs.ImageBlocks.{AreNumbered, address_of, is_movable_type, is_section_stray, made_block, number_from, priority_with, section_blocks_from};
+ghost use Rattle.elf_layout_moves.specs.ImageBlocks.{AreNumbered, address_of, is_movable_type, is_section_stray, made_block, priority_with, section_blocks_from};
 
 use crate::resizing::Resizing;
 use elf_format::constants::{
-    PT_INTERP, PT_LOAD, SHF_ALLOC, SHF_TLS, SHT_DYNAMIC, SHT_DYNSYM, SHT_GNU_HASH, SHT_GNU_VERDEF,
-    SHT_GNU_VERNEED, SHT_GNU_VERSYM, SHT_HASH, SHT_NOBITS, SHT_NOTE, SHT_NULL, SHT_PROGBITS,
-    SHT_STRTAB,
+    PT_LOAD, SHF_ALLOC, SHF_TLS, SHT_DYNAMIC, SHT_DYNSYM, SHT_GNU_HASH, SHT_GNU_VERDEF,
+    SHT_GNU_VERNEED, SHT_GNU_VERSYM, SHT_HASH, SHT_NOBITS, SHT_NOTE, SHT_NULL, SHT_STRTAB,
 };
-use elf_format::form::Form;
 use elf_image::{Builder, Section, Segment};
+use elf_layout_plan::is_numbered;
 use std::alloc::{AllocError, Global};
 use std::marker::Model;
 
@@ -87,16 +85,6 @@ fn load_start(start: u128) -> MemoryBlock
     }
 }
 
-// How the numbers of an image are spelled.
-fn form_of(image: &Builder<'_>) -> Form
-    ensures { result ≡ image.now.form }
-{
-    Form {
-        wide: image.class(),
-        order: image.order(),
-    }
-}
-
 // Whether a range of the file lies in the file part of a loaded segment.
 fn is_loaded_part(p: &Segment<'_>, start: u64, size: u128) -> bool
     requires { size < 2 ^ 80 }
@@ -139,7 +127,7 @@ fn table_size_at_read(read: &Builder<'_>) -> u128
     ensures value { result ≡ length read.now.segments * segment_header_size read.now.form }
     ensures small { result < 2 ^ 80 }
 {
-    read.segments().len() as u128 * form_of(read).segment_header_size() as u128
+    read.segments().len() as u128 * read.form().segment_header_size() as u128
 }
 
 // How many bytes it has with so many entries more than the image has segments.
@@ -148,7 +136,7 @@ fn table_size(image: &Builder<'_>, added: usize) -> u128
         ≡ (length image.now.segments + added) * segment_header_size image.now.form }
 {
     let count = image.segments().len() as u128 + added as u128;
-    count * form_of(image).segment_header_size() as u128
+    count * image.form().segment_header_size() as u128
 }
 
 // Puts the file header and the program header table behind other blocks, each where a loaded segment had all of it at read.
@@ -160,7 +148,7 @@ fn push_headers(
     ensures { OnOk result (made.new.items ≡ made.old.items ++ header_blocks r.now added) }
 {
     let segments = r.read.segments();
-    let size = form_of(r.read).file_header_size() as u128;
+    let size = r.read.form().file_header_size() as u128;
     push_at(made, address_in(segments, 0, size), size)?;
     let start = r.read.header().e_phoff;
     let table = address_in(segments, start, table_size_at_read(r.read));
@@ -226,7 +214,7 @@ fn is_stray_at(image: &Builder<'_>, section: &Section<'_>, size: u64) -> bool
         && section.sh_size == 0
         && size != 0
         && (!is_shown(image.segments(), offset, size, address)
-            || offset < form_of(image).file_header_size() as u64)
+            || offset < image.form().file_header_size() as u64)
 }
 
 // Whether a section takes memory of its own.
@@ -238,81 +226,13 @@ fn is_in_memory(section: &Section<'_>) -> bool
         && !(section.sh_type == SHT_NOBITS && section.sh_flags & SHF_TLS != 0)
 }
 
-// The program header of the interpreter.
-fn interpreter_segment<'a, 'data>(segments: &'a [Segment<'data>]) -> Option<&'a Segment<'data>>
-    ensures { option_map (λ p. segment_model p.now) result
-        ≡ segment_of_type INTERP (map segment_model segments.now) }
-{
-    segments
-        .iter()
-        .find(|segment| segment.p_type() == PT_INTERP)
-}
-
-// Whether a section stands where the interpreter's program header says.
-fn is_interpreter(p: &Segment<'_>, section: &Section<'_>) -> bool
-    ensures { result
-        ≡ stands_as_interpreter (segment_model p.now) (section_model section.now) }
-{
-    section.sh_type == SHT_PROGBITS
-        && section.sh_offset == p.p_offset()
-        && section.sh_addr == p.p_vaddr()
-        && section.sh_size == p.p_filesz()
-}
-
-// The number at read of the first such section.
-fn number_at(read: &Builder<'_>, p: &Segment<'_>) -> Option<usize>
-    requires { AreNumbered read.now }
-    ensures { result ≡ number_from read.now (segment_model p.now) 0 }
-{
-    for position in 0..read.sections().len() {
-        if is_interpreter(p, &read.sections()[position]) {
-            return Some(read.read_section(position));
-        }
-    }
-    None
-}
-
-// The number of the section with the interpreter's name.
-fn number_of_interpreter(read: &Builder<'_>) -> Option<usize>
-    requires { AreNumbered read.now }
-    ensures { result ≡ interpreter_number read.now }
-{
-    let segment = interpreter_segment(read.segments())?;
-    number_at(read, segment)
-}
-
-// The number of the section that the first of a type links to.
-fn link_of(image: &Builder<'_>, kind: u32) -> Option<usize>
-    requires { AreNumbered image.now }
-    ensures { result ≡ link_of_type kind image.now }
-{
-    for position in 0..image.sections().len() {
-        let section = &image.sections()[position];
-        if section.sh_type == kind {
-            return Some(section.sh_link as usize);
-        }
-    }
-    None
-}
-
 // The number of the section with the dynamic strings.
 fn number_of_strings(image: &Builder<'_>) -> Option<usize>
-    requires { AreNumbered image.now }
     ensures { result ≡ dynamic_strings_number image.now }
 {
-    match link_of(image, SHT_DYNAMIC) {
+    match image.link_of_type(SHT_DYNAMIC) {
         Some(number) => Some(number),
-        None => link_of(image, SHT_DYNSYM),
-    }
-}
-
-// Whether a number is that of a section, where there is one.
-fn is_numbered(number: Option<usize>, own: usize) -> bool
-    ensures { result ≡ is_some_and (λ n. n == own) number }
-{
-    match number {
-        Some(n) => n == own,
-        None => false,
+        None => image.link_of_type(SHT_DYNSYM),
     }
 }
 
@@ -405,7 +325,6 @@ pub(crate) fn blocks_of(
     r: &Resizing<'_, '_>,
     added: usize,
 ) -> Result<Vec<MemoryBlock>, AllocError>
-    requires read { AreNumbered r.now.read }
     requires numbered { AreNumbered r.now.image }
     requires sized { length r.now.sizes ≡ length r.now.image.sections }
     ensures { IfOk result (λ made. made.items ≡ blocks_with r.now added) }
@@ -413,7 +332,7 @@ pub(crate) fn blocks_of(
     let mut made = Vec::new(alloc);
     push_headers(&mut made, r, added)?;
     push_all_edges(&mut made, r.image.segments())?;
-    let interpreter = number_of_interpreter(r.read);
+    let interpreter = r.read.interpreter_number();
     let strings = number_of_strings(r.image);
     push_sections(&mut made, r, interpreter, strings)?;
     Ok(made)

@@ -25,9 +25,7 @@ pub fn find_move_sections(
     ensures free { OnOk result (is_stuck_with (resized image.now) added ≡ false) }
     ensures fault { IfErr result (IsStuckBy image.now added) }
 {
-    let Ok(read) = read_again(alloc, image) else {
-        return Err(LayoutFault::Memory);
-    };
+    let read = read_again(alloc, image)?;
     let r = Resizing {
         read: &read,
         image,
@@ -46,13 +44,9 @@ pub fn find_moved(
     ensures free { OnOk result (is_stuck_with r.now added ≡ false) }
     ensures fault { IfErr result (IsStuckBy r.now.image added) }
 {
-    let (_read, _image) = (r.read.source(), r.image.source());
-    let Ok(blocks) = blocks_of(alloc, r, added) else {
-        return Err(LayoutFault::Memory);
-    };
+    let _image = r.image.source();
+    let blocks = blocks_of(alloc, r, added)?;
     let moved = moved_positions(alloc, &blocks)?;
-    let Ok(found) = in_old_order(alloc, r, &moved) else {
-        return Err(LayoutFault::Memory);
-    };
+    let found = in_old_order(alloc, r, &moved)?;
     Ok(found)
 }

@@ -1,3 +1,4 @@
+use elf_format::form::Form;
 use elf_image::Builder;
 use std::marker::Model;
 
@@ -22,4 +23,15 @@ impl<'a, 'data> Model for Resizing<'a, 'data> {
     ghost view = { resized_model };
 
     ghost invariant = { λ s. IsResized (resized_model s) };
+}
+
+impl Resizing<'_, '_> {
+    ghost use Rattle.std.specs.Prelude.{◌≡◌};
+
+    /// How the numbers of the image are spelled (gABI, ELF Header, ELF Identification). Takes no memory.
+    pub fn form(&self) -> Form
+        ensures { result ≡ self.now.image.form }
+    {
+        self.image.form()
+    }
 }

@@ -9,20 +9,9 @@ use Rattle.elf_format.specs.Ranges.{all_apart, apart, end_of, range}
 use Rattle.elf_layout_plan.specs.Added.{greatest}
 use Rattle.elf_layout_plan.specs.Blocks.{Block, is_block_of_some, is_earlier, is_kept_out, overlaps, some_two, stay_apart}
 use Rattle.elf_layout_plan.proofs.ApartLists.{Each, Pairs, all-at, all-from, each-more, none-at}
+use Rattle.elf_format.proofs.ForCallers.{apart-before, apart-behind}
 
 -- ## Ranges
-
-pub apart-before : (r s : Range) → end_of r ≤ s.start → apart r s ≡ true
-apart-before r s e = grind (arith, nat_tests)
-
-pub apart-behind : (r s : Range) → end_of s ≤ r.start → apart r s ≡ true
-apart-behind r s e = grind (arith, nat_tests)
-
-pub apart-empty : (r s : Range) → r.size ≡ 0 → apart r s ≡ true
-apart-empty r s e = grind (arith, nat_tests)
-
-pub apart-from_empty : (r s : Range) → s.size ≡ 0 → apart r s ≡ true
-apart-from_empty r s e = grind (arith, nat_tests)
 
 -- ranges that are apart, both with something in them, share no position
 pub apart-meet : (r s : Range) (n : ℕ) → apart r s ≡ true → r.start ≤ n → n < end_of r → s.start ≤ n → n < end_of s → ⊥

@@ -22,7 +22,7 @@ use Rattle.elf_layout_plan.specs.Plan.{Layout, layout_for, resized}
 use Rattle.elf_layout_plan.specs.Rounds.{added_flags, are_in_old_order, do_move, headers_needed, sections_at}
 use Rattle.elf_layout_plan.specs.Standing.{place_in, places, slot_of, table_offset}
 use Rattle.elf_layout_plan.specs.Written.{written_segments}
-use Rattle.elf_layout_plan.proofs.ApartBlocks.{Neither, apart-before, apart-behind, apart-empty, neither-apart, pairs_all_apart, stay_neither, stay_over}
+use Rattle.elf_layout_plan.proofs.ApartBlocks.{Neither, neither-apart, pairs_all_apart, stay_neither, stay_over}
 use Rattle.elf_layout_plan.proofs.ApartFacts.{AreFacts}
 use Rattle.elf_layout_plan.proofs.ApartFixed.{file_header_blocks, table_blocks}
 use Rattle.elf_layout_plan.proofs.ApartHeaders.{IsUnder, headers_under}
@@ -32,6 +32,7 @@ use Rattle.elf_layout_plan.proofs.ApartPlaces.{is_place, keeps_address, none_sta
 use Rattle.elf_layout_plan.proofs.ApartRead.{edited_facts}
 use Rattle.elf_layout_plan.proofs.ApartSections.{all_slots, sized-at}
 use Rattle.elf_layout_plan.proofs.ApartStays.{IsLow, block_clear, blocks_stay, is_low, taking}
+use Rattle.elf_format.proofs.ForCallers.{apart-before, apart-behind, apart-empty}
 
 range-same : (a b z y : ℕ) → a ≡ b → z ≡ y → range a z ≡ range b y
 range-same a b z y e f = cc

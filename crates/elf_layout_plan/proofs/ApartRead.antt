@@ -1,10 +1,10 @@
 -- What is known of an edited image follows from the rules that its source was accepted by.
-use Rattle.std.proofs.Common.{◌≡◌, ℕ, zero, suc, ◌+◌, ◌<◌, ◌≤◌, Bool, true, false, not, cond, ◌&&◌, ◌||◌, ◌⊎◌, List, [], ◌∷◌, ◌++◌, map, length, refl, sym, ap, ◌∙◌, subst, inl, inr, arith, Option, Some, None}
+use Rattle.std.proofs.Common.{◌≡◌, ℕ, zero, suc, ◌+◌, ◌<◌, ◌≤◌, Bool, true, false, not, cond, ◌&&◌, ◌||◌, ◌⊎◌, List, ◌∷◌, ◌++◌, map, length, refl, sym, ap, ◌∙◌, subst, inl, inr, arith, Option, Some, None, []}
 use Rattle.std.specs.Prelude.{◌==◌, Result, Ok, Err, filter, find, nat_le, slice_index, if◌then◌else◌}
 use Rattle.std.specs.List.{list_all, list_any, slice_get}
 use Rattle.std.specs.Option.{option_map, option_to_list}
-use Rattle.std.proofs.lemmas.Bool.{and_parts, cases_lt, eqb-true, false≢true, leb-true, ne_eqb}
-use Rattle.std.proofs.lemmas.List.{append-nil, length-append}
+use Rattle.std.proofs.lemmas.Bool.{and_parts, eqb-true, false≢true, leb-true, ne_eqb}
+use Rattle.std.proofs.lemmas.List.{append-nil}
 use Rattle.std.proofs.lemmas.List.Elements.{filter-append}
 use Rattle.std.proofs.lemmas.Option.{get_or_from_slice_get, none-some, same_Some, slice_get_within}
 use Rattle.patch_bytes.specs.Memory.{◌>>=◌}
@@ -24,7 +24,7 @@ use Rattle.elf_format.specs.Rules.{MeetsRules, file_of, header_ranges}
 use Rattle.elf_image.specs.Edited.{AreKept, AreSegments, CanGo, IsEditOf, IsEdited, kept_segment}
 use Rattle.elf_image.specs.ReadImage.{HoldsParts}
 use Rattle.elf_image.specs.Segments.{added_stack}
-use Rattle.elf_image.proofs.ReadImageLaws.{read_images_hold_parts}
+use Rattle.elf_image.proofs.ForCallers.ReadImageLaws.{read_images_hold_parts}
 use Rattle.elf_layout_plan.specs.Anchors.{is_loaded_section}
 use Rattle.elf_image.specs.Kept.{KeptSection, interpreter_number, kept_from, is_numbered, kept_sections, place_at_read, stands_as_interpreter}
 use Rattle.elf_layout_plan.specs.Memory.{Resized}
@@ -32,8 +32,9 @@ use Rattle.elf_layout_plan.specs.Plan.{resized}
 use Rattle.elf_layout_plan.specs.Sizes.{interpreter_size, new_size, new_sizes, table_size}
 use Rattle.elf_layout_plan.proofs.ApartBlocks.{all_apart_pairs}
 use Rattle.elf_layout_plan.proofs.ApartFacts.{AreFacts, IsOriginal, bare, bytes_of, was_stored}
-use Rattle.elf_layout_plan.proofs.ApartLists.{Each, Pairs, front-at, push-last, all-at, any-from, at-map, each-at, each-from, each-more, each-unfilter, each-unmap, find-at, pairs-from, pairs-less, pairs-unfilter, pairs-unmap, push-at, same_at}
+use Rattle.elf_layout_plan.proofs.ApartLists.{Each, Pairs, all-at, any-from, at-map, each-at, each-from, each-more, each-unfilter, each-unmap, find-at, pairs-from, pairs-less, pairs-unfilter, pairs-unmap, same_at}
 use Rattle.elf_layout_plan.proofs.ApartSections.{kept-at, sized_from-map}
+use Rattle.elf_format.proofs.ForCallers.Lengths.{counted_at, slice_get-counted}
 
 -- ## Loaded segments are kept
 
@@ -68,30 +69,6 @@ loads-edited size read now h =
     no_stack (Some flags) = refl
 
 -- ## Numbers at read
-
-length-counted : (n : ℕ) → length (counted n) ≡ n
-unfolding counted
-length-counted zero = refl
-length-counted (suc n) = let rest = length-counted n in let more = length-append (counted n) (n ∷ []) in omega (arith, rest, more)
-
-counted-at : (n j x : ℕ) → slice_get (counted n) j ≡ Some x → x ≡ j
-unfolding counted
-counted-at zero j x at = absurd (none-some x at)
-counted-at (suc n) j x at = elim (push-at (counted n) n j x at) [
-  | inl here ↦ counted-at n j x here
-  | inr last ↦ let e = last.0 in let f = last.1 in let long = length-counted n in omega (arith, e, f, long)
-]
-
-counted-there : (n j : ℕ) → j < n → slice_get (counted n) j ≡ Some j
-unfolding counted
-counted-there zero j less = absurd (omega arith)
-counted-there (suc n) j less = elim (cases_lt j n) [
-  | inl before ↦ front-at (counted n) n j j (counted-there n j before)
-  | inr last ↦
-      let e : j ≡ length (counted n) = let long = length-counted n in omega (arith, less, last, long) in
-      let f : n ≡ j = omega (arith, less, last) in
-      subst (λ (i : ℕ). slice_get (counted n ++ n ∷ []) i ≡ Some j) (sym e) (push-last (counted n) n ∙ ap (λ (m : ℕ). Some m) f)
-]
 
 kept-there : (p : ℕ) (ns : List ℕ) (ss : List ImageSection) (i n : ℕ) (s : ImageSection) → slice_get ns i ≡ Some n → slice_get ss i ≡ Some s
     → (k : KeptSection) × (slice_get (kept_from p ns ss) i ≡ Some k) × (k.number ≡ n) × (k.section ≡ s)
@@ -219,7 +196,7 @@ module _ (image read : Image) (edit : IsEditOf read image) (p : Parts) (rules : 
           let (j, at_s, stands) = find-at (λ s. stands_as_interpreter q s.section) (kept_sections read) s found in
           let (_, at_number, at_section) = kept-at 0 read.section_numbers read.sections j s at_s in
           let counts : slice_get (counted (length read.sections)) j ≡ Some s.number = subst (λ (l : List ℕ). slice_get l j ≡ Some s.number) has.section_numbers at_number in
-          let own : s.number ≡ j = counted-at (length read.sections) j s.number counts in
+          let own : s.number ≡ j = counted_at (length read.sections) j s.number counts in
           let mine : n ≡ k.number = eqb-true n k.number h in
           let same_number : j ≡ k.number = sym own ∙ same_Some s.number n number ∙ mine in
           let from = is_from i k at in
@@ -276,7 +253,7 @@ module _ (image read : Image) (edit : IsEditOf read image) (p : Parts) (rules : 
   originals = each-from (IsOriginal read) (kept_sections image) (λ i k at.
       let from = is_from i k at in
       let within = slice_get_within read.sections k.number from.old from.at_read in
-      let number : slice_get read.section_numbers k.number ≡ Some k.number = ap (λ (l : List ℕ). slice_get l k.number) has.section_numbers ∙ counted-there (length read.sections) k.number within in
+      let number : slice_get read.section_numbers k.number ≡ Some k.number = ap (λ (l : List ℕ). slice_get l k.number) has.section_numbers ∙ slice_get-counted (length read.sections) k.number within in
       let (old, at_old, same_number, same_section) = kept-there 0 read.section_numbers read.sections k.number k.number from.old number from.at_read in
       record {
         place = k.number;
@@ -289,7 +266,7 @@ module _ (image read : Image) (edit : IsEditOf read image) (p : Parts) (rules : 
   numbers : (i : ℕ) (k : KeptSection) → slice_get (kept_sections read) i ≡ Some k → k.number ≡ i
   numbers i k at =
       let (_, at_number, _) = kept-at 0 read.section_numbers read.sections i k at in
-      counted-at (length read.sections) i k.number (subst (λ (l : List ℕ). slice_get l i ≡ Some k.number) has.section_numbers at_number)
+      counted_at (length read.sections) i k.number (subst (λ (l : List ℕ). slice_get l i ≡ Some k.number) has.section_numbers at_number)
 
   facts : AreFacts r
   unfolding r new_sizes

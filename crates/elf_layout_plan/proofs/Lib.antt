@@ -35,3 +35,4 @@ pub mod ApartRead
 pub mod ApartNotes
 pub mod ApartShown
 pub mod ApartNoteLaw
+pub mod ForCallers

@@ -37,7 +37,7 @@ length-over : (all : List Place) → length (targets_over all) ≤ 1
 length-over [] = omega arith
 length-over (s ∷ ss) = omega arith
 
-length-one : (o : Option Place) → length (map target_at (cons_option o [])) ≤ 1
+pub length-one : (o : Option Place) → length (map target_at (cons_option o [])) ≤ 1
 length-one None = omega arith
 length-one (Some s) = omega arith
 

@@ -19,13 +19,13 @@ use Rattle.elf_layout_plan.proofs.UnloadedParts.{unloaded_parts}
 
 -- ## Sections behind the segments
 
-record UnloadedSource (sections : List SizedSection) (x : UnloadedSlot) : Type 0 where
-  section : SizedSection
-  here : Has section sections
-  position : x.position ≡ section.kept.position
-  size : x.size ≡ section.size
+pub record UnloadedSource (sections : List SizedSection) (x : UnloadedSlot) : Type 0 where
+  pub section : SizedSection
+  pub here : Has section sections
+  pub position : x.position ≡ section.kept.position
+  pub size : x.size ≡ section.size
 
-unloaded_source : (end : ℕ) (ss : List SizedSection) (x : UnloadedSlot) → Has x (unloaded_from end ss) → UnloadedSource ss x
+pub unloaded_source : (end : ℕ) (ss : List SizedSection) (x : UnloadedSlot) → Has x (unloaded_from end ss) → UnloadedSource ss x
 unfolding unloaded_from
 unloaded_source end [] x h = absurd (has_none x h)
 unloaded_source end (s ∷ ss) x h =
@@ -98,7 +98,7 @@ module _ (r : Resized) (moved : List ℕ) where
       same_section r source.section s back.0 s_here (sym source.position ∙ eqb-true x.position s.kept.position found.1) in
       (found.0, source.size ∙ ap (λ (y : SizedSection). y.size) same, ap is_unloaded (sym same) ∙ back.1)
 
-  not_unloaded : (s : SizedSection) → Has s (sized_sections r) → unloaded_slot_of r moved s ≡ None → is_unloaded s ≡ false
+  pub not_unloaded : (s : SizedSection) → Has s (sized_sections r) → unloaded_slot_of r moved s ≡ None → is_unloaded s ≡ false
   unfolding unloaded_slots
   not_unloaded s s_here none = false_from_ne_true (is_unloaded s) (λ unloaded.
       let there = unloaded_there (unloaded_start r moved) (filter is_unloaded (sized_sections r)) s

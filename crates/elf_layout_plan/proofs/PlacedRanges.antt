@@ -1,33 +1,26 @@
 -- Ranges that share no place, and tests on numbers.
-use Rattle.std.proofs.Common.{◌≡◌, ◌≤◌, true, ◌⊎◌, List, [], ◌∷◌, refl, inl, inr, arith}
+use Rattle.std.proofs.Common.{◌≡◌, ◌≤◌, true, List, [], ◌∷◌, refl, inl, inr, arith}
 use Rattle.std.specs.List.{list_all}
 use Rattle.std.proofs.lemmas.Bool.{and_from, and_parts}
 use Rattle.std.proofs.lemmas.Bool.Decides.{nat_tests}
 use Rattle.elf_format.specs.declared.range.Range.{Range}
 use Rattle.elf_format.specs.Ranges.{all_apart, apart, end_of, lies_in}
 use Rattle.elf_layout_plan.proofs.PlacedLists.{Pairs, all-at, all-from, pairs-first, pairs-more, pairs-none, pairs-rest}
+use Rattle.elf_format.proofs.ForCallers.{apart-tells}
+use Rattle.elf_format.proofs.ForCallers as ranges
 
 -- two ranges share no place
 pub record Apart (r s : Range) : Type 0 where
   pub tested : apart r s ≡ true
 
-pub apart-tells : (r s : Range) → apart r s ≡ true → (r.size ≡ 0) ⊎ ((s.size ≡ 0) ⊎ ((end_of r ≤ s.start) ⊎ (end_of s ≤ r.start)))
-apart-tells r s h = grind (arith, nat_tests)
-
-before : (r s : Range) → end_of r ≤ s.start → apart r s ≡ true
-before r s e = grind (arith, nat_tests)
-
-behind : (r s : Range) → end_of s ≤ r.start → apart r s ≡ true
-behind r s e = grind (arith, nat_tests)
-
 swapped : (r s : Range) → apart r s ≡ true → apart s r ≡ true
 swapped r s h = grind (arith, nat_tests)
 
 pub apart-before : (r s : Range) → end_of r ≤ s.start → Apart r s
-apart-before r s e = record { tested = before r s e }
+apart-before r s e = record { tested = ranges.apart-before r s e }
 
 pub apart-behind : (r s : Range) → end_of s ≤ r.start → Apart r s
-apart-behind r s e = record { tested = behind r s e }
+apart-behind r s e = record { tested = ranges.apart-behind r s e }
 
 pub apart-swap : (r s : Range) → Apart r s → Apart s r
 apart-swap r s h = record { tested = swapped r s h.tested }
@@ -35,17 +28,11 @@ apart-swap r s h = record { tested = swapped r s h.tested }
 -- ranges that lie in ranges that share no place share none
 pub apart-within : (r s a b : Range) → Apart a b → a.start ≤ r.start → end_of r ≤ end_of a → b.start ≤ s.start → end_of s ≤ end_of b → Apart r s
 apart-within r s a b h r_begins r_ends s_begins s_ends = elim (apart-tells a b h.tested) [
-  | inl e ↦ record { tested = empty_first r s (omega (arith, e)) }
-  | inr (inl e) ↦ record { tested = empty_second r s (omega (arith, e)) }
+  | inl e ↦ record { tested = ranges.apart-empty r s (omega (arith, e)) }
+  | inr (inl e) ↦ record { tested = ranges.apart-from_empty r s (omega (arith, e)) }
   | inr (inr (inl e)) ↦ apart-before r s (omega (arith, e))
   | inr (inr (inr e)) ↦ apart-behind r s (omega (arith, e))
 ]
-  where
-    empty_first : (x y : Range) → x.size ≡ 0 → apart x y ≡ true
-    empty_first x y e = grind (arith, nat_tests)
-
-    empty_second : (x y : Range) → y.size ≡ 0 → apart x y ≡ true
-    empty_second x y e = grind (arith, nat_tests)
 
 -- all of a list, and any two
 pub all_apart-from : (rs : List Range) → Pairs Apart rs → all_apart rs ≡ true

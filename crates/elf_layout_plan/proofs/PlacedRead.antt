@@ -1,36 +1,37 @@
 -- What the image that was read meets: where its loaded segments and its sections stand.
-use Rattle.std.proofs.Common.{◌≡◌, ◌≤◌, ◌<◌, ℕ, zero, suc, ◌+◌, ◌*◌, Bool, true, false, eqb, List, [], ◌∷◌, map, length, drop, refl, sym, ap, ◌∙◌, subst, inl, inr, Option, Some, None, Result, Ok, Err, arith}
+use Rattle.std.proofs.Common.{◌≡◌, ◌≤◌, ◌<◌, ℕ, zero, suc, ◌+◌, ◌*◌, Bool, true, false, eqb, List, ◌∷◌, map, length, refl, sym, ap, ◌∙◌, subst, inl, inr, Some, None, Result, Ok, Err, arith, []}
 use Rattle.std.specs.Prelude.{◌&&◌, not, ◌==◌, filter, nat_le}
 use Rattle.std.specs.List.{list_all, list_any, slice_get, slice_index}
 use Rattle.std.proofs.lemmas.Bool.{and_parts, both_ways, leb-true, not-true, not_from_true, or_cases}
 use Rattle.std.proofs.lemmas.Bool.Decides.{nat_tests}
-use Rattle.std.proofs.lemmas.Option.{get_or_from_slice_get, none-some, same_Some}
+use Rattle.std.proofs.lemmas.Option.{get_or_from_slice_get}
 use Rattle.patch_bytes.specs.declared.number.Wide.{Wide}
 use Rattle.patch_bytes.specs.declared.number.Wide.TheVariants.{W32, W64}
-use Rattle.patch_bytes.specs.Memory.{◌>>=◌}
 use Rattle.elf_format.specs.declared.header.Header.{Header}
 use Rattle.elf_format.specs.declared.constants.TheConstants.{PT_PHDR}
 use Rattle.elf_format.specs.declared.fault.ElfFault.{ElfFault}
 use Rattle.elf_format.specs.declared.range.Range.{Range}
 use Rattle.elf_format.specs.declared.records.SegmentHeader.{SegmentHeader}
-use Rattle.elf_format.specs.File.{Opened, Parts, bytes_in, is_loaded, loads_of, segments_of}
+use Rattle.elf_format.specs.File.{Parts, is_loaded, loads_of}
 use Rattle.elf_format.specs.declared.form.Form.{Form}
-use Rattle.elf_format.specs.Form.{by_class, records}
+use Rattle.elf_format.specs.Form.{by_class}
 use Rattle.elf_format.specs.Image.{Image, ImageSection, image_of}
 use Rattle.elf_format.specs.Placement.{addresses_apart, crosses_file_end, ends_by, file_part, holds, is_stored, is_uninitialized, memory_part, sections_held, something_loaded, stored_apart, stored_clear_of, stored_ranges}
 use Rattle.elf_format.specs.Places.{Place, file_range, occupies_file, occupies_memory, place_of, places_of}
 use Rattle.elf_format.specs.Ranges.{all_apart, apart, end_of, lies_in, range}
-use Rattle.elf_format.specs.Records.{file_header_size, segment_header, segment_header_size}
+use Rattle.elf_format.specs.Records.{file_header_size, segment_header_size}
 use Rattle.elf_format.specs.Rules.{ArePartsOf, MeetsRules, file_of, header_ranges, segment_table_range}
 use Rattle.elf_image.specs.Edited.{ArePicked, IsEditOf, IsEdited, IsSameSection}
 use Rattle.elf_image.specs.ReadImage.{AreSectionsOf, HoldsParts}
-use Rattle.elf_image.proofs.ReadImageLaws.{read_images_hold_parts}
+use Rattle.elf_image.proofs.ForCallers.ReadImageLaws.{read_images_hold_parts}
 use Rattle.elf_image.specs.Kept.{KeptSection, image_at_read, kept_from, kept_sections, place_at_read}
 use Rattle.elf_layout_plan.specs.Memory.{Resized, table_at_read, table_load}
 use Rattle.elf_layout_plan.specs.Plan.{resized}
 use Rattle.elf_layout_plan.proofs.PlacedLists.{Has, MadeOf, Pairs, all-at, any-at, any-from, filter-at, filter-from, find-at, find-none, has_cases, has_here, has_none, map-at, map-from, pairs-unmap, slice_get-at}
 use Rattle.elf_layout_plan.proofs.PlacedLoads.{plain, same_loads, same_type}
-use Rattle.elf_layout_plan.proofs.PlacedRanges.{Apart, all_apart-at, apart-tells, lies_in-at}
+use Rattle.elf_layout_plan.proofs.PlacedRanges.{Apart, all_apart-at, lies_in-at}
+use Rattle.elf_format.proofs.ForCallers.Lengths.{length-segments}
+use Rattle.elf_format.proofs.ForCallers.{apart-tells}
 
 -- ## Sections that are there
 
@@ -83,24 +84,6 @@ place_there p sections are i x at =
 -- the image that was read
 pub at_read : (o : Result Image ElfFault) (read image : Image) → o ≡ Ok read → (elim o [ Ok x ↦ x | Err _ ↦ image ]) ≡ read
 at_read o read image h = ap (λ (x : Result Image ElfFault). elim x as (λ _. Image) [ Ok y ↦ y | Err _ ↦ image ]) h
-
--- as many program headers are read as the file header says
-length-records : {A : Type 0} → (decode : List ℕ → A) (size count : ℕ) (bytes : List ℕ) → length (records decode size count bytes) ≡ count
-unfolding records
-length-records decode size zero bytes = refl
-length-records decode size (suc count) bytes = ap suc (length-records decode size count (drop size bytes))
-
-length-read : (o : Opened) (there : Option (List ℕ)) (segments : List SegmentHeader)
-    → (there >>= λ bytes. Some (records (segment_header o.form) (segment_header_size o.form) o.header.e_phnum bytes)) ≡ Some segments
-    → length segments ≡ o.header.e_phnum
-length-read o None segments e = absurd (none-some segments e)
-length-read o (Some bytes) segments e =
-    ap length (sym (same_Some (records (segment_header o.form) (segment_header_size o.form) o.header.e_phnum bytes) segments e))
-    ∙ length-records (segment_header o.form) (segment_header_size o.form) o.header.e_phnum bytes
-
-length-segments : (o : Opened) (segments : List SegmentHeader) → segments_of o ≡ Some segments → length segments ≡ o.header.e_phnum
-unfolding segments_of
-length-segments o segments e = length-read o (bytes_in o.file o.header.e_phoff (o.header.e_phnum * segment_header_size o.form)) segments e
 
 -- ## What is known of them
 

@@ -1,9 +1,8 @@
 -- A section without bytes in the file keeps its size.
-use Rattle.std.proofs.Common.{◌≡◌, ◌⊎◌, ℕ, zero, suc, ◌+◌, ◌*◌, Bool, true, false, List, [], ◌∷◌, ◌++◌, map, length, refl, sym, ap, ◌∙◌, subst, inl, inr, Option, Some, None, arith}
+use Rattle.std.proofs.Common.{◌≡◌, ◌⊎◌, ℕ, zero, suc, ◌+◌, ◌*◌, Bool, true, false, List, ◌∷◌, ◌++◌, map, length, refl, sym, ap, ◌∙◌, subst, inl, inr, Option, Some, None, arith, []}
 use Rattle.std.specs.Prelude.{◌&&◌, ◌==◌, find, if◌then◌else◌}
 use Rattle.std.specs.List.{slice_get}
 use Rattle.std.proofs.lemmas.Bool.{cond-false, eqb-true, false_from_ne_true, false≢true}
-use Rattle.std.proofs.lemmas.List.{length-append}
 use Rattle.std.proofs.lemmas.Option.{none-some, same_Some}
 use Rattle.patch_bytes.specs.Memory.{◌>>=◌}
 use Rattle.patch_bytes.proofs.MemoryLaws.{bind_some}
@@ -12,7 +11,7 @@ use Rattle.elf_format.specs.File.{segment_of_type}
 use Rattle.elf_format.specs.Image.{Image, ImageSection, counted, image_of}
 use Rattle.elf_format.specs.Records.{symbol_size}
 use Rattle.elf_image.specs.Edited.{IsEditOf, IsEdited}
-use Rattle.elf_image.proofs.ReadImageLaws.{read_images_hold_parts}
+use Rattle.elf_image.proofs.ForCallers.ReadImageLaws.{read_images_hold_parts}
 use Rattle.elf_image.specs.Kept.{KeptSection, image_at_read, interpreter_number, is_numbered, kept_sections, stands_as_interpreter}
 use Rattle.elf_layout_plan.specs.Memory.{SizedSection, sized_from, sized_sections}
 use Rattle.elf_layout_plan.specs.Needs.{written_needs}
@@ -21,27 +20,15 @@ use Rattle.elf_layout_plan.specs.Sizes.{definitions_size, dynamic_size, hash_siz
 use Rattle.elf_layout_plan.proofs.PlacedLists.{Has, find-at, has_cases, has_none}
 use Rattle.elf_layout_plan.proofs.PlacedRead.{at_read, kept_at, was_read}
 use Rattle.elf_layout_plan.proofs.PlacedSections.{is_kept}
+use Rattle.elf_format.proofs.ForCallers.Lengths.{counted_at}
 
 -- ## Numbers at read
-
-length-counted : (n : ℕ) → length (counted n) ≡ n
-unfolding counted
-length-counted zero = refl
-length-counted (suc n) = length-append (counted n) (n ∷ []) ∙ ap (λ k. k + 1) (length-counted n) ∙ omega arith
 
 last_or : (xs : List ℕ) (y j m : ℕ) → slice_get (xs ++ y ∷ []) j ≡ Some m → (slice_get xs j ≡ Some m) ⊎ ((j ≡ length xs) × (y ≡ m))
 last_or [] y zero m h = inr (refl, same_Some y m h)
 last_or [] y (suc j) m h = absurd (none-some m h)
 last_or (x ∷ xs) y zero m h = inl h
 last_or (x ∷ xs) y (suc j) m h = elim (last_or xs y j m h) [ inl there ↦ inl there | inr last ↦ inr (ap suc last.0, last.1) ]
-
-counted_at : (n j m : ℕ) → slice_get (counted n) j ≡ Some m → m ≡ j
-unfolding counted
-counted_at zero j m h = absurd (none-some m h)
-counted_at (suc n) j m h = elim (last_or (counted n) n j m h) [
-  | inl there ↦ counted_at n j m there
-  | inr last ↦ sym last.1 ∙ sym (length-counted n) ∙ sym last.0
-]
 
 -- ## The interpreter's section
 

@@ -43,18 +43,19 @@ any_loaded ps qs same any =
 -- ## What becomes of one program header
 
 module _ (r : Resized) (moved : List ℕ) where
-  table_by : (p : SegmentHeader) (anchor : Anchor) → (elim
+  -- with a new size of the table it keeps its type
+  pub table_type : (p : SegmentHeader) (anchor : Anchor) → (elim
       anchor as (λ _. SegmentHeader) [ HeaderTable ↦ with_table_size r moved p | _ ↦ p ]).p_type ≡ p.p_type
-  table_by p Itself = refl
-  table_by p HeaderTable = refl
-  table_by p (OneSection s) = refl
-  table_by p (Notes notes) = refl
+  table_type p Itself = refl
+  table_type p HeaderTable = refl
+  table_type p (OneSection s) = refl
+  table_type p (Notes notes) = refl
 
   written_by : (p : SegmentHeader) (targets : List Target) (q : SegmentHeader)
       → Has q (elim targets as (λ _. List SegmentHeader) [ [] ↦ resized_table r moved p ∷ [] | t ∷ ts ↦ map (anchored_to r.image.form p) (t ∷ ts) ])
       → q.p_type ≡ p.p_type
   written_by p [] q h = elim (has_cases q (resized_table r moved p) [] h) [
-    | inl same ↦ ap (λ (x : SegmentHeader). x.p_type) (sym same) ∙ table_by p (anchor_of r p)
+    | inl same ↦ ap (λ (x : SegmentHeader). x.p_type) (sym same) ∙ table_type p (anchor_of r p)
     | inr later ↦ absurd (has_none q later)
   ]
   written_by p (t ∷ ts) q h = let made = map-at (anchored_to r.image.form p) (t ∷ ts) q h in ap (λ (x : SegmentHeader). x.p_type) (sym made.made)

@@ -2,10 +2,9 @@
 use Rattle.std.specs.Prelude.{ℕ, ◌+◌, ◌-◌, ◌*◌, ◌%◌, max, List, [], ◌∷◌, length, map, filter, fold, Bool, true, ◌&&◌, not, Some, None, nat_le, ◌==◌, if◌then◌else◌}
 use Rattle.std.specs.Int.{next_multiple_of}
 use Rattle.std.specs.List.{list_any}
-use Rattle.elf_format.specs.declared.constants.TheConstants.{EM_MIPS, PT_LOAD}
-use Rattle.elf_layout_plan.specs.declared.constants.TheConstants.{EM_AARCH64, EM_ALPHA, EM_IA_64, EM_LOONGARCH, EM_PPC, EM_PPC64, EM_SPARC, EM_SPARCV9, EM_TILEGX}
+use Rattle.elf_format.specs.declared.constants.TheConstants.{PT_LOAD}
 use Rattle.elf_format.specs.File.{loads_of}
-use Rattle.elf_format.specs.Options.{is_one_of}
+use Rattle.elf_format.specs.Machine.{default_page_size}
 use Rattle.elf_format.specs.Placement.{file_part, memory_part}
 use Rattle.elf_format.specs.Ranges.{end_of}
 use Rattle.elf_format.specs.declared.records.SegmentHeader.{SegmentHeader}
@@ -57,13 +56,6 @@ memory_end r =
     (map (λ s. s.kept.section.sh_addr + s.kept.section.sh_size) sections)
 
 -- ## The alignment of what is loaded
-
--- the pages of a machine, where nothing tells their size: 64 KiB, 8 KiB, or 4 KiB (gABI, ELF Header, e_machine)
-abbrev pub default_page_size : ℕ → ℕ
-default_page_size machine =
-    if is_one_of (EM_ALPHA ∷ EM_IA_64 ∷ EM_MIPS ∷ EM_PPC ∷ EM_PPC64 ∷ EM_AARCH64 ∷ EM_TILEGX ∷ EM_LOONGARCH ∷ []) machine then 65536
-    else if is_one_of (EM_SPARC ∷ EM_SPARCV9 ∷ []) machine then 8192
-    else 4096
 
 -- the greatest alignment of the loaded segments that were read, or the machine's pages where they tell none
 abbrev pub alignment_at_read : Resized → ℕ

@@ -1,3 +1,7 @@
+ghost use Rattle.std.specs.Prelude.{◌≡◌};
+ghost use Rattle.elf_layout_plan.specs.declared.fault.LayoutFault.TheVariants.{Memory};
+
+use std::alloc::{AllocError, AllocFailed};
 use std::error::Error;
 use std::fmt;
 
@@ -23,3 +27,19 @@ impl fmt::Display for LayoutFault {
 }
 
 impl Error for LayoutFault {}
+
+impl From<AllocError> for LayoutFault {
+    ghost from_gives = { λ _ e. e ≡ Memory };
+
+    fn from(_fault: AllocError) -> LayoutFault {
+        LayoutFault::Memory
+    }
+}
+
+impl<T: Drop> From<AllocFailed<T>> for LayoutFault {
+    ghost from_gives = { λ _ e. e ≡ Memory };
+
+    fn from(_fault: AllocFailed<T>) -> LayoutFault {
+        LayoutFault::Memory
+    }
+}

@@ -1,17 +1,14 @@
 -- What a program header goes by, anchor_position by the numbers of sections, is its anchor.
-use Rattle.std.proofs.Common.{◌≡◌, ℕ, zero, suc, ◌+◌, ◌<◌, Bool, true, false, ◌&&◌, ◌||◌, cond, List, [], ◌∷◌, ◌++◌, map, length, drop, get_or, refl, sym, ap, ◌∙◌, subst, inl, inr, Option, Some, None, Ok, Err, All, option_map, arith}
+use Rattle.std.proofs.Common.{◌≡◌, ℕ, zero, suc, ◌+◌, ◌<◌, Bool, true, false, ◌&&◌, ◌||◌, cond, List, ◌∷◌, map, length, get_or, refl, sym, ap, ◌∙◌, subst, Option, Some, None, Ok, Err, All, option_map, arith, []}
 use Rattle.std.specs.Prelude.{count_by, filter, find, if◌then◌else◌, nat_le, position, slice_index, ◌==◌}
-use Rattle.std.specs.List.{list_all, position_from, slice_get}
-use Rattle.std.proofs.lemmas.Bool.{and_parts, cases_lt, eq-eqb, leb-true, ne_eqb, true≢false}
-use Rattle.std.proofs.lemmas.Iterator.Adapters.{position_from-zero}
-use Rattle.std.proofs.lemmas.List.{drop-drop, get_or-append-add, get_or-drop, get_or_append_left, length-append, length-map}
+use Rattle.std.specs.List.{list_all, slice_get}
+use Rattle.std.proofs.lemmas.Bool.{and_parts, eq-eqb, leb-true, ne_eqb, true≢false}
+use Rattle.std.proofs.lemmas.List.{length-map}
 use Rattle.std.proofs.lemmas.List.Elements.{All-cons, All-head, All-nil, All-tail}
 use Rattle.std.proofs.lemmas.List.Folds.{list_all-map}
 use Rattle.std.proofs.lemmas.List.Sums.{length-filter}
 use Rattle.std.proofs.lemmas.Option.{slice_get-get_or, slice_get_within, get_or_from_slice_get}
-use Rattle.patch_bytes.specs.Memory.{◌>>=◌}
 use Rattle.elf_format.specs.declared.constants.TheConstants.{PT_DYNAMIC, PT_GNU_PROPERTY, PT_INTERP, PT_LOAD, PT_NOTE, PT_PHDR, SHT_DYNAMIC, SHT_NOTE}
-use Rattle.elf_format.specs.File.{segment_of_type}
 use Rattle.elf_format.specs.Image.{Image, ImageSection, counted}
 use Rattle.elf_format.specs.Options.{first_there, is_one_of}
 use Rattle.elf_format.specs.Placement.{file_part}
@@ -21,56 +18,21 @@ use Rattle.elf_format.specs.declared.records.SegmentHeader.{SegmentHeader}
 use Rattle.elf_image.specs.declared.segment.Segment.{Segment}
 use Rattle.elf_image.specs.Edited.{IsEdited}
 use Rattle.elf_image.specs.ImageModel.{segment_model}
-use Rattle.elf_image.specs.Lookups.{has_interpreter, interpreter_position}
-use Rattle.elf_image.proofs.LookupSteps.{find-map}
-use Rattle.elf_image.proofs.ReadImageLaws.{read_images_hold_parts}
+use Rattle.elf_image.proofs.ForCallers.LookupSteps.{find-map}
+use Rattle.elf_image.proofs.ForCallers.ReadImageLaws.{read_images_hold_parts}
 use Rattle.elf_layout_plan.specs.Anchors.{Itself, Anchor, Notes, is_loaded_section, is_note_in, is_over_notes, anchor_of, anchor_or_itself, notes_under, section_or_table, section_under, sharers, shares_bytes}
-use Rattle.elf_image.specs.Kept.{KeptSection, interpreter_number, is_numbered, kept_from, kept_of_type, kept_sections, place_at_read, stands_as_interpreter}
+use Rattle.elf_image.specs.Kept.{KeptSection, interpreter_number, is_numbered, kept_from, kept_of_type, kept_sections, place_at_read}
 use Rattle.elf_layout_plan.specs.Memory.{Resized}
 use Rattle.elf_layout_segments.specs.declared.sections.SectionAt.{SectionAt}
 use Rattle.elf_layout_segments.specs.declared.sections.Wanted.{Wanted}
 use Rattle.elf_layout_segments.specs.declared.sections.Wanted.TheVariants.{Numbered, OfType}
 use Rattle.elf_layout_moves.specs.Inner.{IsResized}
-use Rattle.elf_layout_segments.specs.AnchorPositions.{AnchorPosition, itself, notes, table, anchor_position}
+use Rattle.elf_layout_segments.specs.AnchorPositions.{AnchorPosition, itself, notes, anchor_position}
 use Rattle.elf_layout_segments.specs.AnchorSearch.{are_notes_in, interpreter_at, is_over_notes_at, position_or_itself, searched_lists, section_or_table_at, anchor_position_by_range, anchor_position_of, under_at}
 use Rattle.elf_layout_segments.specs.Sections.{begins_in, first_at, first_wanted, is_just_over_at, is_note_at, is_wanted, place_at, positions_at, positions_in, section_at, indexed_sections, shares_bytes_at}
 use Rattle.elf_layout_segments.proofs.NoteLaws.{shares_begins}
-use Rattle.elf_layout_segments.proofs.SectionSteps.{kept-at, length-kept}
-
--- ## The interpreter's section
-
-module _ (test : ImageSection → Bool) where
-  numbered_from : (k j : ℕ) (all ns : List ℕ) (ss : List ImageSection) → length ns ≡ length ss → drop j all ≡ ns
-      → (find (λ (s : KeptSection). test s.section) (kept_from k ns ss) >>= λ s. Some s.number) ≡ (position_from test j ss >>= λ i. Some (slice_index all i))
-  numbered_from k j all [] [] e is = refl
-  numbered_from k j all [] (t ∷ ss) e is = absurd (omega (arith, e))
-  numbered_from k j all (n ∷ ns) [] e is = absurd (omega (arith, e))
-  numbered_from k j all (n ∷ ns) (t ∷ ss) e is =
-      let at : slice_index all j ≡ n = ap (λ i. get_or all i 0) (let z : j ≡ j + 0 = omega arith in z) ∙ sym (get_or-drop j all 0 0) ∙ ap (λ l. get_or l 0 0) is in
-      by_test (test t) (ap Some (sym at)) (numbered_from (k + 1) (j + 1) all ns ss (omega (arith, e)) (sym (drop-drop 1 j all) ∙ ap (drop 1) is))
-    where
-      by_test : (b : Bool) → Some n ≡ Some (slice_index all j)
-          → (find (λ (s : KeptSection). test s.section) (kept_from (k + 1) ns ss) >>= λ s. Some s.number) ≡ (position_from test (j + 1) ss >>= λ i. Some (slice_index all i))
-          → (cond b (Some (record { position = k; number = n; section = t })) (find (λ (s : KeptSection). test s.section) (kept_from (k + 1) ns ss)) >>= λ s. Some s.number)
-          ≡ (cond b (Some j) (position_from test (j + 1) ss) >>= λ i. Some (slice_index all i))
-      by_test true here rest = here
-      by_test false here rest = rest
-
-  numbered : (image : Image) → length image.section_numbers ≡ length image.sections
-      → (find (λ (s : KeptSection). test s.section) (kept_sections image) >>= λ s. Some s.number) ≡ (position test image.sections >>= λ i. Some (slice_index image.section_numbers i))
-  numbered image long =
-      numbered_from 0 0 image.section_numbers image.section_numbers image.sections long refl
-      ∙ ap (λ o. o >>= λ i. Some (slice_index image.section_numbers i)) (sym (position_from-zero test image.sections))
-
-bind_twice : {A B C : Type 0} → (o : Option A) (x : A → Option C) (y : A → Option B) (f : B → Option C) → ((a : A) → x a ≡ (y a >>= f)) → (o >>= x) ≡ ((o >>= y) >>= f)
-bind_twice None x y f e = refl
-bind_twice (Some a) x y f e = e a
-
-pub interpreter-number : (read : Image) → length read.section_numbers ≡ length read.sections
-    → interpreter_number read ≡ (interpreter_position read >>= λ i. Some (slice_index read.section_numbers i))
-interpreter-number read long =
-    bind_twice (segment_of_type PT_INTERP read.segments) (λ p. find (λ s. stands_as_interpreter p s.section) (kept_sections read) >>= λ s. Some s.number)
-    (λ p. position (has_interpreter p) read.sections) (λ i. Some (slice_index read.section_numbers i)) (λ p. numbered (has_interpreter p) read long)
+use Rattle.elf_format.proofs.ForCallers.Lengths.{length-counted, slice_index-counted}
+use Rattle.elf_image.proofs.ForCallers.KeptSections.{kept-at, length-kept}
 
 -- ## One section
 
@@ -228,21 +190,6 @@ filter_same p q (x ∷ xs) all =
     ap (λ b. cond b (x ∷ filter p xs) (filter p xs)) (All-head (λ y. p y ≡ q y) x xs all)
     ∙ ap (λ l. cond (q x) (x ∷ l) l) (filter_same p q xs (All-tail (λ y. p y ≡ q y) x xs all))
 
-pub length-counted : (n : ℕ) → length (counted n) ≡ n
-unfolding counted
-length-counted zero = refl
-length-counted (suc n) = length-append (counted n) (n ∷ []) ∙ ap (λ k. k + 1) (length-counted n) ∙ omega arith
-
-pub counted-at : (n i : ℕ) → i < n → slice_index (counted n) i ≡ i
-unfolding counted
-counted-at zero i below = absurd (omega arith)
-counted-at (suc n) i below = elim (cases_lt i n) [
-  | inl less ↦ get_or_append_left (counted n) (n ∷ []) 0 i (subst (λ k. i < k) (sym (length-counted n)) less) ∙ counted-at n i less
-  | inr past ↦
-      let same : i ≡ length (counted n) + 0 = omega (arith, length-counted n) in
-      ap (λ k. get_or (counted n ++ n ∷ []) k 0) same ∙ get_or-append-add (counted n) (n ∷ []) 0 0 ∙ omega arith
-]
-
 -- an image that was read and edited, and the image as it was read
 pub record IsReadAgain (r : Resized) : Type 0 where
   pub edited : IsEdited r.image
@@ -264,7 +211,7 @@ unfolding CountUp
 count_up r is i h =
     let long : length r.read.section_numbers ≡ length r.read.sections = ap length is.numbers ∙ length-counted (length r.read.sections) in
     let zero_add : i ≡ 0 + i = omega arith in
-    ap (λ ns. slice_index ns i) is.numbers ∙ counted-at (length r.read.sections) i (omega (arith, long, h)) ∙ zero_add
+    ap (λ ns. slice_index ns i) is.numbers ∙ slice_index-counted (length r.read.sections) i (omega (arith, long, h)) ∙ zero_add
 
 -- a note that is still there has the bytes that it had at read
 notes_same : (r : Resized) (p : SegmentHeader) → IsReadAgain r → notes_under r p ≡ filter (shares_bytes p) (kept_sections r.image)

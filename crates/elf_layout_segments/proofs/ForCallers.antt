@@ -5,4 +5,3 @@ pub use Rattle.elf_layout_segments.proofs.Positions.{moved_within}
 pub use Rattle.elf_layout_segments.proofs.RoundSteps.{few_needed}
 -- what the positions and marks of anchors mean
 pub use Rattle.elf_layout_segments.proofs.SplitSteps.{AreNotesOf, AreThere, IsThere, begins_as_positions, anchor-at, anchor-there, anchors-length, length-sized, marked-is}
-pub use Rattle.elf_layout_segments.proofs.SectionSteps.{length-kept}

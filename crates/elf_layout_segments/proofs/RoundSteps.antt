@@ -10,8 +10,8 @@ use Rattle.elf_layout_plan.specs.declared.fault.LayoutFault.TheVariants as fault
 use Rattle.elf_layout_plan.specs.Memory.{Resized}
 use Rattle.elf_layout_plan.specs.Plan.{most_added}
 use Rattle.elf_layout_plan.specs.Rounds.{AreRounds, do_move, headers_needed, leads_to}
-use Rattle.elf_layout_plan.proofs.HeaderLaws.{headers_needed-le}
-use Rattle.elf_layout_plan.proofs.RoundLaws.{rounds_end}
+use Rattle.elf_layout_plan.proofs.ForCallers.HeaderLaws.{headers_needed-le}
+use Rattle.elf_layout_plan.proofs.ForCallers.RoundLaws.{rounds_end}
 use Rattle.elf_layout_moves.specs.Inner.{IsStuckAt}
 use Rattle.elf_layout_segments.specs.AnchorPositions.{IsNoEnd}
 

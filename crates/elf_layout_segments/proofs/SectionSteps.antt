@@ -1,5 +1,5 @@
 -- Steps of walks over the sections of an image.
-use Rattle.std.proofs.Common.{◌≡◌, ℕ, zero, suc, ◌+◌, ◌<◌, List, [], ◌∷◌, ◌++◌, length, map, take, get_or, refl, sym, ap, ◌∙◌, arith}
+use Rattle.std.proofs.Common.{◌≡◌, ℕ, ◌+◌, ◌<◌, List, [], ◌∷◌, ◌++◌, length, map, take, get_or, sym, ap, ◌∙◌, arith}
 use Rattle.std.specs.Prelude.{slice_index}
 use Rattle.std.specs.List.{AllByRecursion}
 use Rattle.std.proofs.lemmas.List.{get_or-map, length-map, take_more}
@@ -8,36 +8,9 @@ use Rattle.elf_image.specs.Kept.{KeptSection, kept_from, kept_sections}
 use Rattle.elf_layout_segments.specs.declared.sections.SectionAt.{SectionAt}
 use Rattle.elf_layout_segments.specs.Keys.{Rise}
 use Rattle.elf_layout_segments.specs.Sections.{section_at, indexed_sections}
+use Rattle.elf_image.proofs.ForCallers.KeptSections.{kept-at, length-kept}
 
 -- ## The sections that are there
-
--- each stands at its position
-kept_from-at : (k : ℕ) (ns : List ℕ) (ss : List ImageSection) (i : ℕ) (d : KeptSection) (s : ImageSection) → i < length ns → i < length ss
-    → get_or (kept_from k ns ss) i d ≡ record { position = k + i; number = slice_index ns i; section = get_or ss i s }
-kept_from-at k [] ss i d s h g = absurd (omega (arith, h))
-kept_from-at k (n ∷ ns) [] i d s h g = absurd (omega (arith, g))
-kept_from-at k (n ∷ ns) (t ∷ ss) zero d s h g =
-    let e : k ≡ k + 0 = omega arith in
-    ap (λ j. record { position = j; number = n; section = t }) e
-kept_from-at k (n ∷ ns) (t ∷ ss) (suc i) d s h g =
-    let e : k + 1 + i ≡ k + suc i = omega arith in
-    kept_from-at (k + 1) ns ss i d s (omega (arith, h)) (omega (arith, g)) ∙ ap (λ j. record { position = j; number = slice_index ns i; section = get_or ss i s }) e
-
-length-kept_from : (k : ℕ) (ns : List ℕ) (ss : List ImageSection) → length ns ≡ length ss → length (kept_from k ns ss) ≡ length ss
-length-kept_from k [] [] e = refl
-length-kept_from k [] (t ∷ ss) e = e
-length-kept_from k (n ∷ ns) [] e = refl
-length-kept_from k (n ∷ ns) (t ∷ ss) e = ap suc (length-kept_from (k + 1) ns ss (omega (arith, e)))
-
-pub kept-at : (image : Image) (i : ℕ) (d : KeptSection) (s : ImageSection) → length image.section_numbers ≡ length image.sections → i < length image.sections
-    → get_or (kept_sections image) i d ≡ record { position = i; number = slice_index image.section_numbers i; section = get_or image.sections i s }
-kept-at image i d s long h =
-    let e : 0 + i ≡ i = omega arith in
-    kept_from-at 0 image.section_numbers image.sections i d s (omega (arith, long, h)) h
-    ∙ ap (λ j. record { position = j; number = slice_index image.section_numbers i; section = get_or image.sections i s }) e
-
-pub length-kept : (image : Image) → length image.section_numbers ≡ length image.sections → length (kept_sections image) ≡ length image.sections
-length-kept image long = length-kept_from 0 image.section_numbers image.sections long
 
 pub length-seen : (image : Image) → length image.section_numbers ≡ length image.sections → length (indexed_sections image) ≡ length image.sections
 length-seen image long = length-map (kept_sections image) section_at ∙ length-kept image long

@@ -34,8 +34,9 @@ use Rattle.elf_layout_segments.specs.Asked.{is_some_in}
 use Rattle.elf_layout_segments.specs.InOrder.{is_in}
 use Rattle.elf_layout_segments.specs.Sections.{AreSized, begins_in, has_bytes_at, positions_in, indexed_sections}
 use Rattle.elf_layout_segments.proofs.CountLaws.{any-picked, any_agree}
-use Rattle.elf_layout_segments.proofs.AnchorSearchSteps.{IsReadAgain, again-seen, counted-at, length-counted, notes_begin}
-use Rattle.elf_layout_segments.proofs.SectionSteps.{kept-at, length-kept}
+use Rattle.elf_layout_segments.proofs.AnchorSearchSteps.{IsReadAgain, again-seen, notes_begin}
+use Rattle.elf_format.proofs.ForCallers.Lengths.{length-counted, slice_index-counted}
+use Rattle.elf_image.proofs.ForCallers.KeptSections.{kept-at, length-kept}
 
 -- ## Sections with their sizes
 
@@ -227,7 +228,7 @@ marked-is r moved marks are h s there =
     let counts : length (counted n) ≡ n = length-counted n in
     ap (λ l. get_or l s.position false) h.is
     ∙ get_or-map (is_one_of moved) (counted n) s.position 0 false (omega (arith, counts, within))
-    ∙ ap (is_one_of moved) (counted-at n s.position within)
+    ∙ ap (is_one_of moved) (slice_index-counted n s.position within)
 
 pub any_move-is : (r : Resized) (moved : List ℕ) (marks : List Bool) → AreSized r → AreMarks r moved marks → (ns : List KeptSection) → All (IsThere r) ns
     → do_any_move marks (map (λ (s : KeptSection). s.position) ns) ≡ list_any (is_moved moved) ns

@@ -3,7 +3,6 @@ ghost use Rattle.std.specs.Prelude.{◌≡◌, ◌==◌, false, [], ◌∷◌, �
 ghost use Rattle.elf_format.specs.Options.{is_one_of};
 ghost use Rattle.elf_format.specs.declared.constants.TheConstants.{PT_GNU_PROPERTY as GNU_PROPERTY, PT_NOTE as NOTE};
 ghost use Rattle.elf_image.specs.ImageModel.{segment_model};
-ghost use Rattle.elf_image.specs.Kept.{interpreter_number as number_at_read};
 ghost use Rattle.elf_layout_segments.specs.FileRanges.{AreFileRanges};
 ghost use Rattle.elf_layout_segments.specs.AnchorPositions.{anchor_model};
 ghost use Rattle.elf_layout_segments.specs.AnchorSearch.{SearchedLists, interpreter_at, is_over_notes_at, position_or_itself, searched_lists, section_or_table_at, anchor_position_by_range, anchor_position_of, under_at};
@@ -35,33 +34,6 @@ pub(crate) struct Lists {
     pub(crate) all: Vec<Key>,
     // Where the sections at read begin and end.
     pub(crate) read: FileRanges,
-}
-
-// The numbers of a program header.
-pub(crate) fn numbers_of(p: &Segment<'_>) -> SegmentHeader
-    ensures { result ≡ segment_model p.now }
-{
-    SegmentHeader {
-        p_type: p.p_type(),
-        p_flags: p.p_flags(),
-        p_offset: p.p_offset(),
-        p_vaddr: p.p_vaddr(),
-        p_paddr: p.p_paddr(),
-        p_filesz: p.p_filesz(),
-        p_memsz: p.p_memsz(),
-        p_align: p.p_align(),
-    }
-}
-
-// The number at read of the section with the interpreter's name.
-fn interpreter_number(read: &Builder<'_>) -> Option<usize>
-    ensures { result ≡ number_at_read read.now }
-{
-    let _source = read.source();
-    match read.interpreter_position() {
-        Some(position) => Some(read.read_section(position)),
-        None => None,
-    }
 }
 
 // One section, or the program header itself.
@@ -106,7 +78,7 @@ fn ranges_of(alloc: Global, read: &Builder<'_>) -> Result<FileRanges, AllocError
 pub(crate) fn lists_of(alloc: Global, r: &Resizing<'_, '_>) -> Result<Lists, AllocError>
     ensures { IfOk result (AreLists (searched_lists r.now)) }
 {
-    let number = interpreter_number(r.read);
+    let number = r.read.interpreter_number();
     let read = ranges_of(alloc, r.read)?;
     let kept = sections_of(alloc, r.image)?;
     let loaded = keys_of(alloc, &kept, true)?;
@@ -193,7 +165,7 @@ pub(crate) fn anchors_by_lists(
 {
     let mut made = Vec::new(alloc);
     for segment in segments {
-        made.push(anchor_of(lists, numbers_of(segment)))?;
+        made.push(anchor_of(lists, segment.numbers()))?;
     }
     Ok(made)
 }

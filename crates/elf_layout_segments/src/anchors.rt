@@ -5,7 +5,7 @@ ghost use Rattle.elf_layout_moves.specs.Inner.{AreMarks};
 ghost use Rattle.elf_layout_segments.specs.AnchorPositions.{AreAnchors};
 
 use crate::anchor_search::{anchors_by_lists, lists_of};
-use crate::reading::{form_of, sections_are_sized, segment_at};
+use crate::reading::{sections_are_sized, segment_at};
 use crate::splits::{count_flags, count_split, next_end};
 use crate::starts::starts_of;
 use elf_format::range::Range;
@@ -68,7 +68,7 @@ pub fn kept_end(
 {
     sections_are_sized(r);
     let starts = starts_of(alloc, r, marks)?;
-    let mut end = form_of(r).file_header_size() as u64;
+    let mut end = r.form().file_header_size() as u64;
     for i in 0..anchors.len() {
         end = next_end(
             r,

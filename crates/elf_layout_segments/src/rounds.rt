@@ -43,12 +43,8 @@ fn look(
     // The read tells the proof that the sizes are those of the image.
     let _sizes = r.sizes;
     let moved = find_moved(alloc, r, looked)?;
-    let Ok(marks) = marks_of(alloc, r, &moved) else {
-        return Err(LayoutFault::Memory);
-    };
-    let Ok(needed) = headers_needed(alloc, r, anchors, &moved, &marks) else {
-        return Err(LayoutFault::Memory);
-    };
+    let marks = marks_of(alloc, r, &moved)?;
+    let needed = headers_needed(alloc, r, anchors, &moved, &marks)?;
     Ok(Round { moved, needed })
 }
 

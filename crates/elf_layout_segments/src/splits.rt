@@ -6,7 +6,7 @@ ghost use Rattle.elf_layout_segments.specs.SplitCounts.{end_with, is_split_at, k
 ghost use Rattle.elf_layout_segments.specs.AnchorPositions.{anchor_model};
 
 use crate::anchors::AnchorAt;
-use crate::reading::{form_of, sections_are_sized};
+use crate::reading::sections_are_sized;
 use crate::starts::{Starts, is_marked};
 use elf_format::constants::{PF_X, SHF_ALLOC, SHF_EXECINSTR, SHF_WRITE, SHT_NOTE};
 use elf_format::records::SegmentHeader;
@@ -161,7 +161,7 @@ fn keeps_range(
     match anchor {
         AnchorAt::Itself => true,
         AnchorAt::HeaderTable => {
-            let size = headers as u128 * form_of(r).segment_header_size() as u128;
+            let size = headers as u128 * r.form().segment_header_size() as u128;
             p.p_filesz as u128 == size && p.p_memsz == p.p_filesz
         }
         AnchorAt::OneSection(position) => {

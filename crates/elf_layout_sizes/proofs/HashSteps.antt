@@ -10,7 +10,7 @@ use Rattle.patch_bytes.proofs.MemoryLaws.{bytes_at-memory_of}
 use Rattle.elf_format.specs.declared.form.Form.{Form}
 use Rattle.elf_format.specs.Form.{by_class, field_of}
 use Rattle.elf_format.specs.Hashes.{gnu_header, word_of_table}
-use Rattle.elf_format.proofs.TableSteps.{bytes_at-past}
+use Rattle.elf_format.proofs.ForCallers.TableSteps.{bytes_at-past}
 
 -- a number at one place in files of both classes
 pub at_one_place : (form : Form) (a : ℕ) (bytes : List ℕ) → field_of form (a, 4) (a, 4) bytes ≡ number_at form.order 4 a bytes

@@ -8,7 +8,7 @@ use Rattle.elf_format.specs.Image.{Image}
 use Rattle.elf_format.specs.Options.{is_some_and}
 use Rattle.elf_format.specs.Versions.{VersionName, VersionNeeds}
 use Rattle.elf_layout_plan.specs.Needs.{are_needs_gone, is_empty, is_version_dropped, lists_needs, staying_needs, written_entries, written_needs}
-use Rattle.elf_layout_sizes.specs.Inner.{is_of_needs, is_unmarked, marked, staying_entries, unmarked_names, unmarked_needs, with_unmarked_names}
+use Rattle.elf_layout_sizes.specs.Inner.{is_of_needs, is_unmarked, mark_of, staying_entries, unmarked_names, unmarked_needs, with_unmarked_names}
 
 -- the same by a test in place of marks
 names_by : (ℕ → Bool) → List VersionName → List VersionName
@@ -27,10 +27,10 @@ map_agree : {A B : Type 0} (f g : A → B) → ((x : A) → f x ≡ g x) → (xs
 map_agree f g same [] = refl
 map_agree f g same (x ∷ xs) = ap (λ y. y ∷ map f xs) (same x) ∙ ap (λ ys. g x ∷ ys) (map_agree f g same xs)
 
-module _ (marks : List Bool) (gone : ℕ → Bool) (same : (index : ℕ) → marked marks index ≡ gone index) where
+module _ (marks : List Bool) (gone : ℕ → Bool) (same : (index : ℕ) → mark_of marks index ≡ gone index) where
   names_agree : (names : List VersionName) → unmarked_names marks names ≡ names_by gone names
   unfolding names_by
-  names_agree names = filter_agree (λ v. not (marked marks v.index)) (λ v. not (gone v.index)) (λ v. ap not (same v.index)) names
+  names_agree names = filter_agree (λ v. not (mark_of marks v.index)) (λ v. not (gone v.index)) (λ v. ap not (same v.index)) names
 
   stays_agree : (n : VersionNeeds) → is_unmarked marks n ≡ stays_by gone n
   unfolding stays_by
@@ -73,14 +73,14 @@ all_needs (n ∷ ns) =
     ∙ ap (λ l. n ∷ l) (all_needs ns)
 
 -- no mark: all needed versions are written where the dynamic list doesn't lead to them
-pub written_all : (read image : Image) (marks : List Bool) → ((index : ℕ) → marked marks index ≡ false) → is_some_and lists_needs image.entries ≡ false
+pub written_all : (read image : Image) (marks : List Bool) → ((index : ℕ) → mark_of marks index ≡ false) → is_some_and lists_needs image.entries ≡ false
     → unmarked_needs marks image.needs ≡ written_needs read image
 unfolding written_needs
 written_all read image marks none apart =
     needs_agree marks (λ _. false) none image.needs ∙ all_needs image.needs ∙ ap (λ (b : Bool). if b then staying_needs read image else image.needs) (sym apart)
 
 -- the marks of versions that are dropped, where it leads to them
-pub written_marked : (read image : Image) (marks : List Bool) → ((index : ℕ) → marked marks index ≡ is_version_dropped read image index) → is_some_and lists_needs image.entries ≡ true
+pub written_marked : (read image : Image) (marks : List Bool) → ((index : ℕ) → mark_of marks index ≡ is_version_dropped read image index) → is_some_and lists_needs image.entries ≡ true
     → unmarked_needs marks image.needs ≡ written_needs read image
 unfolding written_needs needs_by with_names_by stays_by names_by
 written_marked read image marks dropped led =

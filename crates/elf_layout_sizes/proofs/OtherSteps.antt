@@ -10,7 +10,7 @@ use Rattle.elf_format.specs.Views.{NamedSymbol}
 use Rattle.elf_image.specs.SymbolsRead.{HasSymbolsOf}
 use Rattle.elf_layout_plan.specs.Needs.{written_entries, written_needs}
 use Rattle.elf_layout_plan.specs.Texts.{if_linked, if_names, is_subsequence, is_table_copied, texts_in_use, texts_of_definitions, texts_of_entries, texts_of_needs, texts_of_symbols}
-use Rattle.elf_layout_plan.proofs.SameTexts.{subsequence_of_itself}
+use Rattle.elf_layout_plan.proofs.ForCallers.SameTexts.{subsequence_of_itself}
 use Rattle.elf_layout_sizes.specs.declared.other_texts.Others.{Others}
 use Rattle.elf_layout_sizes.specs.Inner.{Edit, is_linked}
 use Rattle.elf_layout_sizes.specs.OtherTexts.{HasNamesOf, HaveSameCounts, count_of, others_in_use, with_names}

@@ -16,7 +16,7 @@ use Rattle.elf_image.specs.Kept.{KeptSection, interpreter_number, is_numbered, k
 use Rattle.elf_layout_plan.specs.Sizes.{do_sizes_fit, do_texts_fit, fits_field, interpreter_size, new_size, new_sizes, table_size}
 use Rattle.elf_layout_plan.specs.Texts.{is_table_copied}
 use Rattle.elf_layout_sizes.specs.Inner.{Edit, do_all_fit, do_strings_fit, does_size_fit, fits_class, lists_size, size_by, sizes_by, strings_length}
-use Rattle.elf_layout_sizes.proofs.KeptSteps.{as_many}
+use Rattle.elf_image.proofs.ForCallers.KeptSections.{as_many}
 
 -- ## One section
 

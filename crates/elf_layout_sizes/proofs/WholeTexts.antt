@@ -18,8 +18,8 @@ use Rattle.elf_format.specs.Rules.{definition_steps, file_of, linked_texts, need
 use Rattle.elf_format.specs.Versions.{DefinitionNumbers, NeedNumbers, VersionDefinition, VersionName, VersionNeeds, shown_definition, shown_need, shown_need_name, values_of}
 use Rattle.elf_image.specs.DynamicList.{IsListed}
 use Rattle.elf_image.specs.Edited.{AreEntriesOf, IsEdited, IsEditOf, IsName}
-use Rattle.elf_image.proofs.EditedLaws.{text_whole}
-use Rattle.elf_image.proofs.ReadImageLaws.{read_images_hold_parts}
+use Rattle.elf_image.proofs.ForCallers.EditedLaws.{text_whole}
+use Rattle.elf_image.proofs.ForCallers.ReadImageLaws.{read_images_hold_parts}
 use Rattle.elf_tables.specs.Strings.{HoldNoNul, holds_nul}
 use Rattle.elf_image.specs.Kept.{link_of_type}
 use Rattle.elf_layout_plan.specs.Needs.{are_needs_gone, do_needs_stay, is_version_dropped, lists_needs, staying_needs, with_staying_names, written_entries, written_needs}

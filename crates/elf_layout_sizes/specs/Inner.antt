@@ -1,7 +1,7 @@
 -- What the steps towards the new sizes hand to each other.
-use Rattle.std.specs.Prelude.{ℕ, ◌*◌, ◌^◌, [], ◌∷◌, List, map, filter, length, Bool, false, true, ◌&&◌, ◌||◌, not, Option, Some, None, find, nat_le, nat_lt, ◌==◌, slice_index_or, if◌then◌else◌}
+use Rattle.std.specs.Prelude.{ℕ, ◌*◌, ◌^◌, [], ◌∷◌, List, map, filter, length, Bool, false, true, ◌&&◌, ◌||◌, not, Some, None, nat_le, nat_lt, ◌==◌, slice_index_or, if◌then◌else◌}
 use Rattle.patch_bytes.specs.declared.number.Wide.{Wide}
-use Rattle.patch_bytes.specs.Memory.{◌>>=◌, memory_of}
+use Rattle.patch_bytes.specs.Memory.{memory_of}
 use Rattle.elf_format.specs.declared.constants.TheConstants.{DT_VERNEED, DT_VERNEEDNUM, SHT_DYNAMIC, SHT_DYNSYM, SHT_GNU_HASH, SHT_GNU_VERDEF, SHT_GNU_VERNEED, SHT_GNU_VERSYM, SHT_HASH, SHT_STRTAB, SHT_SYMTAB}
 use Rattle.elf_format.specs.Dynamic.{Entry}
 use Rattle.elf_format.specs.Image.{Image, ImageSection, entry_tag}
@@ -23,19 +23,15 @@ pub record Edit : Type 0 where
   pub read : Image
   pub image : Image
 
--- the link of the first section of a type
-abbrev pub link_from : ℕ → List ImageSection → Option ℕ
-link_from type sections = find (λ s. s.sh_type == type) sections >>= λ s. Some s.sh_link
-
 -- ## Needed versions
 
 -- the mark of a version's index; none past the marks
-abbrev pub marked : List Bool → ℕ → Bool
-marked marks index = slice_index_or marks index false
+abbrev pub mark_of : List Bool → ℕ → Bool
+mark_of marks index = slice_index_or marks index false
 
 -- the versions that stay where the marked ones go
 abbrev pub unmarked_names : List Bool → List VersionName → List VersionName
-unmarked_names marks names = filter (λ v. not (marked marks v.index)) names
+unmarked_names marks names = filter (λ v. not (mark_of marks v.index)) names
 
 -- a library's record goes with the last of its versions
 abbrev pub is_unmarked : List Bool → VersionNeeds → Bool

@@ -1,7 +1,6 @@
 //! How large a section is to be, by its kind.
 ghost use Rattle.std.specs.Prelude.{◌≡◌, ℕ, ◌<◌, ◌^◌, false, true, Some, MatchResult, SomeIff};
 ghost use Rattle.elf_image.specs.ImageModel.{section_model};
-ghost use Rattle.elf_image.specs.Kept.{interpreter_number as number_of_interpreter};
 ghost use Rattle.elf_layout_plan.specs.Texts.{are_names_changed as have_names_changed};
 ghost use Rattle.elf_layout_sizes.specs.Inner.{fits_class};
 ghost use Rattle.elf_tables.specs.declared.fault.TableFault.TheVariants.{NumberTooLarge};
@@ -9,27 +8,18 @@ ghost use Rattle.elf_tables.specs.declared.fault.TableFault.TheVariants.{NumberT
 use crate::known::{Known, known_strings};
 use crate::strings::{have_same_names, made_for};
 use crate::tables::{gabi_size, gnu_size};
-use crate::users::{Users, form_of};
+use crate::users::Users;
 use crate::versions::{definitions_size, grown};
 use elf_image::constants::{
     SHT_DYNAMIC, SHT_DYNSYM, SHT_GNU_HASH, SHT_GNU_VERDEF, SHT_GNU_VERNEED, SHT_GNU_VERSYM,
     SHT_HASH, SHT_STRTAB, SHT_SYMTAB,
 };
 use elf_image::{Builder, Section};
+use elf_layout_plan::is_numbered;
 use elf_tables::{Finished, TableFault};
 use patch_bytes::Wide;
 use std::alloc::{AllocError, Global};
 use std::marker::Model;
-
-// The number at read of the section with the interpreter's name.
-fn interpreter_number(read: &Builder<'_>) -> Option<usize>
-    ensures { result ≡ number_of_interpreter read.now }
-{
-    // the image has as many numbers of sections as sections
-    let _source = read.source();
-    let at = read.interpreter_position()?;
-    Some(read.read_section(at))
-}
 
 // The names of the dynamic symbols, one by one, aren't those that were read.
 fn are_names_changed(users: &Users<'_, '_>) -> bool
@@ -81,7 +71,6 @@ impl<'a, 'data> Model for Sizing<'a, 'data> {
 impl<'a, 'data> Sizing<'a, 'data> {
     ghost use Rattle.std.specs.Prelude.{◌≡◌, ◌==◌, ◌<◌, ◌*◌, ◌^◌, ◌||◌, false, true, nat_le, IfOk, IfSome, IsTrue, MatchResult, SomeIff};
     ghost use Rattle.elf_image.specs.SymbolsRead.{HasSymbolsOf};
-    ghost use Rattle.elf_format.specs.Options.{is_some_and};
     ghost use Rattle.elf_format.specs.Records.{symbol_size};
     ghost use Rattle.elf_layout_plan.specs.Sizes.{hash_size, interpreter_size};
     ghost use Rattle.elf_layout_plan.specs.Texts.{is_table_copied};
@@ -107,7 +96,7 @@ impl<'a, 'data> Sizing<'a, 'data> {
             users,
             read_users,
             are_names_changed,
-            interpreter: interpreter_number(read),
+            interpreter: read.interpreter_number(),
             strings,
         })
     }
@@ -161,12 +150,7 @@ impl<'a, 'data> Sizing<'a, 'data> {
         ensures { let size = count * symbol_size self.now.image.form in
             SomeIff result (size < 2 ^ 64) size }
     {
-        grown(
-            0,
-            0,
-            form_of(self.users.image()).symbol_size() as u64,
-            count,
-        )
+        grown(0, 0, self.users.image().form().symbol_size() as u64, count)
     }
 
     // The size of a hash table. `None` where it is past 64 bits.
@@ -179,7 +163,7 @@ impl<'a, 'data> Sizing<'a, 'data> {
             return Some(old);
         }
         let symbols = self.users.image().dynamic_symbols();
-        let form = form_of(self.users.image());
+        let form = self.users.image().form();
         if section.sh_type == SHT_HASH {
             return gabi_size(form, section.content, symbols.len());
         }
@@ -202,17 +186,6 @@ impl<'a, 'data> Sizing<'a, 'data> {
             SHT_HASH => self.hash_size(section),
             SHT_GNU_HASH => self.hash_size(section),
             _ => Some(old),
-        }
-    }
-
-    // Whether the section that had that number has the interpreter's name.
-    fn is_interpreter(&self, number: usize) -> bool
-        ensures { result
-            ≡ is_some_and (λ n. n == number) (number_of_interpreter self.now.read) }
-    {
-        match self.interpreter {
-            Some(interpreter) => interpreter == number,
-            None => false,
         }
     }
 
@@ -259,7 +232,7 @@ impl<'a, 'data> Sizing<'a, 'data> {
             let size = size_by self.now.read self.now.image number s in
             SomeIff result (size < 2 ^ 64) size }
     {
-        if self.is_interpreter(number) {
+        if is_numbered(self.interpreter, number) {
             return Some(self.interpreter_size(section));
         }
         if section.sh_type == SHT_STRTAB {
@@ -285,7 +258,7 @@ impl<'a, 'data> Sizing<'a, 'data> {
     {
         let strings = self.strings_of(alloc, section, number)?;
         let size = self.size_with(section, number, strings);
-        fitted(form_of(self.users.image()).wide, size)
+        fitted(self.users.image().form().wide, size)
     }
 
     // The size of each section. `NumberTooLarge` where one doesn't fit.

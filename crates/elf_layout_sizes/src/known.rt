@@ -55,7 +55,7 @@ pub(crate) fn known_strings<'a, 'data>(
     ensures { IfOk result (λ known. IfSome known (IsKnown users.now.read users.now.image)) }
 {
     match users.list_link() {
-        Some(number) => known_table(alloc, users, read_users, number as usize),
+        Some(number) => known_table(alloc, users, read_users, number),
         None => Ok(None),
     }
 }

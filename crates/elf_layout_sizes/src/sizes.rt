@@ -19,9 +19,7 @@ pub fn sizes_of(alloc: Global, image: &Builder<'_>) -> Result<Vec<u64>, LayoutFa
     ensures fit { OnOk result (IsTrue (do_sizes_of_image_fit image.now)) }
     ensures fault { IfErr result (AreNoSizes image.now) }
 {
-    let Ok(read) = read_again(alloc, image) else {
-        return Err(LayoutFault::Memory);
-    };
+    let read = read_again(alloc, image)?;
     new_sizes_of(alloc, &read, image)
 }
 

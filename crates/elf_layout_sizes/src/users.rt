@@ -3,7 +3,7 @@ ghost use Rattle.std.specs.Prelude.{◌≡◌, ◌&&◌, IfOk, not, ◌==◌, ma
 ghost use Rattle.elf_format.specs.Options.{is_some_and};
 ghost use Rattle.elf_image.specs.Kept.{link_of_type as link_of_kind};
 ghost use Rattle.elf_layout_plan.specs.Needs.{is_empty, lists_needs as name_needs, written_needs};
-ghost use Rattle.elf_layout_sizes.specs.Inner.{link_from as link_in, unmarked_needs};
+ghost use Rattle.elf_layout_sizes.specs.Inner.{unmarked_needs};
 ghost use Rattle.elf_layout_sizes.specs.Seen.{AreLinks};
 ghost use Rattle.elf_format.specs.Image.{lists_tag as is_tag_listed};
 ghost use Rattle.elf_image.specs.ImageModel.{entry_model, section_model};
@@ -15,39 +15,19 @@ use elf_image::constants::{
     DT_SYMTAB, DT_VERNEED, DT_VERNEEDNUM, DT_VERSYM, SHT_DYNAMIC, SHT_DYNSYM, SHT_GNU_VERDEF,
     SHT_GNU_VERNEED, SHT_SYMTAB,
 };
-use elf_image::{Builder, Dynamic, Form, Section};
+use elf_image::{Builder, Dynamic, Section};
+use elf_layout_plan::is_numbered;
 use std::alloc::{AllocError, Global};
 use std::marker::Model;
-
-// The number of the section that the first of a type links to (gABI, Sections, `sh_link`).
-fn first_link(sections: &[Section<'_>], kind: u32) -> Option<u32>
-    ensures { result ≡ link_in kind (map section_model sections.now) }
-{
-    for section in sections {
-        if section.sh_type == kind {
-            return Some(section.sh_link);
-        }
-    }
-    None
-}
-
-// The same, of an image.
-fn link_of_type(image: &Builder<'_>, kind: u32) -> Option<u32>
-    ensures { result ≡ link_of_kind kind image.now }
-{
-    // the image has as many numbers of sections as sections
-    let _source = image.source();
-    first_link(image.sections(), kind)
-}
 
 // The string tables that the users of texts link to.
 #[derive(Clone, Copy)]
 pub(crate) struct Links {
-    dynamic: Option<u32>,
-    dynamic_symbols: Option<u32>,
-    definitions: Option<u32>,
-    needs: Option<u32>,
-    symbols: Option<u32>,
+    dynamic: Option<usize>,
+    dynamic_symbols: Option<usize>,
+    definitions: Option<usize>,
+    needs: Option<usize>,
+    symbols: Option<usize>,
 }
 
 // The links of an image.
@@ -55,31 +35,11 @@ fn links_of(image: &Builder<'_>) -> Links
     ensures { AreLinks image.now result }
 {
     Links {
-        dynamic: link_of_type(image, SHT_DYNAMIC),
-        dynamic_symbols: link_of_type(image, SHT_DYNSYM),
-        definitions: link_of_type(image, SHT_GNU_VERDEF),
-        needs: link_of_type(image, SHT_GNU_VERNEED),
-        symbols: link_of_type(image, SHT_SYMTAB),
-    }
-}
-
-// How the numbers of an image's file are spelled.
-pub(crate) fn form_of(image: &Builder<'_>) -> Form
-    ensures { result ≡ image.now.form }
-{
-    Form {
-        wide: image.class(),
-        order: image.order(),
-    }
-}
-
-// Whether a link leads to the section that had that number at read.
-fn leads_to(link: Option<u32>, number: usize) -> bool
-    ensures { result ≡ is_some_and (λ link. link == number) link }
-{
-    match link {
-        Some(link) => link as usize == number,
-        None => false,
+        dynamic: image.link_of_type(SHT_DYNAMIC),
+        dynamic_symbols: image.link_of_type(SHT_DYNSYM),
+        definitions: image.link_of_type(SHT_GNU_VERDEF),
+        needs: image.link_of_type(SHT_GNU_VERNEED),
+        symbols: image.link_of_type(SHT_SYMTAB),
     }
 }
 
@@ -88,7 +48,7 @@ fn lists_tag(entries: &[Dynamic<'_>], tag: u64) -> bool
     ensures { result ≡ is_tag_listed tag (map entry_model entries.now) }
 {
     for entry in entries {
-        if entry.tag() == tag {
+        if entry.has_tag(tag) {
             return true;
         }
     }
@@ -216,7 +176,7 @@ impl<'a, 'data> Users<'a, 'data> {
     }
 
     // The number of the string table of the dynamic list (gABI, Sections, `sh_link`).
-    pub(crate) fn list_link(&self) -> Option<u32>
+    pub(crate) fn list_link(&self) -> Option<usize>
         ensures { result ≡ link_of_kind SHT_DYNAMIC self.now.image }
     {
         self.links.dynamic
@@ -239,7 +199,7 @@ impl<'a, 'data> Users<'a, 'data> {
             (section_model section.now) in
             SomeIff result (size < 2 ^ 64) size }
     {
-        let entry = form_of(self.image).entry_size() as u64;
+        let entry = self.image.form().entry_size() as u64;
         let size = grown(entry, 0, entry, self.count_entries())?;
         Some(section.sh_size.max(size))
     }
@@ -257,7 +217,7 @@ impl<'a, 'data> Users<'a, 'data> {
         ensures { OnOk result (texts.new ≡ texts.old ++ if_linked self.now.image SHT_DYNAMIC number
             (list_at texts_of_entries (written_entries self.now.read self.now.image))) }
     {
-        if !leads_to(self.links.dynamic, number) {
+        if !is_numbered(self.links.dynamic, number) {
             return Ok(());
         }
         match self.image.dynamic_data() {
@@ -271,7 +231,7 @@ impl<'a, 'data> Users<'a, 'data> {
         ensures { OnOk result (texts.new ≡ texts.old ++ if_linked self.now.image SHT_DYNSYM number
             (texts_of_symbols self.now.image.dynamic_symbols)) }
     {
-        if !leads_to(self.links.dynamic_symbols, number) {
+        if !is_numbered(self.links.dynamic_symbols, number) {
             return Ok(());
         }
         texts.push_symbols(self.image.dynamic_symbols())
@@ -282,7 +242,7 @@ impl<'a, 'data> Users<'a, 'data> {
         ensures { OnOk result (texts.new ≡ texts.old ++ if_linked self.now.image SHT_GNU_VERDEF
             number (texts_of_definitions self.now.image.definitions)) }
     {
-        if !leads_to(self.links.definitions, number) {
+        if !is_numbered(self.links.definitions, number) {
             return Ok(());
         }
         texts.push_definitions(self.image.versions().definitions.as_slice())
@@ -293,7 +253,7 @@ impl<'a, 'data> Users<'a, 'data> {
         ensures { OnOk result (texts.new ≡ texts.old ++ if_linked self.now.image SHT_GNU_VERNEED
             number (texts_of_needs (written_needs self.now.read self.now.image))) }
     {
-        if !leads_to(self.links.needs, number) {
+        if !is_numbered(self.links.needs, number) {
             return Ok(());
         }
         texts.push_needs(self.image.versions().needs.as_slice(), &self.marks)
@@ -304,7 +264,7 @@ impl<'a, 'data> Users<'a, 'data> {
         ensures { OnOk result (texts.new ≡ texts.old ++ if_linked self.now.image SHT_SYMTAB number
             (texts_of_symbols self.now.image.symbols)) }
     {
-        if !leads_to(self.links.symbols, number) {
+        if !is_numbered(self.links.symbols, number) {
             return Ok(());
         }
         texts.push_symbols(self.image.symbols())
@@ -358,10 +318,12 @@ impl<'a, 'data> Users<'a, 'data> {
         ensures { IsTrue result → HasNamesOf self.now.read self.now.image number }
     {
         let (now, at_read) = (self.links, read_users.links);
-        if leads_to(now.symbols, number) != leads_to(at_read.symbols, number) {
+        if is_numbered(now.symbols, number) != is_numbered(at_read.symbols, number) {
             return false;
         }
-        if leads_to(now.dynamic_symbols, number) != leads_to(at_read.dynamic_symbols, number) {
+        if is_numbered(now.dynamic_symbols, number)
+            != is_numbered(at_read.dynamic_symbols, number)
+        {
             return false;
         }
         self.keeps_symbols

@@ -4,7 +4,7 @@ ghost use Rattle.elf_format.specs.Options.{is_some_and};
 ghost use Rattle.elf_image.specs.ImageModel.{definition_model, entry_model, name_model, needs_model};
 ghost use Rattle.elf_layout_plan.specs.Needs.{is_empty, is_version_used};
 ghost use Rattle.elf_layout_plan.specs.Sizes.{definitions_size as size_of_definitions, needs_size as size_of_needs};
-ghost use Rattle.elf_layout_sizes.specs.Inner.{is_of_needs as is_entry_of_needs, is_unmarked, marked, staying_entries, unmarked_names, unmarked_needs};
+ghost use Rattle.elf_layout_sizes.specs.Inner.{is_of_needs as is_entry_of_needs, is_unmarked, mark_of, staying_entries, unmarked_names, unmarked_needs};
 
 use elf_image::constants::{DT_VERNEED, DT_VERNEEDNUM};
 use elf_image::{Dynamic, Symbols, VersionDef, VersionId, VersionNeed, VersionNeedName};
@@ -15,7 +15,7 @@ const INDICES: usize = 65536;
 
 // The mark of a version's index.
 pub(crate) fn is_marked(marks: &[bool], index: u16) -> bool
-    ensures { result ≡ marked marks.now index }
+    ensures { result ≡ mark_of marks.now index }
 {
     (index as usize) < marks.len() && marks[index as usize]
 }
@@ -23,8 +23,8 @@ pub(crate) fn is_marked(marks: &[bool], index: u16) -> bool
 // Gives a version, where there is one, this mark.
 fn mark_version(marks: &mut [bool], version: Option<VersionId>, mark: bool)
     requires { length marks.old ≡ INDICES }
-    ensures { (index : ℕ) → marked marks.new index
-        ≡ (if is_some_and (λ v. v.index == index) version then mark else marked marks.old index) }
+    ensures { (index : ℕ) → mark_of marks.new index
+        ≡ (if is_some_and (λ v. v.index == index) version then mark else mark_of marks.old index) }
 {
     if let Some(version) = version {
         marks[version.index as usize] = mark;
@@ -34,9 +34,9 @@ fn mark_version(marks: &mut [bool], version: Option<VersionId>, mark: bool)
 // Gives each version that a symbol has this mark.
 fn mark_versions(marks: &mut [bool], symbols: &Symbols<'_>, mark: bool)
     requires { length marks.old ≡ INDICES }
-    ensures { (index : ℕ) → marked marks.new index
+    ensures { (index : ℕ) → mark_of marks.new index
         ≡ (if is_version_used symbols.now index then mark
-        else marked marks.old index) }
+        else mark_of marks.old index) }
 {
     for i in 0..symbols.len() {
         mark_version(marks, symbols.get(i).version, mark);
@@ -46,8 +46,8 @@ fn mark_versions(marks: &mut [bool], symbols: &Symbols<'_>, mark: bool)
 // Marks the versions that some symbol had, and none has now.
 fn mark_dropped(marks: &mut [bool], read: &Symbols<'_>, now: &Symbols<'_>)
     requires long { length marks.old ≡ INDICES }
-    requires none { (index : ℕ) → marked marks.old index ≡ false }
-    ensures { (index : ℕ) → marked marks.new index
+    requires none { (index : ℕ) → mark_of marks.old index ≡ false }
+    ensures { (index : ℕ) → mark_of marks.new index
         ≡ (is_version_used read.now index && not (is_version_used now.now index)) }
 {
     mark_versions(marks, read, true);
@@ -57,7 +57,7 @@ fn mark_dropped(marks: &mut [bool], read: &Symbols<'_>, now: &Symbols<'_>)
 // So many marks, none of them set.
 fn no_marks(alloc: Global, count: usize) -> Result<Vec<bool>, AllocError>
     ensures long { IfOk result (λ marks. length marks.items ≡ count) }
-    ensures none { IfOk result (λ marks. (index : ℕ) → marked marks.items index ≡ false) }
+    ensures none { IfOk result (λ marks. (index : ℕ) → mark_of marks.items index ≡ false) }
 {
     vec![in alloc; false; count]
 }
@@ -68,7 +68,7 @@ pub(crate) fn dropped_marks(
     read: &Symbols<'_>,
     now: &Symbols<'_>,
 ) -> Result<Vec<bool>, AllocError>
-    ensures { IfOk result (λ marks. (index : ℕ) → marked marks.items index
+    ensures { IfOk result (λ marks. (index : ℕ) → mark_of marks.items index
         ≡ (is_version_used read.now index && not (is_version_used now.now index))) }
 {
     let mut marks = no_marks(alloc, INDICES)?;
@@ -157,8 +157,7 @@ pub(crate) fn definitions_size(definitions: &[VersionDef<'_>]) -> Option<u64>
 pub(crate) fn is_of_needs(entry: &Dynamic<'_>) -> bool
     ensures { result ≡ is_entry_of_needs (entry_model entry.now) }
 {
-    let tag = entry.tag();
-    tag == DT_VERNEED || tag == DT_VERNEEDNUM
+    entry.has_tag(DT_VERNEED) || entry.has_tag(DT_VERNEEDNUM)
 }
 
 // How many entries of a dynamic list stay.

@@ -12,7 +12,7 @@ use Rattle.elf_format.specs.declared.form.Form.{Form}
 use Rattle.elf_format.specs.declared.version_id.VersionId.{VersionId}
 use Rattle.elf_format.specs.Form.{fixed_field, records}
 use Rattle.elf_format.specs.Versions.{VersionDefinition, version_id}
-use Rattle.elf_tables.proofs.ForCallers.{fields-append}
+use Rattle.elf_tables.proofs.FieldLaws.{fields-append}
 use Rattle.elf_tables.specs.Strings.{Strings}
 use Rattle.elf_tables.specs.VersionRecords.{PlacedDefinition, are_names_too_many, chained, fields, halves, is_index_too_large, next_behind, place_in, placed_definition, spelled_definition, spelled_definition_name, version_fields, version_number, words}
 use Rattle.elf_tables.specs.VersionSteps.{DefinitionFits}

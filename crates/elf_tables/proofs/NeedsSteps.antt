@@ -9,7 +9,7 @@ use Rattle.elf_format.specs.Versions.{VersionNeeds}
 use Rattle.elf_tables.specs.Strings.{Strings}
 use Rattle.elf_tables.specs.VersionRecords.{PlacedNeeds, are_versions_too_many, chained, fields, halves, placed_name, placed_needs, spelled_need_name, spelled_needs, words}
 use Rattle.elf_tables.specs.VersionSteps.{NeedsFit}
-use Rattle.elf_tables.proofs.ForCallers.{fields-append}
+use Rattle.elf_tables.proofs.FieldLaws.{fields-append}
 
 pub needs_made : (order : ByteOrder2) (m : PlacedNeeds) (bytes first second new : List ℕ) (count file next : ℕ) → count ≡ length m.versions → file ≡ m.file
     → first ≡ bytes ++ fields order (halves (1 ∷ count ∷ [])) → second ≡ first ++ fields order (words (file ∷ 16 ∷ next ∷ []))

@@ -8,7 +8,7 @@ use Rattle.std.specs.Str.{bytes_eq}
 use Rattle.std.proofs.Math.Seq.{get_or-append_seam, take-append_seam}
 use Rattle.std.proofs.lemmas.Bool.{cond-false, cond-true, ne_eqb, true≢false}
 use Rattle.std.proofs.lemmas.List.{get_or-take, length-drop, take-take, take_all, take_more}
-use Rattle.elf_image.proofs.EditedLaws.{text_whole}
+use Rattle.elf_image.proofs.ForCallers.EditedLaws.{text_whole}
 use Rattle.patch_bytes.specs.Memory.{memory_of}
 use Rattle.elf_tables.specs.StringSteps.{StandsWith}
 use Rattle.elf_tables.specs.Strings.{IsPlaced, PlacesStand, StandsAt, holds_nul}

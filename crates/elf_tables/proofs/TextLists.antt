@@ -1,5 +1,5 @@
 -- Lists of texts: which texts they hold, and sums over lists that hold each text once.
-use Rattle.std.proofs.Common.{◌≡◌, ◌≢◌, ◌⊎◌, ℕ, ◌+◌, ◌<◌, ◌≤◌, Bool, true, false, List, [], ◌∷◌, length, get_or, refl, sym, subst, ap, ◌∙◌, inl, inr, suc, zero, arith}
+use Rattle.std.proofs.Common.{◌≡◌, ◌≢◌, ◌⊎◌, ℕ, ◌+◌, ◌<◌, Bool, true, false, List, [], ◌∷◌, length, get_or, refl, sym, subst, ap, ◌∙◌, inl, inr, suc, zero, arith}
 use Rattle.std.specs.Prelude.{◌||◌, Contains, filter, sum_by, if◌then◌else◌}
 use Rattle.std.specs.Cmp.Lexicographic.{bytes_decides}
 use Rattle.std.specs.List.{list_any}
@@ -12,11 +12,6 @@ use Rattle.elf_tables.specs.Strings.{distinct}
 pub by_test : {P : Type 0} (b : Bool) → (b ≡ true → P) → (b ≡ false → P) → P
 by_test true then_so else_so = then_so refl
 by_test false then_so else_so = else_so refl
-
-pub less_or_not : (i n : ℕ) → (i < n) ⊎ (n ≤ i)
-less_or_not i zero = inr (omega arith)
-less_or_not zero (suc n) = inl (omega arith)
-less_or_not (suc i) (suc n) = elim (less_or_not i n) [ inl low ↦ inl (omega (arith, low)) | inr past ↦ inr (omega (arith, past)) ]
 
 pub same_number : (i k : ℕ) → (i ≡ k) ⊎ (i ≢ k)
 same_number zero zero = inl refl

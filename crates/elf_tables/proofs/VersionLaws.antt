@@ -18,7 +18,7 @@ use Rattle.elf_format.specs.Views.{whole_chain}
 use Rattle.elf_tables.specs.Strings.{PlacesStand, StandsAt, Strings, place_of}
 use Rattle.elf_tables.specs.VersionRecords.{PlacedDefinition, PlacedName, PlacedNeeds, chained, definition_size, definition_table, fields, has_definition_texts, has_needs_texts, needs_size, needs_table, place_in, placed_definition, placed_name, placed_needs, spelled_definition, spelled_definition_name, spelled_need_name, spelled_needs}
 use Rattle.elf_tables.specs.VersionSteps.{DefinitionFits, NameFits, NeedsFit}
-use Rattle.elf_tables.proofs.ForCallers.{length-fields}
+use Rattle.elf_tables.proofs.FieldLaws.{length-fields}
 use Rattle.elf_tables.specs.Fields.{widths}
 use Rattle.elf_tables.proofs.RecordLaws.{ReadsBack, bytes_at-front, drop-front, fixed_field-number, length-chained, number_at-fields, steps_of, values_of-steps, walked-chained, whole_chain-chained, whole_steps}
 use Rattle.elf_tables.proofs.StandingTexts.{stands-with, stands-within}

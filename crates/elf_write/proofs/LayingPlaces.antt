@@ -1,5 +1,5 @@
 -- The old places of what is written anew, and the bytes that stay.
-use Rattle.std.proofs.Common.{◌≡◌, ◌≤◌, ◌<◌, ◌+◌, ◌∙◌, ℕ, zero, suc, Bool, true, false, List, [], ◌∷◌, ◌++◌, length, map, take, filter, get_or, replicate, refl, sym, ap, subst, Option, inl, inr, arith}
+use Rattle.std.proofs.Common.{◌≡◌, ◌≤◌, ◌<◌, ◌+◌, ◌∙◌, ℕ, Bool, true, false, List, [], ◌∷◌, ◌++◌, length, map, take, filter, get_or, replicate, refl, sym, ap, subst, Option, inl, inr, arith}
 use Rattle.std.specs.Prelude.{slice_index, nat_lt, not, ◌&&◌, ◌==◌, if◌then◌else◌}
 use Rattle.std.proofs.lemmas.Bool.{and_parts, cases_lt, cond-true, cond-false, le-ltb, lt-ltb, ltb-true}
 use Rattle.std.proofs.lemmas.List.{append_assoc, get_or-map, get_or-replicate, get_or_past, length-map, length-replicate, map-append, take_all, take_more}
@@ -17,15 +17,16 @@ use Rattle.elf_format.specs.Rules.{is_file_kind, names_are_texts, no_extended_nu
 use Rattle.elf_image.specs.Edited.{IsEdited}
 use Rattle.elf_image.specs.ImageModel.{section_model}
 use Rattle.elf_image.specs.declared.section.Section.{Section}
-use Rattle.elf_image.specs.Kept.{KeptSection, image_at_read, interpreter_number, kept_from, kept_sections, place_at_read}
+use Rattle.elf_image.specs.Kept.{KeptSection, image_at_read, interpreter_number, kept_sections, place_at_read}
 use Rattle.elf_layout_plan.specs.Memory.{Resized}
 use Rattle.elf_layout_plan.specs.Plan.{resized}
 use Rattle.elf_write_spec.specs.Base.{base, base_byte, is_rewritten, old_places, values_from}
-use Rattle.elf_write_spec.proofs.BaseBytes.{length-segments}
-use Rattle.elf_write_spec.proofs.Laying.{length-values, value-at}
+use Rattle.elf_write_spec.proofs.ForCallers.Laying.{length-values, value-at}
 use Rattle.elf_write_contents.specs.Inner.{IsReady}
 use Rattle.elf_write.specs.LayingSteps.{IsCleared, TakesFrom, is_in_load, is_in_range, is_rewritten_at, rewritten_places}
 use Rattle.elf_write_contents.proofs.ForCallers.{ReadFacts, read_facts}
+use Rattle.elf_format.proofs.ForCallers.Lengths.{length-segments}
+use Rattle.elf_image.proofs.ForCallers.KeptSections.{kept-at, length-kept}
 
 -- ## Program headers
 
@@ -59,30 +60,6 @@ few_segments read image is =
 
 -- ## Sections
 
--- each stands at its position
-kept_from-at : (k : ℕ) (ns : List ℕ) (ss : List ImageSection) (i : ℕ) (d : KeptSection) (s : ImageSection) → i < length ns
-    → i < length ss
-    → get_or (kept_from k ns ss) i d ≡ record { position = k + i; number = slice_index ns i; section = get_or ss i s }
-kept_from-at k [] ss i d s h g = absurd (omega (arith, h))
-kept_from-at k (n ∷ ns) [] i d s h g = absurd (omega (arith, g))
-kept_from-at k (n ∷ ns) (t ∷ ss) zero d s h g =
-    let e : k ≡ k + 0 = omega arith in
-    ap (λ (j : ℕ). record { position = j; number = n; section = t }) e
-kept_from-at k (n ∷ ns) (t ∷ ss) (suc i) d s h g =
-    let e : k + 1 + i ≡ k + suc i = omega arith in
-    kept_from-at (k + 1) ns ss i d s (omega (arith, h)) (omega (arith, g))
-    ∙ ap (λ (j : ℕ). record { position = j; number = slice_index ns i; section = get_or ss i s }) e
-
-length-kept_from : (k : ℕ) (ns : List ℕ) (ss : List ImageSection) → length ns ≡ length ss → length (kept_from k ns ss) ≡ length ss
-length-kept_from k [] [] e = refl
-length-kept_from k [] (t ∷ ss) e = e
-length-kept_from k (n ∷ ns) [] e = refl
-length-kept_from k (n ∷ ns) (t ∷ ss) e = ap suc (length-kept_from (k + 1) ns ss (omega (arith, e)))
-
-pub length-kept : (image : Image) → length image.section_numbers ≡ length image.sections
-    → length (kept_sections image) ≡ length image.sections
-length-kept image long = length-kept_from 0 image.section_numbers image.sections long
-
 -- the one at a position, as it is looked at
 pub kept_here : (image : Image) (sections : List Section) (i : ℕ) (x : Section) (d : KeptSection)
     → length image.section_numbers ≡ length image.sections
@@ -94,12 +71,10 @@ kept_here image sections i x d long seen here at =
     let many : length image.sections ≡ length sections = sym (ap length seen) ∙ length-map sections section_model in
     let at_image : get_or image.sections i (section_model x) ≡ section_model x =
     ap (λ (l : List ImageSection). get_or l i (section_model x)) (sym seen)
-    ∙ get_or-map section_model sections i x (section_model x) here ∙ ap section_model (sym at) in
-    let from_zero : 0 + i ≡ i = omega arith in (
+    ∙ get_or-map section_model sections i x (section_model x) here ∙ ap section_model (sym at) in (
       omega (arith, length-kept image long),
-      kept_from-at 0 image.section_numbers image.sections i d (section_model x) (omega arith) (omega arith)
-          ∙ ap (λ (s : ImageSection). record { position = 0 + i; number = slice_index image.section_numbers i; section = s }) at_image
-          ∙ ap (λ (j : ℕ). record { position = j; number = slice_index image.section_numbers i; section = section_model x }) from_zero,
+      kept-at image i d (section_model x) long (omega arith)
+          ∙ ap (λ (s : ImageSection). record { position = i; number = slice_index image.section_numbers i; section = s }) at_image,
     )
 
 -- ## The places of sections that are written anew

@@ -26,15 +26,16 @@ use Rattle.elf_layout_plan.specs.PlanModel.{place_model}
 use Rattle.elf_write_spec.specs.Base.{base, base_byte, is_data}
 use Rattle.elf_write_spec.specs.Headers.{written_header}
 use Rattle.elf_write_spec.specs.Writing.{IsWholeWriting, Writing, patch, patches, patches_of_headers, patches_of_section, patches_of_sections, written_bytes}
-use Rattle.elf_write_spec.proofs.Laying.{length-values}
-use Rattle.elf_write_spec.proofs.Patches.{patches_lie}
-use Rattle.elf_write_spec.proofs.WholeFacts.{lengths, read_facts}
+use Rattle.elf_write_spec.proofs.ForCallers.Laying.{length-values}
+use Rattle.elf_write_spec.proofs.ForCallers.Patches.{patches_lie}
+use Rattle.elf_write_spec.proofs.ForCallers.WholeFacts.{lengths, read_facts}
 use Rattle.elf_write_contents.specs.Inner.{writing_of}
 use Rattle.elf_write.specs.declared.spelled.SpelledHeaders.{SpelledHeaders}
 use Rattle.elf_write.specs.LayingSteps.{AreHeadersSpelled, DoHeadersFit, content_patches, header_patches, is_data_at}
 use Rattle.elf_write.specs.PieceSteps.{IsOverBase}
 use Rattle.elf_write.proofs.Composing.{all_each, over_base}
-use Rattle.elf_write.proofs.LayingPlaces.{kept_here, length-kept}
+use Rattle.elf_write.proofs.LayingPlaces.{kept_here}
+use Rattle.elf_image.proofs.ForCallers.KeptSections.{length-kept}
 
 -- ## Section by section
 

@@ -31,17 +31,17 @@ use Rattle.elf_write_spec.specs.Final.{final}
 use Rattle.elf_write_spec.specs.Headers.{IsHeaderOf, written_header}
 use Rattle.elf_write_spec.specs.Whole.{IsWhole}
 use Rattle.elf_write_spec.specs.Writing.{AreHeadersApart, AreSectionsWritten, IsWholeWriting, written_bytes}
-use Rattle.elf_write_spec.proofs.WholeFacts.{kept}
 use Rattle.elf_layout_plan.specs.ApartLaws.{PlansAreApart, PlansShowNotes}
-use Rattle.elf_write_spec.proofs.ApartInFile.{plans_are_apart_in_file}
-use Rattle.elf_write_spec.proofs.DataSeen.{written_files_keep_data, written_files_keep_hashes, written_files_keep_others}
-use Rattle.elf_write_spec.proofs.FileParts.{written_files_have_parts}
-use Rattle.elf_write_spec.proofs.ReadAgain.{written_files_are_read, written_files_show}
+use Rattle.elf_write_spec.proofs.ForCallers.ApartInFile.{plans_are_apart_in_file}
+use Rattle.elf_write_spec.proofs.ForCallers.DataSeen.{written_files_keep_data, written_files_keep_hashes, written_files_keep_others}
+use Rattle.elf_write_spec.proofs.ForCallers.FileParts.{written_files_have_parts}
+use Rattle.elf_write_spec.proofs.ForCallers.ReadAgain.{written_files_are_read, written_files_show}
 use Rattle.elf_write_contents.specs.declared.made.Made.{Made}
 use Rattle.elf_write_contents.specs.Inner.{AreContents, AreHeaders, ArePromised, AreRaw, IsMadeContent, IsPlanned, IsWholeWritten, strings_at, writing_of}
 use Rattle.elf_write_contents.specs.Numbers.{do_records_fit}
 use Rattle.elf_write_contents.specs.Seen.{IsWritingTo}
-use Rattle.elf_write_contents.proofs.ForCallers.{ReadFacts, SectionRead, are_numbered, kept-at, kept_is, length-numbered, linked_at, names_at, names_typed, read_facts, section_read, shows_none, shows_texts}
+use Rattle.elf_write_contents.proofs.ForCallers.{ReadFacts, SectionRead, kept-at, kept_is, length-kept, linked_at, names_at, names_typed, read_facts, section_read, shows_none, shows_texts}
+use Rattle.elf_write_spec.proofs.ForCallers.NumberedSections.{kept}
 
 -- the content at a position
 record ContentAt (r : Resized) (plan : Layout) (made : Option Made) (raw : List EntryNumbers) (ps : List Place) (cs : List (List ℕ)) (i : ℕ) (k : KeptSection) : Type 0 where
@@ -149,7 +149,7 @@ module _ (read image : Image) (plan : Layout) (made : Option Made) (raw : List E
       → IsContent (resized image) plan raw (content_at_number image contents k.section.sh_link) k bytes
   content_linked i k at bytes shown =
       let long : length (kept_sections image) ≡ length image.sections =
-      ap length (are_numbered read image planned.ready) ∙ length-numbered 0 image.sections in
+      length-kept read image planned.ready in
       let within : i < length image.sections = omega (arith, slice_get_within (kept_sections image) i k at, long) in
       let here = section_read read image planned.ready facts i within in
       let same : kept i here.section ≡ k = same_Some (kept i here.section) k (sym here.is_kept ∙ at) in

@@ -9,8 +9,7 @@ ghost use Rattle.elf_write_spec.specs.Base.{base, has_position, old_places as pl
 ghost use Rattle.elf_write_contents.specs.Inner.{IsReady};
 ghost use Rattle.elf_write.specs.LayingSteps.{IsCleared, TakesFrom, is_in_load, is_in_range, rewritten_places};
 
-use crate::data::{interpreter_number, is_rewritten};
-use elf_format::Form;
+use crate::data::is_rewritten;
 use elf_format::constants::PT_LOAD;
 use elf_format::range::Range;
 use elf_image::{Builder, Segment};
@@ -80,16 +79,6 @@ fn zeros(alloc: Global, count: usize) -> Result<Vec<u8>, AllocError>
     vec![in alloc; 0; count]
 }
 
-// How the numbers of an image's file are spelled.
-pub(crate) fn form_of(image: &Builder<'_>) -> Form
-    ensures { result ≡ image.now.form }
-{
-    Form {
-        wide: image.class(),
-        order: image.order(),
-    }
-}
-
 // There are no more program headers than plain numbering has (gABI, ELF Header, e_phnum).
 fn few_segments<'data>(read: &Builder<'data>, image: &Builder<'data>)
     requires { IsReady read.now image.now }
@@ -105,7 +94,7 @@ fn table_at_read(read: &Builder<'_>) -> Range
     let count = read.segments().len() as u64;
     Range {
         start: read.header().e_phoff,
-        size: count * form_of(read).segment_header_size() as u64,
+        size: count * read.form().segment_header_size() as u64,
     }
 }
 
@@ -147,10 +136,10 @@ pub(crate) fn old_places<'data>(
     let mut places = Vec::new(alloc);
     places.push(Range {
         start: 0,
-        size: form_of(image).file_header_size() as u64,
+        size: image.form().file_header_size() as u64,
     })?;
     places.push(table_at_read(read))?;
-    push_rewritten(&mut places, image, interpreter_number(read))?;
+    push_rewritten(&mut places, image, read.interpreter_number())?;
     Ok(places)
 }
 

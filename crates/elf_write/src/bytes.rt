@@ -19,7 +19,6 @@ ghost use Rattle.elf_write.specs.Refused.{AreNoBytes};
 ghost use Rattle.elf_write_contents.specs.Seen.{HasHashes, HasHeaders, IsApart};
 
 use crate::laying::laid_bytes;
-use elf_format::form::Form;
 use elf_format::range::Range;
 use elf_image::Builder;
 use elf_layout_plan::laws::{plans_are_apart, plans_show_notes};
@@ -38,17 +37,7 @@ fn table_range(image: &Builder<'_>, plan: &Plan) -> Range
 {
     Range {
         start: plan.e_phoff(),
-        size: plan.segments().len() as u64 * form_of(image).segment_header_size() as u64,
-    }
-}
-
-// How the numbers of an image's file are spelled.
-pub(crate) fn form_of(image: &Builder<'_>) -> Form
-    ensures { result ≡ image.now.form }
-{
-    Form {
-        wide: image.class(),
-        order: image.order(),
+        size: plan.segments().len() as u64 * image.form().segment_header_size() as u64,
     }
 }
 
@@ -60,7 +49,7 @@ pub(crate) fn are_headers_apart(image: &Builder<'_>, plan: &Plan) -> bool
 {
     let header = Range {
         start: 0,
-        size: form_of(image).file_header_size() as u64,
+        size: image.form().file_header_size() as u64,
     };
     header.is_apart(table_range(image, plan))
 }
@@ -196,8 +185,6 @@ pub fn image_bytes(alloc: Global, image: &Builder<'_>, plan: &Plan) -> Result<Ve
     ensures apart { OnOk result (IsApart image.now plan.now) }
     ensures fault { IfErr result (AreNoBytes image.now plan.now) }
 {
-    let Ok(read) = read_again(alloc, image) else {
-        return Err(LayoutFault::Memory);
-    };
+    let read = read_again(alloc, image)?;
     image_bytes_again(alloc, &read, image, plan)
 }

@@ -1,40 +1,19 @@
 //! Which sections are data of the program, and which are written anew.
-ghost use Rattle.std.specs.Prelude.{◌≡◌, ◌==◌};
-ghost use Rattle.elf_format.specs.Options.{is_some_and};
+ghost use Rattle.std.specs.Prelude.{◌≡◌};
 ghost use Rattle.elf_image.specs.ImageModel.{section_model};
-ghost use Rattle.elf_image.specs.Kept.{interpreter_number as number_of_interpreter};
 ghost use Rattle.elf_write.specs.LayingSteps.{is_data_at, is_rewritten_at};
 
 use elf_format::SectionData;
 use elf_format::constants::{SHF_ALLOC, SHT_NOBITS, SHT_NULL};
-use elf_image::{Builder, Section};
-
-// The number at read of the section with the interpreter's name.
-pub(crate) fn interpreter_number(read: &Builder<'_>) -> Option<usize>
-    ensures { result ≡ number_of_interpreter read.now }
-{
-    // the image has as many numbers of sections as sections
-    let _source = read.source();
-    let at = read.interpreter_position()?;
-    Some(read.read_section(at))
-}
-
-// Whether the interpreter's section had that number.
-fn is_interpreter(interpreter: Option<usize>, number: usize) -> bool
-    ensures { result ≡ is_some_and (λ n. n == number) interpreter }
-{
-    match interpreter {
-        Some(interpreter) => interpreter == number,
-        None => false,
-    }
-}
+use elf_image::Section;
+use elf_layout_plan::is_numbered;
 
 // Whether a section that had that number is data of the program.
 pub(crate) fn is_data(section: &Section<'_>, number: usize, interpreter: Option<usize>) -> bool
     ensures { result ≡ is_data_at interpreter number (section_model section.now) }
 {
     let is_opaque = matches!(section.kind, SectionData::Opaque);
-    section.sh_flags & SHF_ALLOC != 0 && is_opaque && !is_interpreter(interpreter, number)
+    section.sh_flags & SHF_ALLOC != 0 && is_opaque && !is_numbered(interpreter, number)
 }
 
 // Whether a section that had that number is written anew: it takes memory and bytes of the file, and is no data.

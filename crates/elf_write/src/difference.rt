@@ -217,8 +217,6 @@ pub fn image_pieces(
     ensures apart { OnOk result (IsApart image.now plan.now) }
     ensures fault { IfErr result (AreNoBytes image.now plan.now) }
 {
-    let Ok(read) = read_again(alloc, image) else {
-        return Err(LayoutFault::Memory);
-    };
+    let read = read_again(alloc, image)?;
     image_pieces_again(alloc, &read, image, plan)
 }

@@ -10,8 +10,7 @@ ghost use Rattle.elf_write_spec.specs.Headers.{written_header};
 ghost use Rattle.elf_write_spec.specs.Writing.{IsWholeWriting, written_bytes};
 ghost use Rattle.elf_write_contents.specs.Inner.{IsReady, writing_of};
 
-use crate::base::{base_bytes, form_of};
-use crate::data::interpreter_number;
+use crate::base::base_bytes;
 use crate::pieces::pieces;
 use crate::spans::differing;
 use crate::spelled::spelled_headers;
@@ -69,12 +68,12 @@ pub(crate) fn laid_bytes<'data>(
         ≡ written_bytes
         (writing_of image.now plan.now headers.now (bytes_of_each contents.now) raw)) }
 {
-    let form = form_of(image);
+    let form = image.form();
     let Some(size) = file_size(form, plan) else {
         // no memory has so many bytes
         return Err(AllocError);
     };
-    let interpreter = interpreter_number(read);
+    let interpreter = read.interpreter_number();
     let spelled = spelled_headers(alloc, form, plan, header, headers)?;
     let pieces = pieces(alloc, image, plan, &spelled, contents, interpreter)?;
     let mut bytes = base_bytes(alloc, read, image, size)?;
@@ -101,12 +100,12 @@ pub(crate) fn laid_difference<'data>(
         (writing_of image.now plan.now headers.now (bytes_of_each contents.now) raw)) }
     ensures makeable { IfOk result (λ d. IsDifference image.now.source d) }
 {
-    let form = form_of(image);
+    let form = image.form();
     let Some(size) = file_size(form, plan) else {
         // no memory has so many bytes
         return Err(AllocError);
     };
-    let interpreter = interpreter_number(read);
+    let interpreter = read.interpreter_number();
     let spelled = spelled_headers(alloc, form, plan, header, headers)?;
     let pieces = pieces(alloc, image, plan, &spelled, contents, interpreter)?;
     let difference = differing(alloc, read, image, size, &pieces)?;

@@ -20,18 +20,18 @@ use Rattle.elf_layout_plan.specs.Plan.{Layout, layout_for, resized}
 use Rattle.elf_layout_plan.specs.Needs.{written_needs}
 use Rattle.elf_layout_plan.specs.Sizes.{definitions_size, needs_size}
 use Rattle.elf_layout_plan.specs.Standing.{place_in, places}
-use Rattle.elf_layout_plan.proofs.ApartRead.{edited_facts}
-use Rattle.elf_layout_plan.proofs.ApartSections.{sized_of}
+use Rattle.elf_layout_plan.proofs.ForCallers.ApartRead.{edited_facts}
+use Rattle.elf_layout_plan.proofs.ForCallers.ApartSections.{sized_of}
 use Rattle.elf_write_spec.specs.Contents.{AreDefinitionsIn, AreNeedsIn, AreSymbolsOf, spelled_list}
 use Rattle.elf_write_spec.specs.Final.{final}
-use Rattle.elf_write_spec.proofs.WholeFacts.{kept}
 use Rattle.elf_write_contents.specs.declared.made.Made.{Made}
 use Rattle.elf_write_contents.specs.ContentSteps.{AreBytesOf, IsBytesAt, made_or}
 use Rattle.elf_write_contents.specs.Inner.{AreContents, AreRaw, AreStrings, IsMadeContent, IsPlanned, strings_at}
-use Rattle.elf_write_contents.proofs.ReadFacts.{ReadFacts, are_numbered, length-numbered, read_facts}
+use Rattle.elf_write_contents.proofs.ReadFacts.{ReadFacts, length-kept, read_facts}
 use Rattle.elf_write_contents.proofs.OthersCopied.{content_is_read}
 use Rattle.elf_write_contents.proofs.ContentsMade.{IsOther, PlacedAt, bytes_at, definitions_made, needs_made, placed_at, resized_with, symbols_made}
 use Rattle.elf_write_contents.proofs.ContentsByType.{interpreter_made, list_made, others_made, room, strings_made}
+use Rattle.elf_write_spec.proofs.ForCallers.NumberedSections.{kept}
 
 -- ## Position by position
 
@@ -43,7 +43,7 @@ places_long read image plan is =
     let places_are : plan.places ≡ map (place_in r is.planned.moved) (sized_sections r) = ap (λ (l : Layout). l.places) is.planned.follows in
     ap length places_are ∙ length-map (sized_sections r) (place_in r is.planned.moved)
     ∙ ap length (edited_facts image is.ready.edited).sized ∙ length-map (kept_sections image) (sized_of r)
-    ∙ ap length (are_numbered read image is.ready) ∙ length-numbered 0 image.sections
+    ∙ length-kept read image is.ready
 
 -- what is known of each, and of one behind them
 each_of_more : (P : ℕ → List ℕ → Type 0) (last : List ℕ) (cs : List (List ℕ)) → ((j : ℕ) (c : List ℕ) → slice_get cs j ≡ Some c → P j c)
@@ -80,7 +80,7 @@ module _ (image : Image) (plan : Layout) (made : Option Made) (raw : List EntryN
       → length contents ≡ length image.sections → AreContents (resized image) plan made raw (kept_sections image) plan.places contents
   all_made read is contents are long =
       let kept_long : length (kept_sections image) ≡ length image.sections =
-      ap length (are_numbered read image is.ready) ∙ length-numbered 0 image.sections in
+      length-kept read image is.ready in
       all_at (resized image) (kept_sections image) plan.places contents (places_long read image plan is ∙ sym kept_long) (long ∙ sym kept_long)
       (λ i k p c k_at p_at c_at. (are.each i c c_at).are k p k_at p_at)
 

@@ -23,7 +23,7 @@ use Rattle.elf_format.specs.Places.{occupies_file}
 use Rattle.elf_format.specs.Records.{entry_size}
 use Rattle.elf_format.specs.Rules.{file_of, is_opaque_relocation}
 use Rattle.elf_format.specs.Views.{interpreter_section}
-use Rattle.elf_format.proofs.ViewsAgree.{there_if}
+use Rattle.elf_format.proofs.ForCallers.ViewsAgree.{there_if}
 use Rattle.elf_image.specs.Kept.{KeptSection, interpreter_number, is_numbered, kept_of_type, kept_sections, link_of_type, stands_as_interpreter}
 use Rattle.elf_layout_plan.specs.Memory.{Resized}
 use Rattle.elf_layout_plan.specs.Needs.{written_entries}
@@ -31,21 +31,21 @@ use Rattle.elf_layout_plan.specs.Plan.{Layout, resized}
 use Rattle.elf_layout_plan.specs.Sizes.{interpreter_size, new_size, strings_size}
 use Rattle.elf_layout_plan.specs.Texts.{is_table_copied, texts_in_use}
 use Rattle.elf_tables.specs.Strings.{table_length}
-use Rattle.elf_layout_plan.proofs.PlacedLists.{find-at}
+use Rattle.elf_layout_plan.proofs.ForCallers.PlacedLists.{find-at}
 use Rattle.elf_write_spec.specs.Contents.{AreEntriesOf, IsContentByKind, spelled_list}
 use Rattle.elf_write_spec.specs.Final.{final}
 use Rattle.elf_tables.specs.Spelled.{spelled_entry}
-use Rattle.elf_tables.proofs.EntryBack.{entries_are_read_back}
-use Rattle.elf_write_spec.proofs.LinkedContents.{is_copied}
-use Rattle.elf_write_spec.proofs.LinkedLists.{count-same, found_only}
-use Rattle.elf_write_spec.proofs.WholeFacts.{kept}
-use Rattle.elf_write_spec.proofs.WholeLists.{has_at}
+use Rattle.elf_tables.proofs.ForCallers.EntryBack.{entries_are_read_back}
+use Rattle.elf_write_spec.proofs.ForCallers.LinkedContents.{is_copied}
+use Rattle.elf_write_spec.proofs.ForCallers.LinkedLists.{count-same, found_only}
+use Rattle.elf_write_spec.proofs.ForCallers.WholeLists.{has_at}
 use Rattle.elf_write_contents.specs.declared.made.Made.{Made}
 use Rattle.elf_write_contents.specs.Inner.{AreRaw, AreStrings, IsMadeContent, IsReady, content_read, strings_at}
-use Rattle.elf_write_contents.proofs.ReadFacts.{ReadFacts, SectionRead, are_numbered, kept-at, length-now, length-numbered, section_read}
+use Rattle.elf_write_contents.proofs.ReadFacts.{ReadFacts, SectionRead, kept-at, length-kept, length-now, section_read}
 use Rattle.elf_write_contents.proofs.OthersCopied.{content_is_read, others_copied, same_kept}
 use Rattle.elf_write_contents.proofs.ContentsMade.{IsOther, PlacedAt, content_by, content_copied, content_from, kind_copied, kind_is, resized_with, stored, typed, typed_size}
 use Rattle.elf_write_contents.proofs.ContentsCopied.{content_long, content_sized, copied_size, few_lists}
+use Rattle.elf_write_spec.proofs.ForCallers.NumberedSections.{kept}
 
 module _ (read image : Image) (plan : Layout) (made : Option Made) (raw : List EntryNumbers) (is : IsReady read image) (f : ReadFacts read image)
     (i : ℕ) (at : PlacedAt read image plan f.parts i) (apart : is_numbered (interpreter_number read) (kept i at.section) ≡ false) where
@@ -163,7 +163,7 @@ module _ (read image : Image) (plan : Layout) (made : Option Made) (raw : List E
       let test : KeptSection → Bool = λ (k : KeptSection). k.section.sh_type == SHT_DYNAMIC in
       let was : SectionHeader → Bool = λ (s : SectionHeader). s.sh_type == SHT_DYNAMIC in
       let sections : length (kept_sections image) ≡ length image.sections =
-      ap length (are_numbered read image is) ∙ length-numbered 0 image.sections in
+      length-kept read image is in
       let long : length (kept_sections image) ≡ length f.parts.sections = sections ∙ length-now read image is f in
       let same : count_by test (kept_sections image) ≡ count_by was f.parts.sections =
       count-same test was (kept_sections image) f.parts.sections long (λ j k s k_at s_at.

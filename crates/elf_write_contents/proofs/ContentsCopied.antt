@@ -12,20 +12,20 @@ use Rattle.elf_format.specs.Places.{occupies_file}
 use Rattle.elf_format.specs.Records.{symbol_numbers, symbol_size}
 use Rattle.elf_format.specs.Rules.{are_linked, are_whole, file_of, infos_are_sections, is_one_of_each, relocations_fit, single_section_types, symbols_have_sections, unit_of, version_symbols_agree}
 use Rattle.elf_format.specs.Views.{NamedSymbol}
-use Rattle.elf_format.proofs.Placed.{IsIn, IsIn-slice_get}
-use Rattle.elf_format.proofs.ViewsAgree.{found_by_type, length-bytes, test_at, there_and, version_symbols_right, whole_count, whole_entries}
+use Rattle.elf_format.proofs.ForCallers.Placed.{IsIn, IsIn-slice_get}
+use Rattle.elf_format.proofs.ForCallers.ViewsAgree.{found_by_type, length-bytes, test_at, there_and, version_symbols_right, whole_count, whole_entries}
 use Rattle.elf_image.specs.ReadImage.{AreDynamicSymbols, AreStaticSymbols}
 use Rattle.elf_image.specs.Kept.{interpreter_number, is_numbered}
 use Rattle.elf_layout_plan.specs.Plan.{Layout}
 use Rattle.elf_layout_plan.specs.Sizes.{hash_size, interpreter_size, new_size, table_size}
 use Rattle.elf_layout_plan.specs.Texts.{are_names_changed}
-use Rattle.elf_write_spec.proofs.LinkedLists.{found_only}
-use Rattle.elf_write_spec.proofs.LinkedRelocations.{symbol_size-pos}
-use Rattle.elf_write_spec.proofs.SameLists.{length-records}
-use Rattle.elf_write_spec.proofs.WholeFacts.{kept}
+use Rattle.elf_write_spec.proofs.ForCallers.LinkedLists.{found_only}
+use Rattle.elf_write_spec.proofs.ForCallers.LinkedRelocations.{symbol_size-pos}
 use Rattle.elf_write_contents.specs.Inner.{IsReady}
 use Rattle.elf_write_contents.proofs.ReadFacts.{ReadFacts, final_is}
 use Rattle.elf_write_contents.proofs.ContentsMade.{IsOther, PlacedAt}
+use Rattle.elf_format.proofs.ForCallers.Lengths.{length-records}
+use Rattle.elf_write_spec.proofs.ForCallers.NumberedSections.{kept}
 
 -- ## One of each
 

@@ -23,19 +23,20 @@ use Rattle.elf_layout_plan.specs.Plan.{Layout, layout_for, resized}
 use Rattle.elf_layout_plan.specs.Sizes.{definitions_size, dynamic_size, hash_size, interpreter_size, needs_size, new_size, new_sizes, strings_size, table_size}
 use Rattle.elf_layout_plan.specs.Standing.{place_in, places}
 use Rattle.elf_layout_plan.specs.Texts.{is_table_copied}
-use Rattle.elf_layout_plan.proofs.ApartLists.{at-map}
-use Rattle.elf_layout_plan.proofs.ApartRead.{edited_facts}
-use Rattle.elf_layout_plan.proofs.ApartSections.{at-sized, sized_of}
-use Rattle.elf_layout_plan.proofs.PlacedLists.{slice_get-at}
-use Rattle.elf_layout_plan.proofs.PlacedPlaces.{keeps_kind}
+use Rattle.elf_layout_plan.proofs.ForCallers.ApartLists.{at-map}
+use Rattle.elf_layout_plan.proofs.ForCallers.ApartRead.{edited_facts}
+use Rattle.elf_layout_plan.proofs.ForCallers.ApartSections.{at-sized, sized_of}
+use Rattle.elf_layout_plan.proofs.ForCallers.PlacedLists.{slice_get-at}
+use Rattle.elf_layout_plan.proofs.ForCallers.PlacedPlaces.{keeps_kind}
 use Rattle.elf_write_spec.specs.Contents.{AreDefinitionsIn, AreEntriesOf, AreNeedsIn, AreSymbolsOf, IsContent, spelled_list}
 use Rattle.elf_write_spec.specs.Final.{final}
-use Rattle.elf_write_spec.proofs.LinkedContents.{is_copied, kind_by}
-use Rattle.elf_write_spec.proofs.WholeFacts.{kept}
+use Rattle.elf_write_spec.proofs.ForCallers.LinkedContents.{is_copied}
 use Rattle.elf_write_contents.specs.declared.made.Made.{Made}
 use Rattle.elf_write_contents.specs.ContentSteps.{IsBytesAt}
 use Rattle.elf_write_contents.specs.Inner.{IsMadeContent, IsPlanned, strings_at}
 use Rattle.elf_write_contents.proofs.ReadFacts.{ReadFacts, SectionRead, section_read}
+use Rattle.elf_write_spec.proofs.ForCallers.NumberedSections.{kept}
+use Rattle.elf_write_spec.proofs.ForCallers.SectionKinds.{kind_by}
 
 -- ## A section and its place
 

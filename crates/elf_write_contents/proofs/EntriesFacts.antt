@@ -14,7 +14,7 @@ use Rattle.elf_image.specs.Kept.{image_at_read, link_of_type}
 use Rattle.elf_layout_plan.specs.Needs.{written_entries, written_needs}
 use Rattle.elf_layout_plan.specs.Texts.{if_linked, if_names, is_subsequence, is_table_copied, texts_in_use, texts_of_definitions, texts_of_entries, texts_of_needs, texts_of_symbols}
 use Rattle.elf_write_spec.specs.Final.{final}
-use Rattle.elf_write_spec.proofs.SameLists.{entries_same, needs_same}
+use Rattle.elf_write_spec.proofs.ForCallers.SameLists.{entries_same, needs_same}
 use Rattle.elf_write_contents.specs.Inner.{IsReady}
 use Rattle.elf_write_contents.proofs.OthersCopied.{same_link}
 use Rattle.elf_write_contents.proofs.ReadFacts.{ReadFacts, final_is}

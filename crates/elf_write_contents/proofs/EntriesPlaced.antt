@@ -30,8 +30,7 @@ use Rattle.elf_tables.specs.Strings.{StandsAt, place_of}
 use Rattle.elf_image.specs.Kept.{KeptSection, kept_of_type, link_of_type}
 use Rattle.elf_layout_plan.specs.Texts.{is_subsequence, is_table_copied, texts_in_use, texts_of_entries}
 use Rattle.elf_write_spec.specs.Headers.{Reads}
-use Rattle.elf_write_spec.proofs.TextsRead.{text_reads}
-use Rattle.elf_write_spec.proofs.WholeFacts.{kept}
+use Rattle.elf_write_spec.proofs.ForCallers.TextsRead.{text_reads}
 use Rattle.elf_write_contents.specs.declared.made.Made.{Made}
 use Rattle.elf_write_contents.specs.EntrySteps.{TextsStand, content_at, has_text, link_at, numbers_in, places_among}
 use Rattle.elf_write_contents.specs.Inner.{AreStrings, IsReady, content_read, strings_at}
@@ -40,6 +39,7 @@ use Rattle.elf_write_contents.proofs.EntriesTables.{Link, NoLink}
 use Rattle.elf_write_contents.proofs.EntriesTables as tables
 use Rattle.elf_write_contents.proofs.OthersCopied.{content_is_read}
 use Rattle.elf_write_contents.proofs.ReadFacts.{ReadFacts, SectionRead, Nowhere, There, length-now, read_facts, section_read, type_at}
+use Rattle.elf_write_spec.proofs.ForCallers.NumberedSections.{kept}
 
 -- ## Places that are made one by one
 

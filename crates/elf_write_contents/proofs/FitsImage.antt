@@ -25,7 +25,7 @@ use Rattle.elf_layout_plan.specs.Plan.{Layout, resized}
 use Rattle.elf_write_spec.specs.Contents.{AreEntriesOf, IsEntryOf}
 use Rattle.elf_write_spec.specs.Final.{final}
 use Rattle.elf_write_spec.specs.Headers.{Reads, written_header, written_section}
-use Rattle.elf_write_spec.proofs.TextsRead.{text_inside}
+use Rattle.elf_write_spec.proofs.ForCallers.TextsRead.{text_inside}
 use Rattle.elf_write_contents.specs.declared.made.Made.{Made}
 use Rattle.elf_write_contents.specs.FitSteps.{do_unnamed_fit, unnamed}
 use Rattle.elf_write_contents.specs.Inner.{AreHeaders, AreRaw, AreStrings, IsPlanned, IsReady, strings_at}

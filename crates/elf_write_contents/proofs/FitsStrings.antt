@@ -21,15 +21,15 @@ use Rattle.elf_format.specs.Rules.{file_of}
 use Rattle.elf_image.specs.Kept.{KeptSection, interpreter_number, is_numbered, kept_sections, link_of_type, stands_as_interpreter}
 use Rattle.elf_layout_plan.specs.Sizes.{fits_field, interpreter_size, new_size, new_sizes, strings_size, table_size}
 use Rattle.elf_layout_plan.specs.Texts.{is_table_copied, texts_in_use}
-use Rattle.elf_layout_plan.proofs.PlacedLists.{find-at}
+use Rattle.elf_layout_plan.proofs.ForCallers.PlacedLists.{find-at}
 use Rattle.elf_tables.specs.Strings.{table_length}
-use Rattle.elf_write_spec.proofs.WholeFacts.{kept}
-use Rattle.elf_write_spec.proofs.WholeLists.{has_at}
+use Rattle.elf_write_spec.proofs.ForCallers.WholeLists.{has_at}
 use Rattle.elf_write_contents.specs.declared.made.Made.{Made}
 use Rattle.elf_write_contents.specs.Inner.{AreStrings, IsReady, content_read, strings_at}
 use Rattle.elf_write_contents.proofs.MadeShort.{all_at, strings_read}
 use Rattle.elf_write_contents.proofs.OthersCopied.{content_is_read, same_kept}
 use Rattle.elf_write_contents.proofs.ReadFacts.{ReadFacts, kept-at, read_facts}
+use Rattle.elf_write_spec.proofs.ForCallers.NumberedSections.{kept}
 
 -- one past the greatest word of a class
 abbrev pub words_end : Wide → ℕ

@@ -9,4 +9,4 @@ pub use Rattle.elf_write_contents.proofs.ContentsAll.{long_held}
 pub use Rattle.elf_write_contents.proofs.NamesTable.{linked_at, names_at, names_typed, shows_none}
 unfoldable pub use Rattle.elf_write_contents.proofs.NamesTable.{shows_texts}
 -- what is known of a file that was read, and of one of its sections
-pub use Rattle.elf_write_contents.proofs.ReadFacts.{ReadFacts, SectionRead, are_numbered, kept-at, kept_is, length-numbered, read_facts, section_read}
+pub use Rattle.elf_write_contents.proofs.ReadFacts.{ReadFacts, SectionRead, kept-at, kept_is, length-kept, read_facts, section_read}

@@ -27,15 +27,14 @@ use Rattle.elf_layout_plan.specs.Needs.{written_entries, written_needs}
 use Rattle.elf_layout_plan.specs.Plan.{Layout, layout_for, resized}
 use Rattle.elf_layout_plan.specs.Standing.{place_in, places}
 use Rattle.elf_layout_plan.specs.Texts.{if_linked, if_names, texts_in_use, texts_of_definitions, texts_of_entries, texts_of_needs, texts_of_symbols}
-use Rattle.elf_layout_plan.proofs.ApartLists.{at-map}
-use Rattle.elf_layout_plan.proofs.ApartRead.{edited_facts}
-use Rattle.elf_layout_plan.proofs.ApartSections.{sized_of}
+use Rattle.elf_layout_plan.proofs.ForCallers.ApartLists.{at-map}
+use Rattle.elf_layout_plan.proofs.ForCallers.ApartRead.{edited_facts}
+use Rattle.elf_layout_plan.proofs.ForCallers.ApartSections.{sized_of}
 use Rattle.elf_tables.specs.Strings.{place_of}
 use Rattle.elf_write_spec.specs.Final.{final, new_number}
 use Rattle.elf_write_spec.specs.Headers.{Reads, behind_locals, is_info_number, written_header, written_info, written_section}
-use Rattle.elf_write_spec.proofs.TextsRead.{text_reads}
-use Rattle.elf_write_spec.proofs.WholeFacts.{kept}
-use Rattle.elf_write_spec.proofs.WholeLists.{there_at}
+use Rattle.elf_write_spec.proofs.ForCallers.TextsRead.{text_reads}
+use Rattle.elf_write_spec.proofs.ForCallers.WholeLists.{there_at}
 use Rattle.elf_write_contents.specs.declared.headers.Known.{Known}
 use Rattle.elf_write_contents.specs.declared.made.Made.{Made}
 use Rattle.elf_write_contents.specs.HeaderSteps.{IsHeaderAt, IsKnown, header_by, headers_read, info_by}
@@ -44,6 +43,7 @@ use Rattle.elf_write_contents.specs.Numbers.{do_numbers_fit}
 use Rattle.elf_write_contents.proofs.HeadersLists.{far_numbers, far_section}
 use Rattle.elf_write_contents.proofs.NamesTable.{names_at}
 use Rattle.elf_write_contents.proofs.ReadFacts.{ReadFacts, SectionRead, final_is, kept-at, kept_is, length-now, new_number-same, read_facts, section_read}
+use Rattle.elf_write_spec.proofs.ForCallers.NumberedSections.{kept}
 
 -- ## The file header
 

@@ -11,22 +11,15 @@ use Rattle.elf_format.specs.File.{Parts}
 use Rattle.elf_format.specs.Image.{Image, ImageSection}
 use Rattle.elf_format.specs.Options.{is_one_of, is_some_and}
 use Rattle.elf_format.specs.Rules.{are_linked, are_tables_linked, are_whole, infos_are_sections, is_one_of_each, links_to, relocations_fit, symbols_have_sections, text_users}
-use Rattle.elf_format.proofs.Placed.{IsIn-slice_get, passes_picked}
+use Rattle.elf_format.proofs.ForCallers.Placed.{IsIn-slice_get, passes_picked}
 use Rattle.elf_image.specs.Kept.{KeptSection, image_at_read, kept_sections, link_of_type}
 use Rattle.elf_layout_plan.specs.Sizes.{do_texts_fit, strings_size, table_size}
 use Rattle.elf_layout_plan.specs.Texts.{is_table_copied, texts_in_use}
 use Rattle.elf_tables.specs.Strings.{table_length}
 use Rattle.elf_layout_sizes.specs.MadeTables.{IsTooLong}
-use Rattle.elf_image.specs.Edited.{IsEdited}
-use Rattle.elf_layout_sizes.specs.Inner.{link_from}
-use Rattle.elf_layout_sizes.proofs.KeptSteps as sections_alone
-use Rattle.elf_write_spec.proofs.WholeFacts.{kept}
 use Rattle.elf_write_contents.specs.Inner.{IsReady}
 use Rattle.elf_write_contents.proofs.ReadFacts.{Nowhere, ReadFacts, SectionRead, There, length-now, read_facts, section_read, type_at}
-
--- the link of the first section of a type, by the sections alone
-pub link_by_sections : (type : ℕ) (image : Image) → IsEdited image → link_of_type type image ≡ link_from type image.sections
-link_by_sections type image is = sections_alone.link_by_sections type image is
+use Rattle.elf_write_spec.proofs.ForCallers.NumberedSections.{kept}
 
 -- ## What the dynamic section links to
 

@@ -8,7 +8,7 @@ use Rattle.elf_format.specs.declared.form.Form.{Form}
 use Rattle.elf_format.specs.declared.records.SymbolNumbers.{SymbolNumbers}
 use Rattle.elf_format.specs.Views.{NamedSymbol}
 use Rattle.elf_layout_plan.specs.Texts.{texts_of_symbols}
-use Rattle.elf_layout_sizes.proofs.SymbolSteps.{rest_at}
+use Rattle.elf_layout_sizes.proofs.ForCallers.SymbolSteps.{rest_at}
 use Rattle.elf_tables.specs.Fields.{do_fields_fit}
 use Rattle.elf_tables.specs.Spelled.{spelled_symbol, symbol_fields}
 use Rattle.elf_tables.specs.Strings.{Strings, place_of}

@@ -14,12 +14,13 @@ use Rattle.elf_format.specs.Image.{Image, ImageSection}
 use Rattle.elf_format.specs.Options.{is_none_or, is_one_of, is_some_and}
 use Rattle.elf_format.specs.Records.{section_header}
 use Rattle.elf_format.specs.Rules.{is_opaque_relocation, links_to, names_are_texts, symbol_users, text_users}
-use Rattle.elf_format.proofs.Placed.{IsIn-slice_get, passes_picked}
-use Rattle.elf_format.proofs.ViewsAgree.{links_right, there_and}
-use Rattle.elf_write_spec.proofs.HeaderTables.{header_bytes}
-use Rattle.elf_write_spec.proofs.SameLists.{length-sections}
+use Rattle.elf_format.proofs.ForCallers.Placed.{IsIn-slice_get, passes_picked}
+use Rattle.elf_format.proofs.ForCallers.ViewsAgree.{links_right, there_and}
+use Rattle.elf_write_spec.proofs.ForCallers.HeaderTables.{header_bytes}
 use Rattle.elf_write_contents.specs.Inner.{IsReady}
 use Rattle.elf_write_contents.proofs.ReadFacts.{ReadFacts, SectionRead, length-now, section_read}
+use Rattle.elf_format.proofs.ForCallers.Lengths.{length-sections}
+use Rattle.elf_write_spec.proofs.ForCallers.SectionKinds.{kind_by}
 
 module _ (read image : Image) (is : IsReady read image) (f : ReadFacts read image) where
   -- ## The section of names
@@ -107,23 +108,6 @@ shows_texts kinds.Hash = false
 shows_texts kinds.GnuHash = false
 shows_texts kinds.GnuVersym = false
 
--- a section's kind, by its type and whether it has relocations that are kept as they are
-kind_by : Bool → ℕ → SectionData
-kind_by opaque n =
-    if n == SHT_NOBITS then kinds.Uninitialized
-    else if n == SHT_DYNAMIC then kinds.Dynamic
-    else if is_one_of (SHT_REL ∷ SHT_RELA ∷ []) n then (if opaque then kinds.Opaque else kinds.Relocation)
-    else if n == SHT_NOTE then kinds.Note
-    else if n == SHT_STRTAB then kinds.Strings
-    else if n == SHT_SYMTAB then kinds.Symbols
-    else if n == SHT_DYNSYM then kinds.DynamicSymbols
-    else if n == SHT_HASH then kinds.Hash
-    else if n == SHT_GNU_HASH then kinds.GnuHash
-    else if n == SHT_GNU_VERSYM then kinds.GnuVersym
-    else if n == SHT_GNU_VERDEF then kinds.GnuVerdef
-    else if n == SHT_GNU_VERNEED then kinds.GnuVerneed
-    else kinds.Opaque
-
 -- one of a chain of tests
 or_later : (b : Bool) (k rest : SectionData) → shows_texts (if b then k else rest) ≡ true → (b ≡ true) ⊎ (shows_texts rest ≡ true)
 or_later true k rest h = inl refl
@@ -138,8 +122,8 @@ user_of : (n type : ℕ) → is_one_of text_users type ≡ true → (n == type) 
 user_of n type user same = ap (is_one_of text_users) (eqb-true n type same) ∙ user
 
 -- a section of such a kind links to its texts
-text_kinds : (opaque : Bool) (n : ℕ) → shows_texts (kind_by opaque n) ≡ true → is_one_of text_users n ≡ true
-unfolding kind_by shows_texts
+text_kinds : (opaque : Bool) (n : ℕ) → shows_texts (kind_by n opaque) ≡ true → is_one_of text_users n ≡ true
+unfolding shows_texts
 text_kinds opaque n h =
     let a = no_text (n == SHT_NOBITS) kinds.Uninitialized _ refl h in
     elim (or_later (n == SHT_DYNAMIC) kinds.Dynamic _ a) [
@@ -172,10 +156,9 @@ text_kinds opaque n h =
 -- a section that doesn't link to texts shows none
 pub shows_none : (read image : Image) (p : Parts) (i : ℕ) (at : SectionRead read image p i) → is_one_of text_users at.section.sh_type ≡ false
     → shows_texts at.section.kind ≡ false
-unfolding kind_by
 shows_none read image p i at none = by_test (shows_texts at.section.kind) refl
   where
-    kind_is : at.section.kind ≡ kind_by (is_opaque_relocation p at.old) at.old.sh_type
+    kind_is : at.section.kind ≡ kind_by at.old.sh_type (is_opaque_relocation p at.old)
     kind_is = ap (λ (x : ImageSection). x.kind) at.of_old.fields
 
     by_test : (b : Bool) → shows_texts at.section.kind ≡ b → shows_texts at.section.kind ≡ false

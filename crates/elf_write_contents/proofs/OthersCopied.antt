@@ -1,53 +1,18 @@
 -- Each string table but that of the dynamic list is copied.
-use Rattle.std.proofs.Common.{◌≡◌, ℕ, Bool, true, false, List, [], ◌∷◌, ◌++◌, map, refl, sym, ap, ◌∙◌, Option, Some}
-use Rattle.std.specs.Prelude.{find, ◌==◌, if◌then◌else◌, unwrap_or}
-use Rattle.std.specs.Cmp.Lexicographic.{bytes_decides}
+use Rattle.std.proofs.Common.{◌≡◌, ℕ, true, false, [], ap, ◌∙◌, Option, Some}
+use Rattle.std.specs.Prelude.{◌==◌, unwrap_or}
 use Rattle.std.specs.List.{slice_get}
 use Rattle.std.specs.Option.{option_map}
 use Rattle.patch_bytes.specs.Memory.{◌>>=◌}
-use Rattle.elf_format.specs.declared.constants.TheConstants.{SHT_DYNAMIC, SHT_DYNSYM, SHT_GNU_VERDEF, SHT_GNU_VERNEED, SHT_SYMTAB}
-use Rattle.elf_format.specs.declared.header.Header.{Header}
+use Rattle.elf_format.specs.declared.constants.TheConstants.{SHT_DYNAMIC}
 use Rattle.elf_format.specs.Image.{Image, ImageSection}
-use Rattle.elf_format.specs.Options.{is_some_and, list_at}
-use Rattle.elf_format.specs.Versions.{VersionDefinition, VersionNeeds}
-use Rattle.elf_format.specs.Views.{NamedSymbol}
-use Rattle.elf_image.specs.Kept.{KeptSection, kept_from, kept_sections, link_of_type}
-use Rattle.elf_layout_plan.specs.Needs.{written_entries, written_needs}
-use Rattle.elf_layout_plan.specs.Texts.{if_linked, if_names, is_subsequence, is_table_copied, texts_in_use, texts_of_definitions, texts_of_entries, texts_of_needs, texts_of_symbols}
-use Rattle.elf_write_spec.proofs.SameLists.{needs_same}
-use Rattle.elf_write_spec.proofs.WholeFacts.{kept}
+use Rattle.elf_format.specs.Options.{is_some_and}
+use Rattle.elf_image.specs.Kept.{KeptSection, kept_sections, link_of_type}
+use Rattle.elf_layout_plan.specs.Texts.{is_table_copied}
 use Rattle.elf_write_contents.specs.Inner.{IsReady, content_read}
 use Rattle.elf_write_contents.proofs.ReadFacts.{ReadFacts, kept_is}
-
--- a list has all of its own texts, in order
-pub all_of_itself : (ts : List (List ℕ)) → is_subsequence ts ts ≡ true
-unfolding is_subsequence
-all_of_itself [] = refl
-all_of_itself (t ∷ ts) =
-    ap (λ b. elim b as (λ _. Bool) [ true ↦ is_subsequence ts ts | _ ↦ is_subsequence (t ∷ ts) ts ]) ((bytes_decides t t).1 refl)
-    ∙ all_of_itself ts
-
--- all texts of a table, user by user
-abbrev all_texts : List (List ℕ) → List (List ℕ) → List (List ℕ) → List (List ℕ) → List (List ℕ) → List (List ℕ) → List (List ℕ)
-all_texts a b c d e g = a ++ b ++ c ++ d ++ e ++ g
-
-all_texts-same : (a a' b b' c c' d d' e e' g g' : List (List ℕ)) → a ≡ a' → b ≡ b' → c ≡ c' → d ≡ d' → e ≡ e' → g ≡ g'
-    → all_texts a b c d e g ≡ all_texts a' b' c' d' e' g'
-all_texts-same a a' b b' c c' d d' e e' g g' ha hb hc hd he hg =
-    ap (λ (x : List (List ℕ)). all_texts x b c d e g) ha
-    ∙ ap (λ (x : List (List ℕ)). all_texts a' x c d e g) hb
-    ∙ ap (λ (x : List (List ℕ)). all_texts a' b' x d e g) hc
-    ∙ ap (λ (x : List (List ℕ)). all_texts a' b' c' x e g) hd
-    ∙ ap (λ (x : List (List ℕ)). all_texts a' b' c' d' x g) he
-    ∙ ap (λ (x : List (List ℕ)). all_texts a' b' c' d' e' x) hg
-
--- one user's texts, by the number that it links to
-abbrev texts_by : Option ℕ → ℕ → List (List ℕ) → List (List ℕ)
-texts_by linked number texts = if is_some_and (λ link. link == number) linked then texts else []
-
-not_linked : (linked : Option ℕ) (number : ℕ) (texts : List (List ℕ)) → is_some_and (λ link. link == number) linked ≡ false
-    → texts_by linked number texts ≡ []
-not_linked linked number texts h = ap (λ b. if b then texts else []) h
+use Rattle.elf_write_spec.proofs.ForCallers.NumberedSections.{kept}
+use Rattle.elf_write_spec.proofs.ForCallers.TextsStay as texts_stay
 
 -- the bytes that the section at a position had at read
 pub content_is_read : (read image : Image) → IsReady read image → (n : ℕ) (s : ImageSection) → slice_get image.sections n ≡ Some s
@@ -57,53 +22,13 @@ content_is_read read image is n s at =
 
 module _ (read image : Image) (is : IsReady read image) (f : ReadFacts read image) where
   pub same_kept : kept_sections image ≡ kept_sections read
-  same_kept =
-      ap (λ (ns : List ℕ). kept_from 0 ns image.sections) is.whole.section_numbers
-      ∙ ap (λ (ss : List ImageSection). kept_from 0 read.section_numbers ss) is.whole.sections
+  same_kept = texts_stay.same_kept read image is.whole f.edit
 
   -- a type's section links where it did
   pub same_link : (type : ℕ) → link_of_type type image ≡ link_of_type type read
-  same_link type = ap (λ (ks : List KeptSection). find (λ s. s.section.sh_type == type) ks >>= λ s. Some s.section.sh_link) same_kept
+  same_link = texts_stay.same_link read image is.whole f.edit
 
-  -- all other texts are those that were read
-  same_texts : (number : ℕ) → is_some_and (λ link. link == number) (link_of_type SHT_DYNAMIC image) ≡ false
-      → texts_in_use read image number ≡ texts_in_use read read number
-  unfolding texts_in_use
-  same_texts number apart =
-      let by_link = λ (type : ℕ) (texts : List (List ℕ)). ap (λ (o : Option ℕ). texts_by o number texts) (same_link type) in
-      let needs : written_needs read image ≡ written_needs read read =
-      needs_same read image is.whole.dynamic_symbols ∙ f.edit.needs ∙ sym (needs_same read read refl) in
-      let number_same : image.header.e_shstrndx ≡ read.header.e_shstrndx = ap (λ (h : Header). h.e_shstrndx) f.edit.header in
-      all_texts-same
-      (if_linked image SHT_DYNAMIC number (list_at texts_of_entries (written_entries read image)))
-      (if_linked read SHT_DYNAMIC number (list_at texts_of_entries (written_entries read read)))
-      (if_linked image SHT_DYNSYM number (texts_of_symbols image.dynamic_symbols))
-      (if_linked read SHT_DYNSYM number (texts_of_symbols read.dynamic_symbols))
-      (if_linked image SHT_GNU_VERDEF number (texts_of_definitions image.definitions))
-      (if_linked read SHT_GNU_VERDEF number (texts_of_definitions read.definitions))
-      (if_linked image SHT_GNU_VERNEED number (texts_of_needs (written_needs read image)))
-      (if_linked read SHT_GNU_VERNEED number (texts_of_needs (written_needs read read)))
-      (if_linked image SHT_SYMTAB number (texts_of_symbols image.symbols))
-      (if_linked read SHT_SYMTAB number (texts_of_symbols read.symbols))
-      (if_names image number) (if_names read number)
-      (not_linked (link_of_type SHT_DYNAMIC image) number (list_at texts_of_entries (written_entries read image)) apart
-      ∙ sym (not_linked (link_of_type SHT_DYNAMIC read) number (list_at texts_of_entries (written_entries read read))
-      (ap (is_some_and (λ link. link == number)) (sym (same_link SHT_DYNAMIC)) ∙ apart)))
-      (by_link SHT_DYNSYM (texts_of_symbols image.dynamic_symbols)
-      ∙ ap (λ (ys : List NamedSymbol). if_linked read SHT_DYNSYM number (texts_of_symbols ys)) is.whole.dynamic_symbols)
-      (by_link SHT_GNU_VERDEF (texts_of_definitions image.definitions)
-      ∙ ap (λ (ds : List VersionDefinition). if_linked read SHT_GNU_VERDEF number (texts_of_definitions ds)) f.edit.definitions)
-      (by_link SHT_GNU_VERNEED (texts_of_needs (written_needs read image))
-      ∙ ap (λ (ns : List VersionNeeds). if_linked read SHT_GNU_VERNEED number (texts_of_needs ns)) needs)
-      (by_link SHT_SYMTAB (texts_of_symbols image.symbols)
-      ∙ ap (λ (ys : List NamedSymbol). if_linked read SHT_SYMTAB number (texts_of_symbols ys)) is.whole.symbols)
-      (ap (λ (n : ℕ). if n == number then map (λ (s : ImageSection). s.name) image.sections else []) number_same
-      ∙ ap (λ (ss : List ImageSection). if read.header.e_shstrndx == number then map (λ (s : ImageSection). s.name) ss else
-      []) is.whole.sections)
-
-  -- so their table is copied
+  -- all other tables are copied
   pub others_copied : (number : ℕ) → is_some_and (λ link. link == number) (link_of_type SHT_DYNAMIC image) ≡ false
       → is_table_copied read image number ≡ true
-  others_copied number apart =
-      ap (λ (ts : List (List ℕ)). is_subsequence ts (texts_in_use read read number)) (same_texts number apart)
-      ∙ all_of_itself (texts_in_use read read number)
+  others_copied = texts_stay.others_copied read image is.whole f.edit

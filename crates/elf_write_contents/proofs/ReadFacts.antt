@@ -1,8 +1,8 @@
 -- What is known of an edited image of which nothing went, before it is written: the parts of the file that was read, and how they match the
 -- sections that are there.
-use Rattle.std.proofs.Common.{◌≡◌, ℕ, zero, suc, ◌+◌, ◌<◌, List, length, map, Bool, true, false, [], ◌∷◌, refl, sym, ap, ◌∙◌, subst, inl, inr, Option, Some, None, Ok, arith}
-use Rattle.std.specs.Prelude.{if◌then◌else◌, ◌==◌, cond, find, nat_le}
-use Rattle.std.proofs.lemmas.Bool.{eq-eqb, eqb-true, ne_eqb}
+use Rattle.std.proofs.Common.{◌≡◌, ℕ, ◌<◌, List, length, map, Bool, true, false, refl, sym, ap, ◌∙◌, subst, inl, inr, Option, Some, None, Ok, arith}
+use Rattle.std.specs.Prelude.{if◌then◌else◌, ◌==◌, nat_le}
+use Rattle.std.proofs.lemmas.Bool.{eqb-true}
 use Rattle.std.proofs.lemmas.Option.{none-some, same_Some, slice_get_within}
 use Rattle.std.specs.Option.{option_map}
 use Rattle.std.specs.List.{slice_get}
@@ -14,16 +14,18 @@ use Rattle.elf_format.specs.Rules.{ArePartsOf, MeetsRules, accepted_parts}
 use Rattle.elf_format.specs.Views.{NamedSymbol}
 use Rattle.elf_image.specs.Edited.{IsEditOf}
 use Rattle.elf_image.specs.ReadImage.{HoldsParts, IsSectionOf}
-use Rattle.elf_image.proofs.ReadImageLaws.{read_images_hold_parts}
-use Rattle.elf_image.specs.Kept.{KeptSection, kept_at_number, kept_from, kept_of_type, kept_sections}
+use Rattle.elf_image.proofs.ForCallers.ReadImageLaws.{read_images_hold_parts}
+use Rattle.elf_image.specs.Kept.{KeptSection, kept_at_number, kept_of_type, kept_sections}
 use Rattle.elf_layout_plan.specs.Texts.{are_names_changed}
-use Rattle.elf_layout_plan.proofs.PlacedRead.{at_read}
-use Rattle.elf_layout_plan.proofs.SameTexts.{names_same}
+use Rattle.elf_layout_plan.proofs.ForCallers.PlacedRead.{at_read}
+use Rattle.elf_layout_plan.proofs.ForCallers.SameTexts.{names_same}
 use Rattle.elf_write_spec.specs.Final.{buckets_of, by_bucket, final, final_symbol, new_number, ordered}
-use Rattle.elf_write_spec.proofs.WholeFacts.{kept}
-use Rattle.elf_write_spec.proofs.WholeLists.{FoundAt, NonePasses, counted-at, find-is, find-no, first_at, map-same, there_at}
-use Rattle.elf_write_spec.proofs.SameLists.{IsKnown, entries_same, known_below, known_dynamic, known_static, length-sections, needs_same}
+use Rattle.elf_write_spec.proofs.ForCallers.WholeLists.{FoundAt, NonePasses, find-is, find-no, first_at, map-same, there_at}
+use Rattle.elf_write_spec.proofs.ForCallers.SameLists.{IsKnown, entries_same, known_below, known_dynamic, known_static, needs_same}
 use Rattle.elf_write_contents.specs.Inner.{IsReady}
+use Rattle.elf_format.proofs.ForCallers.Lengths.{length-sections}
+use Rattle.elf_write_spec.proofs.ForCallers.NumberedSections.{kept}
+use Rattle.elf_write_spec.proofs.ForCallers.NumberedSections as sections_by_number
 
 -- ## The file that was read
 
@@ -51,65 +53,22 @@ read_facts read image is =
 
 -- ## Section by section
 
--- the sections that are there, numbered from a position on
-abbrev numbered : ℕ → List ImageSection → List KeptSection
-numbered n [] = []
-numbered n (s ∷ ss) = kept n s ∷ numbered (n + 1) ss
+-- each section has its position for its number
+counts : (read image : Image) → IsReady read image → image.section_numbers ≡ counted (length image.sections)
+counts read image is =
+    is.whole.section_numbers ∙ (read_facts read image is).holds.section_numbers ∙ ap (λ (ss : List ImageSection). counted (length ss)) (sym is.whole.sections)
 
-from_numbers : (n : ℕ) (ns : List ℕ) (ss : List ImageSection) → ((j : ℕ) → j < length ss → slice_get ns j ≡ Some (n + j))
-    → kept_from n ns ss ≡ numbered n ss
-from_numbers n [] [] numbers = refl
-from_numbers n (m ∷ ms) [] numbers = refl
-from_numbers n [] (s ∷ ss) numbers = absurd (none-some (n + 0) (numbers 0 (omega arith)))
-from_numbers n (m ∷ ms) (s ∷ ss) numbers =
-    let first : m ≡ n + 0 = same_Some m (n + 0) (numbers 0 (omega arith)) in
-    let own : m ≡ n = omega (arith, first) in
-    let rest : (j : ℕ) → j < length ss → slice_get ms j ≡ Some (n + 1 + j) =
-    λ j less. numbers (suc j) (omega (arith, less)) ∙ ap (λ (k : ℕ). Some k) (omega arith) in
-    ap (λ (k : ℕ). record { position = n; number = k; section = s } ∷ kept_from (n + 1) ms ss) own
-    ∙ ap (λ (ks : List KeptSection). kept n s ∷ ks) (from_numbers (n + 1) ms ss rest)
-
-pub are_numbered : (read image : Image) → IsReady read image → kept_sections image ≡ numbered 0 image.sections
-are_numbered read image is =
-    let f = read_facts read image is in
-    let counts : image.section_numbers ≡ counted (length image.sections) =
-    is.whole.section_numbers ∙ f.holds.section_numbers ∙ ap (λ (ss : List ImageSection). counted (length ss)) (sym is.whole.sections) in
-    from_numbers 0 image.section_numbers image.sections (λ j less.
-    ap (λ (ns : List ℕ). slice_get ns j) counts ∙ counted-at (length image.sections) j less ∙ ap (λ (k : ℕ). Some k) (omega arith))
-
-numbered-at : (n : ℕ) (ss : List ImageSection) (i : ℕ) → slice_get (numbered n ss) i ≡ option_map (kept (n + i)) (slice_get ss i)
-numbered-at n [] i = refl
-numbered-at n (s ∷ ss) zero = ap (λ (k : ℕ). Some (kept k s)) (omega arith)
-numbered-at n (s ∷ ss) (suc i) =
-    numbered-at (n + 1) ss i ∙ ap (λ (k : ℕ). option_map (kept k) (slice_get ss i)) (omega arith)
-
-pub length-numbered : (n : ℕ) (ss : List ImageSection) → length (numbered n ss) ≡ length ss
-length-numbered n [] = refl
-length-numbered n (s ∷ ss) = ap suc (length-numbered (n + 1) ss)
+pub length-kept : (read image : Image) → IsReady read image → length (kept_sections image) ≡ length image.sections
+length-kept read image is = sections_by_number.length-kept image (counts read image is)
 
 -- the i-th section that is there
 pub kept-at : (read image : Image) → IsReady read image → (i : ℕ)
     → slice_get (kept_sections image) i ≡ option_map (kept i) (slice_get image.sections i)
-kept-at read image is i =
-    ap (λ (ks : List KeptSection). slice_get ks i) (are_numbered read image is) ∙ numbered-at 0 image.sections i
-    ∙ ap (λ (k : ℕ). option_map (kept k) (slice_get image.sections i)) (omega arith)
-
-found_at : (p : ℕ) (ss : List ImageSection) (i n : ℕ) → n ≡ p + i
-    → find (λ s. s.number == n) (numbered p ss) ≡ option_map (kept n) (slice_get ss i)
-found_at p [] i n own = refl
-found_at p (s ∷ ss) zero n own =
-    let same : p ≡ n = omega (arith, own) in
-    ap (λ (b : Bool). cond b (Some (kept p s)) (find (λ x. x.number == n) (numbered (p + 1) ss))) (eq-eqb p n same)
-    ∙ ap (λ (k : ℕ). Some (kept k s)) same
-found_at p (s ∷ ss) (suc i) n own =
-    ap (λ (b : Bool). cond b (Some (kept p s)) (find (λ x. x.number == n) (numbered (p + 1) ss))) (ne_eqb p n (λ e. omega (arith, e, own)))
-    ∙ found_at (p + 1) ss i n (omega (arith, own))
+kept-at read image is i = sections_by_number.kept-at image (counts read image is) i
 
 -- the section that was read at a number stands at that position
 pub kept_is : (read image : Image) → IsReady read image → (n : ℕ) → kept_at_number n image ≡ option_map (kept n) (slice_get image.sections n)
-kept_is read image is n =
-    ap (find (λ s. s.number == n)) (are_numbered read image is)
-    ∙ found_at 0 image.sections n n (omega arith)
+kept_is read image is n = sections_by_number.kept_is image (counts read image is) n
 
 pub new_number-same : (read image : Image) → IsReady read image → (n : ℕ) → new_number image n ≡ n
 new_number-same read image is n =
@@ -168,7 +127,7 @@ module _ (read image : Image) (is : IsReady read image) (f : ReadFacts read imag
   unfolding was was_kept
   in_kept j k at =
       let long : length (kept_sections image) ≡ length image.sections =
-      ap length (are_numbered read image is) ∙ length-numbered 0 image.sections in
+      length-kept read image is in
       let within : j < length image.sections =
       omega (arith, slice_get_within (kept_sections image) j k at, long) in
       let here : SectionRead read image f.parts j = section_read read image is f j within in

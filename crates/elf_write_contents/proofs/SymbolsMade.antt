@@ -23,23 +23,23 @@ use Rattle.elf_format.specs.Image.{Image, ImageSection}
 use Rattle.elf_format.specs.Options.{is_some_and, list_at}
 use Rattle.elf_format.specs.Records.{symbol_numbers, symbol_size, symbols_in}
 use Rattle.elf_format.specs.Views.{NamedSymbol}
-use Rattle.elf_format.proofs.NumberSteps.{number_at-below}
-use Rattle.elf_format.proofs.ViewsAgree.{there_if}
+use Rattle.elf_format.proofs.ForCallers.NumberSteps.{number_at-below}
+use Rattle.elf_format.proofs.ForCallers.ViewsAgree.{there_if}
 use Rattle.elf_image.specs.Kept.{KeptSection, link_of_type}
 use Rattle.elf_layout_plan.specs.Needs.{written_entries, written_needs}
 use Rattle.elf_layout_plan.specs.Texts.{if_linked, if_names, texts_in_use, texts_of_definitions, texts_of_entries, texts_of_needs, texts_of_symbols}
 use Rattle.elf_tables.specs.Fields.{do_fields_fit}
 use Rattle.elf_tables.specs.Spelled.{spelled_symbol, symbol_fields}
-use Rattle.elf_tables.proofs.SymbolBack.{symbols_are_read_back}
-use Rattle.elf_tables.proofs.TableBack.{tables_are_read_back}
+use Rattle.elf_tables.proofs.ForCallers.SymbolBack.{symbols_are_read_back}
+use Rattle.elf_tables.proofs.ForCallers.TableBack.{tables_are_read_back}
 use Rattle.elf_layout_sizes.specs.MadeTables.{IsMade}
 use Rattle.elf_tables.specs.StringSteps.{StandsWith}
 use Rattle.elf_tables.specs.Strings.{StandsAt, Strings, place_of}
-use Rattle.elf_tables.proofs.StandingTexts.{stands-from}
+use Rattle.elf_tables.proofs.ForCallers.StandingTexts.{stands-from}
 use Rattle.elf_write_spec.specs.Contents.{AreSymbolsOf, IsSymbolOf}
 use Rattle.elf_write_spec.specs.Final.{final}
-use Rattle.elf_write_spec.proofs.TextsRead.{text_inside}
-use Rattle.elf_write_spec.proofs.WholeLists.{all-each, there_at}
+use Rattle.elf_write_spec.proofs.ForCallers.TextsRead.{text_inside}
+use Rattle.elf_write_spec.proofs.ForCallers.WholeLists.{all-each, there_at}
 use Rattle.elf_write_contents.specs.Inner.{IsReady}
 use Rattle.elf_write_contents.specs.SymbolSteps.{HasNames, does_symbol_fit, place_of_name, symbol_bytes, symbol_in}
 use Rattle.elf_image_symbols.specs.TableSymbols.{symbol_with}

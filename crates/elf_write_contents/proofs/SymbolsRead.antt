@@ -23,18 +23,18 @@ use Rattle.elf_format.specs.Options.{is_one_of}
 use Rattle.elf_format.specs.Records.{symbol_numbers, symbol_size, symbols_in}
 use Rattle.elf_format.specs.Rules.{dynamic_texts_of, file_of, is_symbol_table, links_to, raw_entries, text_users, texts_of, unit_of}
 use Rattle.elf_format.specs.Views.{NamedSymbol}
-use Rattle.elf_format.proofs.Placed.{IsIn-slice_get, passes_picked}
-use Rattle.elf_format.proofs.ViewsAgree.{first_by_tag-Keeps, found_by_type, length-bytes, links_right, there_and, whole_count, whole_entries}
+use Rattle.elf_format.proofs.ForCallers.Placed.{IsIn-slice_get, passes_picked}
+use Rattle.elf_format.proofs.ForCallers.ViewsAgree.{first_by_tag-Keeps, found_by_type, length-bytes, links_right, there_and, whole_count, whole_entries}
 use Rattle.elf_image.specs.ReadImage.{AreDynamicSymbols, AreSymbolsOf}
 use Rattle.elf_image_symbols.specs.TableSymbols.{kept_as}
 use Rattle.elf_write_spec.specs.Contents.{AreSymbolsOf as AreSymbolsWritten, IsSymbolOf as IsSymbolWritten}
 use Rattle.elf_write_spec.specs.Headers.{Reads}
-use Rattle.elf_write_spec.proofs.LinkedLists.{found_only}
-use Rattle.elf_write_spec.proofs.SameLists.{length-records}
-use Rattle.elf_write_spec.proofs.TextsRead.{text_reads}
+use Rattle.elf_write_spec.proofs.ForCallers.LinkedLists.{found_only}
+use Rattle.elf_write_spec.proofs.ForCallers.TextsRead.{text_reads}
 use Rattle.elf_write_contents.specs.Inner.{IsReady, content_read}
 use Rattle.elf_write_contents.proofs.OthersCopied.{content_is_read}
 use Rattle.elf_write_contents.proofs.ReadFacts.{ReadFacts, SectionRead, length-now, section_read}
+use Rattle.elf_format.proofs.ForCallers.Lengths.{length-records}
 
 -- ## Lists of records
 

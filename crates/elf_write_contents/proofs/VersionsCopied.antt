@@ -19,12 +19,12 @@ use Rattle.elf_image_versions.specs.declared.version.VersionDef.{VersionDef}
 use Rattle.elf_image_versions.specs.declared.version.VersionNeed.{VersionNeed}
 use Rattle.elf_image_versions.specs.VersionsModel.{definition_model, needs_model}
 use Rattle.elf_image_versions.specs.WalkSteps.{defined_in, needed_in}
-use Rattle.elf_write_spec.proofs.WholeFacts.{kept}
 use Rattle.elf_write_contents.specs.Inner.{IsReady, IsSectionOfType, content_read}
 use Rattle.elf_write_contents.specs.VersionPlaces.{AreDefinitionsAt, AreNeedsAt, content_in}
 use Rattle.elf_write_contents.proofs.ReadFacts.{ReadFacts, kept_is, read_facts}
 use Rattle.elf_write_contents.proofs.VersionsLinks.{IsTheOne, linked_stands, the_one}
 use Rattle.elf_write_contents.proofs.VersionsTexts.{definitions_at_places, needs_at_places}
+use Rattle.elf_write_spec.proofs.ForCallers.NumberedSections.{kept}
 
 -- the bytes that a section had at read are those that it has
 pub content_same : (read image : Image) → IsReady read image → (n : ℕ) → content_in image.sections n ≡ content_read image n

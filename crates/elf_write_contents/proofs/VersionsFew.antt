@@ -20,11 +20,11 @@ use Rattle.elf_format.specs.Options.{each}
 use Rattle.elf_format.specs.Rules.{definition_steps, file_of, linked_texts, need_steps}
 use Rattle.elf_format.specs.Versions.{DefinitionNumbers, NeedNumbers, Step, VersionDefinition, VersionName, VersionNeeds, definition_at, definition_name_at, is_whole_walk, need_at, need_name_at, shown_definition, shown_need, shown_need_name, values_of, walked}
 use Rattle.elf_format.specs.declared.records.NeedNameNumbers.{NeedNameNumbers}
-use Rattle.elf_format.proofs.NumberSteps.{number_at-below}
+use Rattle.elf_format.proofs.ForCallers.NumberSteps.{number_at-below}
 use Rattle.elf_image.specs.Edited.{IsEdited}
-use Rattle.elf_image.proofs.ReadImageLaws.{read_images_hold_parts}
+use Rattle.elf_image.proofs.ForCallers.ReadImageLaws.{read_images_hold_parts}
 use Rattle.elf_tables.specs.VersionRecords.{are_names_too_many, are_versions_too_many}
-use Rattle.elf_tables.proofs.RecordLaws.{fixed_field-number}
+use Rattle.elf_tables.proofs.ForCallers.RecordLaws.{fixed_field-number}
 use Rattle.elf_write_contents.proofs.VersionsTexts.{each-length}
 
 -- ## Bytes

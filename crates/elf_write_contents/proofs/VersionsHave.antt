@@ -20,8 +20,8 @@ use Rattle.elf_layout_sizes.specs.MadeTables.{IsMade}
 use Rattle.elf_tables.specs.Strings.{Strings, place_of}
 use Rattle.elf_tables.specs.VersionRecords.{PlacedNeeds, definition_size, definition_table, has_definition_texts, has_needs_texts, needs_table, place_in, placed_definition, placed_name, placed_needs, spelled_definition, spelled_needs}
 use Rattle.elf_tables.specs.VersionRecords.{needs_size as placed_size}
-use Rattle.elf_tables.proofs.RecordLaws.{length-chained}
-use Rattle.elf_tables.proofs.VersionLaws.{length-definition, length-needs}
+use Rattle.elf_tables.proofs.ForCallers.RecordLaws.{length-chained}
+use Rattle.elf_tables.proofs.ForCallers.VersionLaws.{length-definition, length-needs}
 use Rattle.elf_image_versions.specs.declared.version.VersionDef.{VersionDef}
 use Rattle.elf_image_versions.specs.declared.version.VersionNeed.{VersionNeed}
 use Rattle.elf_image_versions.specs.VersionsModel.{definition_model, name_model, needs_model}

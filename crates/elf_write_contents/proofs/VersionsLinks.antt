@@ -14,7 +14,7 @@ use Rattle.elf_format.specs.File.{Parts, section_bytes, section_of_type}
 use Rattle.elf_format.specs.Image.{Image, ImageSection}
 use Rattle.elf_format.specs.Rules.{MeetsRules, are_linked, are_whole, file_of, infos_are_sections, is_one_of_each, linked_texts, raw_entries, relocations_fit, single_section_types, symbols_have_sections}
 use Rattle.elf_format.specs.Views.{first_by_tag, section_memory}
-use Rattle.elf_format.proofs.Placed.{IsIn-slice_get}
+use Rattle.elf_format.proofs.ForCallers.Placed.{IsIn-slice_get}
 use Rattle.elf_image.specs.Kept.{KeptSection, link_of_type}
 use Rattle.elf_tables.specs.Strings.{StandsAt}
 use Rattle.elf_write_contents.specs.Inner.{IsReady, IsSectionOfType, content_read}

@@ -7,10 +7,10 @@ use Rattle.elf_format.specs.File.{Parts}
 use Rattle.elf_format.specs.Image.{Image}
 use Rattle.elf_format.specs.Rules.{◌>>=◌, Rule, accepted_parts, checked, do_texts_end, placement_rules, rule}
 use Rattle.elf_format.specs.Stages.{last_rules, link_rules, parts_read}
-use Rattle.elf_format.proofs.ImageShows.{accepted_by_parts}
+use Rattle.elf_format.proofs.ForCallers.ImageShows.{accepted_by_parts}
 use Rattle.elf_image_rules.specs.Read.{Refuses}
 use Rattle.elf_image.specs.Edited.{IsEdited}
-use Rattle.elf_image.proofs.ReadImageLaws.{read_images_hold_parts}
+use Rattle.elf_image.proofs.ForCallers.ReadImageLaws.{read_images_hold_parts}
 
 same_by : (b : Bool) (r : Result Parts ElfFault) (fault : ElfFault) (p q : Parts) → (r ≡ Ok p → q ≡ p)
     → (elim b as (λ _. Result Parts ElfFault) [ true ↦ r | _ ↦ Err fault ]) ≡ Ok p → q ≡ p

@@ -11,7 +11,7 @@ use Rattle.elf_layout_plan.specs.Plan.{resized}
 use Rattle.elf_layout_plan.specs.Sizes.{needs_size}
 use Rattle.elf_write_spec.specs.Contents.{AreNeedsIn, table_in}
 use Rattle.elf_write_spec.specs.Final.{final}
-use Rattle.elf_write_spec.proofs.SameLists.{needs_same}
+use Rattle.elf_write_spec.proofs.ForCallers.SameLists.{needs_same}
 use Rattle.elf_write_contents.specs.Inner.{IsReady, content_read, strings_at}
 use Rattle.elf_write_contents.specs.declared.made.Made.{Made}
 use Rattle.elf_write_contents.specs.VersionPlaces.{AreNeedsOf}

@@ -17,7 +17,7 @@ use Rattle.elf_image_versions.specs.declared.version.VersionDef.{VersionDef}
 use Rattle.elf_image_versions.specs.declared.version.VersionNeed.{VersionNeed}
 use Rattle.elf_image_versions.specs.declared.version.VersionNeedName.{VersionNeedName}
 use Rattle.elf_image_versions.specs.VersionsModel.{definition_model, name_model, needs_model}
-use Rattle.elf_write_spec.proofs.TextsRead.{text_reads}
+use Rattle.elf_write_spec.proofs.ForCallers.TextsRead.{text_reads}
 use Rattle.elf_write_contents.specs.VersionPlaces.{AreAt, AreDefinitionsAt, AreNamesAt, AreNeedsAt, IsNeedAt}
 
 field_first : (n a : ℕ) (xs : List ℕ) (x : ℕ) → slice_get xs a ≡ Some x → take (suc n) (drop a xs) ≡ x ∷ take n (drop (a + 1) xs)

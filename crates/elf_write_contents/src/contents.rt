@@ -14,11 +14,10 @@ use crate::entries::list_content;
 use crate::made::Made;
 use crate::symbols::symbols_content;
 use crate::versions::{definitions_content, needs_content};
-use elf_format::form::Form;
 use elf_format::records::EntryNumbers;
 use elf_image::constants::{SHT_DYNAMIC, SHT_DYNSYM, SHT_GNU_VERDEF, SHT_GNU_VERNEED, SHT_STRTAB};
 use elf_image::{Builder, Section};
-use elf_layout_plan::Plan;
+use elf_layout_plan::{Plan, is_numbered};
 use patch_bytes::ByteString;
 use std::alloc::{AllocError, Global};
 
@@ -41,10 +40,10 @@ pub fn contents<'a, 'data>(
         made.entry.now raw.now (kept_sections image.entry.now) plan.now.places
         (bytes_of_each contents.items)) }
 {
-    let interpreter = interpreter_number(read);
+    let interpreter = read.interpreter_number();
     let mut contents = Vec::new(alloc);
     for i in 0..image.sections().len() {
-        let bytes = if is_interpreter(interpreter, i) {
+        let bytes = if is_numbered(interpreter, i) {
             interpreter_content(image)
         } else {
             section_content(alloc, read, image, plan, made, raw, i)?
@@ -52,36 +51,6 @@ pub fn contents<'a, 'data>(
         contents.push(bytes)?;
     }
     Ok(contents)
-}
-
-// The number at read of the section with the interpreter's name.
-fn interpreter_number(read: &Builder<'_>) -> Option<usize>
-    ensures { result ≡ number_of_interpreter read.now }
-{
-    // the image has as many numbers of sections as sections
-    let _source = read.source();
-    let at = read.interpreter_position()?;
-    Some(read.read_section(at))
-}
-
-// Whether the section that had that number has the interpreter's name.
-fn is_interpreter(interpreter: Option<usize>, number: usize) -> bool
-    ensures { result ≡ is_some_and (λ n. n == number) interpreter }
-{
-    match interpreter {
-        Some(interpreter) => interpreter == number,
-        None => false,
-    }
-}
-
-// How the numbers of an image are spelled.
-fn form_of(image: &Builder<'_>) -> Form
-    ensures { result ≡ image.now.form }
-{
-    Form {
-        wide: image.class(),
-        order: image.order(),
-    }
 }
 
 // The bytes of the interpreter's section.
@@ -136,7 +105,7 @@ fn section_content<'a, 'data>(
     match section.sh_type {
         SHT_DYNAMIC => {
             let size = plan.places()[i].sh_size;
-            let bytes = list_content(alloc, form_of(image), raw, size)?;
+            let bytes = list_content(alloc, image.form(), raw, size)?;
             Ok(ByteString::owned(bytes))
         }
         SHT_STRTAB => Ok(strings_content(made, section, i)),

@@ -141,9 +141,6 @@ pub(crate) fn do_numbers_fit<'data>(
         sections.now entries.now }
     ensures fit { result ≡ do_all_fit image.now plan.now }
 {
-    let form = Form {
-        wide: image.class(),
-        order: image.order(),
-    };
+    let form = image.form();
     do_records_fit(form, header, plan.segments(), sections, entries)
 }

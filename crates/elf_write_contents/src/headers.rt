@@ -40,10 +40,7 @@ pub(crate) fn file_header(image: &Builder<'_>, plan: &Plan) -> FileHeader
     ensures { result ≡ written_header image.now plan.now }
 {
     let header = image.header();
-    let form = Form {
-        wide: image.class(),
-        order: image.order(),
-    };
+    let form = image.form();
     let (e_phnum, e_shnum) = counts(image, plan);
     FileHeader {
         os_abi: header.os_abi,

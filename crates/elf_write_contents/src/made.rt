@@ -1,15 +1,13 @@
 //! The string table of the dynamic list, where it is made anew (gABI, String Table).
-ghost use Rattle.std.specs.Prelude.{◌≡◌, map, IfOk, IfSome, IsTrue, MatchOption, Some};
+ghost use Rattle.std.specs.Prelude.{◌≡◌, IfOk, IfSome, IsTrue, MatchOption, Some};
 ghost use Rattle.elf_format.specs.declared.constants.TheConstants as constants;
-ghost use Rattle.elf_image.specs.ImageModel.{section_model};
 ghost use Rattle.elf_image.specs.Kept.{link_of_type};
 ghost use Rattle.elf_layout_plan.specs.Texts.{is_table_copied};
-ghost use Rattle.elf_layout_sizes.specs.Inner.{link_from};
 ghost use Rattle.elf_layout_sizes.specs.MadeTables.{IsMade, IsMadeOfList};
 ghost use Rattle.elf_write_contents.specs.Inner.{AreStrings, IsReady};
 
+use elf_image::Builder;
 use elf_image::constants::SHT_DYNAMIC;
-use elf_image::{Builder, Section};
 use elf_layout_sizes::made_table;
 use elf_tables::{Finished, TableFault};
 use std::alloc::{AllocError, Global};
@@ -21,28 +19,6 @@ pub struct Made<'t> {
     pub number: usize,
     /// Its bytes, and where each text stands in them.
     pub table: Finished<'t>,
-}
-
-// The number of the section that the first dynamic section links to (gABI, Sections, `sh_link`).
-fn first_link(sections: &[Section<'_>]) -> Option<u32>
-    ensures { result ≡ link_from constants.SHT_DYNAMIC (map section_model sections.now) }
-{
-    for section in sections {
-        if section.sh_type == SHT_DYNAMIC {
-            return Some(section.sh_link);
-        }
-    }
-    None
-}
-
-// The number of the string table of the dynamic list.
-#[tactic(auto, using(crate::proofs::MadeShort::link_by_sections))]
-fn strings_number(image: &Builder<'_>) -> Option<u32>
-    ensures { result ≡ link_of_type constants.SHT_DYNAMIC image.now }
-{
-    // the image has as many numbers of sections as sections
-    let _source = image.source();
-    first_link(image.sections())
 }
 
 // That table, where it is made anew: the sizes of the image fit, so it isn't too long.
@@ -75,10 +51,9 @@ pub(crate) fn made_strings<'a, 'data>(
     requires { IsReady read.now image.now }
     ensures { IfOk result (AreStrings read.entry.now image.entry.now) }
 {
-    let Some(number) = strings_number(image) else {
+    let Some(number) = image.link_of_type(SHT_DYNAMIC) else {
         return Ok(None);
     };
-    let number = number as usize;
     match strings_anew(alloc, read, image, number)? {
         Some(table) => Ok(Some(Made { number, table })),
         None => Ok(None),
@@ -100,11 +75,8 @@ pub fn strings_from<'a, 'data>(
     let Some(table) = strings else {
         return made_strings(alloc, read, image);
     };
-    match strings_number(image) {
-        Some(number) => Ok(Some(Made {
-            number: number as usize,
-            table,
-        })),
+    match image.link_of_type(SHT_DYNAMIC) {
+        Some(number) => Ok(Some(Made { number, table })),
         None => Ok(None),
     }
 }

@@ -132,10 +132,7 @@ fn symbols_anew<'data>(
         (symbols_in image.now.form content.bytes)) }
 {
     show_symbols_fit(read, image, section, table, section.content);
-    let form = Form {
-        wide: image.class(),
-        order: image.order(),
-    };
+    let form = image.form();
     let before = count_texts(alloc, image)?;
     let mut bytes = Vec::with_capacity(alloc, section.content.len())?;
     push_symbols(&mut bytes, form, image.dynamic_symbols(), table, before)?;

@@ -22,21 +22,22 @@ use Rattle.elf_layout_plan.specs.Plan.{IsPlan, Layout, layout_for, resized}
 use Rattle.elf_layout_plan.specs.Rounds.{are_in_old_order, do_move, headers_needed, sections_at}
 use Rattle.elf_layout_plan.specs.Standing.{UnloadedSlot, content_end, unloaded_slots, unloaded_start, next_table, place_in, places, sections_offset, segments_end, table_offset}
 use Rattle.elf_layout_plan.specs.Written.{written_segments}
-use Rattle.elf_layout_plan.proofs.ApartBlocks.{all_apart_pairs, apart-before, apart-behind, apart-empty, apart-from_empty, pairs_all_apart}
-use Rattle.elf_layout_plan.proofs.ApartFixed.{image_sized}
-use Rattle.elf_layout_plan.proofs.ApartLists.{Each, Pairs, Some_in, all-at, any-at, at-map, each-all, each-at, each-filter, each-from, each-map, each-more, each-unfilter, each-unmap, map-at, pairs-filter, pairs-from, pairs-less, pairs-map, pairs-more, pairs-unfilter, pairs-unmap}
-use Rattle.elf_layout_plan.proofs.ApartSections.{sized-at, sized_of}
-use Rattle.elf_layout_plan.proofs.PlacedCount.{length-written}
-use Rattle.elf_layout_plan.proofs.PlacedFile.{are_held, headers_clear, stored_are_apart}
-use Rattle.elf_layout_plan.proofs.PlacedLists.{Has, pairs-two, slice_get-at}
-use Rattle.elf_layout_plan.proofs.UnloadedParts.{filled_unloaded}
-use Rattle.elf_layout_plan.proofs.PlacedPlaces.{keeps_kind, same_file, same_memory}
-use Rattle.elf_layout_plan.proofs.PlacedRanges.{lies_in-at}
-use Rattle.elf_layout_plan.proofs.PlacedRead.{ReadsPlaced, reads_placed}
-use Rattle.elf_layout_plan.proofs.PlacedSegments.{before_kept_end, end_before_sections, header_before_kept_end, kept_before_segments_end, load_before_segments_end, unloaded_before_end, segments_before_unloaded, slot_before_end}
-use Rattle.elf_layout_plan.proofs.PlacedStays.{table_kept_in}
+use Rattle.elf_layout_plan.proofs.ForCallers.ApartBlocks.{all_apart_pairs, pairs_all_apart}
+use Rattle.elf_layout_plan.proofs.ForCallers.ApartFixed.{image_sized}
+use Rattle.elf_layout_plan.proofs.ForCallers.ApartLists.{Each, Pairs, Some_in, all-at, any-at, at-map, each-all, each-at, each-filter, each-from, each-map, each-more, each-unfilter, each-unmap, map-at, pairs-filter, pairs-from, pairs-less, pairs-map, pairs-more, pairs-unfilter, pairs-unmap}
+use Rattle.elf_layout_plan.proofs.ForCallers.ApartSections.{sized-at, sized_of}
+use Rattle.elf_layout_plan.proofs.ForCallers.PlacedCount.{length-written}
+use Rattle.elf_layout_plan.proofs.ForCallers.PlacedFile.{are_held, headers_clear, stored_are_apart}
+use Rattle.elf_layout_plan.proofs.ForCallers.PlacedLists.{Has, pairs-two, slice_get-at}
+use Rattle.elf_layout_plan.proofs.ForCallers.UnloadedParts.{filled_unloaded}
+use Rattle.elf_layout_plan.proofs.ForCallers.PlacedPlaces.{keeps_kind, same_file, same_memory}
+use Rattle.elf_layout_plan.proofs.ForCallers.PlacedRanges.{lies_in-at}
+use Rattle.elf_layout_plan.proofs.ForCallers.PlacedRead.{ReadsPlaced, reads_placed}
+use Rattle.elf_layout_plan.proofs.ForCallers.PlacedSegments.{before_kept_end, end_before_sections, header_before_kept_end, kept_before_segments_end, load_before_segments_end, unloaded_before_end, segments_before_unloaded, slot_before_end}
+use Rattle.elf_layout_plan.proofs.ForCallers.PlacedStays.{table_kept_in}
 use Rattle.elf_write_spec.specs.Laws.{PlansAreApartInFile, section_table}
 use Rattle.elf_write_spec.proofs.UnloadedFacts.{UnloadedAt, UnloadedBefore, unloaded_at, unloaded_behind, unloaded_pairs}
+use Rattle.elf_format.proofs.ForCallers.{apart-before, apart-behind, apart-empty, apart-from_empty}
 
 -- the section header table stands behind each loaded segment, and so does a section of the file that has bytes and isn't loaded
 pub record StandsBehind (plan : Layout) : Type 0 where

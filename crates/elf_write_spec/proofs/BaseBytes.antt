@@ -1,36 +1,36 @@
 -- The bytes of data stand in a written file as they stood in the file that was read.
-use Rattle.std.proofs.Common.{◌≡◌, ◌≤◌, ◌<◌, ◌⊎◌, ℕ, zero, suc, ◌+◌, ◌*◌, Bool, true, false, eqb, List, [], drop, filter, length, refl, sym, ap, ◌∙◌, subst, inl, inr, Option, Some, None, arith}
+use Rattle.std.proofs.Common.{◌≡◌, ◌≤◌, ◌<◌, ◌⊎◌, ℕ, ◌+◌, ◌*◌, Bool, true, false, eqb, List, filter, length, refl, sym, ap, ◌∙◌, subst, inl, inr, Some, arith, []}
 use Rattle.std.specs.Prelude.{◌&&◌, not, nat_le, nat_lt, slice_index}
 use Rattle.std.specs.List.{list_all, list_any, slice_get}
 use Rattle.std.proofs.lemmas.Bool.{and_from, and_parts, both_ways, cases_Bool, cases_order, cond-true, eqb-true, false_from_ne_true, le-leb, leb-true, lt-ltb, ltb-true, not-true, not_from_false}
-use Rattle.std.proofs.lemmas.Option.{none-some, same_Some, slice_get_within}
+use Rattle.std.proofs.lemmas.Option.{same_Some, slice_get_within}
 use Rattle.patch_bytes.specs.Number.{field}
-use Rattle.patch_bytes.specs.Memory.{◌>>=◌}
 use Rattle.elf_format.specs.declared.range.Range.{Range}
 use Rattle.elf_format.specs.declared.records.SegmentHeader.{SegmentHeader}
 use Rattle.elf_format.specs.declared.form.Form.{Form}
-use Rattle.elf_format.specs.File.{Opened, bytes_in, loads_of, segments_of}
-use Rattle.elf_format.specs.Form.{records}
+use Rattle.elf_format.specs.File.{loads_of}
 use Rattle.elf_format.specs.Image.{Image, ImageSection}
 use Rattle.elf_format.specs.Placement.{ends_by, file_part, holds, is_stored, sections_held, something_loaded, stored_apart, stored_clear_of, stored_ranges}
 use Rattle.elf_format.specs.Places.{Place, file_range, occupies_file, occupies_memory, place_of, places_of}
 use Rattle.elf_format.specs.Ranges.{all_apart, apart, end_of, range}
-use Rattle.elf_format.specs.Records.{file_header_size, segment_header, segment_header_size}
+use Rattle.elf_format.specs.Records.{file_header_size, segment_header_size}
 use Rattle.elf_format.specs.Rules.{file_of, header_range, header_ranges, segment_table_range}
 use Rattle.elf_layout_plan.specs.FilePlaced.{written_size}
 use Rattle.elf_image.specs.Kept.{KeptSection, image_at_read, kept_sections, place_at_read}
 use Rattle.elf_layout_plan.specs.Memory.{Resized, table_at_read}
 use Rattle.elf_layout_plan.specs.Plan.{resized}
-use Rattle.elf_layout_plan.proofs.ApartBlocks.{all_apart_pairs, apart-meet}
-use Rattle.elf_layout_plan.proofs.ApartLists.{all-at, any-at, any-from, at-map, each-at, each-from, each-map, each-unfilter, each-unmap, filter-at, none-from, pairs-less, pairs-unfilter, pairs-unmap}
-use Rattle.elf_layout_plan.proofs.ApartSections.{kept-at}
-use Rattle.elf_layout_plan.proofs.ApartStays.{shows}
+use Rattle.elf_layout_plan.proofs.ForCallers.ApartBlocks.{all_apart_pairs, apart-meet}
+use Rattle.elf_layout_plan.proofs.ForCallers.ApartLists.{all-at, any-at, any-from, at-map, each-at, each-from, each-map, each-unfilter, each-unmap, filter-at, none-from, pairs-less, pairs-unfilter, pairs-unmap}
+use Rattle.elf_layout_plan.proofs.ForCallers.ApartSections.{kept-at}
+use Rattle.elf_layout_plan.proofs.ForCallers.ApartStays.{shows}
 use Rattle.elf_write_spec.specs.Base.{base, base_byte, does_byte_stay, has_position, is_data, is_opaque, is_rewritten, old_places}
 use Rattle.elf_write_spec.specs.Writing.{IsWholeWriting, Writing, written_bytes}
 use Rattle.elf_write_spec.proofs.DataStays.{DataFacts, IsNoTable, data_facts, data_keeps_size, fixed_keeps_offset, no_table}
 use Rattle.elf_write_spec.proofs.Laying.{AreApart, field-values}
 use Rattle.elf_write_spec.proofs.Patches.{data_is_apart, keeps_base, places_in_file, swapped}
-use Rattle.elf_write_spec.proofs.WholeFacts.{Lengths, ReadFacts, SectionAt, kept, lengths, section_at}
+use Rattle.elf_write_spec.proofs.WholeFacts.{Lengths, ReadFacts, SectionAt, lengths, section_at}
+use Rattle.elf_format.proofs.ForCallers.Lengths.{length-segments}
+use Rattle.elf_write_spec.proofs.NumberedSections.{kept}
 
 -- ## Positions and ranges
 
@@ -56,24 +56,6 @@ not_in_empty x k none = false_from_ne_true (has_position k x) (λ there.
     absurd (omega arith))
 
 -- ## As many program headers as the file header says
-
-length-records : {A : Type 0} → (decode : List ℕ → A) (size count : ℕ) (bytes : List ℕ) → length (records decode size count bytes) ≡ count
-unfolding records
-length-records decode size zero bytes = refl
-length-records decode size (suc count) bytes = ap suc (length-records decode size count (drop size bytes))
-
-length-there : (o : Opened) (there : Option (List ℕ)) (segments : List SegmentHeader)
-    → (there >>= λ bytes. Some (records (segment_header o.form) (segment_header_size o.form) o.header.e_phnum bytes)) ≡ Some segments
-    → length segments ≡ o.header.e_phnum
-length-there o None segments e = absurd (none-some segments e)
-length-there o (Some bytes) segments e =
-    ap length (sym (same_Some (records (segment_header o.form) (segment_header_size o.form) o.header.e_phnum bytes) segments e))
-    ∙ length-records (segment_header o.form) (segment_header_size o.form) o.header.e_phnum bytes
-
-pub length-segments : (o : Opened) (segments : List SegmentHeader) → segments_of o ≡ Some segments → length segments ≡ o.header.e_phnum
-unfolding segments_of
-length-segments o segments e = length-there o
-    (bytes_in o.file o.header.e_phoff (o.header.e_phnum * segment_header_size o.form)) segments e
 
 -- ## What was read
 

@@ -1,30 +1,32 @@
 -- What the bytes that are written of a section are, by the section's type.
-use Rattle.std.proofs.Common.{◌≡◌, ℕ, ◌<◌, List, length, Bool, true, false, ◌&&◌, [], ◌∷◌, refl, sym, ap, ◌∙◌, subst, Option, Some, None}
-use Rattle.std.specs.Prelude.{find, IsTrue, ◌==◌, if◌then◌else◌}
+use Rattle.std.proofs.Common.{◌≡◌, ℕ, ◌<◌, List, length, Bool, true, false, ◌&&◌, refl, sym, ap, ◌∙◌, subst, Option, Some, None}
+use Rattle.std.specs.Prelude.{find, IsTrue, ◌==◌}
 use Rattle.std.specs.List.{slice_get}
 use Rattle.std.proofs.lemmas.Bool.{eq-eqb, eqb-true, false_from_ne_true, false≢true}
 use Rattle.std.proofs.lemmas.Option.{same_Some, slice_get_within}
 use Rattle.patch_bytes.specs.Memory.{◌>>=◌}
 use Rattle.patch_bytes.proofs.MemoryLaws.{bind_some}
-use Rattle.elf_format.specs.declared.constants.TheConstants.{PT_INTERP, SHT_DYNAMIC, SHT_DYNSYM, SHT_GNU_HASH, SHT_GNU_VERDEF, SHT_GNU_VERNEED, SHT_GNU_VERSYM, SHT_HASH, SHT_NOBITS, SHT_NOTE, SHT_PROGBITS, SHT_REL, SHT_RELA, SHT_STRTAB, SHT_SYMTAB}
+use Rattle.elf_format.specs.declared.constants.TheConstants.{PT_INTERP, SHT_DYNAMIC, SHT_DYNSYM, SHT_GNU_HASH, SHT_GNU_VERDEF, SHT_GNU_VERNEED, SHT_GNU_VERSYM, SHT_HASH, SHT_PROGBITS, SHT_STRTAB, SHT_SYMTAB}
 use Rattle.elf_format.specs.declared.section_data.SectionData.{SectionData}
 use Rattle.elf_format.specs.declared.section_data.SectionData.TheVariants as kinds
 use Rattle.elf_format.specs.File.{section_bytes, segment_of_type}
 use Rattle.elf_format.specs.Image.{Image, ImageSection, counted}
-use Rattle.elf_format.specs.Options.{is_one_of, list_at}
+use Rattle.elf_format.specs.Options.{list_at}
 use Rattle.elf_format.specs.Records.{symbols_in}
 use Rattle.elf_format.specs.Rules.{data_of, file_of, is_opaque_relocation}
 use Rattle.elf_image.specs.Kept.{image_at_read, interpreter_number, is_numbered, kept_sections, stands_as_interpreter}
 use Rattle.elf_layout_plan.specs.Plan.{resized}
 use Rattle.elf_layout_plan.specs.Texts.{is_table_copied}
-use Rattle.elf_layout_plan.proofs.PlacedLists.{find-at}
-use Rattle.elf_layout_plan.proofs.PlacedRead.{kept_at}
+use Rattle.elf_layout_plan.proofs.ForCallers.PlacedLists.{find-at}
+use Rattle.elf_layout_plan.proofs.ForCallers.PlacedRead.{kept_at}
 use Rattle.elf_write_spec.specs.Base.{is_interpreter}
 use Rattle.elf_write_spec.specs.Contents.{AreDefinitionsIn, AreEntriesOf, AreNeedsIn, AreSymbolsOf, IsContent, IsContentByKind, content_at_number, spelled_list}
 use Rattle.elf_write_spec.specs.Final.{final}
 use Rattle.elf_write_spec.specs.Writing.{IsWholeWriting, Writing}
-use Rattle.elf_write_spec.proofs.WholeFacts.{ReadFacts, SectionAt, kept}
-use Rattle.elf_write_spec.proofs.WholeLists.{counted-at}
+use Rattle.elf_write_spec.proofs.WholeFacts.{ReadFacts, SectionAt}
+use Rattle.elf_format.proofs.ForCallers.Lengths.{slice_get-counted}
+use Rattle.elf_write_spec.proofs.NumberedSections.{kept}
+use Rattle.elf_write_spec.proofs.SectionKinds.{kind_by}
 
 -- ## The interpreter's section
 
@@ -53,7 +55,7 @@ module _ (w : Writing) (is : IsWholeWriting w) (f : ReadFacts w) (i : ℕ) (at :
       ap (λ (l : List ℕ). slice_get l place.index) (sym f.holds.section_numbers) ∙ place.number in
       let within : place.index < length read.sections = slice_get_within read.sections place.index s.section place.section in
       let index : place.index ≡ s.number =
-      same_Some place.index s.number (sym (counted-at (length read.sections) place.index within) ∙ counts) in
+      same_Some place.index s.number (sym (slice_get-counted (length read.sections) place.index within) ∙ counts) in
       let here : slice_get w.image.sections i ≡ Some s.section =
       ap (λ (l : List ImageSection). slice_get l i) is.whole.sections
       ∙ ap (λ (n : ℕ). slice_get read.sections n) (sym (index ∙ number)) ∙ place.section in
@@ -85,29 +87,11 @@ module _ (w : Writing) (is : IsWholeWriting w) (f : ReadFacts w) (i : ℕ) (at :
   kind_is : at.section.kind ≡ data_of f.parts at.old
   kind_is = ap (λ (x : ImageSection). x.kind) at.of_old.fields
 
-  -- the kind of a type
-  kind_of : ℕ → Bool → SectionData
-  kind_of n is_opaque =
-      if n == SHT_NOBITS then kinds.Uninitialized
-      else if n == SHT_DYNAMIC then kinds.Dynamic
-      else if is_one_of (SHT_REL ∷ SHT_RELA ∷ []) n then (if is_opaque then kinds.Opaque else kinds.Relocation)
-      else if n == SHT_NOTE then kinds.Note
-      else if n == SHT_STRTAB then kinds.Strings
-      else if n == SHT_SYMTAB then kinds.Symbols
-      else if n == SHT_DYNSYM then kinds.DynamicSymbols
-      else if n == SHT_HASH then kinds.Hash
-      else if n == SHT_GNU_HASH then kinds.GnuHash
-      else if n == SHT_GNU_VERSYM then kinds.GnuVersym
-      else if n == SHT_GNU_VERDEF then kinds.GnuVerdef
-      else if n == SHT_GNU_VERNEED then kinds.GnuVerneed
-      else kinds.Opaque
-
-  kind_by : (type : ℕ) → at.old.sh_type ≡ type → at.section.kind ≡ kind_of type (is_opaque_relocation f.parts at.old)
-  unfolding kind_of
-  kind_by type is_type = kind_is ∙ ap (λ (n : ℕ). kind_of n (is_opaque_relocation f.parts at.old)) is_type
+  kind_at : (type : ℕ) → at.old.sh_type ≡ type → at.section.kind ≡ kind_by type (is_opaque_relocation f.parts at.old)
+  kind_at type is_type = kind_is ∙ ap (λ (n : ℕ). kind_by n (is_opaque_relocation f.parts at.old)) is_type
 
   shows : (type : ℕ) → at.old.sh_type ≡ type → (type == SHT_PROGBITS) ≡ false → (kind : SectionData)
-      → kind_of type (is_opaque_relocation f.parts at.old) ≡ kind
+      → kind_by type (is_opaque_relocation f.parts at.old) ≡ kind
       → ShowsAs kind
   shows type is_type other kind kind_same =
       let content : IsContent (resized w.image) w.plan w.raw linked_bytes (kept i at.section) at.bytes = at.written.content in
@@ -115,32 +99,27 @@ module _ (w : Writing) (is : IsWholeWriting w) (f : ReadFacts w) (i : ℕ) (at :
         | true ↦ at.bytes ≡ list_at (λ name. name) w.image.interpreter
         | _ ↦ ShowsAs at.section.kind
       ]) (not_interpreter type is_type other) content in
-      subst ShowsAs (kind_by type is_type ∙ kind_same) plain
+      subst ShowsAs (kind_at type is_type ∙ kind_same) plain
 
   -- ## By type
 
   pub dynamic_shown : at.old.sh_type ≡ SHT_DYNAMIC
       → AreEntriesOf (resized w.image) w.plan linked_bytes (list_at (λ es. es) (final (image_at_read w.image) w.image).entries) w.raw
       × (at.bytes ≡ spelled_list w.image.form w.raw (length at.bytes))
-  unfolding kind_of
   dynamic_shown h = shows SHT_DYNAMIC h refl kinds.Dynamic refl
 
   pub strings_shown : at.old.sh_type ≡ SHT_STRTAB → IsTrue (is_table_copied (image_at_read w.image) w.image i)
       → at.bytes ≡ at.section.content
-  unfolding kind_of
   strings_shown h = shows SHT_STRTAB h refl kinds.Strings refl
 
   pub dynamic_symbols_shown : at.old.sh_type ≡ SHT_DYNSYM
       → AreSymbolsOf linked_bytes (final (image_at_read w.image) w.image).dynamic_symbols (symbols_in w.image.form at.bytes)
-  unfolding kind_of
   dynamic_symbols_shown h = shows SHT_DYNSYM h refl kinds.DynamicSymbols refl
 
   pub definitions_shown : at.old.sh_type ≡ SHT_GNU_VERDEF → AreDefinitionsIn w.image linked_bytes at.bytes
-  unfolding kind_of
   definitions_shown h = shows SHT_GNU_VERDEF h refl kinds.GnuVerdef refl
 
   pub needs_shown : at.old.sh_type ≡ SHT_GNU_VERNEED → AreNeedsIn (resized w.image) linked_bytes at.bytes
-  unfolding kind_of
   needs_shown h = shows SHT_GNU_VERNEED h refl kinds.GnuVerneed refl
 
   -- as it was read
@@ -148,17 +127,13 @@ module _ (w : Writing) (is : IsWholeWriting w) (f : ReadFacts w) (i : ℕ) (at :
   content_read = ap (λ (x : ImageSection). x.content) at.of_old.fields
 
   pub symbols_copied : at.old.sh_type ≡ SHT_SYMTAB → at.bytes ≡ section_bytes (file_of f.parts) at.old
-  unfolding kind_of
   symbols_copied h = shows SHT_SYMTAB h refl kinds.Symbols refl ∙ content_read
 
   pub hash_copied : at.old.sh_type ≡ SHT_HASH → at.bytes ≡ section_bytes (file_of f.parts) at.old
-  unfolding kind_of
   hash_copied h = shows SHT_HASH h refl kinds.Hash refl ∙ content_read
 
   pub gnu_hash_copied : at.old.sh_type ≡ SHT_GNU_HASH → at.bytes ≡ section_bytes (file_of f.parts) at.old
-  unfolding kind_of
   gnu_hash_copied h = shows SHT_GNU_HASH h refl kinds.GnuHash refl ∙ content_read
 
   pub versions_copied : at.old.sh_type ≡ SHT_GNU_VERSYM → at.bytes ≡ section_bytes (file_of f.parts) at.old
-  unfolding kind_of
   versions_copied h = shows SHT_GNU_VERSYM h refl kinds.GnuVersym refl ∙ content_read

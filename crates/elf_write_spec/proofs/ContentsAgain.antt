@@ -1,12 +1,12 @@
 -- What the sections of a written file show: the content of each kind, and the texts that a section links to.
-use Rattle.std.proofs.Common.{◌≡◌, ◌≢◌, ◌≤◌, ◌<◌, ℕ, Bool, true, false, eqb, List, [], ◌∷◌, length, refl, sym, ap, ◌∙◌, subst, Some, arith}
-use Rattle.std.specs.Prelude.{IsTrue, ◌&&◌, not, filter, find, if◌then◌else◌, ◌==◌}
+use Rattle.std.proofs.Common.{◌≡◌, ◌≢◌, ◌≤◌, ◌<◌, ℕ, Bool, true, false, eqb, List, length, refl, sym, ap, ◌∙◌, subst, Some, arith}
+use Rattle.std.specs.Prelude.{IsTrue, ◌&&◌, not, filter, find}
 use Rattle.std.specs.List.{list_all, slice_get}
 use Rattle.std.proofs.lemmas.Bool.{and_parts, cond-true, eqb-true, false≢true, false_from_ne_true}
 use Rattle.std.proofs.lemmas.Option.{same_Some, slice_get_within}
 use Rattle.patch_bytes.specs.Memory.{◌>>=◌, memory_of}
 use Rattle.patch_bytes.proofs.MemoryLaws.{bind_some}
-use Rattle.elf_format.specs.declared.constants.TheConstants.{PT_INTERP, SHT_DYNAMIC, SHT_DYNSYM, SHT_GNU_VERDEF, SHT_GNU_VERNEED, SHT_GNU_VERSYM, SHT_NOBITS, SHT_NOTE, SHT_GNU_HASH, SHT_HASH, SHT_PROGBITS, SHT_REL, SHT_RELA, SHT_STRTAB, SHT_SYMTAB}
+use Rattle.elf_format.specs.declared.constants.TheConstants.{PT_INTERP, SHT_DYNAMIC, SHT_DYNSYM, SHT_GNU_VERDEF, SHT_GNU_VERNEED, SHT_GNU_VERSYM, SHT_PROGBITS, SHT_STRTAB, SHT_SYMTAB}
 use Rattle.elf_format.specs.declared.records.EntryNumbers.{EntryNumbers}
 use Rattle.elf_format.specs.declared.records.SectionHeader.{SectionHeader}
 use Rattle.elf_format.specs.declared.records.SegmentHeader.{SegmentHeader}
@@ -19,49 +19,34 @@ use Rattle.elf_format.specs.Places.{occupies_file}
 use Rattle.elf_format.specs.Records.{symbols_in}
 use Rattle.elf_format.specs.Rules.{file_of, is_opaque_relocation, links_to, symbol_users, text_users}
 use Rattle.elf_format.specs.Views.{section_memory}
-use Rattle.elf_format.proofs.Placed.{IsIn-slice_get, passes_picked}
-use Rattle.elf_format.proofs.ViewsAgree.{links_right, there_and}
+use Rattle.elf_format.proofs.ForCallers.Placed.{IsIn-slice_get, passes_picked}
+use Rattle.elf_format.proofs.ForCallers.ViewsAgree.{links_right, there_and}
 use Rattle.elf_image.specs.ReadImage.{IsSectionOf}
 use Rattle.elf_image.specs.Kept.{KeptSection, image_at_read, interpreter_number, kept_sections, stands_as_interpreter}
 use Rattle.elf_layout_plan.specs.Memory.{Resized}
 use Rattle.elf_layout_plan.specs.Plan.{Layout, resized}
 use Rattle.elf_layout_plan.specs.Texts.{is_table_copied}
-use Rattle.elf_layout_plan.proofs.PlacedLists.{find-at}
-use Rattle.elf_layout_plan.proofs.PlacedRead.{kept_at}
+use Rattle.elf_layout_plan.proofs.ForCallers.PlacedLists.{find-at}
+use Rattle.elf_layout_plan.proofs.ForCallers.PlacedRead.{kept_at}
 use Rattle.elf_write_spec.specs.Again.{HasWrittenParts}
 use Rattle.elf_write_spec.specs.Base.{is_interpreter}
 use Rattle.elf_write_spec.specs.Contents.{AreDefinitionsIn, AreEntriesOf, AreNeedsIn, AreSymbolsOf, IsContentByKind, content_at_number, spelled_list}
 use Rattle.elf_write_spec.specs.Final.{final}
 use Rattle.elf_write_spec.specs.Writing.{IsWholeWriting, Writing, written_bytes}
 use Rattle.elf_write_spec.proofs.TextsRead.{bytes_short}
-use Rattle.elf_write_spec.proofs.WholeFacts.{ReadFacts, SectionAt, content_is, kept, section_at}
-use Rattle.elf_write_spec.proofs.WholeLists.{counted-at}
+use Rattle.elf_write_spec.proofs.WholeFacts.{ReadFacts, SectionAt, content_is, section_at}
+use Rattle.elf_format.proofs.ForCallers.Lengths.{slice_get-counted}
+use Rattle.elf_write_spec.proofs.NumberedSections.{kept}
+use Rattle.elf_write_spec.proofs.SectionKinds.{kind_by}
 
 -- ## Kinds
-
--- a section's kind, by its type and whether it has relocations that are kept as they are
-abbrev data_by : Bool → ℕ → SectionData
-data_by opaque type =
-    if type == SHT_NOBITS then kinds.Uninitialized
-    else if type == SHT_DYNAMIC then kinds.Dynamic
-    else if is_one_of (SHT_REL ∷ SHT_RELA ∷ []) type then (if opaque then kinds.Opaque else kinds.Relocation)
-    else if type == SHT_NOTE then kinds.Note
-    else if type == SHT_STRTAB then kinds.Strings
-    else if type == SHT_SYMTAB then kinds.Symbols
-    else if type == SHT_DYNSYM then kinds.DynamicSymbols
-    else if type == SHT_HASH then kinds.Hash
-    else if type == SHT_GNU_HASH then kinds.GnuHash
-    else if type == SHT_GNU_VERSYM then kinds.GnuVersym
-    else if type == SHT_GNU_VERDEF then kinds.GnuVerdef
-    else if type == SHT_GNU_VERNEED then kinds.GnuVerneed
-    else kinds.Opaque
 
 -- the kind of a section of a type, where no other is of that type
 kind_at : (p : Parts) (old : SectionHeader) (x : ImageSection) → IsSectionOf p old x → (type : ℕ) → old.sh_type ≡ type
     → (kind : SectionData)
-    → ((opaque : Bool) → data_by opaque type ≡ kind) → x.kind ≡ kind
+    → ((opaque : Bool) → kind_by type opaque ≡ kind) → x.kind ≡ kind
 kind_at p old x of_old type e kind by_type =
-    ap (λ (y : ImageSection). y.kind) of_old.fields ∙ ap (data_by (is_opaque_relocation p old)) e ∙ by_type (is_opaque_relocation p old)
+    ap (λ (y : ImageSection). y.kind) of_old.fields ∙ ap (λ (n : ℕ). kind_by n (is_opaque_relocation p old)) e ∙ by_type (is_opaque_relocation p old)
 
 -- what a content is by its section's kind
 abbrev content_of : Resized → Layout → List EntryNumbers → List ℕ → KeptSection → List ℕ → SectionData → Type 0
@@ -107,7 +92,7 @@ module _ (w : Writing) (is : IsWholeWriting w) (f : ReadFacts w) where
       let inside : place.index < length read.sections = slice_get_within read.sections place.index k.section place.section in
       let number : Some k.number ≡ Some place.index =
       sym place.number ∙ ap (λ (ns : List ℕ). slice_get ns place.index) f.holds.section_numbers
-      ∙ counted-at (length read.sections) place.index inside in
+      ∙ slice_get-counted (length read.sections) place.index inside in
       let same : place.index ≡ i = omega (arith, same_Some k.number place.index number, same_Some k.number n made, eqb-true n i n_is) in
       let section : Some k.section ≡ Some at.section =
       sym place.section ∙ ap (λ (j : ℕ). slice_get read.sections j) same
@@ -118,7 +103,7 @@ module _ (w : Writing) (is : IsWholeWriting w) (f : ReadFacts w) where
 
   -- the content of a section of a type, where no other is of that type and it isn't PROGBITS
   content_by : (i : ℕ) (at : SectionAt w f.parts i) (type : ℕ) → at.old.sh_type ≡ type → type ≢ SHT_PROGBITS → (kind : SectionData)
-      → ((opaque : Bool) → data_by opaque type ≡ kind)
+      → ((opaque : Bool) → kind_by type opaque ≡ kind)
       → content_of (resized w.image) w.plan w.raw (content_at_number w.image w.contents at.section.sh_link)
       (kept i at.section) at.bytes kind
   content_by i at type e other kind by_type =

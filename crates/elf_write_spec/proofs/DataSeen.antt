@@ -13,9 +13,9 @@ use Rattle.elf_format.specs.Views.{byte_at}
 use Rattle.elf_image.specs.Kept.{KeptSection, dynamic_strings_number, interpreter_number, is_numbered, place_at_read}
 use Rattle.elf_layout_plan.specs.Memory.{Resized, is_movable, priority_of}
 use Rattle.elf_layout_plan.specs.Plan.{resized}
-use Rattle.elf_layout_plan.proofs.ApartFixed.{fixed_sections_stay}
-use Rattle.elf_layout_plan.proofs.ApartLists.{none-from}
-use Rattle.elf_layout_plan.proofs.ApartSections.{kept-at}
+use Rattle.elf_layout_plan.proofs.ForCallers.ApartFixed.{fixed_sections_stay}
+use Rattle.elf_layout_plan.proofs.ForCallers.ApartLists.{none-from}
+use Rattle.elf_layout_plan.proofs.ForCallers.ApartSections.{kept-at}
 use Rattle.elf_write_spec.specs.Base.{is_data, is_interpreter, is_opaque}
 use Rattle.elf_write_spec.specs.Contents.{content_at_number}
 use Rattle.elf_write_spec.specs.Laws.{WrittenFilesKeepData}
@@ -25,7 +25,8 @@ pub use Rattle.elf_write_spec.proofs.HashesSeen.{written_files_keep_hashes}
 use Rattle.elf_write_spec.proofs.DataStays.{DataFacts, IsNoTable, data_facts, no_table}
 use Rattle.elf_write_spec.proofs.FileParts.{data_content}
 use Rattle.elf_write_spec.proofs.SectionsSeen.{section_seen}
-use Rattle.elf_write_spec.proofs.WholeFacts.{ReadFacts, SectionAt, kept, lengths, read_facts, section_at}
+use Rattle.elf_write_spec.proofs.WholeFacts.{ReadFacts, SectionAt, lengths, read_facts, section_at}
+use Rattle.elf_write_spec.proofs.NumberedSections.{kept}
 
 -- ## Data never moves
 

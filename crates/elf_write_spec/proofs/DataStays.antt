@@ -5,9 +5,8 @@ use Rattle.std.specs.List.{slice_get}
 use Rattle.std.proofs.lemmas.Bool.Decides.{nat_tests}
 use Rattle.std.proofs.lemmas.Bool.{and_parts, both_ways, cond-false, eq-eqb, eqb-true, false_from_ne_true, not-true}
 use Rattle.std.proofs.lemmas.Option.{same_Some}
-use Rattle.elf_format.specs.declared.constants.TheConstants.{SHT_DYNAMIC, SHT_DYNSYM, SHT_GNU_HASH, SHT_GNU_VERDEF, SHT_GNU_VERNEED, SHT_GNU_VERSYM, SHT_HASH, SHT_NOBITS, SHT_NOTE, SHT_REL, SHT_RELA, SHT_STRTAB, SHT_SYMTAB}
+use Rattle.elf_format.specs.declared.constants.TheConstants.{SHT_DYNAMIC, SHT_DYNSYM, SHT_GNU_HASH, SHT_GNU_VERDEF, SHT_GNU_VERNEED, SHT_GNU_VERSYM, SHT_HASH, SHT_NOTE, SHT_STRTAB, SHT_SYMTAB}
 use Rattle.elf_format.specs.declared.records.SectionHeader.{SectionHeader}
-use Rattle.elf_format.specs.declared.section_data.SectionData.{SectionData}
 use Rattle.elf_format.specs.declared.section_data.SectionData.TheVariants as kinds
 use Rattle.elf_format.specs.File.{Parts}
 use Rattle.elf_format.specs.Image.{Image}
@@ -25,16 +24,17 @@ use Rattle.elf_layout_plan.specs.Needs.{written_needs}
 use Rattle.elf_layout_plan.specs.Plan.{IsPlan, Layout, layout_for, resized}
 use Rattle.elf_layout_plan.specs.Sizes.{definitions_size, dynamic_size, hash_size, interpreter_size, needs_size, new_size, strings_size, table_size}
 use Rattle.elf_layout_plan.specs.Standing.{place_in, places}
-use Rattle.elf_layout_plan.proofs.ApartFixed.{fixed_sections_stay, image_sized}
-use Rattle.elf_layout_plan.proofs.ApartLists.{at-map, none-from}
-use Rattle.elf_layout_plan.proofs.ApartSections.{at-sized, sized_of}
-use Rattle.elf_layout_plan.proofs.ApartStays.{shows}
-use Rattle.elf_layout_plan.proofs.PlacedAdded.{is_added}
-use Rattle.elf_layout_plan.proofs.PlacedLists.{Has, slice_get-at}
-use Rattle.elf_layout_plan.proofs.PlacedPlaces.{StandsAdded, stored_stands}
-use Rattle.elf_layout_plan.proofs.PlacedRead.{ReadsPlaced, reads_placed}
-use Rattle.elf_layout_plan.proofs.PlacedSegments.{before_memory_end}
+use Rattle.elf_layout_plan.proofs.ForCallers.ApartFixed.{fixed_sections_stay, image_sized}
+use Rattle.elf_layout_plan.proofs.ForCallers.ApartLists.{at-map, none-from}
+use Rattle.elf_layout_plan.proofs.ForCallers.ApartSections.{at-sized, sized_of}
+use Rattle.elf_layout_plan.proofs.ForCallers.ApartStays.{shows}
+use Rattle.elf_layout_plan.proofs.ForCallers.PlacedAdded.{is_added}
+use Rattle.elf_layout_plan.proofs.ForCallers.PlacedLists.{Has, slice_get-at}
+use Rattle.elf_layout_plan.proofs.ForCallers.PlacedPlaces.{StandsAdded, stored_stands}
+use Rattle.elf_layout_plan.proofs.ForCallers.PlacedRead.{ReadsPlaced, reads_placed}
+use Rattle.elf_layout_plan.proofs.ForCallers.PlacedSegments.{before_memory_end}
 use Rattle.elf_write_spec.specs.Base.{is_data, is_interpreter, is_opaque}
+use Rattle.elf_write_spec.proofs.SectionKinds.{kind_by, kind_is}
 
 -- ## What data is
 
@@ -51,36 +51,15 @@ data_facts r s h =
 
 -- ## Its type
 
--- what a section's bytes are, by its type, and by whether its relocations are kept as they are
-data_by : ℕ → Bool → SectionData
-data_by n o =
-    if n == SHT_NOBITS then kinds.Uninitialized
-    else if n == SHT_DYNAMIC then kinds.Dynamic
-    else if is_one_of (SHT_REL ∷ SHT_RELA ∷ []) n then (if o then kinds.Opaque else kinds.Relocation)
-    else if n == SHT_NOTE then kinds.Note
-    else if n == SHT_STRTAB then kinds.Strings
-    else if n == SHT_SYMTAB then kinds.Symbols
-    else if n == SHT_DYNSYM then kinds.DynamicSymbols
-    else if n == SHT_HASH then kinds.Hash
-    else if n == SHT_GNU_HASH then kinds.GnuHash
-    else if n == SHT_GNU_VERSYM then kinds.GnuVersym
-    else if n == SHT_GNU_VERDEF then kinds.GnuVerdef
-    else if n == SHT_GNU_VERNEED then kinds.GnuVerneed
-    else kinds.Opaque
-
-data_is : (p : Parts) (s : SectionHeader) → data_of p s ≡ data_by s.sh_type (is_opaque_relocation p s)
-unfolding data_by
-data_is p s = refl
-
 -- a type of which no section is data
 IsNoData : ℕ → Type 0
-IsNoData x = (o : Bool) → is_opaque (data_by x o) ≡ false
+IsNoData x = (o : Bool) → is_opaque (kind_by x o) ≡ false
 
 no_data : (p : Parts) (s : SectionHeader) → is_opaque (data_of p s) ≡ true → (x : ℕ) → IsNoData x → (s.sh_type == x) ≡ false
 unfolding IsNoData
 no_data p s opaque x none = false_from_ne_true (s.sh_type == x) (λ same.
     both_ways (is_opaque (data_of p s))
-    (ap is_opaque (data_is p s) ∙ ap (λ (n : ℕ). is_opaque (data_by n (is_opaque_relocation p s))) (eqb-true s.sh_type x same)
+    (ap is_opaque (kind_is p s) ∙ ap (λ (n : ℕ). is_opaque (kind_by n (is_opaque_relocation p s))) (eqb-true s.sh_type x same)
     ∙ none (is_opaque_relocation p s))
     opaque)
 
@@ -98,7 +77,7 @@ pub record IsNoTable (n : ℕ) : Type 0 where
   pub gnu_hash : (n == SHT_GNU_HASH) ≡ false
 
 pub no_table : (p : Parts) (s : SectionHeader) → is_opaque (data_of p s) ≡ true → IsNoTable s.sh_type
-unfolding data_by IsNoData
+unfolding IsNoData
 no_table p s opaque =
     let none : (x : ℕ) → IsNoData x → (s.sh_type == x) ≡ false = no_data p s opaque in
     record {

@@ -1,14 +1,13 @@
 -- The dynamic symbols of a written file are those of the image, with their versions.
-use Rattle.std.proofs.Common.{◌≡◌, ℕ, zero, suc, List, [], ◌∷◌, length, refl, sym, ap, ◌∙◌, subst, Option, Some, None}
+use Rattle.std.proofs.Common.{◌≡◌, ℕ, zero, suc, List, ◌∷◌, length, refl, sym, ap, ◌∙◌, subst, Option, Some, None, []}
 use Rattle.std.specs.List.{slice_get}
-use Rattle.std.proofs.lemmas.List.{length-replicate}
 use Rattle.std.proofs.lemmas.Option.{none-some, same_Some}
 use Rattle.elf_format.specs.declared.constants.TheConstants.{SHT_DYNSYM, SHT_GNU_VERSYM}
 use Rattle.elf_format.specs.declared.form.Form.{Form}
 use Rattle.elf_format.specs.declared.records.SectionHeader.{SectionHeader}
 use Rattle.elf_format.specs.declared.records.SymbolNumbers.{SymbolNumbers}
 use Rattle.elf_format.specs.declared.version_id.VersionId.{VersionId}
-use Rattle.elf_format.specs.File.{Parts, linked_section, section_bytes, section_of_type}
+use Rattle.elf_format.specs.File.{linked_section, section_bytes, section_of_type}
 use Rattle.elf_format.specs.Form.{records}
 use Rattle.elf_format.specs.Image.{dynamic_symbols_read, symbols_of, versions_read}
 use Rattle.elf_format.specs.Options.{is_one_of}
@@ -24,11 +23,11 @@ use Rattle.elf_write_spec.specs.Contents.{AreSymbolsOf as AreWrittenSymbols, IsS
 use Rattle.elf_write_spec.specs.Final.{final}
 use Rattle.elf_write_spec.specs.Writing.{IsWholeWriting, Writing, written_bytes}
 use Rattle.elf_write_spec.proofs.ContentsAgain.{Linked, bytes_are, content_was, dynamic_content, linked_at, texts_fit, versym_content}
-use Rattle.elf_write_spec.proofs.SameLists.{length-records}
 use Rattle.elf_write_spec.proofs.StringsAgain.{symbols_shared, texts_kept}
 use Rattle.elf_write_spec.proofs.SymbolsAgain.{form_is, symbols_made}
 use Rattle.elf_write_spec.proofs.TextsRead.{text_again}
 use Rattle.elf_write_spec.proofs.WholeFacts.{ReadFacts, SectionAt, There, Nowhere, final_is, read_facts, type_at}
+use Rattle.elf_format.proofs.ForCallers.Lengths.{length-versions_read}
 
 -- ## Records
 
@@ -62,11 +61,6 @@ symbol_is strings x n version is same =
     ∙ ap (λ (k : ℕ). record made { st_shndx = k; st_value = x.st_value; st_size = x.st_size }) (sym is.st_shndx)
     ∙ ap (λ (k : ℕ). record made { st_value = k; st_size = x.st_size }) (sym is.st_value)
     ∙ ap (λ (k : ℕ). record made { st_size = k }) (sym is.st_size)
-
-length-versions : (p : Parts) (o : Option SectionHeader) (count : ℕ) → length (versions_read p o count) ≡ count
-unfolding versions_read
-length-versions p None count = length-replicate count None
-length-versions p (Some s) count = length-records (λ b. Some (version_id p.opened.form b)) 2 count (section_bytes (file_of p) s)
 
 module _ (w : Writing) (is : IsWholeWriting w) (has : HasWrittenParts w) (f : ReadFacts w) where
   -- versions of symbols are those that were read
@@ -166,7 +160,7 @@ module _ (w : Writing) (is : IsWholeWriting w) (has : HasWrittenParts w) (f : Re
         symbols_made (length (written_bytes w)) (linked_texts (written_parts w) at.header)
         (symbols_of (written_parts w) at.header) new_versions
         w.image.dynamic_symbols
-        (length-versions (written_parts w) (section_of_type SHT_GNU_VERSYM w.headers) (length (symbols_of (written_parts w) at.header)))
+        (length-versions_read (written_parts w) (section_of_type SHT_GNU_VERSYM w.headers) (length (symbols_of (written_parts w) at.header)))
         symbols_are
 
   pub dynamic_nowhere : section_of_type SHT_DYNSYM f.parts.sections ≡ None

@@ -28,14 +28,14 @@ use Rattle.elf_format.specs.Rules.{file_of, has_magic}
 use Rattle.elf_tables.specs.Fields.{do_fields_fit}
 use Rattle.elf_tables.specs.ReadBack.{IsTableReadBack}
 use Rattle.elf_tables.specs.Spelled.{section_fields, segment_fields, spelled_file_header, spelled_section_header, spelled_segment_header}
-use Rattle.elf_tables.proofs.FilesOpened.{files_are_opened}
-use Rattle.elf_tables.proofs.SectionHeaderBack.{section_headers_are_read_back}
-use Rattle.elf_tables.proofs.SegmentHeaderBack.{segment_headers_are_read_back}
-use Rattle.elf_tables.proofs.TableBack.{tables_are_read_back}
+use Rattle.elf_tables.proofs.ForCallers.FilesOpened.{files_are_opened}
+use Rattle.elf_tables.proofs.ForCallers.SectionHeaderBack.{section_headers_are_read_back}
+use Rattle.elf_tables.proofs.ForCallers.SegmentHeaderBack.{segment_headers_are_read_back}
+use Rattle.elf_tables.proofs.ForCallers.TableBack.{tables_are_read_back}
 use Rattle.elf_image.specs.Kept.{KeptSection, kept_sections}
 use Rattle.elf_layout_plan.specs.Memory.{Resized}
 use Rattle.elf_layout_plan.specs.Plan.{Layout, resized}
-use Rattle.elf_layout_plan.proofs.ApartLists.{Each}
+use Rattle.elf_layout_plan.proofs.ForCallers.ApartLists.{Each}
 use Rattle.elf_write_spec.specs.Again.{written_parts}
 use Rattle.elf_write_spec.specs.Base.{is_data, is_interpreter, is_opaque}
 use Rattle.elf_write_spec.specs.Contents.{IsContent, IsContentByKind, content_at_number}
@@ -46,7 +46,8 @@ use Rattle.elf_write_spec.proofs.BaseBytes.{data_stands}
 use Rattle.elf_write_spec.proofs.DataStays.{data_facts}
 use Rattle.elf_write_spec.proofs.Laying.{StandsIn}
 use Rattle.elf_write_spec.proofs.Patches.{as_many, length-table, length-written, patches_lie, patches_stand, section-patch}
-use Rattle.elf_write_spec.proofs.WholeFacts.{ReadFacts, SectionAt, kept, lengths, read_facts, section_at_header}
+use Rattle.elf_write_spec.proofs.WholeFacts.{ReadFacts, SectionAt, lengths, read_facts, section_at_header}
+use Rattle.elf_write_spec.proofs.NumberedSections.{kept}
 
 -- ## The file header
 

@@ -22,7 +22,8 @@ use Rattle.elf_write_spec.proofs.FileParts.{written_files_have_parts}
 use Rattle.elf_write_spec.proofs.RawEntries.{raw_is}
 use Rattle.elf_write_spec.proofs.RuleTables.{tables_right}
 use Rattle.elf_write_spec.proofs.SectionsSeen.{same_allocated, section_seen}
-use Rattle.elf_write_spec.proofs.WholeFacts.{Nowhere, ReadFacts, SectionAt, There, TypeAt, kept, read_facts, type_at}
+use Rattle.elf_write_spec.proofs.WholeFacts.{Nowhere, ReadFacts, SectionAt, There, TypeAt, read_facts, type_at}
+use Rattle.elf_write_spec.proofs.NumberedSections.{kept}
 
 -- what holds of a value where there is one
 none_or : {A : Type 0} (test : A → Bool) (o : Option A) (x : A) → o ≡ Some x → is_none_or test o ≡ true → test x ≡ true

@@ -14,10 +14,10 @@ use Rattle.elf_layout_plan.specs.Plan.{IsPlan, Layout, layout_for, resized}
 use Rattle.elf_layout_plan.specs.Rounds.{are_in_old_order, do_move, headers_needed, sections_at}
 use Rattle.elf_layout_plan.specs.Standing.{unloaded_start, next_table, sections_offset, segments_end, table_offset}
 use Rattle.elf_layout_plan.specs.Written.{written_segments}
-use Rattle.elf_layout_plan.proofs.PlacedCount.{length-written}
-use Rattle.elf_layout_plan.proofs.PlacedRead.{ReadsPlaced, reads_placed}
-use Rattle.elf_layout_plan.proofs.PlacedSegments.{before_kept_end, end_before_sections, header_before_kept_end, kept_before_segments_end, unloaded_before_end, segments_before_end}
-use Rattle.elf_layout_plan.proofs.PlacedStays.{table_kept_in}
+use Rattle.elf_layout_plan.proofs.ForCallers.PlacedCount.{length-written}
+use Rattle.elf_layout_plan.proofs.ForCallers.PlacedRead.{ReadsPlaced, reads_placed}
+use Rattle.elf_layout_plan.proofs.ForCallers.PlacedSegments.{before_kept_end, end_before_sections, header_before_kept_end, kept_before_segments_end, unloaded_before_end, segments_before_end}
+use Rattle.elf_layout_plan.proofs.ForCallers.PlacedStays.{table_kept_in}
 
 -- both end before the section header table
 pub record EndBefore (r : Resized) (plan : Layout) : Type 0 where

@@ -11,8 +11,8 @@ use Rattle.elf_format.specs.Options.{each}
 use Rattle.elf_format.specs.Rules.{ArePartsOf, IsAcceptedWith, accepted_parts, file_of}
 use Rattle.elf_format.specs.Versions.{VersionDefinition, VersionNeeds}
 use Rattle.elf_format.specs.Views.{NamedSymbol}
-use Rattle.elf_format.proofs.Accepted.{accepted, accepted_with}
-use Rattle.elf_format.proofs.ImageShows.{image_from, images_show}
+use Rattle.elf_format.proofs.ForCallers.Accepted.{accepted, accepted_with}
+use Rattle.elf_format.proofs.ForCallers.ImageShows.{image_from, images_show}
 
 -- an image of these parts
 abbrev pub image_by : Parts → List ImageSection → List NamedSymbol → List NamedSymbol → Option (List Entry) → List VersionDefinition

@@ -17,15 +17,15 @@ use Rattle.elf_format.specs.Options.{is_none_or, list_at}
 use Rattle.elf_format.specs.Places.{Place}
 use Rattle.elf_format.specs.Rules.{file_of}
 use Rattle.elf_format.specs.Views.{interpreter_section}
-use Rattle.elf_format.proofs.Placed.{find_some, section_bytes-is}
-use Rattle.elf_format.proofs.ViewsAgree.{there_if}
+use Rattle.elf_format.proofs.ForCallers.Placed.{find_some, section_bytes-is}
+use Rattle.elf_format.proofs.ForCallers.ViewsAgree.{there_if}
 use Rattle.elf_image.specs.Edited.{IsInterpreterOf}
 use Rattle.elf_layout_plan.specs.Anchors.{OneSection, anchor_of, anchor_or_itself}
 use Rattle.elf_image.specs.Kept.{KeptSection, image_at_read, interpreter_number, is_numbered, kept_sections, stands_as_interpreter}
 use Rattle.elf_layout_plan.specs.Memory.{Resized}
 use Rattle.elf_layout_plan.specs.Plan.{Layout, resized}
 use Rattle.elf_layout_plan.specs.Written.{anchored_to, target_at}
-use Rattle.elf_layout_plan.proofs.ApartLists.{find-at}
+use Rattle.elf_layout_plan.proofs.ForCallers.ApartLists.{find-at}
 use Rattle.elf_write_spec.specs.Again.{HasWrittenParts, written_parts}
 use Rattle.elf_write_spec.specs.Base.{is_interpreter}
 use Rattle.elf_write_spec.specs.Contents.{IsContentByKind, content_at_number}
@@ -33,9 +33,10 @@ use Rattle.elf_write_spec.specs.Writing.{IsWholeWriting, Writing, written_bytes}
 use Rattle.elf_write_spec.proofs.ContentsAgain.{bytes_are}
 use Rattle.elf_write_spec.proofs.InterpreterAt.{interpreter_is, interpreter_type, kept_same, section_here}
 use Rattle.elf_write_spec.proofs.RuleDynamic.{interpreter_right}
-use Rattle.elf_write_spec.proofs.WholeFacts.{ReadFacts, SectionAt, kept, read_facts, section_at}
+use Rattle.elf_write_spec.proofs.WholeFacts.{ReadFacts, SectionAt, read_facts, section_at}
 use Rattle.elf_write_spec.proofs.WholeLists.{FoundAt, NonePasses, find-is, first_at}
 use Rattle.elf_write_spec.proofs.WrittenTypes.{ASegment, NoSegment, SegmentAt, all_places_are, becomes, becomes-section, segment_at}
+use Rattle.elf_write_spec.proofs.NumberedSections.{kept}
 
 -- ## Sections at one place
 

@@ -13,11 +13,12 @@ use Rattle.elf_format.specs.Image.{Image, ImageSection}
 use Rattle.elf_format.specs.Options.{is_some_and}
 use Rattle.elf_image.specs.Kept.{KeptSection, image_at_read, interpreter_number, kept_from, kept_sections, stands_as_interpreter}
 use Rattle.elf_layout_plan.specs.Plan.{resized}
-use Rattle.elf_layout_plan.proofs.ApartLists.{find-at}
-use Rattle.elf_layout_plan.proofs.ApartSections.{kept-at}
+use Rattle.elf_layout_plan.proofs.ForCallers.ApartLists.{find-at}
+use Rattle.elf_layout_plan.proofs.ForCallers.ApartSections.{kept-at}
 use Rattle.elf_write_spec.specs.Base.{is_interpreter}
 use Rattle.elf_write_spec.specs.Writing.{IsWholeWriting, Writing}
-use Rattle.elf_write_spec.proofs.WholeFacts.{ReadFacts, SectionAt, kept, lengths, section_at}
+use Rattle.elf_write_spec.proofs.WholeFacts.{ReadFacts, SectionAt, lengths, section_at}
+use Rattle.elf_write_spec.proofs.NumberedSections.{kept}
 
 -- the sections that are there are those that were read
 pub kept_same : (w : Writing) → IsWholeWriting w → kept_sections w.image ≡ kept_sections (image_at_read w.image)

@@ -11,9 +11,9 @@ use Rattle.byte_store.specs.Laid.{LiesIn, Patch, laid}
 use Rattle.byte_store.proofs.PutLaws.{length-put_at, put_at-nil, take-put_at}
 use Rattle.elf_format.specs.declared.range.Range.{Range}
 use Rattle.elf_format.specs.Ranges.{apart, range}
-use Rattle.elf_layout_plan.proofs.ApartLists.{Each, Pairs}
-use Rattle.elf_layout_plan.proofs.PlacedRanges.{apart-tells}
+use Rattle.elf_layout_plan.proofs.ForCallers.ApartLists.{Each, Pairs}
 use Rattle.elf_write_spec.specs.Base.{values_from}
+use Rattle.elf_format.proofs.ForCallers.{apart-tells}
 
 -- ## One part over bytes
 

@@ -1,5 +1,7 @@
+pub mod SectionKinds
 pub mod WholeLists
 pub mod SameLists
+pub mod NumberedSections
 pub mod WholeFacts
 pub mod MovedFacts
 pub mod UnloadedFacts
@@ -34,6 +36,7 @@ pub mod RuleTables
 pub mod TextsRead
 pub mod ContentsAgain
 pub mod NamesAgain
+pub mod TextsStay
 pub mod TablesCopied
 pub mod SymbolsAgain
 pub mod StringsAgain
@@ -52,3 +55,4 @@ pub mod OthersSeen
 pub mod SectionsSeen
 pub mod HashesSeen
 pub mod DataSeen
+pub mod ForCallers

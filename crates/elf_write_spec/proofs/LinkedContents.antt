@@ -1,29 +1,29 @@
 -- What the bytes of a written section are, where it isn't the interpreter's.
 use Rattle.std.proofs.Common.{◌≡◌, ◌<◌, ℕ, zero, suc, ◌+◌, Bool, true, false, List, [], ◌∷◌, length, refl, sym, ap, ◌∙◌, subst, Option, Some, None, arith}
-use Rattle.std.specs.Prelude.{◌&&◌, ◌==◌, find, if◌then◌else◌, IsTrue}
+use Rattle.std.specs.Prelude.{◌&&◌, ◌==◌, find, IsTrue}
 use Rattle.std.specs.List.{slice_get}
 use Rattle.std.proofs.lemmas.Bool.{both_ways, eqb-true, false_from_ne_true, false≢true}
 use Rattle.std.proofs.lemmas.Option.{none-some, same_Some, slice_get_within}
 use Rattle.patch_bytes.specs.Memory.{◌>>=◌}
 use Rattle.patch_bytes.proofs.MemoryLaws.{bind_some}
-use Rattle.elf_format.specs.declared.constants.TheConstants.{PT_INTERP, SHT_DYNAMIC, SHT_DYNSYM, SHT_GNU_HASH, SHT_GNU_VERDEF, SHT_GNU_VERNEED, SHT_GNU_VERSYM, SHT_HASH, SHT_NOBITS, SHT_NOTE, SHT_PROGBITS, SHT_REL, SHT_RELA, SHT_STRTAB, SHT_SYMTAB}
-use Rattle.elf_format.specs.declared.records.SectionHeader.{SectionHeader}
+use Rattle.elf_format.specs.declared.constants.TheConstants.{PT_INTERP, SHT_PROGBITS}
 use Rattle.elf_format.specs.declared.section_data.SectionData.{SectionData}
 use Rattle.elf_format.specs.declared.section_data.SectionData.TheVariants as kinds
-use Rattle.elf_format.specs.File.{Parts, section_bytes, segment_of_type}
+use Rattle.elf_format.specs.File.{section_bytes, segment_of_type}
 use Rattle.elf_format.specs.Image.{Image, ImageSection}
-use Rattle.elf_format.specs.Options.{is_one_of, list_at}
-use Rattle.elf_format.specs.Rules.{data_of, file_of, is_opaque_relocation}
+use Rattle.elf_format.specs.Options.{list_at}
+use Rattle.elf_format.specs.Rules.{data_of, file_of}
 use Rattle.elf_image.specs.Kept.{KeptSection, image_at_read, interpreter_number, is_numbered, kept_from, kept_sections, stands_as_interpreter}
 use Rattle.elf_format.specs.Records.{symbols_in}
 use Rattle.elf_layout_plan.specs.Texts.{is_table_copied}
 use Rattle.elf_layout_plan.specs.Plan.{resized}
-use Rattle.elf_layout_plan.proofs.ApartLists.{find-at}
+use Rattle.elf_layout_plan.proofs.ForCallers.ApartLists.{find-at}
 use Rattle.elf_write_spec.specs.Again.{HasWrittenParts}
 use Rattle.elf_write_spec.specs.Contents.{AreDefinitionsIn, AreEntriesOf, AreNeedsIn, AreSymbolsOf, IsContentByKind, content_at_number, spelled_list}
 use Rattle.elf_write_spec.specs.Final.{final}
 use Rattle.elf_write_spec.specs.Writing.{IsWholeWriting, Writing, written_bytes}
-use Rattle.elf_write_spec.proofs.WholeFacts.{ReadFacts, SectionAt, kept, lengths, section_at}
+use Rattle.elf_write_spec.proofs.WholeFacts.{ReadFacts, SectionAt, lengths, section_at}
+use Rattle.elf_write_spec.proofs.NumberedSections.{kept}
 
 -- ## The interpreter's section
 
@@ -79,26 +79,6 @@ ContentByKind w i strings content bytes kind = elim kind [
   | kinds.GnuVerneed ↦ AreNeedsIn (resized w.image) strings bytes
   | _ ↦ bytes ≡ content
 ]
-
--- a section's kind, by its type and whether its relocations are kept as they are
-abbrev pub kind_by : ℕ → Bool → SectionData
-kind_by type opaque =
-    if type == SHT_NOBITS then kinds.Uninitialized
-    else if type == SHT_DYNAMIC then kinds.Dynamic
-    else if is_one_of (SHT_REL ∷ SHT_RELA ∷ []) type then (if opaque then kinds.Opaque else kinds.Relocation)
-    else if type == SHT_NOTE then kinds.Note
-    else if type == SHT_STRTAB then kinds.Strings
-    else if type == SHT_SYMTAB then kinds.Symbols
-    else if type == SHT_DYNSYM then kinds.DynamicSymbols
-    else if type == SHT_HASH then kinds.Hash
-    else if type == SHT_GNU_HASH then kinds.GnuHash
-    else if type == SHT_GNU_VERSYM then kinds.GnuVersym
-    else if type == SHT_GNU_VERDEF then kinds.GnuVerdef
-    else if type == SHT_GNU_VERNEED then kinds.GnuVerneed
-    else kinds.Opaque
-
-pub kind_is : (p : Parts) (s : SectionHeader) → data_of p s ≡ kind_by s.sh_type (is_opaque_relocation p s)
-kind_is p s = refl
 
 module _ (w : Writing) (is : IsWholeWriting w) (f : ReadFacts w) where
   read_kept : kept_sections (image_at_read w.image) ≡ kept_sections w.image

@@ -1,36 +1,16 @@
 -- The section headers of a written file match those that were read, one by one.
-use Rattle.std.proofs.Common.{◌≡◌, ◌≤◌, ◌*◌, ℕ, zero, suc, List, length, drop, refl, sym, ap, ◌∙◌, subst, inl, inr, Option, Some, None, arith}
+use Rattle.std.proofs.Common.{◌≡◌, ◌≤◌, ℕ, length, ap, ◌∙◌, subst, inl, inr, Some, None, arith}
 use Rattle.std.specs.List.{slice_get}
-use Rattle.std.proofs.lemmas.Option.{none-some, same_Some, slice_get_cases, slice_get_past}
-use Rattle.patch_bytes.specs.Memory.{◌>>=◌}
+use Rattle.std.proofs.lemmas.Option.{slice_get_cases, slice_get_past}
 use Rattle.elf_format.specs.declared.records.SectionHeader.{SectionHeader}
-use Rattle.elf_format.specs.File.{Opened, Parts, bytes_in, sections_of}
-use Rattle.elf_format.specs.Form.{records}
-use Rattle.elf_format.specs.Records.{section_header, section_header_size}
-use Rattle.elf_format.proofs.Placed.{IsIn, IsIn-slice_get}
+use Rattle.elf_format.specs.File.{Parts}
+use Rattle.elf_format.proofs.ForCallers.Placed.{IsIn, IsIn-slice_get}
 use Rattle.elf_write_spec.specs.Again.{written_parts}
 use Rattle.elf_write_spec.specs.Writing.{IsWholeWriting, Writing}
 use Rattle.elf_write_spec.proofs.WholeFacts.{ReadFacts, SectionAt, lengths, section_at, section_at_header}
+use Rattle.elf_format.proofs.ForCallers.Lengths.{length-sections}
 
 -- ## How many sections were read
-
-pub length-records : {A : Type 0} → (decode : List ℕ → A) (size count : ℕ) (bytes : List ℕ)
-    → length (records decode size count bytes) ≡ count
-unfolding records
-length-records decode size zero bytes = refl
-length-records decode size (suc count) bytes = ap suc (length-records decode size count (drop size bytes))
-
-length-read : (o : Opened) (there : Option (List ℕ)) (sections : List SectionHeader)
-    → (there >>= λ bytes. Some (records (section_header o.form) (section_header_size o.form) o.header.e_shnum bytes)) ≡ Some sections
-    → length sections ≡ o.header.e_shnum
-length-read o None sections e = absurd (none-some sections e)
-length-read o (Some bytes) sections e =
-    ap length (sym (same_Some (records (section_header o.form) (section_header_size o.form) o.header.e_shnum bytes) sections e))
-    ∙ length-records (section_header o.form) (section_header_size o.form) o.header.e_shnum bytes
-
-length-sections : (o : Opened) (sections : List SectionHeader) → sections_of o ≡ Some sections → length sections ≡ o.header.e_shnum
-unfolding sections_of
-length-sections o sections e = length-read o (bytes_in o.file o.header.e_shoff (o.header.e_shnum * section_header_size o.form)) sections e
 
 -- ## One by one
 

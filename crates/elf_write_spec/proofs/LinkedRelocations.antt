@@ -16,18 +16,20 @@ use Rattle.elf_format.specs.Options.{is_none_or, is_one_of, kept_if}
 use Rattle.elf_format.specs.Records.{Relocation, relocation_size, relocations_in, symbol_numbers, symbol_size}
 use Rattle.elf_format.specs.Rules.{file_of, is_opaque_relocation, is_relocation_section, is_symbol_table, relocated_symbols, relocations_fit, relocations_of, single_section_types}
 use Rattle.elf_format.specs.Views.{NamedSymbol}
-use Rattle.elf_format.proofs.Placed.{passes_picked}
-use Rattle.elf_format.proofs.ViewsAgree.{length-bytes}
+use Rattle.elf_format.proofs.ForCallers.Placed.{passes_picked}
+use Rattle.elf_format.proofs.ForCallers.ViewsAgree.{length-bytes}
 use Rattle.elf_image.specs.ReadImage.{AreDynamicSymbols, AreStaticSymbols}
 use Rattle.elf_image.specs.Kept.{image_at_read}
 use Rattle.elf_write_spec.specs.Again.{HasWrittenParts, written_parts}
 use Rattle.elf_write_spec.specs.Writing.{IsWholeWriting, Writing}
-use Rattle.elf_write_spec.proofs.LinkedContents.{bytes_copied, bytes_there, is_copied, kind_by}
+use Rattle.elf_write_spec.proofs.LinkedContents.{bytes_copied, bytes_there, is_copied}
 use Rattle.elf_write_spec.proofs.LinkedLists.{all-picked, found_only}
-use Rattle.elf_write_spec.proofs.LinkedMatch.{Both, LinkAt, Neither, each-header, form_kept, is_in, length-records, link_at, machine_kept}
+use Rattle.elf_write_spec.proofs.LinkedMatch.{Both, LinkAt, Neither, each-header, form_kept, is_in, link_at, machine_kept}
 use Rattle.elf_write_spec.proofs.LinkedSizes.{dynamic_symbols_sized, relocations_sized, symbols_sized}
 use Rattle.elf_write_spec.proofs.LinkedSymbols.{symbol_types}
 use Rattle.elf_write_spec.proofs.WholeFacts.{ReadFacts, SectionAt}
+use Rattle.elf_format.proofs.ForCallers.Lengths.{length-records}
+use Rattle.elf_write_spec.proofs.SectionKinds.{kind_by}
 
 -- ## How many symbols a table has
 

@@ -1,7 +1,7 @@
 -- A written file has no more program headers of a type that isn't loaded and never split than the file that was read.
 use Rattle.std.proofs.Common.{◌≡◌, ◌≤◌, ℕ, ◌+◌, Bool, true, false, List, [], ◌∷◌, ◌++◌, map, length, refl, sym, ap, ◌∙◌, subst, inl, inr, Option, Some, None, arith}
 use Rattle.std.specs.Prelude.{◌&&◌, not, ◌==◌, count_by, find, if◌then◌else◌}
-use Rattle.std.specs.List.{cons_option, flat_map, list_any, slice_get}
+use Rattle.std.specs.List.{flat_map, list_any, slice_get}
 use Rattle.std.specs.Option.{option_map, option_to_list}
 use Rattle.std.proofs.lemmas.Bool.{eqb-true, false≢true}
 use Rattle.std.proofs.lemmas.List.{length-map}
@@ -9,7 +9,6 @@ use Rattle.std.proofs.lemmas.List.Sums.{count_by-le-length}
 use Rattle.elf_format.specs.declared.constants.TheConstants.{PT_DYNAMIC, PT_GNU_STACK, PT_INTERP, PT_LOAD, PT_PHDR, SHT_DYNAMIC}
 use Rattle.elf_format.specs.declared.records.SegmentHeader.{SegmentHeader}
 use Rattle.elf_format.specs.File.{is_loaded}
-use Rattle.elf_format.specs.Places.{Place}
 use Rattle.elf_image.specs.Edited.{AreKept}
 use Rattle.elf_image.specs.Segments.{added_stack}
 use Rattle.elf_layout_plan.specs.Anchors.{HeaderTable, Itself, Anchor, Notes, OneSection, anchor_by_range, anchor_of, anchor_or_itself, section_or_table, section_under}
@@ -17,11 +16,13 @@ use Rattle.elf_image.specs.Kept.{KeptSection, interpreter_number, is_numbered, k
 use Rattle.elf_layout_plan.specs.Memory.{Resized}
 use Rattle.elf_layout_plan.specs.Plan.{IsPlan, Layout, layout_for}
 use Rattle.elf_layout_plan.specs.Standing.{places}
-use Rattle.elf_layout_plan.specs.Written.{Target, behind_last_load, anchored_to, places_of_kept, resized_table, target_at, targets_of, targets_of_notes, with_table_size, written_from, written_segments}
-use Rattle.elf_layout_plan.proofs.ApartLists.{each-at}
-use Rattle.elf_layout_plan.proofs.ApartWritten.{added_headers, all_added_are_loaded}
+use Rattle.elf_layout_plan.specs.Written.{Target, behind_last_load, anchored_to, places_of_kept, resized_table, target_at, targets_of, targets_of_notes, written_from, written_segments}
+use Rattle.elf_layout_plan.proofs.ForCallers.ApartLists.{each-at}
+use Rattle.elf_layout_plan.proofs.ForCallers.ApartWritten.{added_headers, all_added_are_loaded}
 use Rattle.elf_write_spec.specs.Whole.{AreAllKept}
 use Rattle.elf_write_spec.proofs.LinkedLists.{count-append, count-cons, count-flat_map, count-none, one_if}
+use Rattle.elf_layout_plan.proofs.ForCallers.PlacedWritten.{table_type}
+use Rattle.elf_layout_plan.proofs.ForCallers.PlacedCount.{length-one}
 
 -- how many program headers have the type
 abbrev pub count_of : ℕ → List SegmentHeader → ℕ
@@ -85,10 +86,6 @@ module _ (r : Resized) where
 
 -- ## What becomes of it
 
-length-one : (o : Option Place) → length (map target_at (cons_option o [])) ≤ 1
-length-one None = omega arith
-length-one (Some s) = omega arith
-
 -- where it goes, by what it goes by, and what is written of it, by where it goes
 abbrev targets_by : Resized → List ℕ → Anchor → List Target
 targets_by r moved anchor = elim anchor [
@@ -112,13 +109,6 @@ module _ (r : Resized) (moved : List ℕ) (type : ℕ) where
   one_target (OneSection s) h = length-one (slice_get (places r moved) s.position)
   one_target (Notes notes) h = absurd (false≢true (sym h))
 
-  table_type : (p : SegmentHeader) (anchor : Anchor) → (elim
-      anchor as (λ _. SegmentHeader) [ HeaderTable ↦ with_table_size r moved p | _ ↦ p ]).p_type ≡ p.p_type
-  table_type p Itself = refl
-  table_type p HeaderTable = refl
-  table_type p (OneSection s) = refl
-  table_type p (Notes notes) = refl
-
   -- where its type is another, none of it has this type
   count-anchored : (p : SegmentHeader) (ts : List Target) → (p.p_type == type) ≡ false → count_of type (map (anchored_to r.image.form p) ts) ≡ 0
   count-anchored p [] other = refl
@@ -130,7 +120,7 @@ module _ (r : Resized) (moved : List ℕ) (type : ℕ) where
   count-other p [] other = omega (
     arith,
     count-cons (λ (q : SegmentHeader). q.p_type == type) (resized_table r moved p) [],
-    ap one_if (ap (λ n. n == type) (table_type p (anchor_of r p)) ∙ other),
+    ap one_if (ap (λ n. n == type) (table_type r moved p (anchor_of r p)) ∙ other),
   )
   count-other p (t ∷ ts) other = count-anchored p (t ∷ ts) other
 

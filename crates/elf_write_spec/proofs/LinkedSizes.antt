@@ -10,7 +10,7 @@ use Rattle.elf_format.specs.Image.{ImageSection}
 use Rattle.elf_format.specs.Options.{is_one_of, list_at}
 use Rattle.elf_format.specs.Records.{entry_size, symbol_size}
 use Rattle.elf_format.specs.Rules.{are_whole, unit_of}
-use Rattle.elf_format.proofs.ViewsAgree.{whole_entries}
+use Rattle.elf_format.proofs.ForCallers.ViewsAgree.{whole_entries}
 use Rattle.elf_image.specs.Kept.{image_at_read, interpreter_number, is_numbered}
 use Rattle.elf_layout_plan.specs.Needs.{written_entries, written_needs}
 use Rattle.elf_layout_plan.specs.Sizes.{definitions_size, dynamic_size, hash_size, interpreter_size, needs_size, new_size, strings_size, table_size}
@@ -19,7 +19,8 @@ use Rattle.elf_write_spec.specs.Writing.{IsWholeWriting, Writing}
 use Rattle.elf_write_spec.proofs.LinkedContents.{interpreter_type, not_interpreter, section_type}
 use Rattle.elf_write_spec.proofs.LinkedLists.{all-at_each}
 use Rattle.elf_write_spec.proofs.LinkedMatch.{each-header, form_kept, is_in}
-use Rattle.elf_write_spec.proofs.WholeFacts.{ReadFacts, SectionAt, final_is, kept}
+use Rattle.elf_write_spec.proofs.WholeFacts.{ReadFacts, SectionAt, final_is}
+use Rattle.elf_write_spec.proofs.NumberedSections.{kept}
 
 -- ## By type
 

@@ -14,17 +14,18 @@ use Rattle.elf_format.specs.Options.{is_one_of}
 use Rattle.elf_format.specs.Records.{symbols_in}
 use Rattle.elf_format.specs.Rules.{data_of, file_of, is_opaque_relocation, is_symbol_table, symbols_have_sections}
 use Rattle.elf_format.specs.Views.{NamedSymbol}
-use Rattle.elf_format.proofs.Placed.{IsIn-slice_get, find_some, passes_picked}
+use Rattle.elf_format.proofs.ForCallers.Placed.{IsIn-slice_get, find_some, passes_picked}
 use Rattle.elf_image.specs.ReadImage.{AreDynamicSymbols}
 use Rattle.elf_image.specs.Kept.{image_at_read}
 use Rattle.elf_write_spec.specs.Again.{HasWrittenParts, written_parts}
 use Rattle.elf_write_spec.specs.Contents.{AreSymbolsOf, content_at_number}
 use Rattle.elf_write_spec.specs.Final.{final}
 use Rattle.elf_write_spec.specs.Writing.{IsWholeWriting, Writing, written_bytes}
-use Rattle.elf_write_spec.proofs.LinkedContents.{bytes_copied, bytes_there, content_of_kind, is_copied, kind_by}
+use Rattle.elf_write_spec.proofs.LinkedContents.{bytes_copied, bytes_there, content_of_kind, is_copied}
 use Rattle.elf_write_spec.proofs.LinkedLists.{all-picked}
 use Rattle.elf_write_spec.proofs.LinkedMatch.{count_kept, each-header, form_kept}
 use Rattle.elf_write_spec.proofs.WholeFacts.{ReadFacts, SectionAt, final_is}
+use Rattle.elf_write_spec.proofs.SectionKinds.{kind_by}
 
 -- a symbol's section is there, or its number has a special meaning
 abbrev pub is_section_there : ℕ → ℕ → Bool

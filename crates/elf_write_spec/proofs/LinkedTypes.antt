@@ -10,7 +10,7 @@ use Rattle.elf_format.specs.declared.records.SegmentHeader.{SegmentHeader}
 use Rattle.elf_format.specs.Options.{is_one_of, is_some_and}
 use Rattle.elf_format.specs.Places.{is_set}
 use Rattle.elf_format.specs.Rules.{are_linked, has_section_info, infos_are_sections, is_one_of_each, links_to, single_section_types, single_segment_types, symbol_users, text_users}
-use Rattle.elf_format.proofs.Placed.{passes_picked}
+use Rattle.elf_format.proofs.ForCallers.Placed.{passes_picked}
 use Rattle.elf_layout_plan.specs.Plan.{resized}
 use Rattle.elf_write_spec.specs.Again.{written_parts}
 use Rattle.elf_write_spec.specs.Whole.{AreAllKept}

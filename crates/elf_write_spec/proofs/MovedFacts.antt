@@ -12,10 +12,10 @@ use Rattle.elf_image.specs.Kept.{kept_sections}
 use Rattle.elf_layout_plan.specs.Memory.{Resized, SizedSection, blocks_with, edge_blocks, header_blocks, section_block, sized_sections, takes_memory}
 use Rattle.elf_layout_plan.specs.Rounds.{are_in_old_order, do_move, sections_at}
 use Rattle.elf_layout_plan.specs.Standing.{slot_of}
-use Rattle.elf_layout_plan.proofs.ApartFixed.{edges_no_section, headers_no_section}
-use Rattle.elf_layout_plan.proofs.ApartLists.{Each, Some_in, all-at, any-at, each-append, each-at, each-filter, each-from, each-map, each-more}
-use Rattle.elf_layout_plan.proofs.ApartPlaces.{slot_found}
-use Rattle.elf_layout_plan.proofs.ApartSections.{sized-at, sized_of}
+use Rattle.elf_layout_plan.proofs.ForCallers.ApartFixed.{edges_no_section, headers_no_section}
+use Rattle.elf_layout_plan.proofs.ForCallers.ApartLists.{Each, Some_in, all-at, any-at, each-append, each-at, each-filter, each-from, each-map, each-more}
+use Rattle.elf_layout_plan.proofs.ForCallers.ApartPlaces.{slot_found}
+use Rattle.elf_layout_plan.proofs.ForCallers.ApartSections.{sized-at, sized_of}
 
 -- of two blocks for which a test holds one passes another test, so some block of the list does
 one_of_two : (test : Block → Block → Bool) (own : Block → Bool) → ((a b : Block) → test a b ≡ true → (own a ≡ true) ⊎ (own b ≡ true))

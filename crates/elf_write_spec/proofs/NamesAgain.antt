@@ -15,9 +15,9 @@ use Rattle.elf_write_spec.specs.Again.{HasWrittenParts, written_parts}
 use Rattle.elf_write_spec.specs.Headers.{Reads}
 use Rattle.elf_write_spec.specs.Writing.{IsWholeWriting, Writing, names_content, written_bytes}
 use Rattle.elf_write_spec.proofs.ContentsAgain.{bytes_are, bytes_fit}
-use Rattle.elf_write_spec.proofs.SameLists.{length-sections}
 use Rattle.elf_write_spec.proofs.TextsRead.{each-from, text_again}
 use Rattle.elf_write_spec.proofs.WholeFacts.{ReadFacts, SectionAt, content_is, lengths, new_number-same, read_facts, section_at, section_at_header}
+use Rattle.elf_format.proofs.ForCallers.Lengths.{length-sections}
 
 module _ (w : Writing) (is : IsWholeWriting w) (f : ReadFacts w) where
   -- the number of the section of names is that of a section

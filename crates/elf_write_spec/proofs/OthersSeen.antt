@@ -20,7 +20,7 @@ use Rattle.elf_format.specs.Placement.{addresses_apart, ends_by, file_part, show
 use Rattle.elf_format.specs.Ranges.{all_apart, apart, end_of, lies_in, range}
 use Rattle.elf_format.specs.Records.{file_header_size, section_header_size}
 use Rattle.elf_format.specs.Views.{byte_at}
-use Rattle.elf_format.proofs.Placed.{held_ranges_are_seen}
+use Rattle.elf_format.proofs.ForCallers.Placed.{held_ranges_are_seen}
 use Rattle.elf_tables.specs.Spelled.{spelled_file_header, spelled_section_header, spelled_segment_header}
 use Rattle.elf_layout_plan.specs.FilePlaced.{written_headers, written_size, written_table}
 use Rattle.elf_layout_plan.specs.Anchors.{is_loaded_section}
@@ -28,15 +28,14 @@ use Rattle.elf_image.specs.Kept.{KeptSection, kept_sections, place_at_read}
 use Rattle.elf_layout_plan.specs.Memory.{Resized}
 use Rattle.elf_layout_plan.specs.Plan.{Layout, layout_for, resized}
 use Rattle.elf_layout_plan.specs.Written.{written_segments}
-use Rattle.elf_layout_plan.proofs.ApartBlocks.{apart-before, apart-from_empty}
-use Rattle.elf_layout_plan.proofs.ApartFacts.{bare}
-use Rattle.elf_layout_plan.proofs.ApartLists.{Each, all-at, any-from, at-map, each-append, each-at, map-at}
-use Rattle.elf_layout_plan.proofs.ApartRead.{edited_facts}
-use Rattle.elf_layout_plan.proofs.PlacedLists.{Has, any-from as any-has, filter-at, has_cases, has_none, slice_get-at}
-use Rattle.elf_layout_plan.proofs.PlacedPlans.{plans_are_placed}
-use Rattle.elf_layout_plan.proofs.PlacedRanges.{lies_in-from}
-use Rattle.elf_layout_plan.proofs.PlacedRead.{reads_placed}
-use Rattle.elf_layout_plan.proofs.PlacedSegments.{load_written}
+use Rattle.elf_layout_plan.proofs.ForCallers.ApartFacts.{bare}
+use Rattle.elf_layout_plan.proofs.ForCallers.ApartLists.{Each, all-at, any-from, at-map, each-append, each-at, map-at}
+use Rattle.elf_layout_plan.proofs.ForCallers.ApartRead.{edited_facts}
+use Rattle.elf_layout_plan.proofs.ForCallers.PlacedLists.{Has, any-from as any-has, filter-at, has_cases, has_none, slice_get-at}
+use Rattle.elf_layout_plan.proofs.ForCallers.PlacedPlans.{plans_are_placed}
+use Rattle.elf_layout_plan.proofs.ForCallers.PlacedRanges.{lies_in-from}
+use Rattle.elf_layout_plan.proofs.ForCallers.PlacedRead.{reads_placed}
+use Rattle.elf_layout_plan.proofs.ForCallers.PlacedSegments.{load_written}
 use Rattle.elf_write_spec.specs.Base.{base, base_byte, does_byte_stay, has_position, is_data, is_rewritten, old_places}
 use Rattle.elf_write_spec.specs.Headers.{written_header}
 use Rattle.elf_write_spec.specs.Laws.{WrittenFilesKeepOthers}
@@ -45,7 +44,9 @@ use Rattle.elf_write_spec.specs.Writing.{IsWholeWriting, Writing, patch, patches
 use Rattle.elf_write_spec.proofs.ApartInFile.{stands_behind}
 use Rattle.elf_write_spec.proofs.Laying.{AreApart, field-laid_apart, field-values, range_of}
 use Rattle.elf_write_spec.proofs.Patches.{AreSized, are_sized, first_range, length-written, patches_lie_in_base, second_range, third_range}
-use Rattle.elf_write_spec.proofs.WholeFacts.{SectionAt, kept, lengths, read_facts, section_at}
+use Rattle.elf_write_spec.proofs.WholeFacts.{SectionAt, lengths, read_facts, section_at}
+use Rattle.elf_write_spec.proofs.NumberedSections.{kept}
+use Rattle.elf_format.proofs.ForCallers.{apart-before, apart-from_empty}
 
 -- ## One place
 

@@ -15,17 +15,17 @@ use Rattle.elf_format.specs.Places.{Place, file_range, occupies_file}
 use Rattle.elf_format.specs.Ranges.{end_of, range}
 use Rattle.elf_format.specs.Records.{file_header_size, section_header_size, segment_header_size}
 use Rattle.elf_tables.specs.Spelled.{spelled_file_header, spelled_section_header, spelled_segment_header}
-use Rattle.elf_tables.proofs.FileHeaderBack.{file_headers_are_read_back}
-use Rattle.elf_tables.proofs.SectionHeaderBack.{section_headers_are_read_back}
-use Rattle.elf_tables.proofs.SegmentHeaderBack.{segment_headers_are_read_back}
+use Rattle.elf_tables.proofs.ForCallers.FileHeaderBack.{file_headers_are_read_back}
+use Rattle.elf_tables.proofs.ForCallers.SectionHeaderBack.{section_headers_are_read_back}
+use Rattle.elf_tables.proofs.ForCallers.SegmentHeaderBack.{segment_headers_are_read_back}
 use Rattle.elf_layout_plan.specs.FilePlaced.{written_size, written_table}
 use Rattle.elf_image.specs.Kept.{KeptSection, kept_sections}
 use Rattle.elf_layout_plan.specs.Memory.{Resized}
 use Rattle.elf_layout_plan.specs.Plan.{resized}
-use Rattle.elf_layout_plan.proofs.ApartBlocks.{all_apart_pairs}
-use Rattle.elf_layout_plan.proofs.ApartLists.{Each, Pairs, all-at, each-append, each-at, each-back, each-front, each-more, each-unfilter, each-unmap, pairs-unfilter, pairs-unmap}
-use Rattle.elf_layout_plan.proofs.PlacedPlans.{plans_are_placed}
-use Rattle.elf_layout_plan.proofs.PlacedRanges.{apart-swap}
+use Rattle.elf_layout_plan.proofs.ForCallers.ApartBlocks.{all_apart_pairs}
+use Rattle.elf_layout_plan.proofs.ForCallers.ApartLists.{Each, Pairs, all-at, each-append, each-at, each-back, each-front, each-more, each-unfilter, each-unmap, pairs-unfilter, pairs-unmap}
+use Rattle.elf_layout_plan.proofs.ForCallers.PlacedPlans.{plans_are_placed}
+use Rattle.elf_layout_plan.proofs.ForCallers.PlacedRanges.{apart-swap}
 use Rattle.elf_write_spec.specs.Base.{base, base_byte, is_data}
 use Rattle.elf_write_spec.specs.Headers.{written_header}
 use Rattle.elf_write_spec.specs.Writing.{IsWholeWriting, Writing, patch, patches, patches_of_section, patches_of_sections, written_bytes}

@@ -28,7 +28,7 @@ use Rattle.elf_image.specs.Kept.{image_at_read, interpreter_number, is_numbered}
 use Rattle.elf_layout_plan.specs.Memory.{Resized}
 use Rattle.elf_layout_plan.specs.Plan.{Layout, resized}
 use Rattle.elf_layout_plan.specs.Sizes.{dynamic_size, interpreter_size, new_size, table_size}
-use Rattle.elf_layout_plan.proofs.ApartLists.{Each}
+use Rattle.elf_layout_plan.proofs.ForCallers.ApartLists.{Each}
 use Rattle.elf_write_spec.specs.Again.{HasWrittenParts, written_parts}
 use Rattle.elf_write_spec.specs.Base.{is_interpreter}
 use Rattle.elf_write_spec.specs.Contents.{AreEntriesOf, IsContentByKind, content_at_number, spelled_list}
@@ -36,7 +36,8 @@ use Rattle.elf_write_spec.specs.Final.{final}
 use Rattle.elf_write_spec.specs.Writing.{IsWholeWriting, Writing, written_bytes}
 use Rattle.elf_write_spec.proofs.InterpreterAt.{isnt_interpreter}
 use Rattle.elf_write_spec.proofs.SpelledEntries.{spelled-read}
-use Rattle.elf_write_spec.proofs.WholeFacts.{Nowhere, ReadFacts, SectionAt, There, TypeAt, final_is, kept, read_facts, type_at}
+use Rattle.elf_write_spec.proofs.WholeFacts.{Nowhere, ReadFacts, SectionAt, There, TypeAt, final_is, read_facts, type_at}
+use Rattle.elf_write_spec.proofs.NumberedSections.{kept}
 
 -- ## The entries of an image
 

@@ -2,7 +2,7 @@
 use Rattle.std.proofs.Common.{◌≡◌, ℕ, refl, ap, ◌∙◌, Option, Some, Ok}
 use Rattle.elf_format.specs.Image.{Image, image_of, shown}
 use Rattle.elf_format.specs.Rules.{IsAcceptedWith, MeetsRules}
-use Rattle.elf_format.proofs.ImageShows.{images_show}
+use Rattle.elf_format.proofs.ForCallers.ImageShows.{images_show}
 use Rattle.elf_image.specs.Kept.{image_at_read}
 use Rattle.elf_write_spec.specs.Again.{HasWrittenParts, IsImageAgain, sections_again, written_parts}
 use Rattle.elf_write_spec.specs.Final.{final, final_view}

@@ -13,7 +13,7 @@ use Rattle.elf_format.specs.Options.{each, is_one_of}
 use Rattle.elf_format.specs.Rules.{definition_steps, linked_texts, need_steps, text_users}
 use Rattle.elf_format.specs.Versions.{DefinitionNumbers, NeedNumbers, Step, VersionDefinition, VersionNeeds, definition_at, is_whole_walk, need_at, shown_definition, shown_need, values_of, walked}
 use Rattle.elf_format.specs.Views.{defined_versions, needed_versions, whole_chain}
-use Rattle.elf_format.proofs.Agreement.{each-agrees, shown_definition-keeps, shown_need-keeps}
+use Rattle.elf_format.proofs.ForCallers.Agreement.{each-agrees, shown_definition-keeps, shown_need-keeps}
 use Rattle.elf_image.specs.Kept.{image_at_read}
 use Rattle.elf_layout_plan.specs.Memory.{Resized}
 use Rattle.elf_layout_plan.specs.Plan.{resized}

@@ -25,14 +25,15 @@ use Rattle.elf_image.specs.Kept.{KeptSection, image_at_read, interpreter_number,
 use Rattle.elf_layout_plan.specs.Memory.{Resized}
 use Rattle.elf_layout_plan.specs.Plan.{resized}
 use Rattle.elf_layout_plan.specs.Written.{anchored_to, target_at}
-use Rattle.elf_layout_plan.proofs.ApartLists.{find-at, find-misses, each-at}
+use Rattle.elf_layout_plan.proofs.ForCallers.ApartLists.{find-at, find-misses, each-at}
 use Rattle.elf_write_spec.specs.Again.{HasWrittenParts, written_parts}
 use Rattle.elf_write_spec.specs.Writing.{IsWholeWriting, Writing, written_bytes}
 use Rattle.elf_write_spec.proofs.InterpreterAt.{interpreter_is, kept_same}
 use Rattle.elf_write_spec.proofs.RawEntries.{entries_here, place_filled}
 use Rattle.elf_write_spec.proofs.UnloadedStay.{unloaded_stays}
-use Rattle.elf_write_spec.proofs.WholeFacts.{Nowhere, ReadFacts, SectionAt, There, TypeAt, kept, kept_is, read_facts, section_at, type_at}
+use Rattle.elf_write_spec.proofs.WholeFacts.{Nowhere, ReadFacts, SectionAt, There, TypeAt, kept_is, read_facts, section_at, type_at}
 use Rattle.elf_write_spec.proofs.WrittenTypes.{ASegment, NoSegment, SegmentAt, all_places_are, becomes, becomes-section, has_type, segment_at}
+use Rattle.elf_write_spec.proofs.NumberedSections.{kept}
 
 -- ## What a program header goes by
 

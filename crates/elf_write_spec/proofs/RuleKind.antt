@@ -22,18 +22,18 @@ use Rattle.elf_layout_plan.specs.Memory.{Resized}
 use Rattle.elf_layout_plan.specs.Plan.{Layout, does_place_fit, does_plan_fit, does_segment_fit, layout_for, resized}
 use Rattle.elf_layout_plan.specs.Sizes.{fits_field}
 use Rattle.elf_layout_plan.specs.Standing.{sections_offset}
-use Rattle.elf_layout_plan.proofs.PlacedLists.{Has, all-at, all-from, filter-at, filter-from, find-at, slice_get-at}
-use Rattle.elf_layout_plan.proofs.PlacedRead.{ReadsPlaced, header_filled, reads_placed}
-use Rattle.elf_layout_plan.proofs.PlacedSegments.{end_before_sections, header_before_kept_end, kept_before_segments_end, segments_before_end}
+use Rattle.elf_layout_plan.proofs.ForCallers.PlacedLists.{Has, all-at, all-from, filter-at, filter-from, find-at, slice_get-at}
+use Rattle.elf_layout_plan.proofs.ForCallers.PlacedRead.{ReadsPlaced, header_filled, reads_placed}
+use Rattle.elf_layout_plan.proofs.ForCallers.PlacedSegments.{end_before_sections, header_before_kept_end, kept_before_segments_end, segments_before_end}
 use Rattle.elf_write_spec.specs.Again.{HasWrittenParts, written_parts}
 use Rattle.elf_write_spec.specs.Contents.{AreSymbolsOf, IsSymbolOf}
 use Rattle.elf_write_spec.specs.Final.{final, new_number}
 use Rattle.elf_write_spec.specs.Writing.{IsWholeWriting, Writing, written_bytes}
 use Rattle.elf_write_spec.proofs.ContentFacts.{dynamic_symbols_shown, linked_bytes, symbols_copied}
 use Rattle.elf_write_spec.proofs.HeaderTables.{header_bytes, sections_there-all}
-use Rattle.elf_write_spec.proofs.SameLists.{length-sections}
 use Rattle.elf_write_spec.proofs.WholeFacts.{ReadFacts, SectionAt, final_is, lengths, new_number-same, read_facts, section_at, section_at_header}
 use Rattle.elf_write_spec.proofs.WholeLists.{has_at}
+use Rattle.elf_format.proofs.ForCallers.Lengths.{length-sections}
 
 -- ## Ten tests
 

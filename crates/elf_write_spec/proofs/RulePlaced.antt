@@ -12,8 +12,8 @@ use Rattle.elf_format.specs.Places.{Place, file_range, occupies_file, places_of}
 use Rattle.elf_format.specs.Rules.{are_sections_loaded, segment_table_range}
 use Rattle.elf_layout_plan.specs.FilePlaced.{written_headers, written_size}
 use Rattle.elf_layout_plan.specs.Plan.{resized}
-use Rattle.elf_layout_plan.proofs.PlacedLists.{all-at, all-from}
-use Rattle.elf_layout_plan.proofs.PlacedPlans.{plans_are_placed}
+use Rattle.elf_layout_plan.proofs.ForCallers.PlacedLists.{all-at, all-from}
+use Rattle.elf_layout_plan.proofs.ForCallers.PlacedPlans.{plans_are_placed}
 use Rattle.elf_write_spec.specs.Again.{HasWrittenParts, written_parts}
 use Rattle.elf_write_spec.specs.Writing.{IsWholeWriting, Writing, written_bytes}
 use Rattle.elf_write_spec.proofs.HeaderTables.{table_at}

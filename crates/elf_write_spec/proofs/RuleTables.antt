@@ -20,11 +20,11 @@ use Rattle.elf_format.specs.Records.{symbol_size}
 use Rattle.elf_format.specs.Rules.{are_dynamic_tables_right, dynamic_tables_agree, file_of, linked_texts, raw_entries, tag_fits, tag_is_address, tags_come_once}
 use Rattle.elf_image.specs.DynamicList.{IsListed, is_table_tag, tables_of}
 use Rattle.elf_image.specs.Edited as edited
-use Rattle.elf_image.proofs.EditedLaws.{read_is_edited}
+use Rattle.elf_image.proofs.ForCallers.EditedLaws.{read_is_edited}
 use Rattle.elf_image.specs.Kept.{KeptSection, dynamic_strings_number, image_at_read, kept_at_number, kept_of_type, link_of_type}
 use Rattle.elf_layout_plan.specs.Memory.{Resized}
 use Rattle.elf_layout_plan.specs.Plan.{resized}
-use Rattle.elf_layout_plan.proofs.PlacedRead.{at_read}
+use Rattle.elf_layout_plan.proofs.ForCallers.PlacedRead.{at_read}
 use Rattle.elf_write_spec.specs.Again.{HasWrittenParts, written_parts}
 use Rattle.elf_write_spec.specs.Contents.{address_of_type, place_of_kept, strings_place, table_value}
 use Rattle.elf_write_spec.specs.Final.{final, new_number}
@@ -32,7 +32,8 @@ use Rattle.elf_write_spec.specs.Headers.{behind_locals, is_info_number, written_
 use Rattle.elf_write_spec.specs.Writing.{IsWholeWriting, Writing}
 use Rattle.elf_write_spec.proofs.RawEntries.{all_listed, are_entries, list_strings, raw_is}
 use Rattle.elf_write_spec.proofs.TableTags.{has-same, once-same, raw_tables, tables_read, tables_written, value_written}
-use Rattle.elf_write_spec.proofs.WholeFacts.{Nowhere, ReadFacts, SectionAt, There, TypeAt, kept, kept_is, read_facts, section_at, type_at}
+use Rattle.elf_write_spec.proofs.WholeFacts.{Nowhere, ReadFacts, SectionAt, There, TypeAt, kept_is, read_facts, section_at, type_at}
+use Rattle.elf_write_spec.proofs.NumberedSections.{kept}
 
 -- ## The rule by what it is of
 

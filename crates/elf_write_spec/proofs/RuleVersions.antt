@@ -18,18 +18,18 @@ use Rattle.elf_format.specs.Options.{each, first_there, is_none_or, is_one_of, i
 use Rattle.elf_format.specs.Records.{symbol_numbers, symbol_size}
 use Rattle.elf_format.specs.Rules.{are_dynamic_strings_own, are_versions_right, definition_steps, dynamic_strings_user, file_of, known_versions, linked_texts, need_steps, version_symbols_agree}
 use Rattle.elf_format.specs.Versions.{DefinitionNumbers, NeedNumbers, VersionDefinition, VersionName, VersionNeeds, is_whole_walk, shown_definition, shown_need, shown_need_name, values_of, version_id}
-use Rattle.elf_format.proofs.Placed.{IsIn-slice_get}
-use Rattle.elf_format.proofs.ViewsAgree.{length-bytes, test_at, there_and, version_symbols_right}
+use Rattle.elf_format.proofs.ForCallers.Placed.{IsIn-slice_get}
+use Rattle.elf_format.proofs.ForCallers.ViewsAgree.{length-bytes, test_at, there_and, version_symbols_right}
 use Rattle.elf_image.specs.Kept.{image_at_read}
 use Rattle.elf_write_spec.specs.Again.{HasWrittenParts, written_parts}
 use Rattle.elf_write_spec.specs.Writing.{IsWholeWriting, Writing, written_bytes}
 use Rattle.elf_write_spec.proofs.ContentsAgain.{bytes_are, content_was, size_is, versym_content}
 use Rattle.elf_write_spec.proofs.DynamicAgain.{dynamic_as_read}
 use Rattle.elf_write_spec.proofs.RecordsAgain.{definitions_again, definitions_at, needs_again, needs_at}
-use Rattle.elf_write_spec.proofs.SameLists.{length-records}
 use Rattle.elf_write_spec.proofs.SymbolsAgain.{form_is}
 use Rattle.elf_write_spec.proofs.WholeFacts.{ReadFacts, SectionAt, There, Nowhere, TypeAt, read_facts, section_at_header, type_at}
 use Rattle.elf_write_spec.proofs.WholeLists.{all-each}
+use Rattle.elf_format.proofs.ForCallers.Lengths.{length-records}
 
 -- ## Indices
 

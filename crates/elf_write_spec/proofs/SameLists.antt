@@ -1,27 +1,24 @@
 -- An edited image whose dynamic symbols are those that were read: its names, its needed versions and its dynamic list stay. Symbols
 -- that were read name sections that are there.
-use Rattle.std.proofs.Common.{◌≡◌, ℕ, zero, suc, ◌<◌, List, length, map, drop, Bool, true, false, not, ◌&&◌, ◌||◌, [], ◌∷◌, refl, sym, ap, ◌∙◌, subst, Option, Some, None, arith}
-use Rattle.std.specs.Prelude.{filter, nat_le, nat_lt, ◌*◌, ◌==◌, if◌then◌else◌}
+use Rattle.std.proofs.Common.{◌≡◌, ℕ, ◌<◌, List, map, Bool, true, false, not, ◌&&◌, ◌||◌, ◌∷◌, refl, sym, ap, ◌∙◌, subst, Option, Some, None, arith, []}
+use Rattle.std.specs.Prelude.{filter, nat_le, nat_lt, ◌==◌, if◌then◌else◌}
 use Rattle.std.specs.List.{list_all, slice_get}
 use Rattle.std.specs.Option.{option_map}
 use Rattle.std.proofs.lemmas.Bool.{and_parts, eqb-true}
 use Rattle.std.proofs.lemmas.Bool.Decides.{nat_tests}
-use Rattle.std.proofs.lemmas.Option.{none-some, same_Some}
-use Rattle.patch_bytes.specs.Memory.{◌>>=◌}
+use Rattle.std.proofs.lemmas.Option.{none-some}
 use Rattle.elf_format.specs.declared.constants.TheConstants.{DT_VERNEED, DT_VERNEEDNUM, SHN_LORESERVE, SHT_DYNSYM, SHT_SYMTAB}
 use Rattle.elf_format.specs.declared.records.SectionHeader.{SectionHeader}
 use Rattle.elf_format.specs.declared.records.SymbolNumbers.{SymbolNumbers}
-use Rattle.elf_format.specs.File.{Opened, Parts, bytes_in, section_of_type, sections_of}
-use Rattle.elf_format.specs.Form.{records}
+use Rattle.elf_format.specs.File.{Parts, section_of_type}
 use Rattle.elf_format.specs.Image.{Image, entry_tag, symbols_of}
 use Rattle.elf_format.specs.Options.{is_one_of, is_some_and}
-use Rattle.elf_format.specs.Records.{section_header, section_header_size}
 use Rattle.elf_format.specs.Rules.{MeetsRules, are_linked, are_whole, infos_are_sections, is_one_of_each, is_symbol_table, relocations_fit, symbols_have_sections}
 use Rattle.elf_format.specs.Versions.{VersionName, VersionNeeds}
 use Rattle.elf_format.specs.Views.{NamedSymbol}
 use Rattle.elf_image.specs.ReadImage.{AreDynamicSymbols, AreStaticSymbols}
 use Rattle.elf_layout_plan.specs.Needs.{do_needs_stay, is_empty, is_version_dropped, is_version_used, lists_needs, staying_names, staying_needs, with_staying_names, written_entries, written_needs}
-use Rattle.elf_layout_plan.proofs.PlacedLists.{Has, all-at, filter-from, find-at, slice_get-at}
+use Rattle.elf_layout_plan.proofs.ForCallers.PlacedLists.{Has, all-at, filter-from, find-at, slice_get-at}
 use Rattle.elf_write_spec.proofs.WholeLists.{filter-same, map-same}
 
 module _ (read image : Image) (same : image.dynamic_symbols ≡ read.dynamic_symbols) where
@@ -74,25 +71,6 @@ module _ (read image : Image) (same : image.dynamic_symbols ≡ read.dynamic_sym
       by_test false = refl
 
 -- ## Sections of symbols
-
-pub length-records : {A : Type 0} → (decode : List ℕ → A) (size count : ℕ) (bytes : List ℕ)
-    → length (records decode size count bytes) ≡ count
-unfolding records
-length-records decode size zero bytes = refl
-length-records decode size (suc count) bytes = ap suc (length-records decode size count (drop size bytes))
-
--- there are as many section headers as the file header says
-length-read : (o : Opened) (there : Option (List ℕ)) (sections : List SectionHeader)
-    → (there >>= λ bytes. Some (records (section_header o.form) (section_header_size o.form) o.header.e_shnum bytes)) ≡ Some sections
-    → length sections ≡ o.header.e_shnum
-length-read o None sections e = absurd (none-some sections e)
-length-read o (Some bytes) sections e =
-    ap length (sym (same_Some (records (section_header o.form) (section_header_size o.form) o.header.e_shnum bytes) sections e))
-    ∙ length-records (section_header o.form) (section_header_size o.form) o.header.e_shnum bytes
-
-pub length-sections : (o : Opened) (sections : List SectionHeader) → sections_of o ≡ Some sections → length sections ≡ o.header.e_shnum
-unfolding sections_of
-length-sections o sections e = length-read o (bytes_in o.file o.header.e_shoff (o.header.e_shnum * section_header_size o.form)) sections e
 
 -- a number of a section that is there, or one of special meaning
 abbrev pub IsKnown : ℕ → ℕ → Type 0

@@ -5,7 +5,7 @@ use Rattle.std.specs.List.{list_any, slice_get}
 use Rattle.std.proofs.lemmas.Bool.{cases_Bool, cases_lt, eqb-true, false≢true, or_cases}
 use Rattle.std.proofs.lemmas.Option.{none-some, same_Some, slice_get_within}
 use Rattle.patch_bytes.proofs.MemoryLaws.{some_bind}
-use Rattle.elf_format.specs.declared.constants.TheConstants.{EM_MIPS, SHT_DYNAMIC, SHT_DYNSYM, SHT_GNU_HASH, SHT_GNU_VERDEF, SHT_GNU_VERNEED, SHT_GNU_VERSYM, SHT_HASH, SHT_NOBITS, SHT_NOTE, SHT_PROGBITS, SHT_REL, SHT_RELA, SHT_STRTAB, SHT_SYMTAB}
+use Rattle.elf_format.specs.declared.constants.TheConstants.{EM_MIPS, SHT_DYNSYM, SHT_PROGBITS, SHT_REL, SHT_RELA, SHT_SYMTAB}
 use Rattle.elf_format.specs.declared.records.EntryNumbers.{EntryNumbers}
 use Rattle.elf_format.specs.declared.form.Form.{Form}
 use Rattle.elf_format.specs.declared.records.SectionHeader.{SectionHeader}
@@ -27,7 +27,9 @@ use Rattle.elf_write_spec.specs.Writing.{IsWholeWriting, Writing, written_bytes}
 use Rattle.elf_write_spec.proofs.InterpreterAt.{isnt_interpreter}
 use Rattle.elf_write_spec.proofs.NamesAgain.{name_again}
 use Rattle.elf_write_spec.proofs.TextsRead.{each-from}
-use Rattle.elf_write_spec.proofs.WholeFacts.{ReadFacts, SectionAt, kept, lengths, read_facts, section_at, section_at_header}
+use Rattle.elf_write_spec.proofs.WholeFacts.{ReadFacts, SectionAt, lengths, read_facts, section_at, section_at_header}
+use Rattle.elf_write_spec.proofs.NumberedSections.{kept}
+use Rattle.elf_write_spec.proofs.SectionKinds.{kind_by, kind_is}
 
 -- ## Lists of sections
 
@@ -53,30 +55,8 @@ again-at (x ∷ ss) (y ∷ hs) (z ∷ cs) (suc i) s h c at_s at_h at_c = again-a
 
 -- ## Kinds
 
--- a section's kind, by its type and whether its relocations are kept as they are
-kind_by : ℕ → Bool → SectionData
-kind_by type opaque =
-    if type == SHT_NOBITS then kinds.Uninitialized
-    else if type == SHT_DYNAMIC then kinds.Dynamic
-    else if is_one_of (SHT_REL ∷ SHT_RELA ∷ []) type then (if opaque then kinds.Opaque else kinds.Relocation)
-    else if type == SHT_NOTE then kinds.Note
-    else if type == SHT_STRTAB then kinds.Strings
-    else if type == SHT_SYMTAB then kinds.Symbols
-    else if type == SHT_DYNSYM then kinds.DynamicSymbols
-    else if type == SHT_HASH then kinds.Hash
-    else if type == SHT_GNU_HASH then kinds.GnuHash
-    else if type == SHT_GNU_VERSYM then kinds.GnuVersym
-    else if type == SHT_GNU_VERDEF then kinds.GnuVerdef
-    else if type == SHT_GNU_VERNEED then kinds.GnuVerneed
-    else kinds.Opaque
-
-data_is : (p : Parts) (s : SectionHeader) → data_of p s ≡ kind_by s.sh_type (is_opaque_relocation p s)
-unfolding kind_by
-data_is p s = refl
-
 -- only relocations may be kept as they are
 kind-same : (type : ℕ) (a b : Bool) → (is_one_of (SHT_REL ∷ SHT_RELA ∷ []) type ≡ true → a ≡ b) → kind_by type a ≡ kind_by type b
-unfolding kind_by
 kind-same type a b same = elim (cases_Bool (is_one_of (SHT_REL ∷ SHT_RELA ∷ []) type)) [
   | inl relocations ↦ ap (kind_by type) (same relocations)
   | inr others ↦ rw others refl
@@ -167,7 +147,6 @@ not_program type h =
 
 kind_of_relocations : (type : ℕ) → is_one_of (SHT_REL ∷ SHT_RELA ∷ []) type ≡ true → (opaque : Bool)
     → kind_by type opaque ≡ (if opaque then kinds.Opaque else kinds.Relocation)
-unfolding kind_by
 kind_of_relocations type h opaque =
     elim (relocation_types type h) [ inl e ↦ ap (λ n. kind_by n opaque) (sym e) | inr e ↦ ap (λ n. kind_by n opaque) (sym e) ]
 
@@ -192,7 +171,7 @@ module _ (w : Writing) (is : IsWholeWriting w) (has : HasWrittenParts w) (f : Re
   relocations_kept h =
       let type : at.section.sh_type ≡ at.old.sh_type = ap (λ (x : ImageSection). x.sh_type) at.of_old.fields in
       let kind : at.section.kind ≡ kind_by at.old.sh_type (is_opaque_relocation f.parts at.old) =
-      ap (λ (x : ImageSection). x.kind) at.of_old.fields ∙ data_is f.parts at.old in
+      ap (λ (x : ImageSection). x.kind) at.of_old.fields ∙ kind_is f.parts at.old in
       relocations_shown (resized w.image) w.plan w.raw (content_at_number w.image w.contents at.section.sh_link)
       (kept i at.section) at.bytes
       (is_interpreter (resized w.image) (kept i at.section))
@@ -222,10 +201,10 @@ module _ (w : Writing) (is : IsWholeWriting w) (has : HasWrittenParts w) (f : Re
 
   kind_same : data_of (written_parts w) at.header ≡ at.section.kind
   kind_same =
-      data_is (written_parts w) at.header
+      kind_is (written_parts w) at.header
       ∙ ap (λ type. kind_by type (is_opaque_relocation (written_parts w) at.header)) at.type
       ∙ kind-same at.old.sh_type (is_opaque_relocation (written_parts w) at.header) (is_opaque_relocation f.parts at.old) opaque_same
-      ∙ sym (data_is f.parts at.old)
+      ∙ sym (kind_is f.parts at.old)
       ∙ ap (λ (x : ImageSection). x.kind) (sym at.of_old.fields)
 
 -- ## A section

@@ -9,7 +9,7 @@ use Rattle.elf_format.specs.Placement.{sections_held, something_loaded, stored_a
 use Rattle.elf_format.specs.Places.{is_set, places_of}
 use Rattle.elf_format.specs.Rules.{header_ranges}
 use Rattle.elf_format.specs.Views.{byte_at}
-use Rattle.elf_format.proofs.Placed.{held_sections_are_seen}
+use Rattle.elf_format.proofs.ForCallers.Placed.{held_sections_are_seen}
 use Rattle.elf_write_spec.specs.Again.{written_parts}
 use Rattle.elf_write_spec.specs.Writing.{IsWholeWriting, Writing, written_bytes}
 use Rattle.elf_write_spec.proofs.FileParts.{written_files_have_parts}

@@ -11,8 +11,8 @@ use Rattle.elf_layout_plan.specs.Anchors.{HeaderTable, Itself, Anchor, Notes, On
 use Rattle.elf_layout_plan.specs.Memory.{Resized}
 use Rattle.elf_layout_plan.specs.Plan.{resized}
 use Rattle.elf_layout_plan.specs.Written.{Target, behind_last_load, anchored_to, resized_table, targets_of, with_table_size, written_from, written_segments}
-use Rattle.elf_layout_plan.proofs.ApartLists.{Each}
-use Rattle.elf_layout_plan.proofs.ApartWritten.{added_headers, all_added_are_loaded}
+use Rattle.elf_layout_plan.proofs.ForCallers.ApartLists.{Each}
+use Rattle.elf_layout_plan.proofs.ForCallers.ApartWritten.{added_headers, all_added_are_loaded}
 use Rattle.elf_write_spec.specs.Writing.{IsWholeWriting, Writing}
 use Rattle.elf_write_spec.proofs.WrittenTypes.{segments_are}
 

@@ -20,7 +20,7 @@ use Rattle.elf_format.specs.Options.{first_there, list_at}
 use Rattle.elf_format.specs.Places.{Place}
 use Rattle.elf_format.specs.Rules.{linked_texts, raw_entries, shares_texts, texts_are_shared}
 use Rattle.elf_format.specs.Views.{first_by_tag, section_memory}
-use Rattle.elf_format.proofs.ViewsAgree.{agrees, test_at}
+use Rattle.elf_format.proofs.ForCallers.ViewsAgree.{agrees, test_at}
 use Rattle.elf_image.specs.DynamicList.{IsListed, is_number_tag, is_text_tag}
 use Rattle.elf_image.specs.Edited.{AreEntriesOf as AreEditedEntries}
 use Rattle.elf_image.specs.Kept.{KeptSection, dynamic_strings_number, image_at_read, kept_at_number, link_of_type}
@@ -32,7 +32,8 @@ use Rattle.elf_write_spec.specs.Writing.{IsWholeWriting, Writing, written_bytes}
 use Rattle.elf_write_spec.proofs.ContentsAgain.{Linked, entries_content, link_is, size_is, texts_are}
 use Rattle.elf_write_spec.proofs.RawEntries.{raw_is}
 use Rattle.elf_write_spec.proofs.TextsRead.{whole-Keeps}
-use Rattle.elf_write_spec.proofs.WholeFacts.{ReadFacts, SectionAt, There, Nowhere, final_is, kept, kept_is, type_at}
+use Rattle.elf_write_spec.proofs.WholeFacts.{ReadFacts, SectionAt, There, Nowhere, final_is, kept_is, type_at}
+use Rattle.elf_write_spec.proofs.NumberedSections.{kept}
 
 -- ## Without a dynamic list
 

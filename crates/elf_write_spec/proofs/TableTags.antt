@@ -16,7 +16,7 @@ use Rattle.elf_format.specs.Rules.{tags_come_once}
 use Rattle.elf_image.specs.DynamicList.{IsListed, is_table_tag, is_text_tag, table_tag, tables_of}
 use Rattle.elf_layout_plan.specs.Memory.{Resized}
 use Rattle.elf_layout_plan.specs.Plan.{Layout}
-use Rattle.elf_layout_plan.proofs.ApartLists.{all-at, all-from, any-at, any-from, each-at, each-from}
+use Rattle.elf_layout_plan.proofs.ForCallers.ApartLists.{all-at, all-from, any-at, any-from, each-at, each-from}
 use Rattle.elf_write_spec.specs.Contents.{AreEntriesOf, IsEntryOf, table_value}
 
 -- ## Tags

@@ -2,7 +2,7 @@
 use Rattle.std.proofs.Common.{◌≡◌, ◌≤◌, ℕ, ◌+◌, true, List, [], ◌∷◌, map, refl, sym, ap, ◌∙◌, inl, inr, Option, Some, None, arith}
 use Rattle.std.specs.Prelude.{◌&&◌, ◌==◌, filter, not}
 use Rattle.std.specs.Int.{next_multiple_of}
-use Rattle.std.proofs.lemmas.Bool.{and_parts, both_ways, eq-eqb, eqb-true}
+use Rattle.std.proofs.lemmas.Bool.{and_parts, both_ways, eqb-true}
 use Rattle.elf_format.specs.declared.constants.TheConstants.{SHT_NULL}
 use Rattle.elf_format.specs.Places.{Place, occupies_memory}
 use Rattle.elf_layout_plan.specs.Added.{Slot, alignment_of}
@@ -10,11 +10,12 @@ use Rattle.elf_image.specs.Kept.{kept_sections, place_at_read}
 use Rattle.elf_layout_plan.specs.Memory.{Resized, SizedSection, is_uninitialized_of_threads, sized_sections, takes_memory}
 use Rattle.elf_layout_plan.specs.Rounds.{do_move}
 use Rattle.elf_layout_plan.specs.Standing.{UnloadedSlot, is_unloaded, unloaded_from, unloaded_slot_of, unloaded_slots, unloaded_start, place_in, slot_of, stands_at, stays_at}
-use Rattle.elf_layout_plan.proofs.ApartSections.{sized_of}
-use Rattle.elf_layout_plan.proofs.UnloadedParts.{unloaded_parts}
-use Rattle.elf_layout_plan.proofs.PlacedLists.{Has, Pairs, filter-at, filter-from, find-at, find-none, has_cases, has_here, has_none, has_there, pairs-more, pairs-none}
-use Rattle.elf_layout_plan.proofs.PlacedSections.{at_position, same_section}
+use Rattle.elf_layout_plan.proofs.ForCallers.ApartSections.{sized_of}
+use Rattle.elf_layout_plan.proofs.ForCallers.UnloadedParts.{unloaded_parts}
+use Rattle.elf_layout_plan.proofs.ForCallers.PlacedLists.{Has, Pairs, filter-at, find-at, has_cases, has_none, pairs-more, pairs-none}
+use Rattle.elf_layout_plan.proofs.ForCallers.PlacedSections.{at_position, same_section}
 use Rattle.elf_write_spec.proofs.MovedFacts.{slot_takes}
+use Rattle.elf_layout_plan.proofs.ForCallers.PlacedPlaces.{not_unloaded, unloaded_source}
 
 -- ## One behind the other
 
@@ -51,51 +52,6 @@ module _ (r : Resized) (moved : List ℕ) where
 
 -- ## The slot of a section
 
-record UnloadedSource (sections : List SizedSection) (x : UnloadedSlot) : Type 0 where
-  section : SizedSection
-  here : Has section sections
-  position : x.position ≡ section.kept.position
-  size : x.size ≡ section.size
-
-unloaded_source : (end : ℕ) (ss : List SizedSection) (x : UnloadedSlot) → Has x (unloaded_from end ss) → UnloadedSource ss x
-unfolding unloaded_from
-unloaded_source end [] x h = absurd (has_none x h)
-unloaded_source end (s ∷ ss) x h =
-    let at : ℕ = next_multiple_of end (alignment_of s) in
-    elim (has_cases x (record { position = s.kept.position; offset = at; size = s.size }) (unloaded_from (at + s.size) ss) h) [
-      | inl same ↦ record {
-        section = s;
-        here = has_here s ss;
-        position = ap (λ (y : UnloadedSlot). y.position) (sym same);
-        size = ap (λ (y : UnloadedSlot). y.size) (sym same);
-      }
-      | inr later ↦
-          let more = unloaded_source (at + s.size) ss x later in
-          record { section = more.section; here = has_there more.section s ss more.here; position = more.position; size = more.size }
-    ]
-
-record UnloadedThere (slots : List UnloadedSlot) (position : ℕ) : Type 0 where
-  slot : UnloadedSlot
-  here : Has slot slots
-  same : slot.position ≡ position
-
-unloaded_there : (end : ℕ) (ss : List SizedSection) (s : SizedSection) → Has s ss → UnloadedThere (unloaded_from end ss) s.kept.position
-unfolding unloaded_from
-unloaded_there end [] s h = absurd (has_none s h)
-unloaded_there end (t ∷ ts) s h =
-    let at : ℕ = next_multiple_of end (alignment_of t) in
-    let first : UnloadedSlot = record { position = t.kept.position; offset = at; size = t.size } in
-    elim (has_cases s t ts h) [
-      | inl same ↦ record {
-        slot = first;
-        here = has_here first (unloaded_from (at + t.size) ts);
-        same = ap (λ (y : SizedSection). y.kept.position) same;
-      }
-      | inr later ↦
-          let more = unloaded_there (at + t.size) ts s later in
-          record { slot = more.slot; here = has_there more.slot first (unloaded_from (at + t.size) ts) more.here; same = more.same }
-    ]
-
 -- what takes memory isn't unloaded
 takes_not_unloaded : (s : SizedSection) → is_unloaded s ≡ true → takes_memory s.kept.section ≡ true → ⊥
 takes_not_unloaded s unloaded takes =
@@ -129,20 +85,10 @@ module _ (r : Resized) (moved : List ℕ) where
         | None ↦ stays_at r moved s
       ]) is
 
-  -- a unloaded section has a slot
-  has_unloaded : (s : SizedSection) → Has s (sized_sections r) → is_unloaded s ≡ true → unloaded_slot_of r moved s ≡ None → ⊥
-  unfolding unloaded_slots
-  has_unloaded s here unloaded none =
-      let there = unloaded_there (unloaded_start r moved) (filter is_unloaded (sized_sections r)) s
-      (filter-from is_unloaded (sized_sections r) s here unloaded) in
-      both_ways (there.slot.position == s.kept.position)
-      (find-none (λ x. x.position == s.kept.position) (unloaded_slots r moved) none there.slot there.here)
-      (eq-eqb there.slot.position s.kept.position there.same)
-
   unloaded_by : (s : SizedSection) → Has s (sized_sections r) → is_unloaded s ≡ true → slot_of r moved s ≡ None → (o : Option UnloadedSlot)
       → unloaded_slot_of r moved s ≡ o → UnloadedAt s
   unfolding unloaded_slots
-  unloaded_by s here unloaded none None is = absurd (has_unloaded s here unloaded is)
+  unloaded_by s here unloaded none None is = absurd (both_ways (is_unloaded s) (not_unloaded r moved s here is) unloaded)
   unloaded_by s here unloaded none (Some x) is =
       let found = find-at (λ y. y.position == s.kept.position) (unloaded_slots r moved) x is in
       let same : x.position ≡ s.kept.position = eqb-true x.position s.kept.position found.1 in

@@ -17,10 +17,10 @@ use Rattle.elf_format.specs.declared.constants.TheConstants.{SHT_NULL}
 use Rattle.elf_layout_plan.specs.Plan.{IsPlan, Layout, layout_for, resized}
 use Rattle.elf_layout_plan.specs.Rounds.{are_in_old_order, do_move, sections_at}
 use Rattle.elf_layout_plan.specs.Standing.{place_in, places, slot_of}
-use Rattle.elf_layout_plan.proofs.ApartFixed.{edges_no_section, headers_no_section, image_sized}
-use Rattle.elf_layout_plan.proofs.ApartLists.{Each, all-at, any-at, at-map, each-append, each-at, each-filter, each-from, each-map, each-more}
-use Rattle.elf_layout_plan.proofs.ApartPlaces.{keeps_address, slot_found}
-use Rattle.elf_layout_plan.proofs.ApartSections.{at-sized, kept-at, sized-at, sized_of}
+use Rattle.elf_layout_plan.proofs.ForCallers.ApartFixed.{edges_no_section, headers_no_section, image_sized}
+use Rattle.elf_layout_plan.proofs.ForCallers.ApartLists.{Each, all-at, any-at, at-map, each-append, each-at, each-filter, each-from, each-map, each-more}
+use Rattle.elf_layout_plan.proofs.ForCallers.ApartPlaces.{keeps_address, slot_found}
+use Rattle.elf_layout_plan.proofs.ForCallers.ApartSections.{at-sized, kept-at, sized-at, sized_of}
 
 -- where two are found, one of them has what the test tells of each two
 some_two-none : (test : Block → Block → Bool) (P : Block → Type 0) → ((a b : Block) → test a b ≡ true → P a ⊎ P b) → (bs : List Block)

@@ -1,6 +1,6 @@
 -- What is known of what is written: the parts that were read, and how they match, section by section, what is written.
-use Rattle.std.proofs.Common.{◌≡◌, ℕ, zero, suc, ◌+◌, ◌<◌, List, length, map, Bool, true, false, ◌||◌, [], ◌∷◌, refl, sym, ap, ◌∙◌, subst, inl, inr, Option, Some, None, Ok, arith}
-use Rattle.std.specs.Prelude.{if◌then◌else◌, ◌==◌, cond, find, nat_le, unwrap_or}
+use Rattle.std.proofs.Common.{◌≡◌, ℕ, zero, suc, ◌<◌, List, length, map, Bool, true, false, ◌||◌, [], ◌∷◌, refl, sym, ap, ◌∙◌, subst, inl, inr, Option, Some, None, Ok, arith}
+use Rattle.std.specs.Prelude.{if◌then◌else◌, ◌==◌, nat_le, unwrap_or}
 use Rattle.std.proofs.lemmas.Bool.{both_ways, eq-eqb, eqb-true, ne_eqb}
 use Rattle.std.proofs.lemmas.List.{length-map}
 use Rattle.std.proofs.lemmas.Option.{none-some, same_Some, slice_get_within}
@@ -17,8 +17,8 @@ use Rattle.elf_format.specs.Rules.{ArePartsOf, MeetsRules, accepted_parts}
 use Rattle.elf_format.specs.Views.{NamedSymbol}
 use Rattle.elf_image.specs.Edited.{IsEditOf}
 use Rattle.elf_image.specs.ReadImage.{HoldsParts, IsSectionOf}
-use Rattle.elf_image.proofs.ReadImageLaws.{read_images_hold_parts}
-use Rattle.elf_image.specs.Kept.{KeptSection, image_at_read, kept_at_number, kept_from, kept_of_type, kept_sections}
+use Rattle.elf_image.proofs.ForCallers.ReadImageLaws.{read_images_hold_parts}
+use Rattle.elf_image.specs.Kept.{KeptSection, image_at_read, kept_at_number, kept_of_type, kept_sections}
 use Rattle.elf_layout_plan.specs.Memory.{Resized, SizedSection, sized_sections}
 use Rattle.elf_layout_plan.specs.Plan.{Layout, layout_for, resized}
 use Rattle.elf_layout_plan.specs.Sizes.{new_size}
@@ -28,15 +28,18 @@ use Rattle.elf_write_spec.specs.Contents.{content_at_number}
 use Rattle.elf_write_spec.specs.Final.{buckets_of, by_bucket, final, final_symbol, new_number, ordered}
 use Rattle.elf_write_spec.specs.Writing.{AreSectionsWritten, IsSectionWritten, IsWholeWriting, Writing}
 use Rattle.elf_write_spec.specs.Headers.{behind_locals, is_info_number, written_info}
-use Rattle.elf_layout_plan.proofs.ApartLists.{at-map, map-at}
-use Rattle.elf_layout_plan.proofs.ApartRead.{edited_facts}
-use Rattle.elf_layout_plan.proofs.ApartSections.{at-sized, sized_of}
-use Rattle.elf_layout_plan.proofs.PlacedLists.{slice_get-at}
-use Rattle.elf_layout_plan.proofs.PlacedPlaces.{keeps_kind}
-use Rattle.elf_layout_plan.proofs.PlacedRead.{at_read}
-use Rattle.elf_layout_plan.proofs.SameTexts.{names_same}
-use Rattle.elf_write_spec.proofs.WholeLists.{FoundAt, NonePasses, counted-at, find-is, find-no, first_at, map-same, same_items, there_at}
-use Rattle.elf_write_spec.proofs.SameLists.{IsKnown, entries_same, known_below, known_dynamic, known_static, length-sections, needs_same}
+use Rattle.elf_layout_plan.proofs.ForCallers.ApartLists.{at-map, map-at}
+use Rattle.elf_layout_plan.proofs.ForCallers.ApartRead.{edited_facts}
+use Rattle.elf_layout_plan.proofs.ForCallers.ApartSections.{at-sized, sized_of}
+use Rattle.elf_layout_plan.proofs.ForCallers.PlacedLists.{slice_get-at}
+use Rattle.elf_layout_plan.proofs.ForCallers.PlacedPlaces.{keeps_kind}
+use Rattle.elf_layout_plan.proofs.ForCallers.PlacedRead.{at_read}
+use Rattle.elf_layout_plan.proofs.ForCallers.SameTexts.{names_same}
+use Rattle.elf_write_spec.proofs.WholeLists.{FoundAt, NonePasses, find-is, find-no, first_at, map-same, same_items, there_at}
+use Rattle.elf_write_spec.proofs.SameLists.{IsKnown, entries_same, known_below, known_dynamic, known_static, needs_same}
+use Rattle.elf_format.proofs.ForCallers.Lengths.{length-sections}
+use Rattle.elf_write_spec.proofs.NumberedSections.{kept, length-kept}
+use Rattle.elf_write_spec.proofs.NumberedSections as sections_by_number
 
 -- ## The file that was read
 
@@ -64,57 +67,25 @@ read_facts w is =
 
 -- ## Section by section
 
-abbrev pub kept : ℕ → ImageSection → KeptSection
-kept i s = record { position = i; number = i; section = s }
-
 pub record Lengths (w : Writing) (p : Parts) : Type 0 where
   pub sections : length w.image.sections ≡ length p.sections
   pub places : length w.plan.places ≡ length p.sections
   pub headers : length w.headers ≡ length p.sections
   pub contents : length w.contents ≡ length p.sections
 
--- the sections that are there, numbered from a position on
-abbrev numbered : ℕ → List ImageSection → List KeptSection
-numbered n [] = []
-numbered n (s ∷ ss) = kept n s ∷ numbered (n + 1) ss
-
-from_numbers : (n : ℕ) (ns : List ℕ) (ss : List ImageSection) → ((j : ℕ) → j < length ss → slice_get ns j ≡ Some (n + j))
-    → kept_from n ns ss ≡ numbered n ss
-from_numbers n [] [] numbers = refl
-from_numbers n (m ∷ ms) [] numbers = refl
-from_numbers n [] (s ∷ ss) numbers = absurd (none-some (n + 0) (numbers 0 (omega arith)))
-from_numbers n (m ∷ ms) (s ∷ ss) numbers =
-    let first : m ≡ n + 0 = same_Some m (n + 0) (numbers 0 (omega arith)) in
-    let own : m ≡ n = omega (arith, first) in
-    let rest : (j : ℕ) → j < length ss → slice_get ms j ≡ Some (n + 1 + j) =
-    λ j less. numbers (suc j) (omega (arith, less)) ∙ ap (λ (k : ℕ). Some k) (omega arith) in
-    ap (λ (k : ℕ). record { position = n; number = k; section = s } ∷ kept_from (n + 1) ms ss) own
-    ∙ ap (λ (ks : List KeptSection). kept n s ∷ ks) (from_numbers (n + 1) ms ss rest)
-
-are_numbered : (w : Writing) → IsWholeWriting w → kept_sections w.image ≡ numbered 0 w.image.sections
-are_numbered w is =
-    let f = read_facts w is in
-    let counts : w.image.section_numbers ≡ counted (length w.image.sections) =
-    is.whole.section_numbers ∙ f.holds.section_numbers ∙ ap (λ (ss : List ImageSection). counted (length ss)) (sym is.whole.sections) in
-    from_numbers 0 w.image.section_numbers w.image.sections (λ j less.
-    ap (λ (ns : List ℕ). slice_get ns j) counts ∙ counted-at (length w.image.sections) j less ∙ ap (λ (k : ℕ). Some k) (omega arith))
-
-numbered-at : (n : ℕ) (ss : List ImageSection) (i : ℕ) → slice_get (numbered n ss) i ≡ option_map (kept (n + i)) (slice_get ss i)
-numbered-at n [] i = refl
-numbered-at n (s ∷ ss) zero = ap (λ (k : ℕ). Some (kept k s)) (omega arith)
-numbered-at n (s ∷ ss) (suc i) =
-    numbered-at (n + 1) ss i ∙ ap (λ (k : ℕ). option_map (kept k) (slice_get ss i)) (omega arith)
-
-length-numbered : (n : ℕ) (ss : List ImageSection) → length (numbered n ss) ≡ length ss
-length-numbered n [] = refl
-length-numbered n (s ∷ ss) = ap suc (length-numbered (n + 1) ss)
+-- each section has its position for its number
+counts : (w : Writing) → IsWholeWriting w → w.image.section_numbers ≡ counted (length w.image.sections)
+counts w is =
+    is.whole.section_numbers ∙ (read_facts w is).holds.section_numbers ∙ ap (λ (ss : List ImageSection). counted (length ss)) (sym is.whole.sections)
 
 -- the i-th section that is there
 kept-at : (w : Writing) → IsWholeWriting w → (i : ℕ)
     → slice_get (kept_sections w.image) i ≡ option_map (kept i) (slice_get w.image.sections i)
-kept-at w is i =
-    ap (λ (ks : List KeptSection). slice_get ks i) (are_numbered w is) ∙ numbered-at 0 w.image.sections i
-    ∙ ap (λ (k : ℕ). option_map (kept k) (slice_get w.image.sections i)) (omega arith)
+kept-at w is i = sections_by_number.kept-at w.image (counts w is) i
+
+-- the section that was read at a number stands at that position
+pub kept_is : (w : Writing) → IsWholeWriting w → (n : ℕ) → kept_at_number n w.image ≡ option_map (kept n) (slice_get w.image.sections n)
+kept_is w is n = sections_by_number.kept_is w.image (counts w is) n
 
 -- as many of each
 record SameLengths (w : Writing) (ks : List KeptSection) (ps : List Place) (hs : List SectionHeader) (cs : List (List ℕ)) : Type 0 where
@@ -135,26 +106,9 @@ pub lengths : (w : Writing) → IsWholeWriting w → (f : ReadFacts w) → Lengt
 lengths w is f =
     let sections : length w.image.sections ≡ length f.parts.sections = ap length is.whole.sections ∙ f.holds.sections.count in
     let all : length (kept_sections w.image) ≡ length f.parts.sections =
-    ap length (are_numbered w is) ∙ length-numbered 0 w.image.sections ∙ sections in
+    length-kept w.image (counts w is) ∙ sections in
     let same = same_lengths w (kept_sections w.image) w.plan.places w.headers w.contents is.written.sections in
     record { sections = sections; places = same.places ∙ all; headers = same.headers ∙ all; contents = same.contents ∙ all }
-
-found_at : (p : ℕ) (ss : List ImageSection) (i n : ℕ) → n ≡ p + i
-    → find (λ s. s.number == n) (numbered p ss) ≡ option_map (kept n) (slice_get ss i)
-found_at p [] i n own = refl
-found_at p (s ∷ ss) zero n own =
-    let same : p ≡ n = omega (arith, own) in
-    ap (λ (b : Bool). cond b (Some (kept p s)) (find (λ x. x.number == n) (numbered (p + 1) ss))) (eq-eqb p n same)
-    ∙ ap (λ (k : ℕ). Some (kept k s)) same
-found_at p (s ∷ ss) (suc i) n own =
-    ap (λ (b : Bool). cond b (Some (kept p s)) (find (λ x. x.number == n) (numbered (p + 1) ss))) (ne_eqb p n (λ e. omega (arith, e, own)))
-    ∙ found_at (p + 1) ss i n (omega (arith, own))
-
--- the section that was read at a number stands at that position
-pub kept_is : (w : Writing) → IsWholeWriting w → (n : ℕ) → kept_at_number n w.image ≡ option_map (kept n) (slice_get w.image.sections n)
-kept_is w is n =
-    ap (find (λ s. s.number == n)) (are_numbered w is)
-    ∙ found_at 0 w.image.sections n n (omega arith)
 
 pub new_number-same : (w : Writing) → IsWholeWriting w → (n : ℕ) → new_number w.image n ≡ n
 new_number-same w is n =
@@ -408,7 +362,7 @@ module _ (w : Writing) (is : IsWholeWriting w) (f : ReadFacts w) (type : ℕ) wh
   unfolding was was_kept
   in_kept j k at =
       let long : length (kept_sections w.image) ≡ length w.image.sections =
-      ap length (are_numbered w is) ∙ length-numbered 0 w.image.sections in
+      length-kept w.image (counts w is) in
       let within : j < length f.parts.sections =
       omega (arith, slice_get_within (kept_sections w.image) j k at, long, (lengths w is f).sections) in
       let here : SectionAt w f.parts j = section_at w is f j within in

@@ -1,12 +1,10 @@
 -- Lists: elements at positions, the first one that passes a test, and the numbers of sections.
-use Rattle.std.proofs.Common.{◌≡◌, ℕ, zero, suc, ◌+◌, ◌<◌, ◌⊎◌, Bool, true, false, cond, List, [], ◌∷◌, ◌++◌, length, map, refl, ap, ◌∙◌, subst, inl, inr, Some, None, arith}
+use Rattle.std.proofs.Common.{◌≡◌, ℕ, zero, suc, ◌<◌, ◌⊎◌, Bool, true, false, cond, List, ◌∷◌, length, map, refl, ap, ◌∙◌, subst, inl, inr, Some, None, arith, []}
 use Rattle.std.specs.Prelude.{filter, find}
 use Rattle.std.specs.List.{list_all, slice_get}
-use Rattle.std.proofs.lemmas.Bool.{and_from, cases_lt}
-use Rattle.std.proofs.lemmas.List.{length-append}
+use Rattle.std.proofs.lemmas.Bool.{and_from}
 use Rattle.std.proofs.lemmas.Option.{none-some, same_Some}
-use Rattle.elf_format.specs.Image.{counted}
-use Rattle.elf_layout_plan.proofs.PlacedLists.{Has, has_cases, has_none}
+use Rattle.elf_layout_plan.proofs.ForCallers.PlacedLists.{Has, has_cases, has_none}
 
 -- ## Elements at positions
 
@@ -112,31 +110,6 @@ find-no test [] none = refl
 find-no test (x ∷ xs) none = find-step test x xs false (none zero x refl) ∙ find-no test xs (λ j y. none (suc j) y)
 
 -- ## Numbers from 0 on
-
-pub length-counted : (n : ℕ) → length (counted n) ≡ n
-unfolding counted
-length-counted zero = refl
-length-counted (suc n) = length-append (counted n) (n ∷ []) ∙ ap (λ k. k + 1) (length-counted n) ∙ omega arith
-
-before_last : (xs : List ℕ) (y j : ℕ) → j < length xs → slice_get (xs ++ y ∷ []) j ≡ slice_get xs j
-before_last [] y j less = absurd (omega (arith, less))
-before_last (x ∷ xs) y zero less = refl
-before_last (x ∷ xs) y (suc j) less = before_last xs y j (omega (arith, less))
-
-at_last : (xs : List ℕ) (y : ℕ) → slice_get (xs ++ y ∷ []) (length xs) ≡ Some y
-at_last [] y = refl
-at_last (x ∷ xs) y = at_last xs y
-
-pub counted-at : (n j : ℕ) → j < n → slice_get (counted n) j ≡ Some j
-unfolding counted
-counted-at zero j less = absurd (omega (arith, less))
-counted-at (suc n) j less = elim (cases_lt j n) [
-  | inl below ↦ before_last (counted n) n j (omega (arith, below, length-counted n)) ∙ counted-at n j below
-  | inr last ↦
-      let same : n ≡ j = omega (arith, less, last) in
-      let at : j ≡ length (counted n) = omega (arith, same, length-counted n) in
-      ap (λ (i : ℕ). slice_get (counted n ++ n ∷ []) i) at ∙ at_last (counted n) n ∙ ap (λ (m : ℕ). Some m) same
-]
 
 -- ## What is in a list
 

@@ -17,12 +17,13 @@ use Rattle.elf_image.specs.Kept.{KeptSection, image_at_read, interpreter_number,
 use Rattle.elf_layout_plan.specs.Memory.{Resized}
 use Rattle.elf_layout_plan.specs.Plan.{Layout, layout_for, resized}
 use Rattle.elf_layout_plan.specs.Standing.{places}
-use Rattle.elf_layout_plan.specs.Written.{Target, behind_last_load, anchored_to, places_of_kept, resized_table, target_at, targets_of, targets_of_notes, with_table_size, written_from, written_segments}
-use Rattle.elf_layout_plan.proofs.ApartLists.{Each}
-use Rattle.elf_layout_plan.proofs.ApartWritten.{added_headers, all_added_are_loaded, section_targets}
+use Rattle.elf_layout_plan.specs.Written.{Target, behind_last_load, anchored_to, places_of_kept, resized_table, target_at, targets_of, targets_of_notes, written_from, written_segments}
+use Rattle.elf_layout_plan.proofs.ForCallers.ApartLists.{Each}
+use Rattle.elf_layout_plan.proofs.ForCallers.ApartWritten.{added_headers, all_added_are_loaded, section_targets}
 use Rattle.elf_write_spec.specs.Whole.{AreAllKept}
 use Rattle.elf_write_spec.specs.Writing.{IsWholeWriting, Writing}
 use Rattle.elf_write_spec.proofs.WholeFacts.{ReadFacts}
+use Rattle.elf_layout_plan.proofs.ForCallers.PlacedWritten.{table_type}
 
 -- a program header is of a type
 abbrev pub has_type : ℕ → SegmentHeader → Bool
@@ -38,20 +39,13 @@ module _ (r : Resized) (moved : List ℕ) where
   abbrev pub becomes : SegmentHeader → SegmentHeader
   becomes p = becomes_by p (targets_of r moved p)
 
-  table_type : (p : SegmentHeader) (anchor : Anchor) → (elim
-      anchor as (λ _. SegmentHeader) [ HeaderTable ↦ with_table_size r moved p | _ ↦ p ]).p_type ≡ p.p_type
-  table_type p Itself = refl
-  table_type p HeaderTable = refl
-  table_type p (OneSection s) = refl
-  table_type p (Notes notes) = refl
-
   -- it keeps its type
   pub becomes-type : (p : SegmentHeader) → (becomes p).p_type ≡ p.p_type
   unfolding becomes_by
   becomes-type p = by_targets (targets_of r moved p)
     where
       by_targets : (targets : List Target) → (becomes_by p targets).p_type ≡ p.p_type
-      by_targets [] = table_type p (anchor_of r p)
+      by_targets [] = table_type r moved p (anchor_of r p)
       by_targets (t ∷ ts) = refl
 
   -- a program header that goes by one section goes where that goes
@@ -75,7 +69,7 @@ module _ (r : Resized) (moved : List ℕ) where
     unfolding becomes_by
     find-one p [] rest b h =
         let q : SegmentHeader = resized_table r moved p in
-        let same : has_type type q ≡ b = ap (λ n. n == type) (table_type p (anchor_of r p)) ∙ h in
+        let same : has_type type q ≡ b = ap (λ n. n == type) (table_type r moved p (anchor_of r p)) ∙ h in
         ap (λ c. cond c (Some q) (find (has_type type) rest)) same
     find-one p (t ∷ ts) rest true h = ap (λ c. cond c (Some (anchored_to r.image.form p t)) (find (has_type type) (map (anchored_to r.image.form p) ts ++ rest))) h
     find-one p (t ∷ ts) rest false h = anchored-none p (t ∷ ts) rest h

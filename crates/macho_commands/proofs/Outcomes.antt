@@ -20,7 +20,7 @@ use Rattle.arwen_macho.specs.Container.{container_bytes, container_step, first_c
 use Rattle.arwen_macho.specs.ContainerShown.{ShowsFile, StepShows}
 use Rattle.arwen_macho.specs.Fronts.{LeadOn, LiesIn, fronts_on}
 use Rattle.macho_commands.specs.Meaning.{MachoMeaning}
-use Rattle.command_faults.specs.Fault.{answer_by_fault, answer_to, answer_to_batch}
+use Rattle.macho_commands.specs.Errors.{answer_by_fault, answer_to, answer_to_batch}
 
 refused_by : (cause : Cause) (e : MachoError) (answer : Result MachoType Refusal) → cause_of e ≡ Some cause → RefusesStep (Some cause) answer → TellsMacho (written refused answer) e
 refused_by cause e (Ok file) is refuses = absurd refuses

@@ -10,8 +10,8 @@ use Rattle.arwen_macho.specs.declared.front.Front.{Front}
 use Rattle.arwen_macho.specs.Fronts.{fronts_on}
 use Rattle.macho_commands.specs.Stores.{ArePiecesOf, FailsPatch, LaysOn, Patched, Torn}
 use Rattle.macho_commands.specs.Meaning.{MachoMeaning}
-use Rattle.command_faults.specs.declared.error.ArwenError.{ArwenError}
-use Rattle.command_faults.specs.declared.error.ArwenError.TheVariants.{Edits, Elf, ElfBatch, Io, Line, Macho, MachoBatch, Memory}
+use Rattle.macho_commands.specs.declared.error.MachoCommandError.{MachoCommandError}
+use Rattle.macho_commands.specs.declared.error.MachoCommandError.TheVariants.{Edits, Io, Macho, MachoBatch, Memory}
 use Rattle.std.proofs.lemmas.Bool.{cases_lt, cond-true, lt-ltb}
 use Rattle.std.proofs.lemmas.List.{drop-drop, drop_more, length-drop, length-take-le, take_all, take-append-drop}
 use Rattle.macho_image.specs.Checks.{file_fault}
@@ -118,7 +118,7 @@ pub read_whole : (a : Asked) (old : Option (List ℕ)) (loaded file made : List 
 read_whole a old loaded file made first known makes =
     first file known ∙ whole_of_first a file made (ap (outcome_of a) (sym (first file known)) ∙ makes)
 
-pub refused_store : (meaning : MachoMeaning) (old mid : Option (List ℕ)) (loaded : List ℕ) (e : ArwenError) → IsFirst (2 ^ 32) old loaded → Stays old mid → Tells (outcome meaning loaded) e → FailsPatch meaning old mid e
+pub refused_store : (meaning : MachoMeaning) (old mid : Option (List ℕ)) (loaded : List ℕ) (e : MachoCommandError) → IsFirst (2 ^ 32) old loaded → Stays old mid → Tells (outcome meaning loaded) e → FailsPatch meaning old mid e
 refused_store meaning old mid loaded Memory first kept tells = (kept, λ file known. tt)
 refused_store meaning old mid loaded (Io e) first kept tells = absurd tells
 refused_store meaning old mid loaded (Macho e) first kept tells =
@@ -127,9 +127,6 @@ refused_store meaning old mid loaded (MachoBatch e) first kept tells =
     (kept, λ file known. let P : Outcome → Type 0 = λ o. Tells o (MachoBatch e) in subst P (read_outcome (asked meaning) old loaded file first known) tells)
 refused_store meaning old mid loaded (Edits e) first kept tells =
     (kept, λ file known. let P : Outcome → Type 0 = λ o. Tells o (Edits e) in subst P (read_outcome (asked meaning) old loaded file first known) tells)
-refused_store meaning old mid loaded (Elf e) first kept tells = absurd tells
-refused_store meaning old mid loaded (ElfBatch e) first kept tells = absurd tells
-refused_store meaning old mid loaded (Line text status) first kept tells = absurd tells
 
 pub patched_store : (meaning : MachoMeaning) (old mid new : Option (List ℕ)) (loaded : List ℕ) (fronts : List Front) (pieces : List Piece) → IsFirst (2 ^ 32) old loaded → Stays old mid → Writes meaning loaded fronts → ArePiecesOf loaded fronts pieces → Becomes (laid (patches_of pieces)) mid new → Patched meaning old new
 patched_store meaning old mid new loaded fronts pieces first kept writes are becomes file known =

@@ -14,10 +14,10 @@ use Rattle.arwen_macho.specs.Fronts.{LiesIn, fronts_on}
 use Rattle.macho_edits.specs.Refused.{cause_of}
 use Rattle.macho_edits.specs.State.{Refusal}
 use Rattle.command_words.specs.declared.edits.EditFault.{EditFault}
-use Rattle.command_faults.specs.declared.error.ArwenError.{ArwenError}
-use Rattle.command_faults.specs.declared.error.ArwenError.TheVariants.{Edits, Elf, ElfBatch, Io, Line, Macho, MachoBatch, Memory}
+use Rattle.macho_commands.specs.declared.error.MachoCommandError.{MachoCommandError}
+use Rattle.macho_commands.specs.declared.error.MachoCommandError.TheVariants.{Edits, Io, Macho, MachoBatch, Memory}
 use Rattle.macho_commands.specs.Edits.{edits_of}
-use Rattle.command_faults.specs.Fault.{answer_to, answer_to_batch}
+use Rattle.macho_commands.specs.Errors.{answer_to, answer_to_batch}
 use Rattle.macho_commands.specs.Meaning.{MachoMeaning, apply, edit}
 
 -- what is asked for: one edit, or those that words name
@@ -79,20 +79,17 @@ abbrev pub TellsBatch : Outcome → MachoBatchError → Type 0
 TellsBatch (refused_batch refusal) e = (e.index ≡ refusal.index) × (cause_of e.fault ≡ Some refusal.cause)
 TellsBatch _ e = ⊥
 
-abbrev pub Tells : Outcome → ArwenError → Type 0
+abbrev pub Tells : Outcome → MachoCommandError → Type 0
 Tells outcome Memory = ⊤
 Tells outcome (Macho e) = TellsMacho outcome e
 Tells outcome (MachoBatch e) = TellsBatch outcome e
 Tells outcome (Edits wrong) = outcome ≡ no_edits wrong
-Tells outcome (Elf e) = ⊥
-Tells outcome (ElfBatch e) = ⊥
 Tells outcome (Io e) = ⊥
-Tells outcome (Line text status) = ⊥
 
 -- ---- why a command may fail. No clause can say that a file can be read or written
 
 -- the error of a command: a file's, want of memory, or one that tells the outcome of some file
-abbrev pub MayFail : MachoMeaning → ArwenError → Type 0
+abbrev pub MayFail : MachoMeaning → MachoCommandError → Type 0
 MayFail meaning Memory = ⊤
 MayFail meaning (Io e) = ⊤
 MayFail meaning e = (file : List ℕ) × Tells (outcome meaning file) e
@@ -105,11 +102,11 @@ AreAsked (one call) calls = calls ≡ call ∷ []
 AreAsked (several edits) calls = edits ≡ Ok calls
 
 -- an error that tells the outcome of each file, since no file was looked at
-abbrev pub TellsAsked : Asked → ArwenError → Type 0
+abbrev pub TellsAsked : Asked → MachoCommandError → Type 0
 TellsAsked a e = (file : List ℕ) → Tells (outcome_of a file) e
 
 -- how a refused batch is answered: where one edit was asked for, by its fault alone
-abbrev pub refused_answer : Asked → MachoBatchError → ArwenError
+abbrev pub refused_answer : Asked → MachoBatchError → MachoCommandError
 refused_answer (one call) e = answer_to e.fault
 refused_answer (several edits) e = answer_to_batch e
 

@@ -1,4 +1,5 @@
 pub mod Edits
 pub mod Engine
+pub mod Errors
 pub mod Meaning
 pub mod Stores

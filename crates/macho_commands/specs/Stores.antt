@@ -5,8 +5,8 @@ use Rattle.arwen_macho.specs.Fronts.{fronts_on}
 use Rattle.byte_store.specs.declared.pieces.Piece.{Piece}
 use Rattle.byte_store.specs.Known.{Stays}
 use Rattle.byte_store.specs.Laid.{LiesIn, Patch, first_bytes, laid, patches_of}
-use Rattle.command_faults.specs.declared.error.ArwenError.{ArwenError}
-use Rattle.command_faults.specs.declared.error.ArwenError.TheVariants.{Io}
+use Rattle.macho_commands.specs.declared.error.MachoCommandError.{MachoCommandError}
+use Rattle.macho_commands.specs.declared.error.MachoCommandError.TheVariants.{Io}
 use Rattle.macho_commands.specs.Engine.{ShowsEdited, Tells, asked, outcome}
 use Rattle.macho_commands.specs.Engine.Outcome.{bytes}
 use Rattle.macho_commands.specs.Meaning.{MachoMeaning}
@@ -24,17 +24,17 @@ Torn meaning old new = (file : List ℕ) → old ≡ Some file
     × ((n : ℕ) × (new ≡ Some (laid (first_bytes n patches) file)))
 
 -- a refusal leaves the bytes, and tells the outcome
-abbrev pub RefusesPatch : MachoMeaning → Option (List ℕ) → Option (List ℕ) → ArwenError → Type 0
+abbrev pub RefusesPatch : MachoMeaning → Option (List ℕ) → Option (List ℕ) → MachoCommandError → Type 0
 RefusesPatch meaning old new e =
     Stays old new × ((file : List ℕ) → old ≡ Some file → Tells (outcome meaning file) e)
 
 -- what an error leaves and tells: only a write that failed changes bytes, where the command was accepted
-abbrev pub FailsPatch : MachoMeaning → Option (List ℕ) → Option (List ℕ) → ArwenError → Type 0
+abbrev pub FailsPatch : MachoMeaning → Option (List ℕ) → Option (List ℕ) → MachoCommandError → Type 0
 FailsPatch meaning old new (Io e) = Stays old new ⊎ Torn meaning old new
 FailsPatch meaning old new e = RefusesPatch meaning old new e
 
 -- what the error of a command tells of the bytes at its path; one of reading or writing them tells nothing
-abbrev pub TellsPath : MachoMeaning → Option (List ℕ) → ArwenError → Type 0
+abbrev pub TellsPath : MachoMeaning → Option (List ℕ) → MachoCommandError → Type 0
 TellsPath meaning known (Io e) = ⊤
 TellsPath meaning known e = (file : List ℕ) → known ≡ Some file → Tells (outcome meaning file) e
 

@@ -5,11 +5,11 @@ ghost use Rattle.byte_store.specs.Known.{Becomes, HasLength, Stays, put_at};
 ghost use Rattle.byte_store.specs.Laid.{LiesIn, laid, patches_of};
 ghost use Rattle.arwen_macho.specs.Fronts.{LiesIn as IsInside};
 ghost use Rattle.macho_commands.specs.Stores.{ArePiecesOf, LaysOn, LiesOn};
-ghost use Rattle.command_faults.specs.declared.error.ArwenError.TheVariants.{Memory};
+ghost use Rattle.macho_commands.specs.declared.error.MachoCommandError.TheVariants.{Memory};
 
+use crate::error::MachoCommandError;
 use arwen_macho::macho::Front;
 use byte_store::{Piece, Store, write_pieces};
-use command_faults::ArwenError;
 use std::alloc::Global;
 use std::io;
 
@@ -19,7 +19,7 @@ pub(crate) fn changes_of<'a>(
     alloc: Global,
     bytes: &mut [u8],
     fronts: &'a [Front],
-) -> Result<Vec<Piece<'a>>, ArwenError>
+) -> Result<Vec<Piece<'a>>, MachoCommandError>
     requires { All (IsInside (length bytes.old)) fronts.now }
     ensures ok { IfOk result (λ pieces. ArePiecesOf bytes.old fronts.now pieces.items) }
     ensures err { IfErr result (λ e. e ≡ Memory) }
@@ -38,7 +38,7 @@ fn lay_change<'a>(
     pieces: &mut Vec<Piece<'a>>,
     bytes: &mut [u8],
     front: &'a Front,
-) -> Result<(), ArwenError>
+) -> Result<(), MachoCommandError>
     requires { IsInside (length bytes.old) front.now }
     ensures bytes { OnOk result
         (bytes.new ≡ put_at front.now.offset front.now.bytes.items bytes.old) }

@@ -1,7 +1,7 @@
 //! What is asked of a Mach-O file, with its values.
 ghost use Rattle.std.specs.Prelude.{◌≡◌, IfOk, string_bytes};
 
-use crate::{add, apply, change, delete, install_id, install_name};
+use crate::commands::{add, apply, change, delete, install_id, install_name};
 use arwen_macho::macho::MachoEdit;
 use command_words::{Values, copied};
 use std::alloc::{AllocError, Global};

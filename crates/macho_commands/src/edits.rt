@@ -10,7 +10,7 @@ use crate::command::MachoCommand;
 use crate::tables::macho_table;
 use arwen_macho::macho::MachoEdit;
 use command_words::{
-    EditKind, EditsError, Form, find_row, no_edit, other_words, values_without_path,
+    EditKind, EditsError, Row, edit_row, no_edit, other_words, values_without_path,
 };
 use std::alloc::{AllocError, Global};
 
@@ -35,47 +35,40 @@ fn read_group(alloc: Global, group: usize, words: &[&str]) -> Result<MachoEdit, 
         macho_group_edit (map (λ w. w.now) words.now) ≡ Ok (call_made edit)) }
     ensures err { IfErr result (TellsWrong group (macho_group_edit (map (λ w. w.now) words.now))) }
 {
-    let Some((name, words)) = words.split_first() else {
-        return Err(no_edit(group, EditKind::Empty));
-    };
-    let Some(row) = find_row(macho_table(), name) else {
-        return Err(no_edit(group, EditKind::UnknownEdit));
-    };
-    if !row.is_edit {
-        return Err(no_edit(group, EditKind::UnknownEdit));
-    }
-    match command_without_path(alloc, name, &row.form, words)? {
-        Some(command) => edit_of(alloc, group, &command),
+    let (row, words) = edit_row(macho_table(), group, words)?;
+    match command_without_path(alloc, row, words)? {
+        Some(command) => edit_of(alloc, group, command),
         None => Err(other_words(group, &row.form, words)),
     }
 }
 
-/// The command of a name with the words of a group, and with an empty path; `None` where there are
-/// too many words or too few.
+/// The command of a row with the words of a group, and with an empty path; `None` where there are too
+/// many words or too few.
 fn command_without_path(
     alloc: Global,
-    name: &str,
-    form: &Form,
+    row: &Row,
     words: &[&str],
 ) -> Result<Option<MachoCommand>, AllocError>
     ensures { IfOk result (λ command. option_map macho_command_model command
-        ≡ option_and_then (meant_with macho_lines name.now)
-        (given_without_path (kind_model form.now) (map (λ w. w.now) words.now))) }
+        ≡ option_and_then (meant_with macho_lines row.now.name.now)
+        (given_without_path (kind_model row.now.form) (map (λ w. w.now) words.now))) }
 {
-    match values_without_path(alloc, form, words)? {
-        Some(values) => Ok(MachoCommand::with_values(name, values)),
+    match values_without_path(alloc, &row.form, words)? {
+        Some(values) => Ok(MachoCommand::with_values(row.name, values)),
         None => Ok(None),
     }
 }
 
 /// The edit that a command asks for, as that of a group.
-fn edit_of(alloc: Global, group: usize, command: &MachoCommand) -> Result<MachoEdit, EditsError>
+fn edit_of(alloc: Global, group: usize, command: MachoCommand) -> Result<MachoEdit, EditsError>
     ensures ok { IfOk result (λ edit.
-        one_edit (edit_asked (macho_command_model command.now)) ≡ Ok (call_made edit)) }
+        one_edit (edit_asked (macho_command_model command)) ≡ Ok (call_made edit)) }
     ensures err { IfErr result (TellsWrong group
-        (one_edit (edit_asked (macho_command_model command.now)))) }
+        (one_edit (edit_asked (macho_command_model command)))) }
 {
-    match command.edit(alloc)? {
+    let edit = command.edit(alloc);
+    drop(command);
+    match edit? {
         Some(edit) => Ok(edit),
         None => Err(no_edit(group, EditKind::UnknownEdit)),
     }

@@ -6,22 +6,25 @@ ghost use Rattle.macho_commands.specs.Engine.{Tells, TellsAsked, Writes};
 ghost use Rattle.macho_commands.specs.Engine.{asked, outcome, refused_answer};
 ghost use Rattle.macho_commands.specs.Meaning.{file_of, macho_command_model};
 ghost use Rattle.macho_commands.specs.Stores.{FailsPatch, Patched, TellsPath};
-ghost use Rattle.command_faults.specs.declared.error.ArwenError.TheVariants.{Memory};
+ghost use Rattle.macho_commands.specs.declared.error.MachoCommandError.TheVariants.{Memory};
 
 use crate::changes::{changes_of, write_changes_of};
 use crate::command::MachoCommand;
 use crate::edits::parse_macho_edits;
-use crate::{add, apply, change, delete, install_id, install_name};
+use crate::error::MachoCommandError;
 use arwen_macho::macho::{Front, MachoBatchError, MachoContainer, MachoEdit, lay_fronts};
 use byte_store::{Opens, RuntimeFiles, Store, load_up_to};
-use command_faults::{ArwenError, MOST_BYTES};
-use command_words::words_of;
+use command_words::{MOST_BYTES, words_of};
 use std::alloc::Global;
 use std::rt::Files;
 
 /// The bytes of a file after a command: a parse accepts them again, and finds the edited load commands. Of
 /// `apply` the words are read before the bytes are looked at.
-pub fn run_macho(alloc: Global, bytes: &[u8], command: &MachoCommand) -> Result<Vec<u8>, ArwenError>
+pub fn run_macho(
+    alloc: Global,
+    bytes: &[u8],
+    command: &MachoCommand,
+) -> Result<Vec<u8>, MachoCommandError>
     ensures ok { IfOk result (λ new.
         outcome (macho_command_model command.now) bytes.now ≡ Outcome.bytes new.items) }
     ensures shows { IfOk result (λ new.
@@ -35,7 +38,11 @@ pub fn run_macho(alloc: Global, bytes: &[u8], command: &MachoCommand) -> Result<
 }
 
 /// What a command writes over the bytes of a file. Its edits are read before the bytes are looked at.
-fn fronts_of(alloc: Global, bytes: &[u8], command: &MachoCommand) -> Result<Vec<Front>, ArwenError>
+fn fronts_of(
+    alloc: Global,
+    bytes: &[u8],
+    command: &MachoCommand,
+) -> Result<Vec<Front>, MachoCommandError>
     ensures ok { IfOk result (λ fronts.
         Writes (macho_command_model command.now) bytes.now fronts.items) }
     ensures err { IfErr result (λ e. Tells (outcome (macho_command_model command.now) bytes.now) e) }
@@ -49,17 +56,17 @@ fn fronts_of(alloc: Global, bytes: &[u8], command: &MachoCommand) -> Result<Vec<
 }
 
 /// A refused edit as it is answered to a command. Of several it is told which one is refused.
-fn refusal(command: &MachoCommand, error: MachoBatchError) -> ArwenError
+fn refusal(command: &MachoCommand, error: MachoBatchError) -> MachoCommandError
     ensures { result ≡ refused_answer (asked (macho_command_model command.now)) error }
 {
     match command {
-        MachoCommand::Apply(_) => ArwenError::from(error),
-        _ => ArwenError::from(error.fault),
+        MachoCommand::Apply(_) => MachoCommandError::from(error),
+        _ => MachoCommandError::from(error.fault),
     }
 }
 
 /// The edits that a command asks for.
-fn edits_asked(alloc: Global, command: &MachoCommand) -> Result<Vec<MachoEdit>, ArwenError>
+fn edits_asked(alloc: Global, command: &MachoCommand) -> Result<Vec<MachoEdit>, MachoCommandError>
     ensures ok { IfOk result (λ edits.
         AreAsked (asked (macho_command_model command.now)) (calls_of edits.items)) }
     ensures err { IfErr result (λ e. TellsAsked (asked (macho_command_model command.now)) e) }
@@ -75,7 +82,7 @@ fn edits_asked(alloc: Global, command: &MachoCommand) -> Result<Vec<MachoEdit>, 
 }
 
 /// One edit as a list.
-fn alone(alloc: Global, edit: MachoEdit) -> Result<Vec<MachoEdit>, ArwenError>
+fn alone(alloc: Global, edit: MachoEdit) -> Result<Vec<MachoEdit>, MachoCommandError>
     ensures ok { IfOk result (λ edits. edits.items ≡ edit ∷ []) }
     ensures err { IfErr result (λ e. e ≡ Memory) }
 {
@@ -92,7 +99,7 @@ pub fn patch_store<S: Store>(
     alloc: Global,
     store: &mut S,
     command: &MachoCommand,
-) -> Result<(), ArwenError>
+) -> Result<(), MachoCommandError>
     ensures patched { OnOk result
         (Patched (macho_command_model command.now) (S.contents store.old) (S.contents store.new)) }
     ensures err { IfErr result (λ e. MayFail (macho_command_model command.now) e) }
@@ -111,7 +118,7 @@ pub fn patch_path<'p, O: Opens<'p>>(
     alloc: Global,
     files: &O,
     command: &'p MachoCommand,
-) -> Result<O::Opened, ArwenError>
+) -> Result<O::Opened, MachoCommandError>
     ensures patched { IfOk result (λ store. Patched (macho_command_model command.now)
         (O.contents files.now (file_of (macho_command_model command.now)))
         (O.Opened.contents store)) }
@@ -124,29 +131,27 @@ pub fn patch_path<'p, O: Opens<'p>>(
     Ok(store)
 }
 
-/// Edits a file in its place.
-pub(crate) fn patch_file<R: Files + AllocGlobal>(
+/// Edits a Mach-O file in its place. Only bytes that change are written, and only after all of them
+/// exist, so a refused edit leaves the file as it was.
+pub fn macho_execute<R: Files + AllocGlobal>(
+    rt: &R,
+    macho: MachoCommand,
+) -> Result<(), MachoCommandError>
+    ensures { IfErr result (MayFail (macho_command_model macho)) }
+{
+    let answer = patch_file(rt, &macho);
+    drop(macho);
+    answer
+}
+
+/// Edits the file at a command's path in its place.
+fn patch_file<R: Files + AllocGlobal>(
     rt: &R,
     command: &MachoCommand,
-) -> Result<(), ArwenError>
-    ensures { IfErr result (λ e. MayFail (macho_command_model command.now) e) }
+) -> Result<(), MachoCommandError>
+    ensures { IfErr result (MayFail (macho_command_model command.now)) }
 {
     let files = RuntimeFiles { files: rt };
     patch_path(rt.alloc(), &files, command)?;
     Ok(())
-}
-
-/// Edits a Mach-O file in its place. Only bytes that change are written, and only after all of them
-/// exist, so a refused edit leaves the file as it was.
-pub fn macho_execute<R: Files + AllocGlobal>(rt: &R, macho: MachoCommand) -> Result<(), ArwenError>
-    ensures { IfErr result (λ e. MayFail (macho_command_model macho) e) }
-{
-    match macho {
-        MachoCommand::DeleteRpath(args) => delete::execute(rt, args),
-        MachoCommand::ChangeRpath(args) => change::execute(rt, args),
-        MachoCommand::AddRpath(args) => add::execute(rt, args),
-        MachoCommand::ChangeInstallName(args) => install_name::execute(rt, args),
-        MachoCommand::ChangeInstallId(args) => install_id::execute(rt, args),
-        MachoCommand::Apply(args) => apply::execute(rt, args),
-    }
 }

@@ -2,19 +2,17 @@
 //! file itself.
 #![tactic(auto)]
 
-pub mod add;
-pub mod apply;
-pub mod change;
 mod changes;
 mod command;
-pub mod delete;
+mod commands;
 mod edits;
 mod engine;
-pub mod install_id;
-pub mod install_name;
+mod error;
 mod tables;
 
 pub use command::MachoCommand;
+pub use commands::{add, apply, change, delete, install_id, install_name};
 pub use edits::parse_macho_edits;
 pub use engine::{macho_execute, patch_path, patch_store, run_macho};
+pub use error::MachoCommandError;
 pub use tables::macho_table;

@@ -3,8 +3,8 @@ ghost use Rattle.std.specs.Prelude.{◌≡◌, map};
 ghost use Rattle.command_words.specs.Rows.{named_of, row_model};
 ghost use Rattle.macho_commands.specs.Meaning.{macho_lines};
 
-use crate::{add, apply, change, delete, install_id, install_name};
-use command_words::{Form, Row, Value};
+use crate::commands::{add, apply, change, delete, install_id, install_name};
+use command_words::{Row, Value, ValueForm};
 
 /// What help says of `apply` below its values.
 const EDITS: &str = "Edits:
@@ -23,7 +23,7 @@ pub static MACHO_ROWS: [Row; 6] = [
     Row {
         name: delete::NAME,
         about: "Remove a run path",
-        form: Form::Text(Value {
+        form: ValueForm::Text(Value {
             name: "OLD",
             help: "Run path to remove",
         }),
@@ -33,7 +33,7 @@ pub static MACHO_ROWS: [Row; 6] = [
     Row {
         name: change::NAME,
         about: "Put a run path in the place of another",
-        form: Form::Texts(
+        form: ValueForm::Texts(
             Value {
                 name: "OLD",
                 help: "Run path to replace",
@@ -49,7 +49,7 @@ pub static MACHO_ROWS: [Row; 6] = [
     Row {
         name: add::NAME,
         about: "Add a run path",
-        form: Form::Text(Value {
+        form: ValueForm::Text(Value {
             name: "NEW",
             help: "Run path to add",
         }),
@@ -59,7 +59,7 @@ pub static MACHO_ROWS: [Row; 6] = [
     Row {
         name: install_name::NAME,
         about: "Put a library name in the place of another",
-        form: Form::Texts(
+        form: ValueForm::Texts(
             Value {
                 name: "OLD",
                 help: "Library name to replace",
@@ -75,7 +75,7 @@ pub static MACHO_ROWS: [Row; 6] = [
     Row {
         name: install_id::NAME,
         about: "Change the install id of a shared library",
-        form: Form::Text(Value {
+        form: ValueForm::Text(Value {
             name: "NEW",
             help: "New install id",
         }),
@@ -85,7 +85,7 @@ pub static MACHO_ROWS: [Row; 6] = [
     Row {
         name: apply::NAME,
         about: "Make several edits, all or none",
-        form: Form::Words(Value {
+        form: ValueForm::Words(Value {
             name: "EDIT",
             help: "Edits without their file, with a word + between two",
         }),

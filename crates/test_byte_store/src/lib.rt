@@ -16,6 +16,8 @@ macro_rules! again {
 }
 
 #[cfg(test)]
+mod causes;
+#[cfg(test)]
 mod differences;
 #[cfg(test)]
 mod numbers;

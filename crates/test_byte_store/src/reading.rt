@@ -2,9 +2,10 @@
 
 use crate::support::{Runtime, copied, same, same_bytes};
 use byte_store::{
-    FileStore, MemoryStore, Piece, ReadError, Store, load_up_to, load_whole, read_up_to,
-    read_whole, write_pieces,
+    Creates, FileStore, MemoryFolder, MemoryStore, Piece, ReadError, RuntimeFiles, Store,
+    load_up_to, load_whole, read_up_to, read_whole, write_pieces,
 };
+use std::io::Write;
 use std::{env, fs, io, process};
 
 // Whether a read failed, and not for want of memory.
@@ -64,6 +65,55 @@ fn own_path(rt: &HostRuntime) -> io::Result<String> {
     let folder = folder.as_path().to_string_lossy();
     let id = process::id(rt.process());
     Ok(format!(in rt.alloc(); "{folder}/store-test-{id}")?)
+}
+
+// A folder is opened as a file is, and can't be read.
+fn load_folder(rt: &HostRuntime) -> Result<u64, ReadError> {
+    let mut store = FileStore::open(rt, ".")?;
+    match load_whole(rt.alloc(), &mut store, 9) {
+        Ok(_) => Ok(0),
+        Err(ReadError::Memory) => Err(ReadError::Memory),
+        Err(ReadError::Io(_)) => Ok(store.failures()),
+    }
+}
+
+#[test]
+fn folder_that_is_read(rt: HostRuntime) {
+    let count = again!(&rt; load_folder(&rt)).expect(&rt, "a folder");
+    same(&rt, "failures", &count, &1);
+}
+
+// A file that is created, and gets two bytes.
+fn created<'p, C: Creates<'p>>(files: &C, path: &'p str) -> io::Result<C::Created> {
+    let mut file = files.create(path)?;
+    file.write(b"ab")?;
+    Ok(file)
+}
+
+#[test]
+fn file_created_in_memory(rt: HostRuntime) {
+    let folder = MemoryFolder { alloc: rt.alloc() };
+    let file = again!(&rt; created(&folder, "a/b")).expect(&rt, "a file");
+    same_bytes(&rt, "bytes", &file, b"ab");
+}
+
+// What is there at a path is cut.
+#[test]
+fn file_created_at_a_path(rt: HostRuntime) {
+    let path = again!(&rt; created_path(&rt)).expect(&rt, "a path");
+    fs::write(&rt, &path, b"abcdef".as_slice()).expect(&rt, "a file");
+    let files = RuntimeFiles { files: &rt };
+    created(&files, path.as_str()).expect(&rt, "a file");
+    let bytes = again!(&rt; fs::read(&rt, &path)).expect(&rt, "bytes");
+    same_bytes(&rt, "bytes", &bytes, b"ab");
+    fs::remove_file(&rt, &path).expect(&rt, "no file");
+}
+
+// Another path.
+fn created_path(rt: &HostRuntime) -> io::Result<String> {
+    let mut path = own_path(rt)?;
+    path.push_str("-created")?;
+    Ok(path)
 }
 
 // Lays a piece over a file.

@@ -129,6 +129,39 @@ fn nothing_to_write_writes_nothing(rt: HostRuntime) {
     same(&rt, "writes", &(word, store.writes), &("done", 0));
 }
 
+// How many failures a store counted over which `XY` was laid, and which got `gh` behind its end, by a plan.
+fn failures(rt: &impl Runtime, plan: Plan) -> u64 {
+    let mut store = TrialStore::open(rt, plan);
+    let pieces = [Piece {
+        offset: 4,
+        bytes: b"XY",
+    }];
+    let changes = Changes {
+        old_length: 6,
+        growth: b"gh",
+        pieces: &pieces,
+        new_length: 8,
+    };
+    let _ = write_changes(&mut store, &changes);
+    store.failures()
+}
+
+// Each interruption counts, an answer of no byte, and what comes after the first error.
+#[test]
+fn counts_failures(rt: HostRuntime) {
+    let rows = [
+        (planned(9, 9, 0, false), 0),
+        (planned(1, 9, 0, false), 1),
+        (planned(0, 9, 0, true), 2),
+        (planned(9, 9, 5, false), 10),
+        (planned(9, 9, 1001, false), 1001),
+        (planned(9, 0, 0, false), 1),
+    ];
+    for (plan, count) in rows {
+        same(&rt, "failures", &failures(&rt, plan), &count);
+    }
+}
+
 // Lays a piece over a store of six bytes.
 fn lay(store: &mut MemoryStore) -> io::Result<()>
     requires { length store.old.bytes.items ≡ 6 }
@@ -147,4 +180,16 @@ fn pieces_in_memory(rt: HostRuntime) {
     let mut store = MemoryStore::new(bytes);
     lay(&mut store).expect(&rt, "pieces");
     same_bytes(&rt, "bytes", &store.bytes, b"abXYZf");
+    same(&rt, "failures", &store.failures(), &0);
+}
+
+// A write that begins behind the end is an error, and counts.
+#[test]
+fn write_behind_the_end(rt: HostRuntime) {
+    let bytes = copy(rt.alloc(), b"abcdef").expect(&rt, "memory");
+    let mut store = MemoryStore::new(bytes);
+    store.open_for_writing().expect(&rt, "a store");
+    same(&rt, "write", &store.write_at(7, b"X").is_err(), &true);
+    same(&rt, "failures", &store.failures(), &1);
+    same_bytes(&rt, "bytes", &store.bytes, b"abcdef");
 }

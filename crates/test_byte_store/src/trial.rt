@@ -1,8 +1,9 @@
 //! A store in memory whose calls fail on purpose.
 ghost use Rattle.std.specs.Prelude.{◌≡◌, [], IfOk, true};
+ghost use Rattle.std.specs.Io.{WritesAtMost};
 
 use crate::support::Runtime;
-use byte_store::{MemoryStore, Store};
+use byte_store::{Failures, MemoryStore, Store};
 use std::alloc::{AllocError, Global};
 use std::io;
 
@@ -42,13 +43,14 @@ pub(crate) struct Plan {
     pub(crate) stays_closed: bool,
 }
 
-// A store in memory that follows a plan, and counts its writes.
+// A store in memory that follows a plan, and counts its writes, and its failures.
 #[derive(Drop)]
 pub(crate) struct TrialStore {
     pub(crate) inner: MemoryStore,
     pub(crate) plan: Plan,
     pub(crate) writes: usize,
     pub(crate) interrupted: usize,
+    pub(crate) failed: Failures,
 }
 
 impl TrialStore {
@@ -74,29 +76,16 @@ impl TrialStore {
             plan,
             writes: 0,
             interrupted: 0,
+            failed: Failures::none(),
         }
     }
-}
 
-impl Store for TrialStore {
-    ghost is_writable = { λ store. store.inner.is_open };
-
-    fn length(&self) -> io::Result<u64> {
-        self.inner.length()
-    }
-
-    fn read_at(&mut self, offset: u64, buffer: &mut [u8]) -> io::Result<usize> {
-        self.inner.read_at(offset, buffer)
-    }
-
-    fn open_for_writing(&mut self) -> io::Result<()> {
-        if self.plan.stays_closed {
-            return Err(io::Error::from(io::ErrorKind::PermissionDenied));
-        }
-        self.inner.open_for_writing()
-    }
-
-    fn write_at(&mut self, offset: u64, bytes: &[u8]) -> io::Result<usize> {
+    // The next write of the plan.
+    fn write_next(&mut self, offset: u64, bytes: &[u8]) -> io::Result<usize>
+        ensures bound { WritesAtMost result bytes.now }
+        ensures open { self.new.inner.is_open ≡ self.old.inner.is_open }
+        ensures failed { self.new.failed ≡ self.old.failed }
+    {
         if self.interrupted < self.plan.interruptions {
             self.interrupted = self.interrupted.saturating_add(1);
             return Err(io::Error::from(io::ErrorKind::Interrupted));
@@ -111,10 +100,58 @@ impl Store for TrialStore {
         self.inner.write_at(offset, &bytes[..count])
     }
 
-    fn set_length(&mut self, length: u64) -> io::Result<()> {
+    // Sets the length, if the plan lets it be set.
+    fn cut(&mut self, length: u64) -> io::Result<()>
+        ensures open { self.new.inner.is_open ≡ self.old.inner.is_open }
+        ensures failed { self.new.failed ≡ self.old.failed }
+    {
         if self.plan.keeps_length {
             return Err(io::Error::from(io::ErrorKind::StorageFull));
         }
         self.inner.set_length(length)
+    }
+}
+
+impl Store for TrialStore {
+    ghost is_writable = { λ store. store.inner.is_open };
+
+    ghost failed = { λ store. store.failed.count };
+
+    fn length(&mut self) -> io::Result<u64> {
+        let answer = self.inner.length();
+        self.failed.count_call(&answer);
+        answer
+    }
+
+    fn read_at(&mut self, offset: u64, buffer: &mut [u8]) -> io::Result<usize> {
+        let answer = self.inner.read_at(offset, buffer);
+        self.failed.count_call(&answer);
+        answer
+    }
+
+    fn open_for_writing(&mut self) -> io::Result<()> {
+        if self.plan.stays_closed {
+            self.failed.count_one();
+            return Err(io::Error::from(io::ErrorKind::PermissionDenied));
+        }
+        let answer = self.inner.open_for_writing();
+        self.failed.count_call(&answer);
+        answer
+    }
+
+    fn write_at(&mut self, offset: u64, bytes: &[u8]) -> io::Result<usize> {
+        let answer = self.write_next(offset, bytes);
+        self.failed.count_write(&answer, bytes.len());
+        answer
+    }
+
+    fn set_length(&mut self, length: u64) -> io::Result<()> {
+        let answer = self.cut(length);
+        self.failed.count_call(&answer);
+        answer
+    }
+
+    fn failures(&self) -> u64 {
+        self.failed.count
     }
 }

@@ -1,4 +1,4 @@
-use arwen_commands::{ArwenError, EditKind, EditsError};
+use arwen_cli::cli::{ArwenError, EditKind, EditsError};
 use arwen_elf::elf::{ElfError, ModifyCause};
 use arwen_macho::commands::{CommandBuilderError, NulInside};
 use arwen_macho::macho::{MachoBatchError, MachoError};

@@ -1,6 +1,6 @@
 use crate::stores::{PLAIN, WITH_RPATH};
-use arwen_commands::elf::{print_os_abi, print_path};
-use arwen_commands::{ArwenError, ElfCommand, MachoCommand, add, patch_path};
+use arwen_cli::cli::elf::{print_os_abi, print_path};
+use arwen_cli::cli::{ArwenError, ElfCommand, MachoCommand, add, patch_path};
 use byte_store::{MemoryFile, MemoryStore};
 use std::alloc::{AllocError, Global};
 use std::io;
@@ -50,10 +50,11 @@ fn printing(alloc: Global, path: &str) -> Result<ElfCommand, AllocError> {
 
 // The store that a command leaves of a file. It is opened once more where memory was refused.
 fn patched(alloc: Global, bytes: &[u8], command: &MachoCommand) -> Result<MemoryStore, ArwenError> {
-    match patch_path(alloc, &file(alloc, bytes), command) {
-        Err(_) => patch_path(alloc, &file(alloc, bytes), command),
-        answer => answer,
-    }
+    let store = match patch_path(alloc, &file(alloc, bytes), command) {
+        Err(_) => patch_path(alloc, &file(alloc, bytes), command)?,
+        Ok(store) => store,
+    };
+    Ok(store)
 }
 
 // What is printed of a file, in the same way.
@@ -64,8 +65,8 @@ fn printed(
     out: &mut Vec<u8>,
 ) -> Result<(), ArwenError> {
     match print_path(alloc, &file(alloc, bytes), command, out) {
-        Err(_) => print_path(alloc, &file(alloc, bytes), command, out),
-        answer => answer,
+        Err(_) => Ok(print_path(alloc, &file(alloc, bytes), command, out)?),
+        Ok(()) => Ok(()),
     }
 }
 

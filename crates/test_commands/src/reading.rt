@@ -1,4 +1,4 @@
-use arwen_commands::{ArwenError, read_bytes};
+use arwen_cli::cli::{ArwenError, read_bytes};
 use std::io;
 use std::io::Read;
 use std::test::Fail;

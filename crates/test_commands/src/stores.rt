@@ -1,5 +1,8 @@
-use arwen_commands::{ArwenError, MachoCommand, add, patch_store};
-use byte_store::{MemoryStore, Store};
+ghost use Rattle.std.specs.Prelude.{◌≡◌};
+ghost use Rattle.std.specs.Io.{WritesAtMost};
+
+use arwen_cli::cli::{MachoCommand, MachoCommandError, add, patch_store};
+use byte_store::{Failures, MemoryStore, Store};
 use std::alloc::{AllocError, Global};
 use std::io;
 use std::process::Abort;
@@ -23,33 +26,61 @@ pub(crate) const WITH_RPATH: &[u8; 44] = b"\xfe\xed\xfa\xce\0\0\0\x07\0\0\0\x03\
 struct Failing {
     inner: MemoryStore,
     writes: usize,
+    failed: Failures,
 }
 
-impl Store for Failing {
-    ghost is_writable = { λ store. store.inner.is_open };
-
-    fn length(&self) -> io::Result<u64> {
-        self.inner.length()
-    }
-
-    fn read_at(&mut self, offset: u64, buffer: &mut [u8]) -> io::Result<usize> {
-        self.inner.read_at(offset, buffer)
-    }
-
-    fn open_for_writing(&mut self) -> io::Result<()> {
-        self.inner.open_for_writing()
-    }
-
-    fn write_at(&mut self, offset: u64, bytes: &[u8]) -> io::Result<usize> {
+impl Failing {
+    // The next write, if one is left.
+    fn write_next(&mut self, offset: u64, bytes: &[u8]) -> io::Result<usize>
+        ensures bound { WritesAtMost result bytes.now }
+        ensures open { self.new.inner.is_open ≡ self.old.inner.is_open }
+        ensures failed { self.new.failed ≡ self.old.failed }
+    {
         if self.writes == 0 {
             return Err(io::Error::from(io::ErrorKind::StorageFull));
         }
         self.writes -= 1;
         self.inner.write_at(offset, bytes)
     }
+}
+
+impl Store for Failing {
+    ghost is_writable = { λ store. store.inner.is_open };
+
+    ghost failed = { λ store. store.failed.count };
+
+    fn length(&mut self) -> io::Result<u64> {
+        let answer = self.inner.length();
+        self.failed.count_call(&answer);
+        answer
+    }
+
+    fn read_at(&mut self, offset: u64, buffer: &mut [u8]) -> io::Result<usize> {
+        let answer = self.inner.read_at(offset, buffer);
+        self.failed.count_call(&answer);
+        answer
+    }
+
+    fn open_for_writing(&mut self) -> io::Result<()> {
+        let answer = self.inner.open_for_writing();
+        self.failed.count_call(&answer);
+        answer
+    }
+
+    fn write_at(&mut self, offset: u64, bytes: &[u8]) -> io::Result<usize> {
+        let answer = self.write_next(offset, bytes);
+        self.failed.count_write(&answer, bytes.len());
+        answer
+    }
 
     fn set_length(&mut self, length: u64) -> io::Result<()> {
-        self.inner.set_length(length)
+        let answer = self.inner.set_length(length);
+        self.failed.count_call(&answer);
+        answer
+    }
+
+    fn failures(&self) -> u64 {
+        self.failed.count
     }
 }
 
@@ -91,9 +122,9 @@ fn patched(
     store: &mut Failing,
     command: &MachoCommand,
     old: &[u8],
-) -> Result<(), ArwenError> {
+) -> Result<(), MachoCommandError> {
     let answer = patch_store(alloc, store, command);
-    if let Err(ArwenError::Memory) = &answer {
+    if let Err(MachoCommandError::Memory) = &answer {
         assert_eq!(rt; store.inner.bytes.as_slice(), old);
         return patch_store(alloc, store, command);
     }
@@ -114,11 +145,12 @@ fn expect_left(
     let mut store = Failing {
         inner: MemoryStore::new(file(alloc, PLAIN, PLAIN)?),
         writes,
+        failed: Failures::none(),
     };
     let answer = patched(rt, alloc, &mut store, &command, old.as_slice());
     let is_right = match answer {
         Ok(()) => writes >= 2,
-        Err(ArwenError::Io(_)) => writes < 2,
+        Err(MachoCommandError::Io(_)) => writes < 2,
         Err(_) => false,
     };
     assert!(rt; is_right, "{writes}");

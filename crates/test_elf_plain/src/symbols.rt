@@ -7,7 +7,7 @@ use crate::source::{Source, TableSource, read_bytes, read_text};
 use crate::view::ShownSymbol;
 use elf_format::form::Form;
 use elf_format::records::SymbolNumbers;
-use elf_format::tables::{read_symbols, read_versions};
+use elf_format::tables::read_records;
 use elf_format::version_id::VersionId;
 use elf_format::view_fault::ViewFault;
 use std::alloc::{AllocError, Global};
@@ -70,7 +70,7 @@ fn versions_of(
         return Ok(no_versions(alloc, count)?);
     }
     let all = read_bytes(alloc, versions, 0, count as u128 * 2)?;
-    Ok(read_versions(alloc, form, 2, count, &all)?)
+    Ok(read_records(alloc, form, 2, count, &all)?)
 }
 
 // The names of symbols.
@@ -105,7 +105,7 @@ pub(crate) fn show_symbols(
     let size = form.symbol_size();
     let count = table.count as usize;
     let all = read_bytes(alloc, &table.bytes, 0, count as u128 * size as u128)?;
-    let symbols = read_symbols(alloc, form, size, count, &all)?;
+    let symbols: Vec<SymbolNumbers> = read_records(alloc, form, size, count, &all)?;
     let names = symbol_names(alloc, room, &table.texts, &symbols)?;
     let ids = versions_of(alloc, form, with_versions, count, versions)?;
     Ok(join_symbols(alloc, &symbols, &names, &ids)?)

@@ -53,46 +53,47 @@ fn comes_before(a: &Part, b: &Part) -> bool {
     a.position < b.position
 }
 
-/// The first of some sections in memory.
-fn first_of(parts: &[Part]) -> Option<Part> {
-    let mut first: Option<Part> = None;
+/// The first in memory of some sections that stand behind one of them, or behind none.
+fn next_of(parts: &[Part], last: &Option<Part>) -> Option<Part> {
+    let mut next: Option<Part> = None;
     for part in parts {
-        let is_first = match &first {
-            None => true,
-            Some(other) => comes_before(part, other),
-        };
-        if is_first {
-            first = Some(*part);
+        if is_behind(part, last) && is_next(part, &next) {
+            next = Some(*part);
         }
     }
-    first
+    next
 }
 
-/// All of them but the one at a position.
-fn without(alloc: Global, parts: &[Part], position: usize) -> Result<Vec<Part>, AllocError> {
-    let mut others = Vec::new(alloc);
-    for part in parts {
-        if part.position != position {
-            others.push(*part)?;
-        }
+/// A section stands behind another, if there is one.
+fn is_behind(part: &Part, last: &Option<Part>) -> bool {
+    match last {
+        Some(last) => comes_before(last, part),
+        None => true,
     }
-    Ok(others)
+}
+
+/// A section stands before another, if there is one.
+fn is_next(part: &Part, next: &Option<Part>) -> bool {
+    match next {
+        Some(next) => comes_before(part, next),
+        None => true,
+    }
 }
 
 /// The sections in the order in which they stood in memory.
-fn in_old_order(alloc: Global, parts: Vec<Part>) -> Result<Vec<Part>, AllocError> {
+fn in_old_order(alloc: Global, parts: &[Part]) -> Result<Vec<Part>, AllocError> {
     let mut ordered = Vec::new(alloc);
-    let mut rest = parts;
-    for _ in 0..rest.len() {
-        if let Some(first) = first_of(&rest) {
-            ordered.push(first)?;
-            rest = without(alloc, &rest, first.position)?;
+    let mut last = None;
+    for _ in 0..parts.len() {
+        last = next_of(parts, &last);
+        if let Some(part) = last {
+            ordered.push(part)?;
         }
     }
     Ok(ordered)
 }
 
-/// The sections that move, in the order in which they stood.
+/// The sections that move.
 fn moved_by(
     alloc: Global,
     plain: &Plain,
@@ -105,7 +106,7 @@ fn moved_by(
             moved.push(*part)?;
         }
     }
-    in_old_order(alloc, moved)
+    Ok(moved)
 }
 
 /// A round with so many program headers more.
@@ -114,11 +115,27 @@ fn round_with(alloc: Global, plain: &Plain, added: usize) -> Result<Round, Alloc
     if is_stuck(&blocks) {
         return Ok(Round::Stuck);
     }
-    let moves = moving(alloc, &blocks)?;
-    if !is_right(&blocks, &moves) {
+    round_of(alloc, plain, &blocks)
+}
+
+/// A round with blocks none of which are stuck.
+fn round_of(alloc: Global, plain: &Plain, blocks: &[Block]) -> Result<Round, AllocError> {
+    let moves = moving(alloc, blocks)?;
+    if !is_right(blocks, &moves) {
         return Ok(Round::Wrong);
     }
-    Ok(Round::Moved(moved_by(alloc, plain, &blocks, &moves)?))
+    round_by(alloc, plain, blocks, &moves)
+}
+
+/// A round by which of the blocks move.
+fn round_by(
+    alloc: Global,
+    plain: &Plain,
+    blocks: &[Block],
+    moves: &[bool],
+) -> Result<Round, AllocError> {
+    let moved = moved_by(alloc, plain, blocks, moves)?;
+    Ok(Round::Moved(in_old_order(alloc, &moved)?))
 }
 
 /// A number fits a field.
@@ -185,20 +202,35 @@ fn last_round(
     Ok(Found::Plan(slow))
 }
 
+/// What comes of the sections that move in a round, unless another one follows: that is with so many program headers more.
+fn found_by(
+    alloc: Global,
+    plain: &Plain,
+    moved: &[Part],
+    round: usize,
+    looked: &mut usize,
+) -> Result<Option<Found>, AllocError> {
+    let needed = headers_needed(alloc, plain, moved)?;
+    if needed <= *looked {
+        let found = last_round(alloc, plain, moved, needed, (round, *looked))?;
+        return Ok(Some(found));
+    }
+    *looked = needed;
+    Ok(None)
+}
+
 /// What comes of a round, unless another one follows.
 fn found_in(
     alloc: Global,
     plain: &Plain,
-    moved: &[Part],
-    (round, looked): (usize, usize),
-    next: &mut usize,
+    round: usize,
+    looked: &mut usize,
 ) -> Result<Option<Found>, AllocError> {
-    let needed = headers_needed(alloc, plain, moved)?;
-    *next = needed;
-    if needed <= looked {
-        return Ok(Some(last_round(alloc, plain, moved, needed, (round, looked))?));
+    match round_with(alloc, plain, *looked)? {
+        Round::Moved(moved) => found_by(alloc, plain, &moved, round, looked),
+        Round::Stuck => Ok(Some(Found::Overlap)),
+        Round::Wrong => Ok(Some(Found::Wrong)),
     }
-    Ok(None)
 }
 
 /// Looks in rounds for where everything goes.
@@ -206,16 +238,9 @@ pub fn lay_out_slowly(alloc: Global, plain: &Plain) -> Result<Found, AllocError>
     let most = plain.pieces.len().saturating_add(6);
     let mut looked = 0;
     for round in 1..most {
-        let moved = match round_with(alloc, plain, looked)? {
-            Round::Moved(moved) => moved,
-            Round::Stuck => return Ok(Found::Overlap),
-            Round::Wrong => return Ok(Found::Wrong),
-        };
-        let mut next = looked;
-        if let Some(found) = found_in(alloc, plain, &moved, (round, looked), &mut next)? {
+        if let Some(found) = found_in(alloc, plain, round, &mut looked)? {
             return Ok(found);
         }
-        looked = next;
     }
     Ok(Found::Wrong)
 }

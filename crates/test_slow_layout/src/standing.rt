@@ -4,9 +4,9 @@ ghost use Rattle.std.specs.Prelude.{◌≡◌, ◌==◌, find};
 use crate::blocks::table_load;
 use crate::following::{Anchor, added_flags, anchor_of, count_moved, is_moved};
 use crate::plain::{Part, Piece, Plain};
-use elf_format::constants::{EM_MIPS, PT_LOAD};
-use elf_layout_plan::constants::{
-    EM_AARCH64, EM_ALPHA, EM_IA_64, EM_LOONGARCH, EM_PPC, EM_PPC64, EM_SPARC, EM_SPARCV9, EM_TILEGX,
+use elf_format::constants::{
+    EM_AARCH64, EM_ALPHA, EM_IA_64, EM_LOONGARCH, EM_MIPS, EM_PPC, EM_PPC64, EM_SPARC, EM_SPARCV9,
+    EM_TILEGX, PT_LOAD,
 };
 use std::alloc::{AllocError, Global};
 
@@ -139,30 +139,54 @@ fn load_alignment(plain: &Plain) -> u128 {
     }
 }
 
-/// Puts the sections that need these flags one behind the other, from an offset and an address on.
+/// Puts the sections that need these flags one behind the other, from an offset and an address on, and tells where the
+/// last one ends in the file.
+fn add_slots(
+    standing: &mut Standing,
+    moved: &[Part],
+    p_flags: u32,
+    (start, address): (u128, u128),
+) -> Result<u128, AllocError> {
+    let (mut offset, mut at) = (start, address);
+    for part in moved {
+        if part.segment_flags() == p_flags {
+            let next = next_multiple(at, part.align);
+            offset = offset.saturating_add(next.saturating_sub(at));
+            add_slot(standing, part, offset, next)?;
+            offset = offset.saturating_add(part.size);
+            at = next.saturating_add(part.size);
+        }
+    }
+    Ok(offset)
+}
+
+/// Puts a section at an offset and an address.
+fn add_slot(
+    standing: &mut Standing,
+    part: &Part,
+    offset: u128,
+    address: u128,
+) -> Result<(), AllocError> {
+    standing.slots.push(Slot {
+        position: part.position,
+        offset,
+        address,
+        size: part.size,
+    })?;
+    Ok(())
+}
+
+/// Adds a loaded segment of these flags from an offset and an address on, with the sections that need it, and tells how
+/// many bytes it has.
 fn add_load(
     standing: &mut Standing,
     moved: &[Part],
     align: u128,
     p_flags: u32,
     (start, address): (u128, u128),
-) -> Result<(u128, u128), AllocError> {
-    let (mut offset, mut at) = (start, address);
-    for part in moved {
-        if part.segment_flags() == p_flags {
-            let next = next_multiple(at, part.align);
-            offset = offset.saturating_add(next.saturating_sub(at));
-            standing.slots.push(Slot {
-                position: part.position,
-                offset,
-                address: next,
-                size: part.size,
-            })?;
-            offset = offset.saturating_add(part.size);
-            at = next.saturating_add(part.size);
-        }
-    }
-    let size = offset.saturating_sub(start);
+) -> Result<u128, AllocError> {
+    let end = add_slots(standing, moved, p_flags, (start, address))?;
+    let size = end.saturating_sub(start);
     standing.loads.push(Piece {
         p_type: PT_LOAD,
         p_flags,
@@ -173,7 +197,7 @@ fn add_load(
         in_memory: size,
         align,
     })?;
-    Ok((start.saturating_add(size), address.saturating_add(size)))
+    Ok(size)
 }
 
 /// Puts the sections that aren't loaded one behind the other, and tells where the last one ends.
@@ -183,13 +207,7 @@ fn add_unloaded(standing: &mut Standing, plain: &Plain, start: u128) -> Result<u
         let is_reserved = part.position == 0 && part.size == 0;
         if part.is_in_file() && !part.is_loaded() && !is_reserved {
             let offset = next_multiple(end, part.align);
-            let (position, address, size) = (part.position, part.address, part.size);
-            standing.slots.push(Slot {
-                position,
-                offset,
-                address,
-                size,
-            })?;
+            add_slot(standing, part, offset, part.address)?;
             end = offset.saturating_add(part.size);
         }
     }
@@ -202,13 +220,7 @@ fn add_others(standing: &mut Standing, plain: &Plain, end: u128) -> Result<(), A
         if slot_at(&standing.slots, part.position).is_none() {
             let is_behind = part.is_in_file() && part.size == 0 && end < part.offset;
             let offset = if is_behind { end } else { part.offset };
-            let (position, address, size) = (part.position, part.address, part.size);
-            standing.slots.push(Slot {
-                position,
-                offset,
-                address,
-                size,
-            })?;
+            add_slot(standing, part, offset, part.address)?;
         }
     }
     Ok(())
@@ -234,13 +246,53 @@ fn add_loads(
     moved: &[Part],
     start: u128,
 ) -> Result<u128, AllocError> {
+    let flags = added_flags(alloc, moved)?;
+    add_loads_of(standing, plain, moved, start, &flags)
+}
+
+/// Adds segments of these flags.
+fn add_loads_of(
+    standing: &mut Standing,
+    plain: &Plain,
+    moved: &[Part],
+    start: u128,
+    flags: &[u32],
+) -> Result<u128, AllocError> {
     let align = load_alignment(plain);
     let (mut end, mut memory) = (start, memory_end(plain));
-    for flags in &added_flags(alloc, moved)? {
+    for p_flags in flags {
         let address = next_multiple(memory, align).saturating_add(remainder(end, align));
-        (end, memory) = add_load(standing, moved, align, *flags, (end, address))?;
+        let size = add_load(standing, moved, align, *p_flags, (end, address))?;
+        end = end.saturating_add(size);
+        memory = address.saturating_add(size);
     }
     Ok(end)
+}
+
+/// Puts the program header table behind the loaded parts where no loaded segment had it, and tells where that ends.
+fn place_table(standing: &mut Standing, plain: &Plain, headers: u128, end: u128) -> u128 {
+    if table_load(plain).is_some() {
+        return end;
+    }
+    standing.e_phoff = next_multiple(end, plain.facts.word());
+    let size = headers.saturating_mul(plain.facts.program_header());
+    standing.e_phoff.saturating_add(size)
+}
+
+/// Puts everything where it stands, behind what stays.
+fn place_all(
+    alloc: Global,
+    standing: &mut Standing,
+    plain: &Plain,
+    moved: &[Part],
+    (headers, kept): (u128, u128),
+) -> Result<(), AllocError> {
+    let end = add_loads(alloc, standing, plain, moved, kept)?;
+    let end = place_table(standing, plain, headers, end);
+    let end = add_unloaded(standing, plain, end)?;
+    add_others(standing, plain, end)?;
+    standing.e_shoff = next_multiple(end, plain.facts.word());
+    Ok(())
 }
 
 /// Where everything stands once these sections move, with so many program headers.
@@ -250,22 +302,14 @@ pub(crate) fn standing_of(
     moved: &[Part],
     headers: usize,
 ) -> Result<Standing, AllocError> {
-    let (loads, slots) = (Vec::new(alloc), Vec::new(alloc));
+    let headers = headers as u128;
+    let kept = kept_end(alloc, plain, moved, headers)?;
     let mut standing = Standing {
-        loads,
-        slots,
+        loads: Vec::new(alloc),
+        slots: Vec::new(alloc),
         e_phoff: plain.facts.e_phoff,
         e_shoff: 0,
     };
-    let kept = kept_end(alloc, plain, moved, headers as u128)?;
-    let mut end = add_loads(alloc, &mut standing, plain, moved, kept)?;
-    if table_load(plain).is_none() {
-        standing.e_phoff = next_multiple(end, plain.facts.word());
-        let size = (headers as u128).saturating_mul(plain.facts.program_header());
-        end = standing.e_phoff.saturating_add(size);
-    }
-    let end = add_unloaded(&mut standing, plain, end)?;
-    add_others(&mut standing, plain, end)?;
-    standing.e_shoff = next_multiple(end, plain.facts.word());
+    place_all(alloc, &mut standing, plain, moved, (headers, kept))?;
     Ok(standing)
 }

@@ -65,6 +65,54 @@ fn loaded_at(part: &Part, slot: &Slot) -> Option<u128> {
     }
 }
 
+/// The first in the file of the notes that move, or of those that stay.
+fn first_note(
+    standing: &Standing,
+    moved: &[Part],
+    notes: &[Part],
+    do_move: bool,
+) -> Option<(Part, Slot)> {
+    let mut first: Option<(Part, Slot)> = None;
+    for note in notes {
+        if is_moved(moved, note) == do_move {
+            first = earlier_note(first, note, slot_at(&standing.slots, note.position));
+        }
+    }
+    first
+}
+
+/// The note that was found, or another one where that stands before it.
+fn earlier_note(
+    found: Option<(Part, Slot)>,
+    note: &Part,
+    slot: Option<Slot>,
+) -> Option<(Part, Slot)> {
+    match (found, slot) {
+        (_, None) => found,
+        (Some((_, other)), Some(slot)) if other.offset <= slot.offset => found,
+        (_, Some(slot)) => Some((*note, slot)),
+    }
+}
+
+/// Where the notes end in the file that move, or those that stay.
+fn notes_end(standing: &Standing, moved: &[Part], notes: &[Part], do_move: bool) -> u128 {
+    let mut end = 0;
+    for note in notes {
+        if is_moved(moved, note) == do_move {
+            end = slot_end(slot_at(&standing.slots, note.position)).max(end);
+        }
+    }
+    end
+}
+
+/// Where a section ends in the file; 0 where it doesn't stand there.
+fn slot_end(slot: Option<Slot>) -> u128 {
+    match slot {
+        Some(slot) => slot.offset.saturating_add(slot.size),
+        None => 0,
+    }
+}
+
 /// Adds the program header from the first to the last of the notes that move, or of those that stay.
 fn lead_notes(
     written: &mut Written,
@@ -74,74 +122,84 @@ fn lead_notes(
     notes: &[Part],
     do_move: bool,
 ) -> Result<(), AllocError> {
-    let mut first: Option<(Part, Slot)> = None;
-    let mut end = 0;
-    for note in notes {
-        if is_moved(moved, note) != do_move {
-            continue;
-        }
-        let Some(slot) = slot_at(&standing.slots, note.position) else {
-            continue;
-        };
-        end = slot.offset.saturating_add(slot.size).max(end);
-        let is_first = match &first {
-            None => true,
-            Some((_, other)) => slot.offset < other.offset,
-        };
-        if is_first {
-            first = Some((*note, slot));
-        }
+    let Some((note, slot)) = first_note(standing, moved, notes, do_move) else {
+        return Ok(());
+    };
+    let size = notes_end(standing, moved, notes, do_move).saturating_sub(slot.offset);
+    lead(written, piece, slot.offset, size, loaded_at(&note, &slot))
+}
+
+/// Adds what becomes of a program header over notes.
+fn add_notes(
+    written: &mut Written,
+    standing: &Standing,
+    moved: &[Part],
+    piece: &Piece,
+    notes: &[Part],
+) -> Result<(), AllocError> {
+    if count_moved(moved, notes) == 0 {
+        return push(written, *piece);
     }
-    match first {
-        None => Ok(()),
-        Some((note, slot)) => {
-            let size = end.saturating_sub(slot.offset);
-            lead(written, piece, slot.offset, size, loaded_at(&note, &slot))
+    lead_notes(written, standing, moved, piece, notes, false)?;
+    lead_notes(written, standing, moved, piece, notes, true)
+}
+
+/// Adds what becomes of a program header over a section.
+fn add_over_section(
+    written: &mut Written,
+    standing: &Standing,
+    piece: &Piece,
+    part: &Part,
+) -> Result<(), AllocError> {
+    match slot_at(&standing.slots, part.position) {
+        Some(slot) => {
+            let address = loaded_at(part, &slot);
+            lead(written, piece, slot.offset, slot.size, address)
         }
+        None => push(written, *piece),
     }
 }
 
-/// Adds what becomes of a program header, with so many in all.
+/// The program header with another size.
+fn sized(piece: &Piece, size: u128) -> Piece {
+    Piece {
+        in_file: size,
+        in_memory: size,
+        ..*piece
+    }
+}
+
+/// Adds what becomes of a program header, where the table of all has this size.
 fn add(
     written: &mut Written,
-    plain: &Plain,
     standing: &Standing,
     moved: &[Part],
     piece: &Piece,
     anchor: &Anchor,
-    headers: u128,
+    table_size: u128,
 ) -> Result<(), AllocError> {
     match anchor {
         Anchor::Itself => push(written, *piece),
-        Anchor::HeaderTable => {
-            let size = headers.saturating_mul(plain.facts.program_header());
-            push(
-                written,
-                Piece {
-                    in_file: size,
-                    in_memory: size,
-                    ..*piece
-                },
-            )
-        }
-        Anchor::OneSection(part) => match slot_at(&standing.slots, part.position) {
-            Some(slot) => lead(
-                written,
-                piece,
-                slot.offset,
-                slot.size,
-                loaded_at(part, &slot),
-            ),
-            None => push(written, *piece),
-        },
-        Anchor::Notes(notes) => {
-            if count_moved(moved, notes) == 0 {
-                return push(written, *piece);
-            }
-            lead_notes(written, standing, moved, piece, notes, false)?;
-            lead_notes(written, standing, moved, piece, notes, true)
-        }
+        Anchor::HeaderTable => push(written, sized(piece, table_size)),
+        Anchor::OneSection(part) => add_over_section(written, standing, piece, part),
+        Anchor::Notes(notes) => add_notes(written, standing, moved, piece, notes),
     }
+}
+
+/// Adds what becomes of every program header.
+fn add_all(
+    alloc: Global,
+    written: &mut Written,
+    plain: &Plain,
+    standing: &Standing,
+    moved: &[Part],
+    table_size: u128,
+) -> Result<(), AllocError> {
+    for piece in &plain.pieces {
+        let anchor = anchor_of(alloc, plain, piece)?;
+        add(written, standing, moved, piece, &anchor, table_size)?;
+    }
+    Ok(())
 }
 
 /// Where the last loaded program header stands of a list.
@@ -155,6 +213,14 @@ fn last_load(pieces: &[Piece]) -> Option<usize> {
     last
 }
 
+/// Adds program headers to a list.
+fn push_all(all: &mut Vec<Piece>, pieces: &[Piece]) -> Result<(), AllocError> {
+    for piece in pieces {
+        all.push(*piece)?;
+    }
+    Ok(())
+}
+
 /// The program headers with the added ones behind the last loaded one.
 fn with_loads(alloc: Global, pieces: &[Piece], loads: &[Piece]) -> Result<Vec<Piece>, AllocError> {
     let mut all = Vec::new(alloc);
@@ -162,9 +228,7 @@ fn with_loads(alloc: Global, pieces: &[Piece], loads: &[Piece]) -> Result<Vec<Pi
     for (i, piece) in pieces.iter().enumerate() {
         all.push(*piece)?;
         if matches!(last, Some(at) if at == i) {
-            for load in loads {
-                all.push(*load)?;
-            }
+            push_all(&mut all, loads)?;
         }
     }
     Ok(all)
@@ -178,22 +242,14 @@ pub(crate) fn written_of(
     moved: &[Part],
     headers: usize,
 ) -> Result<Written, AllocError> {
+    let table_size = (headers as u128).saturating_mul(plain.facts.program_header());
     let mut written = Written {
         pieces: Vec::new(alloc),
         falls: false,
     };
-    for piece in &plain.pieces {
-        let anchor = anchor_of(alloc, plain, piece)?;
-        add(
-            &mut written,
-            plain,
-            standing,
-            moved,
-            piece,
-            &anchor,
-            headers as u128,
-        )?;
-    }
-    written.pieces = with_loads(alloc, &written.pieces, &standing.loads)?;
-    Ok(written)
+    add_all(alloc, &mut written, plain, standing, moved, table_size)?;
+    Ok(Written {
+        pieces: with_loads(alloc, &written.pieces, &standing.loads)?,
+        falls: written.falls,
+    })
 }

@@ -15,18 +15,19 @@ pub(crate) enum Change<'a> {
     SetExecStack,
 }
 
-fn names(alloc: Global, name: &[u8]) -> Result<Vec<Vec<u8>>, AllocError> {
+// A list of one text.
+fn texts(alloc: Global, text: &[u8]) -> Result<Vec<Vec<u8>>, AllocError> {
     let mut made = Vec::new(alloc);
-    made.push(Vec::from_slice(alloc, name)?)?;
+    made.push(Vec::from_slice(alloc, text)?)?;
     Ok(made)
 }
 
 fn edit_of(alloc: Global, change: Change<'_>) -> Result<ElfEdit, AllocError> {
     match change {
-        Change::AddRpath(text) => Ok(ElfEdit::AddRpath(Vec::from_slice(alloc, text)?)),
+        Change::AddRpath(text) => Ok(ElfEdit::AddRpath(texts(alloc, text)?)),
         Change::SetRpath(text) => Ok(ElfEdit::SetRpath(Vec::from_slice(alloc, text)?)),
         Change::RemoveRpath => Ok(ElfEdit::RemoveRpath),
-        Change::RemoveNeeded(name) => Ok(ElfEdit::RemoveNeeded(names(alloc, name)?)),
+        Change::RemoveNeeded(name) => Ok(ElfEdit::RemoveNeeded(texts(alloc, name)?)),
         Change::SetSoname(text) => Ok(ElfEdit::SetSoname(Vec::from_slice(alloc, text)?)),
         Change::SetExecStack => Ok(ElfEdit::SetExecStack),
     }

@@ -1,17 +1,20 @@
 //! What the words of a line mean.
 ghost use Rattle.std.specs.Prelude.{◌≡◌, None, Some, codes, false, IfErr, IfOk, MatchResult, map};
-ghost use Rattle.command_faults.specs.Fault.{IsOfLine, status_of};
-ghost use Rattle.arwen_commands.specs.Meaning.{Meaning};
-ghost use Rattle.elf_commands.specs.Meaning.{elf_lines, elf_command_model};
+ghost use Rattle.arwen_cli.specs.Fault.{IsOfLine, status_of};
+ghost use Rattle.arwen_cli.specs.Meaning.{Meaning};
+ghost use Rattle.command_words.specs.Rows.{given_model, meant_with};
+ghost use Rattle.elf_commands.specs.Meaning.{elf_lines, elf_command_model, reading_of};
 ghost use Rattle.macho_commands.specs.Meaning.{macho_lines};
 ghost use Rattle.macho_commands.specs.Meaning.{macho_command_model};
-ghost use Rattle.arwen_commands.specs.Meaning.{shown};
+ghost use Rattle.arwen_cli.specs.Meaning.{shown};
 ghost use Rattle.arwen_cli.specs.Line.{has_option, meaning_of};
-ghost use Rattle.arwen_cli.specs.Parser.{MayRefuse, MayRefuseTaken, MeansBy, MeansTaken};
+ghost use Rattle.arwen_cli.specs.Parser.{MayRefuse, MayRefuseReading, MayRefuseTaken, MeansBy, MeansTaken};
 
 use crate::cli::parser::{First, parse_values};
 use crate::cli::{ArwenError, Command, ElfCommand, MachoCommand};
-use arwen_commands::{elf_table, macho_table};
+use command_words::{ValueError, Values};
+use elf_commands::elf_table;
+use macho_commands::macho_table;
 use std::alloc::{AllocError, Global};
 
 /// The program's name and its version, as `--version` prints them.
@@ -170,6 +173,38 @@ fn parse_elf(alloc: Global, words: &[&str]) -> Result<ElfCommand, ArwenError>
     ensures err { IfErr result (λ error. IsOfLine error) }
 {
     let (name, values) = parse_values(alloc, ELF, elf_table(), words)?;
-    let command = ElfCommand::with_values(alloc, name, values)?;
-    or_usage(alloc, command)
+    elf_command(alloc, name, values)
+}
+
+/// The command for ELF files of a name with its values.
+fn elf_command(alloc: Global, name: &str, values: Values) -> Result<ElfCommand, ArwenError>
+    ensures means { IfOk result (λ command.
+        meant_with elf_lines name.now (given_model values) ≡ Some (reading_of command)) }
+    ensures refused { IfErr result
+        (MayRefuseReading (meant_with elf_lines name.now (given_model values))) }
+    ensures err { IfErr result (λ error. IsOfLine error) }
+{
+    match ElfCommand::with_values(alloc, name, values) {
+        Ok(command) => or_usage(alloc, command),
+        Err(error) => Err(no_value(alloc, error)),
+    }
+}
+
+/// The answer to values that are not what a command takes.
+fn no_value(alloc: Global, error: ValueError) -> ArwenError
+    ensures memory { error ≡ ValueError.Memory → result ≡ ArwenError.Memory }
+    ensures kind { IsOfLine result }
+{
+    match error {
+        ValueError::Memory => ArwenError::Memory,
+        fault => or_memory(value_line(alloc, &fault)),
+    }
+}
+
+/// What is said of such values.
+fn value_line(alloc: Global, fault: &ValueError) -> Result<ArwenError, AllocError>
+    ensures { IfOk result (λ fault. IsOfLine fault) }
+{
+    let text = format!(in alloc; "error: {fault}\n")?;
+    Ok(ArwenError::Line { text, status: 2 })
 }

@@ -3,7 +3,7 @@ ghost use Rattle.std.specs.Prelude.{◌≡◌, ◌<◌, [], Some, false, IfOk, I
 ghost use Rattle.std.specs.Prelude.{unwrap_or};
 ghost use Rattle.clap.specs.Words.{all_of, app_of, fault_of, first_of, found_of, kind_of, new_app, rows_of};
 ghost use Rattle.clap.specs.Words.{rule_of, with_rule, with_subcommand};
-ghost use Rattle.command_faults.specs.Fault.{IsOfLine};
+ghost use Rattle.arwen_cli.specs.Fault.{IsOfLine};
 ghost use Rattle.command_words.specs.Rows.{given_model, kind_model, row_model, texts};
 ghost use Rattle.arwen_cli.specs.Parser.{IsTaken, Matches, MatchesBy, RefusesNone, MayRefuseFound, MayRefuseValues, first_id, found_by};
 ghost use Rattle.arwen_cli.specs.Parser.{found_values, has_globals, is_table, leaf_app, leaf_of, line_app};
@@ -12,9 +12,9 @@ ghost use Rattle.arwen_cli.specs.Parser.{values_rule, with_options, with_path, w
 
 use crate::cli::ArwenError;
 use crate::cli::line::{or_memory, or_usage, usage};
-use arwen_commands::{Form, Row, Value, ValueOption, Values, copies, find_row};
 use clap::error::ErrorKind;
 use clap::{Arg, ArgAction, ArgMatches, Error};
+use command_words::{Row, Value, ValueForm, ValueOption, Values, copies, find_row};
 use std::alloc::{AllocError, Global};
 
 /// A first word of lines.
@@ -169,11 +169,11 @@ fn row_line<'a>(alloc: Global, row: &'a Row) -> Result<clap::Command<'a>, AllocE
 {
     let line = named_line(alloc, row);
     match &row.form {
-        Form::Path => path_line(alloc, line),
-        Form::Text(text) => text_line(alloc, line, FIRST, text),
-        Form::Texts(first, second) => texts_line(alloc, line, first, second),
-        Form::Words(words) => words_line(alloc, line, words),
-        Form::Options(option) => option_line(alloc, line, option),
+        ValueForm::Path => path_line(alloc, line),
+        ValueForm::Text(text) => text_line(alloc, line, FIRST, text),
+        ValueForm::Texts(first, second) => texts_line(alloc, line, first, second),
+        ValueForm::Words(words) => words_line(alloc, line, words),
+        ValueForm::Options(option) => option_line(alloc, line, option),
     }
 }
 
@@ -353,18 +353,18 @@ fn read_row(
 /// The values of a command that was found, where they are all there.
 fn read_values(
     alloc: Global,
-    form: &Form,
+    form: &ValueForm,
     matches: &ArgMatches<'_>,
 ) -> Result<Option<Values>, AllocError>
     ensures { IfOk result (λ values. option_map given_model values
         ≡ found_values (kind_model form.now) (rows_of (found_of matches.now))) }
 {
     match form {
-        Form::Path => read_path(alloc, matches),
-        Form::Text(_) => read_text(alloc, matches),
-        Form::Texts(..) => read_texts(alloc, matches),
-        Form::Words(_) => read_words(alloc, matches),
-        Form::Options(_) => read_options(alloc, matches),
+        ValueForm::Path => read_path(alloc, matches),
+        ValueForm::Text(_) => read_text(alloc, matches),
+        ValueForm::Texts(..) => read_texts(alloc, matches),
+        ValueForm::Words(_) => read_words(alloc, matches),
+        ValueForm::Options(_) => read_options(alloc, matches),
     }
 }
 

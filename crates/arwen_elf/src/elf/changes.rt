@@ -1,17 +1,17 @@
 //! The edits of an ELF file, by the names of the program's commands.
 ghost use Rattle.std.specs.Prelude.{◌≡◌, ◌∷◌, [], IfOk, IsOk};
-ghost use Rattle.elf_edits.specs.Called.{pairs_of_map, texts_model};
 ghost use Rattle.elf_edits.specs.Edit.{AddDebugEntry, AddNeeded, AddRunPath, ClearExecStack, DeleteNeeded, DeleteRunPath, NoDefaultLibrary, ReplaceNeeded, SetExecStack, SetInterpreter, SetOsAbi, SetPageSize, SetRunPath, SetSoname, UseRpath};
+ghost use Rattle.elf_edits.specs.EditModel.{pairs_model, texts_model};
 ghost use Rattle.elf_apply.specs.Taken.{RemovedAre, edits_model, shrink_model};
 ghost use Rattle.arwen_elf.specs.Contained.{BatchTaken, EditTaken, InPlaceTaken};
 
 use crate::elf::container::ElfContainer;
 use elf_apply::batch::ElfBatchError;
 use elf_apply::error::Result;
-use elf_edits::{ElfEdit, ProbeAnswer, Removed};
+use elf_edits::ElfEdit;
+use elf_edits_shrink::{ProbeAnswer, Removed};
 use std::alloc::Global;
 use std::collections::HashMap;
-use std::slice;
 
 impl<'a> ElfContainer<'a> {
     /// Makes several edits, each upon what the one before it left: all of them, or none. An empty batch is accepted
@@ -32,7 +32,8 @@ impl<'a> ElfContainer<'a> {
         ensures { EditTaken (AddRunPath (text.now ∷ [])) self.old self.new result }
     {
         let text = Vec::from_slice(alloc, text)?;
-        self.inner.elf_add_runpath(alloc, slice::from_ref(&text))
+        let texts = Vec::from_array(alloc, [text])?;
+        self.inner.edit(alloc, ElfEdit::AddRpath(texts))
     }
 
     /// Drops every run path. Takes no memory.
@@ -108,7 +109,7 @@ impl<'a> ElfContainer<'a> {
 
     /// Replaces the names of needed libraries that are keys by their values, all at once.
     pub fn replace_needed(&mut self, alloc: Global, names: &HashMap<Vec<u8>, Vec<u8>>) -> Result<()>
-        ensures { EditTaken (ReplaceNeeded (pairs_of_map names.now.entries))
+        ensures { EditTaken (ReplaceNeeded (pairs_model names.now.entries))
             self.old self.new result }
     {
         self.inner.elf_replace_needed(alloc, names)

@@ -1,13 +1,12 @@
-ghost use Rattle.std.specs.Prelude.{◌≡◌, false, Ok, IfErr, IfOk, IsOkAnd, OnOk, MatchResult, map, option_map, string_bytes};
+ghost use Rattle.std.specs.Prelude.{◌≡◌, Ok, IfErr, IfOk, OnOk, MatchResult, map, option_map, string_bytes};
 ghost use Rattle.std.specs.Io.KnownBytes.{Appends};
-ghost use Rattle.byte_store.specs.Composed.{IsDifference, made_of};
 ghost use Rattle.elf_image.specs.Image.{image_of, shown};
 ghost use Rattle.elf_image.specs.Answers.{borrowed};
 ghost use Rattle.elf_apply.specs.Causes.{FailsPrint, FailsWrite, RefusesRead};
 ghost use Rattle.arwen_elf.specs.PageSizes.{page_size_for};
 ghost use Rattle.arwen_elf.specs.Prints.{before_nul as bytes_before_nul, cut_at_colons as parts_between_colons, directories_shown, line_if, line_of, printed_exec_stack, printed_interpreter, printed_needed, printed_os_abi, printed_runpath, printed_soname};
 ghost use Rattle.arwen_elf.specs.WriterModel.{ShowsBothViews};
-ghost use Rattle.arwen_elf.specs.Written.{GetsImage, IsImageWritten, IsIo, IsNoDifference, IsNoImage, IsNotWritten, MayNotWrite};
+ghost use Rattle.arwen_elf.specs.Written.{AnswersBytes, AnswersPieces, AnswersWrite, MayNotWrite};
 
 use crate::elf::rewriter::writer::Writer;
 use bstr::ByteSlice;
@@ -198,30 +197,21 @@ impl<'a> ElfContainer<'a> {
 
     /// The bytes of the file that is written, as `Writer::image_bytes` gives them.
     pub fn image_bytes(&self, alloc: Global) -> Result<Vec<u8>>
-        ensures bytes { IfOk result (λ bytes. IsImageWritten self.now.inner bytes.items) }
-        ensures fault { IfErr result (IsNoImage self.now.inner) }
+        ensures { AnswersBytes self.now.inner result }
     {
         self.inner.image_bytes(alloc)
     }
 
     /// What of the bytes of the file that is written differs from those as read, as `Writer::image_pieces` gives it.
     pub fn image_pieces(&self, alloc: Global) -> Result<Difference>
-        ensures makeable { IfOk result (λ d. IsDifference self.now.inner.source d) }
-        ensures bytes { IfOk result (λ d.
-            IsImageWritten self.now.inner (made_of self.now.inner.source d)) }
-        ensures fault { IfErr result (IsNoImage self.now.inner) }
-        ensures unchanged { self.now.inner.changed ≡ false
-            → IsOkAnd result (IsNoDifference self.now.inner.source) }
+        ensures { AnswersPieces self.now.inner result }
     {
         self.inner.image_pieces(alloc)
     }
 
     /// Writes the bytes of `image_bytes`, as `Writer::write` does.
     pub fn write<W: CountedWrite>(&self, alloc: Global, w: &mut W) -> Result<()>
-        ensures ok { OnOk result (GetsImage self.now.inner (W.contents w.old) (W.contents w.new)) }
-        ensures err { IfErr result
-            (IsNotWritten W.contents W.failed self.now.inner w.old w.new) }
-        ensures unchanged { self.now.inner.changed ≡ false → IfErr result IsIo }
+        ensures { AnswersWrite W.contents W.failed self.now.inner w.old w.new result }
     {
         self.inner.write(alloc, w)
     }

@@ -2,12 +2,14 @@
 
 mod edits;
 pub mod machines;
+mod output;
+mod values;
 pub mod writer;
-mod written;
 
 pub use crate::elf::rewriter::writer::{Needed, Writer};
 pub use elf_apply::batch::ElfBatchError;
 pub use elf_apply::error::{ElfError, ModifyCause, Result};
 pub use elf_apply::ext::BuilderExt;
 pub use elf_apply::{batch, error, ext};
-pub use elf_edits::{ElfEdit, ProbeAnswer, Reason, Removed, Task};
+pub use elf_edits::{ElfEdit, Task};
+pub use elf_edits_shrink::{ProbeAnswer, Reason, Removed};

@@ -11,11 +11,11 @@ ghost use Rattle.elf_commands.specs.Meaning.{elf_file_of, elf_command_model};
 
 use crate::command::ElfCommand;
 use crate::elf::engine::{edited_pieces, edits_asked};
-use crate::elf::load_elf;
+use crate::elf::printing::load_elf;
+use crate::error::ElfCommandError;
 use byte_store::{
     Difference, Left, Opens, ReplaceError, RuntimeFiles, Store, WriteError, make_difference,
 };
-use command_faults::ArwenError;
 use elf_edits::ElfEdit;
 use std::alloc::Global;
 use std::rt::Files;
@@ -30,10 +30,10 @@ pub fn edit_store<S: Store>(
     alloc: Global,
     store: &mut S,
     command: &ElfCommand,
-) -> Result<(), ArwenError>
+) -> Result<(), ElfCommandError>
     ensures patched { OnOk result (IsElfPatched (elf_asked (elf_command_model command.now))
         (S.contents store.old) (S.contents store.new)) }
-    ensures err { IfErr result (λ e. ElfMayFail (elf_command_model command.now) e) }
+    ensures err { IfErr result (ElfMayFail (elf_command_model command.now)) }
     ensures left { IfErr result (FailsElf (elf_asked (elf_command_model command.now))
         (S.contents store.old) (S.contents store.new)) }
 {
@@ -52,13 +52,13 @@ fn edit_loaded<S: Store>(
     bytes: &[u8],
     command: &ElfCommand,
     edits: &[ElfEdit],
-) -> Result<(), ArwenError>
+) -> Result<(), ElfCommandError>
     requires asked { AreEditsAsked (elf_asked (elf_command_model command.now)) (edits_model edits.now) }
     requires whole { IsAll (S.contents store.old) bytes.now }
     requires length { HasLength (S.contents store.old) (length bytes.now) }
     ensures patched { OnOk result (IsElfPatched (elf_asked (elf_command_model command.now))
         (S.contents store.old) (S.contents store.new)) }
-    ensures err { IfErr result (λ e. ElfMayFail (elf_command_model command.now) e) }
+    ensures err { IfErr result (ElfMayFail (elf_command_model command.now)) }
     ensures left { IfErr result (FailsElf (elf_asked (elf_command_model command.now))
         (S.contents store.old) (S.contents store.new)) }
     ensures idle { ChangesNothing (elf_asked (elf_command_model command.now)) bytes.now
@@ -118,11 +118,11 @@ pub fn edit_path<'p, O: Opens<'p>>(
     alloc: Global,
     files: &O,
     command: &'p ElfCommand,
-) -> Result<O::Opened, ArwenError>
+) -> Result<O::Opened, ElfCommandError>
     ensures patched { IfOk result (λ store. IsElfPatched (elf_asked (elf_command_model command.now))
         (O.contents files.now (elf_file_of (elf_command_model command.now)))
         (O.Opened.contents store)) }
-    ensures err { IfErr result (λ e. ElfMayFail (elf_command_model command.now) e) }
+    ensures err { IfErr result (ElfMayFail (elf_command_model command.now)) }
     ensures tells { IfErr result (TellsElfPath (elf_asked (elf_command_model command.now))
         (O.contents files.now (elf_file_of (elf_command_model command.now)))) }
 {
@@ -134,9 +134,18 @@ pub fn edit_path<'p, O: Opens<'p>>(
 /// Edits a file in its place.
 pub(crate) fn edit_file<R: Files + AllocGlobal>(
     rt: &R,
-    command: &ElfCommand,
-) -> Result<(), ArwenError>
-    ensures { IfErr result (λ e. ElfMayFail (elf_command_model command.now) e) }
+    command: ElfCommand,
+) -> Result<(), ElfCommandError>
+    ensures { IfErr result (ElfMayFail (elf_command_model command)) }
+{
+    let answer = edit_lent(rt, &command);
+    drop(command);
+    answer
+}
+
+/// The same by a command that is lent.
+fn edit_lent<R: Files + AllocGlobal>(rt: &R, command: &ElfCommand) -> Result<(), ElfCommandError>
+    ensures { IfErr result (ElfMayFail (elf_command_model command.now)) }
 {
     let files = RuntimeFiles { files: rt };
     edit_path(rt.alloc(), &files, command)?;

@@ -1,15 +1,15 @@
 //! What is made of a file's bytes, and printed of them.
-ghost use Rattle.std.specs.Prelude.{◌≡◌, None, IfOk, IfErr, map};
-ghost use Rattle.elf_edits.specs.Called.{answer_model};
+ghost use Rattle.std.specs.Prelude.{◌≡◌, None, false, IfOk, IfErr, IsOkAnd, map};
+ghost use Rattle.elf_edits_shrink.specs.ShrinkModel.{answer_model};
 ghost use Rattle.elf_commands.specs.ShrinkRuns.{RunsCommand, TellsCommand};
 ghost use Rattle.std.specs.Io.KnownBytes.{Appends};
 ghost use Rattle.byte_store.specs.Composed.{IsDifference, made_of};
-ghost use Rattle.arwen_elf.specs.Written.{IsNoDifference};
+ghost use Rattle.arwen_elf.specs.Written.{IsImageWritten, IsNoDifference, IsNoImage};
 ghost use Rattle.elf_commands.specs.ElfStores.{ChangesNothing};
 ghost use Rattle.elf_apply.specs.Causes.{FailsPrint};
 ghost use Rattle.elf_image.specs.Image.{image_of, shown};
 ghost use Rattle.elf_commands.specs.ElfAsked.{elf_asked};
-ghost use Rattle.elf_commands.specs.ElfEngine.{AreAskedIf, AreEditsAsked, IsElfEdited, LeavesElf, RunsElf, TellsEachFile, TellsEdit, TellsRun, bytes_left, elf_refusal};
+ghost use Rattle.elf_commands.specs.ElfEngine.{AreAskedIf, AreChanged, AreEditsAsked, IsElfEdited, LeavesElf, RunsElf, TellsEachFile, TellsEdit, TellsNoImage, TellsRun, bytes_left, elf_refusal};
 ghost use Rattle.elf_commands.specs.ElfWords.{edits_model};
 ghost use Rattle.elf_commands.specs.Meaning.{elf_command_model};
 ghost use Rattle.elf_commands.specs.Prints.{Prints, TellsElf, printed};
@@ -17,9 +17,9 @@ ghost use Rattle.elf_commands.specs.Prints.{Prints, TellsElf, printed};
 use crate::command::ElfCommand;
 use crate::elf::shrinking::run_shrink;
 use crate::elf_words::parse_elf_edits;
+use crate::error::ElfCommandError;
 use arwen_elf::elf::{ElfBatchError, ElfContainer, ElfError, ProbeAnswer};
 use byte_store::Difference;
-use command_faults::ArwenError;
 use command_words::words_of;
 use elf_edits::ElfEdit;
 use elf_edits::laws::{batches_are_their_edits, edits_show};
@@ -39,7 +39,7 @@ pub fn run_elf<W: Write>(
     command: &ElfCommand,
     probe: &[ProbeAnswer<'_>],
     out: &mut W,
-) -> Result<Option<Vec<u8>>, ArwenError>
+) -> Result<Option<Vec<u8>>, ElfCommandError>
     ensures ran { IfOk result (λ new. RunsCommand (elf_command_model command.now)
         (map answer_model probe.now) bytes.now new (W.contents out.old) (W.contents out.new)) }
     ensures err { IfErr result (TellsCommand (elf_command_model command.now)
@@ -57,7 +57,7 @@ fn run_unprobed<W: Write>(
     bytes: &[u8],
     command: &ElfCommand,
     out: &mut W,
-) -> Result<Option<Vec<u8>>, ArwenError>
+) -> Result<Option<Vec<u8>>, ElfCommandError>
     ensures ran { IfOk result (λ new. RunsElf (elf_command_model command.now)
         (elf_asked (elf_command_model command.now)) bytes.now new
         (W.contents out.old) (W.contents out.new)) }
@@ -77,7 +77,7 @@ fn run_unprobed<W: Write>(
 pub(crate) fn edits_asked(
     alloc: Global,
     command: &ElfCommand,
-) -> Result<Option<Vec<ElfEdit>>, ArwenError>
+) -> Result<Option<Vec<ElfEdit>>, ElfCommandError>
     ensures ok { IfOk result (AreAskedIf (elf_asked (elf_command_model command.now))) }
     ensures err { IfErr result (TellsEachFile (elf_asked (elf_command_model command.now))) }
 {
@@ -99,7 +99,7 @@ pub(crate) fn edited(
     bytes: &[u8],
     command: &ElfCommand,
     edits: &[ElfEdit],
-) -> Result<Option<Vec<u8>>, ArwenError>
+) -> Result<Option<Vec<u8>>, ElfCommandError>
     requires { AreEditsAsked (elf_asked (elf_command_model command.now)) (edits_model edits.now) }
     ensures ok { IfOk result (IsElfEdited (elf_asked (elf_command_model command.now)) bytes.now) }
     ensures left { IfOk result (λ new. LeavesElf (elf_asked (elf_command_model command.now)) bytes.now
@@ -110,13 +110,51 @@ pub(crate) fn edited(
     batches_are_their_edits();
     read_images_hold_parts();
     let mut elf = ElfContainer::parse(alloc, bytes)?;
-    if let Err(error) = elf.apply(alloc, edits) {
-        return Err(refusal(command, error));
+    match elf.apply(alloc, edits) {
+        Ok(()) => changed_bytes(alloc, elf),
+        Err(error) => {
+            drop(elf);
+            Err(refusal(command, error))
+        }
     }
+}
+
+/// The bytes of an image; `None` where it is as it was read.
+pub(crate) fn changed_bytes(
+    alloc: Global,
+    elf: ElfContainer<'_>,
+) -> Result<Option<Vec<u8>>, ElfCommandError>
+    ensures ok { IfOk result (AreChanged elf.entry.inner) }
+    ensures err { IfErr result (TellsNoImage elf.entry.inner) }
+{
+    let answer = bytes_if_changed(alloc, &elf);
+    drop(elf);
+    Ok(answer?)
+}
+
+/// The same of an image that is lent.
+fn bytes_if_changed(alloc: Global, elf: &ElfContainer<'_>) -> Result<Option<Vec<u8>>, ElfError>
+    ensures ok { IfOk result (AreChanged elf.now.inner) }
+    ensures err { IfErr result (IsNoImage elf.now.inner) }
+{
     if !elf.inner.builder().changed() {
         return Ok(None);
     }
     Ok(Some(elf.image_bytes(alloc)?))
+}
+
+/// What of the bytes of a file differs from those of its image.
+pub(crate) fn pieces_of(alloc: Global, elf: ElfContainer<'_>) -> Result<Difference, ElfCommandError>
+    ensures makeable { IfOk result (λ d. IsDifference elf.entry.inner.source d) }
+    ensures bytes { IfOk result (λ d.
+        IsImageWritten elf.entry.inner (made_of elf.entry.inner.source d)) }
+    ensures unchanged { elf.entry.inner.changed ≡ false
+        → IsOkAnd result (IsNoDifference elf.entry.inner.source) }
+    ensures err { IfErr result (TellsNoImage elf.entry.inner) }
+{
+    let pieces = elf.image_pieces(alloc);
+    drop(elf);
+    Ok(pieces?)
 }
 
 /// What of the bytes of a file differs after the edits that a command asks for.
@@ -125,7 +163,7 @@ pub(crate) fn edited_pieces(
     bytes: &[u8],
     command: &ElfCommand,
     edits: &[ElfEdit],
-) -> Result<Difference, ArwenError>
+) -> Result<Difference, ElfCommandError>
     requires { AreEditsAsked (elf_asked (elf_command_model command.now)) (edits_model edits.now) }
     ensures makeable { IfOk result (λ d. IsDifference bytes.now d) }
     ensures left { IfOk result (λ d. LeavesElf (elf_asked (elf_command_model command.now)) bytes.now
@@ -137,19 +175,22 @@ pub(crate) fn edited_pieces(
     edits_show();
     read_images_hold_parts();
     let mut elf = ElfContainer::parse(alloc, bytes)?;
-    if let Err(error) = elf.apply(alloc, edits) {
-        return Err(refusal(command, error));
+    match elf.apply(alloc, edits) {
+        Ok(()) => pieces_of(alloc, elf),
+        Err(error) => {
+            drop(elf);
+            Err(refusal(command, error))
+        }
     }
-    Ok(elf.image_pieces(alloc)?)
 }
 
 /// A refused edit as it is answered to a command. Of several it is told which one is refused.
-fn refusal(command: &ElfCommand, error: ElfBatchError) -> ArwenError
+fn refusal(command: &ElfCommand, error: ElfBatchError) -> ElfCommandError
     ensures { result ≡ elf_refusal (elf_asked (elf_command_model command.now)) error }
 {
     match command {
-        ElfCommand::Apply(_) => ArwenError::from(error),
-        _ => ArwenError::from(error.fault),
+        ElfCommand::Apply(_) => ElfCommandError::from(error),
+        _ => ElfCommandError::from(error.fault),
     }
 }
 
@@ -159,13 +200,15 @@ pub(crate) fn print_bytes<W: Write>(
     bytes: &[u8],
     command: &ElfCommand,
     out: &mut W,
-) -> Result<(), ArwenError>
+) -> Result<(), ElfCommandError>
     ensures printed { IfOk result (λ _. Prints (elf_command_model command.now) (image_of bytes.now)
         (W.contents out.old) (W.contents out.new)) }
     ensures err { IfErr result (λ e. TellsElf (image_of bytes.now) out.old out.new e) }
 {
     let elf = ElfContainer::parse(alloc, bytes)?;
-    Ok(print_asked(alloc, &elf, command, out)?)
+    let answer = print_asked(alloc, &elf, command, out);
+    drop(elf);
+    Ok(answer?)
 }
 
 /// Prints what a command asks of a file; nothing where it edits.

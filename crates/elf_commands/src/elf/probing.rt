@@ -1,10 +1,10 @@
 //! Libraries that are looked for in the directories of a run path.
 ghost use Rattle.std.specs.Prelude.{◌≡◌, ◌++◌, ℕ, List, IfOk, MatchOption, OnOk, IsUtf8, map, string_bytes};
 ghost use Rattle.std.specs.Str.Lossy.{utf8_lossy};
-ghost use Rattle.elf_edits.specs.Called.{answer_model};
-ghost use Rattle.elf_edits.specs.ShrunkModel.{reason_model, removal_model};
+ghost use Rattle.elf_edits_shrink.specs.ShrinkModel.{answer_model};
+ghost use Rattle.elf_edits_shrink.specs.ShrinkModel.{pair_lent, reason_model, removal_model};
 ghost use Rattle.elf_image.specs.Image.{shown};
-ghost use Rattle.elf_commands.specs.Shrinking.{Answers, AreFound, IsMachineAt, folder_of, line_by, path_of, removal_line, removal_lines};
+ghost use Rattle.elf_commands.specs.Shrinking.{Answers, AreAnswers, AreFound, IsMachineAt, folder_of, line_by, path_of, removal_line, removal_lines};
 
 use arwen_elf::elf::{ElfContainer, ProbeAnswer, Reason, Removed};
 use byte_store::{Opens, ReadError, RuntimeFiles, load_up_to};
@@ -134,8 +134,20 @@ pub(crate) fn answers_of<P: Probe>(
         (map answer_model answers.items)) }
 {
     let questions = elf.inner.elf_shrink_questions(alloc)?;
+    answers_to(alloc, probe, questions.as_slice())
+}
+
+/// The answers for pairs of a directory and a needed library, in order.
+fn answers_to<P: Probe>(
+    alloc: Global,
+    probe: &P,
+    questions: &[(&[u8], &[u8])],
+) -> Result<Vec<ProbeAnswer<'static>>, AllocError>
+    ensures { IfOk result (λ answers. AreAnswers (P.may_find probe.now) (map pair_lent questions.now)
+        (map answer_model answers.items)) }
+{
     let mut answers = Vec::with_capacity(alloc, questions.len())?;
-    for (directory, needed) in questions.as_slice() {
+    for (directory, needed) in questions {
         answers.push(answer_to(alloc, probe, directory, needed)?)?;
     }
     Ok(answers)
@@ -162,7 +174,17 @@ fn answer_to<P: Probe>(
 }
 
 /// The lines that tell which directories went from run paths, and why.
-pub(crate) fn removal_text(alloc: Global, removed: &[Removed]) -> Result<String, AllocError>
+pub(crate) fn removal_text(alloc: Global, removed: Vec<Removed>) -> Result<String, AllocError>
+    ensures { IfOk result (λ text.
+        string_bytes text ≡ removal_lines (map removal_model removed.items)) }
+{
+    let text = removal_text_of(alloc, removed.as_slice());
+    drop(removed);
+    text
+}
+
+/// The same of directories that are lent.
+fn removal_text_of(alloc: Global, removed: &[Removed]) -> Result<String, AllocError>
     ensures { IfOk result (λ text.
         string_bytes text ≡ removal_lines (map removal_model removed.now)) }
 {

@@ -1,25 +1,28 @@
 //! Run paths that shrink, in bytes and in stores.
 ghost use Rattle.std.specs.Prelude.{◌≡◌, false, true, IfErr, IfOk, OnOk, length, map, string_bytes};
-ghost use Rattle.byte_store.specs.Composed.{IsDifference};
+ghost use Rattle.byte_store.specs.Composed.{IsDifference, made_of};
 ghost use Rattle.byte_store.specs.Known.{HasLength, IsAll};
-ghost use Rattle.elf_edits.specs.Called.{answer_model};
+ghost use Rattle.elf_edits_shrink.specs.ShrinkModel.{answer_model};
 ghost use Rattle.elf_edits.specs.Edit.{ShrinkRunPath};
 ghost use Rattle.elf_apply.specs.Told.{Refuses};
-ghost use Rattle.arwen_elf.specs.Written.{IsNoImage};
+ghost use Rattle.arwen_elf.specs.Written.{IsImageWritten};
+ghost use Rattle.elf_edits_shrink.specs.ShrinkModel.{removal_model};
 ghost use Rattle.elf_edits.specs.Edited.{step};
+ghost use Rattle.elf_commands.specs.Shrinking.{removal_lines};
 ghost use Rattle.elf_commands.specs.ElfAsked.{shrinking};
-ghost use Rattle.elf_commands.specs.ElfEngine.{MayFailAs};
-ghost use Rattle.elf_commands.specs.ShrinkRuns.{AreChanged, FailsShrink, IsQuiet, IsShrunkBy, RunsShrink, ShrinksStore, Steps, TellsShrink, TellsShrunk, TellsShrunkPath};
+ghost use Rattle.elf_commands.specs.ElfEngine.{MayFailAs, TellsNoImage};
+ghost use Rattle.elf_commands.specs.ShrinkRuns.{FailsShrink, IsQuiet, IsRemovalTold, IsShrunkBy, IsShrunkImage, RunsShrink, ShrinksStore, Steps, TellsShrink, TellsShrunk, TellsShrunkPath, TellsUnshrunk, TellsUntold};
 
+use crate::elf::commands::shrink_rpath::Args;
 use crate::elf::editing::make_opened;
-use crate::elf::load_elf;
+use crate::elf::engine::{changed_bytes, pieces_of};
 use crate::elf::notes::Notes;
+use crate::elf::printing::load_elf;
 use crate::elf::probing::{FileProbe, Probe, answers_of, removal_text};
-use crate::elf::shrink_rpath::Args;
-use crate::elf_values::texts_of;
+use crate::error::ElfCommandError;
+use crate::texts::texts_of;
 use arwen_elf::elf::{ElfContainer, ElfError, ProbeAnswer, Removed};
 use byte_store::{Difference, Opens, RuntimeFiles, Store};
-use command_faults::ArwenError;
 use elf_edits::laws::{batches_are_their_edits, edits_show};
 use elf_image::laws::read_images_hold_parts;
 use std::alloc::Global;
@@ -33,32 +36,20 @@ struct Shrunk {
     text: String,
 }
 
-/// An image with run paths that shrink, and the directories that went.
-fn shrunk_with<'a>(
+/// Shrinks the run paths of an image, and answers the directories that went.
+fn shrink_image(
     alloc: Global,
-    mut elf: ElfContainer<'a>,
+    elf: &mut ElfContainer<'_>,
     prefixes: &[String],
     probe: &[ProbeAnswer<'_>],
-) -> Result<(ElfContainer<'a>, Vec<Removed>), ElfError>
-    ensures ok { IfOk result (λ made. Steps (ShrinkRunPath (map string_bytes prefixes.now)
-        (map answer_model probe.now)) elf.entry.inner made.0.inner made.1) }
+) -> Result<Vec<Removed>, ElfError>
+    ensures ok { IfOk result (Steps (ShrinkRunPath (map string_bytes prefixes.now)
+        (map answer_model probe.now)) elf.old.inner elf.new.inner) }
     ensures err { IfErr result (λ e. Refuses e (step (ShrinkRunPath (map string_bytes prefixes.now)
-        (map answer_model probe.now)) elf.entry.inner)) }
+        (map answer_model probe.now)) elf.old.inner)) }
 {
     let prefixes = texts_of(alloc, prefixes)?;
-    let removed = elf.shrink_rpath(alloc, prefixes.as_slice(), probe)?;
-    Ok((elf, removed))
-}
-
-/// The bytes of an image; `None` where it is as it was read.
-fn changed_bytes(alloc: Global, elf: &ElfContainer<'_>) -> Result<Option<Vec<u8>>, ElfError>
-    ensures ok { IfOk result (AreChanged elf.now.inner) }
-    ensures err { IfErr result (IsNoImage elf.now.inner) }
-{
-    if !elf.inner.builder().changed() {
-        return Ok(None);
-    }
-    Ok(Some(elf.image_bytes(alloc)?))
+    elf.shrink_rpath(alloc, prefixes.as_slice(), probe)
 }
 
 /// The bytes of a file after `shrink-rpath`, or `None` where it stays as it was. What was found for the
@@ -70,7 +61,7 @@ pub(crate) fn run_shrink<W: Write>(
     args: &Args,
     probe: &[ProbeAnswer<'_>],
     out: &mut W,
-) -> Result<Option<Vec<u8>>, ArwenError>
+) -> Result<Option<Vec<u8>>, ElfCommandError>
     ensures ran { IfOk result (λ new. RunsShrink (ShrinkRunPath
         (map string_bytes args.now.allowed_rpath_prefixes.items) (map answer_model probe.now))
         bytes.now new (W.contents out.old) (W.contents out.new)) }
@@ -80,11 +71,35 @@ pub(crate) fn run_shrink<W: Write>(
 {
     edits_show();
     batches_are_their_edits();
-    let elf = ElfContainer::parse(alloc, bytes)?;
-    let prefixes = args.allowed_rpath_prefixes.as_slice();
-    let (elf, removed) = shrunk_with(alloc, elf, prefixes, probe)?;
-    let new = changed_bytes(alloc, &elf)?;
-    let text = removal_text(alloc, removed.as_slice())?;
+    let mut elf = ElfContainer::parse(alloc, bytes)?;
+    match shrink_image(
+        alloc,
+        &mut elf,
+        args.allowed_rpath_prefixes.as_slice(),
+        probe,
+    ) {
+        Ok(removed) => tell_removed(alloc, elf, removed, out),
+        Err(error) => {
+            drop(elf);
+            Err(ElfCommandError::from(error))
+        }
+    }
+}
+
+/// The bytes of an image, or `None` where it is as it was read. Once they are there, the lines of the directories
+/// that went go to `out`, in one write.
+fn tell_removed<W: Write>(
+    alloc: Global,
+    elf: ElfContainer<'_>,
+    removed: Vec<Removed>,
+    out: &mut W,
+) -> Result<Option<Vec<u8>>, ElfCommandError>
+    ensures told { IfOk result (λ new. IsRemovalTold elf.entry.inner (map removal_model removed.items)
+        new (W.contents out.old) (W.contents out.new)) }
+    ensures err { IfErr result (TellsUntold elf.entry.inner out.old out.new) }
+{
+    let new = changed_bytes(alloc, elf)?;
+    let text = removal_text(alloc, removed)?;
     out.write_all(text.as_bytes())?;
     Ok(new)
 }
@@ -95,7 +110,7 @@ fn shrunk_pieces<P: Probe>(
     bytes: &[u8],
     prefixes: &[String],
     probe: &P,
-) -> Result<Shrunk, ArwenError>
+) -> Result<Shrunk, ElfCommandError>
     ensures makeable { IfOk result (λ made. IsDifference bytes.now made.difference) }
     ensures shrunk { IfOk result (λ made. IsShrunkBy (P.may_find probe.now)
         (map string_bytes prefixes.now) bytes.now made.difference (string_bytes made.text)) }
@@ -105,10 +120,55 @@ fn shrunk_pieces<P: Probe>(
     edits_show();
     read_images_hold_parts();
     let elf = ElfContainer::parse(alloc, bytes)?;
-    let answers = answers_of(alloc, &elf, probe)?;
-    let (elf, removed) = shrunk_with(alloc, elf, prefixes, answers.as_slice())?;
-    let difference = elf.image_pieces(alloc)?;
-    let text = removal_text(alloc, removed.as_slice())?;
+    match answers_of(alloc, &elf, probe) {
+        Ok(answers) => pieces_by_answers(alloc, elf, prefixes, answers),
+        Err(error) => {
+            drop(elf);
+            Err(ElfCommandError::from(error))
+        }
+    }
+}
+
+/// What of the bytes of a file that was read differs once the run paths of its image have shrunk by these answers.
+fn pieces_by_answers(
+    alloc: Global,
+    mut elf: ElfContainer<'_>,
+    prefixes: &[String],
+    answers: Vec<ProbeAnswer<'static>>,
+) -> Result<Shrunk, ElfCommandError>
+    ensures shrunk { IfOk result (λ made. IsShrunkImage (ShrinkRunPath
+        (map string_bytes prefixes.now) (map answer_model answers.entry.items)) elf.entry.inner
+        made.difference (string_bytes made.text)) }
+    ensures err { IfErr result (TellsUnshrunk (ShrinkRunPath
+        (map string_bytes prefixes.now) (map answer_model answers.entry.items)) elf.entry.inner) }
+{
+    let removed = shrink_image(alloc, &mut elf, prefixes, answers.as_slice());
+    drop(answers);
+    match removed {
+        Ok(removed) => shrunk_of(alloc, elf, removed),
+        Err(error) => {
+            drop(elf);
+            Err(ElfCommandError::from(error))
+        }
+    }
+}
+
+/// What of the bytes of a file differs from those of an image with shrunk run paths, and what tells which
+/// directories went.
+fn shrunk_of(
+    alloc: Global,
+    elf: ElfContainer<'_>,
+    removed: Vec<Removed>,
+) -> Result<Shrunk, ElfCommandError>
+    ensures makeable { IfOk result (λ made. IsDifference elf.entry.inner.source made.difference) }
+    ensures bytes { IfOk result (λ made.
+        IsImageWritten elf.entry.inner (made_of elf.entry.inner.source made.difference)) }
+    ensures told { IfOk result (λ made.
+        string_bytes made.text ≡ removal_lines (map removal_model removed.items)) }
+    ensures err { IfErr result (TellsNoImage elf.entry.inner) }
+{
+    let difference = pieces_of(alloc, elf)?;
+    let text = removal_text(alloc, removed)?;
     Ok(Shrunk { difference, text })
 }
 
@@ -122,12 +182,12 @@ pub fn shrink_store<S: Store, P: Probe, W: Write>(
     args: &Args,
     probe: &P,
     out: &mut W,
-) -> Result<(), ArwenError>
+) -> Result<(), ElfCommandError>
     ensures shrunk { OnOk result (ShrinksStore (P.may_find probe.now)
         (map string_bytes args.now.allowed_rpath_prefixes.items) (S.contents store.old)
         (S.contents store.new) (W.contents out.old) (W.contents out.new)) }
-    ensures err { IfErr result (λ e. MayFailAs
-        (shrinking (map string_bytes args.now.allowed_rpath_prefixes.items)) e) }
+    ensures err { IfErr result (MayFailAs
+        (shrinking (map string_bytes args.now.allowed_rpath_prefixes.items))) }
     ensures left { IfErr result (FailsShrink (P.may_find probe.now)
         (map string_bytes args.now.allowed_rpath_prefixes.items)
         (S.contents store.old) (S.contents store.new)) }
@@ -146,13 +206,13 @@ fn shrink_loaded<S: Store, P: Probe, W: Write>(
     prefixes: &[String],
     probe: &P,
     out: &mut W,
-) -> Result<(), ArwenError>
+) -> Result<(), ElfCommandError>
     requires whole { IsAll (S.contents store.old) bytes.now }
     requires length { HasLength (S.contents store.old) (length bytes.now) }
     ensures shrunk { OnOk result (ShrinksStore (P.may_find probe.now)
         (map string_bytes prefixes.now) (S.contents store.old)
         (S.contents store.new) (W.contents out.old) (W.contents out.new)) }
-    ensures err { IfErr result (λ e. MayFailAs (shrinking (map string_bytes prefixes.now)) e) }
+    ensures err { IfErr result (MayFailAs (shrinking (map string_bytes prefixes.now))) }
     ensures left { IfErr result (FailsShrink (P.may_find probe.now)
         (map string_bytes prefixes.now) (S.contents store.old) (S.contents store.new)) }
     ensures quiet { IfErr result (IsQuiet out.old out.new) }
@@ -170,13 +230,13 @@ pub fn shrink_path<'p, O: Opens<'p>, P: Probe, W: Write>(
     args: &'p Args,
     probe: &P,
     out: &mut W,
-) -> Result<O::Opened, ArwenError>
+) -> Result<O::Opened, ElfCommandError>
     ensures shrunk { IfOk result (λ store. ShrinksStore (P.may_find probe.now)
         (map string_bytes args.now.allowed_rpath_prefixes.items)
         (O.contents files.now (string_bytes args.now.path_to_binary))
         (O.Opened.contents store) (W.contents out.old) (W.contents out.new)) }
-    ensures err { IfErr result (λ e. MayFailAs
-        (shrinking (map string_bytes args.now.allowed_rpath_prefixes.items)) e) }
+    ensures err { IfErr result (MayFailAs
+        (shrinking (map string_bytes args.now.allowed_rpath_prefixes.items))) }
     ensures tells { IfErr result (TellsShrunkPath (P.may_find probe.now)
         (map string_bytes args.now.allowed_rpath_prefixes.items)
         (O.contents files.now (string_bytes args.now.path_to_binary))) }
@@ -189,10 +249,20 @@ pub fn shrink_path<'p, O: Opens<'p>, P: Probe, W: Write>(
 /// Shrinks the run paths of a file in its place. What it tells goes to the standard error.
 pub(crate) fn shrink_file<R: Files + Eprint + AllocGlobal>(
     rt: &R,
-    args: &Args,
-) -> Result<(), ArwenError>
-    ensures { IfErr result (λ e. MayFailAs
-        (shrinking (map string_bytes args.now.allowed_rpath_prefixes.items)) e) }
+    args: Args,
+) -> Result<(), ElfCommandError>
+    ensures { IfErr result (MayFailAs
+        (shrinking (map string_bytes args.allowed_rpath_prefixes.items))) }
+{
+    let answer = shrink_lent(rt, &args);
+    drop(args);
+    answer
+}
+
+/// The same by values that are lent.
+fn shrink_lent<R: Files + Eprint + AllocGlobal>(rt: &R, args: &Args) -> Result<(), ElfCommandError>
+    ensures { IfErr result (MayFailAs
+        (shrinking (map string_bytes args.now.allowed_rpath_prefixes.items))) }
 {
     let files = RuntimeFiles { files: rt };
     let probe = FileProbe { files: rt };

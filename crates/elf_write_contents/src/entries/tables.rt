@@ -8,7 +8,6 @@ ghost use Rattle.elf_write_spec.specs.Contents.{address_of_type as address_of_ki
 ghost use Rattle.elf_write_spec.specs.Final.{final};
 ghost use Rattle.elf_write_contents.specs.EntrySteps.{place_at as place_there};
 
-use elf_format::form::Form;
 use elf_image::Builder;
 use elf_image::constants::{
     DT_GNU_HASH, DT_HASH, DT_STRSZ, DT_STRTAB, DT_SYMENT, DT_SYMTAB, DT_VERDEF, DT_VERDEFNUM,
@@ -16,16 +15,6 @@ use elf_image::constants::{
     SHT_GNU_VERSYM, SHT_HASH,
 };
 use elf_layout_plan::{Plan, SectionPlace};
-
-// The class and the byte order.
-pub(super) fn form_of(image: &Builder<'_>) -> Form
-    ensures { result ≡ image.now.form }
-{
-    Form {
-        wide: image.class(),
-        order: image.order(),
-    }
-}
 
 // Where the section at a position comes to stand.
 fn place_at(plan: &Plan, position: Option<usize>) -> Option<SectionPlace>
@@ -85,7 +74,7 @@ pub(super) fn table_value(image: &Builder<'_>, plan: &Plan, tag: u64) -> u64
         DT_STRTAB => strings_address(image, plan),
         DT_STRSZ => strings_size(image, plan),
         DT_SYMTAB => address_of_type(image, plan, SHT_DYNSYM),
-        DT_SYMENT => form_of(image).symbol_size() as u64,
+        DT_SYMENT => image.form().symbol_size() as u64,
         DT_HASH => address_of_type(image, plan, SHT_HASH),
         DT_GNU_HASH => address_of_type(image, plan, SHT_GNU_HASH),
         DT_VERSYM => address_of_type(image, plan, SHT_GNU_VERSYM),

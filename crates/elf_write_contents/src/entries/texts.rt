@@ -11,7 +11,6 @@ ghost use Rattle.elf_tables.specs.Strings.{place_of};
 ghost use Rattle.elf_write_contents.specs.EntrySteps.{TextsStand, content_at, has_text as has_that_text, link_at, numbers_in, places_among as places_found};
 ghost use Rattle.elf_write_contents.specs.Inner.{AreStrings, IsReady, strings_at};
 
-use super::tables::form_of;
 use crate::made::Made;
 use elf_format::records::EntryNumbers;
 use elf_format::tables::read_entries;
@@ -86,7 +85,7 @@ fn read_numbers(
 ) -> Result<Vec<EntryNumbers>, AllocError>
     ensures { IfOk result (λ numbers. numbers.items ≡ numbers_in read.now bytes.now) }
 {
-    match read_entries(alloc, form_of(read), read.source().len(), bytes) {
+    match read_entries(alloc, read.form(), read.source().len(), bytes) {
         Ok(numbers) => Ok(numbers),
         Err(ViewFault::Absent) => Ok(Vec::new(alloc)),
         Err(ViewFault::Memory) => Err(AllocError),

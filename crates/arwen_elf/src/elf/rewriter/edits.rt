@@ -1,19 +1,20 @@
 //! The edits of a file's image.
 ghost use Rattle.std.specs.Prelude.{◌≡◌, [], IfOk, IsOk, OnErr, map};
 ghost use Rattle.std.specs.HashSet.{keys};
-ghost use Rattle.elf_edits.specs.Called.{pairs_of_map, texts_model};
 ghost use Rattle.elf_edits.specs.Edit.{AddDebugEntry, AddNeeded, AddRunPath, ClearExecStack, DeleteNeeded, DeleteRunPath, NoDefaultLibrary, ReplaceNeeded, SetExecStack, SetInterpreter, SetOsAbi, SetPageSize, SetRunPath, SetSoname, UseRpath, UseRunpath};
-ghost use Rattle.elf_edits.specs.Entries.{shrink_questions as all_questions};
-ghost use Rattle.elf_edits.specs.ShrunkModel.{pair_lent};
+ghost use Rattle.elf_edits.specs.EditModel.{edit_model, pairs_model, texts_model};
+ghost use Rattle.elf_edits_shrink.specs.Questions.{shrink_questions as all_questions};
+ghost use Rattle.elf_edits_shrink.specs.ShrinkModel.{pair_lent};
 ghost use Rattle.elf_image.specs.Image.{shown};
 ghost use Rattle.arwen_elf.specs.Reads.{entries_shown};
 ghost use Rattle.elf_apply.specs.Taken.{AnswersEach, LeavesEach, RemovedAre, TakesBatch, TakesEdit, TakesInPlace, batches_model, edits_model, shrink_model};
 
+use crate::elf::rewriter::values::{copy_map, copy_set, copy_texts};
 use crate::elf::rewriter::writer::Writer;
 use elf_apply::batch::ElfBatchError;
 use elf_apply::error::ElfError;
-use elf_apply::steps;
-use elf_edits::{EditCall, ElfEdit, ProbeAnswer, Removed, shrink_questions};
+use elf_edits::ElfEdit;
+use elf_edits_shrink::{ProbeAnswer, Removed, shrink_questions};
 use std::alloc::{AllocError, Global};
 use std::collections::{HashMap, HashSet};
 
@@ -26,9 +27,63 @@ impl<'data> Writer<'data> {
         ensures takes { TakesBatch (edits_model edits.now) self.old self.new result }
         ensures none { edits.now ≡ [] → IsOk result }
     {
-        steps::apply(&mut self.builder, alloc, edits)
+        elf_apply::apply(&mut self.builder, alloc, edits)
     }
 
+    // Makes one edit: a batch of one.
+    pub(crate) fn edit(&mut self, alloc: Global, edit: ElfEdit) -> Result<(), ElfError>
+        ensures { TakesEdit (edit_model edit) self.old self.new result }
+    {
+        elf_apply::edit(&mut self.builder, alloc, &edit)
+    }
+
+    /// Drops every DT_RPATH and DT_RUNPATH (gABI, Dynamic Section). Takes no memory.
+    pub fn elf_delete_runpath(&mut self) -> Result<(), ElfError>
+        ensures { TakesInPlace DeleteRunPath self.old self.new result }
+    {
+        elf_apply::delete_run_paths(&mut self.builder)
+    }
+
+    /// Makes every DT_RPATH a DT_RUNPATH (gABI, Dynamic Section). Takes no memory.
+    pub fn elf_use_runpath(&mut self) -> Result<(), ElfError>
+        ensures { TakesInPlace UseRunpath self.old self.new result }
+    {
+        elf_apply::use_runpath(&mut self.builder)
+    }
+
+    /// Makes every DT_RUNPATH a DT_RPATH (gABI, Dynamic Section). Takes no memory.
+    pub fn elf_use_rpath(&mut self) -> Result<(), ElfError>
+        ensures { TakesInPlace UseRpath self.old self.new result }
+    {
+        elf_apply::use_rpath(&mut self.builder)
+    }
+
+    /// Sets the page size, in bytes: a power of two of 1024 or more. Each PT_LOAD gets it as its alignment (gABI,
+    /// Program Header, `p_align`). Takes no memory.
+    pub fn elf_set_page_size(&mut self, size: u32) -> Result<(), ElfError>
+        ensures { TakesInPlace (SetPageSize size) self.old self.new result }
+    {
+        elf_apply::set_page_size(&mut self.builder, size)
+    }
+
+    /// Leaves out of every run path the absolute directories that no prefix begins, where there are prefixes, and
+    /// those in which no needed library was found for the image's machine; an entry whose directories all go keeps
+    /// the empty text. Answers the directories that went, in order, with their reasons. The first answer for a
+    /// directory and a library counts; one that is missing found nothing.
+    pub fn elf_shrink_rpath(
+        &mut self,
+        alloc: Global,
+        prefixes: &[Vec<u8>],
+        probe: &[ProbeAnswer<'_>],
+    ) -> Result<Vec<Removed>, ElfError>
+        ensures takes { TakesEdit (shrink_model prefixes.now probe.now) self.old self.new result }
+        ensures removed { IfOk result (RemovedAre (shrink_model prefixes.now probe.now) self.old) }
+    {
+        elf_apply::shrink_run_paths(&mut self.builder, alloc, prefixes, probe)
+    }
+}
+
+impl<'data> Writer<'data> {
     /// Applies batch after batch, each of them all or none, and answers each. After an error, that there is no memory
     /// for the answers, nothing was applied.
     pub fn apply_each(
@@ -56,21 +111,23 @@ impl<'data> Writer<'data> {
     ) -> Result<(), ElfError>
         ensures { TakesEdit (DeleteNeeded (texts_model names.now)) self.old self.new result }
     {
-        steps::delete_needed(&mut self.builder, alloc, names)
+        let names = copy_texts(alloc, names)?;
+        self.edit(alloc, ElfEdit::RemoveNeeded(names))
     }
 
     /// Puts an entry DT_DEBUG last, unless one is there (gABI, Dynamic Section).
     pub fn elf_add_dynamic_debug(&mut self, alloc: Global) -> Result<(), ElfError>
         ensures { TakesEdit AddDebugEntry self.old self.new result }
     {
-        steps::edit(&mut self.builder, alloc, &EditCall::AddDebugEntry)
+        self.edit(alloc, ElfEdit::AddDebugTag)
     }
 
     /// Gives every DT_RPATH and DT_RUNPATH this text; without one, puts a DT_RUNPATH last.
     pub fn elf_set_runpath(&mut self, alloc: Global, text: &[u8]) -> Result<(), ElfError>
         ensures { TakesEdit (SetRunPath text.now) self.old self.new result }
     {
-        steps::edit(&mut self.builder, alloc, &EditCall::SetRunPath(text))
+        let text = Vec::from_slice(alloc, text)?;
+        self.edit(alloc, ElfEdit::SetRpath(text))
     }
 
     /// Adds each text to every DT_RPATH and DT_RUNPATH, behind a colon where the old text isn't empty; without one,
@@ -78,7 +135,8 @@ impl<'data> Writer<'data> {
     pub fn elf_add_runpath(&mut self, alloc: Global, texts: &[Vec<u8>]) -> Result<(), ElfError>
         ensures { TakesEdit (AddRunPath (texts_model texts.now)) self.old self.new result }
     {
-        steps::edit(&mut self.builder, alloc, &EditCall::AddRunPath(texts))
+        let texts = copy_texts(alloc, texts)?;
+        self.edit(alloc, ElfEdit::AddRpath(texts))
     }
 
     /// Drops every DT_NEEDED whose text is one of these names.
@@ -89,7 +147,8 @@ impl<'data> Writer<'data> {
     ) -> Result<(), ElfError>
         ensures { TakesEdit (DeleteNeeded (texts_model (keys names.now))) self.old self.new result }
     {
-        steps::edit(&mut self.builder, alloc, &EditCall::DeleteNeeded(names))
+        let names = copy_set(alloc, names)?;
+        self.edit(alloc, ElfEdit::RemoveNeeded(names))
     }
 
     /// Replaces the texts of DT_NEEDED that are keys by their values, all at once.
@@ -98,31 +157,34 @@ impl<'data> Writer<'data> {
         alloc: Global,
         names: &HashMap<Vec<u8>, Vec<u8>>,
     ) -> Result<(), ElfError>
-        ensures { TakesEdit (ReplaceNeeded (pairs_of_map names.now.entries))
+        ensures { TakesEdit (ReplaceNeeded (pairs_model names.now.entries))
             self.old self.new result }
     {
-        steps::edit(&mut self.builder, alloc, &EditCall::ReplaceNeeded(names))
+        let pairs = copy_map(alloc, names)?;
+        self.edit(alloc, ElfEdit::ReplaceNeeded(pairs))
     }
 
     /// Puts the names that no DT_NEEDED has before all entries, in order and with repeats.
     pub fn elf_add_needed(&mut self, alloc: Global, names: &[Vec<u8>]) -> Result<(), ElfError>
         ensures { TakesEdit (AddNeeded (texts_model names.now)) self.old self.new result }
     {
-        steps::edit(&mut self.builder, alloc, &EditCall::AddNeeded(names))
+        let names = copy_texts(alloc, names)?;
+        self.edit(alloc, ElfEdit::AddNeeded(names))
     }
 
     /// Gives every DT_SONAME this text; without one, puts one last.
     pub fn elf_set_soname(&mut self, alloc: Global, text: &[u8]) -> Result<(), ElfError>
         ensures { TakesEdit (SetSoname text.now) self.old self.new result }
     {
-        steps::edit(&mut self.builder, alloc, &EditCall::SetSoname(text))
+        let text = Vec::from_slice(alloc, text)?;
+        self.edit(alloc, ElfEdit::SetSoname(text))
     }
 
     /// Sets DF_1_NODEFLIB in every DT_FLAGS_1; without one, puts one last.
     pub fn elf_no_default_lib(&mut self, alloc: Global) -> Result<(), ElfError>
         ensures { TakesEdit NoDefaultLibrary self.old self.new result }
     {
-        steps::edit(&mut self.builder, alloc, &EditCall::NoDefaultLibrary)
+        self.edit(alloc, ElfEdit::NoDefaultLib)
     }
 
     /// Sets the interpreter's bytes (gABI, Program Interpreter), with a NUL behind them unless they are empty or end
@@ -130,57 +192,30 @@ impl<'data> Writer<'data> {
     pub fn elf_set_interpreter(&mut self, alloc: Global, bytes: &[u8]) -> Result<(), ElfError>
         ensures { TakesEdit (SetInterpreter bytes.now) self.old self.new result }
     {
-        steps::edit(&mut self.builder, alloc, &EditCall::SetInterpreter(bytes))
+        let bytes = Vec::from_slice(alloc, bytes)?;
+        self.edit(alloc, ElfEdit::SetInterpreter(bytes))
     }
 
     /// Sets the ABI byte by a name (gABI, ELF Identification, `EI_OSABI`), whatever the case of its ASCII letters.
     pub fn elf_set_osabi(&mut self, alloc: Global, name: &str) -> Result<(), ElfError>
         ensures { TakesEdit (SetOsAbi name.now) self.old self.new result }
     {
-        steps::edit(&mut self.builder, alloc, &EditCall::SetOsAbi(name))
+        let name = String::from_str(alloc, name)?;
+        self.edit(alloc, ElfEdit::SetOsAbi(name))
     }
 
     /// Takes the permission to run from the first PT_GNU_STACK (GNU extension), which is added where there is none.
     pub fn elf_clear_exec_stack(&mut self, alloc: Global) -> Result<(), ElfError>
         ensures { TakesEdit ClearExecStack self.old self.new result }
     {
-        steps::edit(&mut self.builder, alloc, &EditCall::ClearExecStack)
+        self.edit(alloc, ElfEdit::ClearExecStack)
     }
 
     /// Gives the first PT_GNU_STACK (GNU extension) the permission to run; it is added where there is none.
     pub fn elf_set_exec_stack(&mut self, alloc: Global) -> Result<(), ElfError>
         ensures { TakesEdit SetExecStack self.old self.new result }
     {
-        steps::edit(&mut self.builder, alloc, &EditCall::SetExecStack)
-    }
-
-    /// Drops every DT_RPATH and DT_RUNPATH (gABI, Dynamic Section). Takes no memory.
-    pub fn elf_delete_runpath(&mut self) -> Result<(), ElfError>
-        ensures { TakesInPlace DeleteRunPath self.old self.new result }
-    {
-        steps::delete_run_paths(&mut self.builder)
-    }
-
-    /// Makes every DT_RPATH a DT_RUNPATH (gABI, Dynamic Section). Takes no memory.
-    pub fn elf_use_runpath(&mut self) -> Result<(), ElfError>
-        ensures { TakesInPlace UseRunpath self.old self.new result }
-    {
-        steps::use_runpath(&mut self.builder)
-    }
-
-    /// Makes every DT_RUNPATH a DT_RPATH (gABI, Dynamic Section). Takes no memory.
-    pub fn elf_use_rpath(&mut self) -> Result<(), ElfError>
-        ensures { TakesInPlace UseRpath self.old self.new result }
-    {
-        steps::use_rpath(&mut self.builder)
-    }
-
-    /// Sets the page size, in bytes: a power of two of 1024 or more. Each PT_LOAD gets it as its alignment (gABI,
-    /// Program Header, `p_align`). Takes no memory.
-    pub fn elf_set_page_size(&mut self, size: u32) -> Result<(), ElfError>
-        ensures { TakesInPlace (SetPageSize size) self.old self.new result }
-    {
-        steps::set_page_size(&mut self.builder, size)
+        self.edit(alloc, ElfEdit::SetExecStack)
     }
 
     /// The pairs of an absolute directory of a run path and a needed library that have to be looked for before
@@ -190,21 +225,5 @@ impl<'data> Writer<'data> {
             ≡ all_questions (entries_shown (shown self.now))) }
     {
         shrink_questions(alloc, self.entries())
-    }
-
-    /// Leaves out of every run path the absolute directories that no prefix begins, where there are prefixes, and
-    /// those in which no needed library was found for the image's machine; an entry whose directories all go keeps
-    /// the empty text. Answers the directories that went, in order, with their reasons. The first answer for a
-    /// directory and a library counts; one that is missing found nothing.
-    pub fn elf_shrink_rpath(
-        &mut self,
-        alloc: Global,
-        prefixes: &[Vec<u8>],
-        probe: &[ProbeAnswer<'_>],
-    ) -> Result<Vec<Removed>, ElfError>
-        ensures takes { TakesEdit (shrink_model prefixes.now probe.now) self.old self.new result }
-        ensures removed { IfOk result (RemovedAre (shrink_model prefixes.now probe.now) self.old) }
-    {
-        steps::shrink_run_paths(&mut self.builder, alloc, prefixes, probe)
     }
 }

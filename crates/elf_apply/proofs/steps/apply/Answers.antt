@@ -14,10 +14,10 @@ returns-then-is_empty-clause-takes c =
     no_edits_taken c.args.edits.now c.args.builder.now (nil_from_length c.args.edits.now (eqb-true (length c.args.edits.now) 0 (sym c.if-is_empty.ensures)))
 
 pub returns-in-Some-clause-takes : goal.returns-in-Some-clause-takes
-returns-in-Some-clause-takes c = (refl, batch_refused c.args.edits.now c.args.builder.now c.told-fault.result c.in-Some.index (cause_model c.in-Some.cause) c.told-fault.ensures (sym (c.in-Some.ensures ∙ ap (λ (f : Facts). first_refusal f 0 (edits_model c.args.edits.now)) c.image_facts.ensures)))
+returns-in-Some-clause-takes c = (refl, batch_refused c.args.edits.now c.args.builder.now c.cause_error-fault.result c.in-Some.index (cause_model c.in-Some.cause) c.cause_error-fault.ensures (sym (c.in-Some.ensures ∙ ap (λ (f : Facts). first_refusal f 0 (edits_model c.args.edits.now)) c.image_facts.ensures)))
 
-pub all_written-requires : goal.all_written-requires
-all_written-requires c = sym (c.in_default.ensures ∙ ap (λ (f : Facts). first_refusal f 0 (edits_model c.args.edits.now)) c.image_facts.ensures)
+pub draft_of-requires : goal.draft_of-requires
+draft_of-requires c = sym (c.in_default.ensures ∙ ap (λ (f : Facts). first_refusal f 0 (edits_model c.args.edits.now)) c.image_facts.ensures)
 
 pub put_in_place-requires : goal.put_in_place-requires
 put_in_place-requires c = c.in_ok-draft.ensures.draft

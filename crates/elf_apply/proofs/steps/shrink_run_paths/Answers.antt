@@ -2,7 +2,8 @@
 use Rattle.std.proofs.Common.{ap, refl, sym, subst, map, ◌∙◌}
 use Rattle.elf_image.specs.Image.{Image}
 use Rattle.elf_edits.specs.declared.facts.Facts.{Facts}
-use Rattle.elf_edits.specs.Called.{answer_model, texts_model}
+use Rattle.elf_edits.specs.EditModel.{texts_model}
+use Rattle.elf_edits_shrink.specs.ShrinkModel.{answer_model}
 use Rattle.elf_edits.specs.Cause.{cause, first_cause}
 use Rattle.elf_edits.specs.CauseModel.{cause_model}
 use Rattle.elf_apply.specs.Drafted.{IsShrunkOf}
@@ -17,7 +18,7 @@ unfolding cause
 returns-in-Some-clause-takes c =
     let edit = shrink_model c.args.prefixes.now c.args.probe.now in (
       refl,
-      refused edit c.args.builder.now c.told.result (cause_model c.in-Some.cause) c.told.ensures
+      refused edit c.args.builder.now c.cause_error.result (cause_model c.in-Some.cause) c.cause_error.ensures
           (sym (c.in-Some.ensures (map answer_model c.args.probe.now) ∙ ap (λ (f : Facts). first_cause edit f) c.image_facts.ensures)),
     )
 

@@ -13,13 +13,11 @@ returns-clause-causes c = record {
   replaced_by = refl;
   needed_more = refl;
   named = refl;
-  prefixes = refl;
   abi = refl;
   machine_first = refl;
   pages_of_mips = refl;
   list_next = refl;
   interpreter_next = refl;
-  texts_next = refl;
   list_of_defaults = refl;
 }
 
@@ -32,7 +30,6 @@ returns-clause-marks c = record {
   no_such_key = refl;
   needed_already = refl;
   debug_there = refl;
-  nothing_shrinks = refl;
   equal_run_path = refl;
   no_directories = refl;
   equal_library = refl;

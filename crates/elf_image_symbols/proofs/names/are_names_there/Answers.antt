@@ -9,7 +9,7 @@ use Rattle.elf_format.specs.Form.{records}
 use Rattle.elf_format.specs.declared.form.Form.{Form}
 use Rattle.elf_format.specs.Records.{symbol_numbers, symbol_size, symbols_in}
 use Rattle.elf_format.specs.Views.{names_of}
-use Rattle.elf_format.proofs.TableSteps.{rest_left}
+use Rattle.elf_format.proofs.ForCallers.TableSteps.{rest_left}
 use Rattle.elf_image_symbols.proofs.NameSteps.{each_there, none_left}
 use Rattle.elf_image_symbols.proofs.names.are_names_there.Goals as goal
 

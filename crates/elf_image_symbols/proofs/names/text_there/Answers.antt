@@ -4,7 +4,7 @@ use Rattle.std.specs.Prelude.{is_some}
 use Rattle.std.proofs.lemmas.Bool.{true≢false}
 use Rattle.std.proofs.lemmas.List.{take_rest}
 use Rattle.patch_bytes.specs.Memory.{memory_of, text_at}
-use Rattle.elf_format.proofs.ReadingSteps.{text_at-in, text_found, text_in, text_missing}
+use Rattle.elf_format.proofs.ForCallers.ReadingSteps.{text_at-in, text_found, text_in, text_missing}
 use Rattle.elf_image_symbols.proofs.NameSteps.{there_within}
 use Rattle.elf_image_symbols.proofs.names.text_there.Goals as goal
 

@@ -7,7 +7,7 @@ use Rattle.elf_format.specs.declared.form.Form.{Form}
 use Rattle.elf_format.specs.Seen.{raw_definition}
 use Rattle.elf_format.specs.Versions.{DefinitionNumbers, Step, definition_at}
 use Rattle.elf_image_versions.specs.WalkSteps.{IsWalk, definition_step}
-use Rattle.elf_format.proofs.ChainSteps.{more_left, next_of}
+use Rattle.elf_format.proofs.ForCallers.ChainSteps.{more_left, next_of}
 use Rattle.elf_image_versions.proofs.WalkSteps.{WalkLeft, definition-behind, walk_breaks, walk_done, walk_ends, walk_goes, walk_starts, walk_stops}
 use Rattle.elf_image_versions.proofs.definitions.walk_definition_records.Goals as goal
 

@@ -5,7 +5,7 @@ use Rattle.elf_format.specs.declared.form.Form.{Form}
 use Rattle.elf_format.specs.Answers.{step_model, whole_step}
 use Rattle.elf_format.specs.Versions.{Step, definition_name_at}
 use Rattle.elf_image_versions.specs.WalkSteps.{IsWalk}
-use Rattle.elf_format.proofs.ChainSteps.{more_left, next_of}
+use Rattle.elf_format.proofs.ForCallers.ChainSteps.{more_left, next_of}
 use Rattle.elf_image_versions.proofs.WalkSteps.{WalkLeft, definition_name-behind, definition_name-whole, found_none, found_there, walk_done, walk_ends, walk_goes, walk_starts, walk_stops}
 use Rattle.elf_image_versions.proofs.definitions.walk_names.Goals as goal
 

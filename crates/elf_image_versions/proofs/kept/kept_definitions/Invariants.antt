@@ -4,7 +4,7 @@ use Rattle.elf_format.specs.Options.{each}
 use Rattle.elf_image_versions.specs.VersionsModel.{definition_model}
 use Rattle.elf_format.specs.Seen.{raw_definition}
 use Rattle.elf_format.specs.Versions.{shown_definition}
-use Rattle.elf_format.proofs.ReadingSteps.{with_front}
+use Rattle.elf_format.proofs.ForCallers.ReadingSteps.{with_front}
 use Rattle.elf_image_versions.proofs.kept.kept_definitions.Given as goal
 
 -- what was made so far, and what the rest gives

@@ -9,7 +9,7 @@ use Rattle.elf_format.specs.Answers.{Fails}
 use Rattle.elf_image_versions.specs.VersionsModel.{needs_model}
 use Rattle.elf_format.specs.Seen.{raw_needs}
 use Rattle.elf_format.specs.Versions.{NeedNumbers, VersionNeeds, shown_need}
-use Rattle.elf_format.proofs.ReadingSteps.{each_done, each_ends, each_goes}
+use Rattle.elf_format.proofs.ForCallers.ReadingSteps.{each_done, each_ends, each_goes}
 use Rattle.elf_image_versions.proofs.kept.kept_needs.Goals as goal
 
 -- the element that the loop looks at

@@ -4,7 +4,7 @@ use Rattle.elf_format.specs.Options.{each}
 use Rattle.elf_image_versions.specs.VersionsModel.{needs_model}
 use Rattle.elf_format.specs.Seen.{raw_needs}
 use Rattle.elf_format.specs.Versions.{shown_need}
-use Rattle.elf_format.proofs.ReadingSteps.{with_front}
+use Rattle.elf_format.proofs.ForCallers.ReadingSteps.{with_front}
 use Rattle.elf_image_versions.proofs.kept.kept_needs.Given as goal
 
 -- what was made so far, and what the rest gives

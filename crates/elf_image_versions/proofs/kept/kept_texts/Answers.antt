@@ -5,7 +5,7 @@ use Rattle.std.proofs.lemmas.Result.{err_from_is_err_and}
 use Rattle.patch_bytes.specs.ByteString.{StringValue, bytes_of_each}
 use Rattle.patch_bytes.specs.Memory.{memory_of, text_at}
 use Rattle.elf_format.specs.Options.{each}
-use Rattle.elf_format.proofs.ReadingSteps.{each_done, each_ends, each_goes}
+use Rattle.elf_format.proofs.ForCallers.ReadingSteps.{each_done, each_ends, each_goes}
 use Rattle.elf_image_versions.proofs.kept.kept_texts.Goals as goal
 
 pub returns-in_err-one : goal.returns-in_err-one

@@ -2,7 +2,7 @@ use Rattle.std.proofs.Common.{◌≡◌, drop}
 use Rattle.patch_bytes.specs.ByteString.{bytes_of_each}
 use Rattle.patch_bytes.specs.Memory.{memory_of, text_at}
 use Rattle.elf_format.specs.Options.{each}
-use Rattle.elf_format.proofs.ReadingSteps.{with_front}
+use Rattle.elf_format.proofs.ForCallers.ReadingSteps.{with_front}
 use Rattle.elf_image_versions.proofs.kept.kept_texts.Given as goal
 
 -- what was made so far, and what the rest gives

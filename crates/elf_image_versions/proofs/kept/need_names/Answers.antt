@@ -7,8 +7,8 @@ use Rattle.elf_format.specs.Options.{each}
 use Rattle.elf_format.specs.declared.records.NeedNameNumbers.{NeedNameNumbers}
 use Rattle.elf_format.specs.Versions.{VersionName, shown_need_name}
 use Rattle.elf_image_versions.specs.VersionsModel.{name_model}
-use Rattle.elf_format.proofs.ReadingSteps.{no_name}
-use Rattle.elf_format.proofs.ReadingSteps.{each_done, each_ends, each_goes}
+use Rattle.elf_format.proofs.ForCallers.ReadingSteps.{no_name}
+use Rattle.elf_format.proofs.ForCallers.ReadingSteps.{each_done, each_ends, each_goes}
 use Rattle.elf_image_versions.proofs.kept.need_names.Goals as goal
 
 pub returns-in_err-one : goal.returns-in_err-one

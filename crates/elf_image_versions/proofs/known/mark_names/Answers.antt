@@ -1,7 +1,7 @@
 -- One mark after another.
 use Rattle.std.proofs.Common.{get_or, map, refl}
 use Rattle.elf_image_versions.specs.WalkSteps.{marked}
-use Rattle.elf_format.proofs.ReadingSteps.{no_name}
+use Rattle.elf_format.proofs.ForCallers.ReadingSteps.{no_name}
 use Rattle.elf_image_versions.proofs.VersionSteps.{mark_done, mark_goes}
 use Rattle.elf_image_versions.proofs.known.mark_names.Goals as goal
 

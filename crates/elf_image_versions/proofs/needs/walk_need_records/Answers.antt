@@ -7,7 +7,7 @@ use Rattle.elf_format.specs.declared.form.Form.{Form}
 use Rattle.elf_format.specs.Seen.{raw_needs}
 use Rattle.elf_format.specs.Versions.{NeedNumbers, Step, need_at}
 use Rattle.elf_image_versions.specs.WalkSteps.{IsWalk, need_step}
-use Rattle.elf_format.proofs.ChainSteps.{more_left, next_of}
+use Rattle.elf_format.proofs.ForCallers.ChainSteps.{more_left, next_of}
 use Rattle.elf_image_versions.proofs.WalkSteps.{WalkLeft, need-behind, walk_breaks, walk_done, walk_ends, walk_goes, walk_starts, walk_stops}
 use Rattle.elf_image_versions.proofs.needs.walk_need_records.Goals as goal
 

@@ -6,7 +6,7 @@ use Rattle.elf_format.specs.Answers.{step_model, whole_step}
 use Rattle.elf_format.specs.declared.records.NeedNameNumbers.{NeedNameNumbers}
 use Rattle.elf_format.specs.Versions.{Step, need_name_at}
 use Rattle.elf_image_versions.specs.WalkSteps.{IsWalk}
-use Rattle.elf_format.proofs.ChainSteps.{more_left, next_of}
+use Rattle.elf_format.proofs.ForCallers.ChainSteps.{more_left, next_of}
 use Rattle.elf_image_versions.proofs.WalkSteps.{WalkLeft, need_name-behind, need_name-whole, found_none, found_there, walk_done, walk_ends, walk_goes, walk_starts, walk_stops}
 use Rattle.elf_image_versions.proofs.needs.walk_versions.Goals as goal
 

@@ -33,7 +33,7 @@ loop-flags-preserved c =
     c.load_alignment-align.ensures)
     (c.in-Some.ensures.slots ∙ ap (λ (n : ℕ). with_slots c.loop-flags.slots
     (load_here c.args.r.now c.args.moved.now n at.offset at.address f).slots) c.load_alignment-align.ensures)
-    c.in-Ok.ensures.items refl (omega (arith, c.from.ensures, c.from-in-loop-flags.ensures))
+    c.in_ok-push.ensures.items refl (omega (arith, c.from.ensures, c.from-in-loop-flags.ensures))
     (omega (arith, c.from.ensures, c.from-in-loop-flags.ensures, c.in-Some.ensures.near)) c.in-Some.ensures.fits
 
 pub returns-in_default-clause-fault : goal.returns-in_default-clause-fault

@@ -9,7 +9,7 @@ use Rattle.elf_layout.proofs.layout.plan_of.Goals as goal
 pub returns-in_err-rounds-clause-stuck : goal.returns-in_err-rounds-clause-stuck
 returns-in_err-rounds-clause-stuck c =
     let is : IsResized c.args.r.now = let P : Resized → Type 0 = IsResized in subst P c.r.view_is c.r.invariant in
-    let p = err_from_is_err_and c.from_residual.result c.from_residual.ensures.1 in
+    let p = err_from_is_err_and c.from_residual-in_err-rounds.result c.from_residual-in_err-rounds.ensures.1 in
     rw (p.1, p.2) (stuck_asked c.args.r.now.image _ (no_end_is c.args.r.now is _ c.in_err-rounds.ensures.fault))
 
 pub returns-clause-stuck : goal.returns-clause-stuck

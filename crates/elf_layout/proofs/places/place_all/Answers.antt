@@ -49,7 +49,7 @@ loop-position-preserved c =
     places_more f all (map place_model c.loop-position.places.items) i s (place_model c.in-Some.place)
     (map place_model c.push.new.self.items) found.1 c.loop-position.invariant
     (c.in-Some.ensures.place s found.2 ∙ same)
-    (ap (λ (l : List SectionPlace). map place_model l) c.in-Ok.ensures.items
+    (ap (λ (l : List SectionPlace). map place_model l) c.in_ok-push.ensures.items
     ∙ map_push place_model c.loop-position.places.items c.in-Some.place)
 
 pub returns-clause-places : goal.returns-clause-places

@@ -12,8 +12,8 @@ pub returns-clause-stands : goal.returns-clause-stands
 returns-clause-stands c =
     let placed = λ (l : List (Option At)). with_slots l (flat_map (λ load. load.slots) (added_loads c.args.r.now c.args.moved.now)) in
     let slots : c.deref.result.now ≡ placed (none_yet c.args.r.now) =
-    c.deref.ensures.value ∙ take_at c.place_added.new.slots _ c.in-Ok.slots.len (c.place_added.auto.slots ∙ c.deref_mut.ensures.len)
-    ∙ c.in_ok-added.ensures.slots ∙ ap placed (c.deref_mut.ensures.value ∙ c.in-Ok.ensures) in
+    c.deref.ensures.value ∙ take_at c.place_added.new.slots _ c.in_ok-slots.slots.len (c.place_added.auto.slots ∙ c.deref_mut.ensures.len)
+    ∙ c.in_ok-added.ensures.slots ∙ ap placed (c.deref_mut.ensures.value ∙ c.in_ok-slots.ensures) in
     all_stands c.args.r.now c.args.moved.now c.deref.result.now c.in_ok-added.added.end c.args.headers _ c.in_ok-behind.behind slots
     c.in_ok-added.ensures.added.end c.requires.headers
     c.in_ok-behind.ensures.behind c.in_ok-added.ensures.added.loads refl refl refl
@@ -22,8 +22,8 @@ pub returns-in_err-behind-clause-fault : goal.returns-in_err-behind-clause-fault
 returns-in_err-behind-clause-fault c =
     let placed = λ (l : List (Option At)). with_slots l (flat_map (λ load. load.slots) (added_loads c.args.r.now c.args.moved.now)) in
     let slots : c.deref.result.now ≡ placed (none_yet c.args.r.now) =
-    c.deref.ensures.value ∙ take_at c.place_added.new.slots _ c.in-Ok.slots.len (c.place_added.auto.slots ∙ c.deref_mut.ensures.len)
-    ∙ c.in_ok-added.ensures.slots ∙ ap placed (c.deref_mut.ensures.value ∙ c.in-Ok.ensures) in
+    c.deref.ensures.value ∙ take_at c.place_added.new.slots _ c.in_ok-slots.slots.len (c.place_added.auto.slots ∙ c.deref_mut.ensures.len)
+    ∙ c.in_ok-added.ensures.slots ∙ ap placed (c.deref_mut.ensures.value ∙ c.in_ok-slots.ensures) in
     let fault = behind_fault c.args.r.now c.args.moved.now c.deref.result.now c.in_ok-added.added.end c.args.headers
     c.in_err-behind.field-0.0 slots c.in_ok-added.ensures.added.end c.requires.headers
     c.in_err-behind.ensures.fault in

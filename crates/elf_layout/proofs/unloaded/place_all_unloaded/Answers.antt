@@ -20,7 +20,7 @@ loop-position-preserved c =
     let found = found_some (slice_get all i) c.section_here-section.result c.section_here-section.ensures in
     unloaded_more c.args.start all c.loop-position.offsets.items c.loop-position.end i found.0 c.in-Some.place.offset
     c.push.new.self.items c.in-Some.place.end
-    found.1 c.loop-position.invariant (c.in-Some.ensures.offset found.0 found.2) c.in-Ok.ensures.items
+    found.1 c.loop-position.invariant (c.in-Some.ensures.offset found.0 found.2) c.in_ok-push.ensures.items
     (c.in-Some.ensures.end found.0 found.2)
 
 pub returns-clause-offsets : goal.returns-clause-offsets

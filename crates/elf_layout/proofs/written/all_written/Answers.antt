@@ -29,12 +29,12 @@ loop-i-preserved c =
     let size : ℕ = c.args.headers * c.segment_header_size.result in
     let l : AnchorAt = get_or c.args.anchors.now c.loop-i.i at.Itself in
     let k : AnchorPosition = anchor_model l in
-    let begins : Begins = begins_model c.in-Ok.notes in
+    let begins : Begins = begins_model c.in_ok-notes.notes in
     let lead : k ≡ anchor_position p (anchor_of r p) = anchor-at r c.args.anchors.now c.requires.anchors c.loop-i.i l p (get_or_default c.args.anchors.now c.loop-i.i at.Itself l c.loop-i-test.true) c.segment_at-p.ensures in
     let sized : size ≡ header_count r moved * segment_header_size r.image.form =
-    ap (λ n. n * c.segment_header_size.result) c.requires.headers ∙ ap (λ n. header_count r moved * n) (c.segment_header_size.ensures ∙ ap segment_header_size c.form_of-form.ensures) in
-    c.in-Ok-push_written.ensures.0
-    ∙ ap (λ l. c.loop-i.made.items ++ l) (heading_written r moved c.args.marks.now c.sections_are_sized.ensures c.requires.marks begins c.in-Ok.ensures.begins c.form_of-form.result all size k p c.form_of-form.ensures c.requires.places sized lead)
+    ap (λ n. n * c.segment_header_size.result) c.requires.headers ∙ ap (λ n. header_count r moved * n) (c.segment_header_size.ensures ∙ ap segment_header_size c.form-form.ensures) in
+    c.in-Ok.ensures.0
+    ∙ ap (λ l. c.loop-i.made.items ++ l) (heading_written r moved c.args.marks.now c.sections_are_sized.ensures c.requires.marks begins c.in_ok-notes.ensures.begins c.form-form.result all size k p c.form-form.ensures c.requires.places sized lead)
     ∙ ap (λ l. l ++ written_from r moved p) c.loop-i.invariant ∙ sym (written-more r moved c.loop-i.i p c.segment_at-p.ensures)
 
 pub returns-in-Err-clause-fault : goal.returns-in-Err-clause-fault
@@ -46,12 +46,12 @@ returns-in-Err-clause-fault c =
     let size : ℕ = c.args.headers * c.segment_header_size.result in
     let l : AnchorAt = get_or c.args.anchors.now c.loop-i.i at.Itself in
     let k : AnchorPosition = anchor_model l in
-    let begins : Begins = begins_model c.in-Ok.notes in
+    let begins : Begins = begins_model c.in_ok-notes.notes in
     let lead : k ≡ anchor_position p (anchor_of r p) = anchor-at r c.args.anchors.now c.requires.anchors c.loop-i.i l p (get_or_default c.args.anchors.now c.loop-i.i at.Itself l c.loop-i-test.true) c.segment_at-p.ensures in
     let sized : size ≡ header_count r moved * segment_header_size r.image.form =
-    ap (λ n. n * c.segment_header_size.result) c.requires.headers ∙ ap (λ n. header_count r moved * n) (c.segment_header_size.ensures ∙ ap segment_header_size c.form_of-form.ensures) in
-    stands_too_far r moved (do_headings_fit c.form_of-form.result all begins size p k) c.in-Err.fault c.in-Err.ensures
-    (heading_past r moved c.args.marks.now c.sections_are_sized.ensures c.requires.marks begins c.in-Ok.ensures.begins c.form_of-form.result all size k p c.form_of-form.ensures c.requires.places sized lead c.loop-i.i c.segment_at-p.ensures)
+    ap (λ n. n * c.segment_header_size.result) c.requires.headers ∙ ap (λ n. header_count r moved * n) (c.segment_header_size.ensures ∙ ap segment_header_size c.form-form.ensures) in
+    stands_too_far r moved (do_headings_fit c.form-form.result all begins size p k) c.in-Err.fault c.in-Err.ensures
+    (heading_past r moved c.args.marks.now c.sections_are_sized.ensures c.requires.marks begins c.in_ok-notes.ensures.begins c.form-form.result all size k p c.form-form.ensures c.requires.places sized lead c.loop-i.i c.segment_at-p.ensures)
 
 pub returns-clause-written : goal.returns-clause-written
 returns-clause-written c =

@@ -6,5 +6,5 @@ use Rattle.elf_layout_moves.proofs.block_moves.marks.Goals as goal
 pub returns-clause-cause : goal.returns-clause-cause
 returns-clause-cause c =
     let written : List Bool = c.walk_on.new.marks in
-    let same : take c.in-Ok.marks.len (written ++ drop (length written) c.in-Ok.marks.items) ≡ written = grind (arith, common_steps) in
+    let same : take c.in_ok-marks.marks.len (written ++ drop (length written) c.in_ok-marks.marks.items) ≡ written = grind (arith, common_steps) in
     subst (λ (marks : List Bool). MoveForCause c.args.ranges.now marks) (sym same) c.in_ok-walk_on.ensures.cause

@@ -17,13 +17,13 @@ blocks_of-requires-clause-sized c =
 
 pub moved_positions-requires : goal.moved_positions-requires
 moved_positions-requires c =
-    subst (λ (blocks : List Block). All IsWhole blocks) (sym (c.deref.ensures.value ∙ c.in-Ok.ensures)) (wholes c.args.r.now c.args.added)
+    subst (λ (blocks : List Block). All IsWhole blocks) (sym (c.deref.ensures.value ∙ c.in_ok-blocks.ensures)) (wholes c.args.r.now c.args.added)
 
 pub in_old_order-requires-clause-within : goal.in_old_order-requires-clause-within
 in_old_order-requires-clause-within c =
     let r : Resized = c.args.r.now in
     let moved : List ℕ = c.in_ok-moved.moved.items in
-    let blocks = c.deref.ensures.value ∙ c.in-Ok.ensures in
+    let blocks = c.deref.ensures.value ∙ c.in_ok-blocks.ensures in
     let causes = subst (λ (bs : List Block). have_causes bs moved ≡ true) blocks c.in_ok-moved.ensures.causes in
     subst (λ (positions : List ℕ). All (λ position. position < length r.image.sections) positions) (sym c.deref-2.ensures.value) (all_within r c.args.added moved causes)
 
@@ -37,10 +37,10 @@ pub returns-clause-found : goal.returns-clause-found
 returns-clause-found c =
     let r : Resized = c.args.r.now in
     let moved : List ℕ = c.in_ok-moved.moved.items in
-    let found : List ℕ = c.in-Ok-in_old_order.found.items in
-    let blocks = c.deref.ensures.value ∙ c.in-Ok.ensures in
+    let found : List ℕ = c.in_ok-found.found.items in
+    let blocks = c.deref.ensures.value ∙ c.in_ok-blocks.ensures in
     let causes = subst (λ (bs : List Block). have_causes bs moved ≡ true) blocks c.in_ok-moved.ensures.causes in
     let apart = subst (λ (bs : List Block). stay_apart moved bs ≡ true) blocks c.in_ok-moved.ensures.apart in
     let same : (position : ℕ) → is_one_of found position ≡ is_one_of moved position =
-    λ position. c.in-Ok-in_old_order.ensures.same position ∙ ap (λ (l : List ℕ). is_one_of l position) c.deref-2.ensures.value in
-    moves r c.args.added found moved same causes apart c.in-Ok-in_old_order.ensures.ordered
+    λ position. c.in_ok-found.ensures.same position ∙ ap (λ (l : List ℕ). is_one_of l position) c.deref-2.ensures.value in
+    moves r c.args.added found moved same causes apart c.in_ok-found.ensures.ordered

@@ -19,6 +19,6 @@ one_more leads segments i d made l so_far within is =
 pub loop-segment-preserved : goal.loop-segment-preserved
 loop-segment-preserved c = λ looked are.
     let leads : Segment → AnchorPosition = λ s. anchor_position_of looked (segment_model s) in
-    let lead = c.anchor_of.ensures looked are ∙ ap (λ (p : SegmentHeader). anchor_position_of looked p) c.numbers_of.ensures in
+    let lead = c.anchor_of.ensures looked are ∙ ap (λ (p : SegmentHeader). anchor_position_of looked p) c.numbers.ensures in
     ap (map anchor_model) c.in_ok-push.ensures.items
     ∙ one_more leads c.args.segments.now c.loop-segment.segment-index _ c.loop-segment.made.items c.anchor_of.result (c.loop-segment.invariant looked are) c.loop-segment-test.true lead

@@ -12,7 +12,7 @@ use Rattle.elf_layout_segments.proofs.SplitSteps.{keeps-is, kept_end-all, kept_e
 use Rattle.elf_layout_segments.proofs.anchors.kept_end.Goals as goal
 
 pub loop-i-init : goal.loop-i-init
-loop-i-init c = c.file_header_size-end.ensures ∙ ap file_header_size c.form_of.ensures ∙ sym (kept_end-none c.args.r.now c.args.moved.now)
+loop-i-init c = c.file_header_size-end.ensures ∙ ap file_header_size c.form.ensures ∙ sym (kept_end-none c.args.r.now c.args.moved.now)
 
 pub segment_at-requires : goal.segment_at-requires
 segment_at-requires c = omega (arith, anchors-length c.args.r.now c.args.anchors.now c.requires.anchors)

@@ -5,7 +5,7 @@ use Rattle.elf_format.specs.Options.{is_some_and}
 use Rattle.elf_image.specs.ImageModel.{symbol_model}
 use Rattle.elf_layout_plan.specs.Needs.{is_version_used}
 use Rattle.elf_layout_sizes.proofs.SymbolSteps.{used_next}
-use Rattle.elf_layout_sizes.specs.Inner.{marked}
+use Rattle.elf_layout_sizes.specs.Inner.{mark_of}
 use Rattle.elf_layout_sizes.proofs.versions.mark_versions.Goals as goal
 
 -- a mark that is given once more
@@ -22,5 +22,5 @@ loop-i-preserved c index =
     let mark : Bool = c.args.mark in
     c.mark_version.ensures index
     ∙ ap (λ (b : Bool). if now then mark else b) (c.loop-i.invariant index)
-    ∙ given before now mark (marked c.args.marks.now index)
-    ∙ ap (λ (b : Bool). if b then mark else marked c.args.marks.now index) (sym (used_next c.args.symbols.now c.loop-i.i (symbol_model c.get.result) index c.get.ensures))
+    ∙ given before now mark (mark_of c.args.marks.now index)
+    ∙ ap (λ (b : Bool). if b then mark else mark_of c.args.marks.now index) (sym (used_next c.args.symbols.now c.loop-i.i (symbol_model c.get.result) index c.get.ensures))

@@ -1,10 +1,10 @@
 use Rattle.std.proofs.Common.{◌≡◌, ℕ, take}
 use Rattle.std.specs.Prelude.{if◌then◌else◌}
 use Rattle.elf_layout_plan.specs.Needs.{is_version_used}
-use Rattle.elf_layout_sizes.specs.Inner.{marked}
+use Rattle.elf_layout_sizes.specs.Inner.{mark_of}
 use Rattle.elf_layout_sizes.proofs.versions.mark_versions.Given as goal
 
 -- the versions of the symbols so far have the mark
 abbrev pub invariant-loop-i : goal.invariant-loop-i
 invariant-loop-i l =
-    (index : ℕ) → marked l.marks index ≡ (if is_version_used (take l.i l.symbols) index then l.mark else marked l.initial.marks index)
+    (index : ℕ) → mark_of l.marks index ≡ (if is_version_used (take l.i l.symbols) index then l.mark else mark_of l.initial.marks index)

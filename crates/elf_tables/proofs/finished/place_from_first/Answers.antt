@@ -4,8 +4,8 @@ use Rattle.std.specs.Prelude.{drop}
 use Rattle.std.specs.Str.{bytes_eq}
 use Rattle.elf_tables.specs.StringSteps.{Numbered, with_places}
 use Rattle.elf_tables.proofs.LaidPairs.{looked-here, looked-on, looked-places, looked-texts}
-use Rattle.elf_tables.proofs.TextLists.{less_or_not}
 use Rattle.elf_tables.proofs.finished.place_from_first.Goals as goal
+use Rattle.std.proofs.lemmas.Bool.{cases_lt}
 
 pub loop-i-init : goal.loop-i-init
 loop-i-init c = refl
@@ -34,7 +34,7 @@ ended text ks places i (inr past) = looked-places text ks places i past
 
 pub returns : goal.returns
 returns c =
-    let past : (length c.args.texts.now ≤ c.loop-i.i) ⊎ (length c.args.places.now ≤ c.loop-i.i) = elim (less_or_not c.loop-i.i (length c.args.texts.now)) [
+    let past : (length c.args.texts.now ≤ c.loop-i.i) ⊎ (length c.args.places.now ≤ c.loop-i.i) = elim (cases_lt c.loop-i.i (length c.args.texts.now)) [
       | inl low ↦ inr (omega (arith, low))
       | inr all ↦ inl all
     ] in

@@ -8,8 +8,8 @@ use Rattle.elf_write.proofs.LayingWhole.{IsFileOf, all_lie, as_many, headers_fit
 use Rattle.elf_write.proofs.laying.laid_bytes.Goals as goal
 
 pub spelled_headers-requires : goal.spelled_headers-requires
-spelled_headers-requires c = headers_fit c.args.image.now c.args.plan.now c.form_of-form.result c.args.header c.args.headers.now
-    (bytes_of_each c.args.contents.now) c.form_of-form.ensures c.requires.header c.requires.writing
+spelled_headers-requires c = headers_fit c.args.image.now c.args.plan.now c.form-form.result c.args.header c.args.headers.now
+    (bytes_of_each c.args.contents.now) c.form-form.ensures c.requires.header c.requires.writing
 
 pub pieces-requires-clause-places : goal.pieces-requires-clause-places
 pieces-requires-clause-places c =
@@ -22,8 +22,8 @@ pieces-requires-clause-contents c =
 pub lay-requires : goal.lay-requires
 lay-requires c =
     let of : IsFileOf c.args.image.now c.args.plan.now c.args.headers.now (bytes_of_each c.args.contents.now) c.in_ok-spelled.spelled
-    c.form_of-form.result c.args.header c.in-Some.size (patches_of c.deref.result.now) = record {
-      same_form = c.form_of-form.ensures;
+    c.form-form.result c.args.header c.in-Some.size (patches_of c.deref.result.now) = record {
+      same_form = c.form-form.ensures;
       same_header = c.requires.header;
       are_spelled = c.in_ok-spelled.ensures;
       same_size = c.in-Some.ensures.1;
@@ -31,14 +31,14 @@ lay-requires c =
     } in
     subst (λ (n : ℕ). All (LiesIn n) (patches_of c.deref.result.now))
     (sym (length-based (resized c.args.image.now) c.in-Some.size c.deref_mut.result.now (c.deref_mut.ensures.value ∙ c.in_ok-bytes.ensures)))
-    (all_lie c.args.image.now c.args.plan.now c.args.headers.now (bytes_of_each c.args.contents.now) c.in_ok-spelled.spelled c.form_of-form.result
+    (all_lie c.args.image.now c.args.plan.now c.args.headers.now (bytes_of_each c.args.contents.now) c.in_ok-spelled.spelled c.form-form.result
     c.args.header c.in-Some.size (patches_of c.deref.result.now) of c.requires.writing)
 
 pub returns : goal.returns
 returns c raw =
     let of : IsFileOf c.args.image.now c.args.plan.now c.args.headers.now (bytes_of_each c.args.contents.now) c.in_ok-spelled.spelled
-    c.form_of-form.result c.args.header c.in-Some.size (patches_of c.deref.result.now) = record {
-      same_form = c.form_of-form.ensures;
+    c.form-form.result c.args.header c.in-Some.size (patches_of c.deref.result.now) = record {
+      same_form = c.form-form.ensures;
       same_header = c.requires.header;
       are_spelled = c.in_ok-spelled.ensures;
       same_size = c.in-Some.ensures.1;
@@ -46,6 +46,6 @@ returns c raw =
     } in
     let made : List ℕ = c.lay.new.bytes in
     take_at made (drop (length made) c.in_ok-bytes.bytes.items) c.in_ok-bytes.bytes.len (c.lay.auto.bytes ∙ c.deref_mut.ensures.len)
-    ∙ laid-whole c.args.image.now c.args.plan.now c.args.headers.now (bytes_of_each c.args.contents.now) c.in_ok-spelled.spelled c.form_of-form.result
+    ∙ laid-whole c.args.image.now c.args.plan.now c.args.headers.now (bytes_of_each c.args.contents.now) c.in_ok-spelled.spelled c.form-form.result
     c.args.header c.in-Some.size (patches_of c.deref.result.now) of raw c.deref_mut.result.now made
     (c.deref_mut.ensures.value ∙ c.in_ok-bytes.ensures) c.lay.ensures

@@ -8,8 +8,8 @@ use Rattle.elf_write.proofs.LayingWhole.{IsFileOf, all_lie, as_many, headers_fit
 use Rattle.elf_write.proofs.laying.laid_difference.Goals as goal
 
 pub spelled_headers-requires : goal.spelled_headers-requires
-spelled_headers-requires c = headers_fit c.args.image.now c.args.plan.now c.form_of-form.result c.args.header c.args.headers.now
-    (bytes_of_each c.args.contents.now) c.form_of-form.ensures c.requires.header c.requires.writing
+spelled_headers-requires c = headers_fit c.args.image.now c.args.plan.now c.form-form.result c.args.header c.args.headers.now
+    (bytes_of_each c.args.contents.now) c.form-form.ensures c.requires.header c.requires.writing
 
 pub pieces-requires-clause-places : goal.pieces-requires-clause-places
 pieces-requires-clause-places c =
@@ -22,26 +22,26 @@ pieces-requires-clause-contents c =
 pub differing-requires-clause-lie : goal.differing-requires-clause-lie
 differing-requires-clause-lie c =
     let of : IsFileOf c.args.image.now c.args.plan.now c.args.headers.now (bytes_of_each c.args.contents.now) c.in_ok-spelled.spelled
-    c.form_of-form.result c.args.header c.in-Some.size (patches_of c.deref.result.now) = record {
-      same_form = c.form_of-form.ensures;
+    c.form-form.result c.args.header c.in-Some.size (patches_of c.deref.result.now) = record {
+      same_form = c.form-form.ensures;
       same_header = c.requires.header;
       are_spelled = c.in_ok-spelled.ensures;
       same_size = c.in-Some.ensures.1;
       are = ap patches_of c.deref.ensures.value ∙ c.in_ok-pieces.ensures;
     } in
-    all_lie c.args.image.now c.args.plan.now c.args.headers.now (bytes_of_each c.args.contents.now) c.in_ok-spelled.spelled c.form_of-form.result
+    all_lie c.args.image.now c.args.plan.now c.args.headers.now (bytes_of_each c.args.contents.now) c.in_ok-spelled.spelled c.form-form.result
     c.args.header c.in-Some.size (patches_of c.deref.result.now) of c.requires.writing
 
 pub returns-clause-makes : goal.returns-clause-makes
 returns-clause-makes c =
     let of : IsFileOf c.args.image.now c.args.plan.now c.args.headers.now (bytes_of_each c.args.contents.now) c.in_ok-spelled.spelled
-    c.form_of-form.result c.args.header c.in-Some.size (patches_of c.deref.result.now) = record {
-      same_form = c.form_of-form.ensures;
+    c.form-form.result c.args.header c.in-Some.size (patches_of c.deref.result.now) = record {
+      same_form = c.form-form.ensures;
       same_header = c.requires.header;
       are_spelled = c.in_ok-spelled.ensures;
       same_size = c.in-Some.ensures.1;
       are = ap patches_of c.deref.ensures.value ∙ c.in_ok-pieces.ensures;
     } in
-    made-whole c.args.image.now c.args.plan.now c.args.headers.now (bytes_of_each c.args.contents.now) c.in_ok-spelled.spelled c.form_of-form.result
+    made-whole c.args.image.now c.args.plan.now c.args.headers.now (bytes_of_each c.args.contents.now) c.in_ok-spelled.spelled c.form-form.result
     c.args.header c.in-Some.size (patches_of c.deref.result.now) of c.requires.writing
     (made_of c.args.image.now.source c.in_ok-difference.difference) c.in_ok-difference.ensures.makes

@@ -7,33 +7,33 @@ use Rattle.elf_format.specs.Options.{is_some_and}
 use Rattle.elf_write_contents.specs.ContentSteps.{IsBytesAt}
 use Rattle.elf_write_contents.proofs.ContentsAll.{all_made, interpreter_at, long_held, one_more}
 use Rattle.elf_write_contents.proofs.contents.contents.Goals as goal
-use Rattle.elf_write_contents.proofs.contents.contents.Goals.{then-is_interpreter, else-is_interpreter+in_ok-bytes}
+use Rattle.elf_write_contents.proofs.contents.contents.Goals.{then-is_numbered, else-is_numbered+in_ok-bytes}
 
 pub loop-i-preserved : goal.loop-i-preserved
 loop-i-preserved c =
-    let tells = c.is_interpreter.ensures
+    let tells = c.is_numbered.ensures
     ∙ ap (λ (o : Option ℕ). is_some_and (λ n. n == c.loop-i.i) o) c.interpreter_number-interpreter.ensures in
     let within : c.loop-i.i < length c.args.image.now.sections =
     omega (arith, long_held c.sections-i-end.result.now c.args.image.now.sections c.sections-i-end.ensures) in
-    let here : IsBytesAt c.args.image.now c.args.plan.now c.args.made.now c.args.raw.now c.loop-i.i c.if-is_interpreter.bytes.bytes =
-    elim c.if-is_interpreter.branch [
-      | then-is_interpreter w ↦
+    let here : IsBytesAt c.args.image.now c.args.plan.now c.args.made.now c.args.raw.now c.loop-i.i c.if-is_numbered.bytes.bytes =
+    elim c.if-is_numbered.branch [
+      | then-is_numbered w ↦
           subst (λ (b : List ℕ). IsBytesAt c.args.image.now c.args.plan.now c.args.made.now c.args.raw.now c.loop-i.i b)
           (sym (ap (λ (s : StringValue). s.bytes) w.bytes-is ∙ w.interpreter_content-bytes.ensures))
           (interpreter_at c.args.read.now c.args.image.now c.args.plan.now c.args.made.now c.args.raw.now c.requires.planned c.loop-i.i within
-          (sym tells ∙ w.if-is_interpreter.true))
-      | else-is_interpreter+in_ok-bytes w ↦
+          (sym tells ∙ w.if-is_numbered.true))
+      | else-is_numbered+in_ok-bytes w ↦
           subst (λ (s : StringValue). IsBytesAt c.args.image.now c.args.plan.now c.args.made.now c.args.raw.now c.loop-i.i s.bytes)
           (sym w.bytes-is) w.in_ok-bytes.ensures
     ] in
     record {
-      long = ap length c.in_ok-push.ensures.items ∙ length-append c.loop-i.contents.items (c.if-is_interpreter.bytes ∷ [])
+      long = ap length c.in_ok-push.ensures.items ∙ length-append c.loop-i.contents.items (c.if-is_numbered.bytes ∷ [])
           ∙ ap (λ n. n + 1) c.loop-i.invariant.long;
       are = one_more c.args.image.now c.args.plan.now c.args.made.now c.args.raw.now (bytes_of_each c.loop-i.contents.items) (bytes_of_each c.push.new.self.items)
-          c.if-is_interpreter.bytes.bytes c.loop-i.invariant.are
-          (subst (λ n. IsBytesAt c.args.image.now c.args.plan.now c.args.made.now c.args.raw.now n c.if-is_interpreter.bytes.bytes)
+          c.if-is_numbered.bytes.bytes c.loop-i.invariant.are
+          (subst (λ n. IsBytesAt c.args.image.now c.args.plan.now c.args.made.now c.args.raw.now n c.if-is_numbered.bytes.bytes)
           (sym (length-map c.loop-i.contents.items (λ (s : StringValue). s.bytes) ∙ c.loop-i.invariant.long)) here)
-          (ap bytes_of_each c.in_ok-push.ensures.items ∙ map_push (λ (s : StringValue). s.bytes) c.loop-i.contents.items c.if-is_interpreter.bytes);
+          (ap bytes_of_each c.in_ok-push.ensures.items ∙ map_push (λ (s : StringValue). s.bytes) c.loop-i.contents.items c.if-is_numbered.bytes);
     }
 
 pub returns : goal.returns

@@ -33,7 +33,7 @@ list_content-requires-clause-room c =
     (place_within c.places.result.now c.args.plan.now.places c.args.image.now.sections c.args.i c.places.ensures
     (places_long c.args.read.now c.args.image.now c.args.plan.now c.requires.planned) c.requires.within) in
     subst (λ (form : Form). length c.args.raw.now * entry_size form ≤ place.sh_size)
-    (sym c.form_of.ensures)
+    (sym c.form.ensures)
     (list_fits c.args.read.now c.args.image.now c.args.plan.now c.args.made.now c.args.raw.now c.requires.planned c.args.i s at
     c.requires.apart c.requires.raw c.in-6.is (place_model place) place_at)
 
@@ -73,7 +73,7 @@ returns-in_ok-bytes-in-6 c =
     (place_within c.places.result.now c.args.plan.now.places c.args.image.now.sections c.args.i c.places.ensures
     (places_long c.args.read.now c.args.image.now c.args.plan.now c.requires.planned) c.requires.within) in
     let bytes : c.owned.result.bytes ≡ spelled_list c.args.image.now.form c.args.raw.now place.sh_size =
-    ap (λ (s : StringValue). s.bytes) c.owned.ensures ∙ c.in_ok-bytes-in-6.ensures ∙ ap (λ (m : Form). spelled_list m c.args.raw.now place.sh_size) c.form_of.ensures in
+    ap (λ (s : StringValue). s.bytes) c.owned.ensures ∙ c.in_ok-bytes-in-6.ensures ∙ ap (λ (m : Form). spelled_list m c.args.raw.now place.sh_size) c.form.ensures in
     subst (λ (b : List ℕ). IsBytesAt c.args.image.now c.args.plan.now c.args.made.now c.args.raw.now c.args.i b) (sym bytes)
     (list_at_place c.args.read.now c.args.image.now c.args.plan.now c.args.made.now c.args.raw.now c.requires.planned c.args.i s at
     c.requires.apart c.requires.raw c.in-6.is (place_model place) place_at)

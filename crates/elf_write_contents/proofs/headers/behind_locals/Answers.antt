@@ -1,6 +1,6 @@
 use Rattle.std.proofs.Common.{◌∙◌, List, true, false, refl, sym}
 use Rattle.elf_format.specs.Views.{NamedSymbol}
-use Rattle.elf_layout_sizes.proofs.SymbolSteps.{with_part}
+use Rattle.elf_layout_sizes.proofs.ForCallers.SymbolSteps.{with_part}
 use Rattle.elf_write_spec.specs.Final.{is_local}
 use Rattle.elf_write_spec.specs.Headers.{behind_locals as behind_all}
 use Rattle.std.specs.Prelude.{slice_get}

@@ -10,7 +10,7 @@ use Rattle.elf_image.specs.ImageModel.{section_model}
 use Rattle.elf_layout_plan.specs.declared.plan.SectionPlace.{SectionPlace}
 use Rattle.elf_image.specs.Kept.{image_at_read}
 use Rattle.elf_layout_plan.specs.PlanModel.{place_model}
-use Rattle.elf_layout_plan.proofs.ApartLists.{at-map}
+use Rattle.elf_layout_plan.proofs.ForCallers.ApartLists.{at-map}
 use Rattle.elf_tables.specs.Strings.{place_of}
 use Rattle.elf_write_spec.specs.Headers.{Reads}
 use Rattle.elf_write_contents.specs.Inner.{content_read, strings_at}

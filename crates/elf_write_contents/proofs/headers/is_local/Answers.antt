@@ -2,7 +2,7 @@
 use Rattle.std.proofs.Common.{◌/◌, Some, ap, ◌∙◌}
 use Rattle.std.specs.Prelude.{◌==◌, option_map, slice_get}
 use Rattle.elf_format.specs.declared.records.SymbolNumbers.{SymbolNumbers}
-use Rattle.elf_layout_sizes.proofs.SymbolSteps.{with_part}
+use Rattle.elf_layout_sizes.proofs.ForCallers.SymbolSteps.{with_part}
 use Rattle.elf_write_spec.specs.Final.{is_local}
 use Rattle.elf_image_symbols.specs.TableSymbols.{symbol_with}
 use Rattle.elf_write_contents.proofs.headers.is_local.Goals as goal

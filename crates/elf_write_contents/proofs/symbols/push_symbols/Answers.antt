@@ -3,11 +3,11 @@ use Rattle.std.proofs.Common.{ℕ, ◌++◌, List, arith}
 use Rattle.std.specs.Prelude.{slice_get, slice_index}
 use Rattle.std.specs.List.{flat_map}
 use Rattle.elf_format.specs.Views.{NamedSymbol}
-use Rattle.elf_layout_sizes.proofs.SymbolSteps.{part_at, with_part}
+use Rattle.elf_layout_sizes.proofs.ForCallers.SymbolSteps.{part_at, with_part}
 use Rattle.elf_write_contents.specs.SymbolSteps.{does_symbol_fit, place_of_named, symbol_bytes}
 use Rattle.elf_image_symbols.specs.TableSymbols.{symbol_with}
 use Rattle.elf_write_contents.proofs.NamesInOrder.{placed_fits, placed_next, record_more}
-use Rattle.elf_layout_plan.proofs.PlacedLists.{all-at, slice_get-at}
+use Rattle.elf_layout_plan.proofs.ForCallers.PlacedLists.{all-at, slice_get-at}
 use Rattle.elf_write_contents.proofs.symbols.push_symbols.Goals as goal
 
 pub push_symbol-requires : goal.push_symbol-requires

@@ -12,8 +12,8 @@ returns-in_err-all c =
     rw (p.1, p.2) (symbols_fail_bytes c.args.form c.args.room c.args.with_versions (source_model c.args.table.now.bytes) (source_model c.args.table.now.texts) (source_model c.args.versions.now) c.args.table.now.count c.symbol_size-size.result c.symbol_size-size.ensures.value
     c.in_err-all.field-0.0 c.in_err-all.ensures)
 
-pub read_symbols-requires : goal.read_symbols-requires
-read_symbols-requires c = omega (arith, c.deref.ensures.value, bytes_at-length (c.args.table.now.count * c.symbol_size-size.result) (source_model c.args.table.now.bytes) 0 c.in_ok-all.all.items c.in_ok-all.ensures)
+pub read_records-requires : goal.read_records-requires
+read_records-requires c = omega (arith, c.deref.ensures.value, bytes_at-length (c.args.table.now.count * c.symbol_size-size.result) (source_model c.args.table.now.bytes) 0 c.in_ok-all.all.items c.in_ok-all.ensures)
 
 pub returns-in_err-names : goal.returns-in_err-names
 returns-in_err-names c =

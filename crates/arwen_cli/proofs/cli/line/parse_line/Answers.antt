@@ -4,7 +4,7 @@ use Rattle.std.specs.Prelude.{slice_get}
 use Rattle.std.proofs.lemmas.Result.{err_from_is_err_and}
 use Rattle.clap.specs.Lexer.{usize_max}
 use Rattle.clap.specs.Walk.{Text}
-use Rattle.arwen_commands.specs.Meaning.{Meaning}
+use Rattle.arwen_cli.specs.Meaning.{Meaning}
 use Rattle.arwen_cli.specs.Line.{meaning_of}
 use Rattle.arwen_cli.proofs.Meanings.{elf_means, elf_passes, macho_means, macho_passes, other_line, texts}
 use Rattle.arwen_cli.proofs.cli.line.parse_line.Goals as goal

@@ -1,15 +1,10 @@
 -- Each edit writes its part.
-use Rattle.std.proofs.Common.{ap, refl, rules}
+use Rattle.std.proofs.Common.{ap, rules, sym, ◌∙◌}
 use Rattle.std.proofs.lemmas.Nat.{and_le_l}
-use Rattle.elf_edits.specs.Called.{call_model}
+use Rattle.elf_edits.specs.Edit.{SetInterpreter, SetOsAbi}
+use Rattle.elf_edits.specs.EditModel.{edit_model}
 use Rattle.elf_apply.proofs.DraftLaws.{cleared_noted, interpreter_noted, os_abi_noted, page_size_noted, set_noted}
 use Rattle.elf_apply.proofs.draft.Draft.write.Goals as goal
-
-pub slice_bounds-write_interpreter-end : goal.slice_bounds-write_interpreter-end
-slice_bounds-write_interpreter-end c = refl
-
-pub slice_bounds-abi_number-end : goal.slice_bounds-abi_number-end
-slice_bounds-abi_number-end c = refl
 
 pub abi_number-self-requires-text-name : goal.abi_number-self-requires-text-name
 abi_number-self-requires-text-name c κs = search rules
@@ -22,22 +17,22 @@ write_list-requires c = record { list = search rules; free = c.requires.free; li
 
 pub returns-in-SetInterpreter : goal.returns-in-SetInterpreter
 returns-in-SetInterpreter c =
-    interpreter_noted c.write_interpreter.result (call_model c.args.call.now) c.in-SetInterpreter.bytes.now c.args.builder.now c.args.self.now c.write_interpreter.new.self
-    (ap call_model c.in-SetInterpreter.is) c.requires.free c.requires.draft c.write_interpreter.ensures
+    interpreter_noted c.write_interpreter.result (edit_model c.args.edit.now) c.as_slice.result.now c.args.builder.now c.args.self.now c.write_interpreter.new.self
+    (ap edit_model c.in-SetInterpreter.is ∙ ap SetInterpreter (sym c.as_slice.ensures.value)) c.requires.free c.requires.draft c.write_interpreter.ensures
 
 pub returns-in-SetOsAbi : goal.returns-in-SetOsAbi
 returns-in-SetOsAbi c =
-    os_abi_noted (call_model c.args.call.now) c.in-SetOsAbi.name.now c.abi_number-self.result c.args.builder.now c.args.self.now
-    (ap call_model c.in-SetOsAbi.is) c.requires.free c.requires.draft c.abi_number-self.ensures
+    os_abi_noted (edit_model c.args.edit.now) c.as_str.result.now c.abi_number-self.result c.args.builder.now c.args.self.now
+    (ap edit_model c.in-SetOsAbi.is ∙ ap SetOsAbi (sym c.as_str.ensures.value)) c.requires.free c.requires.draft c.abi_number-self.ensures
 
 pub returns-in-ClearExecStack : goal.returns-in-ClearExecStack
-returns-in-ClearExecStack c = cleared_noted (call_model c.args.call.now) c.flags-flags.result c.args.builder.now c.args.self.now (ap call_model c.in-ClearExecStack.is) c.requires.draft c.flags-flags.ensures
+returns-in-ClearExecStack c = cleared_noted (edit_model c.args.edit.now) c.flags-flags.result c.args.builder.now c.args.self.now (ap edit_model c.in-ClearExecStack.is) c.requires.draft c.flags-flags.ensures
 
 pub returns-in-SetExecStack : goal.returns-in-SetExecStack
-returns-in-SetExecStack c = set_noted (call_model c.args.call.now) c.flags.result c.args.builder.now c.args.self.now (ap call_model c.in-SetExecStack.is) c.requires.draft c.flags.ensures
+returns-in-SetExecStack c = set_noted (edit_model c.args.edit.now) c.flags.result c.args.builder.now c.args.self.now (ap edit_model c.in-SetExecStack.is) c.requires.draft c.flags.ensures
 
 pub returns-in-SetPageSize : goal.returns-in-SetPageSize
-returns-in-SetPageSize c = page_size_noted (call_model c.args.call.now) c.in-SetPageSize.size c.args.builder.now c.args.self.now (ap call_model c.in-SetPageSize.is) c.requires.draft
+returns-in-SetPageSize c = page_size_noted (edit_model c.args.edit.now) c.in-SetPageSize.size c.args.builder.now c.args.self.now (ap edit_model c.in-SetPageSize.is) c.requires.draft
 
 pub returns-in_default : goal.returns-in_default
 returns-in_default c = c.write_list.ensures

@@ -2,7 +2,7 @@ use Rattle.std.proofs.lemmas.Result.{err_from_is_err_and}
 use Rattle.elf_commands.proofs.ElfOutcomes.{tells_unprinted}
 use Rattle.elf_commands.proofs.elf.engine.print_bytes.Goals as goal
 
-pub returns-in_err-print_asked-clause-err : goal.returns-in_err-print_asked-clause-err
-returns-in_err-print_asked-clause-err g c =
-    let p = err_from_is_err_and c.from_residual-in_err-print_asked.result c.from_residual-in_err-print_asked.ensures.1 in
-    rw (p.1, p.2) (tells_unprinted c.args.bytes.now c.in_ok-elf.elf.inner _ _ _ c.in_ok-elf.ensures.reads.0 c.in_err-print_asked.ensures.err)
+pub returns-in_err-answer-clause-err : goal.returns-in_err-answer-clause-err
+returns-in_err-answer-clause-err g c =
+    let p = err_from_is_err_and c.from_residual-in_err-answer.result c.from_residual-in_err-answer.ensures.1 in
+    rw (p.1, p.2) (tells_unprinted c.args.bytes.now c.in_ok-elf.elf.inner _ _ _ c.in_ok-elf.ensures.reads.0 c.in_err-answer.ensures.err)

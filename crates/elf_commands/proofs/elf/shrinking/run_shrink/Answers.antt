@@ -1,63 +1,36 @@
-use Rattle.std.proofs.Common.{List, ℕ, map, ap, subst, string_bytes, String, ◌∙◌}
+use Rattle.std.proofs.Common.{List, String, map, string_bytes, subst}
 use Rattle.std.specs.declared.alloc.Global.{Global}
-use Rattle.std.specs.Io.KnownBytes.{Appends}
-use Rattle.std.proofs.lemmas.Result.{err_from_is_err_and}
+use Rattle.std.proofs.lemmas.Result.{IfErr-weaker, IfOk-weaker}
 use Rattle.elf_apply.specs.Told.{Refuses}
-use Rattle.elf_edits.specs.Called.{answer_model}
+use Rattle.elf_edits_shrink.specs.ShrinkModel.{answer_model}
 use Rattle.elf_edits.specs.Edit.{Edit, ShrinkRunPath}
 use Rattle.elf_edits.specs.Edited.{step}
-use Rattle.elf_edits.specs.ShrunkModel.{removal_model}
 use Rattle.elf_commands.specs.ShrinkRuns.{Steps}
-use Rattle.elf_commands.specs.Shrinking.{removal_lines}
-use Rattle.elf_commands.proofs.ShrinkLaws.{quiet_shrink, shrunk_bytes, tells_unmade, tells_unshrunk}
+use Rattle.elf_commands.proofs.ShrinkLaws.{quiet_shrink, runs_shrink, tells_shrink, tells_unshrunk}
 use Rattle.elf_commands.proofs.elf.shrinking.run_shrink.Goals as goal
 
-pub returns-in_err-elf-2-clause-err : goal.returns-in_err-elf-2-clause-err
-returns-in_err-elf-2-clause-err g c =
+pub returns-in-Ok-clause-ran : goal.returns-in-Ok-clause-ran
+returns-in-Ok-clause-ran g c =
     let edit : Edit = ShrinkRunPath (map string_bytes c.args.args.now.allowed_rpath_prefixes.items) (map answer_model c.args.probe.now) in
-    let e = c.in_err-elf-2.field-0.0 in
-    let p = err_from_is_err_and c.from_residual-in_err-elf-2.result c.from_residual-in_err-elf-2.ensures.1 in
+    let At : List (String Global) → Type 0 = λ ps. Steps (ShrinkRunPath (map string_bytes ps) (map answer_model c.args.probe.now)) c.in_ok-elf.elf.inner c.shrink_image.new.elf.inner c.in-Ok.removed in
+    let steps = subst At c.as_slice.ensures.value c.in-Ok.ensures.ok in
+    IfOk-weaker c.tell_removed.result _ _ (λ answer told.
+    runs_shrink c.edits_show.ensures c.batches_are_their_edits.ensures edit c.args.bytes.now c.in_ok-elf.elf.inner _ c.in-Ok.removed answer _ _ c.in_ok-elf.ensures.reads.0 c.in_ok-elf.ensures.shows steps told)
+    c.tell_removed.ensures.told
+
+pub returns-in-Ok-clause-err : goal.returns-in-Ok-clause-err
+returns-in-Ok-clause-err g c =
+    let edit : Edit = ShrinkRunPath (map string_bytes c.args.args.now.allowed_rpath_prefixes.items) (map answer_model c.args.probe.now) in
+    let At : List (String Global) → Type 0 = λ ps. Steps (ShrinkRunPath (map string_bytes ps) (map answer_model c.args.probe.now)) c.in_ok-elf.elf.inner c.shrink_image.new.elf.inner c.in-Ok.removed in
+    let steps = subst At c.as_slice.ensures.value c.in-Ok.ensures.ok in
+    IfErr-weaker c.tell_removed.result _ _ (λ e told.
+    tells_shrink c.edits_show.ensures c.batches_are_their_edits.ensures edit c.args.bytes.now c.in_ok-elf.elf.inner _ _ _ e c.in_ok-elf.ensures.reads.0 c.in_ok-elf.ensures.shows steps.makes told)
+    c.tell_removed.ensures.err
+
+pub returns-in-Err-clause-err : goal.returns-in-Err-clause-err
+returns-in-Err-clause-err g c =
+    let edit : Edit = ShrinkRunPath (map string_bytes c.args.args.now.allowed_rpath_prefixes.items) (map answer_model c.args.probe.now) in
+    let e = c.in-Err.error in
     let At : List (String Global) → Type 0 = λ ps. Refuses e (step (ShrinkRunPath (map string_bytes ps) (map answer_model c.args.probe.now)) c.in_ok-elf.elf.inner) in
-    let refuses = subst At c.as_slice-prefixes.ensures.value c.in_err-elf-2.ensures.err in
-    rw (p.1, p.2) (quiet_shrink edit c.args.bytes.now c.args.out.now e (tells_unshrunk edit c.args.bytes.now c.in_ok-elf.elf.inner e c.in_ok-elf.ensures.reads.0 refuses))
-
-pub returns-in_err-new-clause-err : goal.returns-in_err-new-clause-err
-returns-in_err-new-clause-err g c =
-    let edit : Edit = ShrinkRunPath (map string_bytes c.args.args.now.allowed_rpath_prefixes.items) (map answer_model c.args.probe.now) in
-    let e = c.in_err-new.field-0.0 in
-    let p = err_from_is_err_and c.from_residual-in_err-new.result c.from_residual-in_err-new.ensures.1 in
-    let At : List (String Global) → Type 0 = λ ps. Steps (ShrinkRunPath (map string_bytes ps) (map answer_model c.args.probe.now)) c.in_ok-elf.elf.inner c.in_ok-elf-2.elf.inner c.in_ok-elf-2.removed in
-    let steps = subst At c.as_slice-prefixes.ensures.value c.in_ok-elf-2.ensures.ok in
-    rw (p.1, p.2) (quiet_shrink edit c.args.bytes.now c.args.out.now e
-    (tells_unmade edit c.args.bytes.now c.in_ok-elf.elf.inner c.in_ok-elf-2.elf.inner e c.in_ok-elf.ensures.reads.0 steps.makes c.in_err-new.ensures.err))
-
-pub returns-in_err-write_all-clause-err : goal.returns-in_err-write_all-clause-err
-returns-in_err-write_all-clause-err g c =
-    let edit : Edit = ShrinkRunPath (map string_bytes c.args.args.now.allowed_rpath_prefixes.items) (map answer_model c.args.probe.now) in
-    let p = err_from_is_err_and c.from_residual-in_err-write_all.result c.from_residual-in_err-write_all.ensures.1 in
-    let At : List (String Global) → Type 0 = λ ps. Steps (ShrinkRunPath (map string_bytes ps) (map answer_model c.args.probe.now)) c.in_ok-elf.elf.inner c.in_ok-elf-2.elf.inner c.in_ok-elf-2.removed in
-    let steps = subst At c.as_slice-prefixes.ensures.value c.in_ok-elf-2.ensures.ok in
-    rw (p.1, p.2) (
-      c.in_ok-new.new,
-      shrunk_bytes c.edits_show.ensures c.batches_are_their_edits.ensures edit c.args.bytes.now c.in_ok-elf.elf.inner c.in_ok-elf-2.elf.inner c.in_ok-new.new c.in_ok-elf.ensures.reads.0 c.in_ok-elf.ensures.shows steps.makes
-          c.in_ok-new.ensures.ok,
-    )
-
-pub returns-clause-ran : goal.returns-clause-ran
-returns-clause-ran g c =
-    let edit : Edit = ShrinkRunPath (map string_bytes c.args.args.now.allowed_rpath_prefixes.items) (map answer_model c.args.probe.now) in
-    let At : List (String Global) → Type 0 = λ ps. Steps (ShrinkRunPath (map string_bytes ps) (map answer_model c.args.probe.now)) c.in_ok-elf.elf.inner c.in_ok-elf-2.elf.inner c.in_ok-elf-2.removed in
-    let steps = subst At c.as_slice-prefixes.ensures.value c.in_ok-elf-2.ensures.ok in
-    let Gets : List ℕ → Type 0 = λ l. Appends (g.W.Write.contents c.args.out.now) (g.W.Write.contents c.write_all.new.self) l in (
-      shrunk_bytes c.edits_show.ensures c.batches_are_their_edits.ensures edit c.args.bytes.now c.in_ok-elf.elf.inner c.in_ok-elf-2.elf.inner c.in_ok-new.new c.in_ok-elf.ensures.reads.0 c.in_ok-elf.ensures.shows steps.makes
-          c.in_ok-new.ensures.ok,
-      (
-        string_bytes c.in_ok-text.text,
-        (
-          c.in_ok-elf.elf.inner,
-          c.in_ok-elf.ensures.reads.0,
-          c.in_ok-text.ensures ∙ ap (λ l. removal_lines (map removal_model l)) c.as_slice.ensures.value ∙ ap removal_lines steps.are,
-        ),
-        subst Gets c.as_bytes.ensures.value c.in_ok-write_all.ensures.bytes,
-      ),
-    )
+    let refuses = subst At c.as_slice.ensures.value c.in-Err.ensures.err in
+    rw c.from.ensures (quiet_shrink edit c.args.bytes.now c.args.out.now e (tells_unshrunk edit c.args.bytes.now c.in_ok-elf.elf.inner e c.in_ok-elf.ensures.reads.0 refuses))

@@ -12,7 +12,7 @@ use Rattle.elf_image_rules.specs.Read.{parts_model}
 use Rattle.elf_format.specs.declared.records.EntryNumbers.{EntryNumbers}
 use Rattle.elf_format.specs.declared.records.SectionHeader.{SectionHeader}
 use Rattle.elf_format.specs.Rules.{file_of}
-use Rattle.elf_image_versions.proofs.KeptSteps.{none_found}
+use Rattle.elf_image_versions.proofs.ForCallers.KeptSteps.{none_found}
 use Rattle.elf_image.proofs.TextSteps.{entries_fail, entries_none, entries_some}
 use Rattle.elf_image.proofs.read.texts.entries.entries.Goals as goal
 

@@ -8,8 +8,8 @@ use Rattle.elf_format.specs.Dynamic.{Entry, shown_entry}
 use Rattle.elf_format.specs.declared.records.EntryNumbers.{EntryNumbers}
 use Rattle.elf_image.specs.ImageModel.{entry_model}
 use Rattle.elf_format.specs.Seen.{shown_entry_model}
-use Rattle.elf_format.proofs.ReadingSteps.{no_entry}
-use Rattle.elf_format.proofs.ReadingSteps.{each_done, each_ends, each_goes}
+use Rattle.elf_format.proofs.ForCallers.ReadingSteps.{no_entry}
+use Rattle.elf_format.proofs.ForCallers.ReadingSteps.{each_done, each_ends, each_goes}
 use Rattle.elf_image.proofs.read.texts.entries.kept_entries.Goals as goal
 
 pub returns-in_err-one : goal.returns-in_err-one

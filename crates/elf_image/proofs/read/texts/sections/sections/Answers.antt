@@ -15,7 +15,7 @@ use Rattle.elf_image_rules.specs.Read.{parts_model}
 use Rattle.elf_format.specs.declared.records.SectionHeader.{SectionHeader}
 use Rattle.elf_format.specs.Rules.{data_of, file_of, texts_of}
 use Rattle.elf_image.specs.TextSteps.{named_section}
-use Rattle.elf_format.proofs.ReadingSteps.{each_done, each_ends, each_goes}
+use Rattle.elf_format.proofs.ForCallers.ReadingSteps.{each_done, each_ends, each_goes}
 use Rattle.elf_image.proofs.TextSteps.{no_section, section_named}
 use Rattle.elf_image.proofs.read.texts.sections.sections.Goals as goal
 

@@ -4,7 +4,7 @@ use Rattle.std.proofs.lemmas.List.{map_more, take_all}
 use Rattle.std.specs.declared.alloc.Global.{Global}
 use Rattle.std.specs.declared.vec.Vec.{Vec}
 use Rattle.elf_image.specs.Image.{Image}
-use Rattle.elf_edits.specs.declared.call.ElfEdit.{ElfEdit}
+use Rattle.elf_edits.specs.declared.edit.ElfEdit.{ElfEdit}
 use Rattle.elf_edits.specs.Batch.{run}
 use Rattle.elf_edits.specs.Edit.{Edit}
 use Rattle.elf_apply.specs.declared.batch.ElfBatchError.{ElfBatchError}

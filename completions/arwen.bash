@@ -1,0 +1,26 @@
+# bash completion for arwen
+_arwen() {
+    local word="${COMP_WORDS[COMP_CWORD]}" words=""
+    if [ "$COMP_CWORD" -eq 1 ]; then
+        COMPREPLY=($(compgen -W "macho elf help --version" -- "$word"))
+        return
+    fi
+    if [ "$COMP_CWORD" -eq 2 ]; then
+        case "${COMP_WORDS[1]}" in
+        macho) words="delete-rpath change-rpath add-rpath change-install-name change-install-id apply help" ;;
+        elf) words="add-debug-tag clear-exec-stack force-rpath no-default-lib remove-rpath set-exec-stack add-rpath set-rpath set-interpreter set-os-abi set-soname set-page-size add-needed remove-needed replace-needed apply shrink-rpath print-rpath print-needed print-soname print-interpreter print-os-abi print-exec-stack help" ;;
+        help) words="macho elf" ;;
+        esac
+        COMPREPLY=($(compgen -W "$words" -- "$word"))
+        return
+    fi
+    if [ "${word:0:1}" = - ]; then
+        case "${COMP_WORDS[1]} ${COMP_WORDS[2]}" in
+        'elf shrink-rpath') words="--allowed-rpath-prefixes" ;;
+        esac
+        COMPREPLY=($(compgen -W "$words --help" -- "$word"))
+        return
+    fi
+    COMPREPLY=($(compgen -f -- "$word"))
+}
+complete -o filenames -F _arwen arwen

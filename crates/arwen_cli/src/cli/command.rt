@@ -1,0 +1,12 @@
+//! What a line asks for.
+use elf_commands::ElfCommand;
+use macho_commands::MachoCommand;
+
+/// What is asked for.
+#[derive(Debug, Drop)]
+pub enum Command {
+    /// Something of a Mach-O file.
+    Macho(MachoCommand),
+    /// Something of an ELF file.
+    Elf(ElfCommand),
+}

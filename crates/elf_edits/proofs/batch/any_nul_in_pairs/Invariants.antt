@@ -1,9 +1,0 @@
-use Rattle.std.proofs.Common.{◌≡◌, ◌∷◌, [], drop}
-use Rattle.std.specs.List.{flat_map, list_any}
-use Rattle.elf_edits.specs.Called.{pairs_model}
-use Rattle.elf_edits.specs.Texts.{holds_nul}
-use Rattle.elf_edits.proofs.batch.any_nul_in_pairs.Given as goal
-
--- none so far does
-abbrev pub invariant-loop-old : goal.invariant-loop-old
-invariant-loop-old l = list_any holds_nul (flat_map (λ pair. pair.0 ∷ pair.1 ∷ []) (pairs_model l.pairs)) ≡ list_any holds_nul (flat_map (λ pair. pair.0 ∷ pair.1 ∷ []) (pairs_model (drop l.old-index l.pairs)))

@@ -1,8 +1,0 @@
-use Rattle.std.proofs.Common.{◌≡◌, ◌++◌, ◌∷◌, [], map, take}
-use Rattle.std.specs.List.{flat_map}
-use Rattle.elf_edits.specs.ShrunkModel.{pair_lent}
-use Rattle.elf_edits.proofs.shrinking.put_pairs.Given as goal
-
--- a pair for each library so far
-abbrev pub invariant-loop-name : goal.invariant-loop-name
-invariant-loop-name l = map pair_lent l.made.items ≡ map pair_lent l.initial.made.items ++ flat_map (λ name. (l.directory, name) ∷ []) (map (λ x. x.now) (take l.name-index l.needed))

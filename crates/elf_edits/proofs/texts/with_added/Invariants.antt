@@ -1,8 +1,0 @@
-use Rattle.std.proofs.Common.{◌≡◌, drop}
-use Rattle.elf_edits.specs.Called.{texts_model}
-use Rattle.elf_edits.specs.Entries.{with_each_added}
-use Rattle.elf_edits.proofs.texts.with_added.Given as goal
-
--- what is made so far, with the texts that are left, makes the whole
-abbrev pub invariant-loop-added : goal.invariant-loop-added
-invariant-loop-added l = with_each_added (texts_model (drop l.added-index l.texts)) l.made.items ≡ with_each_added (texts_model l.texts) l.fn.text

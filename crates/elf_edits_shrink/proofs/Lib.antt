@@ -1,0 +1,4 @@
+pub mod Computing
+pub mod AnswerSteps
+pub mod ShrinkSteps
+pub mod TellLaws

@@ -1,0 +1,19 @@
+//! Directories that go from run paths.
+
+/// Why a directory goes from a run path.
+#[derive(Clone, Copy, Debug, PartialEq, Eq)]
+pub enum Reason {
+    /// Prefixes were given, and none begins it.
+    Prefix,
+    /// No needed library was found in it for the image's machine.
+    NoLibrary,
+}
+
+/// A directory that went from a run path.
+#[derive(Debug, Drop)]
+pub struct Removed {
+    /// The directory, as the run path had it.
+    pub directory: Vec<u8>,
+    /// Why it went.
+    pub reason: Reason,
+}

@@ -1,0 +1,39 @@
+-- For callers: what the crates above may cite. These are laws of the words of specs/; no other module of
+-- this crate's proofs is meant for them.
+
+-- in each plan of an edited image headers, tables and sections share no byte of the file; what isn't loaded and has bytes stands behind all segments
+pub use Rattle.elf_write_spec.proofs.ApartInFile
+-- the bytes of data stand in a written file as they stood in the file that was read
+pub use Rattle.elf_write_spec.proofs.BaseBytes
+-- data, hash tables and all other bytes that stay are seen at their addresses in a written file
+pub use Rattle.elf_write_spec.proofs.DataSeen
+-- a written file has the parts that were written
+pub use Rattle.elf_write_spec.proofs.FileParts
+-- the section header table of a file: where each header's bytes stand, and that all of them lie in the file
+pub use Rattle.elf_write_spec.proofs.HeaderTables
+-- the sections that are there in an image of which none went: each has its position for its number
+pub use Rattle.elf_write_spec.proofs.NumberedSections
+-- patches that share no byte, laid over bytes: each stands in them whole, and all other bytes stay
+pub use Rattle.elf_write_spec.proofs.Laying
+-- what the bytes of a written section are, where it isn't the interpreter's
+pub use Rattle.elf_write_spec.proofs.LinkedContents
+-- lists of which each element matches the one at its position in another list, and how many elements pass a test
+pub use Rattle.elf_write_spec.proofs.LinkedLists
+-- the relocations of a written file name symbols of their table, which has as many as it had
+pub use Rattle.elf_write_spec.proofs.LinkedRelocations
+-- the patches of a written file: they share no byte, lie in the file, and each stands in it
+pub use Rattle.elf_write_spec.proofs.Patches
+-- a written file is accepted, and reading it gives the image in its final form, which is shown both ways
+pub use Rattle.elf_write_spec.proofs.ReadAgain
+-- an edited image whose dynamic symbols are those that were read: its names, its needed versions and its dynamic list stay
+pub use Rattle.elf_write_spec.proofs.SameLists
+-- texts in tables, memories of whole lists, and lists of values that are there one by one
+pub use Rattle.elf_write_spec.proofs.TextsRead
+-- what is known of what is written: the parts that were read, and how they match, section by section, what is written
+pub use Rattle.elf_write_spec.proofs.WholeFacts
+-- lists: elements at positions, the first one that passes a test, and the numbers of sections
+pub use Rattle.elf_write_spec.proofs.WholeLists
+-- string tables but that of the dynamic list keep their texts
+pub use Rattle.elf_write_spec.proofs.TextsStay
+-- what a section's bytes are, by its type
+pub use Rattle.elf_write_spec.proofs.SectionKinds

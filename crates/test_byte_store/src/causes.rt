@@ -1,0 +1,71 @@
+//! Stores that can't fail: what calls of them can't answer.
+ghost use Rattle.std.specs.Prelude.{◌≡◌, ◌≤◌, true, length};
+
+use crate::support::{copied, same, same_bytes};
+use byte_store::{
+    MemoryFile, MemoryStore, Opens, Piece, ReadError, Store, load_whole, write_pieces,
+};
+use std::alloc::{AllocError, Global};
+use std::io::ErrorKind;
+
+// The bytes of a store in memory. No read of it fails, so what is short enough is read where there is memory.
+fn loaded(alloc: Global, store: &mut MemoryStore) -> Result<Vec<u8>, AllocError>
+    requires { length store.old.bytes.items ≤ 9 }
+    ensures { length store.new.bytes.items ≡ length store.old.bytes.items }
+{
+    match load_whole(alloc, store, 9) {
+        Ok(bytes) => Ok(bytes),
+        Err(ReadError::Memory) => Err(AllocError),
+        Err(ReadError::Io(_)) => unreachable!(),
+    }
+}
+
+// The store of the one file in memory, which is opened at its path where there is memory.
+fn opened<'a>(file: &MemoryFile<'a>) -> Result<MemoryStore, AllocError> {
+    match file.open(file.path) {
+        Ok(store) => Ok(store),
+        Err(error) if error.kind() == ErrorKind::OutOfMemory => Err(AllocError),
+        Err(_) => unreachable!(),
+    }
+}
+
+#[test]
+fn store_that_is_read(rt: HostRuntime) {
+    let file = MemoryFile {
+        alloc: rt.alloc(),
+        path: "a/b",
+        bytes: b"abcdef",
+    };
+    let mut store = again!(&rt; opened(&file)).expect(&rt, "memory");
+    if store.bytes.len() <= 9 {
+        let bytes = again!(&rt; loaded(rt.alloc(), &mut store)).expect(&rt, "memory");
+        same_bytes(&rt, "bytes", &bytes, b"abcdef");
+    }
+}
+
+// Whether a piece was laid over a store in memory. Where it wasn't, a failure was counted.
+fn is_laid(store: &mut MemoryStore) -> bool
+    requires open { store.old.is_open ≡ true }
+    requires length { length store.old.bytes.items ≡ 6 }
+    requires fresh { store.old.failures.count ≡ 0 }
+{
+    let pieces = [Piece {
+        offset: 2,
+        bytes: b"XYZ",
+    }];
+    match write_pieces(store, 6, &pieces) {
+        Ok(()) => true,
+        Err(_) if store.failures() == 0 => unreachable!(),
+        Err(_) => false,
+    }
+}
+
+#[test]
+fn store_that_is_written(rt: HostRuntime) {
+    let mut store = MemoryStore::new(copied(&rt, b"abcdef"));
+    store.is_open = true;
+    if store.bytes.len() == 6 {
+        same(&rt, "laid", &is_laid(&mut store), &true);
+        same_bytes(&rt, "bytes", &store.bytes, b"abXYZf");
+    }
+}

@@ -1,0 +1,87 @@
+//! Edits of a file, each by its own call.
+use arwen_cli::elf::{ElfContainer, ElfEdit, ElfError};
+use std::alloc::{AllocError, Global};
+use std::collections::HashMap;
+
+/// Does an edit by its own call.
+pub(crate) fn call(
+    alloc: Global,
+    file: &mut ElfContainer<'_>,
+    edit: &ElfEdit,
+) -> Result<(), ElfError> {
+    match edit {
+        ElfEdit::ForceRpath => file.force_rpath(),
+        ElfEdit::RemoveRpath => file.remove_runpath(),
+        ElfEdit::SetPageSize(size) => file.set_page_size(*size),
+        ElfEdit::AddRpath(texts) => add_runpaths(alloc, file, texts.as_slice()),
+        ElfEdit::SetRpath(text) => file.set_runpath(alloc, text.as_slice()),
+        ElfEdit::SetSoname(text) => file.set_soname(alloc, text.as_slice()),
+        ElfEdit::SetInterpreter(text) => file.set_interpreter(alloc, text.as_slice()),
+        ElfEdit::SetOsAbi(name) => file.set_os_abi(alloc, name.as_str()),
+        other => call_otherwise(alloc, file, other),
+    }
+}
+
+/// Adds directories to the run path by the call for one, or by that for several.
+fn add_runpaths(
+    alloc: Global,
+    file: &mut ElfContainer<'_>,
+    texts: &[Vec<u8>],
+) -> Result<(), ElfError> {
+    match texts {
+        [text] => file.add_runpath(alloc, text.as_slice()),
+        texts => file.inner.elf_add_runpath(alloc, texts),
+    }
+}
+
+/// Does one of the other edits by its own call.
+fn call_otherwise(
+    alloc: Global,
+    file: &mut ElfContainer<'_>,
+    edit: &ElfEdit,
+) -> Result<(), ElfError> {
+    match edit {
+        ElfEdit::AddDebugTag => file.add_debug_tag(alloc),
+        ElfEdit::NoDefaultLib => file.no_default_lib(alloc),
+        ElfEdit::ClearExecStack => file.clear_exec_stack(alloc),
+        ElfEdit::SetExecStack => file.set_exec_stack(alloc),
+        ElfEdit::AddNeeded(names) => file.add_needed(alloc, names.as_slice()),
+        ElfEdit::RemoveNeeded(names) => file.remove_needed(alloc, names.as_slice()),
+        ElfEdit::ReplaceNeeded(pairs) => replace_needed(alloc, file, pairs.as_slice()),
+        _ => Ok(()),
+    }
+}
+
+/// Replaces needed libraries by pairs of an old and a new name.
+fn replace_needed(
+    alloc: Global,
+    file: &mut ElfContainer<'_>,
+    pairs: &[(Vec<u8>, Vec<u8>)],
+) -> Result<(), ElfError> {
+    let names = map_of(alloc, pairs)?;
+    file.replace_needed(alloc, &names)
+}
+
+/// The map of pairs.
+fn map_of(
+    alloc: Global,
+    pairs: &[(Vec<u8>, Vec<u8>)],
+) -> Result<HashMap<Vec<u8>, Vec<u8>>, AllocError> {
+    let mut names = HashMap::new(alloc);
+    for (old, new) in pairs {
+        put_pair(alloc, old.as_slice(), new.as_slice(), &mut names)?;
+    }
+    Ok(names)
+}
+
+/// Puts a copy of a pair into a map.
+fn put_pair(
+    alloc: Global,
+    old: &[u8],
+    new: &[u8],
+    names: &mut HashMap<Vec<u8>, Vec<u8>>,
+) -> Result<(), AllocError> {
+    let key = Vec::from_slice(alloc, old)?;
+    names.insert(key, Vec::from_slice(alloc, new)?)?;
+    Ok(())
+}

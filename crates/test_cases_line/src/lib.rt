@@ -1,0 +1,54 @@
+//! The command line, on lines of cases.
+//!
+//! - `= NAME` makes the file `file` a copy of the file NAME, and `= none` takes it away.
+//! - `> WORD WORD ..` does what these words of a command line ask. Printed are its own prints, the status, the
+//!   first line of the fault, the length of `file`, and each row of 16 bytes in which it changed.
+//! - `m WORD WORD ..` does the same, a command for ELF files by the function of its own module.
+//! - `? WORD WORD ..` only reads the words, and prints the command that they mean, or the status and the fault.
+//! - `h WORD WORD ..` only reads the words too, and prints all of the text that they are answered with.
+//! - `! WORD WORD ..` does it to the bytes of `file` alone. Printed are the rows that an edit would change, or that an
+//!   edit of an ELF file makes no new bytes, or what stands on a page of 8 bytes after a print.
+//! - `p WORD WORD ..` does the same by a command for ELF files. Printed is first the text that the command prints, and
+//!   then the status and what an edit changes. For no library a directory was found.
+//! - `* RPATH ID` gives the library `file` a run path and an id, by calls of the library alone. Printed is what is
+//!   printed of words.
+//!
+//! Blanks stand between words, and `''` is the empty word. Nothing comes of other lines.
+#![tactic(auto)]
+
+mod bytes;
+mod changes;
+mod faults;
+mod library;
+mod modules;
+mod reading;
+mod runs;
+
+use std::io;
+use std::rt::Files;
+use test_cases_files::words::split_kind;
+
+/// Runs lines, and prints each with what comes of it.
+pub fn run<R: Files + Print + Eprint + AllocGlobal>(rt: &R, lines: &str) -> io::Result<()> {
+    for line in lines.lines() {
+        println!(rt; "{line}")?;
+        step(rt, line)?;
+    }
+    Ok(())
+}
+
+/// Prints what comes of a line.
+fn step<R: Files + Print + Eprint + AllocGlobal>(rt: &R, line: &str) -> io::Result<()> {
+    let (kind, words) = split_kind(line);
+    match kind {
+        "=" => runs::copy(rt, words),
+        ">" => runs::run(rt, words, runs::Way::Line),
+        "m" => runs::run(rt, words, runs::Way::Module),
+        "*" => runs::run(rt, words, runs::Way::Library),
+        "?" => reading::show(rt, words),
+        "h" => reading::show_text(rt, words),
+        "!" => bytes::run(rt, words, false),
+        "p" => bytes::run(rt, words, true),
+        _ => Ok(()),
+    }
+}

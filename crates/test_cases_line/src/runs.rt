@@ -1,0 +1,144 @@
+//! Lines that are run on a file.
+use crate::changes::print_changes;
+use crate::faults::tell_answer;
+use crate::reading::{command_of, words_of};
+use crate::{library, modules};
+use arwen_cli::cli::{ArwenError, execute};
+use std::rt::Files;
+use std::{fs, io};
+
+/// The file that lines are run on.
+const FILE: &str = "file";
+
+/// What does a line.
+#[derive(Clone, Copy)]
+pub(crate) enum Way {
+    /// The command line.
+    Line,
+    /// The function of the command's own module.
+    Module,
+    /// Calls of the library.
+    Library,
+}
+
+/// The bytes of a file, or `None` where there is no such file. Read again where memory was refused.
+fn content<R: Files + AllocGlobal>(rt: &R, path: &str) -> io::Result<Option<Vec<u8>>> {
+    match fs::read(rt, path) {
+        Ok(bytes) => Ok(Some(bytes)),
+        Err(error) if error.kind() == io::ErrorKind::NotFound => Ok(None),
+        Err(_) => fs::read(rt, path).map(Some),
+    }
+}
+
+/// The bytes of the file, none where there is no file.
+pub(crate) fn file_bytes<R: Files + AllocGlobal>(rt: &R) -> io::Result<Vec<u8>> {
+    Ok(content(rt, FILE)?.unwrap_or(Vec::new(rt.alloc())))
+}
+
+/// Makes the file a copy of another, or takes it away where there is no other.
+pub(crate) fn copy<R: Files + AllocGlobal>(rt: &R, name: &str) -> io::Result<()> {
+    match content(rt, name)? {
+        Some(bytes) => fs::write(rt, FILE, bytes.as_slice()),
+        None => remove(rt),
+    }
+}
+
+/// Takes the file away, where there is one.
+fn remove<R: Files + AllocGlobal>(rt: &R) -> io::Result<()> {
+    match fs::remove_file(rt, FILE) {
+        Err(error) if error.kind() == io::ErrorKind::NotFound => Ok(()),
+        answer => answer,
+    }
+}
+
+/// Does what the words of a line ask, and prints what came of it and of the file.
+pub(crate) fn run<R: Files + Print + Eprint + AllocGlobal>(
+    rt: &R,
+    line: &str,
+    way: Way,
+) -> io::Result<()> {
+    let before = content(rt, FILE)?;
+    run_from(rt, line, way, &before)
+}
+
+/// Does it, where the file was read before.
+fn run_from<R: Files + Print + Eprint + AllocGlobal>(
+    rt: &R,
+    line: &str,
+    way: Way,
+    before: &Option<Vec<u8>>,
+) -> io::Result<()> {
+    let answer = line_answer(rt, line, way, before);
+    tell_answer(rt, &answer)?;
+    print_file(rt, before)
+}
+
+/// Prints what became of the file.
+fn print_file<R: Files + Print + AllocGlobal>(rt: &R, before: &Option<Vec<u8>>) -> io::Result<()> {
+    let after = content(rt, FILE)?;
+    print_changes(rt, before, &after)
+}
+
+/// Does what the words of a line ask.
+fn line_answer<R: Files + Print + Eprint + AllocGlobal>(
+    rt: &R,
+    line: &str,
+    way: Way,
+    before: &Option<Vec<u8>>,
+) -> Result<(), ArwenError> {
+    let words = words_of(rt, line)?;
+    answer(rt, words.as_slice(), way, before)
+}
+
+/// Does what words ask, once more where memory was refused.
+fn answer<R: Files + Print + Eprint + AllocGlobal>(
+    rt: &R,
+    words: &[&str],
+    way: Way,
+    before: &Option<Vec<u8>>,
+) -> Result<(), ArwenError> {
+    match execute_in_way(rt, words, way) {
+        Err(ArwenError::Memory) => answer_again(rt, words, way, before),
+        answer => answer,
+    }
+}
+
+/// Does it once more; the file has to be as it was.
+fn answer_again<R: Files + Print + Eprint + AllocGlobal>(
+    rt: &R,
+    words: &[&str],
+    way: Way,
+    before: &Option<Vec<u8>>,
+) -> Result<(), ArwenError> {
+    check_file(rt, before)?;
+    execute_in_way(rt, words, way)
+}
+
+/// Says so where a command that was refused memory did not leave the file as it was.
+fn check_file<R: Files + Print + AllocGlobal>(rt: &R, before: &Option<Vec<u8>>) -> io::Result<()> {
+    if content(rt, FILE)? == *before {
+        return Ok(());
+    }
+    println!(rt; "refused memory, and changed the file")
+}
+
+/// Does what words ask.
+fn execute_in_way<R: Files + Print + Eprint + AllocGlobal>(
+    rt: &R,
+    words: &[&str],
+    way: Way,
+) -> Result<(), ArwenError> {
+    match way {
+        Way::Line => execute(rt, words),
+        Way::Module => execute_by_module(rt, words),
+        Way::Library => library::relocate(rt, FILE, words),
+    }
+}
+
+/// Does it by the module of its command.
+fn execute_by_module<R: Files + Print + Eprint + AllocGlobal>(
+    rt: &R,
+    words: &[&str],
+) -> Result<(), ArwenError> {
+    modules::execute(rt, command_of(rt, words)?)
+}
