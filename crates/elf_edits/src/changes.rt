@@ -6,7 +6,7 @@ ghost use Rattle.elf_image.specs.ImageModel.{entry_model};
 ghost use Rattle.elf_edits.specs.Changes.{change_model, gets_name, needs_one_of as needs_any, test_model};
 
 use crate::entries::{
-    has_tag, is_run_path, text_entry, with_bits, with_directories, with_new_name, with_tag,
+    is_run_path, text_entry, with_bits, with_directories, with_new_name, with_tag,
 };
 use elf_image::Dynamic;
 use elf_image::constants::DT_NEEDED;
@@ -33,7 +33,7 @@ impl EntryTest<'_, '_> {
     {
         match self {
             EntryTest::RunPath => is_run_path(entry),
-            EntryTest::Tag(tag) => has_tag(entry, *tag),
+            EntryTest::Tag(tag) => entry.has_tag(*tag),
             EntryTest::Needs(names) => needs_one_of(entry, names),
             EntryTest::Renamed(names) => has_new_name(entry, names),
         }

@@ -5,7 +5,7 @@ ghost use Rattle.elf_image.specs.Dynamic.{Text as text_of_tag};
 ghost use Rattle.elf_image.specs.ImageModel.{entry_model};
 ghost use Rattle.elf_edits.specs.Changes.{name_for};
 ghost use Rattle.elf_edits.specs.EditModel.{texts_model};
-ghost use Rattle.elf_edits.specs.Entries.{first_needed, has_tag as has_that_tag, is_run_path as has_run_path, with_bits as with_those_bits, with_each_added, with_tag as with_that_tag, with_text_changed};
+ghost use Rattle.elf_edits.specs.Entries.{first_needed, is_run_path as has_run_path, with_bits as with_those_bits, with_each_added, with_tag as with_that_tag, with_text_changed};
 
 use crate::texts::with_each_directory;
 use elf_image::Dynamic;
@@ -14,22 +14,11 @@ use patch_bytes::ByteString;
 use std::alloc::{AllocError, Global};
 use std::collections::HashMap;
 
-/// Whether the entry has this tag. Takes no memory.
-pub fn has_tag(entry: &Dynamic<'_>, tag: u64) -> bool
-    ensures { result ≡ has_that_tag tag (entry_model entry.now) }
-{
-    match entry {
-        Dynamic::Auto { tag: own } => *own == tag,
-        Dynamic::Integer { tag: own, .. } => *own == tag,
-        Dynamic::Text { tag: own, .. } => *own == tag,
-    }
-}
-
 /// Whether the entry has a run path: DT_RPATH or DT_RUNPATH. Takes no memory.
 pub fn is_run_path(entry: &Dynamic<'_>) -> bool
     ensures { result ≡ has_run_path (entry_model entry.now) }
 {
-    has_tag(entry, DT_RPATH) || has_tag(entry, DT_RUNPATH)
+    entry.has_tag(DT_RPATH) || entry.has_tag(DT_RUNPATH)
 }
 
 /// The name of the library that an entry needs (DT_NEEDED), `None` where it needs none. Takes no memory.
@@ -39,23 +28,6 @@ pub fn needed_name<'e>(entry: &'e Dynamic<'_>) -> Option<&'e [u8]>
     match entry {
         Dynamic::Text { tag, val } if *tag == DT_NEEDED => Some(val.as_slice()),
         _ => None,
-    }
-}
-
-/// A copy of an entry: a text that is lent stays lent, one that is owned is copied. Error: `AllocError`.
-pub fn copy_entry<'d>(alloc: Global, entry: &Dynamic<'d>) -> Result<Dynamic<'d>, AllocError>
-    ensures { IfOk result (λ copy. entry_model copy ≡ entry_model entry.now) }
-{
-    match entry {
-        Dynamic::Auto { tag } => Ok(Dynamic::Auto { tag: *tag }),
-        Dynamic::Integer { tag, val } => Ok(Dynamic::Integer {
-            tag: *tag,
-            val: *val,
-        }),
-        Dynamic::Text { tag, val } => {
-            let val = val.try_clone(alloc)?;
-            Ok(Dynamic::Text { tag: *tag, val })
-        }
     }
 }
 
@@ -103,7 +75,7 @@ pub(crate) fn with_bits<'d>(
             tag: *tag,
             val: *val | bits,
         }),
-        other => copy_entry(alloc, other),
+        other => other.try_clone(alloc),
     }
 }
 
@@ -122,7 +94,7 @@ pub(crate) fn with_directories<'d>(
             let val = ByteString::owned(with_each_directory(alloc, val.as_slice(), directories)?);
             Ok(Dynamic::Text { tag: *tag, val })
         }
-        other => copy_entry(alloc, other),
+        other => other.try_clone(alloc),
     }
 }
 
@@ -156,6 +128,6 @@ pub(crate) fn with_new_name<'d>(
             let val = new_name(alloc, names, val)?;
             Ok(Dynamic::Text { tag: *tag, val })
         }
-        other => copy_entry(alloc, other),
+        other => other.try_clone(alloc),
     }
 }

@@ -13,7 +13,7 @@ ghost use Rattle.elf_edits.specs.Texts.{has_some, joined_by_colons};
 use crate::changes::{EntryChange, EntryTest};
 use crate::constants::DF_1_NODEFLIB;
 use crate::edit::ElfEdit;
-use crate::entries::{copy_entry, text_entry};
+use crate::entries::text_entry;
 use crate::lookups::{map_of, needed_set, set_of};
 use crate::texts::join;
 use elf_image::Dynamic;
@@ -55,7 +55,7 @@ fn put_copies<'d>(
         ≡ map entry_model made.old.items ++ map entry_model entries.now) }
 {
     for entry in entries {
-        made.push(copy_entry(alloc, entry)?)?;
+        made.push(entry.try_clone(alloc)?)?;
     }
     Ok(())
 }
@@ -118,7 +118,7 @@ fn change_entry<'d>(
     if test.holds(entry) {
         change.apply(alloc, entry)
     } else {
-        copy_entry(alloc, entry)
+        entry.try_clone(alloc)
     }
 }
 
@@ -172,7 +172,7 @@ fn entries_without<'d>(
     let mut made = Vec::new(alloc);
     for entry in entries {
         if !test.holds(entry) {
-            made.push(copy_entry(alloc, entry)?)?;
+            made.push(entry.try_clone(alloc)?)?;
         }
     }
     Ok(made)

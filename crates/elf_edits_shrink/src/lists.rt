@@ -11,7 +11,7 @@ use crate::probe::ProbeAnswer;
 use crate::questions::needed_names;
 use crate::removal::Removed;
 use crate::search::{Search, answers_by_pair, directories};
-use elf_edits::entries::{copy_entry, is_run_path};
+use elf_edits::entries::is_run_path;
 use elf_image::Dynamic;
 use patch_bytes::ByteString;
 use std::alloc::{AllocError, Global};
@@ -35,7 +35,7 @@ fn shrink_text<'d>(
             let val = ByteString::owned(s.shrink_parts(alloc, parts.as_slice(), removed)?);
             Ok(Dynamic::Text { tag: *tag, val })
         }
-        other => copy_entry(alloc, other),
+        other => other.try_clone(alloc),
     }
 }
 
@@ -57,7 +57,7 @@ fn shrink_entry<'d>(
     if is_run_path(entry) {
         shrink_text(alloc, s, entry, removed)
     } else {
-        copy_entry(alloc, entry)
+        entry.try_clone(alloc)
     }
 }
 

@@ -5,11 +5,10 @@ use Rattle.std.specs.List.{list_all}
 use Rattle.std.proofs.lemmas.List.{append-nil}
 use Rattle.std.proofs.lemmas.Option.{cond_some, none-some}
 use Rattle.std.proofs.lemmas.Bool.{cases_eq, eq-eqb, eqb-false, eqb-true, ne_eqb}
-use Rattle.patch_bytes.specs.Memory.{◌>>=◌, Memory, bytes_at, memory_of}
+use Rattle.patch_bytes.specs.Memory.{◌>>=◌, Memory, bytes_at}
 use Rattle.elf_format.specs.declared.view_fault.ViewFault.{ViewFault}
 use Rattle.elf_format.specs.declared.view_fault.ViewFault.TheVariants as faults
 use Rattle.elf_format.specs.Form.{Form, fixed_field}
-use Rattle.elf_format.proofs.TableSteps.{bytes_at-past}
 use Rattle.elf_format.specs.Answers.{Fails, chain, whole_step}
 use Rattle.elf_format.specs.Versions.{DefinitionNumbers, NeedNameNumbers, NeedNumbers, Step, definition_at, definition_name_at, need_at, need_name_at, is_whole_walk, values_of, walked}
 use Rattle.elf_format.specs.Views.{whole_chain}
@@ -168,18 +167,6 @@ next_of count i next place p (inr h) = inr h
 
 pub more_left : (count i : ℕ) → i < count → eqb (i + 1) count ≡ false → count - (i + 1) ≡ 0 → ⊥
 more_left count i less e z = eqb-false (i + 1) count e (omega arith)
-
--- records past the end of a list aren't there
-pub definition_name-past : (form : Form) (xs : List ℕ) (a : ℕ) → length xs < a → whole_step (definition_name_at form (memory_of xs) a) ≡ None
-unfolding definition_name_at
-definition_name-past form xs a past =
-    ap (λ o. whole_step (o >>= (λ b. Some (record { value = fixed_field form (0, 4) b; is_whole = true; next = fixed_field form (4, 4) b })))) (bytes_at-past 8 a xs (omega arith) (omega arith))
-
-pub need_name-past : (form : Form) (xs : List ℕ) (a : ℕ) → length xs < a → whole_step (need_name_at form (memory_of xs) a) ≡ None
-unfolding need_name_at
-need_name-past form xs a past =
-    ap (λ o. whole_step (o >>= (λ b. Some (record { value = record { index = fixed_field form (6, 2) b; name = fixed_field form (8, 4) b; flags = fixed_field form (4, 2) b }; is_whole = true; next = fixed_field form (12, 4) b }))))
-    (bytes_at-past 16 a xs (omega arith) (omega arith))
 
 -- a walk whose chain is there is whole, and has its values
 walk_is : {A : Type 0} → (read : ℕ → Option (Step A)) (n a : ℕ) (xs : List A) → chain read n a ≡ Some xs → (is_whole_walk n (walked read n a) ≡ true) × (values_of (walked read n a) ≡ xs)

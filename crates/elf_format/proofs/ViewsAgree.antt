@@ -468,8 +468,8 @@ module _ (p : Parts) (rules : MeetsRules p) (list : SectionHeader) (is_list : se
       )
 
   -- a loader finds no symbols of another size
-  symbols_sized : is_none_or (λ size. eqb size (symbol_size p.opened.form)) (value_of_tag DT_SYMENT (raw_entries p)) ≡ true
-  symbols_sized =
+  symbol_sizes : is_none_or (λ size. eqb size (symbol_size p.opened.form)) (value_of_tag DT_SYMENT (raw_entries p)) ≡ true
+  symbol_sizes =
       let section : Option SectionHeader = section_of_type SHT_DYNSYM p.sections in
       test_alone (λ v. eqb v (symbol_size p.opened.form)) section (value_of_tag DT_SYMENT (raw_entries p)) (and_parts (tag_is_address (raw_entries p) DT_SYMTAB section) _ symbols_right).1
 
@@ -565,7 +565,7 @@ rests_agree p rules room le outline (Some list) e =
       some_bind (entries_at (length file) form (memory_of (section_bytes file list)) 0) (λ es. view_of form (length file) outline es (tables_by_sections form file p.sections list)) raw by_section ∙ left,
       ap (loader_rest p room count outline) segment_there
           ∙ some_bind (entries_at room form (from (byte_at p.segments file) segment.p_vaddr) 0) (λ es. cond (sized es) (loaded es) None) raw by_address
-          ∙ cond-true (sized raw) (loaded raw) None (symbols_sized p rules list e) ∙ right,
+          ∙ cond-true (sized raw) (loaded raw) None (symbol_sizes p rules list e) ∙ right,
     )
 
 -- the section view of parts

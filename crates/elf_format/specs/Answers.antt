@@ -1,5 +1,5 @@
 -- What readers of records answer: what the definitions say, seen through the types of the readers.
-use Rattle.std.specs.Prelude.{ℕ, zero, suc, ◌≡◌, ◌+◌, ◌<◌, ◌⊎◌, ◌||◌, ◌==◌, if◌then◌else◌, not, Bool, true, false, List, [], ◌∷◌, length, Option, Some, None, Result, Ok, Err}
+use Rattle.std.specs.Prelude.{ℕ, zero, suc, ◌≡◌, ◌+◌, ◌||◌, ◌==◌, if◌then◌else◌, not, true, List, [], ◌∷◌, Option, Some, None, Result, Ok, Err}
 use Rattle.std.specs.Borrow.{Bor}
 use Rattle.patch_bytes.specs.Memory.{◌>>=◌}
 use Rattle.elf_format.specs.Versions.{Step}
@@ -32,13 +32,3 @@ chain read (suc n) a = whole_step (read a) >>= (λ s. elim (n == 0 || not (s.nex
 -- a value and how far behind the next record stands, as a whole step
 abbrev pub step_model : {X A : Type 0} → (X → A) → X × ℕ → Step A
 step_model view x = record { value = view x.0; is_whole = true; next = x.1 }
-
--- the place of what stands behind another place, where that isn't past the end of the bytes
-abbrev pub StandsBehind : List ℕ → ℕ → ℕ → Result ℕ ViewFault → Type 0
-StandsBehind bytes place distance (Ok p) = p ≡ place + distance
-StandsBehind bytes place distance (Err e) = (e ≡ faults.Absent) × (length bytes < place + distance)
-
--- the place of the next record, or for the last any
-abbrev pub StepsOn : List ℕ → ℕ → ℕ → Bool → Result ℕ ViewFault → Type 0
-StepsOn bytes place next is_last (Ok p) = (is_last ≡ true) ⊎ ((next ≡ 0 → ⊥) × (p ≡ place + next))
-StepsOn bytes place next is_last (Err e) = (e ≡ faults.Absent) × (is_last ≡ false) × ((next ≡ 0) ⊎ (length bytes < place + next))

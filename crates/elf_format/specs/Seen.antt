@@ -2,14 +2,11 @@
 use Rattle.std.specs.Prelude.{ℕ, length, Bool, ◌&&◌, ◌==◌, List, Option, None, Some}
 use Rattle.elf_format.specs.declared.entries.ShownEntry.{ShownEntry}
 use Rattle.elf_format.specs.declared.entries.ShownEntry.TheVariants as shown
-use Rattle.elf_format.specs.declared.versions.RawDefinition.{RawDefinition}
-use Rattle.elf_format.specs.declared.versions.RawNeeds.{RawNeeds}
 use Rattle.elf_format.specs.declared.constants.TheConstants.{PT_GNU_STACK, PT_INTERP, SHT_PROGBITS}
 use Rattle.elf_format.specs.File.{Opened, section_bytes, segment_of_type}
 use Rattle.elf_format.specs.Form.{Form}
 use Rattle.elf_format.specs.Records.{FileHeader, SectionHeader, SegmentHeader}
 use Rattle.elf_format.specs.Views.{View, interpreter_section, tables_by_sections, view_of}
-use Rattle.elf_format.specs.Versions.{DefinitionNumbers, NeedNumbers}
 use Rattle.elf_format.specs.Dynamic.{Auto, Entry, Integer, Text, entries_at}
 use Rattle.patch_bytes.specs.Memory.{◌>>=◌, memory_of}
 
@@ -18,13 +15,6 @@ abbrev pub shown_entry_model : ShownEntry → Entry
 shown_entry_model (shown.Auto tag) = Auto tag
 shown_entry_model (shown.Integer tag value) = Integer tag value
 shown_entry_model (shown.Text tag text) = Text tag text.now
-
--- version records, their texts by where they stand
-abbrev pub raw_definition : RawDefinition → DefinitionNumbers
-raw_definition d = record { index = d.index; flags = d.flags; names = d.names.items }
-
-abbrev pub raw_needs : RawNeeds → NeedNumbers
-raw_needs n = record { file = n.file; versions = n.versions.items }
 
 -- the test by which the interpreter's section is found
 abbrev pub is_interpreter : SegmentHeader → SectionHeader → Bool

@@ -17,7 +17,7 @@ pub enum Dynamic<'data> {
 impl Dynamic<'_> {
     ghost use Rattle.elf_image.specs.DynamicTag.{tag_of};
 
-    /// The entry's tag.
+    /// The entry's tag. Takes no memory.
     pub fn tag(&self) -> u64
         ensures { result ≡ tag_of self.now }
     {
@@ -33,7 +33,7 @@ impl Dynamic<'_> {
     ghost use Rattle.elf_image.specs.DynamicList.{with_tag};
     ghost use Rattle.elf_image.specs.ImageModel.{entry_model};
 
-    /// Whether the entry has a tag.
+    /// Whether the entry has a tag. Takes no memory.
     pub fn has_tag(&self, tag: u64) -> bool
         ensures { result ≡ (entry_tag (entry_model self.now) == tag) }
     {
@@ -71,8 +71,8 @@ impl<'data> Dynamic<'data> {
     ghost use Rattle.std.specs.Prelude.{IfOk};
     ghost use Rattle.elf_image.specs.ImageModel.{entry_model};
 
-    // The same entry: a borrowed text is lent again, an owned one copied.
-    pub(crate) fn try_clone(&self, alloc: Global) -> Result<Dynamic<'data>, AllocError>
+    /// The same entry: a borrowed text is lent again, an owned one copied. Error: `AllocError`.
+    pub fn try_clone(&self, alloc: Global) -> Result<Dynamic<'data>, AllocError>
         ensures { IfOk result (λ copy. entry_model copy ≡ entry_model self.now) }
     {
         match self {

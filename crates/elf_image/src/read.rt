@@ -29,6 +29,7 @@ use elf_format::lookups::interpreter;
 use elf_format::numbers::counted;
 use elf_format::records::{EntryNumbers, SegmentHeader};
 use elf_format::section_data::SectionData;
+use elf_format::versions::{RawDefinition, RawNeeds};
 use elf_format::view_fault::ViewFault;
 use elf_image_placement::placement::{check_placement, header_table_loaded};
 use elf_image_rules::dynamic::{check_links, raw_entries};
@@ -36,7 +37,7 @@ use elf_image_rules::headers::{Headers, read_headers};
 use elf_image_rules::linked::{Checked, are_tables_linked, check_relocations, kind_of};
 use elf_image_versions::kept::{definitions, needs};
 use elf_image_versions::rule::are_versions_right;
-use elf_image_versions::walks::{DefinitionWalk, NeedWalk, walk_definitions, walk_needs};
+use elf_image_versions::walks::{Walk, walk_definitions, walk_needs};
 use patch_bytes::ByteString;
 use std::alloc::{AllocError, Global};
 
@@ -113,8 +114,8 @@ fn listed_parts<'data>(
     alloc: Global,
     parts: &Headers<'data>,
     raw: &[EntryNumbers],
-    defined: &DefinitionWalk,
-    needed: &NeedWalk,
+    defined: &Walk<RawDefinition>,
+    needed: &Walk<RawNeeds>,
 ) -> Result<Listed<'data>, ViewFault>
     requires raw { raw.now ≡ entries_of (parts_model parts.now) }
     requires defined { AreDefinitions (parts_model parts.now) defined.now }
@@ -171,8 +172,8 @@ fn image<'data>(
     parts: &Headers<'data>,
     raw: &[EntryNumbers],
     kinds: &[SectionData],
-    defined: &DefinitionWalk,
-    needed: &NeedWalk,
+    defined: &Walk<RawDefinition>,
+    needed: &Walk<RawNeeds>,
     known: Option<&SymbolLists<'data>>,
 ) -> Result<Gathered<'data>, ViewFault>
     requires kinds { kinds.now ≡ map (data_of (parts_model parts.now)) parts.now.sections.items }
@@ -204,8 +205,8 @@ fn interpreter_kept<'data>(parts: &Headers<'data>) -> Option<ByteString<'data>>
 fn check_last(
     alloc: Global,
     parts: &Headers<'_>,
-    defined: &DefinitionWalk,
-    needed: &NeedWalk,
+    defined: &Walk<RawDefinition>,
+    needed: &Walk<RawNeeds>,
 ) -> Result<(), ElfFault>
     requires defined { AreDefinitions (parts_model parts.now) defined.now }
     requires needed { AreNeeds (parts_model parts.now) needed.now }
@@ -226,8 +227,8 @@ fn image_or_fault<'data>(
     parts: &Headers<'data>,
     raw: &[EntryNumbers],
     kinds: &[SectionData],
-    defined: &DefinitionWalk,
-    needed: &NeedWalk,
+    defined: &Walk<RawDefinition>,
+    needed: &Walk<RawNeeds>,
     known: Option<&SymbolLists<'data>>,
 ) -> Result<Gathered<'data>, ElfFault>
     requires kinds { kinds.now ≡ map (data_of (parts_model parts.now)) parts.now.sections.items }
@@ -325,7 +326,7 @@ fn image_of_file<'data>(
 
 impl<'data> Builder<'data> {
     /// Reads a file: its image where every read rule holds, else the fault of the first rule that doesn't (see
-    /// the read rules in docs/FORMATS.md for their order); `Memory` only where a growth was refused.
+    /// the read rules in docs/FORMATS-ELF.md for their order); `Memory` only where a growth was refused.
     pub fn read(alloc: Global, bytes: &'data [u8]) -> Result<Builder<'data>, ElfFault>
         ensures { MatchResult result
             (λ b. image_of bytes.entry.now ≡ Ok b)
@@ -336,7 +337,7 @@ impl<'data> Builder<'data> {
 
     /// The image as its source was read, before any edit. Its symbols are shared with this image, so that none is
     /// read again. Error: `AllocError`.
-    pub fn read_again(&self, alloc: Global) -> Result<Builder<'data>, AllocError>
+    pub fn read_source(&self, alloc: Global) -> Result<Builder<'data>, AllocError>
         ensures { IfOk result (λ read. image_of self.now.source ≡ Ok read) }
     {
         match image_of_file(alloc, self.source, Some(&self.lists)) {

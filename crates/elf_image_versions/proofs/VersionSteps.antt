@@ -3,7 +3,6 @@ use Rattle.std.proofs.Common.{◌≡◌, ◌≤◌, ◌<◌, ℕ, zero, suc, ◌
 use Rattle.std.specs.Prelude.{◌&&◌, ◌||◌}
 use Rattle.std.specs.List.{flat_map, list_all}
 use Rattle.std.proofs.lemmas.List.{drop_all, drop_more, get_or-set_other, get_or-set_same, length-set, nil_from_length}
-use Rattle.std.proofs.lemmas.List.Folds.{flat_map-map}
 use Rattle.std.proofs.lemmas.Bool.{cases_eq, eq-eqb, le-ltb, lt-ltb, ne_eqb}
 use Rattle.patch_bytes.specs.Number.{number_at}
 use Rattle.patch_bytes.specs.declared.number.ByteOrder2.{ByteOrder2}
@@ -11,14 +10,12 @@ use Rattle.patch_bytes.specs.declared.number.ByteOrder2.TheVariants.{Big, Little
 use Rattle.patch_bytes.specs.declared.number.Wide.{Wide}
 use Rattle.patch_bytes.specs.declared.number.Wide.TheVariants.{W32, W64}
 use Rattle.elf_format.specs.declared.constants.TheConstants.{SHT_DYNSYM, SHT_GNU_VERDEF, SHT_GNU_VERNEED, VER_NDX_FIRST}
-use Rattle.elf_image_versions.specs.declared.walks.DefinitionWalk.{DefinitionWalk}
-use Rattle.elf_image_versions.specs.declared.walks.NeedWalk.{NeedWalk}
+use Rattle.elf_image_versions.specs.declared.walks.Walk.{Walk}
 use Rattle.elf_format.specs.declared.version_id.VersionId.{VersionId}
 use Rattle.elf_format.specs.declared.form.Form.{Form}
 use Rattle.elf_format.specs.Form.{records}
 use Rattle.elf_format.specs.Options.{is_one_of, is_some_and, list_at}
 use Rattle.elf_format.specs.File.{Parts, section_bytes, section_of_type}
-use Rattle.elf_format.specs.Seen.{raw_definition, raw_needs}
 use Rattle.elf_format.specs.declared.records.SectionHeader.{SectionHeader}
 use Rattle.elf_format.specs.Records.{symbol_size}
 use Rattle.elf_format.specs.Rules.{definition_steps, known_versions, need_steps, version_symbols_agree}
@@ -181,20 +178,16 @@ marked-known form known marks are n bytes =
     (λ b. ap (λ m. ltb (version_id form b).index VER_NDX_FIRST || m) (are.marks (version_id form b).index (index-below form b))) n bytes
 
 -- the known indices, by what was walked
-pub known-walked : (p : Parts) (definitions : DefinitionWalk) (needs : NeedWalk) → AreDefinitions p definitions → AreNeeds p needs
-    → map (λ d. d.index) definitions.values.items ++ flat_map (λ n. map (λ v. v.index) n.versions.items) needs.values.items ≡ known_versions p
+pub known-walked : (p : Parts) (definitions : Walk DefinitionNumbers) (needs : Walk NeedNumbers) → AreDefinitions p definitions → AreNeeds p needs
+    → map (λ d. d.index) definitions.values.items ++ flat_map (λ n. map (λ v. v.index) n.versions) needs.values.items ≡ known_versions p
 known-walked p definitions needs is_definitions is_needs =
     let ds : List DefinitionNumbers = list_at (λ s. values_of (definition_steps p s)) (section_of_type SHT_GNU_VERDEF p.sections) in
     let ns : List NeedNumbers = list_at (λ s. values_of (need_steps p s)) (section_of_type SHT_GNU_VERNEED p.sections) in
-    ap (λ l. l ++ flat_map (λ n. map (λ v. v.index) n.versions.items) needs.values.items)
-    (sym (map_map raw_definition (λ d. d.index) definitions.values.items) ∙ ap (map (λ d. d.index)) is_definitions.0 ∙ definitions_at (section_of_type SHT_GNU_VERDEF p.sections))
+    ap (λ l. l ++ flat_map (λ n. map (λ v. v.index) n.versions) needs.values.items)
+    (ap (map (λ d. d.index)) is_definitions.0 ∙ definitions_at (section_of_type SHT_GNU_VERDEF p.sections))
     ∙ ap (λ l. list_at (λ s. map (λ d. d.index) (values_of (definition_steps p s))) (section_of_type SHT_GNU_VERDEF p.sections) ++ l)
-    (sym (flat_map-map (λ n. map (λ v. v.index) n.versions) raw_needs needs.values.items) ∙ ap (flat_map (λ n. map (λ v. v.index) n.versions)) is_needs.0 ∙ needs_at (section_of_type SHT_GNU_VERNEED p.sections))
+    (ap (flat_map (λ n. map (λ v. v.index) n.versions)) is_needs.0 ∙ needs_at (section_of_type SHT_GNU_VERNEED p.sections))
   where
-    map_map : {X Y Z : Type 0} → (f : X → Y) (g : Y → Z) (xs : List X) → map g (map f xs) ≡ map (λ x. g (f x)) xs
-    map_map f g [] = refl
-    map_map f g (x ∷ xs) = ap (λ l. g (f x) ∷ l) (map_map f g xs)
-
     definitions_at : (o : Option SectionHeader) → map (λ d. d.index) (list_at (λ s. values_of (definition_steps p s)) o) ≡ list_at (λ s. map (λ d. d.index) (values_of (definition_steps p s))) o
     definitions_at None = refl
     definitions_at (Some s) = refl

@@ -3,17 +3,18 @@ use Rattle.std.proofs.Common.{◌≡◌, ◌≤◌, ◌<◌, ◌⊎◌, ℕ, zer
 use Rattle.std.specs.Prelude.{◌&&◌, not}
 use Rattle.std.specs.List.{list_all}
 use Rattle.std.proofs.lemmas.List.{append-nil, append_assoc}
-use Rattle.std.proofs.lemmas.Bool.{eq-eqb, ne_eqb}
+use Rattle.std.proofs.lemmas.Bool.{cases_lt, eq-eqb, ne_eqb}
+use Rattle.std.proofs.lemmas.Option.{none-some}
 use Rattle.patch_bytes.specs.Memory.{◌>>=◌, Memory, bytes_at, memory_of}
 use Rattle.elf_format.specs.declared.view_fault.ViewFault.{ViewFault}
 use Rattle.elf_format.specs.declared.view_fault.ViewFault.TheVariants as faults
 use Rattle.elf_format.specs.declared.form.Form.{Form}
 use Rattle.elf_format.specs.Form.{fixed_field}
-use Rattle.elf_format.specs.Answers.{Gives, whole_step}
+use Rattle.elf_format.specs.Answers.{Gives}
 use Rattle.elf_format.specs.declared.records.NeedNameNumbers.{NeedNameNumbers}
 use Rattle.elf_format.specs.Versions.{DefinitionNumbers, NeedNumbers, Step, definition_at, definition_name_at, need_at, need_name_at, is_whole_walk, values_of, walked}
 use Rattle.elf_image_versions.specs.WalkSteps.{IsFound, IsWalk}
-use Rattle.elf_format.proofs.ForCallers.ChainSteps.{definition_name-past, eqb-suc, need_name-past}
+use Rattle.elf_format.proofs.ForCallers.ChainSteps.{eqb-suc}
 use Rattle.elf_format.proofs.ForCallers.TableSteps.{bytes_at-past}
 
 -- ## What is found
@@ -73,22 +74,17 @@ module _ {A : Type 0} (read : ℕ → Option (Step A)) where
           ∙ ap (walked read n) (sym h.1)
 
   -- the walk stops behind a record
-  stops : (n a : ℕ) (s : Step A) → read a ≡ Some s → (s.is_whole ≡ false) ⊎ ((s.next ≡ 0) ⊎ (read (a + s.next) ≡ None)) → walked read (suc n) a ≡ s ∷ []
+  stops : (n a : ℕ) (s : Step A) → read a ≡ Some s → (s.is_whole ≡ false) ⊎ (s.next ≡ 0) → walked read (suc n) a ≡ s ∷ []
   unfolding behind_by
   stops n a s here stop = there n a s here ∙ ap (λ l. s ∷ l) (nowhere stop)
     where
-      either : (b : Bool) → walked read n (a + s.next) ≡ [] → behind_by n (a + s.next) b ≡ []
-      either true e = e
-      either false e = refl
-
       and_not : (b : Bool) → (b && false) ≡ false
       and_not true = refl
       and_not false = refl
 
-      nowhere : (s.is_whole ≡ false) ⊎ ((s.next ≡ 0) ⊎ (read (a + s.next) ≡ None)) → behind_by n (a + s.next) (s.is_whole && not (eqb s.next 0)) ≡ []
+      nowhere : (s.is_whole ≡ false) ⊎ (s.next ≡ 0) → behind_by n (a + s.next) (s.is_whole && not (eqb s.next 0)) ≡ []
       nowhere (inl e) = ap (λ w. behind_by n (a + s.next) (w && not (eqb s.next 0))) e
-      nowhere (inr (inl e)) = ap (λ z. behind_by n (a + s.next) (s.is_whole && not z)) (eq-eqb s.next 0 e) ∙ ap (behind_by n (a + s.next)) (and_not s.is_whole)
-      nowhere (inr (inr e)) = either (s.is_whole && not (eqb s.next 0)) (absent n (a + s.next) e)
+      nowhere (inr e) = ap (λ z. behind_by n (a + s.next) (s.is_whole && not z)) (eq-eqb s.next 0 e) ∙ ap (behind_by n (a + s.next)) (and_not s.is_whole)
 
 -- ## The steps of a loop
 
@@ -139,7 +135,7 @@ module _ {A : Type 0} (read : ℕ → Option (Step A)) (count start : ℕ) where
         whole = sym (ap (is_whole_walk (count - i)) e ∙ ap (λ m. is_whole_walk m (s ∷ [])) k ∙ broken) ∙ left.whole;
       }
 
-  pub walk_stops : (made : List A) (i a : ℕ) (s : Step A) → i < count → read a ≡ Some s → (count - (i + 1) ≡ 0 → ⊥) → (s.next ≡ 0) ⊎ (read (a + s.next) ≡ None)
+  pub walk_stops : (made : List A) (i a : ℕ) (s : Step A) → i < count → read a ≡ Some s → (count - (i + 1) ≡ 0 → ⊥) → s.next ≡ 0
       → WalkLeft read count start made (count - i) a → IsWalk read count start (made ++ s.value ∷ []) false
   walk_stops made i a s less here more stop left =
       stopped made i a s less (stops read (count - (i + 1)) a s here (inr stop)) (short (count - (i + 1)) s more) left
@@ -159,32 +155,25 @@ module _ {A : Type 0} (read : ℕ → Option (Step A)) (count start : ℕ) where
         whole = sym (ap (λ m. is_whole_walk m (walked read m a)) k) ∙ left.whole;
       }
 
-  -- a walk that begins where nothing is
-  pub walk_nowhere : (is_empty : Bool) → is_empty ≡ eqb count 0 → read start ≡ None → IsWalk read count start [] is_empty
-  walk_nowhere is_empty e none =
-      let nothing : walked read count start ≡ [] = absent read count start none in
-      record { all = sym (ap values_of nothing); whole = e ∙ sym (ap (is_whole_walk count) nothing ∙ zero_is count) }
-    where
-      and_true : (b : Bool) → (b && true) ≡ b
-      and_true true = refl
-      and_true false = refl
-
-      zero_is : (n : ℕ) → is_whole_walk {A = A} n [] ≡ eqb n 0
-      zero_is zero = refl
-      zero_is (suc n) = ap (λ b. b && true) (ne_eqb 0 (suc n) (λ z. omega arith)) ∙ sym (ne_eqb (suc n) 0 (λ z. omega arith))
-
 -- ## Records
 
 module _ (form : Form) (f : Memory) (a : ℕ) where
-  -- a record without names is whole
-  pub definition_name-whole : whole_step (definition_name_at form f a) ≡ definition_name_at form f a
-  unfolding definition_name_at
-  definition_name-whole = by_bytes (bytes_at 8 f a)
-    where
-      by_bytes : (o : Option (List ℕ)) → whole_step (o >>= (λ b. Some (record { value = fixed_field form (0, 4) b; is_whole = true; next = fixed_field form (4, 4) b })))
-          ≡ (o >>= (λ b. Some (record { value = fixed_field form (0, 4) b; is_whole = true; next = fixed_field form (4, 4) b })))
-      by_bytes None = refl
-      by_bytes (Some b) = refl
+  -- a name is there where its bytes are
+  definition_name_by : List ℕ → Option (Step ℕ)
+  definition_name_by b = Some (record { value = fixed_field form (0, 4) b; is_whole = true; next = fixed_field form (4, 4) b })
+
+  made_name : {A : Type 0} → A → ℕ → Option (Step A)
+  made_name value next = Some (record { value = value; is_whole = true; next = next })
+
+  pub definition_name_there : (b : List ℕ) (value next : ℕ) → bytes_at 8 f a ≡ Some b → value ≡ fixed_field form (0, 4) b → next ≡ fixed_field form (4, 4) b
+      → Some (record { value = value; is_whole = true; next = next }) ≡ definition_name_at form f a
+  unfolding definition_name_at definition_name_by made_name
+  definition_name_there b value next here is_value is_next =
+      ap (λ k. made_name k next) is_value ∙ ap (made_name (fixed_field form (0, 4) b)) is_next ∙ sym (ap (λ o. o >>= definition_name_by) here)
+
+  pub definition_name_missing : bytes_at 8 f a ≡ None → definition_name_at form f a ≡ None
+  unfolding definition_name_at definition_name_by
+  definition_name_missing here = ap (λ o. o >>= definition_name_by) here
 
   need_name_by : List ℕ → Option (Step NeedNameNumbers)
   need_name_by b = Some (record {
@@ -193,13 +182,21 @@ module _ (form : Form) (f : Memory) (a : ℕ) where
     next = fixed_field form (12, 4) b;
   })
 
-  pub need_name-whole : whole_step (need_name_at form f a) ≡ need_name_at form f a
+  made_need_name : ℕ → ℕ → ℕ → ℕ → Option (Step NeedNameNumbers)
+  made_need_name index name flags next = Some (record { value = record { index = index; name = name; flags = flags }; is_whole = true; next = next })
+
+  pub need_name_there : (b : List ℕ) (index name flags next : ℕ) → bytes_at 16 f a ≡ Some b → index ≡ fixed_field form (6, 2) b → name ≡ fixed_field form (8, 4) b
+      → flags ≡ fixed_field form (4, 2) b → next ≡ fixed_field form (12, 4) b
+      → Some (record { value = record { index = index; name = name; flags = flags }; is_whole = true; next = next }) ≡ need_name_at form f a
+  unfolding need_name_at need_name_by made_need_name
+  need_name_there b index name flags next here is_index is_name is_flags is_next =
+      ap (λ k. made_need_name k name flags next) is_index ∙ ap (λ k. made_need_name (fixed_field form (6, 2) b) k flags next) is_name
+      ∙ ap (λ k. made_need_name (fixed_field form (6, 2) b) (fixed_field form (8, 4) b) k next) is_flags
+      ∙ ap (made_need_name (fixed_field form (6, 2) b) (fixed_field form (8, 4) b) (fixed_field form (4, 2) b)) is_next ∙ sym (ap (λ o. o >>= need_name_by) here)
+
+  pub need_name_missing : bytes_at 16 f a ≡ None → need_name_at form f a ≡ None
   unfolding need_name_at need_name_by
-  need_name-whole = by_bytes (bytes_at 16 f a)
-    where
-      by_bytes : (o : Option (List ℕ)) → whole_step (o >>= need_name_by) ≡ (o >>= need_name_by)
-      by_bytes None = refl
-      by_bytes (Some b) = refl
+  need_name_missing here = ap (λ o. o >>= need_name_by) here
 
   -- what a record with names shows, by the walk of its names
   definition_by : List ℕ → List (Step ℕ) → Option (Step DefinitionNumbers)
@@ -259,15 +256,9 @@ module _ (form : Form) (f : Memory) (a : ℕ) where
   unfolding need_at need_by
   need_missing here = ap (λ o. o >>= (λ c. need_by c (walked (need_name_at form f) (fixed_field form (2, 2) c) (a + fixed_field form (8, 4) c)))) here
 
--- records past the end of a list aren't there
-pub definition_name-behind : (form : Form) (xs : List ℕ) (a : ℕ) → length xs < a → definition_name_at form (memory_of xs) a ≡ None
-definition_name-behind form xs a past = sym (definition_name-whole form (memory_of xs) a) ∙ definition_name-past form xs a past
-
-pub need_name-behind : (form : Form) (xs : List ℕ) (a : ℕ) → length xs < a → need_name_at form (memory_of xs) a ≡ None
-need_name-behind form xs a past = sym (need_name-whole form (memory_of xs) a) ∙ need_name-past form xs a past
-
-pub definition-behind : (form : Form) (xs : List ℕ) (a : ℕ) → length xs < a → definition_at form (memory_of xs) a ≡ None
-definition-behind form xs a past = definition_missing form (memory_of xs) a (bytes_at-past 20 a xs (omega arith) (omega arith))
-
-pub need-behind : (form : Form) (xs : List ℕ) (a : ℕ) → length xs < a → need_at form (memory_of xs) a ≡ None
-need-behind form xs a past = need_missing form (memory_of xs) a (bytes_at-past 16 a xs (omega arith) (omega arith))
+-- a record that is there begins within the bytes
+pub begins_within : (n a : ℕ) (xs b : List ℕ) → 0 < n → bytes_at n (memory_of xs) a ≡ Some b → a ≤ length xs
+begins_within n a xs b pos here = elim (cases_lt (length xs) a) [
+  | inl past ↦ absurd (none-some b (sym (bytes_at-past n a xs pos (omega (arith, past))) ∙ here))
+  | inr within ↦ within
+]

@@ -5,17 +5,12 @@ use Rattle.std.specs.declared.alloc.AllocError.{AllocError}
 use Rattle.elf_format.specs.declared.constants.TheConstants.{SHT_DYNAMIC, SHT_DYNSYM, SHT_GNU_VERDEF, SHT_GNU_VERNEED, SHT_NULL, VER_NDX_FIRST}
 use Rattle.elf_format.specs.declared.view_fault.ViewFault.{ViewFault}
 use Rattle.elf_format.specs.declared.view_fault.ViewFault.TheVariants as faults
-use Rattle.elf_image_versions.specs.declared.walks.DefinitionWalk.{DefinitionWalk}
-use Rattle.elf_image_versions.specs.declared.walks.NeedWalk.{NeedWalk}
-use Rattle.elf_image_versions.specs.declared.definitions.DefinitionRecord.{DefinitionRecord}
-use Rattle.elf_image_versions.specs.declared.needs.NeedRecord.{NeedRecord}
+use Rattle.elf_image_versions.specs.declared.chain.Linked.{Linked}
+use Rattle.elf_image_versions.specs.declared.walks.Walk.{Walk}
 use Rattle.elf_format.specs.declared.records.SectionHeader.{SectionHeader}
 use Rattle.elf_format.specs.declared.version_id.VersionId.{VersionId}
-use Rattle.elf_format.specs.declared.versions.RawDefinition.{RawDefinition}
-use Rattle.elf_format.specs.declared.versions.RawNeeds.{RawNeeds}
 use Rattle.elf_format.specs.File.{Parts, section_of_type}
 use Rattle.elf_format.specs.Options.{is_none_or, is_one_of, list_at}
-use Rattle.elf_format.specs.Seen.{raw_definition, raw_needs}
 use Rattle.elf_format.specs.Rules.{definition_steps, need_steps}
 use Rattle.elf_format.specs.Versions.{DefinitionNumbers, NeedNumbers, Step, is_whole_walk, values_of, walked}
 
@@ -37,22 +32,22 @@ abbrev pub needed_in : Parts → List NeedNumbers
 needed_in p = list_at (λ s. values_of (need_steps p s)) (section_of_type SHT_GNU_VERNEED p.sections)
 
 -- the walk of the one section of defined versions, and of the one of needed versions
-abbrev pub AreDefinitions : Parts → DefinitionWalk → Type 0
+abbrev pub AreDefinitions : Parts → Walk DefinitionNumbers → Type 0
 AreDefinitions p w =
-    (map raw_definition w.values.items ≡ defined_in p)
+    (w.values.items ≡ defined_in p)
     × (w.is_whole ≡ is_none_or (λ s. is_whole_walk s.sh_info (definition_steps p s)) (section_of_type SHT_GNU_VERDEF p.sections))
 
-abbrev pub AreNeeds : Parts → NeedWalk → Type 0
+abbrev pub AreNeeds : Parts → Walk NeedNumbers → Type 0
 AreNeeds p w =
-    (map raw_needs w.values.items ≡ needed_in p)
+    (w.values.items ≡ needed_in p)
     × (w.is_whole ≡ is_none_or (λ s. is_whole_walk s.sh_info (need_steps p s)) (section_of_type SHT_GNU_VERNEED p.sections))
 
 -- the indices of defined versions, and of needed ones
-abbrev pub indices_defined : List RawDefinition → List ℕ
+abbrev pub indices_defined : List DefinitionNumbers → List ℕ
 indices_defined definitions = map (λ d. d.index) definitions
 
-abbrev pub indices_needed : List RawNeeds → List ℕ
-indices_needed needs = flat_map (λ n. map (λ v. v.index) n.versions.items) needs
+abbrev pub indices_needed : List NeedNumbers → List ℕ
+indices_needed needs = flat_map (λ n. map (λ v. v.index) n.versions) needs
 
 -- the index of a version is one of those below the first for versions, or has a mark
 abbrev pub is_low_or_marked : List Bool → VersionId → Bool
@@ -71,12 +66,9 @@ unfoldable pub marked : List ℕ → List Bool → List Bool
 marked [] marks = marks
 marked (n ∷ ns) marks = marked ns (slice_set marks n true)
 
--- a record with names, as a step of a walk
-abbrev pub definition_step : DefinitionRecord → Step DefinitionNumbers
-definition_step r = record { value = raw_definition r.value; is_whole = r.is_whole; next = r.next }
-
-abbrev pub need_step : NeedRecord → Step NeedNumbers
-need_step r = record { value = raw_needs r.value; is_whole = r.is_whole; next = r.next }
+-- a record of a chain, as a step of a walk
+abbrev pub step_of : {A : Type 0} → Linked A → Step A
+step_of r = record { value = r.value; is_whole = r.is_whole; next = r.next }
 
 -- the marks at the indices of versions are those of the known ones
 pub record AreMarked (known : List ℕ) (places : List Bool) : Type 0 where

@@ -7,7 +7,6 @@ ghost use Rattle.elf_format.specs.Image.{definitions_read, needs_read};
 ghost use Rattle.elf_image_versions.specs.VersionsModel.{definition_model, name_model, needs_model};
 ghost use Rattle.elf_format.specs.Options.{each};
 ghost use Rattle.elf_format.specs.Answers.{Gives};
-ghost use Rattle.elf_format.specs.Seen.{raw_definition, raw_needs};
 ghost use Rattle.elf_image_rules.specs.Read.{parts_model};
 ghost use Rattle.elf_format.specs.Rules.{raw_entries};
 ghost use Rattle.elf_format.specs.Versions.{shown_definition, shown_need, shown_need_name};
@@ -54,7 +53,7 @@ fn definition<'data>(
 ) -> Result<VersionDef<'data>, ViewFault>
     requires { length texts.now ≤ room }
     ensures { Gives definition_model result
-        (shown_definition room (memory_of texts.now) (raw_definition raw.now)) }
+        (shown_definition room (memory_of texts.now) raw.now) }
 {
     let names = kept_texts(alloc, room, texts, &raw.names)?;
     Ok(VersionDef {
@@ -73,7 +72,7 @@ fn kept_definitions<'data>(
 ) -> Result<Vec<VersionDef<'data>>, ViewFault>
     requires { length texts.now ≤ room }
     ensures { Gives (λ v. map definition_model v.items) result
-        (each (shown_definition room (memory_of texts.now)) (map raw_definition walked.now)) }
+        (each (shown_definition room (memory_of texts.now)) walked.now) }
 {
     let mut made = Vec::new(alloc);
     for raw in walked {
@@ -129,7 +128,7 @@ fn need<'data>(
     raw: &RawNeeds,
 ) -> Result<VersionNeed<'data>, ViewFault>
     requires { length texts.now ≤ room }
-    ensures { Gives needs_model result (shown_need room (memory_of texts.now) (raw_needs raw.now)) }
+    ensures { Gives needs_model result (shown_need room (memory_of texts.now) raw.now) }
 {
     let file = text(room, texts, raw.file as u64)?;
     let versions = need_names(alloc, room, texts, &raw.versions)?;
@@ -148,7 +147,7 @@ fn kept_needs<'data>(
 ) -> Result<Vec<VersionNeed<'data>>, ViewFault>
     requires { length texts.now ≤ room }
     ensures { Gives (λ v. map needs_model v.items) result
-        (each (shown_need room (memory_of texts.now)) (map raw_needs walked.now)) }
+        (each (shown_need room (memory_of texts.now)) walked.now) }
 {
     let mut made = Vec::new(alloc);
     for raw in walked {
@@ -167,7 +166,7 @@ pub fn definitions<'data>(
     walked: &[RawDefinition],
 ) -> Result<Vec<VersionDef<'data>>, ViewFault>
     requires raw { raw.now ≡ raw_entries (parts_model parts.now) }
-    requires walked { map raw_definition walked.now ≡ defined_in (parts_model parts.now) }
+    requires walked { walked.now ≡ defined_in (parts_model parts.now) }
     ensures { Gives (λ v. map definition_model v.items) result
         (definitions_read (parts_model parts.now) (first_section VERDEFS parts.now.sections.items)) }
 {
@@ -187,7 +186,7 @@ pub fn needs<'data>(
     walked: &[RawNeeds],
 ) -> Result<Vec<VersionNeed<'data>>, ViewFault>
     requires raw { raw.now ≡ raw_entries (parts_model parts.now) }
-    requires walked { map raw_needs walked.now ≡ needed_in (parts_model parts.now) }
+    requires walked { walked.now ≡ needed_in (parts_model parts.now) }
     ensures { Gives (λ v. map needs_model v.items) result
         (needs_read (parts_model parts.now) (first_section VERNEEDS parts.now.sections.items)) }
 {

@@ -3,6 +3,7 @@
 #![tactic(auto)]
 
 mod absence;
+mod chain;
 mod definitions;
 pub mod kept;
 mod known;

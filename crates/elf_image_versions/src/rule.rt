@@ -8,7 +8,7 @@ ghost use Rattle.elf_format.specs.Versions.{version_id};
 ghost use Rattle.elf_image_versions.specs.WalkSteps.{AreDefinitions, AreNeeds, is_low_or_marked, leaves_texts_of, users_of_texts};
 
 use crate::known::mark_known;
-use crate::walks::{DefinitionWalk, NeedWalk};
+use crate::walks::Walk;
 use elf_format::constants::{
     SHT_DYNAMIC, SHT_DYNSYM, SHT_GNU_VERDEF, SHT_GNU_VERNEED, SHT_GNU_VERSYM, SHT_NULL,
     VER_NDX_FIRST,
@@ -17,6 +17,7 @@ use elf_format::form::Form;
 use elf_format::lookups::{section_bytes, section_of_type};
 use elf_format::numbers::{part, read_version_id};
 use elf_format::records::SectionHeader;
+use elf_format::versions::{RawDefinition, RawNeeds};
 use elf_image_rules::headers::Headers;
 use std::alloc::{AllocError, Global};
 
@@ -46,8 +47,8 @@ fn version_symbols_agree(
     alloc: Global,
     parts: &Headers<'_>,
     section: SectionHeader,
-    definitions: &DefinitionWalk,
-    needs: &NeedWalk,
+    definitions: &Walk<RawDefinition>,
+    needs: &Walk<RawNeeds>,
 ) -> Result<bool, AllocError>
     requires definitions { AreDefinitions (parts_model parts.now) definitions.now }
     requires needs { AreNeeds (parts_model parts.now) needs.now }
@@ -108,8 +109,8 @@ fn are_dynamic_strings_own(sections: &[SectionHeader]) -> bool
 pub fn are_versions_right(
     alloc: Global,
     parts: &Headers<'_>,
-    definitions: &DefinitionWalk,
-    needs: &NeedWalk,
+    definitions: &Walk<RawDefinition>,
+    needs: &Walk<RawNeeds>,
 ) -> Result<bool, AllocError>
     requires definitions { AreDefinitions (parts_model parts.now) definitions.now }
     requires needs { AreNeeds (parts_model parts.now) needs.now }

@@ -85,8 +85,8 @@ module _ (r : Resized) (e : IsEdited r.image) (found : List Section) (seen : map
   none_found past =
       sym (here ∙ ap (λ (o : Option Section). both i (option_map section_model o) (slice_get r.sizes i)) (slice_get_past found i past))
 
-  pub none_sized : length r.sizes ≤ i → None ≡ option_map numbers_of (slice_get (sized_sections r) i)
-  none_sized past =
+  pub none_has_size : length r.sizes ≤ i → None ≡ option_map numbers_of (slice_get (sized_sections r) i)
+  none_has_size past =
       sym (here ∙ ap (λ (o : Option ℕ). both i (option_map section_model (slice_get found i)) o) (slice_get_past r.sizes i past)
       ∙ both_none i (option_map section_model (slice_get found i)))
 

@@ -21,7 +21,7 @@ use elf_layout_moves::resizing::Resizing;
 use elf_layout_plan::laws::{
     fixed_sections_stay, plans_are_apart, plans_are_placed, plans_show_notes,
 };
-use elf_layout_plan::{LayoutFault, Plan, PlanParts, read_again};
+use elf_layout_plan::{LayoutFault, Plan, PlanParts, read_source};
 use elf_layout_segments::anchors::{AnchorAt, anchors, headers_needed, kept_end};
 use elf_layout_segments::rounds::{Rounds, look_in_rounds};
 use elf_layout_sizes::new_sizes_of;
@@ -63,7 +63,7 @@ fn headers_for(
 }
 
 // What follows from where everything stands, with so many program headers.
-fn parts_with(
+fn parts_of_plan(
     alloc: Global,
     r: &Resizing<'_, '_>,
     anchors: &[AnchorAt],
@@ -106,7 +106,7 @@ fn parts_after(
 {
     let headers = headers_for(alloc, r, anchors, &rounds.moved, marks)?;
     let standing = standing_for(alloc, r, anchors, &rounds.moved, marks, headers)?;
-    parts_with(alloc, r, anchors, rounds, marks, headers, standing)
+    parts_of_plan(alloc, r, anchors, rounds, marks, headers, standing)
 }
 
 // A plan after the last round, if every number fits.
@@ -181,8 +181,8 @@ pub(crate) fn promised(image: &Builder<'_>, plan: Plan) -> Plan
     plan
 }
 
-/// Where everything goes, as `lay_out_again` tells it, for a caller that has the new sizes of the sections too.
-pub fn lay_out_sized<'data>(
+/// Where everything goes, as `lay_out_from_read` tells it, for a caller that has the new sizes of the sections too.
+pub fn lay_out_from_sizes<'data>(
     alloc: Global,
     read: &Builder<'data>,
     image: &Builder<'data>,
@@ -199,7 +199,7 @@ pub fn lay_out_sized<'data>(
 }
 
 /// Where everything goes, as `lay_out` tells it, for a caller that has the image as its source was read.
-pub fn lay_out_again<'data>(
+pub fn lay_out_from_read<'data>(
     alloc: Global,
     read: &Builder<'data>,
     image: &Builder<'data>,
@@ -224,6 +224,6 @@ pub fn lay_out(alloc: Global, image: &Builder<'_>) -> Result<Plan, LayoutFault>
     ensures promises { IfOk result (λ plan. IsPromised image.now plan) }
     ensures fault { IfErr result (IsNoLayout image.now) }
 {
-    let read = read_again(alloc, image)?;
-    lay_out_again(alloc, &read, image)
+    let read = read_source(alloc, image)?;
+    lay_out_from_read(alloc, &read, image)
 }

@@ -19,7 +19,7 @@ mod targets;
 mod unloaded;
 mod written;
 
-pub use crate::layout::{lay_out, lay_out_again, lay_out_sized};
+pub use crate::layout::{lay_out, lay_out_from_read, lay_out_from_sizes};
 pub use crate::moving::{find_move_sections, move_sections};
 pub use elf_layout_plan::{LayoutFault, Plan, SectionPlace};
 pub use elf_layout_sizes::sizes_of;

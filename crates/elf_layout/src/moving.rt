@@ -8,7 +8,7 @@ ghost use Rattle.elf_layout_plan.specs.Rounds.{IsAsked};
 use crate::layout::{plan_from, promised};
 use elf_image::Builder;
 pub use elf_layout_moves::find_move_sections;
-use elf_layout_plan::{LayoutFault, Plan, read_again};
+use elf_layout_plan::{LayoutFault, Plan, read_source};
 use std::alloc::Global;
 
 /// Where everything goes. `Overlap` where two blocks of memory overlap that can't move, with a number of program headers
@@ -25,9 +25,7 @@ pub fn move_sections(alloc: Global, image: &Builder<'_>, sizes: &[u64]) -> Resul
 
     ensures promises { IfOk result (λ plan. IsPromised image.now plan) }
 {
-    let answer = match read_again(alloc, image) {
-        Ok(read) => plan_from(alloc, &read, image, sizes),
-        Err(_) => Err(LayoutFault::Memory),
-    };
-    Ok(promised(image, answer?))
+    let read = read_source(alloc, image)?;
+    let plan = plan_from(alloc, &read, image, sizes)?;
+    Ok(promised(image, plan))
 }

@@ -16,7 +16,7 @@ use elf_format::records::SegmentHeader;
 use elf_layout_moves::resizing::Resizing;
 use elf_layout_plan::{LayoutFault, SectionPlace};
 use elf_layout_segments::anchors::AnchorAt;
-use elf_layout_segments::reading::{sections_are_sized, segment_at};
+use elf_layout_segments::reading::{sections_have_sizes, segment_at};
 use std::alloc::{AllocError, Global};
 
 // How many of those behind a header are loaded, where so many are that are left.
@@ -82,7 +82,7 @@ fn all_written(
         ≡ flat_map (written_from r.now moved.now) r.now.image.segments) }
     ensures fault { IfErr result (StandsTooFar r.now moved.now) }
 {
-    sections_are_sized(r);
+    sections_have_sizes(r);
     let form = r.form();
     let size = headers as u128 * form.segment_header_size() as u128;
     let notes = notes_of(alloc, r, marks, places)?;

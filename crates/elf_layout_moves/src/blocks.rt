@@ -1,4 +1,4 @@
-// The blocks of memory that an image takes.
+//! The blocks of memory that an image takes.
 ghost use Rattle.std.specs.Prelude.{◌≡◌, ◌&&◌, ◌+◌, ◌*◌, ◌^◌, ◌<◌, ◌≤◌, ◌∷◌, ◌++◌, [], IfOk, IsTrue, OnOk, ◌==◌, None, Some, false, true, filter, length, slice_get, map, slice_index};
 ghost use Rattle.std.specs.List.{flat_map, list_any};
 ghost use Rattle.elf_format.specs.File.{is_loaded, loads_of};
@@ -22,15 +22,21 @@ use elf_layout_plan::is_numbered;
 use std::alloc::{AllocError, Global};
 use std::marker::Model;
 
-// A range of memory that something takes, with how readily it moves and which section's it is.
+/// A range of memory that something takes, with how readily it moves and which section's it is.
 #[derive(Clone, Copy)]
-pub(crate) struct MemoryBlock {
-    pub(crate) start: u128,
-    pub(crate) size: u128,
-    pub(crate) priority: u8,
-    pub(crate) section: Option<usize>,
-    pub(crate) is_stray: bool,
-    pub(crate) is_load_start: bool,
+pub struct MemoryBlock {
+    /// Its first address.
+    pub start: u128,
+    /// How many bytes it takes.
+    pub size: u128,
+    /// 0 where it can't move; the greater, the more readily it does.
+    pub priority: u8,
+    /// The position of the section whose it is.
+    pub section: Option<usize>,
+    /// Whether it was empty, and what it is to hold can't stand where it stood.
+    pub is_stray: bool,
+    /// Whether it marks the start of a loaded segment.
+    pub is_load_start: bool,
 }
 
 impl Model for MemoryBlock {
@@ -319,8 +325,8 @@ fn push_sections(
     Ok(())
 }
 
-// Every block of an image, with a program header table of so many entries more than it has segments.
-pub(crate) fn blocks_of(
+/// Every block of an image, with a program header table of so many entries more than it has segments. Error: `AllocError`.
+pub fn blocks_of(
     alloc: Global,
     r: &Resizing<'_, '_>,
     added: usize,

@@ -2,7 +2,7 @@
 #![tactic(auto)]
 
 mod block_moves;
-mod blocks;
+pub mod blocks;
 pub mod marks;
 pub mod moving;
 mod old_order;

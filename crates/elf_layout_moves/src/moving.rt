@@ -8,7 +8,7 @@ use crate::blocks::blocks_of;
 use crate::old_order::in_old_order;
 use crate::resizing::Resizing;
 use elf_image::Builder;
-use elf_layout_plan::{LayoutFault, read_again};
+use elf_layout_plan::{LayoutFault, read_source};
 use std::alloc::Global;
 
 /// The positions of the sections that move with a program header table `added` entries longer than the image's segments, in
@@ -25,7 +25,7 @@ pub fn find_move_sections(
     ensures free { OnOk result (is_stuck_with (resized image.now) added ≡ false) }
     ensures fault { IfErr result (IsStuckBy image.now added) }
 {
-    let read = read_again(alloc, image)?;
+    let read = read_source(alloc, image)?;
     let r = Resizing {
         read: &read,
         image,

@@ -153,13 +153,13 @@ module _ (r : Resized) (sized : sized_sections r ≡ map (sized_of r) (kept_sect
           absurd (fixed_isnt_moved looked moved move i s at fixed (ap (is_one_of moved) (sym (eqb-true x.position s.position same)) ∙ among))
 
 -- the sizes of an image's sections
-pub image_sized : (image : Image) → sized_sections (resized image) ≡ map (sized_of (resized image)) (kept_sections image)
+pub resized_sections : (image : Image) → sized_sections (resized image) ≡ map (sized_of (resized image)) (kept_sections image)
 unfolding new_sizes
-image_sized image = sized_from-map (new_size (resized image).read image) (kept_sections image)
+resized_sections image = sized_from-map (new_size (resized image).read image) (kept_sections image)
 
 pub fixed_sections_stay : FixedSectionsStay
 unfolding layout_for
 fixed_sections_stay image plan is i s at fixed =
     let placed : plan.places ≡ places (resized image) is.moved = ap (λ (l : Layout). l.places) is.follows in
     subst (λ (l : List Place). HasPlaceAt l s.position s.section.sh_addr) (sym placed)
-    (fixed_stays (resized image) (image_sized image) plan.looked is.moved is.ended.move i s at fixed)
+    (fixed_stays (resized image) (resized_sections image) plan.looked is.moved is.ended.move i s at fixed)

@@ -1,4 +1,5 @@
 pub mod MovedBlocks
+pub mod Faults
 pub mod Meeting
 pub mod Needs
 pub mod Texts

@@ -1,6 +1,8 @@
 ghost use Rattle.std.specs.Prelude.{◌≡◌};
 ghost use Rattle.elf_layout_plan.specs.declared.fault.LayoutFault.TheVariants.{Memory};
+ghost use Rattle.elf_layout_plan.specs.Faults.{fault_of_table};
 
+use elf_tables::TableFault;
 use std::alloc::{AllocError, AllocFailed};
 use std::error::Error;
 use std::fmt;
@@ -41,5 +43,16 @@ impl<T: Drop> From<AllocFailed<T>> for LayoutFault {
 
     fn from(_fault: AllocFailed<T>) -> LayoutFault {
         LayoutFault::Memory
+    }
+}
+
+impl From<TableFault> for LayoutFault {
+    ghost from_gives = { λ fault answer. answer ≡ fault_of_table fault };
+
+    fn from(fault: TableFault) -> LayoutFault {
+        match fault {
+            TableFault::NumberTooLarge => LayoutFault::NumberTooLarge,
+            TableFault::Memory => LayoutFault::Memory,
+        }
     }
 }

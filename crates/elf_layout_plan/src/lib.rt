@@ -3,7 +3,6 @@
 //! of them must move so that no two overlap.
 #![tactic(auto)]
 
-pub mod again;
 pub mod block;
 pub mod constants;
 pub mod fault;
@@ -11,13 +10,14 @@ pub mod laws;
 pub mod numbered;
 pub mod plan;
 pub mod rows;
+pub mod source;
 pub mod steps;
 pub mod walk;
 
-pub use crate::again::read_again;
 pub use crate::block::Block;
 pub use crate::fault::LayoutFault;
 pub use crate::numbered::is_numbered;
 pub use crate::plan::{Plan, PlanParts, SectionPlace};
+pub use crate::source::read_source;
 pub use crate::steps::Steps;
 pub use crate::walk::walk_blocks;

@@ -28,7 +28,7 @@ pub struct PlanParts {
     pub e_phoff: u64,
     /// Where the section header table stands in the file.
     pub e_shoff: u64,
-    /// How often it was looked for sections that move.
+    /// How often sections that move were looked for.
     pub rounds: usize,
     /// How many program headers more the last round looked with.
     pub looked: usize,
@@ -88,7 +88,7 @@ impl Plan {
         self.parts.e_shoff
     }
 
-    /// How often it was looked for sections that move. Takes no memory.
+    /// How often sections that move were looked for. Takes no memory.
     pub fn rounds(&self) -> usize
         ensures { result ≡ self.now.rounds }
     {

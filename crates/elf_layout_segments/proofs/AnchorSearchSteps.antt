@@ -196,15 +196,15 @@ pub record IsReadAgain (r : Resized) : Type 0 where
   pub same : r.read ≡ edited.read
   pub numbers : r.read.section_numbers ≡ counted (length r.read.sections)
 
-read_again-is : (r : Resized) → IsResized r → IsEdited r.image → IsReadAgain r
-read_again-is r h edited =
+read_source-is : (r : Resized) → IsResized r → IsEdited r.image → IsReadAgain r
+read_source-is r h edited =
     let (p, there, parts, rules, holds) = read_images_hold_parts r.image.source edited.read edited.is_read in
     let same : r.read ≡ edited.read = h.read ∙ ap (λ f. elim f as (λ _. Image) [ Ok read ↦ read | Err _ ↦ r.image ]) edited.is_read in
     record { edited = edited; same = same; numbers = subst (λ (image : Image). image.section_numbers ≡ counted (length image.sections)) (sym same) holds.section_numbers }
 
 -- the same of what is seen of an image with sizes
 pub again-seen : (x r : Resized) → x ≡ r → IsResized x → IsEdited x.image → IsReadAgain r
-again-seen x r e h edited = let P : Resized → Type 0 = IsReadAgain in subst P e (read_again-is x h edited)
+again-seen x r e h edited = let P : Resized → Type 0 = IsReadAgain in subst P e (read_source-is x h edited)
 
 count_up : (r : Resized) → IsReadAgain r → CountUp 0 r.read.section_numbers
 unfolding CountUp

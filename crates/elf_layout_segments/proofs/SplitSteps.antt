@@ -336,32 +336,32 @@ module _ (f : ℕ) where
   abbrev has_size : ℕ → SizedSection → Bool
   has_size v x = x.kept.position == v && x.size == f
 
-  none_sized : (k v : ℕ) (ns : List ℕ) (ss : List ImageSection) (zs : List ℕ) → v < k → list_any (has_size v) (sized_from (kept_from k ns ss) zs) ≡ false
-  none_sized k v [] ss zs h = refl
-  none_sized k v (n ∷ ns) [] zs h = refl
-  none_sized k v (n ∷ ns) (s ∷ ss) [] h = refl
-  none_sized k v (n ∷ ns) (s ∷ ss) (z ∷ zs) h =
+  none_has_size : (k v : ℕ) (ns : List ℕ) (ss : List ImageSection) (zs : List ℕ) → v < k → list_any (has_size v) (sized_from (kept_from k ns ss) zs) ≡ false
+  none_has_size k v [] ss zs h = refl
+  none_has_size k v (n ∷ ns) [] zs h = refl
+  none_has_size k v (n ∷ ns) (s ∷ ss) [] h = refl
+  none_has_size k v (n ∷ ns) (s ∷ ss) (z ∷ zs) h =
       ap (λ b. b && z == f || list_any (has_size v) (sized_from (kept_from (k + 1) ns ss) zs)) (ne_eqb k v (λ e. absurd (omega (arith, e, h))))
-      ∙ none_sized (k + 1) v ns ss zs (omega (arith, h))
+      ∙ none_has_size (k + 1) v ns ss zs (omega (arith, h))
 
-  one_sized : (k m : ℕ) (ns : List ℕ) (ss : List ImageSection) (zs : List ℕ) → length ns ≡ length ss → length zs ≡ length ss → m < length ss
+  one_has_size : (k m : ℕ) (ns : List ℕ) (ss : List ImageSection) (zs : List ℕ) → length ns ≡ length ss → length zs ≡ length ss → m < length ss
       → list_any (has_size (k + m)) (sized_from (kept_from k ns ss) zs) ≡ (slice_index zs m == f)
-  one_sized k m [] [] zs e g h = absurd (omega (arith, h))
-  one_sized k m [] (s ∷ ss) zs e g h = absurd (omega (arith, e))
-  one_sized k m (n ∷ ns) [] zs e g h = absurd (omega (arith, e))
-  one_sized k m (n ∷ ns) (s ∷ ss) [] e g h = absurd (omega (arith, g))
-  one_sized k zero (n ∷ ns) (s ∷ ss) (z ∷ zs) e g h =
+  one_has_size k m [] [] zs e g h = absurd (omega (arith, h))
+  one_has_size k m [] (s ∷ ss) zs e g h = absurd (omega (arith, e))
+  one_has_size k m (n ∷ ns) [] zs e g h = absurd (omega (arith, e))
+  one_has_size k m (n ∷ ns) (s ∷ ss) [] e g h = absurd (omega (arith, g))
+  one_has_size k zero (n ∷ ns) (s ∷ ss) (z ∷ zs) e g h =
       ap (λ b. b && z == f || list_any (has_size (k + 0)) (sized_from (kept_from (k + 1) ns ss) zs)) (eq-eqb k (k + 0) (omega arith))
-      ∙ ap (λ b. z == f || b) (none_sized (k + 1) (k + 0) ns ss zs (omega arith)) ∙ or_false (z == f)
+      ∙ ap (λ b. z == f || b) (none_has_size (k + 1) (k + 0) ns ss zs (omega arith)) ∙ or_false (z == f)
     where
       or_false : (b : Bool) → (b || false) ≡ b
       or_false true = refl
       or_false false = refl
-  one_sized k (suc m) (n ∷ ns) (s ∷ ss) (z ∷ zs) e g h =
+  one_has_size k (suc m) (n ∷ ns) (s ∷ ss) (z ∷ zs) e g h =
       let move : k + suc m ≡ k + 1 + m = omega arith in
       ap (λ b. b && z == f || list_any (has_size (k + suc m)) (sized_from (kept_from (k + 1) ns ss) zs)) (ne_eqb k (k + suc m) (λ x. absurd (omega (arith, x))))
       ∙ ap (λ v. list_any (has_size v) (sized_from (kept_from (k + 1) ns ss) zs)) move
-      ∙ one_sized (k + 1) m ns ss zs (omega (arith, e)) (omega (arith, g)) (omega (arith, h))
+      ∙ one_has_size (k + 1) m ns ss zs (omega (arith, e)) (omega (arith, g)) (omega (arith, h))
 
 and_regroup : (a b c d e : Bool) → (a && (b && c && d && e)) ≡ (a && b && c && d && e)
 and_regroup true b c d e = refl
@@ -387,7 +387,7 @@ module _ (r : Resized) (moved : List ℕ) (marks : List Bool) (starts : Starts) 
       ∙ and_regroup (not (is_moved moved s)) (is_loaded_section s.section) (s.section.sh_offset == p.p_offset) (s.section.sh_addr == p.p_vaddr) (slice_index r.sizes s.position == p.p_filesz)
       ∙ ap (λ b. not (is_moved moved s) && is_loaded_section s.section && s.section.sh_offset == p.p_offset && s.section.sh_addr == p.p_vaddr && b)
       (sym (ap (λ v. list_any (has_size p.p_filesz v) (sized_sections r)) zero_add
-      ∙ one_sized p.p_filesz 0 s.position r.image.section_numbers r.image.sections r.sizes are.numbered are.sized within))
+      ∙ one_has_size p.p_filesz 0 s.position r.image.section_numbers r.image.sections r.sizes are.numbered are.sized within))
 
   anchor_keeps : (l : Anchor) → AreThere r p l → keeps_at r marks starts headers p (anchor_position p l) ≡ (elim l as (λ _. Bool) [
     | Itself ↦ true

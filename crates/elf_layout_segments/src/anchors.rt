@@ -5,14 +5,14 @@ ghost use Rattle.elf_layout_moves.specs.Inner.{AreMarks};
 ghost use Rattle.elf_layout_segments.specs.AnchorPositions.{AreAnchors};
 
 use crate::anchor_search::{anchors_by_lists, lists_of};
-use crate::reading::{sections_are_sized, segment_at};
+use crate::reading::{sections_have_sizes, segment_at};
 use crate::splits::{count_flags, count_split, next_end};
 use crate::starts::starts_of;
 use elf_format::range::Range;
 use elf_layout_moves::resizing::Resizing;
 use std::alloc::{AllocError, Global};
 
-/// What a program header goes by; sections are anchor_position by their positions.
+/// What a program header goes by; sections are told by their positions.
 #[derive(Drop)]
 pub enum AnchorAt {
     /// It keeps its range.
@@ -46,7 +46,7 @@ pub fn headers_needed(
     requires marks { AreMarks r.now moved.now marks.now }
     ensures { IfOk result (λ count. count ≡ needed r.now moved.now) }
 {
-    sections_are_sized(r);
+    sections_have_sizes(r);
     let flags = count_flags(alloc, r, moved)?;
     let starts = starts_of(alloc, r, marks)?;
     Ok(flags + count_split(&starts, anchors))
@@ -66,7 +66,7 @@ pub fn kept_end(
     requires headers { headers ≡ header_count r.now moved.now }
     ensures { IfOk result (λ end. end ≡ end_of_kept r.now moved.now) }
 {
-    sections_are_sized(r);
+    sections_have_sizes(r);
     let starts = starts_of(alloc, r, marks)?;
     let mut end = r.form().file_header_size() as u64;
     for i in 0..anchors.len() {

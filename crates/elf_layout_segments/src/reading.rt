@@ -15,7 +15,7 @@ pub fn segment_at(r: &Resizing<'_, '_>, i: usize) -> SegmentHeader
 }
 
 /// Does nothing: it stands for the law that each section has a number at read and a size.
-pub fn sections_are_sized(r: &Resizing<'_, '_>)
+pub fn sections_have_sizes(r: &Resizing<'_, '_>)
     ensures { AreSized r.now }
 {
     let _source = r.image.source();

@@ -1,4 +1,4 @@
-//! The sections of an image by the numbers that program headers are followed with.
+//! The sections of an image by the numbers that tell where a program header goes.
 ghost use Rattle.std.specs.Prelude.{◌≡◌, IfOk};
 ghost use Rattle.elf_layout_segments.specs.Sections.{first_wanted, indexed_sections};
 

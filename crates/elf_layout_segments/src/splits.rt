@@ -6,7 +6,7 @@ ghost use Rattle.elf_layout_segments.specs.SplitCounts.{end_with, is_split_at, k
 ghost use Rattle.elf_layout_segments.specs.AnchorPositions.{anchor_model};
 
 use crate::anchors::AnchorAt;
-use crate::reading::sections_are_sized;
+use crate::reading::sections_have_sizes;
 use crate::starts::{Starts, is_marked};
 use elf_format::constants::{PF_X, SHF_ALLOC, SHF_EXECINSTR, SHF_WRITE, SHT_NOTE};
 use elf_format::records::SegmentHeader;
@@ -102,7 +102,7 @@ fn add_flags_at(
 fn flags_of(alloc: Global, r: &Resizing<'_, '_>, moved: &[usize]) -> Result<Vec<u32>, AllocError>
     ensures { IfOk result (λ flags. flags.items ≡ added_flags r.now moved.now) }
 {
-    sections_are_sized(r);
+    sections_have_sizes(r);
     let mut flags = Vec::new(alloc);
     for position in moved {
         add_flags_at(&mut flags, r, *position)?;

@@ -225,7 +225,7 @@ impl<'a, 'data> Sizing<'a, 'data> {
 
     // The size of a section that had that number, which is this one where it is a string table. `None` where it is past
     // 64 bits.
-    fn size_with(&self, section: &Section<'_>, number: usize, strings: u64) -> Option<u64>
+    fn size_by_kind(&self, section: &Section<'_>, number: usize, strings: u64) -> Option<u64>
         requires { section.now.sh_type ≡ SHT_STRTAB
             → strings ≡ strings_length self.now.read self.now.image number section.now.sh_size }
         ensures { let s = section_model section.now in
@@ -257,7 +257,7 @@ impl<'a, 'data> Sizing<'a, 'data> {
             (λ fault. fault ≡ NumberTooLarge → does_size_fit read image number s ≡ false) }
     {
         let strings = self.strings_of(alloc, section, number)?;
-        let size = self.size_with(section, number, strings);
+        let size = self.size_by_kind(section, number, strings);
         fitted(self.users.image().form().wide, size)
     }
 

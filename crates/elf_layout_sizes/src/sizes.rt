@@ -8,7 +8,7 @@ ghost use Rattle.elf_tables.specs.declared.fault.TableFault.TheVariants.{NumberT
 
 use crate::kinds::Sizing;
 use elf_image::Builder;
-use elf_layout_plan::{LayoutFault, read_again};
+use elf_layout_plan::{LayoutFault, read_source};
 use elf_tables::{Finished, TableFault};
 use std::alloc::Global;
 
@@ -19,7 +19,7 @@ pub fn sizes_of(alloc: Global, image: &Builder<'_>) -> Result<Vec<u64>, LayoutFa
     ensures fit { OnOk result (IsTrue (do_sizes_of_image_fit image.now)) }
     ensures fault { IfErr result (AreNoSizes image.now) }
 {
-    let read = read_again(alloc, image)?;
+    let read = read_source(alloc, image)?;
     new_sizes_of(alloc, &read, image)
 }
 
@@ -77,11 +77,8 @@ pub fn new_sizes_with_strings<'a, 'data>(
     ensures fit { OnOk result (IsTrue (do_sizes_of_image_fit image.entry.now)) }
     ensures fault { IfErr result (AreNoSizes image.entry.now) }
 {
-    match gathered(alloc, read, image) {
-        Ok(new) => Ok(new),
-        Err(TableFault::NumberTooLarge) => Err(LayoutFault::NumberTooLarge),
-        Err(TableFault::Memory) => Err(LayoutFault::Memory),
-    }
+    let new = gathered(alloc, read, image)?;
+    Ok(new)
 }
 
 /// The same, for a caller that has the image as its source was read.

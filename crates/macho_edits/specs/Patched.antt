@@ -25,8 +25,8 @@ inserted_command ctx buffer offset command =
     (commands_end ctx buffer + length command)
 
 -- bytes with a command put in at this offset, where those from there to the end make room behind it
-abbrev pub bytes_with : List ℕ → ℕ → ℕ → List ℕ → List ℕ
-bytes_with bytes offset end command =
+abbrev pub bytes_of_prepared : List ℕ → ℕ → ℕ → List ℕ → List ℕ
+bytes_of_prepared bytes offset end command =
     take offset bytes ++ (command ++ (take (end - offset) (drop offset bytes) ++ drop (end + length command) bytes))
 
 -- where a command is put in: among the commands, with room for it behind them

@@ -2,7 +2,7 @@ ghost use Rattle.std.specs.Prelude.{◌≡◌, ◌+◌, ◌^◌, ◌≤◌, ◌<
 ghost use Rattle.std.specs.Option.{option_map};
 ghost use Rattle.macho_image.specs.Command.{variant_size};
 ghost use Rattle.macho_image.specs.Form.{commands_end, header_of, header_size, ncmds_of, sizeofcmds_of};
-ghost use Rattle.macho_edits.specs.Patched.{InsertsAt, RemovesAt, bytes_with, bytes_without, bytes_with_counts, header_model, id_in, ids_in, inserted_command, load_dylib_in, load_dylibs_in, removed_bytes, removed_command, rpath_in, rpaths_in};
+ghost use Rattle.macho_edits.specs.Patched.{InsertsAt, RemovesAt, bytes_of_prepared, bytes_without, bytes_with_counts, header_model, id_in, ids_in, inserted_command, load_dylib_in, load_dylibs_in, removed_bytes, removed_command, rpath_in, rpaths_in};
 
 use crate::error::MachoError;
 pub use crate::room::fits;
@@ -42,7 +42,7 @@ impl HeaderContainer {
 fn insert_bytes(bytes: &mut [u8], offset: usize, end: usize, command: &[u8])
     requires order { offset ≤ end }
     requires room { end + length command.now ≤ length bytes.old }
-    ensures { bytes.new ≡ bytes_with bytes.old offset end command.now }
+    ensures { bytes.new ≡ bytes_of_prepared bytes.old offset end command.now }
 {
     let size = command.len();
     bytes[offset..end + size].rotate_right(size);

@@ -4,7 +4,7 @@ use Rattle.elf_image.specs.Dynamic.{Entry}
 use Rattle.elf_image.specs.ImageModel.{entry_model}
 use Rattle.elf_edits.specs.Changes.{test_model}
 use Rattle.elf_edits.proofs.ListSteps.{put_none, put_one}
-use Rattle.elf_edits.proofs.list.entries_without.Goals.{then-not-holds+in_ok-copy_entry+in_ok-push, else-not-holds}
+use Rattle.elf_edits.proofs.list.entries_without.Goals.{then-not-holds+in_ok-try_clone+in_ok-push, else-not-holds}
 use Rattle.elf_edits.proofs.list.entries_without.Goals as goal
 
 pub loop-entry-preserved : goal.loop-entry-preserved
@@ -14,10 +14,10 @@ loop-entry-preserved c =
     let x = c.entry-item.result in
     let keep = λ (e : Entry). not (test_model c.args.test.now e) in
     elim c.if-not-holds.branch [
-      | then-not-holds+in_ok-copy_entry+in_ok-push w ↦
+      | then-not-holds+in_ok-try_clone+in_ok-push w ↦
           let stays : keep (entry_model x) ≡ true = ap not (sym c.holds.ensures ∙ w.if-not-holds.true) in
           ap (λ v. map entry_model v.items) w.made-is ∙ ap (map entry_model) w.in_ok-push.ensures.items
-          ∙ put_one keep es i x c.loop-entry-test.true c.entry-item.is c.loop-entry.made.items w.in_ok-copy_entry.field-0 c.loop-entry.invariant stays w.in_ok-copy_entry.ensures
+          ∙ put_one keep es i x c.loop-entry-test.true c.entry-item.is c.loop-entry.made.items w.in_ok-try_clone.field-0 c.loop-entry.invariant stays w.in_ok-try_clone.ensures
       | else-not-holds w ↦
           let goes : keep (entry_model x) ≡ false = ap not (sym c.holds.ensures ∙ w.if-not-holds.false) in
           ap (λ v. map entry_model v.items) w.made-is

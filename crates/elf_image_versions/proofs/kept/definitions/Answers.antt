@@ -5,7 +5,6 @@ use Rattle.elf_format.specs.declared.constants.TheConstants.{SHT_GNU_VERDEF}
 use Rattle.elf_format.specs.File.{Parts, section_of_type}
 use Rattle.elf_image_versions.specs.VersionsModel.{definition_model}
 use Rattle.elf_format.specs.Answers.{Gives}
-use Rattle.elf_format.specs.Seen.{raw_definition}
 use Rattle.elf_image_rules.specs.Read.{parts_model}
 use Rattle.elf_format.specs.declared.records.SectionHeader.{SectionHeader}
 use Rattle.elf_format.specs.Versions.{VersionDefinition}
@@ -23,5 +22,5 @@ returns c =
     let p : Parts = parts_model c.args.parts.now in
     subst (λ (o : Option (List VersionDefinition)). Gives (λ v. map definition_model v.items) c.kept_definitions.result o)
     (definitions_some p (section_of_type SHT_GNU_VERDEF p.sections) c.in-Some.section (memory_of c.dynamic_texts-texts.result.now)
-    (c.in-Some.ensures ∙ ap (section_of_type SHT_GNU_VERDEF) c.deref.ensures.value) c.dynamic_texts-texts.ensures.value (map raw_definition c.args.walked.now) c.requires.walked)
+    (c.in-Some.ensures ∙ ap (section_of_type SHT_GNU_VERDEF) c.deref.ensures.value) c.dynamic_texts-texts.ensures.value c.args.walked.now c.requires.walked)
     c.kept_definitions.ensures

@@ -2,7 +2,6 @@ use Rattle.std.proofs.Common.{◌≡◌, drop, map}
 use Rattle.patch_bytes.specs.Memory.{memory_of}
 use Rattle.elf_format.specs.Options.{each}
 use Rattle.elf_image_versions.specs.VersionsModel.{needs_model}
-use Rattle.elf_format.specs.Seen.{raw_needs}
 use Rattle.elf_format.specs.Versions.{shown_need}
 use Rattle.elf_format.proofs.ForCallers.ReadingSteps.{with_front}
 use Rattle.elf_image_versions.proofs.kept.kept_needs.Given as goal
@@ -10,5 +9,5 @@ use Rattle.elf_image_versions.proofs.kept.kept_needs.Given as goal
 -- what was made so far, and what the rest gives
 abbrev pub invariant-loop-raw : goal.invariant-loop-raw
 invariant-loop-raw l =
-    with_front (map needs_model l.made.items) (each (shown_need l.room (memory_of l.texts)) (drop l.raw-index (map raw_needs l.walked)))
-    ≡ each (shown_need l.room (memory_of l.texts)) (map raw_needs l.walked)
+    with_front (map needs_model l.made.items) (each (shown_need l.room (memory_of l.texts)) (drop l.raw-index l.walked))
+    ≡ each (shown_need l.room (memory_of l.texts)) l.walked

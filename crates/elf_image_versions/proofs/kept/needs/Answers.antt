@@ -5,7 +5,6 @@ use Rattle.elf_format.specs.declared.constants.TheConstants.{SHT_GNU_VERNEED}
 use Rattle.elf_format.specs.File.{Parts, section_of_type}
 use Rattle.elf_image_versions.specs.VersionsModel.{needs_model}
 use Rattle.elf_format.specs.Answers.{Gives}
-use Rattle.elf_format.specs.Seen.{raw_needs}
 use Rattle.elf_image_rules.specs.Read.{parts_model}
 use Rattle.elf_format.specs.declared.records.SectionHeader.{SectionHeader}
 use Rattle.elf_format.specs.Versions.{VersionNeeds}
@@ -23,5 +22,5 @@ returns c =
     let p : Parts = parts_model c.args.parts.now in
     subst (λ (o : Option (List VersionNeeds)). Gives (λ v. map needs_model v.items) c.kept_needs.result o)
     (needs_some p (section_of_type SHT_GNU_VERNEED p.sections) c.in-Some.section (memory_of c.dynamic_texts-texts.result.now)
-    (c.in-Some.ensures ∙ ap (section_of_type SHT_GNU_VERNEED) c.deref.ensures.value) c.dynamic_texts-texts.ensures.value (map raw_needs c.args.walked.now) c.requires.walked)
+    (c.in-Some.ensures ∙ ap (section_of_type SHT_GNU_VERNEED) c.deref.ensures.value) c.dynamic_texts-texts.ensures.value c.args.walked.now c.requires.walked)
     c.kept_needs.ensures

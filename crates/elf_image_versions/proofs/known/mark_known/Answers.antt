@@ -10,7 +10,7 @@ use Rattle.elf_image_versions.proofs.known.mark_known.Goals as goal
 pub returns : goal.returns
 returns c =
     let ms : List ℕ = map (λ d. d.index) c.args.definitions.now in
-    let ns : List ℕ = flat_map (λ n. map (λ v. v.index) n.versions.items) c.args.needs.now in
+    let ns : List ℕ = flat_map (λ n. map (λ v. v.index) n.versions) c.args.needs.now in
     let first : List Bool = c.mark_definitions.new.marks in
     let second : List Bool = c.mark_needs.new.marks in
     let v = c.in_ok-marks.marks in

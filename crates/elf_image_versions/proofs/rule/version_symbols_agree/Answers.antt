@@ -13,7 +13,7 @@ pub returns : goal.returns
 returns c =
     let form = c.args.parts.now.form in
     let count : ℕ = c.args.section.sh_size / 2 in
-    let known : List ℕ = map (λ d. d.index) c.deref-2.result.now ++ flat_map (λ n. map (λ v. v.index) n.versions.items) c.deref-3.result.now in
+    let known : List ℕ = map (λ d. d.index) c.deref-2.result.now ++ flat_map (λ n. map (λ v. v.index) n.versions) c.deref-3.result.now in
     c.are_marked.ensures
     ∙ ap (λ m. list_all (is_marked m) (records (version_id form) 2 count c.section_bytes-bytes.result.now)) c.deref-4.ensures.value
     ∙ ap (λ b. list_all (is_marked c.in_ok-marks.marks.items) (records (version_id form) 2 count b)) c.section_bytes-bytes.ensures.value
@@ -21,6 +21,6 @@ returns c =
     (sym (c.in-Some.ensures ∙ ap (section_of_type SHT_DYNSYM) c.deref.ensures.value))
     (c.if-count-symbols.false ∙ ap (λ n. c.in-Some.symbols.sh_size / n) c.symbol_size.ensures.value)
     c.in_ok-marks.ensures
-    (ap (λ l. map (λ d. d.index) l ++ flat_map (λ n. map (λ v. v.index) n.versions.items) c.deref-3.result.now) c.deref-2.ensures.value
-    ∙ ap (λ l. map (λ d. d.index) c.args.definitions.now.values.items ++ flat_map (λ n. map (λ v. v.index) n.versions.items) l) c.deref-3.ensures.value
+    (ap (λ l. map (λ d. d.index) l ++ flat_map (λ n. map (λ v. v.index) n.versions) c.deref-3.result.now) c.deref-2.ensures.value
+    ∙ ap (λ l. map (λ d. d.index) c.args.definitions.now.values.items ++ flat_map (λ n. map (λ v. v.index) n.versions) l) c.deref-3.ensures.value
     ∙ known-walked (parts_model c.args.parts.now) c.args.definitions.now c.args.needs.now c.requires.definitions c.requires.needs)

@@ -4,7 +4,7 @@ use Rattle.std.proofs.lemmas.Option.{slice_get-get_or, slice_get_read}
 use Rattle.elf_layout_plan.specs.Memory.{Resized, sized_sections}
 use Rattle.elf_layout.specs.Numbers.{numbers_of}
 use Rattle.elf_layout_moves.specs.Seen.{resized_model}
-use Rattle.elf_layout.proofs.SizedSections.{none_found, none_sized, some_found}
+use Rattle.elf_layout.proofs.SizedSections.{none_found, none_has_size, some_found}
 use Rattle.elf_layout.proofs.sized.sized_at.Goals as goal
 use Rattle.elf_layout.proofs.sized.sized_at.Goals.{then-position-sections-via-then-position-sections, then-position-sections-via-else-position-sections+then-position-r}
 
@@ -17,7 +17,7 @@ returns-then-position-sections c =
           none_found seen c.source-source.ensures.edited c.sections-sections.result.now c.sections-sections.ensures c.args.position
           w.if-position-sections.true
       | then-position-sections-via-else-position-sections+then-position-r w ↦
-          none_sized seen c.source-source.ensures.edited c.sections-sections.result.now c.sections-sections.ensures c.args.position
+          none_has_size seen c.source-source.ensures.edited c.sections-sections.result.now c.sections-sections.ensures c.args.position
           w.if-position-r.true
     ] in
     subst (λ (r : Resized). None ≡ option_map numbers_of (slice_get (sized_sections r) c.args.position)) c.r.view_is is

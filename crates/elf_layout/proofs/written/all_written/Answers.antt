@@ -34,7 +34,7 @@ loop-i-preserved c =
     let sized : size ≡ header_count r moved * segment_header_size r.image.form =
     ap (λ n. n * c.segment_header_size.result) c.requires.headers ∙ ap (λ n. header_count r moved * n) (c.segment_header_size.ensures ∙ ap segment_header_size c.form-form.ensures) in
     c.in-Ok.ensures.0
-    ∙ ap (λ l. c.loop-i.made.items ++ l) (heading_written r moved c.args.marks.now c.sections_are_sized.ensures c.requires.marks begins c.in_ok-notes.ensures.begins c.form-form.result all size k p c.form-form.ensures c.requires.places sized lead)
+    ∙ ap (λ l. c.loop-i.made.items ++ l) (heading_written r moved c.args.marks.now c.sections_have_sizes.ensures c.requires.marks begins c.in_ok-notes.ensures.begins c.form-form.result all size k p c.form-form.ensures c.requires.places sized lead)
     ∙ ap (λ l. l ++ written_from r moved p) c.loop-i.invariant ∙ sym (written-more r moved c.loop-i.i p c.segment_at-p.ensures)
 
 pub returns-in-Err-clause-fault : goal.returns-in-Err-clause-fault
@@ -51,7 +51,7 @@ returns-in-Err-clause-fault c =
     let sized : size ≡ header_count r moved * segment_header_size r.image.form =
     ap (λ n. n * c.segment_header_size.result) c.requires.headers ∙ ap (λ n. header_count r moved * n) (c.segment_header_size.ensures ∙ ap segment_header_size c.form-form.ensures) in
     stands_too_far r moved (do_headings_fit c.form-form.result all begins size p k) c.in-Err.fault c.in-Err.ensures
-    (heading_past r moved c.args.marks.now c.sections_are_sized.ensures c.requires.marks begins c.in_ok-notes.ensures.begins c.form-form.result all size k p c.form-form.ensures c.requires.places sized lead c.loop-i.i c.segment_at-p.ensures)
+    (heading_past r moved c.args.marks.now c.sections_have_sizes.ensures c.requires.marks begins c.in_ok-notes.ensures.begins c.form-form.result all size k p c.form-form.ensures c.requires.places sized lead c.loop-i.i c.segment_at-p.ensures)
 
 pub returns-clause-written : goal.returns-clause-written
 returns-clause-written c =

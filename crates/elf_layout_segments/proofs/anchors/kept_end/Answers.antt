@@ -27,7 +27,7 @@ loop-i-preserved c =
     ∙ ap (λ (k : AnchorPosition). end_with (keeps_at r c.args.marks.now c.in_ok-starts.starts c.args.headers p k) (p.p_offset + p.p_filesz) size c.loop-i.end)
     (anchor-at r c.args.anchors.now c.requires.anchors c.loop-i.i l p (get_or_default c.args.anchors.now c.loop-i.i at.Itself l c.loop-i-test.true) c.segment_at.ensures)
     ∙ ap (λ (b : Bool). end_with b (p.p_offset + p.p_filesz) size c.loop-i.end)
-    (keeps-is r c.args.moved.now c.args.marks.now c.in_ok-starts.starts c.args.headers c.sections_are_sized.ensures c.requires.marks c.in_ok-starts.ensures c.requires.headers p)
+    (keeps-is r c.args.moved.now c.args.marks.now c.in_ok-starts.starts c.args.headers c.sections_have_sizes.ensures c.requires.marks c.in_ok-starts.ensures c.requires.headers p)
     ∙ ap (end_with (keeps_range r c.args.moved.now p) (p.p_offset + p.p_filesz) size) c.loop-i.invariant
     ∙ sym (kept_end-more r c.args.moved.now c.loop-i.i p c.segment_at.ensures)
 

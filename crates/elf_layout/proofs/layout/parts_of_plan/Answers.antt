@@ -1,7 +1,7 @@
 use Rattle.std.proofs.Common.{List, ℕ, subst, sym}
 use Rattle.elf_layout.specs.Inner.{IsStanding}
 use Rattle.elf_layout.proofs.PlanSteps.{parts_found}
-use Rattle.elf_layout.proofs.layout.parts_with.Goals as goal
+use Rattle.elf_layout.proofs.layout.parts_of_plan.Goals as goal
 
 pub returns-clause-parts : goal.returns-clause-parts
 returns-clause-parts c =

@@ -5,11 +5,11 @@ use elf_image::Builder;
 use std::alloc::{AllocError, Global};
 
 /// The image as its source was read, before any edit. Takes memory as a read does.
-pub fn read_again<'data>(
+pub fn read_source<'data>(
     alloc: Global,
     image: &Builder<'data>,
 ) -> Result<Builder<'data>, AllocError>
     ensures { IfOk result (λ read. read ≡ image_at_read image.now) }
 {
-    image.read_again(alloc)
+    image.read_source(alloc)
 }
