@@ -11,34 +11,18 @@ use Rattle.elf_layout_plan.specs.declared.fault.LayoutFault.{LayoutFault}
 use Rattle.elf_layout_plan.specs.declared.fault.LayoutFault.TheVariants as layout
 use Rattle.elf_layout_plan.specs.Plan.{IsOverlapping, IsPlan, Layout, resized}
 use Rattle.elf_layout.specs.Refused.{IsNoLayout}
-use Rattle.elf_write_spec.specs.Laws.{ShowsFinal}
-use Rattle.elf_write_spec.specs.Stays.{AreOthersSeen, IsDataSeen}
-use Rattle.elf_write_spec.specs.Writing.{AreHeadersApart, IsWritten}
+use Rattle.elf_write_spec.specs.Output.{AreHeadersApart}
+use Rattle.elf_write_spec.specs.WrittenFile.{IsWrittenOf}
 use Rattle.elf_write.specs.Counted.{Stops}
 use Rattle.elf_write_contents.specs.Numbers.{do_numbers_fit}
-use Rattle.elf_write_contents.specs.Seen.{HasHashes, HasHeaders, IsApart}
 use Rattle.elf_apply.specs.declared.error.ElfError.{ElfError}
 use Rattle.elf_apply.specs.declared.error.ElfError.TheVariants.{Io, Memory, Modify, Write}
 use Rattle.elf_apply.specs.declared.error.ModifyCause.TheVariants.{Overlap}
 
--- A file to which an edited image is written by a plan of it: it shows the image in its final form, to a loader too; data of the program
--- stands at its address, and so does every other byte that isn't written anew; headers and sections are those of the plan, hash tables
--- stand where the dynamic list says, and nothing shares an address or a byte of the file.
-pub record IsEditWritten (image : Image) (bytes : List ℕ) : Type 0 where
-  pub plan : Layout
-  pub planned : IsPlan (resized image) plan
-  pub written : IsWritten image plan bytes
-  pub shows : ShowsFinal image bytes
-  pub kept_data : IsDataSeen (resized image) plan bytes
-  pub others : AreOthersSeen (resized image) plan bytes
-  pub headers : HasHeaders image plan bytes
-  pub hashes : HasHashes image plan bytes
-  pub apart : IsApart image plan
-
 -- The bytes of an image: those that were read where nothing was edited.
 pub record IsImageWritten (image : Image) (bytes : List ℕ) : Type 0 where
   pub unchanged : image.changed ≡ false → bytes ≡ image.source
-  pub edited : image.changed ≡ true → IsEditWritten image bytes
+  pub edited : image.changed ≡ true → IsWrittenOf image bytes
 
 -- nothing differs from these bytes
 pub record IsNoDifference (bytes : List ℕ) (d : Difference) : Type 0 where

@@ -22,7 +22,7 @@ use Rattle.elf_layout_plan.specs.Plan.{resized}
 use Rattle.elf_layout_plan.proofs.ForCallers.ApartBlocks.{or-false}
 use Rattle.elf_layout_plan.proofs.ForCallers.ApartLists.{Each}
 use Rattle.elf_write_spec.specs.Base.{base, base_byte, does_byte_stay, has_position, old_places}
-use Rattle.elf_write_spec.specs.Writing.{IsWholeWriting, Writing, patches, written_bytes}
+use Rattle.elf_write_spec.specs.Output.{IsPlannedOutput, Output, patches, written_bytes}
 use Rattle.elf_write_spec.proofs.ForCallers.Laying.{AreApart, StandsIn, range_of, value-at}
 use Rattle.elf_write_spec.proofs.ForCallers.Patches.{keeps_base, length-written, patches_stand}
 use Rattle.elf_write.specs.LayingSteps.{is_in_load}
@@ -64,7 +64,7 @@ none_chosen false false m n none = refl
 -- what is kept of the source is what stays of it
 same_byte : (r : Resized) (k : ℕ)
     → kept_byte r.image.source (load_spans (length r.image.source) r.read.segments)
-    (map (span_in (length r.image.source)) (old_places r)) k ≡ base_byte r k
+    (map (span_in (length r.image.source)) (old_places r.read r.image)) k ≡ base_byte r k
 same_byte r k = by_length (cases_lt k len)
   where
     source : List ℕ
@@ -77,7 +77,7 @@ same_byte r k = by_length (cases_lt k len)
     kept = is_in_spans (load_spans len r.read.segments) k
 
     cleared : Bool
-    cleared = is_in_spans (map (span_in len) (old_places r)) k
+    cleared = is_in_spans (map (span_in len) (old_places r.read r.image)) k
 
     by_length : (k < len) ⊎ (len ≤ k)
         → (if kept && not cleared && nat_lt k len then slice_index source k else 0) ≡ base_byte r k
@@ -86,7 +86,7 @@ same_byte r k = by_length (cases_lt k len)
         ∙ chosen (kept && not cleared) (slice_index source k)
         ∙ ap (λ (b : Bool). if b && not cleared then slice_index source k else 0) (same_spans file_part len k (loads_of r.read.segments) below)
         ∙ ap (λ (b : Bool). if is_in_load r.read.segments k && not b then slice_index source k else 0)
-        (same_spans (λ x. x) len k (old_places r) below)
+        (same_spans (λ x. x) len k (old_places r.read r.image) below)
     by_length (inr past) =
         ap (λ (b : Bool). if kept && not cleared && b then slice_index source k else 0) (le-ltb k len past)
         ∙ none_chosen (kept && not cleared) (does_byte_stay r k) (slice_index source k) (slice_index source k) (get_or_past source k 0 past)
@@ -94,7 +94,7 @@ same_byte r k = by_length (cases_lt k len)
 -- so bytes over what stays are composed of it
 pub composed_of : (r : Resized) (source : List ℕ) (len : ℕ) (segments : List SegmentHeader) (places : List Range) (kept cleared : List Span)
     (patches : List Patch) (size : ℕ) (bytes : List ℕ)
-    → source ≡ r.image.source → len ≡ length source → segments ≡ r.read.segments → places ≡ old_places r
+    → source ≡ r.image.source → len ≡ length source → segments ≡ r.read.segments → places ≡ old_places r.read r.image
     → kept ≡ load_spans len segments → cleared ≡ map (span_in len) places
     → IsOverBase r patches size bytes → IsComposed source kept cleared patches size bytes
 composed_of r source len segments places kept cleared patches size bytes is_source is_len is_segments is_places is_kept is_cleared is = record {
@@ -112,7 +112,7 @@ composed_of r source len segments places kept cleared patches size bytes is_sour
     kept_is : kept ≡ load_spans (length read) r.read.segments
     kept_is = is_kept ∙ ap (λ (n : ℕ). load_spans n segments) long ∙ ap (load_spans (length read)) is_segments
 
-    cleared_is : cleared ≡ map (span_in (length read)) (old_places r)
+    cleared_is : cleared ≡ map (span_in (length read)) (old_places r.read r.image)
     cleared_is = is_cleared ∙ ap (λ (n : ℕ). map (span_in n) places) long ∙ ap (map (span_in (length read))) is_places
 
     byte : (k : ℕ) → kept_byte source kept cleared k ≡ base_byte r k
@@ -160,7 +160,7 @@ byte_of_base r size k less =
     let here : 0 + k ≡ k = omega arith in
     value-at (base_byte r) 0 size k less ∙ ap (base_byte r) here
 
-pub over_base : (w : Writing) → IsWholeWriting w
+pub over_base : (w : Output) → IsPlannedOutput w
     → IsOverBase (resized w.image) (patches w) (written_size (resized w.image) w.plan) (written_bytes w)
 over_base w is = record {
   sized = length-written w is;

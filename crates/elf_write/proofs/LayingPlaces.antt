@@ -24,7 +24,8 @@ use Rattle.elf_write_spec.specs.Base.{base, base_byte, is_rewritten, old_places,
 use Rattle.elf_write_spec.proofs.ForCallers.Laying.{length-values, value-at}
 use Rattle.elf_write_contents.specs.Inner.{IsReady}
 use Rattle.elf_write.specs.LayingSteps.{IsCleared, TakesFrom, is_in_load, is_in_range, is_rewritten_at, rewritten_places}
-use Rattle.elf_write_contents.proofs.ForCallers.{ReadFacts, read_facts}
+use Rattle.elf_write_contents.proofs.ForCallers.{edit_of}
+use Rattle.elf_write_spec.proofs.ForCallers.WholeEdits.{ReadFacts, read_facts}
 use Rattle.elf_format.proofs.ForCallers.Lengths.{length-segments}
 use Rattle.elf_image.proofs.ForCallers.KeptSections.{kept-at, length-kept}
 
@@ -53,7 +54,7 @@ few o kind =
 -- no more than plain numbering has
 pub few_segments : (read image : Image) → IsReady read image → length read.segments < 65536
 few_segments read image is =
-    let f : ReadFacts read image = read_facts read image is in
+    let f : ReadFacts read image = read_facts read image (edit_of is) in
     let many : length read.segments ≡ f.parts.opened.header.e_phnum =
     ap length f.holds.segments ∙ length-segments f.parts.opened f.parts.segments f.are_parts.segments in
     omega (arith, many, few f.parts.opened f.rules.file_kind)
@@ -84,9 +85,9 @@ rewritten-more : (r : Resized) (ks : List KeptSection) (i : ℕ) (s : KeptSectio
     → rewritten_places r (take (i + 1) ks) ≡ rewritten_places r (take i ks) ++ rewritten_places r (s ∷ [])
 rewritten-more r ks i s here at =
     ap (rewritten_places r) (take_more ks i s here ∙ ap (λ (x : KeptSection). take i ks ++ x ∷ []) at)
-    ∙ ap (map (λ (x : KeptSection). file_range (place_at_read x.section))) (filter-append (is_rewritten r) (take i ks) (s ∷ []))
-    ∙ map-append (λ (x : KeptSection). file_range (place_at_read x.section)) (filter (is_rewritten r) (take i ks))
-    (filter (is_rewritten r) (s ∷ []))
+    ∙ ap (map (λ (x : KeptSection). file_range (place_at_read x.section))) (filter-append (is_rewritten r.read) (take i ks) (s ∷ []))
+    ∙ map-append (λ (x : KeptSection). file_range (place_at_read x.section)) (filter (is_rewritten r.read) (take i ks))
+    (filter (is_rewritten r.read) (s ∷ []))
 
 -- what one section brings
 one-place : (r : Resized) (interpreter : Option ℕ) (s : KeptSection) (b : Bool) → interpreter ≡ interpreter_number r.read
@@ -94,7 +95,7 @@ one-place : (r : Resized) (interpreter : Option ℕ) (s : KeptSection) (b : Bool
     → rewritten_places r (s ∷ []) ≡ (if b then file_range (place_at_read s.section) ∷ [] else [])
 one-place r interpreter s b same is = by_test b (is ∙ ap (λ (o : Option ℕ). is_rewritten_at o s.number s.section) same)
   where
-    by_test : (b : Bool) → b ≡ is_rewritten r s
+    by_test : (b : Bool) → b ≡ is_rewritten r.read s
         → rewritten_places r (s ∷ []) ≡ (if b then file_range (place_at_read s.section) ∷ [] else [])
     by_test true e = ap (λ (t : Bool). map (λ (x : KeptSection). file_range (place_at_read x.section)) (if t then s ∷ [] else [])) (sym e)
     by_test false e = ap (λ (t : Bool). map (λ (x : KeptSection). file_range (place_at_read x.section)) (if t then s ∷ [] else [])) (sym e)
@@ -155,7 +156,7 @@ stays source k true false = elim (cases_lt k (length source)) [
 pub based : (r : Resized) (size : ℕ) (zeros copied cleared : List ℕ) → zeros ≡ replicate size 0
     → length copied ≡ length zeros → length cleared ≡ length copied
     → TakesFrom r.image.source (is_in_load r.read.segments) zeros copied
-    → IsCleared (is_in_range (old_places r)) copied cleared
+    → IsCleared (is_in_range (old_places r.read r.image)) copied cleared
     → cleared ≡ base r size
 unfolding base
 based r size zeros copied cleared are_zeros copied_long cleared_long takes clears =
@@ -175,14 +176,14 @@ based r size zeros copied cleared are_zeros copied_long cleared_long takes clear
     taken k = is_in_load r.read.segments k
 
     old : ℕ → Bool
-    old k = is_in_range (old_places r) k
+    old k = is_in_range (old_places r.read r.image) k
 
     zero_at : (k : ℕ) → k < size → slice_index zeros k ≡ 0
     zero_at k less = ap (λ (l : List ℕ). slice_index l k) are_zeros ∙ get_or-replicate size k 0 0 less
 
 -- the same by equal lists
 pub based_by : (r : Resized) (source : List ℕ) (segments : List SegmentHeader) (places : List Range) (zeros copied cleared : List ℕ)
-    → source ≡ r.image.source → segments ≡ r.read.segments → places ≡ old_places r
+    → source ≡ r.image.source → segments ≡ r.read.segments → places ≡ old_places r.read r.image
     → zeros ≡ replicate (length zeros) 0 → length copied ≡ length zeros → length cleared ≡ length copied
     → TakesFrom source (is_in_load segments) zeros copied
     → IsCleared (is_in_range places) copied cleared

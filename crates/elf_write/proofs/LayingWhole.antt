@@ -25,11 +25,11 @@ use Rattle.elf_layout_plan.specs.Plan.{Layout, resized}
 use Rattle.elf_layout_plan.specs.PlanModel.{place_model}
 use Rattle.elf_write_spec.specs.Base.{base, base_byte, is_data}
 use Rattle.elf_write_spec.specs.Headers.{written_header}
-use Rattle.elf_write_spec.specs.Writing.{IsWholeWriting, Writing, patch, patches, patches_of_headers, patches_of_section, patches_of_sections, written_bytes}
+use Rattle.elf_write_spec.specs.Output.{IsPlannedOutput, Output, patch, patches, patches_of_headers, patches_of_section, patches_of_sections, written_bytes}
 use Rattle.elf_write_spec.proofs.ForCallers.Laying.{length-values}
 use Rattle.elf_write_spec.proofs.ForCallers.Patches.{patches_lie}
 use Rattle.elf_write_spec.proofs.ForCallers.WholeFacts.{lengths, read_facts}
-use Rattle.elf_write_contents.specs.Inner.{writing_of}
+use Rattle.elf_write_contents.specs.Inner.{output_of}
 use Rattle.elf_write.specs.declared.spelled.SpelledHeaders.{SpelledHeaders}
 use Rattle.elf_write.specs.LayingSteps.{AreHeadersSpelled, DoHeadersFit, content_patches, header_patches, is_data_at}
 use Rattle.elf_write.specs.PieceSteps.{IsOverBase}
@@ -110,7 +110,7 @@ left-next image interpreter sections places ps contents i number x bytes d stays
     place : get_or ps i p ≡ p
     place = ap (λ (l : List Place). get_or l i p) (sym seen) ∙ get_or-map place_model places i d p in_places
 
-    of_data : stays ≡ is_data r s
+    of_data : stays ≡ is_data r.read s
     of_data = tested ∙ ap (λ (n : ℕ). is_data_at interpreter n (section_model x)) at.of_number
         ∙ ap (λ (o : Option ℕ). is_data_at o (slice_index image.section_numbers i) (section_model x)) same
 
@@ -155,14 +155,14 @@ laid-next pieces i d old now within so_far =
 -- what the headers and tables ask for
 pub headers_fit : (image : Image) (plan : Layout) (form : Form) (header : FileHeader) (headers : List SectionHeader)
     (contents : List (List ℕ)) → form ≡ image.form → header ≡ written_header image plan
-    → ((raw : List EntryNumbers) × IsWholeWriting (writing_of image plan headers contents raw))
+    → ((raw : List EntryNumbers) × IsPlannedOutput (output_of image plan headers contents raw))
     → DoHeadersFit form header plan.segments headers
-headers_fit image plan form header headers contents same_form same_header writing =
+headers_fit image plan form header headers contents same_form same_header output =
     subst (λ (f : Form). DoHeadersFit f header plan.segments headers) (sym same_form)
     (subst (λ (h : FileHeader). DoHeadersFit image.form h plan.segments headers) (sym same_header) (record {
-      of_file = writing.1.written.fit.header;
-      of_segments = writing.1.written.fit.segments;
-      of_sections = writing.1.written.fit.sections;
+      of_file = output.1.written.fit.header;
+      of_segments = output.1.written.fit.segments;
+      of_sections = output.1.written.fit.sections;
     }))
 
 -- with the form and the file header of the image
@@ -173,7 +173,7 @@ spelled_as form header image plan headers spelled same_form same_header are =
     subst (λ (f : Form). AreHeadersSpelled f (written_header image plan) plan.segments headers spelled) same_form
     (subst (λ (h : FileHeader). AreHeadersSpelled form h plan.segments headers spelled) same_header are)
 
-same_patches : (w : Writing) (spelled : SpelledHeaders)
+same_patches : (w : Output) (spelled : SpelledHeaders)
     → AreHeadersSpelled w.image.form (written_header w.image w.plan) w.plan.segments w.headers spelled
     → header_patches w.plan spelled ≡ patches_of_headers w
 same_patches w spelled are =
@@ -187,10 +187,10 @@ same_patches w spelled are =
 
 -- each section has a place and bytes
 pub as_many : (image : Image) (plan : Layout) (headers : List SectionHeader) (contents : List (List ℕ))
-    → ((raw : List EntryNumbers) × IsWholeWriting (writing_of image plan headers contents raw))
+    → ((raw : List EntryNumbers) × IsPlannedOutput (output_of image plan headers contents raw))
     → (length plan.places ≡ length image.sections) × (length contents ≡ length image.sections)
 as_many image plan headers contents (raw, is) =
-    let w : Writing = writing_of image plan headers contents raw in
+    let w : Output = output_of image plan headers contents raw in
     let l = lengths w is (read_facts w is) in
     (l.places ∙ sym l.sections, l.contents ∙ sym l.sections)
 
@@ -209,46 +209,46 @@ module _ (image : Image) (plan : Layout) (headers : List SectionHeader) (content
   of_sections = patches_of_sections (resized image) (kept_sections image) plan.places contents
 
   -- they are those of what is written
-  are_patches : (raw : List EntryNumbers) → these ≡ patches (writing_of image plan headers contents raw)
+  are_patches : (raw : List EntryNumbers) → these ≡ patches (output_of image plan headers contents raw)
   unfolding of_sections
   are_patches raw = of.are ∙ ap (λ (qs : List Patch). qs ++ of_sections)
-      (same_patches (writing_of image plan headers contents raw) spelled
+      (same_patches (output_of image plan headers contents raw) spelled
       (spelled_as form header image plan headers spelled of.same_form of.same_header of.are_spelled))
 
   is_size : size ≡ written_size (resized image) plan
   is_size = of.same_size ∙ ap (λ (f : Form). plan.e_shoff + length plan.places * section_header_size f) of.same_form
 
   -- they lie in the bytes of the file
-  pub all_lie : ((raw : List EntryNumbers) × IsWholeWriting (writing_of image plan headers contents raw)) → All (LiesIn size) these
+  pub all_lie : ((raw : List EntryNumbers) × IsPlannedOutput (output_of image plan headers contents raw)) → All (LiesIn size) these
   all_lie (raw, is) =
       subst (λ (n : ℕ). All (LiesIn n) these) (sym is_size)
       (subst (λ (qs : List Patch). All (LiesIn (written_size (resized image) plan)) qs) (sym (are_patches raw))
-      (all_each (LiesIn (written_size (resized image) plan)) (patches (writing_of image plan headers contents raw))
-      (patches_lie (writing_of image plan headers contents raw) is)))
+      (all_each (LiesIn (written_size (resized image) plan)) (patches (output_of image plan headers contents raw))
+      (patches_lie (output_of image plan headers contents raw) is)))
 
   -- laid over what stays they make it
-  pub laid-whole : (raw : List EntryNumbers) (old new : List ℕ) → old ≡ base (resized image) size → new ≡ laid these old
-      → new ≡ written_bytes (writing_of image plan headers contents raw)
+  pub laid-planned : (raw : List EntryNumbers) (old new : List ℕ) → old ≡ base (resized image) size → new ≡ laid these old
+      → new ≡ written_bytes (output_of image plan headers contents raw)
   unfolding written_bytes
-  laid-whole raw old new is_old is_new =
+  laid-planned raw old new is_old is_new =
       is_new ∙ ap (laid these) (is_old ∙ ap (base (resized image)) is_size)
       ∙ ap (λ (qs : List Patch). laid qs (base (resized image) (written_size (resized image) plan))) (are_patches raw)
 
   -- its bytes are theirs over what stays
-  whole_over : (raw : List EntryNumbers) → IsWholeWriting (writing_of image plan headers contents raw)
-      → IsOverBase (resized image) these size (written_bytes (writing_of image plan headers contents raw))
-  whole_over raw is =
-      let bytes : List ℕ = written_bytes (writing_of image plan headers contents raw) in
+  planned_over : (raw : List EntryNumbers) → IsPlannedOutput (output_of image plan headers contents raw)
+      → IsOverBase (resized image) these size (written_bytes (output_of image plan headers contents raw))
+  planned_over raw is =
+      let bytes : List ℕ = written_bytes (output_of image plan headers contents raw) in
       subst (λ (n : ℕ). IsOverBase (resized image) these n bytes) (sym is_size)
       (subst (λ (qs : List Patch). IsOverBase (resized image) qs (written_size (resized image) plan) bytes) (sym (are_patches raw))
-      (over_base (writing_of image plan headers contents raw) is))
+      (over_base (output_of image plan headers contents raw) is))
 
   -- so what makes such bytes makes those of the file
-  pub made-whole : ((raw : List EntryNumbers) × IsWholeWriting (writing_of image plan headers contents raw)) → (made : List ℕ)
+  pub made-planned : ((raw : List EntryNumbers) × IsPlannedOutput (output_of image plan headers contents raw)) → (made : List ℕ)
       → ((bytes : List ℕ) → IsOverBase (resized image) these size bytes → made ≡ bytes)
-      → (raw : List EntryNumbers) → made ≡ written_bytes (writing_of image plan headers contents raw)
+      → (raw : List EntryNumbers) → made ≡ written_bytes (output_of image plan headers contents raw)
   unfolding written_bytes
-  made-whole (known, is) made makes raw = makes (written_bytes (writing_of image plan headers contents known)) (whole_over known is)
+  made-planned (known, is) made makes raw = makes (written_bytes (output_of image plan headers contents known)) (planned_over known is)
 
 pub length-based : (r : Resized) (size : ℕ) (bytes : List ℕ) → bytes ≡ base r size → length bytes ≡ size
 unfolding base

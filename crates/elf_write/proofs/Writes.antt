@@ -17,30 +17,24 @@ use Rattle.elf_format.specs.declared.section_data.SectionData.TheVariants as kin
 use Rattle.elf_format.specs.Image.{Image, ImageSection}
 use Rattle.elf_format.specs.Options.{is_one_of, list_at}
 use Rattle.elf_format.specs.Places.{Place}
-use Rattle.elf_format.specs.Records.{symbols_in}
 use Rattle.elf_format.specs.Rules.{text_users}
 use Rattle.elf_tables.specs.Fields.{do_fields_fit}
 use Rattle.elf_tables.specs.Spelled.{entry_fields}
 use Rattle.elf_image.specs.Kept.{KeptSection, kept_sections}
 use Rattle.elf_layout_plan.specs.Memory.{Resized}
 use Rattle.elf_layout_plan.specs.Plan.{Layout, resized}
-use Rattle.elf_layout_plan.specs.Texts.{is_table_copied}
 use Rattle.elf_write_spec.specs.Base.{is_interpreter}
-use Rattle.elf_write_spec.specs.Contents.{AreDefinitionsIn, AreEntriesOf, AreNeedsIn, AreSymbolsOf, IsContent, content_at_number, spelled_list}
-use Rattle.elf_write_spec.specs.Final.{final}
+use Rattle.elf_write_spec.specs.Contents.{IsContent, IsContentOfKind, content_at_number}
 use Rattle.elf_write_spec.specs.Headers.{IsHeaderOf, written_header}
 use Rattle.elf_write_spec.specs.Whole.{IsWhole}
-use Rattle.elf_write_spec.specs.Writing.{AreHeadersApart, AreSectionsWritten, IsWholeWriting, written_bytes}
+use Rattle.elf_write_spec.specs.Output.{AreHeadersApart, AreSectionsWritten, IsPlannedOutput, written_bytes}
 use Rattle.elf_layout_plan.specs.ApartLaws.{PlansAreApart, PlansShowNotes}
-use Rattle.elf_write_spec.proofs.ForCallers.ApartInFile.{plans_are_apart_in_file}
-use Rattle.elf_write_spec.proofs.ForCallers.DataSeen.{written_files_keep_data, written_files_keep_hashes, written_files_keep_others}
-use Rattle.elf_write_spec.proofs.ForCallers.FileParts.{written_files_have_parts}
-use Rattle.elf_write_spec.proofs.ForCallers.ReadAgain.{written_files_are_read, written_files_show}
+use Rattle.elf_write_spec.proofs.ForCallers.FilesWritten.{files_are_written, files_by_plan}
 use Rattle.elf_write_contents.specs.declared.made.Made.{Made}
-use Rattle.elf_write_contents.specs.Inner.{AreContents, AreHeaders, ArePromised, AreRaw, IsMadeContent, IsPlanned, IsWholeWritten, strings_at, writing_of}
+use Rattle.elf_write_contents.specs.Inner.{AreContents, AreHeaders, ArePromised, AreRaw, IsMadeContent, IsPlanned, IsPlannedFile, strings_at, output_of}
 use Rattle.elf_write_contents.specs.Numbers.{do_records_fit}
-use Rattle.elf_write_contents.specs.Seen.{IsWritingTo}
-use Rattle.elf_write_contents.proofs.ForCallers.{ReadFacts, SectionRead, kept-at, kept_is, length-kept, linked_at, names_at, names_typed, read_facts, section_read, shows_none, shows_texts}
+use Rattle.elf_write_contents.proofs.ForCallers.{edit_of, linked_at, names_at, names_typed, shows_none, shows_texts}
+use Rattle.elf_write_spec.proofs.ForCallers.WholeEdits.{ReadFacts, SectionRead, kept-at, kept_is, length-kept, read_facts, section_read}
 use Rattle.elf_write_spec.proofs.ForCallers.NumberedSections.{kept}
 
 -- the content at a position
@@ -69,18 +63,10 @@ content-at r plan made raw _ _ _ are i k at = absurd are
 without_texts : (r : Resized) (plan : Layout) (raw : List EntryNumbers) (a b : List ℕ) (s : KeptSection) (bytes : List ℕ)
     → shows_texts s.section.kind ≡ false → IsContent r plan raw a s bytes → IsContent r plan raw b s bytes
 unfolding shows_texts
-without_texts r plan raw a b s bytes none shown = by_interpreter (is_interpreter r s) shown
+without_texts r plan raw a b s bytes none shown = by_interpreter (is_interpreter r.read s) shown
   where
     content_of : List ℕ → SectionData → Type 0
-    content_of strings kind = elim kind [
-      | kinds.Dynamic ↦ AreEntriesOf r plan strings (list_at (λ es. es) (final r.read r.image).entries) raw ×
-          (bytes ≡ spelled_list r.image.form raw (length bytes))
-      | kinds.Strings ↦ IsTrue (is_table_copied r.read r.image s.number) → bytes ≡ s.section.content
-      | kinds.DynamicSymbols ↦ AreSymbolsOf strings (final r.read r.image).dynamic_symbols (symbols_in r.image.form bytes)
-      | kinds.GnuVerdef ↦ AreDefinitionsIn r.image strings bytes
-      | kinds.GnuVerneed ↦ AreNeedsIn r strings bytes
-      | _ ↦ bytes ≡ s.section.content
-    ]
+    content_of strings kind = IsContentOfKind r plan raw strings s bytes kind
 
     by_kind : (kind : SectionData) → shows_texts kind ≡ false → content_of a kind → content_of b kind
     by_kind kinds.Dynamic h is = absurd (false≢true (sym h))
@@ -113,17 +99,17 @@ module _ (read image : Image) (plan : Layout) (made : Option Made) (raw : List E
     (planned : IsPlanned read image plan)
     (are : AreContents (resized image) plan made raw (kept_sections image) plan.places contents) where
   facts : ReadFacts read image
-  facts = read_facts read image planned.ready
+  facts = read_facts read image (edit_of planned.ready)
 
   -- the bytes of a string table are those that were found for it
   strings_are : (n : ℕ) (s : ImageSection) → slice_get image.sections n ≡ Some s → s.sh_type ≡ SHT_STRTAB
       → content_at_number image contents n ≡ strings_at image made n
   strings_are n s at typed =
       let k_at : slice_get (kept_sections image) n ≡ Some (kept n s) =
-      kept-at read image planned.ready n ∙ ap (option_map (kept n)) at in
+      kept-at read image (edit_of planned.ready) n ∙ ap (option_map (kept n)) at in
       let c = content-at (resized image) plan made raw (kept_sections image) plan.places contents are n (kept n s) k_at in
       ap (λ (o : Option KeptSection). unwrap_or (o >>= λ x. slice_get contents x.position) [])
-      (kept_is read image planned.ready n ∙ ap (option_map (kept n)) at)
+      (kept_is read image (edit_of planned.ready) n ∙ ap (option_map (kept n)) at)
       ∙ ap (λ (o : Option (List ℕ)). unwrap_or o []) c.is_bytes
       ∙ c.is.strings typed
 
@@ -149,9 +135,9 @@ module _ (read image : Image) (plan : Layout) (made : Option Made) (raw : List E
       → IsContent (resized image) plan raw (content_at_number image contents k.section.sh_link) k bytes
   content_linked i k at bytes shown =
       let long : length (kept_sections image) ≡ length image.sections =
-      length-kept read image planned.ready in
+      length-kept read image (edit_of planned.ready) in
       let within : i < length image.sections = omega (arith, slice_get_within (kept_sections image) i k at, long) in
-      let here = section_read read image planned.ready facts i within in
+      let here = section_read read image (edit_of planned.ready) facts i within in
       let same : kept i here.section ≡ k = same_Some (kept i here.section) k (sym here.is_kept ∙ at) in
       subst (λ (x : KeptSection). IsContent (resized image) plan raw (content_at_number image contents x.section.sh_link) x bytes) same
       (section_linked i here bytes
@@ -168,7 +154,7 @@ module _ (read image : Image) (plan : Layout) (made : Option Made) (raw : List E
       → IsContent (resized image) plan raw (content_at_number image contents k.section.sh_link) k bytes)
       → AreHeaders (resized image) (strings_at image made image.header.e_shstrndx) ks ps part
       → AreContents (resized image) plan made raw ks ps cs
-      → AreSectionsWritten (writing_of image plan hs contents raw) ks ps part cs
+      → AreSectionsWritten (output_of image plan hs contents raw) ks ps part cs
   sections_written hs [] [] [] [] linked headers bytes = tt
   sections_written hs (k ∷ ks) (p ∷ ps) (h ∷ part) (c ∷ cs) linked headers bytes = (
     record {
@@ -182,13 +168,13 @@ module _ (read image : Image) (plan : Layout) (made : Option Made) (raw : List E
   sections_written hs (k ∷ ks) (p ∷ ps) (h ∷ part) [] linked headers bytes = absurd bytes
   sections_written hs _ _ _ _ linked headers bytes = absurd headers
 
-  pub is_whole_writing : (hs : List SectionHeader) → AreHeadersApart image plan
+  pub is_planned_output : (hs : List SectionHeader) → AreHeadersApart image plan
       → AreRaw (resized image) plan made raw
       → AreHeaders (resized image) (strings_at image made image.header.e_shstrndx) (kept_sections image) plan.places hs
       → do_records_fit image.form (written_header image plan) plan.segments hs raw ≡ true
-      → IsWholeWriting (writing_of image plan hs contents raw)
+      → IsPlannedOutput (output_of image plan hs contents raw)
   unfolding do_records_fit
-  is_whole_writing hs apart is_raw headers fit =
+  is_planned_output hs apart is_raw headers fit =
       let four = and_parts _ _ fit in
       let three = and_parts _ _ four.0 in
       let two = and_parts _ _ three.0 in
@@ -209,46 +195,30 @@ module _ (read image : Image) (plan : Layout) (made : Option Made) (raw : List E
       → AreRaw (resized image) plan made raw
       → AreHeaders (resized image) (strings_at image made image.header.e_shstrndx) (kept_sections image) plan.places hs
       → do_records_fit image.form (written_header image plan) plan.segments hs raw ≡ true
-      → (entries : List EntryNumbers) × IsWholeWriting (writing_of image plan hs contents entries)
-  are_written hs apart is_raw headers fit = (raw, is_whole_writing hs apart is_raw headers fit)
+      → (entries : List EntryNumbers) × IsPlannedOutput (output_of image plan hs contents entries)
+  are_written hs apart is_raw headers fit = (raw, is_planned_output hs apart is_raw headers fit)
 
   -- these are its bytes
-  pub is_whole_written : (hs : List SectionHeader) (bytes : List ℕ) → AreHeadersApart image plan
+  pub is_planned_file : (hs : List SectionHeader) (bytes : List ℕ) → AreHeadersApart image plan
       → AreRaw (resized image) plan made raw
       → AreHeaders (resized image) (strings_at image made image.header.e_shstrndx) (kept_sections image) plan.places hs
       → do_records_fit image.form (written_header image plan) plan.segments hs raw ≡ true
-      → bytes ≡ written_bytes (writing_of image plan hs contents raw)
-      → IsWholeWritten image plan bytes
-  is_whole_written hs bytes apart is_raw headers fit same = record {
-    writing = writing_of image plan hs contents raw;
+      → bytes ≡ written_bytes (output_of image plan hs contents raw)
+      → IsPlannedFile image plan bytes
+  is_planned_file hs bytes apart is_raw headers fit same = record {
+    output = output_of image plan hs contents raw;
     of_image = refl;
     by_plan = refl;
-    whole = is_whole_writing hs apart is_raw headers fit;
+    whole = is_planned_output hs apart is_raw headers fit;
     are_bytes = same;
   }
 
 -- what the laws of plans and of written files say of them
 pub are_promised : PlansAreApart → PlansShowNotes
-    → (image : Image) (plan : Layout) (bytes : List ℕ) → IsWholeWritten image plan bytes → ArePromised image plan bytes
+    → (image : Image) (plan : Layout) (bytes : List ℕ) → IsPlannedFile image plan bytes → ArePromised image plan bytes
 are_promised are_apart show_notes image plan bytes is =
-    let w = is.writing in
-    let of_bytes : (b : List ℕ) → b ≡ written_bytes w → ArePromised w.image w.plan b = λ b same.
-    subst (λ (x : List ℕ). ArePromised w.image w.plan x) (sym same) (record {
-      written = record { writing = w; of_image = refl; by_plan = refl; is_writing = is.whole.written; are_bytes = refl };
-      shows = written_files_show w is.whole;
-      kept_data = written_files_keep_data w is.whole;
-      others = written_files_keep_others w is.whole;
-      headers = record { writing = w; to = to; parts = written_files_have_parts w is.whole; again = written_files_are_read w is.whole };
-      hashes = record { writing = w; to = to; seen = written_files_keep_hashes w is.whole };
-      apart = record {
-        memory = are_apart w.image w.plan is.whole.edited is.whole.planned;
-        notes = show_notes w.image w.plan is.whole.edited is.whole.planned;
-        in_file = plans_are_apart_in_file w.image w.plan is.whole.edited is.whole.planned is.whole.written.headers;
-      };
-    }) in
+    let w = is.output in
     subst (λ (i : Image). ArePromised i plan bytes) is.of_image
     (subst (λ (l : Layout). ArePromised w.image l bytes) is.by_plan
-    (of_bytes bytes is.are_bytes))
-  where
-    to : IsWritingTo is.writing is.writing.image is.writing.plan (written_bytes is.writing)
-    to = record { of_image = refl; by_plan = refl; is_writing = is.whole.written; are_bytes = refl }
+    (subst (λ (b : List ℕ). ArePromised w.image w.plan b) (sym is.are_bytes)
+    (record { written = files_are_written are_apart show_notes w is.whole; by_plan = files_by_plan w is.whole })))

@@ -20,7 +20,7 @@ use Rattle.elf_image.specs.Kept.{KeptSection, place_at_read}
 use Rattle.elf_layout_plan.specs.Memory.{Resized}
 use Rattle.elf_layout_plan.specs.Plan.{Layout}
 use Rattle.elf_write_spec.specs.Base.{has_position, is_opaque, is_rewritten}
-use Rattle.elf_write_spec.specs.Writing.{patch}
+use Rattle.elf_write_spec.specs.Output.{patch}
 use Rattle.elf_write.specs.declared.spelled.SpelledHeaders.{SpelledHeaders}
 
 -- ## Bytes by their positions
@@ -55,7 +55,7 @@ is_rewritten_at interpreter number s =
 
 -- where those stood that are written anew
 abbrev pub rewritten_places : Resized → List KeptSection → List Range
-rewritten_places r kept = map (λ s. file_range (place_at_read s.section)) (filter (is_rewritten r) kept)
+rewritten_places r kept = map (λ s. file_range (place_at_read s.section)) (filter (is_rewritten r.read) kept)
 
 -- ## What is laid over the bytes that stay
 

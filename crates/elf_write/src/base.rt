@@ -130,7 +130,8 @@ pub(crate) fn old_places<'data>(
     image: &Builder<'data>,
 ) -> Result<Vec<Range>, AllocError>
     requires { IsReady read.now image.now }
-    ensures { IfOk result (λ places. places.items ≡ places_rewritten (resized image.now)) }
+    ensures { IfOk result (λ places. places.items
+        ≡ places_rewritten (image_at_read image.now) image.now) }
 {
     few_segments(read, image);
     let mut places = Vec::new(alloc);
@@ -152,7 +153,7 @@ fn write_base<'data>(
 )
     requires ready { IsReady read.now image.now }
     requires zeros { bytes.old ≡ replicate (length bytes.old) 0 }
-    requires places { places.now ≡ places_rewritten (resized image.now) }
+    requires places { places.now ≡ places_rewritten (image_at_read image.now) image.now }
     ensures { bytes.new ≡ base (resized image.now) (length bytes.old) }
 {
     copy_loads(bytes, image.source(), read.segments());

@@ -1,5 +1,5 @@
 //! The bytes of an edited ELF file.
-ghost use Rattle.std.specs.Prelude.{◌≡◌, false, IfErr, IfOk, IsTrue, OnOk};
+ghost use Rattle.std.specs.Prelude.{◌≡◌, false, IfErr, IfOk, IsTrue};
 ghost use Rattle.patch_bytes.specs.ByteString.{bytes_of_each};
 ghost use Rattle.elf_format.specs.Ranges.{apart, range};
 ghost use Rattle.elf_format.specs.Records.{file_header_size};
@@ -8,21 +8,19 @@ ghost use Rattle.elf_layout_plan.specs.FilePlaced.{written_table};
 ghost use Rattle.elf_image.specs.Kept.{image_at_read, kept_sections};
 ghost use Rattle.elf_layout_plan.specs.Plan.{IsPlan, resized};
 ghost use Rattle.elf_layout_plan.specs.Refusals.{do_sizes_of_image_fit};
-ghost use Rattle.elf_write_spec.specs.Laws.{ShowsFinal};
-ghost use Rattle.elf_write_spec.specs.Stays.{AreOthersSeen, IsDataSeen};
 ghost use Rattle.elf_write_spec.specs.Whole.{IsWhole};
-ghost use Rattle.elf_write_spec.specs.Writing.{AreHeadersApart, IsWritten};
-ghost use Rattle.elf_write_contents.specs.Inner.{AreContents, ArePromised, IsPlanned, IsWholeWritten};
+ghost use Rattle.elf_write_spec.specs.Output.{AreHeadersApart};
+ghost use Rattle.elf_write_spec.specs.WrittenFile.{IsWrittenByPlan, IsWrittenOf};
+ghost use Rattle.elf_write_contents.specs.Inner.{AreContents, ArePromised, IsPlanned, IsPlannedFile};
 ghost use Rattle.elf_write_contents.specs.Numbers.{do_numbers_fit as do_all_fit};
 ghost use Rattle.elf_write_contents.specs.PreparedSteps.{IsPrepared};
 ghost use Rattle.elf_write.specs.Refused.{AreNoBytes};
-ghost use Rattle.elf_write_contents.specs.Seen.{HasHashes, HasHeaders, IsApart};
 
 use crate::laying::laid_bytes;
 use elf_format::range::Range;
 use elf_image::Builder;
 use elf_layout_plan::laws::{plans_are_apart, plans_show_notes};
-use elf_layout_plan::{LayoutFault, Plan, read_again};
+use elf_layout_plan::{LayoutFault, Plan, read_source};
 use elf_tables::TableFault;
 use elf_write_contents::contents::contents;
 use elf_write_contents::prepared::{Prepared, prepare};
@@ -55,7 +53,7 @@ pub(crate) fn are_headers_apart(image: &Builder<'_>, plan: &Plan) -> bool
 }
 
 // The bytes of the file with these contents.
-fn laid_with<'data>(
+fn bytes_of_contents<'data>(
     alloc: Global,
     read: &Builder<'data>,
     image: &Builder<'data>,
@@ -69,7 +67,7 @@ fn laid_with<'data>(
     requires contents { AreContents (resized image.now) plan.now prepared.now.made
         prepared.now.raw.items (kept_sections image.now) plan.now.places
         (bytes_of_each contents.now) }
-    ensures { IfOk result (λ bytes. IsWholeWritten image.now plan.now bytes.items) }
+    ensures { IfOk result (λ bytes. IsPlannedFile image.now plan.now bytes.items) }
 {
     let header = prepared.header;
     let bytes = laid_bytes(
@@ -86,7 +84,7 @@ fn laid_with<'data>(
 
 // The bytes of the file, with what is made before the contents.
 #[tactic(auto, using(crate::proofs::Writes::entries_fit))]
-fn bytes_with<'a, 'data>(
+fn bytes_of_prepared<'a, 'data>(
     alloc: Global,
     read: &'a Builder<'data>,
     image: &'a Builder<'data>,
@@ -97,14 +95,14 @@ fn bytes_with<'a, 'data>(
     requires apart { AreHeadersApart image.now plan.now }
     requires prepared { IsPrepared read.now image.now plan.now prepared.now }
     ensures { IfOk result (λ bytes.
-        IsWholeWritten image.entry.now plan.now bytes.items) }
+        IsPlannedFile image.entry.now plan.now bytes.items) }
 {
     let contents = contents(alloc, read, image, plan, &prepared.made, &prepared.raw)?;
-    laid_with(alloc, read, image, plan, prepared, &contents)
+    bytes_of_contents(alloc, read, image, plan, prepared, &contents)
 }
 
 // The bytes of the file, of which the headers share none.
-fn bytes_with_headers_apart<'a, 'data>(
+fn bytes_where_apart<'a, 'data>(
     alloc: Global,
     read: &'a Builder<'data>,
     image: &'a Builder<'data>,
@@ -113,19 +111,19 @@ fn bytes_with_headers_apart<'a, 'data>(
     requires planned { IsPlanned read.now image.now plan.now }
     requires apart { AreHeadersApart image.now plan.now }
     ensures written { IfOk result (λ bytes.
-        IsWholeWritten image.entry.now plan.now bytes.items) }
+        IsPlannedFile image.entry.now plan.now bytes.items) }
     ensures fault { IfErr result (λ fault.
         fault ≡ NumberTooLarge → do_all_fit image.entry.now plan.now ≡ false) }
 {
     let prepared = prepare(alloc, read, image, plan)?;
-    let bytes = bytes_with(alloc, read, image, plan, &prepared)?;
+    let bytes = bytes_of_prepared(alloc, read, image, plan, &prepared)?;
     Ok(bytes)
 }
 
 // The bytes of a file, of which it is known that the image is written whole to it: so it shows the image in its final form, and has the
 // data that was read; its headers, tables and sections stand apart.
 fn promised(image: &Builder<'_>, plan: &Plan, bytes: Vec<u8>) -> Vec<u8>
-    requires { IsWholeWritten image.now plan.now bytes.items }
+    requires { IsPlannedFile image.now plan.now bytes.items }
     ensures same { result ≡ bytes }
     ensures promises { ArePromised image.now plan.now result.items }
 {
@@ -135,7 +133,7 @@ fn promised(image: &Builder<'_>, plan: &Plan, bytes: Vec<u8>) -> Vec<u8>
 }
 
 /// The bytes of the file, as `image_bytes` tells them, for a caller that has the image as its source was read.
-pub fn image_bytes_again<'data>(
+pub fn image_bytes_from_read<'data>(
     alloc: Global,
     read: &Builder<'data>,
     image: &Builder<'data>,
@@ -145,15 +143,8 @@ pub fn image_bytes_again<'data>(
     requires whole { IsWhole read.now image.now }
     requires planned { IsPlan (resized image.now) plan.now }
     requires sized { IsTrue (do_sizes_of_image_fit image.now) }
-    ensures written { IfOk result (λ bytes. IsWritten image.now plan.now bytes.items) }
-    ensures shows { IfOk result (λ bytes. ShowsFinal image.now bytes.items) }
-    ensures data { IfOk result (λ bytes.
-        IsDataSeen (resized image.now) plan.now bytes.items) }
-    ensures others { IfOk result (λ bytes.
-        AreOthersSeen (resized image.now) plan.now bytes.items) }
-    ensures headers { IfOk result (λ bytes. HasHeaders image.now plan.now bytes.items) }
-    ensures hashes { IfOk result (λ bytes. HasHashes image.now plan.now bytes.items) }
-    ensures apart { OnOk result (IsApart image.now plan.now) }
+    ensures written { IfOk result (λ bytes. IsWrittenOf image.now bytes.items) }
+    ensures by_plan { IfOk result (λ bytes. IsWrittenByPlan image.now plan.now bytes.items) }
     ensures fault { IfErr result (AreNoBytes image.now plan.now) }
 {
     // what every image is: one that was read from these bytes, and edited
@@ -161,7 +152,7 @@ pub fn image_bytes_again<'data>(
     if !are_headers_apart(image, plan) {
         return Err(LayoutFault::Overlap);
     }
-    match bytes_with_headers_apart(alloc, read, image, plan) {
+    match bytes_where_apart(alloc, read, image, plan) {
         Ok(bytes) => Ok(promised(image, plan, bytes)),
         Err(TableFault::NumberTooLarge) => Err(LayoutFault::NumberTooLarge),
         Err(TableFault::Memory) => Err(LayoutFault::Memory),
@@ -174,17 +165,10 @@ pub fn image_bytes(alloc: Global, image: &Builder<'_>, plan: &Plan) -> Result<Ve
     requires whole { IsWhole (image_at_read image.now) image.now }
     requires planned { IsPlan (resized image.now) plan.now }
     requires sized { IsTrue (do_sizes_of_image_fit image.now) }
-    ensures written { IfOk result (λ bytes. IsWritten image.now plan.now bytes.items) }
-    ensures shows { IfOk result (λ bytes. ShowsFinal image.now bytes.items) }
-    ensures data { IfOk result (λ bytes.
-        IsDataSeen (resized image.now) plan.now bytes.items) }
-    ensures others { IfOk result (λ bytes.
-        AreOthersSeen (resized image.now) plan.now bytes.items) }
-    ensures headers { IfOk result (λ bytes. HasHeaders image.now plan.now bytes.items) }
-    ensures hashes { IfOk result (λ bytes. HasHashes image.now plan.now bytes.items) }
-    ensures apart { OnOk result (IsApart image.now plan.now) }
+    ensures written { IfOk result (λ bytes. IsWrittenOf image.now bytes.items) }
+    ensures by_plan { IfOk result (λ bytes. IsWrittenByPlan image.now plan.now bytes.items) }
     ensures fault { IfErr result (AreNoBytes image.now plan.now) }
 {
-    let read = read_again(alloc, image)?;
-    image_bytes_again(alloc, &read, image, plan)
+    let read = read_source(alloc, image)?;
+    image_bytes_from_read(alloc, &read, image, plan)
 }

@@ -1,5 +1,5 @@
 //! What of the bytes of an edited ELF file differs from the bytes that were read.
-ghost use Rattle.std.specs.Prelude.{◌≡◌, false, IfErr, IfOk, IfSome, IsTrue, OnOk};
+ghost use Rattle.std.specs.Prelude.{◌≡◌, false, IfErr, IfOk, IfSome, IsTrue};
 ghost use Rattle.patch_bytes.specs.ByteString.{bytes_of_each};
 ghost use Rattle.byte_store.specs.Composed.{IsDifference, made_of};
 ghost use Rattle.elf_tables.specs.declared.fault.TableFault.TheVariants.{NumberTooLarge};
@@ -7,31 +7,29 @@ ghost use Rattle.elf_image.specs.Kept.{image_at_read, kept_sections};
 ghost use Rattle.elf_layout_plan.specs.Plan.{IsPlan, resized};
 ghost use Rattle.elf_layout_plan.specs.Refusals.{do_sizes_of_image_fit};
 ghost use Rattle.elf_layout_sizes.specs.MadeTables.{IsMadeOfList};
-ghost use Rattle.elf_write_spec.specs.Laws.{ShowsFinal};
-ghost use Rattle.elf_write_spec.specs.Stays.{AreOthersSeen, IsDataSeen};
 ghost use Rattle.elf_write_spec.specs.Whole.{IsWhole};
-ghost use Rattle.elf_write_spec.specs.Writing.{AreHeadersApart, IsWritten};
-ghost use Rattle.elf_write_contents.specs.Inner.{AreContents, ArePromised, IsPlanned, IsWholeWritten};
+ghost use Rattle.elf_write_spec.specs.Output.{AreHeadersApart};
+ghost use Rattle.elf_write_spec.specs.WrittenFile.{IsWrittenByPlan, IsWrittenOf};
+ghost use Rattle.elf_write_contents.specs.Inner.{AreContents, ArePromised, IsPlanned, IsPlannedFile};
 ghost use Rattle.elf_write_contents.specs.Numbers.{do_numbers_fit as do_all_fit};
 ghost use Rattle.elf_write_contents.specs.PreparedSteps.{IsPrepared};
 ghost use Rattle.elf_write.specs.Refused.{AreNoBytes};
-ghost use Rattle.elf_write_contents.specs.Seen.{HasHashes, HasHeaders, IsApart};
 
 use crate::bytes::are_headers_apart;
 use crate::laying::laid_difference;
 use byte_store::Difference;
 use elf_image::Builder;
 use elf_layout_plan::laws::{plans_are_apart, plans_show_notes};
-use elf_layout_plan::{LayoutFault, Plan, read_again};
+use elf_layout_plan::{LayoutFault, Plan, read_source};
 use elf_tables::{Finished, TableFault};
 use elf_write_contents::contents::contents;
 use elf_write_contents::made::strings_from;
-use elf_write_contents::prepared::{Prepared, prepare_with};
+use elf_write_contents::prepared::{Prepared, prepare_with_strings};
 use patch_bytes::ByteString;
 use std::alloc::{AllocError, Global};
 
 // What differs from the source with these contents.
-fn differing_with<'data>(
+fn difference_of_contents<'data>(
     alloc: Global,
     read: &Builder<'data>,
     image: &Builder<'data>,
@@ -46,7 +44,7 @@ fn differing_with<'data>(
         prepared.now.raw.items (kept_sections image.now) plan.now.places
         (bytes_of_each contents.now) }
     ensures written { IfOk result (λ d.
-        IsWholeWritten image.now plan.now (made_of image.now.source d)) }
+        IsPlannedFile image.now plan.now (made_of image.now.source d)) }
     ensures makeable { IfOk result (λ d. IsDifference image.now.source d) }
 {
     let header = prepared.header;
@@ -64,7 +62,7 @@ fn differing_with<'data>(
 
 // What differs from the source, with what is made before the contents.
 #[tactic(auto, using(crate::proofs::Writes::entries_fit))]
-fn difference_with<'a, 'data>(
+fn difference_of_prepared<'a, 'data>(
     alloc: Global,
     read: &'a Builder<'data>,
     image: &'a Builder<'data>,
@@ -75,15 +73,15 @@ fn difference_with<'a, 'data>(
     requires apart { AreHeadersApart image.now plan.now }
     requires prepared { IsPrepared read.now image.now plan.now prepared.now }
     ensures written { IfOk result (λ d.
-        IsWholeWritten image.entry.now plan.now (made_of image.entry.now.source d)) }
+        IsPlannedFile image.entry.now plan.now (made_of image.entry.now.source d)) }
     ensures makeable { IfOk result (λ d. IsDifference image.entry.now.source d) }
 {
     let contents = contents(alloc, read, image, plan, &prepared.made, &prepared.raw)?;
-    differing_with(alloc, read, image, plan, prepared, &contents)
+    difference_of_contents(alloc, read, image, plan, prepared, &contents)
 }
 
 // What differs from the source, where the headers share no byte of the file.
-fn difference_with_headers_apart<'a, 'data>(
+fn difference_where_apart<'a, 'data>(
     alloc: Global,
     read: &'a Builder<'data>,
     image: &'a Builder<'data>,
@@ -94,21 +92,21 @@ fn difference_with_headers_apart<'a, 'data>(
     requires apart { AreHeadersApart image.now plan.now }
     requires strings { IfSome strings (IsMadeOfList read.now image.now) }
     ensures written { IfOk result (λ d.
-        IsWholeWritten image.entry.now plan.now (made_of image.entry.now.source d)) }
+        IsPlannedFile image.entry.now plan.now (made_of image.entry.now.source d)) }
     ensures makeable { IfOk result (λ d. IsDifference image.entry.now.source d) }
     ensures fault { IfErr result (λ fault.
         fault ≡ NumberTooLarge → do_all_fit image.entry.now plan.now ≡ false) }
 {
     let made = strings_from(alloc, read, image, strings)?;
-    let prepared = prepare_with(alloc, read, image, plan, made)?;
-    let difference = difference_with(alloc, read, image, plan, &prepared)?;
+    let prepared = prepare_with_strings(alloc, read, image, plan, made)?;
+    let difference = difference_of_prepared(alloc, read, image, plan, &prepared)?;
     Ok(difference)
 }
 
 // What differs from the source, of which it is known that the image is written whole to the bytes that it makes: so
 // they show the image in its final form, and have the data that was read; headers, tables and sections stand apart.
 fn promised(image: &Builder<'_>, plan: &Plan, difference: Difference) -> Difference
-    requires { IsWholeWritten image.now plan.now (made_of image.now.source difference) }
+    requires { IsPlannedFile image.now plan.now (made_of image.now.source difference) }
     ensures same { result ≡ difference }
     ensures promises { ArePromised image.now plan.now (made_of image.now.source result) }
 {
@@ -117,9 +115,9 @@ fn promised(image: &Builder<'_>, plan: &Plan, difference: Difference) -> Differe
     difference
 }
 
-/// What of the bytes of the file differs from the image's source, as `image_pieces_again` tells it, for a caller that may
+/// What of the bytes of the file differs from the image's source, as `image_pieces_from_read` tells it, for a caller that may
 /// have the string table of the dynamic list too, where it is made anew.
-pub fn image_pieces_with<'a, 'data>(
+pub fn image_pieces_with_strings<'a, 'data>(
     alloc: Global,
     read: &'a Builder<'data>,
     image: &'a Builder<'data>,
@@ -133,18 +131,9 @@ pub fn image_pieces_with<'a, 'data>(
     requires strings { IfSome strings (IsMadeOfList read.now image.now) }
     ensures makeable { IfOk result (λ d. IsDifference image.entry.now.source d) }
     ensures written { IfOk result (λ d.
-        IsWritten image.entry.now plan.now (made_of image.entry.now.source d)) }
-    ensures shows { IfOk result (λ d.
-        ShowsFinal image.entry.now (made_of image.entry.now.source d)) }
-    ensures data { IfOk result (λ d.
-        IsDataSeen (resized image.entry.now) plan.now (made_of image.entry.now.source d)) }
-    ensures others { IfOk result (λ d.
-        AreOthersSeen (resized image.entry.now) plan.now (made_of image.entry.now.source d)) }
-    ensures headers { IfOk result (λ d.
-        HasHeaders image.entry.now plan.now (made_of image.entry.now.source d)) }
-    ensures hashes { IfOk result (λ d.
-        HasHashes image.entry.now plan.now (made_of image.entry.now.source d)) }
-    ensures apart { OnOk result (IsApart image.entry.now plan.now) }
+        IsWrittenOf image.entry.now (made_of image.entry.now.source d)) }
+    ensures by_plan { IfOk result (λ d.
+        IsWrittenByPlan image.entry.now plan.now (made_of image.entry.now.source d)) }
     ensures fault { IfErr result (AreNoBytes image.entry.now plan.now) }
 {
     // what every image is: one that was read from these bytes, and edited
@@ -152,7 +141,7 @@ pub fn image_pieces_with<'a, 'data>(
     if !are_headers_apart(image, plan) {
         return Err(LayoutFault::Overlap);
     }
-    match difference_with_headers_apart(alloc, read, image, plan, strings) {
+    match difference_where_apart(alloc, read, image, plan, strings) {
         Ok(difference) => Ok(promised(image, plan, difference)),
         Err(TableFault::NumberTooLarge) => Err(LayoutFault::NumberTooLarge),
         Err(TableFault::Memory) => Err(LayoutFault::Memory),
@@ -161,7 +150,7 @@ pub fn image_pieces_with<'a, 'data>(
 
 /// What of the bytes of the file differs from the image's source, as `image_pieces` tells it, for a caller that has the
 /// image as its source was read.
-pub fn image_pieces_again<'data>(
+pub fn image_pieces_from_read<'data>(
     alloc: Global,
     read: &Builder<'data>,
     image: &Builder<'data>,
@@ -173,20 +162,12 @@ pub fn image_pieces_again<'data>(
     requires sized { IsTrue (do_sizes_of_image_fit image.now) }
     ensures makeable { IfOk result (λ d. IsDifference image.now.source d) }
     ensures written { IfOk result (λ d.
-        IsWritten image.now plan.now (made_of image.now.source d)) }
-    ensures shows { IfOk result (λ d. ShowsFinal image.now (made_of image.now.source d)) }
-    ensures data { IfOk result (λ d.
-        IsDataSeen (resized image.now) plan.now (made_of image.now.source d)) }
-    ensures others { IfOk result (λ d.
-        AreOthersSeen (resized image.now) plan.now (made_of image.now.source d)) }
-    ensures headers { IfOk result (λ d.
-        HasHeaders image.now plan.now (made_of image.now.source d)) }
-    ensures hashes { IfOk result (λ d.
-        HasHashes image.now plan.now (made_of image.now.source d)) }
-    ensures apart { OnOk result (IsApart image.now plan.now) }
+        IsWrittenOf image.now (made_of image.now.source d)) }
+    ensures by_plan { IfOk result (λ d.
+        IsWrittenByPlan image.now plan.now (made_of image.now.source d)) }
     ensures fault { IfErr result (AreNoBytes image.now plan.now) }
 {
-    image_pieces_with(alloc, read, image, plan, None)
+    image_pieces_with_strings(alloc, read, image, plan, None)
 }
 
 /// What of the bytes of the file to which an edited image is written by a plan, of which nothing went, differs from
@@ -204,19 +185,11 @@ pub fn image_pieces(
     requires sized { IsTrue (do_sizes_of_image_fit image.now) }
     ensures makeable { IfOk result (λ d. IsDifference image.now.source d) }
     ensures written { IfOk result (λ d.
-        IsWritten image.now plan.now (made_of image.now.source d)) }
-    ensures shows { IfOk result (λ d. ShowsFinal image.now (made_of image.now.source d)) }
-    ensures data { IfOk result (λ d.
-        IsDataSeen (resized image.now) plan.now (made_of image.now.source d)) }
-    ensures others { IfOk result (λ d.
-        AreOthersSeen (resized image.now) plan.now (made_of image.now.source d)) }
-    ensures headers { IfOk result (λ d.
-        HasHeaders image.now plan.now (made_of image.now.source d)) }
-    ensures hashes { IfOk result (λ d.
-        HasHashes image.now plan.now (made_of image.now.source d)) }
-    ensures apart { OnOk result (IsApart image.now plan.now) }
+        IsWrittenOf image.now (made_of image.now.source d)) }
+    ensures by_plan { IfOk result (λ d.
+        IsWrittenByPlan image.now plan.now (made_of image.now.source d)) }
     ensures fault { IfErr result (AreNoBytes image.now plan.now) }
 {
-    let read = read_again(alloc, image)?;
-    image_pieces_again(alloc, &read, image, plan)
+    let read = read_source(alloc, image)?;
+    image_pieces_from_read(alloc, &read, image, plan)
 }

@@ -7,8 +7,8 @@ ghost use Rattle.byte_store.specs.Laid.{LiesIn, laid, patches_of};
 ghost use Rattle.elf_format.specs.Records.{section_header_size};
 ghost use Rattle.elf_format.specs.declared.records.EntryNumbers.{EntryNumbers};
 ghost use Rattle.elf_write_spec.specs.Headers.{written_header};
-ghost use Rattle.elf_write_spec.specs.Writing.{IsWholeWriting, written_bytes};
-ghost use Rattle.elf_write_contents.specs.Inner.{IsReady, writing_of};
+ghost use Rattle.elf_write_spec.specs.Output.{IsPlannedOutput, written_bytes};
+ghost use Rattle.elf_write_contents.specs.Inner.{IsReady, output_of};
 
 use crate::base::base_bytes;
 use crate::pieces::pieces;
@@ -62,11 +62,11 @@ pub(crate) fn laid_bytes<'data>(
 ) -> Result<Vec<u8>, AllocError>
     requires read { IsReady read.now image.now }
     requires header { header ≡ written_header image.now plan.now }
-    requires writing { (raw : List EntryNumbers) × IsWholeWriting
-        (writing_of image.now plan.now headers.now (bytes_of_each contents.now) raw) }
+    requires output { (raw : List EntryNumbers) × IsPlannedOutput
+        (output_of image.now plan.now headers.now (bytes_of_each contents.now) raw) }
     ensures { IfOk result (λ bytes. (raw : List EntryNumbers) → bytes.items
         ≡ written_bytes
-        (writing_of image.now plan.now headers.now (bytes_of_each contents.now) raw)) }
+        (output_of image.now plan.now headers.now (bytes_of_each contents.now) raw)) }
 {
     let form = image.form();
     let Some(size) = file_size(form, plan) else {
@@ -93,11 +93,11 @@ pub(crate) fn laid_difference<'data>(
 ) -> Result<Difference, AllocError>
     requires read { IsReady read.now image.now }
     requires header { header ≡ written_header image.now plan.now }
-    requires writing { (raw : List EntryNumbers) × IsWholeWriting
-        (writing_of image.now plan.now headers.now (bytes_of_each contents.now) raw) }
+    requires output { (raw : List EntryNumbers) × IsPlannedOutput
+        (output_of image.now plan.now headers.now (bytes_of_each contents.now) raw) }
     ensures makes { IfOk result (λ d. (raw : List EntryNumbers) → made_of image.now.source d
         ≡ written_bytes
-        (writing_of image.now plan.now headers.now (bytes_of_each contents.now) raw)) }
+        (output_of image.now plan.now headers.now (bytes_of_each contents.now) raw)) }
     ensures makeable { IfOk result (λ d. IsDifference image.now.source d) }
 {
     let form = image.form();

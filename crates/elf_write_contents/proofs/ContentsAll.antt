@@ -27,7 +27,8 @@ use Rattle.elf_write_spec.specs.Final.{final}
 use Rattle.elf_write_contents.specs.declared.made.Made.{Made}
 use Rattle.elf_write_contents.specs.ContentSteps.{AreBytesOf, IsBytesAt, made_or}
 use Rattle.elf_write_contents.specs.Inner.{AreContents, AreRaw, AreStrings, IsMadeContent, IsPlanned, strings_at}
-use Rattle.elf_write_contents.proofs.ReadFacts.{ReadFacts, length-kept, read_facts}
+use Rattle.elf_write_contents.proofs.ReadyEdits.{edit_of}
+use Rattle.elf_write_spec.proofs.ForCallers.WholeEdits.{ReadFacts, length-kept, read_facts}
 use Rattle.elf_write_contents.proofs.OthersCopied.{content_is_read}
 use Rattle.elf_write_contents.proofs.ContentsMade.{IsOther, PlacedAt, bytes_at, definitions_made, needs_made, placed_at, resized_with, symbols_made}
 use Rattle.elf_write_contents.proofs.ContentsByType.{interpreter_made, list_made, others_made, room, strings_made}
@@ -43,7 +44,7 @@ places_long read image plan is =
     let places_are : plan.places ≡ map (place_in r is.planned.moved) (sized_sections r) = ap (λ (l : Layout). l.places) is.planned.follows in
     ap length places_are ∙ length-map (sized_sections r) (place_in r is.planned.moved)
     ∙ ap length (edited_facts image is.ready.edited).sized ∙ length-map (kept_sections image) (sized_of r)
-    ∙ length-kept read image is.ready
+    ∙ length-kept read image (edit_of is.ready)
 
 -- what is known of each, and of one behind them
 each_of_more : (P : ℕ → List ℕ → Type 0) (last : List ℕ) (cs : List (List ℕ)) → ((j : ℕ) (c : List ℕ) → slice_get cs j ≡ Some c → P j c)
@@ -80,7 +81,7 @@ module _ (image : Image) (plan : Layout) (made : Option Made) (raw : List EntryN
       → length contents ≡ length image.sections → AreContents (resized image) plan made raw (kept_sections image) plan.places contents
   all_made read is contents are long =
       let kept_long : length (kept_sections image) ≡ length image.sections =
-      length-kept read image is.ready in
+      length-kept read image (edit_of is.ready) in
       all_at (resized image) (kept_sections image) plan.places contents (places_long read image plan is ∙ sym kept_long) (long ∙ sym kept_long)
       (λ i k p c k_at p_at c_at. (are.each i c c_at).are k p k_at p_at)
 
@@ -119,7 +120,7 @@ module _ (read image : Image) (plan : Layout) (made : Option Made) (raw : List E
     (s : ImageSection) (s_at : slice_get image.sections i ≡ Some s) where
   -- the section with its place
   abbrev facts : ReadFacts read image
-  facts = read_facts read image is.ready
+  facts = read_facts read image (edit_of is.ready)
 
   place : PlacedAt read image plan facts.parts i
   place = placed_at read image plan is facts i (slice_get_within image.sections i s s_at)
@@ -194,7 +195,7 @@ pub interpreter_at : (read image : Image) (plan : Layout) (made : Option Made) (
     → is_some_and (λ n. n == i) (interpreter_number read) ≡ true
     → IsBytesAt image plan made raw i (list_at (λ name. name) image.interpreter)
 interpreter_at read image plan made raw is i within own =
-    let facts : ReadFacts read image = read_facts read image is.ready in
+    let facts : ReadFacts read image = read_facts read image (edit_of is.ready) in
     let place : PlacedAt read image plan facts.parts i = placed_at read image plan is facts i within in
     bytes_at read image plan made raw facts.parts i (list_at (λ name. name) image.interpreter) is.ready.at_read place
     (interpreter_made read image plan made raw is.ready facts i place own)

@@ -1,14 +1,13 @@
 -- The bytes of each section by its type: those that are copied, string tables, the dynamic list and the interpreter.
 use Rattle.std.proofs.Common.{◌≡◌, ◌≤◌, ◌<◌, ℕ, suc, add-one, ◌+◌, ◌-◌, ◌*◌, Bool, true, false, eqb, List, [], ◌∷◌, length, max, replicate, refl, sym, ap, ◌∙◌, subst, Option, Some, None, arith}
-use Rattle.std.specs.Prelude.{IsSome, ◌&&◌, count_by, is_some, not, find, if◌then◌else◌, ◌==◌}
-use Rattle.std.specs.List.{flat_map, slice_get}
+use Rattle.std.specs.Prelude.{IsSome, ◌&&◌, count_by, is_some, not, if◌then◌else◌, ◌==◌}
+use Rattle.std.specs.List.{flat_map}
 use Rattle.std.proofs.Math.Nat.{suc-mul}
 use Rattle.std.proofs.lemmas.Bool.{cond-false, cond-true, eqb-true, eq-eqb, false≢true}
 use Rattle.std.proofs.lemmas.List.{length-append, length-replicate}
-use Rattle.std.proofs.lemmas.Option.{none-some, same_Some, slice_get_within}
-use Rattle.std.specs.Option.{option_map}
+use Rattle.std.proofs.lemmas.Option.{same_Some, slice_get_within}
 use Rattle.patch_bytes.specs.Memory.{◌>>=◌}
-use Rattle.patch_bytes.proofs.MemoryLaws.{bind_some, some_bind}
+use Rattle.patch_bytes.proofs.MemoryLaws.{some_bind}
 use Rattle.elf_format.specs.declared.constants.TheConstants.{PT_INTERP, SHT_DYNAMIC, SHT_PROGBITS, SHT_STRTAB}
 use Rattle.elf_format.specs.declared.form.Form.{Form}
 use Rattle.elf_format.specs.declared.records.EntryNumbers.{EntryNumbers}
@@ -25,24 +24,23 @@ use Rattle.elf_format.specs.Rules.{file_of, is_opaque_relocation}
 use Rattle.elf_format.specs.Views.{interpreter_section}
 use Rattle.elf_format.proofs.ForCallers.ViewsAgree.{there_if}
 use Rattle.elf_image.specs.Kept.{KeptSection, interpreter_number, is_numbered, kept_of_type, kept_sections, link_of_type, stands_as_interpreter}
-use Rattle.elf_layout_plan.specs.Memory.{Resized}
 use Rattle.elf_layout_plan.specs.Needs.{written_entries}
 use Rattle.elf_layout_plan.specs.Plan.{Layout, resized}
 use Rattle.elf_layout_plan.specs.Sizes.{interpreter_size, new_size, strings_size}
 use Rattle.elf_layout_plan.specs.Texts.{is_table_copied, texts_in_use}
 use Rattle.elf_tables.specs.Strings.{table_length}
-use Rattle.elf_layout_plan.proofs.ForCallers.PlacedLists.{find-at}
 use Rattle.elf_write_spec.specs.Contents.{AreEntriesOf, IsContentByKind, spelled_list}
 use Rattle.elf_write_spec.specs.Final.{final}
 use Rattle.elf_tables.specs.Spelled.{spelled_entry}
 use Rattle.elf_tables.proofs.ForCallers.EntryBack.{entries_are_read_back}
-use Rattle.elf_write_spec.proofs.ForCallers.LinkedContents.{is_copied}
+use Rattle.elf_write_spec.proofs.ForCallers.SectionKinds.{is_copied}
 use Rattle.elf_write_spec.proofs.ForCallers.LinkedLists.{count-same, found_only}
-use Rattle.elf_write_spec.proofs.ForCallers.WholeLists.{has_at}
+use Rattle.elf_write_spec.proofs.ForCallers.RawEntries.{length-raw}
 use Rattle.elf_write_contents.specs.declared.made.Made.{Made}
 use Rattle.elf_write_contents.specs.Inner.{AreRaw, AreStrings, IsMadeContent, IsReady, content_read, strings_at}
-use Rattle.elf_write_contents.proofs.ReadFacts.{ReadFacts, SectionRead, kept-at, length-kept, length-now, section_read}
-use Rattle.elf_write_contents.proofs.OthersCopied.{content_is_read, others_copied, same_kept}
+use Rattle.elf_write_contents.proofs.ReadyEdits.{edit_of}
+use Rattle.elf_write_spec.proofs.ForCallers.WholeEdits.{ReadFacts, SectionRead, interpreter_stands, interpreter_type, length-kept, length-now, section_read}
+use Rattle.elf_write_contents.proofs.OthersCopied.{content_is_read, others_copied}
 use Rattle.elf_write_contents.proofs.ContentsMade.{IsOther, PlacedAt, content_by, content_copied, content_from, kind_copied, kind_is, resized_with, stored, typed, typed_size}
 use Rattle.elf_write_contents.proofs.ContentsCopied.{content_long, content_sized, copied_size, few_lists}
 use Rattle.elf_write_spec.proofs.ForCallers.NumberedSections.{kept}
@@ -119,13 +117,6 @@ module _ (read image : Image) (plan : Layout) (made : Option Made) (raw : List E
 
 -- ## The dynamic list
 
-length-entries : (r : Resized) (plan : Layout) (strings : List ℕ) (es : List Entry) (raw : List EntryNumbers) → AreEntriesOf r plan strings es raw
-    → length raw ≡ length es
-length-entries r plan strings [] [] are = refl
-length-entries r plan strings [] (x ∷ xs) are = absurd are
-length-entries r plan strings (e ∷ es) [] are = absurd are
-length-entries r plan strings (e ∷ es) (x ∷ xs) are = ap suc (length-entries r plan strings es xs are.1)
-
 length-spelled : (form : Form) (raw : List EntryNumbers) → length (flat_map (spelled_entry form) raw) ≡ length raw * entry_size form
 length-spelled form [] = omega arith
 length-spelled form (e ∷ es) =
@@ -163,12 +154,12 @@ module _ (read image : Image) (plan : Layout) (made : Option Made) (raw : List E
       let test : KeptSection → Bool = λ (k : KeptSection). k.section.sh_type == SHT_DYNAMIC in
       let was : SectionHeader → Bool = λ (s : SectionHeader). s.sh_type == SHT_DYNAMIC in
       let sections : length (kept_sections image) ≡ length image.sections =
-      length-kept read image is in
-      let long : length (kept_sections image) ≡ length f.parts.sections = sections ∙ length-now read image is f in
+      length-kept read image (edit_of is) in
+      let long : length (kept_sections image) ≡ length f.parts.sections = sections ∙ length-now read image (edit_of is) f in
       let same : count_by test (kept_sections image) ≡ count_by was f.parts.sections =
       count-same test was (kept_sections image) f.parts.sections long (λ j k s k_at s_at.
       let within : j < length image.sections = omega (arith, slice_get_within (kept_sections image) j k k_at, sections) in
-      let here : SectionRead read image f.parts j = section_read read image is f j within in
+      let here : SectionRead read image f.parts j = section_read read image (edit_of is) f j within in
       ap test (same_Some k (kept j here.section) (sym k_at ∙ here.is_kept))
       ∙ ap (λ (x : ImageSection). x.sh_type == SHT_DYNAMIC) here.of_old.fields
       ∙ ap was (same_Some here.old s (sym here.is_old ∙ s_at))) in
@@ -185,7 +176,7 @@ module _ (read image : Image) (plan : Layout) (made : Option Made) (raw : List E
   room =
       let entries : List Entry = list_at (λ es. es) (written_entries read image) in
       let long : length raw ≡ length entries =
-      length-entries (resized_with read image) plan (strings_at image made at.section.sh_link) entries raw listed in
+      length-raw (resized_with read image) plan (strings_at image made at.section.sh_link) entries raw listed in
       let size : at.place.sh_size ≡ max at.section.sh_size ((length entries + 1) * entry_size image.form) =
       typed_size read image plan made raw f.parts i at apart SHT_DYNAMIC typed_so in
       subst (λ n. length raw * entry_size image.form ≤ n) (sym size)
@@ -204,60 +195,19 @@ module _ (read image : Image) (plan : Layout) (made : Option Made) (raw : List E
 
 module _ (read image : Image) (plan : Layout) (made : Option Made) (raw : List EntryNumbers) (is : IsReady read image) (f : ReadFacts read image)
     (i : ℕ) (at : PlacedAt read image plan f.parts i) (own : is_numbered (interpreter_number read) (kept i at.section) ≡ true) where
-  number_is : interpreter_number read ≡ Some i
-  number_is = by_number (interpreter_number read) own
-    where
-      by_number : (o : Option ℕ) → is_numbered o (kept i at.section) ≡ true → o ≡ Some i
-      by_number None e = absurd (false≢true e)
-      by_number (Some n) e = ap (λ (m : ℕ). Some m) (eqb-true n i e)
-
   -- the section stands where PT_INTERP says
-  record Stands : Type 0 where
-    segment : SegmentHeader
-    there : segment_of_type PT_INTERP read.segments ≡ Some segment
-    stands : stands_as_interpreter segment at.section ≡ true
-
-  same_place : (j : ℕ) (k : KeptSection) → slice_get (kept_sections read) j ≡ Some k → option_map (kept j) (slice_get image.sections j) ≡ Some k
-  same_place j k k_at =
-      sym (kept-at read image is j) ∙ ap (λ (l : List KeptSection). slice_get l j) (same_kept read image is f) ∙ k_at
-
-  stands_there : Stands
-  stands_there =
-      let (q, q_there, more) = bind_some (segment_of_type PT_INTERP read.segments)
-      (λ p. find (λ s. stands_as_interpreter p s.section) (kept_sections read) >>= λ s. Some s.number) i number_is in
-      let (k, found, made_number) = bind_some (find (λ x. stands_as_interpreter q x.section) (kept_sections read)) (λ x. Some x.number) i more in
-      let number : k.number ≡ i = same_Some k.number i made_number in
-      let passes = find-at (λ x. stands_as_interpreter q x.section) (kept_sections read) k found in
-      let (j, k_at) = has_at (kept_sections read) k passes.0 in
-      record { segment = q; there = q_there; stands = by_section q k j number passes.1 (slice_get image.sections j) refl (same_place j k k_at) }
-    where
-      by_section : (q : SegmentHeader) (k : KeptSection) (j : ℕ) → k.number ≡ i → stands_as_interpreter q k.section ≡ true
-          → (o : Option ImageSection) → slice_get image.sections j ≡ o → option_map (kept j) o ≡ Some k
-          → stands_as_interpreter q at.section ≡ true
-      by_section q k j number passes None o_is now = absurd (none-some k now)
-      by_section q k j number passes (Some x) o_is now =
-          let same : kept j x ≡ k = same_Some (kept j x) k now in
-          let position : j ≡ i = ap (λ (y : KeptSection). y.number) same ∙ number in
-          let section : x ≡ at.section =
-          same_Some x at.section (sym o_is ∙ ap (slice_get image.sections) position ∙ at.is_section) in
-          ap (stands_as_interpreter q) (sym section ∙ ap (λ (y : KeptSection). y.section) same) ∙ passes
+  stands_there : (q : SegmentHeader) × (segment_of_type PT_INTERP read.segments ≡ Some q) × (stands_as_interpreter q at.section ≡ true)
+  stands_there = interpreter_stands read image (edit_of is) i at.section at.is_section own
 
   type_is : at.section.sh_type ≡ SHT_PROGBITS
-  type_is =
-      let q : SegmentHeader = stands_there.segment in
-      eqb-true at.section.sh_type SHT_PROGBITS (first (at.section.sh_type == SHT_PROGBITS) (at.section.sh_offset == q.p_offset)
-      (at.section.sh_addr == q.p_vaddr) (at.section.sh_size == q.p_filesz) stands_there.stands)
-    where
-      first : (a b c d : Bool) → (a && b && c && d) ≡ true → a ≡ true
-      first true b c d e = refl
-      first false b c d e = absurd (false≢true e)
+  type_is = interpreter_type read image (edit_of is) i at.section at.is_section own
 
   -- a name was read where PT_INTERP was
   name_there : IsSome read.interpreter
   name_there =
-      let old : SegmentHeader = stands_there.segment in
+      let (old, is_segment, _) = stands_there in
       let there : segment_of_type PT_INTERP f.parts.segments ≡ Some old =
-      ap (segment_of_type PT_INTERP) (sym f.holds.segments) ∙ stands_there.there in
+      ap (segment_of_type PT_INTERP) (sym f.holds.segments) ∙ is_segment in
       let right : is_some (interpreter_section old f.parts.sections) ≡ true =
       subst (λ o. is_none_or (λ q. is_some (interpreter_section q f.parts.sections)) o ≡ true) there f.rules.interpreter in
       let (s, found) = there_if (interpreter_section old f.parts.sections) right in

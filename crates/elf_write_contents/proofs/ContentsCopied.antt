@@ -22,7 +22,8 @@ use Rattle.elf_layout_plan.specs.Texts.{are_names_changed}
 use Rattle.elf_write_spec.proofs.ForCallers.LinkedLists.{found_only}
 use Rattle.elf_write_spec.proofs.ForCallers.LinkedRelocations.{symbol_size-pos}
 use Rattle.elf_write_contents.specs.Inner.{IsReady}
-use Rattle.elf_write_contents.proofs.ReadFacts.{ReadFacts, final_is}
+use Rattle.elf_write_contents.proofs.ReadyEdits.{edit_of}
+use Rattle.elf_write_spec.proofs.ForCallers.WholeEdits.{ReadFacts, final_is}
 use Rattle.elf_write_contents.proofs.ContentsMade.{IsOther, PlacedAt}
 use Rattle.elf_format.proofs.ForCallers.Lengths.{length-records}
 use Rattle.elf_write_spec.proofs.ForCallers.NumberedSections.{kept}
@@ -155,7 +156,7 @@ module _ (read image : Image) (plan : Layout) (is : IsReady read image) (f : Rea
 
   -- hash tables keep their sizes
   hash_same : hash_size read image at.section ≡ at.section.sh_size
-  hash_same = cond-true (not (are_names_changed read image)) at.section.sh_size _ (ap not (final_is read image is).names)
+  hash_same = cond-true (not (are_names_changed read image)) at.section.sh_size _ (ap not (final_is read image (edit_of is)).names)
 
   -- ## Any other section keeps its size
 

@@ -1,6 +1,6 @@
 -- The bytes of each section of an edited image of which nothing went: as many as its place has, and what they show, by the section's type.
 use Rattle.std.proofs.Common.{◌≡◌, ◌<◌, ℕ, ◌*◌, Bool, true, false, eqb, List, [], ◌∷◌, length, map, refl, sym, ap, ◌∙◌, subst, Option, Some}
-use Rattle.std.specs.Prelude.{IsTrue, ◌&&◌, not, if◌then◌else◌, ◌==◌}
+use Rattle.std.specs.Prelude.{◌&&◌, not, if◌then◌else◌, ◌==◌}
 use Rattle.std.specs.List.{slice_get}
 use Rattle.std.proofs.lemmas.Bool.{both_ways, cond-false, cond-true, eq-eqb, false≢true}
 use Rattle.std.proofs.lemmas.Option.{same_Some}
@@ -22,19 +22,19 @@ use Rattle.elf_layout_plan.specs.Needs.{written_needs}
 use Rattle.elf_layout_plan.specs.Plan.{Layout, layout_for, resized}
 use Rattle.elf_layout_plan.specs.Sizes.{definitions_size, dynamic_size, hash_size, interpreter_size, needs_size, new_size, new_sizes, strings_size, table_size}
 use Rattle.elf_layout_plan.specs.Standing.{place_in, places}
-use Rattle.elf_layout_plan.specs.Texts.{is_table_copied}
 use Rattle.elf_layout_plan.proofs.ForCallers.ApartLists.{at-map}
 use Rattle.elf_layout_plan.proofs.ForCallers.ApartRead.{edited_facts}
 use Rattle.elf_layout_plan.proofs.ForCallers.ApartSections.{at-sized, sized_of}
 use Rattle.elf_layout_plan.proofs.ForCallers.PlacedLists.{slice_get-at}
 use Rattle.elf_layout_plan.proofs.ForCallers.PlacedPlaces.{keeps_kind}
-use Rattle.elf_write_spec.specs.Contents.{AreDefinitionsIn, AreEntriesOf, AreNeedsIn, AreSymbolsOf, IsContent, spelled_list}
+use Rattle.elf_write_spec.specs.Contents.{AreDefinitionsIn, AreNeedsIn, AreSymbolsOf, IsContent, IsContentOfKind}
 use Rattle.elf_write_spec.specs.Final.{final}
-use Rattle.elf_write_spec.proofs.ForCallers.LinkedContents.{is_copied}
+use Rattle.elf_write_spec.proofs.ForCallers.SectionKinds.{is_copied}
 use Rattle.elf_write_contents.specs.declared.made.Made.{Made}
 use Rattle.elf_write_contents.specs.ContentSteps.{IsBytesAt}
 use Rattle.elf_write_contents.specs.Inner.{IsMadeContent, IsPlanned, strings_at}
-use Rattle.elf_write_contents.proofs.ReadFacts.{ReadFacts, SectionRead, section_read}
+use Rattle.elf_write_contents.proofs.ReadyEdits.{edit_of}
+use Rattle.elf_write_spec.proofs.ForCallers.WholeEdits.{ReadFacts, SectionRead, section_read}
 use Rattle.elf_write_spec.proofs.ForCallers.NumberedSections.{kept}
 use Rattle.elf_write_spec.proofs.ForCallers.SectionKinds.{kind_by}
 
@@ -60,7 +60,7 @@ pub placed_at : (read image : Image) (plan : Layout) → IsPlanned read image pl
     → i < length image.sections → PlacedAt read image plan f.parts i
 unfolding layout_for places
 placed_at read image plan is f i within =
-    let at : SectionRead read image f.parts i = section_read read image is.ready f i within in
+    let at : SectionRead read image f.parts i = section_read read image (edit_of is.ready) f i within in
     let k : KeptSection = kept i at.section in
     let r : Resized = resized image in
     let moved : List ℕ = is.planned.moved in
@@ -98,21 +98,9 @@ bytes_at read image plan made raw p i bytes same at is = record {
 
 -- ## Kinds
 
--- what a content is by its section's kind
-abbrev pub content_of : Resized → Layout → List EntryNumbers → List ℕ → KeptSection → List ℕ → SectionData → Type 0
-content_of r plan raw strings s bytes kind = elim kind [
-  | kinds.Dynamic ↦ AreEntriesOf r plan strings (list_at (λ es. es) (final r.read r.image).entries) raw ×
-      (bytes ≡ spelled_list r.image.form raw (length bytes))
-  | kinds.Strings ↦ IsTrue (is_table_copied r.read r.image s.number) → bytes ≡ s.section.content
-  | kinds.DynamicSymbols ↦ AreSymbolsOf strings (final r.read r.image).dynamic_symbols (symbols_in r.image.form bytes)
-  | kinds.GnuVerdef ↦ AreDefinitionsIn r.image strings bytes
-  | kinds.GnuVerneed ↦ AreNeedsIn r strings bytes
-  | _ ↦ bytes ≡ s.section.content
-]
-
 -- bytes as they were read, of a kind that is copied
 pub content_copied : (r : Resized) (plan : Layout) (raw : List EntryNumbers) (strings : List ℕ) (s : KeptSection) (bytes : List ℕ) (kind : SectionData)
-    → is_copied kind ≡ true → bytes ≡ s.section.content → content_of r plan raw strings s bytes kind
+    → is_copied kind ≡ true → bytes ≡ s.section.content → IsContentOfKind r plan raw strings s bytes kind
 content_copied r plan raw strings s bytes kinds.Opaque h e = e
 content_copied r plan raw strings s bytes kinds.Uninitialized h e = e
 content_copied r plan raw strings s bytes kinds.Dynamic h e = absurd (false≢true h)
@@ -176,13 +164,13 @@ module _ (read image : Image) (plan : Layout) (made : Option Made) (raw : List E
 
   module _ (apart : is_numbered (interpreter_number read) (kept i at.section) ≡ false) where
     -- by the kind
-    pub content_from : (strings bytes : List ℕ) (kind : SectionData) → at.section.kind ≡ kind → content_of r plan raw strings here bytes kind
+    pub content_from : (strings bytes : List ℕ) (kind : SectionData) → at.section.kind ≡ kind → IsContentOfKind r plan raw strings here bytes kind
         → IsContent r plan raw strings here bytes
     content_from strings bytes kind e h =
         subst (λ (b : Bool). elim b as (λ _. Type 0) [
           | true ↦ bytes ≡ list_at (λ name. name) image.interpreter
-          | _ ↦ content_of r plan raw strings here bytes at.section.kind
-        ]) (sym apart) (subst (content_of r plan raw strings here bytes) (sym e) h)
+          | _ ↦ IsContentOfKind r plan raw strings here bytes at.section.kind
+        ]) (sym apart) (subst (IsContentOfKind r plan raw strings here bytes) (sym e) h)
 
     plain_size : at.place.sh_size ≡ table_size read image (kept i at.section)
     unfolding new_size
@@ -192,7 +180,7 @@ module _ (read image : Image) (plan : Layout) (made : Option Made) (raw : List E
 
     -- of a type that decides the kind
     pub content_by : (strings bytes : List ℕ) (type : ℕ) → at.section.sh_type ≡ type → (kind : SectionData) → ((opaque : Bool) → kind_by type opaque ≡ kind)
-        → content_of r plan raw strings here bytes kind → IsContent r plan raw strings here bytes
+        → IsContentOfKind r plan raw strings here bytes kind → IsContent r plan raw strings here bytes
     content_by strings bytes type e kind by_type h =
         content_from strings bytes kind (kind_is type e ∙ by_type (is_opaque_relocation p at.old)) h
 
@@ -229,7 +217,7 @@ module _ (read image : Image) (plan : Layout) (made : Option Made) (raw : List E
     -- bytes of a type that is made anew, as many as the type's size
     pub typed : (bytes : List ℕ) (type : ℕ) → at.section.sh_type ≡ type → (not (eqb type 0) && not (eqb type 8)) ≡ true → (type == SHT_STRTAB) ≡ false
         → (kind : SectionData) → ((opaque : Bool) → kind_by type opaque ≡ kind) → length bytes ≡ size_for type
-        → content_of r plan raw (strings_at image made at.section.sh_link) here bytes kind
+        → IsContentOfKind r plan raw (strings_at image made at.section.sh_link) here bytes kind
         → IsMadeContent r plan made raw here at.place bytes
     typed bytes type e in_file other kind by_type long h = record {
       sized = long ∙ sym (typed_size type e) ∙ sym (stored type e in_file);

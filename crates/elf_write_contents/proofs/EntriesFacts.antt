@@ -17,18 +17,15 @@ use Rattle.elf_write_spec.specs.Final.{final}
 use Rattle.elf_write_spec.proofs.ForCallers.SameLists.{entries_same, needs_same}
 use Rattle.elf_write_contents.specs.Inner.{IsReady}
 use Rattle.elf_write_contents.proofs.OthersCopied.{same_link}
-use Rattle.elf_write_contents.proofs.ReadFacts.{ReadFacts, final_is}
+use Rattle.elf_write_contents.proofs.ReadyEdits.{edit_of}
+use Rattle.elf_write_spec.proofs.ForCallers.WholeEdits.{ReadFacts, final_is}
 
 -- ## What is written of the lists
-
--- the entries that are written are those of the image
-pub final_entries : (read image : Image) → IsReady read image → (final read image).entries ≡ image.entries
-final_entries read image is = (final_is read image is).entries
 
 -- no needed version goes
 pub final_needs : (read image : Image) → IsReady read image → (final (image_at_read image) image).needs ≡ image.needs
 final_needs read image is =
-    ap (λ (r : Image). (final r image).needs) (sym is.at_read) ∙ (final_is read image is).needs
+    ap (λ (r : Image). (final r image).needs) (sym is.at_read) ∙ (final_is read image (edit_of is)).needs
 
 -- ## Texts with others left out
 

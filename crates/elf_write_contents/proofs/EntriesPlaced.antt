@@ -38,7 +38,8 @@ use Rattle.elf_write_contents.proofs.EntriesFacts.{other_texts, texts_left, text
 use Rattle.elf_write_contents.proofs.EntriesTables.{Link, NoLink}
 use Rattle.elf_write_contents.proofs.EntriesTables as tables
 use Rattle.elf_write_contents.proofs.OthersCopied.{content_is_read}
-use Rattle.elf_write_contents.proofs.ReadFacts.{ReadFacts, SectionRead, Nowhere, There, length-now, read_facts, section_read, type_at}
+use Rattle.elf_write_contents.proofs.ReadyEdits.{edit_of}
+use Rattle.elf_write_spec.proofs.ForCallers.WholeEdits.{ReadFacts, SectionRead, Nowhere, There, length-now, read_facts, section_read, type_at}
 use Rattle.elf_write_spec.proofs.ForCallers.NumberedSections.{kept}
 
 -- ## Places that are made one by one
@@ -267,8 +268,8 @@ module _ (read image : Image) (is : IsReady read image) (f : ReadFacts read imag
   memory_kept link None o_is = λ a x h. absurd (none-some x h)
   memory_kept link (Some old) o_is =
       let within : link < length image.sections =
-      omega (arith, slice_get_within f.parts.sections link old o_is, length-now read image is f) in
-      let here : SectionRead read image f.parts link = section_read read image is f link within in
+      omega (arith, slice_get_within f.parts.sections link old o_is, length-now read image (edit_of is) f) in
+      let here : SectionRead read image f.parts link = section_read read image (edit_of is) f link within in
       let same : old ≡ here.old = same_Some old here.old (sym o_is ∙ here.is_old) in
       let bytes : content_read image link ≡ section_bytes (file_of f.parts) old =
       content_is_read read image is link here.section here.is_section ∙ ap (λ (s : ImageSection). s.content) here.of_old.fields
@@ -292,7 +293,7 @@ module _ (read image : Image) (is : IsReady read image) (f : ReadFacts read imag
   list_here : (list : ℕ) → type_position image SHT_DYNAMIC ≡ Some list → ListHere list
   list_here list here = elim (tables.link_at image SHT_DYNAMIC is.edited) [
     | NoLink none not ↦ absurd (none-some list (sym none ∙ here))
-    | Link j k position at found ↦ elim (type_at read image is f SHT_DYNAMIC) [
+    | Link j k position at found ↦ elim (type_at read image (edit_of is) f SHT_DYNAMIC) [
       | Nowhere was now ↦ absurd (none-some k (sym now ∙ found))
       | There i section e e' was now ↦
           let own : 0 + j ≡ list = same_Some (0 + j) list (sym position ∙ here) in
@@ -364,7 +365,7 @@ module _ (read image : Image) (is : IsReady read image) (f : ReadFacts read imag
 
 module _ (read image : Image) (is : IsReady read image) (list : ℕ) (at : type_position image SHT_DYNAMIC ≡ Some list) where
   facts : ReadFacts read image
-  facts = read_facts read image is
+  facts = read_facts read image (edit_of is)
 
   here : ListHere read image is facts list
   here = list_here read image is facts list at

@@ -19,7 +19,8 @@ use Rattle.elf_write_spec.specs.Final.{final}
 use Rattle.elf_write_contents.specs.declared.made.Made.{Made}
 use Rattle.elf_write_contents.specs.EntrySteps.{TextsStand, link_at, numbers_with}
 use Rattle.elf_write_contents.specs.Inner.{AreRaw, IsReady, strings_at}
-use Rattle.elf_write_contents.proofs.EntriesFacts.{final_entries}
+use Rattle.elf_write_contents.proofs.ReadyEdits.{edit_of}
+use Rattle.elf_write_spec.proofs.ForCallers.WholeEdits.{final_is}
 use Rattle.elf_write_contents.proofs.EntriesPlaced.{linked_now}
 use Rattle.elf_write_contents.proofs.EntriesTables.{Link, NoLink}
 use Rattle.elf_write_contents.proofs.EntriesTables as tables
@@ -60,7 +61,7 @@ pub are_raw : (read image : Image) (plan : Layout) (made : Option Made) → IsRe
 are_raw read image plan made is list at raw are =
     let linked : link_of_type SHT_DYNAMIC image ≡ Some (link_at image list) = linked_now read image is list at in
     let entries : (final (image_at_read image) image).entries ≡ image.entries =
-    ap (λ (r : Image). (final r image).entries) (sym is.at_read) ∙ final_entries read image is in
+    ap (λ (r : Image). (final r image).entries) (sym is.at_read) ∙ (final_is read image (edit_of is)).entries in
     record {
       no_list = λ not. absurd (none-some (link_at image list)
           (sym (ap (λ (o : Option KeptSection). o >>= λ s. Some s.section.sh_link) not) ∙ linked));

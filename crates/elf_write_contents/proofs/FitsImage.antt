@@ -31,7 +31,8 @@ use Rattle.elf_write_contents.specs.FitSteps.{do_unnamed_fit, unnamed}
 use Rattle.elf_write_contents.specs.Inner.{AreHeaders, AreRaw, AreStrings, IsPlanned, IsReady, strings_at}
 use Rattle.elf_write_contents.specs.Numbers.{do_numbers_fit, do_sections_fit, does_entry_fit, entry_with}
 use Rattle.elf_write_contents.proofs.FitsStrings.{strings_short, words_end}
-use Rattle.elf_write_contents.proofs.ReadFacts.{Nowhere, ReadFacts, There, final_is, read_facts, type_at}
+use Rattle.elf_write_contents.proofs.ReadyEdits.{edit_of}
+use Rattle.elf_write_spec.proofs.ForCallers.WholeEdits.{Nowhere, ReadFacts, There, final_is, read_facts, type_at}
 
 -- ## Section headers
 
@@ -99,13 +100,13 @@ no_entries : (read image : Image) → IsReady read image → kept_of_type SHT_DY
     → list_at (λ es. es) (final (image_at_read image) image).entries ≡ []
 unfolding entries_read
 no_entries read image is none =
-    let f = read_facts read image is in
+    let f = read_facts read image (edit_of is) in
     ap (λ (r : Image). list_at (λ es. es) (final r image).entries) (sym is.at_read)
-    ∙ ap (list_at (λ es. es)) (final_is read image is).entries
+    ∙ ap (list_at (λ es. es)) (final_is read image (edit_of is)).entries
     ∙ none_listed read.entries image.entries f.edit.entries (read_none f)
   where
     read_none : (f : ReadFacts read image) → read.entries ≡ None
-    read_none f = elim (type_at read image is f SHT_DYNAMIC) [
+    read_none f = elim (type_at read image (edit_of is) f SHT_DYNAMIC) [
       | Nowhere was now ↦ sym (same_Some None read.entries (ap (entries_read f.parts) (sym was) ∙ f.holds.entries))
       | There i at _ _ _ now ↦ absurd (none-some _ (sym none ∙ now))
     ]

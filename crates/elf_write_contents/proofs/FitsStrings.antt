@@ -1,34 +1,31 @@
 -- The strings of the dynamic list are no longer than a word of the class can tell.
 use Rattle.std.proofs.Common.{◌≡◌, ◌≤◌, ◌<◌, ◌^◌, ℕ, Bool, true, false, List, [], length, drop, refl, sym, ap, ◌∙◌, subst, Option, Some, None, arith}
-use Rattle.std.specs.Prelude.{◌&&◌, ◌==◌, find, if◌then◌else◌}
+use Rattle.std.specs.Prelude.{◌==◌, if◌then◌else◌}
 use Rattle.std.specs.List.{list_all, slice_get}
 use Rattle.std.specs.Option.{option_map}
-use Rattle.std.proofs.lemmas.Bool.{and_parts, cond_both, eq-eqb, eqb-true, false_from_ne_true, false≢true, ltb-true}
+use Rattle.std.proofs.lemmas.Bool.{and_parts, cond_both, eq-eqb, ltb-true}
 use Rattle.std.proofs.lemmas.List.{length-take}
 use Rattle.std.proofs.lemmas.List.Folds.{list_all-map}
-use Rattle.std.proofs.lemmas.Option.{none-some, same_Some}
+use Rattle.std.proofs.lemmas.Option.{same_Some}
 use Rattle.patch_bytes.specs.declared.number.Wide.{Wide}
 use Rattle.patch_bytes.specs.declared.number.Wide.TheVariants.{W32, W64}
 use Rattle.patch_bytes.specs.Number.{field}
-use Rattle.patch_bytes.specs.Memory.{◌>>=◌}
-use Rattle.patch_bytes.proofs.MemoryLaws.{bind_some}
-use Rattle.elf_format.specs.declared.constants.TheConstants.{PT_INTERP, SHT_DYNAMIC, SHT_PROGBITS, SHT_STRTAB}
+use Rattle.elf_format.specs.declared.constants.TheConstants.{SHT_DYNAMIC, SHT_PROGBITS, SHT_STRTAB}
 use Rattle.elf_format.specs.declared.records.SectionHeader.{SectionHeader}
-use Rattle.elf_format.specs.File.{has_file_bytes, section_bytes, segment_of_type}
+use Rattle.elf_format.specs.File.{has_file_bytes, section_bytes}
 use Rattle.elf_format.specs.Form.{by_class}
 use Rattle.elf_format.specs.Image.{Image, ImageSection}
 use Rattle.elf_format.specs.Rules.{file_of}
-use Rattle.elf_image.specs.Kept.{KeptSection, interpreter_number, is_numbered, kept_sections, link_of_type, stands_as_interpreter}
+use Rattle.elf_image.specs.Kept.{interpreter_number, is_numbered, kept_sections, link_of_type}
 use Rattle.elf_layout_plan.specs.Sizes.{fits_field, interpreter_size, new_size, new_sizes, strings_size, table_size}
 use Rattle.elf_layout_plan.specs.Texts.{is_table_copied, texts_in_use}
-use Rattle.elf_layout_plan.proofs.ForCallers.PlacedLists.{find-at}
 use Rattle.elf_tables.specs.Strings.{table_length}
-use Rattle.elf_write_spec.proofs.ForCallers.WholeLists.{has_at}
 use Rattle.elf_write_contents.specs.declared.made.Made.{Made}
 use Rattle.elf_write_contents.specs.Inner.{AreStrings, IsReady, content_read, strings_at}
 use Rattle.elf_write_contents.proofs.MadeShort.{all_at, strings_read}
-use Rattle.elf_write_contents.proofs.OthersCopied.{content_is_read, same_kept}
-use Rattle.elf_write_contents.proofs.ReadFacts.{ReadFacts, kept-at, read_facts}
+use Rattle.elf_write_contents.proofs.OthersCopied.{content_is_read}
+use Rattle.elf_write_contents.proofs.ReadyEdits.{edit_of}
+use Rattle.elf_write_spec.proofs.ForCallers.WholeEdits.{ReadFacts, kept-at, not_interpreter, read_facts}
 use Rattle.elf_write_spec.proofs.ForCallers.NumberedSections.{kept}
 
 -- one past the greatest word of a class
@@ -37,48 +34,11 @@ words_end wide = by_class wide (2 ^ 32) (2 ^ 64)
 
 -- ## The interpreter's section
 
-kept_from_map : (j : ℕ) (o : Option ImageSection) (s : KeptSection) → option_map (kept j) o ≡ Some s
-    → (y : ImageSection) × (o ≡ Some y) × (kept j y ≡ s)
-kept_from_map j None s h = absurd (none-some s h)
-kept_from_map j (Some y) s h = (y, refl, same_Some (kept j y) s h)
-
-first_test : (a b c d : Bool) → (a && b && c && d) ≡ true → a ≡ true
-first_test true b c d e = refl
-first_test false b c d e = absurd (false≢true e)
-
 module _ (read image : Image) (is : IsReady read image) (f : ReadFacts read image) (i : ℕ) (x : ImageSection) (at : slice_get image.sections i ≡ Some x) where
-  -- a section that was read at that number is this one
-  same_section : (s : KeptSection) (j : ℕ) → slice_get (kept_sections read) j ≡ Some s → s.number ≡ i → s.section ≡ x
-  same_section s j s_at number =
-      let here : option_map (kept j) (slice_get image.sections j) ≡ Some s =
-      sym (kept-at read image is j) ∙ ap (λ (ks : List KeptSection). slice_get ks j) (same_kept read image is f) ∙ s_at in
-      let (y, y_at, same) = kept_from_map j (slice_get image.sections j) s here in
-      let index : j ≡ i = ap (λ (k : KeptSection). k.number) same ∙ number in
-      let own : y ≡ x = same_Some y x (sym y_at ∙ ap (λ (n : ℕ). slice_get image.sections n) index ∙ at) in
-      sym (ap (λ (k : KeptSection). k.section) same) ∙ own
-
-  -- the interpreter's section is one with bytes of its own
-  interpreter_type : is_numbered (interpreter_number read) (kept i x) ≡ true → x.sh_type ≡ SHT_PROGBITS
-  interpreter_type h =
-      let (p, _, more) = bind_some (segment_of_type PT_INTERP read.segments)
-      (λ p. find (λ s. stands_as_interpreter p s.section) (kept_sections read) >>= λ s. Some s.number) i (by_number (interpreter_number read) h) in
-      let (s, found, made) = bind_some (find (λ y. stands_as_interpreter p y.section) (kept_sections read)) (λ y. Some y.number) i more in
-      let passes = find-at (λ y. stands_as_interpreter p y.section) (kept_sections read) s found in
-      let (j, s_at) = has_at (kept_sections read) s passes.0 in
-      let same : s.section ≡ x = same_section s j s_at (same_Some s.number i made) in
-      sym (ap (λ (z : ImageSection). z.sh_type) same) ∙ eqb-true s.section.sh_type SHT_PROGBITS
-      (first_test (s.section.sh_type == SHT_PROGBITS) (s.section.sh_offset == p.p_offset)
-      (s.section.sh_addr == p.p_vaddr) (s.section.sh_size == p.p_filesz) passes.1)
-    where
-      by_number : (o : Option ℕ) → is_numbered o (kept i x) ≡ true → o ≡ Some i
-      by_number None e = absurd (false≢true e)
-      by_number (Some n) e = ap (λ (m : ℕ). Some m) (eqb-true n i e)
-
   -- a string table isn't the interpreter's
   no_interpreter : x.sh_type ≡ SHT_STRTAB → is_numbered (interpreter_number read) (kept i x) ≡ false
   no_interpreter type =
-      false_from_ne_true (is_numbered (interpreter_number read) (kept i x)) (λ h.
-      false≢true (eq-eqb SHT_STRTAB SHT_PROGBITS (sym type ∙ interpreter_type h)))
+      not_interpreter read image (edit_of is) i x at (ap (λ (n : ℕ). n == SHT_PROGBITS) type)
 
   -- a string table that is copied keeps its size
   kept_size : x.sh_type ≡ SHT_STRTAB → is_table_copied read image i ≡ true → new_size read image (kept i x) ≡ x.sh_size
@@ -100,7 +60,7 @@ module _ (read image : Image) (is : IsReady read image) (f : ReadFacts read imag
       ap (λ (r : Image). list_all (fits_field image.form) (new_sizes r image)) is.at_read ∙ (and_parts _ _ is.sized).0 in
       let each : list_all (λ s. fits_field image.form (new_size read image s)) (kept_sections image) ≡ true =
       sym (list_all-map (fits_field image.form) (new_size read image) (kept_sections image)) ∙ sized in
-      let there : slice_get (kept_sections image) i ≡ Some (kept i x) = kept-at read image is i ∙ ap (option_map (kept i)) at in
+      let there : slice_get (kept_sections image) i ≡ Some (kept i x) = kept-at read image (edit_of is) i ∙ ap (option_map (kept i)) at in
       let fits : fits_field image.form (new_size read image (kept i x)) ≡ true =
       all_at (λ s. fits_field image.form (new_size read image s)) (kept_sections image) i (kept i x) each there in
       let size : new_size read image (kept i x) ≡ x.sh_size = kept_size type copied in
@@ -123,7 +83,7 @@ narrow_fits W64 n less = omega (arith, less)
 copied_short : (read image : Image) (is : IsReady read image) (number : ℕ) → link_of_type SHT_DYNAMIC image ≡ Some number
     → is_table_copied read image number ≡ true → length (content_read image number) ≤ words_end image.form.wide
 copied_short read image is number linked copied =
-    let f = read_facts read image is in
+    let f = read_facts read image (edit_of is) in
     let strings = strings_read read image is f number linked in
     let x : ImageSection = strings.at.section in
     let old : SectionHeader = strings.at.old in

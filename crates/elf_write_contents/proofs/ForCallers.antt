@@ -8,5 +8,5 @@ pub use Rattle.elf_write_contents.proofs.ContentsAll.{long_held}
 -- which texts a string table of an image shows
 pub use Rattle.elf_write_contents.proofs.NamesTable.{linked_at, names_at, names_typed, shows_none}
 unfoldable pub use Rattle.elf_write_contents.proofs.NamesTable.{shows_texts}
--- what is known of a file that was read, and of one of its sections
-pub use Rattle.elf_write_contents.proofs.ReadFacts.{ReadFacts, SectionRead, kept-at, kept_is, length-kept, read_facts, section_read}
+-- an image that is ready to be written is edited, and nothing of it went
+pub use Rattle.elf_write_contents.proofs.ReadyEdits.{edit_of}

@@ -109,13 +109,13 @@ header_far form h far =
     (class_word form h.sh_addralign ∷ class_word form h.sh_entsize ∷ []) h.sh_info far
 
 pub far_section : (r : Resized) (ss : List KeptSection) (ps : List Place) (i : ℕ) (s : KeptSection) (p : Place)
-    → slice_get ss i ≡ Some s → slice_get ps i ≡ Some p → 2 ^ 32 ≤ written_info r s.section → do_sections_fit r ss ps ≡ false
+    → slice_get ss i ≡ Some s → slice_get ps i ≡ Some p → 2 ^ 32 ≤ written_info r.read r.image s.section → do_sections_fit r ss ps ≡ false
 far_section r [] ps i s p s_at p_at far = absurd (none-some s s_at)
 far_section r (k ∷ ss) [] i s p s_at p_at far = absurd (none-some p p_at)
 far_section r (k ∷ ss) (q ∷ ps) zero s p s_at p_at far =
     and_left (do_fields_fit (section_fields r.image.form (written_section r k.section q 0))) (do_sections_fit r ss ps)
     (header_far r.image.form (written_section r k.section q 0)
-    (subst (λ (x : KeptSection). 2 ^ 32 ≤ written_info r x.section) (sym (same_Some k s s_at)) far))
+    (subst (λ (x : KeptSection). 2 ^ 32 ≤ written_info r.read r.image x.section) (sym (same_Some k s s_at)) far))
 far_section r (k ∷ ss) (q ∷ ps) (suc i) s p s_at p_at far =
     and_right (do_fields_fit (section_fields r.image.form (written_section r k.section q 0))) (do_sections_fit r ss ps)
     (far_section r ss ps i s p s_at p_at far)

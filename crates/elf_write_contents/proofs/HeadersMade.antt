@@ -1,12 +1,12 @@
 -- What is known of each section header that is written.
-use Rattle.std.proofs.Common.{◌≡◌, ℕ, suc, ◌<◌, ◌≤◌, ◌^◌, Bool, true, false, List, [], ◌∷◌, ◌++◌, length, map, get_or, refl, sym, ap, ◌∙◌, subst, Option, Some, arith}
+use Rattle.std.proofs.Common.{◌≡◌, ℕ, ◌<◌, ◌≤◌, ◌^◌, Bool, true, false, List, [], ◌++◌, length, map, get_or, refl, sym, ap, ◌∙◌, subst, Option, Some, arith}
 use Rattle.std.specs.Prelude.{Contains, IsSome, if◌then◌else◌, ◌==◌, unwrap_or}
 use Rattle.std.specs.List.{slice_get}
 use Rattle.std.specs.Option.{option_map}
 use Rattle.std.proofs.lemmas.Bool.{eq-eqb}
 use Rattle.std.proofs.lemmas.List.{length-map}
 use Rattle.std.proofs.lemmas.List.Elements.{Contains-append_right}
-use Rattle.std.proofs.lemmas.Option.{get_or_from_slice_get, none-some, same_Some, slice_get_read, slice_get_within}
+use Rattle.std.proofs.lemmas.Option.{get_or_from_slice_get, same_Some, slice_get_read, slice_get_within}
 use Rattle.patch_bytes.specs.Memory.{◌>>=◌, Memory, memory_of, text_at}
 use Rattle.elf_format.specs.declared.constants.TheConstants.{SHT_DYNAMIC, SHT_DYNSYM, SHT_GNU_VERDEF, SHT_GNU_VERNEED, SHT_SYMTAB}
 use Rattle.elf_format.specs.declared.form.Form.{Form}
@@ -42,14 +42,15 @@ use Rattle.elf_write_contents.specs.Inner.{AreStrings, IsPlanned, IsReady, conte
 use Rattle.elf_write_contents.specs.Numbers.{do_numbers_fit}
 use Rattle.elf_write_contents.proofs.HeadersLists.{far_numbers, far_section}
 use Rattle.elf_write_contents.proofs.NamesTable.{names_at}
-use Rattle.elf_write_contents.proofs.ReadFacts.{ReadFacts, SectionRead, final_is, kept-at, kept_is, length-now, new_number-same, read_facts, section_read}
+use Rattle.elf_write_contents.proofs.ReadyEdits.{edit_of}
+use Rattle.elf_write_spec.proofs.ForCallers.WholeEdits.{ReadFacts, SectionRead, final_is, kept-at, kept_is, length-kept, length-now, new_number-same, read_facts, section_read}
 use Rattle.elf_write_spec.proofs.ForCallers.NumberedSections.{kept}
 
 -- ## The file header
 
 -- the section of names keeps its number
 names_number : (read image : Image) (plan : Layout) → IsPlanned read image plan → image.header.e_shstrndx ≡ new_number image image.header.e_shstrndx
-names_number read image plan is = sym (new_number-same read image is.ready image.header.e_shstrndx)
+names_number read image plan is = sym (new_number-same read image (edit_of is.ready) image.header.e_shstrndx)
 
 -- the file header by its numbers
 abbrev header_with : Header → ℕ → ℕ → ℕ → ℕ → ℕ → ℕ → ℕ → FileHeader
@@ -105,17 +106,6 @@ length-places image plan is =
     ∙ ap length (edited_facts image is.ready.edited).sized
     ∙ length-map (kept_sections image) (sized_of r)
 
--- two lists that have an element at the same positions
-same_reach : {A B : Type 0} (f : ℕ → A → B) (ys : List B) (xs : List A)
-    → ((i : ℕ) → slice_get ys i ≡ option_map (f i) (slice_get xs i)) → length ys ≡ length xs
-same_reach f [] [] same = refl
-same_reach f [] (x ∷ xs) same = absurd (none-some (f 0 x) (same 0))
-same_reach f (y ∷ ys) [] same = absurd (none-some y (sym (same 0)))
-same_reach f (y ∷ ys) (x ∷ xs) same = ap suc (same_reach (λ i. f (suc i)) ys xs (λ i. same (suc i)))
-
-pub length-kept : (read image : Image) → IsReady read image → length (kept_sections image) ≡ length image.sections
-length-kept read image is = same_reach kept (kept_sections image) image.sections (kept-at read image is)
-
 -- the section headers that were read are those of the file's parts
 pub headers_are : (read image : Image) → (f : ReadFacts read image) → (headers : List SectionHeader) → headers_read image ≡ Some headers
     → headers ≡ f.parts.sections
@@ -135,7 +125,7 @@ name_read read image is f i at =
     let names : SectionRead read image p n = names_at read image is f in
     let content : content_read image n ≡ section_bytes (file_of p) names.old =
     ap (λ (o : Option KeptSection). unwrap_or (o >>= λ s. Some s.section.content) [])
-    (kept_is read image is n ∙ ap (option_map (kept n)) names.is_section)
+    (kept_is read image (edit_of is) n ∙ ap (option_map (kept n)) names.is_section)
     ∙ ap (λ (x : ImageSection). x.content) names.of_old.fields in
     let memory : texts_of p (slice_get p.sections p.opened.header.e_shstrndx) ≡ memory_of (content_read image n) =
     ap (λ (k : ℕ). texts_of p (slice_get p.sections k)) (sym number) ∙ ap (texts_of p) names.is_old
@@ -168,10 +158,10 @@ name_made read image made strings i s at m is own =
 
 -- sh_info of a section that is written
 pub info_is : (image : Image) → IsReady (image_at_read image) image → (known : Known) → IsKnown image known → (s : ImageSection)
-    → written_info (resized image) s ≡ info_by known image s
+    → written_info (image_at_read image) image s ≡ info_by known image s
 info_is image is known known_is s =
     let r : Resized = resized image in
-    let fin = final_is (image_at_read image) image is in
+    let fin = final_is (image_at_read image) image (edit_of is) in
     let t : ℕ = s.sh_type in
     let other : ℕ = if is_info_number s then new_number image s.sh_info else s.sh_info in
     let info : ℕ → ℕ → ℕ → ℕ → ℕ =
@@ -185,7 +175,7 @@ info_is image is known known_is s =
     ∙ ap (info known.symbols known.dynamic_symbols (length image.needs)) (by_test (is_info_number s))
   where
     by_test : (b : Bool) → (if b then new_number image s.sh_info else s.sh_info) ≡ s.sh_info
-    by_test true = new_number-same (image_at_read image) image is s.sh_info
+    by_test true = new_number-same (image_at_read image) image (edit_of is) s.sh_info
     by_test false = refl
 
 pub header_is : (image : Image) → IsReady (image_at_read image) image → (known : Known) → IsKnown image known → (s : ImageSection) (p : Place)
@@ -193,7 +183,7 @@ pub header_is : (image : Image) → IsReady (image_at_read image) image → (kno
 header_is image is known known_is s p name =
     ap (λ (n : ℕ). header_by s p name n) (sym (info_is image is known known_is s))
     ∙ ap (λ (n : ℕ). record (written_section (resized image) s p name) { sh_link = n })
-    (sym (new_number-same (image_at_read image) image is s.sh_link))
+    (sym (new_number-same (image_at_read image) image (edit_of is) s.sh_link))
 
 -- ## The section at a position
 
@@ -209,7 +199,7 @@ module _ (image : Image) (plan : Layout) (made : Option Made) (known : Known)
     (planned : IsPlanned (image_at_read image) image plan) (strings : AreStrings (image_at_read image) image made) (is : IsKnown image known)
     (i : ℕ) (less : i < length image.sections) where
   facts : ReadFacts (image_at_read image) image
-  facts = read_facts (image_at_read image) image planned.ready
+  facts = read_facts (image_at_read image) image (edit_of planned.ready)
 
   pub header_there : i < length known.headers.items
   header_there =
@@ -217,18 +207,18 @@ module _ (image : Image) (plan : Layout) (made : Option Made) (known : Known)
         arith,
         less,
         ap length (headers_are (image_at_read image) image facts known.headers.items is.headers),
-        length-now (image_at_read image) image planned.ready facts,
+        length-now (image_at_read image) image (edit_of planned.ready) facts,
       )
 
   pub place_there : i < length plan.places
-  place_there = omega (arith, less, length-places image plan planned, length-kept (image_at_read image) image planned.ready)
+  place_there = omega (arith, less, length-places image plan planned, length-kept (image_at_read image) image (edit_of planned.ready))
 
   -- the name of a section stands where it was read
   pub name_copied : (s : ImageSection) (old : SectionHeader) → slice_get image.sections i ≡ Some s → slice_get known.headers.items i ≡ Some old
       → Reads (content_read image image.header.e_shstrndx) old.sh_name s.name
   name_copied s old s_at old_at =
       let at : SectionRead (image_at_read image) image facts.parts i =
-      section_read (image_at_read image) image planned.ready facts i less in
+      section_read (image_at_read image) image (edit_of planned.ready) facts i less in
       let same : s ≡ at.section = same_Some s at.section (sym s_at ∙ at.is_section) in
       let same_old : old ≡ at.old =
       same_Some old at.old (sym old_at ∙ ap (λ (l : List SectionHeader). slice_get l i)
@@ -248,7 +238,7 @@ module _ (image : Image) (plan : Layout) (made : Option Made) (known : Known)
       is_h ∙ ap (header_by s p name) info_is ∙ header_is image planned.ready known is s p name in (
         kept i s,
         p,
-        kept-at (image_at_read image) image planned.ready i ∙ ap (option_map (kept i)) s_at,
+        kept-at (image_at_read image) image (edit_of planned.ready) i ∙ ap (option_map (kept i)) s_at,
         p_at,
         record {
           name = subst (λ (n : ℕ). Reads names n s.name) (sym is_name) reads;
@@ -262,5 +252,5 @@ module _ (image : Image) (plan : Layout) (made : Option Made) (known : Known)
   header_far s s_at far =
       let (p, p_at) = there_at plan.places i place_there in
       far_numbers image plan (far_section (resized image) (kept_sections image) plan.places i (kept i s) p
-      (kept-at (image_at_read image) image planned.ready i ∙ ap (option_map (kept i)) s_at) p_at
+      (kept-at (image_at_read image) image (edit_of planned.ready) i ∙ ap (option_map (kept i)) s_at) p_at
       (subst (λ (n : ℕ). 2 ^ 32 ≤ n) (sym (info_is image planned.ready known is s)) far))

@@ -1,4 +1,4 @@
-pub mod ReadFacts
+pub mod ReadyEdits
 pub mod OthersCopied
 pub mod SymbolsRead
 pub mod NamesInOrder

@@ -18,7 +18,8 @@ use Rattle.elf_layout_plan.specs.Texts.{is_table_copied, texts_in_use}
 use Rattle.elf_tables.specs.Strings.{table_length}
 use Rattle.elf_layout_sizes.specs.MadeTables.{IsTooLong}
 use Rattle.elf_write_contents.specs.Inner.{IsReady}
-use Rattle.elf_write_contents.proofs.ReadFacts.{Nowhere, ReadFacts, SectionRead, There, length-now, read_facts, section_read, type_at}
+use Rattle.elf_write_contents.proofs.ReadyEdits.{edit_of}
+use Rattle.elf_write_spec.proofs.ForCallers.WholeEdits.{Nowhere, ReadFacts, SectionRead, There, length-now, read_facts, section_read, type_at}
 use Rattle.elf_write_spec.proofs.ForCallers.NumberedSections.{kept}
 
 -- ## What the dynamic section links to
@@ -47,8 +48,8 @@ strings_linked : (read image : Image) → IsReady read image → (f : ReadFacts 
     → StringsRead read image f.parts number
 strings_linked read image is f number None o_is links = absurd (false≢true links)
 strings_linked read image is f number (Some l) o_is links =
-    let within : number < _ = omega (arith, slice_get_within f.parts.sections number l o_is, length-now read image is f) in
-    let at : SectionRead read image f.parts number = section_read read image is f number within in
+    let within : number < _ = omega (arith, slice_get_within f.parts.sections number l o_is, length-now read image (edit_of is) f) in
+    let at : SectionRead read image f.parts number = section_read read image (edit_of is) f number within in
     let same : l ≡ at.old = same_Some l at.old (sym o_is ∙ at.is_old) in
     let old_type : at.old.sh_type ≡ SHT_STRTAB =
     ap (λ (h : SectionHeader). h.sh_type) (sym same) ∙ eqb-true l.sh_type SHT_STRTAB links in
@@ -60,7 +61,7 @@ strings_linked read image is f number (Some l) o_is links =
 
 pub strings_read : (read image : Image) → IsReady read image → (f : ReadFacts read image) → (number : ℕ)
     → link_of_type SHT_DYNAMIC image ≡ Some number → StringsRead read image f.parts number
-strings_read read image is f number linked = elim (type_at read image is f SHT_DYNAMIC) [
+strings_read read image is f number linked = elim (type_at read image (edit_of is) f SHT_DYNAMIC) [
   | Nowhere was now ↦ absurd (none-some number (sym (ap (λ (o : Option KeptSection). o >>= λ s. Some s.section.sh_link) now) ∙ linked))
   | There i list typed _ was now ↦
       let own : list.section.sh_link ≡ number = same_Some list.section.sh_link number
@@ -103,7 +104,7 @@ too_long m n past fits = omega (arith, past, fits)
 pub never_too_long : (read image : Image) (number : ℕ) → IsReady read image → link_of_type SHT_DYNAMIC image ≡ Some number
     → IsTooLong read image number → ⊥
 never_too_long read image number is linked long =
-    let f = read_facts read image is in
+    let f = read_facts read image (edit_of is) in
     let strings = strings_read read image is f number linked in
     let s : KeptSection = kept number strings.at.section in
     let sized : list_all (do_texts_fit (image_at_read image) image) (kept_sections image) ≡ true = (and_parts _ _ is.sized).1 in

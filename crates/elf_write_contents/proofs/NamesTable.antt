@@ -18,7 +18,8 @@ use Rattle.elf_format.proofs.ForCallers.Placed.{IsIn-slice_get, passes_picked}
 use Rattle.elf_format.proofs.ForCallers.ViewsAgree.{links_right, there_and}
 use Rattle.elf_write_spec.proofs.ForCallers.HeaderTables.{header_bytes}
 use Rattle.elf_write_contents.specs.Inner.{IsReady}
-use Rattle.elf_write_contents.proofs.ReadFacts.{ReadFacts, SectionRead, length-now, section_read}
+use Rattle.elf_write_contents.proofs.ReadyEdits.{edit_of}
+use Rattle.elf_write_spec.proofs.ForCallers.WholeEdits.{ReadFacts, SectionRead, length-now, section_read}
 use Rattle.elf_format.proofs.ForCallers.Lengths.{length-sections}
 use Rattle.elf_write_spec.proofs.ForCallers.SectionKinds.{kind_by}
 
@@ -41,11 +42,11 @@ module _ (read image : Image) (is : IsReady read image) (f : ReadFacts read imag
         names_number,
         ltb-true f.parts.opened.header.e_shstrndx f.parts.opened.header.e_shnum number_below,
         length-sections f.parts.opened f.parts.sections f.are_parts.sections,
-        length-now read image is f,
+        length-now read image (edit_of is) f,
       )
 
   pub names_at : SectionRead read image f.parts image.header.e_shstrndx
-  names_at = section_read read image is f image.header.e_shstrndx names_there
+  names_at = section_read read image (edit_of is) f image.header.e_shstrndx names_there
 
   -- it is a string table
   pub names_typed : names_at.section.sh_type ≡ SHT_STRTAB
@@ -81,8 +82,8 @@ module _ (read image : Image) (is : IsReady read image) (f : ReadFacts read imag
       let (l, l_there, typed) = there_and (λ t. t.sh_type == SHT_STRTAB) (linked_section p.sections at.old) links in
       let there : slice_get p.sections at.section.sh_link ≡ Some l = ap (λ (n : ℕ). slice_get p.sections n) link ∙ l_there in
       let within : at.section.sh_link < length image.sections =
-      omega (arith, slice_get_within p.sections at.section.sh_link l there, length-now read image is f) in
-      let table = section_read read image is f at.section.sh_link within in
+      omega (arith, slice_get_within p.sections at.section.sh_link l there, length-now read image (edit_of is) f) in
+      let table = section_read read image (edit_of is) f at.section.sh_link within in
       let is_l : table.old ≡ l = same_Some table.old l (sym table.is_old ∙ there) in
       record {
         table = table;

@@ -7,10 +7,11 @@ use Rattle.patch_bytes.specs.Memory.{◌>>=◌}
 use Rattle.elf_format.specs.declared.constants.TheConstants.{SHT_DYNAMIC}
 use Rattle.elf_format.specs.Image.{Image, ImageSection}
 use Rattle.elf_format.specs.Options.{is_some_and}
-use Rattle.elf_image.specs.Kept.{KeptSection, kept_sections, link_of_type}
+use Rattle.elf_image.specs.Kept.{KeptSection, link_of_type}
 use Rattle.elf_layout_plan.specs.Texts.{is_table_copied}
 use Rattle.elf_write_contents.specs.Inner.{IsReady, content_read}
-use Rattle.elf_write_contents.proofs.ReadFacts.{ReadFacts, kept_is}
+use Rattle.elf_write_contents.proofs.ReadyEdits.{edit_of}
+use Rattle.elf_write_spec.proofs.ForCallers.WholeEdits.{ReadFacts, kept_is}
 use Rattle.elf_write_spec.proofs.ForCallers.NumberedSections.{kept}
 use Rattle.elf_write_spec.proofs.ForCallers.TextsStay as texts_stay
 
@@ -18,12 +19,9 @@ use Rattle.elf_write_spec.proofs.ForCallers.TextsStay as texts_stay
 pub content_is_read : (read image : Image) → IsReady read image → (n : ℕ) (s : ImageSection) → slice_get image.sections n ≡ Some s
     → content_read image n ≡ s.content
 content_is_read read image is n s at =
-    ap (λ (o : Option KeptSection). unwrap_or (o >>= λ k. Some k.section.content) []) (kept_is read image is n ∙ ap (option_map (kept n)) at)
+    ap (λ (o : Option KeptSection). unwrap_or (o >>= λ k. Some k.section.content) []) (kept_is read image (edit_of is) n ∙ ap (option_map (kept n)) at)
 
 module _ (read image : Image) (is : IsReady read image) (f : ReadFacts read image) where
-  pub same_kept : kept_sections image ≡ kept_sections read
-  same_kept = texts_stay.same_kept read image is.whole f.edit
-
   -- a type's section links where it did
   pub same_link : (type : ℕ) → link_of_type type image ≡ link_of_type type read
   same_link = texts_stay.same_link read image is.whole f.edit

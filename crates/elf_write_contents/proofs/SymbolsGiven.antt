@@ -19,7 +19,8 @@ use Rattle.elf_write_spec.specs.Final.{final}
 use Rattle.elf_write_contents.specs.declared.made.Made.{Made}
 use Rattle.elf_write_contents.specs.Inner.{AreStrings, IsReady, IsSectionOfType, content_read, strings_at}
 use Rattle.elf_write_contents.specs.SymbolSteps.{HasNames, does_symbol_fit, symbol_bytes, table_made}
-use Rattle.elf_write_contents.proofs.ReadFacts.{ReadFacts, SectionRead, final_is, read_facts, section_read}
+use Rattle.elf_write_contents.proofs.ReadyEdits.{edit_of}
+use Rattle.elf_write_spec.proofs.ForCallers.WholeEdits.{ReadFacts, SectionRead, final_is, read_facts, section_read}
 use Rattle.elf_write_contents.proofs.SymbolsMade.{anew, fits, length-spelled, named_in_order}
 use Rattle.elf_write_contents.proofs.SymbolsRead.{copied, sized}
 
@@ -60,10 +61,10 @@ is_listed read image (Some m) number table are h = by_test (m.number == number) 
 
 module _ (read image : Image) (section : ImageSection) (is : IsReady read image) (of : IsSectionOfType SHT_DYNSYM image section) where
   f : ReadFacts read image
-  f = read_facts read image is
+  f = read_facts read image (edit_of is)
 
   at : SectionRead read image f.parts of.position
-  at = section_read read image is f of.position (slice_get_within image.sections of.position section of.there)
+  at = section_read read image (edit_of is) f of.position (slice_get_within image.sections of.position section of.there)
 
   same : at.section ≡ section
   same = same_Some at.section section (sym at.is_section ∙ of.there)
@@ -71,14 +72,14 @@ module _ (read image : Image) (section : ImageSection) (is : IsReady read image)
   typed : at.section.sh_type ≡ SHT_DYNSYM
   typed = ap (λ (x : ImageSection). x.sh_type) same ∙ of.typed
 
-  pub symbols_sized : length section.content ≡ length image.dynamic_symbols * symbol_size image.form
-  symbols_sized = ap (λ (x : ImageSection). length x.content) (sym same) ∙ sized read image is f of.position at typed
+  pub symbol_sizes : length section.content ≡ length image.dynamic_symbols * symbol_size image.form
+  symbol_sizes = ap (λ (x : ImageSection). length x.content) (sym same) ∙ sized read image is f of.position at typed
 
   -- the symbols in their final form are the image's
   finally : (strings bytes : List ℕ) → AreSymbolsOf strings image.dynamic_symbols (symbols_in image.form bytes)
       → AreSymbolsOf strings (final read image).dynamic_symbols (symbols_in image.form bytes)
   finally strings bytes are =
-      subst (λ (ys : List NamedSymbol). AreSymbolsOf strings ys (symbols_in image.form bytes)) (sym (final_is read image is).dynamic_symbols) are
+      subst (λ (ys : List NamedSymbol). AreSymbolsOf strings ys (symbols_in image.form bytes)) (sym (final_is read image (edit_of is)).dynamic_symbols) are
 
   pub symbols_copied : (made : Option Made) → table_made made section.sh_link ≡ None
       → AreSymbolsOf (strings_at image made section.sh_link) (final read image).dynamic_symbols (symbols_in image.form section.content)

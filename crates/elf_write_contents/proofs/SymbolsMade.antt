@@ -44,7 +44,8 @@ use Rattle.elf_write_contents.specs.Inner.{IsReady}
 use Rattle.elf_write_contents.specs.SymbolSteps.{HasNames, does_symbol_fit, place_of_name, symbol_bytes, symbol_in}
 use Rattle.elf_image_symbols.specs.TableSymbols.{symbol_with}
 use Rattle.elf_write_contents.proofs.NamesInOrder.{names_behind}
-use Rattle.elf_write_contents.proofs.ReadFacts.{Nowhere, ReadFacts, SectionRead, There, final_is, type_at}
+use Rattle.elf_write_contents.proofs.ReadyEdits.{edit_of}
+use Rattle.elf_write_spec.proofs.ForCallers.WholeEdits.{Nowhere, ReadFacts, SectionRead, There, final_is, type_at}
 use Rattle.elf_write_contents.proofs.SymbolsRead.{count, each_symbol, is_one, link_was, record_at, symbol_read, symbol_size-positive}
 
 -- ## Numbers that fit their fields
@@ -147,7 +148,7 @@ module _ (read image : Image) (is : IsReady read image) (f : ReadFacts read imag
     (typed : at.section.sh_type ≡ SHT_DYNSYM) (table : Strings) (made : IsMade read image at.section.sh_link table) where
   -- the dynamic symbols link to that table
   link_is : link_of_type SHT_DYNSYM image ≡ Some at.section.sh_link
-  link_is = elim (type_at read image is f SHT_DYNSYM) [
+  link_is = elim (type_at read image (edit_of is) f SHT_DYNSYM) [
     | Nowhere was none ↦ absurd (none-some at.old (sym was ∙ is_one read image is f i at typed))
     | There j other other_typed now_typed was there ↦
         let same : other.old ≡ at.old = same_Some other.old at.old (sym was ∙ is_one read image is f i at typed) in
@@ -192,7 +193,7 @@ module _ (read image : Image) (is : IsReady read image) (f : ReadFacts read imag
       let first : if_linked image SHT_DYNAMIC number written ≡ front =
       ap (λ (o : Option ℕ). if is_some_and (λ link. link == number) o then written else []) listed
       ∙ ap (λ (b : Bool). if b then written else []) (eq-eqb number number refl)
-      ∙ ap (list_at texts_of_entries) (final_is read image is).entries in
+      ∙ ap (list_at texts_of_entries) (final_is read image (edit_of is)).entries in
       names_behind table (texts_in_use read image number) front (defined ++ needed ++ static ++ sections) image.dynamic_symbols made.holds.in_order
       (ap (λ (l : List (List ℕ)). l ++ if_linked image SHT_DYNSYM number (texts_of_symbols image.dynamic_symbols) ++ defined ++ needed ++ static ++ sections) first
       ∙ ap (λ (l : List (List ℕ)). front ++ l ++ defined ++ needed ++ static ++ sections) names_linked

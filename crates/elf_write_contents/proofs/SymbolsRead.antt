@@ -33,7 +33,8 @@ use Rattle.elf_write_spec.proofs.ForCallers.LinkedLists.{found_only}
 use Rattle.elf_write_spec.proofs.ForCallers.TextsRead.{text_reads}
 use Rattle.elf_write_contents.specs.Inner.{IsReady, content_read}
 use Rattle.elf_write_contents.proofs.OthersCopied.{content_is_read}
-use Rattle.elf_write_contents.proofs.ReadFacts.{ReadFacts, SectionRead, length-now, section_read}
+use Rattle.elf_write_contents.proofs.ReadyEdits.{edit_of}
+use Rattle.elf_write_spec.proofs.ForCallers.WholeEdits.{ReadFacts, SectionRead, length-now, section_read}
 use Rattle.elf_format.proofs.ForCallers.Lengths.{length-records}
 
 -- ## Lists of records
@@ -178,8 +179,8 @@ module _ (read image : Image) (is : IsReady read image) (f : ReadFacts read imag
       (and_parts _ _ (links_right p f.rules)).0 user in
       let (l, l_there, _) = there_and (λ (t : SectionHeader). t.sh_type == SHT_STRTAB) (linked_section p.sections at.old) links in
       let within : at.old.sh_link < length image.sections =
-      omega (arith, slice_get_within p.sections at.old.sh_link l l_there, length-now read image is f) in
-      let table = section_read read image is f at.old.sh_link within in
+      omega (arith, slice_get_within p.sections at.old.sh_link l l_there, length-now read image (edit_of is) f) in
+      let table = section_read read image (edit_of is) f at.old.sh_link within in
       record { table = table; is_linked = table.is_old }
 
   -- the bytes of that table, as they were read

@@ -6,13 +6,10 @@ use Rattle.std.specs.List.{slice_get}
 use Rattle.patch_bytes.specs.Memory.{◌>>=◌}
 use Rattle.elf_format.specs.declared.constants.TheConstants.{SHT_GNU_VERDEF, SHT_GNU_VERNEED}
 use Rattle.elf_format.specs.declared.records.SectionHeader.{SectionHeader}
-use Rattle.elf_format.specs.declared.versions.RawDefinition.{RawDefinition}
-use Rattle.elf_format.specs.declared.versions.RawNeeds.{RawNeeds}
 use Rattle.elf_format.specs.File.{Parts, section_of_type}
 use Rattle.elf_format.specs.Image.{Image, ImageSection, definitions_read, needs_read}
 use Rattle.elf_format.specs.Options.{each, list_at}
 use Rattle.elf_format.specs.Rules.{accepted_parts, definition_steps, file_of, linked_texts, need_steps}
-use Rattle.elf_format.specs.Seen.{raw_definition, raw_needs}
 use Rattle.elf_format.specs.Versions.{DefinitionNumbers, NeedNumbers, VersionDefinition, VersionNeeds, shown_definition, shown_need, values_of}
 use Rattle.elf_image.specs.Kept.{KeptSection}
 use Rattle.elf_image_versions.specs.declared.version.VersionDef.{VersionDef}
@@ -21,7 +18,8 @@ use Rattle.elf_image_versions.specs.VersionsModel.{definition_model, needs_model
 use Rattle.elf_image_versions.specs.WalkSteps.{defined_in, needed_in}
 use Rattle.elf_write_contents.specs.Inner.{IsReady, IsSectionOfType, content_read}
 use Rattle.elf_write_contents.specs.VersionPlaces.{AreDefinitionsAt, AreNeedsAt, content_in}
-use Rattle.elf_write_contents.proofs.ReadFacts.{ReadFacts, kept_is, read_facts}
+use Rattle.elf_write_contents.proofs.ReadyEdits.{edit_of}
+use Rattle.elf_write_spec.proofs.ForCallers.WholeEdits.{ReadFacts, kept_is, read_facts}
 use Rattle.elf_write_contents.proofs.VersionsLinks.{IsTheOne, linked_stands, the_one}
 use Rattle.elf_write_contents.proofs.VersionsTexts.{definitions_at_places, needs_at_places}
 use Rattle.elf_write_spec.proofs.ForCallers.NumberedSections.{kept}
@@ -30,7 +28,7 @@ use Rattle.elf_write_spec.proofs.ForCallers.NumberedSections.{kept}
 pub content_same : (read image : Image) → IsReady read image → (n : ℕ) → content_in image.sections n ≡ content_read image n
 content_same read image is n =
     by_there (slice_get image.sections n)
-    ∙ sym (ap (λ (o : Option KeptSection). unwrap_or (o >>= λ k. Some k.section.content) []) (kept_is read image is n))
+    ∙ sym (ap (λ (o : Option KeptSection). unwrap_or (o >>= λ k. Some k.section.content) []) (kept_is read image (edit_of is) n))
   where
     by_there : (o : Option ImageSection) → (elim o as (λ _. List ℕ) [ Some s ↦ s.content | None ↦ [] ])
         ≡ unwrap_or (option_map (kept n) o >>= λ k. Some k.section.content) []
@@ -52,13 +50,13 @@ read_definitions p old o ds same h = sym (ap (definitions_read p) same) ∙ h
 
 copied_in : (read image : Image) → IsReady read image → (f : ReadFacts read image) → (s : ImageSection)
     → IsSectionOfType SHT_GNU_VERDEF image s → (ds : List VersionDef) → map definition_model ds ≡ image.definitions
-    → (records : List RawDefinition) → map raw_definition records ≡ defined_in f.parts
+    → (records : List DefinitionNumbers) → records ≡ defined_in f.parts
     → AreDefinitionsAt (content_read image s.sh_link) ds records
 copied_in read image is f s there ds kept_ds records walked =
     let one : IsTheOne image f.parts SHT_GNU_VERDEF s = the_one read image is f 6 SHT_GNU_VERDEF refl s there in
     let room : ℕ = length (file_of f.parts) in
     let show : DefinitionNumbers → Option VersionDefinition = shown_definition room (linked_texts f.parts one.old) in
-    let raws : map raw_definition records ≡ values_of (definition_steps f.parts one.old) =
+    let raws : records ≡ values_of (definition_steps f.parts one.old) =
     walked ∙ ap (list_at (λ (h : SectionHeader). values_of (definition_steps f.parts h))) one.is_old in
     let shown : each show (values_of (definition_steps f.parts one.old)) ≡ Some read.definitions =
     read_definitions f.parts one.old (section_of_type SHT_GNU_VERDEF f.parts.sections) read.definitions one.is_old f.holds.definitions in
@@ -68,9 +66,9 @@ copied_in read image is f s there ds kept_ds records walked =
 
 pub copied_definitions : (read image : Image) → IsReady read image → (p : Parts) → accepted_parts read.source ≡ Ok p → (s : ImageSection)
     → IsSectionOfType SHT_GNU_VERDEF image s → (ds : List VersionDef) → map definition_model ds ≡ image.definitions
-    → (records : List RawDefinition) → map raw_definition records ≡ defined_in p → AreDefinitionsAt (content_read image s.sh_link) ds records
+    → (records : List DefinitionNumbers) → records ≡ defined_in p → AreDefinitionsAt (content_read image s.sh_link) ds records
 copied_definitions read image is p accepted s there ds kept_ds records walked =
-    let f = read_facts read image is in
+    let f = read_facts read image (edit_of is) in
     let same : p ≡ f.parts = same_parts read image f p accepted in
     copied_in read image is f s there ds kept_ds records (walked ∙ ap defined_in same)
 
@@ -84,13 +82,13 @@ read_needs p old o ns same h = sym (ap (needs_read p) same) ∙ h
 
 needed_copied : (read image : Image) → IsReady read image → (f : ReadFacts read image) → (s : ImageSection)
     → IsSectionOfType SHT_GNU_VERNEED image s → (ns : List VersionNeed) → map needs_model ns ≡ image.needs
-    → (records : List RawNeeds) → map raw_needs records ≡ needed_in f.parts
+    → (records : List NeedNumbers) → records ≡ needed_in f.parts
     → AreNeedsAt (content_read image s.sh_link) ns records
 needed_copied read image is f s there ns kept_ns records walked =
     let one : IsTheOne image f.parts SHT_GNU_VERNEED s = the_one read image is f 7 SHT_GNU_VERNEED refl s there in
     let room : ℕ = length (file_of f.parts) in
     let show : NeedNumbers → Option VersionNeeds = shown_need room (linked_texts f.parts one.old) in
-    let raws : map raw_needs records ≡ values_of (need_steps f.parts one.old) =
+    let raws : records ≡ values_of (need_steps f.parts one.old) =
     walked ∙ ap (list_at (λ (h : SectionHeader). values_of (need_steps f.parts h))) one.is_old in
     let shown : each show (values_of (need_steps f.parts one.old)) ≡ Some read.needs =
     read_needs f.parts one.old (section_of_type SHT_GNU_VERNEED f.parts.sections) read.needs one.is_old f.holds.needs in
@@ -100,8 +98,8 @@ needed_copied read image is f s there ns kept_ns records walked =
 
 pub copied_needs : (read image : Image) → IsReady read image → (p : Parts) → accepted_parts read.source ≡ Ok p → (s : ImageSection)
     → IsSectionOfType SHT_GNU_VERNEED image s → (ns : List VersionNeed) → map needs_model ns ≡ image.needs
-    → (records : List RawNeeds) → map raw_needs records ≡ needed_in p → AreNeedsAt (content_read image s.sh_link) ns records
+    → (records : List NeedNumbers) → records ≡ needed_in p → AreNeedsAt (content_read image s.sh_link) ns records
 copied_needs read image is p accepted s there ns kept_ns records walked =
-    let f = read_facts read image is in
+    let f = read_facts read image (edit_of is) in
     let same : p ≡ f.parts = same_parts read image f p accepted in
     needed_copied read image is f s there ns kept_ns records (walked ∙ ap needed_in same)

@@ -19,7 +19,8 @@ use Rattle.elf_image.specs.Kept.{KeptSection, link_of_type}
 use Rattle.elf_tables.specs.Strings.{StandsAt}
 use Rattle.elf_write_contents.specs.Inner.{IsReady, IsSectionOfType, content_read}
 use Rattle.elf_write_contents.proofs.OthersCopied.{content_is_read}
-use Rattle.elf_write_contents.proofs.ReadFacts.{Nowhere, ReadFacts, SectionRead, There, length-now, read_facts, section_read, type_at}
+use Rattle.elf_write_contents.proofs.ReadyEdits.{edit_of}
+use Rattle.elf_write_spec.proofs.ForCallers.WholeEdits.{Nowhere, ReadFacts, SectionRead, There, length-now, read_facts, section_read, type_at}
 use Rattle.elf_write_contents.proofs.VersionsTexts.{text_stands}
 
 -- ## One of a type
@@ -93,7 +94,7 @@ pub the_one : (read image : Image) → IsReady read image → (f : ReadFacts rea
     → (s : ImageSection) → IsSectionOfType type image s → IsTheOne image f.parts type s
 the_one read image is f i type single s there =
     let within : there.position < length image.sections = slice_get_within image.sections there.position s there.there in
-    let at : SectionRead read image f.parts there.position = section_read read image is f there.position within in
+    let at : SectionRead read image f.parts there.position = section_read read image (edit_of is) f there.position within in
     let same : at.section ≡ s = same_Some at.section s (sym at.is_section ∙ there.there) in
     let typed : at.old.sh_type ≡ type =
     sym (ap (λ (x : ImageSection). x.sh_type) at.of_old.fields) ∙ ap (λ (x : ImageSection). x.sh_type) same ∙ there.typed in
@@ -106,7 +107,7 @@ the_one read image is f i type single s there =
       old = at.old;
       is_old = found;
       link = link;
-      links = elim (type_at read image is f type) [
+      links = elim (type_at read image (edit_of is) f type) [
         | Nowhere was now ↦ absurd (none-some at.old (sym was ∙ found))
         | There j first old_typed new_typed was now ↦
             ap (λ (o : Option KeptSection). o >>= λ k. Some k.section.sh_link) now
@@ -123,8 +124,8 @@ linked_keeps : (read image : Image) → IsReady read image → (f : ReadFacts re
 linked_keeps read image is f n None none = λ a x h. absurd (none-some x h)
 linked_keeps read image is f n (Some old) there =
     let within : n < length image.sections =
-    omega (arith, slice_get_within f.parts.sections n old there, length-now read image is f) in
-    let at : SectionRead read image f.parts n = section_read read image is f n within in
+    omega (arith, slice_get_within f.parts.sections n old there, length-now read image (edit_of is) f) in
+    let at : SectionRead read image f.parts n = section_read read image (edit_of is) f n within in
     let same : at.old ≡ old = same_Some at.old old (sym at.is_old ∙ there) in
     let content : content_read image n ≡ at.section.content = content_is_read read image is n at.section at.is_section in
     let bytes : content_read image n ≡ section_bytes (file_of f.parts) at.old = content ∙ ap (λ (x : ImageSection). x.content) at.of_old.fields in
@@ -152,4 +153,4 @@ linked_stands read image is f old link same place text h =
 pub links_there : (read image : Image) → IsReady read image → (i type : ℕ) → slice_get single_section_types i ≡ Some type
     → (s : ImageSection) → IsSectionOfType type image s → (number : ℕ) → number ≡ s.sh_link → link_of_type type image ≡ Some number
 links_there read image is i type single s there number same =
-    (the_one read image is (read_facts read image is) i type single s there).links ∙ ap (λ (n : ℕ). Some n) (sym same)
+    (the_one read image is (read_facts read image (edit_of is)) i type single s there).links ∙ ap (λ (n : ℕ). Some n) (sym same)

@@ -1,21 +1,67 @@
--- The needed versions that are written are those of the image.
-use Rattle.std.proofs.Common.{◌≡◌, ◌≢◌, ℕ, ◌≤◌, Bool, List, length, sym, ap, ◌∙◌, subst, Option, Some, None, Result, Ok, Err}
+-- The versions that are written are those of the image.
+use Rattle.std.proofs.Common.{◌≡◌, ◌≢◌, ℕ, ◌≤◌, Bool, true, List, length, map, refl, sym, ap, ◌∙◌, subst, Option, Some, None, Result, Ok, Err}
 use Rattle.std.specs.Prelude.{IfOk, if◌then◌else◌}
 use Rattle.std.proofs.lemmas.Bool.{eq-eqb, ne_eqb}
 use Rattle.elf_format.specs.Image.{Image}
-use Rattle.elf_format.specs.Versions.{VersionNeeds}
-use Rattle.elf_format.specs.Views.{needed_versions}
+use Rattle.elf_format.specs.declared.form.Form.{Form}
+use Rattle.elf_format.specs.Versions.{VersionDefinition, VersionNeeds}
+use Rattle.elf_format.specs.Views.{defined_versions, needed_versions}
+use Rattle.patch_bytes.specs.declared.number.ByteOrder2.{ByteOrder2}
+use Rattle.patch_bytes.specs.declared.number.Wide.{Wide}
+use Rattle.elf_tables.specs.Strings.{PlacesStand, Strings}
+use Rattle.elf_tables.specs.VersionRecords.{definition_table, has_definition_texts, has_needs_texts, needs_table, placed_definition, placed_needs}
 use Rattle.elf_image.specs.Kept.{image_at_read}
 use Rattle.elf_layout_plan.specs.Needs.{written_needs}
 use Rattle.elf_layout_plan.specs.Plan.{resized}
 use Rattle.elf_layout_plan.specs.Sizes.{needs_size}
-use Rattle.elf_write_spec.specs.Contents.{AreNeedsIn, table_in}
+use Rattle.elf_write_spec.specs.Contents.{AreDefinitionsOf, AreNeedsIn, AreNeedsOf, table_in}
 use Rattle.elf_write_spec.specs.Final.{final}
 use Rattle.elf_write_spec.proofs.ForCallers.SameLists.{needs_same}
 use Rattle.elf_write_contents.specs.Inner.{IsReady, content_read, strings_at}
 use Rattle.elf_write_contents.specs.declared.made.Made.{Made}
-use Rattle.elf_write_contents.specs.VersionPlaces.{AreNeedsOf}
-use Rattle.elf_write_contents.proofs.ReadFacts.{final_is}
+use Rattle.elf_write_contents.proofs.ReadyEdits.{edit_of}
+use Rattle.elf_write_spec.proofs.ForCallers.WholeEdits.{final_is}
+
+-- records that are spelled by a table of their texts, and are read back
+pub definitions_of : (order : ByteOrder2) (form : Form) (table : Strings) (ds now : List VersionDefinition) (count : ℕ) (bytes : List ℕ)
+    → order ≡ form.order → ds ≡ now → length ds ≡ count
+    → has_definition_texts table now ≡ true → PlacesStand table → bytes ≡ definition_table order (map (placed_definition table) ds)
+    → ((wide : Wide) (room : ℕ) → PlacesStand table → length table.bytes ≤ room
+    → defined_versions (record { wide = wide; order = order }) room (table_in bytes table.bytes count) ≡ Some ds)
+    → AreDefinitionsOf form now table.bytes bytes
+definitions_of order form table ds now count bytes same_order same many told stand are read =
+    subst (λ (l : List VersionDefinition). AreDefinitionsOf form l table.bytes bytes) same
+    (subst (λ (o : ByteOrder2). AreDefinitionsOf (record form { order = o }) ds table.bytes bytes) same_order (record {
+      spelled = record {
+        names = table;
+        of_strings = refl;
+        stand = stand;
+        told = ap (has_definition_texts table) same ∙ told;
+        are_bytes = are;
+      };
+      read = λ room long.
+          ap (λ (n : ℕ). defined_versions (record form { order = order }) room (table_in bytes table.bytes n)) many ∙ read form.wide room stand long;
+    }))
+
+pub needs_of : (order : ByteOrder2) (form : Form) (table : Strings) (ns now : List VersionNeeds) (count : ℕ) (bytes : List ℕ)
+    → order ≡ form.order → ns ≡ now → length ns ≡ count
+    → has_needs_texts table now ≡ true → PlacesStand table → bytes ≡ needs_table order (map (placed_needs table) ns)
+    → ((wide : Wide) (room : ℕ) → PlacesStand table → length table.bytes ≤ room
+    → needed_versions (record { wide = wide; order = order }) room (table_in bytes table.bytes count) ≡ Some ns)
+    → AreNeedsOf form now table.bytes bytes
+needs_of order form table ns now count bytes same_order same many told stand are read =
+    subst (λ (l : List VersionNeeds). AreNeedsOf form l table.bytes bytes) same
+    (subst (λ (o : ByteOrder2). AreNeedsOf (record form { order = o }) ns table.bytes bytes) same_order (record {
+      spelled = record {
+        names = table;
+        of_strings = refl;
+        stand = stand;
+        told = ap (has_needs_texts table) same ∙ told;
+        are_bytes = are;
+      };
+      read = λ room long.
+          ap (λ (n : ℕ). needed_versions (record form { order = order }) room (table_in bytes table.bytes n)) many ∙ read form.wide room stand long;
+    }))
 
 pub written_same : (read image : Image) → IsReady read image → written_needs read image ≡ image.needs
 written_same read image is = needs_same read image is.whole.dynamic_symbols
@@ -23,14 +69,12 @@ written_same read image is = needs_same read image is.whole.dynamic_symbols
 pub size_same : (read image : Image) → IsReady read image → (n : ℕ) → n ≡ needs_size image.needs → n ≡ needs_size (written_needs read image)
 size_same read image is n h = h ∙ ap needs_size (sym (written_same read image is))
 
-pub needs_shown : (read image : Image) → IsReady read image → (strings bytes : List ℕ) → AreNeedsOf image strings bytes
+pub needs_shown : (read image : Image) → IsReady read image → (strings bytes : List ℕ) → AreNeedsOf image.form image.needs strings bytes
     → AreNeedsIn (resized image) strings bytes
 needs_shown read image is strings bytes shown =
     let same : (final (image_at_read image) image).needs ≡ image.needs =
-    ap (λ (x : Image). (final x image).needs) (sym is.at_read) ∙ (final_is read image is).needs in
-    let P : List VersionNeeds → Type 0 = λ ns. (room : ℕ) → length strings ≤ room
-    → needed_versions image.form room (table_in bytes strings (length ns)) ≡ Some ns in
-    subst P (sym same) shown
+    ap (λ (x : Image). (final x image).needs) (sym is.at_read) ∙ (final_is read image (edit_of is)).needs in
+    subst (λ (ns : List VersionNeeds). AreNeedsOf image.form ns strings bytes) (sym same) shown
 
 -- ## The string table
 
@@ -55,7 +99,7 @@ pub if_ok : {A E : Type 0} (P Q : A → Type 0) (r : Result A E) → ((x : A) �
 if_ok P Q (Ok x) more h = more x h
 if_ok P Q (Err e) more h = tt
 
-pub shown_in : (read image : Image) → IsReady read image → (strings there bytes : List ℕ) → strings ≡ there → AreNeedsOf image strings bytes
+pub shown_in : (read image : Image) → IsReady read image → (strings there bytes : List ℕ) → strings ≡ there → AreNeedsOf image.form image.needs strings bytes
     → AreNeedsIn (resized image) there bytes
 shown_in read image is strings there bytes same shown =
     subst (λ (l : List ℕ). AreNeedsIn (resized image) l bytes) same (needs_shown read image is strings bytes shown)

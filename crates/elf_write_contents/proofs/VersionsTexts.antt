@@ -7,10 +7,7 @@ use Rattle.patch_bytes.specs.Memory.{◌>>=◌, Memory, memory_of, text_at}
 use Rattle.patch_bytes.specs.Number.{field}
 use Rattle.patch_bytes.proofs.MemoryLaws.{bind_some}
 use Rattle.elf_format.specs.declared.records.NeedNameNumbers.{NeedNameNumbers}
-use Rattle.elf_format.specs.declared.versions.RawDefinition.{RawDefinition}
-use Rattle.elf_format.specs.declared.versions.RawNeeds.{RawNeeds}
 use Rattle.elf_format.specs.Options.{each}
-use Rattle.elf_format.specs.Seen.{raw_definition, raw_needs}
 use Rattle.elf_format.specs.Versions.{DefinitionNumbers, NeedNumbers, VersionDefinition, VersionName, VersionNeeds, shown_definition, shown_need, shown_need_name}
 use Rattle.elf_tables.specs.Strings.{StandsAt}
 use Rattle.elf_image_versions.specs.declared.version.VersionDef.{VersionDef}
@@ -112,24 +109,20 @@ module _ (room : ℕ) (texts : Memory) (strings : List ℕ)
       (same_Some (record { index = d.index; flags = d.flags; names = names }) v made)
       (texts_at d.names names there)
 
-  pub definitions_at_places : (records : List RawDefinition) (definitions : List VersionDef)
-      → each (shown_definition room texts) (map raw_definition records) ≡ Some (map definition_model definitions)
+  pub definitions_at_places : (records : List DefinitionNumbers) (definitions : List VersionDef)
+      → each (shown_definition room texts) records ≡ Some (map definition_model definitions)
       → AreDefinitionsAt strings definitions records
   definitions_at_places records definitions h =
       let show : DefinitionNumbers → Option VersionDefinition = shown_definition room texts in
       let long : length (map definition_model definitions) ≡ length definitions = length-map definitions definition_model in
-      let same : length (map raw_definition records) ≡ length (map definition_model definitions) =
-      each-length show (map raw_definition records) (map definition_model definitions) h in
-      let count : length records ≡ length definitions = sym (length-map records raw_definition) ∙ same ∙ long in
+      let count : length records ≡ length definitions = each-length show records (map definition_model definitions) h ∙ long in
       record {
         count = count;
         each = λ i d r within.
-            let shown : show (raw_definition (get_or records i r)) ≡ Some (definition_model (get_or definitions i d)) =
-            ap show (sym (get_or-map raw_definition records i r (raw_definition r) (omega (arith, within, count))))
-            ∙ each-at show (map raw_definition records) (map definition_model definitions) h i (raw_definition r) (definition_model d)
-            (omega (arith, within, long))
+            let shown : show (get_or records i r) ≡ Some (definition_model (get_or definitions i d)) =
+            each-at show records (map definition_model definitions) h i r (definition_model d) (omega (arith, within, long))
             ∙ ap (λ (v : VersionDefinition). Some v) (get_or-map definition_model definitions i d (definition_model d) within) in
-            definition_at_places (raw_definition (get_or records i r)) (definition_model (get_or definitions i d)) shown;
+            definition_at_places (get_or records i r) (definition_model (get_or definitions i d)) shown;
       }
 
   name_at_its_place : (n : NeedNameNumbers) (v : VersionName) → shown_need_name room texts n ≡ Some v → StandsAt strings n.name v.name
@@ -154,11 +147,11 @@ module _ (room : ℕ) (texts : Memory) (strings : List ℕ)
             ∙ ap (λ (x : VersionName). Some x) (get_or-map name_model versions i v (name_model v) within));
       }
 
-  need_at_its_place : (n : RawNeeds) (need : VersionNeed) → shown_need room texts (raw_needs n) ≡ Some (needs_model need)
+  need_at_its_place : (n : NeedNumbers) (need : VersionNeed) → shown_need room texts n ≡ Some (needs_model need)
       → IsNeedAt strings need n
   unfolding shown_need
   need_at_its_place n need h =
-      let names : Option (List VersionName) = each (shown_need_name room texts) n.versions.items in
+      let names : Option (List VersionName) = each (shown_need_name room texts) n.versions in
       let (file, file_there, more) = bind_some (text_at room texts n.file)
       (λ f. names >>= λ vs. Some (record { file = f; versions = vs })) (needs_model need) h in
       let (versions, there, made) = bind_some names (λ vs. Some (record { file = file; versions = vs })) (needs_model need) more in
@@ -166,23 +159,20 @@ module _ (room : ℕ) (texts : Memory) (strings : List ℕ)
       same_Some (record { file = file; versions = versions }) (needs_model need) made in
       record {
         file = subst (λ (x : VersionNeeds). StandsAt strings n.file x.file) same (stands n.file file file_there);
-        versions = names_at_places n.versions.items need.versions.items
+        versions = names_at_places n.versions need.versions.items
             (there ∙ ap (λ (x : VersionNeeds). Some x.versions) same);
       }
 
-  pub needs_at_places : (records : List RawNeeds) (needs : List VersionNeed)
-      → each (shown_need room texts) (map raw_needs records) ≡ Some (map needs_model needs) → AreNeedsAt strings needs records
+  pub needs_at_places : (records : List NeedNumbers) (needs : List VersionNeed)
+      → each (shown_need room texts) records ≡ Some (map needs_model needs) → AreNeedsAt strings needs records
   needs_at_places records needs h =
       let show : NeedNumbers → Option VersionNeeds = shown_need room texts in
       let long : length (map needs_model needs) ≡ length needs = length-map needs needs_model in
-      let same : length (map raw_needs records) ≡ length (map needs_model needs) =
-      each-length show (map raw_needs records) (map needs_model needs) h in
-      let count : length records ≡ length needs = sym (length-map records raw_needs) ∙ same ∙ long in
+      let count : length records ≡ length needs = each-length show records (map needs_model needs) h ∙ long in
       record {
         count = count;
         each = λ i n r within.
             need_at_its_place (get_or records i r) (get_or needs i n)
-            (ap show (sym (get_or-map raw_needs records i r (raw_needs r) (omega (arith, within, count))))
-            ∙ each-at show (map raw_needs records) (map needs_model needs) h i (raw_needs r) (needs_model n) (omega (arith, within, long))
+            (each-at show records (map needs_model needs) h i r (needs_model n) (omega (arith, within, long))
             ∙ ap (λ (v : VersionNeeds). Some v) (get_or-map needs_model needs i n (needs_model n) within));
       }

@@ -18,11 +18,9 @@ use Rattle.elf_layout_plan.specs.Texts.{is_table_copied}
 use Rattle.elf_write_spec.specs.Contents.{AreEntriesOf, IsContent}
 use Rattle.elf_write_spec.specs.Final.{final}
 use Rattle.elf_write_spec.specs.Headers.{IsHeaderOf}
-use Rattle.elf_write_spec.specs.Laws.{ShowsFinal}
-use Rattle.elf_write_spec.specs.Stays.{AreOthersSeen, IsDataSeen}
 use Rattle.elf_write_spec.specs.Whole.{IsWhole}
-use Rattle.elf_write_spec.specs.Writing.{IsWholeWriting, IsWritten, Writing, written_bytes}
-use Rattle.elf_write_contents.specs.Seen.{HasHashes, HasHeaders, IsApart}
+use Rattle.elf_write_spec.specs.Output.{IsPlannedOutput, Output, written_bytes}
+use Rattle.elf_write_spec.specs.WrittenFile.{IsWrittenByPlan, IsWrittenOf}
 use Rattle.elf_write_contents.specs.declared.made.Made.{Made}
 
 -- An edited image of which nothing went, with the image that was read from its source.
@@ -89,23 +87,18 @@ AreContents r plan made raw _ _ _ = ⊥
 
 -- ## All of it
 
-abbrev pub writing_of : Image → Layout → List SectionHeader → List (List ℕ) → List EntryNumbers → Writing
-writing_of image plan headers contents raw = record { image = image; plan = plan; headers = headers; contents = contents; raw = raw }
+abbrev pub output_of : Image → Layout → List SectionHeader → List (List ℕ) → List EntryNumbers → Output
+output_of image plan headers contents raw = record { image = image; plan = plan; headers = headers; contents = contents; raw = raw }
 
 -- these bytes are those of an image that is written whole
-pub record IsWholeWritten (image : Image) (plan : Layout) (bytes : List ℕ) : Type 0 where
-  pub writing : Writing
-  pub of_image : writing.image ≡ image
-  pub by_plan : writing.plan ≡ plan
-  pub whole : IsWholeWriting writing
-  pub are_bytes : bytes ≡ written_bytes writing
+pub record IsPlannedFile (image : Image) (plan : Layout) (bytes : List ℕ) : Type 0 where
+  pub output : Output
+  pub of_image : output.image ≡ image
+  pub by_plan : output.plan ≡ plan
+  pub whole : IsPlannedOutput output
+  pub are_bytes : bytes ≡ written_bytes output
 
 -- what these bytes promise
 pub record ArePromised (image : Image) (plan : Layout) (bytes : List ℕ) : Type 0 where
-  pub written : IsWritten image plan bytes
-  pub shows : ShowsFinal image bytes
-  pub kept_data : IsDataSeen (resized image) plan bytes
-  pub others : AreOthersSeen (resized image) plan bytes
-  pub headers : HasHeaders image plan bytes
-  pub hashes : HasHashes image plan bytes
-  pub apart : IsApart image plan
+  pub written : IsWrittenOf image bytes
+  pub by_plan : IsWrittenByPlan image plan bytes

@@ -7,4 +7,3 @@ pub mod Numbers
 pub mod SymbolSteps
 pub mod ContentSteps
 pub mod VersionPlaces
-pub mod Seen

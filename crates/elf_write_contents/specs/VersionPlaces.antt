@@ -3,15 +3,12 @@ use Rattle.std.specs.Prelude.{ℕ, ◌≡◌, ◌<◌, ◌≤◌, List, [], leng
 use Rattle.std.specs.List.{All, slice_get}
 use Rattle.patch_bytes.specs.ByteString.{bytes_of_each}
 use Rattle.elf_format.specs.declared.records.NeedNameNumbers.{NeedNameNumbers}
-use Rattle.elf_format.specs.declared.versions.RawDefinition.{RawDefinition}
-use Rattle.elf_format.specs.declared.versions.RawNeeds.{RawNeeds}
 use Rattle.elf_format.specs.Image.{Image, ImageSection}
-use Rattle.elf_format.specs.Views.{needed_versions}
+use Rattle.elf_format.specs.Versions.{DefinitionNumbers, NeedNumbers}
 use Rattle.elf_tables.specs.Strings.{PlacesStand, StandsAt, Strings, place_of}
 use Rattle.elf_image_versions.specs.declared.version.VersionDef.{VersionDef}
 use Rattle.elf_image_versions.specs.declared.version.VersionNeed.{VersionNeed}
 use Rattle.elf_image_versions.specs.declared.version.VersionNeedName.{VersionNeedName}
-use Rattle.elf_write_spec.specs.Contents.{table_in}
 
 -- the table once more texts are placed in it: its bytes stay, and each text that had a place has one
 pub record HasMore (old new : Strings) : Type 0 where
@@ -29,10 +26,10 @@ pub record AreAt (strings : List ℕ) (texts : List (List ℕ)) (places : List �
   pub each : (i d : ℕ) (t : List ℕ) → i < length texts → StandsAt strings (get_or places i d) (get_or texts i t)
 
 -- defined versions, whose names stand at the places that their records tell
-pub record AreDefinitionsAt (strings : List ℕ) (definitions : List VersionDef) (records : List RawDefinition) : Type 0 where
+pub record AreDefinitionsAt (strings : List ℕ) (definitions : List VersionDef) (records : List DefinitionNumbers) : Type 0 where
   pub count : length records ≡ length definitions
-  pub each : (i : ℕ) (d : VersionDef) (r : RawDefinition) → i < length definitions
-      → AreAt strings (bytes_of_each (get_or definitions i d).names.items) (get_or records i r).names.items
+  pub each : (i : ℕ) (d : VersionDef) (r : DefinitionNumbers) → i < length definitions
+      → AreAt strings (bytes_of_each (get_or definitions i d).names.items) (get_or records i r).names
 
 -- the table tells where all names of a defined version stand
 abbrev pub TellsDefinition : Strings → VersionDef → Type 0
@@ -51,14 +48,14 @@ pub record AreNamesAt (strings : List ℕ) (versions : List VersionNeedName) (re
       → StandsAt strings (get_or records i r).name (get_or versions i v).name.bytes
 
 -- the same of the versions needed of a library, and the library's name
-pub record IsNeedAt (strings : List ℕ) (need : VersionNeed) (numbers : RawNeeds) : Type 0 where
+pub record IsNeedAt (strings : List ℕ) (need : VersionNeed) (numbers : NeedNumbers) : Type 0 where
   pub file : StandsAt strings numbers.file need.file.bytes
-  pub versions : AreNamesAt strings need.versions.items numbers.versions.items
+  pub versions : AreNamesAt strings need.versions.items numbers.versions
 
 -- library by library
-pub record AreNeedsAt (strings : List ℕ) (needs : List VersionNeed) (records : List RawNeeds) : Type 0 where
+pub record AreNeedsAt (strings : List ℕ) (needs : List VersionNeed) (records : List NeedNumbers) : Type 0 where
   pub count : length records ≡ length needs
-  pub each : (i : ℕ) (n : VersionNeed) (r : RawNeeds) → i < length needs → IsNeedAt strings (get_or needs i n) (get_or records i r)
+  pub each : (i : ℕ) (n : VersionNeed) (r : NeedNumbers) → i < length needs → IsNeedAt strings (get_or needs i n) (get_or records i r)
 
 -- the table tells where the name of a needed version stands
 abbrev pub TellsName : Strings → VersionNeedName → Type 0
@@ -68,9 +65,3 @@ TellsName table v = Tells table v.name.bytes
 pub record TellsNeed (table : Strings) (n : VersionNeed) : Type 0 where
   pub file : Tells table n.file.bytes
   pub versions : All (TellsName table) n.versions.items
-
--- the bytes show the needed versions of an image, their texts in this string table
-abbrev pub AreNeedsOf : Image → List ℕ → List ℕ → Type 0
-AreNeedsOf image strings bytes =
-    (room : ℕ) → length strings ≤ room
-    → needed_versions image.form room (table_in bytes strings (length image.needs)) ≡ Some image.needs

@@ -42,11 +42,11 @@ pub fn prepare<'a, 'data>(
         fault ≡ NumberTooLarge → do_all_fit image.entry.now plan.now ≡ false) }
 {
     let made = made_strings(alloc, read, image)?;
-    prepare_with(alloc, read, image, plan, made)
+    prepare_with_strings(alloc, read, image, plan, made)
 }
 
 /// The same, with the string table that is made anew, which [`strings_from`](crate::made::strings_from) gives. Errors as there.
-pub fn prepare_with<'a, 'data>(
+pub fn prepare_with_strings<'a, 'data>(
     alloc: Global,
     read: &'a Builder<'data>,
     image: &'a Builder<'data>,

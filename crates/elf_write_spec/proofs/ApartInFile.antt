@@ -23,7 +23,7 @@ use Rattle.elf_layout_plan.specs.Rounds.{are_in_old_order, do_move, headers_need
 use Rattle.elf_layout_plan.specs.Standing.{UnloadedSlot, content_end, unloaded_slots, unloaded_start, next_table, place_in, places, sections_offset, segments_end, table_offset}
 use Rattle.elf_layout_plan.specs.Written.{written_segments}
 use Rattle.elf_layout_plan.proofs.ForCallers.ApartBlocks.{all_apart_pairs, pairs_all_apart}
-use Rattle.elf_layout_plan.proofs.ForCallers.ApartFixed.{image_sized}
+use Rattle.elf_layout_plan.proofs.ForCallers.ApartFixed.{resized_sections}
 use Rattle.elf_layout_plan.proofs.ForCallers.ApartLists.{Each, Pairs, Some_in, all-at, any-at, at-map, each-all, each-at, each-filter, each-from, each-map, each-more, each-unfilter, each-unmap, map-at, pairs-filter, pairs-from, pairs-less, pairs-map, pairs-more, pairs-unfilter, pairs-unmap}
 use Rattle.elf_layout_plan.proofs.ForCallers.ApartSections.{sized-at, sized_of}
 use Rattle.elf_layout_plan.proofs.ForCallers.PlacedCount.{length-written}
@@ -340,7 +340,7 @@ stands_behind image plan edited planned =
     let r : Resized = resized image in
     let enough : headers_needed r planned.moved ≤ plan.looked = leb-true (headers_needed r planned.moved) plan.looked planned.ended.enough in
     subst StandsBehind (sym planned.follows) (all_stands_behind r planned.moved plan.looked (reads_placed image edited)
-    (stays_apart r plan.looked planned.moved planned.ended.move) enough (image_sized image) planned.ended.move plan.rounds)
+    (stays_apart r plan.looked planned.moved planned.ended.move) enough (resized_sections image) planned.ended.move plan.rounds)
 
 -- the ranges of a plan
 abbrev ranges_of : Image → Layout → List Range
@@ -356,4 +356,4 @@ plans_are_apart_in_file image plan edited planned headers =
     subst (λ (l : Layout). apart (range 0 (file_header_size image.form)) (written_table r l) ≡ true) planned.follows headers in
     subst (λ (l : Layout). all_apart (ranges_of image l) ≡ true) (sym planned.follows)
     (all_are_apart r planned.moved plan.looked (reads_placed image edited)
-    (stays_apart r plan.looked planned.moved planned.ended.move) enough (image_sized image) planned.ended.move plan.rounds now)
+    (stays_apart r plan.looked planned.moved planned.ended.move) enough (resized_sections image) planned.ended.move plan.rounds now)

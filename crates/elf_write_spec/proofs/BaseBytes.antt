@@ -24,7 +24,7 @@ use Rattle.elf_layout_plan.proofs.ForCallers.ApartLists.{all-at, any-at, any-fro
 use Rattle.elf_layout_plan.proofs.ForCallers.ApartSections.{kept-at}
 use Rattle.elf_layout_plan.proofs.ForCallers.ApartStays.{shows}
 use Rattle.elf_write_spec.specs.Base.{base, base_byte, does_byte_stay, has_position, is_data, is_opaque, is_rewritten, old_places}
-use Rattle.elf_write_spec.specs.Writing.{IsWholeWriting, Writing, written_bytes}
+use Rattle.elf_write_spec.specs.Output.{IsPlannedOutput, Output, written_bytes}
 use Rattle.elf_write_spec.proofs.DataStays.{DataFacts, IsNoTable, data_facts, data_keeps_size, fixed_keeps_offset, no_table}
 use Rattle.elf_write_spec.proofs.Laying.{AreApart, field-values}
 use Rattle.elf_write_spec.proofs.Patches.{data_is_apart, keeps_base, places_in_file, swapped}
@@ -59,7 +59,7 @@ not_in_empty x k none = false_from_ne_true (has_position k x) (λ there.
 
 -- ## What was read
 
-module _ (w : Writing) (is : IsWholeWriting w) (f : ReadFacts w) where
+module _ (w : Output) (is : IsPlannedOutput w) (f : ReadFacts w) where
   abbrev r : Resized
   r = resized w.image
 
@@ -141,9 +141,9 @@ module _ (w : Writing) (is : IsWholeWriting w) (f : ReadFacts w) where
       (has_from (file_part p) k (omega arith) (omega arith)))
 
   -- what is written anew didn't have a byte of data
-  not_rewritten : (i : ℕ) (at : SectionAt w f.parts i) → is_data r (kept i at.section) ≡ true → is_stored (place_of at.old) ≡ true
+  not_rewritten : (i : ℕ) (at : SectionAt w f.parts i) → is_data r.read (kept i at.section) ≡ true → is_stored (place_of at.old) ≡ true
       → (k : ℕ) → at.old.sh_offset ≤ k → k < at.old.sh_offset + at.old.sh_size
-      → (j : ℕ) (s : KeptSection) → slice_get (kept_sections w.image) j ≡ Some s → is_rewritten r s ≡ true
+      → (j : ℕ) (s : KeptSection) → slice_get (kept_sections w.image) j ≡ Some s → is_rewritten r.read s ≡ true
       → has_position k (file_range (place_at_read s.section)) ≡ false
   not_rewritten i at is_it stored k begins ends j s at_s rewritten =
       let l : Lengths w f.parts = lengths w is f in
@@ -151,13 +151,13 @@ module _ (w : Writing) (is : IsWholeWriting w) (f : ReadFacts w) where
       let other : SectionAt w f.parts j = section_at w is f j (omega (arith, below, l.sections)) in
       let same : s ≡ kept j other.section = same_Some s (kept j other.section) (sym at_s ∙ other.is_kept) in
       let outer = and_parts (occupies_memory (place_at_read s.section) && occupies_file (place_at_read s.section))
-      (not (is_data r s)) rewritten in
+      (not (is_data r.read s)) rewritten in
       let place : place_at_read s.section ≡ place_of other.old = ap (λ (x : KeptSection). place_at_read x.section) same
       ∙ section_place j other in
-      let no_data : is_data r s ≡ false = not-true (is_data r s) outer.1 in
+      let no_data : is_data r.read s ≡ false = not-true (is_data r.read s) outer.1 in
       subst (λ (x : Place). has_position k (file_range x) ≡ false) (sym place) (by_size other (cases_Bool (eqb other.old.sh_size 0))
       (ap (λ (x : Place). occupies_memory x && occupies_file x) (sym place) ∙ outer.0)
-      (λ e. both_ways (is_data r s) no_data (ap (is_data r) (same ∙ one other e) ∙ is_it)))
+      (λ e. both_ways (is_data r.read s) no_data (ap (is_data r.read) (same ∙ one other e) ∙ is_it)))
     where
       one : (other : SectionAt w f.parts j) → j ≡ i → kept j other.section ≡ kept i at.section
       one other e =
@@ -182,14 +182,14 @@ module _ (w : Writing) (is : IsWholeWriting w) (f : ReadFacts w) where
           ]) begins ends
 
   -- no old place had one
-  in_no_old_place : (i : ℕ) (at : SectionAt w f.parts i) → is_data r (kept i at.section) ≡ true → is_stored (place_of at.old) ≡ true
-      → (k : ℕ) → at.old.sh_offset ≤ k → k < at.old.sh_offset + at.old.sh_size → list_any (has_position k) (old_places r) ≡ false
+  in_no_old_place : (i : ℕ) (at : SectionAt w f.parts i) → is_data r.read (kept i at.section) ≡ true → is_stored (place_of at.old) ≡ true
+      → (k : ℕ) → at.old.sh_offset ≤ k → k < at.old.sh_offset + at.old.sh_size → list_any (has_position k) (old_places r.read r.image) ≡ false
   in_no_old_place i at is_it stored k begins ends =
       let s : Place = place_of at.old in
       let header = clear_at (header_range f.parts) clear_of_headers.0 i s (place_was i at) stored in
       let table = clear_at (segment_table_range f.parts) clear_of_headers.1 i s (place_was i at) stored in
       let P : Range → Type 0 = λ x. has_position k x ≡ false in
-      none-from (has_position k) (old_places r) (
+      none-from (has_position k) (old_places r.read r.image) (
         not_in (file_range s) (range 0 (file_header_size w.image.form)) k
             (subst (λ (x : Form). AreApart (file_range s) (range 0 (file_header_size x))) (sym same_form)
             (swapped (header_range f.parts) (file_range s) header)) begins ends,
@@ -197,19 +197,19 @@ module _ (w : Writing) (is : IsWholeWriting w) (f : ReadFacts w) where
           not_in (file_range s) (table_at_read r) k
               (subst (λ (x : Range). AreApart (file_range s) x) (sym table_was)
               (swapped (segment_table_range f.parts) (file_range s) table)) begins ends,
-          each-map P (λ x. file_range (place_at_read x.section)) (filter (is_rewritten r) (kept_sections w.image))
-              (each-from (λ x. P (file_range (place_at_read x.section))) (filter (is_rewritten r) (kept_sections w.image)) (λ n x at_n.
-              let (j, at_x, rewritten) = filter-at (is_rewritten r) (kept_sections w.image) n x at_n in
+          each-map P (λ x. file_range (place_at_read x.section)) (filter (is_rewritten r.read) (kept_sections w.image))
+              (each-from (λ x. P (file_range (place_at_read x.section))) (filter (is_rewritten r.read) (kept_sections w.image)) (λ n x at_n.
+              let (j, at_x, rewritten) = filter-at (is_rewritten r.read) (kept_sections w.image) n x at_n in
               not_rewritten i at is_it stored k begins ends j x at_x rewritten)),
         ),
       )
 
   -- so the base has it
-  pub base_has : (i : ℕ) (at : SectionAt w f.parts i) → is_data r (kept i at.section) ≡ true → is_stored (place_of at.old) ≡ true
+  pub base_has : (i : ℕ) (at : SectionAt w f.parts i) → is_data r.read (kept i at.section) ≡ true → is_stored (place_of at.old) ≡ true
       → (k : ℕ) → at.old.sh_offset ≤ k → k < at.old.sh_offset + at.old.sh_size → base_byte r k ≡ slice_index w.image.source k
   base_has i at is_it stored k begins ends =
       let loaded : Bool = list_any (λ p. has_position k (file_part p)) (loads_of r.read.segments) in
-      let old : Bool = list_any (has_position k) (old_places r) in
+      let old : Bool = list_any (has_position k) (old_places r.read r.image) in
       cond-true (does_byte_stay r k) (slice_index w.image.source k) 0
       (and_from loaded (not old) (in_load i at stored k begins ends)
       (not_from_false old (in_no_old_place i at is_it stored k begins ends)))
@@ -217,14 +217,14 @@ module _ (w : Writing) (is : IsWholeWriting w) (f : ReadFacts w) where
   -- ## Data in the written file
 
   -- its type is none of a table's
-  not_table : (i : ℕ) (at : SectionAt w f.parts i) → is_data r (kept i at.section) ≡ true → IsNoTable at.section.sh_type
+  not_table : (i : ℕ) (at : SectionAt w f.parts i) → is_data r.read (kept i at.section) ≡ true → IsNoTable at.section.sh_type
   not_table i at is_it =
       let facts = data_facts r (kept i at.section) is_it in
       subst (λ (n : ℕ). IsNoTable n) (ap (λ (x : ImageSection). x.sh_type) (sym at.of_old.fields))
       (no_table f.parts at.old (ap (λ (x : ImageSection). is_opaque x.kind) (sym at.of_old.fields) ∙ facts.opaque))
 
   -- where it was
-  pub data_offset : (i : ℕ) (at : SectionAt w f.parts i) → is_data r (kept i at.section) ≡ true → is_stored (place_of at.old) ≡ true
+  pub data_offset : (i : ℕ) (at : SectionAt w f.parts i) → is_data r.read (kept i at.section) ≡ true → is_stored (place_of at.old) ≡ true
       → is_stored at.place ≡ true → at.place.sh_offset ≡ at.old.sh_offset
   data_offset i at is_it stored stored_now =
       let facts = data_facts r (kept i at.section) is_it in
@@ -233,7 +233,7 @@ module _ (w : Writing) (is : IsWholeWriting w) (f : ReadFacts w) where
       (ap is_stored (section_place i at) ∙ stored) stored_now refl
       ∙ ap (λ (x : ImageSection). x.sh_offset) at.of_old.fields
 
-  pub data_size : (i : ℕ) (at : SectionAt w f.parts i) → is_data r (kept i at.section) ≡ true → at.place.sh_size ≡ at.old.sh_size
+  pub data_size : (i : ℕ) (at : SectionAt w f.parts i) → is_data r.read (kept i at.section) ≡ true → at.place.sh_size ≡ at.old.sh_size
   data_size i at is_it =
       let facts = data_facts r (kept i at.section) is_it in
       at.place_size ∙ data_keeps_size (image_at_read w.image) w.image (kept i at.section) facts.other (not_table i at is_it)
@@ -248,7 +248,7 @@ module _ (w : Writing) (is : IsWholeWriting w) (f : ReadFacts w) where
       && occupies_file (record at.place { sh_type = n }) && not (eqb at.place.sh_size 0)) at.place_type
       ∙ ap (λ (n : ℕ). occupies_memory (place_of at.old) && occupies_file (place_of at.old) && not (eqb n 0)) size ∙ stored
 
-  base_field : (i : ℕ) (at : SectionAt w f.parts i) → is_data r (kept i at.section) ≡ true → is_stored (place_of at.old) ≡ true
+  base_field : (i : ℕ) (at : SectionAt w f.parts i) → is_data r.read (kept i at.section) ≡ true → is_stored (place_of at.old) ≡ true
       → (size : ℕ)
       → at.old.sh_offset + at.old.sh_size ≤ size → at.old.sh_offset + at.old.sh_size ≤ length w.image.source
       → field at.old.sh_size at.old.sh_offset (base r size) ≡ field at.old.sh_size at.old.sh_offset w.image.source
@@ -258,7 +258,7 @@ module _ (w : Writing) (is : IsWholeWriting w) (f : ReadFacts w) where
       (λ k begins ends. base_has i at is_it stored k begins ends)
 
   -- its bytes
-  pub data_stands : (i : ℕ) (at : SectionAt w f.parts i) → is_data r (kept i at.section) ≡ true → occupies_file at.place ≡ true
+  pub data_stands : (i : ℕ) (at : SectionAt w f.parts i) → is_data r.read (kept i at.section) ≡ true → occupies_file at.place ≡ true
       → field at.place.sh_size at.place.sh_offset (written_bytes w) ≡ field at.old.sh_size at.old.sh_offset w.image.source
   data_stands i at is_it in_file = elim (cases_Bool (eqb at.old.sh_size 0)) [
     | inl none ↦ empty at.place.sh_size at.place.sh_offset (written_bytes w) (data_size i at is_it ∙ eqb-true at.old.sh_size 0 none)

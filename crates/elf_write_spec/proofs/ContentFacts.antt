@@ -1,77 +1,35 @@
 -- What the bytes that are written of a section are, by the section's type.
-use Rattle.std.proofs.Common.{◌≡◌, ℕ, ◌<◌, List, length, Bool, true, false, ◌&&◌, refl, sym, ap, ◌∙◌, subst, Option, Some, None}
-use Rattle.std.specs.Prelude.{find, IsTrue, ◌==◌}
-use Rattle.std.specs.List.{slice_get}
-use Rattle.std.proofs.lemmas.Bool.{eq-eqb, eqb-true, false_from_ne_true, false≢true}
-use Rattle.std.proofs.lemmas.Option.{same_Some, slice_get_within}
-use Rattle.patch_bytes.specs.Memory.{◌>>=◌}
-use Rattle.patch_bytes.proofs.MemoryLaws.{bind_some}
-use Rattle.elf_format.specs.declared.constants.TheConstants.{PT_INTERP, SHT_DYNAMIC, SHT_DYNSYM, SHT_GNU_HASH, SHT_GNU_VERDEF, SHT_GNU_VERNEED, SHT_GNU_VERSYM, SHT_HASH, SHT_PROGBITS, SHT_STRTAB, SHT_SYMTAB}
+use Rattle.std.proofs.Common.{◌≡◌, ℕ, List, length, Bool, true, false, refl, ap, ◌∙◌, subst}
+use Rattle.std.specs.Prelude.{IsTrue, ◌==◌}
+use Rattle.elf_format.specs.declared.constants.TheConstants.{SHT_DYNAMIC, SHT_DYNSYM, SHT_GNU_HASH, SHT_GNU_VERDEF, SHT_GNU_VERNEED, SHT_GNU_VERSYM, SHT_HASH, SHT_PROGBITS, SHT_STRTAB, SHT_SYMTAB}
 use Rattle.elf_format.specs.declared.section_data.SectionData.{SectionData}
 use Rattle.elf_format.specs.declared.section_data.SectionData.TheVariants as kinds
-use Rattle.elf_format.specs.File.{section_bytes, segment_of_type}
-use Rattle.elf_format.specs.Image.{Image, ImageSection, counted}
+use Rattle.elf_format.specs.File.{section_bytes}
+use Rattle.elf_format.specs.Image.{ImageSection}
 use Rattle.elf_format.specs.Options.{list_at}
 use Rattle.elf_format.specs.Records.{symbols_in}
 use Rattle.elf_format.specs.Rules.{data_of, file_of, is_opaque_relocation}
-use Rattle.elf_image.specs.Kept.{image_at_read, interpreter_number, is_numbered, kept_sections, stands_as_interpreter}
+use Rattle.elf_image.specs.Kept.{image_at_read}
 use Rattle.elf_layout_plan.specs.Plan.{resized}
 use Rattle.elf_layout_plan.specs.Texts.{is_table_copied}
-use Rattle.elf_layout_plan.proofs.ForCallers.PlacedLists.{find-at}
-use Rattle.elf_layout_plan.proofs.ForCallers.PlacedRead.{kept_at}
 use Rattle.elf_write_spec.specs.Base.{is_interpreter}
-use Rattle.elf_write_spec.specs.Contents.{AreDefinitionsIn, AreEntriesOf, AreNeedsIn, AreSymbolsOf, IsContent, IsContentByKind, content_at_number, spelled_list}
+use Rattle.elf_write_spec.specs.Contents.{AreDefinitionsIn, AreEntriesOf, AreNeedsIn, AreSymbolsOf, IsContent, IsContentOfKind, content_at_number, spelled_list}
 use Rattle.elf_write_spec.specs.Final.{final}
-use Rattle.elf_write_spec.specs.Writing.{IsWholeWriting, Writing}
-use Rattle.elf_write_spec.proofs.WholeFacts.{ReadFacts, SectionAt}
-use Rattle.elf_format.proofs.ForCallers.Lengths.{slice_get-counted}
+use Rattle.elf_write_spec.specs.Output.{IsPlannedOutput, Output}
+use Rattle.elf_write_spec.proofs.WholeEdits as edits
+use Rattle.elf_write_spec.proofs.WholeFacts.{ReadFacts, SectionAt, whole_edit}
 use Rattle.elf_write_spec.proofs.NumberedSections.{kept}
 use Rattle.elf_write_spec.proofs.SectionKinds.{kind_by}
 
 -- ## The interpreter's section
 
-module _ (w : Writing) (is : IsWholeWriting w) (f : ReadFacts w) (i : ℕ) (at : SectionAt w f.parts i) where
-  number_is : is_interpreter (resized w.image) (kept i at.section) ≡ true → interpreter_number (image_at_read w.image) ≡ Some i
-  number_is h = by_number (interpreter_number (image_at_read w.image)) h
-    where
-      by_number : (o : Option ℕ) → is_numbered o (kept i at.section) ≡ true → o ≡ Some i
-      by_number None e = absurd (false≢true e)
-      by_number (Some n) e = ap (λ (m : ℕ). Some m) (eqb-true n i e)
-
-  -- it is one with bytes of its own
-  pub interpreter_type : is_interpreter (resized w.image) (kept i at.section) ≡ true → at.old.sh_type ≡ SHT_PROGBITS
-  interpreter_type h =
-      let read : Image = image_at_read w.image in
-      let (p, _, more) = bind_some (segment_of_type PT_INTERP read.segments)
-      (λ p. find (λ s. stands_as_interpreter p s.section) (kept_sections read) >>= λ s. Some s.number) i (number_is h) in
-      let (s, found, made) = bind_some (find (λ x. stands_as_interpreter p x.section) (kept_sections read)) (λ x. Some x.number) i more in
-      let number : s.number ≡ i = same_Some s.number i made in
-      let passes = find-at (λ x. stands_as_interpreter p x.section) (kept_sections read) s found in
-      let type : s.section.sh_type ≡ SHT_PROGBITS = eqb-true s.section.sh_type SHT_PROGBITS
-      (first (s.section.sh_type == SHT_PROGBITS) (s.section.sh_offset == p.p_offset)
-      (s.section.sh_addr == p.p_vaddr) (s.section.sh_size == p.p_filesz) passes.1) in
-      let place = kept_at 0 read.section_numbers read.sections s passes.0 in
-      let counts : slice_get (counted (length read.sections)) place.index ≡ Some s.number =
-      ap (λ (l : List ℕ). slice_get l place.index) (sym f.holds.section_numbers) ∙ place.number in
-      let within : place.index < length read.sections = slice_get_within read.sections place.index s.section place.section in
-      let index : place.index ≡ s.number =
-      same_Some place.index s.number (sym (slice_get-counted (length read.sections) place.index within) ∙ counts) in
-      let here : slice_get w.image.sections i ≡ Some s.section =
-      ap (λ (l : List ImageSection). slice_get l i) is.whole.sections
-      ∙ ap (λ (n : ℕ). slice_get read.sections n) (sym (index ∙ number)) ∙ place.section in
-      let same : at.section ≡ s.section = same_Some at.section s.section (sym at.is_section ∙ here) in
-      sym (ap (λ (x : ImageSection). x.sh_type) at.of_old.fields) ∙ ap (λ (x : ImageSection). x.sh_type) same ∙ type
-    where
-      first : (a b c d : Bool) → (a && b && c && d) ≡ true → a ≡ true
-      first true b c d e = refl
-      first false b c d e = absurd (false≢true e)
-
+module _ (w : Output) (is : IsPlannedOutput w) (f : ReadFacts w) (i : ℕ) (at : SectionAt w f.parts i) where
   -- a section of another type isn't the interpreter's
   pub not_interpreter : (type : ℕ) → at.old.sh_type ≡ type → (type == SHT_PROGBITS) ≡ false
-      → is_interpreter (resized w.image) (kept i at.section) ≡ false
+      → is_interpreter (image_at_read w.image) (kept i at.section) ≡ false
   not_interpreter type is_type other =
-      false_from_ne_true (is_interpreter (resized w.image) (kept i at.section)) (λ h.
-      false≢true (sym other ∙ eq-eqb type SHT_PROGBITS (sym is_type ∙ interpreter_type h)))
+      edits.not_interpreter (image_at_read w.image) w.image (whole_edit w is) i at.section at.is_section
+      (ap (λ (n : ℕ). n == SHT_PROGBITS) (ap (λ (x : ImageSection). x.sh_type) at.of_old.fields ∙ is_type) ∙ other)
 
   -- ## The kind of a section
 
@@ -81,8 +39,7 @@ module _ (w : Writing) (is : IsWholeWriting w) (f : ReadFacts w) (i : ℕ) (at :
 
   -- what its bytes show, were it of a kind
   abbrev pub ShowsAs : SectionData → Type 0
-  ShowsAs kind =
-      IsContentByKind (resized w.image) w.plan w.raw linked_bytes (record (kept i at.section) { section = record at.section { kind = kind } }) at.bytes
+  ShowsAs kind = IsContentOfKind (resized w.image) w.plan w.raw linked_bytes (kept i at.section) at.bytes kind
 
   kind_is : at.section.kind ≡ data_of f.parts at.old
   kind_is = ap (λ (x : ImageSection). x.kind) at.of_old.fields

@@ -10,7 +10,7 @@ use Rattle.elf_format.specs.Options.{is_one_of}
 use Rattle.elf_format.specs.Places.{Place, occupies_file, occupies_memory, place_of}
 use Rattle.elf_format.specs.Rules.{data_of}
 use Rattle.elf_format.specs.Views.{byte_at}
-use Rattle.elf_image.specs.Kept.{KeptSection, dynamic_strings_number, interpreter_number, is_numbered, place_at_read}
+use Rattle.elf_image.specs.Kept.{KeptSection, dynamic_strings_number, image_at_read, interpreter_number, is_numbered, place_at_read}
 use Rattle.elf_layout_plan.specs.Memory.{Resized, is_movable, priority_of}
 use Rattle.elf_layout_plan.specs.Plan.{resized}
 use Rattle.elf_layout_plan.proofs.ForCallers.ApartFixed.{fixed_sections_stay}
@@ -19,7 +19,7 @@ use Rattle.elf_layout_plan.proofs.ForCallers.ApartSections.{kept-at}
 use Rattle.elf_write_spec.specs.Base.{is_data, is_interpreter, is_opaque}
 use Rattle.elf_write_spec.specs.Contents.{content_at_number}
 use Rattle.elf_write_spec.specs.Laws.{WrittenFilesKeepData}
-use Rattle.elf_write_spec.specs.Writing.{IsWholeWriting, Writing, written_bytes}
+use Rattle.elf_write_spec.specs.Output.{IsPlannedOutput, Output, written_bytes}
 pub use Rattle.elf_write_spec.proofs.OthersSeen.{written_files_keep_others}
 pub use Rattle.elf_write_spec.proofs.HashesSeen.{written_files_keep_hashes}
 use Rattle.elf_write_spec.proofs.DataStays.{DataFacts, IsNoTable, data_facts, no_table}
@@ -34,7 +34,7 @@ turned : (a b : ℕ) → (a == b) ≡ false → (b == a) ≡ false
 turned a b h = false_from_ne_true (b == a) (λ e. both_ways (a == b) h (eq-eqb a b (sym (eqb-true b a e))))
 
 -- neither the interpreter nor a table nor a note
-never_moves : (r : Resized) (k : KeptSection) → is_interpreter r k ≡ false → IsNoTable k.section.sh_type → priority_of r k ≡ 0
+never_moves : (r : Resized) (k : KeptSection) → is_interpreter r.read k ≡ false → IsNoTable k.section.sh_type → priority_of r k ≡ 0
 never_moves r k other none =
     let n : ℕ = k.section.sh_type in
     let tables : List ℕ = SHT_NOTE ∷ SHT_DYNSYM ∷ SHT_HASH ∷ SHT_GNU_HASH ∷ SHT_GNU_VERSYM ∷ SHT_GNU_VERDEF ∷ SHT_GNU_VERNEED ∷ [] in
@@ -59,8 +59,8 @@ never_moves r k other none =
 
 -- ## It is seen
 
-module _ (w : Writing) (is : IsWholeWriting w) (f : ReadFacts w) (i : ℕ) (at : SectionAt w f.parts i)
-    (is_it : is_data (resized w.image) (kept i at.section) ≡ true) (stored : occupies_file (place_at_read at.section) ≡ true) where
+module _ (w : Output) (is : IsPlannedOutput w) (f : ReadFacts w) (i : ℕ) (at : SectionAt w f.parts i)
+    (is_it : is_data (image_at_read w.image) (kept i at.section) ≡ true) (stored : occupies_file (place_at_read at.section) ≡ true) where
   facts : DataFacts (resized w.image) (kept i at.section)
   facts = data_facts (resized w.image) (kept i at.section) is_it
 
@@ -93,6 +93,6 @@ written_files_keep_data w is i s at_s h =
     let below = slice_get_within w.image.sections i s.section (kept-at 0 w.image.section_numbers w.image.sections i s at_s).2 in
     let at : SectionAt w f.parts i = section_at w is f i (omega (arith, below, l.sections)) in
     let same : kept i at.section ≡ s = same_Some (kept i at.section) s (sym at.is_kept ∙ at_s) in
-    let both = and_parts (is_data r s) (occupies_file (place_at_read s.section)) h in
+    let both = and_parts (is_data r.read s) (occupies_file (place_at_read s.section)) h in
     subst (λ (k : KeptSection). Keeps (memory_of k.section.content) (from (byte_at w.plan.segments (written_bytes w)) k.section.sh_addr)) same
-    (data_seen w is f i at (ap (is_data r) same ∙ both.0) (ap (λ (k : KeptSection). occupies_file (place_at_read k.section)) same ∙ both.1))
+    (data_seen w is f i at (ap (is_data r.read) same ∙ both.0) (ap (λ (k : KeptSection). occupies_file (place_at_read k.section)) same ∙ both.1))

@@ -7,7 +7,6 @@ use Rattle.std.proofs.lemmas.Bool.{and_parts, both_ways, cond-false, eq-eqb, eqb
 use Rattle.std.proofs.lemmas.Option.{same_Some}
 use Rattle.elf_format.specs.declared.constants.TheConstants.{SHT_DYNAMIC, SHT_DYNSYM, SHT_GNU_HASH, SHT_GNU_VERDEF, SHT_GNU_VERNEED, SHT_GNU_VERSYM, SHT_HASH, SHT_NOTE, SHT_STRTAB, SHT_SYMTAB}
 use Rattle.elf_format.specs.declared.records.SectionHeader.{SectionHeader}
-use Rattle.elf_format.specs.declared.section_data.SectionData.TheVariants as kinds
 use Rattle.elf_format.specs.File.{Parts}
 use Rattle.elf_format.specs.Image.{Image}
 use Rattle.elf_format.specs.Options.{is_one_of}
@@ -24,7 +23,7 @@ use Rattle.elf_layout_plan.specs.Needs.{written_needs}
 use Rattle.elf_layout_plan.specs.Plan.{IsPlan, Layout, layout_for, resized}
 use Rattle.elf_layout_plan.specs.Sizes.{definitions_size, dynamic_size, hash_size, interpreter_size, needs_size, new_size, strings_size, table_size}
 use Rattle.elf_layout_plan.specs.Standing.{place_in, places}
-use Rattle.elf_layout_plan.proofs.ForCallers.ApartFixed.{fixed_sections_stay, image_sized}
+use Rattle.elf_layout_plan.proofs.ForCallers.ApartFixed.{fixed_sections_stay, resized_sections}
 use Rattle.elf_layout_plan.proofs.ForCallers.ApartLists.{at-map, none-from}
 use Rattle.elf_layout_plan.proofs.ForCallers.ApartSections.{at-sized, sized_of}
 use Rattle.elf_layout_plan.proofs.ForCallers.ApartStays.{shows}
@@ -41,13 +40,13 @@ use Rattle.elf_write_spec.proofs.SectionKinds.{kind_by, kind_is}
 pub record DataFacts (r : Resized) (s : KeptSection) : Type 0 where
   pub loaded : is_loaded_section s.section ≡ true
   pub opaque : is_opaque s.section.kind ≡ true
-  pub other : is_interpreter r s ≡ false
+  pub other : is_interpreter r.read s ≡ false
 
-pub data_facts : (r : Resized) (s : KeptSection) → is_data r s ≡ true → DataFacts r s
+pub data_facts : (r : Resized) (s : KeptSection) → is_data r.read s ≡ true → DataFacts r s
 data_facts r s h =
-    let outer = and_parts (is_loaded_section s.section && is_opaque s.section.kind) (not (is_interpreter r s)) h in
+    let outer = and_parts (is_loaded_section s.section && is_opaque s.section.kind) (not (is_interpreter r.read s)) h in
     let inner = and_parts (is_loaded_section s.section) (is_opaque s.section.kind) outer.0 in
-    record { loaded = inner.0; opaque = inner.1; other = not-true (is_interpreter r s) outer.1 }
+    record { loaded = inner.0; opaque = inner.1; other = not-true (is_interpreter r.read s) outer.1 }
 
 -- ## Its type
 
@@ -123,7 +122,7 @@ data_keeps_size read image k other none =
 turned : (a b : ℕ) → (a == b) ≡ false → (b == a) ≡ false
 turned a b h = false_from_ne_true (b == a) (λ e. both_ways (a == b) h (eq-eqb a b (sym (eqb-true b a e))))
 
-fixed : (r : Resized) (k : KeptSection) → is_interpreter r k ≡ false → IsNoTable k.section.sh_type → priority_of r k ≡ 0
+fixed : (r : Resized) (k : KeptSection) → is_interpreter r.read k ≡ false → IsNoTable k.section.sh_type → priority_of r k ≡ 0
 fixed r k other none =
     let n : ℕ = k.section.sh_type in
     let tables : List ℕ = SHT_NOTE ∷ SHT_DYNSYM ∷ SHT_HASH ∷ SHT_GNU_HASH ∷ SHT_GNU_VERSYM ∷ SHT_GNU_VERDEF ∷ SHT_GNU_VERNEED ∷ [] in
@@ -171,13 +170,13 @@ module _ (image : Image) (plan : Layout) (edited : IsEdited image) (planned : Is
 
   pub fixed_keeps_offset : (i : ℕ) (k : KeptSection) (place : Place) → slice_get (kept_sections image) i ≡ Some k
       → slice_get plan.places i ≡ Some place
-      → is_interpreter r k ≡ false → IsNoTable k.section.sh_type → is_stored (place_at_read k.section) ≡ true → is_stored place ≡ true
+      → is_interpreter r.read k ≡ false → IsNoTable k.section.sh_type → is_stored (place_at_read k.section) ≡ true → is_stored place ≡ true
       → k.position ≡ i → place.sh_offset ≡ k.section.sh_offset
   unfolding layout_for places
   fixed_keeps_offset i k place at_k at_place other none stored stored_now position =
       let t : SizedSection = sized_of r k in
       let moved : List ℕ = planned.moved in
-      let at_t : slice_get (sized_sections r) i ≡ Some t = at-sized r (image_sized image) i k at_k in
+      let at_t : slice_get (sized_sections r) i ≡ Some t = at-sized r (resized_sections image) i k at_k in
       let here : Has t (sized_sections r) = slice_get-at (sized_sections r) i t at_t in
       let placed : plan.places ≡ places r moved = ap (λ (l : Layout). l.places) planned.follows in
       let there : slice_get plan.places i ≡ Some (place_in r moved t) =

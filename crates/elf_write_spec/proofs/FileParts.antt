@@ -32,16 +32,16 @@ use Rattle.elf_tables.proofs.ForCallers.FilesOpened.{files_are_opened}
 use Rattle.elf_tables.proofs.ForCallers.SectionHeaderBack.{section_headers_are_read_back}
 use Rattle.elf_tables.proofs.ForCallers.SegmentHeaderBack.{segment_headers_are_read_back}
 use Rattle.elf_tables.proofs.ForCallers.TableBack.{tables_are_read_back}
-use Rattle.elf_image.specs.Kept.{KeptSection, kept_sections}
+use Rattle.elf_image.specs.Kept.{KeptSection, image_at_read, kept_sections}
 use Rattle.elf_layout_plan.specs.Memory.{Resized}
 use Rattle.elf_layout_plan.specs.Plan.{Layout, resized}
 use Rattle.elf_layout_plan.proofs.ForCallers.ApartLists.{Each}
-use Rattle.elf_write_spec.specs.Again.{written_parts}
+use Rattle.elf_write_spec.specs.ReadBack.{written_parts}
 use Rattle.elf_write_spec.specs.Base.{is_data, is_interpreter, is_opaque}
-use Rattle.elf_write_spec.specs.Contents.{IsContent, IsContentByKind, content_at_number}
+use Rattle.elf_write_spec.specs.Contents.{IsContent, IsContentByKind, IsContentOfKind, content_at_number}
 use Rattle.elf_write_spec.specs.Headers.{written_header}
 use Rattle.elf_write_spec.specs.Laws.{WrittenFilesHaveParts}
-use Rattle.elf_write_spec.specs.Writing.{IsWholeWriting, Writing, patch, patches, written_bytes}
+use Rattle.elf_write_spec.specs.Output.{IsPlannedOutput, Output, patch, patches, written_bytes}
 use Rattle.elf_write_spec.proofs.BaseBytes.{data_stands}
 use Rattle.elf_write_spec.proofs.DataStays.{data_facts}
 use Rattle.elf_write_spec.proofs.Laying.{StandsIn}
@@ -85,13 +85,9 @@ table_there {A} size numbers spelled decoded back xs file offset count fit many 
 
 -- ## The bytes of data
 
-with_kind : KeptSection → SectionData → KeptSection
-with_kind s k = record s { section = record s.section { kind = k } }
-
 by_kind : (r : Resized) (plan : Layout) (raw : List EntryNumbers) (strings : List ℕ) (s : KeptSection) (bytes : List ℕ)
     (k : SectionData) → is_opaque k ≡ true
-    → IsContentByKind r plan raw strings (with_kind s k) bytes → bytes ≡ s.section.content
-unfolding with_kind
+    → IsContentOfKind r plan raw strings s bytes k → bytes ≡ s.section.content
 by_kind r plan raw strings s bytes kinds.Opaque h c = c
 by_kind r plan raw strings s bytes kinds.Uninitialized h c = absurd (false≢true h)
 by_kind r plan raw strings s bytes kinds.Dynamic h c = absurd (false≢true h)
@@ -106,24 +102,23 @@ by_kind r plan raw strings s bytes kinds.GnuVersym h c = absurd (false≢true h)
 by_kind r plan raw strings s bytes kinds.GnuVerdef h c = absurd (false≢true h)
 by_kind r plan raw strings s bytes kinds.GnuVerneed h c = absurd (false≢true h)
 
-other_than : (X Y : Type 0) (b : Bool) → b ≡ false → (elim b as (λ _. Type 0) [ true ↦ X | _ ↦ Y ]) → Y
+pub other_than : (X Y : Type 0) (b : Bool) → b ≡ false → (elim b as (λ _. Type 0) [ true ↦ X | _ ↦ Y ]) → Y
 other_than X Y true e h = absurd (false≢true (sym e))
 other_than X Y false e h = h
 
 -- the bytes that are written of data are those that were read
 pub data_content : (r : Resized) (plan : Layout) (raw : List EntryNumbers) (strings : List ℕ) (s : KeptSection) (bytes : List ℕ)
-    → is_data r s ≡ true
+    → is_data r.read s ≡ true
     → IsContent r plan raw strings s bytes → bytes ≡ s.section.content
-unfolding with_kind
 data_content r plan raw strings s bytes is_it content =
     let facts = data_facts r s is_it in
     by_kind r plan raw strings s bytes s.section.kind facts.opaque
-    (other_than (bytes ≡ list_at (λ name. name) r.image.interpreter) (IsContentByKind r plan raw strings s bytes) (is_interpreter r s)
+    (other_than (bytes ≡ list_at (λ name. name) r.image.interpreter) (IsContentByKind r plan raw strings s bytes) (is_interpreter r.read s)
     facts.other content)
 
 -- ## The law
 
-module _ (w : Writing) (is : IsWholeWriting w) where
+module _ (w : Output) (is : IsPlannedOutput w) where
   abbrev form : Form
   form = w.image.form
 
@@ -173,7 +168,7 @@ module _ (w : Writing) (is : IsWholeWriting w) where
   stored_bytes : (f : ReadFacts w) (i : ℕ) (at : SectionAt w f.parts i) → occupies_file at.place ≡ true
       → field at.place.sh_size at.place.sh_offset (written_bytes w) ≡ at.bytes
   unfolding section_bytes
-  stored_bytes f i at in_file = by_test (is_data (resized w.image) (kept i at.section)) refl
+  stored_bytes f i at in_file = by_test (is_data (image_at_read w.image) (kept i at.section)) refl
     where
       long : length at.bytes ≡ at.place.sh_size
       long = at.written.sized ∙ cond-true (occupies_file at.place) at.place.sh_size 0 in_file
@@ -185,7 +180,7 @@ module _ (w : Writing) (is : IsWholeWriting w) where
           (ap (λ (n : ℕ). occupies_file (record at.place { sh_type = n })) (sym at.place_type) ∙ in_file)
           ∙ ap (field at.old.sh_size at.old.sh_offset) f.are_parts.same_file
 
-      by_test : (b : Bool) → is_data (resized w.image) (kept i at.section) ≡ b
+      by_test : (b : Bool) → is_data (image_at_read w.image) (kept i at.section) ≡ b
           → field at.place.sh_size at.place.sh_offset (written_bytes w) ≡ at.bytes
       by_test true is_it =
           data_stands w is f i at is_it in_file ∙ sym old_content

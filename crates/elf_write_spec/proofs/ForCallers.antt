@@ -9,6 +9,8 @@ pub use Rattle.elf_write_spec.proofs.BaseBytes
 pub use Rattle.elf_write_spec.proofs.DataSeen
 -- a written file has the parts that were written
 pub use Rattle.elf_write_spec.proofs.FileParts
+-- a file that is written whole is one to which its image is written
+pub use Rattle.elf_write_spec.proofs.FilesWritten
 -- the section header table of a file: where each header's bytes stand, and that all of them lie in the file
 pub use Rattle.elf_write_spec.proofs.HeaderTables
 -- the sections that are there in an image of which none went: each has its position for its number
@@ -23,12 +25,16 @@ pub use Rattle.elf_write_spec.proofs.LinkedLists
 pub use Rattle.elf_write_spec.proofs.LinkedRelocations
 -- the patches of a written file: they share no byte, lie in the file, and each stands in it
 pub use Rattle.elf_write_spec.proofs.Patches
+-- the dynamic entries of a written file are those that were written
+pub use Rattle.elf_write_spec.proofs.RawEntries
 -- a written file is accepted, and reading it gives the image in its final form, which is shown both ways
-pub use Rattle.elf_write_spec.proofs.ReadAgain
+pub use Rattle.elf_write_spec.proofs.FilesReadBack
 -- an edited image whose dynamic symbols are those that were read: its names, its needed versions and its dynamic list stay
 pub use Rattle.elf_write_spec.proofs.SameLists
 -- texts in tables, memories of whole lists, and lists of values that are there one by one
 pub use Rattle.elf_write_spec.proofs.TextsRead
+-- what is known of an edited image of which nothing went: the parts that were read, and how they match the sections that are there
+pub use Rattle.elf_write_spec.proofs.WholeEdits
 -- what is known of what is written: the parts that were read, and how they match, section by section, what is written
 pub use Rattle.elf_write_spec.proofs.WholeFacts
 -- lists: elements at positions, the first one that passes a test, and the numbers of sections

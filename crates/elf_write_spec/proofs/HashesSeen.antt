@@ -13,10 +13,10 @@ use Rattle.elf_format.specs.Options.{is_none_or, is_some_and}
 use Rattle.elf_format.specs.Rules.{dynamic_tables_agree, file_of, hashes_agree, raw_entries, strings_agree, symbols_agree, tag_is_address, tags_come_once, texts_are_shared, versions_agree}
 use Rattle.elf_format.specs.Views.{byte_at}
 use Rattle.elf_image.specs.Kept.{KeptSection}
-use Rattle.elf_write_spec.specs.Again.{written_parts}
+use Rattle.elf_write_spec.specs.ReadBack.{written_parts}
 use Rattle.elf_write_spec.specs.Laws.{WrittenFilesKeepHashes}
 use Rattle.elf_write_spec.specs.Stays.{AreHashesSeen, IsSeenByTag}
-use Rattle.elf_write_spec.specs.Writing.{IsWholeWriting, Writing, written_bytes}
+use Rattle.elf_write_spec.specs.Output.{IsPlannedOutput, Output, written_bytes}
 use Rattle.elf_write_spec.proofs.ContentFacts.{gnu_hash_copied, hash_copied}
 use Rattle.elf_write_spec.proofs.FileParts.{written_files_have_parts}
 use Rattle.elf_write_spec.proofs.RawEntries.{raw_is}
@@ -33,7 +33,7 @@ fourth : (a b c d e g : Bool) → (a && b && c && d && e && g) ≡ true → d �
 fourth a b c d e g h =
     (and_parts (a && b && c) d (and_parts (a && b && c && d) e (and_parts (a && b && c && d && e) g h).0).0).1
 
-module _ (w : Writing) (is : IsWholeWriting w) (f : ReadFacts w) (list : SectionHeader)
+module _ (w : Output) (is : IsPlannedOutput w) (f : ReadFacts w) (list : SectionHeader)
     (there : section_of_type SHT_DYNAMIC w.headers ≡ Some list) where
   abbrev p : Parts
   p = written_parts w
@@ -72,7 +72,7 @@ module _ (w : Writing) (is : IsWholeWriting w) (f : ReadFacts w) (list : Section
   seen_by : (type tag : ℕ) → tag_is_address (raw_entries p) tag (section_of_type type w.headers) ≡ true
       → ((old : SectionHeader) → old.sh_type ≡ type → has_file_bytes old ≡ true)
       → ((i : ℕ) (at : SectionAt w f.parts i) → at.old.sh_type ≡ type → at.bytes ≡ section_bytes (file_of f.parts) at.old)
-      → TypeAt w f.parts type → IsSeenByTag w.image w.plan w.raw (written_bytes w) type tag
+      → TypeAt w f.parts type → IsSeenByTag w.image w.plan.segments w.raw (written_bytes w) type tag
   seen_by type tag agrees stored copied (Nowhere _ _ none) s address is_table value = absurd (none-some s (sym none ∙ is_table))
   seen_by type tag agrees stored copied (There i at is_type _ header is_kept) s address is_table value =
       let same : kept i at.section ≡ s = same_Some (kept i at.section) s (sym is_kept ∙ is_table) in
@@ -83,7 +83,7 @@ module _ (w : Writing) (is : IsWholeWriting w) (f : ReadFacts w) (list : Section
       → has_file_bytes old ≡ true
   has_bytes type e old is_type = ap (λ (n : ℕ). not (n == SHT_NULL) && not (n == SHT_NOBITS)) is_type ∙ e
 
-  pub hashes_seen : AreHashesSeen w.image w.plan w.raw (written_bytes w)
+  pub hashes_seen : AreHashesSeen w.image w.plan.segments w.raw (written_bytes w)
   hashes_seen = record {
     gabi = seen_by SHT_HASH DT_HASH each_agrees.0 (has_bytes SHT_HASH refl) (λ i at is_type. hash_copied w is f i at is_type)
         (type_at w is f SHT_HASH);
@@ -92,7 +92,7 @@ module _ (w : Writing) (is : IsWholeWriting w) (f : ReadFacts w) (list : Section
   }
 
 -- without entries nothing is told
-pub nothing_told : (w : Writing) → w.raw ≡ [] → AreHashesSeen w.image w.plan w.raw (written_bytes w)
+pub nothing_told : (w : Output) → w.raw ≡ [] → AreHashesSeen w.image w.plan.segments w.raw (written_bytes w)
 nothing_told w none = record {
   gabi = λ s address is_table value. absurd (none-some address (sym (ap (value_of_tag DT_HASH) none) ∙ value));
   gnu = λ s address is_table value. absurd (none-some address (sym (ap (value_of_tag DT_GNU_HASH) none) ∙ value));
@@ -101,6 +101,6 @@ nothing_told w none = record {
 pub written_files_keep_hashes : WrittenFilesKeepHashes
 written_files_keep_hashes w is = by_list (type_at w is (read_facts w is) SHT_DYNAMIC)
   where
-    by_list : TypeAt w (read_facts w is).parts SHT_DYNAMIC → AreHashesSeen w.image w.plan w.raw (written_bytes w)
+    by_list : TypeAt w (read_facts w is).parts SHT_DYNAMIC → AreHashesSeen w.image w.plan.segments w.raw (written_bytes w)
     by_list (There i at _ _ header _) = hashes_seen w is (read_facts w is) at.header header
     by_list (Nowhere _ _ none) = nothing_told w (is.written.no_list none)

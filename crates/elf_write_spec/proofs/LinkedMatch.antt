@@ -5,8 +5,8 @@ use Rattle.std.proofs.lemmas.Option.{slice_get_cases, slice_get_past}
 use Rattle.elf_format.specs.declared.records.SectionHeader.{SectionHeader}
 use Rattle.elf_format.specs.File.{Parts}
 use Rattle.elf_format.proofs.ForCallers.Placed.{IsIn, IsIn-slice_get}
-use Rattle.elf_write_spec.specs.Again.{written_parts}
-use Rattle.elf_write_spec.specs.Writing.{IsWholeWriting, Writing}
+use Rattle.elf_write_spec.specs.ReadBack.{written_parts}
+use Rattle.elf_write_spec.specs.Output.{IsPlannedOutput, Output}
 use Rattle.elf_write_spec.proofs.WholeFacts.{ReadFacts, SectionAt, lengths, section_at, section_at_header}
 use Rattle.elf_format.proofs.ForCallers.Lengths.{length-sections}
 
@@ -15,11 +15,11 @@ use Rattle.elf_format.proofs.ForCallers.Lengths.{length-sections}
 -- ## One by one
 
 -- the header at a position, and the one that was read there, or neither
-pub data LinkAt (w : Writing) (p : Parts) (n : ℕ) : Type 0 where
+pub data LinkAt (w : Output) (p : Parts) (n : ℕ) : Type 0 where
   Neither : slice_get p.sections n ≡ None → slice_get w.headers n ≡ None → LinkAt w p n
   Both : SectionAt w p n → LinkAt w p n
 
-module _ (w : Writing) (is : IsWholeWriting w) (f : ReadFacts w) where
+module _ (w : Output) (is : IsPlannedOutput w) (f : ReadFacts w) where
   -- what holds of each pair
   pub each-header : (P : SectionHeader → Type 0) → ((i : ℕ) → (at : SectionAt w f.parts i) → P at.header)
       → (i : ℕ) (h : SectionHeader) → slice_get w.headers i ≡ Some h → P h

@@ -20,12 +20,13 @@ use Rattle.elf_format.proofs.ForCallers.Placed.{passes_picked}
 use Rattle.elf_format.proofs.ForCallers.ViewsAgree.{length-bytes}
 use Rattle.elf_image.specs.ReadImage.{AreDynamicSymbols, AreStaticSymbols}
 use Rattle.elf_image.specs.Kept.{image_at_read}
-use Rattle.elf_write_spec.specs.Again.{HasWrittenParts, written_parts}
-use Rattle.elf_write_spec.specs.Writing.{IsWholeWriting, Writing}
-use Rattle.elf_write_spec.proofs.LinkedContents.{bytes_copied, bytes_there, is_copied}
+use Rattle.elf_write_spec.specs.ReadBack.{HasWrittenParts, written_parts}
+use Rattle.elf_write_spec.specs.Output.{IsPlannedOutput, Output}
+use Rattle.elf_write_spec.proofs.LinkedContents.{bytes_copied, bytes_there}
+use Rattle.elf_write_spec.proofs.SectionKinds.{is_copied}
 use Rattle.elf_write_spec.proofs.LinkedLists.{all-picked, found_only}
 use Rattle.elf_write_spec.proofs.LinkedMatch.{Both, LinkAt, Neither, each-header, form_kept, is_in, link_at, machine_kept}
-use Rattle.elf_write_spec.proofs.LinkedSizes.{dynamic_symbols_sized, relocations_sized, symbols_sized}
+use Rattle.elf_write_spec.proofs.LinkedSizes.{dynamic_symbol_sizes, relocation_sizes, symbol_sizes}
 use Rattle.elf_write_spec.proofs.LinkedSymbols.{symbol_types}
 use Rattle.elf_write_spec.proofs.WholeFacts.{ReadFacts, SectionAt}
 use Rattle.elf_format.proofs.ForCallers.Lengths.{length-records}
@@ -68,7 +69,7 @@ module _ (p : Parts) (single : are_single p ≡ true) where
       found_only (λ (t : SectionHeader). t.sh_type == SHT_DYNSYM) p.sections i s one_dynamic at (ap (λ n. n == SHT_DYNSYM) type) in
       (subst (λ (o : Option SectionHeader). AreDynamicSymbols p (section_of_type SHT_GNU_VERSYM p.sections) o symbols) found are).count
 
-module _ (w : Writing) (is : IsWholeWriting w) (f : ReadFacts w) where
+module _ (w : Output) (is : IsPlannedOutput w) (f : ReadFacts w) where
   -- as many as its bytes have room for
   length-records_read : (i : ℕ) (at : SectionAt w f.parts i) → has_file_bytes at.old ≡ true
       → length (symbols_of f.parts at.old) ≡ at.old.sh_size / symbol_size f.parts.opened.form
@@ -85,12 +86,12 @@ module _ (w : Writing) (is : IsWholeWriting w) (f : ReadFacts w) where
       → (at.old.sh_type ≡ SHT_SYMTAB) ⊎ (at.old.sh_type ≡ SHT_DYNSYM)
       → at.header.sh_size / symbol_size w.image.form ≡ at.old.sh_size / symbol_size f.parts.opened.form
   table_count single i at (inl static) =
-      count_by_size at.header.sh_size (length w.image.symbols) (symbols_sized w is f i at static)
+      count_by_size at.header.sh_size (length w.image.symbols) (symbol_sizes w is f i at static)
       ∙ ap (λ (l : List NamedSymbol). length l) is.whole.symbols
       ∙ length-static f.parts single (image_at_read w.image).symbols i at.old at.is_old static f.holds.symbols
       ∙ length-records_read i at (ap (λ n. not (n == 0) && not (n == 8)) static)
   table_count single i at (inr dynamic) =
-      count_by_size at.header.sh_size (length w.image.dynamic_symbols) (dynamic_symbols_sized w is f i at dynamic)
+      count_by_size at.header.sh_size (length w.image.dynamic_symbols) (dynamic_symbol_sizes w is f i at dynamic)
       ∙ ap (λ (l : List NamedSymbol). length l) is.whole.dynamic_symbols
       ∙ length-dynamic f.parts single (image_at_read w.image).dynamic_symbols i at.old at.is_old dynamic f.holds.dynamic_symbols
       ∙ length-records_read i at (ap (λ n. not (n == 0) && not (n == 8)) dynamic)
@@ -118,7 +119,7 @@ not_bits n (inl rel) = ap (λ m. m == SHT_PROGBITS) rel
 not_bits n (inr rela) = ap (λ m. m == SHT_PROGBITS) rela
 
 -- the symbol table that relocations are against, before and after, or neither
-data TableAt (w : Writing) (p : Parts) (old now : Option SectionHeader) : Type 0 where
+data TableAt (w : Output) (p : Parts) (old now : Option SectionHeader) : Type 0 where
   NoTable : old ≡ None → now ≡ None → TableAt w p old now
   Table : (n : ℕ) (l : SectionAt w p n) → is_symbol_table l.old ≡ true → old ≡ Some l.old → now ≡ Some l.header → TableAt w p old now
 
@@ -130,7 +131,7 @@ opaque_by machine apart relocations = machine == EM_MIPS || apart && list_any (�
 abbrev do_name : ℕ → List Relocation → Bool
 do_name count relocations = list_all (λ (r : Relocation). r.r_symbol == 0 || nat_lt r.r_symbol count) relocations
 
-module _ (w : Writing) (is : IsWholeWriting w) (f : ReadFacts w) (has : HasWrittenParts w) (single : are_single f.parts ≡ true) where
+module _ (w : Output) (is : IsPlannedOutput w) (f : ReadFacts w) (has : HasWrittenParts w) (single : are_single f.parts ≡ true) where
   table_by : (i : ℕ) (at : SectionAt w f.parts i) → LinkAt w f.parts at.old.sh_link
       → TableAt w f.parts (relocated_symbols f.parts.sections at.old) (relocated_symbols w.headers at.header)
   table_by i at (Neither old_none none) =
@@ -198,11 +199,11 @@ module _ (w : Writing) (is : IsWholeWriting w) (f : ReadFacts w) (has : HasWritt
       (λ (k : SectionHeader). do_name (k.sh_size / symbol_size f.parts.opened.form) (relocations_of f.parts at.old))) old)
       ∙ h
 
-  sized_again : (i : ℕ) (at : SectionAt w f.parts i) → (at.old.sh_type ≡ SHT_REL) ⊎ (at.old.sh_type ≡ SHT_RELA)
+  sized_read_back : (i : ℕ) (at : SectionAt w f.parts i) → (at.old.sh_type ≡ SHT_REL) ⊎ (at.old.sh_type ≡ SHT_RELA)
       → (at.header.sh_size % relocation_size w.image.form at.header.sh_type == 0) ≡
       (at.old.sh_size % relocation_size f.parts.opened.form at.old.sh_type == 0)
-  sized_again i at type =
-      ap (λ n. n % relocation_size w.image.form at.header.sh_type == 0) (relocations_sized w is f i at type)
+  sized_read_back i at type =
+      ap (λ n. n % relocation_size w.image.form at.header.sh_type == 0) (relocation_sizes w is f i at type)
       ∙ ap (λ n. at.old.sh_size % relocation_size w.image.form n == 0) at.type
       ∙ ap (λ (form : Form). at.old.sh_size % relocation_size form at.old.sh_type == 0) (form_kept w is f)
 
@@ -216,9 +217,9 @@ module _ (w : Writing) (is : IsWholeWriting w) (f : ReadFacts w) (has : HasWritt
   abbrev is_tested : Parts → SectionHeader → Bool
   is_tested p s = is_relocation_section s && not (is_opaque_relocation p s)
 
-  fits_again : relocations_fit f.parts ≡ true → (i : ℕ) (at : SectionAt w f.parts i) → is_tested (written_parts w) at.header ≡ true
+  fits_read_back : relocations_fit f.parts ≡ true → (i : ℕ) (at : SectionAt w f.parts i) → is_tested (written_parts w) at.header ≡ true
       → fits (written_parts w) at.header ≡ true
-  fits_again all i at picked =
+  fits_read_back all i at picked =
       let tested = and_parts (is_relocation_section at.header) (not (is_opaque_relocation (written_parts w) at.header)) picked in
       let was : is_relocation_section at.old ≡ true = ap (is_one_of (SHT_REL ∷ SHT_RELA ∷ [])) (sym at.type) ∙ tested.0 in
       let type = relocation_types at.old.sh_type was in
@@ -227,10 +228,10 @@ module _ (w : Writing) (is : IsWholeWriting w) (f : ReadFacts w) (has : HasWritt
       passes_picked at.old f.parts.sections (is_in w is f i at) (fits f.parts) (is_tested f.parts) all
       (and_from (is_relocation_section at.old) (not (is_opaque_relocation f.parts at.old)) was plain) in
       let both = and_parts (at.old.sh_size % relocation_size f.parts.opened.form at.old.sh_type == 0) _ old in
-      and_from (at.header.sh_size % relocation_size w.image.form at.header.sh_type == 0) _ (sized_again i at type ∙ both.0)
+      and_from (at.header.sh_size % relocation_size w.image.form at.header.sh_type == 0) _ (sized_read_back i at type ∙ both.0)
       (names_by i at type (table_by i at (link_at w is f at.old.sh_link)) both.1)
 
-  pub relocations_again : relocations_fit f.parts ≡ true → relocations_fit (written_parts w) ≡ true
-  relocations_again all =
+  pub relocations_read_back : relocations_fit f.parts ≡ true → relocations_fit (written_parts w) ≡ true
+  relocations_read_back all =
       all-picked (fits (written_parts w)) (is_tested (written_parts w)) w.headers
-      (each-header w is f (λ h. is_tested (written_parts w) h ≡ true → fits (written_parts w) h ≡ true) (fits_again all))
+      (each-header w is f (λ h. is_tested (written_parts w) h ≡ true → fits (written_parts w) h ≡ true) (fits_read_back all))

@@ -15,7 +15,7 @@ use Rattle.elf_image.specs.Kept.{image_at_read, interpreter_number, is_numbered}
 use Rattle.elf_layout_plan.specs.Needs.{written_entries, written_needs}
 use Rattle.elf_layout_plan.specs.Sizes.{definitions_size, dynamic_size, hash_size, interpreter_size, needs_size, new_size, strings_size, table_size}
 use Rattle.elf_layout_plan.specs.Texts.{are_names_changed}
-use Rattle.elf_write_spec.specs.Writing.{IsWholeWriting, Writing}
+use Rattle.elf_write_spec.specs.Output.{IsPlannedOutput, Output}
 use Rattle.elf_write_spec.proofs.LinkedContents.{interpreter_type, not_interpreter, section_type}
 use Rattle.elf_write_spec.proofs.LinkedLists.{all-at_each}
 use Rattle.elf_write_spec.proofs.LinkedMatch.{each-header, form_kept, is_in}
@@ -83,7 +83,7 @@ module _ (form : Form) (entsize size : ℕ) where
       one_way (n == SHT_GNU_HASH) _ _ Q (λ _. had) (λ _. had)))))))))
 
 -- how large the section at a position is, were it of a type: hash tables as large as they were
-abbrev size_by : Writing → ℕ → ImageSection → ℕ → ℕ
+abbrev size_by : Output → ℕ → ImageSection → ℕ → ℕ
 size_by w i s type = by_type type
     (max s.sh_size ((length (list_at (λ es. es) (written_entries (image_at_read w.image) w.image)) + 1) * entry_size w.image.form))
     (strings_size (image_at_read w.image) w.image (kept i s)) (length w.image.symbols * symbol_size w.image.form)
@@ -91,7 +91,7 @@ size_by w i s type = by_type type
     (definitions_size w.image.definitions)
     (needs_size (written_needs (image_at_read w.image) w.image)) s.sh_size s.sh_size s.sh_size
 
-module _ (w : Writing) (is : IsWholeWriting w) (f : ReadFacts w) where
+module _ (w : Output) (is : IsPlannedOutput w) (f : ReadFacts w) where
   -- hash tables keep their sizes
   hash_same : (s : ImageSection) → hash_size (image_at_read w.image) w.image s ≡ s.sh_size
   hash_same s =
@@ -150,8 +150,8 @@ module _ (w : Writing) (is : IsWholeWriting w) (f : ReadFacts w) where
       (length w.image.dynamic_symbols) (length w.image.dynamic_symbols) (definitions_size w.image.definitions)
       (needs_size (written_needs (image_at_read w.image) w.image)) (was_whole i at)
 
-  pub whole_again : are_whole w.image.form w.headers ≡ true
-  whole_again =
+  pub whole_read_back : are_whole w.image.form w.headers ≡ true
+  whole_read_back =
       all-at_each (λ (s : SectionHeader). s.sh_size % unit_of w.image.form s == 0) w.headers
       (each-header w is f (λ h. (h.sh_size % unit_of w.image.form h == 0) ≡ true) (λ i at.
       eq-eqb (at.header.sh_size % unit_of w.image.form at.header) 0
@@ -167,15 +167,15 @@ module _ (w : Writing) (is : IsWholeWriting w) (f : ReadFacts w) where
       plain_size i at (not_interpreter w is f i at (ap (λ n. n == SHT_PROGBITS) is_type ∙ other)) ∙ table_is i at.section
       ∙ ap (size_by w i at.section) (section_type w is f i at ∙ is_type)
 
-  pub symbols_sized : (i : ℕ) (at : SectionAt w f.parts i) → at.old.sh_type ≡ SHT_SYMTAB
+  pub symbol_sizes : (i : ℕ) (at : SectionAt w f.parts i) → at.old.sh_type ≡ SHT_SYMTAB
       → at.header.sh_size ≡ length w.image.symbols * symbol_size w.image.form
-  symbols_sized i at is_type = typed_size i at SHT_SYMTAB is_type refl
+  symbol_sizes i at is_type = typed_size i at SHT_SYMTAB is_type refl
 
-  pub dynamic_symbols_sized : (i : ℕ) (at : SectionAt w f.parts i) → at.old.sh_type ≡ SHT_DYNSYM
+  pub dynamic_symbol_sizes : (i : ℕ) (at : SectionAt w f.parts i) → at.old.sh_type ≡ SHT_DYNSYM
       → at.header.sh_size ≡ length w.image.dynamic_symbols * symbol_size w.image.form
-  dynamic_symbols_sized i at is_type = typed_size i at SHT_DYNSYM is_type refl
+  dynamic_symbol_sizes i at is_type = typed_size i at SHT_DYNSYM is_type refl
 
-  pub relocations_sized : (i : ℕ) (at : SectionAt w f.parts i) → (at.old.sh_type ≡ SHT_REL) ⊎ (at.old.sh_type ≡ SHT_RELA)
+  pub relocation_sizes : (i : ℕ) (at : SectionAt w f.parts i) → (at.old.sh_type ≡ SHT_REL) ⊎ (at.old.sh_type ≡ SHT_RELA)
       → at.header.sh_size ≡ at.old.sh_size
-  relocations_sized i at (inl is_type) = typed_size i at SHT_REL is_type refl ∙ section_size i at
-  relocations_sized i at (inr is_type) = typed_size i at SHT_RELA is_type refl ∙ section_size i at
+  relocation_sizes i at (inl is_type) = typed_size i at SHT_REL is_type refl ∙ section_size i at
+  relocation_sizes i at (inr is_type) = typed_size i at SHT_RELA is_type refl ∙ section_size i at

@@ -17,11 +17,12 @@ use Rattle.elf_format.specs.Views.{NamedSymbol}
 use Rattle.elf_format.proofs.ForCallers.Placed.{IsIn-slice_get, find_some, passes_picked}
 use Rattle.elf_image.specs.ReadImage.{AreDynamicSymbols}
 use Rattle.elf_image.specs.Kept.{image_at_read}
-use Rattle.elf_write_spec.specs.Again.{HasWrittenParts, written_parts}
+use Rattle.elf_write_spec.specs.ReadBack.{HasWrittenParts, written_parts}
 use Rattle.elf_write_spec.specs.Contents.{AreSymbolsOf, content_at_number}
 use Rattle.elf_write_spec.specs.Final.{final}
-use Rattle.elf_write_spec.specs.Writing.{IsWholeWriting, Writing, written_bytes}
-use Rattle.elf_write_spec.proofs.LinkedContents.{bytes_copied, bytes_there, content_of_kind, is_copied}
+use Rattle.elf_write_spec.specs.Output.{IsPlannedOutput, Output, written_bytes}
+use Rattle.elf_write_spec.proofs.LinkedContents.{bytes_copied, bytes_there, content_of_kind}
+use Rattle.elf_write_spec.proofs.SectionKinds.{is_copied}
 use Rattle.elf_write_spec.proofs.LinkedLists.{all-picked}
 use Rattle.elf_write_spec.proofs.LinkedMatch.{count_kept, each-header, form_kept}
 use Rattle.elf_write_spec.proofs.WholeFacts.{ReadFacts, SectionAt, final_is}
@@ -82,7 +83,7 @@ module _ (p : Parts) (right : symbols_have_sections p ≡ true) where
       ∙ (IsIn-slice_get (symbols_of p s) i number number_at).passes
       (λ (n : SymbolNumbers). is_section_there p.opened.header.e_shnum n.st_shndx) (found_passes s there)
 
-module _ (w : Writing) (is : IsWholeWriting w) (f : ReadFacts w) (has : HasWrittenParts w) where
+module _ (w : Output) (is : IsPlannedOutput w) (f : ReadFacts w) (has : HasWrittenParts w) where
   -- the symbols of the image
   image_pass : symbols_have_sections f.parts ≡ true → (i : ℕ) (y : NamedSymbol)
       → slice_get (final (image_at_read w.image) w.image).dynamic_symbols i ≡ Some y
@@ -92,11 +93,11 @@ module _ (w : Writing) (is : IsWholeWriting w) (f : ReadFacts w) (has : HasWritt
       (image_at_read w.image).dynamic_symbols f.holds.dynamic_symbols i y
       (ap (λ (l : List NamedSymbol). slice_get l i) (sym is.whole.dynamic_symbols ∙ sym (final_is w is).dynamic_symbols) ∙ at)
 
-  table_again : symbols_have_sections f.parts ≡ true → (i : ℕ) (at : SectionAt w f.parts i)
+  table_read_back : symbols_have_sections f.parts ≡ true → (i : ℕ) (at : SectionAt w f.parts i)
       → (at.old.sh_type ≡ SHT_SYMTAB) ⊎ (at.old.sh_type ≡ SHT_DYNSYM)
       → list_all (λ (y : SymbolNumbers). is_section_there f.parts.opened.header.e_shnum y.st_shndx)
       (symbols_in w.image.form at.bytes) ≡ true
-  table_again right i at (inl static) =
+  table_read_back right i at (inl static) =
       let other : (at.old.sh_type == SHT_PROGBITS) ≡ false = ap (λ n. n == SHT_PROGBITS) static in
       let copied = bytes_copied w is f i at other (ap (λ n. is_copied (kind_by n (is_opaque_relocation f.parts at.old))) static) in
       ap (λ bytes. list_all (λ (y : SymbolNumbers). is_section_there f.parts.opened.header.e_shnum y.st_shndx)
@@ -104,7 +105,7 @@ module _ (w : Writing) (is : IsWholeWriting w) (f : ReadFacts w) (has : HasWritt
       ∙ ap (λ form. list_all (λ (y : SymbolNumbers). is_section_there f.parts.opened.header.e_shnum y.st_shndx)
       (symbols_in form (section_bytes (file_of f.parts) at.old))) (form_kept w is f)
       ∙ table_passes f.parts right at.old i at.is_old (ap (is_one_of (SHT_SYMTAB ∷ SHT_DYNSYM ∷ [])) static)
-  table_again right i at (inr dynamic) =
+  table_read_back right i at (inr dynamic) =
       let other : (at.old.sh_type == SHT_PROGBITS) ≡ false = ap (λ n. n == SHT_PROGBITS) dynamic in
       let strings : List ℕ = content_at_number w.image w.contents at.section.sh_link in
       let kind : data_of f.parts at.old ≡ kinds.DynamicSymbols = ap (λ n. kind_by n (is_opaque_relocation f.parts at.old)) dynamic in
@@ -113,8 +114,8 @@ module _ (w : Writing) (is : IsWholeWriting w) (f : ReadFacts w) (has : HasWritt
       records_pass f.parts.opened.header.e_shnum strings (final (image_at_read w.image) w.image).dynamic_symbols
       (symbols_in w.image.form at.bytes) are (image_pass right)
 
-  pub symbols_again : symbols_have_sections f.parts ≡ true → symbols_have_sections (written_parts w) ≡ true
-  symbols_again right =
+  pub symbols_read_back : symbols_have_sections f.parts ≡ true → symbols_have_sections (written_parts w) ≡ true
+  symbols_read_back right =
       all-picked (λ (s : SectionHeader). list_all
       (λ (y : SymbolNumbers). is_section_there (written_parts w).opened.header.e_shnum y.st_shndx)
       (symbols_in w.image.form (section_bytes (written_bytes w) s))) is_symbol_table w.headers
@@ -126,4 +127,4 @@ module _ (w : Writing) (is : IsWholeWriting w) (f : ReadFacts w) (has : HasWritt
       (bytes_there w is f has i at)
       ∙ ap (λ count. list_all (λ (y : SymbolNumbers). is_section_there count y.st_shndx) (symbols_in w.image.form at.bytes))
       (count_kept w is f)
-      ∙ table_again right i at (symbol_types at.old.sh_type (ap (is_one_of (SHT_SYMTAB ∷ SHT_DYNSYM ∷ [])) (sym at.type) ∙ picked))))
+      ∙ table_read_back right i at (symbol_types at.old.sh_type (ap (is_one_of (SHT_SYMTAB ∷ SHT_DYNSYM ∷ [])) (sym at.type) ∙ picked))))

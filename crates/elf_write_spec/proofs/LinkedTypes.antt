@@ -12,9 +12,9 @@ use Rattle.elf_format.specs.Places.{is_set}
 use Rattle.elf_format.specs.Rules.{are_linked, has_section_info, infos_are_sections, is_one_of_each, links_to, single_section_types, single_segment_types, symbol_users, text_users}
 use Rattle.elf_format.proofs.ForCallers.Placed.{passes_picked}
 use Rattle.elf_layout_plan.specs.Plan.{resized}
-use Rattle.elf_write_spec.specs.Again.{written_parts}
+use Rattle.elf_write_spec.specs.ReadBack.{written_parts}
 use Rattle.elf_write_spec.specs.Whole.{AreAllKept}
-use Rattle.elf_write_spec.specs.Writing.{IsWholeWriting, Writing}
+use Rattle.elf_write_spec.specs.Output.{IsPlannedOutput, Output}
 use Rattle.elf_write_spec.proofs.LinkedLists.{all-picked, count-same}
 use Rattle.elf_write_spec.proofs.LinkedMatch.{Both, LinkAt, Neither, count_kept, each-header, is_in, link_at}
 use Rattle.elf_write_spec.proofs.LinkedSegments.{count_of, no_more_singles}
@@ -29,7 +29,7 @@ all-same f g same (x ∷ xs) = ap (λ b. b && list_all f xs) (same x) ∙ ap (λ
 fewer : (m n : ℕ) → m ≤ n → nat_le n 1 ≡ true → nat_le m 1 ≡ true
 fewer m n less few = le-leb m 1 (omega (arith, leb-true n 1 few, less))
 
-module _ (w : Writing) (is : IsWholeWriting w) (f : ReadFacts w) where
+module _ (w : Output) (is : IsPlannedOutput w) (f : ReadFacts w) where
   -- as many sections of each type
   count-sections : (type : ℕ)
       → count_by (λ (s : SectionHeader). s.sh_type == type) w.headers ≡ count_by (λ (s : SectionHeader). s.sh_type == type) f.parts.sections
@@ -75,9 +75,9 @@ module _ (w : Writing) (is : IsWholeWriting w) (f : ReadFacts w) where
   -- ## Links
 
   -- the section that another links to has the type that it had
-  links_again : (type : ℕ) (i : ℕ) (at : SectionAt w f.parts i) → links_to type f.parts.sections at.old ≡ true
+  links_read_back : (type : ℕ) (i : ℕ) (at : SectionAt w f.parts i) → links_to type f.parts.sections at.old ≡ true
       → links_to type w.headers at.header ≡ true
-  links_again type i at h =
+  links_read_back type i at h =
       let test : Option SectionHeader → Bool = λ o. is_some_and (λ (l : SectionHeader). l.sh_type == type) o in
       ap (λ n. test (slice_get w.headers n)) at.link ∙ by_link test (link_at w is f at.old.sh_link)
     where
@@ -97,13 +97,13 @@ module _ (w : Writing) (is : IsWholeWriting w) (f : ReadFacts w) where
   users_linked type users all =
       all-picked (λ s. links_to type w.headers s) (λ (s : SectionHeader). is_one_of users s.sh_type) w.headers
       (each-header w is f (λ h. is_one_of users h.sh_type ≡ true → links_to type w.headers h ≡ true) (λ i at picked.
-      links_again type i at
+      links_read_back type i at
       (passes_picked at.old f.parts.sections (is_in w is f i at) (λ s. links_to type f.parts.sections s)
       (λ s. is_one_of users s.sh_type) all
       (ap (is_one_of users) (sym at.type) ∙ picked))))
 
-  pub linked_again : are_linked f.parts.sections ≡ true → are_linked w.headers ≡ true
-  linked_again h =
+  pub linked_read_back : are_linked f.parts.sections ≡ true → are_linked w.headers ≡ true
+  linked_read_back h =
       let both =
       and_parts (list_all (λ s. links_to SHT_STRTAB f.parts.sections s)
       (filter (λ (s : SectionHeader). is_one_of text_users s.sh_type) f.parts.sections)) _ h in
@@ -138,9 +138,9 @@ info_apart type flags h = elim (or_cases (is_one_of (SHT_REL ∷ SHT_RELA ∷ []
       (not-true (is_one_of (SHT_NULL ∷ SHT_SYMTAB ∷ SHT_DYNSYM ∷ SHT_GNU_VERDEF ∷ SHT_GNU_VERNEED ∷ []) type) other)).1
 ]
 
-module _ (w : Writing) (is : IsWholeWriting w) (f : ReadFacts w) where
-  pub infos_again : infos_are_sections f.parts ≡ true → infos_are_sections (written_parts w) ≡ true
-  infos_again all =
+module _ (w : Output) (is : IsPlannedOutput w) (f : ReadFacts w) where
+  pub infos_read_back : infos_are_sections f.parts ≡ true → infos_are_sections (written_parts w) ≡ true
+  infos_read_back all =
       all-picked (λ (s : SectionHeader). nat_lt s.sh_info (written_parts w).opened.header.e_shnum) has_section_info w.headers
       (each-header w is f (λ h. has_section_info h ≡ true → nat_lt h.sh_info (written_parts w).opened.header.e_shnum ≡ true) (λ i at picked.
       let had : has_section_info at.old ≡ true =

@@ -40,7 +40,7 @@ use Rattle.elf_write_spec.specs.Base.{base, base_byte, does_byte_stay, has_posit
 use Rattle.elf_write_spec.specs.Headers.{written_header}
 use Rattle.elf_write_spec.specs.Laws.{WrittenFilesKeepOthers}
 use Rattle.elf_write_spec.specs.Stays.{new_places_from, written_places}
-use Rattle.elf_write_spec.specs.Writing.{IsWholeWriting, Writing, patch, patches, patches_of_section, patches_of_sections, written_bytes}
+use Rattle.elf_write_spec.specs.Output.{IsPlannedOutput, Output, patch, patches, patches_of_section, patches_of_sections, written_bytes}
 use Rattle.elf_write_spec.proofs.ApartInFile.{stands_behind}
 use Rattle.elf_write_spec.proofs.Laying.{AreApart, field-laid_apart, field-values, range_of}
 use Rattle.elf_write_spec.proofs.Patches.{AreSized, are_sized, first_range, length-written, patches_lie_in_base, second_range, third_range}
@@ -67,7 +67,7 @@ field-one xs pos less =
 
 -- what holds of the places of sections that are written holds of their patches
 patches_each : (P : Range → Type 0) (r : Resized) (ks : List KeptSection) (ps : List Place) (cs : List (List ℕ)) → AreSized ps cs
-    → ((i : ℕ) (k : KeptSection) (p : Place) → slice_get ks i ≡ Some k → slice_get ps i ≡ Some p → occupies_file p ≡ true → is_data r k ≡ false
+    → ((i : ℕ) (k : KeptSection) (p : Place) → slice_get ks i ≡ Some k → slice_get ps i ≡ Some p → occupies_file p ≡ true → is_data r.read k ≡ false
     → P (file_range p))
     → Each (λ q. P (range_of q)) (patches_of_sections r ks ps cs)
 patches_each P r [] ps cs sized h = tt
@@ -75,45 +75,45 @@ patches_each P r (k ∷ ks) [] cs sized h = tt
 patches_each P r (k ∷ ks) (p ∷ ps) [] sized h = tt
 patches_each P r (k ∷ ks) (p ∷ ps) (bytes ∷ cs) sized h =
     each-append (λ q. P (range_of q)) (patches_of_section r k p bytes) (patches_of_sections r ks ps cs)
-    (by_tests (occupies_file p) (is_data r k) refl refl)
+    (by_tests (occupies_file p) (is_data r.read k) refl refl)
     (patches_each P r ks ps cs (λ i. sized (suc i)) (λ i. h (suc i)))
   where
     same_range : occupies_file p ≡ true → range_of (patch p.sh_offset bytes) ≡ file_range p
     same_range e = ap (range p.sh_offset) (sized zero p bytes refl refl ∙ cond-true (occupies_file p) p.sh_size 0 e)
 
-    by_tests : (a d : Bool) → occupies_file p ≡ a → is_data r k ≡ d
+    by_tests : (a d : Bool) → occupies_file p ≡ a → is_data r.read k ≡ d
         → Each (λ q. P (range_of q)) (if a && not d then patch p.sh_offset bytes ∷ [] else [])
     by_tests true false e f = (subst P (sym (same_range e)) (h zero k p refl refl e f), tt)
     by_tests true true e f = tt
     by_tests false d e f = tt
 
 -- a place of a section that is written anew is among the new places
-new_place : (test : Range → Bool) (r : Resized) (ks : List KeptSection) (ps : List Place) → list_any test (new_places_from r ks ps) ≡ false
-    → (i : ℕ) (k : KeptSection) (p : Place) → slice_get ks i ≡ Some k → slice_get ps i ≡ Some p → is_rewritten r k ≡ true
+new_place : (test : Range → Bool) (r : Resized) (ks : List KeptSection) (ps : List Place) → list_any test (new_places_from r.read ks ps) ≡ false
+    → (i : ℕ) (k : KeptSection) (p : Place) → slice_get ks i ≡ Some k → slice_get ps i ≡ Some p → is_rewritten r.read k ≡ true
     → test (file_range p) ≡ false
 new_place test r [] ps none i k p at_k at_p is = absurd (none-some k at_k)
 new_place test r (x ∷ ks) [] none i k p at_k at_p is = absurd (none-some p at_p)
 new_place test r (x ∷ ks) (y ∷ ps) none zero k p at_k at_p is =
-    let was : is_rewritten r x ≡ true = ap (is_rewritten r) (same_Some x k at_k) ∙ is in
-    ap (λ (q : Place). test (file_range q)) (sym (same_Some y p at_p)) ∙ first_none (is_rewritten r x) was none
+    let was : is_rewritten r.read x ≡ true = ap (is_rewritten r.read) (same_Some x k at_k) ∙ is in
+    ap (λ (q : Place). test (file_range q)) (sym (same_Some y p at_p)) ∙ first_none (is_rewritten r.read x) was none
   where
     first_none : (b : Bool) → b ≡ true
-        → list_any test (elim b as (λ _. List Range) [ false ↦ new_places_from r ks ps | _ ↦ file_range y ∷ new_places_from r ks ps ]) ≡ false
+        → list_any test (elim b as (λ _. List Range) [ false ↦ new_places_from r.read ks ps | _ ↦ file_range y ∷ new_places_from r.read ks ps ]) ≡ false
         → test (file_range y) ≡ false
-    first_none true e h = (or_parts (test (file_range y)) (list_any test (new_places_from r ks ps)) h).0
+    first_none true e h = (or_parts (test (file_range y)) (list_any test (new_places_from r.read ks ps)) h).0
     first_none false e h = absurd (false≢true e)
-new_place test r (x ∷ ks) (y ∷ ps) none (suc i) k p at_k at_p is = new_place test r ks ps (rest_none (is_rewritten r x) none) i k p at_k at_p is
+new_place test r (x ∷ ks) (y ∷ ps) none (suc i) k p at_k at_p is = new_place test r ks ps (rest_none (is_rewritten r.read x) none) i k p at_k at_p is
   where
     rest_none : (b : Bool)
-        → list_any test (elim b as (λ _. List Range) [ false ↦ new_places_from r ks ps | _ ↦ file_range y ∷ new_places_from r ks ps ]) ≡ false
-        → list_any test (new_places_from r ks ps) ≡ false
-    rest_none true h = (or_parts (test (file_range y)) (list_any test (new_places_from r ks ps)) h).1
+        → list_any test (elim b as (λ _. List Range) [ false ↦ new_places_from r.read ks ps | _ ↦ file_range y ∷ new_places_from r.read ks ps ]) ≡ false
+        → list_any test (new_places_from r.read ks ps) ≡ false
+    rest_none true h = (or_parts (test (file_range y)) (list_any test (new_places_from r.read ks ps)) h).1
     rest_none false h = h
 
 -- ## The segment
 
 -- a loaded segment that was read, as it is written
-record LoadNow (w : Writing) (p : SegmentHeader) : Type 0 where
+record LoadNow (w : Output) (p : SegmentHeader) : Type 0 where
   load : SegmentHeader
   index : ℕ
   here : slice_get (loads_of w.plan.segments) index ≡ Some load
@@ -134,7 +134,7 @@ there_too : (segments others : List SegmentHeader) (i : ℕ) (q : SegmentHeader)
     → slice_get (loads_of segments) i ≡ Some q
 there_too segments others i q same at = subst (λ (l : List SegmentHeader). slice_get (loads_of l) i ≡ Some q) (sym same) at
 
-load_now : (w : Writing) → IsWholeWriting w → (i : ℕ) (p : SegmentHeader) → slice_get (loads_of (resized w.image).read.segments) i ≡ Some p
+load_now : (w : Output) → IsPlannedOutput w → (i : ℕ) (p : SegmentHeader) → slice_get (loads_of (resized w.image).read.segments) i ≡ Some p
     → LoadNow w p
 unfolding layout_for
 load_now w is i p at =
@@ -161,7 +161,7 @@ load_now w is i p at =
 -- ## The sections
 
 -- a section's place is as much of the file and of memory as the section was
-pub same_kind : (w : Writing) → IsWholeWriting w → (j : ℕ) (k : KeptSection) (x : Place) → slice_get (kept_sections w.image) j ≡ Some k
+pub same_kind : (w : Output) → IsPlannedOutput w → (j : ℕ) (k : KeptSection) (x : Place) → slice_get (kept_sections w.image) j ≡ Some k
     → slice_get w.plan.places j ≡ Some x
     → (occupies_memory x ≡ is_loaded_section k.section) × (occupies_file x ≡ occupies_file (place_at_read k.section))
 same_kind w is j k x at_k at_x =
@@ -181,9 +181,9 @@ same_kind w is j k x at_k at_x =
 
 -- ## The byte
 
-module _ (w : Writing) (is : IsWholeWriting w) (i : ℕ) (p : SegmentHeader) (position : ℕ)
+module _ (w : Output) (is : IsPlannedOutput w) (i : ℕ) (p : SegmentHeader) (position : ℕ)
     (at : slice_get (loads_of (resized w.image).read.segments) i ≡ Some p) (inside : has_position position (file_part p) ≡ true)
-    (other : list_any (has_position position) (written_places (resized w.image) w.plan) ≡ false) where
+    (other : list_any (has_position position) (written_places w.image (written_headers (resized w.image) w.plan) w.plan.places) ≡ false) where
   abbrev r : Resized
   r = resized w.image
 
@@ -218,20 +218,20 @@ module _ (w : Writing) (is : IsWholeWriting w) (i : ℕ) (p : SegmentHeader) (po
 
   -- ## It isn't written anew
 
-  other_parts : (list_any (has_position position) (old_places r) ≡ false)
+  other_parts : (list_any (has_position position) (old_places r.read r.image) ≡ false)
       × (list_any (has_position position) (written_headers r w.plan) ≡ false)
-      × (list_any (has_position position) (new_places_from r (kept_sections w.image) w.plan.places) ≡ false)
+      × (list_any (has_position position) (new_places_from r.read (kept_sections w.image) w.plan.places) ≡ false)
   other_parts =
-      let new : List Range = new_places_from r (kept_sections w.image) w.plan.places in
-      let outer = or_parts (list_any (has_position position) (old_places r ++ written_headers r w.plan)) (list_any (has_position position) new)
-      (sym (list_any-append (has_position position) (old_places r ++ written_headers r w.plan) new) ∙ other) in
-      let inner = or_parts (list_any (has_position position) (old_places r)) (list_any (has_position position) (written_headers r w.plan))
-      (sym (list_any-append (has_position position) (old_places r) (written_headers r w.plan)) ∙ outer.0) in
+      let new : List Range = new_places_from r.read (kept_sections w.image) w.plan.places in
+      let outer = or_parts (list_any (has_position position) (old_places r.read r.image ++ written_headers r w.plan)) (list_any (has_position position) new)
+      (sym (list_any-append (has_position position) (old_places r.read r.image ++ written_headers r w.plan) new) ∙ other) in
+      let inner = or_parts (list_any (has_position position) (old_places r.read r.image)) (list_any (has_position position) (written_headers r w.plan))
+      (sym (list_any-append (has_position position) (old_places r.read r.image) (written_headers r w.plan)) ∙ outer.0) in
       (inner.0, inner.1, outer.1)
 
   -- a section whose bytes are written
   section_apart : (j : ℕ) (k : KeptSection) (x : Place) → slice_get (kept_sections w.image) j ≡ Some k → slice_get w.plan.places j ≡ Some x
-      → occupies_file x ≡ true → is_data r k ≡ false → apart one (file_range x) ≡ true
+      → occupies_file x ≡ true → is_data r.read k ≡ false → apart one (file_range x) ≡ true
   section_apart j k x at_k at_x there no_data = elim (cases_Bool (occupies_memory x)) [
     | inr unloaded ↦ elim (cases_Bool (eqb x.sh_size 0)) [
       | inl empty ↦ apart-from_empty one (file_range x) (eqb-true x.sh_size 0 empty)
@@ -242,9 +242,9 @@ module _ (w : Writing) (is : IsWholeWriting w) (i : ℕ) (p : SegmentHeader) (po
     ]
     | inl takes ↦
         let same = same_kind w is j k x at_k at_x in
-        let rewritten = and_from (is_loaded_section k.section && occupies_file (place_at_read k.section)) (not (is_data r k))
+        let rewritten = and_from (is_loaded_section k.section && occupies_file (place_at_read k.section)) (not (is_data r.read k))
         (and_from (is_loaded_section k.section) (occupies_file (place_at_read k.section)) (sym same.0 ∙ takes) (sym same.1 ∙ there))
-        (not_from_false (is_data r k) no_data) in
+        (not_from_false (is_data r.read k) no_data) in
         apart_from position (file_range x)
         (new_place (has_position position) r (kept_sections w.image) w.plan.places other_parts.2 j k x at_k at_x rewritten)
   ]
@@ -281,9 +281,9 @@ module _ (w : Writing) (is : IsWholeWriting w) (i : ℕ) (p : SegmentHeader) (po
 
   stays : does_byte_stay r position ≡ true
   stays = and_from (list_any (λ q. has_position position (file_part q)) (loads_of r.read.segments))
-      (not (list_any (has_position position) (old_places r)))
+      (not (list_any (has_position position) (old_places r.read r.image)))
       (any-from (λ q. has_position position (file_part q)) (loads_of r.read.segments) i p at inside)
-      (not_from_false (list_any (has_position position) (old_places r)) other_parts.0)
+      (not_from_false (list_any (has_position position) (old_places r.read r.image)) other_parts.0)
 
   base_there : (k : ℕ) → position ≡ k → base_byte r k ≡ slice_index w.image.source k
   base_there k same = subst (λ (n : ℕ). base_byte r n ≡ slice_index w.image.source n) same

@@ -28,7 +28,7 @@ use Rattle.elf_layout_plan.proofs.ForCallers.PlacedPlans.{plans_are_placed}
 use Rattle.elf_layout_plan.proofs.ForCallers.PlacedRanges.{apart-swap}
 use Rattle.elf_write_spec.specs.Base.{base, base_byte, is_data}
 use Rattle.elf_write_spec.specs.Headers.{written_header}
-use Rattle.elf_write_spec.specs.Writing.{IsWholeWriting, Writing, patch, patches, patches_of_section, patches_of_sections, written_bytes}
+use Rattle.elf_write_spec.specs.Output.{IsPlannedOutput, Output, patch, patches, patches_of_section, patches_of_sections, written_bytes}
 use Rattle.elf_write_spec.proofs.ApartInFile.{plans_are_apart_in_file}
 use Rattle.elf_write_spec.proofs.HeadersInFile.{headers_end_before}
 use Rattle.elf_write_spec.proofs.Laying.{AreApart, StandsIn, all_stand, field-laid_apart, length-laid, length-values, range_of}
@@ -60,7 +60,7 @@ sections-each P r (k ∷ ks) [] cs sized h = tt
 sections-each P r (k ∷ ks) (p ∷ ps) [] sized h = tt
 sections-each P r (k ∷ ks) (p ∷ ps) (bytes ∷ cs) sized h =
     each-append (λ q. P (range_of q)) (patches_of_section r k p bytes) (patches_of_sections r ks ps cs)
-    (by_tests (occupies_file p) (is_data r k) refl)
+    (by_tests (occupies_file p) (is_data r.read k) refl)
     (sections-each P r ks ps cs (λ i. sized (suc i)) h.1)
   where
     by_tests : (a d : Bool) → occupies_file p ≡ a → Each (λ q. P (range_of q)) (if a && not d then patch p.sh_offset bytes ∷ [] else [])
@@ -77,7 +77,7 @@ sections-pairs R r [] ps cs sized h = tt
 sections-pairs R r (k ∷ ks) [] cs sized h = tt
 sections-pairs R r (k ∷ ks) (p ∷ ps) [] sized h = tt
 sections-pairs R r (k ∷ ks) (p ∷ ps) (bytes ∷ cs) sized h =
-    by_tests (occupies_file p) (is_data r k) refl (sections-pairs R r ks ps cs (λ i. sized (suc i)) h.1)
+    by_tests (occupies_file p) (is_data r.read k) refl (sections-pairs R r ks ps cs (λ i. sized (suc i)) h.1)
   where
     behind : occupies_file p ≡ true → Each (λ q. R (range_of (patch p.sh_offset bytes)) (range_of q)) (patches_of_sections r ks ps cs)
     behind e =
@@ -99,7 +99,7 @@ pub section-patch : (Q : Patch → Type 0) (r : Resized) (ks : List KeptSection)
     → Each Q (patches_of_sections r ks ps cs)
     → (i : ℕ) (k : KeptSection) (p : Place) (bytes : List ℕ) → slice_get ks i ≡ Some k → slice_get ps i ≡ Some p
     → slice_get cs i ≡ Some bytes
-    → occupies_file p ≡ true → is_data r k ≡ false → Q (patch p.sh_offset bytes)
+    → occupies_file p ≡ true → is_data r.read k ≡ false → Q (patch p.sh_offset bytes)
 section-patch Q r [] ps cs h i k p bytes at_k at_p at_bytes stored other = absurd (none-some k at_k)
 section-patch Q r (x ∷ ks) [] cs h i k p bytes at_k at_p at_bytes stored other = absurd (none-some p at_p)
 section-patch Q r (x ∷ ks) (y ∷ ps) [] h i k p bytes at_k at_p at_bytes stored other = absurd (none-some bytes at_bytes)
@@ -109,8 +109,8 @@ section-patch Q r (x ∷ ks) (y ∷ ps) (z ∷ cs) h zero k p bytes at_k at_p at
     ap (λ (s : KeptSection). patches_of_section r s y z) (same_Some x k at_k)
     ∙ ap (λ (s : Place). patches_of_section r k s z) (same_Some y p at_p)
     ∙ ap (λ (s : List ℕ). patches_of_section r k p s) (same_Some z bytes at_bytes)
-    ∙ cond-true (occupies_file p && not (is_data r k)) (patch p.sh_offset bytes ∷ []) []
-    (and_from (occupies_file p) (not (is_data r k)) stored (not_from_false (is_data r k) other)) in
+    ∙ cond-true (occupies_file p && not (is_data r.read k)) (patch p.sh_offset bytes ∷ []) []
+    (and_from (occupies_file p) (not (is_data r.read k)) stored (not_from_false (is_data r.read k) other)) in
     (subst (λ (l : List Patch). Each Q l) same here).0
 section-patch Q r (x ∷ ks) (y ∷ ps) (z ∷ cs) h (suc i) k p bytes at_k at_p at_bytes stored other =
     section-patch Q r ks ps cs
@@ -120,14 +120,14 @@ section-patch Q r (x ∷ ks) (y ∷ ps) (z ∷ cs) h (suc i) k p bytes at_k at_p
 pub sections-others : (r : Resized) (ks : List KeptSection) (ps : List Place) (cs : List (List ℕ)) → AreSized ps cs
     → Pairs (λ x y. occupies_file x ≡ true → occupies_file y ≡ true → AreApart (file_range x) (file_range y)) ps
     → (i : ℕ) (k : KeptSection) (p : Place) → slice_get ks i ≡ Some k → slice_get ps i ≡ Some p → occupies_file p ≡ true
-    → is_data r k ≡ true
+    → is_data r.read k ≡ true
     → Each (λ q. AreApart (file_range p) (range_of q)) (patches_of_sections r ks ps cs)
 sections-others r [] ps cs sized h i k p at_k at_p stored is = tt
 sections-others r (x ∷ ks) [] cs sized h i k p at_k at_p stored is = tt
 sections-others r (x ∷ ks) (y ∷ ps) [] sized h i k p at_k at_p stored is = tt
 sections-others r (x ∷ ks) (y ∷ ps) (z ∷ cs) sized h zero k p at_k at_p stored is =
     each-append (λ q. AreApart (file_range p) (range_of q)) (patches_of_section r x y z) (patches_of_sections r ks ps cs)
-    (by_tests (occupies_file y) (is_data r x) refl)
+    (by_tests (occupies_file y) (is_data r.read x) refl)
     (sections-each (AreApart (file_range p)) r ks ps cs (λ j. sized (suc j))
     (each-more (λ b. occupies_file y ≡ true → occupies_file b ≡ true → AreApart (file_range y) (file_range b))
     (λ b. occupies_file b ≡ true → AreApart (file_range p) (file_range b))
@@ -137,14 +137,14 @@ sections-others r (x ∷ ks) (y ∷ ps) (z ∷ cs) sized h zero k p at_k at_p st
     same : y ≡ p
     same = same_Some y p at_p
 
-    by_tests : (a d : Bool) → is_data r x ≡ d
+    by_tests : (a d : Bool) → is_data r.read x ≡ d
         → Each (λ q. AreApart (file_range p) (range_of q)) (if a && not d then patch y.sh_offset z ∷ [] else [])
-    by_tests true false e = absurd (both_ways (is_data r x) e (ap (is_data r) (same_Some x k at_k) ∙ is))
+    by_tests true false e = absurd (both_ways (is_data r.read x) e (ap (is_data r.read) (same_Some x k at_k) ∙ is))
     by_tests true true e = tt
     by_tests false d e = tt
 sections-others r (x ∷ ks) (y ∷ ps) (z ∷ cs) sized h (suc i) k p at_k at_p stored is =
     each-append (λ q. AreApart (file_range p) (range_of q)) (patches_of_section r x y z) (patches_of_sections r ks ps cs)
-    (by_tests (occupies_file y) (is_data r x) refl)
+    (by_tests (occupies_file y) (is_data r.read x) refl)
     (sections-others r ks ps cs (λ j. sized (suc j)) h.1 i k p at_k at_p stored is)
   where
     by_tests : (a d : Bool) → occupies_file y ≡ a
@@ -172,7 +172,7 @@ length-table spelled size long (x ∷ xs) =
 same_apart : (r s x y : Range) → r ≡ x → s ≡ y → AreApart x y → AreApart r s
 same_apart r s x y e f h = subst (λ (z : Range). AreApart z s) (sym e) (subst (λ (z : Range). AreApart x z) (sym f) h)
 
-module _ (w : Writing) (is : IsWholeWriting w) where
+module _ (w : Output) (is : IsPlannedOutput w) where
   abbrev r : Resized
   r = resized w.image
 
@@ -320,7 +320,7 @@ module _ (w : Writing) (is : IsWholeWriting w) where
   -- a place of data shares no byte with any patch
   pub data_is_apart : (i : ℕ) (k : KeptSection) (p : Place) → slice_get (kept_sections w.image) i ≡ Some k
       → slice_get w.plan.places i ≡ Some p
-      → occupies_file p ≡ true → is_data r k ≡ true → Each (λ q. AreApart (file_range p) (range_of q)) (patches w)
+      → occupies_file p ≡ true → is_data r.read k ≡ true → Each (λ q. AreApart (file_range p) (range_of q)) (patches w)
   data_is_apart i k p at_k at_p is_stored is_it =
       let from : (x : Range) → Each (AreApart x) stored → AreApart x (file_range p) = λ x h.
       each-at (λ s. occupies_file s ≡ true → AreApart x (file_range s)) w.plan.places

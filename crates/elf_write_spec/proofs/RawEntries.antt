@@ -29,11 +29,11 @@ use Rattle.elf_layout_plan.specs.Memory.{Resized}
 use Rattle.elf_layout_plan.specs.Plan.{Layout, resized}
 use Rattle.elf_layout_plan.specs.Sizes.{dynamic_size, interpreter_size, new_size, table_size}
 use Rattle.elf_layout_plan.proofs.ForCallers.ApartLists.{Each}
-use Rattle.elf_write_spec.specs.Again.{HasWrittenParts, written_parts}
+use Rattle.elf_write_spec.specs.ReadBack.{HasWrittenParts, written_parts}
 use Rattle.elf_write_spec.specs.Base.{is_interpreter}
-use Rattle.elf_write_spec.specs.Contents.{AreEntriesOf, IsContentByKind, content_at_number, spelled_list}
+use Rattle.elf_write_spec.specs.Contents.{AreEntriesOf, IsContentOfKind, content_at_number, spelled_list}
 use Rattle.elf_write_spec.specs.Final.{final}
-use Rattle.elf_write_spec.specs.Writing.{IsWholeWriting, Writing, written_bytes}
+use Rattle.elf_write_spec.specs.Output.{IsPlannedOutput, Output, written_bytes}
 use Rattle.elf_write_spec.proofs.InterpreterAt.{isnt_interpreter}
 use Rattle.elf_write_spec.proofs.SpelledEntries.{spelled-read}
 use Rattle.elf_write_spec.proofs.WholeFacts.{Nowhere, ReadFacts, SectionAt, There, TypeAt, final_is, read_facts, type_at}
@@ -87,7 +87,7 @@ dynamic_kind p s type =
     cond-false (s.sh_type == SHT_NOBITS) kinds.Uninitialized _ (ap (λ n. n == SHT_NOBITS) type)
     ∙ cond-true (s.sh_type == SHT_DYNAMIC) kinds.Dynamic _ (ap (λ n. n == SHT_DYNAMIC) type)
 
-module _ (w : Writing) (is : IsWholeWriting w) (f : ReadFacts w) (i : ℕ) (at : SectionAt w f.parts i)
+module _ (w : Output) (is : IsPlannedOutput w) (f : ReadFacts w) (i : ℕ) (at : SectionAt w f.parts i)
     (type : at.old.sh_type ≡ SHT_DYNAMIC) where
   section_type : at.section.sh_type ≡ SHT_DYNAMIC
   section_type = ap (λ (s : ImageSection). s.sh_type) at.of_old.fields ∙ type
@@ -95,7 +95,7 @@ module _ (w : Writing) (is : IsWholeWriting w) (f : ReadFacts w) (i : ℕ) (at :
   kind_is : at.section.kind ≡ kinds.Dynamic
   kind_is = ap (λ (s : ImageSection). s.kind) at.of_old.fields ∙ dynamic_kind f.parts at.old type
 
-  not_interpreter : is_interpreter (resized w.image) (kept i at.section) ≡ false
+  not_interpreter : is_interpreter (image_at_read w.image) (kept i at.section) ≡ false
   not_interpreter = isnt_interpreter w is f i at (ap (λ n. n == 1) section_type)
 
   -- the strings of the list, as they are written
@@ -108,8 +108,7 @@ module _ (w : Writing) (is : IsWholeWriting w) (f : ReadFacts w) (i : ℕ) (at :
   content_by : Bool → SectionData → Type 0
   content_by b kind = elim b [
     | true ↦ at.bytes ≡ list_at (λ name. name) w.image.interpreter
-    | _ ↦ IsContentByKind (resized w.image) w.plan w.raw list_strings
-        (record (kept i at.section) { section = record at.section { kind = kind } }) at.bytes
+    | _ ↦ IsContentOfKind (resized w.image) w.plan w.raw list_strings (kept i at.section) at.bytes kind
   ]
 
   -- its entries and its bytes
@@ -170,7 +169,7 @@ module _ (w : Writing) (is : IsWholeWriting w) (f : ReadFacts w) (i : ℕ) (at :
       ap (λ (l : List ℕ). entries_at (length (written_bytes w)) w.image.form (memory_of l) 0) bytes
       ∙ entries_there (length (written_bytes w)) (omega (arith, section-le (written_bytes w) at.header, ap length bytes))
 
-pub raw_is : (w : Writing) → IsWholeWriting w → HasWrittenParts w → (list : SectionHeader)
+pub raw_is : (w : Output) → IsPlannedOutput w → HasWrittenParts w → (list : SectionHeader)
     → section_of_type SHT_DYNAMIC w.headers ≡ Some list → raw_entries (written_parts w) ≡ w.raw
 raw_is w is has list there = by_type (read_facts w is) (type_at w is (read_facts w is) SHT_DYNAMIC)
   where

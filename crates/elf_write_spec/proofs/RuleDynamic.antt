@@ -26,8 +26,8 @@ use Rattle.elf_layout_plan.specs.Memory.{Resized}
 use Rattle.elf_layout_plan.specs.Plan.{resized}
 use Rattle.elf_layout_plan.specs.Written.{anchored_to, target_at}
 use Rattle.elf_layout_plan.proofs.ForCallers.ApartLists.{find-at, find-misses, each-at}
-use Rattle.elf_write_spec.specs.Again.{HasWrittenParts, written_parts}
-use Rattle.elf_write_spec.specs.Writing.{IsWholeWriting, Writing, written_bytes}
+use Rattle.elf_write_spec.specs.ReadBack.{HasWrittenParts, written_parts}
+use Rattle.elf_write_spec.specs.Output.{IsPlannedOutput, Output, written_bytes}
 use Rattle.elf_write_spec.proofs.InterpreterAt.{interpreter_is, kept_same}
 use Rattle.elf_write_spec.proofs.RawEntries.{entries_here, place_filled}
 use Rattle.elf_write_spec.proofs.UnloadedStay.{unloaded_stays}
@@ -63,7 +63,7 @@ first_typed : (type : ℕ) (ps : List SegmentHeader) (p : SegmentHeader) → seg
 first_typed type ps p h = let (_, _, passes) = find-at (has_type type) ps p h in eqb-true p.p_type type passes
 
 -- where its section goes
-becomes_at : (w : Writing) (is : IsWholeWriting w) (f : ReadFacts w) (i : ℕ) (at : SectionAt w f.parts i) (p : SegmentHeader)
+becomes_at : (w : Output) (is : IsPlannedOutput w) (f : ReadFacts w) (i : ℕ) (at : SectionAt w f.parts i) (p : SegmentHeader)
     → anchor_of (resized w.image) p ≡ OneSection (kept i at.section)
     → becomes (resized w.image) is.planned.moved p ≡ anchored_to w.image.form p (target_at at.place)
 becomes_at w is f i at p anchor =
@@ -92,7 +92,7 @@ both test o u o2 u2 e g = ap (λ v. are_both_or_neither test v u) e ∙ ap (are_
 
 -- ## The dynamic section
 
-dynamic_agrees : (w : Writing) → IsWholeWriting w → HasWrittenParts w → (f : ReadFacts w) (i : ℕ) (at : SectionAt w f.parts i)
+dynamic_agrees : (w : Output) → IsPlannedOutput w → HasWrittenParts w → (f : ReadFacts w) (i : ℕ) (at : SectionAt w f.parts i)
     → at.old.sh_type ≡ SHT_DYNAMIC
     → is_allocated at.old ≡ true → (p : SegmentHeader)
     → dynamic_section_agrees (written_parts w) (anchored_to w.image.form p (target_at at.place)) at.header ≡ true
@@ -116,7 +116,7 @@ dynamic_agrees w is has f i at type allocated p =
     (and_from (q.p_offset == at.header.sh_offset && q.p_vaddr == at.header.sh_addr) (is_allocated at.header)
     (and_from (q.p_offset == at.header.sh_offset) (q.p_vaddr == at.header.sh_addr) a b) c) ends
 
-dynamic_by : (w : Writing) (is : IsWholeWriting w) → HasWrittenParts w → (f : ReadFacts w) → SegmentAt w is f PT_DYNAMIC
+dynamic_by : (w : Output) (is : IsPlannedOutput w) → HasWrittenParts w → (f : ReadFacts w) → SegmentAt w is f PT_DYNAMIC
     → TypeAt w f.parts SHT_DYNAMIC
     → are_both_or_neither (dynamic_section_agrees f.parts) (segment_of_type PT_DYNAMIC f.parts.segments)
     (section_of_type SHT_DYNAMIC f.parts.sections) ≡ true
@@ -148,7 +148,7 @@ dynamic_by w is has f (ASegment old p is_old is_p like now) (There i at type at_
     (now ∙ ap (λ (q : SegmentHeader). Some q) goes) at_header
     ∙ dynamic_agrees w is has f i at type allocated p
 
-pub dynamic_right : (w : Writing) → IsWholeWriting w → HasWrittenParts w → IsTrue (is_dynamic_section_right (written_parts w))
+pub dynamic_right : (w : Output) → IsPlannedOutput w → HasWrittenParts w → IsTrue (is_dynamic_section_right (written_parts w))
 dynamic_right w is has =
     let f = read_facts w is in
     dynamic_by w is has f (segment_at w is f PT_DYNAMIC refl refl) (type_at w is f SHT_DYNAMIC) f.rules.dynamic
@@ -205,7 +205,7 @@ stands-test type offset address size q is =
     (and_from (type == SHT_PROGBITS) (offset == q.p_offset) (eq-eqb type SHT_PROGBITS is.is_type) (eq-eqb offset q.p_offset is.is_offset))
     (eq-eqb address q.p_vaddr is.is_address)) (eq-eqb size q.p_filesz is.is_size)
 
-module _ (w : Writing) (is : IsWholeWriting w) (f : ReadFacts w) where
+module _ (w : Output) (is : IsPlannedOutput w) (f : ReadFacts w) where
   -- a section stood where PT_INTERP says
   stood_there : (old : SegmentHeader) → is_some (interpreter_section old f.parts.sections) ≡ true
       → (i : ℕ) × (at : SectionAt w f.parts i) × (stands_as_interpreter old at.section ≡ true)
@@ -308,5 +308,5 @@ module _ (w : Writing) (is : IsWholeWriting w) (f : ReadFacts w) where
       w.headers n at.header at.is_header (stands-test at.header.sh_type at.header.sh_offset at.header.sh_addr at.header.sh_size q
       (header_stands n at old p like stands))
 
-pub interpreter_right : (w : Writing) → IsWholeWriting w → HasWrittenParts w → IsTrue (is_interpreter_right (written_parts w))
+pub interpreter_right : (w : Output) → IsPlannedOutput w → HasWrittenParts w → IsTrue (is_interpreter_right (written_parts w))
 interpreter_right w is has = let f = read_facts w is in interpreter_by w is f (segment_at w is f PT_INTERP refl refl) f.rules.interpreter

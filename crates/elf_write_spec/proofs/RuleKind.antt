@@ -25,10 +25,10 @@ use Rattle.elf_layout_plan.specs.Standing.{sections_offset}
 use Rattle.elf_layout_plan.proofs.ForCallers.PlacedLists.{Has, all-at, all-from, filter-at, filter-from, find-at, slice_get-at}
 use Rattle.elf_layout_plan.proofs.ForCallers.PlacedRead.{ReadsPlaced, header_filled, reads_placed}
 use Rattle.elf_layout_plan.proofs.ForCallers.PlacedSegments.{end_before_sections, header_before_kept_end, kept_before_segments_end, segments_before_end}
-use Rattle.elf_write_spec.specs.Again.{HasWrittenParts, written_parts}
+use Rattle.elf_write_spec.specs.ReadBack.{HasWrittenParts, written_parts}
 use Rattle.elf_write_spec.specs.Contents.{AreSymbolsOf, IsSymbolOf}
 use Rattle.elf_write_spec.specs.Final.{final, new_number}
-use Rattle.elf_write_spec.specs.Writing.{IsWholeWriting, Writing, written_bytes}
+use Rattle.elf_write_spec.specs.Output.{IsPlannedOutput, Output, written_bytes}
 use Rattle.elf_write_spec.proofs.ContentFacts.{dynamic_symbols_shown, linked_bytes, symbols_copied}
 use Rattle.elf_write_spec.proofs.HeaderTables.{header_bytes, sections_there-all}
 use Rattle.elf_write_spec.proofs.WholeFacts.{ReadFacts, SectionAt, final_is, lengths, new_number-same, read_facts, section_at, section_at_header}
@@ -116,12 +116,12 @@ not_zero n h = grind (arith, nat_tests)
 below : (a b : ℕ) → nat_lt a b ≡ true → a < b
 below a b h = grind (arith, nat_tests)
 
-offset_is : (w : Writing) (is : IsWholeWriting w) → w.plan.e_shoff ≡ sections_offset (resized w.image) is.planned.moved
+offset_is : (w : Output) (is : IsPlannedOutput w) → w.plan.e_shoff ≡ sections_offset (resized w.image) is.planned.moved
 unfolding layout_for
 offset_is w is = ap (λ (l : Layout). l.e_shoff) is.planned.follows
 
 -- it stands behind the file header
-pub behind_header : (w : Writing) → IsWholeWriting w → file_header_size w.image.form ≤ w.plan.e_shoff
+pub behind_header : (w : Output) → IsPlannedOutput w → file_header_size w.image.form ≤ w.plan.e_shoff
 behind_header w is =
     let r : Resized = resized w.image in
     let moved : List ℕ = is.planned.moved in
@@ -136,7 +136,7 @@ behind_header w is =
     )
 
 -- the numbers of entries fit plain numbering
-counts_fit : (w : Writing) → IsWholeWriting w
+counts_fit : (w : Output) → IsPlannedOutput w
     → (nat_lt (length w.plan.segments) PN_XNUM ≡ true) × (nat_lt (length w.plan.places) SHN_LORESERVE ≡ true)
 unfolding does_plan_fit
 counts_fit w is =
@@ -150,7 +150,7 @@ counts_fit w is =
     let last = and_parts (a && b && d && e && f) g is.planned.fits in
     ((and_parts (a && b && d && e) f last.0).1, last.1)
 
-module _ (w : Writing) (is : IsWholeWriting w) (f : ReadFacts w) where
+module _ (w : Output) (is : IsPlannedOutput w) (f : ReadFacts w) where
   old_kind : KindTests f.parts.opened
   old_kind = kind_parts f.parts.opened f.rules.file_kind
 
@@ -183,7 +183,7 @@ names_test o sections h less s at =
     ap (is_none_or (λ b. (section_header o.form b).sh_type == SHT_STRTAB)) there
     ∙ ap (λ (x : SectionHeader). x.sh_type == SHT_STRTAB) made
 
-names_right : (w : Writing) (is : IsWholeWriting w) → HasWrittenParts w → (f : ReadFacts w)
+names_right : (w : Output) (is : IsPlannedOutput w) → HasWrittenParts w → (f : ReadFacts w)
     → names_are_texts (written_parts w).opened ≡ true
 names_right w is has f =
     let old = old_kind w is f in
@@ -215,7 +215,7 @@ symbols-at strings (y ∷ ys) [] are j n at = absurd are
 symbols-at strings (y ∷ ys) (m ∷ ns) are zero n at = (y, refl, subst (IsSymbolOf strings y) (same_Some m n at) are.0)
 symbols-at strings (y ∷ ys) (m ∷ ns) are (suc j) n at = symbols-at strings ys ns are.1 j n at
 
-module _ (w : Writing) (is : IsWholeWriting w) (has : HasWrittenParts w) (f : ReadFacts w) where
+module _ (w : Output) (is : IsPlannedOutput w) (has : HasWrittenParts w) (f : ReadFacts w) where
   -- at read
   plain_in : (s : SectionHeader) → Has s f.parts.sections → is_symbol_table s ≡ true → (y : SymbolNumbers)
       → Has y (symbols_of f.parts s) → IsPlain y.st_shndx
@@ -279,7 +279,7 @@ module _ (w : Writing) (is : IsWholeWriting w) (has : HasWrittenParts w) (f : Re
 
 -- ## All of it
 
-pub file_kind : (w : Writing) → IsWholeWriting w → HasWrittenParts w → IsTrue (is_file_kind (written_parts w).opened)
+pub file_kind : (w : Output) → IsPlannedOutput w → HasWrittenParts w → IsTrue (is_file_kind (written_parts w).opened)
 file_kind w is has =
     let f : ReadFacts w = read_facts w is in
     let old = old_kind w is f in

@@ -4,12 +4,12 @@ use Rattle.std.specs.Prelude.{IsTrue}
 use Rattle.std.proofs.lemmas.Bool.{and_from, and_parts}
 use Rattle.elf_format.specs.File.{Parts}
 use Rattle.elf_format.specs.Rules.{are_linked, are_tables_linked, are_whole, infos_are_sections, is_one_of_each, relocations_fit, symbols_have_sections}
-use Rattle.elf_write_spec.specs.Again.{HasWrittenParts, written_parts}
-use Rattle.elf_write_spec.specs.Writing.{IsWholeWriting, Writing}
-use Rattle.elf_write_spec.proofs.LinkedRelocations.{are_single, relocations_again}
-use Rattle.elf_write_spec.proofs.LinkedSizes.{whole_again}
-use Rattle.elf_write_spec.proofs.LinkedSymbols.{symbols_again}
-use Rattle.elf_write_spec.proofs.LinkedTypes.{infos_again, linked_again, one_of_each}
+use Rattle.elf_write_spec.specs.ReadBack.{HasWrittenParts, written_parts}
+use Rattle.elf_write_spec.specs.Output.{IsPlannedOutput, Output}
+use Rattle.elf_write_spec.proofs.LinkedRelocations.{are_single, relocations_read_back}
+use Rattle.elf_write_spec.proofs.LinkedSizes.{whole_read_back}
+use Rattle.elf_write_spec.proofs.LinkedSymbols.{symbols_read_back}
+use Rattle.elf_write_spec.proofs.LinkedTypes.{infos_read_back, linked_read_back, one_of_each}
 use Rattle.elf_write_spec.proofs.WholeFacts.{ReadFacts, read_facts}
 
 -- the parts of the rule
@@ -37,7 +37,7 @@ read_linked p h =
       infos = sixth.1;
     }
 
-linked_with : (w : Writing) → IsWholeWriting w → HasWrittenParts w → (f : ReadFacts w) → AreLinked f.parts
+linked_with : (w : Output) → IsPlannedOutput w → HasWrittenParts w → (f : ReadFacts w) → AreLinked f.parts
     → are_tables_linked (written_parts w) ≡ true
 linked_with w is has f read =
     and_from _ (infos_are_sections (written_parts w))
@@ -45,11 +45,11 @@ linked_with w is has f read =
     (and_from _ (symbols_have_sections (written_parts w))
     (and_from _ (are_whole w.image.form w.headers)
     (and_from (is_one_of_each w.plan.segments w.headers) (are_linked w.headers) (one_of_each w is f read.each)
-    (linked_again w is f read.linked))
-    (whole_again w is f))
-    (symbols_again w is f has read.symbols))
-    (relocations_again w is f has read.single read.relocations))
-    (infos_again w is f read.infos)
+    (linked_read_back w is f read.linked))
+    (whole_read_back w is f))
+    (symbols_read_back w is f has read.symbols))
+    (relocations_read_back w is f has read.single read.relocations))
+    (infos_read_back w is f read.infos)
 
-pub linked : (w : Writing) → IsWholeWriting w → HasWrittenParts w → IsTrue (are_tables_linked (written_parts w))
+pub linked : (w : Output) → IsPlannedOutput w → HasWrittenParts w → IsTrue (are_tables_linked (written_parts w))
 linked w is has = let f = read_facts w is in linked_with w is has f (read_linked f.parts f.rules.linked)

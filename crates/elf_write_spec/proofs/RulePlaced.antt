@@ -14,12 +14,12 @@ use Rattle.elf_layout_plan.specs.FilePlaced.{written_headers, written_size}
 use Rattle.elf_layout_plan.specs.Plan.{resized}
 use Rattle.elf_layout_plan.proofs.ForCallers.PlacedLists.{all-at, all-from}
 use Rattle.elf_layout_plan.proofs.ForCallers.PlacedPlans.{plans_are_placed}
-use Rattle.elf_write_spec.specs.Again.{HasWrittenParts, written_parts}
-use Rattle.elf_write_spec.specs.Writing.{IsWholeWriting, Writing, written_bytes}
+use Rattle.elf_write_spec.specs.ReadBack.{HasWrittenParts, written_parts}
+use Rattle.elf_write_spec.specs.Output.{IsPlannedOutput, Output, written_bytes}
 use Rattle.elf_write_spec.proofs.HeaderTables.{table_at}
 use Rattle.elf_write_spec.proofs.WholeFacts.{places_are}
 
-pub record IsPlacedAgain (w : Writing) : Type 0 where
+pub record IsPlacedReadBack (w : Output) : Type 0 where
   pub in_file : IsTrue (ranges_in_file (length (written_bytes w)) w.plan.segments (places_of w.headers))
   pub fit : IsTrue (file_parts_fit w.plan.segments)
   pub segments : IsTrue (segments_apart w.plan.segments)
@@ -30,7 +30,7 @@ pub record IsPlacedAgain (w : Writing) : Type 0 where
 -- ## The length of the file
 
 -- the section header table lies in the file
-pub size_within : (w : Writing) → HasWrittenParts w → written_size (resized w.image) w.plan ≤ length (written_bytes w)
+pub size_within : (w : Output) → HasWrittenParts w → written_size (resized w.image) w.plan ≤ length (written_bytes w)
 size_within w has = (table_at (written_parts w).opened w.headers has.parts.sections).within
 
 -- what lies in a file lies in a longer one
@@ -48,8 +48,8 @@ in_longer n m segments places more h =
     (all-from (λ p. ends_by m (file_part p)) (loads_of segments) (λ p here.
     longer n m (file_part p) more (all-at (λ x. ends_by n (file_part x)) (loads_of segments) p both.1 here)))
 
-pub placed_again : (w : Writing) → IsWholeWriting w → HasWrittenParts w → IsPlacedAgain w
-placed_again w is has =
+pub placed_read_back : (w : Output) → IsPlannedOutput w → HasWrittenParts w → IsPlacedReadBack w
+placed_read_back w is has =
     let placed = plans_are_placed w.image w.plan is.edited is.planned in
     let same : w.plan.places ≡ places_of w.headers = sym (places_are w is) in
     record {

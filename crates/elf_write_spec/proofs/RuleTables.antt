@@ -25,11 +25,11 @@ use Rattle.elf_image.specs.Kept.{KeptSection, dynamic_strings_number, image_at_r
 use Rattle.elf_layout_plan.specs.Memory.{Resized}
 use Rattle.elf_layout_plan.specs.Plan.{resized}
 use Rattle.elf_layout_plan.proofs.ForCallers.PlacedRead.{at_read}
-use Rattle.elf_write_spec.specs.Again.{HasWrittenParts, written_parts}
+use Rattle.elf_write_spec.specs.ReadBack.{HasWrittenParts, written_parts}
 use Rattle.elf_write_spec.specs.Contents.{address_of_type, place_of_kept, strings_place, table_value}
 use Rattle.elf_write_spec.specs.Final.{final, new_number}
 use Rattle.elf_write_spec.specs.Headers.{behind_locals, is_info_number, written_info}
-use Rattle.elf_write_spec.specs.Writing.{IsWholeWriting, Writing}
+use Rattle.elf_write_spec.specs.Output.{IsPlannedOutput, Output}
 use Rattle.elf_write_spec.proofs.RawEntries.{all_listed, are_entries, list_strings, raw_is}
 use Rattle.elf_write_spec.proofs.TableTags.{has-same, once-same, raw_tables, tables_read, tables_written, value_written}
 use Rattle.elf_write_spec.proofs.WholeFacts.{Nowhere, ReadFacts, SectionAt, There, TypeAt, kept_is, read_facts, section_at, type_at}
@@ -147,7 +147,7 @@ tables-kept (Some read) None h = absurd h
 tables-kept (Some read) (Some now) h = h.tables
 
 -- none of the entries that were read is a DT_NULL
-read_listed : (w : Writing) → IsWholeWriting w → All IsListed (list_at (λ es. es) (image_at_read w.image).entries)
+read_listed : (w : Output) → IsPlannedOutput w → All IsListed (list_at (λ es. es) (image_at_read w.image).entries)
 read_listed w is =
     let read : Image = is.edited.read in
     let itself = read_is_edited w.image.source read is.edited.is_read in
@@ -165,11 +165,11 @@ info_by r s type =
     else if is_info_number s then new_number r.image s.sh_info
     else s.sh_info
 
-info_is : (r : Resized) (s : ImageSection) → written_info r s ≡ info_by r s s.sh_type
+info_is : (r : Resized) (s : ImageSection) → written_info r.read r.image s ≡ info_by r s s.sh_type
 unfolding info_by
 info_is r s = refl
 
-module _ (w : Writing) (f : ReadFacts w) (i : ℕ) (at : SectionAt w f.parts i) where
+module _ (w : Output) (f : ReadFacts w) (i : ℕ) (at : SectionAt w f.parts i) where
   header_info : at.header.sh_info ≡ info_by (resized w.image) at.section at.old.sh_type
   header_info =
       ap (λ (h : SectionHeader). h.sh_info) at.written.has_header.fields ∙ info_is (resized w.image) at.section
@@ -185,7 +185,7 @@ module _ (w : Writing) (f : ReadFacts w) (i : ℕ) (at : SectionAt w f.parts i) 
 
 -- ## The list of a written file
 
-module _ (w : Writing) (is : IsWholeWriting w) (f : ReadFacts w) (i : ℕ) (at : SectionAt w f.parts i) (type : at.old.sh_type ≡ SHT_DYNAMIC)
+module _ (w : Output) (is : IsPlannedOutput w) (f : ReadFacts w) (i : ℕ) (at : SectionAt w f.parts i) (type : at.old.sh_type ≡ SHT_DYNAMIC)
     (at_old : section_of_type SHT_DYNAMIC f.parts.sections ≡ Some at.old)
     (at_kept : kept_of_type SHT_DYNAMIC w.image ≡ Some (kept i at.section)) where
   abbrev old_raw : List EntryNumbers
@@ -387,7 +387,7 @@ module _ (w : Writing) (is : IsWholeWriting w) (f : ReadFacts w) (i : ℕ) (at :
     texts = texts_right;
   })
 
-pub tables_right : (w : Writing) → IsWholeWriting w → HasWrittenParts w → IsTrue (are_dynamic_tables_right (written_parts w))
+pub tables_right : (w : Output) → IsPlannedOutput w → HasWrittenParts w → IsTrue (are_dynamic_tables_right (written_parts w))
 tables_right w is has = by_at (read_facts w is) (type_at w is (read_facts w is) SHT_DYNAMIC)
   where
     by_at : (f : ReadFacts w) → TypeAt w f.parts SHT_DYNAMIC

@@ -12,13 +12,13 @@ use Rattle.elf_format.specs.Options.{each, is_none_or}
 use Rattle.elf_format.specs.Rules.{definition_steps, definition_texts_end, do_texts_end, dynamic_texts_of, entry_texts_end, file_of, linked_texts, need_steps, need_texts_end, raw_entries, section_names_end, symbols_are_named, texts_of}
 use Rattle.elf_format.specs.Versions.{VersionDefinition, VersionNeeds, shown_definition, shown_need, values_of}
 use Rattle.elf_format.specs.Views.{NamedSymbol, names_of}
-use Rattle.elf_write_spec.specs.Again.{HasWrittenParts, written_parts}
-use Rattle.elf_write_spec.specs.Writing.{IsWholeWriting, Writing}
-use Rattle.elf_write_spec.proofs.DynamicAgain.{dynamic_again}
-use Rattle.elf_write_spec.proofs.EntriesAgain.{entries_again}
-use Rattle.elf_write_spec.proofs.NamesAgain.{names_again}
-use Rattle.elf_write_spec.proofs.RecordsAgain.{definitions_again, needs_again}
-use Rattle.elf_write_spec.proofs.SymbolsAgain.{symbols_again}
+use Rattle.elf_write_spec.specs.ReadBack.{HasWrittenParts, written_parts}
+use Rattle.elf_write_spec.specs.Output.{IsPlannedOutput, Output}
+use Rattle.elf_write_spec.proofs.DynamicReadBack.{dynamic_read_back}
+use Rattle.elf_write_spec.proofs.EntriesReadBack.{entries_read_back}
+use Rattle.elf_write_spec.proofs.NamesReadBack.{names_read_back}
+use Rattle.elf_write_spec.proofs.RecordsReadBack.{definitions_read_back, needs_read_back}
+use Rattle.elf_write_spec.proofs.SymbolsReadBack.{symbols_read_back}
 
 -- ## What is read has its texts
 
@@ -62,7 +62,7 @@ module _ (p : Parts) where
   needs_end None ns h = refl
   needs_end (Some s) ns h = ap is_some h
 
-pub texts_end : (w : Writing) → IsWholeWriting w → HasWrittenParts w → IsTrue (do_texts_end (written_parts w))
+pub texts_end : (w : Output) → IsPlannedOutput w → HasWrittenParts w → IsTrue (do_texts_end (written_parts w))
 texts_end w is has =
     let p : Parts = written_parts w in
     and_from _ (need_texts_end p)
@@ -70,9 +70,9 @@ texts_end w is has =
     (and_from _ (entry_texts_end p)
     (and_from _ (symbols_are_named p (dynamic_texts_of p) SHT_DYNSYM)
     (and_from (section_names_end p) (symbols_are_named p (texts_of p) SHT_SYMTAB)
-    (ap is_some (names_again w is has))
-    (static_end p (section_of_type SHT_SYMTAB w.headers) w.image.symbols (symbols_again w is has)))
-    (dynamic_end p (section_of_type SHT_DYNSYM w.headers) w.image.dynamic_symbols (dynamic_again w is has)))
-    (entries_end p (section_of_type SHT_DYNAMIC w.headers) w.image.entries (entries_again w is has)))
-    (definitions_end p (section_of_type SHT_GNU_VERDEF w.headers) w.image.definitions (definitions_again w is has)))
-    (needs_end p (section_of_type SHT_GNU_VERNEED w.headers) w.image.needs (needs_again w is has))
+    (ap is_some (names_read_back w is has))
+    (static_end p (section_of_type SHT_SYMTAB w.headers) w.image.symbols (symbols_read_back w is has)))
+    (dynamic_end p (section_of_type SHT_DYNSYM w.headers) w.image.dynamic_symbols (dynamic_read_back w is has)))
+    (entries_end p (section_of_type SHT_DYNAMIC w.headers) w.image.entries (entries_read_back w is has)))
+    (definitions_end p (section_of_type SHT_GNU_VERDEF w.headers) w.image.definitions (definitions_read_back w is has)))
+    (needs_end p (section_of_type SHT_GNU_VERNEED w.headers) w.image.needs (needs_read_back w is has))

@@ -21,12 +21,12 @@ use Rattle.elf_format.specs.Versions.{DefinitionNumbers, NeedNumbers, VersionDef
 use Rattle.elf_format.proofs.ForCallers.Placed.{IsIn-slice_get}
 use Rattle.elf_format.proofs.ForCallers.ViewsAgree.{length-bytes, test_at, there_and, version_symbols_right}
 use Rattle.elf_image.specs.Kept.{image_at_read}
-use Rattle.elf_write_spec.specs.Again.{HasWrittenParts, written_parts}
-use Rattle.elf_write_spec.specs.Writing.{IsWholeWriting, Writing, written_bytes}
-use Rattle.elf_write_spec.proofs.ContentsAgain.{bytes_are, content_was, size_is, versym_content}
-use Rattle.elf_write_spec.proofs.DynamicAgain.{dynamic_as_read}
-use Rattle.elf_write_spec.proofs.RecordsAgain.{definitions_again, definitions_at, needs_again, needs_at}
-use Rattle.elf_write_spec.proofs.SymbolsAgain.{form_is}
+use Rattle.elf_write_spec.specs.ReadBack.{HasWrittenParts, written_parts}
+use Rattle.elf_write_spec.specs.Output.{IsPlannedOutput, Output, written_bytes}
+use Rattle.elf_write_spec.proofs.ContentsReadBack.{bytes_are, content_was, size_is, versym_content}
+use Rattle.elf_write_spec.proofs.DynamicReadBack.{dynamic_as_read}
+use Rattle.elf_write_spec.proofs.RecordsReadBack.{definitions_read_back, definitions_at, needs_read_back, needs_at}
+use Rattle.elf_write_spec.proofs.SymbolsReadBack.{form_is}
 use Rattle.elf_write_spec.proofs.WholeFacts.{ReadFacts, SectionAt, There, Nowhere, TypeAt, read_facts, section_at_header, type_at}
 use Rattle.elf_write_spec.proofs.WholeLists.{all-each}
 use Rattle.elf_format.proofs.ForCallers.Lengths.{length-records}
@@ -120,11 +120,11 @@ module _ (p : Parts) where
 
 -- ## The parts of the rule
 
-module _ (w : Writing) (is : IsWholeWriting w) (has : HasWrittenParts w) (f : ReadFacts w) where
+module _ (w : Output) (is : IsPlannedOutput w) (has : HasWrittenParts w) (f : ReadFacts w) where
   -- the versions that are known are those that were
   known_same : known_versions (written_parts w) ≡ known_versions f.parts
   known_same =
-      known_are (written_parts w) w.image.definitions w.image.needs (definitions_again w is has) (needs_again w is has)
+      known_are (written_parts w) w.image.definitions w.image.needs (definitions_read_back w is has) (needs_read_back w is has)
       ∙ ap (λ (ds : List VersionDefinition). shown_indices ds w.image.needs) f.edit.definitions
       ∙ ap (shown_indices (image_at_read w.image).definitions) f.edit.needs
       ∙ sym (known_are f.parts (image_at_read w.image).definitions (image_at_read w.image).needs f.holds.definitions f.holds.needs)
@@ -283,7 +283,7 @@ module _ (w : Writing) (is : IsWholeWriting w) (has : HasWrittenParts w) (f : Re
   strings_own = own_by (dynamic_strings_user w.headers) (dynamic_strings_user f.parts.sections) user_known
       (and_parts _ _ f.rules.versions).1
 
-pub versions_right : (w : Writing) → IsWholeWriting w → HasWrittenParts w → IsTrue (are_versions_right (written_parts w))
+pub versions_right : (w : Output) → IsPlannedOutput w → HasWrittenParts w → IsTrue (are_versions_right (written_parts w))
 versions_right w is has =
     let f = read_facts w is in
     and_from _ (are_dynamic_strings_own w.headers)

@@ -10,13 +10,13 @@ use Rattle.elf_format.specs.Places.{is_set, places_of}
 use Rattle.elf_format.specs.Rules.{header_ranges}
 use Rattle.elf_format.specs.Views.{byte_at}
 use Rattle.elf_format.proofs.ForCallers.Placed.{held_sections_are_seen}
-use Rattle.elf_write_spec.specs.Again.{written_parts}
-use Rattle.elf_write_spec.specs.Writing.{IsWholeWriting, Writing, written_bytes}
+use Rattle.elf_write_spec.specs.ReadBack.{written_parts}
+use Rattle.elf_write_spec.specs.Output.{IsPlannedOutput, Output, written_bytes}
 use Rattle.elf_write_spec.proofs.FileParts.{written_files_have_parts}
-use Rattle.elf_write_spec.proofs.RulePlaced.{placed_again}
+use Rattle.elf_write_spec.proofs.RulePlaced.{placed_read_back}
 use Rattle.elf_write_spec.proofs.WholeFacts.{ReadFacts, SectionAt}
 
-module _ (w : Writing) (is : IsWholeWriting w) (f : ReadFacts w) (i : ℕ) (at : SectionAt w f.parts i) where
+module _ (w : Output) (is : IsPlannedOutput w) (f : ReadFacts w) (i : ℕ) (at : SectionAt w f.parts i) where
   -- a section is as much of memory and of the file as it was
   pub same_allocated : is_allocated at.header ≡ is_allocated at.old
   same_allocated = ap (is_set SHF_ALLOC) at.flags
@@ -29,7 +29,7 @@ module _ (w : Writing) (is : IsWholeWriting w) (f : ReadFacts w) (i : ℕ) (at :
   section_seen loaded stored =
       let file : List ℕ = written_bytes w in
       let has = written_files_have_parts w is in
-      let placed = placed_again w is has in
+      let placed = placed_read_back w is has in
       let held : sections_held w.plan.segments (places_of w.headers) ≡ true =
       (and_parts (sections_held w.plan.segments (places_of w.headers)) (something_loaded w.plan.segments (places_of w.headers))
       (and_parts (sections_held w.plan.segments (places_of w.headers) && something_loaded w.plan.segments (places_of w.headers))

@@ -13,12 +13,12 @@ use Rattle.elf_format.proofs.ForCallers.Placed.{IsIn-slice_get}
 use Rattle.elf_format.proofs.ForCallers.ViewsAgree.{test_at}
 use Rattle.elf_image.specs.Kept.{KeptSection, image_at_read, link_of_type}
 use Rattle.elf_layout_plan.specs.Texts.{is_table_copied}
-use Rattle.elf_write_spec.specs.Writing.{IsWholeWriting, Writing}
-use Rattle.elf_write_spec.proofs.ContentsAgain.{link_is}
+use Rattle.elf_write_spec.specs.Output.{IsPlannedOutput, Output}
+use Rattle.elf_write_spec.proofs.ContentsReadBack.{link_is}
 use Rattle.elf_write_spec.proofs.WholeFacts.{ReadFacts, SectionAt, There, Nowhere, type_at}
 use Rattle.elf_write_spec.proofs.TextsStay.{others_copied}
 
-module _ (w : Writing) (is : IsWholeWriting w) (f : ReadFacts w) where
+module _ (w : Output) (is : IsPlannedOutput w) (f : ReadFacts w) where
   -- the dynamic list doesn't link to a table that static symbols link to
   list_apart : (i : ℕ) (at : SectionAt w f.parts i) → at.old.sh_type ≡ SHT_SYMTAB
       → is_some_and (λ link. link == at.old.sh_link) (link_of_type SHT_DYNAMIC w.image) ≡ false

@@ -58,10 +58,10 @@ text_reads (suc r) f a text h (suc s) long =
     ∙ reads-behind r s f a (λ t there fits. text_reads r f (a + 1) t there s fits) byte text after long
 
 -- a text of a table is read in each memory that keeps the table, with room for the whole table
-pub text_again : (xs : List ℕ) (a : ℕ) (text : List ℕ) → Reads xs a text → (room : ℕ) → length xs ≤ room → (g : Memory)
+pub text_read_back : (xs : List ℕ) (a : ℕ) (text : List ℕ) → Reads xs a text → (room : ℕ) → length xs ≤ room → (g : Memory)
     → Keeps (memory_of xs) g
     → text_at room g a ≡ Some text
-text_again xs a text reads room long g keeps =
+text_read_back xs a text reads room long g keeps =
     let here : text_at (length text + 1) (memory_of xs) a ≡ Some text = reads (length text + 1) (omega arith) in
     let inside : a + length text < length xs = text_inside (length text + 1) xs a text here in
     text_at-keeps (length text + 1) room (omega arith) (memory_of xs) g keeps a text here

@@ -9,12 +9,13 @@ use Rattle.elf_format.specs.Options.{is_some_and, list_at}
 use Rattle.elf_format.specs.Versions.{VersionDefinition, VersionNeeds}
 use Rattle.elf_format.specs.Views.{NamedSymbol}
 use Rattle.elf_image.specs.Edited.{IsEditOf}
-use Rattle.elf_image.specs.Kept.{KeptSection, kept_from, kept_sections, link_of_type}
+use Rattle.elf_image.specs.Kept.{KeptSection, link_of_type}
 use Rattle.elf_layout_plan.specs.Needs.{written_entries, written_needs}
 use Rattle.elf_layout_plan.specs.Texts.{if_linked, if_names, is_subsequence, is_table_copied, texts_in_use, texts_of_definitions, texts_of_entries, texts_of_needs, texts_of_symbols}
 use Rattle.elf_layout_plan.proofs.ForCallers.SameTexts.{subsequence_of_itself}
 use Rattle.elf_write_spec.specs.Whole.{IsWhole}
 use Rattle.elf_write_spec.proofs.SameLists.{needs_same}
+use Rattle.elf_write_spec.proofs.WholeEdits.{same_kept}
 
 -- all texts of a table, user by user
 abbrev all_texts : List (List ℕ) → List (List ℕ) → List (List ℕ) → List (List ℕ) → List (List ℕ) → List (List ℕ) → List (List ℕ)
@@ -39,14 +40,9 @@ not_linked : (linked : Option ℕ) (number : ℕ) (texts : List (List ℕ)) → 
 not_linked linked number texts h = ap (λ b. if b then texts else []) h
 
 module _ (read image : Image) (whole : IsWhole read image) (edit : IsEditOf read image) where
-  pub same_kept : kept_sections image ≡ kept_sections read
-  same_kept =
-      ap (λ (ns : List ℕ). kept_from 0 ns image.sections) whole.section_numbers
-      ∙ ap (λ (ss : List ImageSection). kept_from 0 read.section_numbers ss) whole.sections
-
   -- a type's section links where it did
   pub same_link : (type : ℕ) → link_of_type type image ≡ link_of_type type read
-  same_link type = ap (λ (ks : List KeptSection). find (λ s. s.section.sh_type == type) ks >>= λ s. Some s.section.sh_link) same_kept
+  same_link type = ap (λ (ks : List KeptSection). find (λ s. s.section.sh_type == type) ks >>= λ s. Some s.section.sh_link) (same_kept read image whole)
 
   -- all other texts are those that were read
   same_texts : (number : ℕ) → is_some_and (λ link. link == number) (link_of_type SHT_DYNAMIC image) ≡ false

@@ -17,7 +17,7 @@ use Rattle.elf_format.specs.declared.constants.TheConstants.{SHT_NULL}
 use Rattle.elf_layout_plan.specs.Plan.{IsPlan, Layout, layout_for, resized}
 use Rattle.elf_layout_plan.specs.Rounds.{are_in_old_order, do_move, sections_at}
 use Rattle.elf_layout_plan.specs.Standing.{place_in, places, slot_of}
-use Rattle.elf_layout_plan.proofs.ForCallers.ApartFixed.{edges_no_section, headers_no_section, image_sized}
+use Rattle.elf_layout_plan.proofs.ForCallers.ApartFixed.{edges_no_section, headers_no_section, resized_sections}
 use Rattle.elf_layout_plan.proofs.ForCallers.ApartLists.{Each, all-at, any-at, at-map, each-append, each-at, each-filter, each-from, each-map, each-more}
 use Rattle.elf_layout_plan.proofs.ForCallers.ApartPlaces.{keeps_address, slot_found}
 use Rattle.elf_layout_plan.proofs.ForCallers.ApartSections.{at-sized, kept-at, sized-at, sized_of}
@@ -125,5 +125,5 @@ pub unloaded_stays : (image : Image) (plan : Layout) → IsPlan (resized image) 
     → is_loaded_section s.section ≡ false → (x : Place) → slice_get plan.places s.position ≡ Some x → x.sh_addr ≡ s.section.sh_addr
 unfolding layout_for
 unloaded_stays image plan is i s at unloaded x there =
-    stays (resized image) (image_sized image) i s at unloaded plan.looked is.moved is.ended.move x
+    stays (resized image) (resized_sections image) i s at unloaded plan.looked is.moved is.ended.move x
     (sym (ap (λ (l : Layout). slice_get l.places s.position) is.follows) ∙ there)

@@ -1,99 +1,76 @@
 -- What is known of what is written: the parts that were read, and how they match, section by section, what is written.
-use Rattle.std.proofs.Common.{◌≡◌, ℕ, zero, suc, ◌<◌, List, length, map, Bool, true, false, ◌||◌, [], ◌∷◌, refl, sym, ap, ◌∙◌, subst, inl, inr, Option, Some, None, Ok, arith}
-use Rattle.std.specs.Prelude.{if◌then◌else◌, ◌==◌, nat_le, unwrap_or}
+use Rattle.std.proofs.Common.{◌≡◌, ℕ, zero, suc, ◌<◌, List, length, map, Bool, true, false, ◌||◌, [], ◌∷◌, refl, sym, ap, ◌∙◌, subst, inl, inr, Option, Some, None, arith}
+use Rattle.std.specs.Prelude.{if◌then◌else◌, ◌==◌, unwrap_or}
 use Rattle.std.proofs.lemmas.Bool.{both_ways, eq-eqb, eqb-true, ne_eqb}
 use Rattle.std.proofs.lemmas.List.{length-map}
 use Rattle.std.proofs.lemmas.Option.{none-some, same_Some, slice_get_within}
 use Rattle.patch_bytes.specs.Memory.{◌>>=◌}
 use Rattle.std.specs.Option.{option_map}
 use Rattle.std.specs.List.{slice_get}
-use Rattle.elf_format.specs.declared.constants.TheConstants.{SHN_LORESERVE, SHT_DYNSYM, SHT_GNU_VERDEF, SHT_GNU_VERNEED, SHT_GNU_VERSYM, SHT_SYMTAB}
+use Rattle.elf_format.specs.declared.constants.TheConstants.{SHT_DYNSYM, SHT_GNU_VERDEF, SHT_GNU_VERNEED, SHT_SYMTAB}
 use Rattle.elf_format.specs.declared.records.SectionHeader.{SectionHeader}
 use Rattle.elf_format.specs.File.{Parts, section_of_type}
-use Rattle.elf_format.specs.Image.{Image, ImageSection, counted, image_of}
+use Rattle.elf_format.specs.Image.{ImageSection}
 use Rattle.elf_format.specs.Options.{is_one_of}
 use Rattle.elf_format.specs.Places.{Place, place_of, places_of}
-use Rattle.elf_format.specs.Rules.{ArePartsOf, MeetsRules, accepted_parts}
-use Rattle.elf_format.specs.Views.{NamedSymbol}
-use Rattle.elf_image.specs.Edited.{IsEditOf}
-use Rattle.elf_image.specs.ReadImage.{HoldsParts, IsSectionOf}
-use Rattle.elf_image.proofs.ForCallers.ReadImageLaws.{read_images_hold_parts}
+use Rattle.elf_image.specs.ReadImage.{IsSectionOf}
 use Rattle.elf_image.specs.Kept.{KeptSection, image_at_read, kept_at_number, kept_of_type, kept_sections}
 use Rattle.elf_layout_plan.specs.Memory.{Resized, SizedSection, sized_sections}
 use Rattle.elf_layout_plan.specs.Plan.{Layout, layout_for, resized}
 use Rattle.elf_layout_plan.specs.Sizes.{new_size}
 use Rattle.elf_layout_plan.specs.Standing.{place_in, places}
-use Rattle.elf_layout_plan.specs.Texts.{are_names_changed}
 use Rattle.elf_write_spec.specs.Contents.{content_at_number}
-use Rattle.elf_write_spec.specs.Final.{buckets_of, by_bucket, final, final_symbol, new_number, ordered}
-use Rattle.elf_write_spec.specs.Writing.{AreSectionsWritten, IsSectionWritten, IsWholeWriting, Writing}
+use Rattle.elf_write_spec.specs.Final.{final, new_number}
+use Rattle.elf_write_spec.specs.Output.{AreSectionsWritten, IsSectionWritten, IsPlannedOutput, Output}
 use Rattle.elf_write_spec.specs.Headers.{behind_locals, is_info_number, written_info}
 use Rattle.elf_layout_plan.proofs.ForCallers.ApartLists.{at-map, map-at}
 use Rattle.elf_layout_plan.proofs.ForCallers.ApartRead.{edited_facts}
 use Rattle.elf_layout_plan.proofs.ForCallers.ApartSections.{at-sized, sized_of}
 use Rattle.elf_layout_plan.proofs.ForCallers.PlacedLists.{slice_get-at}
 use Rattle.elf_layout_plan.proofs.ForCallers.PlacedPlaces.{keeps_kind}
-use Rattle.elf_layout_plan.proofs.ForCallers.PlacedRead.{at_read}
-use Rattle.elf_layout_plan.proofs.ForCallers.SameTexts.{names_same}
-use Rattle.elf_write_spec.proofs.WholeLists.{FoundAt, NonePasses, find-is, find-no, first_at, map-same, same_items, there_at}
-use Rattle.elf_write_spec.proofs.SameLists.{IsKnown, entries_same, known_below, known_dynamic, known_static, needs_same}
-use Rattle.elf_format.proofs.ForCallers.Lengths.{length-sections}
-use Rattle.elf_write_spec.proofs.NumberedSections.{kept, length-kept}
-use Rattle.elf_write_spec.proofs.NumberedSections as sections_by_number
+use Rattle.elf_write_spec.proofs.WholeLists.{FoundAt, NonePasses, find-is, find-no, first_at, same_items, there_at}
+use Rattle.elf_write_spec.proofs.NumberedSections.{kept}
+use Rattle.elf_write_spec.proofs.WholeEdits as edits
 
 -- ## The file that was read
 
-pub record ReadFacts (w : Writing) : Type 0 where
-  pub parts : Parts
-  pub accepted : accepted_parts w.image.source ≡ Ok parts
-  pub are_parts : ArePartsOf w.image.source parts
-  pub rules : MeetsRules parts
-  pub holds : HoldsParts parts (image_at_read w.image)
-  pub edit : IsEditOf (image_at_read w.image) w.image
+-- the image is edited, and nothing of it went
+pub whole_edit : (w : Output) → IsPlannedOutput w → edits.IsWholeEdit (image_at_read w.image) w.image
+whole_edit w is = record { at_read = refl; edited = is.edited; whole = is.whole }
 
-pub read_facts : (w : Writing) → IsWholeWriting w → ReadFacts w
-read_facts w is =
-    let e = is.edited in
-    let same : image_at_read w.image ≡ e.read = at_read (image_of w.image.source) e.read w.image e.is_read in
-    let (p, there, parts, rules, holding) = read_images_hold_parts w.image.source e.read e.is_read in
-    record {
-      parts = p;
-      accepted = there;
-      are_parts = parts;
-      rules = rules;
-      holds = subst (λ (x : Image). HoldsParts p x) (sym same) holding;
-      edit = subst (λ (x : Image). IsEditOf x w.image) (sym same) e.is_edit;
-    }
+abbrev pub ReadFacts : Output → Type 0
+ReadFacts w = edits.ReadFacts (image_at_read w.image) w.image
+
+pub read_facts : (w : Output) → IsPlannedOutput w → ReadFacts w
+read_facts w is = edits.read_facts (image_at_read w.image) w.image (whole_edit w is)
 
 -- ## Section by section
 
-pub record Lengths (w : Writing) (p : Parts) : Type 0 where
+pub record Lengths (w : Output) (p : Parts) : Type 0 where
   pub sections : length w.image.sections ≡ length p.sections
   pub places : length w.plan.places ≡ length p.sections
   pub headers : length w.headers ≡ length p.sections
   pub contents : length w.contents ≡ length p.sections
 
--- each section has its position for its number
-counts : (w : Writing) → IsWholeWriting w → w.image.section_numbers ≡ counted (length w.image.sections)
-counts w is =
-    is.whole.section_numbers ∙ (read_facts w is).holds.section_numbers ∙ ap (λ (ss : List ImageSection). counted (length ss)) (sym is.whole.sections)
+pub length-kept : (w : Output) → IsPlannedOutput w → length (kept_sections w.image) ≡ length w.image.sections
+length-kept w is = edits.length-kept (image_at_read w.image) w.image (whole_edit w is)
 
 -- the i-th section that is there
-kept-at : (w : Writing) → IsWholeWriting w → (i : ℕ)
+kept-at : (w : Output) → IsPlannedOutput w → (i : ℕ)
     → slice_get (kept_sections w.image) i ≡ option_map (kept i) (slice_get w.image.sections i)
-kept-at w is i = sections_by_number.kept-at w.image (counts w is) i
+kept-at w is = edits.kept-at (image_at_read w.image) w.image (whole_edit w is)
 
 -- the section that was read at a number stands at that position
-pub kept_is : (w : Writing) → IsWholeWriting w → (n : ℕ) → kept_at_number n w.image ≡ option_map (kept n) (slice_get w.image.sections n)
-kept_is w is n = sections_by_number.kept_is w.image (counts w is) n
+pub kept_is : (w : Output) → IsPlannedOutput w → (n : ℕ) → kept_at_number n w.image ≡ option_map (kept n) (slice_get w.image.sections n)
+kept_is w is = edits.kept_is (image_at_read w.image) w.image (whole_edit w is)
 
 -- as many of each
-record SameLengths (w : Writing) (ks : List KeptSection) (ps : List Place) (hs : List SectionHeader) (cs : List (List ℕ)) : Type 0 where
+record SameLengths (w : Output) (ks : List KeptSection) (ps : List Place) (hs : List SectionHeader) (cs : List (List ℕ)) : Type 0 where
   places : length ps ≡ length ks
   headers : length hs ≡ length ks
   contents : length cs ≡ length ks
 
-same_lengths : (w : Writing) (ks : List KeptSection) (ps : List Place) (hs : List SectionHeader) (cs : List (List ℕ))
+same_lengths : (w : Output) (ks : List KeptSection) (ps : List Place) (hs : List SectionHeader) (cs : List (List ℕ))
     → AreSectionsWritten w ks ps hs cs
     → SameLengths w ks ps hs cs
 same_lengths w [] [] [] [] is = record { places = refl; headers = refl; contents = refl }
@@ -102,25 +79,19 @@ same_lengths w (k ∷ ks) (p ∷ ps) (h ∷ hs) (c ∷ cs) is =
     record { places = ap suc more.places; headers = ap suc more.headers; contents = ap suc more.contents }
 same_lengths w _ _ _ _ is = absurd is
 
-pub lengths : (w : Writing) → IsWholeWriting w → (f : ReadFacts w) → Lengths w f.parts
+pub lengths : (w : Output) → IsPlannedOutput w → (f : ReadFacts w) → Lengths w f.parts
 lengths w is f =
-    let sections : length w.image.sections ≡ length f.parts.sections = ap length is.whole.sections ∙ f.holds.sections.count in
-    let all : length (kept_sections w.image) ≡ length f.parts.sections =
-    length-kept w.image (counts w is) ∙ sections in
+    let sections : length w.image.sections ≡ length f.parts.sections =
+    edits.length-now (image_at_read w.image) w.image (whole_edit w is) f in
+    let all : length (kept_sections w.image) ≡ length f.parts.sections = length-kept w is ∙ sections in
     let same = same_lengths w (kept_sections w.image) w.plan.places w.headers w.contents is.written.sections in
     record { sections = sections; places = same.places ∙ all; headers = same.headers ∙ all; contents = same.contents ∙ all }
 
-pub new_number-same : (w : Writing) → IsWholeWriting w → (n : ℕ) → new_number w.image n ≡ n
-new_number-same w is n =
-    ap (λ (o : Option KeptSection). elim o as (λ _. ℕ) [ Some s ↦ s.position | None ↦ n ]) (kept_is w is n)
-    ∙ by_there (slice_get w.image.sections n)
-  where
-    by_there : (o : Option ImageSection) → (elim (option_map (kept n) o) as (λ _. ℕ) [ Some s ↦ s.position | None ↦ n ]) ≡ n
-    by_there None = refl
-    by_there (Some s) = refl
+pub new_number-same : (w : Output) → IsPlannedOutput w → (n : ℕ) → new_number w.image n ≡ n
+new_number-same w is = edits.new_number-same (image_at_read w.image) w.image (whole_edit w is)
 
 -- the bytes of the section with a number are those at that position
-pub content_is : (w : Writing) → IsWholeWriting w → (n : ℕ) (bytes : List ℕ) → slice_get w.contents n ≡ Some bytes
+pub content_is : (w : Output) → IsPlannedOutput w → (n : ℕ) (bytes : List ℕ) → slice_get w.contents n ≡ Some bytes
     → content_at_number w.image w.contents n ≡ bytes
 content_is w is n bytes there =
     let f = read_facts w is in
@@ -132,7 +103,7 @@ content_is w is n bytes there =
 
 -- ## Each section, with what is written of it
 
-record WrittenAt (w : Writing) (ps : List Place) (hs : List SectionHeader) (cs : List (List ℕ)) (i : ℕ) (k : KeptSection) : Type 0 where
+record WrittenAt (w : Output) (ps : List Place) (hs : List SectionHeader) (cs : List (List ℕ)) (i : ℕ) (k : KeptSection) : Type 0 where
   place : Place
   header : SectionHeader
   bytes : List ℕ
@@ -141,7 +112,7 @@ record WrittenAt (w : Writing) (ps : List Place) (hs : List SectionHeader) (cs :
   is_bytes : slice_get cs i ≡ Some bytes
   written : IsSectionWritten w k place header bytes
 
-written-at : (w : Writing) (ks : List KeptSection) (ps : List Place) (hs : List SectionHeader) (cs : List (List ℕ))
+written-at : (w : Output) (ks : List KeptSection) (ps : List Place) (hs : List SectionHeader) (cs : List (List ℕ))
     → AreSectionsWritten w ks ps hs cs
     → (i : ℕ) (k : KeptSection) → slice_get ks i ≡ Some k → WrittenAt w ps hs cs i k
 written-at w [] [] [] [] is i k at = absurd (none-some k at)
@@ -168,7 +139,7 @@ written-at w (x ∷ ks) (p ∷ ps) (h ∷ hs) (c ∷ cs) is (suc i) k at =
 written-at w _ _ _ _ is i k at = absurd is
 
 -- a section stays of its kind, and gets its new size
-kind_at : (w : Writing) → IsWholeWriting w → (i : ℕ) (k : KeptSection) (place : Place) → slice_get (kept_sections w.image) i ≡ Some k
+kind_at : (w : Output) → IsPlannedOutput w → (i : ℕ) (k : KeptSection) (place : Place) → slice_get (kept_sections w.image) i ≡ Some k
     → slice_get w.plan.places i ≡ Some place
     → (place.sh_type ≡ k.section.sh_type) × (place.sh_flags ≡ k.section.sh_flags) × (place.sh_size ≡ new_size (image_at_read w.image) w.image k)
 unfolding layout_for places
@@ -209,8 +180,8 @@ info_chain n a b c d z h =
     ∙ ap (λ (t : Bool). if t then d else z) (not_type SHT_GNU_VERNEED n four.0)
 
 -- sh_info stays, where it isn't that of a table that is made of the image's lists
-same_info : (w : Writing) → IsWholeWriting w → (s : ImageSection)
-    → is_one_of (SHT_SYMTAB ∷ SHT_DYNSYM ∷ SHT_GNU_VERDEF ∷ SHT_GNU_VERNEED ∷ []) s.sh_type ≡ false → written_info (resized w.image) s ≡ s.sh_info
+same_info : (w : Output) → IsPlannedOutput w → (s : ImageSection)
+    → is_one_of (SHT_SYMTAB ∷ SHT_DYNSYM ∷ SHT_GNU_VERDEF ∷ SHT_GNU_VERNEED ∷ []) s.sh_type ≡ false → written_info (image_at_read w.image) w.image s ≡ s.sh_info
 same_info w is s h =
     let r : Resized = resized w.image in
     info_chain s.sh_type (behind_locals (final r.read r.image).symbols) (behind_locals (final r.read r.image).dynamic_symbols)
@@ -223,7 +194,7 @@ same_info w is s h =
     by_test false = refl
 
 -- the i-th section of the image, as it was read, and what is written of it
-pub record SectionAt (w : Writing) (p : Parts) (i : ℕ) : Type 0 where
+pub record SectionAt (w : Output) (p : Parts) (i : ℕ) : Type 0 where
   pub section : ImageSection
   pub old : SectionHeader
   pub place : Place
@@ -252,16 +223,16 @@ pub record SectionAt (w : Writing) (p : Parts) (i : ℕ) : Type 0 where
   pub offset : header.sh_offset ≡ place.sh_offset
   pub size : header.sh_size ≡ place.sh_size
 
-pub section_at : (w : Writing) → IsWholeWriting w → (f : ReadFacts w) → (i : ℕ) → i < length f.parts.sections → SectionAt w f.parts i
+pub section_at : (w : Output) → IsPlannedOutput w → (f : ReadFacts w) → (i : ℕ) → i < length f.parts.sections → SectionAt w f.parts i
 section_at w is f i h =
     let p : Parts = f.parts in
     let long = lengths w is f in
-    let (s, s_at) = there_at w.image.sections i (omega (arith, h, long.sections)) in
-    let k_at : slice_get (kept_sections w.image) i ≡ Some (kept i s) = kept-at w is i ∙ ap (option_map (kept i)) s_at in
-    let (old, old_at, of_old) =
-    f.holds.sections.each i s (ap (λ (ss : List ImageSection). slice_get ss i) (sym is.whole.sections) ∙ s_at) in
-    let at = written-at w (kept_sections w.image) w.plan.places w.headers w.contents is.written.sections i (kept i s) k_at in
-    let kind = kind_at w is i (kept i s) at.place k_at at.is_place in
+    let read = edits.section_read (image_at_read w.image) w.image (whole_edit w is) f i (omega (arith, h, long.sections)) in
+    let s : ImageSection = read.section in
+    let old : SectionHeader = read.old in
+    let of_old : IsSectionOf p old s = read.of_old in
+    let at = written-at w (kept_sections w.image) w.plan.places w.headers w.contents is.written.sections i (kept i s) read.is_kept in
+    let kind = kind_at w is i (kept i s) at.place read.is_kept at.is_place in
     let fields = at.written.has_header.fields in
     let type : s.sh_type ≡ old.sh_type = ap (λ (x : ImageSection). x.sh_type) of_old.fields in
     record {
@@ -270,9 +241,9 @@ section_at w is f i h =
       place = at.place;
       header = at.header;
       bytes = at.bytes;
-      is_section = s_at;
-      is_kept = k_at;
-      is_old = old_at;
+      is_section = read.is_section;
+      is_kept = read.is_kept;
+      is_old = read.is_old;
       is_place = at.is_place;
       is_header = at.is_header;
       is_bytes = at.is_bytes;
@@ -297,7 +268,7 @@ section_at w is f i h =
     }
 
 -- the header at a position
-pub section_at_header : (w : Writing) → IsWholeWriting w → (f : ReadFacts w) → (i : ℕ) (h : SectionHeader) → slice_get w.headers i ≡ Some h
+pub section_at_header : (w : Output) → IsPlannedOutput w → (f : ReadFacts w) → (i : ℕ) (h : SectionHeader) → slice_get w.headers i ≡ Some h
     → (at : SectionAt w f.parts i) × (at.header ≡ h)
 section_at_header w is f i h there =
     let within : i < length f.parts.sections = omega (arith, slice_get_within w.headers i h there, (lengths w is f).headers) in
@@ -305,7 +276,7 @@ section_at_header w is f i h there =
     (at, same_Some at.header h (sym at.is_header ∙ there))
 
 -- the places of the headers are those of the plan
-pub places_are : (w : Writing) → IsWholeWriting w → places_of w.headers ≡ w.plan.places
+pub places_are : (w : Output) → IsPlannedOutput w → places_of w.headers ≡ w.plan.places
 places_are w is =
     let f = read_facts w is in
     let long = lengths w is f in
@@ -330,7 +301,7 @@ places_are w is =
 -- ## The one section of a type
 
 -- either there is none, before and after, or the first of the type stands at the same position
-pub data TypeAt (w : Writing) (p : Parts) (type : ℕ) : Type 0 where
+pub data TypeAt (w : Output) (p : Parts) (type : ℕ) : Type 0 where
   Nowhere : section_of_type type p.sections ≡ None → section_of_type type w.headers ≡ None → kept_of_type type w.image ≡ None
       → TypeAt w p type
   There : (i : ℕ) → (at : SectionAt w p i) → at.old.sh_type ≡ type
@@ -338,61 +309,42 @@ pub data TypeAt (w : Writing) (p : Parts) (type : ℕ) : Type 0 where
       → kept_of_type type w.image ≡ Some (kept i at.section) → TypeAt w p type
 
 -- a section of the image is of the type that its header has, at read and now
-same_types : {w : Writing} {p : Parts} {i : ℕ} (at : SectionAt w p i)
+same_types : {w : Output} {p : Parts} {i : ℕ} (at : SectionAt w p i)
     → (at.section.sh_type ≡ at.old.sh_type) × (at.header.sh_type ≡ at.old.sh_type)
 same_types at = (ap (λ (x : ImageSection). x.sh_type) at.of_old.fields, at.type)
 
--- what is known of all headers that were read is known of those that are written, and of the sections that are there
-module _ (w : Writing) (is : IsWholeWriting w) (f : ReadFacts w) (type : ℕ) where
-  was : SectionHeader → Bool
+-- what is known of all headers that were read is known of those that are written
+module _ (w : Output) (is : IsPlannedOutput w) (f : ReadFacts w) (type : ℕ) where
+  abbrev was : SectionHeader → Bool
   was s = s.sh_type == type
-
-  was_kept : KeptSection → Bool
-  was_kept s = s.section.sh_type == type
 
   in_headers : (j : ℕ) (h : SectionHeader) → slice_get w.headers j ≡ Some h
       → (old : SectionHeader) × (slice_get f.parts.sections j ≡ Some old) × (was h ≡ was old)
-  unfolding was
   in_headers j h at =
       let (here, same) = section_at_header w is f j h at in
       (here.old, here.is_old, ap (λ (x : SectionHeader). x.sh_type == type) (sym same) ∙ ap (λ (n : ℕ). n == type) here.type)
 
-  in_kept : (j : ℕ) (k : KeptSection) → slice_get (kept_sections w.image) j ≡ Some k
-      → (old : SectionHeader) × (slice_get f.parts.sections j ≡ Some old) × (was_kept k ≡ was old)
-  unfolding was was_kept
-  in_kept j k at =
-      let long : length (kept_sections w.image) ≡ length w.image.sections =
-      length-kept w.image (counts w is) in
-      let within : j < length f.parts.sections =
-      omega (arith, slice_get_within (kept_sections w.image) j k at, long, (lengths w is f).sections) in
-      let here : SectionAt w f.parts j = section_at w is f j within in
-      let same : kept j here.section ≡ k = same_Some (kept j here.section) k (sym here.is_kept ∙ at) in
-      (here.old, here.is_old, ap (λ (x : KeptSection). x.section.sh_type == type) (sym same) ∙ ap (λ (n : ℕ). n == type) (same_types here).0)
-
   type_found : FoundAt was f.parts.sections → TypeAt w f.parts type
-  unfolding was was_kept
   type_found found =
       let i : ℕ = found.index in
       let at : SectionAt w f.parts i = section_at w is f i (slice_get_within f.parts.sections i found.element found.there) in
       let same : found.element ≡ at.old = same_Some found.element at.old (sym found.there ∙ at.is_old) in
       let passes : was at.old ≡ true = ap was (sym same) ∙ found.passes in
+      let typed : at.old.sh_type ≡ type = eqb-true at.old.sh_type type passes in
       let types = same_types at in
-      There i at (eqb-true at.old.sh_type type passes) (found.is_first ∙ ap (λ (x : SectionHeader). Some x) same)
+      There i at typed (found.is_first ∙ ap (λ (x : SectionHeader). Some x) same)
       (find-is was w.headers i at.header at.is_header (ap (λ (n : ℕ). n == type) types.1 ∙ passes) (λ j h less h_at.
       let (old, old_at, tells) = in_headers j h h_at in
       tells ∙ found.before j old less old_at))
-      (find-is was_kept (kept_sections w.image) i (kept i at.section) at.is_kept (ap (λ (n : ℕ). n == type) types.0 ∙ passes) (λ j k less k_at.
-      let (old, old_at, tells) = in_kept j k k_at in
-      tells ∙ found.before j old less old_at))
+      (edits.kept_found (image_at_read w.image) w.image (whole_edit w is) f type found at.section at.is_kept (types.0 ∙ typed))
 
   type_nowhere : NonePasses was f.parts.sections → TypeAt w f.parts type
-  unfolding was was_kept
   type_nowhere none =
       Nowhere (find-no was f.parts.sections none)
       (find-no was w.headers (λ j h h_at. let (old, old_at, tells) = in_headers j h h_at in tells ∙ none j old old_at))
-      (find-no was_kept (kept_sections w.image) (λ j k k_at. let (old, old_at, tells) = in_kept j k k_at in tells ∙ none j old old_at))
+      (edits.kept_nowhere (image_at_read w.image) w.image (whole_edit w is) f type none)
 
-pub type_at : (w : Writing) → IsWholeWriting w → (f : ReadFacts w) → (type : ℕ) → TypeAt w f.parts type
+pub type_at : (w : Output) → IsPlannedOutput w → (f : ReadFacts w) → (type : ℕ) → TypeAt w f.parts type
 type_at w is f type = elim (first_at (was w is f type) f.parts.sections) [
   | inl found ↦ type_found w is f type found
   | inr none ↦ type_nowhere w is f type none
@@ -400,56 +352,5 @@ type_at w is f type = elim (first_at (was w is f type) f.parts.sections) [
 
 -- ## The image in its final form
 
-pub record FinalIs (w : Writing) : Type 0 where
-  pub symbols : (final (image_at_read w.image) w.image).symbols ≡ w.image.symbols
-  pub dynamic_symbols : (final (image_at_read w.image) w.image).dynamic_symbols ≡ w.image.dynamic_symbols
-  pub needs : (final (image_at_read w.image) w.image).needs ≡ w.image.needs
-  pub entries : (final (image_at_read w.image) w.image).entries ≡ w.image.entries
-  pub names : are_names_changed (image_at_read w.image) w.image ≡ false
-
--- a symbol keeps the number of its section
-same_symbol : (w : Writing) → IsWholeWriting w → (f : ReadFacts w) → (y : NamedSymbol)
-    → IsKnown f.parts.opened.header.e_shnum y.st_shndx → final_symbol w.image y ≡ y
-same_symbol w is f y known = ap (λ (n : ℕ). record y { st_shndx = n }) (by_test (nat_le SHN_LORESERVE y.st_shndx) refl)
-  where
-    in_sections : (o : Option ImageSection) → slice_get w.image.sections y.st_shndx ≡ o → y.st_shndx < length w.image.sections
-        → (elim (option_map (kept y.st_shndx) o) as (λ _. ℕ) [ Some s ↦ s.position | None ↦ 0 ]) ≡ y.st_shndx
-    in_sections None o_is within =
-        let (s, s_at) = there_at w.image.sections y.st_shndx within in
-        absurd (none-some s (sym o_is ∙ s_at))
-    in_sections (Some s) o_is within = refl
-
-    by_test : (b : Bool) → nat_le SHN_LORESERVE y.st_shndx ≡ b
-        → (if b then y.st_shndx else elim (kept_at_number y.st_shndx w.image) as (λ _. ℕ) [ Some s ↦ s.position | None ↦ 0 ]) ≡ y.st_shndx
-    by_test true b_is = refl
-    by_test false b_is =
-        let below : y.st_shndx < f.parts.opened.header.e_shnum = known_below f.parts.opened.header.e_shnum y.st_shndx known b_is in
-        let count : length f.parts.sections ≡ f.parts.opened.header.e_shnum =
-        length-sections f.parts.opened f.parts.sections f.are_parts.sections in
-        let within : y.st_shndx < length w.image.sections = omega (arith, below, count, (lengths w is f).sections) in
-        ap (λ (o : Option KeptSection). elim o as (λ _. ℕ) [ Some s ↦ s.position | None ↦ 0 ]) (kept_is w is y.st_shndx)
-        ∙ in_sections (slice_get w.image.sections y.st_shndx) refl within
-
-pub final_is : (w : Writing) → IsWholeWriting w → FinalIs w
-unfolding final ordered
-final_is w is =
-    let f = read_facts w is in
-    let read : Image = image_at_read w.image in
-    let names : are_names_changed read w.image ≡ false = names_same read w.image is.whole.dynamic_symbols in
-    let buckets : List NamedSymbol =
-    elim (buckets_of w.image) as (λ _. List NamedSymbol) [ Some n ↦ by_bucket n w.image.dynamic_symbols | None ↦ w.image.dynamic_symbols ] in
-    let in_order : ordered read w.image ≡ w.image.dynamic_symbols =
-    ap (λ (b : Bool). if b then buckets else w.image.dynamic_symbols) names in
-    record {
-      symbols = map-same (final_symbol w.image) w.image.symbols (λ i y at. same_symbol w is f y
-          (known_static f.parts f.rules read.symbols (section_of_type SHT_SYMTAB f.parts.sections) refl f.holds.symbols i y
-          (ap (λ (l : List NamedSymbol). slice_get l i) (sym is.whole.symbols) ∙ at)));
-      dynamic_symbols = ap (map (final_symbol w.image)) in_order
-          ∙ map-same (final_symbol w.image) w.image.dynamic_symbols (λ i y at. same_symbol w is f y
-          (known_dynamic f.parts f.rules read.dynamic_symbols (section_of_type SHT_GNU_VERSYM f.parts.sections)
-          (section_of_type SHT_DYNSYM f.parts.sections) refl f.holds.dynamic_symbols i y
-          (ap (λ (l : List NamedSymbol). slice_get l i) (sym is.whole.dynamic_symbols) ∙ at)));
-      needs = needs_same read w.image is.whole.dynamic_symbols;
-      entries = entries_same read w.image is.whole.dynamic_symbols;
-      names = names;
-    }
+pub final_is : (w : Output) → IsPlannedOutput w → edits.FinalIs (image_at_read w.image) w.image
+final_is w is = edits.final_is (image_at_read w.image) w.image (whole_edit w is)

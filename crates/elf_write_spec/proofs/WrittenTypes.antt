@@ -21,7 +21,7 @@ use Rattle.elf_layout_plan.specs.Written.{Target, behind_last_load, anchored_to,
 use Rattle.elf_layout_plan.proofs.ForCallers.ApartLists.{Each}
 use Rattle.elf_layout_plan.proofs.ForCallers.ApartWritten.{added_headers, all_added_are_loaded, section_targets}
 use Rattle.elf_write_spec.specs.Whole.{AreAllKept}
-use Rattle.elf_write_spec.specs.Writing.{IsWholeWriting, Writing}
+use Rattle.elf_write_spec.specs.Output.{IsPlannedOutput, Output}
 use Rattle.elf_write_spec.proofs.WholeFacts.{ReadFacts}
 use Rattle.elf_layout_plan.proofs.ForCallers.PlacedWritten.{table_type}
 
@@ -267,7 +267,7 @@ module _ (page_size : Option ℕ) (type : ℕ) (other : (PT_GNU_STACK == type) �
 -- ## The program headers of a plan
 
 -- the first one of a type: neither was read nor is written, or what is written became of the one that was read
-pub data SegmentAt (w : Writing) (is : IsWholeWriting w) (f : ReadFacts w) (type : ℕ) : Type 0 where
+pub data SegmentAt (w : Output) (is : IsPlannedOutput w) (f : ReadFacts w) (type : ℕ) : Type 0 where
   NoSegment : segment_of_type type f.parts.segments ≡ None → segment_of_type type w.image.segments ≡ None
       → segment_of_type type w.plan.segments ≡ None
       → SegmentAt w is f type
@@ -276,15 +276,15 @@ pub data SegmentAt (w : Writing) (is : IsWholeWriting w) (f : ReadFacts w) (type
       → segment_of_type type w.plan.segments ≡ Some (becomes (resized w.image) is.planned.moved p)
       → SegmentAt w is f type
 
-pub segments_are : (w : Writing) (is : IsWholeWriting w) → w.plan.segments ≡ written_segments (resized w.image) is.planned.moved
+pub segments_are : (w : Output) (is : IsPlannedOutput w) → w.plan.segments ≡ written_segments (resized w.image) is.planned.moved
 unfolding layout_for
 segments_are w is = ap (λ (l : Layout). l.segments) is.planned.follows
 
-pub all_places_are : (w : Writing) (is : IsWholeWriting w) → w.plan.places ≡ places (resized w.image) is.planned.moved
+pub all_places_are : (w : Output) (is : IsPlannedOutput w) → w.plan.places ≡ places (resized w.image) is.planned.moved
 unfolding layout_for
 all_places_are w is = ap (λ (l : Layout). l.places) is.planned.follows
 
-pub segment_at : (w : Writing) (is : IsWholeWriting w) (f : ReadFacts w) (type : ℕ) → (PT_LOAD == type) ≡ false
+pub segment_at : (w : Output) (is : IsPlannedOutput w) (f : ReadFacts w) (type : ℕ) → (PT_LOAD == type) ≡ false
     → (PT_GNU_STACK == type) ≡ false → SegmentAt w is f type
 segment_at w is f type no_load no_stack =
     by_found (find-whole w.image.page_size type no_stack (image_at_read w.image).segments w.image.segments is.whole.segments)

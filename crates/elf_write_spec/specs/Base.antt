@@ -1,5 +1,5 @@
 -- What of the bytes that were read stays where it is.
-use Rattle.std.specs.Prelude.{ℕ, zero, suc, ◌+◌, List, [], ◌∷◌, map, filter, slice_index, Bool, true, false, ◌&&◌, not, nat_le, nat_lt, if◌then◌else◌}
+use Rattle.std.specs.Prelude.{ℕ, zero, suc, ◌+◌, ◌*◌, List, [], ◌∷◌, length, map, filter, slice_index, Bool, true, false, ◌&&◌, not, nat_le, nat_lt, if◌then◌else◌}
 use Rattle.std.specs.List.{list_any}
 use Rattle.elf_format.specs.declared.range.Range.{Range}
 use Rattle.elf_format.specs.declared.section_data.SectionData.{SectionData}
@@ -8,10 +8,11 @@ use Rattle.elf_format.specs.File.{loads_of}
 use Rattle.elf_format.specs.Places.{file_range, occupies_file}
 use Rattle.elf_format.specs.Placement.{file_part}
 use Rattle.elf_format.specs.Ranges.{end_of, range}
-use Rattle.elf_format.specs.Records.{file_header_size}
+use Rattle.elf_format.specs.Image.{Image}
+use Rattle.elf_format.specs.Records.{file_header_size, segment_header_size}
 use Rattle.elf_layout_plan.specs.Anchors.{is_loaded_section}
 use Rattle.elf_image.specs.Kept.{KeptSection, interpreter_number, is_numbered, kept_sections, place_at_read}
-use Rattle.elf_layout_plan.specs.Memory.{Resized, table_at_read}
+use Rattle.elf_layout_plan.specs.Memory.{Resized}
 
 abbrev pub is_opaque : SectionData → Bool
 is_opaque kinds.Opaque = true
@@ -28,23 +29,23 @@ is_opaque kinds.GnuVersym = false
 is_opaque kinds.GnuVerdef = false
 is_opaque kinds.GnuVerneed = false
 
-abbrev pub is_interpreter : Resized → KeptSection → Bool
-is_interpreter r s = is_numbered (interpreter_number r.read) s
+abbrev pub is_interpreter : Image → KeptSection → Bool
+is_interpreter read s = is_numbered (interpreter_number read) s
 
 -- Data of the program: it takes memory, and nothing but the program knows what it is. It stays where it is.
-abbrev pub is_data : Resized → KeptSection → Bool
-is_data r s = is_loaded_section s.section && is_opaque s.section.kind && not (is_interpreter r s)
+abbrev pub is_data : Image → KeptSection → Bool
+is_data read s = is_loaded_section s.section && is_opaque s.section.kind && not (is_interpreter read s)
 
 -- the section takes memory and bytes of the file, and is no data
-abbrev pub is_rewritten : Resized → KeptSection → Bool
-is_rewritten r s = is_loaded_section s.section && occupies_file (place_at_read s.section) && not (is_data r s)
+abbrev pub is_rewritten : Image → KeptSection → Bool
+is_rewritten read s = is_loaded_section s.section && occupies_file (place_at_read s.section) && not (is_data read s)
 
 -- The old places of what is written anew: they are zeros, where nothing comes to stand in them.
-abbrev pub old_places : Resized → List Range
-old_places r =
-    range 0 (file_header_size r.image.form)
-    ∷ table_at_read r
-    ∷ map (λ s. file_range (place_at_read s.section)) (filter (is_rewritten r) (kept_sections r.image))
+abbrev pub old_places : Image → Image → List Range
+old_places read image =
+    range 0 (file_header_size image.form)
+    ∷ range read.header.e_phoff (length read.segments * segment_header_size read.form)
+    ∷ map (λ s. file_range (place_at_read s.section)) (filter (is_rewritten read) (kept_sections image))
 
 abbrev pub has_position : ℕ → Range → Bool
 has_position position r = nat_le r.start position && nat_lt position (end_of r)
@@ -53,7 +54,7 @@ has_position position r = nat_le r.start position && nat_lt position (end_of r)
 abbrev pub does_byte_stay : Resized → ℕ → Bool
 does_byte_stay r position =
     list_any (λ p. has_position position (file_part p)) (loads_of r.read.segments)
-    && not (list_any (has_position position) (old_places r))
+    && not (list_any (has_position position) (old_places r.read r.image))
 
 abbrev pub base_byte : Resized → ℕ → ℕ
 base_byte r position = if does_byte_stay r position then slice_index r.image.source position else 0

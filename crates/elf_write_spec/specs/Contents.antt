@@ -1,19 +1,24 @@
 -- The bytes of each section that is written.
-use Rattle.std.specs.Prelude.{ℕ, ◌-◌, ◌*◌, ◌≤◌, ◌≡◌, List, [], ◌∷◌, ◌++◌, length, replicate, true, Option, Some, IsTrue, ◌==◌, if◌then◌else◌, unwrap_or}
+use Rattle.std.specs.Prelude.{ℕ, ◌-◌, ◌*◌, ◌≤◌, ◌≡◌, List, [], ◌∷◌, ◌++◌, length, map, replicate, true, Option, Some, IsTrue, ◌==◌, if◌then◌else◌, unwrap_or}
 use Rattle.std.specs.List.{flat_map, slice_get}
 use Rattle.patch_bytes.specs.Memory.{◌>>=◌, memory_of}
+use Rattle.patch_bytes.specs.declared.number.ByteOrder2.{ByteOrder2}
 use Rattle.elf_format.specs.declared.constants.TheConstants.{DT_GNU_HASH, DT_HASH, DT_STRSZ, DT_STRTAB, DT_SYMENT, DT_SYMTAB, DT_VERDEF, DT_VERDEFNUM, DT_VERNEED, DT_VERSYM, SHT_DYNSYM, SHT_GNU_HASH, SHT_GNU_VERDEF, SHT_GNU_VERNEED, SHT_GNU_VERSYM, SHT_HASH}
 use Rattle.elf_format.specs.declared.form.Form.{Form}
 use Rattle.elf_format.specs.declared.records.EntryNumbers.{EntryNumbers}
 use Rattle.elf_format.specs.declared.records.SymbolNumbers.{SymbolNumbers}
+use Rattle.elf_format.specs.declared.section_data.SectionData.{SectionData}
 use Rattle.elf_format.specs.declared.section_data.SectionData.TheVariants as kinds
 use Rattle.elf_format.specs.Dynamic.{Auto, Entry, Integer, Text}
 use Rattle.elf_format.specs.Image.{Image, entry_tag}
 use Rattle.elf_format.specs.Options.{list_at}
 use Rattle.elf_format.specs.Places.{Place}
 use Rattle.elf_format.specs.Records.{entry_size, symbol_size, symbols_in}
+use Rattle.elf_format.specs.Versions.{VersionDefinition, VersionNeeds}
 use Rattle.elf_format.specs.Views.{NamedSymbol, Table, defined_versions, needed_versions}
 use Rattle.elf_tables.specs.Spelled.{spelled_entry}
+use Rattle.elf_tables.specs.Strings.{PlacesStand, Strings}
+use Rattle.elf_tables.specs.VersionRecords.{definition_table, has_definition_texts, has_needs_texts, needs_table, placed_definition, placed_needs}
 use Rattle.elf_image.specs.Kept.{KeptSection, dynamic_strings_number, kept_at_number, kept_of_type}
 use Rattle.elf_layout_plan.specs.Memory.{Resized}
 use Rattle.elf_layout_plan.specs.Plan.{Layout}
@@ -94,16 +99,38 @@ AreSymbolsOf strings (y ∷ ys) (n ∷ ns) = IsSymbolOf strings y n × AreSymbol
 abbrev pub table_in : List ℕ → List ℕ → ℕ → Table
 table_in bytes strings count = record { bytes = memory_of bytes; texts = memory_of strings; count = count }
 
+-- The bytes are the records of defined versions, each name at a place where it stands: of revision 1, with the hash of the version's own
+-- name, and with no next one behind the last.
+pub record AreDefinitionsSpelled (order : ByteOrder2) (definitions : List VersionDefinition) (strings bytes : List ℕ) : Type 0 where
+  pub names : Strings
+  pub of_strings : names.bytes ≡ strings
+  pub stand : PlacesStand names
+  pub told : IsTrue (has_definition_texts names definitions)
+  pub are_bytes : bytes ≡ definition_table order (map (placed_definition names) definitions)
+
+-- the same of needed versions: of revision 1, with the hash of each version's name
+pub record AreNeedsSpelled (order : ByteOrder2) (needs : List VersionNeeds) (strings bytes : List ℕ) : Type 0 where
+  pub names : Strings
+  pub of_strings : names.bytes ≡ strings
+  pub stand : PlacesStand names
+  pub told : IsTrue (has_needs_texts names needs)
+  pub are_bytes : bytes ≡ needs_table order (map (placed_needs names) needs)
+
+-- they are spelled, and read back
+pub record AreDefinitionsOf (form : Form) (definitions : List VersionDefinition) (strings bytes : List ℕ) : Type 0 where
+  pub spelled : AreDefinitionsSpelled form.order definitions strings bytes
+  pub read : (room : ℕ) → length strings ≤ room
+      → defined_versions form room (table_in bytes strings (length definitions)) ≡ Some definitions
+
+pub record AreNeedsOf (form : Form) (needs : List VersionNeeds) (strings bytes : List ℕ) : Type 0 where
+  pub spelled : AreNeedsSpelled form.order needs strings bytes
+  pub read : (room : ℕ) → length strings ≤ room → needed_versions form room (table_in bytes strings (length needs)) ≡ Some needs
+
 abbrev pub AreDefinitionsIn : Image → List ℕ → List ℕ → Type 0
-AreDefinitionsIn image strings bytes =
-    (room : ℕ) → length strings ≤ room
-    → defined_versions image.form room (table_in bytes strings (length image.definitions)) ≡ Some image.definitions
+AreDefinitionsIn image = AreDefinitionsOf image.form image.definitions
 
 abbrev pub AreNeedsIn : Resized → List ℕ → List ℕ → Type 0
-AreNeedsIn r strings bytes =
-    let needs = (final r.read r.image).needs in
-    (room : ℕ) → length strings ≤ room
-    → needed_versions r.image.form room (table_in bytes strings (length needs)) ≡ Some needs
+AreNeedsIn r = AreNeedsOf r.image.form (final r.read r.image).needs
 
 -- ## All of them
 
@@ -111,10 +138,10 @@ AreNeedsIn r strings bytes =
 abbrev pub content_at_number : Image → List (List ℕ) → ℕ → List ℕ
 content_at_number image contents number = unwrap_or (kept_at_number number image >>= λ s. slice_get contents s.position) []
 
--- What the bytes of a section show, by what they are. The list of entries and its numbers are handed in, and the bytes of the string
+-- What the bytes of a section show that is of a kind. The list of entries and its numbers are handed in, and the bytes of the string
 -- table that the section links to. A string table is as it was read where no text of it was added or changed.
-abbrev pub IsContentByKind : Resized → Layout → List EntryNumbers → List ℕ → KeptSection → List ℕ → Type 0
-IsContentByKind r plan raw strings s bytes = elim s.section.kind [
+abbrev pub IsContentOfKind : Resized → Layout → List EntryNumbers → List ℕ → KeptSection → List ℕ → SectionData → Type 0
+IsContentOfKind r plan raw strings s bytes kind = elim kind [
   | kinds.Dynamic ↦ AreEntriesOf r plan strings (list_at (λ es. es) (final r.read r.image).entries) raw × (bytes ≡ spelled_list r.image.form raw (length bytes))
   | kinds.Strings ↦ IsTrue (is_table_copied r.read r.image s.number) → bytes ≡ s.section.content
   | kinds.DynamicSymbols ↦ AreSymbolsOf strings (final r.read r.image).dynamic_symbols (symbols_in r.image.form bytes)
@@ -123,8 +150,11 @@ IsContentByKind r plan raw strings s bytes = elim s.section.kind [
   | _ ↦ bytes ≡ s.section.content
 ]
 
+abbrev pub IsContentByKind : Resized → Layout → List EntryNumbers → List ℕ → KeptSection → List ℕ → Type 0
+IsContentByKind r plan raw strings s bytes = IsContentOfKind r plan raw strings s bytes s.section.kind
+
 abbrev pub IsContent : Resized → Layout → List EntryNumbers → List ℕ → KeptSection → List ℕ → Type 0
-IsContent r plan raw strings s bytes = elim (is_interpreter r s) [
+IsContent r plan raw strings s bytes = elim (is_interpreter r.read s) [
   | true ↦ bytes ≡ list_at (λ name. name) r.image.interpreter
   | _ ↦ IsContentByKind r plan raw strings s bytes
 ]

@@ -51,13 +51,13 @@ is_info_number s =
     || is_set SHF_INFO_LINK s.sh_flags && not (is_one_of (SHT_NULL ∷ SHT_SYMTAB ∷ SHT_DYNSYM ∷ SHT_GNU_VERDEF ∷ SHT_GNU_VERNEED ∷ []) s.sh_type)
 
 -- sh_info of tables that are made of the image's lists follows from these
-abbrev pub written_info : Resized → ImageSection → ℕ
-written_info r s =
-    if s.sh_type == SHT_SYMTAB then behind_locals (final r.read r.image).symbols
-    else if s.sh_type == SHT_DYNSYM then behind_locals (final r.read r.image).dynamic_symbols
-    else if s.sh_type == SHT_GNU_VERDEF then length r.image.definitions
-    else if s.sh_type == SHT_GNU_VERNEED then length (final r.read r.image).needs
-    else if is_info_number s then new_number r.image s.sh_info
+abbrev pub written_info : Image → Image → ImageSection → ℕ
+written_info read image s =
+    if s.sh_type == SHT_SYMTAB then behind_locals (final read image).symbols
+    else if s.sh_type == SHT_DYNSYM then behind_locals (final read image).dynamic_symbols
+    else if s.sh_type == SHT_GNU_VERDEF then length image.definitions
+    else if s.sh_type == SHT_GNU_VERNEED then length (final read image).needs
+    else if is_info_number s then new_number image s.sh_info
     else s.sh_info
 
 -- the header of a section at its place, its name at a place of the names
@@ -70,7 +70,7 @@ written_section r s place name = record {
   sh_offset = place.sh_offset;
   sh_size = place.sh_size;
   sh_link = new_number r.image s.sh_link;
-  sh_info = written_info r s;
+  sh_info = written_info r.read r.image s;
   sh_addralign = s.sh_addralign;
   sh_entsize = s.sh_entsize;
 }

@@ -11,10 +11,10 @@ use Rattle.elf_layout_plan.specs.FilePlaced.{written_headers}
 use Rattle.elf_image.specs.Kept.{image_at_read}
 use Rattle.elf_layout_plan.specs.Memory.{Resized}
 use Rattle.elf_layout_plan.specs.Plan.{IsPlan, Layout, resized}
-use Rattle.elf_write_spec.specs.Again.{HasWrittenParts, IsReadAgain}
+use Rattle.elf_write_spec.specs.ReadBack.{HasWrittenParts, IsReadBack}
 use Rattle.elf_write_spec.specs.Final.{final_view}
-use Rattle.elf_write_spec.specs.Stays.{AreHashesSeen, AreOthersSeen, IsDataSeen}
-use Rattle.elf_write_spec.specs.Writing.{AreHeadersApart, IsWholeWriting, Writing, written_bytes}
+use Rattle.elf_write_spec.specs.Stays.{AreHashesSeen, AreOthersSeen, IsDataSeen, written_places}
+use Rattle.elf_write_spec.specs.Output.{AreHeadersApart, IsPlannedOutput, Output, written_bytes}
 
 -- the section header table
 abbrev pub section_table : Resized → Layout → List Range
@@ -29,11 +29,11 @@ PlansAreApartInFile =
 
 -- A written file has the parts that were written.
 abbrev pub WrittenFilesHaveParts : Type 0
-WrittenFilesHaveParts = (w : Writing) → IsWholeWriting w → HasWrittenParts w
+WrittenFilesHaveParts = (w : Output) → IsPlannedOutput w → HasWrittenParts w
 
 -- A written file is accepted, and reading it gives the image in its final form.
 abbrev pub WrittenFilesAreRead : Type 0
-WrittenFilesAreRead = (w : Writing) → IsWholeWriting w → IsReadAgain w
+WrittenFilesAreRead = (w : Output) → IsPlannedOutput w → IsReadBack w
 
 -- What a file shows both ways: by its section headers, and to a loader that knows the program headers alone.
 pub record ShowsFinal (image : Image) (file : List ℕ) : Type 0 where
@@ -42,15 +42,16 @@ pub record ShowsFinal (image : Image) (file : List ℕ) : Type 0 where
 
 -- A written file shows the edited lists, to a loader too.
 abbrev pub WrittenFilesShow : Type 0
-WrittenFilesShow = (w : Writing) → IsWholeWriting w → ShowsFinal w.image (written_bytes w)
+WrittenFilesShow = (w : Output) → IsPlannedOutput w → ShowsFinal w.image (written_bytes w)
 
 -- Data stands at its address in a written file, and so does every other byte that isn't written anew.
 abbrev pub WrittenFilesKeepData : Type 0
-WrittenFilesKeepData = (w : Writing) → IsWholeWriting w → IsDataSeen (resized w.image) w.plan (written_bytes w)
+WrittenFilesKeepData = (w : Output) → IsPlannedOutput w → IsDataSeen w.image w.plan.segments (written_bytes w)
 
 abbrev pub WrittenFilesKeepOthers : Type 0
-WrittenFilesKeepOthers = (w : Writing) → IsWholeWriting w → AreOthersSeen (resized w.image) w.plan (written_bytes w)
+WrittenFilesKeepOthers = (w : Output) → IsPlannedOutput w
+    → AreOthersSeen w.image w.plan.segments (written_places w.image (written_headers (resized w.image) w.plan) w.plan.places) (written_bytes w)
 
 -- The hash tables of the dynamic symbols, as they were read, stand in a written file where the dynamic list says.
 abbrev pub WrittenFilesKeepHashes : Type 0
-WrittenFilesKeepHashes = (w : Writing) → IsWholeWriting w → AreHashesSeen w.image w.plan w.raw (written_bytes w)
+WrittenFilesKeepHashes = (w : Output) → IsPlannedOutput w → AreHashesSeen w.image w.plan.segments w.raw (written_bytes w)

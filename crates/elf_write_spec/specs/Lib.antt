@@ -3,7 +3,8 @@ pub mod Whole
 pub mod Base
 pub mod Headers
 pub mod Contents
-pub mod Writing
-pub mod Again
+pub mod Output
+pub mod ReadBack
 pub mod Stays
+pub mod WrittenFile
 pub mod Laws

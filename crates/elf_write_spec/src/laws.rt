@@ -14,13 +14,13 @@ pub fn written_files_have_parts()
 {}
 
 /// A written file is accepted, and reading it gives the image in its final form.
-#[tactic(auto, using(crate::proofs::ReadAgain::written_files_are_read))]
+#[tactic(auto, using(crate::proofs::FilesReadBack::written_files_are_read))]
 pub fn written_files_are_read()
     ensures { WrittenFilesAreRead }
 {}
 
 /// A written file shows the edited lists, to a loader too.
-#[tactic(auto, using(crate::proofs::ReadAgain::written_files_show))]
+#[tactic(auto, using(crate::proofs::FilesReadBack::written_files_show))]
 pub fn written_files_show()
     ensures { WrittenFilesShow }
 {}

@@ -55,7 +55,8 @@ pub(crate) fn place_definitions<'t>(
         All (TellsDefinition table.new) definitions.entry.now) }
 {
     for (i, definition) in definitions.iter().enumerate() {
-        place_texts(table, &definition.names, &records[i].names)?;
+        let record = &records[i];
+        place_texts(table, &definition.names, &record.names)?;
     }
     Ok(())
 }

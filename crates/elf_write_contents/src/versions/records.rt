@@ -6,8 +6,8 @@ ghost use Rattle.elf_layout_plan.specs.Sizes.{definitions_size, needs_size};
 ghost use Rattle.elf_image_rules.specs.Read.{parts_model};
 ghost use Rattle.elf_tables.specs.Strings.{PlacesStand};
 ghost use Rattle.elf_tables.specs.VersionRecords.{are_names_too_many, are_versions_too_many, has_definition_texts, has_needs_texts};
-ghost use Rattle.elf_write_spec.specs.Contents.{AreDefinitionsIn};
-ghost use Rattle.elf_write_contents.specs.VersionPlaces.{AreNeedsOf, content_in};
+ghost use Rattle.elf_write_spec.specs.Contents.{AreDefinitionsIn, AreNeedsOf};
+ghost use Rattle.elf_write_contents.specs.VersionPlaces.{content_in};
 
 use elf_image::{Builder, ElfFault};
 use elf_image_rules::headers::{Headers, read_headers};
@@ -92,7 +92,7 @@ pub(crate) fn need_records(
     requires stand { PlacesStand names.now }
     ensures sized { IfOk result (λ bytes. length bytes.items ≡ needs_size image.now.needs) }
     ensures versions { IfOk result (λ bytes.
-        AreNeedsOf image.now names.now.bytes bytes.items) }
+        AreNeedsOf image.now.form image.now.needs names.now.bytes bytes.items) }
 {
     count_versions(image, image.source());
     match build_verneed(alloc, &image.versions().needs, names, image.order()) {

@@ -6,17 +6,20 @@ ghost use Rattle.elf_layout_plan.specs.Plan.{IsPlan, resized};
 ghost use Rattle.elf_layout_plan.specs.Refusals.{do_sizes_of_image_fit, sizes_of_image};
 ghost use Rattle.elf_layout_sizes.specs.MadeTables.{IsMadeOfList};
 ghost use Rattle.elf_write_spec.specs.Whole.{IsWhole};
-ghost use Rattle.arwen_elf.specs.Written.{AnswersBytes, AnswersPieces, AnswersWrite, IsEditWritten, IsImageWritten, IsNoDifference, IsNoEdit, IsNoImage, IsTold, MayNotWrite};
+ghost use Rattle.elf_write_spec.specs.WrittenFile.{IsWrittenOf};
+ghost use Rattle.arwen_elf.specs.Written.{AnswersBytes, AnswersPieces, AnswersWrite, IsImageWritten, IsNoDifference, IsNoEdit, IsNoImage, IsTold, MayNotWrite};
 
 use crate::elf::rewriter::writer::Writer;
 use byte_store::Difference;
 use elf_apply::error::{ElfError, ModifyCause, Result};
 use elf_image::{Builder, ElfFault};
-use elf_layout::{lay_out_again, lay_out_sized};
-use elf_layout_plan::{LayoutFault, Plan, read_again};
+use elf_layout::{lay_out_from_read, lay_out_from_sizes};
+use elf_layout_plan::{LayoutFault, Plan, read_source};
 use elf_layout_sizes::{NewSizes, new_sizes_with_strings};
 use elf_tables::Finished;
-use elf_write::{CountedWrite, Sink, image_bytes_again, image_pieces_with, write_all_counted};
+use elf_write::{
+    CountedWrite, Sink, image_bytes_from_read, image_pieces_with_strings, write_all_counted,
+};
 use patch_bytes::ByteString;
 use std::alloc::Global;
 use std::fs;
@@ -33,10 +36,10 @@ fn bytes_by<'data>(
     requires whole { IsWhole read.now image.now }
     requires planned { IsPlan (resized image.now) plan.now }
     requires sized { IsTrue (do_sizes_of_image_fit image.now) }
-    ensures bytes { IfOk result (λ bytes. IsEditWritten image.now bytes.items) }
+    ensures bytes { IfOk result (λ bytes. IsWrittenOf image.now bytes.items) }
     ensures fault { IfErr result (IsNoEdit image.now) }
 {
-    match image_bytes_again(alloc, read, image, plan) {
+    match image_bytes_from_read(alloc, read, image, plan) {
         Ok(bytes) => Ok(bytes),
         Err(fault) => Err(fault),
     }
@@ -45,13 +48,13 @@ fn bytes_by<'data>(
 // The bytes of an edited image.
 fn edited_bytes(alloc: Global, image: &Builder<'_>) -> std::result::Result<Vec<u8>, LayoutFault>
     requires { IsWhole (image_at_read image.now) image.now }
-    ensures bytes { IfOk result (λ bytes. IsEditWritten image.now bytes.items) }
+    ensures bytes { IfOk result (λ bytes. IsWrittenOf image.now bytes.items) }
     ensures fault { IfErr result (IsNoEdit image.now) }
 {
-    let Ok(read) = read_again(alloc, image) else {
+    let Ok(read) = read_source(alloc, image) else {
         return Err(LayoutFault::Memory);
     };
-    match lay_out_again(alloc, &read, image) {
+    match lay_out_from_read(alloc, &read, image) {
         Ok(plan) => bytes_by(alloc, &read, image, &plan),
         Err(fault) => Err(fault),
     }
@@ -73,10 +76,10 @@ fn pieces_by<'a, 'data>(
     requires strings { IfSome strings (IsMadeOfList read.now image.now) }
     ensures makeable { IfOk result (λ d. IsDifference image.entry.now.source d) }
     ensures bytes { IfOk result (λ d.
-        IsEditWritten image.entry.now (made_of image.entry.now.source d)) }
+        IsWrittenOf image.entry.now (made_of image.entry.now.source d)) }
     ensures fault { IfErr result (IsNoEdit image.entry.now) }
 {
-    match image_pieces_with(alloc, read, image, plan, strings) {
+    match image_pieces_with_strings(alloc, read, image, plan, strings) {
         Ok(difference) => Ok(difference),
         Err(fault) => Err(fault),
     }
@@ -96,11 +99,11 @@ fn pieces_by_sizes<'a, 'data>(
     requires strings { IfSome new.strings (IsMadeOfList read.now image.now) }
     ensures makeable { IfOk result (λ d. IsDifference image.entry.now.source d) }
     ensures bytes { IfOk result (λ d.
-        IsEditWritten image.entry.now (made_of image.entry.now.source d)) }
+        IsWrittenOf image.entry.now (made_of image.entry.now.source d)) }
     ensures fault { IfErr result (IsNoEdit image.entry.now) }
 {
     let NewSizes { sizes, strings } = new;
-    match lay_out_sized(alloc, read, image, &sizes) {
+    match lay_out_from_sizes(alloc, read, image, &sizes) {
         Ok(plan) => pieces_by(alloc, read, image, &plan, strings),
         Err(fault) => Err(fault),
     }
@@ -111,10 +114,10 @@ fn edited_pieces(alloc: Global, image: &Builder<'_>) -> std::result::Result<Diff
     requires { IsWhole (image_at_read image.now) image.now }
     ensures makeable { IfOk result (λ d. IsDifference image.now.source d) }
     ensures bytes { IfOk result (λ d.
-        IsEditWritten image.now (made_of image.now.source d)) }
+        IsWrittenOf image.now (made_of image.now.source d)) }
     ensures fault { IfErr result (IsNoEdit image.now) }
 {
-    let Ok(read) = read_again(alloc, image) else {
+    let Ok(read) = read_source(alloc, image) else {
         return Err(LayoutFault::Memory);
     };
     match new_sizes_with_strings(alloc, &read, image) {

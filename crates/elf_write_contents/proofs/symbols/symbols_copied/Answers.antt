@@ -5,13 +5,13 @@ use Rattle.elf_image.specs.ImageModel.{section_model}
 use Rattle.elf_write_spec.specs.Contents.{AreSymbolsOf}
 use Rattle.elf_write_spec.specs.Final.{final}
 use Rattle.elf_write_contents.specs.Inner.{strings_at}
-use Rattle.elf_write_contents.proofs.SymbolsGiven.{symbols_copied, symbols_sized}
+use Rattle.elf_write_contents.proofs.SymbolsGiven.{symbols_copied, symbol_sizes}
 use Rattle.elf_write_contents.proofs.symbols.symbols_copied.Goals as goal
 
 pub returns-clause-sized : goal.returns-clause-sized
 returns-clause-sized c =
     ap (λ (s : StringValue). length s.bytes) c.borrowed.ensures
-    ∙ symbols_sized c.args.read.now c.args.image.now (section_model c.args.section.now) c.requires.ready c.requires.at
+    ∙ symbol_sizes c.args.read.now c.args.image.now (section_model c.args.section.now) c.requires.ready c.requires.at
 
 pub returns-clause-symbols : goal.returns-clause-symbols
 returns-clause-symbols c =

@@ -1,6 +1,5 @@
 use Rattle.std.proofs.Common.{◌≡◌, ap, sym, subst, map, ◌∙◌, List, ℕ}
 use Rattle.elf_image.specs.ImageModel.{needs_model, section_model}
-use Rattle.elf_format.specs.Seen.{raw_needs}
 use Rattle.elf_image_rules.specs.Read.{parts_model}
 use Rattle.elf_tables.specs.Strings.{Strings}
 use Rattle.elf_tables.specs.VersionRecords.{has_needs_texts}
@@ -20,7 +19,7 @@ place_needs-requires c =
     subst (λ (l : List ℕ). AreNeedsAt l c.deref.result.now c.deref-2.result.now) (sym bytes)
     (copied_needs c.args.read.now c.args.image.now c.requires.ready (parts_model c.in_ok-headers.headers) c.in_ok-headers.ensures
     (section_model c.args.section.now) c.requires.at c.deref.result.now needs c.deref-2.result.now
-    (ap (map raw_needs) c.deref-2.ensures.value ∙ c.in_ok-walk.ensures.0))
+    (c.deref-2.ensures.value ∙ c.in_ok-walk.ensures.0))
 
 pub returns-clause-bytes : goal.returns-clause-bytes
 returns-clause-bytes c =

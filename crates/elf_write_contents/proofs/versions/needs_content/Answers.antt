@@ -4,9 +4,8 @@ use Rattle.elf_layout_plan.specs.Plan.{resized}
 use Rattle.elf_layout_plan.specs.Needs.{written_needs}
 use Rattle.elf_layout_plan.specs.Sizes.{needs_size}
 use Rattle.elf_image.specs.ImageModel.{section_model}
-use Rattle.elf_write_spec.specs.Contents.{AreNeedsIn}
+use Rattle.elf_write_spec.specs.Contents.{AreNeedsIn, AreNeedsOf}
 use Rattle.elf_write_contents.specs.Inner.{content_read, strings_at}
-use Rattle.elf_write_contents.specs.VersionPlaces.{AreNeedsOf}
 use Rattle.elf_write_contents.proofs.VersionsHave.{made_needs}
 use Rattle.elf_write_contents.proofs.VersionsLinks.{links_there}
 use Rattle.elf_write_contents.proofs.VersionsShown.{if_ok, shown_in, size_same, strings_copied, strings_made, strings_other, written_same}
@@ -32,7 +31,7 @@ returns-then-made-section-clause-sized c =
 pub returns-then-made-section-clause-versions : goal.returns-then-made-section-clause-versions
 returns-then-made-section-clause-versions c =
     let there : List ℕ = strings_at c.args.image.now c.args.made.now c.args.section.now.sh_link in
-    if_ok (λ (bytes : Vec ℕ Global). AreNeedsOf c.args.image.now c.in-Some.made.table.bytes bytes.items)
+    if_ok (λ (bytes : Vec ℕ Global). AreNeedsOf c.args.image.now.form c.args.image.now.needs c.in-Some.made.table.bytes bytes.items)
     (λ (bytes : Vec ℕ Global). AreNeedsIn (resized c.args.image.now) there bytes.items) c.need_records.result
     (λ bytes h. shown_in c.args.read.now c.args.image.now c.requires.ready c.in-Some.made.table.bytes there bytes.items
     (strings_made c.args.image.now c.args.made.now c.in-Some.made c.args.section.now.sh_link c.in-Some.is c.if-made-section.true) h)
@@ -52,7 +51,7 @@ returns-clause-versions c =
           strings_other c.args.image.now c.args.made.now w.in-Some.made c.args.section.now.sh_link w.in-Some.is w.if-made-section.false
       | in_default w ↦ strings_copied c.args.image.now c.args.made.now c.args.section.now.sh_link w.in_default.is
     ] in
-    if_ok (λ (bytes : Vec ℕ Global). AreNeedsOf c.args.image.now c.in_ok-table.table.bytes bytes.items)
+    if_ok (λ (bytes : Vec ℕ Global). AreNeedsOf c.args.image.now.form c.args.image.now.needs c.in_ok-table.table.bytes bytes.items)
     (λ (bytes : Vec ℕ Global). AreNeedsIn (resized c.args.image.now) there bytes.items) c.need_records-2.result
     (λ bytes h. shown_in c.args.read.now c.args.image.now c.requires.ready c.in_ok-table.table.bytes there bytes.items
     (c.in_ok-table.ensures.bytes ∙ copied) h)

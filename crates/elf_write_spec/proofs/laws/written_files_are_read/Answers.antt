@@ -1,4 +1,4 @@
-use Rattle.elf_write_spec.proofs.ReadAgain.{written_files_are_read}
+use Rattle.elf_write_spec.proofs.FilesReadBack.{written_files_are_read}
 use Rattle.elf_write_spec.proofs.laws.written_files_are_read.Goals as goal
 
 pub returns : goal.returns

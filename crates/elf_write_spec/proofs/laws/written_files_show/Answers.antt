@@ -1,4 +1,4 @@
-use Rattle.elf_write_spec.proofs.ReadAgain.{written_files_show}
+use Rattle.elf_write_spec.proofs.FilesReadBack.{written_files_show}
 use Rattle.elf_write_spec.proofs.laws.written_files_show.Goals as goal
 
 pub returns : goal.returns

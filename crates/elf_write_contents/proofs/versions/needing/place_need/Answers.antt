@@ -1,6 +1,7 @@
 use Rattle.std.proofs.Common.{subst, sym, List, ℕ}
 use Rattle.std.specs.List.{All}
 use Rattle.elf_format.specs.declared.records.NeedNameNumbers.{NeedNameNumbers}
+use Rattle.elf_format.specs.Versions.{NeedNumbers}
 use Rattle.elf_image_versions.specs.declared.version.VersionNeedName.{VersionNeedName}
 use Rattle.elf_write_contents.specs.VersionPlaces.{AreNamesAt, Tells, TellsName}
 use Rattle.elf_write_contents.proofs.VersionsPlacing.{more-trans}
@@ -9,10 +10,11 @@ use Rattle.elf_write_contents.proofs.versions.needing.place_need.Goals as goal
 pub place_need_names-requires : goal.place_need_names-requires
 place_need_names-requires c =
     subst (λ (l : List NeedNameNumbers). AreNamesAt c.place_text.new.table.bytes c.deref.result.now l) (sym c.deref-2.ensures.value)
-    (subst (λ (l : List VersionNeedName). AreNamesAt c.place_text.new.table.bytes l c.args.numbers.now.versions.items)
+    (subst (λ (n : NeedNumbers). AreNamesAt c.place_text.new.table.bytes c.deref.result.now n.versions) (sym c.numbers.view_is)
+    (subst (λ (l : List VersionNeedName). AreNamesAt c.place_text.new.table.bytes l c.args.numbers.now.versions)
     (sym c.deref.ensures.value)
-    (subst (λ (l : List ℕ). AreNamesAt l c.args.need.now.versions.items c.args.numbers.now.versions.items)
-    (sym c.in_ok-place_text.ensures.more.bytes) c.requires.versions))
+    (subst (λ (l : List ℕ). AreNamesAt l c.args.need.now.versions.items c.args.numbers.now.versions)
+    (sym c.in_ok-place_text.ensures.more.bytes) c.requires.versions)))
 
 pub returns : goal.returns
 returns c = record {

@@ -1,9 +1,20 @@
-use Rattle.std.proofs.Common.{List, subst, arith}
+use Rattle.std.proofs.Common.{◌∙◌, ℕ, List, ap, subst, sym, arith}
 use Rattle.std.specs.List.{All}
 use Rattle.patch_bytes.specs.ByteString.{StringValue, bytes_of_each}
-use Rattle.elf_write_contents.specs.VersionPlaces.{Tells, TellsDefinition}
-use Rattle.elf_write_contents.proofs.VersionsPlacing.{more-trans, up_to}
+use Rattle.elf_format.specs.Versions.{DefinitionNumbers}
+use Rattle.elf_image_versions.specs.declared.version.VersionDef.{VersionDef}
+use Rattle.elf_write_contents.specs.VersionPlaces.{AreAt, Tells, TellsDefinition}
+use Rattle.elf_write_contents.proofs.VersionsPlacing.{definition_at_place, more-trans, up_to}
 use Rattle.elf_write_contents.proofs.versions.placing.place_definitions.Goals as goal
+
+pub place_texts-requires : goal.place_texts-requires
+place_texts-requires c =
+    subst (λ (places : List ℕ). AreAt c.loop-i.table.bytes (bytes_of_each c.deref.result.now) places) (sym c.deref-in-loop-i.ensures.value)
+    (subst (λ (r : DefinitionNumbers). AreAt c.loop-i.table.bytes (bytes_of_each c.deref.result.now) r.names) (sym c.record.view_is)
+    (subst (λ (texts : List StringValue). AreAt c.loop-i.table.bytes (bytes_of_each texts) c.index-records-i.result.names)
+    (sym c.deref.ensures.value)
+    (definition_at_place c.args.table.now c.loop-i.table c.args.definitions.now c.args.records.now c.loop-i.i c.index-definitions-i.result
+    c.index-records-i.result c.requires c.loop-i.invariant.more c.loop-i-test.true c.index-definitions-i.is c.index-records-i.is)))
 
 pub loop-i-preserved : goal.loop-i-preserved
 loop-i-preserved c = record {

@@ -13,7 +13,7 @@ use Rattle.elf_layout_plan.specs.Plan.{resized}
 use Rattle.elf_layout_plan.specs.Written.{Target, behind_last_load, anchored_to, resized_table, targets_of, with_table_size, written_from, written_segments}
 use Rattle.elf_layout_plan.proofs.ForCallers.ApartLists.{Each}
 use Rattle.elf_layout_plan.proofs.ForCallers.ApartWritten.{added_headers, all_added_are_loaded}
-use Rattle.elf_write_spec.specs.Writing.{IsWholeWriting, Writing}
+use Rattle.elf_write_spec.specs.Output.{IsPlannedOutput, Output}
 use Rattle.elf_write_spec.proofs.WrittenTypes.{segments_are}
 
 -- the flags of the first program header for the stack
@@ -145,5 +145,5 @@ flags_written r moved =
     ∙ flags_of_all r moved r.image.segments
 
 -- the stack has the flags of the image
-pub stack_again : (w : Writing) → IsWholeWriting w → stack_flags w.plan.segments ≡ stack_flags w.image.segments
-stack_again w is = ap stack_flags (segments_are w is) ∙ flags_written (resized w.image) is.planned.moved
+pub stack_read_back : (w : Output) → IsPlannedOutput w → stack_flags w.plan.segments ≡ stack_flags w.image.segments
+stack_read_back w is = ap stack_flags (segments_are w is) ∙ flags_written (resized w.image) is.planned.moved

@@ -17,13 +17,13 @@ use Rattle.elf_format.proofs.ForCallers.Agreement.{each-agrees, shown_definition
 use Rattle.elf_image.specs.Kept.{image_at_read}
 use Rattle.elf_layout_plan.specs.Memory.{Resized}
 use Rattle.elf_layout_plan.specs.Plan.{resized}
-use Rattle.elf_write_spec.specs.Again.{HasWrittenParts, written_parts}
+use Rattle.elf_write_spec.specs.ReadBack.{HasWrittenParts, written_parts}
 use Rattle.elf_write_spec.specs.Contents.{AreDefinitionsIn, AreNeedsIn, table_in}
 use Rattle.elf_write_spec.specs.Final.{final, new_number}
 use Rattle.elf_write_spec.specs.Headers.{behind_locals, is_info_number, written_info}
-use Rattle.elf_write_spec.specs.Writing.{IsWholeWriting, Writing, written_bytes}
-use Rattle.elf_write_spec.proofs.ContentsAgain.{bytes_are, definitions_content, linked_at, needs_content, texts_fit}
-use Rattle.elf_write_spec.proofs.StringsAgain.{definitions_shared, needs_shared, texts_kept}
+use Rattle.elf_write_spec.specs.Output.{IsPlannedOutput, Output, written_bytes}
+use Rattle.elf_write_spec.proofs.ContentsReadBack.{bytes_are, definitions_content, linked_at, needs_content, texts_fit}
+use Rattle.elf_write_spec.proofs.StringsReadBack.{definitions_shared, needs_shared, texts_kept}
 use Rattle.elf_write_spec.proofs.WholeFacts.{ReadFacts, SectionAt, There, Nowhere, final_is, read_facts, type_at}
 
 -- ## Chains
@@ -67,7 +67,7 @@ info_by a b c d other type =
     else if type == SHT_GNU_VERNEED then d
     else other
 
-info_is : (r : Resized) (s : ImageSection) (type : ℕ) → s.sh_type ≡ type → written_info r s
+info_is : (r : Resized) (s : ImageSection) (type : ℕ) → s.sh_type ≡ type → written_info r.read r.image s
     ≡ info_by (behind_locals (final r.read r.image).symbols) (behind_locals (final r.read r.image).dynamic_symbols)
     (length r.image.definitions)
     (length (final r.read r.image).needs) (if is_info_number s then new_number r.image s.sh_info else s.sh_info) type
@@ -76,11 +76,11 @@ info_is r s type e =
     (length r.image.definitions)
     (length (final r.read r.image).needs) (if is_info_number s then new_number r.image s.sh_info else s.sh_info)) e
 
-module _ (w : Writing) (is : IsWholeWriting w) (f : ReadFacts w) (i : ℕ) (at : SectionAt w f.parts i) where
+module _ (w : Output) (is : IsPlannedOutput w) (f : ReadFacts w) (i : ℕ) (at : SectionAt w f.parts i) where
   section_type : at.section.sh_type ≡ at.old.sh_type
   section_type = ap (λ (x : ImageSection). x.sh_type) at.of_old.fields
 
-  header_info : at.header.sh_info ≡ written_info (resized w.image) at.section
+  header_info : at.header.sh_info ≡ written_info (image_at_read w.image) w.image at.section
   header_info = ap (λ (h : SectionHeader). h.sh_info) at.written.has_header.fields
 
   definitions_count : at.old.sh_type ≡ SHT_GNU_VERDEF → at.header.sh_info ≡ length w.image.definitions
@@ -91,20 +91,20 @@ module _ (w : Writing) (is : IsWholeWriting w) (f : ReadFacts w) (i : ℕ) (at :
 
 -- ## The records of a written file
 
-module _ (w : Writing) (is : IsWholeWriting w) (has : HasWrittenParts w) (f : ReadFacts w) (i : ℕ) (at : SectionAt w f.parts i) where
-  pub record AreDefinitionsAgain : Type 0 where
+module _ (w : Output) (is : IsPlannedOutput w) (has : HasWrittenParts w) (f : ReadFacts w) (i : ℕ) (at : SectionAt w f.parts i) where
+  pub record AreDefinitionsReadBack : Type 0 where
     pub whole : is_whole_walk at.header.sh_info (definition_steps (written_parts w) at.header) ≡ true
     pub shown : each (shown_definition (length (written_bytes w)) (linked_texts (written_parts w) at.header))
         (values_of (definition_steps (written_parts w) at.header))
         ≡ Some w.image.definitions
 
-  pub record AreNeedsAgain : Type 0 where
+  pub record AreNeedsReadBack : Type 0 where
     pub whole : is_whole_walk at.header.sh_info (need_steps (written_parts w) at.header) ≡ true
     pub shown : each (shown_need (length (written_bytes w)) (linked_texts (written_parts w) at.header))
         (values_of (need_steps (written_parts w) at.header))
         ≡ Some w.image.needs
 
-  pub definitions_at : at.old.sh_type ≡ SHT_GNU_VERDEF → section_of_type SHT_GNU_VERDEF f.parts.sections ≡ Some at.old → AreDefinitionsAgain
+  pub definitions_at : at.old.sh_type ≡ SHT_GNU_VERDEF → section_of_type SHT_GNU_VERDEF f.parts.sections ≡ Some at.old → AreDefinitionsReadBack
   definitions_at e was =
       let l = linked_at w is f i at (ap (is_one_of text_users) e) in
       let room : ℕ = length (written_bytes w) in
@@ -113,7 +113,7 @@ module _ (w : Writing) (is : IsWholeWriting w) (has : HasWrittenParts w) (f : Re
       let texts : Memory = linked_texts (written_parts w) at.header in
       let content : AreDefinitionsIn w.image l.table.bytes at.bytes =
       subst (λ (xs : List ℕ). AreDefinitionsIn w.image xs at.bytes) l.are_strings (definitions_content w is f i at e) in
-      let shown = definitions_shown w.image.form room at.bytes l.table.bytes count ds (content room (texts_fit w is has f i at l)) in
+      let shown = definitions_shown w.image.form room at.bytes l.table.bytes count ds (content.read room (texts_fit w is has f i at l)) in
       let steps : definition_steps (written_parts w) at.header ≡ walked (definition_at w.image.form (memory_of at.bytes)) count 0 =
       ap (λ (xs : List ℕ). walked (definition_at w.image.form (memory_of xs)) at.header.sh_info 0) (bytes_are w is has f i at)
       ∙ ap (λ (n : ℕ). walked (definition_at w.image.form (memory_of at.bytes)) n 0) (definitions_count w is f i at e) in
@@ -127,7 +127,7 @@ module _ (w : Writing) (is : IsWholeWriting w) (has : HasWrittenParts w) (f : Re
             (values_of (walked (definition_at w.image.form (memory_of at.bytes)) count 0)) ds shown.shown;
       }
 
-  pub needs_at : at.old.sh_type ≡ SHT_GNU_VERNEED → section_of_type SHT_GNU_VERNEED f.parts.sections ≡ Some at.old → AreNeedsAgain
+  pub needs_at : at.old.sh_type ≡ SHT_GNU_VERNEED → section_of_type SHT_GNU_VERNEED f.parts.sections ≡ Some at.old → AreNeedsReadBack
   needs_at e was =
       let l = linked_at w is f i at (ap (is_one_of text_users) e) in
       let room : ℕ = length (written_bytes w) in
@@ -136,7 +136,7 @@ module _ (w : Writing) (is : IsWholeWriting w) (has : HasWrittenParts w) (f : Re
       let texts : Memory = linked_texts (written_parts w) at.header in
       let content : AreNeedsIn (resized w.image) l.table.bytes at.bytes =
       subst (λ (xs : List ℕ). AreNeedsIn (resized w.image) xs at.bytes) l.are_strings (needs_content w is f i at e) in
-      let shown = needs_shown w.image.form room at.bytes l.table.bytes count ns (content room (texts_fit w is has f i at l)) in
+      let shown = needs_shown w.image.form room at.bytes l.table.bytes count ns (content.read room (texts_fit w is has f i at l)) in
       let steps : need_steps (written_parts w) at.header ≡ walked (need_at w.image.form (memory_of at.bytes)) count 0 =
       ap (λ (xs : List ℕ). walked (need_at w.image.form (memory_of xs)) at.header.sh_info 0) (bytes_are w is has f i at)
       ∙ ap (λ (n : ℕ). walked (need_at w.image.form (memory_of at.bytes)) n 0) (needs_count w is f i at e) in
@@ -153,7 +153,7 @@ module _ (w : Writing) (is : IsWholeWriting w) (has : HasWrittenParts w) (f : Re
 
 -- ## All of them
 
-module _ (w : Writing) (is : IsWholeWriting w) (has : HasWrittenParts w) (f : ReadFacts w) where
+module _ (w : Output) (is : IsPlannedOutput w) (has : HasWrittenParts w) (f : ReadFacts w) where
   definitions_there : (i : ℕ) (at : SectionAt w f.parts i) → at.old.sh_type ≡ SHT_GNU_VERDEF
       → section_of_type SHT_GNU_VERDEF f.parts.sections ≡ Some at.old
       → definitions_read (written_parts w) (Some at.header) ≡ Some w.image.definitions
@@ -181,9 +181,9 @@ module _ (w : Writing) (is : IsWholeWriting w) (has : HasWrittenParts w) (f : Re
       of_none ∙ ap (λ (ns : List VersionNeeds). Some ns) (sym f.edit.needs)
 
 -- the defined versions
-pub definitions_again : (w : Writing) → IsWholeWriting w → HasWrittenParts w
+pub definitions_read_back : (w : Output) → IsPlannedOutput w → HasWrittenParts w
     → definitions_read (written_parts w) (section_of_type SHT_GNU_VERDEF w.headers) ≡ Some w.image.definitions
-definitions_again w is has =
+definitions_read_back w is has =
     let f = read_facts w is in
     elim (type_at w is f SHT_GNU_VERDEF) [
       | Nowhere was now none ↦ ap (definitions_read (written_parts w)) now ∙ definitions_nowhere w is has f was
@@ -191,9 +191,9 @@ definitions_again w is has =
     ]
 
 -- the needed versions
-pub needs_again : (w : Writing) → IsWholeWriting w → HasWrittenParts w
+pub needs_read_back : (w : Output) → IsPlannedOutput w → HasWrittenParts w
     → needs_read (written_parts w) (section_of_type SHT_GNU_VERNEED w.headers) ≡ Some w.image.needs
-needs_again w is has =
+needs_read_back w is has =
     let f = read_facts w is in
     elim (type_at w is f SHT_GNU_VERNEED) [
       | Nowhere was now none ↦ ap (needs_read (written_parts w)) now ∙ needs_nowhere w is has f was

@@ -26,11 +26,11 @@ use Rattle.elf_layout_plan.specs.Memory.{Resized}
 use Rattle.elf_layout_plan.specs.Plan.{Layout, resized}
 use Rattle.elf_layout_plan.specs.Written.{anchored_to, target_at}
 use Rattle.elf_layout_plan.proofs.ForCallers.ApartLists.{find-at}
-use Rattle.elf_write_spec.specs.Again.{HasWrittenParts, written_parts}
+use Rattle.elf_write_spec.specs.ReadBack.{HasWrittenParts, written_parts}
 use Rattle.elf_write_spec.specs.Base.{is_interpreter}
 use Rattle.elf_write_spec.specs.Contents.{IsContentByKind, content_at_number}
-use Rattle.elf_write_spec.specs.Writing.{IsWholeWriting, Writing, written_bytes}
-use Rattle.elf_write_spec.proofs.ContentsAgain.{bytes_are}
+use Rattle.elf_write_spec.specs.Output.{IsPlannedOutput, Output, written_bytes}
+use Rattle.elf_write_spec.proofs.ContentsReadBack.{bytes_are}
 use Rattle.elf_write_spec.proofs.InterpreterAt.{interpreter_is, interpreter_type, kept_same, section_here}
 use Rattle.elf_write_spec.proofs.RuleDynamic.{interpreter_right}
 use Rattle.elf_write_spec.proofs.WholeFacts.{ReadFacts, SectionAt, read_facts, section_at}
@@ -86,7 +86,7 @@ interpreter_anchor : (r : Resized) (p : SegmentHeader) → p.p_type ≡ PT_INTER
 unfolding anchor_of
 interpreter_anchor r p type = rw type refl
 
-module _ (w : Writing) (is : IsWholeWriting w) (f : ReadFacts w) where
+module _ (w : Output) (is : IsPlannedOutput w) (f : ReadFacts w) where
   -- the first that stood where PT_INTERP says
   number_there : (old : SegmentHeader) → segment_of_type PT_INTERP f.parts.segments ≡ Some old
       → (n : ℕ) × (interpreter_number (image_at_read w.image) ≡ Some n)
@@ -130,19 +130,19 @@ module _ (w : Writing) (is : IsWholeWriting w) (f : ReadFacts w) where
       ne_eqb n s.number (λ e. omega (arith, e, less, ap (λ (k : KeptSection). k.number) same))))
 
 -- PT_INTERP of the written file names the bytes of the section with the interpreter's name
-record StandsAgain (w : Writing) (f : ReadFacts w) : Type 0 where
+record StandsReadBack (w : Output) (f : ReadFacts w) : Type 0 where
   segment : SegmentHeader
   is_segment : segment_of_type PT_INTERP w.plan.segments ≡ Some segment
   number : ℕ
   at : SectionAt w f.parts number
-  named : is_interpreter (resized w.image) (kept number at.section) ≡ true
+  named : is_interpreter (image_at_read w.image) (kept number at.section) ≡ true
   is_placed : IsPlaced segment at.header
 
-stands_again : (w : Writing) (is : IsWholeWriting w) (f : ReadFacts w) (old p : SegmentHeader)
+stands_read_back : (w : Output) (is : IsPlannedOutput w) (f : ReadFacts w) (old p : SegmentHeader)
     → segment_of_type PT_INTERP f.parts.segments ≡ Some old
     → segment_of_type PT_INTERP w.image.segments ≡ Some p
-    → segment_of_type PT_INTERP w.plan.segments ≡ Some (becomes (resized w.image) is.planned.moved p) → StandsAgain w f
-stands_again w is f old p there there_now there_plan =
+    → segment_of_type PT_INTERP w.plan.segments ≡ Some (becomes (resized w.image) is.planned.moved p) → StandsReadBack w f
+stands_read_back w is f old p there there_now there_plan =
     let (n, number) = number_there w is f old there in
     let found = interpreter_is w is f n number in
     let at = found.at in
@@ -192,7 +192,7 @@ name_written : (r : Resized) (plan : Layout) (raw : List EntryNumbers) (strings 
 name_written r plan raw strings s bytes true e content = content
 name_written r plan raw strings s bytes false e content = absurd (false≢true e)
 
-module _ (w : Writing) (is : IsWholeWriting w) (has : HasWrittenParts w) (f : ReadFacts w) where
+module _ (w : Output) (is : IsPlannedOutput w) (has : HasWrittenParts w) (f : ReadFacts w) where
   read : Image
   read = image_at_read w.image
 
@@ -208,7 +208,7 @@ module _ (w : Writing) (is : IsWholeWriting w) (has : HasWrittenParts w) (f : Re
       ∙ some_bind (interpreter_section old f.parts.sections) (λ x. Some (section_bytes (file_of f.parts) x)) s found in
       ap is_some made
 
-  name_here : (old : SegmentHeader) → segment_of_type PT_INTERP f.parts.segments ≡ Some old → StandsAgain w f
+  name_here : (old : SegmentHeader) → segment_of_type PT_INTERP f.parts.segments ≡ Some old → StandsReadBack w f
       → interpreter_read (written_parts w) ≡ w.image.interpreter
   unfolding read read_by
   name_here old there again =
@@ -217,7 +217,7 @@ module _ (w : Writing) (is : IsWholeWriting w) (has : HasWrittenParts w) (f : Re
       let bytes : at.bytes ≡ list_at (λ name. name) w.image.interpreter =
       name_written (resized w.image) w.plan w.raw (content_at_number w.image w.contents at.section.sh_link)
       (kept again.number at.section) at.bytes
-      (is_interpreter (resized w.image) (kept again.number at.section)) again.named at.written.content in
+      (is_interpreter (image_at_read w.image) (kept again.number at.section)) again.named at.written.content in
       let right : is_some (interpreter_section again.segment w.headers) ≡ true =
       subst (λ o. is_none_or (λ q. is_some (interpreter_section q w.headers)) o ≡ true) again.is_segment (interpreter_right w is has) in
       read_is (written_parts w) ∙ ap (read_by (written_parts w)) again.is_segment
@@ -231,7 +231,7 @@ module _ (w : Writing) (is : IsWholeWriting w) (has : HasWrittenParts w) (f : Re
       let was : read.interpreter ≡ None = f.holds.interpreter ∙ read_is f.parts ∙ ap (read_by f.parts) none_old in
       read_is (written_parts w) ∙ ap (read_by (written_parts w)) none_plan
       ∙ sym (name_gone read.interpreter w.image.interpreter was f.edit.interpreter)
-  name_by (ASegment old p there there_now same there_plan) = name_here old there (stands_again w is f old p there there_now there_plan)
+  name_by (ASegment old p there there_now same there_plan) = name_here old there (stands_read_back w is f old p there there_now there_plan)
 
-pub name_again : (w : Writing) → IsWholeWriting w → HasWrittenParts w → interpreter_read (written_parts w) ≡ w.image.interpreter
-name_again w is has = name_by w is has (read_facts w is) (segment_at w is (read_facts w is) PT_INTERP refl refl)
+pub name_read_back : (w : Output) → IsPlannedOutput w → HasWrittenParts w → interpreter_read (written_parts w) ≡ w.image.interpreter
+name_read_back w is has = name_by w is has (read_facts w is) (segment_at w is (read_facts w is) PT_INTERP refl refl)

@@ -19,13 +19,13 @@ use Rattle.elf_image.specs.Edited.{AreEntriesOf as AreEditedEntries}
 use Rattle.elf_image.specs.Kept.{image_at_read}
 use Rattle.elf_layout_plan.specs.Memory.{Resized}
 use Rattle.elf_layout_plan.specs.Plan.{Layout, resized}
-use Rattle.elf_write_spec.specs.Again.{HasWrittenParts, written_parts}
+use Rattle.elf_write_spec.specs.ReadBack.{HasWrittenParts, written_parts}
 use Rattle.elf_write_spec.specs.Contents.{AreEntriesOf, IsEntryOf}
-use Rattle.elf_write_spec.specs.Writing.{IsWholeWriting, Writing, written_bytes}
-use Rattle.elf_write_spec.proofs.ContentsAgain.{linked_at, texts_fit}
+use Rattle.elf_write_spec.specs.Output.{IsPlannedOutput, Output, written_bytes}
+use Rattle.elf_write_spec.proofs.ContentsReadBack.{linked_at, texts_fit}
 use Rattle.elf_write_spec.proofs.RawEntries.{raw_is}
-use Rattle.elf_write_spec.proofs.StringsAgain.{entries_are, entries_shared, listed_all, texts_kept}
-use Rattle.elf_write_spec.proofs.TextsRead.{text_again}
+use Rattle.elf_write_spec.proofs.StringsReadBack.{entries_are, entries_shared, listed_all, texts_kept}
+use Rattle.elf_write_spec.proofs.TextsRead.{text_read_back}
 use Rattle.elf_write_spec.proofs.WholeFacts.{ReadFacts, SectionAt, There, Nowhere, read_facts, type_at}
 
 -- ## One by one
@@ -67,7 +67,7 @@ module _ (r : Resized) (plan : Layout) (strings : List ℕ) (room : ℕ) (texts 
       cond-true (is_text_tag x.d_tag) found (cond (is_table_tag x.d_tag) (Some (Auto x.d_tag)) (Some (Integer x.d_tag x.d_value)))
       (ap is_text_tag is.tag ∙ listed.of_its_tag)
       ∙ some_bind (text_at room texts x.d_value) (λ t. Some (Text x.d_tag t)) text
-      (text_again strings x.d_value text is.value room long texts keeps)
+      (text_read_back strings x.d_value text is.value room long texts keeps)
       ∙ ap (λ (t : ℕ). Some (Text t text)) is.tag
 
   shown_all : (es : List Entry) (raw : List EntryNumbers) → AreEntriesOf r plan strings es raw → AllByRecursion IsListed es
@@ -94,7 +94,7 @@ some_edited None now old are h = absurd (none-some old h)
 some_edited (Some read) None old are h = absurd are
 some_edited (Some read) (Some now) old are h = refl
 
-module _ (w : Writing) (is : IsWholeWriting w) (has : HasWrittenParts w) (f : ReadFacts w) where
+module _ (w : Output) (is : IsPlannedOutput w) (has : HasWrittenParts w) (f : ReadFacts w) where
   -- the entries, with their texts
   pub entries_shown : (j : ℕ) (list : SectionAt w f.parts j) → list.old.sh_type ≡ SHT_DYNAMIC
       → section_of_type SHT_DYNAMIC f.parts.sections ≡ Some list.old → section_of_type SHT_DYNAMIC w.headers ≡ Some list.header
@@ -148,9 +148,9 @@ module _ (w : Writing) (is : IsWholeWriting w) (has : HasWrittenParts w) (f : Re
   entries_nowhere was = ap (λ (o : Option (List Entry)). Some o) (sym (list_none was))
 
 -- the dynamic list
-pub entries_again : (w : Writing) → IsWholeWriting w → HasWrittenParts w
+pub entries_read_back : (w : Output) → IsPlannedOutput w → HasWrittenParts w
     → entries_read (written_parts w) (section_of_type SHT_DYNAMIC w.headers) ≡ Some w.image.entries
-entries_again w is has =
+entries_read_back w is has =
     let f = read_facts w is in
     elim (type_at w is f SHT_DYNAMIC) [
       | Nowhere was now none ↦ ap (entries_read (written_parts w)) now ∙ entries_nowhere w is has f was

@@ -19,11 +19,11 @@ use Rattle.elf_format.specs.Views.{NamedSymbol, named_symbols, names_of}
 use Rattle.elf_image.specs.ReadImage.{AreStaticSymbols, AreSymbolsOf, IsSymbolOf}
 use Rattle.elf_image_symbols.specs.TableSymbols.{kept_as}
 use Rattle.elf_image.specs.Kept.{image_at_read}
-use Rattle.elf_write_spec.specs.Again.{HasWrittenParts, written_parts}
-use Rattle.elf_write_spec.specs.Writing.{IsWholeWriting, Writing, written_bytes}
-use Rattle.elf_write_spec.proofs.ContentsAgain.{Linked, bytes_are, content_was, linked_at, strings_content, symbols_content, texts_are, texts_fit}
+use Rattle.elf_write_spec.specs.ReadBack.{HasWrittenParts, written_parts}
+use Rattle.elf_write_spec.specs.Output.{IsPlannedOutput, Output, written_bytes}
+use Rattle.elf_write_spec.proofs.ContentsReadBack.{Linked, bytes_are, content_was, linked_at, strings_content, symbols_content, texts_are, texts_fit}
 use Rattle.elf_write_spec.proofs.TablesCopied.{copied}
-use Rattle.elf_write_spec.proofs.TextsRead.{each-from, text_again, text_reads}
+use Rattle.elf_write_spec.proofs.TextsRead.{each-from, text_read_back, text_reads}
 use Rattle.elf_write_spec.proofs.WholeFacts.{ReadFacts, SectionAt, There, Nowhere, read_facts, type_at}
 use Rattle.elf_write_spec.proofs.WholeLists.{there_at}
 
@@ -82,7 +82,7 @@ symbols_moved room room' texts texts' ns versions symbols moves are = record {
 
 -- ## The symbols for a link editor
 
-module _ (w : Writing) (is : IsWholeWriting w) (has : HasWrittenParts w) (f : ReadFacts w) where
+module _ (w : Output) (is : IsPlannedOutput w) (has : HasWrittenParts w) (f : ReadFacts w) where
   pub form_is : w.image.form ≡ f.parts.opened.form
   form_is = f.edit.form ∙ f.holds.form
 
@@ -105,7 +105,7 @@ module _ (w : Writing) (is : IsWholeWriting w) (has : HasWrittenParts w) (f : Re
       let there : text_at (length (file_of f.parts)) (memory_of l.table.bytes) a ≡ Some text =
       ap (λ (m : Memory). text_at (length (file_of f.parts)) m a) (sym old_texts) ∙ h in
       ap (λ (m : Memory). text_at (length (written_bytes w)) m a) (texts_are w is has f i at l)
-      ∙ text_again l.table.bytes a text (text_reads (length (file_of f.parts)) (memory_of l.table.bytes) a text there)
+      ∙ text_read_back l.table.bytes a text (text_reads (length (file_of f.parts)) (memory_of l.table.bytes) a text there)
       (length (written_bytes w))
       (texts_fit w is has f i at l) (memory_of l.table.bytes) (Keeps-refl (memory_of l.table.bytes))
 
@@ -132,10 +132,10 @@ module _ (w : Writing) (is : IsWholeWriting w) (has : HasWrittenParts w) (f : Re
       ∙ ap (λ (ys : List NamedSymbol). Some ys) (sym is.whole.symbols)
 
 -- the static symbols
-pub symbols_again : (w : Writing) → IsWholeWriting w → HasWrittenParts w
+pub symbols_read_back : (w : Output) → IsPlannedOutput w → HasWrittenParts w
     → static_symbols (written_parts w) (section_of_type SHT_SYMTAB w.headers) ≡ Some w.image.symbols
 unfolding static_symbols
-symbols_again w is has =
+symbols_read_back w is has =
     let f = read_facts w is in
     let read : Image = image_at_read w.image in
     elim (type_at w is f SHT_SYMTAB) [

@@ -3,16 +3,16 @@ use Rattle.byte_store.specs.Composed.{made_of}
 use Rattle.patch_bytes.specs.ByteString.{bytes_of_each}
 use Rattle.elf_format.specs.declared.records.EntryNumbers.{EntryNumbers}
 use Rattle.elf_format.specs.declared.records.SectionHeader.{SectionHeader}
-use Rattle.elf_write_spec.specs.Writing.{IsWholeWriting, written_bytes}
-use Rattle.elf_write_contents.specs.Inner.{writing_of}
-use Rattle.elf_write.proofs.Writes.{are_written, is_whole_written}
-use Rattle.elf_write.proofs.difference.differing_with.Goals as goal
+use Rattle.elf_write_spec.specs.Output.{IsPlannedOutput, written_bytes}
+use Rattle.elf_write_contents.specs.Inner.{output_of}
+use Rattle.elf_write.proofs.Writes.{are_written, is_planned_file}
+use Rattle.elf_write.proofs.difference.difference_of_contents.Goals as goal
 
-pub laid_difference-requires-clause-writing : goal.laid_difference-requires-clause-writing
-laid_difference-requires-clause-writing c =
+pub laid_difference-requires-clause-output : goal.laid_difference-requires-clause-output
+laid_difference-requires-clause-output c =
     let p = c.requires.prepared in
     subst (λ (hs : List SectionHeader).
-    (raw : List EntryNumbers) × IsWholeWriting (writing_of c.args.image.now c.args.plan.now hs (bytes_of_each c.args.contents.now) raw))
+    (raw : List EntryNumbers) × IsPlannedOutput (output_of c.args.image.now c.args.plan.now hs (bytes_of_each c.args.contents.now) raw))
     (sym c.deref.ensures.value)
     (are_written c.args.read.now c.args.image.now c.args.plan.now c.args.prepared.now.made c.args.prepared.now.raw.items
     (bytes_of_each c.args.contents.now) c.requires.planned c.requires.contents c.args.prepared.now.headers.items c.requires.apart p.raw p.headers p.fit)
@@ -20,9 +20,9 @@ laid_difference-requires-clause-writing c =
 pub returns-clause-written : goal.returns-clause-written
 returns-clause-written c =
     let p = c.requires.prepared in
-    is_whole_written c.args.read.now c.args.image.now c.args.plan.now c.args.prepared.now.made c.args.prepared.now.raw.items
+    is_planned_file c.args.read.now c.args.image.now c.args.plan.now c.args.prepared.now.made c.args.prepared.now.raw.items
     (bytes_of_each c.args.contents.now) c.requires.planned c.requires.contents c.args.prepared.now.headers.items
     (made_of c.args.image.now.source c.in_ok-difference.difference) c.requires.apart p.raw p.headers p.fit
     (c.in_ok-difference.ensures.makes c.args.prepared.now.raw.items
     ∙ ap (λ (hs : List SectionHeader).
-    written_bytes (writing_of c.args.image.now c.args.plan.now hs (bytes_of_each c.args.contents.now) c.args.prepared.now.raw.items)) c.deref.ensures.value)
+    written_bytes (output_of c.args.image.now c.args.plan.now hs (bytes_of_each c.args.contents.now) c.args.prepared.now.raw.items)) c.deref.ensures.value)

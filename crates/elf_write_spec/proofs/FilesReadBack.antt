@@ -4,27 +4,27 @@ use Rattle.elf_format.specs.Image.{Image, image_of, shown}
 use Rattle.elf_format.specs.Rules.{IsAcceptedWith, MeetsRules}
 use Rattle.elf_format.proofs.ForCallers.ImageShows.{images_show}
 use Rattle.elf_image.specs.Kept.{image_at_read}
-use Rattle.elf_write_spec.specs.Again.{HasWrittenParts, IsImageAgain, sections_again, written_parts}
+use Rattle.elf_write_spec.specs.ReadBack.{HasWrittenParts, IsRewrittenImage, rewritten_sections, written_parts}
 use Rattle.elf_write_spec.specs.Final.{final, final_view}
 use Rattle.elf_write_spec.specs.Laws.{WrittenFilesAreRead, WrittenFilesShow}
-use Rattle.elf_write_spec.specs.Writing.{IsWholeWriting, Writing, written_bytes}
-use Rattle.elf_write_spec.proofs.AgainParts.{defined_read, list_read, loaded_symbols_read, name_read, needed_read, symbols_read}
+use Rattle.elf_write_spec.specs.Output.{IsPlannedOutput, Output, written_bytes}
+use Rattle.elf_write_spec.proofs.PartsReadBack.{defined_read, list_read, loaded_symbols_read, name_read, needed_read, symbols_read}
 use Rattle.elf_write_spec.proofs.FileParts.{written_files_have_parts}
-use Rattle.elf_write_spec.proofs.ImageAgain.{image_by, image_made, image_read}
+use Rattle.elf_write_spec.proofs.ImageOfParts.{image_by, image_made, image_read}
 use Rattle.elf_write_spec.proofs.RuleDynamic.{dynamic_right, interpreter_right}
 use Rattle.elf_write_spec.proofs.RuleKind.{file_kind}
 use Rattle.elf_write_spec.proofs.RuleLinked.{linked}
-use Rattle.elf_write_spec.proofs.RulePlaced.{placed_again}
+use Rattle.elf_write_spec.proofs.RulePlaced.{placed_read_back}
 use Rattle.elf_write_spec.proofs.RuleTables.{tables_right}
 use Rattle.elf_write_spec.proofs.RuleTexts.{texts_end}
 use Rattle.elf_write_spec.proofs.RuleVersions.{versions_right}
-use Rattle.elf_write_spec.proofs.SectionsAgain.{sections_read}
-use Rattle.elf_write_spec.proofs.StackAgain.{stack_again}
+use Rattle.elf_write_spec.proofs.SectionsReadBack.{sections_read}
+use Rattle.elf_write_spec.proofs.StackReadBack.{stack_read_back}
 
 -- every rule holds of the parts
-pub rules_again : (w : Writing) → IsWholeWriting w → HasWrittenParts w → MeetsRules (written_parts w)
-rules_again w is has =
-    let placed = placed_again w is has in
+pub rules_read_back : (w : Output) → IsPlannedOutput w → HasWrittenParts w → MeetsRules (written_parts w)
+rules_read_back w is has =
+    let placed = placed_read_back w is has in
     record {
       file_kind = file_kind w is has;
       in_file = placed.in_file;
@@ -41,27 +41,27 @@ rules_again w is has =
       header_table = placed.header_table;
     }
 
-pub accepted_again : (w : Writing) → IsWholeWriting w → IsAcceptedWith (written_bytes w) (written_parts w)
-accepted_again w is =
+pub accepted_read_back : (w : Output) → IsPlannedOutput w → IsAcceptedWith (written_bytes w) (written_parts w)
+accepted_read_back w is =
     let has = written_files_have_parts w is in
-    record { magic = has.magic; parts = has.parts; rules = rules_again w is has }
+    record { magic = has.magic; parts = has.parts; rules = rules_read_back w is has }
 
 -- ## The image
 
 -- the image of the file
-again_image : Writing → Image
-again_image w =
+unfoldable pub rewritten_image : Output → Image
+rewritten_image w =
     let last = final (image_at_read w.image) w.image in
-    image_by (written_parts w) (sections_again w.image.sections w.headers w.contents) last.symbols last.dynamic_symbols last.entries
+    image_by (written_parts w) (rewritten_sections w.image.sections w.headers w.contents) last.symbols last.dynamic_symbols last.entries
     last.definitions last.needs last.interpreter
 
-again_read : (w : Writing) → IsWholeWriting w → image_of (written_bytes w) ≡ Ok (again_image w)
-unfolding again_image
-again_read w is =
+pub image_read_back : (w : Output) → IsPlannedOutput w → image_of (written_bytes w) ≡ Ok (rewritten_image w)
+unfolding rewritten_image
+image_read_back w is =
     let has = written_files_have_parts w is in
     let last = final (image_at_read w.image) w.image in
-    image_read (written_bytes w) (written_parts w) (again_image w) (accepted_again w is)
-    (image_made (written_parts w) (sections_again w.image.sections w.headers w.contents) last.symbols last.dynamic_symbols last.entries
+    image_read (written_bytes w) (written_parts w) (rewritten_image w) (accepted_read_back w is)
+    (image_made (written_parts w) (rewritten_sections w.image.sections w.headers w.contents) last.symbols last.dynamic_symbols last.entries
     last.definitions last.needs last.interpreter
     (record {
       sections = sections_read w is has;
@@ -73,9 +73,9 @@ again_read w is =
       interpreter = name_read w is has;
     }))
 
-again_is : (w : Writing) → IsImageAgain w (again_image w)
-unfolding again_image
-again_is w = record {
+pub rewritten_is : (w : Output) → IsRewrittenImage w (rewritten_image w)
+unfolding rewritten_image
+rewritten_is w = record {
   source = refl;
   changed = refl;
   form = refl;
@@ -91,16 +91,16 @@ again_is w = record {
 }
 
 pub written_files_are_read : WrittenFilesAreRead
-written_files_are_read w is = record { again = again_image w; is_read = again_read w is; is_again = again_is w }
+written_files_are_read w is = record { again = rewritten_image w; is_read = image_read_back w is; is_rewritten_image = rewritten_is w }
 
 -- ## What it shows
 
-shown_again : (w : Writing) → IsWholeWriting w → shown (again_image w) ≡ final_view (image_at_read w.image) w.image
-unfolding again_image final
-shown_again w is = ap (λ (flags : Option ℕ). record (final_view (image_at_read w.image) w.image) { stack_flags = flags }) (stack_again w is)
+shown_read_back : (w : Output) → IsPlannedOutput w → shown (rewritten_image w) ≡ final_view (image_at_read w.image) w.image
+unfolding rewritten_image final
+shown_read_back w is = ap (λ (flags : Option ℕ). record (final_view (image_at_read w.image) w.image) { stack_flags = flags }) (stack_read_back w is)
 
 pub written_files_show : WrittenFilesShow
 written_files_show w is = record {
-  by_sections = images_show.by_sections (written_bytes w) (again_image w) (again_read w is) ∙ ap Some (shown_again w is);
-  by_loader = images_show.by_loader (written_bytes w) (again_image w) (again_read w is) ∙ ap Some (shown_again w is);
+  by_sections = images_show.by_sections (written_bytes w) (rewritten_image w) (image_read_back w is) ∙ ap Some (shown_read_back w is);
+  by_loader = images_show.by_loader (written_bytes w) (rewritten_image w) (image_read_back w is) ∙ ap Some (shown_read_back w is);
 }

@@ -11,15 +11,15 @@ use Rattle.elf_format.specs.declared.header.Header.{Header}
 use Rattle.elf_format.specs.Image.{ImageSection, section_name}
 use Rattle.elf_format.specs.Options.{each}
 use Rattle.elf_format.specs.Rules.{texts_of}
-use Rattle.elf_write_spec.specs.Again.{HasWrittenParts, written_parts}
+use Rattle.elf_write_spec.specs.ReadBack.{HasWrittenParts, written_parts}
 use Rattle.elf_write_spec.specs.Headers.{Reads}
-use Rattle.elf_write_spec.specs.Writing.{IsWholeWriting, Writing, names_content, written_bytes}
-use Rattle.elf_write_spec.proofs.ContentsAgain.{bytes_are, bytes_fit}
-use Rattle.elf_write_spec.proofs.TextsRead.{each-from, text_again}
+use Rattle.elf_write_spec.specs.Output.{IsPlannedOutput, Output, names_content, written_bytes}
+use Rattle.elf_write_spec.proofs.ContentsReadBack.{bytes_are, bytes_fit}
+use Rattle.elf_write_spec.proofs.TextsRead.{each-from, text_read_back}
 use Rattle.elf_write_spec.proofs.WholeFacts.{ReadFacts, SectionAt, content_is, lengths, new_number-same, read_facts, section_at, section_at_header}
 use Rattle.elf_format.proofs.ForCallers.Lengths.{length-sections}
 
-module _ (w : Writing) (is : IsWholeWriting w) (f : ReadFacts w) where
+module _ (w : Output) (is : IsPlannedOutput w) (f : ReadFacts w) where
   -- the number of the section of names is that of a section
   names_number : w.image.header.e_shstrndx ≡ f.parts.opened.header.e_shstrndx
   names_number = ap (λ (h : Header). h.e_shstrndx) f.edit.header ∙ ap (λ (h : Header). h.e_shstrndx) f.holds.header
@@ -36,7 +36,7 @@ module _ (w : Writing) (is : IsWholeWriting w) (f : ReadFacts w) where
         length-sections f.parts.opened f.parts.sections f.are_parts.sections,
       )
 
-module _ (w : Writing) (is : IsWholeWriting w) (has : HasWrittenParts w) where
+module _ (w : Output) (is : IsPlannedOutput w) (has : HasWrittenParts w) where
   -- the section of names, as it was written
   pub names_at : SectionAt w (read_facts w is).parts w.image.header.e_shstrndx
   names_at = section_at w is (read_facts w is) w.image.header.e_shstrndx (names_there w is (read_facts w is))
@@ -48,20 +48,20 @@ module _ (w : Writing) (is : IsWholeWriting w) (has : HasWrittenParts w) where
       ∙ ap (λ (xs : List ℕ). memory_of xs) (bytes_are w is has (read_facts w is) w.image.header.e_shstrndx names_at)
 
   -- the name of a section
-  pub name_again : (i : ℕ) (at : SectionAt w (read_facts w is).parts i) → section_name (written_parts w) at.header ≡ Some at.section.name
-  name_again i at =
+  pub name_read_back : (i : ℕ) (at : SectionAt w (read_facts w is).parts i) → section_name (written_parts w) at.header ≡ Some at.section.name
+  name_read_back i at =
       let room : ℕ = length (written_bytes w) in
       let content : names_content w ≡ names_at.bytes = content_is w is w.image.header.e_shstrndx names_at.bytes names_at.is_bytes in
       let reads : Reads names_at.bytes at.header.sh_name at.section.name =
       subst (λ (xs : List ℕ). Reads xs at.header.sh_name at.section.name) content at.written.has_header.name in
       ap (λ (m : Memory). text_at room m at.header.sh_name) names_memory
-      ∙ text_again names_at.bytes at.header.sh_name at.section.name reads room
+      ∙ text_read_back names_at.bytes at.header.sh_name at.section.name reads room
       (bytes_fit w is has (read_facts w is) w.image.header.e_shstrndx names_at)
       (memory_of names_at.bytes) (Keeps-refl (memory_of names_at.bytes))
 
   -- the names of all sections
-  pub names_again : each (section_name (written_parts w)) w.headers ≡ Some (map (λ s. s.name) w.image.sections)
-  names_again =
+  pub names_read_back : each (section_name (written_parts w)) w.headers ≡ Some (map (λ s. s.name) w.image.sections)
+  names_read_back =
       let f = read_facts w is in
       let long = lengths w is f in
       let named : List (List ℕ) = map (λ s. s.name) w.image.sections in
@@ -72,4 +72,4 @@ module _ (w : Writing) (is : IsWholeWriting w) (has : HasWrittenParts w) where
       let is_name : Some at.section.name ≡ Some name =
       sym (slice_get-map (λ (s : ImageSection). s.name) w.image.sections i ∙ ap (option_map (λ (s : ImageSection). s.name)) at.is_section)
       ∙ name_there in
-      ap (section_name (written_parts w)) (sym same) ∙ name_again i at ∙ is_name)
+      ap (section_name (written_parts w)) (sym same) ∙ name_read_back i at ∙ is_name)

@@ -18,14 +18,14 @@ use Rattle.elf_format.specs.Views.{NamedSymbol}
 use Rattle.elf_image.specs.ReadImage.{AreDynamicSymbols, AreSymbolsOf}
 use Rattle.elf_image_symbols.specs.TableSymbols.{kept_as}
 use Rattle.elf_image.specs.Kept.{image_at_read}
-use Rattle.elf_write_spec.specs.Again.{HasWrittenParts, written_parts}
+use Rattle.elf_write_spec.specs.ReadBack.{HasWrittenParts, written_parts}
 use Rattle.elf_write_spec.specs.Contents.{AreSymbolsOf as AreWrittenSymbols, IsSymbolOf as IsWrittenSymbol}
 use Rattle.elf_write_spec.specs.Final.{final}
-use Rattle.elf_write_spec.specs.Writing.{IsWholeWriting, Writing, written_bytes}
-use Rattle.elf_write_spec.proofs.ContentsAgain.{Linked, bytes_are, content_was, dynamic_content, linked_at, texts_fit, versym_content}
-use Rattle.elf_write_spec.proofs.StringsAgain.{symbols_shared, texts_kept}
-use Rattle.elf_write_spec.proofs.SymbolsAgain.{form_is, symbols_made}
-use Rattle.elf_write_spec.proofs.TextsRead.{text_again}
+use Rattle.elf_write_spec.specs.Output.{IsPlannedOutput, Output, written_bytes}
+use Rattle.elf_write_spec.proofs.ContentsReadBack.{Linked, bytes_are, content_was, dynamic_content, linked_at, texts_fit, versym_content}
+use Rattle.elf_write_spec.proofs.StringsReadBack.{symbols_shared, texts_kept}
+use Rattle.elf_write_spec.proofs.SymbolsReadBack.{form_is, symbols_made}
+use Rattle.elf_write_spec.proofs.TextsRead.{text_read_back}
 use Rattle.elf_write_spec.proofs.WholeFacts.{ReadFacts, SectionAt, There, Nowhere, final_is, read_facts, type_at}
 use Rattle.elf_format.proofs.ForCallers.Lengths.{length-versions_read}
 
@@ -62,7 +62,7 @@ symbol_is strings x n version is same =
     ∙ ap (λ (k : ℕ). record made { st_value = k; st_size = x.st_size }) (sym is.st_value)
     ∙ ap (λ (k : ℕ). record made { st_size = k }) (sym is.st_size)
 
-module _ (w : Writing) (is : IsWholeWriting w) (has : HasWrittenParts w) (f : ReadFacts w) where
+module _ (w : Output) (is : IsPlannedOutput w) (has : HasWrittenParts w) (f : ReadFacts w) where
   -- versions of symbols are those that were read
   versions_there : (j : ℕ) (at : SectionAt w f.parts j) → at.old.sh_type ≡ SHT_GNU_VERSYM → (count : ℕ)
       → versions_read (written_parts w) (Some at.header) count ≡ versions_read f.parts (Some at.old) count
@@ -146,7 +146,7 @@ module _ (w : Writing) (is : IsWholeWriting w) (has : HasWrittenParts w) (f : Re
             n_there,
             ap (λ (vs : List (Option VersionId)). slice_get vs j) versions_kept ∙ version_there,
             record {
-              name = text_again linked.table.bytes n.st_name x.name is_written.name (length (written_bytes w))
+              name = text_read_back linked.table.bytes n.st_name x.name is_written.name (length (written_bytes w))
                   (texts_fit w is has f i at linked)
                   (linked_texts (written_parts w) at.header) (texts_kept w is has f i at linked (symbols_shared w is has f at.old was));
               fields = symbol_is linked.table.bytes x n version is_written own;
@@ -173,9 +173,9 @@ module _ (w : Writing) (is : IsWholeWriting w) (has : HasWrittenParts w) (f : Re
       ap (λ (ys : List NamedSymbol). Some ys) (sym (is.whole.dynamic_symbols ∙ empty))
 
 -- the dynamic symbols
-pub dynamic_again : (w : Writing) → IsWholeWriting w → HasWrittenParts w
+pub dynamic_read_back : (w : Output) → IsPlannedOutput w → HasWrittenParts w
     → dynamic_symbols_read (written_parts w) (section_of_type SHT_DYNSYM w.headers) ≡ Some w.image.dynamic_symbols
-dynamic_again w is has =
+dynamic_read_back w is has =
     let f = read_facts w is in
     elim (type_at w is f SHT_DYNSYM) [
       | Nowhere was now none ↦ ap (dynamic_symbols_read (written_parts w)) now ∙ dynamic_nowhere w is has f was

@@ -17,15 +17,15 @@ use Rattle.elf_format.specs.Options.{each, is_one_of, kept_if, list_at}
 use Rattle.elf_format.specs.Records.{Relocation, relocations_in}
 use Rattle.elf_format.specs.Rules.{data_of, file_of, is_opaque_relocation, is_relocation_section, is_symbol_table, relocated_symbols, relocations_of}
 use Rattle.elf_image.specs.ReadImage.{section_with}
-use Rattle.elf_image.specs.Kept.{KeptSection}
+use Rattle.elf_image.specs.Kept.{KeptSection, image_at_read}
 use Rattle.elf_layout_plan.specs.Memory.{Resized}
 use Rattle.elf_layout_plan.specs.Plan.{Layout, resized}
-use Rattle.elf_write_spec.specs.Again.{HasWrittenParts, section_again, sections_again, written_parts}
+use Rattle.elf_write_spec.specs.ReadBack.{HasWrittenParts, rewritten_section, rewritten_sections, written_parts}
 use Rattle.elf_write_spec.specs.Base.{is_interpreter}
-use Rattle.elf_write_spec.specs.Contents.{IsContentByKind, content_at_number}
-use Rattle.elf_write_spec.specs.Writing.{IsWholeWriting, Writing, written_bytes}
+use Rattle.elf_write_spec.specs.Contents.{IsContentByKind, IsContentOfKind, content_at_number}
+use Rattle.elf_write_spec.specs.Output.{IsPlannedOutput, Output, written_bytes}
 use Rattle.elf_write_spec.proofs.InterpreterAt.{isnt_interpreter}
-use Rattle.elf_write_spec.proofs.NamesAgain.{name_again}
+use Rattle.elf_write_spec.proofs.NamesReadBack.{name_read_back}
 use Rattle.elf_write_spec.proofs.TextsRead.{each-from}
 use Rattle.elf_write_spec.proofs.WholeFacts.{ReadFacts, SectionAt, lengths, read_facts, section_at, section_at_header}
 use Rattle.elf_write_spec.proofs.NumberedSections.{kept}
@@ -33,25 +33,25 @@ use Rattle.elf_write_spec.proofs.SectionKinds.{kind_by, kind_is}
 
 -- ## Lists of sections
 
-length-sections : (ss : List ImageSection) (hs : List SectionHeader) (cs : List (List ℕ)) → length hs ≡ length ss → length cs ≡ length ss
-    → length (sections_again ss hs cs) ≡ length ss
+pub length-sections : (ss : List ImageSection) (hs : List SectionHeader) (cs : List (List ℕ)) → length hs ≡ length ss → length cs ≡ length ss
+    → length (rewritten_sections ss hs cs) ≡ length ss
 length-sections [] hs cs h c = refl
 length-sections (s ∷ ss) [] cs h c = absurd (omega (arith, h))
 length-sections (s ∷ ss) (x ∷ hs) [] h c = absurd (omega (arith, c))
 length-sections (s ∷ ss) (x ∷ hs) (y ∷ cs) h c = ap suc (length-sections ss hs cs (omega (arith, h)) (omega (arith, c)))
 
-again-at : (ss : List ImageSection) (hs : List SectionHeader) (cs : List (List ℕ)) (i : ℕ) (s : ImageSection) (h : SectionHeader)
+pub rewritten-at : (ss : List ImageSection) (hs : List SectionHeader) (cs : List (List ℕ)) (i : ℕ) (s : ImageSection) (h : SectionHeader)
     (c : List ℕ) → slice_get ss i ≡ Some s → slice_get hs i ≡ Some h → slice_get cs i ≡ Some c
-    → slice_get (sections_again ss hs cs) i ≡ Some (section_again s h c)
-again-at [] hs cs i s h c at_s at_h at_c = absurd (none-some s at_s)
-again-at (x ∷ ss) [] cs i s h c at_s at_h at_c = absurd (none-some h at_h)
-again-at (x ∷ ss) (y ∷ hs) [] i s h c at_s at_h at_c = absurd (none-some c at_c)
-again-at (x ∷ ss) (y ∷ hs) (z ∷ cs) zero s h c at_s at_h at_c =
+    → slice_get (rewritten_sections ss hs cs) i ≡ Some (rewritten_section s h c)
+rewritten-at [] hs cs i s h c at_s at_h at_c = absurd (none-some s at_s)
+rewritten-at (x ∷ ss) [] cs i s h c at_s at_h at_c = absurd (none-some h at_h)
+rewritten-at (x ∷ ss) (y ∷ hs) [] i s h c at_s at_h at_c = absurd (none-some c at_c)
+rewritten-at (x ∷ ss) (y ∷ hs) (z ∷ cs) zero s h c at_s at_h at_c =
     let a : x ≡ s = same_Some x s at_s in
     let b : y ≡ h = same_Some y h at_h in
     let d : z ≡ c = same_Some z c at_c in
     rw a (rw b (rw d refl))
-again-at (x ∷ ss) (y ∷ hs) (z ∷ cs) (suc i) s h c at_s at_h at_c = again-at ss hs cs i s h c at_s at_h at_c
+rewritten-at (x ∷ ss) (y ∷ hs) (z ∷ cs) (suc i) s h c at_s at_h at_c = rewritten-at ss hs cs i s h c at_s at_h at_c
 
 -- ## Kinds
 
@@ -92,7 +92,7 @@ past_end xs k h = by_there (slice_get xs k) refl
     by_there None e = refl
     by_there (Some x) e = absurd (omega (arith, slice_get_within xs k x e))
 
-module _ (w : Writing) (is : IsWholeWriting w) (f : ReadFacts w) where
+module _ (w : Output) (is : IsPlannedOutput w) (f : ReadFacts w) where
   -- a number names a symbol table before and after, or at neither time
   symbols_named : (k : ℕ)
       → is_none (kept_if is_symbol_table (slice_get w.headers k)) ≡ is_none (kept_if is_symbol_table (slice_get f.parts.sections k))
@@ -150,22 +150,18 @@ kind_of_relocations : (type : ℕ) → is_one_of (SHT_REL ∷ SHT_RELA ∷ []) t
 kind_of_relocations type h opaque =
     elim (relocation_types type h) [ inl e ↦ ap (λ n. kind_by n opaque) (sym e) | inr e ↦ ap (λ n. kind_by n opaque) (sym e) ]
 
-with_kind : KeptSection → SectionData → KeptSection
-with_kind s kind = record s { section = record s.section { kind = kind } }
-
 relocations_shown : (r : Resized) (plan : Layout) (raw : List EntryNumbers) (strings : List ℕ) (s : KeptSection) (bytes : List ℕ) (b : Bool)
     → b ≡ false
     → (elim b as (λ _. Type 0)
     [ true ↦ bytes ≡ list_at (λ name. name) r.image.interpreter | _ ↦ IsContentByKind r plan raw strings s bytes ])
     → (opaque : Bool) → s.section.kind ≡ (if opaque then kinds.Opaque else kinds.Relocation) → bytes ≡ s.section.content
-unfolding with_kind
 relocations_shown r plan raw strings s bytes true other content opaque kind = absurd (false≢true (sym other))
 relocations_shown r plan raw strings s bytes false other content true kind =
-    subst (λ k. IsContentByKind r plan raw strings (with_kind s k) bytes) kind content
+    subst (λ k. IsContentOfKind r plan raw strings s bytes k) kind content
 relocations_shown r plan raw strings s bytes false other content false kind =
-    subst (λ k. IsContentByKind r plan raw strings (with_kind s k) bytes) kind content
+    subst (λ k. IsContentOfKind r plan raw strings s bytes k) kind content
 
-module _ (w : Writing) (is : IsWholeWriting w) (has : HasWrittenParts w) (f : ReadFacts w) (i : ℕ) (at : SectionAt w f.parts i) where
+module _ (w : Output) (is : IsPlannedOutput w) (has : HasWrittenParts w) (f : ReadFacts w) (i : ℕ) (at : SectionAt w f.parts i) where
   -- the bytes of a section of relocations are those that were read
   relocations_kept : is_relocation_section at.old ≡ true → at.bytes ≡ at.section.content
   relocations_kept h =
@@ -174,7 +170,7 @@ module _ (w : Writing) (is : IsWholeWriting w) (has : HasWrittenParts w) (f : Re
       ap (λ (x : ImageSection). x.kind) at.of_old.fields ∙ kind_is f.parts at.old in
       relocations_shown (resized w.image) w.plan w.raw (content_at_number w.image w.contents at.section.sh_link)
       (kept i at.section) at.bytes
-      (is_interpreter (resized w.image) (kept i at.section))
+      (is_interpreter (image_at_read w.image) (kept i at.section))
       (isnt_interpreter w is f i at (ap (λ n. n == SHT_PROGBITS) type ∙ not_program at.old.sh_type h))
       at.written.content (is_opaque_relocation f.parts at.old)
       (kind ∙ kind_of_relocations at.old.sh_type h (is_opaque_relocation f.parts at.old))
@@ -209,8 +205,8 @@ module _ (w : Writing) (is : IsWholeWriting w) (has : HasWrittenParts w) (f : Re
 
 -- ## A section
 
-module _ (w : Writing) (is : IsWholeWriting w) (has : HasWrittenParts w) (i : ℕ) (at : SectionAt w (read_facts w is).parts i) where
-  with_name : section_with (written_parts w) at.header at.section.name ≡ section_again at.section at.header at.bytes
+module _ (w : Output) (is : IsPlannedOutput w) (has : HasWrittenParts w) (i : ℕ) (at : SectionAt w (read_facts w is).parts i) where
+  with_name : section_with (written_parts w) at.header at.section.name ≡ rewritten_section at.section at.header at.bytes
   unfolding made
   with_name =
       let h : SectionHeader = at.header in
@@ -225,24 +221,24 @@ module _ (w : Writing) (is : IsWholeWriting w) (has : HasWrittenParts w) (i : �
       made-same s.name (data_of (written_parts w) h) s.kind h.sh_type s.sh_type h.sh_flags s.sh_flags h.sh_addralign s.sh_addralign
       h.sh_entsize s.sh_entsize (section_bytes (written_bytes w) h) at.bytes h kind type flags align entsize content
 
-  section_same : section_read (written_parts w) at.header ≡ Some (section_again at.section at.header at.bytes)
+  section_same : section_read (written_parts w) at.header ≡ Some (rewritten_section at.section at.header at.bytes)
   unfolding section_read
   section_same =
       some_bind (section_name (written_parts w) at.header) (λ n. Some (section_with (written_parts w) at.header n)) at.section.name
-      (name_again w is has i at)
+      (name_read_back w is has i at)
       ∙ ap Some with_name
 
 -- ## All of them
 
-pub sections_read : (w : Writing) → IsWholeWriting w → HasWrittenParts w
-    → each (section_read (written_parts w)) w.headers ≡ Some (sections_again w.image.sections w.headers w.contents)
+pub sections_read : (w : Output) → IsPlannedOutput w → HasWrittenParts w
+    → each (section_read (written_parts w)) w.headers ≡ Some (rewritten_sections w.image.sections w.headers w.contents)
 sections_read w is has =
     let f = read_facts w is in
     let long = lengths w is f in
-    each-from (section_read (written_parts w)) w.headers (sections_again w.image.sections w.headers w.contents)
+    each-from (section_read (written_parts w)) w.headers (rewritten_sections w.image.sections w.headers w.contents)
     (length-sections w.image.sections w.headers w.contents (long.headers ∙ sym long.sections) (long.contents ∙ sym long.sections)
     ∙ long.sections ∙ sym long.headers)
     (λ i h y h_there y_there.
     let (at, same) = section_at_header w is f i h h_there in
-    let here = again-at w.image.sections w.headers w.contents i at.section at.header at.bytes at.is_section at.is_header at.is_bytes in
+    let here = rewritten-at w.image.sections w.headers w.contents i at.section at.header at.bytes at.is_section at.is_header at.is_bytes in
     ap (section_read (written_parts w)) (sym same) ∙ section_same w is has i at ∙ sym here ∙ y_there)

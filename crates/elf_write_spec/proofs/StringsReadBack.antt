@@ -26,10 +26,10 @@ use Rattle.elf_image.specs.Edited.{AreEntriesOf as AreEditedEntries}
 use Rattle.elf_image.specs.Kept.{KeptSection, dynamic_strings_number, image_at_read, kept_at_number, link_of_type}
 use Rattle.elf_layout_plan.specs.Memory.{Resized}
 use Rattle.elf_layout_plan.specs.Plan.{Layout, resized}
-use Rattle.elf_write_spec.specs.Again.{HasWrittenParts, written_parts}
+use Rattle.elf_write_spec.specs.ReadBack.{HasWrittenParts, written_parts}
 use Rattle.elf_write_spec.specs.Contents.{AreEntriesOf, IsEntryOf, content_at_number, place_of_kept, table_value}
-use Rattle.elf_write_spec.specs.Writing.{IsWholeWriting, Writing, written_bytes}
-use Rattle.elf_write_spec.proofs.ContentsAgain.{Linked, entries_content, link_is, size_is, texts_are}
+use Rattle.elf_write_spec.specs.Output.{IsPlannedOutput, Output, written_bytes}
+use Rattle.elf_write_spec.proofs.ContentsReadBack.{Linked, entries_content, link_is, size_is, texts_are}
 use Rattle.elf_write_spec.proofs.RawEntries.{raw_is}
 use Rattle.elf_write_spec.proofs.TextsRead.{whole-Keeps}
 use Rattle.elf_write_spec.proofs.WholeFacts.{ReadFacts, SectionAt, There, Nowhere, final_is, kept_is, type_at}
@@ -89,7 +89,7 @@ limited : (xs : List ℕ) (o : Option ℕ) → ((value : ℕ) → o ≡ Some val
 limited xs None h = Keeps-refl (memory_of xs)
 limited xs (Some value) h = whole-Keeps xs value (h value refl)
 
-module _ (w : Writing) (is : IsWholeWriting w) (has : HasWrittenParts w) (f : ReadFacts w) where
+module _ (w : Output) (is : IsPlannedOutput w) (has : HasWrittenParts w) (f : ReadFacts w) where
   pub raw_nowhere : section_of_type SHT_DYNAMIC w.headers ≡ None → raw_entries (written_parts w) ≡ []
   raw_nowhere now =
       ap (λ (o : Option SectionHeader). unwrap_or (entries_at (length (written_bytes w)) w.image.form

@@ -2,16 +2,16 @@ use Rattle.std.proofs.Common.{◌∙◌, List, ap, subst, sym}
 use Rattle.patch_bytes.specs.ByteString.{bytes_of_each}
 use Rattle.elf_format.specs.declared.records.EntryNumbers.{EntryNumbers}
 use Rattle.elf_format.specs.declared.records.SectionHeader.{SectionHeader}
-use Rattle.elf_write_spec.specs.Writing.{IsWholeWriting, written_bytes}
-use Rattle.elf_write_contents.specs.Inner.{writing_of}
-use Rattle.elf_write.proofs.Writes.{are_written, is_whole_written}
-use Rattle.elf_write.proofs.bytes.laid_with.Goals as goal
+use Rattle.elf_write_spec.specs.Output.{IsPlannedOutput, written_bytes}
+use Rattle.elf_write_contents.specs.Inner.{output_of}
+use Rattle.elf_write.proofs.Writes.{are_written, is_planned_file}
+use Rattle.elf_write.proofs.bytes.bytes_of_contents.Goals as goal
 
-pub laid_bytes-requires-clause-writing : goal.laid_bytes-requires-clause-writing
-laid_bytes-requires-clause-writing c =
+pub laid_bytes-requires-clause-output : goal.laid_bytes-requires-clause-output
+laid_bytes-requires-clause-output c =
     let p = c.requires.prepared in
     subst (λ (hs : List SectionHeader).
-    (raw : List EntryNumbers) × IsWholeWriting (writing_of c.args.image.now c.args.plan.now hs (bytes_of_each c.args.contents.now) raw))
+    (raw : List EntryNumbers) × IsPlannedOutput (output_of c.args.image.now c.args.plan.now hs (bytes_of_each c.args.contents.now) raw))
     (sym c.deref.ensures.value)
     (are_written c.args.read.now c.args.image.now c.args.plan.now c.args.prepared.now.made c.args.prepared.now.raw.items
     (bytes_of_each c.args.contents.now) c.requires.planned c.requires.contents c.args.prepared.now.headers.items c.requires.apart p.raw p.headers p.fit)
@@ -19,9 +19,9 @@ laid_bytes-requires-clause-writing c =
 pub returns : goal.returns
 returns c =
     let p = c.requires.prepared in
-    is_whole_written c.args.read.now c.args.image.now c.args.plan.now c.args.prepared.now.made c.args.prepared.now.raw.items
+    is_planned_file c.args.read.now c.args.image.now c.args.plan.now c.args.prepared.now.made c.args.prepared.now.raw.items
     (bytes_of_each c.args.contents.now) c.requires.planned c.requires.contents c.args.prepared.now.headers.items c.in_ok-bytes.bytes.items
     c.requires.apart p.raw p.headers p.fit
     (c.in_ok-bytes.ensures c.args.prepared.now.raw.items
     ∙ ap (λ (hs : List SectionHeader).
-    written_bytes (writing_of c.args.image.now c.args.plan.now hs (bytes_of_each c.args.contents.now) c.args.prepared.now.raw.items)) c.deref.ensures.value)
+    written_bytes (output_of c.args.image.now c.args.plan.now hs (bytes_of_each c.args.contents.now) c.args.prepared.now.raw.items)) c.deref.ensures.value)

@@ -24,7 +24,7 @@ use Rattle.elf_write_spec.specs.Whole.{IsWhole}
 
 -- An image with its plan, and what the plan leaves open: the section headers, with where the names stand; the bytes of each section;
 -- and the numbers of the dynamic entries.
-pub record Writing : Type 0 where
+pub record Output : Type 0 where
   pub image : Image
   pub plan : Layout
   pub headers : List SectionHeader
@@ -38,7 +38,7 @@ patch offset bytes = record { offset = offset; bytes = bytes }
 
 -- a section's bytes at its place, unless they stay or it has none in the file
 abbrev pub patches_of_section : Resized → KeptSection → Place → List ℕ → List Patch
-patches_of_section r s place bytes = if occupies_file place && not (is_data r s) then patch place.sh_offset bytes ∷ [] else []
+patches_of_section r s place bytes = if occupies_file place && not (is_data r.read s) then patch place.sh_offset bytes ∷ [] else []
 
 abbrev pub patches_of_sections : Resized → List KeptSection → List Place → List (List ℕ) → List Patch
 patches_of_sections r [] places contents = []
@@ -47,40 +47,40 @@ patches_of_sections r (s ∷ ss) (p ∷ ps) [] = []
 patches_of_sections r (s ∷ ss) (p ∷ ps) (bytes ∷ more) = patches_of_section r s p bytes ++ patches_of_sections r ss ps more
 
 -- the file header, the program header table, the section header table
-abbrev pub patches_of_headers : Writing → List Patch
+abbrev pub patches_of_headers : Output → List Patch
 patches_of_headers w =
     patch 0 (spelled_file_header w.image.form (written_header w.image w.plan))
     ∷ patch w.plan.e_phoff (flat_map (spelled_segment_header w.image.form) w.plan.segments)
     ∷ patch w.plan.e_shoff (flat_map (spelled_section_header w.image.form) w.headers)
     ∷ []
 
-abbrev pub patches : Writing → List Patch
+abbrev pub patches : Output → List Patch
 patches w = patches_of_headers w ++ patches_of_sections (resized w.image) (kept_sections w.image) w.plan.places w.contents
 
 -- The bytes of the file: headers, tables and contents laid over what stays.
-unfoldable pub written_bytes : Writing → List ℕ
+unfoldable pub written_bytes : Output → List ℕ
 written_bytes w = laid (patches w) (base (resized w.image) (written_size (resized w.image) w.plan))
 
 -- ## What is asked of what the plan leaves open
 
 -- the names of the sections (gABI, ELF Header, e_shstrndx)
-abbrev pub names_content : Writing → List ℕ
+abbrev pub names_content : Output → List ℕ
 names_content w = content_at_number w.image w.contents w.image.header.e_shstrndx
 
 -- each section has its header and its bytes, as many as its place
-pub record IsSectionWritten (w : Writing) (s : KeptSection) (place : Place) (header : SectionHeader) (bytes : List ℕ) : Type 0 where
+pub record IsSectionWritten (w : Output) (s : KeptSection) (place : Place) (header : SectionHeader) (bytes : List ℕ) : Type 0 where
   pub has_header : IsHeaderOf (resized w.image) (names_content w) s.section place header
   pub sized : length bytes ≡ (if occupies_file place then place.sh_size else 0)
   pub content : IsContent (resized w.image) w.plan w.raw (content_at_number w.image w.contents s.section.sh_link) s bytes
 
 -- section by section
-abbrev pub AreSectionsWritten : Writing → List KeptSection → List Place → List SectionHeader → List (List ℕ) → Type 0
+abbrev pub AreSectionsWritten : Output → List KeptSection → List Place → List SectionHeader → List (List ℕ) → Type 0
 AreSectionsWritten w [] [] [] [] = Unit {0}
 AreSectionsWritten w (s ∷ ss) (p ∷ ps) (h ∷ hs) (bytes ∷ more) = IsSectionWritten w s p h bytes × AreSectionsWritten w ss ps hs more
 AreSectionsWritten w _ _ _ _ = ⊥
 
 -- each number fits its field
-pub record DoNumbersFit (w : Writing) : Type 0 where
+pub record DoNumbersFit (w : Output) : Type 0 where
   pub header : IsTrue (do_fields_fit (file_header_fields w.image.form (written_header w.image w.plan)))
   pub segments : IsTrue (list_all (λ p. do_fields_fit (segment_fields w.image.form p)) w.plan.segments)
   pub sections : IsTrue (list_all (λ s. do_fields_fit (section_fields w.image.form s)) w.headers)
@@ -90,23 +90,15 @@ pub record DoNumbersFit (w : Writing) : Type 0 where
 abbrev pub AreHeadersApart : Image → Layout → Type 0
 AreHeadersApart image plan = IsTrue (apart (range 0 (file_header_size image.form)) (written_table (resized image) plan))
 
-pub record IsWriting (w : Writing) : Type 0 where
+pub record IsOutput (w : Output) : Type 0 where
   pub headers : AreHeadersApart w.image w.plan
   pub no_list : kept_of_type SHT_DYNAMIC w.image ≡ None → w.raw ≡ []
   pub sections : AreSectionsWritten w (kept_sections w.image) w.plan.places w.headers w.contents
   pub fit : DoNumbersFit w
 
--- These bytes are a file to which an image is written by a plan.
-pub record IsWritten (image : Image) (plan : Layout) (bytes : List ℕ) : Type 0 where
-  pub writing : Writing
-  pub of_image : writing.image ≡ image
-  pub by_plan : writing.plan ≡ plan
-  pub is_writing : IsWriting writing
-  pub are_bytes : bytes ≡ written_bytes writing
-
 -- what the laws are about: an edited image of which nothing went, its plan, and what is written of them
-pub record IsWholeWriting (w : Writing) : Type 0 where
+pub record IsPlannedOutput (w : Output) : Type 0 where
   pub edited : IsEdited w.image
   pub whole : IsWhole (image_at_read w.image) w.image
   pub planned : IsPlan (resized w.image) w.plan
-  pub written : IsWriting w
+  pub written : IsOutput w

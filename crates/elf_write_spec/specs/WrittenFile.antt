@@ -1,0 +1,203 @@
+-- A file to which an edited image is written, in words of what is read of it.
+use Rattle.std.specs.Prelude.{ℕ, ◌*◌, ◌≡◌, List, [], ◌∷◌, ◌++◌, length, map, filter, Bool, true, false, ◌&&◌, not, Some, Ok, IsTrue}
+use Rattle.std.specs.List.{list_all, slice_get}
+use Rattle.patch_bytes.specs.Memory.{memory_of}
+use Rattle.patch_bytes.specs.Number.{field}
+use Rattle.elf_format.specs.declared.constants.TheConstants.{SHT_DYNAMIC, SHT_GNU_VERDEF, SHT_GNU_VERNEED}
+use Rattle.elf_format.specs.declared.range.Range.{Range}
+use Rattle.elf_format.specs.declared.records.EntryNumbers.{EntryNumbers}
+use Rattle.elf_format.specs.declared.section_data.SectionData.{SectionData}
+use Rattle.elf_format.specs.declared.section_data.SectionData.TheVariants as kinds
+use Rattle.elf_format.specs.Dynamic.{entries_at}
+use Rattle.elf_format.specs.Image.{Image, ImageSection, image_of}
+use Rattle.elf_format.specs.Places.{Place, file_range, occupies_file}
+use Rattle.elf_format.specs.Ranges.{all_apart, range}
+use Rattle.elf_format.specs.Records.{file_header_size, section_header_size, segment_header_size}
+use Rattle.elf_format.specs.Views.{dynamic_symbol_count, loader_view, section_view}
+use Rattle.elf_layout_plan.specs.Anchors.{is_loaded_section}
+use Rattle.elf_layout_plan.specs.Apart.{addresses_of, did_show_note, does_take_memory, is_loaded_note, is_shown_by}
+use Rattle.elf_layout_plan.specs.Memory.{is_movable}
+use Rattle.elf_layout_plan.specs.Plan.{IsPlan, Layout, resized}
+use Rattle.elf_layout_plan.specs.Texts.{is_table_copied}
+use Rattle.elf_image.specs.Kept.{KeptSection, image_at_read, kept_of_type, kept_sections, place_at_read}
+use Rattle.elf_write_spec.specs.ReadBack.{HasWrittenParts, IsReadBack}
+use Rattle.elf_write_spec.specs.Base.{is_interpreter}
+use Rattle.elf_write_spec.specs.Contents.{AreDefinitionsSpelled, AreNeedsSpelled}
+use Rattle.elf_write_spec.specs.Final.{final, final_view, new_number}
+use Rattle.elf_write_spec.specs.Headers.{written_info}
+use Rattle.elf_write_spec.specs.Stays.{AreHashesSeen, AreOthersSeen, IsDataSeen, IsSeenAt, written_places}
+use Rattle.elf_write_spec.specs.Output.{IsOutput, Output, written_bytes}
+
+-- ## What is read, header by header and section by section
+
+-- the header as it was, but for where the two tables stand and for the number of the section of names
+abbrev pub IsHeaderKept : Image → Image → Type 0
+IsHeaderKept image again = again.header ≡ record image.header {
+  e_phoff = again.header.e_phoff;
+  e_shoff = again.header.e_shoff;
+  e_shstrndx = new_number image image.header.e_shstrndx;
+}
+
+-- for each section of the image, with what is read at its position
+abbrev pub EachSection : Image → Image → (KeptSection → ImageSection → Type 0) → Type 0
+EachSection image again Holds = (i : ℕ) (s : KeptSection) (now : ImageSection)
+    → slice_get (kept_sections image) i ≡ Some s → slice_get again.sections i ≡ Some now → Holds s now
+
+-- a section as it was, but for where it stands, its links, which are in new numbers, and its bytes
+abbrev pub IsSectionKept : Image → KeptSection → ImageSection → Type 0
+IsSectionKept image s now = now ≡ record s.section {
+  sh_addr = now.sh_addr;
+  sh_offset = now.sh_offset;
+  sh_size = now.sh_size;
+  sh_link = new_number image s.section.sh_link;
+  sh_info = written_info (image_at_read image) image s.section;
+  content = now.content;
+}
+
+-- as many sections, in their order
+pub record AreSectionsKept (image again : Image) : Type 0 where
+  pub count : length again.sections ≡ length (kept_sections image)
+  pub each : EachSection image again (IsSectionKept image)
+
+-- the lists of the image in its final form
+pub record AreListsFinal (image again : Image) : Type 0 where
+  pub symbols : again.symbols ≡ (final (image_at_read image) image).symbols
+  pub dynamic_symbols : again.dynamic_symbols ≡ (final (image_at_read image) image).dynamic_symbols
+  pub definitions : again.definitions ≡ (final (image_at_read image) image).definitions
+  pub needs : again.needs ≡ (final (image_at_read image) image).needs
+  pub entries : again.entries ≡ (final (image_at_read image) image).entries
+  pub interpreter : again.interpreter ≡ (final (image_at_read image) image).interpreter
+
+-- ## Where everything stands
+
+-- the file header and the program header table
+abbrev pub file_header_of : Image → Range
+file_header_of again = range 0 (file_header_size again.form)
+
+abbrev pub segment_table_of : Image → Range
+segment_table_of again = range again.header.e_phoff (length again.segments * segment_header_size again.form)
+
+abbrev pub section_table_of : Image → Range
+section_table_of again = range again.header.e_shoff (length again.sections * section_header_size again.form)
+
+-- the places of the sections
+abbrev pub places_in : Image → List Place
+places_in again = map place_at_read again.sections
+
+-- Headers and sections share no address, and no byte of the file.
+pub record IsEverythingApart (again : Image) : Type 0 where
+  pub memory : IsTrue (all_apart (addresses_of (file_header_of again) again.segments ++ addresses_of (segment_table_of again) again.segments
+      ++ map (λ s. range s.sh_addr s.sh_size) (filter does_take_memory (places_in again))))
+  pub in_file : IsTrue (all_apart ((file_header_of again ∷ segment_table_of again ∷ [])
+      ++ (section_table_of again ∷ []) ++ map file_range (filter occupies_file (places_in again))))
+
+-- ## What stays in memory
+
+-- the section can't move: something may point into it
+abbrev pub is_fixed : Image → KeptSection → Bool
+is_fixed image s = not (is_interpreter (image_at_read image) s) && not (is_movable image s)
+
+-- the section is loaded, and has bytes of the file
+abbrev pub is_loaded_with_bytes : ImageSection → Bool
+is_loaded_with_bytes s = is_loaded_section s && occupies_file (place_at_read s)
+
+-- sections of that kind are written as they were read; a string table, where that is told of it
+abbrev pub is_kind_copied : Bool → SectionData → Bool
+is_kind_copied is_table kinds.Opaque = true
+is_kind_copied is_table kinds.Uninitialized = true
+is_kind_copied is_table kinds.Dynamic = false
+is_kind_copied is_table kinds.Relocation = true
+is_kind_copied is_table kinds.Note = true
+is_kind_copied is_table kinds.Strings = is_table
+is_kind_copied is_table kinds.Symbols = true
+is_kind_copied is_table kinds.DynamicSymbols = false
+is_kind_copied is_table kinds.Hash = true
+is_kind_copied is_table kinds.GnuHash = true
+is_kind_copied is_table kinds.GnuVersym = true
+is_kind_copied is_table kinds.GnuVerdef = false
+is_kind_copied is_table kinds.GnuVerneed = false
+
+-- The bytes of the section are written as they were read: it isn't the interpreter's, nor one of the dynamic list, the dynamic symbols
+-- or the records of versions, nor a string table with a text that was added or changed.
+abbrev pub is_copied : Image → KeptSection → Bool
+is_copied image s =
+    not (is_interpreter (image_at_read image) s) && is_kind_copied (is_table_copied (image_at_read image) image s.number) s.section.kind
+
+-- the loaded note is shown, by a program header of the same type, for each one that is still there and showed it
+abbrev pub IsNoteShown : Image → Image → KeptSection → ImageSection → Type 0
+IsNoteShown image again s now = IsTrue (is_loaded_note s)
+    → IsTrue (list_all (λ p. is_shown_by again.segments p.p_type (place_at_read now)) (filter (did_show_note (resized image) s) image.segments))
+
+-- The records of defined and of needed versions are spelled, with their texts in the string table to which their section links.
+pub record AreVersionsSpelled (again : Image) (s : KeptSection) (now : ImageSection) : Type 0 where
+  pub definitions : s.section.sh_type ≡ SHT_GNU_VERDEF → (texts : ImageSection) → slice_get again.sections now.sh_link ≡ Some texts
+      → AreDefinitionsSpelled again.form.order again.definitions texts.content now.content
+  pub needs : s.section.sh_type ≡ SHT_GNU_VERNEED → (texts : ImageSection) → slice_get again.sections now.sh_link ≡ Some texts
+      → AreNeedsSpelled again.form.order again.needs texts.content now.content
+
+-- the numbers of the entries in the written dynamic section
+pub record IsNumberedList (image again : Image) (raw : List EntryNumbers) : Type 0 where
+  pub list : KeptSection
+  pub now : ImageSection
+  pub is_list : kept_of_type SHT_DYNAMIC image ≡ Some list
+  pub is_now : slice_get again.sections list.position ≡ Some now
+  pub are : entries_at (length again.source) again.form (memory_of now.content) 0 ≡ Some raw
+
+-- ## By the plan
+
+-- These bytes are a file to which an image is written by a plan: what is written of headers and sections stands where the plan has it,
+-- and reading the file finds it there.
+pub record IsWrittenByPlan (image : Image) (plan : Layout) (file : List ℕ) : Type 0 where
+  pub output : Output
+  pub of_image : output.image ≡ image
+  pub by_plan : output.plan ≡ plan
+  pub is_output : IsOutput output
+  pub are_bytes : file ≡ written_bytes output
+  pub parts : HasWrittenParts output
+  pub read_back : IsReadBack output
+  pub places : places_in read_back.again ≡ plan.places
+
+-- ## All of it
+
+-- A file to which an edited image is written.
+pub record IsWrittenOf (image : Image) (file : List ℕ) : Type 0 where
+  -- the file is accepted, and this is what reading it gives
+  pub again : Image
+  pub is_read : image_of file ≡ Ok again
+  pub source : again.source ≡ file
+  -- by its section headers, and to a loader that knows its program headers alone, it shows the edited lists
+  pub by_sections : section_view file ≡ Some (final_view (image_at_read image) image)
+  pub by_loader : loader_view file (dynamic_symbol_count file) ≡ Some (final_view (image_at_read image) image)
+  -- the header, the sections and the lists are those of the image
+  pub form : again.form ≡ image.form
+  pub header : IsHeaderKept image again
+  pub sections : AreSectionsKept image again
+  pub lists : AreListsFinal image again
+  -- in the memory that the file's own program headers load, each section of data has its bytes at its address
+  pub kept_data : IsDataSeen image again.segments file
+  -- each section that can't move stands at its address, loaded or not: relocations, the dynamic list, whatever isn't known
+  pub fixed : EachSection image again (λ s now. IsTrue (is_fixed image s) → now.sh_addr ≡ s.section.sh_addr)
+  -- each loaded section has its bytes at its address
+  pub loaded : EachSection image again (λ s now.
+      IsTrue (is_loaded_with_bytes s.section) → IsSeenAt again.segments file now.sh_addr now.content)
+  -- those are the bytes that it had, where it isn't written anew
+  pub copied : EachSection image again (λ s now. IsTrue (is_copied image s) → now.content ≡ s.section.content)
+  -- each section, loaded or not, has its bytes in the file where its header says
+  pub in_file : EachSection image again (λ s now.
+      IsTrue (occupies_file (place_at_read s.section)) → field now.sh_size now.sh_offset file ≡ now.content)
+  -- so what can't move and isn't written anew has its bytes at its address: relocations as much as data
+  pub stay : EachSection image again (λ s now.
+      IsTrue (is_fixed image s && is_copied image s && is_loaded_with_bytes s.section)
+      → IsSeenAt again.segments file s.section.sh_addr s.section.content)
+  -- every other byte that a loaded segment had keeps its value and its address, where nothing is written anew
+  pub others : AreOthersSeen image again.segments
+      (written_places image (file_header_of again ∷ segment_table_of again ∷ []) (places_in again)) file
+  -- program headers that are still there show the notes that they showed
+  pub notes : EachSection image again (IsNoteShown image again)
+  -- hash tables stand, as they were read, where the dynamic list says
+  pub hashes : (raw : List EntryNumbers) → IsNumberedList image again raw → AreHashesSeen image again.segments raw file
+  -- the bytes of the version sections, with revisions, hashes and links, which no reader of the lists looks at
+  pub versions : EachSection image again (AreVersionsSpelled again)
+  pub apart : IsEverythingApart again
+  -- the plan by which it is written
+  pub by_plan : (plan : Layout) × IsPlan (resized image) plan × IsWrittenByPlan image plan file
