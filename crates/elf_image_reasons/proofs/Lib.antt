@@ -1,0 +1,2 @@
+mod DetailSteps
+mod RuleSteps

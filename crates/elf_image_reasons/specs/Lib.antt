@@ -1,0 +1,3 @@
+pub mod Details
+pub mod ReadTests
+pub mod Told

@@ -1,0 +1,20 @@
+//! Why an ELF file is refused: which read rule it breaks first, and what contradicts it. Computed after the refusal, by
+//! the reader itself: there is no second one.
+#![tactic(auto)]
+
+pub mod broken;
+pub mod detail;
+mod dynamic;
+mod headers;
+pub mod laws;
+mod meetings;
+mod placed;
+pub mod reason;
+pub mod rule;
+mod tables;
+mod tag_names;
+
+pub use crate::broken::broken_rule;
+pub use crate::detail::{Detail, Piece};
+pub use crate::reason::{Reason, explain_refusal};
+pub use crate::rule::Rule;

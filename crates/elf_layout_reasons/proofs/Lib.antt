@@ -1,0 +1,2 @@
+mod PairSteps
+mod RoundsEnd
