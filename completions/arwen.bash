@@ -2,7 +2,7 @@
 _arwen() {
     local word="${COMP_WORDS[COMP_CWORD]}" words=""
     if [ "$COMP_CWORD" -eq 1 ]; then
-        COMPREPLY=($(compgen -W "macho elf help --version" -- "$word"))
+        COMPREPLY=($(compgen -W "macho elf help --quiet --version" -- "$word"))
         return
     fi
     if [ "$COMP_CWORD" -eq 2 ]; then
@@ -18,7 +18,7 @@ _arwen() {
         case "${COMP_WORDS[1]} ${COMP_WORDS[2]}" in
         'elf shrink-rpath') words="--allowed-rpath-prefixes" ;;
         esac
-        COMPREPLY=($(compgen -W "$words --help" -- "$word"))
+        COMPREPLY=($(compgen -W "$words --quiet --help" -- "$word"))
         return
     fi
     COMPREPLY=($(compgen -f -- "$word"))

@@ -2,20 +2,36 @@
 //! loader is told. Prints what it takes from ELF files.
 #![tactic(auto)]
 
-use arwen_cli::cli::{ArwenError, execute};
+use arwen_cli::cli::{ArwenError, execute, fault_line};
 pub use arwen_cli::{cli, commands, elf, macho, patcher, utils};
 use std::process::ExitCode;
 use std::rt::{Env, Files};
 use std::{env, io};
 
 /// Reads the words behind the program's name and does what they ask.
-fn run<R: Env + Files + Print + Eprint + AllocGlobal>(rt: &R) -> Result<(), ArwenError> {
+fn run<R: Env + Files + Print + Eprint + AllocGlobal>(rt: &R) -> Result<ExitCode, ArwenError> {
     let words = given_words(rt)?;
     let mut texts = Vec::with_capacity(rt.alloc(), words.len())?;
     for word in words.as_slice() {
         texts.push(word.as_str())?;
     }
-    execute(rt, texts.get(1..).unwrap_or_default())
+    Ok(answer(rt, texts.get(1..).unwrap_or_default()))
+}
+
+/// Does what words ask, and answers the status to end with.
+fn answer<R: Files + Print + Eprint + AllocGlobal>(rt: &R, words: &[&str]) -> ExitCode {
+    match execute(rt, words) {
+        Ok(()) => ExitCode::SUCCESS,
+        Err(error) => ended(report(rt, words, &error), &error),
+    }
+}
+
+/// The status after a fault that was reported, or not.
+fn ended(reported: io::Result<()>, error: &ArwenError) -> ExitCode {
+    match reported {
+        Ok(()) => ExitCode::from(error.status()),
+        Err(_) => ExitCode::FAILURE,
+    }
 }
 
 /// All words of the line, the program's name first. A word that is no UTF-8 is a line fault.
@@ -32,20 +48,24 @@ fn given_words<R: Env + AllocGlobal>(rt: &R) -> Result<Vec<String>, ArwenError> 
 }
 
 /// Prints help on the standard output and a fault on the standard error.
-fn report<R: Print + Eprint>(rt: &R, error: &ArwenError) -> io::Result<()> {
+fn report<R: Files + Print + Eprint + AllocGlobal>(
+    rt: &R,
+    words: &[&str],
+    error: &ArwenError,
+) -> io::Result<()> {
     match error {
         ArwenError::Line { text, status: 0 } => rt.print(text),
         ArwenError::Line { text, .. } => rt.eprint(text),
-        _ => rt.eprintln(error.line()),
+        _ => match fault_line(rt, words, error) {
+            Ok(line) => rt.eprintln(line),
+            Err(_) => rt.eprintln(error.line()),
+        },
     }
 }
 
 fn main(rt: HostRuntime) -> ExitCode {
     match run(&rt) {
-        Ok(()) => ExitCode::SUCCESS,
-        Err(error) => match report(&rt, &error) {
-            Ok(()) => ExitCode::from(error.status()),
-            Err(_) => ExitCode::FAILURE,
-        },
+        Ok(status) => status,
+        Err(error) => ended(report(&rt, &[], &error), &error),
     }
 }

@@ -4,3 +4,4 @@ pub mod Values
 pub mod Table
 pub mod Parsing
 pub mod Meanings
+pub mod Quiet

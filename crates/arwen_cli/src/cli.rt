@@ -10,6 +10,8 @@ mod error;
 mod file;
 mod line;
 mod parser;
+mod quiet;
+mod telling;
 
 pub use command::Command;
 pub use command_words::{
@@ -27,10 +29,13 @@ pub use macho_commands::{
     MachoCommand, MachoCommandError, add, apply, change, delete, install_id, install_name,
     macho_execute, parse_macho_edits, patch_path, patch_store, run_macho,
 };
+use quiet::is_quiet;
 use std::rt::Files;
+pub use telling::{fault_line, notes_of};
 
 /// Does what the words behind the program's name ask. A line that asks for help, and one that is
-/// wrong, is answered by `ArwenError::Line`.
+/// wrong, is answered by `ArwenError::Line`. Notes go to the standard error once an edit is made, unless a word `-q` or
+/// `--quiet` leaves them out.
 pub fn execute<R: Files + Print + Eprint + AllocGlobal>(
     rt: &R,
     words: &[&str],
@@ -41,7 +46,20 @@ pub fn execute<R: Files + Print + Eprint + AllocGlobal>(
         → LineMayFail (meaning_of (map (λ w. w.now) words.now)) e) }
 {
     let command = parse_line(rt.alloc(), words)?;
-    execute_command(rt, command)
+    if is_quiet(words) {
+        return execute_command(rt, command);
+    }
+    let notes = notes_of(rt, &command);
+    execute_command(rt, command)?;
+    tell(rt, notes);
+    Ok(())
+}
+
+/// Prints notes on the standard error, where there are any. It doesn't matter whether that fails.
+fn tell<R: Eprint>(rt: &R, notes: Option<String>) {
+    if let Some(text) = notes {
+        let _ = rt.eprint(text.as_str());
+    }
 }
 
 /// Does what a command asks.

@@ -3,6 +3,6 @@
 #![tactic(auto)]
 
 pub mod cli;
+pub mod elf;
 
-pub use arwen_elf::elf;
 pub use arwen_macho::{commands, macho, patcher, utils};

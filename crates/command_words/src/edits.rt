@@ -73,6 +73,8 @@ impl fmt::Display for EditFault {
     }
 }
 
+impl std::error::Error for EditFault {}
+
 /// Why words were not read as edits.
 #[derive(Debug, Drop, Error)]
 pub enum EditsError {

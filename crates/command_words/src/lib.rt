@@ -1,5 +1,5 @@
 //! What the commands for either kind of file share: the rows that say how each is written, the values that it
-//! takes, pairs and numbers, the groups of words that are edits, and how much of a file is read.
+//! takes, pairs and numbers, the groups of words that are edits, which files are read, and how much of them.
 #![tactic(auto)]
 
 mod edits;
@@ -12,7 +12,7 @@ pub use edits::{
     EditFault, EditKind, EditsError, copied, copies, edit_row, no_edit, no_values, other_words,
     values_without_path, words_of,
 };
-pub use file::MOST_BYTES;
+pub use file::{MOST_BYTES, RegularFiles};
 pub use key_value::{KeyValueError, decimal_number, parse_key_val};
 pub use rows::{Row, Value, ValueForm, ValueOption, Values, find_row};
 pub use word_values::{ValueError, number_of, pairs_of};

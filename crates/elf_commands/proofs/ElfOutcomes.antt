@@ -1,5 +1,5 @@
 -- What edits of an ELF file keep and show, and which answers tell why there are no bytes.
-use Rattle.std.proofs.Common.{◌≡◌, ◌+◌, [], ◌∷◌, ◌∙◌, Bool, ℕ, List, Option, Some, None, Result, Ok, Err, true, false, refl, sym, ap, subst, inl, inr}
+use Rattle.std.proofs.Common.{◌≡◌, ◌+◌, [], ◌∷◌, ◌∙◌, Bool, ℕ, List, Option, Some, Result, Ok, Err, true, false, refl, sym, ap, subst, inl, inr}
 use Rattle.std.specs.Prelude.{IfOk, IsOkAnd}
 use Rattle.std.specs.declared.alloc.Global.{Global}
 use Rattle.std.specs.declared.vec.Vec.{Vec}
@@ -14,7 +14,8 @@ use Rattle.elf_edits.specs.Laws.{BatchesAreTheirEdits, EditsShow, viewed}
 use Rattle.elf_apply.specs.Causes.{FailsPrint}
 use Rattle.elf_apply.specs.Told.{RefusesAt, RefusesBatch}
 use Rattle.arwen_elf.specs.WriterModel.{ShowsBothViews}
-use Rattle.arwen_elf.specs.Written.{IsEditWritten, IsImageWritten, IsNoImage}
+use Rattle.arwen_elf.specs.Written.{IsImageWritten, IsNoImage}
+use Rattle.elf_write_spec.specs.WrittenFile.{IsWrittenOf}
 use Rattle.elf_apply.specs.declared.batch.ElfBatchError.{ElfBatchError}
 use Rattle.elf_apply.specs.declared.error.ElfError.{ElfError}
 use Rattle.elf_apply.specs.declared.error.ElfError.TheVariants as elf
@@ -77,34 +78,41 @@ is_marked made seen asked mark same is found = ap (λ (i : Image). i.changed) (s
 pub made_of_edits : (edits : List Edit) (file : List ℕ) (read made : Image) → image_of file ≡ Ok read → run edits read ≡ Ok made → Makes edits file made
 made_of_edits edits file read made is runs = record { read = read; is_read = is; runs = runs }
 
--- the file is left as it was
-pub leaves_file : EditsShow → ReadImagesHoldParts → (a : ElfAsked) (edits : List Edit) (file : List ℕ) (read made : Image) → AreEditsAsked a edits
-    → image_of file ≡ Ok read → run edits read ≡ Ok made → made.changed ≡ false → LeavesElf a file file
-leaves_file edits_show hold_parts a edits file read made are is runs same = record {
-  edits = edits;
-  are = are;
-  left = record {
-    made = made;
-    makes = made_of_edits edits file read made is runs;
-    written = record { unchanged = λ _. sym (source_is edits_show hold_parts edits file read made is runs); edited = λ other. absurd (cc) };
-  };
-}
-
-shows_edits : EditsShow → BatchesAreTheirEdits → (edits : List Edit) (file new : List ℕ) (read made : Image) → ShowsBothViews file read → run edits read ≡ Ok made → IsEditWritten made new → ShowsEdits edits file new
+shows_edits : EditsShow → BatchesAreTheirEdits → (edits : List Edit) (file new : List ℕ) (read made : Image) → ShowsBothViews file read → run edits read ≡ Ok made → IsWrittenOf made new → ShowsEdits edits file new made
 shows_edits edits_show batches edits file new read made views runs written =
     let machine = (run_keeps edits_show 0 edits read made runs).machine in
     record {
       old = shown read;
       was_shown = views.0;
-      image = made;
       is_edited = batches.shows edits read made runs ∙ ap (λ (m : ℕ). viewed m edits (shown read)) (sym machine);
-      by_sections = written.shows.by_sections;
-      by_loader = written.shows.by_loader;
+      by_sections = written.by_sections;
+      by_loader = written.by_loader;
     }
+
+-- what the edited image is written to is left
+image_left : EditsShow → BatchesAreTheirEdits → (a : ElfAsked) (edits : List Edit) (file new : List ℕ) (read made : Image) → AreEditsAsked a edits
+    → image_of file ≡ Ok read → ShowsBothViews file read → run edits read ≡ Ok made → IsImageWritten made new → LeavesElf a file new
+image_left edits_show batches a edits file new read made are is views runs written = record {
+  edits = edits;
+  are = are;
+  left = record {
+    made = made;
+    makes = made_of_edits edits file read made is runs;
+    written = written;
+    shows = λ other. shows_edits edits_show batches edits file new read made views runs (written.edited other);
+  };
+}
+
+-- the file is left as it was
+leaves_file : EditsShow → BatchesAreTheirEdits → ReadImagesHoldParts → (a : ElfAsked) (edits : List Edit) (file : List ℕ) (read made : Image) → AreEditsAsked a edits
+    → image_of file ≡ Ok read → ShowsBothViews file read → run edits read ≡ Ok made → made.changed ≡ false → LeavesElf a file file
+leaves_file edits_show batches hold_parts a edits file read made are is views runs same =
+    image_left edits_show batches a edits file file read made are is views runs
+    (record { unchanged = λ _. sym (source_is edits_show hold_parts edits file read made is runs); edited = λ other. absurd (cc) })
 
 -- the bytes of an edited image
 pub edited_to : EditsShow → BatchesAreTheirEdits → (a : ElfAsked) (edits : List Edit) (file : List ℕ) (read made : Image) (new : Vec ℕ Global) → AreEditsAsked a edits
-    → image_of file ≡ Ok read → ShowsBothViews file read → run edits read ≡ Ok made → made.changed ≡ true → IsImageWritten made new.items → IsElfEdited a file (Some new)
+    → image_of file ≡ Ok read → ShowsBothViews file read → run edits read ≡ Ok made → made.changed ≡ true → IsWrittenOf made new.items → IsElfEdited a file (Some new)
 edited_to edits_show batches a edits file read made new are is views runs other written = record {
   edits = edits;
   are = are;
@@ -112,11 +120,8 @@ edited_to edits_show batches a edits file read made new are is views runs other 
     made = made;
     makes = made_of_edits edits file read made is runs;
     unchanged = λ same. absurd (cc);
-    changed = λ _. (new, refl, written.edited other);
+    changed = λ _. (new, refl, written, shows_edits edits_show batches edits file new.items read made views runs written);
   };
-  shows = λ bytes is_new.
-      let same : new ≡ bytes = cc in
-      subst (λ (v : Vec ℕ Global). ShowsEdits edits file v.items) same (shows_edits edits_show batches edits file new.items read made views runs (written.edited other));
 }
 
 module _ (a : ElfAsked) (edits : List Edit) (file : List ℕ) (read made : Image) (answer : Option (Vec ℕ Global)) (are : AreEditsAsked a edits) (is : image_of file ≡ Ok read) (runs : run edits read ≡ Ok made) (changed : AreChanged made answer) where
@@ -128,8 +133,7 @@ module _ (a : ElfAsked) (edits : List Edit) (file : List ℕ) (read made : Image
       by_mark true other =
           let (new, is_new, written) = changed.other other in
           let P : Option (Vec ℕ Global) → Type 0 = λ o. IsElfEdited a file o in
-          subst P (sym is_new)
-          (edited_to edits_show batches a edits file read made new are is views runs other (record { unchanged = λ same. absurd (cc); edited = λ _. written }))
+          subst P (sym is_new) (edited_to edits_show batches a edits file read made new are is views runs other written)
       by_mark false same =
           let P : Option (Vec ℕ Global) → Type 0 = λ o. IsElfEdited a file o in
           subst P (sym (changed.same same)) (record {
@@ -141,28 +145,20 @@ module _ (a : ElfAsked) (edits : List Edit) (file : List ℕ) (read made : Image
               unchanged = λ _. refl;
               changed = λ other. absurd (cc);
             };
-            shows = λ new is_new. absurd (cc);
           })
 
-  pub answer_left : EditsShow → ReadImagesHoldParts → LeavesElf a file (bytes_left file answer)
-  answer_left edits_show hold_parts = by_mark made.changed refl
+  pub answer_left : EditsShow → BatchesAreTheirEdits → ReadImagesHoldParts → ShowsBothViews file read → LeavesElf a file (bytes_left file answer)
+  answer_left edits_show batches hold_parts views = by_mark made.changed refl
     where
       by_mark : (mark : Bool) → made.changed ≡ mark → LeavesElf a file (bytes_left file answer)
       by_mark true other =
           let (new, is_new, written) = changed.other other in
           let P : Option (Vec ℕ Global) → Type 0 = λ o. LeavesElf a file (bytes_left file o) in
-          subst P (sym is_new) (record {
-            edits = edits;
-            are = are;
-            left = record {
-              made = made;
-              makes = made_of_edits edits file read made is runs;
-              written = record { unchanged = λ same. absurd (cc); edited = λ _. written };
-            };
-          })
+          subst P (sym is_new)
+          (image_left edits_show batches a edits file new.items read made are is views runs (record { unchanged = λ same. absurd (cc); edited = λ _. written }))
       by_mark false same =
           let P : Option (Vec ℕ Global) → Type 0 = λ o. LeavesElf a file (bytes_left file o) in
-          subst P (sym (changed.same same)) (leaves_file edits_show hold_parts a edits file read made are is runs same)
+          subst P (sym (changed.same same)) (leaves_file edits_show batches hold_parts a edits file read made are is views runs same)
 
 -- ## Why there are no bytes
 
@@ -298,16 +294,11 @@ may_fail (several read) file (ElfBatch e) tells = (file, ([], tells))
 -- ## What differs
 
 -- a difference that makes the bytes of the edited image
-pub leaves_pieces : (a : ElfAsked) (edits : List Edit) (file : List ℕ) (read made : Image) (d : Difference) → AreEditsAsked a edits → image_of file ≡ Ok read → run edits read ≡ Ok made → made.source ≡ file → IsImageWritten made (made_of made.source d) → LeavesElf a file (made_of file d)
-leaves_pieces a edits file read made d are is runs source written = record {
-  edits = edits;
-  are = are;
-  left = record {
-    made = made;
-    makes = made_of_edits edits file read made is runs;
-    written = let P : List ℕ → Type 0 = λ l. IsImageWritten made (made_of l d) in subst P source written;
-  };
-}
+pub leaves_pieces : EditsShow → BatchesAreTheirEdits → (a : ElfAsked) (edits : List Edit) (file : List ℕ) (read made : Image) (d : Difference) → AreEditsAsked a edits
+    → image_of file ≡ Ok read → ShowsBothViews file read → run edits read ≡ Ok made → made.source ≡ file → IsImageWritten made (made_of made.source d) → LeavesElf a file (made_of file d)
+leaves_pieces edits_show batches a edits file read made d are is views runs source written =
+    let P : List ℕ → Type 0 = λ l. IsImageWritten made (made_of l d) in
+    image_left edits_show batches a edits file (made_of file d) read made are is views runs (subst P source written)
 
 same_edits : (a : ElfAsked) (edits others : List Edit) → AreEditsAsked a edits → AreEditsAsked a others → edits ≡ others
 same_edits (one edit) edits others are too = are ∙ sym too

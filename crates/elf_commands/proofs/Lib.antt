@@ -1,3 +1,4 @@
 pub mod ElfOutcomes
 pub mod ElfStoreLaws
+pub mod FailureLaws
 pub mod ShrinkLaws

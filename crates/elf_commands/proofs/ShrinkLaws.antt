@@ -112,11 +112,11 @@ tells_shrink edits_show batches edit file read made old new (Edits e) is views m
 
 -- ## Over a store
 
-pub leaves_shrunk : EditsShow → ReadImagesHoldParts → (edit : Edit) (file : List ℕ) (read made : Image) (d : Difference) → image_of file ≡ Ok read → step edit read ≡ Ok made
-    → IsImageWritten made (made_of made.source d) → LeavesElf (one edit) file (made_of file d)
-leaves_shrunk edits_show hold_parts edit file read made d is makes written =
+pub leaves_shrunk : EditsShow → BatchesAreTheirEdits → ReadImagesHoldParts → (edit : Edit) (file : List ℕ) (read made : Image) (d : Difference) → image_of file ≡ Ok read
+    → ShowsBothViews file read → step edit read ≡ Ok made → IsImageWritten made (made_of made.source d) → LeavesElf (one edit) file (made_of file d)
+leaves_shrunk edits_show batches hold_parts edit file read made d is views makes written =
     let runs = ran_once edit read made makes in
-    leaves_pieces (one edit) (edit ∷ []) file read made d refl is runs (source_is edits_show hold_parts (edit ∷ []) file read made is runs) written
+    leaves_pieces edits_show batches (one edit) (edit ∷ []) file read made d refl is views runs (source_is edits_show hold_parts (edit ∷ []) file read made is runs) written
 
 pub source_of_shrunk : EditsShow → ReadImagesHoldParts → (edit : Edit) (file : List ℕ) (read made : Image) → image_of file ≡ Ok read → step edit read ≡ Ok made → made.source ≡ file
 source_of_shrunk edits_show hold_parts edit file read made is makes = source_is edits_show hold_parts (edit ∷ []) file read made is (ran_once edit read made makes)
@@ -169,12 +169,12 @@ unshrunk_file finds prefixes file read answers e is found (cause, why, told) =
     subst P (sym told) (told_shrunk finds prefixes file answers cause found tells)
 
 -- what differs from the bytes of a file that was read, by answers that are found
-pub shrunk_file : EditsShow → ReadImagesHoldParts → (finds : Finding) (prefixes : List Text) (file : List ℕ) (read : Image) (answers : List Answer) (d : Difference) (text : Text) → image_of file ≡ Ok read
-    → AreFoundIn finds file answers → IsShrunkImage (ShrinkRunPath prefixes answers) read d text → IsShrunkBy finds prefixes file d text
-shrunk_file edits_show hold_parts finds prefixes file read answers d text is found shrunk = record {
+pub shrunk_file : EditsShow → BatchesAreTheirEdits → ReadImagesHoldParts → (finds : Finding) (prefixes : List Text) (file : List ℕ) (read : Image) (answers : List Answer) (d : Difference) (text : Text) → image_of file ≡ Ok read
+    → ShowsBothViews file read → AreFoundIn finds file answers → IsShrunkImage (ShrinkRunPath prefixes answers) read d text → IsShrunkBy finds prefixes file d text
+shrunk_file edits_show batches hold_parts finds prefixes file read answers d text is views found shrunk = record {
   answers = answers;
   found = found;
-  leaves = leaves_shrunk edits_show hold_parts (ShrinkRunPath prefixes answers) file read shrunk.made d is shrunk.makes shrunk.written;
+  leaves = leaves_shrunk edits_show batches hold_parts (ShrinkRunPath prefixes answers) file read shrunk.made d is views shrunk.makes shrunk.written;
   told = (read, is, shrunk.told);
 }
 

@@ -3,7 +3,7 @@ use Rattle.std.specs.Prelude.{ℕ, ◌≡◌, ◌⊎◌, List, [], ◌∷◌, Op
 use Rattle.std.specs.declared.alloc.Global.{Global}
 use Rattle.std.specs.declared.vec.Vec.{Vec}
 use Rattle.elf_apply.specs.Told.{RefusesAt}
-use Rattle.arwen_elf.specs.Written.{IsEditWritten, IsImageWritten, IsNoImage}
+use Rattle.arwen_elf.specs.Written.{IsImageWritten, IsNoImage}
 use Rattle.elf_apply.specs.declared.batch.ElfBatchError.{ElfBatchError}
 use Rattle.elf_apply.specs.declared.error.ElfError.{ElfError}
 use Rattle.elf_apply.specs.declared.error.ElfError.TheVariants as elf
@@ -15,6 +15,7 @@ use Rattle.elf_image.specs.Image.{Image, image_of, shown}
 use Rattle.elf_image.specs.Views.{View, dynamic_symbol_count, loader_view, section_view}
 use Rattle.elf_image.specs.Kept.{image_at_read}
 use Rattle.elf_write_spec.specs.Final.{final_view}
+use Rattle.elf_write_spec.specs.WrittenFile.{IsWrittenOf}
 use Rattle.elf_commands.specs.ElfAsked.{ElfAsked, answered, asks_edits, elf_asked, one, printing, several, shrinking}
 use Rattle.elf_commands.specs.ElfWords.{edits_model}
 use Rattle.elf_commands.specs.ElfErrors.{answer_to_elf, answer_to_elf_batch}
@@ -31,29 +32,29 @@ pub record Makes (edits : List Edit) (file : List ℕ) (made : Image) : Type 0 w
   pub is_read : image_of file ≡ Ok read
   pub runs : run edits read ≡ Ok made
 
--- An answer to edits of a file: no bytes where its image is as it was, else those of the edited image.
+-- New bytes of a file show its edits, by their section headers and to a loader that knows their program headers alone: what
+-- the section headers of the old bytes show, after one edit and the next, in the final form of the image that the edits make.
+pub record ShowsEdits (edits : List Edit) (file new : List ℕ) (made : Image) : Type 0 where
+  pub old : View
+  pub was_shown : section_view file ≡ Some old
+  pub is_edited : shown made ≡ viewed made.header.e_machine edits old
+  pub by_sections : section_view new ≡ Some (final_view (image_at_read made) made)
+  pub by_loader : loader_view new (dynamic_symbol_count new) ≡ Some (final_view (image_at_read made) made)
+
+-- An answer to edits of a file: no bytes where its image is as it was, else those of the edited image, which show the edits.
 pub record IsEditedBy (edits : List Edit) (file : List ℕ) (answer : Option (Vec ℕ Global)) : Type 0 where
   pub made : Image
   pub makes : Makes edits file made
   pub unchanged : made.changed ≡ false → answer ≡ None
-  pub changed : made.changed ≡ true
-      → (new : Vec ℕ Global) × (answer ≡ Some new) × IsEditWritten made new.items
+  pub changed : made.changed ≡ true → (new : Vec ℕ Global) × (answer ≡ Some new)
+      × IsWrittenOf made new.items × ShowsEdits edits file new.items made
 
--- The bytes that edits leave of a file: those of the image that they make of it.
+-- The bytes that edits leave of a file: those of the image that they make of it. Where it was changed, they show the edits.
 pub record IsEditedTo (edits : List Edit) (file new : List ℕ) : Type 0 where
   pub made : Image
   pub makes : Makes edits file made
   pub written : IsImageWritten made new
-
--- New bytes of a file show its edits, by their section headers and to a loader that knows their program headers alone: what
--- the section headers of the old bytes show, after one edit and the next, in the final form of the image that shows it.
-pub record ShowsEdits (edits : List Edit) (file new : List ℕ) : Type 0 where
-  pub old : View
-  pub was_shown : section_view file ≡ Some old
-  pub image : Image
-  pub is_edited : shown image ≡ viewed image.header.e_machine edits old
-  pub by_sections : section_view new ≡ Some (final_view (image_at_read image) image)
-  pub by_loader : loader_view new (dynamic_symbol_count new) ≡ Some (final_view (image_at_read image) image)
+  pub shows : made.changed ≡ true → ShowsEdits edits file new made
 
 -- ---- which answer tells why there are no bytes; want of memory may be answered in any case
 
@@ -97,7 +98,7 @@ TellsEdit a file e = ⊥
 -- new bytes of an image that was changed, and none of one that wasn't
 pub record AreChanged (made : Image) (answer : Option (Vec ℕ Global)) : Type 0 where
   pub same : made.changed ≡ false → answer ≡ None
-  pub other : made.changed ≡ true → (new : Vec ℕ Global) × (answer ≡ Some new) × IsEditWritten made new.items
+  pub other : made.changed ≡ true → (new : Vec ℕ Global) × (answer ≡ Some new) × IsWrittenOf made new.items
 
 -- the error is that of an image that has no bytes
 abbrev pub TellsNoImage : Image → ElfCommandError → Type 0
@@ -117,7 +118,6 @@ pub record IsElfEdited (a : ElfAsked) (file : List ℕ) (answer : Option (Vec �
   pub edits : List Edit
   pub are : AreEditsAsked a edits
   pub edited : IsEditedBy edits file answer
-  pub shows : (new : Vec ℕ Global) → answer ≡ Some new → ShowsEdits edits file new.items
 
 -- the bytes that a command that edits leaves
 pub record LeavesElf (a : ElfAsked) (file new : List ℕ) : Type 0 where

@@ -3,7 +3,9 @@ pub mod ElfEngine
 pub mod ElfErrors
 pub mod ElfStores
 pub mod ElfWords
+pub mod Failures
 pub mod Meaning
+pub mod Noting
 pub mod Prints
 pub mod ShrinkRuns
 pub mod Shrinking

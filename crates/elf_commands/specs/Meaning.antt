@@ -1,5 +1,5 @@
 -- What a command for ELF files asks for, with its texts as bytes.
-use Rattle.std.specs.Prelude.{ℕ, ◌∷◌, [], Bool, List, Option, Some, None, Result, Ok, Err, codes, false, map, true}
+use Rattle.std.specs.Prelude.{ℕ, ◌∷◌, [], List, Option, Some, None, Result, Ok, Err, codes, false, map, true}
 use Rattle.std.specs.Prelude.{string_bytes}
 use Rattle.elf_edits.specs.Edit.{Edit, AddDebugEntry, AddNeeded, AddRunPath, ClearExecStack, DeleteNeeded}
 use Rattle.elf_edits.specs.Edit.{DeleteRunPath, NoDefaultLibrary, ReplaceNeeded, SetExecStack}

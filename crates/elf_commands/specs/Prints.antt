@@ -8,6 +8,7 @@ use Rattle.elf_apply.specs.declared.error.ElfError.TheVariants as elf
 use Rattle.elf_image.specs.Image.{Image, image_of, shown}
 use Rattle.elf_image.specs.Views.{View}
 use Rattle.elf_format.specs.declared.fault.ElfFault.{ElfFault}
+use Rattle.elf_write.specs.Counted.{Stops}
 use Rattle.elf_commands.specs.declared.error.ElfCommandError.{ElfCommandError}
 use Rattle.elf_commands.specs.declared.error.ElfCommandError.TheVariants.{Elf, Io, Memory}
 use Rattle.elf_commands.specs.Meaning.{ElfMeaning, apply_elf, edit_elf, print_exec_stack, print_interpreter, print_needed}
@@ -56,6 +57,26 @@ PrintMayFail (Io e) = ⊤
 PrintMayFail (Elf e) = PrintMayFailBy e
 PrintMayFail _ = ⊥
 
+-- ---- to a writer that counts its failures
+
+-- an error of writing bytes: the writer failed, and got the first of them
+abbrev pub StopsWriting : {W : Type 0} → (W → Option (List ℕ)) → (W → ℕ) → List ℕ → W → W → ElfError → Type 0
+StopsWriting contents failed bytes old new (elf.Io e) = Stops bytes (contents old) (contents new) (failed old) (failed new)
+StopsWriting contents failed bytes old new _ = ⊥
+
+-- an error of printing: the first rule that the file breaks, and the writer is as it was; or the writer failed, and
+-- got the first bytes of what the command prints
+abbrev pub TellsPrintFault : {W : Type 0} → (W → Option (List ℕ)) → (W → ℕ) → ElfMeaning → Result Image ElfFault → W → W → ElfError → Type 0
+TellsPrintFault contents failed meaning read old new (elf.Parse fault) = (read ≡ Err fault) × (new ≡ old)
+TellsPrintFault contents failed meaning read old new (elf.Io e) =
+    (image : Image) × (read ≡ Ok image) × StopsWriting contents failed (printed meaning (shown image)) old new (elf.Io e)
+TellsPrintFault contents failed meaning read old new _ = ⊥
+
+abbrev pub TellsPrint : {W : Type 0} → (W → Option (List ℕ)) → (W → ℕ) → ElfMeaning → Result Image ElfFault → W → W → ElfCommandError → Type 0
+TellsPrint contents failed meaning read old new Memory = new ≡ old
+TellsPrint contents failed meaning read old new (Elf e) = TellsPrintFault contents failed meaning read old new e
+TellsPrint contents failed meaning read old new _ = ⊥
+
 -- ---- of a store
 
 -- what a command prints of known bytes
@@ -64,8 +85,9 @@ PrintsStored meaning known old new =
     (file : List ℕ) → known ≡ Some file → Prints meaning (image_of file) old new
 
 -- what an error tells of known bytes; only a writer that fails may have got something
-abbrev pub TellsStored : {W : Type 0} → Option (List ℕ) → W → W → ElfCommandError → Type 0
-TellsStored known old new Memory = new ≡ old
-TellsStored known old new (Io e) = new ≡ old
-TellsStored known old new (Elf e) = (file : List ℕ) → known ≡ Some file → TellsElfFault (image_of file) old new e
-TellsStored known old new _ = ⊥
+abbrev pub TellsStored : {W : Type 0} → (W → Option (List ℕ)) → (W → ℕ) → ElfMeaning → Option (List ℕ) → W → W → ElfCommandError → Type 0
+TellsStored contents failed meaning known old new Memory = new ≡ old
+TellsStored contents failed meaning known old new (Io e) = new ≡ old
+TellsStored contents failed meaning known old new (Elf e) =
+    (file : List ℕ) → known ≡ Some file → TellsPrintFault contents failed meaning (image_of file) old new e
+TellsStored contents failed meaning known old new _ = ⊥

@@ -7,6 +7,7 @@ mod commands;
 mod editing;
 mod engine;
 mod notes;
+mod noting;
 mod printing;
 mod probing;
 mod shrinking;
@@ -23,6 +24,7 @@ pub use commands::{
 use editing::edit_file;
 pub use editing::{edit_path, edit_store};
 pub use engine::run_elf;
+pub use noting::{notes_at, notes_of_file};
 use printing::print_file;
 pub use printing::{print_path, print_store};
 pub use probing::{FileProbe, Probe};

@@ -1,5 +1,7 @@
 pub mod Edits
 pub mod Engine
 pub mod Errors
+pub mod Failures
 pub mod Meaning
+pub mod Notes
 pub mod Stores

@@ -1,5 +1,6 @@
 //! The bytes that fronts change, and writing them into a store.
 ghost use Rattle.std.specs.Prelude.{◌≡◌, ◌+◌, ◌≤◌, ◌⊎◌, All, IfErr, IfOk, IsTrue, OnErr, OnOk, length};
+ghost use Rattle.byte_store.specs.Causes.{EndsBy};
 ghost use Rattle.byte_store.specs.Fault.{BecomesLaid};
 ghost use Rattle.byte_store.specs.Known.{Becomes, HasLength, Stays, put_at};
 ghost use Rattle.byte_store.specs.Laid.{LiesIn, laid, patches_of};
@@ -89,6 +90,9 @@ pub(crate) fn write_changes_of<S: Store>(
         ⊎ BecomesLaid (patches_of pieces.now) (S.contents store.old) (S.contents store.new)) }
     ensures idle { length pieces.now ≡ 0 → Stays (S.contents store.old) (S.contents store.new) }
     ensures opens { length pieces.now ≡ 0 → OnOk result (IsTrue (S.is_writable store.new)) }
+    ensures grows { S.failed store.old ≤ S.failed store.new }
+    ensures cause { IfErr result (λ e.
+        EndsBy S.may_fail_write S.may_take_none e (S.failed store.old) (S.failed store.new)) }
 {
     store.open_for_writing()?;
     write_pieces(store, len, pieces)

@@ -4,6 +4,7 @@ ghost use Rattle.macho_edits.specs.Batch.{calls_of};
 ghost use Rattle.macho_commands.specs.Engine.{AreAsked, MayFail, Outcome, ShowsEdited};
 ghost use Rattle.macho_commands.specs.Engine.{Tells, TellsAsked, Writes};
 ghost use Rattle.macho_commands.specs.Engine.{asked, outcome, refused_answer};
+ghost use Rattle.macho_commands.specs.Failures.{HasCause, HasCauseAt};
 ghost use Rattle.macho_commands.specs.Meaning.{file_of, macho_command_model};
 ghost use Rattle.macho_commands.specs.Stores.{FailsPatch, Patched, TellsPath};
 ghost use Rattle.macho_commands.specs.declared.error.MachoCommandError.TheVariants.{Memory};
@@ -13,8 +14,8 @@ use crate::command::MachoCommand;
 use crate::edits::parse_macho_edits;
 use crate::error::MachoCommandError;
 use arwen_macho::macho::{Front, MachoBatchError, MachoContainer, MachoEdit, lay_fronts};
-use byte_store::{Opens, RuntimeFiles, Store, load_up_to};
-use command_words::{MOST_BYTES, words_of};
+use byte_store::{Opens, Store, load_up_to};
+use command_words::{MOST_BYTES, RegularFiles, words_of};
 use std::alloc::Global;
 use std::rt::Files;
 
@@ -93,8 +94,13 @@ fn alone(alloc: Global, edit: MachoEdit) -> Result<Vec<MachoEdit>, MachoCommandE
 
 /// Edits the bytes of a store in their place. Its first `MOST_BYTES` are read; bytes that change are
 /// written, after all that may be refused or wants memory, and nothing is cut. An edit that changes no
-/// byte does not open the store for writing. A refusal, and an error of a read, leave the bytes as they
-/// were; a write that fails leaves the first of the bytes that were to be written, in order.
+/// byte opens the store for writing too, and writes nothing. A refusal, and an error of a read, leave the bytes
+/// as they were; a write that fails leaves the first of the bytes that were to be written, in order.
+///
+/// # Errors
+///
+/// `Io` with the error of the call that failed, which the store counted, or of those that `load_up_to` and
+/// `write_pieces` make; the others tell why the edit is not made.
 pub fn patch_store<S: Store>(
     alloc: Global,
     store: &mut S,
@@ -105,6 +111,8 @@ pub fn patch_store<S: Store>(
     ensures err { IfErr result (λ e. MayFail (macho_command_model command.now) e) }
     ensures left { IfErr result (λ e.
         FailsPatch (macho_command_model command.now) (S.contents store.old) (S.contents store.new) e) }
+    ensures cause { IfErr result (HasCause S.may_fail_read S.may_fail_write S.may_take_none
+        (S.contents store.old) (S.failed store.old) (S.failed store.new)) }
 {
     let mut bytes = load_up_to(alloc, store, MOST_BYTES)?;
     let fronts = fronts_of(alloc, bytes.as_slice(), command)?;
@@ -125,6 +133,10 @@ pub fn patch_path<'p, O: Opens<'p>>(
     ensures err { IfErr result (λ e. MayFail (macho_command_model command.now) e) }
     ensures tells { IfErr result (λ e. TellsPath (macho_command_model command.now)
         (O.contents files.now (file_of (macho_command_model command.now))) e) }
+    ensures cause { IfErr result (HasCauseAt
+        (O.may_fail files.now (file_of (macho_command_model command.now)))
+        O.Opened.may_fail_read O.Opened.may_fail_write O.Opened.may_take_none
+        (O.contents files.now (file_of (macho_command_model command.now)))) }
 {
     let mut store = files.open(command.path_to_binary())?;
     patch_store(alloc, &mut store, command)?;
@@ -151,7 +163,7 @@ fn patch_file<R: Files + AllocGlobal>(
 ) -> Result<(), MachoCommandError>
     ensures { IfErr result (MayFail (macho_command_model command.now)) }
 {
-    let files = RuntimeFiles { files: rt };
+    let files = RegularFiles { files: rt };
     patch_path(rt.alloc(), &files, command)?;
     Ok(())
 }

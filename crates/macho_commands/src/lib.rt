@@ -8,6 +8,7 @@ mod commands;
 mod edits;
 mod engine;
 mod error;
+mod noting;
 mod tables;
 
 pub use command::MachoCommand;
@@ -15,4 +16,5 @@ pub use commands::{add, apply, change, delete, install_id, install_name};
 pub use edits::parse_macho_edits;
 pub use engine::{macho_execute, patch_path, patch_store, run_macho};
 pub use error::MachoCommandError;
+pub use noting::{notes_at, notes_of_file};
 pub use tables::macho_table;

@@ -11,6 +11,7 @@ ghost use Rattle.arwen_cli.specs.Line.{has_option, meaning_of};
 ghost use Rattle.arwen_cli.specs.Parser.{MayRefuse, MayRefuseReading, MayRefuseTaken, MeansBy, MeansTaken};
 
 use crate::cli::parser::{First, parse_values};
+use crate::cli::quiet::without_quiet;
 use crate::cli::{ArwenError, Command, ElfCommand, MachoCommand};
 use command_words::{ValueError, Values};
 use elf_commands::elf_table;
@@ -18,7 +19,7 @@ use macho_commands::macho_table;
 use std::alloc::{AllocError, Global};
 
 /// The program's name and its version, as `--version` prints them.
-const VERSION: &str = "arwen 0.0.5\n";
+const VERSION: &str = "arwen 0.1.0, port of arwen 0.0.5\n";
 
 /// What the program says where no command is named.
 const USAGE: &str = "Patches finished Mach-O and ELF files, and prints what ELF files say.
@@ -31,6 +32,7 @@ Commands:
   help   Print this text, or the help of the command behind it
 
 Options:
+  -q, --quiet    Leave out notes; also behind the command's name
   -h, --help     Print this text
   -V, --version  Print the version
 ";
@@ -50,8 +52,22 @@ const ELF: First = First {
 };
 
 /// The command that a line's words mean, those behind the program's name. A line that asks for help,
-/// and one that is wrong, is answered by `ArwenError::Line` with the text to print.
+/// and one that is wrong, is answered by `ArwenError::Line` with the text to print. Words `-q` and `--quiet` are passed
+/// over.
 pub fn parse_line(alloc: Global, words: &[&str]) -> Result<Command, ArwenError>
+    ensures means { IfOk result (λ command. has_option (map (λ w. w.now) words.now) ≡ false
+        → meaning_of (map (λ w. w.now) words.now) ≡ Some (shown command)) }
+    ensures refused { IfErr result (λ error. has_option (map (λ w. w.now) words.now) ≡ false
+        → (meaning : Meaning) → meaning_of (map (λ w. w.now) words.now) ≡ Some meaning
+        → error ≡ ArwenError.Memory) }
+    ensures err { IfErr result (λ error. IsOfLine error) }
+{
+    let heard = without_quiet(alloc, words)?;
+    parse_heard(alloc, heard.as_slice())
+}
+
+/// The same of words without `-q`.
+fn parse_heard(alloc: Global, words: &[&str]) -> Result<Command, ArwenError>
     ensures means { IfOk result (λ command. has_option (map (λ w. w.now) words.now) ≡ false
         → meaning_of (map (λ w. w.now) words.now) ≡ Some (shown command)) }
     ensures refused { IfErr result (λ error. has_option (map (λ w. w.now) words.now) ≡ false

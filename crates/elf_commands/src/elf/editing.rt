@@ -1,5 +1,6 @@
 //! Edits of the bytes of stores.
 ghost use Rattle.std.specs.Prelude.{◌≡◌, ◌+◌, ◌<◌, ◌≤◌, ◌^◌, All, IfErr, IfOk, IsTrue, OnOk, length};
+ghost use Rattle.byte_store.specs.Causes.{IsNotWritten};
 ghost use Rattle.byte_store.specs.Composed.{IsNotMade, made_of, owned_patches};
 ghost use Rattle.byte_store.specs.Known.{Becomes, HasLength, IsAll, Stays};
 ghost use Rattle.byte_store.specs.Laid.{LiesIn};
@@ -7,15 +8,15 @@ ghost use Rattle.elf_commands.specs.ElfAsked.{elf_asked};
 ghost use Rattle.elf_commands.specs.ElfEngine.{AreEditsAsked, ElfMayFail};
 ghost use Rattle.elf_commands.specs.ElfStores.{ChangesNothing, FailsElf, IsElfPatched, IsNothing, TellsElfPath};
 ghost use Rattle.elf_commands.specs.ElfWords.{edits_model};
+ghost use Rattle.elf_commands.specs.Failures.{HasCause, HasCauseAt, HasWriteCause};
 ghost use Rattle.elf_commands.specs.Meaning.{elf_file_of, elf_command_model};
 
 use crate::command::ElfCommand;
 use crate::elf::engine::{edited_pieces, edits_asked};
 use crate::elf::printing::load_elf;
 use crate::error::ElfCommandError;
-use byte_store::{
-    Difference, Left, Opens, ReplaceError, RuntimeFiles, Store, WriteError, make_difference,
-};
+use byte_store::{Difference, Left, Opens, ReplaceError, Store, WriteError, make_difference};
+use command_words::RegularFiles;
 use elf_edits::ElfEdit;
 use std::alloc::Global;
 use std::rt::Files;
@@ -26,6 +27,11 @@ use std::rt::Files;
 /// may not be written is refused whatever an edit finds in it. A refusal, and an error of a read, leave the bytes
 /// as they were; a write that fails leaves what `make_difference` says. A command that prints, or that asks first
 /// what is found, leaves the store as it is.
+///
+/// # Errors
+///
+/// `Io` with the error of the call that failed, which the store counted, or of those that `load_whole` and
+/// `make_difference` make; the others tell why the edits are not made.
 pub fn edit_store<S: Store>(
     alloc: Global,
     store: &mut S,
@@ -36,6 +42,8 @@ pub fn edit_store<S: Store>(
     ensures err { IfErr result (ElfMayFail (elf_command_model command.now)) }
     ensures left { IfErr result (FailsElf (elf_asked (elf_command_model command.now))
         (S.contents store.old) (S.contents store.new)) }
+    ensures cause { IfErr result (HasCause S.may_fail_read S.may_fail_write S.may_take_none
+        (S.contents store.old) (S.failed store.old) (S.failed store.new)) }
 {
     let bytes = load_elf(alloc, store)?;
     let Some(edits) = edits_asked(alloc, command)? else {
@@ -65,6 +73,8 @@ fn edit_loaded<S: Store>(
         → OnOk result (Stays (S.contents store.old) (S.contents store.new)) }
     ensures opens { ChangesNothing (elf_asked (elf_command_model command.now)) bytes.now
         → OnOk result (IsTrue (S.is_writable store.new)) }
+    ensures cause { IfErr result (HasWriteCause S.may_fail_write S.may_take_none
+        (S.failed store.old) (S.failed store.new)) }
 {
     let difference = edited_pieces(alloc, bytes, command, edits)?;
     Ok(make_opened(alloc, store, bytes.len() as u64, &difference)?)
@@ -90,6 +100,8 @@ pub(crate) fn make_opened<S: Store>(
         → OnOk result (Stays (S.contents store.old) (S.contents store.new)) }
     ensures opens { IsNothing old_length difference.now
         → OnOk result (IsTrue (S.is_writable store.new)) }
+    ensures cause { IfErr result (IsNotWritten S.may_fail_write S.may_take_none
+        (S.failed store.old) (S.failed store.new)) }
 {
     if !is_nothing(old_length, difference) {
         return make_difference(alloc, store, old_length, difference);
@@ -114,6 +126,10 @@ fn is_nothing(old_length: u64, difference: &Difference) -> bool
 }
 
 /// Edits the bytes of the store at the command's path, as `edit_store` does, and hands the store back.
+///
+/// # Errors
+///
+/// Those of `edit_store`, and `Io` with what the opening answered.
 pub fn edit_path<'p, O: Opens<'p>>(
     alloc: Global,
     files: &O,
@@ -124,6 +140,10 @@ pub fn edit_path<'p, O: Opens<'p>>(
         (O.Opened.contents store)) }
     ensures err { IfErr result (ElfMayFail (elf_command_model command.now)) }
     ensures tells { IfErr result (TellsElfPath (elf_asked (elf_command_model command.now))
+        (O.contents files.now (elf_file_of (elf_command_model command.now)))) }
+    ensures cause { IfErr result (HasCauseAt
+        (O.may_fail files.now (elf_file_of (elf_command_model command.now)))
+        O.Opened.may_fail_read O.Opened.may_fail_write O.Opened.may_take_none
         (O.contents files.now (elf_file_of (elf_command_model command.now)))) }
 {
     let mut store = files.open(command.path_to_binary())?;
@@ -147,7 +167,7 @@ pub(crate) fn edit_file<R: Files + AllocGlobal>(
 fn edit_lent<R: Files + AllocGlobal>(rt: &R, command: &ElfCommand) -> Result<(), ElfCommandError>
     ensures { IfErr result (ElfMayFail (elf_command_model command.now)) }
 {
-    let files = RuntimeFiles { files: rt };
+    let files = RegularFiles { files: rt };
     edit_path(rt.alloc(), &files, command)?;
     Ok(())
 }

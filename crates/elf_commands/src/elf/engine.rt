@@ -173,6 +173,7 @@ pub(crate) fn edited_pieces(
         → IfOk result (IsNoDifference bytes.now) }
 {
     edits_show();
+    batches_are_their_edits();
     read_images_hold_parts();
     let mut elf = ElfContainer::parse(alloc, bytes)?;
     match elf.apply(alloc, edits) {
@@ -195,7 +196,7 @@ fn refusal(command: &ElfCommand, error: ElfBatchError) -> ElfCommandError
 }
 
 /// Prints what a command asks of a file's bytes; nothing where it edits.
-pub(crate) fn print_bytes<W: Write>(
+fn print_bytes<W: Write>(
     alloc: Global,
     bytes: &[u8],
     command: &ElfCommand,
@@ -212,7 +213,7 @@ pub(crate) fn print_bytes<W: Write>(
 }
 
 /// Prints what a command asks of a file; nothing where it edits.
-fn print_asked<W: Write>(
+pub(crate) fn print_asked<W: Write>(
     alloc: Global,
     elf: &ElfContainer<'_>,
     command: &ElfCommand,

@@ -1,22 +1,31 @@
 //! Prints of the bytes of stores.
-ghost use Rattle.std.specs.Prelude.{◌<◌, IfErr, IfOk, OnOk, vec_len};
+ghost use Rattle.std.specs.Prelude.{◌≡◌, ◌<◌, ◌≤◌, IfErr, IfOk, OnOk, vec_len};
+ghost use Rattle.std.specs.Io.KnownBytes.{Appends};
 ghost use Rattle.byte_store.specs.Known.{HasLength, IsAll, Stays};
+ghost use Rattle.elf_commands.specs.Failures.{HasReadCause, HasReadCauseAt, IsNotLoaded};
 ghost use Rattle.elf_commands.specs.Meaning.{elf_file_of, elf_command_model};
-ghost use Rattle.elf_commands.specs.Prints.{PrintMayFail, PrintsStored, TellsStored};
+ghost use Rattle.elf_commands.specs.Prints.{PrintMayFail, Prints, PrintsStored, StopsWriting, TellsPrint, TellsStored, printed};
+ghost use Rattle.elf_image.specs.Image.{image_of, shown};
 
 use crate::command::ElfCommand;
-use crate::elf::engine::print_bytes;
+use crate::elf::engine::print_asked;
 use crate::error::ElfCommandError;
-use byte_store::{Opens, ReadError, RuntimeFiles, Store, load_whole};
-use command_words::MOST_BYTES;
-use std::alloc::Global;
+use arwen_elf::elf::{ElfContainer, ElfError};
+use byte_store::{Opens, ReadError, Store, load_whole};
+use command_words::{MOST_BYTES, RegularFiles};
+use elf_write::{CountedWrite, Sink, write_all_counted};
+use std::alloc::{AllocError, Global};
 use std::io;
-use std::io::Write;
 use std::rt::Files;
 
 /// Prints what a command asks of the bytes of a store, which are read whole: at most 4 GiB, or as many
 /// as the store says that it has, where these are more. A store that goes on behind that is a fault.
-pub fn print_store<S: Store, W: Write>(
+///
+/// # Errors
+///
+/// `Io` where a call of the store failed, which it counted, or came to no end; `Elf` where the file is none that is
+/// read, or, with `ElfError::Io`, where the writer failed, which it counted, and got the first bytes of the print.
+pub fn print_store<S: Store, W: CountedWrite>(
     alloc: Global,
     store: &mut S,
     command: &ElfCommand,
@@ -25,11 +34,60 @@ pub fn print_store<S: Store, W: Write>(
     ensures printed { OnOk result (PrintsStored (elf_command_model command.now) (S.contents store.old)
         (W.contents out.old) (W.contents out.new)) }
     ensures err { IfErr result PrintMayFail }
-    ensures tells { IfErr result (λ e. TellsStored (S.contents store.old) out.old out.new e) }
+    ensures tells { IfErr result (TellsStored W.contents W.failed (elf_command_model command.now)
+        (S.contents store.old) out.old out.new) }
     ensures kept { Stays (S.contents store.old) (S.contents store.new) }
+    ensures cause { IfErr result (HasReadCause S.may_fail_read (S.contents store.old)
+        (S.failed store.old) (S.failed store.new)) }
 {
     let bytes = load_elf(alloc, store)?;
-    print_bytes(alloc, bytes.as_slice(), command, out)
+    print_loaded(alloc, bytes.as_slice(), command, out)
+}
+
+/// Prints what a command asks of a file's bytes; nothing where it edits.
+fn print_loaded<W: CountedWrite>(
+    alloc: Global,
+    bytes: &[u8],
+    command: &ElfCommand,
+    out: &mut W,
+) -> Result<(), ElfCommandError>
+    ensures printed { OnOk result (Prints (elf_command_model command.now) (image_of bytes.now)
+        (W.contents out.old) (W.contents out.new)) }
+    ensures err { IfErr result (TellsPrint W.contents W.failed (elf_command_model command.now)
+        (image_of bytes.now) out.old out.new) }
+{
+    let elf = ElfContainer::parse(alloc, bytes)?;
+    let text = printed_text(alloc, &elf, command);
+    drop(elf);
+    let text = text?;
+    Ok(write_text(text.as_slice(), out)?)
+}
+
+/// The text that a command prints of a file; none where it edits.
+fn printed_text(
+    alloc: Global,
+    elf: &ElfContainer<'_>,
+    command: &ElfCommand,
+) -> Result<Vec<u8>, AllocError>
+    ensures { IfOk result (λ text.
+        text.items ≡ printed (elf_command_model command.now) (shown elf.now.inner)) }
+{
+    let mut text = Vec::new(alloc);
+    match print_asked(alloc, elf, command, &mut text) {
+        Ok(()) => Ok(text),
+        Err(_) => Err(AllocError),
+    }
+}
+
+/// Writes a text whole.
+fn write_text<W: CountedWrite>(text: &[u8], out: &mut W) -> Result<(), ElfError>
+    ensures ok { OnOk result (Appends (W.contents out.old) (W.contents out.new) text.now) }
+    ensures err { IfErr result (StopsWriting W.contents W.failed text.now out.old out.new) }
+{
+    match write_all_counted(text, out) {
+        Ok(()) => Ok(()),
+        Err(error) => Err(ElfError::Io(error)),
+    }
 }
 
 /// The bytes of a store, whole: at most 4 GiB, or as many as the store says that it has, where these are
@@ -38,6 +96,9 @@ pub(crate) fn load_elf<S: Store>(alloc: Global, store: &mut S) -> Result<Vec<u8>
     ensures read { IfOk result (λ bytes. IsAll (S.contents store.old) bytes.items) }
     ensures length { IfOk result (λ bytes. HasLength (S.contents store.new) (vec_len bytes)) }
     ensures kept { Stays (S.contents store.old) (S.contents store.new) }
+    ensures grows { S.failed store.old ≤ S.failed store.new }
+    ensures cause { IfErr result (IsNotLoaded S.may_fail_read (S.contents store.old)
+        (S.failed store.old) (S.failed store.new)) }
 {
     let most = most_of(store.length()?);
     load_whole(alloc, store, most)
@@ -45,14 +106,19 @@ pub(crate) fn load_elf<S: Store>(alloc: Global, store: &mut S) -> Result<Vec<u8>
 
 /// How many bytes are read of a store that says it has so many.
 fn most_of(told: u64) -> usize
-    ensures { result < usize.MAX }
+    ensures bound { result < usize.MAX }
+    ensures reach { told < usize.MAX → told ≤ result }
 {
     let told = usize::try_from(told).unwrap_or(usize::MAX);
     told.max(MOST_BYTES).min(usize::MAX - 1)
 }
 
 /// Prints what a command asks of the bytes of the store at its path, as `print_store` does.
-pub fn print_path<'p, O: Opens<'p>, W: Write>(
+///
+/// # Errors
+///
+/// Those of `print_store`, and `Io` with what the opening answered.
+pub fn print_path<'p, O: Opens<'p>, W: CountedWrite>(
     alloc: Global,
     files: &O,
     command: &'p ElfCommand,
@@ -62,8 +128,12 @@ pub fn print_path<'p, O: Opens<'p>, W: Write>(
         (O.contents files.now (elf_file_of (elf_command_model command.now)))
         (W.contents out.old) (W.contents out.new)) }
     ensures err { IfErr result PrintMayFail }
-    ensures tells { IfErr result (λ e. TellsStored
-        (O.contents files.now (elf_file_of (elf_command_model command.now))) out.old out.new e) }
+    ensures tells { IfErr result (TellsStored W.contents W.failed (elf_command_model command.now)
+        (O.contents files.now (elf_file_of (elf_command_model command.now))) out.old out.new) }
+    ensures cause { IfErr result (HasReadCauseAt
+        (O.may_fail files.now (elf_file_of (elf_command_model command.now)))
+        O.Opened.may_fail_read
+        (O.contents files.now (elf_file_of (elf_command_model command.now)))) }
 {
     let mut store = files.open(command.path_to_binary())?;
     print_store(alloc, &mut store, command, out)
@@ -88,7 +158,7 @@ fn print_lent<R: Files + Print + AllocGlobal>(
 ) -> Result<(), ElfCommandError>
     ensures { IfErr result PrintMayFail }
 {
-    let files = RuntimeFiles { files: rt };
-    let mut out = io::writer(rt);
+    let files = RegularFiles { files: rt };
+    let mut out = Sink::new(io::writer(rt));
     print_path(rt.alloc(), &files, command, &mut out)
 }

@@ -7,7 +7,8 @@ ghost use Rattle.elf_image.specs.Image.{shown};
 ghost use Rattle.elf_commands.specs.Shrinking.{Answers, AreAnswers, AreFound, IsMachineAt, folder_of, line_by, path_of, removal_line, removal_lines};
 
 use arwen_elf::elf::{ElfContainer, ProbeAnswer, Reason, Removed};
-use byte_store::{Opens, ReadError, RuntimeFiles, load_up_to};
+use byte_store::{Opens, ReadError, load_up_to};
+use command_words::RegularFiles;
 use elf_image::machine_of;
 use patch_bytes::ByteString;
 use std::alloc::{AllocError, Global};
@@ -59,7 +60,7 @@ impl<R: Files> Probe for FileProbe<'_, R> {
         let Some(path) = candidate_path(alloc, directory, needed)? else {
             return Ok(None);
         };
-        let files = RuntimeFiles { files: self.files };
+        let files = RegularFiles { files: self.files };
         machine_at(alloc, &files, path.as_str())
     }
 }

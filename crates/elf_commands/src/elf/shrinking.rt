@@ -11,6 +11,7 @@ ghost use Rattle.elf_edits.specs.Edited.{step};
 ghost use Rattle.elf_commands.specs.Shrinking.{removal_lines};
 ghost use Rattle.elf_commands.specs.ElfAsked.{shrinking};
 ghost use Rattle.elf_commands.specs.ElfEngine.{MayFailAs, TellsNoImage};
+ghost use Rattle.elf_commands.specs.Failures.{HasShrinkCause, HasShrinkCauseAt, HasTellCause};
 ghost use Rattle.elf_commands.specs.ShrinkRuns.{FailsShrink, IsQuiet, IsRemovalTold, IsShrunkBy, IsShrunkImage, RunsShrink, ShrinksStore, Steps, TellsShrink, TellsShrunk, TellsShrunkPath, TellsUnshrunk, TellsUntold};
 
 use crate::elf::commands::shrink_rpath::Args;
@@ -22,9 +23,11 @@ use crate::elf::probing::{FileProbe, Probe, answers_of, removal_text};
 use crate::error::ElfCommandError;
 use crate::texts::texts_of;
 use arwen_elf::elf::{ElfContainer, ElfError, ProbeAnswer, Removed};
-use byte_store::{Difference, Opens, RuntimeFiles, Store};
+use byte_store::{Difference, Opens, Store};
+use command_words::RegularFiles;
 use elf_edits::laws::{batches_are_their_edits, edits_show};
 use elf_image::laws::read_images_hold_parts;
+use elf_write::{CountedWrite, Sink, write_all_counted};
 use std::alloc::Global;
 use std::io::Write;
 use std::rt::Files;
@@ -118,6 +121,7 @@ fn shrunk_pieces<P: Probe>(
         (map string_bytes prefixes.now) bytes.now) }
 {
     edits_show();
+    batches_are_their_edits();
     read_images_hold_parts();
     let elf = ElfContainer::parse(alloc, bytes)?;
     match answers_of(alloc, &elf, probe) {
@@ -176,7 +180,12 @@ fn shrunk_of(
 /// them. The probe says what stands in their directories. Once what differs is known, the lines of the
 /// directories that went go to `out`, in one write, and then the blocks that differ are written. Where nothing
 /// went, the store is opened for writing too.
-pub fn shrink_store<S: Store, P: Probe, W: Write>(
+///
+/// # Errors
+///
+/// `Io` with the error of the call of the store, or of the writer, that failed, which it counted, or of those that
+/// `load_whole`, `make_difference` and `write_all_counted` make; the others tell why the edit is not made.
+pub fn shrink_store<S: Store, P: Probe, W: CountedWrite>(
     alloc: Global,
     store: &mut S,
     args: &Args,
@@ -192,6 +201,9 @@ pub fn shrink_store<S: Store, P: Probe, W: Write>(
         (map string_bytes args.now.allowed_rpath_prefixes.items)
         (S.contents store.old) (S.contents store.new)) }
     ensures quiet { IfErr result (IsQuiet out.old out.new) }
+    ensures cause { IfErr result (HasShrinkCause S.may_fail_read S.may_fail_write S.may_take_none
+        (S.contents store.old) (S.failed store.old) (S.failed store.new)
+        (W.failed out.old) (W.failed out.new)) }
 {
     let bytes = load_elf(alloc, store)?;
     let prefixes = args.allowed_rpath_prefixes.as_slice();
@@ -199,7 +211,7 @@ pub fn shrink_store<S: Store, P: Probe, W: Write>(
 }
 
 /// Shrinks the run paths in a store that has these bytes.
-fn shrink_loaded<S: Store, P: Probe, W: Write>(
+fn shrink_loaded<S: Store, P: Probe, W: CountedWrite>(
     alloc: Global,
     store: &mut S,
     bytes: &[u8],
@@ -216,15 +228,21 @@ fn shrink_loaded<S: Store, P: Probe, W: Write>(
     ensures left { IfErr result (FailsShrink (P.may_find probe.now)
         (map string_bytes prefixes.now) (S.contents store.old) (S.contents store.new)) }
     ensures quiet { IfErr result (IsQuiet out.old out.new) }
+    ensures cause { IfErr result (HasTellCause S.may_fail_write S.may_take_none
+        (S.failed store.old) (S.failed store.new) (W.failed out.old) (W.failed out.new)) }
 {
     let shrunk = shrunk_pieces(alloc, bytes, prefixes, probe)?;
-    out.write_all(shrunk.text.as_bytes())?;
+    write_all_counted(shrunk.text.as_bytes(), out)?;
     Ok(make_opened(alloc, store, bytes.len() as u64, &shrunk.difference)?)
 }
 
 /// Shrinks the run paths of the store at the command's path, as `shrink_store` does, and hands the store
 /// back.
-pub fn shrink_path<'p, O: Opens<'p>, P: Probe, W: Write>(
+///
+/// # Errors
+///
+/// Those of `shrink_store`, and `Io` with what the opening answered.
+pub fn shrink_path<'p, O: Opens<'p>, P: Probe, W: CountedWrite>(
     alloc: Global,
     files: &O,
     args: &'p Args,
@@ -240,6 +258,11 @@ pub fn shrink_path<'p, O: Opens<'p>, P: Probe, W: Write>(
     ensures tells { IfErr result (TellsShrunkPath (P.may_find probe.now)
         (map string_bytes args.now.allowed_rpath_prefixes.items)
         (O.contents files.now (string_bytes args.now.path_to_binary))) }
+    ensures cause { IfErr result (HasShrinkCauseAt
+        (O.may_fail files.now (string_bytes args.now.path_to_binary))
+        O.Opened.may_fail_read O.Opened.may_fail_write O.Opened.may_take_none
+        (O.contents files.now (string_bytes args.now.path_to_binary))
+        (W.failed out.old) (W.failed out.new)) }
 {
     let mut store = files.open(args.path_to_binary.as_str())?;
     shrink_store(alloc, &mut store, args, probe, out)?;
@@ -264,8 +287,9 @@ fn shrink_lent<R: Files + Eprint + AllocGlobal>(rt: &R, args: &Args) -> Result<(
     ensures { IfErr result (MayFailAs
         (shrinking (map string_bytes args.now.allowed_rpath_prefixes.items))) }
 {
-    let files = RuntimeFiles { files: rt };
+    let files = RegularFiles { files: rt };
     let probe = FileProbe { files: rt };
-    shrink_path(rt.alloc(), &files, args, &probe, &mut Notes { to: rt })?;
+    let mut told = Sink::new(Notes { to: rt });
+    shrink_path(rt.alloc(), &files, args, &probe, &mut told)?;
     Ok(())
 }

@@ -21,7 +21,7 @@ returns-in-Ok-clause-left c =
     let edits : List Edit = edits_model c.args.edits.now in
     IfOk-weaker c.changed_bytes.result _ _ (λ answer changed.
     answer_left a edits c.args.bytes.now c.in_ok-elf.elf.inner _ answer c.requires c.in_ok-elf.ensures.reads.0 c.in-Ok.ensures.takes.0 changed
-    c.edits_show.ensures c.read_images_hold_parts.ensures) c.changed_bytes.ensures.ok
+    c.edits_show.ensures c.batches_are_their_edits.ensures c.read_images_hold_parts.ensures c.in_ok-elf.ensures.shows) c.changed_bytes.ensures.ok
 
 pub returns-in-Ok-clause-err : goal.returns-in-Ok-clause-err
 returns-in-Ok-clause-err c =

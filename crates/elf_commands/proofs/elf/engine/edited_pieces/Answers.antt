@@ -21,7 +21,8 @@ returns-in-Ok-clause-left c =
     let edits : List Edit = edits_model c.args.edits.now in
     let source = source_is c.edits_show.ensures c.read_images_hold_parts.ensures edits c.args.bytes.now c.in_ok-elf.elf.inner _ c.in_ok-elf.ensures.reads.0 c.in-Ok.ensures.takes.0 in
     IfOk-weaker c.pieces_of.result _ _ (λ d written.
-    leaves_pieces a edits c.args.bytes.now c.in_ok-elf.elf.inner _ d c.requires c.in_ok-elf.ensures.reads.0 c.in-Ok.ensures.takes.0 source written) c.pieces_of.ensures.bytes
+    leaves_pieces c.edits_show.ensures c.batches_are_their_edits.ensures a edits c.args.bytes.now c.in_ok-elf.elf.inner _ d c.requires c.in_ok-elf.ensures.reads.0
+    c.in_ok-elf.ensures.shows c.in-Ok.ensures.takes.0 source written) c.pieces_of.ensures.bytes
 
 pub returns-in-Ok-clause-err : goal.returns-in-Ok-clause-err
 returns-in-Ok-clause-err c =

@@ -1,4 +1,4 @@
-use Rattle.std.proofs.Common.{List, Result, Ok, Err, map, refl, string_bytes, subst, ◌∙◌, ap, inl, inr}
+use Rattle.std.proofs.Common.{List, Result, Ok, Err, map, string_bytes, subst, ◌∙◌, ap, inl, inr}
 use Rattle.std.specs.Prelude.{IfOk}
 use Rattle.std.proofs.lemmas.Result.{IfErr-weaker, IfOk-weaker}
 use Rattle.elf_apply.specs.Told.{Refuses}

@@ -17,7 +17,7 @@ returns-in_err-make_opened-clause-left g c =
 
 pub returns-clause-shrunk : goal.returns-clause-shrunk
 returns-clause-shrunk g c =
-    let Gets : List ℕ → Type 0 = λ l. Appends (g.W.Write.contents c.args.out.now) (g.W.Write.contents c.write_all.new.self) l in
+    let Gets : List ℕ → Type 0 = λ l. Appends (g.W.Write.contents c.args.out.now) (g.W.Write.contents c.write_all_counted.new.w) l in
     shrinks_store (g.P.Probe.may_find c.args.probe.now) (map string_bytes c.args.prefixes.now) (g.S.Store.contents c.args.store.now) (g.S.Store.contents c.make_opened.new.store)
-    (g.W.Write.contents c.args.out.now) (g.W.Write.contents c.write_all.new.self) c.args.bytes.now c.in_ok-shrunk.shrunk.difference (string_bytes c.in_ok-shrunk.shrunk.text) c.requires.whole
-    c.in_ok-shrunk.ensures.shrunk c.in_ok-make_opened.ensures.ok (subst Gets c.as_bytes.ensures.value c.in_ok-write_all.ensures.bytes)
+    (g.W.Write.contents c.args.out.now) (g.W.Write.contents c.write_all_counted.new.w) c.args.bytes.now c.in_ok-shrunk.shrunk.difference (string_bytes c.in_ok-shrunk.shrunk.text) c.requires.whole
+    c.in_ok-shrunk.ensures.shrunk c.in_ok-make_opened.ensures.ok (subst Gets c.as_bytes.ensures.value c.in_ok-write_all_counted.ensures.ok)

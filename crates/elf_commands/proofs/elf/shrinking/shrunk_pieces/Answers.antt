@@ -1,4 +1,4 @@
-use Rattle.std.proofs.Common.{List, map, string_bytes}
+use Rattle.std.proofs.Common.{map, string_bytes}
 use Rattle.std.proofs.lemmas.Result.{IfErr-weaker, IfOk-weaker}
 use Rattle.elf_edits_shrink.specs.ShrinkModel.{answer_model}
 use Rattle.elf_edits.specs.Edit.{ShrinkRunPath}
@@ -17,8 +17,8 @@ returns-in-Ok-clause-shrunk g c =
     let answers = map answer_model c.in-Ok.answers.items in
     let found = found_in finds c.args.bytes.now c.in_ok-elf.elf.inner answers c.in_ok-elf.ensures.reads.0 c.in-Ok.ensures in
     IfOk-weaker c.pieces_by_answers.result _ _ (λ made shrunk.
-    shrunk_file c.edits_show.ensures c.read_images_hold_parts.ensures finds (map string_bytes c.args.prefixes.now) c.args.bytes.now c.in_ok-elf.elf.inner answers made.difference (string_bytes made.text)
-    c.in_ok-elf.ensures.reads.0 found shrunk) c.pieces_by_answers.ensures.shrunk
+    shrunk_file c.edits_show.ensures c.batches_are_their_edits.ensures c.read_images_hold_parts.ensures finds (map string_bytes c.args.prefixes.now) c.args.bytes.now c.in_ok-elf.elf.inner answers made.difference
+    (string_bytes made.text) c.in_ok-elf.ensures.reads.0 c.in_ok-elf.ensures.shows found shrunk) c.pieces_by_answers.ensures.shrunk
 
 pub returns-in-Ok-clause-err : goal.returns-in-Ok-clause-err
 returns-in-Ok-clause-err g c =

@@ -1,0 +1,3 @@
+pub mod Edited
+pub mod Export
+pub mod Words

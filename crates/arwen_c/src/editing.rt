@@ -1,0 +1,134 @@
+//! The bytes of a file after edits.
+ghost use Rattle.std.specs.Prelude.{◌≡◌, ◌⊎◌, Err, IfErr, IfOk, IsOk, MatchResult, map, string_bytes};
+ghost use Rattle.elf_commands.specs.ElfAsked.{several};
+ghost use Rattle.elf_commands.specs.ElfEngine.{TellsEdit, bytes_left};
+ghost use Rattle.elf_commands.specs.declared.error.ElfCommandError.TheVariants.{Memory as no_memory};
+ghost use Rattle.elf_commands.specs.ElfWords.{elf_edits_of};
+ghost use Rattle.macho_commands.specs.Edits.{edits_of};
+ghost use Rattle.macho_commands.specs.Engine.{Asked, Tells, outcome_of};
+ghost use Rattle.arwen_c.specs.Edited.{IsElfMade, IsMachoMade, IsMade, TellsWhy};
+ghost use Rattle.arwen_c.specs.Words.{words_in as words_told};
+ghost use Rattle.arwen_c.specs.declared.editing.EditError.TheVariants.{Elf, Macho, Memory};
+
+use crate::words::words_in;
+use elf_commands::elf::{self, run_elf};
+use elf_commands::{ElfCommand, ElfCommandError};
+use elf_format::opening::has_magic;
+use macho_commands::{MachoCommand, MachoCommandError, apply, run_macho};
+use std::alloc::{AllocError, AllocFailed, Global};
+use thiserror::Error;
+
+/// Why there are no edited bytes.
+#[derive(Debug, Drop, Error)]
+pub enum EditError {
+    /// The words are no UTF-8.
+    #[error("words that are no UTF-8")]
+    NoText,
+    /// The words are no edits, or the ELF file or an edit of it is refused.
+    #[error(transparent)]
+    Elf(ElfCommandError),
+    /// The same of a Mach-O file.
+    #[error(transparent)]
+    Macho(MachoCommandError),
+    /// There was no memory.
+    #[error("out of memory")]
+    Memory,
+}
+
+impl From<ElfCommandError> for EditError {
+    ghost from_gives = { λ e answer. answer ≡ Elf e };
+
+    fn from(error: ElfCommandError) -> EditError {
+        EditError::Elf(error)
+    }
+}
+
+impl From<MachoCommandError> for EditError {
+    ghost from_gives = { λ e answer. answer ≡ Macho e };
+
+    fn from(error: MachoCommandError) -> EditError {
+        EditError::Macho(error)
+    }
+}
+
+impl From<AllocError> for EditError {
+    ghost from_gives = { λ _ answer. answer ≡ Memory };
+
+    fn from(_refused: AllocError) -> EditError {
+        EditError::Memory
+    }
+}
+
+impl<T: Drop> From<AllocFailed<T>> for EditError {
+    ghost from_gives = { λ _ answer. answer ≡ Memory };
+
+    fn from(_refused: AllocFailed<T>) -> EditError {
+        EditError::Memory
+    }
+}
+
+/// The bytes of a file after the edits that words name, as `arwen elf apply` and `arwen macho apply` make them: an ELF file
+/// by its magic, any other as a Mach-O file. The words are UTF-8, with a NUL between two of them. Errors: `NoText`, `Elf`
+/// or `Macho` with what refuses the words, the file or an edit; `Memory`.
+pub fn edited(alloc: Global, bytes: &[u8], words: &[u8]) -> Result<Vec<u8>, EditError>
+    ensures made { IfOk result (λ new. IsMade (words_told words.now) bytes.now new.items) }
+    ensures why { IfErr result (TellsWhy words.now bytes.now) }
+{
+    let Ok(text) = std::str::from_utf8(words) else {
+        return Err(EditError::NoText);
+    };
+    let words = words_in(alloc, text)?;
+    if has_magic(bytes) {
+        Ok(edited_elf(alloc, bytes, words)?)
+    } else {
+        Ok(edited_macho(alloc, bytes, words)?)
+    }
+}
+
+/// The bytes of an ELF file after the edits that words name.
+fn edited_elf(alloc: Global, bytes: &[u8], words: Vec<String>) -> Result<Vec<u8>, ElfCommandError>
+    ensures { MatchResult result
+        (λ new. IsElfMade (map string_bytes words.items) bytes.now new.items)
+        (λ e. TellsEdit (several (elf_edits_of (map string_bytes words.items))) bytes.now e) }
+{
+    let command = ElfCommand::Apply(elf::apply::Args {
+        path_to_binary: String::new(alloc),
+        edits: words,
+    });
+    let mut printed = Vec::new(alloc);
+    let answer = run_elf(alloc, bytes, &command, &[], &mut printed);
+    new_bytes(alloc, bytes, answer)
+}
+
+/// New bytes, or a copy of the old ones where there are none.
+fn new_bytes(
+    alloc: Global,
+    bytes: &[u8],
+    answer: Result<Option<Vec<u8>>, ElfCommandError>,
+) -> Result<Vec<u8>, ElfCommandError>
+    ensures made { IfOk result (λ new. IfOk answer (λ a. new.items ≡ bytes_left bytes.now a)) }
+    ensures there { IsOk result → IsOk answer }
+    ensures why { IfErr result (λ e. (e ≡ no_memory) ⊎ (answer ≡ Err e)) }
+{
+    match answer? {
+        Some(new) => Ok(new),
+        None => Ok(Vec::from_slice(alloc, bytes)?),
+    }
+}
+
+/// The bytes of a Mach-O file after the edits that words name.
+fn edited_macho(
+    alloc: Global,
+    bytes: &[u8],
+    words: Vec<String>,
+) -> Result<Vec<u8>, MachoCommandError>
+    ensures { MatchResult result
+        (λ new. IsMachoMade (map string_bytes words.items) bytes.now new.items)
+        (λ e. Tells (outcome_of (Asked.several (edits_of (map string_bytes words.items))) bytes.now) e) }
+{
+    let command = MachoCommand::Apply(apply::Args {
+        path_to_binary: String::new(alloc),
+        edits: words,
+    });
+    run_macho(alloc, bytes, &command)
+}

@@ -1,0 +1,4 @@
+pub mod FirstSteps
+pub mod NulSteps
+pub mod SliceLaws
+pub mod Joined

@@ -1,0 +1,9 @@
+pub mod ElfFacts
+pub mod FileFacts
+pub mod Json
+pub mod Lines
+pub mod MachoFacts
+pub mod Names
+pub mod Refusals
+pub mod Shown
+pub mod Texts

@@ -1,0 +1,64 @@
+-- Why a command for an ELF file answers that the file could not be read or written, or that nothing could be printed.
+use Rattle.std.specs.Prelude.{ℕ, ◌-◌, ◌^◌, ◌⊎◌, List, Option, ⊤}
+use Rattle.std.specs.declared.io.Error.{Error}
+use Rattle.byte_store.specs.Causes.{EndsBy, IsNotWhole}
+use Rattle.byte_store.specs.Counts.{RisesBy}
+use Rattle.byte_store.specs.declared.reading.ReadError.{ReadError}
+use Rattle.byte_store.specs.declared.reading.ReadError.TheVariants as read
+use Rattle.elf_commands.specs.declared.error.ElfCommandError.{ElfCommandError}
+use Rattle.elf_commands.specs.declared.error.ElfCommandError.TheVariants.{Io}
+
+-- as many bytes as are read of a store that says so
+abbrev pub most_read : ℕ
+most_read = 2 ^ 64 - 2
+
+-- a store was not read whole
+abbrev pub IsNotLoaded : (Error → Type 0) → Option (List ℕ) → ℕ → ℕ → ReadError → Type 0
+IsNotLoaded reads known old new e = IsNotWhole reads most_read known old new e
+
+-- an error of a store of these bytes: its calls that read failed or came to no end, or those that write ended by it
+abbrev pub IsOfStore : (Error → Type 0) → (Error → Type 0) → Type 0 → Option (List ℕ) → ℕ → ℕ → Error → Type 0
+IsOfStore reads writes takes_none known old new e =
+    IsNotLoaded reads known old new (read.Io e) ⊎ EndsBy writes takes_none e old new
+
+-- an error of reading or writing is one of the store
+abbrev pub HasCause : (Error → Type 0) → (Error → Type 0) → Type 0 → Option (List ℕ) → ℕ → ℕ → ElfCommandError → Type 0
+HasCause reads writes takes_none known old new (Io e) = IsOfStore reads writes takes_none known old new e
+HasCause reads writes takes_none known old new e = ⊤
+
+-- an error of writing alone
+abbrev pub HasWriteCause : (Error → Type 0) → Type 0 → ℕ → ℕ → ElfCommandError → Type 0
+HasWriteCause writes takes_none old new (Io e) = EndsBy writes takes_none e old new
+HasWriteCause writes takes_none old new e = ⊤
+
+-- an error of reading alone
+abbrev pub HasReadCause : (Error → Type 0) → Option (List ℕ) → ℕ → ℕ → ElfCommandError → Type 0
+HasReadCause reads known old new (Io e) = IsNotLoaded reads known old new (read.Io e)
+HasReadCause reads known old new e = ⊤
+
+-- an error of writing, or a failure of what lines are told to
+abbrev pub HasTellCause : (Error → Type 0) → Type 0 → ℕ → ℕ → ℕ → ℕ → ElfCommandError → Type 0
+HasTellCause writes takes_none old new said told (Io e) = RisesBy 1 said told ⊎ EndsBy writes takes_none e old new
+HasTellCause writes takes_none old new said told e = ⊤
+
+-- an error of reading or writing is one of the store, or what lines are told to failed
+abbrev pub HasShrinkCause : (Error → Type 0) → (Error → Type 0) → Type 0 → Option (List ℕ) → ℕ → ℕ → ℕ → ℕ → ElfCommandError → Type 0
+HasShrinkCause reads writes takes_none known old new said told (Io e) =
+    RisesBy 1 said told ⊎ IsOfStore reads writes takes_none known old new e
+HasShrinkCause reads writes takes_none known old new said told e = ⊤
+
+-- ---- at a path: the opening answered the error, or it is one of the store that was opened
+
+abbrev pub HasCauseAt : (Error → Type 0) → (Error → Type 0) → (Error → Type 0) → Type 0 → Option (List ℕ) → ElfCommandError → Type 0
+HasCauseAt opens reads writes takes_none known (Io e) =
+    opens e ⊎ ((failed : ℕ) × IsOfStore reads writes takes_none known 0 failed e)
+HasCauseAt opens reads writes takes_none known e = ⊤
+
+abbrev pub HasReadCauseAt : (Error → Type 0) → (Error → Type 0) → Option (List ℕ) → ElfCommandError → Type 0
+HasReadCauseAt opens reads known (Io e) = opens e ⊎ ((failed : ℕ) × IsNotLoaded reads known 0 failed (read.Io e))
+HasReadCauseAt opens reads known e = ⊤
+
+abbrev pub HasShrinkCauseAt : (Error → Type 0) → (Error → Type 0) → (Error → Type 0) → Type 0 → Option (List ℕ) → ℕ → ℕ → ElfCommandError → Type 0
+HasShrinkCauseAt opens reads writes takes_none known said told (Io e) =
+    RisesBy 1 said told ⊎ opens e ⊎ ((failed : ℕ) × IsOfStore reads writes takes_none known 0 failed e)
+HasShrinkCauseAt opens reads writes takes_none known said told e = ⊤

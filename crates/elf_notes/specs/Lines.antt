@@ -1,0 +1,41 @@
+-- The lines that tell notes.
+use Rattle.std.specs.Prelude.{ℕ, List, [], ◌++◌, Bool, codes, if◌then◌else◌, map}
+use Rattle.std.specs.List.{flat_map}
+use Rattle.std.specs.Str.Lossy.{utf8_lossy}
+use Rattle.elf_notes.specs.Notes.{Name}
+use Rattle.elf_notes.specs.declared.notes.ElfNotes.{ElfNotes}
+
+abbrev pub Words : Type 0
+Words = List ℕ
+
+-- a line about a file: words with a name among them, lossily
+abbrev pub line_of : Words → Words → Name → Words → Words
+line_of file before name behind = codes "note: " ++ file ++ codes ": " ++ before ++ utf8_lossy name ++ behind ++ codes "\n"
+
+abbrev pub old_need_line : Words → Name → Words
+old_need_line file name =
+    line_of file (codes "versions are needed of ") name (codes ", and no entry needs it any more: glibc refuses to load this")
+
+abbrev pub unmatched_line : Words → Name → Words
+unmatched_line file name = line_of file (codes "no entry needs ") name []
+
+-- a line where something holds
+abbrev pub line_if : Bool → Words → Words → Words
+line_if holds file words = if holds then line_of file words [] [] else []
+
+abbrev pub no_names_line : Words
+no_names_line = codes "no name of a library is given"
+
+abbrev pub own_loader_line : Words
+own_loader_line = codes "it loads itself, and glibc stops where such a file has a run path"
+
+abbrev pub no_list_line : Words
+no_list_line = codes "it has no dynamic section, so that nothing was there to change"
+
+abbrev pub lines_of : Words → ElfNotes → Words
+lines_of file notes =
+    flat_map (old_need_line file) (map (λ n. n.now) notes.old_needs.items)
+    ++ flat_map (unmatched_line file) (map (λ n. n.now) notes.unmatched.items)
+    ++ line_if notes.has_no_names file no_names_line
+    ++ line_if notes.is_own_loader file own_loader_line
+    ++ line_if notes.lacks_list file no_list_line

@@ -1,0 +1,112 @@
+//! The lines that tell notes.
+ghost use Rattle.std.specs.Prelude.{◌≡◌, ◌++◌, [], IfOk, OnOk, codes, map, string_bytes};
+ghost use Rattle.std.specs.List.{flat_map};
+ghost use Rattle.elf_notes.specs.Lines.{line_if, line_of, lines_of, old_need_line, unmatched_line};
+
+use crate::notes::ElfNotes;
+use std::alloc::{AllocError, Global};
+
+/// The lines that tell what a user should know of edits of a file, each with the file's name. Error: `AllocError`.
+pub fn note_lines(alloc: Global, file: &str, notes: &ElfNotes<'_>) -> Result<String, AllocError>
+    ensures { IfOk result (λ text. string_bytes text ≡ lines_of file.now notes.now) }
+{
+    let mut text = String::new(alloc);
+    put_old_needs(alloc, &mut text, file, &notes.old_needs)?;
+    put_unmatched(alloc, &mut text, file, &notes.unmatched)?;
+    put_flags(alloc, &mut text, file, notes)?;
+    Ok(text)
+}
+
+/// Puts the lines of what holds of the edits behind others.
+fn put_flags(
+    alloc: Global,
+    text: &mut String,
+    file: &str,
+    notes: &ElfNotes<'_>,
+) -> Result<(), AllocError>
+    ensures { OnOk result (string_bytes text.new ≡ string_bytes text.old
+        ++ line_if notes.now.has_no_names file.now (codes "no name of a library is given")
+        ++ line_if notes.now.is_own_loader file.now
+        (codes "it loads itself, and glibc stops where such a file has a run path")
+        ++ line_if notes.now.lacks_list file.now
+        (codes "it has no dynamic section, so that nothing was there to change")) }
+{
+    let no_names = "no name of a library is given";
+    put_if(alloc, text, notes.has_no_names, file, no_names)?;
+    let own_loader = "it loads itself, and glibc stops where such a file has a run path";
+    put_if(alloc, text, notes.is_own_loader, file, own_loader)?;
+    let no_list = "it has no dynamic section, so that nothing was there to change";
+    put_if(alloc, text, notes.lacks_list, file, no_list)
+}
+
+/// Puts a line behind others, where something holds.
+fn put_if(
+    alloc: Global,
+    text: &mut String,
+    holds: bool,
+    file: &str,
+    words: &str,
+) -> Result<(), AllocError>
+    ensures { OnOk result (string_bytes text.new
+        ≡ string_bytes text.old ++ line_if holds file.now words.now) }
+{
+    if holds {
+        put_line(alloc, text, file, (words, &[], ""))
+    } else {
+        Ok(())
+    }
+}
+
+/// Puts the lines of libraries of which versions are needed behind others.
+fn put_old_needs(
+    alloc: Global,
+    text: &mut String,
+    file: &str,
+    names: &[&[u8]],
+) -> Result<(), AllocError>
+    ensures { OnOk result (string_bytes text.new ≡ string_bytes text.old
+        ++ flat_map (old_need_line file.now) (map (λ n. n.now) names.now)) }
+{
+    for name in names {
+        let behind = ", and no entry needs it any more: glibc refuses to load this";
+        put_line(alloc, text, file, ("versions are needed of ", name, behind))?;
+    }
+    Ok(())
+}
+
+/// Puts the lines of names that were looked for in vain behind others.
+fn put_unmatched(
+    alloc: Global,
+    text: &mut String,
+    file: &str,
+    names: &[&[u8]],
+) -> Result<(), AllocError>
+    ensures { OnOk result (string_bytes text.new ≡ string_bytes text.old
+        ++ flat_map (unmatched_line file.now) (map (λ n. n.now) names.now)) }
+{
+    for name in names {
+        put_line(alloc, text, file, ("no entry needs ", name, ""))?;
+    }
+    Ok(())
+}
+
+/// Puts a line behind others: words, a name and words.
+fn put_line(
+    alloc: Global,
+    text: &mut String,
+    file: &str,
+    words: (&str, &[u8], &str),
+) -> Result<(), AllocError>
+    ensures { OnOk result (string_bytes text.new ≡ string_bytes text.old
+        ++ line_of file.now words.entry.0.now words.entry.1.now words.entry.2.now) }
+{
+    let (before, name, behind) = words;
+    let name = String::from_utf8_lossy(alloc, name)?;
+    text.push_str("note: ")?;
+    text.push_str(file)?;
+    text.push_str(": ")?;
+    text.push_str(before)?;
+    text.push_str(name.as_str())?;
+    text.push_str(behind)?;
+    text.push_str("\n")
+}

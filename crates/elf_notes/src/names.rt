@@ -1,0 +1,139 @@
+//! Names of libraries, in entries and in edits.
+ghost use Rattle.std.specs.Prelude.{◌≡◌, ◌++◌, IfOk, OnOk, filter, map};
+ghost use Rattle.std.specs.List.{flat_map};
+ghost use Rattle.elf_edits.specs.EditModel.{edit_model, pairs_model, texts_model};
+ghost use Rattle.elf_edits.specs.Entries.{has_tag as has_this_tag, needed_names, text_if};
+ghost use Rattle.elf_edits.specs.Texts.{is_among as among};
+ghost use Rattle.elf_image.specs.ImageModel.{entry_model};
+ghost use Rattle.elf_notes.specs.Notes.{asked, asked_by, put, put_by};
+
+use elf_edits::ElfEdit;
+use elf_format::constants::DT_NEEDED;
+use elf_image::Dynamic;
+use std::alloc::{AllocError, Global};
+
+/// Whether a name is one of some. Takes no memory.
+pub(crate) fn is_among(names: &[&[u8]], name: &[u8]) -> bool
+    ensures { result ≡ among (map (λ n. n.now) names.now) name.now }
+{
+    for other in names {
+        if name == *other {
+            return true;
+        }
+    }
+    false
+}
+
+/// The libraries that entries need, in order.
+pub(crate) fn needed_of<'e>(
+    alloc: Global,
+    entries: &'e [Dynamic<'_>],
+) -> Result<Vec<&'e [u8]>, AllocError>
+    ensures { IfOk result (λ names. map (λ n. n.now) names.items
+        ≡ needed_names (map entry_model entries.entry.now)) }
+{
+    let mut names = Vec::new(alloc);
+    for entry in entries {
+        push_needed(&mut names, entry)?;
+    }
+    Ok(names)
+}
+
+/// Puts the library that an entry needs, if it needs one, behind others.
+fn push_needed<'e>(names: &mut Vec<&'e [u8]>, entry: &'e Dynamic<'_>) -> Result<(), AllocError>
+    ensures { OnOk result (map (λ n. n.now) names.new.items
+        ≡ map (λ n. n.now) names.old.items
+        ++ text_if (has_this_tag DT_NEEDED) (entry_model entry.entry.now)) }
+{
+    match entry {
+        Dynamic::Text { tag, val } if *tag == DT_NEEDED => Ok(names.push(val.as_slice())?),
+        _ => Ok(()),
+    }
+}
+
+/// The names that edits look for among needed libraries, in order.
+pub(crate) fn asked_in<'e>(alloc: Global, edits: &'e [ElfEdit]) -> Result<Vec<&'e [u8]>, AllocError>
+    ensures { IfOk result (λ names.
+        map (λ n. n.now) names.items ≡ asked (map edit_model edits.entry.now)) }
+{
+    let mut names = Vec::new(alloc);
+    for edit in edits {
+        push_asked(&mut names, edit)?;
+    }
+    Ok(names)
+}
+
+/// Puts the names that an edit looks for behind others.
+fn push_asked<'e>(names: &mut Vec<&'e [u8]>, edit: &'e ElfEdit) -> Result<(), AllocError>
+    ensures { OnOk result (map (λ n. n.now) names.new.items
+        ≡ map (λ n. n.now) names.old.items ++ asked_by (edit_model edit.entry.now)) }
+{
+    match edit {
+        ElfEdit::RemoveNeeded(texts) => push_texts(names, texts.as_slice()),
+        ElfEdit::ReplaceNeeded(pairs) => push_old(names, pairs.as_slice()),
+        _ => Ok(()),
+    }
+}
+
+/// The names that edits may put among needed libraries, in order.
+pub(crate) fn put_in<'e>(alloc: Global, edits: &'e [ElfEdit]) -> Result<Vec<&'e [u8]>, AllocError>
+    ensures { IfOk result (λ names.
+        map (λ n. n.now) names.items ≡ put (map edit_model edits.entry.now)) }
+{
+    let mut names = Vec::new(alloc);
+    for edit in edits {
+        push_put(&mut names, edit)?;
+    }
+    Ok(names)
+}
+
+/// Puts the names that an edit may put there behind others.
+fn push_put<'e>(names: &mut Vec<&'e [u8]>, edit: &'e ElfEdit) -> Result<(), AllocError>
+    ensures { OnOk result (map (λ n. n.now) names.new.items
+        ≡ map (λ n. n.now) names.old.items ++ put_by (edit_model edit.entry.now)) }
+{
+    match edit {
+        ElfEdit::AddNeeded(texts) => push_texts(names, texts.as_slice()),
+        ElfEdit::ReplaceNeeded(pairs) => push_new(names, pairs.as_slice()),
+        _ => Ok(()),
+    }
+}
+
+/// Puts texts behind names.
+fn push_texts<'e>(names: &mut Vec<&'e [u8]>, texts: &'e [Vec<u8>]) -> Result<(), AllocError>
+    ensures { OnOk result (map (λ n. n.now) names.new.items
+        ≡ map (λ n. n.now) names.old.items ++ texts_model texts.entry.now) }
+{
+    for text in texts {
+        names.push(text.as_slice())?;
+    }
+    Ok(())
+}
+
+/// Puts the first of each pair behind names.
+fn push_old<'e>(
+    names: &mut Vec<&'e [u8]>,
+    pairs: &'e [(Vec<u8>, Vec<u8>)],
+) -> Result<(), AllocError>
+    ensures { OnOk result (map (λ n. n.now) names.new.items
+        ≡ map (λ n. n.now) names.old.items ++ map (λ pair. pair.0) (pairs_model pairs.entry.now)) }
+{
+    for pair in pairs {
+        names.push(pair.0.as_slice())?;
+    }
+    Ok(())
+}
+
+/// Puts the second of each pair behind names.
+fn push_new<'e>(
+    names: &mut Vec<&'e [u8]>,
+    pairs: &'e [(Vec<u8>, Vec<u8>)],
+) -> Result<(), AllocError>
+    ensures { OnOk result (map (λ n. n.now) names.new.items
+        ≡ map (λ n. n.now) names.old.items ++ map (λ pair. pair.1) (pairs_model pairs.entry.now)) }
+{
+    for pair in pairs {
+        names.push(pair.1.as_slice())?;
+    }
+    Ok(())
+}
