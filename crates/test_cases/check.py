@@ -152,7 +152,7 @@ def compare_shrunk(data, words, printed, has_text):
     if why is not None:
         return data, None if lines[0].endswith(model.refusal(why)) and at == 0 else "not told: " + why
     if lines[0] != "status 0":
-        return data, None if lines[0].endswith(OVERLAP) else "refused"
+        return data, None if OVERLAP in lines[0] else "refused"
     image.entries, removed = model.shrunk_list(image.entries, shrinking_of(words[1:]), "", "")
     new = laid(data, lines[1:])
     if has_text and printed[:at] != told(removed):
@@ -179,7 +179,7 @@ def compare(data, words, lines):
             return data, None if is_told else "not told: " + place + told
         image.edit(edit)
     if status != "status 0":
-        return data, None if status.endswith(OVERLAP) else "refused"
+        return data, None if OVERLAP in status else "refused"
     new = laid(data, lines[1:])
     if not image.changed:
         return new, None if new == data else "bytes that nothing changes"
@@ -205,7 +205,7 @@ def steps(text):
     """The lines of a file, each with what was printed of it."""
     found = []
     for line in text.split("\n"):
-        if line[:2] in ("= ", "> ", "m ", "! ", "? ", "* ", "h ", "p ") or line[:1] in ("#", "", "?", ">"):
+        if line[:2] in ("= ", "> ", "m ", "! ", "? ", "* ", "h ", "p ", "n ") or line[:1] in ("#", "", "?", ">"):
             found.append((line, []))
         elif found:
             found[-1][1].append(line)

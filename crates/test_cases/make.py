@@ -236,6 +236,15 @@ def shrinking(last=b"/nowhere/b"):
     return [(DT_NEEDED, b"libgone.so"), (DT_RUNPATH, path), (DT_RPATH, b"/nowhere::y")]
 
 
+def altered(data, kind, field, by):
+    """A file of 64 bits, the lowest byte first, with a number of the program header of a kind made greater."""
+    made = bytearray(data)
+    for at in range(64, 64 + 56 * data[56], 56):
+        if data[at] == kind and data[at + 1 : at + 4] == b"\0\0\0":
+            made[at + field] += by
+    return bytes(made)
+
+
 def elfs():
     """The ELF files, by name."""
     little64, big64, little32, big32 = Class(64, "<"), Class(64, ">"), Class(32, "<"), Class(32, ">")
@@ -258,14 +267,29 @@ def elfs():
         "elf-cut": full[:-1],
         "elf-damaged": bytes(damaged),
         "elf-object": elf(little64, kind=1),
+        "elf-core": elf(little64, kind=4),
+        "elf-loader": elf(little64, [(DT_SONAME, b"ld-tiny.so.1"), (DT_NEEDED, b"libc.so.6")]),
         "elf-bad-class": b"\x7fELF\x03" + full[5:],
         "elf-bad-text": full.replace(b"/old\0", b"/old!"),
+        "elf-moved-list": altered(full, 2, 16, 8),
+        "elf-short-interpreter": altered(full, 3, 32, -1),
+        "elf-no-strtab": full.replace(struct.pack("<Q", DT_STRTAB), struct.pack("<Q", DT_STRSZ), 1),
+    }
+
+
+def others():
+    """Files that are neither, by name."""
+    member = b"%-16s%-12d%-6d%-6d%-8s%-10d`\n" % (b"none/", 0, 0, 0, b"644", 0)
+    return {
+        "script": b"#!/bin/sh\necho neither a program nor a library\n",
+        "text": b"Neither a program nor a library.\n",
+        "archive": b"!<arch>\n" + member,
     }
 
 
 def main():
     folder = sys.argv[1] if len(sys.argv) > 1 else os.path.join(HERE, "data")
-    for name, data in {**machos(), **elfs()}.items():
+    for name, data in {**machos(), **elfs(), **others()}.items():
         with open(os.path.join(folder, name), "wb") as out:
             out.write(data)
 

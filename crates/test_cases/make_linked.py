@@ -4,7 +4,7 @@
     python3 crates/test_cases/make_linked.py [FOLDER]
 
 The files are written into FOLDER, or into the folder `data` beside this script. Wanted are clang, GNU ld (`ld.bfd`) and
-LLVM's (`ld.lld`); the files that stand there were made by clang 14, GNU ld 2.40 and lld 14. Other versions make files
+LLVM's (`ld.lld`), and objcopy; the files that stand there were made by clang 14, GNU ld 2.40 and lld 14. Other versions make files
 that hold the same in other places.
 
 For each linker and machine there is
@@ -15,7 +15,7 @@ For each linker and machine there is
   may be run.
 
 Besides there are, each by one linker, a program without a dynamic section and without an interpreter, and a library
-without a program header for the stack. No file is made by hand.
+without a program header for the stack, and what objcopy keeps of a program for a debugger. No file is made by hand.
 """
 
 import os
@@ -83,6 +83,14 @@ class Workshop:
         with open(os.path.join(self.folder, name), "rb") as file:
             return file.read()
 
+    def debug_of(self, content):
+        """What objcopy keeps of a file for a debugger."""
+        whole, kept = os.path.join(self.folder, "whole"), os.path.join(self.folder, "kept")
+        with open(whole, "wb") as file:
+            file.write(content)
+        subprocess.run(["objcopy", "--only-keep-debug", whole, kept], check=True)
+        return self.content("kept")
+
 
 def pair(shop, linker, machine):
     """A library and a program."""
@@ -115,6 +123,7 @@ def files(shop):
     shop.compile("aarch64", "help")
     shop.link("lld", "aarch64", "libhelp.so", "-shared", "-z", "nognustack", "help.o")
     made["no-stack-lld-aarch64"] = shop.content("libhelp.so")
+    made["debug-gnu-x86_64"] = shop.debug_of(made["program-gnu-x86_64"])
     return made
 
 

@@ -116,16 +116,50 @@ def program():
     return elf(Form(32, ">"), segments, sections, 172, ET_EXEC, EM_SPARC, 6)
 
 
-def roomy():
+def roomy(data_at=288):
     """A library with an interpreter of 28 bytes right behind its two program headers, and data behind a gap."""
     interpreter = b"/prefix/lib/ld-for-tests.so\0"
     segments = [(PT_LOAD, 6, 0, 0, 0, 320, 320, 4096), (PT_INTERP, 4, 176, 176, 176, 28, 28, 1)]
     sections = [
         (b".interp", SHT_PROGBITS, ALLOC, 176, 176, interpreter, 0, 0, 1, 0),
-        (b".data", SHT_PROGBITS, WRITE | ALLOC, 288, 288, b"D" * 32, 0, 0, 1, 0),
+        (b".data", SHT_PROGBITS, WRITE | ALLOC, data_at, data_at, b"D" * 32, 0, 0, 1, 0),
         names(320),
     ]
     return elf(Form(64, "<"), segments, sections, 352)
+
+
+def tight():
+    """The same with the data where a program header less has room."""
+    return roomy(280)
+
+
+def no_texts():
+    """A library whose list has no texts, and two entries that are free; the table of texts is empty, at the end of memory."""
+    form = Form(64, "<")
+    listed = form.dynamic((DT_DEBUG, 0), (DT_STRTAB, 320), (DT_STRSZ, 0)) + form.dynamic()
+    segments = [(PT_LOAD, 6, 0, 0, 0, 320, 320, 4096), (PT_DYNAMIC, 6, 240, 240, 0, 80, 80, 8)]
+    sections = [
+        (b".dynstr", SHT_STRTAB, ALLOC, 320, 320, b"", 0, 0, 1, 0),
+        (b".dynamic", SHT_DYNAMIC, WRITE | ALLOC, 240, 240, listed, 1, 0, 8, 16),
+        names(320),
+    ]
+    return elf(form, segments, sections, 352)
+
+
+def behind():
+    """A library that takes more memory than its file loads, so that what is added to the file stands behind both."""
+    form = Form(64, "<")
+    low, size, end = 0x400000, 0x1200, 0x401200
+    strings = b"\0libc.so.6\0/a\0"
+    listed = form.dynamic((DT_NEEDED, 1), (DT_RUNPATH, 11), (DT_STRTAB, low + 176), (DT_STRSZ, len(strings)))
+    segments = [(PT_LOAD, 6, 0, low, low, size, size + 0x100, 4096), (PT_DYNAMIC, 6, 240, low + 240, low + 240, 80, 80, 8)]
+    sections = [
+        (b".dynstr", SHT_STRTAB, ALLOC, low + 176, 176, strings, 0, 0, 1, 0),
+        (b".dynamic", SHT_DYNAMIC, WRITE | ALLOC, low + 240, 240, listed, 1, 0, 8, 16),
+        (b".bss", SHT_NOBITS, WRITE | ALLOC, end, size, 0x100, 0, 0, 8, 0),
+        names(size),
+    ]
+    return elf(form, segments, sections, 0x1228)
 
 
 def full():
@@ -292,6 +326,9 @@ FILES = {
     "elf-twin": twin,
     "elf-program": program,
     "elf-roomy": roomy,
+    "elf-tight": tight,
+    "elf-no-texts": no_texts,
+    "elf-behind": behind,
     "elf-full": full,
     "elf-versioned": versioned,
     "elf-linked": linked,

@@ -29,11 +29,14 @@ DT_VERDEF, DT_VERDEFNUM, DT_VERNEED, DT_VERNEEDNUM = 0x6FFFFFFC, 0x6FFFFFFD, 0x6
 TEXT_TAGS = {DT_NEEDED, DT_SONAME, DT_RPATH, DT_RUNPATH}
 TABLE_TAGS = {4, 5, 6, 10, 11, 0x6FFFFEF5, 0x6FFFFFF0, DT_VERDEF, DT_VERDEFNUM, DT_VERNEED, DT_VERNEEDNUM}
 EM_SPARC, EM_MIPS, EM_SPARC64, EM_AARCH64 = 2, 8, 43, 183
+ABIS = {"solaris": 6, "nsk": 14}
 PAGES = {EM_MIPS: 65536, EM_AARCH64: 65536, EM_SPARC: 8192, EM_SPARC64: 8192}
 
 FAILED = "refused: I/O error occurred while writing the file"
 OVERLAP = "refused: Overlapping immovable sections"
+TOO_LARGE = "refused: A validation error occurred while writing the file"
 MIPS = "refused: MIPS images can't be modified"
+UNKNOWN_ABI = "refused: Unknown ABI "
 PAGE_SIZE = "refused: Page size must be a power of 2 and >= 1024, got 1000"
 
 
@@ -469,10 +472,12 @@ def tag_lines(data):
 
 LONG = b"x" * 53
 
+# The small library at the last addresses of 64 bits.
+AT_TOP = "elf-small 80:c0feffffffffffff 136:b0ffffffffffffff 280:70ffffffffffffff 432:70ffffffffffffff 496:b0ffffffffffffff"
+
 # What stands in written files at which positions, by the file and its edits: so many bytes, those of the old file up to an
-# offset, zeros, and over them these parts.
+# offset, zeros, and over them these parts. Or why a file isn't written.
 WRITTEN = {
-    ("elf-small", ""): (608, 608, []),
     ("elf-small", "remove-needed libc.so"): (608, 608, []),
     # the table of strings has 17 bytes then, at its place
     ("elf-small", "add-rpath /b"): (608, 608, [
@@ -481,6 +486,11 @@ WRITTEN = {
     ("elf-small", "set-rpath /usr/lib:/b"): (608, 608, [
         (177, b"/usr/lib:/b\0libc.so.6\0"), (248, b"\x0d"), (264, b"\x01"), (296, b"\x17"), (448, b"\x17"),
     ]),
+    # the table of strings has 64 bytes, up to the list
+    (AT_TOP, "set-rpath " + LONG[1:].decode()): (608, 608, [
+        (177, LONG[1:] + b"\0libc.so.6"), (248, b"6"), (264, b"\x01"), (296, b"@"), (448, b"@"),
+    ]),
+    (AT_TOP, "set-rpath " + LONG.decode()): TOO_LARGE,
     # the run path ends the other text, and stands in it
     ("elf-small", "set-rpath .6"): (608, 608, [(187, b"\0\0"), (264, b"\x08"), (296, b"\x0b"), (448, b"\x0b")]),
     # the table of strings has 65 bytes, and moves to the end: there it gets a program header, the second one
@@ -540,18 +550,18 @@ WRITTEN = {
         (616, b"\x01"),
     ]),
     # no room for an entry or a program header more
-    ("elf-small", "set-soname x"): None,
-    ("elf-full", "set-soname x"): None,
-    ("elf-roomy 496:18 504:18", "set-exec-stack"): None,
+    ("elf-small", "set-soname x"): OVERLAP,
+    ("elf-full", "set-soname x"): OVERLAP,
+    ("elf-tight", "set-exec-stack"): OVERLAP,
 }
 
 
 def written(name, data, edits):
-    """The bytes of a file after edits; `None` where it cannot be written."""
-    if name is None and not edits:
+    """The bytes of a file after edits, or why it isn't written."""
+    if not edits:
         return data
-    if WRITTEN[name, edits] is None:
-        return None
+    if isinstance(WRITTEN[name, edits], str):
+        return WRITTEN[name, edits]
     length, front, parts = WRITTEN[name, edits]
     made = bytearray(data[:front].ljust(length, b"\0"))
     for at, part in parts:
@@ -561,17 +571,18 @@ def written(name, data, edits):
 
 def written_lines(old, new):
     lines = ["changed " + truth(new != old)]
-    if new is None:
-        return lines + [OVERLAP]
+    if isinstance(new, str):
+        return lines + [new]
     lines.append("%d bytes" % len(new))
     for at in range(0, len(new), 16):
         if old[at : at + 16] != new[at : at + 16]:
             lines.append("%06x%s" % (at, row(new[at : at + 16])))
-    return lines + ["pieces %s, made Ok(true)" % truth(new != old)]
+    planned = ["planned Ok([true, true, true])"] if new != old else []
+    return lines + ["pieces %s, made Ok(true)" % truth(new != old)] + planned
 
 
 def taken_line(new, room):
-    if new is None:
+    if new == OVERLAP:
         return "Some(0) Err(Modify(Overlap))"
     return "Some(%d) %s" % (min(room, len(new)), "Ok(())" if room >= len(new) else "Err(Io(Kind(StorageFull)))")
 
@@ -579,7 +590,7 @@ def taken_line(new, room):
 def path_lines(path, new):
     if "/" in path:
         return [FAILED, "no file"] * 2
-    return [OVERLAP, "the file has 3 bytes"] * 2 if new is None else ["done", "the file is the same true"] * 2
+    return [OVERLAP, "the file has 3 bytes"] * 2 if new == OVERLAP else ["done", "the file is the same true"] * 2
 
 
 # ---- lines
@@ -645,7 +656,7 @@ class Model:
 
     def write(self, edits):
         old, new = self.data, written(self.name, self.data, edits)
-        if new not in (None, old):
+        if new != old and not isinstance(new, str):
             self.data, self.name = new, None
         return written_lines(old, new)
 
@@ -660,7 +671,7 @@ class Model:
             "v": lambda: ["Err(Absent)"] if fault else view_lines(self.data),
             "l": lambda: loaded_lines(self.name, self.data, int(words)),
             "r": lambda: read_lines(self.data),
-            "p": lambda: print_lines(self.data),
+            "p": lambda: self.print(words),
             "q": lambda: [FAILED],
             "y": lambda: table_lines(words.split(" ")),
             "n": lambda: ["names" + "".join(" %d" % at for at in range(20) if 0 in unhex(words)[at:])],
@@ -668,6 +679,13 @@ class Model:
             "c": lambda: CONSTANTS,
         }
         return answers[kind]() if kind in answers else self.edit(kind, words)
+
+    def print(self, words):
+        """What is printed, perhaps of a file with another ABI, whatever the case of the ASCII letters of its name."""
+        name = "".join(letter.lower() if letter.isascii() else letter for letter in words.partition("set-os-abi ")[2])
+        if name not in ABIS:
+            return [UNKNOWN_ABI + name] * bool(name) + print_lines(self.data)
+        return print_lines(self.data[:7] + bytes([ABIS[name]]) + self.data[8:])
 
     def edit(self, kind, words):
         """What comes of a line that edits or writes."""
@@ -682,7 +700,7 @@ class Model:
         if kind == "w":
             return self.write(edits)
         if kind == "K":
-            return ["%d fronts are taken" % len(self.data)]
+            return ["%d fronts are taken" % len(written(self.name, self.data, edits))]
         if edits == "set-page-size 1000":
             return [PAGE_SIZE, taken_line(self.data, int(words[0]))]
         new = written(self.name, self.data, edits)

@@ -2,11 +2,11 @@
 ghost use Rattle.std.specs.Prelude.{◌≡◌};
 ghost use Rattle.elf_image.specs.DynamicList.{tag_at as tag_listed};
 
-use crate::Runtime;
 use elf_image::Builder;
 use elf_image::constants::{DT_NEEDED, DT_RPATH, DT_RUNPATH};
 use std::alloc::{AllocError, Global};
 use std::io;
+use test_cases_written::Runtime;
 
 /// An edit of a dynamic list.
 #[derive(Clone, Copy, Debug)]

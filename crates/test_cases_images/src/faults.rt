@@ -1,13 +1,13 @@
 //! Why files are refused.
 
-use crate::Runtime;
-use crate::edits::parse;
 use crate::images::read;
 use arwen_elf::elf::{ElfError, Writer};
 use arwen_elf::machine_of;
 use elf_image::ElfFault;
 use std::alloc::Global;
 use std::io;
+use test_cases_written::Runtime;
+use test_cases_written::edits::parse;
 
 /// The fault of a file as the image, the writer and the container tell it; `None` where the file is read.
 type Faults = [Option<ElfFault>; 3];

@@ -1,14 +1,14 @@
 //! The image of a file.
 ghost use Rattle.std.specs.Prelude.{◌<◌, length};
 
-use crate::Runtime;
 use crate::lists::{print_definition, print_entries, print_need, print_segments, print_symbols};
-use crate::rows::{Row, Text};
 use elf_image::constants::SHT_DYNSYM;
 use elf_image::{Builder, ElfFault, Header, Section, SectionData};
 use patch_bytes::{ByteOrder2, Wide};
 use std::alloc::{AllocError, Global};
 use std::io;
+use test_cases_written::Runtime;
+use test_cases_written::rows::{Row, Text};
 
 /// The image of a file, read again where memory was refused.
 pub(crate) fn read<'f>(alloc: Global, bytes: &'f [u8]) -> Result<Builder<'f>, ElfFault> {
@@ -199,6 +199,6 @@ fn edited<'d>(alloc: Global, image: &Builder<'d>) -> Result<Builder<'d>, AllocEr
 /// Whether an edited copy keeps its symbols, and what is read once more of it shows what the image does.
 fn is_same_when_read_again(alloc: Global, image: &Builder<'_>) -> Result<bool, AllocError> {
     let copy = edited(alloc, image)?;
-    let read = copy.read_again(alloc)?;
+    let read = copy.read_source(alloc)?;
     Ok(copy.keeps_symbols() && is_same(alloc, image, &read)?)
 }

@@ -1,4 +1,4 @@
-//! Runs the reader, the edits and the writer of ELF files on lines of cases, and prints what came of each.
+//! Runs the reader of ELF files on lines of cases, and prints what came of each.
 //!
 //! Each line is printed again, and below it what came of it. Lines work on `file`, which is made first:
 //!
@@ -12,59 +12,32 @@
 //! - `f` prints the faults for which the image, the writer and the container refuse `file`, and `F` counts its fronts that
 //!   all three refuse as cut. `m` prints the machine that its first bytes tell.
 //! - `v` prints the view by section headers of the plain reader, `l N` the view of a loader that is told of N symbols.
-//! - `r` prints what the writer and the container read, and `p` what the container prints. `q` prints needed libraries to
-//!   a page of three bytes.
 //! - `y CLASS ORDER TEXTS RECORDS VERSIONS` reads a table of symbols, its parts in hex, `-` for no bytes. `n TEXTS` tells
 //!   at which of the first 20 places of a string table a name is.
 //! - `e` prints the texts of errors, `c` versions without a name and no symbols.
 //!
-//! Editing:
+//! Editing an image:
 //!
 //! - `s CALL FLAGS` sets the flags of the stack that a call lends: `stack` or `gnu-stack`, or one that adds a header where
 //!   there is none, `add-stack` or `add-gnu-stack`.
 //! - `t` edits the dynamic list of copies of the image.
-//! - `a SIZE ..` applies batch after batch: the run path goes where a size is 0, else the page size is set.
 //!
-//! Writing, after edits, which stand in words behind a `:` with a `+` between two:
-//!
-//! - `w : EDIT + EDIT ..` prints the rows of 16 bytes that are written anew, or the fault, and whether the pieces that
-//!   differ make the same bytes. `file` has these bytes then.
-//! - `k ROOM STEP : EDIT ..` writes to a writer that takes so many bytes, and so many at a time. `K STEP : EDIT ..` does so
-//!   with each room that is too little.
-//! - `P PATH : EDIT ..` writes to a path twice, at which three bytes stood, and takes it away.
-//!
-//! An edit is a call of the writer and its values, as `add-rpath /a /b`. Nothing comes of other lines.
+//! Other lines are those of `test_cases_written`.
 #![tactic(auto)]
 
-mod batches;
 mod dynamic_lists;
-mod edits;
 mod faults;
-mod files;
 mod images;
 mod lists;
-mod paths;
-mod prints;
-mod reads;
-mod rows;
 mod stacks;
 mod tables;
-mod taker;
 mod texts;
 mod views;
-mod words;
-mod writers;
-mod written;
 
-use arwen_elf::elf::ElfContainer;
 use elf_image::Builder;
 use std::io;
 use std::rt::Files;
-
-/// A runtime that prints, and has files and memory.
-pub(crate) trait Runtime: Files + Print + AllocGlobal {}
-
-impl<R: Files + Print + AllocGlobal> Runtime for R {}
+use test_cases_written::{Runtime, files, on_container, words};
 
 /// Prints each line, and what comes of it.
 pub fn run<R: Files + Print + AllocGlobal>(rt: &R, lines: &str) -> io::Result<()> {
@@ -128,48 +101,5 @@ fn on_read(
         "i" => images::print_image(rt, bytes, image),
         "s" => stacks::print_stack(rt, image, words),
         _ => dynamic_lists::print_edits(rt, image),
-    }
-}
-
-/// Does what a line says to the container of the file.
-fn on_container(rt: &impl Runtime, bytes: &[u8], kind: &str, words: &str) -> io::Result<()> {
-    match edits::parse(rt.alloc(), bytes) {
-        Ok(mut file) => on_parsed(rt, &mut file, kind, words),
-        Err(error) => edits::tell(rt, &error),
-    }
-}
-
-/// Does what a line says to a container, after edits.
-fn on_parsed(
-    rt: &impl Runtime,
-    file: &mut ElfContainer<'_>,
-    kind: &str,
-    words: &str,
-) -> io::Result<()> {
-    let (words, edits) = words.split_once(':').unwrap_or((words, ""));
-    edits::edit_all(rt, &mut file.inner, edits.trim())?;
-    let words = words.trim();
-    match kind {
-        "a" => batches::print_batches(rt, file, words),
-        _ => on_edited(rt, file, kind, words),
-    }
-}
-
-/// Does what a line says to a container that is edited.
-fn on_edited(
-    rt: &impl Runtime,
-    file: &ElfContainer<'_>,
-    kind: &str,
-    words: &str,
-) -> io::Result<()> {
-    match kind {
-        "r" => reads::print_file(rt, file),
-        "p" => prints::print_each(rt, file),
-        "q" => prints::print_little(rt, file),
-        "w" => written::print_written(rt, file),
-        "k" => writers::print_taken(rt, file, words),
-        "K" => writers::print_fronts(rt, file, words),
-        "P" => paths::print_path(rt, file, words),
-        _ => Ok(()),
     }
 }

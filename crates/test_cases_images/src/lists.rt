@@ -1,9 +1,9 @@
 //! The lists that an image shows, a line for each item.
 ghost use Rattle.std.specs.Prelude.{◌<◌, length};
 
-use crate::rows::Text;
 use elf_image::{Dynamic, Segment, Symbol, Symbols, VersionDef, VersionNeed, VersionNeedName};
 use std::io;
+use test_cases_written::rows::Text;
 
 /// The numbers of a program header.
 fn numbers(segment: &Segment<'_>) -> [u64; 8] {

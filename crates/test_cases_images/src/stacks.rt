@@ -1,12 +1,12 @@
 //! The calls on the program header for the stack.
 
-use crate::Runtime;
-use crate::edits::tell;
-use crate::words::{first, number};
 use arwen_elf::elf::{BuilderExt, ElfError};
 use elf_image::Builder;
 use std::alloc::{AllocError, Global};
 use std::io;
+use test_cases_written::Runtime;
+use test_cases_written::edits::tell;
+use test_cases_written::words::{first, number};
 
 /// Prints what comes of a call whose lent flags are set, and the image.
 pub(crate) fn print_stack(

@@ -1,13 +1,13 @@
 //! Tables of symbols, and their names in string tables.
 
-use crate::Runtime;
 use crate::lists::print_symbols;
-use crate::words::{bytes_of, first};
 use elf_format::texts::text;
 use elf_image::{Form, Symbols, VersionId};
 use patch_bytes::{ByteOrder2, Wide};
 use std::alloc::{AllocError, Global};
 use std::io;
+use test_cases_written::Runtime;
+use test_cases_written::words::{bytes_of, first};
 
 /// A table of symbols in parts.
 #[derive(Drop)]

@@ -1,9 +1,9 @@
 //! What the plain readers show of a file.
 
-use crate::Runtime;
-use crate::words::number;
 use std::alloc::Global;
 use std::io;
+use test_cases_written::Runtime;
+use test_cases_written::words::number;
 use test_elf_plain::{ShownView, ViewFault, loader_view, section_view};
 
 /// Prints what a file shows through its section headers.

@@ -2,7 +2,7 @@
 use elf_format::records::SegmentHeader;
 use elf_image::Builder;
 use elf_layout::{LayoutFault, Plan, SectionPlace, lay_out, sizes_of};
-use elf_layout_plan::read_again;
+use elf_layout_plan::read_source;
 use std::alloc::{AllocError, Global};
 use test_slow_layout::plain::{Piece, Plain, plain_of};
 use test_slow_layout::slow::{Found, Slow, lay_out_slowly};
@@ -129,7 +129,7 @@ fn compare_sized(
 
 /// An image as plain records.
 fn plain_image(alloc: Global, image: &Builder<'_>, sizes: &[u64]) -> Result<Plain, AllocError> {
-    let read = read_again(alloc, image)?;
+    let read = read_source(alloc, image)?;
     plain_of(alloc, &read, image, sizes)
 }
 

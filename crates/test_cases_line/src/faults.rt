@@ -1,12 +1,50 @@
 //! What is printed of an answer.
-use arwen_cli::cli::ArwenError;
+use arwen_cli::cli::{ArwenError, fault_line};
+use std::alloc::AllocError;
 use std::io;
+use std::rt::Files;
 
 /// Prints the status, and the first line of a fault.
 pub(crate) fn tell_answer<R: Print, T>(rt: &R, answer: &Result<T, ArwenError>) -> io::Result<()> {
     match answer {
         Ok(_) => println!(rt; "status 0"),
         Err(error) => tell(rt, error),
+    }
+}
+
+/// Prints the status, and the first line of a fault of a line's words, with the file that they name.
+pub(crate) fn tell_named<R: Files + Print + AllocGlobal>(
+    rt: &R,
+    words: &[&str],
+    answer: &Result<(), ArwenError>,
+) -> io::Result<()> {
+    match answer {
+        Ok(()) => println!(rt; "status 0"),
+        Err(error) => tell_fault(rt, words, error),
+    }
+}
+
+/// Prints the status after such a fault, and its first line.
+fn tell_fault<R: Files + Print + AllocGlobal>(
+    rt: &R,
+    words: &[&str],
+    error: &ArwenError,
+) -> io::Result<()> {
+    match named_line(rt, words, error) {
+        Ok(line) => println!(rt; "status {}: {}", error.status(), first_line(&line)),
+        Err(_) => tell(rt, error),
+    }
+}
+
+/// The line of such a fault, made again where memory was refused.
+fn named_line<R: Files + AllocGlobal>(
+    rt: &R,
+    words: &[&str],
+    error: &ArwenError,
+) -> Result<String, AllocError> {
+    match fault_line(rt, words, error) {
+        Err(_) => fault_line(rt, words, error),
+        line => line,
     }
 }
 

@@ -1,7 +1,7 @@
 //! The words of a line, and the command that they mean.
 use crate::bytes;
 use crate::faults::tell;
-use arwen_cli::cli::{ArwenError, Command, parse_line};
+use arwen_cli::cli::{ArwenError, Command, notes_of, parse_line};
 use std::alloc::AllocError;
 use std::io;
 use std::rt::Files;
@@ -31,6 +31,8 @@ pub(crate) fn command_of<R: AllocGlobal>(rt: &R, words: &[&str]) -> Result<Comma
 pub(crate) enum Use {
     /// It is printed.
     Show,
+    /// Its notes are printed.
+    ShowNotes,
     /// The text is printed with which the line was answered.
     ShowText,
     /// It is done to bytes; a command that prints prints on a page.
@@ -75,9 +77,19 @@ fn use_command<R: Files + Print + AllocGlobal>(
 ) -> io::Result<()> {
     match for_use {
         Use::Show => println!(rt; "{command:?}"),
+        Use::ShowNotes => print_notes(rt, command),
         Use::ShowText => println!(rt; "no text"),
         Use::OnPage => bytes::run(rt, command, false),
         Use::AsText => bytes::run(rt, command, true),
+    }
+}
+
+/// Prints the notes of a command.
+fn print_notes<R: Files + Print + AllocGlobal>(rt: &R, command: &Command) -> io::Result<()> {
+    match notes_of(rt, command) {
+        Some(notes) if notes.is_empty() => println!(rt; "no notes"),
+        Some(notes) => print!(rt; "{notes}"),
+        None => println!(rt; "not read"),
     }
 }
 

@@ -1,6 +1,6 @@
 //! Lines that are run on a file.
 use crate::changes::print_changes;
-use crate::faults::tell_answer;
+use crate::faults::tell_named;
 use crate::reading::{command_of, words_of};
 use crate::{library, modules};
 use arwen_cli::cli::{ArwenError, execute};
@@ -79,25 +79,18 @@ fn run_line<R: Files + Print + Eprint + AllocGlobal>(
     way: Way,
     before: &Option<Vec<u8>>,
 ) -> io::Result<()> {
-    let answer = line_answer(rt, line, way, before);
-    tell_answer(rt, &answer)
+    let words = match words_of(rt, line) {
+        Ok(words) => words,
+        Err(_) => return println!(rt; "no memory for the words"),
+    };
+    let answer = answer(rt, words.as_slice(), way, before);
+    tell_named(rt, words.as_slice(), &answer)
 }
 
 /// Prints what became of the file.
 fn print_file<R: Files + Print + AllocGlobal>(rt: &R, before: &Option<Vec<u8>>) -> io::Result<()> {
     let after = content(rt, FILE)?;
     print_changes(rt, before, &after)
-}
-
-/// Does what the words of a line ask.
-fn line_answer<R: Files + Print + Eprint + AllocGlobal>(
-    rt: &R,
-    line: &str,
-    way: Way,
-    before: &Option<Vec<u8>>,
-) -> Result<(), ArwenError> {
-    let words = words_of(rt, line)?;
-    answer(rt, words.as_slice(), way, before)
 }
 
 /// Does what words ask, once more where memory was refused.

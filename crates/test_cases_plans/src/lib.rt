@@ -8,12 +8,18 @@
 //!   header tables stand; a line `s` for each section: type, address, offset and size; a line `p` for each program header:
 //!   type, flags, offset, two addresses, two sizes and alignment. All numbers but counts are hexadecimal.
 //!
+//! A line `? WORD ..` prints, of the file with these edits, or as it is where there are none, what the calls on the way to
+//! a plan answer: the new sizes of the sections; the positions of those that move with no program header more, with one,
+//! and with two; and the plan by these sizes.
+//!
 //! Words are read by their marks. Nothing comes of other lines.
 #![tactic(auto)]
 
 mod lines;
 mod plans;
+mod steps;
 
+use crate::plans::Shown;
 use std::alloc::{AllocError, Global};
 use std::io;
 use std::rt::Files;
@@ -30,7 +36,7 @@ struct PlanCases;
 
 impl Cases for PlanCases {
     fn is_on_files(&self, line: &str) -> bool {
-        split_kind(line).0 == "!"
+        shown_by(split_kind(line).0).is_some()
     }
 
     fn answer_on_file(
@@ -40,10 +46,23 @@ impl Cases for PlanCases {
         line: &str,
         out: &mut String,
     ) -> Result<(), AllocError> {
-        plans::show(alloc, bytes, split_kind(line).1, out)
+        let (kind, words) = split_kind(line);
+        match shown_by(kind) {
+            Some(shown) => plans::show(alloc, bytes, shown, words, out),
+            None => Ok(()),
+        }
     }
 
     fn answer(&self, _alloc: Global, _line: &str, _out: &mut String) -> Result<(), AllocError> {
         Ok(())
+    }
+}
+
+/// What a line of this kind asks for.
+fn shown_by(kind: &str) -> Option<Shown> {
+    match kind {
+        "!" => Some(Shown::Plan),
+        "?" => Some(Shown::Steps),
+        _ => None,
     }
 }

@@ -1,48 +1,65 @@
 //! The plan of a file after edits.
 use crate::lines::put_plan;
+use crate::steps::{put_fault, put_steps};
 use arwen_cli::cli::EditsError;
 use arwen_cli::elf::{ElfBatchError, ElfEdit, ElfError, ModifyCause, Writer};
-use elf_layout::{LayoutFault, lay_out};
+use elf_image::Builder;
+use elf_layout::lay_out;
 use std::alloc::{AllocError, Global};
 use test_cases_files::words::edits_of;
 
-/// Puts down the plan of a file after the edits that words are.
+/// What is put down of an edited file.
+#[derive(Clone, Copy)]
+pub(crate) enum Shown {
+    /// Its plan.
+    Plan,
+    /// What each call on the way to a plan answers, and the plan.
+    Steps,
+}
+
+/// Puts down what is asked for of a file after the edits that words are, if there are any.
 pub(crate) fn show(
     alloc: Global,
     bytes: &[u8],
+    shown: Shown,
     words: &str,
     out: &mut String,
 ) -> Result<(), AllocError> {
     match Writer::read(alloc, bytes) {
-        Ok(mut file) => edit(alloc, &mut file, words, out),
+        Ok(mut file) => edit(alloc, &mut file, shown, words, out),
         Err(ElfError::Memory) => Err(AllocError),
         Err(fault) => writeln!(out, "{fault}"),
     }
 }
 
-/// Edits a file by words, and puts down its plan.
+/// Edits a file by words, and puts down what is asked for.
 fn edit(
     alloc: Global,
     file: &mut Writer<'_>,
+    shown: Shown,
     words: &str,
     out: &mut String,
 ) -> Result<(), AllocError> {
+    if words.is_empty() {
+        return put_image(alloc, file.builder(), shown, out);
+    }
     match edits_of(alloc, words) {
-        Ok(edits) => apply(alloc, file, edits.as_slice(), out),
+        Ok(edits) => apply(alloc, file, edits.as_slice(), shown, out),
         Err(EditsError::Fault(fault)) => writeln!(out, "{fault}"),
         Err(EditsError::Memory) => Err(AllocError),
     }
 }
 
-/// Edits a file, and puts down its plan.
+/// Edits a file, and puts down what is asked for.
 fn apply(
     alloc: Global,
     file: &mut Writer<'_>,
     edits: &[ElfEdit],
+    shown: Shown,
     out: &mut String,
 ) -> Result<(), AllocError> {
     match file.apply(alloc, edits) {
-        Ok(()) => show_plan(alloc, file, out),
+        Ok(()) => put_image(alloc, file.builder(), shown, out),
         Err(batch) => put_refused(&batch, out),
     }
 }
@@ -62,11 +79,23 @@ fn put_cause(index: usize, cause: &ModifyCause, out: &mut String) -> Result<(), 
     writeln!(out, "edit {index} refused: {cause}")
 }
 
-/// Puts down the plan of a file, or why there is none.
-fn show_plan(alloc: Global, file: &Writer<'_>, out: &mut String) -> Result<(), AllocError> {
-    match lay_out(alloc, file.builder()) {
+/// Puts down what is asked for of an image.
+fn put_image(
+    alloc: Global,
+    image: &Builder<'_>,
+    shown: Shown,
+    out: &mut String,
+) -> Result<(), AllocError> {
+    match shown {
+        Shown::Plan => show_plan(alloc, image, out),
+        Shown::Steps => put_steps(alloc, image, out),
+    }
+}
+
+/// Puts down the plan of an image, or why there is none.
+fn show_plan(alloc: Global, image: &Builder<'_>, out: &mut String) -> Result<(), AllocError> {
+    match lay_out(alloc, image) {
         Ok(plan) => put_plan(&plan, out),
-        Err(LayoutFault::Memory) => Err(AllocError),
-        Err(fault) => writeln!(out, "{fault}"),
+        Err(fault) => put_fault(fault, out),
     }
 }

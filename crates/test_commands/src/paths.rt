@@ -1,6 +1,7 @@
 use crate::stores::{PLAIN, WITH_RPATH};
 use arwen_cli::cli::elf::{print_os_abi, print_path};
 use arwen_cli::cli::{ArwenError, ElfCommand, MachoCommand, add, patch_path};
+use arwen_cli::elf::Sink;
 use byte_store::{MemoryFile, MemoryStore};
 use std::alloc::{AllocError, Global};
 use std::io;
@@ -62,7 +63,7 @@ fn printed(
     alloc: Global,
     bytes: &[u8],
     command: &ElfCommand,
-    out: &mut Vec<u8>,
+    out: &mut Sink<Vec<u8>>,
 ) -> Result<(), ArwenError> {
     match print_path(alloc, &file(alloc, bytes), command, out) {
         Err(_) => Ok(print_path(alloc, &file(alloc, bytes), command, out)?),
@@ -94,16 +95,16 @@ fn patches_no_file_at_another_path(rt: HostRuntime) -> Result<(), Fail> {
 #[test]
 fn prints_the_file_at_a_path(rt: HostRuntime) -> Result<(), Fail> {
     let command = printing(rt.alloc(), "lib")?;
-    let mut out = Vec::new(rt.alloc());
+    let mut out = Sink::new(Vec::new(rt.alloc()));
     printed(rt.alloc(), ELF, &command, &mut out)?;
-    assert_eq!(rt; out.as_slice(), b"3\n".as_slice());
+    assert_eq!(rt; out.get_ref().as_slice(), b"3\n".as_slice());
     Ok(())
 }
 
 #[test]
 fn prints_no_file_at_another_path(rt: HostRuntime) -> Result<(), Fail> {
     let command = printing(rt.alloc(), "bin")?;
-    let mut out = Vec::new(rt.alloc());
+    let mut out = Sink::new(Vec::new(rt.alloc()));
     let answer = printed(rt.alloc(), ELF, &command, &mut out);
     assert!(rt; answer.is_err_and(|error| is_missing(&error)));
     Ok(())

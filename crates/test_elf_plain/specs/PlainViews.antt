@@ -1,5 +1,5 @@
 -- What the answers of plain readers show.
-use Rattle.std.specs.Prelude.{Bool, Err, List, None, Ok, Option, Result, Some, false, if◌then◌else◌, is_some, length, map, option_map, true, ℕ, ◌&&◌, ◌+◌, ◌/◌, ◌==◌, ◌≡◌, ◌≤◌, ◌⊎◌}
+use Rattle.std.specs.Prelude.{Bool, Err, List, None, Ok, Option, Result, Some, false, if◌then◌else◌, is_some, length, map, option_map, true, ℕ, ◌&&◌, ◌+◌, ◌/◌, ◌<◌, ◌==◌, ◌^◌, ◌≡◌, ◌≤◌, ◌⊎◌}
 use Rattle.std.specs.Global.{Vec}
 use Rattle.test_elf_plain.specs.declared.source.Loaded.{Loaded}
 use Rattle.test_elf_plain.specs.declared.source.Source.{Source}
@@ -24,11 +24,8 @@ use Rattle.elf_format.specs.Records.{symbol_size}
 use Rattle.elf_format.specs.Views.{NamedSymbol, Table, Tables, View, byte_at, defined_versions, dynamic_symbols, first_by_tag, memory_at_tag, needed_versions, section_table, tables_by_tags, view_of}
 use Rattle.patch_bytes.specs.Memory.{◌>>=◌, Memory, from, memory_of}
 use Rattle.elf_format.specs.Answers.{borrowed, chain, whole_step}
-use Rattle.elf_format.specs.Seen.{raw_definition, raw_needs}
 use Rattle.elf_format.specs.declared.records.NeedNameNumbers.{NeedNameNumbers}
 use Rattle.elf_format.specs.declared.records.SectionHeader.{SectionHeader}
-use Rattle.elf_format.specs.declared.versions.RawDefinition.{RawDefinition}
-use Rattle.elf_format.specs.declared.versions.RawNeeds.{RawNeeds}
 use Rattle.elf_format.specs.declared.view_fault.ViewFault.{ViewFault}
 use Rattle.elf_format.specs.declared.view_fault.ViewFault.TheVariants as faults
 use Rattle.elf_format.specs.Versions.{DefinitionNumbers, NeedNumbers, Step, VersionDefinition, VersionName, VersionNeeds, definition_at, definition_name_at, need_at, need_name_at}
@@ -98,13 +95,6 @@ libraries_model v = map needs_model v.items
 
 abbrev pub symbols_model : Vec ShownSymbol → List NamedSymbol
 symbols_model v = map symbol_model v.items
-
--- version records as they were read, whose texts aren't looked up yet
-abbrev pub raw_definitions : Vec RawDefinition → List DefinitionNumbers
-raw_definitions v = map raw_definition v.items
-
-abbrev pub raw_libraries : Vec RawNeeds → List NeedNumbers
-raw_libraries v = map raw_needs v.items
 
 -- what is shown besides the list
 abbrev pub outline_model : Outline → View
@@ -189,7 +179,7 @@ needs_when_wanted form room raw table =
 abbrev pub symbol_table_of : Form → List ℕ → List SectionHeader → Table
 symbol_table_of form file sections = section_table file sections (λ s. s.sh_size / symbol_size form) SHT_DYNSYM
 
--- the place of the next record, or for the last any, where no place is too far
+-- the place of the next record, or for the last any; no place is too far, since a distance has 32 bits
 abbrev pub GoesOn : ℕ → ℕ → Bool → Result ℕ ViewFault → Type 0
-GoesOn place next is_last (Ok p) = ((is_last ≡ true) ⊎ ((next ≡ 0 → ⊥) × (p ≡ place + next))) × (p ≤ place + next)
+GoesOn place next is_last (Ok p) = ((is_last ≡ true) ⊎ ((next ≡ 0 → ⊥) × (p ≡ place + next))) × (p ≤ place + next) × (next < 2 ^ 32)
 GoesOn place next is_last (Err e) = (e ≡ faults.Absent) × (is_last ≡ false) × (next ≡ 0)

@@ -1,7 +1,6 @@
 ghost use Rattle.std.specs.Prelude.{◌+◌, ◌<◌, ◌^◌};
 ghost use Rattle.elf_format.specs.Answers.{Gives, step_model};
-ghost use Rattle.elf_format.specs.Seen.{raw_definition, raw_needs};
-ghost use Rattle.test_elf_plain.specs.PlainViews.{GoesOn, raw_definitions, raw_libraries};
+ghost use Rattle.test_elf_plain.specs.PlainViews.{GoesOn};
 ghost use Rattle.test_elf_plain.specs.PlainViews.{definition_in, definition_name_in, need_in, need_name_in};
 ghost use Rattle.test_elf_plain.specs.PlainViews.{definition_names_from, definitions_from};
 ghost use Rattle.test_elf_plain.specs.PlainViews.{need_names_from, needs_from};
@@ -111,7 +110,7 @@ fn read_definition(
     place: u128,
 ) -> Result<(RawDefinition, u32), ViewFault>
     requires { place < 2 ^ 97 }
-    ensures { Gives (step_model raw_definition) result (definition_in form source.now place) }
+    ensures { Gives (step_model (λ d. d)) result (definition_in form source.now place) }
 {
     let copied = read_bytes(alloc, source, place, 20)?;
     let record = copied.as_slice();
@@ -134,7 +133,7 @@ fn read_need(
     place: u128,
 ) -> Result<(RawNeeds, u32), ViewFault>
     requires { place < 2 ^ 97 }
-    ensures { Gives (step_model raw_needs) result (need_in form source.now place) }
+    ensures { Gives (step_model (λ n. n)) result (need_in form source.now place) }
 {
     let copied = read_bytes(alloc, source, place, 16)?;
     let record = copied.as_slice();
@@ -155,7 +154,7 @@ pub(crate) fn read_definitions(
     source: &Source<'_>,
     count: u64,
 ) -> Result<Vec<RawDefinition>, ViewFault>
-    ensures { Gives raw_definitions result (definitions_from form source.now count) }
+    ensures { Gives (λ v. v.items) result (definitions_from form source.now count) }
 {
     let mut made = Vec::new(alloc);
     let mut place = 0;
@@ -174,7 +173,7 @@ pub(crate) fn read_needs(
     source: &Source<'_>,
     count: u64,
 ) -> Result<Vec<RawNeeds>, ViewFault>
-    ensures { Gives raw_libraries result (needs_from form source.now count) }
+    ensures { Gives (λ v. v.items) result (needs_from form source.now count) }
 {
     let mut made = Vec::new(alloc);
     let mut place = 0;

@@ -1,8 +1,6 @@
-ghost use Rattle.std.specs.Prelude.{map};
 ghost use Rattle.patch_bytes.specs.Memory.{text_at};
 ghost use Rattle.elf_format.specs.Options.{each};
 ghost use Rattle.elf_format.specs.Answers.{Gives};
-ghost use Rattle.elf_format.specs.Seen.{raw_definition, raw_needs};
 ghost use Rattle.test_elf_plain.specs.PlainViews.{definition_model, name_model, needs_model, source_model};
 ghost use Rattle.test_elf_plain.specs.PlainViews.{definitions_model, libraries_model, names_model, texts_model};
 ghost use Rattle.elf_format.specs.Versions.{shown_definition, shown_need, shown_need_name};
@@ -40,7 +38,7 @@ fn show_definition(
     definition: &RawDefinition,
 ) -> Result<ShownDefinition, ViewFault>
     ensures { Gives definition_model result
-        (shown_definition room (source_model texts.now) (raw_definition definition.now)) }
+        (shown_definition room (source_model texts.now) definition.now) }
 {
     let names = show_texts(alloc, room, texts, &definition.names)?;
     Ok(ShownDefinition {
@@ -58,7 +56,7 @@ pub(crate) fn show_definitions(
     definitions: &[RawDefinition],
 ) -> Result<Vec<ShownDefinition>, ViewFault>
     ensures { Gives definitions_model result (each
-        (shown_definition room (source_model texts.now)) (map raw_definition definitions.now)) }
+        (shown_definition room (source_model texts.now)) definitions.now) }
 {
     let mut shown = Vec::new(alloc);
     for definition in definitions {
@@ -113,7 +111,7 @@ fn show_need(
     needs: &RawNeeds,
 ) -> Result<ShownNeeds, ViewFault>
     ensures { Gives needs_model result
-        (shown_need room (source_model texts.now) (raw_needs needs.now)) }
+        (shown_need room (source_model texts.now) needs.now) }
 {
     let file = read_text(alloc, room, texts, needs.file as u64)?;
     let versions = show_names(alloc, room, texts, &needs.versions)?;
@@ -128,7 +126,7 @@ pub(crate) fn show_needs(
     libraries: &[RawNeeds],
 ) -> Result<Vec<ShownNeeds>, ViewFault>
     ensures { Gives libraries_model result
-        (each (shown_need room (source_model texts.now)) (map raw_needs libraries.now)) }
+        (each (shown_need room (source_model texts.now)) libraries.now) }
 {
     let mut shown = Vec::new(alloc);
     for library in libraries {

@@ -2,7 +2,6 @@
 use Rattle.std.proofs.Common.{List, Option, Some, map, sym, ap, ◌∙◌, subst}
 use Rattle.std.proofs.lemmas.Result.{err_from_is_err_and}
 use Rattle.elf_format.specs.Answers.{Gives}
-use Rattle.elf_format.specs.Seen.{raw_definition}
 use Rattle.test_elf_plain.specs.PlainViews.{definition_model, source_model}
 use Rattle.elf_format.specs.Versions.{VersionDefinition}
 use Rattle.test_elf_plain.proofs.ViewSteps.{definitions_fail, definitions_on}
@@ -16,6 +15,6 @@ returns-in_err-raw c =
 pub returns : goal.returns
 returns c =
     subst (λ (o : Option (List VersionDefinition)). Gives (λ v. map definition_model v.items) c.show_definitions.result o)
-    (definitions_on c.args.form c.args.room (source_model c.args.table.now.bytes) (source_model c.args.table.now.texts) c.args.table.now.count (map raw_definition c.deref.result.now)
-    (c.in_ok-raw.ensures ∙ ap (λ l. Some (map raw_definition l)) (sym c.deref.ensures.value)))
+    (definitions_on c.args.form c.args.room (source_model c.args.table.now.bytes) (source_model c.args.table.now.texts) c.args.table.now.count c.deref.result.now
+    (c.in_ok-raw.ensures ∙ ap (λ l. Some l) (sym c.deref.ensures.value)))
     c.show_definitions.ensures

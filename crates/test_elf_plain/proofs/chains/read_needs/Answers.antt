@@ -1,9 +1,7 @@
 -- One record of the chain after another.
-use Rattle.std.proofs.Common.{◌+◌, ◌-◌, ℕ, true, Option, inl, map, ap, ◌∙◌, arith}
-use Rattle.std.proofs.lemmas.List.{map_push}
+use Rattle.std.proofs.Common.{◌+◌, ◌-◌, ℕ, true, Option, inl, ap, ◌∙◌, arith}
 use Rattle.std.proofs.lemmas.Result.{err_from_is_err_and}
 use Rattle.elf_format.specs.Answers.{chain}
-use Rattle.elf_format.specs.Seen.{raw_needs}
 use Rattle.test_elf_plain.specs.PlainViews.{source_model}
 use Rattle.elf_format.specs.Versions.{NeedNumbers, Step, need_at}
 use Rattle.elf_format.proofs.ChainSteps.{chain_broken, chain_done, chain_ends, chain_goes, more_left, next_of}
@@ -14,24 +12,24 @@ pub returns-in_err-value : goal.returns-in_err-value
 returns-in_err-value c =
     let p = err_from_is_err_and c.from_residual.result c.from_residual.ensures.1 in
     let read : ℕ → Option (Step NeedNumbers) = need_at c.args.form (source_model c.args.source.now) in
-    rw (p.1, p.2) (chain_ends read c.in_err-value.field-0.0 (map raw_needs c.loop-i.made.items) c.args.count c.loop-i.i c.loop-i.place (chain read c.args.count 0) c.loop-i-test.true c.in_err-value.ensures c.loop-i.invariant.made)
+    rw (p.1, p.2) (chain_ends read c.in_err-value.field-0.0 c.loop-i.made.items c.args.count c.loop-i.i c.loop-i.place (chain read c.args.count 0) c.loop-i-test.true c.in_err-value.ensures c.loop-i.invariant.made)
 
 pub returns-in_err-place : goal.returns-in_err-place
 returns-in_err-place c =
     let p = err_from_is_err_and c.from_residual-in_err-place.result c.from_residual-in_err-place.ensures.1 in
     let read : ℕ → Option (Step NeedNumbers) = need_at c.args.form (source_model c.args.source.now) in
-    let s : Step NeedNumbers = record { value = raw_needs c.in_ok-value.value; is_whole = true; next = c.in_ok-value.next } in
+    let s : Step NeedNumbers = record { value = c.in_ok-value.value; is_whole = true; next = c.in_ok-value.next } in
     rw (p.1, p.2, c.in_err-place.ensures.0)
-    (chain_broken read (map raw_needs c.loop-i.made.items) c.args.count c.loop-i.i c.loop-i.place s (chain read c.args.count 0) c.loop-i-test.true c.in_ok-value.ensures
+    (chain_broken read c.loop-i.made.items c.args.count c.loop-i.i c.loop-i.place s (chain read c.args.count 0) c.loop-i-test.true c.in_ok-value.ensures
     (more_left c.args.count c.loop-i.i c.loop-i-test.true c.in_err-place.ensures.1) (inl c.in_err-place.ensures.2) c.loop-i.invariant.made)
 
 pub loop-i-preserved : goal.loop-i-preserved
 loop-i-preserved c =
     let read : ℕ → Option (Step NeedNumbers) = need_at c.args.form (source_model c.args.source.now) in
-    let s : Step NeedNumbers = record { value = raw_needs c.in_ok-value.value; is_whole = true; next = c.in_ok-value.next } in
+    let s : Step NeedNumbers = record { value = c.in_ok-value.value; is_whole = true; next = c.in_ok-value.next } in
     record {
-      made = ap (λ m. with_front m (chain read (c.args.count - (c.loop-i.i + 1)) c.in_ok-place.place)) (ap (map raw_needs) c.in_ok-push.ensures.items ∙ map_push raw_needs c.loop-i.made.items c.in_ok-value.value)
-          ∙ chain_goes read (map raw_needs c.loop-i.made.items) c.args.count c.loop-i.i c.loop-i.place c.in_ok-place.place s (chain read c.args.count 0) c.loop-i-test.true c.in_ok-value.ensures
+      made = ap (λ m. with_front m (chain read (c.args.count - (c.loop-i.i + 1)) c.in_ok-place.place)) c.in_ok-push.ensures.items
+          ∙ chain_goes read c.loop-i.made.items c.args.count c.loop-i.i c.loop-i.place c.in_ok-place.place s (chain read c.args.count 0) c.loop-i-test.true c.in_ok-value.ensures
           (next_of c.args.count c.loop-i.i c.in_ok-value.next c.loop-i.place c.in_ok-place.place c.in_ok-place.ensures.0) c.loop-i.invariant.made;
       near = omega arith;
     }
@@ -39,4 +37,4 @@ loop-i-preserved c =
 pub returns : goal.returns
 returns c =
     let read : ℕ → Option (Step NeedNumbers) = need_at c.args.form (source_model c.args.source.now) in
-    chain_done read (map raw_needs c.loop-i.made.items) c.args.count c.loop-i.i c.loop-i.place (chain read c.args.count 0) c.loop-i-test.false c.loop-i.invariant.made
+    chain_done read c.loop-i.made.items c.args.count c.loop-i.i c.loop-i.place (chain read c.args.count 0) c.loop-i-test.false c.loop-i.invariant.made

@@ -1,6 +1,5 @@
-use Rattle.std.proofs.Common.{◌≡◌, ◌≤◌, ◌-◌, ◌*◌, ◌^◌, map}
+use Rattle.std.proofs.Common.{◌≡◌, ◌≤◌, ◌-◌, ◌*◌, ◌^◌}
 use Rattle.elf_format.specs.Answers.{chain}
-use Rattle.elf_format.specs.Seen.{raw_needs}
 use Rattle.test_elf_plain.specs.PlainViews.{source_model}
 use Rattle.elf_format.specs.Versions.{need_at}
 use Rattle.elf_format.proofs.ReadingSteps.{with_front}
@@ -9,6 +8,6 @@ use Rattle.test_elf_plain.proofs.chains.read_needs.Given as goal
 -- what was read so far, and what the rest of the chain gives; no place is too far
 abbrev pub invariant-loop-i : goal.invariant-loop-i
 invariant-loop-i l = record {
-  made : with_front (map raw_needs l.made.items) (chain (need_at l.form (source_model l.source)) (l.count - l.i) l.place) ≡ chain (need_at l.form (source_model l.source)) l.count 0;
+  made : with_front l.made.items (chain (need_at l.form (source_model l.source)) (l.count - l.i) l.place) ≡ chain (need_at l.form (source_model l.source)) l.count 0;
   near : l.place ≤ l.i * 2 ^ 32;
 }

@@ -1,45 +1,30 @@
 -- One value for each element.
-use Rattle.std.proofs.Common.{◌≡◌, ◌<◌, ◌≤◌, ◌++◌, ◌∷◌, [], ℕ, List, map, Option, get_or, length, sym, ap, subst, ◌∙◌, arith}
-use Rattle.std.proofs.lemmas.List.{get_or-map, length-map, map_push}
+use Rattle.std.proofs.Common.{◌≡◌, ◌++◌, ◌∷◌, [], map, Option, sym, ap, subst, ◌∙◌}
+use Rattle.std.proofs.lemmas.List.{map_push}
 use Rattle.std.proofs.lemmas.Result.{err_from_is_err_and}
-use Rattle.elf_format.specs.declared.versions.RawDefinition.{RawDefinition}
 use Rattle.elf_format.specs.Options.{each}
 use Rattle.elf_format.specs.Answers.{Fails}
-use Rattle.elf_format.specs.Seen.{raw_definition}
 use Rattle.test_elf_plain.specs.PlainViews.{definition_model, source_model}
 use Rattle.elf_format.specs.Versions.{DefinitionNumbers, VersionDefinition, shown_definition}
 use Rattle.elf_format.proofs.ReadingSteps.{each_done, each_ends, each_goes}
 use Rattle.test_elf_plain.proofs.names.show_definitions.Goals as goal
 
--- the element that the loop looks at
-at_place : (xs : List RawDefinition) (i : ℕ) (x : RawDefinition) → i < length xs → x ≡ get_or xs i x → get_or (map raw_definition xs) i (raw_definition x) ≡ raw_definition x
-at_place xs i x less is = get_or-map raw_definition xs i x (raw_definition x) less ∙ ap raw_definition (sym is)
-
 pub returns-in_err-one : goal.returns-in_err-one
 returns-in_err-one c =
     let p = err_from_is_err_and c.from_residual.result c.from_residual.ensures.1 in
     let f : DefinitionNumbers → Option VersionDefinition = shown_definition c.args.room (source_model c.args.texts.now) in
-    let xs : List DefinitionNumbers = map raw_definition c.args.definitions.now in
-    let x : RawDefinition = c.definition-item.result in
-    let less : c.loop-definition.definition-index < length xs = omega (arith, length-map c.args.definitions.now raw_definition) in
-    let here : get_or xs c.loop-definition.definition-index (raw_definition x) ≡ raw_definition x = at_place c.args.definitions.now c.loop-definition.definition-index x c.loop-definition-test.true c.definition-item.is in
-    rw (p.1, p.2) (each_ends f c.in_err-one.field-0.0 (map definition_model c.loop-definition.shown.items) xs c.loop-definition.definition-index (raw_definition x) (each f xs) less
-    (subst (λ e. Fails c.in_err-one.field-0.0 (f e)) (sym here) c.in_err-one.ensures) c.loop-definition.invariant)
+    rw (p.1, p.2) (each_ends f c.in_err-one.field-0.0 (map definition_model c.loop-definition.shown.items) c.args.definitions.now c.loop-definition.definition-index c.definition-item.result (each f c.args.definitions.now) c.loop-definition-test.true
+    (subst (λ e. Fails c.in_err-one.field-0.0 (f e)) c.definition-item.is c.in_err-one.ensures) c.loop-definition.invariant)
 
 pub loop-definition-preserved : goal.loop-definition-preserved
 loop-definition-preserved c =
     let f : DefinitionNumbers → Option VersionDefinition = shown_definition c.args.room (source_model c.args.texts.now) in
-    let xs : List DefinitionNumbers = map raw_definition c.args.definitions.now in
-    let x : RawDefinition = c.definition-item.result in
     let made = c.in_ok-one.one in
-    let less : c.loop-definition.definition-index < length xs = omega (arith, length-map c.args.definitions.now raw_definition) in
-    let here : get_or xs c.loop-definition.definition-index (raw_definition x) ≡ raw_definition x = at_place c.args.definitions.now c.loop-definition.definition-index x c.loop-definition-test.true c.definition-item.is in
     let e : map definition_model c.push.new.self.items ≡ map definition_model c.loop-definition.shown.items ++ definition_model made ∷ [] = rw c.in_ok-push.ensures.items (map_push definition_model c.loop-definition.shown.items made) in
-    rw e (each_goes f (map definition_model c.loop-definition.shown.items) xs c.loop-definition.definition-index (raw_definition x) (definition_model made) (each f xs) less (ap f here ∙ c.in_ok-one.ensures) c.loop-definition.invariant)
+    rw e (each_goes f (map definition_model c.loop-definition.shown.items) c.args.definitions.now c.loop-definition.definition-index c.definition-item.result (definition_model made) (each f c.args.definitions.now) c.loop-definition-test.true
+    (ap f (sym c.definition-item.is) ∙ c.in_ok-one.ensures) c.loop-definition.invariant)
 
 pub returns : goal.returns
 returns c =
     let f : DefinitionNumbers → Option VersionDefinition = shown_definition c.args.room (source_model c.args.texts.now) in
-    let xs : List DefinitionNumbers = map raw_definition c.args.definitions.now in
-    let past : length xs ≤ c.loop-definition.definition-index = omega (arith, length-map c.args.definitions.now raw_definition) in
-    each_done f (map definition_model c.loop-definition.shown.items) xs c.loop-definition.definition-index (each f xs) past c.loop-definition.invariant
+    each_done f (map definition_model c.loop-definition.shown.items) c.args.definitions.now c.loop-definition.definition-index (each f c.args.definitions.now) c.loop-definition-test.false c.loop-definition.invariant

@@ -5,7 +5,7 @@ use std::{fmt, io};
 const ROW: usize = 16;
 
 /// Prints how many bytes there are, and each row of 16 that is not as it was, with its offset.
-pub(crate) fn print_rows(rt: &impl Print, before: &[u8], after: &[u8]) -> io::Result<()> {
+pub fn print_rows(rt: &impl Print, before: &[u8], after: &[u8]) -> io::Result<()> {
     println!(rt; "{} bytes", after.len())?;
     let mut old = before;
     let mut at = 0u64;
@@ -22,7 +22,7 @@ pub(crate) fn print_rows(rt: &impl Print, before: &[u8], after: &[u8]) -> io::Re
 
 /// Bytes in hex, in groups of four.
 #[derive(Clone, Copy)]
-pub(crate) struct Row<'a>(pub(crate) &'a [u8]);
+pub struct Row<'a>(pub &'a [u8]);
 
 impl fmt::Display for Row<'_> {
     fn fmt<W: fmt::Write>(&self, f: &mut fmt::Formatter<W>) -> fmt::Result {
@@ -38,7 +38,7 @@ impl fmt::Display for Row<'_> {
 
 /// Bytes as text, a character each, `~` for a NUL.
 #[derive(Clone, Copy)]
-pub(crate) struct Text<'a>(pub(crate) &'a [u8]);
+pub struct Text<'a>(pub &'a [u8]);
 
 impl fmt::Display for Text<'_> {
     fn fmt<W: fmt::Write>(&self, f: &mut fmt::Formatter<W>) -> fmt::Result {

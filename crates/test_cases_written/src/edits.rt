@@ -8,7 +8,7 @@ use std::collections::HashSet;
 use std::io;
 
 /// A file, read again where memory was refused.
-pub(crate) fn parse<'f>(alloc: Global, bytes: &'f [u8]) -> Result<ElfContainer<'f>, ElfError> {
+pub fn parse<'f>(alloc: Global, bytes: &'f [u8]) -> Result<ElfContainer<'f>, ElfError> {
     match ElfContainer::parse(alloc, bytes) {
         Err(ElfError::Memory) => ElfContainer::parse(alloc, bytes),
         read => read,
@@ -16,7 +16,7 @@ pub(crate) fn parse<'f>(alloc: Global, bytes: &'f [u8]) -> Result<ElfContainer<'
 }
 
 /// Prints why something was refused.
-pub(crate) fn tell(rt: &impl Runtime, error: &ElfError) -> io::Result<()> {
+pub fn tell(rt: &impl Runtime, error: &ElfError) -> io::Result<()> {
     match error {
         ElfError::Modify(cause) => println!(rt; "refused: {cause}"),
         _ => println!(rt; "refused: {error}"),
@@ -24,7 +24,7 @@ pub(crate) fn tell(rt: &impl Runtime, error: &ElfError) -> io::Result<()> {
 }
 
 /// Prints what came of a call.
-pub(crate) fn tell_answer(rt: &impl Runtime, answer: &Result<(), ElfError>) -> io::Result<()> {
+pub fn tell_answer(rt: &impl Runtime, answer: &Result<(), ElfError>) -> io::Result<()> {
     match answer {
         Ok(()) => println!(rt; "done"),
         Err(error) => tell(rt, error),
@@ -67,6 +67,7 @@ fn edit(alloc: Global, file: &mut Writer<'_>, words: &str) -> Result<(), ElfErro
             file.elf_delete_needed(alloc, &names)
         }
         "set-soname" => file.elf_set_soname(alloc, values.as_bytes()),
+        "set-os-abi" => file.elf_set_osabi(alloc, values),
         "set-exec-stack" => file.elf_set_exec_stack(alloc),
         "set-page-size" => file.elf_set_page_size(u32::try_from(number(values)).unwrap_or(0)),
         _ => edit_paths(alloc, file, name, values),
@@ -82,7 +83,7 @@ fn edit_again(alloc: Global, file: &mut Writer<'_>, words: &str) -> Result<(), E
 }
 
 /// Does edits with a `+` between two, and tells the ones that are refused.
-pub(crate) fn edit_all(rt: &impl Runtime, file: &mut Writer<'_>, words: &str) -> io::Result<()> {
+pub fn edit_all(rt: &impl Runtime, file: &mut Writer<'_>, words: &str) -> io::Result<()> {
     for words in words.split(" + ") {
         tell_refused(rt, edit_again(rt.alloc(), file, words))?;
     }

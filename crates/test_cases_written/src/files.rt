@@ -6,10 +6,10 @@ use std::alloc::{AllocError, Global};
 use std::{fs, io};
 
 /// The file that lines work on.
-pub(crate) const FILE: &str = "file";
+pub const FILE: &str = "file";
 
 /// The bytes of a file, read again where memory was refused.
-pub(crate) fn content(rt: &impl Runtime, path: &str) -> io::Result<Vec<u8>> {
+pub fn content(rt: &impl Runtime, path: &str) -> io::Result<Vec<u8>> {
     match fs::read(rt, path) {
         Err(_) => fs::read(rt, path),
         read => read,
@@ -17,7 +17,7 @@ pub(crate) fn content(rt: &impl Runtime, path: &str) -> io::Result<Vec<u8>> {
 }
 
 /// Makes the file a copy of another with changes, tried again where memory was refused.
-pub(crate) fn make(rt: &impl Runtime, words: &str) -> io::Result<()> {
+pub fn make(rt: &impl Runtime, words: &str) -> io::Result<()> {
     let (name, changes) = first(words);
     match changed(rt, name, changes) {
         Err(_) => save(rt, &changed(rt, name, changes)?),
@@ -26,7 +26,7 @@ pub(crate) fn make(rt: &impl Runtime, words: &str) -> io::Result<()> {
 }
 
 /// Makes the file of bytes.
-pub(crate) fn save(rt: &impl Runtime, bytes: &[u8]) -> io::Result<()> {
+pub fn save(rt: &impl Runtime, bytes: &[u8]) -> io::Result<()> {
     fs::write(rt, FILE, bytes)
 }
 
@@ -66,14 +66,14 @@ fn overwritten(
 }
 
 /// Puts bytes at an offset, as far as they reach.
-pub(crate) fn put(bytes: &mut [u8], offset: usize, part: &[u8]) {
+pub fn put(bytes: &mut [u8], offset: usize, part: &[u8]) {
     for (old, new) in bytes.iter_mut().skip(offset).zip(part) {
         *old = *new;
     }
 }
 
 /// So many bytes: the first of these, and zeros behind them.
-pub(crate) fn resized(alloc: Global, bytes: &[u8], length: usize) -> Result<Vec<u8>, AllocError> {
+pub fn resized(alloc: Global, bytes: &[u8], length: usize) -> Result<Vec<u8>, AllocError> {
     let mut made = vec![in alloc; 0u8; length]?;
     put(&mut made, 0, bytes);
     Ok(made)

@@ -3,17 +3,17 @@
 use std::alloc::{AllocError, Global};
 
 /// The number that a word is, 0 for other words.
-pub(crate) fn number(word: &str) -> u64 {
+pub fn number(word: &str) -> u64 {
     word.parse::<u64>().unwrap_or(0)
 }
 
 /// A position or a length that a word is.
-pub(crate) fn place(word: &str) -> usize {
+pub fn place(word: &str) -> usize {
     word.parse::<usize>().unwrap_or(0)
 }
 
 /// The first word of some, and the rest.
-pub(crate) fn first(words: &str) -> (&str, &str) {
+pub fn first(words: &str) -> (&str, &str) {
     words.split_once(' ').unwrap_or((words, ""))
 }
 
@@ -35,7 +35,7 @@ fn byte(digits: &[u8]) -> u8 {
 }
 
 /// The bytes that a word in hex is, none for `-`.
-pub(crate) fn bytes_of(alloc: Global, word: &str) -> Result<Vec<u8>, AllocError> {
+pub fn bytes_of(alloc: Global, word: &str) -> Result<Vec<u8>, AllocError> {
     let mut made = Vec::new(alloc);
     if word == "-" {
         return Ok(made);
@@ -47,7 +47,7 @@ pub(crate) fn bytes_of(alloc: Global, word: &str) -> Result<Vec<u8>, AllocError>
 }
 
 /// The words as texts.
-pub(crate) fn texts_of(alloc: Global, words: &str) -> Result<Vec<Vec<u8>>, AllocError> {
+pub fn texts_of(alloc: Global, words: &str) -> Result<Vec<Vec<u8>>, AllocError> {
     let mut made = Vec::new(alloc);
     for word in words.split(' ') {
         made.push(Vec::from_slice(alloc, word.as_bytes())?)?;

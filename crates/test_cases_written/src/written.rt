@@ -3,6 +3,7 @@
 use crate::Runtime;
 use crate::edits::tell;
 use crate::files::{put, resized, save};
+use crate::planned::print_planned;
 use crate::rows::print_rows;
 use arwen_elf::elf::{ElfContainer, ElfError, Writer};
 use byte_store::Difference;
@@ -38,6 +39,7 @@ pub(crate) fn container_bytes(alloc: Global, file: &ElfContainer<'_>) -> Result<
 fn print_new(rt: &impl Runtime, file: &ElfContainer<'_>, new: &[u8]) -> io::Result<()> {
     print_rows(rt, file.bytes(), new)?;
     print_difference(rt, file, new)?;
+    print_planned(rt, file, new)?;
     save(rt, new)
 }
 
@@ -85,7 +87,7 @@ fn makes_again(
 }
 
 /// Whether a difference makes bytes of others.
-fn makes(
+pub(crate) fn makes(
     alloc: Global,
     old: &[u8],
     difference: &Difference,

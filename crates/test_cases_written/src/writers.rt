@@ -1,6 +1,7 @@
 //! What a writer gets of a file.
 
 use crate::Runtime;
+use crate::edits::tell;
 use crate::taker::Taker;
 use crate::words::{first, place};
 use crate::written::container_bytes;
@@ -41,16 +42,28 @@ fn print_answer(rt: &impl Runtime, file: &ElfContainer<'_>, taker: Taker<'_>) ->
     println!(rt; "{:?} {answer:?}", sink.get_ref().taken())
 }
 
-/// Prints how many fronts of a file a writer gets, and then fails, that takes no more bytes than these.
+/// Prints how many fronts of what is written a writer gets, and then fails, that takes no more bytes than these.
 pub(crate) fn print_fronts(
     rt: &impl Runtime,
     file: &ElfContainer<'_>,
     words: &str,
 ) -> io::Result<()> {
-    let (bytes, step) = (file.bytes(), place(words));
+    match container_bytes(rt.alloc(), file) {
+        Ok(want) => print_taken_fronts(rt, file, &want, place(words)),
+        Err(error) => tell(rt, &error),
+    }
+}
+
+/// Prints how many fronts of these bytes a writer gets, of so many bytes at a time.
+fn print_taken_fronts(
+    rt: &impl Runtime,
+    file: &ElfContainer<'_>,
+    want: &[u8],
+    step: usize,
+) -> io::Result<()> {
     let mut count = 0u64;
-    for room in 0..bytes.len() {
-        if is_front_taken(rt.alloc(), file, Taker::new(bytes, room, step), room) {
+    for room in 0..want.len() {
+        if is_front_taken(rt.alloc(), file, Taker::new(want, room, step), room) {
             count = count.wrapping_add(1);
         }
     }
