@@ -1,0 +1,93 @@
+-- The hashes of symbols in an order, and of symbols as they stand.
+use Rattle.std.proofs.Common.{◌≡◌, ℕ, zero, suc, ◌+◌, ◌<◌, List, [], ◌∷◌, ◌++◌, length, drop, take, get_or, map, refl, sym, ap, ◌∙◌, Option, Some, None, arith}
+use Rattle.std.specs.Prelude.{option_map, slice_get}
+use Rattle.std.specs.List.{cons_option}
+use Rattle.std.proofs.lemmas.List.{append_assoc, map-append, take_more}
+use Rattle.std.proofs.lemmas.List.Elements.{All-head, All-tail, filter_map-append}
+use Rattle.std.proofs.lemmas.Option.{get_or_from_slice_get, none-some, slice_get-map, slice_get_within}
+use Rattle.elf_format.specs.Views.{NamedSymbol}
+use Rattle.elf_hashes.specs.Buckets.{hashes_of}
+use Rattle.elf_hashes.specs.Found.{ArePlaces, found_name, hashed_names, in_order}
+use Rattle.elf_hashes.proofs.NameLaws.{length-hashes}
+
+-- ## Symbols in an order
+
+pub inside-some : {X : Type 0} (xs : List X) (i : ℕ) → i < length xs → (x : X) × (slice_get xs i ≡ Some x)
+inside-some [] i inside = absurd (omega (arith, inside))
+inside-some (x ∷ xs) zero inside = (x, refl)
+inside-some (x ∷ xs) (suc i) inside = inside-some xs i (omega (arith, inside))
+
+-- one symbol more
+pub in_order-more : (ys : List NamedSymbol) (order : List ℕ) (i : ℕ) (y : NamedSymbol) → i < length order → slice_get ys (get_or order i 0) ≡ Some y
+    → in_order ys (take (i + 1) order) ≡ in_order ys (take i order) ++ y ∷ []
+in_order-more ys order i y inside at =
+    ap (in_order ys) (take_more order i 0 inside)
+    ∙ filter_map-append (λ k. slice_get ys k) (take i order) (get_or order i 0 ∷ [])
+    ∙ ap (λ (o : Option NamedSymbol). in_order ys (take i order) ++ cons_option o []) at
+
+-- ## Hashes in an order
+
+pub hashes-more : {Y : Type 0} (seen : NamedSymbol → Y) (ys : List NamedSymbol) (order : List ℕ) (i : ℕ) (y : NamedSymbol) (items was now : List Y) → i < length order
+    → slice_get ys (get_or order i 0) ≡ Some y
+    → was ≡ items ++ map seen (in_order ys (take i order))
+    → now ≡ was ++ seen y ∷ []
+    → now ≡ items ++ map seen (in_order ys (take (i + 1) order))
+hashes-more seen ys order i y items was now inside at before step =
+    let made = map seen (in_order ys (take i order)) in
+    step ∙ ap (λ l. l ++ seen y ∷ []) before ∙ append_assoc items made (seen y ∷ [])
+    ∙ ap (λ l. items ++ l) (sym (map-append seen (in_order ys (take i order)) (y ∷ [])))
+    ∙ ap (λ l. items ++ map seen l) (sym (in_order-more ys order i y inside at))
+
+map-twice : {X Y Z : Type 0} (f : Y → Z) (g : X → Y) (xs : List X) → map f (map g xs) ≡ map (λ x. f (g x)) xs
+map-twice f g [] = refl
+map-twice f g (x ∷ xs) = ap (λ l. f (g x) ∷ l) (map-twice f g xs)
+
+-- the first has none
+pub hashes-whole : (hash : List ℕ → ℕ) (ys : List NamedSymbol) (order : List ℕ) → 0 < length order → ArePlaces ys order
+    → hashes_of hash (hashed_names (in_order ys order)) ≡ None ∷ map (λ y. option_map hash (found_name y)) (in_order ys (drop 1 order))
+unfolding hashed_names
+hashes-whole hash ys [] some places = absurd (omega (arith, some))
+hashes-whole hash ys (k ∷ order) some places =
+    let (y, at) = inside-some ys k (All-head (λ i. i < length ys) k order places) in
+    ap (λ (o : Option NamedSymbol). hashes_of hash (hashed_names (cons_option o (in_order ys order)))) at
+    ∙ ap (λ l. None ∷ l) (map-twice (option_map hash) found_name (in_order ys order))
+
+pub hashes-none : (hash : List ℕ → ℕ) (ys : List NamedSymbol) (order : List ℕ) → length order ≡ 0 → hashes_of hash (hashed_names (in_order ys order)) ≡ []
+unfolding hashed_names
+hashes-none hash ys [] none = refl
+hashes-none hash ys (k ∷ order) none = absurd (omega (arith, none))
+
+-- as many as symbols
+pub length-in_order : (ys : List NamedSymbol) (order : List ℕ) → ArePlaces ys order → length (in_order ys order) ≡ length order
+length-in_order ys [] places = refl
+length-in_order ys (k ∷ order) places =
+    let (y, at) = inside-some ys k (All-head (λ i. i < length ys) k order places) in
+    ap (λ (o : Option NamedSymbol). length (cons_option o (in_order ys order))) at
+    ∙ ap suc (length-in_order ys order (All-tail (λ i. i < length ys) k order places))
+
+-- ## Hashes of symbols as they stand
+
+pub own-first : (hash : List ℕ → ℕ) (ys : List NamedSymbol) (i : ℕ) → i < length ys → i ≡ 0 → slice_get (hashes_of hash (hashed_names ys)) i ≡ Some None
+unfolding hashed_names
+own-first hash [] i inside zeroth = absurd (omega (arith, inside))
+own-first hash (y ∷ ys) i inside zeroth = ap (slice_get (hashes_of hash (None ∷ map found_name ys))) zeroth
+
+pub own-other : (hash : List ℕ → ℕ) (ys : List NamedSymbol) (i : ℕ) (y : NamedSymbol) → 0 < i → slice_get ys i ≡ Some y
+    → slice_get (hashes_of hash (hashed_names ys)) i ≡ Some (option_map hash (found_name y))
+unfolding hashed_names
+own-other hash [] i y some at = absurd (none-some y at)
+own-other hash (first ∷ ys) zero y some at = absurd (omega (arith, some))
+own-other hash (first ∷ ys) (suc i) y some at =
+    slice_get-map (option_map hash) (map found_name ys) i
+    ∙ ap (option_map (option_map hash)) (slice_get-map found_name ys i ∙ ap (option_map found_name) at)
+
+-- one more of a list
+pub taken-more : {X : Type 0} (xs was now : List X) (i : ℕ) (x : X) → slice_get xs i ≡ Some x → was ≡ take i xs → now ≡ was ++ x ∷ [] → now ≡ take (i + 1) xs
+taken-more xs was now i x at before step =
+    step ∙ ap (λ l. l ++ x ∷ []) before
+    ∙ sym (take_more xs i x (slice_get_within xs i x at) ∙ ap (λ v. take i xs ++ v ∷ []) (get_or_from_slice_get xs i x x at))
+
+-- as many as positions
+pub length-made : (hash : List ℕ → ℕ) (ys : List NamedSymbol) (order : List ℕ) (hashes : List (Option ℕ)) → ArePlaces ys order
+    → hashes ≡ hashes_of hash (hashed_names (in_order ys order)) → length hashes ≡ length order
+length-made hash ys order hashes places is = ap length is ∙ length-hashes hash (in_order ys order) ∙ length-in_order ys order places

@@ -1,0 +1,16 @@
+pub mod ListLaws
+pub mod ChainLaws
+pub mod RunLaws
+pub mod WordLaws
+pub mod NameLaws
+pub mod GabiLaws
+pub mod FilterLaws
+pub mod GnuWords
+pub mod GnuLaws
+pub mod OrderOnce
+pub mod OrderLaws
+pub mod SizeLaws
+pub mod HashSteps
+pub mod ChainSteps
+pub mod OrderSteps
+pub mod VersionSteps

@@ -1,0 +1,9 @@
+pub mod Found
+pub mod Buckets
+pub mod Gabi
+pub mod Gnu
+pub mod Order
+pub mod Sizes
+pub mod Versions
+pub mod Steps
+pub mod Rows

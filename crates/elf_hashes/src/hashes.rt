@@ -1,0 +1,121 @@
+//! The hashes of symbols that look-ups find.
+ghost use Rattle.std.specs.Prelude.{◌≡◌, ◌<◌, ◌++◌, Some, length, map, option_map, slice_get, IfOk, OnOk};
+ghost use Rattle.elf_format.specs.Hashes.{gnu_hash as gnu_hash_of};
+ghost use Rattle.elf_image_symbols.specs.SymbolModel.{symbol_model};
+ghost use Rattle.elf_hashes.specs.Buckets.{hashes_of};
+ghost use Rattle.elf_hashes.specs.Found.{ArePlaces, found_name, hashed_names, in_order, is_found as is_symbol_found, is_local as is_symbol_local};
+ghost use Rattle.elf_hashes.specs.Steps.{hash_by};
+
+use elf_image_symbols::{Symbol, Symbols};
+use elf_tables::{gnu_hash, sysv_hash};
+use std::alloc::{AllocError, Global};
+
+// The hash that a table goes by.
+#[derive(Clone, Copy)]
+pub enum Hashing {
+    // That of the gABI.
+    Gabi,
+    // That of GNU.
+    Gnu,
+}
+
+// The hash of a name.
+fn hash_of(hashing: Hashing, name: &[u8]) -> u32
+    ensures { result ≡ hash_by hashing name.now }
+{
+    match hashing {
+        Hashing::Gabi => sysv_hash(name),
+        Hashing::Gnu => gnu_hash(name),
+    }
+}
+
+// Whether other files don't see a symbol.
+pub(crate) fn is_local(symbol: &Symbol<'_>) -> bool
+    ensures { result ≡ is_symbol_local (symbol_model symbol.now) }
+{
+    symbol.st_info / 16 == 0
+}
+
+// Whether a look-up may find a symbol: it is defined, and not local.
+fn is_found(symbol: &Symbol<'_>) -> bool
+    ensures { result ≡ is_symbol_found (symbol_model symbol.now) }
+{
+    symbol.st_shndx != 0 && !is_local(symbol)
+}
+
+// The hash by which a look-up finds a symbol.
+fn found_hash(hashing: Hashing, symbol: &Symbol<'_>) -> Option<u32>
+    ensures { result ≡ option_map (hash_by hashing) (found_name (symbol_model symbol.now)) }
+{
+    if is_found(symbol) {
+        Some(hash_of(hashing, symbol.name))
+    } else {
+        None
+    }
+}
+
+// Appends the hashes of the symbols at these positions.
+fn push_hashes(
+    hashes: &mut Vec<Option<u32>>,
+    hashing: Hashing,
+    symbols: &Symbols<'_>,
+    order: &[usize],
+) -> Result<(), AllocError>
+    requires { ArePlaces symbols.now order.now }
+    ensures { OnOk result (hashes.new.items ≡ hashes.old.items
+        ++ map (λ y. option_map (hash_by hashing) (found_name y))
+        (in_order symbols.now order.now)) }
+{
+    for i in order {
+        let symbol = symbols.get(*i);
+        hashes.push(found_hash(hashing, &symbol))?;
+    }
+    Ok(())
+}
+
+// The hash of each symbol that a look-up finds, the symbols being in an order.
+pub(crate) fn hashes(
+    alloc: Global,
+    hashing: Hashing,
+    symbols: &Symbols<'_>,
+    order: &[usize],
+) -> Result<Vec<Option<u32>>, AllocError>
+    requires { ArePlaces symbols.now order.now }
+    ensures { IfOk result (λ hashes. hashes.items
+        ≡ hashes_of (hash_by hashing) (hashed_names (in_order symbols.now order.now))) }
+{
+    if order.len() == 0 {
+        return Ok(Vec::new(alloc));
+    }
+    let mut hashes = Vec::with_capacity(alloc, order.len())?;
+    hashes.push(None)?;
+    push_hashes(&mut hashes, hashing, symbols, &order[1..])?;
+    Ok(hashes)
+}
+
+// The GNU hash of a symbol, where a look-up finds it.
+fn own_hash(symbols: &Symbols<'_>, i: usize) -> Option<u32>
+    requires { i < length symbols.now }
+    ensures { slice_get (hashes_of gnu_hash_of (hashed_names symbols.now)) i ≡ Some result }
+{
+    if i == 0 {
+        return None;
+    }
+    let symbol = symbols.get(i);
+    found_hash(Hashing::Gnu, &symbol)
+}
+
+// The GNU hash of each symbol that a look-up finds, the symbols being as they stand.
+pub(crate) fn own_hashes(
+    alloc: Global,
+    symbols: &Symbols<'_>,
+) -> Result<Vec<Option<u32>>, AllocError>
+    ensures { IfOk result (λ hashes. hashes.items
+        ≡ hashes_of gnu_hash_of (hashed_names symbols.now)) }
+{
+    let mut hashes = Vec::with_capacity(alloc, symbols.len())?;
+    for i in 0..symbols.len() {
+        hashes.push(own_hash(symbols, i))?;
+    }
+    Ok(hashes)
+}

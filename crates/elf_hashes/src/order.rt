@@ -1,0 +1,127 @@
+//! The order that a GNU hash table asks for.
+ghost use Rattle.std.specs.Prelude.{◌≡◌, ◌<◌, ◌≤◌, ◌^◌, ◌++◌, ◌∷◌, All, drop, length, IfOk, MatchResult, OnOk};
+ghost use Rattle.std.specs.List.{flat_map};
+ghost use Rattle.elf_image_symbols.specs.SymbolModel.{symbol_model};
+ghost use Rattle.elf_tables.specs.declared.fault.TableFault.TheVariants.{NumberTooLarge};
+ghost use Rattle.elf_hashes.specs.Found.{is_local as is_symbol_local, is_sought as is_symbol_sought};
+ghost use Rattle.elf_hashes.specs.Order.{places_by_bucket, places_where};
+ghost use Rattle.elf_hashes.specs.Steps.{walk};
+
+use crate::chains::{Chained, make_chains};
+use crate::hashes::{is_local, own_hashes};
+use elf_image_symbols::{Symbol, Symbols};
+use elf_tables::TableFault;
+use std::alloc::{AllocError, Global};
+
+// Whether a symbol is defined elsewhere.
+fn is_sought(symbol: &Symbol<'_>) -> bool
+    ensures { result ≡ is_symbol_sought (symbol_model symbol.now) }
+{
+    !is_local(symbol) && symbol.st_shndx == 0
+}
+
+// Appends where the local symbols stand, the first one apart.
+fn push_locals(order: &mut Vec<usize>, symbols: &Symbols<'_>) -> Result<(), AllocError>
+    ensures { OnOk result (order.new.items
+        ≡ order.old.items ++ places_where is_symbol_local 1 (drop 1 symbols.now)) }
+{
+    for i in 1..symbols.len() {
+        let symbol = symbols.get(i);
+        if is_local(&symbol) {
+            order.push(i)?;
+        }
+    }
+    Ok(())
+}
+
+// Appends where the symbols stand that are defined elsewhere, the first one apart.
+fn push_sought(order: &mut Vec<usize>, symbols: &Symbols<'_>) -> Result<(), AllocError>
+    ensures { OnOk result (order.new.items
+        ≡ order.old.items ++ places_where is_symbol_sought 1 (drop 1 symbols.now)) }
+{
+    for i in 1..symbols.len() {
+        let symbol = symbols.get(i);
+        if is_sought(&symbol) {
+            order.push(i)?;
+        }
+    }
+    Ok(())
+}
+
+// Appends the symbols of a chain.
+fn push_chain(order: &mut Vec<usize>, first: u32, nexts: &[u32]) -> Result<(), AllocError>
+    requires first { first < length nexts.now }
+    requires nexts { All (λ next. next < length nexts.now) nexts.now }
+    ensures { OnOk result (order.new.items
+        ≡ order.old.items ++ walk nexts.now (length nexts.now) first) }
+{
+    let mut symbol = first as usize;
+    for _ in 0..nexts.len() {
+        if symbol == 0 {
+            break;
+        }
+        order.push(symbol)?;
+        symbol = nexts[symbol] as usize;
+    }
+    Ok(())
+}
+
+// Appends the symbols of all chains.
+fn push_chains(order: &mut Vec<usize>, chained: &Chained) -> Result<(), AllocError>
+    requires firsts { All (λ first. first < length chained.now.nexts.items)
+        chained.now.firsts.items }
+    requires nexts { All (λ next. next < length chained.now.nexts.items) chained.now.nexts.items }
+    ensures { OnOk result (order.new.items ≡ order.old.items
+        ++ flat_map (walk chained.now.nexts.items (length chained.now.nexts.items))
+        chained.now.firsts.items) }
+{
+    for first in chained.firsts.as_slice() {
+        push_chain(order, *first, chained.nexts.as_slice())?;
+    }
+    Ok(())
+}
+
+// Where symbols stand in that order, of which there is one at least.
+fn places(alloc: Global, symbols: &Symbols<'_>, chained: &Chained) -> Result<Vec<usize>, AllocError>
+    requires firsts { All (λ first. first < length chained.now.nexts.items)
+        chained.now.firsts.items }
+    requires nexts { All (λ next. next < length chained.now.nexts.items) chained.now.nexts.items }
+    ensures { IfOk result (λ order. order.items
+        ≡ 0 ∷ (places_where is_symbol_local 1 (drop 1 symbols.now)
+        ++ places_where is_symbol_sought 1 (drop 1 symbols.now)
+        ++ flat_map (walk chained.now.nexts.items (length chained.now.nexts.items))
+        chained.now.firsts.items)) }
+{
+    let mut order = Vec::with_capacity(alloc, symbols.len())?;
+    order.push(0)?;
+    push_locals(&mut order, symbols)?;
+    push_sought(&mut order, symbols)?;
+    push_chains(&mut order, chained)?;
+    Ok(order)
+}
+
+/// The positions of dynamic symbols in the order that a GNU hash table with so many buckets asks for (GNU hash section): the
+/// first stays first; then those that are local, those that are defined elsewhere, and bucket by bucket those that are
+/// found, each group as it stands. `NumberTooLarge` where there are more symbols than 32 bits can count.
+pub fn order_for_gnu_hash(
+    alloc: Global,
+    symbols: &Symbols<'_>,
+    buckets: u32,
+) -> Result<Vec<usize>, TableFault>
+    requires { 0 < buckets }
+    ensures { MatchResult result
+        (λ order. (order.items ≡ places_by_bucket buckets symbols.now)
+        × (length symbols.now < 2 ^ 32))
+        (λ fault. fault ≡ NumberTooLarge → 2 ^ 32 ≤ length symbols.now) }
+{
+    if symbols.len() > u32::MAX as usize {
+        return Err(TableFault::NumberTooLarge);
+    }
+    if symbols.len() == 0 {
+        return Ok(Vec::new(alloc));
+    }
+    let hashes = own_hashes(alloc, symbols)?;
+    let chained = make_chains(alloc, buckets, hashes.as_slice())?;
+    let order = places(alloc, symbols, &chained)?;
+    Ok(order)
+}

@@ -1,0 +1,121 @@
+//! What the tests share: calls that are refused memory, comparisons, symbols, and tables of them.
+ghost use Rattle.std.specs.Prelude.{◌≡◌, ◌↔◌, ◌<◌, All, length, IsTrue};
+ghost use Rattle.elf_hashes.specs.Found.{ArePlaces};
+
+use elf_format::form::Form;
+use elf_hashes::{GnuSizes, build_gnu_hash, build_hash, order_for_gnu_hash};
+use elf_image_symbols::Symbols;
+use elf_tables::TableFault;
+use patch_bytes::{ByteOrder2, Wide};
+use std::alloc::AllocError;
+use std::fmt;
+use std::process::Abort;
+
+pub(crate) const LITTLE_64: Form = Form {
+    wide: Wide::W64,
+    order: ByteOrder2::Little,
+};
+
+pub(crate) const BIG_32: Form = Form {
+    wide: Wide::W32,
+    order: ByteOrder2::Big,
+};
+
+// The runtime that a test is given.
+pub(crate) trait Runtime: Abort + AllocGlobal {}
+
+impl<R: Abort + AllocGlobal> Runtime for R {}
+
+// An error that can be want of memory.
+pub(crate) trait Refusal: Drop {
+    fn is_memory(&self) -> bool;
+}
+
+impl Refusal for AllocError {
+    fn is_memory(&self) -> bool {
+        true
+    }
+}
+
+impl Refusal for TableFault {
+    fn is_memory(&self) -> bool {
+        matches!(self, TableFault::Memory)
+    }
+}
+
+// Whether an answer is want of memory.
+pub(crate) fn wants_memory<T, E: Refusal>(answer: &Result<T, E>) -> bool {
+    match answer {
+        Ok(_) => false,
+        Err(error) => error.is_memory(),
+    }
+}
+
+// The answer of a call that is made once more, which is not refused memory again.
+pub(crate) fn granted<T, E: Refusal>(rt: &impl Abort, answer: Result<T, E>) -> Result<T, E>
+    ensures { result ≡ answer }
+{
+    assert!(rt; !wants_memory(&answer), "refused memory twice");
+    answer
+}
+
+// Compares.
+pub(crate) fn same<T: PartialEq + fmt::Debug>(rt: &impl Abort, what: &str, found: &T, want: &T) {
+    assert_eq!(rt; found, want, "{what}");
+}
+
+// The symbols of a table, whose names are there.
+pub(crate) fn symbols<'d>(
+    rt: &impl Abort,
+    form: Form,
+    texts: &'d [u8],
+    bytes: &'d [u8],
+    versions: Option<&'d [u8]>,
+) -> Symbols<'d> {
+    Symbols::read(form, texts, bytes, versions).expect(rt, "names of symbols")
+}
+
+// Whether each position is that of a symbol.
+pub(crate) fn are_places(symbols: &Symbols<'_>, order: &[usize]) -> bool
+    ensures { IsTrue result ↔ ArePlaces symbols.now order.now }
+{
+    let count = symbols.len();
+    order.iter().all(|i| *i < count)
+}
+
+// The order that a GNU table of so many buckets asks for.
+pub(crate) fn order_of(rt: &impl Runtime, symbols: &Symbols<'_>, buckets: u32) -> Vec<usize> {
+    assert!(rt; buckets > 0, "no buckets");
+    again!(rt; order_for_gnu_hash(rt.alloc(), symbols, buckets)).expect(rt, "an order")
+}
+
+// The gABI's table of symbols in an order.
+pub(crate) fn gabi_table(
+    rt: &impl Runtime,
+    symbols: &Symbols<'_>,
+    order: &[usize],
+    buckets: u32,
+    form: Form,
+) -> Vec<u8> {
+    assert!(rt;
+        buckets > 0 && are_places(symbols, order),
+        "buckets and positions"
+    );
+    again!(rt; build_hash(rt.alloc(), symbols, order, buckets, form)).expect(rt, "a gABI table")
+}
+
+// The GNU table of symbols in an order.
+pub(crate) fn gnu_table(
+    rt: &impl Runtime,
+    symbols: &Symbols<'_>,
+    order: &[usize],
+    sizes: GnuSizes,
+    form: Form,
+) -> Vec<u8> {
+    assert!(rt; sizes.buckets > 0 && sizes.filter_words > 0, "sizes");
+    assert!(rt;
+        sizes.filter_shift < 32 && are_places(symbols, order),
+        "positions"
+    );
+    again!(rt; build_gnu_hash(rt.alloc(), symbols, order, sizes, form)).expect(rt, "a GNU table")
+}
