@@ -13,7 +13,7 @@ use Rattle.elf_image.proofs.ReadImageLaws.{read_images_hold_parts}
 use Rattle.elf_edits.specs.Batch.{answer_at, run_from, then_on}
 use Rattle.elf_edits.specs.Cause.{Cause, cause}
 use Rattle.elf_edits.specs.declared.constants.TheConstants.{STACK_FLAGS}
-use Rattle.elf_edits.specs.Edit.{AddDebugEntry, AddNeeded, AddRunPath, ClearExecStack, DeleteNeeded, DeleteRunPath, Edit, NoDefaultLibrary, ReplaceNeeded, SetExecStack, SetInterpreter, SetOsAbi, SetPageSize, SetRunPath, SetSoname, ShrinkRunPath, UseRpath, UseRunpath}
+use Rattle.elf_edits.specs.Edit.{ClearExecStack, Edit, SetExecStack, SetInterpreter, SetPageSize}
 use Rattle.elf_edits.specs.Edited.{edited_image, edited_interpreter, edited_page_size, edited_segments, step, with_align, with_load_align, with_run, with_stack_changed, without_run}
 use Rattle.elf_image.specs.Kept.{image_at_read}
 use Rattle.elf_write_spec.specs.Whole.{AreAllKept, IsWhole}
@@ -136,39 +136,11 @@ segments_stay : (edit : Edit) (size : Option ℕ) (read now : List SegmentHeader
 segments_stay ClearExecStack size read now h = flagged_stay size without_run read now h
 segments_stay SetExecStack size read now h = flagged_stay size with_run read now h
 segments_stay (SetPageSize n) size read now h = aligned_stay size n read now h
-segments_stay AddDebugEntry size read now h = h
-segments_stay DeleteRunPath size read now h = h
-segments_stay (SetRunPath text) size read now h = h
-segments_stay (AddRunPath texts) size read now h = h
-segments_stay UseRunpath size read now h = h
-segments_stay UseRpath size read now h = h
-segments_stay (DeleteNeeded names) size read now h = h
-segments_stay (ReplaceNeeded pairs) size read now h = h
-segments_stay (AddNeeded names) size read now h = h
-segments_stay (SetSoname text) size read now h = h
-segments_stay NoDefaultLibrary size read now h = h
-segments_stay (ShrinkRunPath prefixes answers) size read now h = h
-segments_stay (SetInterpreter bytes) size read now h = h
-segments_stay (SetOsAbi name) size read now h = h
+segments_stay _ size read now h = h
 
 interpreter_stays : (edit : Edit) (o : Option (List ℕ)) → IsSome o → IsSome (edited_interpreter edit o)
 interpreter_stays (SetInterpreter bytes) o h = refl
-interpreter_stays ClearExecStack o h = h
-interpreter_stays SetExecStack o h = h
-interpreter_stays (SetPageSize n) o h = h
-interpreter_stays AddDebugEntry o h = h
-interpreter_stays DeleteRunPath o h = h
-interpreter_stays (SetRunPath text) o h = h
-interpreter_stays (AddRunPath texts) o h = h
-interpreter_stays UseRunpath o h = h
-interpreter_stays UseRpath o h = h
-interpreter_stays (DeleteNeeded names) o h = h
-interpreter_stays (ReplaceNeeded pairs) o h = h
-interpreter_stays (AddNeeded names) o h = h
-interpreter_stays (SetSoname text) o h = h
-interpreter_stays NoDefaultLibrary o h = h
-interpreter_stays (ShrinkRunPath prefixes answers) o h = h
-interpreter_stays (SetOsAbi name) o h = h
+interpreter_stays _ o h = h
 
 edited_there : (edit : Edit) (image : Image) → IsAllThere image → IsAllThere (edited_image edit image)
 unfolding edited_image IsAllThere

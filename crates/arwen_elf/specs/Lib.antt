@@ -5,3 +5,4 @@ pub mod PageSizes
 pub mod Prints
 pub mod Contained
 pub mod Written
+pub mod NewFile

@@ -6,6 +6,6 @@ pub mod rewriter;
 
 pub use crate::elf::container::ElfContainer;
 pub use crate::elf::rewriter::{
-    BuilderExt, ElfBatchError, ElfEdit, ElfError, ModifyCause, Needed, ProbeAnswer, Reason,
-    Removed, Task, Writer,
+    BuilderExt, ElfBatchError, ElfEdit, ElfError, ModifyCause, Needed, NotWritten, ProbeAnswer,
+    Reason, Removed, Task, Writer,
 };

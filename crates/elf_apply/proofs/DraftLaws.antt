@@ -16,9 +16,9 @@ use Rattle.elf_edits.specs.declared.constants.TheConstants.{STACK_FLAGS}
 use Rattle.elf_edits.specs.declared.list.NewList.{NewList}
 use Rattle.elf_edits.specs.Abi.{abi_number, lowercase_name, with_nul}
 use Rattle.elf_edits.specs.Cause.{NoDynamic, NoInterpreter, UnknownAbi, cause_if, facts_of, first_cause}
-use Rattle.elf_edits.specs.Edit.{Edit, AddDebugEntry, AddNeeded, AddRunPath, ClearExecStack, DeleteNeeded, DeleteRunPath, NoDefaultLibrary, ReplaceNeeded, SetExecStack, SetInterpreter, SetOsAbi, SetPageSize, SetRunPath, SetSoname, ShrinkRunPath, UseRpath, UseRunpath, all_but_last}
+use Rattle.elf_edits.specs.Edit.{ClearExecStack, Edit, SetExecStack, SetInterpreter, SetOsAbi, SetPageSize, all_but_last, edited_entries, touches_entries}
 use Rattle.elf_edits.specs.Edited.{edited_image, is_list_with, touches_rest, with_align, with_load_align, with_run, with_stack_changed, without_run}
-use Rattle.elf_edits.specs.Entries.{edited_entries, touches_entries, with_tag, with_tags_changed}
+use Rattle.elf_edits.specs.Entries.{with_tag, with_tags_changed}
 use Rattle.elf_image.specs.Image.{entry_tag, lists_tag}
 use Rattle.elf_image.specs.declared.dynamic.Dynamic.{Dynamic}
 use Rattle.std.specs.declared.alloc.Global.{Global}
@@ -266,46 +266,24 @@ pub rest_stays : (edit : Edit) → touches_rest edit ≡ false → (image : Imag
   entries = option_map (edited_entries image.header.e_machine edit) image.entries;
 }
 unfolding edited_image
-rest_stays AddDebugEntry h image = refl
-rest_stays DeleteRunPath h image = refl
-rest_stays (SetRunPath text) h image = refl
-rest_stays (AddRunPath texts) h image = refl
-rest_stays UseRunpath h image = refl
-rest_stays UseRpath h image = refl
-rest_stays (DeleteNeeded names) h image = refl
-rest_stays (ReplaceNeeded pairs) h image = refl
-rest_stays (AddNeeded names) h image = refl
-rest_stays (SetSoname text) h image = refl
-rest_stays NoDefaultLibrary h image = refl
-rest_stays (ShrinkRunPath prefixes answers) h image = refl
 rest_stays (SetInterpreter bytes) h image = not_both h
 rest_stays (SetOsAbi name) h image = not_both h
 rest_stays ClearExecStack h image = not_both h
 rest_stays SetExecStack h image = not_both h
 rest_stays (SetPageSize size) h image = not_both h
+rest_stays _ h image = refl
 
 -- and has a list
 there : (task : List ℕ) (image : Image) → cause_if (not (is_some image.entries)) (NoDynamic task) ≡ None → is_some image.entries ≡ true
 there task image h = not_false_is (is_some image.entries) (stands_not (not (is_some image.entries)) (NoDynamic task) h)
 
 list_there : (edit : Edit) (image : Image) → touches_rest edit ≡ false → IsFree edit (facts_of image) → is_some image.entries ≡ true
-list_there AddDebugEntry image h free = there _ image free.list
-list_there DeleteRunPath image h free = there _ image free.list
-list_there (SetRunPath text) image h free = there _ image free.list
-list_there (AddRunPath texts) image h free = there _ image free.list
-list_there UseRunpath image h free = there _ image free.list
-list_there UseRpath image h free = there _ image free.list
-list_there (DeleteNeeded names) image h free = there _ image free.list
-list_there (ReplaceNeeded pairs) image h free = there _ image free.list
-list_there (AddNeeded names) image h free = there _ image free.list
-list_there (SetSoname text) image h free = there _ image free.list
-list_there NoDefaultLibrary image h free = there _ image free.list
-list_there (ShrinkRunPath prefixes answers) image h free = there _ image free.list
 list_there (SetInterpreter bytes) image h free = not_both h
 list_there (SetOsAbi name) image h free = not_both h
 list_there ClearExecStack image h free = not_both h
 list_there SetExecStack image h free = not_both h
 list_there (SetPageSize size) image h free = not_both h
+list_there _ image h free = there _ image free.list
 
 pub listed_in : (edit : Edit) (image : Image) → touches_rest edit ≡ false → IsFree edit (facts_of image) → (es : List Entry) × (image.entries ≡ Some es)
 listed_in edit image h free = by_list image.entries (list_there edit image h free)

@@ -5,3 +5,4 @@ pub mod TakenLaws
 pub mod BatchSteps
 pub mod ShrinkLaws
 pub mod ForCallers
+pub mod DropLaws

@@ -8,9 +8,9 @@ use Rattle.elf_image.specs.Image.{Image}
 use Rattle.elf_image.specs.ImageModel.{entry_model}
 use Rattle.elf_edits.specs.declared.facts.Facts.{Facts}
 use Rattle.elf_edits.specs.Cause.{cause, facts_of, first_cause}
-use Rattle.elf_edits.specs.Edit.{Answer, Edit, ShrinkRunPath}
+use Rattle.elf_edits.specs.Edit.{Answer, Edit, ShrinkRunPath, edited_entries, touches_entries}
 use Rattle.elf_edits.specs.Edited.{is_list_with, step}
-use Rattle.elf_edits.specs.Entries.{directories_removed, edited_entries, search_of, touches_entries, with_run_paths_shrunk}
+use Rattle.elf_edits.specs.Entries.{directories_removed, search_of, with_run_paths_shrunk}
 use Rattle.elf_edits.specs.Texts.{has_some}
 use Rattle.elf_edits_shrink.specs.declared.lists.ShrunkList.{ShrunkList}
 use Rattle.elf_edits_shrink.specs.Removals.{removed_by}

@@ -1,23 +1,19 @@
 -- What edits leave, by what was written, and what their errors tell.
 use Rattle.std.proofs.Common.{◌≡◌, ℕ, ◌+◌, Bool, true, false, not, ◌||◌, List, [], ◌∷◌, refl, sym, ap, subst, ◌∙◌, Option, Some, None, option_map, Result, Ok, Err}
 use Rattle.std.specs.Prelude.{codes, ◌==◌, unwrap_or}
-use Rattle.std.specs.List.{list_any}
-use Rattle.std.proofs.lemmas.Bool.{cond-true, cond-false}
 use Rattle.elf_format.specs.declared.constants.TheConstants.{DT_RPATH, DT_RUNPATH, EM_MIPS}
 use Rattle.elf_image.specs.Dynamic.{Entry}
-use Rattle.elf_image.specs.DynamicList.{without_tag}
-use Rattle.elf_image.specs.Image.{Image, entry_tag, lists_tag}
+use Rattle.elf_image.specs.Image.{Image, lists_tag}
 use Rattle.elf_image.specs.Options.{first_there}
 use Rattle.elf_edits.specs.declared.edit.ElfEdit.{ElfEdit}
 use Rattle.elf_edits.specs.declared.facts.Facts.{Facts}
 use Rattle.elf_edits.specs.Batch.{Refusal, answer_at, run, run_from, then_on}
-use Rattle.elf_edits.specs.Cause.{BadPageSize, Cause, MipsImage, NoDynamic, cause, cause_if, facts_of, first_cause, is_page_size, lists_run_path}
+use Rattle.elf_edits.specs.Cause.{BadPageSize, Cause, MipsImage, NoDynamic, cause, cause_if, facts_of, first_cause, is_page_size}
 use Rattle.elf_edits.specs.Decided.{all_edited, first_refusal, unless_refused}
-use Rattle.elf_edits.specs.Edit.{DeleteRunPath, Edit, SetPageSize, UseRpath, UseRunpath}
+use Rattle.elf_edits.specs.Edit.{Edit, SetPageSize, UseRpath, UseRunpath, edited_entries, touches_entries}
 use Rattle.elf_edits.specs.EditModel.{edit_model}
 use Rattle.elf_edits.specs.Edited.{edited_image, is_list_with, step, with_load_align}
-use Rattle.elf_edits.specs.Entries.{edited_entries, is_run_path, touches_entries, without_run_paths}
-use Rattle.elf_edits.proofs.ForCallers.{batch_decided, step_is, step_refused, untouched}
+use Rattle.elf_edits.proofs.ForCallers.{batch_decided, step_is, step_refused}
 use Rattle.elf_apply.specs.declared.draft.Draft.{Draft}
 use Rattle.elf_apply.specs.declared.error.ElfError.{ElfError}
 use Rattle.elf_apply.specs.declared.error.ElfError.TheVariants.{InvalidDtNeededEncoding, Io, Memory, Modify, Parse, Write}
@@ -25,7 +21,7 @@ use Rattle.elf_apply.specs.declared.error.ModifyCause.{ModifyCause}
 use Rattle.elf_apply.specs.Drafted.{OnlyShows, drafted, with_retagged}
 use Rattle.elf_apply.specs.Taken.{edits_model}
 use Rattle.elf_apply.specs.Told.{IsRefusedAt, IsRefusedFor, Refuses, RefusesAt, cause_told}
-use Rattle.elf_apply.proofs.DraftLaws.{by_test, image_with, or_false, or_true, page_size_edit}
+use Rattle.elf_apply.proofs.DraftLaws.{image_with, or_true, page_size_edit}
 
 -- ## One edit
 
@@ -111,7 +107,7 @@ pub none_found : (found : Option Cause) → None ≡ option_map {U = Option Caus
 none_found None h = refl
 none_found (Some reason) h = absurd (cc)
 
-or_nothing : (o : Option Cause) → first_there o None ≡ o
+pub or_nothing : (o : Option Cause) → first_there o None ≡ o
 or_nothing None = refl
 or_nothing (Some reason) = refl
 
@@ -133,48 +129,6 @@ used_rpath old =
 pub sized : (size : ℕ) (old : Image) → record old { changed = true; segments = with_load_align size old.segments; page_size = Some size } ≡ edited_image (SetPageSize size) old
 unfolding image_with
 sized size old = ap (λ b. record old { changed = b; segments = with_load_align size old.segments; page_size = Some size }) (sym (or_true old.changed)) ∙ sym (page_size_edit size old)
-
-without_both : (es : List Entry) → without_tag DT_RUNPATH (without_tag DT_RPATH es) ≡ without_run_paths es
-without_both [] = refl
-without_both (e ∷ es) = by_test (entry_tag e == DT_RPATH)
-    (λ first.
-    ap (without_tag DT_RUNPATH) (cond-false (not (entry_tag e == DT_RPATH)) (e ∷ without_tag DT_RPATH es) (without_tag DT_RPATH es) (ap not first))
-    ∙ without_both es
-    ∙ sym (cond-false (not (is_run_path e)) (e ∷ without_run_paths es) (without_run_paths es) (ap (λ b. not (b || entry_tag e == DT_RUNPATH)) first)))
-    (λ other.
-    ap (without_tag DT_RUNPATH) (cond-true (not (entry_tag e == DT_RPATH)) (e ∷ without_tag DT_RPATH es) (without_tag DT_RPATH es) (ap not other))
-    ∙ by_test (entry_tag e == DT_RUNPATH)
-    (λ second.
-    cond-false (not (entry_tag e == DT_RUNPATH)) (e ∷ without_tag DT_RUNPATH (without_tag DT_RPATH es)) (without_tag DT_RUNPATH (without_tag DT_RPATH es)) (ap not second)
-    ∙ without_both es
-    ∙ sym (cond-false (not (is_run_path e)) (e ∷ without_run_paths es) (without_run_paths es) (ap (λ b. not (b || entry_tag e == DT_RUNPATH)) other ∙ ap not second)))
-    (λ neither.
-    cond-true (not (entry_tag e == DT_RUNPATH)) (e ∷ without_tag DT_RUNPATH (without_tag DT_RPATH es)) (without_tag DT_RUNPATH (without_tag DT_RPATH es)) (ap not neither)
-    ∙ ap (λ l. e ∷ l) (without_both es)
-    ∙ sym (cond-true (not (is_run_path e)) (e ∷ without_run_paths es) (without_run_paths es) (ap (λ b. not (b || entry_tag e == DT_RUNPATH)) other ∙ ap not neither))))
-
-pub run_paths_deleted : (old : Image) → lists_run_path old.entries ≡ true → record old { changed = true; entries = option_map (without_tag DT_RUNPATH) (option_map (without_tag DT_RPATH) old.entries) } ≡ edited_image DeleteRunPath old
-unfolding edited_image touches_entries edited_entries
-run_paths_deleted old some =
-    let parts = by_list old.entries some in
-    ap (λ (o : Option (List Entry)). record old { changed = true; entries = o }) parts.0
-    ∙ ap (λ b. record old { changed = b; entries = option_map without_run_paths old.entries }) (sym (ap (λ b. old.changed || b) parts.1 ∙ or_true old.changed))
-  where
-    by_list : (o : Option (List Entry)) → lists_run_path o ≡ true → (option_map (without_tag DT_RUNPATH) (option_map (without_tag DT_RPATH) o) ≡ option_map without_run_paths o) × (is_list_with (list_any is_run_path) o ≡ true)
-    by_list None h = absurd (cc)
-    by_list (Some es) h = (ap Some (without_both es), h)
-
-pub no_run_path_deleted : (old : Image) → lists_run_path old.entries ≡ false → old ≡ edited_image DeleteRunPath old
-unfolding edited_image touches_entries edited_entries
-no_run_path_deleted old none =
-    let parts = by_list old.entries none in
-    sym (ap (λ b. record old { changed = old.changed || b; entries = option_map without_run_paths old.entries }) parts.1
-    ∙ ap (λ b. record old { changed = b; entries = option_map without_run_paths old.entries }) (or_false old.changed)
-    ∙ ap (λ (o : Option (List Entry)). record old { changed = old.changed; entries = o }) parts.0)
-  where
-    by_list : (o : Option (List Entry)) → lists_run_path o ≡ false → (option_map without_run_paths o ≡ o) × (is_list_with (list_any is_run_path) o ≡ false)
-    by_list None h = (refl, refl)
-    by_list (Some es) h = (ap Some (untouched 0 DeleteRunPath es h), h)
 
 -- ## What the causes in place tell
 
@@ -209,10 +163,6 @@ pub plain_runpath : IsPlain UseRunpath (codes "change runpath")
 unfolding cause first_cause
 plain_runpath = record { is = λ old. ap (first_there (cause_if ((facts_of old).machine == EM_MIPS) MipsImage)) (or_nothing (cause_if (not (facts_of old).has_list) (NoDynamic (codes "change runpath")))) }
 
-pub plain_deletion : IsPlain DeleteRunPath (codes "delete runpath")
-unfolding cause first_cause
-plain_deletion = record { is = λ old. ap (first_there (cause_if ((facts_of old).machine == EM_MIPS) MipsImage)) (or_nothing (cause_if (not (facts_of old).has_list) (NoDynamic (codes "delete runpath")))) }
-
 pub plain_refused : (told : ModifyCause) (edit : Edit) (task : List ℕ) (old : Image) (facts : Facts) → IsPlain edit task → facts ≡ facts_of old
     → option_map cause_told (Some told) ≡ option_map Some (first_there (cause_if (facts.machine == EM_MIPS) MipsImage) (cause_if (not facts.has_list) (NoDynamic task))) → IsRefusedFor (cause_told told) (step edit old)
 unfolding task_causes
@@ -225,7 +175,3 @@ unfolding task_causes
 plain_taken edit task old new facts plain same h put =
     let none : task_causes task (facts_of old) ≡ None = none_found (task_causes task (facts_of old)) (h ∙ ap (λ (f : Facts). option_map {U = Option Cause} Some (task_causes task f)) same) in
     step_is edit old (plain.is old ∙ none) ∙ ap Ok (sym put)
-
-pub deleted_twice : (old once twice : Image) → once ≡ record old { changed = true; entries = option_map (without_tag DT_RPATH) old.entries }
-    → twice ≡ record once { changed = true; entries = option_map (without_tag DT_RUNPATH) once.entries } → twice ≡ record old { changed = true; entries = option_map (without_tag DT_RUNPATH) (option_map (without_tag DT_RPATH) old.entries) }
-deleted_twice old once twice first second = second ∙ ap (λ (image : Image). record image { changed = true; entries = option_map (without_tag DT_RUNPATH) image.entries }) first

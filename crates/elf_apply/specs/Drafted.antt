@@ -1,17 +1,17 @@
 -- The parts of an image that edits wrote, before they are put in place.
-use Rattle.std.specs.Prelude.{ℕ, ◌≡◌, List, [], map, Bool, false, true, ◌||◌, if◌then◌else◌, Option, Some, None, is_some, option_map, unwrap_or, IsSome, IfSome, All}
+use Rattle.std.specs.Prelude.{ℕ, ◌≡◌, List, [], ◌∷◌, map, Bool, false, true, ◌||◌, if◌then◌else◌, Option, Some, None, is_some, option_map, unwrap_or, IsSome, IfSome, All}
 use Rattle.elf_format.specs.declared.constants.TheConstants.{PT_GNU_STACK}
 use Rattle.elf_format.specs.declared.records.SegmentHeader.{SegmentHeader}
 use Rattle.elf_image.specs.Dynamic.{Entry}
-use Rattle.elf_image.specs.DynamicList.{IsListed, KeepsTables}
+use Rattle.elf_image.specs.DynamicList.{IsListed, KeepsTables, without_tag}
 use Rattle.elf_image.specs.File.{segment_of_type}
 use Rattle.elf_image.specs.Image.{Image, lists_tag}
 use Rattle.elf_image.specs.ImageModel.{entry_model, text_model}
 use Rattle.elf_image.specs.Options.{first_there}
 use Rattle.elf_edits.specs.declared.constants.TheConstants.{STACK_FLAGS}
-use Rattle.elf_edits.specs.Edit.{all_but_last}
+use Rattle.elf_edits.specs.Edit.{all_but_last, edited_entries}
 use Rattle.elf_edits.specs.Edited.{with_load_align, with_stack_changed}
-use Rattle.elf_edits.specs.Entries.{edited_entries, with_tags_changed}
+use Rattle.elf_edits.specs.Entries.{with_tags_changed}
 use Rattle.elf_edits.specs.Texts.{holds_nul}
 use Rattle.elf_edits.specs.declared.list.NewList.{NewList}
 use Rattle.elf_edits.specs.Edit.{Edit}
@@ -125,6 +125,18 @@ with_retagged old new image = record image {
   changed = image.changed || lists_tag old (unwrap_or image.entries []);
   entries = option_map (with_tags_changed old new) image.entries;
 }
+
+-- the image without the entries of a tag, changed where there is one
+abbrev pub with_tag_dropped : ℕ → Image → Image
+with_tag_dropped tag image = record image {
+  changed = image.changed || lists_tag tag (unwrap_or image.entries []);
+  entries = option_map (without_tag tag) image.entries;
+}
+
+-- the same of several tags, one after the other
+unfoldable pub with_tags_dropped : List ℕ → Image → Image
+with_tags_dropped [] image = image
+with_tags_dropped (tag ∷ tags) image = with_tags_dropped tags (with_tag_dropped tag image)
 
 -- a list whose run paths shrank, with the directories that went
 pub record IsShrunkOf (edit : Edit) (image : Image) (made : ShrunkList) : Type 0 where

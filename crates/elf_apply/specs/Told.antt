@@ -4,7 +4,8 @@ use Rattle.elf_image.specs.Image.{Image}
 use Rattle.elf_edits.specs.Batch.{Refusal}
 use Rattle.elf_edits.specs.Cause.{BadPageSize, Cause, MipsImage, NoDynamic, NoInterpreter, NoRunPath, NulInText, TooManyHeaders, UnknownAbi}
 use Rattle.elf_edits.specs.declared.cause.Cause.{Cause as CauseFound}
-use Rattle.elf_edits.specs.CauseModel.{cause_model, words_of}
+use Rattle.elf_edits.specs.Edit.{words_of}
+use Rattle.elf_edits.specs.CauseModel.{cause_model}
 use Rattle.elf_apply.specs.declared.batch.ElfBatchError.{ElfBatchError}
 use Rattle.elf_apply.specs.declared.error.ElfError.{ElfError}
 use Rattle.elf_apply.specs.declared.error.ElfError.TheVariants.{Memory, Modify}

@@ -8,7 +8,3 @@ pub mod error;
 pub mod ext;
 mod refusals;
 pub mod steps;
-
-pub use crate::steps::{
-    apply, delete_run_paths, edit, set_page_size, shrink_run_paths, use_rpath, use_runpath,
-};

@@ -2,7 +2,8 @@
 ghost use Rattle.std.specs.Prelude.{◌≡◌, ◌==◌, Err, Some as some, not, option_map};
 ghost use Rattle.elf_edits.specs.Abi.{lowercase_name};
 ghost use Rattle.elf_edits.specs.Cause.{BadPageSize as bad_page_size, MipsImage as mips_image, NoDynamic as no_dynamic, TooManyHeaders as too_many_headers, UnknownAbi, cause_if, is_page_size};
-ghost use Rattle.elf_edits.specs.CauseModel.{cause_model, words_of};
+ghost use Rattle.elf_edits.specs.Edit.{words_of};
+ghost use Rattle.elf_edits.specs.CauseModel.{cause_model};
 ghost use Rattle.elf_format.specs.declared.constants.TheConstants.{EM_MIPS as MIPS};
 ghost use Rattle.elf_image.specs.Options.{first_there};
 ghost use Rattle.elf_apply.specs.Told.{Refuses, cause_told};

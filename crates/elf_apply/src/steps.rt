@@ -1,18 +1,22 @@
 //! One edit, and a batch of edits, upon an image.
-ghost use Rattle.std.specs.Prelude.{◌≡◌, IfOk, IsOk, IsTrue, None as none, [], map, option_map, unwrap_or};
-ghost use Rattle.elf_edits.specs.Cause.{facts_of};
+ghost use Rattle.std.specs.Prelude.{◌≡◌, ◌==◌, IfOk, IsOk, IsSome, IsTrue, None as none, Some as some, [], map, option_map, unwrap_or};
+ghost use Rattle.std.specs.List.{AllPass};
+ghost use Rattle.elf_edits.specs.Cause.{MipsImage as mips_image, cause_if, facts_of, list_missing};
 ghost use Rattle.elf_edits.specs.Decided.{all_edited, first_refusal as first_refusal_of};
-ghost use Rattle.elf_edits.specs.Edit.{DeleteRunPath, SetPageSize, UseRpath, UseRunpath};
+ghost use Rattle.elf_edits.specs.Edit.{SetPageSize, UseRpath, UseRunpath, dropped_tags, task_of};
 ghost use Rattle.elf_edits.specs.EditModel.{edit_model};
-ghost use Rattle.elf_image.specs.DynamicList.{can_follow};
+ghost use Rattle.elf_edits.specs.Texts.{has_some};
+ghost use Rattle.elf_format.specs.declared.constants.TheConstants.{EM_MIPS as MIPS};
+ghost use Rattle.elf_image.specs.DynamicList.{can_follow, is_free_tag};
 ghost use Rattle.elf_image.specs.ImageModel.{entry_model};
-ghost use Rattle.elf_apply.specs.Drafted.{IsShrunkOf, ListsEntries, OnlyShows, with_retagged};
+ghost use Rattle.elf_image.specs.Options.{first_there};
+ghost use Rattle.elf_apply.specs.Drafted.{IsShrunkOf, ListsEntries, OnlyShows, with_retagged, with_tag_dropped, with_tags_dropped};
 ghost use Rattle.elf_apply.specs.Taken.{RemovedAre, TakesBatch, TakesEdit, TakesInPlace, edits_model, shrink_model};
-ghost use Rattle.elf_apply.specs.Told.{refusal_model};
+ghost use Rattle.elf_apply.specs.Told.{cause_told, refusal_model};
 
 use crate::batch::ElfBatchError;
 use crate::draft::Draft;
-use crate::error::{ElfError, Result};
+use crate::error::{ElfError, ModifyCause, Result};
 use crate::refusals::{cause_error, list_refusal, page_size_refusal};
 use elf_edits::list::any_with_tag;
 use elf_edits::{Cause, ElfEdit, Facts, Task, cause_of, image_facts};
@@ -94,21 +98,6 @@ pub fn edit(builder: &mut Builder<'_>, alloc: Global, edit: &ElfEdit) -> Result<
     }
 }
 
-/// Drops every run path (`DT_RPATH`, `DT_RUNPATH`). Takes no memory. Errors: `Modify`.
-pub fn delete_run_paths(builder: &mut Builder<'_>) -> Result<()>
-    ensures { TakesInPlace DeleteRunPath builder.old builder.new result }
-{
-    let facts = image_facts(builder);
-    if let Some(cause) = list_refusal(&facts, Task::DeleteRunPath) {
-        return Err(ElfError::Modify(cause));
-    }
-    if facts.has_run_path {
-        builder.delete_dynamic_tag(DT_RPATH);
-        builder.delete_dynamic_tag(DT_RUNPATH);
-    }
-    Ok(())
-}
-
 // The entries of the dynamic list, none without one.
 fn entries<'s, 'data>(builder: &'s Builder<'data>) -> &'s [Dynamic<'data>]
     ensures { map entry_model result.now ≡ unwrap_or builder.now.entries [] }
@@ -124,6 +113,51 @@ fn retag(builder: &mut Builder<'_>, old: u64, new: u64)
     if any_with_tag(entries(builder), old) {
         builder.retag_all(old, new);
     }
+}
+
+// Drops every entry with a tag, which is of no table, where there is one.
+fn drop_tag(builder: &mut Builder<'_>, tag: u64)
+    requires { IsTrue (is_free_tag tag) }
+    ensures { builder.new ≡ with_tag_dropped tag builder.old }
+{
+    if any_with_tag(entries(builder), tag) {
+        builder.delete_dynamic_tag(tag);
+    }
+}
+
+// Drops every entry with one of some tags, which are of no table.
+fn drop_tags(builder: &mut Builder<'_>, tags: &[u64])
+    requires { AllPass is_free_tag tags.now }
+    ensures { builder.new ≡ with_tags_dropped tags.now builder.old }
+{
+    for tag in tags {
+        drop_tag(builder, *tag);
+    }
+}
+
+// Why the dynamic list can't be edited, whatever the edit writes.
+fn list_cause(edit: &ElfEdit, facts: &Facts) -> Option<ModifyCause>
+    requires { IsSome (task_of (edit_model edit.now)) }
+    ensures { option_map cause_told result
+        ≡ option_map some (first_there (cause_if (facts.now.machine == MIPS) mips_image)
+        (list_missing (task_of (edit_model edit.now)) facts.now)) }
+{
+    match edit.task() {
+        Some(task) => list_refusal(facts, task),
+        None => None,
+    }
+}
+
+/// Makes an edit that drops entries by their tags. Takes no memory. Errors: `Modify`.
+pub fn drop_tagged(builder: &mut Builder<'_>, edit: &ElfEdit) -> Result<()>
+    requires { IsTrue (has_some (dropped_tags (edit_model edit.now))) }
+    ensures { TakesInPlace (edit_model edit.now) builder.old builder.new result }
+{
+    if let Some(cause) = list_cause(edit, &image_facts(builder)) {
+        return Err(ElfError::Modify(cause));
+    }
+    drop_tags(builder, edit.dropped_tags());
+    Ok(())
 }
 
 /// Makes every `DT_RPATH` a `DT_RUNPATH`. Takes no memory. Errors: `Modify`.

@@ -14,12 +14,10 @@ use Rattle.elf_edits.specs.declared.edit.ElfEdit.TheVariants as edits
 use Rattle.elf_edits.specs.declared.constants.TheConstants.{MOST_SEGMENTS}
 use Rattle.elf_edits.specs.declared.facts.Facts.{Facts}
 use Rattle.elf_edits.specs.Batch.{answer_at, run_from, then_on}
-use Rattle.elf_edits.specs.EditModel.{edit_model}
 use Rattle.elf_edits.specs.Cause.{Cause, NoInterpreter, NulInText, MipsImage, TooManyHeaders, cause, cause_if, facts_of, first_cause, has_no_room_for_stack, interpreter_missing, list_missing, own_cause}
 use Rattle.elf_edits.specs.Decided.{all_edited, first_refusal, refusal_or, unless_refused}
-use Rattle.elf_edits.specs.Edit.{Edit, AddDebugEntry, AddNeeded, AddRunPath, ClearExecStack, DeleteNeeded, DeleteRunPath, NoDefaultLibrary, ReplaceNeeded, SetExecStack, SetInterpreter, SetOsAbi, SetPageSize, SetRunPath, SetSoname, ShrinkRunPath, UseRpath, UseRunpath, task_of, texts_of}
+use Rattle.elf_edits.specs.Edit.{ClearExecStack, Edit, SetExecStack, SetInterpreter, SetPageSize, edit_model, edited_entries, task_of, texts_of}
 use Rattle.elf_edits.specs.Edited.{edited_image, edited_interpreter, edited_segments, step, with_align, with_stack_changed}
-use Rattle.elf_edits.specs.Entries.{edited_entries}
 use Rattle.elf_edits.specs.Texts.{holds_nul}
 use Rattle.elf_edits.proofs.ListLaws.{by_test}
 
@@ -74,22 +72,7 @@ some_if_changed f (Some x) = refl
 
 interpreter_stays : (edit : Edit) (image : Image) → IsFree edit (facts_of image) → is_some (edited_interpreter edit image.interpreter) ≡ is_some image.interpreter
 interpreter_stays (SetInterpreter bytes) image free = sym (not_false_is (is_some image.interpreter) (stands_not (not (is_some image.interpreter)) NoInterpreter free.interpreter))
-interpreter_stays AddDebugEntry image free = refl
-interpreter_stays DeleteRunPath image free = refl
-interpreter_stays (SetRunPath text) image free = refl
-interpreter_stays (AddRunPath texts) image free = refl
-interpreter_stays UseRunpath image free = refl
-interpreter_stays UseRpath image free = refl
-interpreter_stays (DeleteNeeded names) image free = refl
-interpreter_stays (ReplaceNeeded pairs) image free = refl
-interpreter_stays (AddNeeded names) image free = refl
-interpreter_stays (SetSoname text) image free = refl
-interpreter_stays NoDefaultLibrary image free = refl
-interpreter_stays (ShrinkRunPath prefixes answers) image free = refl
-interpreter_stays (SetOsAbi name) image free = refl
-interpreter_stays ClearExecStack image free = refl
-interpreter_stays SetExecStack image free = refl
-interpreter_stays (SetPageSize size) image free = refl
+interpreter_stays _ image free = refl
 
 lacks_stack : List SegmentHeader → Bool
 lacks_stack segments = is_none (segment_of_type PT_GNU_STACK segments)
@@ -123,20 +106,7 @@ room_stays SetExecStack image free = ap (λ b. b && nat_le MOST_SEGMENTS (length
 room_stays (SetPageSize size) image free =
     ap (λ b. b && nat_le MOST_SEGMENTS (length (map (with_align size) image.segments))) (lacks_as_before size image.segments)
     ∙ ap (λ n. is_none (segment_of_type PT_GNU_STACK image.segments) && nat_le MOST_SEGMENTS n) (length-map image.segments (with_align size))
-room_stays (SetInterpreter bytes) image free = refl
-room_stays AddDebugEntry image free = refl
-room_stays DeleteRunPath image free = refl
-room_stays (SetRunPath text) image free = refl
-room_stays (AddRunPath texts) image free = refl
-room_stays UseRunpath image free = refl
-room_stays UseRpath image free = refl
-room_stays (DeleteNeeded names) image free = refl
-room_stays (ReplaceNeeded pairs) image free = refl
-room_stays (AddNeeded names) image free = refl
-room_stays (SetSoname text) image free = refl
-room_stays NoDefaultLibrary image free = refl
-room_stays (ShrinkRunPath prefixes answers) image free = refl
-room_stays (SetOsAbi name) image free = refl
+room_stays _ image free = refl
 
 -- the facts, with another answer on the run path
 abbrev with_run_path : Bool → Facts → Facts
@@ -163,20 +133,7 @@ facts_stay edit image none =
 asks_no_run_path : (edit : ElfEdit) (facts : Facts) (b : Bool) → first_cause (edit_model edit) (with_run_path b facts) ≡ first_cause (edit_model edit) facts
 unfolding first_cause
 asks_no_run_path edits.AddDebugTag facts b = refl
-asks_no_run_path (edits.AddNeeded names) facts b = refl
-asks_no_run_path (edits.AddRpath texts) facts b = refl
-asks_no_run_path edits.ClearExecStack facts b = refl
-asks_no_run_path edits.ForceRpath facts b = refl
-asks_no_run_path edits.NoDefaultLib facts b = refl
-asks_no_run_path (edits.RemoveNeeded names) facts b = refl
-asks_no_run_path edits.RemoveRpath facts b = refl
-asks_no_run_path (edits.ReplaceNeeded pairs) facts b = refl
-asks_no_run_path edits.SetExecStack facts b = refl
-asks_no_run_path (edits.SetInterpreter bytes) facts b = refl
-asks_no_run_path (edits.SetOsAbi name) facts b = refl
-asks_no_run_path (edits.SetPageSize size) facts b = refl
-asks_no_run_path (edits.SetRpath text) facts b = refl
-asks_no_run_path (edits.SetSoname text) facts b = refl
+asks_no_run_path _ facts b = refl
 
 first_refusal_same : (edits : List ElfEdit) (done : ℕ) (facts : Facts) (b : Bool) → first_refusal (with_run_path b facts) done (map edit_model edits) ≡ first_refusal facts done (map edit_model edits)
 unfolding first_refusal

@@ -11,7 +11,8 @@ use Rattle.elf_format.specs.declared.constants.TheConstants.{DT_NEEDED, DT_RUNPA
 use Rattle.elf_image.specs.Dynamic.{Auto, Entry, Integer, Text}
 use Rattle.elf_image.specs.Image.{entry_tag}
 use Rattle.elf_image.specs.Options.{first_there}
-use Rattle.elf_edits.specs.Entries.{changed_where, edited_entries, has_tag, is_run_path, needed_names, needs_one_of, text_if, with_text, with_text_changed, with_text_set}
+use Rattle.elf_edits.specs.Edit.{edited_entries}
+use Rattle.elf_edits.specs.Entries.{changed_where, has_tag, is_run_path, needed_names, needs_one_of, text_if, with_text, with_text_changed, with_text_set}
 use Rattle.elf_edits.specs.Laws.{MapsAtOnce, OthersStayInOrder, RunPathsAreSet, swap_of}
 use Rattle.elf_edits.specs.Texts.{value_of}
 use Rattle.elf_edits.proofs.ListLaws.{All-map_each, All-of_none, by_test, filter-filter, flat_map-changed, list_any-map, none_kept}

@@ -6,9 +6,12 @@ pub use Rattle.elf_edits.proofs.DecidedLaws.{IsFree, is_free, stands_not, step_i
 -- a batch is decided by the facts at its start
 pub use Rattle.elf_edits.proofs.DecidedLaws.{all_edited-push, batch_decided}
 -- an edited list is a list again
-pub use Rattle.elf_edits.proofs.ListedLaws.{ListsAgain, lists_again}
+pub use Rattle.elf_edits.proofs.EditLaws.{lists_again}
+pub use Rattle.elf_edits.proofs.ListedLaws.{ListsAgain}
 -- an edit that touches nothing leaves the list as it was
-pub use Rattle.elf_edits.proofs.UntouchedLaws.{untouched}
+pub use Rattle.elf_edits.proofs.EditLaws.{untouched}
+-- which edits drop entries by their tags
+pub use Rattle.elf_edits.proofs.EditLaws.{DropsTags, drops_tags}
 -- a stored interpreter has a NUL last or nowhere
 pub use Rattle.elf_edits.proofs.StoredLaws.{stored_whole}
 -- cases on a test; the first of some options; one more element, and one more library of a set

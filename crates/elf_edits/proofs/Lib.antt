@@ -1,5 +1,9 @@
 pub mod Computing
 pub mod ListLaws
+pub mod TagLaws
+pub mod ListedLaws
+pub mod UntouchedLaws
+pub mod EditLaws
 pub mod EntryLaws
 pub mod TwiceLaws
 pub mod ShownLaws
@@ -9,8 +13,6 @@ pub mod LookupSteps
 pub mod ListSteps
 pub mod CauseSteps
 pub mod ShrunkLaws
-pub mod UntouchedLaws
 pub mod DecidedLaws
-pub mod ListedLaws
 pub mod StoredLaws
 pub mod ForCallers

@@ -16,8 +16,9 @@ use Rattle.elf_edits.specs.declared.list.NewList.{NewList}
 use Rattle.elf_edits.specs.Changes.{IsEditedList, IsNewList, gets_name, has_name, name_for, needs_one_of as needs_any}
 use Rattle.elf_edits.specs.declared.edit.ElfEdit.{ElfEdit}
 use Rattle.elf_edits.specs.declared.edit.ElfEdit.TheVariants as edits
-use Rattle.elf_edits.specs.EditModel.{Bytes, edit_model, texts_model}
-use Rattle.elf_edits.specs.Entries.{changed_where, edited_entries, has_tag, is_replaced, needed_names, needs_one_of, not_needed_yet, text_if, touches_entries, with_needed_replaced, with_text_changed, without_needed}
+use Rattle.elf_edits.specs.TextModel.{Bytes, texts_model}
+use Rattle.elf_edits.specs.Edit.{edit_model, edited_entries, touches_entries}
+use Rattle.elf_edits.specs.Entries.{changed_where, has_tag, is_replaced, needed_names, needs_one_of, not_needed_yet, text_if, with_needed_replaced, with_text_changed, without_needed}
 use Rattle.elf_edits.specs.Texts.{has_some, is_among, value_of}
 use Rattle.elf_edits.proofs.ListLaws.{by_test, changed_where_none}
 use Rattle.elf_edits.proofs.LookupSteps.{one_more}
@@ -92,38 +93,12 @@ same_list (Err x) es other touched mark e m is = tt
 entries_of_any : (edit : ElfEdit) (machine : ℕ) (es : List Entry) → edited_entries 0 (edit_model edit) es ≡ edited_entries machine (edit_model edit) es
 unfolding edited_entries
 entries_of_any edits.AddDebugTag machine es = refl
-entries_of_any (edits.AddNeeded names) machine es = refl
-entries_of_any (edits.AddRpath texts) machine es = refl
-entries_of_any edits.ClearExecStack machine es = refl
-entries_of_any edits.ForceRpath machine es = refl
-entries_of_any edits.NoDefaultLib machine es = refl
-entries_of_any (edits.RemoveNeeded names) machine es = refl
-entries_of_any edits.RemoveRpath machine es = refl
-entries_of_any (edits.ReplaceNeeded pairs) machine es = refl
-entries_of_any edits.SetExecStack machine es = refl
-entries_of_any (edits.SetInterpreter bytes) machine es = refl
-entries_of_any (edits.SetOsAbi name) machine es = refl
-entries_of_any (edits.SetPageSize size) machine es = refl
-entries_of_any (edits.SetRpath text) machine es = refl
-entries_of_any (edits.SetSoname text) machine es = refl
+entries_of_any _ machine es = refl
 
 touches_of_any : (edit : ElfEdit) (machine : ℕ) (es : List Entry) → touches_entries 0 (edit_model edit) es ≡ touches_entries machine (edit_model edit) es
 unfolding touches_entries
 touches_of_any edits.AddDebugTag machine es = refl
-touches_of_any (edits.AddNeeded names) machine es = refl
-touches_of_any (edits.AddRpath texts) machine es = refl
-touches_of_any edits.ClearExecStack machine es = refl
-touches_of_any edits.ForceRpath machine es = refl
-touches_of_any edits.NoDefaultLib machine es = refl
-touches_of_any (edits.RemoveNeeded names) machine es = refl
-touches_of_any edits.RemoveRpath machine es = refl
-touches_of_any (edits.ReplaceNeeded pairs) machine es = refl
-touches_of_any edits.SetExecStack machine es = refl
-touches_of_any (edits.SetInterpreter bytes) machine es = refl
-touches_of_any (edits.SetOsAbi name) machine es = refl
-touches_of_any (edits.SetPageSize size) machine es = refl
-touches_of_any (edits.SetRpath text) machine es = refl
-touches_of_any (edits.SetSoname text) machine es = refl
+touches_of_any _ machine es = refl
 
 pub on_any_machine : {E : Type 0} (r : Result NewList E) (edit : ElfEdit) (es : List Entry) → IfOk r (IsNewList (edited_entries 0 (edit_model edit) es) (touches_entries 0 (edit_model edit) es)) → IfOk r (IsEditedList (edit_model edit) es)
 on_any_machine (Ok made) edit es is = record { list = λ machine. is.entries ∙ entries_of_any edit machine es; touched = λ machine. is.is_touched ∙ touches_of_any edit machine es }

@@ -1,65 +1,50 @@
--- An edited list is a list again: its entries may stand before a DT_NULL, and it names the same tables.
-use Rattle.std.proofs.Common.{◌≡◌, ℕ, Bool, true, false, not, ◌||◌, List, [], ◌∷◌, ◌++◌, map, filter, refl, sym, ap, subst, ◌∙◌, Option, Some, None, inl, inr, arith}
+-- A list some of whose entries were changed, dropped or added is a list again: its entries may stand before a DT_NULL,
+-- and it names the same tables.
+use Rattle.std.proofs.Common.{◌≡◌, ℕ, Bool, true, false, not, ◌||◌, List, [], ◌∷◌, ◌++◌, map, filter, refl, sym, ap, ◌∙◌, Option, Some, None, arith}
 use Rattle.std.specs.Prelude.{if◌then◌else◌, ◌==◌, All, unwrap_or}
 use Rattle.std.specs.List.{cons_option, flat_map, list_any}
 use Rattle.std.specs.Str.{bytes_eq}
-use Rattle.std.proofs.lemmas.Bool.{cond-true, cond-false, eqb-true, or_cases, or_parts}
+use Rattle.std.proofs.lemmas.Bool.{cond-true, cond-false, eqb-true, or_parts}
 use Rattle.std.proofs.lemmas.List.{append-nil}
 use Rattle.std.proofs.lemmas.List.Elements.{All-cons, All-head, All-tail, All-filter, All-push, filter_map-append}
 use Rattle.std.proofs.lemmas.List.Folds.{list_any-append}
 use Rattle.std.proofs.lemmas.List.Splits.{join_with_byte-slice_split}
-use Rattle.elf_format.specs.declared.constants.TheConstants.{DT_DEBUG, DT_FLAGS_1, DT_NEEDED, DT_NULL, DT_RPATH, DT_RUNPATH, DT_SONAME}
+use Rattle.elf_format.specs.declared.constants.TheConstants.{DT_NEEDED, DT_NULL}
 use Rattle.elf_image.specs.Dynamic.{Auto, Entry, Integer, Text}
 use Rattle.elf_image.specs.DynamicList.{IsListed, is_number_tag, is_table_tag, is_text_tag, table_tag, tables_of}
-use Rattle.elf_image.specs.Image.{entry_tag, lists_tag}
+use Rattle.elf_image.specs.Image.{entry_tag}
 use Rattle.elf_image.specs.Options.{first_there}
-use Rattle.elf_edits.specs.declared.constants.TheConstants.{COLON, DF_1_NODEFLIB}
-use Rattle.elf_edits.specs.Edit.{Edit, AddDebugEntry, AddNeeded, AddRunPath, ClearExecStack, DeleteNeeded, DeleteRunPath, NoDefaultLibrary, ReplaceNeeded, SetExecStack, SetInterpreter, SetOsAbi, SetPageSize, SetRunPath, SetSoname, ShrinkRunPath, UseRpath, UseRunpath, texts_of}
-use Rattle.elf_edits.specs.Entries.{changed_where, edited_entries, has_tag, is_run_path, needs_one_of, not_needed_yet, search_of, text_if, with_bits, with_directories, with_each_added, with_tag, with_text, with_text_changed}
+use Rattle.elf_edits.specs.declared.constants.TheConstants.{COLON}
+use Rattle.elf_edits.specs.Entries.{changed_where, has_tag, with_bits, with_directories, with_each_added, with_tag, with_text_changed}
 use Rattle.elf_edits.specs.Shrunk.{Search, shrunk_text, stays}
-use Rattle.elf_edits.specs.Texts.{directories_in, holds_nul, is_among, joined_by_colons, value_of}
+use Rattle.elf_edits.specs.Texts.{directories_in, holds_nul, joined_by_colons, value_of}
 use Rattle.elf_edits.proofs.ListLaws.{by_test}
 
 -- ## One entry
 
 -- an entry that takes the place of another
-record TakesPlace (old new : Entry) : Type 0 where
-  listed : IsListed new
-  table : table_tag new ≡ table_tag old
+pub record TakesPlace (old new : Entry) : Type 0 where
+  pub listed : IsListed new
+  pub table : table_tag new ≡ table_tag old
 
--- the tags that edits write
-record IsForText (tag : ℕ) : Type 0 where
-  text : is_text_tag tag ≡ true
-  table : is_table_tag tag ≡ false
-  number : is_number_tag tag ≡ false
-  some : tag ≡ DT_NULL → ⊥
+-- a tag that an edit writes
+pub record IsForText (tag : ℕ) : Type 0 where
+  pub text : is_text_tag tag ≡ true
+  pub table : is_table_tag tag ≡ false
+  pub number : is_number_tag tag ≡ false
+  pub some : tag ≡ DT_NULL → ⊥
 
-record IsForNumber (tag : ℕ) : Type 0 where
-  number : is_number_tag tag ≡ true
-  some : tag ≡ DT_NULL → ⊥
+pub record IsForNumber (tag : ℕ) : Type 0 where
+  pub number : is_number_tag tag ≡ true
+  pub some : tag ≡ DT_NULL → ⊥
 
-for_needed : IsForText DT_NEEDED
+pub for_needed : IsForText DT_NEEDED
 for_needed = record { text = refl; table = refl; number = refl; some = λ h. omega arith }
 
-for_rpath : IsForText DT_RPATH
-for_rpath = record { text = refl; table = refl; number = refl; some = λ h. omega arith }
-
-for_runpath : IsForText DT_RUNPATH
-for_runpath = record { text = refl; table = refl; number = refl; some = λ h. omega arith }
-
-for_soname : IsForText DT_SONAME
-for_soname = record { text = refl; table = refl; number = refl; some = λ h. omega arith }
-
-for_debug : IsForNumber DT_DEBUG
-for_debug = record { number = refl; some = λ h. omega arith }
-
-for_flags : IsForNumber DT_FLAGS_1
-for_flags = record { number = refl; some = λ h. omega arith }
-
-listed_text : (tag : ℕ) (text : List ℕ) → IsForText tag → holds_nul text ≡ false → IsListed (Text tag text)
+pub listed_text : (tag : ℕ) (text : List ℕ) → IsForText tag → holds_nul text ≡ false → IsListed (Text tag text)
 listed_text tag text is whole = record { not_null = is.some; of_its_tag = is.text; whole = ap not whole }
 
-listed_number : (tag value : ℕ) → IsForNumber tag → IsListed (Integer tag value)
+pub listed_number : (tag value : ℕ) → IsForNumber tag → IsListed (Integer tag value)
 listed_number tag value is = record { not_null = is.some; of_its_tag = is.number; whole = refl }
 
 both_ways : (b : Bool) → b ≡ true → b ≡ false → ⊥
@@ -74,12 +59,12 @@ module _ (tag : ℕ) (is : IsForText tag) where
   no_number : (t : ℕ) → t ≡ tag → is_number_tag t ≡ true → ⊥
   no_number t same h = both_ways (is_number_tag t) h (ap is_number_tag same ∙ is.number)
 
-  text_set : (new : ℕ) (text : List ℕ) → IsForText new → holds_nul text ≡ false → (e : Entry) → IsListed e → entry_tag e ≡ tag → TakesPlace e (Text new text)
+  pub text_set : (new : ℕ) (text : List ℕ) → IsForText new → holds_nul text ≡ false → (e : Entry) → IsListed e → entry_tag e ≡ tag → TakesPlace e (Text new text)
   text_set new text for whole (Auto t) listed same = absurd (no_table t same listed.of_its_tag)
   text_set new text for whole (Integer t value) listed same = absurd (no_number t same listed.of_its_tag)
   text_set new text for whole (Text t old) listed same = record { listed = listed_text new text for whole; table = refl }
 
-  tag_set : (new : ℕ) → IsForText new → (e : Entry) → IsListed e → entry_tag e ≡ tag → TakesPlace e (with_tag new e)
+  pub tag_set : (new : ℕ) → IsForText new → (e : Entry) → IsListed e → entry_tag e ≡ tag → TakesPlace e (with_tag new e)
   tag_set new for (Auto t) listed same = absurd (no_table t same listed.of_its_tag)
   tag_set new for (Integer t value) listed same = absurd (no_number t same listed.of_its_tag)
   tag_set new for (Text t old) listed same = record { listed = record { not_null = for.some; of_its_tag = for.text; whole = listed.whole }; table = refl }
@@ -89,38 +74,22 @@ not_both true h = cc
 not_both false h = refl
 
 -- with its text changed
-text_changed : (change : List ℕ → List ℕ) → ((text : List ℕ) → holds_nul text ≡ false → holds_nul (change text) ≡ false) → (e : Entry) → IsListed e → TakesPlace e (with_text_changed change e)
+pub text_changed : (change : List ℕ → List ℕ) → ((text : List ℕ) → holds_nul text ≡ false → holds_nul (change text) ≡ false) → (e : Entry) → IsListed e → TakesPlace e (with_text_changed change e)
 text_changed change whole (Auto t) listed = record { listed = listed; table = refl }
 text_changed change whole (Integer t value) listed = record { listed = listed; table = refl }
 text_changed change whole (Text t text) listed =
     record { listed = record { not_null = listed.not_null; of_its_tag = listed.of_its_tag; whole = ap not (whole text (not_both (holds_nul text) listed.whole)) }; table = refl }
 
-bits_set : (bits : ℕ) (e : Entry) → IsListed e → TakesPlace e (with_bits bits e)
+pub bits_set : (bits : ℕ) (e : Entry) → IsListed e → TakesPlace e (with_bits bits e)
 bits_set bits (Auto t) listed = record { listed = listed; table = refl }
 bits_set bits (Integer t value) listed = record { listed = record { not_null = listed.not_null; of_its_tag = listed.of_its_tag; whole = refl }; table = refl }
 bits_set bits (Text t text) listed = record { listed = listed; table = refl }
 
-has_tag_is : (tag : ℕ) (e : Entry) → has_tag tag e ≡ true → entry_tag e ≡ tag
+pub has_tag_is : (tag : ℕ) (e : Entry) → has_tag tag e ≡ true → entry_tag e ≡ tag
 has_tag_is tag e h = eqb-true (entry_tag e) tag h
 
--- a run path has one of two tags
-with_run_path_set : (text : List ℕ) → holds_nul text ≡ false → (e : Entry) → is_run_path e ≡ true → IsListed e → TakesPlace e (with_text text e)
-with_run_path_set text whole e h listed = elim (or_cases (has_tag DT_RPATH e) (has_tag DT_RUNPATH e) h) [
-  | inl rpath ↦
-      let same = has_tag_is DT_RPATH e rpath in
-      subst (λ (t : ℕ). TakesPlace e (Text t text)) (sym same) (text_set DT_RPATH for_rpath DT_RPATH text for_rpath whole e listed same)
-  | inr runpath ↦
-      let same = has_tag_is DT_RUNPATH e runpath in
-      subst (λ (t : ℕ). TakesPlace e (Text t text)) (sym same) (text_set DT_RUNPATH for_runpath DT_RUNPATH text for_runpath whole e listed same)
-]
-
-with_soname_set : (text : List ℕ) → holds_nul text ≡ false → (e : Entry) → has_tag DT_SONAME e ≡ true → IsListed e → TakesPlace e (with_text text e)
-with_soname_set text whole e h listed =
-    let same = has_tag_is DT_SONAME e h in
-    subst (λ (t : ℕ). TakesPlace e (Text t text)) (sym same) (text_set DT_SONAME for_soname DT_SONAME text for_soname whole e listed same)
-
 -- an entry with a tag of texts is of no table
-of_no_table : (tag : ℕ) → IsForText tag → (e : Entry) → IsListed e → entry_tag e ≡ tag → table_tag e ≡ None
+pub of_no_table : (tag : ℕ) → IsForText tag → (e : Entry) → IsListed e → entry_tag e ≡ tag → table_tag e ≡ None
 of_no_table tag is (Auto t) listed same = absurd (no_table tag is t same listed.of_its_tag)
 of_no_table tag is (Integer t value) listed same = refl
 of_no_table tag is (Text t text) listed same = refl
@@ -132,10 +101,10 @@ pub record ListsAgain (old new : List Entry) : Type 0 where
   pub listed : All IsListed new
   pub tables : tables_of new ≡ tables_of old
 
-as_it_was : (es : List Entry) → All IsListed es → ListsAgain es es
+pub as_it_was : (es : List Entry) → All IsListed es → ListsAgain es es
 as_it_was es all = record { listed = all; tables = refl }
 
-one_of_two : (b : Bool) (old xs ys : List Entry) → ListsAgain old xs → ListsAgain old ys → ListsAgain old (if b then xs else ys)
+pub one_of_two : (b : Bool) (old xs ys : List Entry) → ListsAgain old xs → ListsAgain old ys → ListsAgain old (if b then xs else ys)
 one_of_two true old xs ys x y = x
 one_of_two false old xs ys x y = y
 
@@ -143,7 +112,7 @@ taken_if : (b : Bool) (e x : Entry) → (b ≡ true → TakesPlace e x) → IsLi
 taken_if true e x takes listed = takes refl
 taken_if false e x takes listed = record { listed = listed; table = refl }
 
-changed_again : (test : Entry → Bool) (change : Entry → Entry) → ((e : Entry) → test e ≡ true → IsListed e → TakesPlace e (change e)) → (es : List Entry) → All IsListed es → ListsAgain es (changed_where test change es)
+pub changed_again : (test : Entry → Bool) (change : Entry → Entry) → ((e : Entry) → test e ≡ true → IsListed e → TakesPlace e (change e)) → (es : List Entry) → All IsListed es → ListsAgain es (changed_where test change es)
 changed_again test change takes [] all = as_it_was [] all
 changed_again test change takes (e ∷ es) all =
     let head = All-head IsListed e es all in
@@ -163,16 +132,16 @@ dropped_tables keep none (e ∷ es) all =
     (λ fails. ap tables_of (cond-false (keep e) (e ∷ filter keep es) (filter keep es) fails) ∙ rest
     ∙ sym (ap (λ o. cons_option o (tables_of es)) (none e fails (All-head IsListed e es all))))
 
-kept_again : (keep : Entry → Bool) → ((e : Entry) → keep e ≡ false → IsListed e → table_tag e ≡ None) → (es : List Entry) → All IsListed es → ListsAgain es (filter keep es)
+pub kept_again : (keep : Entry → Bool) → ((e : Entry) → keep e ≡ false → IsListed e → table_tag e ≡ None) → (es : List Entry) → All IsListed es → ListsAgain es (filter keep es)
 kept_again keep none es all = record { listed = All-filter keep IsListed es all; tables = dropped_tables keep none es all }
 
-last_again : (es : List Entry) (added : Entry) → All IsListed es → IsListed added → table_tag added ≡ None → ListsAgain es (es ++ added ∷ [])
+pub last_again : (es : List Entry) (added : Entry) → All IsListed es → IsListed added → table_tag added ≡ None → ListsAgain es (es ++ added ∷ [])
 last_again es added all listed none = record {
   listed = All-push IsListed es added all listed;
   tables = filter_map-append table_tag es (added ∷ []) ∙ ap (λ o. tables_of es ++ cons_option o []) none ∙ append-nil (tables_of es);
 }
 
-first_again : (names : List (List ℕ)) → list_any holds_nul names ≡ false → (es : List Entry) → All IsListed es → ListsAgain es (map (Text DT_NEEDED) names ++ es)
+pub first_again : (names : List (List ℕ)) → list_any holds_nul names ≡ false → (es : List Entry) → All IsListed es → ListsAgain es (map (Text DT_NEEDED) names ++ es)
 first_again [] whole es all = as_it_was es all
 first_again (name ∷ names) whole es all =
     let parts = or_parts (holds_nul name) (list_any holds_nul names) whole in
@@ -181,7 +150,7 @@ first_again (name ∷ names) whole es all =
 
 -- ## Texts without a NUL
 
-none_kept_of : {A : Type 0} (test keep : A → Bool) (xs : List A) → list_any test xs ≡ false → list_any test (filter keep xs) ≡ false
+pub none_kept_of : {A : Type 0} (test keep : A → Bool) (xs : List A) → list_any test xs ≡ false → list_any test (filter keep xs) ≡ false
 none_kept_of test keep [] none = refl
 none_kept_of test keep (x ∷ xs) none =
     let parts = or_parts (test x) (list_any test xs) none in
@@ -199,13 +168,13 @@ directory_whole : (text added : List ℕ) → holds_nul text ≡ false → holds
 directory_whole [] added h k = k
 directory_whole (byte ∷ text) added h k = behind_whole (byte ∷ text) added h k
 
-added_whole : (texts : List (List ℕ)) → list_any holds_nul texts ≡ false → (text : List ℕ) → holds_nul text ≡ false → holds_nul (with_each_added texts text) ≡ false
+pub added_whole : (texts : List (List ℕ)) → list_any holds_nul texts ≡ false → (text : List ℕ) → holds_nul text ≡ false → holds_nul (with_each_added texts text) ≡ false
 added_whole [] none text whole = whole
 added_whole (added ∷ texts) none text whole =
     let parts = or_parts (holds_nul added) (list_any holds_nul texts) none in
     added_whole texts parts.1 (with_directories text added) (directory_whole text added whole parts.0)
 
-joined_whole : (texts : List (List ℕ)) → list_any holds_nul texts ≡ false → holds_nul (joined_by_colons texts) ≡ false
+pub joined_whole : (texts : List (List ℕ)) → list_any holds_nul texts ≡ false → holds_nul (joined_by_colons texts) ≡ false
 joined_whole [] none = refl
 joined_whole (text ∷ []) none = (or_parts (holds_nul text) false none).0
 joined_whole (text ∷ next ∷ texts) none =
@@ -219,13 +188,13 @@ parts_whole (text ∷ next ∷ texts) whole =
     let parts = or_parts (holds_nul text) (holds_nul (joined_by_colons (next ∷ texts))) (sym (list_any-append (λ byte. byte == 0) text (COLON ∷ joined_by_colons (next ∷ texts))) ∙ whole) in
     both_none (holds_nul text) (list_any holds_nul (next ∷ texts)) parts.0 (parts_whole (next ∷ texts) parts.1)
 
-shrunk_whole : (s : Search) (text : List ℕ) → holds_nul text ≡ false → holds_nul (shrunk_text s text) ≡ false
+pub shrunk_whole : (s : Search) (text : List ℕ) → holds_nul text ≡ false → holds_nul (shrunk_text s text) ≡ false
 shrunk_whole s text whole =
     joined_whole (filter (stays s) (directories_in text))
     (none_kept_of holds_nul (stays s) (directories_in text) (parts_whole (directories_in text) (ap holds_nul (join_with_byte-slice_split COLON text) ∙ whole)))
 
 -- the value of a key has no NUL
-values_whole : (pairs : List (List ℕ × List ℕ)) → list_any holds_nul (flat_map (λ pair. pair.0 ∷ pair.1 ∷ []) pairs) ≡ false → (name : List ℕ) → holds_nul name ≡ false → holds_nul (unwrap_or (value_of pairs name) name) ≡ false
+pub values_whole : (pairs : List (List ℕ × List ℕ)) → list_any holds_nul (flat_map (λ pair. pair.0 ∷ pair.1 ∷ []) pairs) ≡ false → (name : List ℕ) → holds_nul name ≡ false → holds_nul (unwrap_or (value_of pairs name) name) ≡ false
 values_whole [] none name whole = whole
 values_whole (pair ∷ pairs) none name whole =
     let parts = or_parts (holds_nul pair.0) (holds_nul pair.1 || list_any holds_nul (flat_map (λ pair. pair.0 ∷ pair.1 ∷ []) pairs)) none in
@@ -236,57 +205,3 @@ values_whole (pair ∷ pairs) none name whole =
     either (Some value) b h k = h
     either None true h k = k
     either None false h k = h
-
--- ## Each edit
-
--- an entry that is needed has no table
-needed_no_table : (names : List (List ℕ)) (e : Entry) → not (needs_one_of names e) ≡ false → IsListed e → table_tag e ≡ None
-needed_no_table names (Auto t) h listed = cc
-needed_no_table names (Integer t value) h listed = refl
-needed_no_table names (Text t text) h listed = refl
-
-not_true : (b : Bool) → not b ≡ false → b ≡ true
-not_true true h = refl
-not_true false h = cc
-
-run_path_no_table : (e : Entry) → not (is_run_path e) ≡ false → IsListed e → table_tag e ≡ None
-run_path_no_table e h listed = elim (or_cases (has_tag DT_RPATH e) (has_tag DT_RUNPATH e) (not_true (is_run_path e) h)) [
-  | inl rpath ↦ of_no_table DT_RPATH for_rpath e listed (has_tag_is DT_RPATH e rpath)
-  | inr runpath ↦ of_no_table DT_RUNPATH for_runpath e listed (has_tag_is DT_RUNPATH e runpath)
-]
-
-one_whole : (text : List ℕ) → list_any holds_nul (text ∷ []) ≡ false → holds_nul text ≡ false
-one_whole text h = (or_parts (holds_nul text) false h).0
-
-pub lists_again : (machine : ℕ) (edit : Edit) (es : List Entry) → list_any holds_nul (texts_of edit) ≡ false → All IsListed es → ListsAgain es (edited_entries machine edit es)
-unfolding edited_entries
-lists_again machine AddDebugEntry es whole all = one_of_two (lists_tag DT_DEBUG es) es es (es ++ Integer DT_DEBUG 0 ∷ []) (as_it_was es all) (last_again es (Integer DT_DEBUG 0) all (listed_number DT_DEBUG 0 for_debug) refl)
-lists_again machine DeleteRunPath es whole all = kept_again (λ e. not (is_run_path e)) run_path_no_table es all
-lists_again machine (SetRunPath text) es whole all =
-    let none = one_whole text whole in
-    one_of_two (list_any is_run_path es) es (changed_where is_run_path (with_text text) es) (es ++ Text DT_RUNPATH text ∷ [])
-    (changed_again is_run_path (with_text text) (with_run_path_set text none) es all) (last_again es (Text DT_RUNPATH text) all (listed_text DT_RUNPATH text for_runpath none) refl)
-lists_again machine (AddRunPath texts) es whole all =
-    one_of_two (list_any is_run_path es) es (changed_where is_run_path (with_text_changed (with_each_added texts)) es) (es ++ Text DT_RUNPATH (joined_by_colons texts) ∷ [])
-    (changed_again is_run_path (with_text_changed (with_each_added texts)) (λ e h listed. text_changed (with_each_added texts) (added_whole texts whole) e listed) es all)
-    (last_again es (Text DT_RUNPATH (joined_by_colons texts)) all (listed_text DT_RUNPATH (joined_by_colons texts) for_runpath (joined_whole texts whole)) refl)
-lists_again machine UseRunpath es whole all = changed_again (has_tag DT_RPATH) (with_tag DT_RUNPATH) (λ e h listed. tag_set DT_RPATH for_rpath DT_RUNPATH for_runpath e listed (has_tag_is DT_RPATH e h)) es all
-lists_again machine UseRpath es whole all = changed_again (has_tag DT_RUNPATH) (with_tag DT_RPATH) (λ e h listed. tag_set DT_RUNPATH for_runpath DT_RPATH for_rpath e listed (has_tag_is DT_RUNPATH e h)) es all
-lists_again machine (DeleteNeeded names) es whole all = kept_again (λ e. not (needs_one_of names e)) (needed_no_table names) es all
-lists_again machine (ReplaceNeeded pairs) es whole all =
-    changed_again (has_tag DT_NEEDED) (with_text_changed (λ name. unwrap_or (value_of pairs name) name)) (λ e h listed. text_changed (λ name. unwrap_or (value_of pairs name) name) (values_whole pairs whole) e listed) es all
-lists_again machine (AddNeeded names) es whole all = first_again (not_needed_yet names es) (none_kept_of holds_nul (λ name. not (is_among (flat_map (text_if (has_tag DT_NEEDED)) es) name)) names whole) es all
-lists_again machine (SetSoname text) es whole all =
-    let none = one_whole text whole in
-    one_of_two (list_any (has_tag DT_SONAME) es) es (changed_where (has_tag DT_SONAME) (with_text text) es) (es ++ Text DT_SONAME text ∷ [])
-    (changed_again (has_tag DT_SONAME) (with_text text) (with_soname_set text none) es all) (last_again es (Text DT_SONAME text) all (listed_text DT_SONAME text for_soname none) refl)
-lists_again machine NoDefaultLibrary es whole all =
-    one_of_two (lists_tag DT_FLAGS_1 es) es (changed_where (has_tag DT_FLAGS_1) (with_bits DF_1_NODEFLIB) es) (es ++ Integer DT_FLAGS_1 DF_1_NODEFLIB ∷ [])
-    (changed_again (has_tag DT_FLAGS_1) (with_bits DF_1_NODEFLIB) (λ e h listed. bits_set DF_1_NODEFLIB e listed) es all) (last_again es (Integer DT_FLAGS_1 DF_1_NODEFLIB) all (listed_number DT_FLAGS_1 DF_1_NODEFLIB for_flags) refl)
-lists_again machine (ShrinkRunPath prefixes answers) es whole all =
-    changed_again is_run_path (with_text_changed (shrunk_text (search_of machine prefixes answers es))) (λ e h listed. text_changed (shrunk_text (search_of machine prefixes answers es)) (shrunk_whole (search_of machine prefixes answers es)) e listed) es all
-lists_again machine (SetInterpreter bytes) es whole all = as_it_was es all
-lists_again machine (SetOsAbi name) es whole all = as_it_was es all
-lists_again machine ClearExecStack es whole all = as_it_was es all
-lists_again machine SetExecStack es whole all = as_it_was es all
-lists_again machine (SetPageSize size) es whole all = as_it_was es all

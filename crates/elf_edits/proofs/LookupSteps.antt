@@ -15,7 +15,7 @@ use Rattle.elf_image.specs.Dynamic.{Auto, Entry, Integer, Text}
 use Rattle.elf_image.specs.ImageModel.{entry_model}
 use Rattle.elf_image.specs.Options.{first_there}
 use Rattle.elf_edits.specs.Changes.{gets_name, has_name, name_for, needs_one_of}
-use Rattle.elf_edits.specs.EditModel.{Bytes, bytes_of, pair_model, pairs_model, texts_model}
+use Rattle.elf_edits.specs.TextModel.{Bytes, bytes_of, pair_model, pairs_model, texts_model}
 use Rattle.elf_edits.specs.Entries.{first_needed, has_tag, needed_names, text_if}
 use Rattle.elf_edits.specs.Texts.{first_in, is_among, value_of}
 use Rattle.elf_edits.proofs.ListLaws.{by_test, first_of_three, there_or_none}

@@ -4,7 +4,7 @@ use Rattle.std.specs.Prelude.{◌==◌}
 use Rattle.std.proofs.lemmas.Bool.{eqb-false}
 use Rattle.std.proofs.lemmas.List.{append_assoc, append-nil, drop_all}
 use Rattle.elf_edits.specs.declared.constants.TheConstants.{COLON}
-use Rattle.elf_edits.specs.EditModel.{Bytes, texts_model}
+use Rattle.elf_edits.specs.TextModel.{Bytes, texts_model}
 use Rattle.elf_edits.specs.Entries.{with_directories, with_each_added}
 use Rattle.elf_edits.specs.Texts.{behind_colons, joined_by_colons}
 

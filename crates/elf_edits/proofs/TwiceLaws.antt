@@ -12,9 +12,9 @@ use Rattle.elf_image.specs.Image.{Image, lists_tag}
 use Rattle.elf_image.specs.Options.{first_there}
 use Rattle.elf_edits.specs.declared.constants.TheConstants.{DF_1_NODEFLIB}
 use Rattle.elf_edits.specs.Cause.{Cause, MipsImage, NoDynamic, cause, cause_if, first_cause}
-use Rattle.elf_edits.specs.Edit.{AddDebugEntry, Edit, NoDefaultLibrary, UseRpath}
+use Rattle.elf_edits.specs.Edit.{AddDebugEntry, Edit, NoDefaultLibrary, UseRpath, edited_entries, touches_entries}
 use Rattle.elf_edits.specs.Edited.{edited_image, is_list_with, step, touches}
-use Rattle.elf_edits.specs.Entries.{changed_where, edited_entries, has_tag, touches_entries, with_bits, with_tag}
+use Rattle.elf_edits.specs.Entries.{changed_where, has_tag, with_bits, with_tag}
 use Rattle.elf_edits.specs.Laws.{ChangesNothingAgain, IsDoneAtOnce, TwiceIsOnce}
 use Rattle.elf_edits.proofs.ListLaws.{by_test, changed_where_none, list_any-map, map_twice, none_after}
 use Rattle.elf_edits.proofs.ShownLaws.{accepted_step, step_of}

@@ -1,35 +1,33 @@
--- An edit that touches no entry leaves the list as it was.
-use Rattle.std.proofs.Common.{◌≡◌, ℕ, Bool, true, false, not, List, [], ◌∷◌, ◌++◌, map, filter, refl, sym, ap, ◌∙◌, Option, Some, None, is_some}
+-- A list of which no entry is changed or dropped is as it was.
+use Rattle.std.proofs.Common.{◌≡◌, ℕ, Bool, true, false, not, List, [], ◌∷◌, ◌++◌, filter, refl, sym, ap, ◌∙◌, Option, Some, None, is_some}
 use Rattle.std.specs.Prelude.{if◌then◌else◌, unwrap_or}
 use Rattle.std.specs.List.{flat_map, list_any}
 use Rattle.std.proofs.lemmas.Bool.{cond-true, cond-false, or_parts}
 use Rattle.std.proofs.lemmas.List.Concat.{flat_map-append}
-use Rattle.elf_format.specs.declared.constants.TheConstants.{DT_DEBUG, DT_NEEDED, DT_RPATH, DT_RUNPATH}
+use Rattle.elf_format.specs.declared.constants.TheConstants.{DT_NEEDED}
 use Rattle.elf_image.specs.Dynamic.{Auto, Entry, Integer, Text}
-use Rattle.elf_image.specs.Image.{lists_tag}
-use Rattle.elf_edits.specs.Edit.{Edit, AddDebugEntry, AddNeeded, AddRunPath, ClearExecStack, DeleteNeeded, DeleteRunPath, NoDefaultLibrary, ReplaceNeeded, SetExecStack, SetInterpreter, SetOsAbi, SetPageSize, SetRunPath, SetSoname, ShrinkRunPath, UseRpath, UseRunpath}
-use Rattle.elf_edits.specs.Entries.{directories_removed, edited_entries, has_tag, is_replaced, is_run_path, needs_one_of, not_needed_yet, search_of, text_if, touches_entries, with_needed_replaced, with_run_paths_shrunk, with_tag, with_text_changed}
+use Rattle.elf_edits.specs.Entries.{directories_removed, has_tag, is_replaced, is_run_path, text_if, with_needed_replaced, with_run_paths_shrunk, with_text_changed}
 use Rattle.elf_edits.specs.Shrunk.{Removal, Search, removed_from, shrunk_text}
 use Rattle.elf_edits.specs.Texts.{has_some, value_of}
-use Rattle.elf_edits.proofs.ListLaws.{by_test, changed_where_none}
+use Rattle.elf_edits.proofs.ListLaws.{by_test}
 use Rattle.elf_edits.proofs.ShrunkLaws.{none_gone}
 
-true_not_false : {P : Type 0} → true ≡ false → P
+pub true_not_false : {P : Type 0} → true ≡ false → P
 true_not_false h = absurd (cc)
 
-not_false_is : (b : Bool) → not b ≡ false → b ≡ true
+pub not_false_is : (b : Bool) → not b ≡ false → b ≡ true
 not_false_is true h = refl
 not_false_is false h = cc
 
 -- where none passes a test, all others are kept
-all_kept : (test : Entry → Bool) (es : List Entry) → list_any test es ≡ false → filter (λ e. not (test e)) es ≡ es
+pub all_kept : (test : Entry → Bool) (es : List Entry) → list_any test es ≡ false → filter (λ e. not (test e)) es ≡ es
 all_kept test [] none = refl
 all_kept test (e ∷ es) none =
     let parts = or_parts (test e) (list_any test es) none in
     cond-true (not (test e)) (e ∷ filter (λ x. not (test x)) es) (filter (λ x. not (test x)) es) (ap not parts.0)
     ∙ ap (λ l. e ∷ l) (all_kept test es parts.1)
 
-none_there : {A : Type 0} (xs : List A) → has_some xs ≡ false → xs ≡ []
+pub none_there : {A : Type 0} (xs : List A) → has_some xs ≡ false → xs ≡ []
 none_there [] h = refl
 none_there (x ∷ xs) h = cc
 
@@ -57,7 +55,7 @@ module _ (pairs : List (List ℕ × List ℕ)) where
       ∙ ap (Text tag) (same_name (value_of pairs text) text (or_parts (is_some (value_of pairs text)) false one).0))
       (λ fails. cond-false (has_tag DT_NEEDED (Text tag text)) (Text tag (unwrap_or (value_of pairs text) text)) (Text tag text) fails)
 
-  none_replaced : (es : List Entry) → list_any (is_replaced pairs) es ≡ false → with_needed_replaced pairs es ≡ es
+  pub none_replaced : (es : List Entry) → list_any (is_replaced pairs) es ≡ false → with_needed_replaced pairs es ≡ es
   unfolding new_name
   none_replaced [] none = refl
   none_replaced (e ∷ es) none =
@@ -92,29 +90,9 @@ module _ (s : Search) where
       ∙ ap (Text tag) (none_gone s text (none_in_front (removed_from s text) [] one)))
       (λ fails. cond-false (is_run_path (Text tag text)) (Text tag (shrunk_text s text)) (Text tag text) fails)
 
-  none_shrunk : (es : List Entry) → directories_removed s es ≡ [] → with_run_paths_shrunk s es ≡ es
+  pub none_shrunk : (es : List Entry) → directories_removed s es ≡ [] → with_run_paths_shrunk s es ≡ es
   none_shrunk [] none = refl
   none_shrunk (e ∷ es) none =
       let both : gone_from e ++ directories_removed s es ≡ [] = sym (gone_first e es) ∙ none in
       ap (λ x. x ∷ with_run_paths_shrunk s es) (not_shrunk e (none_in_front (gone_from e) (directories_removed s es) both))
       ∙ ap (λ l. e ∷ l) (none_shrunk es (none_behind (gone_from e) (directories_removed s es) both))
-
-pub untouched : (machine : ℕ) (edit : Edit) (es : List Entry) → touches_entries machine edit es ≡ false → edited_entries machine edit es ≡ es
-unfolding touches_entries edited_entries
-untouched machine AddDebugEntry es h = cond-true (lists_tag DT_DEBUG es) es (es ++ Integer DT_DEBUG 0 ∷ []) (not_false_is (lists_tag DT_DEBUG es) h)
-untouched machine DeleteRunPath es h = all_kept is_run_path es h
-untouched machine (SetRunPath text) es h = true_not_false h
-untouched machine (AddRunPath texts) es h = true_not_false h
-untouched machine UseRunpath es h = changed_where_none (has_tag DT_RPATH) (with_tag DT_RUNPATH) es h
-untouched machine UseRpath es h = changed_where_none (has_tag DT_RUNPATH) (with_tag DT_RPATH) es h
-untouched machine (DeleteNeeded names) es h = all_kept (needs_one_of names) es h
-untouched machine (ReplaceNeeded pairs) es h = none_replaced pairs es h
-untouched machine (AddNeeded names) es h = ap (λ (l : List (List ℕ)). map (Text DT_NEEDED) l ++ es) (none_there (not_needed_yet names es) h)
-untouched machine (SetSoname text) es h = true_not_false h
-untouched machine NoDefaultLibrary es h = true_not_false h
-untouched machine (ShrinkRunPath prefixes answers) es h = none_shrunk (search_of machine prefixes answers es) es (none_there (directories_removed (search_of machine prefixes answers es) es) h)
-untouched machine (SetInterpreter bytes) es h = refl
-untouched machine (SetOsAbi name) es h = refl
-untouched machine ClearExecStack es h = refl
-untouched machine SetExecStack es h = refl
-untouched machine (SetPageSize size) es h = refl

@@ -14,9 +14,9 @@ use Rattle.elf_edits.specs.declared.changes.EntryChange.TheVariants as changes
 use Rattle.elf_edits.specs.declared.changes.EntryTest.{EntryTest}
 use Rattle.elf_edits.specs.declared.changes.EntryTest.TheVariants as tests
 use Rattle.elf_edits.specs.declared.list.NewList.{NewList}
-use Rattle.elf_edits.specs.Edit.{Edit}
-use Rattle.elf_edits.specs.EditModel.{texts_model}
-use Rattle.elf_edits.specs.Entries.{edited_entries, has_tag, is_run_path, text_if, touches_entries, with_bits, with_each_added, with_tag, with_text, with_text_changed}
+use Rattle.elf_edits.specs.Edit.{Edit, edited_entries, touches_entries}
+use Rattle.elf_edits.specs.TextModel.{texts_model}
+use Rattle.elf_edits.specs.Entries.{has_tag, is_run_path, text_if, with_bits, with_each_added, with_tag, with_text, with_text_changed}
 
 -- a set, by its elements, has a name
 abbrev pub has_name : List (Bor (List ℕ)) → List ℕ → Bool

@@ -1,13 +1,18 @@
--- The edits of what an image shows.
-use Rattle.std.specs.Prelude.{ℕ, ◌-◌, List, [], ◌∷◌, length, take, Option, Some, None}
-use Rattle.std.specs.List.{flat_map}
-use Rattle.std.specs.Prelude.{codes}
-
--- What was found for a directory of a run path and a needed library: the machine of the file of that name there.
-pub record Answer : Type 0 where
-  pub directory : List ℕ
-  pub needed : List ℕ
-  pub machine : Option ℕ
+-- The edits of what an image shows: the words of their refusals, their texts, and the dynamic list after each.
+use Rattle.std.specs.Prelude.{ℕ, ◌-◌, List, [], ◌∷◌, codes, length, take, Bool, false, true, not, Option, Some, None}
+use Rattle.std.specs.List.{flat_map, list_any}
+use Rattle.std.specs.String.{string_bytes}
+use Rattle.elf_format.specs.declared.constants.TheConstants.{DT_DEBUG, DT_RPATH, DT_RUNPATH, DT_SONAME}
+use Rattle.elf_image.specs.Dynamic.{Entry, Integer}
+use Rattle.elf_image.specs.Image.{lists_tag}
+use Rattle.elf_edits.specs.declared.edit.ElfEdit.{ElfEdit}
+use Rattle.elf_edits.specs.declared.edit.ElfEdit.TheVariants as edits
+use Rattle.elf_edits.specs.declared.edit.Task.{Task}
+use Rattle.elf_edits.specs.declared.edit.Task.TheVariants as tasks
+use Rattle.elf_edits.specs.Entries.{directories_removed, has_tag, is_replaced, is_run_path, needs_one_of, not_needed_yet, search_of, with_last_unless_there, with_needed_added, with_needed_replaced, with_run_paths_added, with_run_paths_shrunk, with_tags_changed, with_text_set, without_default_directories, without_needed, without_run_paths}
+pub use Rattle.elf_edits.specs.Shrunk.{Answer}
+use Rattle.elf_edits.specs.TextModel.{bytes_of, pairs_model, texts_model}
+use Rattle.elf_edits.specs.Texts.{has_some}
 
 -- An edit, with the texts and numbers that are handed in.
 pub data Edit : Type 0 where
@@ -82,3 +87,84 @@ texts_of NoDefaultLibrary = []
 texts_of ClearExecStack = []
 texts_of SetExecStack = []
 texts_of (SetPageSize size) = []
+
+-- ## The dynamic list
+
+-- The dynamic list after an edit. `machine` is the image's, for which needed libraries have to be.
+unfoldable pub edited_entries : ℕ → Edit → List Entry → List Entry
+edited_entries machine AddDebugEntry es = with_last_unless_there (Integer DT_DEBUG 0) es
+edited_entries machine DeleteRunPath es = without_run_paths es
+edited_entries machine (SetRunPath text) es = with_text_set is_run_path DT_RUNPATH text es
+edited_entries machine (AddRunPath texts) es = with_run_paths_added texts es
+edited_entries machine UseRunpath es = with_tags_changed DT_RPATH DT_RUNPATH es
+edited_entries machine UseRpath es = with_tags_changed DT_RUNPATH DT_RPATH es
+edited_entries machine (DeleteNeeded names) es = without_needed names es
+edited_entries machine (ReplaceNeeded pairs) es = with_needed_replaced pairs es
+edited_entries machine (AddNeeded names) es = with_needed_added names es
+edited_entries machine (SetSoname text) es = with_text_set (has_tag DT_SONAME) DT_SONAME text es
+edited_entries machine NoDefaultLibrary es = without_default_directories es
+edited_entries machine (ShrinkRunPath prefixes answers) es = with_run_paths_shrunk (search_of machine prefixes answers es) es
+edited_entries machine (SetInterpreter bytes) es = es
+edited_entries machine (SetOsAbi name) es = es
+edited_entries machine ClearExecStack es = es
+edited_entries machine SetExecStack es = es
+edited_entries machine (SetPageSize size) es = es
+
+-- Whether an edit adds, removes or writes an entry of the list, be it with what stands there already.
+unfoldable pub touches_entries : ℕ → Edit → List Entry → Bool
+touches_entries machine AddDebugEntry es = not (lists_tag DT_DEBUG es)
+touches_entries machine DeleteRunPath es = list_any is_run_path es
+touches_entries machine (SetRunPath text) es = true
+touches_entries machine (AddRunPath texts) es = true
+touches_entries machine UseRunpath es = lists_tag DT_RPATH es
+touches_entries machine UseRpath es = lists_tag DT_RUNPATH es
+touches_entries machine (DeleteNeeded names) es = list_any (needs_one_of names) es
+touches_entries machine (ReplaceNeeded pairs) es = list_any (is_replaced pairs) es
+touches_entries machine (AddNeeded names) es = has_some (not_needed_yet names es)
+touches_entries machine (SetSoname text) es = true
+touches_entries machine NoDefaultLibrary es = true
+touches_entries machine (ShrinkRunPath prefixes answers) es = has_some (directories_removed (search_of machine prefixes answers es) es)
+touches_entries machine (SetInterpreter bytes) es = false
+touches_entries machine (SetOsAbi name) es = false
+touches_entries machine ClearExecStack es = false
+touches_entries machine SetExecStack es = false
+touches_entries machine (SetPageSize size) es = false
+
+-- the tags by which an edit drops entries, whatever they hold; none for an edit that does something else
+abbrev pub dropped_tags : Edit → List ℕ
+dropped_tags DeleteRunPath = DT_RPATH ∷ DT_RUNPATH ∷ []
+dropped_tags _ = []
+
+-- ## In the code
+
+-- the words for a task
+abbrev pub words_of : Task → List ℕ
+words_of tasks.AddDebugEntry = codes "add debug entry"
+words_of tasks.DeleteRunPath = codes "delete runpath"
+words_of tasks.SetRunPath = codes "set runpath"
+words_of tasks.AddRunPath = codes "add runpath"
+words_of tasks.UseRunpath = codes "change runpath"
+words_of tasks.UseRpath = codes "change rpath"
+words_of tasks.DeleteNeeded = codes "delete needed library"
+words_of tasks.ReplaceNeeded = codes "replace needed library"
+words_of tasks.AddNeeded = codes "add needed library"
+words_of tasks.SetSoname = codes "set soname"
+words_of tasks.ShrinkRunPath = codes "shrink rpath"
+
+-- which edit the code's edit is
+abbrev pub edit_model : ElfEdit → Edit
+edit_model edits.AddDebugTag = AddDebugEntry
+edit_model (edits.AddNeeded names) = AddNeeded (texts_model names.items)
+edit_model (edits.AddRpath texts) = AddRunPath (texts_model texts.items)
+edit_model edits.ClearExecStack = ClearExecStack
+edit_model edits.ForceRpath = UseRpath
+edit_model edits.NoDefaultLib = NoDefaultLibrary
+edit_model (edits.RemoveNeeded names) = DeleteNeeded (texts_model names.items)
+edit_model edits.RemoveRpath = DeleteRunPath
+edit_model (edits.ReplaceNeeded pairs) = ReplaceNeeded (pairs_model pairs.items)
+edit_model edits.SetExecStack = SetExecStack
+edit_model (edits.SetInterpreter bytes) = SetInterpreter (bytes_of bytes)
+edit_model (edits.SetOsAbi name) = SetOsAbi (string_bytes name)
+edit_model (edits.SetPageSize size) = SetPageSize size
+edit_model (edits.SetRpath text) = SetRunPath (bytes_of text)
+edit_model (edits.SetSoname text) = SetSoname (bytes_of text)

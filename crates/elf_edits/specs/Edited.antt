@@ -9,8 +9,7 @@ use Rattle.elf_image.specs.Views.{View}
 use Rattle.elf_edits.specs.declared.constants.TheConstants.{STACK_ALIGN, STACK_FLAGS}
 use Rattle.elf_edits.specs.Abi.{abi_number, with_nul}
 use Rattle.elf_edits.specs.Cause.{Cause, cause}
-use Rattle.elf_edits.specs.Edit.{Edit, ClearExecStack, SetExecStack, SetInterpreter, SetOsAbi, SetPageSize}
-use Rattle.elf_edits.specs.Entries.{edited_entries, touches_entries}
+use Rattle.elf_edits.specs.Edit.{ClearExecStack, Edit, SetExecStack, SetInterpreter, SetOsAbi, SetPageSize, edited_entries, touches_entries}
 
 -- ## Besides the dynamic list
 

@@ -1,18 +1,21 @@
--- What each edit makes of the dynamic list (gABI, Dynamic Section). All are functions of the list alone.
-use Rattle.std.specs.Prelude.{ℕ, List, [], ◌∷◌, ◌++◌, map, filter, Bool, true, false, not, ◌||◌, is_some, Option, unwrap_or, ◌==◌, if◌then◌else◌, bit_or}
+-- What edits make of the dynamic list (gABI, Dynamic Section). All are functions of the list alone.
+use Rattle.std.specs.Prelude.{ℕ, List, [], ◌∷◌, ◌++◌, map, filter, Bool, not, ◌||◌, is_some, Option, unwrap_or, ◌==◌, if◌then◌else◌, bit_or}
 use Rattle.std.specs.List.{flat_map, list_any}
-use Rattle.elf_format.specs.declared.constants.TheConstants.{DT_DEBUG, DT_FLAGS_1, DT_NEEDED, DT_RPATH, DT_RUNPATH, DT_SONAME}
+use Rattle.elf_format.specs.declared.constants.TheConstants.{DT_FLAGS_1, DT_NEEDED, DT_RPATH, DT_RUNPATH}
 use Rattle.elf_image.specs.Dynamic.{Auto, Entry, Integer, Text}
 use Rattle.elf_image.specs.Image.{entry_tag, lists_tag}
 use Rattle.elf_edits.specs.declared.constants.TheConstants.{COLON, DF_1_NODEFLIB}
-use Rattle.elf_edits.specs.Edit.{Answer, Edit, AddDebugEntry, AddNeeded, AddRunPath, ClearExecStack, DeleteNeeded, DeleteRunPath, NoDefaultLibrary, ReplaceNeeded, SetExecStack, SetInterpreter, SetOsAbi, SetPageSize, SetRunPath, SetSoname, ShrinkRunPath, UseRpath, UseRunpath}
-use Rattle.elf_edits.specs.Shrunk.{Removal, Search, machine_found, removed_from, shrunk_text}
-use Rattle.elf_edits.specs.Texts.{first_in, has_some, is_among, joined_by_colons, value_of}
+use Rattle.elf_edits.specs.Shrunk.{Answer, Removal, Search, machine_found, removed_from, shrunk_text}
+use Rattle.elf_edits.specs.Texts.{first_in, is_among, joined_by_colons, value_of}
 
 -- ## Entries
 
 abbrev pub has_tag : ℕ → Entry → Bool
 has_tag tag e = entry_tag e == tag
+
+-- the entry has one of these tags
+abbrev pub has_one_of : List ℕ → Entry → Bool
+has_one_of tags e = list_any (λ tag. has_tag tag e) tags
 
 -- the entry has a run path
 abbrev pub is_run_path : Entry → Bool
@@ -54,11 +57,15 @@ first_needed e = first_in (text_if (has_tag DT_NEEDED) e)
 abbrev pub run_paths : List Entry → List (List ℕ)
 run_paths entries = flat_map (text_if is_run_path) entries
 
--- ## The edits, one by one
+-- ## What edits do
 
 -- an entry is put last, unless one with its tag is there
 abbrev pub with_last_unless_there : Entry → List Entry → List Entry
 with_last_unless_there added entries = if lists_tag (entry_tag added) entries then entries else entries ++ added ∷ []
+
+-- every entry with one of these tags is dropped
+abbrev pub without_tags : List ℕ → List Entry → List Entry
+without_tags tags entries = filter (λ e. not (has_one_of tags e)) entries
 
 -- every run path is dropped
 abbrev pub without_run_paths : List Entry → List Entry
@@ -102,6 +109,10 @@ without_needed names entries = filter (λ e. not (needs_one_of names e)) entries
 abbrev pub with_needed_replaced : List (List ℕ × List ℕ) → List Entry → List Entry
 with_needed_replaced pairs entries = changed_where (has_tag DT_NEEDED) (with_text_changed (λ name. unwrap_or (value_of pairs name) name)) entries
 
+-- an entry that an edit of needed libraries replaces
+abbrev pub is_replaced : List (List ℕ × List ℕ) → Entry → Bool
+is_replaced pairs e = list_any (λ name. is_some (value_of pairs name)) (text_if (has_tag DT_NEEDED) e)
+
 -- the names that are not needed yet, in order and with repeats
 abbrev pub not_needed_yet : List (List ℕ) → List Entry → List (List ℕ)
 not_needed_yet names entries = filter (λ name. not (is_among (needed_names entries) name)) names
@@ -133,49 +144,3 @@ with_run_paths_shrunk s entries = changed_where is_run_path (with_text_changed (
 -- the directories that go, in the order of the entries
 abbrev pub directories_removed : Search → List Entry → List Removal
 directories_removed s entries = flat_map (removed_from s) (run_paths entries)
-
--- ## All of them
-
--- The dynamic list after an edit. `machine` is the image's, for which needed libraries have to be.
-unfoldable pub edited_entries : ℕ → Edit → List Entry → List Entry
-edited_entries machine AddDebugEntry es = with_last_unless_there (Integer DT_DEBUG 0) es
-edited_entries machine DeleteRunPath es = without_run_paths es
-edited_entries machine (SetRunPath text) es = with_text_set is_run_path DT_RUNPATH text es
-edited_entries machine (AddRunPath texts) es = with_run_paths_added texts es
-edited_entries machine UseRunpath es = with_tags_changed DT_RPATH DT_RUNPATH es
-edited_entries machine UseRpath es = with_tags_changed DT_RUNPATH DT_RPATH es
-edited_entries machine (DeleteNeeded names) es = without_needed names es
-edited_entries machine (ReplaceNeeded pairs) es = with_needed_replaced pairs es
-edited_entries machine (AddNeeded names) es = with_needed_added names es
-edited_entries machine (SetSoname text) es = with_text_set (has_tag DT_SONAME) DT_SONAME text es
-edited_entries machine NoDefaultLibrary es = without_default_directories es
-edited_entries machine (ShrinkRunPath prefixes answers) es = with_run_paths_shrunk (search_of machine prefixes answers es) es
-edited_entries machine (SetInterpreter bytes) es = es
-edited_entries machine (SetOsAbi name) es = es
-edited_entries machine ClearExecStack es = es
-edited_entries machine SetExecStack es = es
-edited_entries machine (SetPageSize size) es = es
-
--- an entry that an edit of needed libraries replaces
-abbrev pub is_replaced : List (List ℕ × List ℕ) → Entry → Bool
-is_replaced pairs e = list_any (λ name. is_some (value_of pairs name)) (text_if (has_tag DT_NEEDED) e)
-
--- Whether an edit adds, removes or writes an entry of the list, be it with what stands there already.
-unfoldable pub touches_entries : ℕ → Edit → List Entry → Bool
-touches_entries machine AddDebugEntry es = not (lists_tag DT_DEBUG es)
-touches_entries machine DeleteRunPath es = list_any is_run_path es
-touches_entries machine (SetRunPath text) es = true
-touches_entries machine (AddRunPath texts) es = true
-touches_entries machine UseRunpath es = lists_tag DT_RPATH es
-touches_entries machine UseRpath es = lists_tag DT_RUNPATH es
-touches_entries machine (DeleteNeeded names) es = list_any (needs_one_of names) es
-touches_entries machine (ReplaceNeeded pairs) es = list_any (is_replaced pairs) es
-touches_entries machine (AddNeeded names) es = has_some (not_needed_yet names es)
-touches_entries machine (SetSoname text) es = true
-touches_entries machine NoDefaultLibrary es = true
-touches_entries machine (ShrinkRunPath prefixes answers) es = has_some (directories_removed (search_of machine prefixes answers es) es)
-touches_entries machine (SetInterpreter bytes) es = false
-touches_entries machine (SetOsAbi name) es = false
-touches_entries machine ClearExecStack es = false
-touches_entries machine SetExecStack es = false
-touches_entries machine (SetPageSize size) es = false

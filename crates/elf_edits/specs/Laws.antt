@@ -6,9 +6,9 @@ use Rattle.elf_image.specs.Image.{Image, entry_tag, shown}
 use Rattle.elf_image.specs.Views.{View}
 use Rattle.elf_edits.specs.Batch.{Refusal, answer_at, answers, left_by, left_by_all, run, run_from, then_on}
 use Rattle.elf_edits.specs.Cause.{Cause, cause}
-use Rattle.elf_edits.specs.Edit.{Edit, AddDebugEntry, DeleteNeeded, NoDefaultLibrary, ReplaceNeeded, SetRunPath, UseRpath}
+use Rattle.elf_edits.specs.Edit.{AddDebugEntry, DeleteNeeded, Edit, NoDefaultLibrary, ReplaceNeeded, SetRunPath, UseRpath, edited_entries}
 use Rattle.elf_edits.specs.Edited.{edited_view, step, touches}
-use Rattle.elf_edits.specs.Entries.{edited_entries, is_run_path, needed_names, needs_one_of}
+use Rattle.elf_edits.specs.Entries.{is_run_path, needed_names, needs_one_of}
 use Rattle.elf_edits.specs.Texts.{value_of}
 
 -- ## One edit

@@ -9,9 +9,8 @@ use Rattle.elf_image.specs.Image.{Image}
 use Rattle.elf_edits.specs.Abi.{abi_number, with_nul}
 use Rattle.elf_edits.specs.Batch.{answers, left_by_all, run}
 use Rattle.elf_edits.specs.Cause.{BadPageSize, MipsImage, NoDynamic, NoInterpreter, NulInText, TooManyHeaders, UnknownAbi, cause}
-use Rattle.elf_edits.specs.Edit.{Edit, AddDebugEntry, AddNeeded, AddRunPath, ClearExecStack, DeleteNeeded, DeleteRunPath, NoDefaultLibrary, ReplaceNeeded, SetExecStack, SetInterpreter, SetOsAbi, SetPageSize, SetRunPath, SetSoname, UseRpath, UseRunpath}
+use Rattle.elf_edits.specs.Edit.{AddDebugEntry, AddNeeded, AddRunPath, ClearExecStack, DeleteNeeded, DeleteRunPath, Edit, NoDefaultLibrary, ReplaceNeeded, SetExecStack, SetInterpreter, SetOsAbi, SetPageSize, SetRunPath, SetSoname, UseRpath, UseRunpath, edited_entries}
 use Rattle.elf_edits.specs.Edited.{added_stack, step}
-use Rattle.elf_edits.specs.Entries.{edited_entries}
 
 -- x86-64
 abbrev pub machine : ℕ

@@ -5,8 +5,13 @@ use Rattle.std.specs.Str.{bytes_eq}
 use Rattle.patch_bytes.specs.Memory.{◌>>=◌}
 use Rattle.elf_image.specs.Options.{is_some_and}
 use Rattle.elf_edits.specs.declared.constants.TheConstants.{SLASH}
-use Rattle.elf_edits.specs.Edit.{Answer}
 use Rattle.elf_edits.specs.Texts.{directories_in, joined_by_colons}
+
+-- What was found for a directory of a run path and a needed library: the machine of the file of that name there.
+pub record Answer : Type 0 where
+  pub directory : List ℕ
+  pub needed : List ℕ
+  pub machine : Option ℕ
 
 -- What directories are judged by: the prefixes that are allowed, none for all; the needed libraries; the machine
 -- that they have to be for; and the machine that was found for a directory and a library.

@@ -2,15 +2,13 @@
 ghost use Rattle.std.specs.Prelude.{◌≡◌, option_map};
 ghost use Rattle.elf_edits.specs.Cause.{first_cause as first_of_causes, interpreter_missing, list_missing, own_cause as cause_of_its_own};
 ghost use Rattle.elf_edits.specs.CauseModel.{cause_model};
-ghost use Rattle.elf_edits.specs.Edit.{task_of};
-ghost use Rattle.elf_edits.specs.EditModel.{edit_model};
+ghost use Rattle.elf_edits.specs.Edit.{edit_model, task_of};
 ghost use Rattle.elf_image.specs.Options.{first_there};
 
 use crate::abi::abi_number;
 use crate::constants::SMALLEST_PAGE;
-use crate::edit::ElfEdit;
+use crate::edit::{ElfEdit, Task};
 use crate::facts::Facts;
-use crate::task::Task;
 use elf_image::constants::EM_MIPS;
 
 /// Why an edit of an ELF file is refused.

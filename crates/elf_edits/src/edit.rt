@@ -1,13 +1,24 @@
-//! The edits of what an ELF file shows, with their values.
-ghost use Rattle.std.specs.Prelude.{◌≡◌, option_map};
+//! The edits of what an ELF file shows, with their values: what each does, and the dynamic list after it.
+ghost use Rattle.std.specs.Prelude.{◌≡◌, IfOk, map, option_map};
 ghost use Rattle.std.specs.List.{list_any};
-ghost use Rattle.elf_edits.specs.CauseModel.{words_of};
-ghost use Rattle.elf_edits.specs.Edit.{task_of, texts_of};
-ghost use Rattle.elf_edits.specs.EditModel.{edit_model};
+ghost use Rattle.elf_edits.specs.Changes.{IsEditedList, IsNewList};
+ghost use Rattle.elf_edits.specs.Edit.{dropped_tags as tags_dropped, edit_model, edited_entries, task_of, texts_of, touches_entries, words_of};
 ghost use Rattle.elf_edits.specs.Texts.{holds_nul as nul_in};
+ghost use Rattle.elf_image.specs.ImageModel.{entry_model};
 
-use crate::task::Task;
+use crate::changes::EntryTest;
+use crate::list::{
+    NewList, add_debug_entry, add_directories, add_needed, copy_list, delete_needed, delete_where,
+    leave_out_defaults, replace_needed, set_text, use_rpath,
+};
 use crate::texts::{any_nul, any_nul_in_pairs, holds_nul, nul_before_end};
+use elf_image::Dynamic;
+use elf_image::constants::{DT_RPATH, DT_RUNPATH, DT_SONAME};
+use std::alloc::{AllocError, Global};
+use std::fmt;
+
+// The tags of run paths.
+static RUN_PATHS: [u64; 2] = [DT_RPATH, DT_RUNPATH];
 
 /// An edit of what an ELF file shows, with its values. The names are those of the program's commands. Texts are bytes
 /// without a NUL; they are compared whole.
@@ -82,5 +93,116 @@ impl ElfEdit {
             ElfEdit::SetSoname(text) => holds_nul(text.as_slice()),
             _ => false,
         }
+    }
+
+    /// The tags by which the edit drops entries of the dynamic list, whatever they hold; none for an edit that does
+    /// something else. Takes no memory.
+    pub fn dropped_tags(&self) -> &'static [u64]
+        ensures { result.now ≡ tags_dropped (edit_model self.now) }
+    {
+        match self {
+            ElfEdit::RemoveRpath => &RUN_PATHS,
+            _ => &[],
+        }
+    }
+
+    // The dynamic list after the edit, of a file for any machine.
+    #[tactic(auto, unfolding(crate::specs::Edit::edited_entries, crate::specs::Edit::touches_entries))]
+    fn new_list<'d>(
+        &self,
+        alloc: Global,
+        entries: &[Dynamic<'d>],
+    ) -> Result<NewList<'d>, AllocError>
+        ensures { IfOk result (IsNewList
+            (edited_entries 0 (edit_model self.now) (map entry_model entries.now))
+            (touches_entries 0 (edit_model self.now) (map entry_model entries.now))) }
+    {
+        match self {
+            ElfEdit::AddDebugTag => add_debug_entry(alloc, entries),
+            ElfEdit::AddNeeded(names) => add_needed(alloc, names.as_slice(), entries),
+            ElfEdit::AddRpath(texts) => add_directories(alloc, texts.as_slice(), entries),
+            ElfEdit::ForceRpath => use_rpath(alloc, entries),
+            ElfEdit::NoDefaultLib => leave_out_defaults(alloc, entries),
+            ElfEdit::RemoveNeeded(names) => delete_needed(alloc, names.as_slice(), entries),
+            ElfEdit::RemoveRpath => delete_where(alloc, &EntryTest::RunPath, entries),
+            ElfEdit::ReplaceNeeded(pairs) => replace_needed(alloc, pairs.as_slice(), entries),
+            ElfEdit::SetRpath(text) => {
+                let test = EntryTest::RunPath;
+                set_text(alloc, &test, DT_RUNPATH, text.as_slice(), entries)
+            }
+            ElfEdit::SetSoname(text) => {
+                let test = EntryTest::Tag(DT_SONAME);
+                set_text(alloc, &test, DT_SONAME, text.as_slice(), entries)
+            }
+            _ => copy_list(alloc, entries),
+        }
+    }
+}
+
+/// The dynamic list after an edit, and whether the edit wrote something; an edit of something else leaves it. Texts that
+/// are lent stay lent, those that the edit writes are owned. The cost is in proportion to the list and the edit's texts.
+/// Error: `AllocError`.
+#[tactic(auto, using(crate::proofs::ListSteps::on_any_machine))]
+pub fn edit_list<'d>(
+    alloc: Global,
+    edit: &ElfEdit,
+    entries: &[Dynamic<'d>],
+) -> Result<NewList<'d>, AllocError>
+    ensures { IfOk result (IsEditedList (edit_model edit.now) (map entry_model entries.now)) }
+{
+    edit.new_list(alloc, entries)
+}
+
+/// What an edit of the dynamic list does, as the refusal names it where there is no such list.
+#[derive(Clone, Copy, Debug, PartialEq, Eq)]
+pub enum Task {
+    /// An entry for a debugger is added.
+    AddDebugEntry,
+    /// The run path is dropped.
+    DeleteRunPath,
+    /// The run path is set.
+    SetRunPath,
+    /// Directories are added to the run path.
+    AddRunPath,
+    /// Every run path becomes a DT_RUNPATH.
+    UseRunpath,
+    /// Every run path becomes a DT_RPATH.
+    UseRpath,
+    /// Needed libraries are dropped.
+    DeleteNeeded,
+    /// Needed libraries are replaced.
+    ReplaceNeeded,
+    /// Needed libraries are added.
+    AddNeeded,
+    /// The library's own name is set, or the default directories are left out: both are told by these words.
+    SetSoname,
+    /// The run path shrinks.
+    ShrinkRunPath,
+}
+
+impl Task {
+    /// The words for it. Takes no memory.
+    pub fn text(self) -> &'static str
+        ensures { result.now ≡ words_of self }
+    {
+        match self {
+            Task::AddDebugEntry => "add debug entry",
+            Task::DeleteRunPath => "delete runpath",
+            Task::SetRunPath => "set runpath",
+            Task::AddRunPath => "add runpath",
+            Task::UseRunpath => "change runpath",
+            Task::UseRpath => "change rpath",
+            Task::DeleteNeeded => "delete needed library",
+            Task::ReplaceNeeded => "replace needed library",
+            Task::AddNeeded => "add needed library",
+            Task::SetSoname => "set soname",
+            Task::ShrinkRunPath => "shrink rpath",
+        }
+    }
+}
+
+impl fmt::Display for Task {
+    fn fmt<W: fmt::Write>(&self, f: &mut fmt::Formatter<W>) -> fmt::Result {
+        f.write_str(self.text())
     }
 }

@@ -4,7 +4,7 @@ ghost use Rattle.elf_image.specs.Answers.{borrowed};
 ghost use Rattle.elf_image.specs.Dynamic.{Text as text_of_tag};
 ghost use Rattle.elf_image.specs.ImageModel.{entry_model};
 ghost use Rattle.elf_edits.specs.Changes.{name_for};
-ghost use Rattle.elf_edits.specs.EditModel.{texts_model};
+ghost use Rattle.elf_edits.specs.TextModel.{texts_model};
 ghost use Rattle.elf_edits.specs.Entries.{first_needed, is_run_path as has_run_path, with_bits as with_those_bits, with_each_added, with_tag as with_that_tag, with_text_changed};
 
 use crate::texts::with_each_directory;

@@ -13,12 +13,10 @@ pub mod list;
 mod lookups;
 pub mod of_image;
 pub mod rows;
-pub mod task;
 pub mod texts;
 
 pub use crate::cause::{Cause, cause_of};
-pub use crate::edit::ElfEdit;
+pub use crate::edit::{ElfEdit, Task, edit_list};
 pub use crate::facts::Facts;
-pub use crate::list::{NewList, edit_list};
+pub use crate::list::NewList;
 pub use crate::of_image::image_facts;
-pub use crate::task::Task;

@@ -1,23 +1,22 @@
-//! The dynamic list after an edit.
+//! Dynamic lists that edits make.
 ghost use Rattle.std.specs.Prelude.{◌≡◌, ◌++◌, ◌∷◌, [], false, true, not, if◌then◌else◌, IfOk, filter, map};
 ghost use Rattle.std.specs.HashSet.{keys};
 ghost use Rattle.std.specs.List.{list_any};
 ghost use Rattle.elf_image.specs.Dynamic.{Integer as number_of_tag, Text as text_of_tag};
 ghost use Rattle.elf_image.specs.Image.{lists_tag};
 ghost use Rattle.elf_image.specs.ImageModel.{entry_model};
-ghost use Rattle.elf_edits.specs.Changes.{IsEditedList, IsNewList, change_model, has_name, test_model};
-ghost use Rattle.elf_edits.specs.EditModel.{edit_model, pairs_model, texts_model};
+ghost use Rattle.elf_edits.specs.Changes.{IsNewList, change_model, has_name, test_model};
+ghost use Rattle.elf_edits.specs.TextModel.{pairs_model, texts_model};
 ghost use Rattle.elf_edits.specs.Entries.{changed_where, has_tag as has_that_tag, is_replaced, is_run_path as has_run_path, needs_one_of, not_needed_yet, with_tags_changed, with_last_unless_there, with_needed_added, with_needed_replaced, with_run_paths_added, with_text_set, without_default_directories, without_needed};
 ghost use Rattle.elf_edits.specs.Texts.{has_some, joined_by_colons};
 
 use crate::changes::{EntryChange, EntryTest};
 use crate::constants::DF_1_NODEFLIB;
-use crate::edit::ElfEdit;
 use crate::entries::text_entry;
 use crate::lookups::{map_of, needed_set, set_of};
 use crate::texts::join;
 use elf_image::Dynamic;
-use elf_image::constants::{DT_DEBUG, DT_FLAGS_1, DT_NEEDED, DT_RPATH, DT_RUNPATH, DT_SONAME};
+use elf_image::constants::{DT_DEBUG, DT_FLAGS_1, DT_NEEDED, DT_RPATH, DT_RUNPATH};
 use patch_bytes::ByteString;
 use std::alloc::{AllocError, Global};
 use std::collections::HashSet;
@@ -61,7 +60,10 @@ fn put_copies<'d>(
 }
 
 // The list as it is, which no edit wrote.
-fn copy_list<'d>(alloc: Global, entries: &[Dynamic<'d>]) -> Result<NewList<'d>, AllocError>
+pub(crate) fn copy_list<'d>(
+    alloc: Global,
+    entries: &[Dynamic<'d>],
+) -> Result<NewList<'d>, AllocError>
     ensures { IfOk result (IsNewList (map entry_model entries.now) false) }
 {
     let mut made = Vec::new(alloc);
@@ -179,7 +181,7 @@ fn entries_without<'d>(
 }
 
 // The list without the entries that an edit is about.
-fn delete_where<'d>(
+pub(crate) fn delete_where<'d>(
     alloc: Global,
     test: &EntryTest<'_, '_>,
     entries: &[Dynamic<'d>],
@@ -196,7 +198,10 @@ fn delete_where<'d>(
 }
 
 // The list with a DT_RPATH for each DT_RUNPATH.
-fn use_rpath<'d>(alloc: Global, entries: &[Dynamic<'d>]) -> Result<NewList<'d>, AllocError>
+pub(crate) fn use_rpath<'d>(
+    alloc: Global,
+    entries: &[Dynamic<'d>],
+) -> Result<NewList<'d>, AllocError>
     ensures { IfOk result (IsNewList (with_tags_changed DT_RUNPATH DT_RPATH (map entry_model entries.now))
         (lists_tag DT_RUNPATH (map entry_model entries.now))) }
 {
@@ -205,7 +210,10 @@ fn use_rpath<'d>(alloc: Global, entries: &[Dynamic<'d>]) -> Result<NewList<'d>, 
 }
 
 // The list with an entry for a debugger.
-fn add_debug_entry<'d>(alloc: Global, entries: &[Dynamic<'d>]) -> Result<NewList<'d>, AllocError>
+pub(crate) fn add_debug_entry<'d>(
+    alloc: Global,
+    entries: &[Dynamic<'d>],
+) -> Result<NewList<'d>, AllocError>
     ensures { IfOk result (IsNewList
         (with_last_unless_there (number_of_tag DT_DEBUG 0) (map entry_model entries.now))
         (not (lists_tag DT_DEBUG (map entry_model entries.now)))) }
@@ -222,7 +230,7 @@ fn add_debug_entry<'d>(alloc: Global, entries: &[Dynamic<'d>]) -> Result<NewList
 }
 
 // The list with this text in the entries that an edit is about; without one, with an entry of the text last.
-fn set_text<'d>(
+pub(crate) fn set_text<'d>(
     alloc: Global,
     test: &EntryTest<'_, '_>,
     tag: u64,
@@ -260,7 +268,7 @@ fn with_last_run_path<'d>(
 }
 
 // The list with directories added to each run path; without one, with a run path of them last.
-fn add_directories<'d>(
+pub(crate) fn add_directories<'d>(
     alloc: Global,
     directories: &[Vec<u8>],
     entries: &[Dynamic<'d>],
@@ -277,7 +285,10 @@ fn add_directories<'d>(
 }
 
 // The list with DF_1_NODEFLIB in each DT_FLAGS_1; without one, with one last.
-fn leave_out_defaults<'d>(alloc: Global, entries: &[Dynamic<'d>]) -> Result<NewList<'d>, AllocError>
+pub(crate) fn leave_out_defaults<'d>(
+    alloc: Global,
+    entries: &[Dynamic<'d>],
+) -> Result<NewList<'d>, AllocError>
     ensures { IfOk result (IsNewList (without_default_directories (map entry_model entries.now))
         true) }
 {
@@ -294,7 +305,7 @@ fn leave_out_defaults<'d>(alloc: Global, entries: &[Dynamic<'d>]) -> Result<NewL
 }
 
 // The list without needed libraries of these names.
-fn delete_needed<'d>(
+pub(crate) fn delete_needed<'d>(
     alloc: Global,
     names: &[Vec<u8>],
     entries: &[Dynamic<'d>],
@@ -308,7 +319,7 @@ fn delete_needed<'d>(
 }
 
 // The list with needed libraries replaced; of a repeated old name the last pair counts.
-fn replace_needed<'d>(
+pub(crate) fn replace_needed<'d>(
     alloc: Global,
     pairs: &[(Vec<u8>, Vec<u8>)],
     entries: &[Dynamic<'d>],
@@ -360,7 +371,7 @@ fn new_needed<'d>(
 }
 
 // The list with the libraries that are not needed yet before all entries.
-fn add_needed<'d>(
+pub(crate) fn add_needed<'d>(
     alloc: Global,
     names: &[Vec<u8>],
     entries: &[Dynamic<'d>],
@@ -376,45 +387,4 @@ fn add_needed<'d>(
         entries: made,
         is_touched,
     })
-}
-
-/// The dynamic list after an edit, and whether the edit wrote something; an edit of something else leaves it. Texts that
-/// are lent stay lent, those that the edit writes are owned. The cost is in proportion to the list and the edit's texts.
-/// Error: `AllocError`.
-pub fn edit_list<'d>(
-    alloc: Global,
-    edit: &ElfEdit,
-    entries: &[Dynamic<'d>],
-) -> Result<NewList<'d>, AllocError>
-    ensures { IfOk result (IsEditedList (edit_model edit.now) (map entry_model entries.now)) }
-{
-    match edit {
-        ElfEdit::AddDebugTag => add_debug_entry(alloc, entries),
-        ElfEdit::AddNeeded(names) => add_needed(alloc, names.as_slice(), entries),
-        ElfEdit::AddRpath(directories) => add_directories(alloc, directories.as_slice(), entries),
-        ElfEdit::ForceRpath => use_rpath(alloc, entries),
-        ElfEdit::NoDefaultLib => leave_out_defaults(alloc, entries),
-        ElfEdit::RemoveNeeded(names) => delete_needed(alloc, names.as_slice(), entries),
-        ElfEdit::RemoveRpath => delete_where(alloc, &EntryTest::RunPath, entries),
-        ElfEdit::ReplaceNeeded(pairs) => replace_needed(alloc, pairs.as_slice(), entries),
-        ElfEdit::SetRpath(text) => {
-            set_text(
-                alloc,
-                &EntryTest::RunPath,
-                DT_RUNPATH,
-                text.as_slice(),
-                entries,
-            )
-        }
-        ElfEdit::SetSoname(text) => {
-            set_text(
-                alloc,
-                &EntryTest::Tag(DT_SONAME),
-                DT_SONAME,
-                text.as_slice(),
-                entries,
-            )
-        }
-        _ => copy_list(alloc, entries),
-    }
 }

@@ -3,7 +3,7 @@ ghost use Rattle.std.specs.Prelude.{◌≡◌, IfOk, List, ℕ, map};
 ghost use Rattle.std.specs.HashSet.{keys};
 ghost use Rattle.elf_image.specs.ImageModel.{entry_model};
 ghost use Rattle.elf_edits.specs.Changes.{has_name, name_for};
-ghost use Rattle.elf_edits.specs.EditModel.{pairs_model, texts_model};
+ghost use Rattle.elf_edits.specs.TextModel.{pairs_model, texts_model};
 ghost use Rattle.elf_edits.specs.Entries.{needed_names};
 ghost use Rattle.elf_edits.specs.Texts.{is_among, value_of};
 

@@ -2,7 +2,7 @@
 ghost use Rattle.std.specs.Prelude.{◌≡◌, ◌∷◌, [], ◌++◌, IfOk};
 ghost use Rattle.std.specs.List.{flat_map, list_any};
 ghost use Rattle.elf_edits.specs.Edit.{all_but_last};
-ghost use Rattle.elf_edits.specs.EditModel.{pairs_model, texts_model};
+ghost use Rattle.elf_edits.specs.TextModel.{pairs_model, texts_model};
 ghost use Rattle.elf_edits.specs.Entries.{with_directories, with_each_added};
 ghost use Rattle.elf_edits.specs.Texts.{behind_colons, holds_nul as nul_in, joined_by_colons};
 

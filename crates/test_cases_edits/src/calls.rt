@@ -10,15 +10,21 @@ pub(crate) fn call(
     edit: &ElfEdit,
 ) -> Result<(), ElfError> {
     match edit {
-        ElfEdit::ForceRpath => file.force_rpath(),
-        ElfEdit::RemoveRpath => file.remove_runpath(),
-        ElfEdit::SetPageSize(size) => file.set_page_size(*size),
+        ElfEdit::AddDebugTag => file.add_debug_tag(alloc),
+        ElfEdit::AddNeeded(names) => file.add_needed(alloc, names.as_slice()),
         ElfEdit::AddRpath(texts) => add_runpaths(alloc, file, texts.as_slice()),
-        ElfEdit::SetRpath(text) => file.set_runpath(alloc, text.as_slice()),
-        ElfEdit::SetSoname(text) => file.set_soname(alloc, text.as_slice()),
+        ElfEdit::ClearExecStack => file.clear_exec_stack(alloc),
+        ElfEdit::ForceRpath => file.force_rpath(),
+        ElfEdit::NoDefaultLib => file.no_default_lib(alloc),
+        ElfEdit::RemoveNeeded(names) => file.remove_needed(alloc, names.as_slice()),
+        ElfEdit::RemoveRpath => file.remove_runpath(),
+        ElfEdit::ReplaceNeeded(pairs) => replace_needed(alloc, file, pairs.as_slice()),
+        ElfEdit::SetExecStack => file.set_exec_stack(alloc),
         ElfEdit::SetInterpreter(text) => file.set_interpreter(alloc, text.as_slice()),
         ElfEdit::SetOsAbi(name) => file.set_os_abi(alloc, name.as_str()),
-        other => call_otherwise(alloc, file, other),
+        ElfEdit::SetPageSize(size) => file.set_page_size(*size),
+        ElfEdit::SetRpath(text) => file.set_runpath(alloc, text.as_slice()),
+        ElfEdit::SetSoname(text) => file.set_soname(alloc, text.as_slice()),
     }
 }
 
@@ -31,24 +37,6 @@ fn add_runpaths(
     match texts {
         [text] => file.add_runpath(alloc, text.as_slice()),
         texts => file.inner.elf_add_runpath(alloc, texts),
-    }
-}
-
-/// Does one of the other edits by its own call.
-fn call_otherwise(
-    alloc: Global,
-    file: &mut ElfContainer<'_>,
-    edit: &ElfEdit,
-) -> Result<(), ElfError> {
-    match edit {
-        ElfEdit::AddDebugTag => file.add_debug_tag(alloc),
-        ElfEdit::NoDefaultLib => file.no_default_lib(alloc),
-        ElfEdit::ClearExecStack => file.clear_exec_stack(alloc),
-        ElfEdit::SetExecStack => file.set_exec_stack(alloc),
-        ElfEdit::AddNeeded(names) => file.add_needed(alloc, names.as_slice()),
-        ElfEdit::RemoveNeeded(names) => file.remove_needed(alloc, names.as_slice()),
-        ElfEdit::ReplaceNeeded(pairs) => replace_needed(alloc, file, pairs.as_slice()),
-        _ => Ok(()),
     }
 }
 

@@ -1,4 +1,4 @@
-ghost use Rattle.std.specs.Prelude.{◌≡◌, Ok, IfErr, IfOk, OnOk, MatchResult, map, option_map, string_bytes};
+ghost use Rattle.std.specs.Prelude.{◌≡◌, false, Ok, IfErr, IfOk, OnOk, MatchResult, map, option_map, string_bytes};
 ghost use Rattle.std.specs.Io.KnownBytes.{Appends};
 ghost use Rattle.elf_image.specs.Image.{image_of, shown};
 ghost use Rattle.elf_image.specs.Answers.{borrowed};
@@ -6,11 +6,13 @@ ghost use Rattle.elf_apply.specs.Causes.{FailsPrint, FailsWrite, RefusesRead};
 ghost use Rattle.arwen_elf.specs.PageSizes.{page_size_for};
 ghost use Rattle.arwen_elf.specs.Prints.{before_nul as bytes_before_nul, cut_at_colons as parts_between_colons, directories_shown, line_if, line_of, printed_exec_stack, printed_interpreter, printed_needed, printed_os_abi, printed_runpath, printed_soname};
 ghost use Rattle.arwen_elf.specs.WriterModel.{ShowsBothViews};
-ghost use Rattle.arwen_elf.specs.Written.{AnswersBytes, AnswersPieces, AnswersWrite, MayNotWrite};
+ghost use Rattle.arwen_elf.specs.NewFile.{HoldsImage, IsNotStored};
+ghost use Rattle.arwen_elf.specs.Written.{AnswersBytes, AnswersPieces, AnswersWrite, IsIo, MayNotWrite};
 
+use crate::elf::rewriter::new_file::NotWritten;
 use crate::elf::rewriter::writer::Writer;
 use bstr::ByteSlice;
-use byte_store::Difference;
+use byte_store::{Creates, Difference};
 use elf_apply::error::{ElfError, Result};
 use elf_image::constants::PF_X;
 use elf_write::CountedWrite;
@@ -216,9 +218,27 @@ impl<'a> ElfContainer<'a> {
         self.inner.write(alloc, w)
     }
 
-    /// Writes the bytes of `image_bytes` to a file, as `Writer::write_to_path` does.
+    /// Writes the bytes of `image_bytes` to a file that is created, as `Writer::write_to` does.
+    pub fn write_to<'p, C: Creates<'p>>(
+        &self,
+        alloc: Global,
+        files: &C,
+        path: &'p str,
+    ) -> std::result::Result<C::Created, NotWritten<C::Created>>
+        ensures written { IfOk result (λ file.
+            HoldsImage C.is_new self.now.inner (C.Created.contents file)) }
+        ensures err { IfErr result (IsNotStored C.is_new C.Created.contents
+            (C.may_fail files.now path.now) self.now.inner) }
+        ensures unchanged { self.now.inner.changed ≡ false
+            → IfErr result (λ refused. IsIo refused.error) }
+    {
+        self.inner.write_to(alloc, files, path)
+    }
+
+    /// Writes the bytes of `image_bytes` to a file of the system, as `Writer::write_to_path` does.
     pub fn write_to_path<R: Files + AllocGlobal>(&self, rt: &R, path: &str) -> Result<()>
-        ensures { IfErr result (MayNotWrite self.now.inner) }
+        ensures err { IfErr result (MayNotWrite self.now.inner) }
+        ensures unchanged { self.now.inner.changed ≡ false → IfErr result IsIo }
     {
         self.inner.write_to_path(rt, path)
     }

@@ -2,10 +2,12 @@
 
 mod edits;
 pub mod machines;
+pub mod new_file;
 mod output;
 mod values;
 pub mod writer;
 
+pub use crate::elf::rewriter::new_file::NotWritten;
 pub use crate::elf::rewriter::writer::{Needed, Writer};
 pub use elf_apply::batch::ElfBatchError;
 pub use elf_apply::error::{ElfError, ModifyCause, Result};

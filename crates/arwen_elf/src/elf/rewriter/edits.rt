@@ -13,6 +13,7 @@ use crate::elf::rewriter::values::{copy_map, copy_set, copy_texts};
 use crate::elf::rewriter::writer::Writer;
 use elf_apply::batch::ElfBatchError;
 use elf_apply::error::ElfError;
+use elf_apply::steps;
 use elf_edits::ElfEdit;
 use elf_edits_shrink::{ProbeAnswer, Removed, shrink_questions};
 use std::alloc::{AllocError, Global};
@@ -27,35 +28,35 @@ impl<'data> Writer<'data> {
         ensures takes { TakesBatch (edits_model edits.now) self.old self.new result }
         ensures none { edits.now ≡ [] → IsOk result }
     {
-        elf_apply::apply(&mut self.builder, alloc, edits)
+        steps::apply(&mut self.builder, alloc, edits)
     }
 
     // Makes one edit: a batch of one.
     pub(crate) fn edit(&mut self, alloc: Global, edit: ElfEdit) -> Result<(), ElfError>
         ensures { TakesEdit (edit_model edit) self.old self.new result }
     {
-        elf_apply::edit(&mut self.builder, alloc, &edit)
+        steps::edit(&mut self.builder, alloc, &edit)
     }
 
     /// Drops every DT_RPATH and DT_RUNPATH (gABI, Dynamic Section). Takes no memory.
     pub fn elf_delete_runpath(&mut self) -> Result<(), ElfError>
         ensures { TakesInPlace DeleteRunPath self.old self.new result }
     {
-        elf_apply::delete_run_paths(&mut self.builder)
+        steps::drop_tagged(&mut self.builder, &ElfEdit::RemoveRpath)
     }
 
     /// Makes every DT_RPATH a DT_RUNPATH (gABI, Dynamic Section). Takes no memory.
     pub fn elf_use_runpath(&mut self) -> Result<(), ElfError>
         ensures { TakesInPlace UseRunpath self.old self.new result }
     {
-        elf_apply::use_runpath(&mut self.builder)
+        steps::use_runpath(&mut self.builder)
     }
 
     /// Makes every DT_RUNPATH a DT_RPATH (gABI, Dynamic Section). Takes no memory.
     pub fn elf_use_rpath(&mut self) -> Result<(), ElfError>
         ensures { TakesInPlace UseRpath self.old self.new result }
     {
-        elf_apply::use_rpath(&mut self.builder)
+        steps::use_rpath(&mut self.builder)
     }
 
     /// Sets the page size, in bytes: a power of two of 1024 or more. Each PT_LOAD gets it as its alignment (gABI,
@@ -63,7 +64,7 @@ impl<'data> Writer<'data> {
     pub fn elf_set_page_size(&mut self, size: u32) -> Result<(), ElfError>
         ensures { TakesInPlace (SetPageSize size) self.old self.new result }
     {
-        elf_apply::set_page_size(&mut self.builder, size)
+        steps::set_page_size(&mut self.builder, size)
     }
 
     /// Leaves out of every run path the absolute directories that no prefix begins, where there are prefixes, and
@@ -79,7 +80,7 @@ impl<'data> Writer<'data> {
         ensures takes { TakesEdit (shrink_model prefixes.now probe.now) self.old self.new result }
         ensures removed { IfOk result (RemovedAre (shrink_model prefixes.now probe.now) self.old) }
     {
-        elf_apply::shrink_run_paths(&mut self.builder, alloc, prefixes, probe)
+        steps::shrink_run_paths(&mut self.builder, alloc, prefixes, probe)
     }
 }
 

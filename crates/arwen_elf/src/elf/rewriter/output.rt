@@ -1,5 +1,5 @@
 //! The bytes that an image is written to.
-ghost use Rattle.std.specs.Prelude.{◌≡◌, true, IfErr, IfOk, IfSome, IsTrue};
+ghost use Rattle.std.specs.Prelude.{◌≡◌, false, true, IfErr, IfOk, IfSome, IsTrue};
 ghost use Rattle.byte_store.specs.Composed.{IsDifference, made_of};
 ghost use Rattle.elf_image.specs.Kept.{image_at_read};
 ghost use Rattle.elf_layout_plan.specs.Plan.{IsPlan, resized};
@@ -7,10 +7,12 @@ ghost use Rattle.elf_layout_plan.specs.Refusals.{do_sizes_of_image_fit, sizes_of
 ghost use Rattle.elf_layout_sizes.specs.MadeTables.{IsMadeOfList};
 ghost use Rattle.elf_write_spec.specs.Whole.{IsWhole};
 ghost use Rattle.elf_write_spec.specs.WrittenFile.{IsWrittenOf};
-ghost use Rattle.arwen_elf.specs.Written.{AnswersBytes, AnswersPieces, AnswersWrite, IsImageWritten, IsNoDifference, IsNoEdit, IsNoImage, IsTold, MayNotWrite};
+ghost use Rattle.arwen_elf.specs.NewFile.{HoldsImage, IsNotStored};
+ghost use Rattle.arwen_elf.specs.Written.{AnswersBytes, AnswersPieces, AnswersWrite, IsImageWritten, IsIo, IsNoDifference, IsNoEdit, IsNoImage, IsTold, MayNotWrite};
 
+use crate::elf::rewriter::new_file::{NotWritten, write_new};
 use crate::elf::rewriter::writer::Writer;
-use byte_store::Difference;
+use byte_store::{Creates, Difference, RuntimeFiles};
 use elf_apply::error::{ElfError, ModifyCause, Result};
 use elf_image::{Builder, ElfFault};
 use elf_layout::{lay_out_from_read, lay_out_from_sizes};
@@ -18,11 +20,10 @@ use elf_layout_plan::{LayoutFault, Plan, read_source};
 use elf_layout_sizes::{NewSizes, new_sizes_with_strings};
 use elf_tables::Finished;
 use elf_write::{
-    CountedWrite, Sink, image_bytes_from_read, image_pieces_with_strings, write_all_counted,
+    CountedWrite, image_bytes_from_read, image_pieces_with_strings, write_all_counted,
 };
 use patch_bytes::ByteString;
 use std::alloc::Global;
-use std::fs;
 use std::rt::Files;
 
 // The bytes of an edited image by a plan, with the image that was read from its source.
@@ -212,16 +213,36 @@ impl<'data> Writer<'data> {
         }
     }
 
-    /// Writes the bytes of `image_bytes` to a file, which is made, or emptied, once all of them are there. Errors: those of
-    /// `write`, and `Io` where the file can't be made.
-    pub fn write_to_path<R: Files + AllocGlobal>(&self, rt: &R, path: &str) -> Result<()>
-        ensures { IfErr result (MayNotWrite self.now) }
+    /// Writes the bytes of `image_bytes` to a file that is created once all of them are there, and hands it out. Errors:
+    /// those of `image_bytes`, and no file is created; `Io` with what creating it answered; `Io` where a write failed, as
+    /// `write` tells, and the file has got the first of the bytes.
+    pub fn write_to<'p, C: Creates<'p>>(
+        &self,
+        alloc: Global,
+        files: &C,
+        path: &'p str,
+    ) -> std::result::Result<C::Created, NotWritten<C::Created>>
+        ensures written { IfOk result (λ file.
+            HoldsImage C.is_new self.now (C.Created.contents file)) }
+        ensures err { IfErr result (IsNotStored C.is_new C.Created.contents
+            (C.may_fail files.now path.now) self.now) }
+        ensures unchanged { self.now.changed ≡ false → IfErr result (λ refused. IsIo refused.error) }
     {
-        let bytes = self.output_bytes(rt.alloc())?;
-        let mut file = Sink::new(fs::create(rt, path)?);
-        match write_all_counted(bytes.as_slice(), &mut file) {
-            Ok(()) => Ok(()),
-            Err(error) => Err(ElfError::Io(error)),
+        match self.output_bytes(alloc) {
+            Ok(bytes) => write_new(files, path, bytes.as_slice()),
+            Err(error) => Err(NotWritten { error, file: None }),
+        }
+    }
+
+    /// Writes the bytes of `image_bytes` to a file of the system, as `write_to` does: it is made, or emptied, once all of
+    /// them are there. Errors: those of `write_to`.
+    pub fn write_to_path<R: Files + AllocGlobal>(&self, rt: &R, path: &str) -> Result<()>
+        ensures err { IfErr result (MayNotWrite self.now) }
+        ensures unchanged { self.now.changed ≡ false → IfErr result IsIo }
+    {
+        match self.write_to(rt.alloc(), &RuntimeFiles { files: rt }, path) {
+            Ok(_file) => Ok(()),
+            Err(refused) => Err(refused.error),
         }
     }
 }

@@ -1,6 +1,6 @@
 -- The first cause is looked for in its order.
 use Rattle.std.proofs.Common.{◌∙◌, sym}
-use Rattle.elf_edits.specs.EditModel.{edit_model}
+use Rattle.elf_edits.specs.Edit.{edit_model}
 use Rattle.elf_edits.specs.CauseModel.{cause_model}
 use Rattle.elf_edits.proofs.CauseSteps.{for_its_own, for_mips, for_missing, for_nul}
 use Rattle.elf_edits.proofs.cause.cause_of.Goals as goal

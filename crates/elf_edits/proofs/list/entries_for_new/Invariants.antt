@@ -4,7 +4,7 @@ use Rattle.elf_format.specs.declared.constants.TheConstants.{DT_NEEDED}
 use Rattle.elf_image.specs.Dynamic.{Text}
 use Rattle.elf_image.specs.ImageModel.{entry_model}
 use Rattle.elf_edits.specs.Changes.{has_name}
-use Rattle.elf_edits.specs.EditModel.{texts_model}
+use Rattle.elf_edits.specs.TextModel.{texts_model}
 use Rattle.elf_edits.proofs.list.entries_for_new.Given as goal
 
 -- an entry for each name so far that is not in the set

@@ -2,7 +2,7 @@
 use Rattle.std.proofs.Common.{map}
 use Rattle.std.specs.HashSet.{keys}
 use Rattle.elf_image.specs.ImageModel.{entry_model}
-use Rattle.elf_edits.specs.EditModel.{texts_model}
+use Rattle.elf_edits.specs.TextModel.{texts_model}
 use Rattle.elf_edits.proofs.ListSteps.{new_by_set}
 use Rattle.elf_edits.proofs.list.new_needed.Goals as goal
 

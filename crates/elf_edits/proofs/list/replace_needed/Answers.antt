@@ -1,7 +1,7 @@
 -- The map has the values of the pairs.
 use Rattle.std.proofs.Common.{map}
 use Rattle.elf_image.specs.ImageModel.{entry_model}
-use Rattle.elf_edits.specs.EditModel.{pairs_model}
+use Rattle.elf_edits.specs.TextModel.{pairs_model}
 use Rattle.elf_edits.proofs.ListSteps.{replace_by_map}
 use Rattle.elf_edits.proofs.list.replace_needed.Goals as goal
 

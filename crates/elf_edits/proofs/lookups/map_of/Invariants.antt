@@ -1,6 +1,6 @@
 use Rattle.std.proofs.Common.{◌≡◌, ℕ, List, take}
 use Rattle.elf_edits.specs.Changes.{name_for}
-use Rattle.elf_edits.specs.EditModel.{pairs_model}
+use Rattle.elf_edits.specs.TextModel.{pairs_model}
 use Rattle.elf_edits.specs.Texts.{value_of}
 use Rattle.elf_edits.proofs.lookups.map_of.Given as goal
 

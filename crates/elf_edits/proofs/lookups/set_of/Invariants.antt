@@ -1,7 +1,7 @@
 use Rattle.std.proofs.Common.{◌≡◌, ℕ, List, take}
 use Rattle.std.specs.HashSet.{keys}
 use Rattle.elf_edits.specs.Changes.{has_name}
-use Rattle.elf_edits.specs.EditModel.{texts_model}
+use Rattle.elf_edits.specs.TextModel.{texts_model}
 use Rattle.elf_edits.specs.Texts.{is_among}
 use Rattle.elf_edits.proofs.lookups.set_of.Given as goal
 

@@ -1,6 +1,6 @@
 use Rattle.std.proofs.Common.{◌≡◌, drop}
 use Rattle.std.specs.List.{list_any}
-use Rattle.elf_edits.specs.EditModel.{texts_model}
+use Rattle.elf_edits.specs.TextModel.{texts_model}
 use Rattle.elf_edits.specs.Texts.{holds_nul}
 use Rattle.elf_edits.proofs.texts.any_nul.Given as goal
 

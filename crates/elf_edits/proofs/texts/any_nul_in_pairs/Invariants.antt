@@ -1,6 +1,6 @@
 use Rattle.std.proofs.Common.{◌≡◌, ◌∷◌, [], drop}
 use Rattle.std.specs.List.{flat_map, list_any}
-use Rattle.elf_edits.specs.EditModel.{pairs_model}
+use Rattle.elf_edits.specs.TextModel.{pairs_model}
 use Rattle.elf_edits.specs.Texts.{holds_nul}
 use Rattle.elf_edits.proofs.texts.any_nul_in_pairs.Given as goal
 

@@ -1,7 +1,7 @@
 -- The first text, and the others behind colons.
 use Rattle.std.proofs.Common.{◌≡◌, ◌<◌, ◌-◌, List, ◌++◌, ◌∙◌, ap, arith, drop, length, length-drop, sym, take}
 use Rattle.std.proofs.lemmas.List.{take_all}
-use Rattle.elf_edits.specs.EditModel.{Bytes, texts_model}
+use Rattle.elf_edits.specs.TextModel.{Bytes, texts_model}
 use Rattle.elf_edits.specs.Texts.{behind_colons}
 use Rattle.elf_edits.proofs.TextSteps.{joined_first, not_empty}
 use Rattle.elf_edits.proofs.texts.join.Goals as goal

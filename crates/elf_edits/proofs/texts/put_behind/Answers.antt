@@ -1,6 +1,6 @@
 -- One more text is put behind a colon.
 use Rattle.std.proofs.Common.{◌+◌, ◌++◌, ◌∙◌, List, ap, drop, ℕ}
-use Rattle.elf_edits.specs.EditModel.{texts_model}
+use Rattle.elf_edits.specs.TextModel.{texts_model}
 use Rattle.elf_edits.specs.Texts.{behind_colons}
 use Rattle.elf_edits.proofs.TextSteps.{behind_all, behind_more}
 use Rattle.elf_edits.proofs.texts.put_behind.Goals as goal

@@ -1,5 +1,5 @@
 use Rattle.std.proofs.Common.{◌≡◌, ◌++◌, drop}
-use Rattle.elf_edits.specs.EditModel.{texts_model}
+use Rattle.elf_edits.specs.TextModel.{texts_model}
 use Rattle.elf_edits.specs.Texts.{behind_colons}
 use Rattle.elf_edits.proofs.texts.put_behind.Given as goal
 

@@ -1,6 +1,6 @@
 -- One more directory is added.
 use Rattle.std.proofs.Common.{◌+◌, ◌∙◌, ap, drop}
-use Rattle.elf_edits.specs.EditModel.{texts_model}
+use Rattle.elf_edits.specs.TextModel.{texts_model}
 use Rattle.elf_edits.specs.Entries.{with_directories, with_each_added}
 use Rattle.elf_edits.proofs.TextSteps.{added_all, added_more}
 use Rattle.elf_edits.proofs.texts.with_each_directory.Goals as goal

@@ -2,7 +2,7 @@
 use Rattle.std.proofs.Common.{ap, sym, subst, ◌∙◌}
 use Rattle.elf_edits.specs.EditModel.{edit_model}
 use Rattle.elf_edits.specs.Cause.{facts_of}
-use Rattle.elf_edits.specs.Entries.{edited_entries, touches_entries}
+use Rattle.elf_edits.specs.Edit.{edited_entries, touches_entries}
 use Rattle.elf_edits.proofs.ForCallers.{is_free}
 use Rattle.elf_apply.specs.declared.draft.Draft.{Draft}
 use Rattle.elf_apply.specs.Drafted.{Writes}
