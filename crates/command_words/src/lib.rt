@@ -1,10 +1,12 @@
 //! What the commands for either kind of file share: the rows that say how each is written, the values that it
-//! takes, pairs and numbers, the groups of words that are edits, which files are read, and how much of them.
+//! takes, pairs and numbers, the groups of words that are edits, which files are read, how much of them, and whether
+//! notes of an edit are wanted.
 #![tactic(auto)]
 
 mod edits;
 mod file;
 mod key_value;
+mod noting;
 mod rows;
 mod word_values;
 
@@ -14,5 +16,6 @@ pub use edits::{
 };
 pub use file::{MOST_BYTES, RegularFiles};
 pub use key_value::{KeyValueError, decimal_number, parse_key_val};
+pub use noting::Notes;
 pub use rows::{Row, Value, ValueForm, ValueOption, Values, find_row};
 pub use word_values::{ValueError, number_of, pairs_of};

@@ -1,4 +1,5 @@
 pub mod ElfOutcomes
 pub mod ElfStoreLaws
 pub mod FailureLaws
+pub mod NotingLaws
 pub mod ShrinkLaws

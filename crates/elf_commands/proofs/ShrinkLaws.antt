@@ -30,7 +30,7 @@ use Rattle.elf_commands.specs.ElfErrors.{answer_to_elf, answer_to_replaced}
 use Rattle.elf_commands.specs.Meaning.{elf_command_model}
 use Rattle.command_words.specs.Rows.{Text}
 use Rattle.elf_commands.specs.ShrinkRuns.{AreFoundIn, FailsShrink, IsQuiet, IsRemovalTold, IsShrunkBy, IsShrunkImage, RunsCommand, RunsShrink, ShrinksStore, Steps, TellsCommand, TellsShrink, TellsShrunk, TellsShrunkPath, TellsUnshrunk, TellsUntold}
-use Rattle.elf_commands.specs.Shrinking.{AreFound, Finding, removal_lines}
+use Rattle.elf_commands_probe.specs.Shrinking.{AreFound, Finding, removal_lines}
 use Rattle.elf_commands.specs.declared.command.ElfCommand.{ElfCommand}
 use Rattle.elf_commands.specs.declared.command.ElfCommand.TheVariants as command
 use Rattle.elf_commands.specs.declared.elf.commands.shrink_rpath.Args.{Args}

@@ -24,7 +24,7 @@ use Rattle.elf_commands.specs.ElfEngine.{AreChanged, IsElfEdited, LeavesElf, Run
 use Rattle.elf_commands.specs.ElfErrors.{answer_to_elf}
 use Rattle.elf_commands.specs.Meaning.{ElfMeaning, shrink_elf}
 use Rattle.command_words.specs.Rows.{Text}
-use Rattle.elf_commands.specs.Shrinking.{AreFound, Finding, removal_lines}
+use Rattle.elf_commands_probe.specs.Shrinking.{AreFound, Finding, removal_lines}
 use Rattle.elf_commands.specs.declared.error.ElfCommandError.{ElfCommandError}
 use Rattle.elf_commands.specs.declared.error.ElfCommandError.TheVariants.{Io, Memory}
 

@@ -30,7 +30,7 @@ abbrev pub own_loader_line : Words
 own_loader_line = codes "it loads itself, and glibc stops where such a file has a run path"
 
 abbrev pub no_list_line : Words
-no_list_line = codes "it has no dynamic section, so that nothing was there to change"
+no_list_line = codes "it has no dynamic section: a loader finds no library and no run path in it"
 
 abbrev pub lines_of : Words → ElfNotes → Words
 lines_of file notes =

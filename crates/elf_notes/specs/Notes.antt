@@ -1,7 +1,7 @@
 -- What a user should know of edits of an image that was read.
-use Rattle.std.specs.Prelude.{ℕ, ◌≡◌, ◌==◌, ◌&&◌, ◌||◌, List, [], ◌∷◌, Bool, true, false, not, map, filter, is_none, is_some, bit_and, nat_eq, unwrap_or}
+use Rattle.std.specs.Prelude.{ℕ, ◌≡◌, ◌==◌, ◌&&◌, ◌||◌, List, [], ◌∷◌, Bool, true, false, not, map, filter, is_none, bit_and, nat_eq, unwrap_or}
 use Rattle.std.specs.List.{flat_map, list_any, starts_with}
-use Rattle.elf_edits.specs.Edit.{AddNeeded, AddRunPath, DeleteNeeded, Edit, ReplaceNeeded, SetRunPath, task_of}
+use Rattle.elf_edits.specs.Edit.{AddNeeded, AddRunPath, DeleteNeeded, Edit, ReplaceNeeded, SetRunPath}
 use Rattle.elf_edits.specs.Entries.{needed_names}
 use Rattle.elf_edits.specs.Texts.{has_some, is_among}
 use Rattle.elf_format.specs.Dynamic.{Entry, Integer, Text}
@@ -104,4 +104,4 @@ pub record AreNotes (edits : List Edit) (image : Image) (notes : ElfNotes) : Typ
   pub unmatched : map (λ n. n.now) notes.unmatched.items ≡ unmatched image edits
   pub no_names : notes.has_no_names ≡ list_any has_no_names edits
   pub own_loader : notes.is_own_loader ≡ (loads_itself image && list_any sets_run_path edits)
-  pub no_list : notes.lacks_list ≡ (is_none image.entries && list_any (λ e. is_some (task_of e)) edits)
+  pub no_list : notes.lacks_list ≡ is_none image.entries

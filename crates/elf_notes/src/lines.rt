@@ -29,13 +29,13 @@ fn put_flags(
         ++ line_if notes.now.is_own_loader file.now
         (codes "it loads itself, and glibc stops where such a file has a run path")
         ++ line_if notes.now.lacks_list file.now
-        (codes "it has no dynamic section, so that nothing was there to change")) }
+        (codes "it has no dynamic section: a loader finds no library and no run path in it")) }
 {
     let no_names = "no name of a library is given";
     put_if(alloc, text, notes.has_no_names, file, no_names)?;
     let own_loader = "it loads itself, and glibc stops where such a file has a run path";
     put_if(alloc, text, notes.is_own_loader, file, own_loader)?;
-    let no_list = "it has no dynamic section, so that nothing was there to change";
+    let no_list = "it has no dynamic section: a loader finds no library and no run path in it";
     put_if(alloc, text, notes.lacks_list, file, no_list)
 }
 

@@ -1,7 +1,6 @@
 //! What a user should know of edits of an ELF file.
-ghost use Rattle.std.specs.Prelude.{◌≡◌, ◌&&◌, ◌||◌, not, IfOk, filter, is_none, is_some, map};
+ghost use Rattle.std.specs.Prelude.{◌≡◌, ◌&&◌, ◌||◌, not, IfOk, filter, map};
 ghost use Rattle.std.specs.List.{list_any};
-ghost use Rattle.elf_edits.specs.Edit.{task_of};
 ghost use Rattle.elf_edits.specs.EditModel.{edit_model};
 ghost use Rattle.elf_edits.specs.Texts.{is_among as among};
 ghost use Rattle.elf_image.specs.ImageModel.{entry_model};
@@ -28,7 +27,7 @@ pub struct ElfNotes<'a> {
     pub has_no_names: bool,
     /// Whether a run path is set in a static PIE, or in a loader.
     pub is_own_loader: bool,
-    /// Whether edits of the dynamic list find none.
+    /// Whether the file has no dynamic list, so that a loader finds no name and no run path in it.
     pub lacks_list: bool,
 }
 
@@ -50,7 +49,7 @@ pub fn notes_of<'a>(
         unmatched,
         has_no_names: has_no_names(edits),
         is_own_loader: gives_itself_a_run_path(image, edits),
-        lacks_list: changes_no_list(image, edits),
+        lacks_list: image.dynamic_data().is_none(),
     })
 }
 
@@ -67,14 +66,6 @@ fn gives_itself_a_run_path(image: &Builder<'_>, edits: &[ElfEdit]) -> bool
         ≡ (is_self_loading image.now && list_any gives_run_path (map edit_model edits.now)) }
 {
     loads_itself(image) && sets_run_path(edits)
-}
-
-/// Whether edits are about a dynamic list that isn't there.
-fn changes_no_list(image: &Builder<'_>, edits: &[ElfEdit]) -> bool
-    ensures { result ≡ (is_none image.now.entries
-        && list_any (λ e. is_some (task_of e)) (map edit_model edits.now)) }
-{
-    image.dynamic_data().is_none() && is_of_list(edits)
 }
 
 /// The libraries of which versions are needed, and that were needed, are looked for and aren't put back.
@@ -165,18 +156,6 @@ fn is_of_run_path(edit: &ElfEdit) -> bool
         ElfEdit::AddRpath(_) => true,
         _ => false,
     }
-}
-
-/// Whether one of some edits is one of the dynamic list.
-fn is_of_list(edits: &[ElfEdit]) -> bool
-    ensures { result ≡ list_any (λ e. is_some (task_of e)) (map edit_model edits.now) }
-{
-    for edit in edits {
-        if edit.task().is_some() {
-            return true;
-        }
-    }
-    false
 }
 
 /// Whether a file is a static PIE, or a loader.

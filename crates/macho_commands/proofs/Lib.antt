@@ -1,2 +1,3 @@
+pub mod NotingLaws
 pub mod Outcomes
 pub mod StoreLaws

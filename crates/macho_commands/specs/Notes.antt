@@ -13,6 +13,8 @@ use Rattle.macho_image.specs.declared.command.CommandVariant.{CommandVariant}
 use Rattle.macho_image.specs.declared.command.CommandVariant.TheVariants.{Other}
 use Rattle.macho_image.specs.declared.command.LoadCommand.{LoadCommand}
 use Rattle.command_words.specs.Rows.{Text}
+use Rattle.command_words.specs.declared.noting.Notes.{Notes}
+use Rattle.command_words.specs.declared.noting.Notes.TheVariants.{LeftOut, Wanted}
 
 -- LC_CODE_SIGNATURE (loader.h)
 abbrev pub is_signature_kind : CommandVariant → Bool
@@ -46,3 +48,18 @@ TellsNotes path file told = (container_found file ≡ None) × (told ≡ note_li
 -- that of known bytes at a path
 abbrev pub TellsNotesAt : Text → Option (List ℕ) → Text → Type 0
 TellsNotesAt path known told = (file : List ℕ) → known ≡ Some file → TellsNotes path file told
+
+-- ---- where notes are wanted; else no line is told
+
+-- of a file that was read
+abbrev pub TellsOf : Notes → Text → MachoType → Text → Type 0
+TellsOf Wanted path read told = told ≡ note_line (is_signed_file read) path
+TellsOf LeftOut path read told = told ≡ []
+
+abbrev pub TellsWanted : Notes → Text → List ℕ → Text → Type 0
+TellsWanted Wanted path file told = TellsNotes path file told
+TellsWanted LeftOut path file told = told ≡ []
+
+abbrev pub TellsWantedAt : Notes → Text → Option (List ℕ) → Text → Type 0
+TellsWantedAt Wanted path known told = TellsNotesAt path known told
+TellsWantedAt LeftOut path known told = told ≡ []

@@ -1,11 +1,12 @@
 //! New bytes of old ones.
-ghost use Rattle.std.specs.Prelude.{◌≡◌, ◌∷◌, [], Ok, IfOk, IfErr, OnOk};
+ghost use Rattle.std.specs.Prelude.{◌≡◌, ◌∷◌, [], Ok, IfOk, IfErr, OnOk, string_bytes};
 ghost use Rattle.macho_edits.specs.Batch.{calls_of};
 ghost use Rattle.macho_commands.specs.Engine.{AreAsked, MayFail, Outcome, ShowsEdited};
 ghost use Rattle.macho_commands.specs.Engine.{Tells, TellsAsked, Writes};
 ghost use Rattle.macho_commands.specs.Engine.{asked, outcome, refused_answer};
 ghost use Rattle.macho_commands.specs.Failures.{HasCause, HasCauseAt};
 ghost use Rattle.macho_commands.specs.Meaning.{file_of, macho_command_model};
+ghost use Rattle.macho_commands.specs.Notes.{TellsWanted, TellsWantedAt};
 ghost use Rattle.macho_commands.specs.Stores.{FailsPatch, Patched, TellsPath};
 ghost use Rattle.macho_commands.specs.declared.error.MachoCommandError.TheVariants.{Memory};
 
@@ -13,9 +14,10 @@ use crate::changes::{changes_of, write_changes_of};
 use crate::command::MachoCommand;
 use crate::edits::parse_macho_edits;
 use crate::error::MachoCommandError;
+use crate::noting::{note_wanted, tell};
 use arwen_macho::macho::{Front, MachoBatchError, MachoContainer, MachoEdit, lay_fronts};
 use byte_store::{Opens, Store, load_up_to};
-use command_words::{MOST_BYTES, RegularFiles, words_of};
+use command_words::{MOST_BYTES, Notes, RegularFiles, words_of};
 use std::alloc::Global;
 use std::rt::Files;
 
@@ -32,26 +34,31 @@ pub fn run_macho(
         ShowsEdited (asked (macho_command_model command.now)) bytes.now new.items) }
     ensures err { IfErr result (λ e. Tells (outcome (macho_command_model command.now) bytes.now) e) }
 {
-    let fronts = fronts_of(alloc, bytes, command)?;
+    let (fronts, _text) = fronts_of(alloc, bytes, command, Notes::LeftOut)?;
     let mut new = Vec::from_slice(alloc, bytes)?;
     lay_fronts(&mut new, fronts);
     Ok(new)
 }
 
-/// What a command writes over the bytes of a file. Its edits are read before the bytes are looked at.
+/// What a command writes over the bytes of a file, and the line of its note; no text where it is left out. Its edits
+/// are read before the bytes are looked at.
 fn fronts_of(
     alloc: Global,
     bytes: &[u8],
     command: &MachoCommand,
-) -> Result<Vec<Front>, MachoCommandError>
-    ensures ok { IfOk result (λ fronts.
-        Writes (macho_command_model command.now) bytes.now fronts.items) }
+    notes: Notes,
+) -> Result<(Vec<Front>, String), MachoCommandError>
+    ensures ok { IfOk result (λ made.
+        Writes (macho_command_model command.now) bytes.now made.0.items) }
+    ensures told { IfOk result (λ made. TellsWanted notes
+        (file_of (macho_command_model command.now)) bytes.now (string_bytes made.1)) }
     ensures err { IfErr result (λ e. Tells (outcome (macho_command_model command.now) bytes.now) e) }
 {
     let edits = edits_asked(alloc, command)?;
     let macho = MachoContainer::parse(alloc, bytes)?;
+    let text = note_wanted(alloc, macho.inner(), command.path_to_binary(), notes)?;
     match macho.fronts(alloc, &edits) {
-        Ok(fronts) => Ok(fronts),
+        Ok(fronts) => Ok((fronts, text)),
         Err(error) => Err(refusal(command, error)),
     }
 }
@@ -97,6 +104,9 @@ fn alone(alloc: Global, edit: MachoEdit) -> Result<Vec<MachoEdit>, MachoCommandE
 /// byte opens the store for writing too, and writes nothing. A refusal, and an error of a read, leave the bytes
 /// as they were; a write that fails leaves the first of the bytes that were to be written, in order.
 ///
+/// Where notes are wanted, the line is answered that tells what a user should know of the edit, of the bytes as they
+/// were, with the command's path; else no text. It is made before anything is written.
+///
 /// # Errors
 ///
 /// `Io` with the error of the call that failed, which the store counted, or of those that `load_up_to` and
@@ -105,9 +115,12 @@ pub fn patch_store<S: Store>(
     alloc: Global,
     store: &mut S,
     command: &MachoCommand,
-) -> Result<(), MachoCommandError>
+    notes: Notes,
+) -> Result<String, MachoCommandError>
     ensures patched { OnOk result
         (Patched (macho_command_model command.now) (S.contents store.old) (S.contents store.new)) }
+    ensures told { IfOk result (λ text. TellsWantedAt notes
+        (file_of (macho_command_model command.now)) (S.contents store.old) (string_bytes text)) }
     ensures err { IfErr result (λ e. MayFail (macho_command_model command.now) e) }
     ensures left { IfErr result (λ e.
         FailsPatch (macho_command_model command.now) (S.contents store.old) (S.contents store.new) e) }
@@ -115,21 +128,27 @@ pub fn patch_store<S: Store>(
         (S.contents store.old) (S.failed store.old) (S.failed store.new)) }
 {
     let mut bytes = load_up_to(alloc, store, MOST_BYTES)?;
-    let fronts = fronts_of(alloc, bytes.as_slice(), command)?;
+    let (fronts, text) = fronts_of(alloc, bytes.as_slice(), command, notes)?;
     let pieces = changes_of(alloc, &mut bytes, fronts.as_slice())?;
     write_changes_of(store, bytes.len() as u64, pieces.as_slice())?;
-    Ok(())
+    Ok(text)
 }
 
-/// Edits the bytes of the store at the command's path, as `patch_store` does, and hands the store back.
+/// Edits the bytes of the store at the command's path, as `patch_store` does, and hands the store back with the line of
+/// the note.
 pub fn patch_path<'p, O: Opens<'p>>(
     alloc: Global,
     files: &O,
     command: &'p MachoCommand,
-) -> Result<O::Opened, MachoCommandError>
-    ensures patched { IfOk result (λ store. Patched (macho_command_model command.now)
+    notes: Notes,
+) -> Result<(O::Opened, String), MachoCommandError>
+    ensures patched { IfOk result (λ edited. Patched (macho_command_model command.now)
         (O.contents files.now (file_of (macho_command_model command.now)))
-        (O.Opened.contents store)) }
+        (O.Opened.contents edited.0)) }
+    ensures told { IfOk result (λ edited. TellsWantedAt notes
+        (file_of (macho_command_model command.now))
+        (O.contents files.now (file_of (macho_command_model command.now)))
+        (string_bytes edited.1)) }
     ensures err { IfErr result (λ e. MayFail (macho_command_model command.now) e) }
     ensures tells { IfErr result (λ e. TellsPath (macho_command_model command.now)
         (O.contents files.now (file_of (macho_command_model command.now))) e) }
@@ -139,31 +158,48 @@ pub fn patch_path<'p, O: Opens<'p>>(
         (O.contents files.now (file_of (macho_command_model command.now)))) }
 {
     let mut store = files.open(command.path_to_binary())?;
-    patch_store(alloc, &mut store, command)?;
-    Ok(store)
+    let text = patch_store(alloc, &mut store, command, notes)?;
+    Ok((store, text))
 }
 
-/// Edits a Mach-O file in its place. Only bytes that change are written, and only after all of them
-/// exist, so a refused edit leaves the file as it was.
+/// Edits a Mach-O file in its place, and tells no notes. Only bytes that change are written, and only after all of
+/// them exist, so a refused edit leaves the file as it was.
 pub fn macho_execute<R: Files + AllocGlobal>(
     rt: &R,
     macho: MachoCommand,
 ) -> Result<(), MachoCommandError>
     ensures { IfErr result (MayFail (macho_command_model macho)) }
 {
-    let answer = patch_file(rt, &macho);
+    let answer = patch_file(rt, &macho, Notes::LeftOut);
     drop(macho);
-    answer
+    answer?;
+    Ok(())
 }
 
-/// Edits the file at a command's path in its place.
+/// The same, and then tells the note, where it is wanted, on the standard error; whether that fails doesn't matter.
+pub fn macho_execute_telling<R: Files + Eprint + AllocGlobal>(
+    rt: &R,
+    macho: MachoCommand,
+    notes: Notes,
+) -> Result<(), MachoCommandError>
+    ensures { IfErr result (MayFail (macho_command_model macho)) }
+{
+    let answer = patch_file(rt, &macho, notes);
+    drop(macho);
+    let text = answer?;
+    tell(rt, text.as_str());
+    Ok(())
+}
+
+/// Edits the file at a command's path in its place, and answers the line of the note; no text where it is left out.
 fn patch_file<R: Files + AllocGlobal>(
     rt: &R,
     command: &MachoCommand,
-) -> Result<(), MachoCommandError>
+    notes: Notes,
+) -> Result<String, MachoCommandError>
     ensures { IfErr result (MayFail (macho_command_model command.now)) }
 {
     let files = RegularFiles { files: rt };
-    patch_path(rt.alloc(), &files, command)?;
-    Ok(())
+    let (_store, text) = patch_path(rt.alloc(), &files, command, notes)?;
+    Ok(text)
 }

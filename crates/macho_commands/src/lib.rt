@@ -14,7 +14,6 @@ mod tables;
 pub use command::MachoCommand;
 pub use commands::{add, apply, change, delete, install_id, install_name};
 pub use edits::parse_macho_edits;
-pub use engine::{macho_execute, patch_path, patch_store, run_macho};
+pub use engine::{macho_execute, macho_execute_telling, patch_path, patch_store, run_macho};
 pub use error::MachoCommandError;
-pub use noting::{notes_at, notes_of_file};
 pub use tables::macho_table;

@@ -2,46 +2,29 @@
 ghost use Rattle.std.specs.Prelude.{◌≡◌, ◌<◌, IfOk, map, string_bytes};
 ghost use Rattle.std.specs.List.{list_any};
 ghost use Rattle.arwen_macho.specs.FatSlice.{slice_model};
-ghost use Rattle.macho_commands.specs.Meaning.{file_of, macho_command_model};
-ghost use Rattle.macho_commands.specs.Notes.{TellsNotes, TellsNotesAt, is_signed as bears_signature, is_signature as bears_it, is_signed_file as is_file_signed, is_signed_slice, note_line};
+ghost use Rattle.macho_commands.specs.Notes.{TellsOf, is_signed as bears_signature, is_signature as bears_it, is_signed_file as is_file_signed, is_signed_slice, note_line};
 
-use crate::command::MachoCommand;
-use crate::error::MachoCommandError;
-use arwen_macho::macho::{FatMacho, MachO, MachoContainer, MachoType};
-use byte_store::{Opens, load_whole};
-use command_words::{MOST_BYTES, RegularFiles};
+use arwen_macho::macho::{FatMacho, MachO, MachoType};
+use command_words::Notes;
 use macho_image::command::{CommandVariant, LoadCommand};
 use std::alloc::{AllocError, Global};
-use std::rt::Files;
 
 /// The command that tells where a signature lies (`LC_CODE_SIGNATURE` of loader.h).
 const LC_CODE_SIGNATURE: u32 = 0x1d;
 
-/// The line that tells what a user should know of an edit of the bytes at a command's path, as they are before it is
-/// made: that they are signed. Errors: those of reading the file; whether the edit is refused isn't looked at.
-pub fn notes_at<'p, O: Opens<'p>>(
+/// The line that tells what a user should know of an edit of a file: that it is signed. No text where it is left out.
+pub(crate) fn note_wanted(
     alloc: Global,
-    files: &O,
-    command: &'p MachoCommand,
-) -> Result<String, MachoCommandError>
-    ensures { IfOk result (λ text. TellsNotesAt
-        (file_of (macho_command_model command.entry.now))
-        (O.contents files.now (file_of (macho_command_model command.entry.now)))
-        (string_bytes text)) }
+    file: &MachoType<'_>,
+    path: &str,
+    notes: Notes,
+) -> Result<String, AllocError>
+    ensures { IfOk result (λ text. TellsOf notes path.now file.now (string_bytes text)) }
 {
-    let mut store = files.open(command.path_to_binary())?;
-    let bytes = load_whole(alloc, &mut store, MOST_BYTES)?;
-    notes_in(alloc, bytes.as_slice(), command.path_to_binary())
-}
-
-/// The same of bytes and a path.
-fn notes_in(alloc: Global, bytes: &[u8], path: &str) -> Result<String, MachoCommandError>
-    ensures { IfOk result (λ text. TellsNotes path.now bytes.now (string_bytes text)) }
-{
-    let macho = MachoContainer::parse(alloc, bytes)?;
-    let is_signed = is_signed_file(macho.inner());
-    drop(macho);
-    Ok(note_if(alloc, is_signed, path)?)
+    match notes {
+        Notes::Wanted => note_if(alloc, is_signed_file(file), path),
+        Notes::LeftOut => Ok(String::new(alloc)),
+    }
 }
 
 /// The line, where there is a signature.
@@ -101,8 +84,9 @@ fn is_signature(command: &LoadCommand) -> bool
     }
 }
 
-/// The line that tells what a user should know of an edit of a file; none where it can't be read.
-pub fn notes_of_file<R: Files + AllocGlobal>(rt: &R, command: &MachoCommand) -> Option<String> {
-    let files = RegularFiles { files: rt };
-    notes_at(rt.alloc(), &files, command).ok()
+/// Prints the lines of notes on the standard error, where there are any. It doesn't matter whether that fails.
+pub(crate) fn tell<R: Eprint>(rt: &R, text: &str) {
+    if !text.is_empty() {
+        let _ = rt.eprint(text);
+    }
 }

@@ -1,6 +1,6 @@
 use crate::stores::{PLAIN, WITH_RPATH};
-use arwen_cli::cli::elf::{print_os_abi, print_path};
-use arwen_cli::cli::{ArwenError, ElfCommand, MachoCommand, add, patch_path};
+use arwen_cli::cli::elf::{print_os_abi, print_path, set_os_abi};
+use arwen_cli::cli::{ArwenError, ElfCommand, MachoCommand, Notes, add, edit_path, patch_path};
 use arwen_cli::elf::Sink;
 use byte_store::{MemoryFile, MemoryStore};
 use std::alloc::{AllocError, Global};
@@ -15,6 +15,19 @@ const ELF: &[u8; 193] = b"\x7fELF\x02\x01\x01\x03\0\0\0\0\0\0\0\0\
 \0\0\0\0\0\0\0\0\0\0\0\0\0\0\0\0\0\0\0\0\x03\0\0\0\0\0\0\0\0\0\0\0\
 \0\0\0\0\0\0\0\0\xc0\0\0\0\0\0\0\0\x01\0\0\0\0\0\0\0\0\0\0\0\0\0\0\0\
 \x01\0\0\0\0\0\0\0\0\0\0\0\0\0\0\0\0";
+
+// A narrow file in big-endian order with a signature (LC_CODE_SIGNATURE), and with room for a command of 16 bytes.
+const SIGNED: &[u8; 60] = b"\xfe\xed\xfa\xce\0\0\0\x07\0\0\0\x03\0\0\0\x06\
+\0\0\0\x01\0\0\0\x10\0\0\0\x85\0\0\0\x1d\0\0\0\x10\0\0\0\0\0\0\0\0\
+\0\0\0\0\0\0\0\0\0\0\0\0\0\0\0\0";
+
+// The note of such a file at the path `lib`.
+const SIGNED_NOTE: &str =
+    "note: lib: its code signature no longer fits: sign it again after the last edit\n";
+
+// The note of an ELF file without a dynamic section at the path `lib`.
+const NO_LIST_NOTE: &str =
+    "note: lib: it has no dynamic section: a loader finds no library and no run path in it\n";
 
 // A file at the path `lib`.
 fn file<'a>(alloc: Global, bytes: &'a [u8]) -> MemoryFile<'a> {
@@ -49,13 +62,43 @@ fn printing(alloc: Global, path: &str) -> Result<ElfCommand, AllocError> {
     Ok(ElfCommand::PrintOsAbi(print_os_abi::Args { path_to_binary }))
 }
 
-// The store that a command leaves of a file. It is opened once more where memory was refused.
-fn patched(alloc: Global, bytes: &[u8], command: &MachoCommand) -> Result<MemoryStore, ArwenError> {
-    let store = match patch_path(alloc, &file(alloc, bytes), command) {
-        Err(_) => patch_path(alloc, &file(alloc, bytes), command)?,
-        Ok(store) => store,
+// The command that sets the ABI of the file at the path `lib`.
+fn setting_once(alloc: Global) -> Result<ElfCommand, AllocError> {
+    Ok(ElfCommand::SetOsAbi(set_os_abi::Args {
+        os_abi: String::from_str(alloc, "freebsd")?,
+        path_to_binary: String::from_str(alloc, "lib")?,
+    }))
+}
+
+fn setting(alloc: Global) -> Result<ElfCommand, AllocError> {
+    match setting_once(alloc) {
+        Err(_) => setting_once(alloc),
+        made => made,
+    }
+}
+
+// The store that a command leaves of a file, and the lines of its notes. It is opened once more where memory was
+// refused.
+fn patched(
+    alloc: Global,
+    bytes: &[u8],
+    command: &MachoCommand,
+    notes: Notes,
+) -> Result<(MemoryStore, String), ArwenError> {
+    let made = match patch_path(alloc, &file(alloc, bytes), command, notes) {
+        Err(_) => patch_path(alloc, &file(alloc, bytes), command, notes)?,
+        Ok(made) => made,
     };
-    Ok(store)
+    Ok(made)
+}
+
+// The notes of a command for ELF files, in the same way.
+fn noted(alloc: Global, command: &ElfCommand, notes: Notes) -> Result<String, ArwenError> {
+    let (_store, text) = match edit_path(alloc, &file(alloc, ELF), command, notes) {
+        Err(_) => edit_path(alloc, &file(alloc, ELF), command, notes)?,
+        Ok(made) => made,
+    };
+    Ok(text)
 }
 
 // What is printed of a file, in the same way.
@@ -79,15 +122,39 @@ fn is_missing(error: &ArwenError) -> bool {
 #[test]
 fn patches_the_file_at_a_path(rt: HostRuntime) -> Result<(), Fail> {
     let command = adding(rt.alloc(), "lib")?;
-    let store = patched(rt.alloc(), PLAIN, &command)?;
+    let (store, _) = patched(rt.alloc(), PLAIN, &command, Notes::LeftOut)?;
     assert_eq!(rt; store.bytes.as_slice(), WITH_RPATH.as_slice());
+    Ok(())
+}
+
+#[test]
+fn tells_that_a_file_is_signed(rt: HostRuntime) -> Result<(), Fail> {
+    let command = adding(rt.alloc(), "lib")?;
+    let (_, text) = patched(rt.alloc(), SIGNED, &command, Notes::Wanted)?;
+    assert_eq!(rt; text.as_str(), SIGNED_NOTE);
+    Ok(())
+}
+
+#[test]
+fn leaves_out_that_a_file_is_signed(rt: HostRuntime) -> Result<(), Fail> {
+    let command = adding(rt.alloc(), "lib")?;
+    let (_, text) = patched(rt.alloc(), SIGNED, &command, Notes::LeftOut)?;
+    assert_eq!(rt; text.as_str(), "");
+    Ok(())
+}
+
+#[test]
+fn tells_that_there_is_no_list(rt: HostRuntime) -> Result<(), Fail> {
+    let command = setting(rt.alloc())?;
+    let text = noted(rt.alloc(), &command, Notes::Wanted)?;
+    assert_eq!(rt; text.as_str(), NO_LIST_NOTE);
     Ok(())
 }
 
 #[test]
 fn patches_no_file_at_another_path(rt: HostRuntime) -> Result<(), Fail> {
     let command = adding(rt.alloc(), "/a")?;
-    let answer = patched(rt.alloc(), PLAIN, &command);
+    let answer = patched(rt.alloc(), PLAIN, &command, Notes::LeftOut);
     assert!(rt; answer.is_err_and(|error| is_missing(&error)));
     Ok(())
 }

@@ -1,7 +1,7 @@
 ghost use Rattle.std.specs.Prelude.{◌≡◌};
 ghost use Rattle.std.specs.Io.{WritesAtMost};
 
-use arwen_cli::cli::{MachoCommand, MachoCommandError, add, patch_store};
+use arwen_cli::cli::{MachoCommand, MachoCommandError, Notes, add, patch_store};
 use byte_store::{Failures, MemoryStore, Store};
 use std::alloc::{AllocError, Global};
 use std::io;
@@ -122,11 +122,11 @@ fn patched(
     store: &mut Failing,
     command: &MachoCommand,
     old: &[u8],
-) -> Result<(), MachoCommandError> {
-    let answer = patch_store(alloc, store, command);
+) -> Result<String, MachoCommandError> {
+    let answer = patch_store(alloc, store, command, Notes::LeftOut);
     if let Err(MachoCommandError::Memory) = &answer {
         assert_eq!(rt; store.inner.bytes.as_slice(), old);
-        return patch_store(alloc, store, command);
+        return patch_store(alloc, store, command, Notes::LeftOut);
     }
     answer
 }
@@ -149,7 +149,7 @@ fn expect_left(
     };
     let answer = patched(rt, alloc, &mut store, &command, old.as_slice());
     let is_right = match answer {
-        Ok(()) => writes >= 2,
+        Ok(_) => writes >= 2,
         Err(MachoCommandError::Io(_)) => writes < 2,
         Err(_) => false,
     };

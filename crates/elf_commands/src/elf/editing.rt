@@ -1,5 +1,5 @@
 //! Edits of the bytes of stores.
-ghost use Rattle.std.specs.Prelude.{◌≡◌, ◌+◌, ◌<◌, ◌≤◌, ◌^◌, All, IfErr, IfOk, IsTrue, OnOk, length};
+ghost use Rattle.std.specs.Prelude.{◌≡◌, ◌+◌, ◌<◌, ◌≤◌, ◌^◌, All, IfErr, IfOk, IsTrue, OnOk, length, string_bytes};
 ghost use Rattle.byte_store.specs.Causes.{IsNotWritten};
 ghost use Rattle.byte_store.specs.Composed.{IsNotMade, made_of, owned_patches};
 ghost use Rattle.byte_store.specs.Known.{Becomes, HasLength, IsAll, Stays};
@@ -10,13 +10,15 @@ ghost use Rattle.elf_commands.specs.ElfStores.{ChangesNothing, FailsElf, IsElfPa
 ghost use Rattle.elf_commands.specs.ElfWords.{edits_model};
 ghost use Rattle.elf_commands.specs.Failures.{HasCause, HasCauseAt, HasWriteCause};
 ghost use Rattle.elf_commands.specs.Meaning.{elf_file_of, elf_command_model};
+ghost use Rattle.elf_commands.specs.Noting.{TellsWanted, TellsWantedAt};
 
 use crate::command::ElfCommand;
 use crate::elf::engine::{edited_pieces, edits_asked};
+use crate::elf::noting::tell;
 use crate::elf::printing::load_elf;
 use crate::error::ElfCommandError;
 use byte_store::{Difference, Left, Opens, ReplaceError, Store, WriteError, make_difference};
-use command_words::RegularFiles;
+use command_words::{Notes, RegularFiles};
 use elf_edits::ElfEdit;
 use std::alloc::Global;
 use std::rt::Files;
@@ -28,6 +30,9 @@ use std::rt::Files;
 /// as they were; a write that fails leaves what `make_difference` says. A command that prints, or that asks first
 /// what is found, leaves the store as it is.
 ///
+/// Where notes are wanted, the lines are answered that tell what a user should know of the edits, of the bytes as they
+/// were, each with the command's path; else no text. They are made before anything is written.
+///
 /// # Errors
 ///
 /// `Io` with the error of the call that failed, which the store counted, or of those that `load_whole` and
@@ -36,9 +41,13 @@ pub fn edit_store<S: Store>(
     alloc: Global,
     store: &mut S,
     command: &ElfCommand,
-) -> Result<(), ElfCommandError>
+    notes: Notes,
+) -> Result<String, ElfCommandError>
     ensures patched { OnOk result (IsElfPatched (elf_asked (elf_command_model command.now))
         (S.contents store.old) (S.contents store.new)) }
+    ensures told { IfOk result (λ text. TellsWantedAt notes
+        (elf_asked (elf_command_model command.now)) (elf_file_of (elf_command_model command.now))
+        (S.contents store.old) (string_bytes text)) }
     ensures err { IfErr result (ElfMayFail (elf_command_model command.now)) }
     ensures left { IfErr result (FailsElf (elf_asked (elf_command_model command.now))
         (S.contents store.old) (S.contents store.new)) }
@@ -47,25 +56,37 @@ pub fn edit_store<S: Store>(
 {
     let bytes = load_elf(alloc, store)?;
     let Some(edits) = edits_asked(alloc, command)? else {
-        return Ok(());
+        return Ok(String::new(alloc));
     };
-    edit_loaded(alloc, store, bytes.as_slice(), command, edits.as_slice())
+    edit_loaded(
+        alloc,
+        store,
+        bytes.as_slice(),
+        command,
+        edits.as_slice(),
+        notes,
+    )
 }
 
-/// Makes the edits that a command asks for in a store that has these bytes. Where the edits find nothing to
-/// change, it is opened for writing and keeps its bytes.
+/// Makes the edits that a command asks for in a store that has these bytes, and answers the lines of their notes; no
+/// text where they are left out. Where the edits find nothing to change, it is opened for writing and keeps its bytes.
 fn edit_loaded<S: Store>(
     alloc: Global,
     store: &mut S,
     bytes: &[u8],
     command: &ElfCommand,
     edits: &[ElfEdit],
-) -> Result<(), ElfCommandError>
-    requires asked { AreEditsAsked (elf_asked (elf_command_model command.now)) (edits_model edits.now) }
+    notes: Notes,
+) -> Result<String, ElfCommandError>
+    requires asked { AreEditsAsked (elf_asked (elf_command_model command.now))
+        (edits_model edits.now) }
     requires whole { IsAll (S.contents store.old) bytes.now }
     requires length { HasLength (S.contents store.old) (length bytes.now) }
     ensures patched { OnOk result (IsElfPatched (elf_asked (elf_command_model command.now))
         (S.contents store.old) (S.contents store.new)) }
+    ensures told { IfOk result (λ text. TellsWanted notes
+        (elf_asked (elf_command_model command.now)) (elf_file_of (elf_command_model command.now))
+        bytes.now (string_bytes text)) }
     ensures err { IfErr result (ElfMayFail (elf_command_model command.now)) }
     ensures left { IfErr result (FailsElf (elf_asked (elf_command_model command.now))
         (S.contents store.old) (S.contents store.new)) }
@@ -76,8 +97,9 @@ fn edit_loaded<S: Store>(
     ensures cause { IfErr result (HasWriteCause S.may_fail_write S.may_take_none
         (S.failed store.old) (S.failed store.new)) }
 {
-    let difference = edited_pieces(alloc, bytes, command, edits)?;
-    Ok(make_opened(alloc, store, bytes.len() as u64, &difference)?)
+    let (difference, text) = edited_pieces(alloc, bytes, command, edits, notes)?;
+    make_opened(alloc, store, bytes.len() as u64, &difference)?;
+    Ok(text)
 }
 
 /// Makes a difference in a store that has so many bytes, as `make_difference` does; one that changes nothing
@@ -125,7 +147,8 @@ fn is_nothing(old_length: u64, difference: &Difference) -> bool
         && old_length <= difference.new_length as u64
 }
 
-/// Edits the bytes of the store at the command's path, as `edit_store` does, and hands the store back.
+/// Edits the bytes of the store at the command's path, as `edit_store` does, and hands the store back with the lines
+/// of the notes.
 ///
 /// # Errors
 ///
@@ -134,10 +157,16 @@ pub fn edit_path<'p, O: Opens<'p>>(
     alloc: Global,
     files: &O,
     command: &'p ElfCommand,
-) -> Result<O::Opened, ElfCommandError>
-    ensures patched { IfOk result (λ store. IsElfPatched (elf_asked (elf_command_model command.now))
+    notes: Notes,
+) -> Result<(O::Opened, String), ElfCommandError>
+    ensures patched { IfOk result (λ edited. IsElfPatched
+        (elf_asked (elf_command_model command.now))
         (O.contents files.now (elf_file_of (elf_command_model command.now)))
-        (O.Opened.contents store)) }
+        (O.Opened.contents edited.0)) }
+    ensures told { IfOk result (λ edited. TellsWantedAt notes
+        (elf_asked (elf_command_model command.now)) (elf_file_of (elf_command_model command.now))
+        (O.contents files.now (elf_file_of (elf_command_model command.now)))
+        (string_bytes edited.1)) }
     ensures err { IfErr result (ElfMayFail (elf_command_model command.now)) }
     ensures tells { IfErr result (TellsElfPath (elf_asked (elf_command_model command.now))
         (O.contents files.now (elf_file_of (elf_command_model command.now)))) }
@@ -147,27 +176,47 @@ pub fn edit_path<'p, O: Opens<'p>>(
         (O.contents files.now (elf_file_of (elf_command_model command.now)))) }
 {
     let mut store = files.open(command.path_to_binary())?;
-    edit_store(alloc, &mut store, command)?;
-    Ok(store)
+    let text = edit_store(alloc, &mut store, command, notes)?;
+    Ok((store, text))
 }
 
-/// Edits a file in its place.
+/// Edits a file in its place, and tells no notes.
 pub(crate) fn edit_file<R: Files + AllocGlobal>(
     rt: &R,
     command: ElfCommand,
 ) -> Result<(), ElfCommandError>
     ensures { IfErr result (ElfMayFail (elf_command_model command)) }
 {
-    let answer = edit_lent(rt, &command);
+    let answer = edit_lent(rt, &command, Notes::LeftOut);
     drop(command);
-    answer
+    answer?;
+    Ok(())
 }
 
-/// The same by a command that is lent.
-fn edit_lent<R: Files + AllocGlobal>(rt: &R, command: &ElfCommand) -> Result<(), ElfCommandError>
+/// The same, and then tells the notes, where they are wanted, on the standard error.
+pub(crate) fn edit_telling<R: Files + Eprint + AllocGlobal>(
+    rt: &R,
+    command: ElfCommand,
+    notes: Notes,
+) -> Result<(), ElfCommandError>
+    ensures { IfErr result (ElfMayFail (elf_command_model command)) }
+{
+    let answer = edit_lent(rt, &command, notes);
+    drop(command);
+    let text = answer?;
+    tell(rt, text.as_str());
+    Ok(())
+}
+
+/// Edits a file by a command that is lent, and answers the lines of the notes; no text where they are left out.
+fn edit_lent<R: Files + AllocGlobal>(
+    rt: &R,
+    command: &ElfCommand,
+    notes: Notes,
+) -> Result<String, ElfCommandError>
     ensures { IfErr result (ElfMayFail (elf_command_model command.now)) }
 {
     let files = RegularFiles { files: rt };
-    edit_path(rt.alloc(), &files, command)?;
-    Ok(())
+    let (_store, text) = edit_path(rt.alloc(), &files, command, notes)?;
+    Ok(text)
 }

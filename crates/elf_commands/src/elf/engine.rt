@@ -1,5 +1,5 @@
 //! What is made of a file's bytes, and printed of them.
-ghost use Rattle.std.specs.Prelude.{◌≡◌, None, false, IfOk, IfErr, IsOkAnd, map};
+ghost use Rattle.std.specs.Prelude.{◌≡◌, None, false, IfOk, IfErr, IsOkAnd, map, string_bytes};
 ghost use Rattle.elf_edits_shrink.specs.ShrinkModel.{answer_model};
 ghost use Rattle.elf_commands.specs.ShrinkRuns.{RunsCommand, TellsCommand};
 ghost use Rattle.std.specs.Io.KnownBytes.{Appends};
@@ -11,16 +11,18 @@ ghost use Rattle.elf_image.specs.Image.{image_of, shown};
 ghost use Rattle.elf_commands.specs.ElfAsked.{elf_asked};
 ghost use Rattle.elf_commands.specs.ElfEngine.{AreAskedIf, AreChanged, AreEditsAsked, IsElfEdited, LeavesElf, RunsElf, TellsEachFile, TellsEdit, TellsNoImage, TellsRun, bytes_left, elf_refusal};
 ghost use Rattle.elf_commands.specs.ElfWords.{edits_model};
-ghost use Rattle.elf_commands.specs.Meaning.{elf_command_model};
+ghost use Rattle.elf_commands.specs.Meaning.{elf_command_model, elf_file_of};
+ghost use Rattle.elf_commands.specs.Noting.{TellsWanted};
 ghost use Rattle.elf_commands.specs.Prints.{Prints, TellsElf, printed};
 
 use crate::command::ElfCommand;
+use crate::elf::noting::apply_noting;
 use crate::elf::shrinking::run_shrink;
 use crate::elf_words::parse_elf_edits;
 use crate::error::ElfCommandError;
 use arwen_elf::elf::{ElfBatchError, ElfContainer, ElfError, ProbeAnswer};
 use byte_store::Difference;
-use command_words::words_of;
+use command_words::{Notes, words_of};
 use elf_edits::ElfEdit;
 use elf_edits::laws::{batches_are_their_edits, edits_show};
 use elf_image::laws::read_images_hold_parts;
@@ -73,8 +75,9 @@ fn run_unprobed<W: Write>(
     }
 }
 
-/// The edits that a command asks for; `None` where it prints.
-pub(crate) fn edits_asked(
+/// The edits that a command asks for; `None` of one that prints, and of `shrink-rpath`, which asks first what is found.
+/// Errors: `Edits` where the words of `apply` are no list of edits; `Memory`.
+pub fn edits_asked(
     alloc: Global,
     command: &ElfCommand,
 ) -> Result<Option<Vec<ElfEdit>>, ElfCommandError>
@@ -157,36 +160,59 @@ pub(crate) fn pieces_of(alloc: Global, elf: ElfContainer<'_>) -> Result<Differen
     Ok(pieces?)
 }
 
-/// What of the bytes of a file differs after the edits that a command asks for.
+/// What of the bytes of a file differs after the edits that a command asks for, and the lines of their notes, of the
+/// file as it is before; no text where they are left out.
 pub(crate) fn edited_pieces(
     alloc: Global,
     bytes: &[u8],
     command: &ElfCommand,
     edits: &[ElfEdit],
-) -> Result<Difference, ElfCommandError>
+    notes: Notes,
+) -> Result<(Difference, String), ElfCommandError>
     requires { AreEditsAsked (elf_asked (elf_command_model command.now)) (edits_model edits.now) }
-    ensures makeable { IfOk result (λ d. IsDifference bytes.now d) }
-    ensures left { IfOk result (λ d. LeavesElf (elf_asked (elf_command_model command.now)) bytes.now
-        (made_of bytes.now d)) }
+    ensures makeable { IfOk result (λ made. IsDifference bytes.now made.0) }
+    ensures left { IfOk result (λ made. LeavesElf (elf_asked (elf_command_model command.now))
+        bytes.now (made_of bytes.now made.0)) }
+    ensures told { IfOk result (λ made. TellsWanted notes
+        (elf_asked (elf_command_model command.now)) (elf_file_of (elf_command_model command.now))
+        bytes.now (string_bytes made.1)) }
     ensures err { IfErr result (TellsEdit (elf_asked (elf_command_model command.now)) bytes.now) }
     ensures idle { ChangesNothing (elf_asked (elf_command_model command.now)) bytes.now
-        → IfOk result (IsNoDifference bytes.now) }
+        → IfOk result (λ made. IsNoDifference bytes.now made.0) }
 {
     edits_show();
     batches_are_their_edits();
     read_images_hold_parts();
     let mut elf = ElfContainer::parse(alloc, bytes)?;
-    match elf.apply(alloc, edits) {
-        Ok(()) => pieces_of(alloc, elf),
+    match apply_noting(alloc, &mut elf, command, edits, notes) {
+        Ok(text) => pieces_and_text(alloc, elf, text),
         Err(error) => {
             drop(elf);
-            Err(refusal(command, error))
+            Err(error)
         }
     }
 }
 
+/// What of the bytes of a file differs from those of its image, and a text.
+fn pieces_and_text(
+    alloc: Global,
+    elf: ElfContainer<'_>,
+    text: String,
+) -> Result<(Difference, String), ElfCommandError>
+    ensures makeable { IfOk result (λ made. IsDifference elf.entry.inner.source made.0) }
+    ensures bytes { IfOk result (λ made.
+        IsImageWritten elf.entry.inner (made_of elf.entry.inner.source made.0)) }
+    ensures unchanged { elf.entry.inner.changed ≡ false
+        → IsOkAnd result (λ made. IsNoDifference elf.entry.inner.source made.0) }
+    ensures same { IfOk result (λ made. string_bytes made.1 ≡ string_bytes text) }
+    ensures err { IfErr result (TellsNoImage elf.entry.inner) }
+{
+    let difference = pieces_of(alloc, elf)?;
+    Ok((difference, text))
+}
+
 /// A refused edit as it is answered to a command. Of several it is told which one is refused.
-fn refusal(command: &ElfCommand, error: ElfBatchError) -> ElfCommandError
+pub(crate) fn refusal(command: &ElfCommand, error: ElfBatchError) -> ElfCommandError
     ensures { result ≡ elf_refusal (elf_asked (elf_command_model command.now)) error }
 {
     match command {

@@ -1,65 +1,63 @@
 //! What a user should know of the edits that a command makes.
-ghost use Rattle.std.specs.Prelude.{◌≡◌, IfOk, string_bytes};
+ghost use Rattle.std.specs.Prelude.{◌≡◌, Ok, IfErr, IfOk, OnOk, string_bytes};
+ghost use Rattle.elf_edits.specs.Batch.{run};
 ghost use Rattle.elf_commands.specs.ElfAsked.{elf_asked};
-ghost use Rattle.elf_commands.specs.ElfEngine.{AreEditsAsked};
 ghost use Rattle.elf_commands.specs.ElfWords.{edits_model};
 ghost use Rattle.elf_commands.specs.Meaning.{elf_command_model, elf_file_of};
-ghost use Rattle.elf_commands.specs.Noting.{TellsNotes, TellsNotesAt};
+ghost use Rattle.elf_commands.specs.Noting.{TellsImage, TellsUnmade};
 ghost use Rattle.elf_notes.specs.Lines.{lines_of};
 ghost use Rattle.elf_notes.specs.Notes.{AreNotes};
 ghost use Rattle.elf_notes.specs.declared.notes.ElfNotes.{ElfNotes};
 
 use crate::command::ElfCommand;
-use crate::elf::engine::edits_asked;
-use crate::elf::printing::load_elf;
+use crate::elf::engine::refusal;
 use crate::error::ElfCommandError;
 use arwen_elf::elf::ElfContainer;
-use byte_store::Opens;
-use command_words::RegularFiles;
+use command_words::Notes;
 use elf_edits::ElfEdit;
 use elf_notes::{note_lines, notes_of};
 use std::alloc::{AllocError, Global};
-use std::rt::Files;
 
-/// The lines that tell what a user should know of the edits that a command makes of the bytes at its path, as they are
-/// before they are made; none of a command that prints or shrinks run paths. Errors: those of reading the file, the words
-/// and the image; whether the edits are refused isn't looked at.
-pub fn notes_at<'p, O: Opens<'p>>(
+/// Makes the edits that a command asks for in an image, and answers the lines of their notes, of the image as it was;
+/// no text where they are left out.
+pub(crate) fn apply_noting(
     alloc: Global,
-    files: &O,
-    command: &'p ElfCommand,
-) -> Result<String, ElfCommandError>
-    ensures { IfOk result (λ text. TellsNotesAt (elf_asked (elf_command_model command.entry.now))
-        (elf_file_of (elf_command_model command.entry.now))
-        (O.contents files.now (elf_file_of (elf_command_model command.entry.now)))
-        (string_bytes text)) }
-{
-    let Some(edits) = edits_asked(alloc, command)? else {
-        return Ok(String::new(alloc));
-    };
-    let mut store = files.open(command.path_to_binary())?;
-    let bytes = load_elf(alloc, &mut store)?;
-    notes_in(alloc, bytes.as_slice(), command, edits.as_slice())
-}
-
-/// The same of bytes and of the edits that a command asks for.
-fn notes_in(
-    alloc: Global,
-    bytes: &[u8],
+    elf: &mut ElfContainer<'_>,
     command: &ElfCommand,
     edits: &[ElfEdit],
+    notes: Notes,
 ) -> Result<String, ElfCommandError>
-    requires { AreEditsAsked (elf_asked (elf_command_model command.now)) (edits_model edits.now) }
-    ensures { IfOk result (λ text. TellsNotes (elf_asked (elf_command_model command.now))
-        (elf_file_of (elf_command_model command.now)) bytes.now (string_bytes text)) }
+    ensures runs { OnOk result (run (edits_model edits.now) elf.old.inner ≡ Ok elf.new.inner) }
+    ensures told { IfOk result (λ text. TellsImage notes (edits_model edits.now)
+        (elf_file_of (elf_command_model command.now)) elf.old.inner (string_bytes text)) }
+    ensures err { IfErr result (TellsUnmade (elf_asked (elf_command_model command.now))
+        (edits_model edits.now) elf.old.inner) }
 {
-    let elf = ElfContainer::parse(alloc, bytes)?;
-    let text = lines_for(alloc, &elf, command, edits);
-    drop(elf);
-    Ok(text?)
+    let text = lines_if(alloc, elf, command, edits, notes)?;
+    match elf.apply(alloc, edits) {
+        Ok(()) => Ok(text),
+        Err(error) => Err(refusal(command, error)),
+    }
 }
 
-/// The lines of a file that was read.
+/// The lines of the notes of edits of an image; no text where they are left out.
+fn lines_if(
+    alloc: Global,
+    elf: &ElfContainer<'_>,
+    command: &ElfCommand,
+    edits: &[ElfEdit],
+    notes: Notes,
+) -> Result<String, AllocError>
+    ensures { IfOk result (λ text. TellsImage notes (edits_model edits.now)
+        (elf_file_of (elf_command_model command.now)) elf.now.inner (string_bytes text)) }
+{
+    match notes {
+        Notes::Wanted => lines_for(alloc, elf, command, edits),
+        Notes::LeftOut => Ok(String::new(alloc)),
+    }
+}
+
+/// The lines of the notes of edits of an image.
 fn lines_for(
     alloc: Global,
     elf: &ElfContainer<'_>,
@@ -74,9 +72,9 @@ fn lines_for(
     note_lines(alloc, command.path_to_binary(), &notes)
 }
 
-/// The lines that tell what a user should know of the edits that a command makes of a file; none where it can't be
-/// read.
-pub fn notes_of_file<R: Files + AllocGlobal>(rt: &R, command: &ElfCommand) -> Option<String> {
-    let files = RegularFiles { files: rt };
-    notes_at(rt.alloc(), &files, command).ok()
+/// Prints the lines of notes on the standard error, where there are any. It doesn't matter whether that fails.
+pub(crate) fn tell<R: Eprint>(rt: &R, text: &str) {
+    if !text.is_empty() {
+        let _ = rt.eprint(text);
+    }
 }

@@ -8,7 +8,7 @@ ghost use Rattle.elf_apply.specs.Told.{Refuses};
 ghost use Rattle.arwen_elf.specs.Written.{IsImageWritten};
 ghost use Rattle.elf_edits_shrink.specs.ShrinkModel.{removal_model};
 ghost use Rattle.elf_edits.specs.Edited.{step};
-ghost use Rattle.elf_commands.specs.Shrinking.{removal_lines};
+ghost use Rattle.elf_commands_probe.specs.Shrinking.{removal_lines};
 ghost use Rattle.elf_commands.specs.ElfAsked.{shrinking};
 ghost use Rattle.elf_commands.specs.ElfEngine.{MayFailAs, TellsNoImage};
 ghost use Rattle.elf_commands.specs.Failures.{HasShrinkCause, HasShrinkCauseAt, HasTellCause};
@@ -17,14 +17,14 @@ ghost use Rattle.elf_commands.specs.ShrinkRuns.{FailsShrink, IsQuiet, IsRemovalT
 use crate::elf::commands::shrink_rpath::Args;
 use crate::elf::editing::make_opened;
 use crate::elf::engine::{changed_bytes, pieces_of};
-use crate::elf::notes::Notes;
 use crate::elf::printing::load_elf;
-use crate::elf::probing::{FileProbe, Probe, answers_of, removal_text};
+use crate::elf::standard_error::StandardError;
 use crate::error::ElfCommandError;
 use crate::texts::texts_of;
 use arwen_elf::elf::{ElfContainer, ElfError, ProbeAnswer, Removed};
 use byte_store::{Difference, Opens, Store};
 use command_words::RegularFiles;
+use elf_commands_probe::{FileProbe, Probe, answers_of, removal_text};
 use elf_edits::laws::{batches_are_their_edits, edits_show};
 use elf_image::laws::read_images_hold_parts;
 use elf_write::{CountedWrite, Sink, write_all_counted};
@@ -289,7 +289,7 @@ fn shrink_lent<R: Files + Eprint + AllocGlobal>(rt: &R, args: &Args) -> Result<(
 {
     let files = RegularFiles { files: rt };
     let probe = FileProbe { files: rt };
-    let mut told = Sink::new(Notes { to: rt });
+    let mut told = Sink::new(StandardError { to: rt });
     shrink_path(rt.alloc(), &files, args, &probe, &mut told)?;
     Ok(())
 }

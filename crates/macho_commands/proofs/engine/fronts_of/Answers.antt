@@ -1,4 +1,4 @@
-use Rattle.std.proofs.Common.{ℕ, List, arith, subst}
+use Rattle.std.proofs.Common.{ℕ, List, arith, string_bytes, subst}
 use Rattle.std.proofs.lemmas.Result.{err_from_is_err_and}
 use Rattle.patch_bytes.specs.Bytes.{AreBytes}
 use Rattle.macho_edits.specs.declared.batch.MachoEdit.{MachoEdit}
@@ -9,8 +9,11 @@ use Rattle.arwen_macho.specs.ContainerShown.{StepShows}
 use Rattle.arwen_macho.specs.Fronts.{LeadOn}
 use Rattle.macho_edits.specs.Refused.{cause_of}
 use Rattle.arwen_macho.proofs.ForCallers.{first_bytes}
+use Rattle.command_words.specs.Rows.{Text}
 use Rattle.macho_commands.specs.Engine.{Asked, asked}
-use Rattle.macho_commands.specs.Meaning.{macho_command_model}
+use Rattle.macho_commands.specs.Meaning.{file_of, macho_command_model}
+use Rattle.macho_commands.specs.Notes.{TellsOf}
+use Rattle.macho_commands.proofs.NotingLaws.{told_of_bytes}
 use Rattle.macho_commands.proofs.Outcomes.{tells_refused, writes_on}
 use Rattle.macho_commands.proofs.engine.fronts_of.Goals as goal
 
@@ -43,3 +46,13 @@ returns-clause-err c =
     let First : MachoType → Type 0 = λ f. RefusesAt e.index (cause_of e.fault) (container_step (calls_of edits) f) in
     let refuses = subst First c.in_ok-macho.ensures.1 (subst Refused c.deref.ensures.value c.in-Err.ensures.err) in
     rw c.refusal.ensures (tells_refused a (calls_of edits) file e c.in_ok-edits.ensures.ok c.in_ok-macho.ensures.0 refuses)
+
+-- the line is that of the file that was read
+pub returns-in-Ok-clause-told : goal.returns-in-Ok-clause-told
+returns-in-Ok-clause-told c =
+    let path : Text = file_of (macho_command_model c.args.command.now) in
+    let text : Text = string_bytes c.in_ok-text.text in
+    let Of : MachoType → Type 0 = λ file. TellsOf c.args.notes c.path_to_binary.result.now file text in
+    let At : Text → Type 0 = λ at. TellsOf c.args.notes at c.in_ok-macho.macho text in
+    let told = subst At c.path_to_binary.ensures (subst Of c.inner.ensures c.in_ok-text.ensures) in
+    told_of_bytes c.args.notes path c.args.bytes.now c.in_ok-macho.macho text c.in_ok-macho.ensures.0 c.in_ok-macho.ensures.1 told

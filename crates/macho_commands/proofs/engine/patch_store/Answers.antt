@@ -1,7 +1,8 @@
 use Rattle.std.proofs.Common.{◌≡◌, ◌∙◌, ap, arith, length, List, sym, ℕ}
 use Rattle.std.proofs.lemmas.Result.{err_from_is_err_and}
 use Rattle.macho_commands.specs.Engine.{Writes, asked}
-use Rattle.macho_commands.specs.Meaning.{macho_command_model}
+use Rattle.macho_commands.specs.Meaning.{file_of, macho_command_model}
+use Rattle.macho_commands.proofs.NotingLaws.{told_of_store}
 use Rattle.macho_commands.proofs.StoreLaws.{patched_store, read_whole, refused_store, torn_store}
 use Rattle.macho_commands.proofs.engine.patch_store.Goals as goal
 
@@ -33,3 +34,10 @@ returns-in_err-write_changes_of-clause-left g c =
     (rw (sym c.as_slice.ensures.value, c.as_slice-2.ensures.value) c.in_ok-fronts.ensures.ok)
     (rw (sym c.deref_mut.ensures.value, c.as_slice-3.ensures.value) c.in_ok-pieces.ensures.ok)
     c.in_err-write_changes_of.ensures.err)
+
+-- an accepted file is read whole
+pub returns-clause-told : goal.returns-clause-told
+returns-clause-told g c =
+    told_of_store c.args.notes (macho_command_model c.args.command.now) (file_of (macho_command_model c.args.command.now)) _ c.in_ok-bytes.bytes.items c.as_slice-2.result.now _ c.in_ok-bytes.ensures.read
+    (rw (sym c.as_slice.ensures.value, c.as_slice-2.ensures.value) c.in_ok-fronts.ensures.ok)
+    (rw (sym c.as_slice.ensures.value) c.in_ok-fronts.ensures.told)

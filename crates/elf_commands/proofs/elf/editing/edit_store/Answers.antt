@@ -1,10 +1,20 @@
-use Rattle.std.proofs.Common.{[]}
-use Rattle.std.proofs.lemmas.Result.{err_from_is_err_and}
-use Rattle.elf_commands.specs.ElfAsked.{elf_asked}
-use Rattle.elf_commands.specs.Meaning.{elf_command_model}
+use Rattle.std.proofs.Common.{[], List, Option, ℕ, string_bytes, subst}
+use Rattle.std.specs.Prelude.{IfOk}
+use Rattle.std.specs.declared.alloc.Global.{Global}
+use Rattle.std.specs.declared.vec.Vec.{Vec}
+use Rattle.std.proofs.lemmas.Result.{IfOk-weaker, err_from_is_err_and}
+use Rattle.command_words.specs.Rows.{Text}
+use Rattle.elf_edits.specs.Edit.{Edit}
+use Rattle.elf_edits.specs.declared.edit.ElfEdit.{ElfEdit}
+use Rattle.elf_commands.specs.ElfAsked.{ElfAsked, elf_asked}
+use Rattle.elf_commands.specs.ElfEngine.{AreAskedIf, AreEditsAsked}
+use Rattle.elf_commands.specs.ElfWords.{edits_model}
+use Rattle.elf_commands.specs.Meaning.{elf_command_model, elf_file_of}
+use Rattle.elf_commands.specs.Noting.{TellsWanted}
 use Rattle.elf_commands.proofs.ElfOutcomes.{may_fail}
 use Rattle.elf_commands.proofs.ElfStoreLaws.{words_refused}
 use Rattle.elf_commands.proofs.FailureLaws.{refused_for_itself}
+use Rattle.elf_commands.proofs.NotingLaws.{nothing_told, told_of_store}
 use Rattle.elf_commands.proofs.elf.editing.edit_store.Goals as goal
 
 pub returns-in_err-edits-clause-err : goal.returns-in_err-edits-clause-err
@@ -21,3 +31,24 @@ pub returns-in_err-edits-clause-cause : goal.returns-in_err-edits-clause-cause
 returns-in_err-edits-clause-cause g c =
     let p = err_from_is_err_and c.from_residual-in_err-edits.result c.from_residual-in_err-edits.ensures.1 in
     rw (p.1, p.2) (refused_for_itself g.S.Store.may_fail_read g.S.Store.may_fail_write g.S.Store.may_take_none (g.S.Store.contents c.args.store.now) (elf_asked (elf_command_model c.args.command.now)) [] _ _ _ (c.in_err-edits.ensures.err []))
+
+-- no edits are asked for
+pub returns-in_default-clause-told : goal.returns-in_default-clause-told
+returns-in_default-clause-told g c =
+    let a : ElfAsked = elf_asked (elf_command_model c.args.command.now) in
+    let path : Text = elf_file_of (elf_command_model c.args.command.now) in
+    let Asks : Option (Vec ElfEdit Global) → Type 0 = λ o. AreAskedIf a o in
+    nothing_told c.args.notes a path (g.S.Store.contents c.args.store.now) (string_bytes c.new.result) (subst Asks c.in_default.is c.in_ok-edits.ensures.ok) c.new.ensures.bytes
+
+-- what is told of the bytes that were read is told of the store
+pub returns-clause-told : goal.returns-clause-told
+returns-clause-told g c =
+    let a : ElfAsked = elf_asked (elf_command_model c.args.command.now) in
+    let path : Text = elf_file_of (elf_command_model c.args.command.now) in
+    let edits : List Edit = edits_model c.in-Some.edits.items in
+    let Asks : Option (Vec ElfEdit Global) → Type 0 = λ o. AreAskedIf a o in
+    let are : AreEditsAsked a edits = subst Asks c.in-Some.is c.in_ok-edits.ensures.ok in
+    let Of : List ℕ → Type 0 = λ l. IfOk c.edit_loaded.result (λ text. TellsWanted c.args.notes a path l (string_bytes text)) in
+    IfOk-weaker c.edit_loaded.result _ _ (λ text told.
+    told_of_store c.args.notes a edits path (g.S.Store.contents c.args.store.now) c.in_ok-bytes.bytes.items (string_bytes text) are c.in_ok-bytes.ensures.read told)
+    (subst Of c.as_slice.ensures.value c.edit_loaded.ensures.told)

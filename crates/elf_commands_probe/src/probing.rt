@@ -4,7 +4,7 @@ ghost use Rattle.std.specs.Str.Lossy.{utf8_lossy};
 ghost use Rattle.elf_edits_shrink.specs.ShrinkModel.{answer_model};
 ghost use Rattle.elf_edits_shrink.specs.ShrinkModel.{pair_lent, reason_model, removal_model};
 ghost use Rattle.elf_image.specs.Image.{shown};
-ghost use Rattle.elf_commands.specs.Shrinking.{Answers, AreAnswers, AreFound, IsMachineAt, folder_of, line_by, path_of, removal_line, removal_lines};
+ghost use Rattle.elf_commands_probe.specs.Shrinking.{Answers, AreAnswers, AreFound, IsMachineAt, folder_of, line_by, path_of, removal_line, removal_lines};
 
 use arwen_elf::elf::{ElfContainer, ProbeAnswer, Reason, Removed};
 use byte_store::{Opens, ReadError, load_up_to};
@@ -45,7 +45,7 @@ pub struct FileProbe<'a, R> {
 
 impl<R: Files> Probe for FileProbe<'_, R> {
     ghost use Rattle.std.specs.Prelude.{◌≡◌, IsUtf8, None};
-    ghost use Rattle.elf_commands.specs.Shrinking.{path_of};
+    ghost use Rattle.elf_commands_probe.specs.Shrinking.{path_of};
 
     // What files hold is not known; there is none at a path that is no text.
     ghost may_find = { λ _ directory needed machine.
@@ -126,7 +126,7 @@ fn machine_at<'p, O: Opens<'p>>(
 }
 
 /// The answers for all that has to be looked for before a file's run paths shrink, in order.
-pub(crate) fn answers_of<P: Probe>(
+pub fn answers_of<P: Probe>(
     alloc: Global,
     elf: &ElfContainer<'_>,
     probe: &P,
@@ -175,7 +175,7 @@ fn answer_to<P: Probe>(
 }
 
 /// The lines that tell which directories went from run paths, and why.
-pub(crate) fn removal_text(alloc: Global, removed: Vec<Removed>) -> Result<String, AllocError>
+pub fn removal_text(alloc: Global, removed: Vec<Removed>) -> Result<String, AllocError>
     ensures { IfOk result (λ text.
         string_bytes text ≡ removal_lines (map removal_model removed.items)) }
 {

@@ -1,8 +1,8 @@
 use Rattle.std.proofs.Common.{◌≡◌, All, map, take}
 use Rattle.elf_edits_shrink.specs.ShrinkModel.{answer_model}
 use Rattle.elf_edits_shrink.specs.ShrinkModel.{pair_lent}
-use Rattle.elf_commands.specs.Shrinking.{IsFound, asked_of}
-use Rattle.elf_commands.proofs.elf.probing.answers_to.Given as goal
+use Rattle.elf_commands_probe.specs.Shrinking.{IsFound, asked_of}
+use Rattle.elf_commands_probe.proofs.probing.answers_to.Given as goal
 
 -- the answers for the pairs that were gone over
 abbrev pub invariant-loop-directory : goal.invariant-loop-directory

@@ -4,12 +4,12 @@ use std::io::{ErrorKind, Write};
 
 /// What prints to the standard error.
 #[derive(Drop)]
-pub(crate) struct Notes<'a, R> {
+pub(crate) struct StandardError<'a, R> {
     /// The runtime.
     pub(crate) to: &'a R,
 }
 
-impl<R: Eprint> Write for Notes<'_, R> {
+impl<R: Eprint> Write for StandardError<'_, R> {
     fn write(&mut self, buffer: &[u8]) -> io::Result<usize> {
         match std::str::from_utf8(buffer) {
             Ok(text) => {

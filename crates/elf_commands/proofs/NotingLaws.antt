@@ -1,0 +1,54 @@
+-- What is told of edits: of an image, of bytes, of a store.
+use Rattle.std.proofs.Common.{◌≡◌, ◌∙◌, ℕ, List, [], Option, Ok, false, true, refl, sym, subst, inl, inr}
+use Rattle.byte_store.specs.Known.{IsAll}
+use Rattle.command_words.specs.Rows.{Text}
+use Rattle.command_words.specs.declared.noting.Notes.{Notes}
+use Rattle.command_words.specs.declared.noting.Notes.TheVariants.{LeftOut, Wanted}
+use Rattle.elf_edits.specs.Edit.{Edit}
+use Rattle.elf_image.specs.Image.{Image, image_of}
+use Rattle.elf_commands.specs.ElfAsked.{ElfAsked, asks_edits, one, printing, several, shrinking}
+use Rattle.elf_commands.specs.ElfEngine.{AreEditsAsked, TellsEdit}
+use Rattle.elf_commands.specs.Noting.{TellsImage, TellsNotes, TellsUnmade, TellsWanted, TellsWantedAt}
+use Rattle.elf_commands.specs.declared.error.ElfCommandError.{ElfCommandError}
+use Rattle.elf_commands.proofs.ElfOutcomes.{tells_refused}
+
+-- what is told of the image is told of the file that was read
+pub told_of_file : (n : Notes) (a : ElfAsked) (edits : List Edit) (path : Text) (file : List ℕ) (read : Image) (told : Text) → AreEditsAsked a edits → image_of file ≡ Ok read → TellsImage n edits path read told → TellsWanted n a path file told
+told_of_file Wanted a edits path file read told are is tells = record {
+  edits = edits;
+  are = are;
+  read = read;
+  is_read = is;
+  notes = tells.0;
+  are_notes = tells.1;
+  is_told = tells.2;
+}
+told_of_file LeftOut a edits path file read told are is tells = tells
+
+-- edits that are not made of the image are not made of the file
+pub unmade_of_file : (a : ElfAsked) (edits : List Edit) (file : List ℕ) (read : Image) (e : ElfCommandError) → AreEditsAsked a edits → image_of file ≡ Ok read → TellsUnmade a edits read e → TellsEdit a file e
+unmade_of_file a edits file read e are is (inl memory) =
+    let P : ElfCommandError → Type 0 = λ x. TellsEdit a file x in subst P (sym memory) tt
+unmade_of_file a edits file read e are is (inr refused) =
+    let P : ElfCommandError → Type 0 = λ x. TellsEdit a file x in
+    subst P (sym refused.2) (tells_refused a edits file read refused.0 are is refused.1)
+
+-- a command of which edits are asked for asks for edits
+asks : (a : ElfAsked) (edits : List Edit) → AreEditsAsked a edits → asks_edits a ≡ true
+asks (one edit) edits are = refl
+asks (several read) edits are = refl
+asks (shrinking prefixes) edits are = absurd are
+asks printing edits are = absurd are
+
+-- what is told of all the bytes of a store
+pub told_of_store : (n : Notes) (a : ElfAsked) (edits : List Edit) (path : Text) (known : Option (List ℕ)) (loaded : List ℕ) (told : Text) → AreEditsAsked a edits → IsAll known loaded → TellsWanted n a path loaded told → TellsWantedAt n a path known told
+told_of_store Wanted a edits path known loaded told are all tells = record {
+  none = λ no. let e : true ≡ false = sym (asks a edits are) ∙ no in absurd (cc);
+  some = λ yes file is. let P : List ℕ → Type 0 = λ l. TellsNotes a path l told in subst P (all file is) tells;
+}
+told_of_store LeftOut a edits path known loaded told are all tells = tells
+
+-- nothing is told of a command that asks for no edits
+pub nothing_told : (n : Notes) (a : ElfAsked) (path : Text) (known : Option (List ℕ)) (told : Text) → asks_edits a ≡ false → told ≡ [] → TellsWantedAt n a path known told
+nothing_told Wanted a path known told none empty = record { none = λ _. empty; some = λ yes. let e : true ≡ false = sym yes ∙ none in absurd (cc) }
+nothing_told LeftOut a path known told none empty = empty
