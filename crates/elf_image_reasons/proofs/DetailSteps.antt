@@ -16,7 +16,7 @@ of_list p list = list_detail (symbol_size p.opened.form) (raw_entries p) p.secti
 pub tables_told : (p : Parts) (list : SectionHeader) (raw : List EntryNumbers) (sections : List SectionHeader) (strings : Option SectionHeader) (size : ℕ)
     → Some list ≡ section_of_type SHT_DYNAMIC p.sections → raw ≡ raw_entries p → sections ≡ p.sections → strings ≡ linked_section p.sections list → size ≡ symbol_size p.opened.form
     → list_detail size raw sections strings ≡ tables_detail p
-unfolding of_list
+unfolding of_list tables_detail
 tables_told p list raw sections strings size there are same linked wide =
     ap (λ n. list_detail n raw sections strings) wide
     ∙ ap (λ rs. list_detail (symbol_size p.opened.form) rs sections strings) are

@@ -1,6 +1,7 @@
 -- The first rule that a file breaks, by the stages in which a reader goes through the rules.
 use Rattle.std.proofs.Common.{◌≡◌, ℕ, List, [], ◌∷◌, ◌++◌, map, Bool, true, false, Option, Some, None, Result, Ok, Err, refl, sym, ap, ◌∙◌}
-use Rattle.std.specs.Prelude.{is_some, option_map, option_and_then}
+use Rattle.std.specs.Prelude.{◌≢◌, IfOk, MatchResult, is_some, option_map, option_and_then}
+use Rattle.std.specs.Result.{result_err}
 use Rattle.std.proofs.lemmas.List.Elements.{All-cons, All-nil}
 use Rattle.std.proofs.lemmas.Option.{none-some, same_Some}
 use Rattle.patch_bytes.specs.Memory.{◌>>=◌ as ◌>>?◌}
@@ -11,10 +12,12 @@ use Rattle.elf_format.specs.File.{Opened, Parts, opened_of, parts_of}
 use Rattle.elf_format.specs.Options.{first_there, is_some_and}
 use Rattle.elf_format.specs.Rules.{◌>>=◌, Rule as Check, accepted_parts, checked, fault_of, identification_rules, is_file_kind, placement_rules, rule, table_rules, there_or}
 use Rattle.elf_format.specs.Stages.{parts_read}
-use Rattle.elf_image_rules.specs.Read.{Refuses}
+use Rattle.elf_format.specs.Image.{Image, ImagesShow, image_of}
+use Rattle.elf_image_rules.specs.Read.{Reads, Refuses, parts_model}
+use Rattle.elf_image_rules.specs.declared.headers.Headers.{Headers}
 use Rattle.elf_image_reasons.specs.declared.rule.Rule.{Rule}
 use Rattle.elf_image_reasons.specs.declared.rule.Rule.TheVariants.{FileHeader, FileKind, HeaderTables}
-use Rattle.elf_image_reasons.specs.ReadTests.{IsFirstBroken, RulesTellFaults, Test, broken_rule, fault_of_rule, first_broken, header_tests, identification_tests, of_file, opening_tests, part_tests, parts_there, placement_tests, read_tests, rule_of_headers, rule_of_parts, table_tests, test}
+use Rattle.elf_image_reasons.specs.ReadTests.{IsFirstBroken, IsToldFault, RulesTellFaults, Test, broken_rule, fault_of_rule, first_broken, header_tests, identification_tests, of_file, opening_tests, part_tests, parts_there, placement_tests, read_tests, rule_of_headers, rule_of_parts, table_tests, test}
 
 -- ## Lists of tests
 
@@ -212,9 +215,23 @@ refused_is (faults.Disagree n) r h other = h
 refused_is faults.BadText r h other = h
 refused_is faults.NumberTooLarge r h other = h
 
+-- what holds of an answer without want of memory
+pub told_ok : {E : Type 0} → (P Q : Option ElfFault → Type 0) (r : Result (Option ElfFault) E) → ((x : Option ElfFault) → P x → Q x) → IfOk r P → IfOk r Q
+told_ok P Q (Ok x) f h = f x h
+told_ok P Q (Err e) f h = h
+
+-- what reading the headers answers, and what reading the file does
+pub headers_fault : (r : Result Headers ElfFault) (parts : Result Parts ElfFault) (fault answer : Option ElfFault) → Reads parts_model r parts → fault ≡ result_err r → IsToldFault fault answer → answer ≡ result_err parts
+headers_fault (Ok x) parts fault answer h e is = is.same ∙ e ∙ sym (ap result_err h)
+headers_fault (Err x) parts fault answer h e is = is.same ∙ e ∙ sym (ap result_err (refused_is x parts h (λ m. is.other (is.same ∙ e ∙ ap Some m))))
+
+pub file_fault : (images : ImagesShow) (file : List ℕ) (r : Result Image ElfFault) (fault answer : Option ElfFault)
+    → MatchResult r (λ b. image_of file ≡ Ok b) (λ e. e ≢ faults.Memory → image_of file ≡ Err e) → fault ≡ result_err r → IsToldFault fault answer → answer ≡ fault_of file
+file_fault images file (Ok b) fault answer h e is = is.same ∙ e ∙ sym (images.accepted file b h)
+file_fault images file (Err x) fault answer h e is = is.same ∙ e ∙ sym (images.refused file x (h (λ m. is.other (is.same ∙ e ∙ ap Some m))))
+
 abbrev header_rule_by : Result Parts ElfFault → Option Rule
-header_rule_by (Ok p) = None
-header_rule_by (Err fault) = rule_of_headers fault
+header_rule_by r = option_and_then rule_of_headers (result_err r)
 
 header_kind : (o : Opened) (b : Bool) (p : Option Parts) → header_rule_by (kind_by o b >>= (λ _. there_or Truncated p)) ≡ header_by b p None
 unfolding kind_by header_by picked
@@ -241,11 +258,8 @@ headers_rule file h =
     ap (λ r. header_rule_by (r >>= (λ _. there_or Truncated (opened_of file) >>= opened_read))) identified
     ∙ header_opened file (first_broken identification_tests file) (opened_of file) (sym two ∙ h)
 
-pub headers_there : (file : List ℕ) (p : Parts) → first_broken opening_tests file ≡ None → parts_read file ≡ Ok p → None ≡ first_broken header_tests file
-headers_there file p h e = sym (ap header_rule_by e) ∙ headers_rule file h
-
-pub headers_refused : (file : List ℕ) (fault : ElfFault) → first_broken opening_tests file ≡ None → Refuses fault (parts_read file) → (fault ≡ faults.Memory → ⊥) → rule_of_headers fault ≡ first_broken header_tests file
-headers_refused file fault h e other = sym (ap header_rule_by (refused_is fault (parts_read file) e other)) ∙ headers_rule file h
+pub headers_told : (file : List ℕ) (fault : Option ElfFault) → first_broken opening_tests file ≡ None → fault ≡ result_err (parts_read file) → option_and_then rule_of_headers fault ≡ first_broken header_tests file
+headers_told file fault h e = ap (option_and_then rule_of_headers) e ∙ headers_rule file h
 
 -- ## The rule for a fault
 

@@ -24,10 +24,6 @@ use Rattle.elf_image_reasons.specs.declared.detail.Piece.TheVariants as pieces
 use Rattle.elf_image_reasons.specs.declared.rule.Rule.{Rule}
 use Rattle.elf_image_reasons.specs.declared.rule.Rule.TheVariants as rules
 
--- the first element that passes a test, told with its number
-abbrev pub told_first : {A : Type 0} → (A → Bool) → (ℕ → A → Detail) → List A → Option Detail
-told_first test tell xs = position test xs >>= λ i. slice_get xs i >>= λ x. Some (tell i x)
-
 -- ## Before the parts are there
 
 -- of the file header: the type, or that there are no section headers
@@ -58,34 +54,47 @@ tables_of_file file = opened_of file >>= table_detail
 
 -- ## Placement
 
--- the first section with bytes past the end of the file
-abbrev pub past_section : ℕ → List SectionHeader → Option Detail
-past_section length sections =
-    told_first (λ s. has_file_bytes s && not (ends_by length (file_range (place_of s)))) (λ i s. details.PastEnd (pieces.Section i) s.sh_offset s.sh_size length) sections
-
--- the first loaded segment with bytes past the end of the file
-abbrev pub past_segment : ℕ → List SegmentHeader → Option Detail
-past_segment length segments =
-    told_first (λ p. is_loaded p && not (ends_by length (file_part p))) (λ i p. details.PastEnd (pieces.Segment i) p.p_offset p.p_filesz length) segments
-
--- the first loaded segment with more bytes in the file than in memory
-abbrev pub larger_segment : List SegmentHeader → Option Detail
-larger_segment segments =
-    told_first (λ p. is_loaded p && not (nat_le p.p_filesz p.p_memsz)) (λ i p. details.MoreInFile i p.p_filesz p.p_memsz) segments
-
 -- a stored section that no loaded segment holds, or that begins at the file's start
 abbrev pub is_not_shown : List SegmentHeader → SectionHeader → Bool
-is_not_shown segments s = is_stored (place_of s) && not (list_any (λ p. holds p (place_of s)) (loads_of segments) && not (s.sh_offset == 0))
-
-abbrev pub unshown_section : List SegmentHeader → List SectionHeader → Option Detail
-unshown_section segments sections = told_first (is_not_shown segments) (λ i s. details.NotShown i s.sh_offset s.sh_addr) sections
+is_not_shown segments s = is_stored (place_of s) && not (list_any (λ p. is_loaded p && holds p (place_of s)) segments && not (s.sh_offset == 0))
 
 -- an uninitialized section that crosses the end of a loaded segment's file part
 abbrev pub is_crossing : List SegmentHeader → SectionHeader → Bool
-is_crossing segments s = is_uninitialized (place_of s) && list_any (λ p. crosses_file_end p (place_of s)) (loads_of segments)
+is_crossing segments s = is_uninitialized (place_of s) && list_any (λ p. is_loaded p && crosses_file_end p (place_of s)) segments
 
-abbrev pub crossing_section : List SegmentHeader → List SectionHeader → Option Detail
-crossing_section segments sections = told_first (is_crossing segments) (λ i s. details.Crosses i s.sh_addr s.sh_size) sections
+-- whether a section contradicts a rule by itself, in a file of a length with these segments
+abbrev pub is_wrong_section : Rule → ℕ → List SegmentHeader → SectionHeader → Bool
+is_wrong_section rules.RangesInFile length segments s = has_file_bytes s && not (ends_by length (file_range (place_of s)))
+is_wrong_section rules.SectionsLoaded length segments s = is_not_shown segments s
+is_wrong_section rules.UninitializedData length segments s = is_crossing segments s
+is_wrong_section _ length segments s = false
+
+-- what is told of such a section with its number
+abbrev pub section_told : Rule → ℕ → ℕ → SectionHeader → Option Detail
+section_told rules.RangesInFile length i s = Some (details.PastEnd (pieces.Section i) s.sh_offset s.sh_size length)
+section_told rules.SectionsLoaded length i s = Some (details.NotShown i s.sh_offset s.sh_addr)
+section_told rules.UninitializedData length i s = Some (details.Crosses i s.sh_addr s.sh_size)
+section_told _ length i s = None
+
+-- the first section that contradicts a rule by itself
+unfoldable pub wrong_section : Rule → ℕ → List SegmentHeader → List SectionHeader → Option Detail
+wrong_section rule length segments sections =
+    position (is_wrong_section rule length segments) sections >>= λ i. slice_get sections i >>= λ s. section_told rule length i s
+
+-- the same of a program header: one that is loaded, with bytes past the end, or with more bytes in the file than in memory
+abbrev pub is_wrong_segment : Rule → ℕ → SegmentHeader → Bool
+is_wrong_segment rules.RangesInFile length p = is_loaded p && not (ends_by length (file_part p))
+is_wrong_segment rules.FileParts length p = is_loaded p && not (nat_le p.p_filesz p.p_memsz)
+is_wrong_segment _ length p = false
+
+abbrev pub segment_told : Rule → ℕ → ℕ → SegmentHeader → Option Detail
+segment_told rules.RangesInFile length i p = Some (details.PastEnd (pieces.Segment i) p.p_offset p.p_filesz length)
+segment_told rules.FileParts length i p = Some (details.MoreInFile i p.p_filesz p.p_memsz)
+segment_told _ length i p = None
+
+unfoldable pub wrong_segment : Rule → ℕ → List SegmentHeader → Option Detail
+wrong_segment rule length segments =
+    position (is_wrong_segment rule length) segments >>= λ i. slice_get segments i >>= λ p. segment_told rule length i p
 
 -- the bytes of the file that a section takes, or none where it isn't stored
 abbrev pub stored_range : SectionHeader → Range
@@ -101,16 +110,16 @@ meeting_from n [] = None
 meeting_from n (r ∷ rs) = elim (position (λ s. not (apart r s)) rs) [ Some j ↦ Some (n, n + 1 + j) | None ↦ meeting_from (n + 1) rs ]
 
 -- the first two stored sections that share a byte of the file
-abbrev pub shared_sections : List SectionHeader → Option Detail
+unfoldable pub shared_sections : List SectionHeader → Option Detail
 shared_sections sections =
     meeting_from 0 (map stored_range sections) >>= λ two. Some (details.Shared (pieces.Section two.0) (pieces.Section two.1) false)
 
 -- the first two loaded segments that share an address, or a byte of the file
-abbrev pub shared_parts : Bool → List SegmentHeader → Option Detail
+unfoldable pub shared_parts : Bool → List SegmentHeader → Option Detail
 shared_parts in_memory segments =
     meeting_from 0 (map (loaded_range in_memory) segments) >>= λ two. Some (details.Shared (pieces.Segment two.0) (pieces.Segment two.1) in_memory)
 
-abbrev pub shared_segments : List SegmentHeader → Option Detail
+unfoldable pub shared_segments : List SegmentHeader → Option Detail
 shared_segments segments = first_there (shared_parts true segments) (shared_parts false segments)
 
 -- ## The dynamic section and the interpreter
@@ -133,10 +142,10 @@ dynamic_detail_by segments sections None section = lone_section sections
 dynamic_detail_by segments sections (Some p) None = lone_segment segments
 dynamic_detail_by segments sections (Some p) (Some s) = apart_by p s
 
-abbrev pub dynamic_detail : List SegmentHeader → List SectionHeader → Option Detail
+unfoldable pub dynamic_detail : List SegmentHeader → List SectionHeader → Option Detail
 dynamic_detail segments sections = dynamic_detail_by segments sections (segment_of_type PT_DYNAMIC segments) (section_of_type SHT_DYNAMIC sections)
 
-abbrev pub interpreter_detail : List SegmentHeader → Option Detail
+unfoldable pub interpreter_detail : List SegmentHeader → Option Detail
 interpreter_detail segments = segment_of_type PT_INTERP segments >>= λ p. Some (details.NoSection p.p_offset p.p_vaddr p.p_filesz)
 
 -- ## The tables of the dynamic list
@@ -202,7 +211,7 @@ list_detail size raw sections strings =
     first_there (first_there (repeated_tag raw) (missing_tag raw))
     (first_there (wrong_strings raw strings) (wrong_tables size raw sections))
 
-abbrev pub tables_detail : Parts → Option Detail
+unfoldable pub tables_detail : Parts → Option Detail
 tables_detail p =
     section_of_type SHT_DYNAMIC p.sections
     >>= λ list. list_detail (symbol_size p.opened.form) (raw_entries p) p.sections (linked_section p.sections list)
@@ -213,7 +222,7 @@ tables_detail p =
 abbrev pub without_text : ℕ → Memory → List EntryNumbers → Option Detail
 without_text room texts raw = find (λ e. not (is_some (shown_entry room texts e))) raw >>= λ e. Some (details.Text e.d_tag e.d_value)
 
-abbrev pub text_detail : Parts → Option Detail
+unfoldable pub text_detail : Parts → Option Detail
 text_detail p = section_of_type SHT_DYNAMIC p.sections >>= λ list. without_text (length (file_of p)) (linked_texts p list) (raw_entries p)
 
 -- ## All of them
@@ -221,25 +230,22 @@ text_detail p = section_of_type SHT_DYNAMIC p.sections >>= λ list. without_text
 abbrev pub unloaded_detail : Parts → Option Detail
 unloaded_detail p = let table : Range = segment_table_range p in Some (details.Unloaded table.start table.size)
 
--- of the parts of a file that breaks a rule: on where they stand, on the dynamic section
-abbrev pub placement_detail : Rule → Parts → Option Detail
-placement_detail rules.RangesInFile p = first_there (past_section (length (file_of p)) p.sections) (past_segment (length (file_of p)) p.segments)
-placement_detail rules.FileParts p = larger_segment p.segments
-placement_detail rules.SegmentsApart p = shared_segments p.segments
-placement_detail rules.SectionsLoaded p = first_there (unshown_section p.segments p.sections) (shared_sections p.sections)
-placement_detail rules.UninitializedData p = crossing_section p.segments p.sections
-placement_detail rules.LoadedHeaderTable p = unloaded_detail p
-placement_detail _ p = None
+-- of the parts of a file that breaks a rule: a section or a program header by itself, or anything else
+abbrev pub lone_detail : Rule → Parts → Option Detail
+lone_detail rule p = first_there (wrong_section rule (length (file_of p)) p.segments p.sections) (wrong_segment rule (length (file_of p)) p.segments)
 
-abbrev pub dynamic_part_detail : Rule → Parts → Option Detail
-dynamic_part_detail rules.DynamicSection p = dynamic_detail p.segments p.sections
-dynamic_part_detail rules.Interpreter p = interpreter_detail p.segments
-dynamic_part_detail rules.DynamicTables p = tables_detail p
-dynamic_part_detail rules.Texts p = text_detail p
-dynamic_part_detail _ p = None
+abbrev pub joint_detail : Rule → Parts → Option Detail
+joint_detail rules.SegmentsApart p = shared_segments p.segments
+joint_detail rules.SectionsLoaded p = shared_sections p.sections
+joint_detail rules.DynamicSection p = dynamic_detail p.segments p.sections
+joint_detail rules.Interpreter p = interpreter_detail p.segments
+joint_detail rules.DynamicTables p = tables_detail p
+joint_detail rules.Texts p = text_detail p
+joint_detail rules.LoadedHeaderTable p = unloaded_detail p
+joint_detail _ p = None
 
 abbrev pub part_detail : Rule → Parts → Option Detail
-part_detail rule p = first_there (placement_detail rule p) (dynamic_part_detail rule p)
+part_detail rule p = first_there (lone_detail rule p) (joint_detail rule p)
 
 -- the parts of a file whose headers are read
 abbrev pub parts_if_read : Result Parts ElfFault → Option Parts

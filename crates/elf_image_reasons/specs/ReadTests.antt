@@ -1,6 +1,6 @@
 -- The read rules by their names, each with its test of a file, in the order in which a read looks; and the first that a file
 -- breaks.
-use Rattle.std.specs.Prelude.{ℕ, List, [], ◌∷◌, ◌++◌, map, length, Bool, true, false, Option, Some, None, ◌≡◌, is_some, nat_le, ◌==◌, if◌then◌else◌, All, option_map}
+use Rattle.std.specs.Prelude.{ℕ, List, [], ◌∷◌, ◌++◌, map, length, Bool, true, false, Option, Some, None, ◌≡◌, ◌≢◌, is_some, nat_le, ◌==◌, if◌then◌else◌, All, option_map}
 use Rattle.patch_bytes.specs.Memory.{◌>>=◌}
 use Rattle.elf_format.specs.declared.fault.ElfFault.{ElfFault}
 use Rattle.elf_format.specs.declared.fault.ElfFault.TheVariants as faults
@@ -124,6 +124,11 @@ pub record RulesTellFaults : Type 0 where
   pub first : (file : List ℕ) (rule : Rule) → broken_rule file ≡ Some rule → IsFirstBroken read_tests file rule
 
 -- ## Steps
+
+-- the answer is a fault, and not that memory ran out
+pub record IsToldFault (fault answer : Option ElfFault) : Type 0 where
+  pub same : answer ≡ fault
+  pub other : answer ≢ Some faults.Memory
 
 -- the rule on headers for the fault that reading them answers
 abbrev pub rule_of_headers : ElfFault → Option Rule

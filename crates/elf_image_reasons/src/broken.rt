@@ -1,7 +1,9 @@
 ghost use Rattle.std.specs.Prelude.{◌≡◌, ◌≢◌, IfOk, IsTrue, None, is_some, not, option_and_then, option_map};
+ghost use Rattle.std.specs.Result.{result_err};
 ghost use Rattle.elf_format.specs.File.{opened_of};
 ghost use Rattle.elf_format.specs.Rules.{fault_of};
-ghost use Rattle.elf_image_reasons.specs.ReadTests.{broken_rule as first_of_file, fault_of_rule, first_broken, header_tests, opening_tests, rule_numbered as numbered, rule_of_headers as of_headers, rule_of_parts as of_parts};
+ghost use Rattle.elf_format.specs.Stages.{parts_read};
+ghost use Rattle.elf_image_reasons.specs.ReadTests.{IsToldFault, broken_rule as first_of_file, fault_of_rule, first_broken, header_tests, opening_tests, rule_numbered as numbered, rule_of_headers as of_headers, rule_of_parts as of_parts};
 
 use crate::laws::rules_tell_faults;
 use crate::rule::Rule;
@@ -55,14 +57,36 @@ fn opening_rule(bytes: &[u8]) -> Option<Rule>
 }
 
 // The rule on headers that a file broke where reading them answered a fault.
-fn rule_of_headers(fault: ElfFault) -> Option<Rule>
-    ensures { result ≡ of_headers fault }
+fn rule_of_headers(fault: Option<ElfFault>) -> Option<Rule>
+    ensures { result ≡ option_and_then of_headers fault }
 {
-    match fault {
+    match fault? {
         ElfFault::Unsupported => Some(Rule::FileKind),
         ElfFault::Truncated => Some(Rule::HeaderTables),
         _ => None,
     }
+}
+
+// A fault that was answered, unless it is that memory ran out.
+fn told_fault(fault: Option<ElfFault>) -> Result<Option<ElfFault>, AllocError>
+    ensures { IfOk result (λ answer. IsToldFault fault answer) }
+{
+    match fault {
+        None => Ok(None),
+        Some(fault) => {
+            if is_memory(fault) {
+                return Err(AllocError);
+            }
+            Ok(Some(fault))
+        }
+    }
+}
+
+// The fault that reading the headers of a file answers, or none where they are read.
+fn fault_of_headers(alloc: Global, bytes: &[u8]) -> Result<Option<ElfFault>, AllocError>
+    ensures { IfOk result (λ answer. answer ≡ result_err (parts_read bytes.now)) }
+{
+    told_fault(read_headers(alloc, bytes).err())
 }
 
 // The first rule that a file breaks of those on its kind and its header tables, where it has a file header.
@@ -70,15 +94,8 @@ fn header_rule(alloc: Global, bytes: &[u8]) -> Result<Option<Rule>, AllocError>
     requires { first_broken opening_tests bytes.now ≡ None }
     ensures { IfOk result (λ answer. answer ≡ first_broken header_tests bytes.now) }
 {
-    match read_headers(alloc, bytes) {
-        Ok(_) => Ok(None),
-        Err(fault) => {
-            if is_memory(fault) {
-                return Err(AllocError);
-            }
-            Ok(rule_of_headers(fault))
-        }
-    }
+    let fault = fault_of_headers(alloc, bytes)?;
+    Ok(rule_of_headers(fault))
 }
 
 // The rule with a number.
@@ -101,10 +118,10 @@ fn rule_numbered(number: u8) -> Option<Rule>
 }
 
 // The rule that a file broke whose header tables are there, where reading it answered a fault.
-fn rule_of_parts(fault: ElfFault) -> Option<Rule>
-    ensures { result ≡ of_parts fault }
+fn rule_of_parts(fault: Option<ElfFault>) -> Option<Rule>
+    ensures { result ≡ option_and_then of_parts fault }
 {
-    match fault {
+    match fault? {
         ElfFault::Truncated => Some(Rule::RangesInFile),
         ElfFault::BadText => Some(Rule::Texts),
         ElfFault::Disagree(number) => rule_numbered(number),
@@ -117,22 +134,7 @@ fn fault_of_file(alloc: Global, bytes: &[u8]) -> Result<Option<ElfFault>, AllocE
     ensures { IfOk result (λ answer. answer ≡ fault_of bytes.now) }
 {
     images_show();
-    match Builder::read(alloc, bytes) {
-        Ok(_) => Ok(None),
-        Err(fault) => {
-            if is_memory(fault) {
-                return Err(AllocError);
-            }
-            Ok(Some(fault))
-        }
-    }
-}
-
-// The rule that a file broke whose header tables are there, where it isn't accepted.
-fn rule_of_fault(fault: Option<ElfFault>) -> Option<Rule>
-    ensures { result ≡ option_and_then of_parts fault }
-{
-    rule_of_parts(fault?)
+    told_fault(Builder::read(alloc, bytes).err())
 }
 
 // The first rule that a file breaks whose header and header tables are right.
@@ -142,7 +144,7 @@ fn part_rule(alloc: Global, bytes: &[u8]) -> Result<Option<Rule>, AllocError>
     ensures { IfOk result (λ answer. answer ≡ first_of_file bytes.now) }
 {
     let fault = fault_of_file(alloc, bytes)?;
-    Ok(rule_of_fault(fault))
+    Ok(rule_of_parts(fault))
 }
 
 // The first rule that a file breaks whose first bytes and file header are right.

@@ -1,8 +1,8 @@
-use crate::tag_names::{tag_meaning, tag_name};
+use crate::line::write_detail;
 use std::fmt;
 
 /// What of a file has a range of its bytes.
-#[derive(Clone, Copy, Debug, PartialEq, Eq)]
+#[derive(Clone, Copy)]
 pub enum Piece {
     /// The program header table.
     SegmentTable,
@@ -16,7 +16,7 @@ pub enum Piece {
 
 /// What contradicts a read rule. Offsets, addresses and sizes count bytes; sections and program headers have the numbers of
 /// their header tables.
-#[derive(Clone, Copy, Debug, PartialEq, Eq)]
+#[derive(Clone, Copy)]
 pub enum Detail {
     /// The file has so few bytes.
     Length {
@@ -110,134 +110,11 @@ pub enum Detail {
 impl fmt::Display for Piece {
     fn fmt<W: fmt::Write>(&self, f: &mut fmt::Formatter<W>) -> fmt::Result {
         match self {
-            Piece::SegmentTable => write!(f, "the program header table"),
-            Piece::SectionTable => write!(f, "the section header table"),
+            Piece::SegmentTable => f.write_str("the program header table"),
+            Piece::SectionTable => f.write_str("the section header table"),
             Piece::Segment(number) => write!(f, "program header {number}"),
             Piece::Section(number) => write!(f, "section {number}"),
         }
-    }
-}
-
-// A tag by its name, or by its number.
-#[derive(Clone, Copy)]
-struct Tag(u64);
-
-impl fmt::Display for Tag {
-    fn fmt<W: fmt::Write>(&self, f: &mut fmt::Formatter<W>) -> fmt::Result {
-        match tag_name(self.0) {
-            Some(name) => f.write_str(name),
-            None => write!(f, "tag 0x{:x}", self.0),
-        }
-    }
-}
-
-// The details that are told in a line of their own.
-fn write_detail<W: fmt::Write>(detail: Detail, f: &mut fmt::Formatter<W>) -> fmt::Result {
-    match detail {
-        Detail::Length { length: 0 } => write!(f, "the file is empty"),
-        Detail::Length { length } => write!(f, "the file has {length} bytes"),
-        Detail::Class {
-            class,
-            order,
-            version,
-        } => write!(f, "the bytes are {class}, {order} and {version}"),
-        Detail::FileType { e_type } => write!(f, "e_type is {e_type}"),
-        Detail::NoSections => write!(f, "there are no section headers"),
-        Detail::Shared {
-            first,
-            second,
-            in_memory: true,
-        } => write!(f, "{first} and {second} share an address"),
-        Detail::Shared { first, second, .. } => {
-            write!(f, "{first} and {second} share a byte of the file")
-        }
-        Detail::Alone { piece } => write!(f, "{piece} is there alone"),
-        Detail::RepeatedTag { tag } => write!(f, "{} comes more than once", Tag(tag)),
-        Detail::MissingTag { tag } => write!(f, "{} is missing", Tag(tag)),
-        _ => write_range(detail, f),
-    }
-}
-
-// The details that tell where something stands.
-fn write_range<W: fmt::Write>(detail: Detail, f: &mut fmt::Formatter<W>) -> fmt::Result {
-    match detail {
-        Detail::PastEnd {
-            piece,
-            start,
-            size,
-            length,
-        } => write!(
-            f,
-            "{piece} has 0x{size:x} bytes from 0x{start:x} on, the file ends at 0x{length:x}"
-        ),
-        Detail::NotShown {
-            section,
-            offset,
-            address,
-        } => write!(
-            f,
-            "no loaded segment shows section {section} of offset 0x{offset:x} at its address 0x{address:x}"
-        ),
-        Detail::Unloaded { offset, size } => write!(
-            f,
-            "no loaded segment has the 0x{size:x} bytes of the program header table from 0x{offset:x} on"
-        ),
-        Detail::NoSection {
-            offset,
-            address,
-            size,
-        } => write!(
-            f,
-            "no section of 0x{size:x} bytes stands at offset 0x{offset:x} and address 0x{address:x}"
-        ),
-        _ => write_sizes(detail, f),
-    }
-}
-
-// The details that compare two numbers.
-fn write_sizes<W: fmt::Write>(detail: Detail, f: &mut fmt::Formatter<W>) -> fmt::Result {
-    match detail {
-        Detail::MoreInFile {
-            segment,
-            in_file,
-            in_memory,
-        } => write!(
-            f,
-            "program header {segment} has 0x{in_file:x} bytes in the file, 0x{in_memory:x} in memory"
-        ),
-        Detail::Crosses {
-            section,
-            address,
-            size,
-        } => write!(
-            f,
-            "a segment's file part ends within the 0x{size:x} bytes of section {section} at 0x{address:x}"
-        ),
-        Detail::Apart {
-            offset,
-            address,
-            section_offset,
-            section_address,
-        } => write!(
-            f,
-            "PT_DYNAMIC is at offset 0x{offset:x} and address 0x{address:x}, the dynamic section at 0x{section_offset:x} and 0x{section_address:x}"
-        ),
-        _ => write_tag(detail, f),
-    }
-}
-
-// The details that tell of a tag and its value.
-fn write_tag<W: fmt::Write>(detail: Detail, f: &mut fmt::Formatter<W>) -> fmt::Result {
-    match detail {
-        Detail::Tag { tag, value } => {
-            write!(f, "{} is 0x{value:x}, {}", Tag(tag), tag_meaning(tag))
-        }
-        Detail::Text { tag, value } => write!(
-            f,
-            "{} is 0x{value:x}, no text of the dynamic strings begins there and ends",
-            Tag(tag)
-        ),
-        _ => Ok(()),
     }
 }
 

@@ -67,6 +67,7 @@ fn lone_segment(segments: &[SegmentHeader]) -> Option<Detail>
 }
 
 // What contradicts the rule on the dynamic section.
+#[tactic(auto, unfolding(crate::specs::Details::dynamic_detail))]
 pub(crate) fn dynamic_detail(
     segments: &[SegmentHeader],
     sections: &[SectionHeader],
@@ -83,6 +84,7 @@ pub(crate) fn dynamic_detail(
 }
 
 // What contradicts the rule on the interpreter.
+#[tactic(auto, unfolding(crate::specs::Details::interpreter_detail))]
 pub(crate) fn interpreter_detail(segments: &[SegmentHeader]) -> Option<Detail>
     ensures { result ≡ interpreter_by segments.now }
 {
@@ -129,6 +131,7 @@ fn first_without_text(
 }
 
 // The first dynamic entry whose text isn't there.
+#[tactic(auto, unfolding(crate::specs::Details::text_detail))]
 pub(crate) fn text_detail(
     parts: &Headers<'_>,
     raw: &[EntryNumbers],

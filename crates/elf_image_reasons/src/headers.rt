@@ -29,13 +29,10 @@ fn kind_detail(file: &[u8], form: Form, header: FileHeader) -> Option<Detail>
     ensures { result ≡ kind_by (opened_model file.now (form, header)) }
 {
     let e_type = header.e_type;
-    if ![ET_EXEC, ET_DYN].iter().any(|kind| *kind == e_type) {
+    if e_type != ET_EXEC && e_type != ET_DYN {
         return Some(Detail::FileType { e_type });
     }
-    if header.e_shoff == 0 {
-        return Some(Detail::NoSections);
-    }
-    if header.e_shnum == 0 {
+    if header.e_shoff == 0 || header.e_shnum == 0 {
         return Some(Detail::NoSections);
     }
     None

@@ -7,6 +7,7 @@ pub mod detail;
 mod dynamic;
 mod headers;
 pub mod laws;
+mod line;
 mod meetings;
 mod placed;
 pub mod reason;

@@ -1,12 +1,10 @@
 // Two sections or two loaded segments that share an address or a byte of the file.
 ghost use Rattle.std.specs.Prelude.{◌≡◌, ◌<◌, IfOk, IfSome, length, map, not, position};
-ghost use Rattle.elf_format.specs.Options.{first_there as first_of};
 ghost use Rattle.elf_format.specs.Ranges.{apart};
-ghost use Rattle.elf_image_reasons.specs.Details.{loaded_range as loaded_by, meeting_from, shared_parts as parts_by, shared_sections as sections_by, shared_segments as segments_by, stored_range as stored_by, unshown_section as unshown_by};
+ghost use Rattle.elf_image_reasons.specs.Details.{loaded_range as loaded_by, meeting_from, shared_parts as parts_by, shared_sections as sections_by, shared_segments as segments_by, stored_range as stored_by};
 
 use crate::detail::{Detail, Piece};
 use crate::headers::first_there;
-use crate::placed::unshown_section;
 use elf_format::range::Range;
 use elf_format::records::{SectionHeader, SegmentHeader};
 use std::alloc::{AllocError, Global};
@@ -60,7 +58,11 @@ fn meeting(ranges: &[Range]) -> Option<(usize, usize)>
 }
 
 // The first two stored sections that share a byte of the file.
-fn shared_sections(alloc: Global, sections: &[SectionHeader]) -> Result<Option<Detail>, AllocError>
+#[tactic(auto, unfolding(crate::specs::Details::shared_sections))]
+pub(crate) fn shared_sections(
+    alloc: Global,
+    sections: &[SectionHeader],
+) -> Result<Option<Detail>, AllocError>
     ensures { IfOk result (λ answer. answer ≡ sections_by sections.now) }
 {
     let ranges = section_ranges(alloc, sections)?;
@@ -96,6 +98,7 @@ fn segment_ranges(
 }
 
 // The first two loaded segments that share an address, or a byte of the file.
+#[tactic(auto, unfolding(crate::specs::Details::shared_parts))]
 fn shared_parts(
     alloc: Global,
     in_memory: bool,
@@ -115,6 +118,7 @@ fn shared_parts(
 }
 
 // What contradicts the rule on loaded segments.
+#[tactic(auto, unfolding(crate::specs::Details::shared_segments))]
 pub(crate) fn shared_segments(
     alloc: Global,
     segments: &[SegmentHeader],
@@ -124,17 +128,4 @@ pub(crate) fn shared_segments(
     let addresses = shared_parts(alloc, true, segments)?;
     let bytes = shared_parts(alloc, false, segments)?;
     Ok(first_there(addresses, bytes))
-}
-
-// What contradicts the rule on sections that are loaded.
-pub(crate) fn loaded_detail(
-    alloc: Global,
-    segments: &[SegmentHeader],
-    sections: &[SectionHeader],
-) -> Result<Option<Detail>, AllocError>
-    ensures { IfOk result (λ answer. answer
-        ≡ first_of (unshown_by segments.now sections.now) (sections_by sections.now)) }
-{
-    let shared = shared_sections(alloc, sections)?;
-    Ok(first_there(unshown_section(segments, sections), shared))
 }

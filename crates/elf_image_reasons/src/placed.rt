@@ -1,91 +1,20 @@
-// What contradicts a rule on where sections and segments stand.
-ghost use Rattle.std.specs.Prelude.{◌≡◌, ◌&&◌, not, nat_le, position};
+// The first section and the first program header that contradict a rule by where they stand.
+ghost use Rattle.std.specs.Prelude.{◌≡◌, ◌&&◌, position};
 ghost use Rattle.std.specs.List.{list_any};
-ghost use Rattle.elf_format.specs.File.{has_file_bytes, is_loaded, loads_of};
-ghost use Rattle.elf_format.specs.Placement.{crosses_file_end, ends_by, file_part, holds};
-ghost use Rattle.elf_format.specs.Places.{file_range, place_of};
-ghost use Rattle.elf_image_reasons.specs.Details.{crossing_section as crossing_by, is_crossing as crossing, is_not_shown as not_shown, larger_segment as larger_by, past_section as section_by, past_segment as segment_by, unshown_section as unshown_by};
+ghost use Rattle.elf_format.specs.File.{is_loaded};
+ghost use Rattle.elf_format.specs.Placement.{crosses_file_end, holds};
+ghost use Rattle.elf_format.specs.Places.{place_of};
+ghost use Rattle.elf_image_reasons.specs.Details.{is_not_shown as not_shown, is_wrong_section as wrong_section_by, is_wrong_segment as wrong_segment_by, section_told, segment_told, wrong_section as section_by, wrong_segment as segment_by};
 
 use crate::detail::{Detail, Piece};
+use crate::rule::Rule;
 use elf_format::records::{SectionHeader, SegmentHeader};
-
-// The number of the first section with bytes past the end of the file.
-fn first_section_past(length: usize, sections: &[SectionHeader]) -> Option<usize>
-    ensures { result ≡ position (λ s. has_file_bytes s
-        && not (ends_by length (file_range (place_of s)))) sections.now }
-{
-    sections.iter().position(|s| s.has_file_bytes() && s.file_range().end() > length as u128)
-}
-
-// The first section with bytes past the end of the file.
-pub(crate) fn past_section(length: usize, sections: &[SectionHeader]) -> Option<Detail>
-    ensures { result ≡ section_by length sections.now }
-{
-    let number = first_section_past(length, sections)?;
-    let section = sections.get(number)?;
-    Some(Detail::PastEnd {
-        piece: Piece::Section(number),
-        start: section.sh_offset,
-        size: section.sh_size,
-        length,
-    })
-}
-
-// The number of the first loaded segment with bytes past the end of the file.
-fn first_segment_past(length: usize, segments: &[SegmentHeader]) -> Option<usize>
-    ensures { result ≡ position (λ p. is_loaded p && not (ends_by length (file_part p)))
-        segments.now }
-{
-    segments
-        .iter()
-        .position(|p| p.is_loaded() && p.file_part().end() > length as u128)
-}
-
-// The first loaded segment with bytes past the end of the file.
-pub(crate) fn past_segment(length: usize, segments: &[SegmentHeader]) -> Option<Detail>
-    ensures { result ≡ segment_by length segments.now }
-{
-    let number = first_segment_past(length, segments)?;
-    let segment = segments.get(number)?;
-    Some(Detail::PastEnd {
-        piece: Piece::Segment(number),
-        start: segment.p_offset,
-        size: segment.p_filesz,
-        length,
-    })
-}
-
-// The number of the first loaded segment with more bytes in the file than in memory.
-fn first_larger(segments: &[SegmentHeader]) -> Option<usize>
-    ensures { result ≡ position (λ p. is_loaded p && not (nat_le p.p_filesz p.p_memsz))
-        segments.now }
-{
-    segments
-        .iter()
-        .position(|p| p.is_loaded() && p.p_filesz > p.p_memsz)
-}
-
-// The first loaded segment with more bytes in the file than in memory.
-pub(crate) fn larger_segment(segments: &[SegmentHeader]) -> Option<Detail>
-    ensures { result ≡ larger_by segments.now }
-{
-    let number = first_larger(segments)?;
-    let segment = segments.get(number)?;
-    Some(Detail::MoreInFile {
-        segment: number,
-        in_file: segment.p_filesz,
-        in_memory: segment.p_memsz,
-    })
-}
 
 // Whether a loaded segment holds a section.
 fn some_holds(segments: &[SegmentHeader], section: SectionHeader) -> bool
-    ensures { result ≡ list_any (λ p. holds p (place_of section)) (loads_of segments.now) }
+    ensures { result ≡ list_any (λ p. is_loaded p && holds p (place_of section)) segments.now }
 {
-    segments
-        .iter()
-        .filter(|p| p.is_loaded())
-        .any(|p| p.holds(section))
+    segments.iter().any(|p| p.is_loaded() && p.holds(section))
 }
 
 // Whether a stored section is held by no loaded segment, or begins at the file's start.
@@ -93,29 +22,6 @@ fn is_not_shown(segments: &[SegmentHeader], section: SectionHeader) -> bool
     ensures { result ≡ not_shown segments.now section }
 {
     section.is_stored() && !(some_holds(segments, section) && section.sh_offset != 0)
-}
-
-// The number of the first of these.
-fn first_not_shown(segments: &[SegmentHeader], sections: &[SectionHeader]) -> Option<usize>
-    ensures { result ≡ position (not_shown segments.now) sections.now }
-{
-    sections.iter().position(|s| is_not_shown(segments, *s))
-}
-
-// The first of these.
-pub(crate) fn unshown_section(
-    segments: &[SegmentHeader],
-    sections: &[SectionHeader],
-) -> Option<Detail>
-    ensures { result ≡ unshown_by segments.now sections.now }
-{
-    let number = first_not_shown(segments, sections)?;
-    let section = sections.get(number)?;
-    Some(Detail::NotShown {
-        section: number,
-        offset: section.sh_offset,
-        address: section.sh_addr,
-    })
 }
 
 // Whether the end of a segment's file part lies inside the addresses of a section.
@@ -128,41 +34,133 @@ fn is_over_end(segment: SegmentHeader, section: SectionHeader) -> bool
 
 // Whether some loaded segment's file part ends inside the addresses of a section.
 fn some_over_end(segments: &[SegmentHeader], section: SectionHeader) -> bool
-    ensures { result ≡ list_any (λ p. crosses_file_end p (place_of section))
-        (loads_of segments.now) }
+    ensures { result
+        ≡ list_any (λ p. is_loaded p && crosses_file_end p (place_of section)) segments.now }
 {
     segments
         .iter()
-        .filter(|p| p.is_loaded())
-        .any(|p| is_over_end(*p, section))
+        .any(|p| p.is_loaded() && is_over_end(*p, section))
 }
 
-// Whether an uninitialized section crosses the end of a loaded segment's file part.
-fn is_crossing(segments: &[SegmentHeader], section: SectionHeader) -> bool
-    ensures { result ≡ crossing segments.now section }
+// Whether a section contradicts a rule by itself.
+fn is_wrong_section(
+    rule: Rule,
+    length: usize,
+    segments: &[SegmentHeader],
+    section: SectionHeader,
+) -> bool
+    ensures { result ≡ wrong_section_by rule length segments.now section }
 {
-    section.is_uninitialized() && some_over_end(segments, section)
+    match rule {
+        Rule::RangesInFile => {
+            section.has_file_bytes() && section.file_range().end() > length as u128
+        }
+        Rule::SectionsLoaded => is_not_shown(segments, section),
+        Rule::UninitializedData => section.is_uninitialized() && some_over_end(segments, section),
+        _ => false,
+    }
 }
 
-// The number of the first of these.
-fn first_crossing(segments: &[SegmentHeader], sections: &[SectionHeader]) -> Option<usize>
-    ensures { result ≡ position (crossing segments.now) sections.now }
+// What is told of such a section with its number.
+fn told_section(rule: Rule, length: usize, number: usize, section: SectionHeader) -> Option<Detail>
+    ensures { result ≡ section_told rule length number section }
 {
-    sections.iter().position(|s| is_crossing(segments, *s))
+    match rule {
+        Rule::RangesInFile => Some(Detail::PastEnd {
+            piece: Piece::Section(number),
+            start: section.sh_offset,
+            size: section.sh_size,
+            length,
+        }),
+        Rule::SectionsLoaded => Some(Detail::NotShown {
+            section: number,
+            offset: section.sh_offset,
+            address: section.sh_addr,
+        }),
+        Rule::UninitializedData => Some(Detail::Crosses {
+            section: number,
+            address: section.sh_addr,
+            size: section.sh_size,
+        }),
+        _ => None,
+    }
 }
 
-// The first of these.
-pub(crate) fn crossing_section(
+// The number of the first section that contradicts a rule by itself.
+fn first_wrong_section(
+    rule: Rule,
+    length: usize,
+    segments: &[SegmentHeader],
+    sections: &[SectionHeader],
+) -> Option<usize>
+    ensures { result ≡ position (wrong_section_by rule length segments.now) sections.now }
+{
+    sections
+        .iter()
+        .position(|s| is_wrong_section(rule, length, segments, *s))
+}
+
+// The same as a detail.
+#[tactic(auto, unfolding(crate::specs::Details::wrong_section))]
+pub(crate) fn wrong_section(
+    rule: Rule,
+    length: usize,
     segments: &[SegmentHeader],
     sections: &[SectionHeader],
 ) -> Option<Detail>
-    ensures { result ≡ crossing_by segments.now sections.now }
+    ensures { result ≡ section_by rule length segments.now sections.now }
 {
-    let number = first_crossing(segments, sections)?;
+    let number = first_wrong_section(rule, length, segments, sections)?;
     let section = sections.get(number)?;
-    Some(Detail::Crosses {
-        section: number,
-        address: section.sh_addr,
-        size: section.sh_size,
-    })
+    told_section(rule, length, number, *section)
+}
+
+// Whether a program header contradicts a rule by itself.
+fn is_wrong_segment(rule: Rule, length: usize, segment: SegmentHeader) -> bool
+    ensures { result ≡ wrong_segment_by rule length segment }
+{
+    match rule {
+        Rule::RangesInFile => segment.is_loaded() && segment.file_part().end() > length as u128,
+        Rule::FileParts => segment.is_loaded() && segment.p_filesz > segment.p_memsz,
+        _ => false,
+    }
+}
+
+// What is told of such a program header with its number.
+fn told_segment(rule: Rule, length: usize, number: usize, segment: SegmentHeader) -> Option<Detail>
+    ensures { result ≡ segment_told rule length number segment }
+{
+    match rule {
+        Rule::RangesInFile => Some(Detail::PastEnd {
+            piece: Piece::Segment(number),
+            start: segment.p_offset,
+            size: segment.p_filesz,
+            length,
+        }),
+        Rule::FileParts => Some(Detail::MoreInFile {
+            segment: number,
+            in_file: segment.p_filesz,
+            in_memory: segment.p_memsz,
+        }),
+        _ => None,
+    }
+}
+
+// The number of the first program header that contradicts a rule by itself.
+fn first_wrong_segment(rule: Rule, length: usize, segments: &[SegmentHeader]) -> Option<usize>
+    ensures { result ≡ position (wrong_segment_by rule length) segments.now }
+{
+    segments
+        .iter()
+        .position(|p| is_wrong_segment(rule, length, *p))
+}
+
+// The same as a detail.
+#[tactic(auto, unfolding(crate::specs::Details::wrong_segment))]
+pub(crate) fn wrong_segment(rule: Rule, length: usize, segments: &[SegmentHeader]) -> Option<Detail>
+    ensures { result ≡ segment_by rule length segments.now }
+{
+    let number = first_wrong_segment(rule, length, segments)?;
+    let segment = segments.get(number)?;
+    told_segment(rule, length, number, *segment)
 }

@@ -1,15 +1,15 @@
 ghost use Rattle.std.specs.Prelude.{◌≡◌, IfOk, Some};
 ghost use Rattle.elf_format.specs.Rules.{raw_entries as entries_of};
 ghost use Rattle.elf_image_rules.specs.Read.{parts_model};
-ghost use Rattle.elf_image_reasons.specs.Details.{detail_of as detail_by, dynamic_part_detail as dynamic_by, late_detail as late_by, part_detail as part_by, placement_detail as placement_by, unloaded_detail as unloaded_by};
+ghost use Rattle.elf_image_reasons.specs.Details.{detail_of as detail_by, joint_detail as joint_by, late_detail as late_by, lone_detail as lone_by, part_detail as part_by, unloaded_detail as unloaded_by};
 ghost use Rattle.elf_image_reasons.specs.Told.{reason_of};
 
 use crate::broken::{broken_rule, is_memory};
 use crate::detail::Detail;
 use crate::dynamic::{dynamic_detail, interpreter_detail, text_detail};
 use crate::headers::{early_detail, first_there};
-use crate::meetings::{loaded_detail, shared_segments};
-use crate::placed::{crossing_section, larger_segment, past_section, past_segment};
+use crate::meetings::{shared_sections, shared_segments};
+use crate::placed::{wrong_section, wrong_segment};
 use crate::rule::Rule;
 use crate::tables::tables_detail;
 use elf_format::records::EntryNumbers;
@@ -19,7 +19,7 @@ use std::alloc::{AllocError, Global};
 use std::fmt;
 
 /// Why a file is refused.
-#[derive(Clone, Copy, Debug, PartialEq, Eq)]
+#[derive(Clone, Copy)]
 pub struct Reason {
     /// The first read rule that the file breaks.
     pub rule: Rule,
@@ -47,43 +47,35 @@ fn unloaded_table(parts: &Headers<'_>) -> Detail
     }
 }
 
-// What contradicts a rule on where sections and segments stand.
-fn placement_detail(
-    alloc: Global,
-    parts: &Headers<'_>,
-    rule: Rule,
-) -> Result<Option<Detail>, AllocError>
-    ensures { IfOk result (λ answer. answer ≡ placement_by rule (parts_model parts.now)) }
+// The first section or program header that contradicts a rule by itself.
+fn lone_detail(parts: &Headers<'_>, rule: Rule) -> Option<Detail>
+    ensures { result ≡ lone_by rule (parts_model parts.now) }
 {
-    let (segments, sections) = (parts.segments.as_slice(), parts.sections.as_slice());
-    match rule {
-        Rule::RangesInFile => Ok(first_there(
-            past_section(parts.file.len(), sections),
-            past_segment(parts.file.len(), segments),
-        )),
-        Rule::FileParts => Ok(larger_segment(segments)),
-        Rule::SegmentsApart => shared_segments(alloc, segments),
-        Rule::SectionsLoaded => loaded_detail(alloc, segments, sections),
-        Rule::UninitializedData => Ok(crossing_section(segments, sections)),
-        Rule::LoadedHeaderTable => Ok(Some(unloaded_table(parts))),
-        _ => Ok(None),
-    }
+    let length = parts.file.len();
+    first_there(
+        wrong_section(rule, length, &parts.segments, &parts.sections),
+        wrong_segment(rule, length, &parts.segments),
+    )
 }
 
-// What contradicts a rule on the dynamic section and the interpreter.
-fn dynamic_part_detail(
+// What contradicts a rule besides.
+fn joint_detail(
+    alloc: Global,
     parts: &Headers<'_>,
     raw: &[EntryNumbers],
     rule: Rule,
 ) -> Result<Option<Detail>, AllocError>
     requires { raw.now ≡ entries_of (parts_model parts.now) }
-    ensures { IfOk result (λ answer. answer ≡ dynamic_by rule (parts_model parts.now)) }
+    ensures { IfOk result (λ answer. answer ≡ joint_by rule (parts_model parts.now)) }
 {
     match rule {
+        Rule::SegmentsApart => shared_segments(alloc, &parts.segments),
+        Rule::SectionsLoaded => shared_sections(alloc, &parts.sections),
         Rule::DynamicSection => Ok(dynamic_detail(&parts.segments, &parts.sections)),
         Rule::Interpreter => Ok(interpreter_detail(&parts.segments)),
         Rule::DynamicTables => Ok(tables_detail(parts, raw)),
         Rule::Texts => text_detail(parts, raw),
+        Rule::LoadedHeaderTable => Ok(Some(unloaded_table(parts))),
         _ => Ok(None),
     }
 }
@@ -93,9 +85,8 @@ fn part_detail(alloc: Global, parts: &Headers<'_>, rule: Rule) -> Result<Option<
     ensures { IfOk result (λ answer. answer ≡ part_by rule (parts_model parts.now)) }
 {
     let raw = raw_entries(alloc, parts)?;
-    let listed = dynamic_part_detail(parts, &raw, rule)?;
-    let placed = placement_detail(alloc, parts, rule)?;
-    Ok(first_there(placed, listed))
+    let joint = joint_detail(alloc, parts, &raw, rule)?;
+    Ok(first_there(lone_detail(parts, rule), joint))
 }
 
 // What contradicts a rule on the parts of a file, where its headers are read.

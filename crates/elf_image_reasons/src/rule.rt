@@ -73,9 +73,10 @@ impl Rule {
     }
 }
 
-impl fmt::Display for Rule {
-    fn fmt<W: fmt::Write>(&self, f: &mut fmt::Formatter<W>) -> fmt::Result {
-        f.write_str(match self {
+impl Rule {
+    // The name in which a rule is told.
+    fn name(self) -> &'static str {
+        match self {
             Rule::Identification => "identification",
             Rule::Magic => "magic",
             Rule::Class => "class, byte order and version",
@@ -94,6 +95,12 @@ impl fmt::Display for Rule {
             Rule::Texts => "texts",
             Rule::Versions => "versions",
             Rule::LoadedHeaderTable => "header table loaded",
-        })
+        }
+    }
+}
+
+impl fmt::Display for Rule {
+    fn fmt<W: fmt::Write>(&self, f: &mut fmt::Formatter<W>) -> fmt::Result {
+        f.write_str(self.name())
     }
 }

@@ -231,6 +231,7 @@ fn list_detail(
 }
 
 // What contradicts the rule on the tables of the dynamic list.
+#[tactic(auto, unfolding(crate::specs::Details::tables_detail))]
 pub(crate) fn tables_detail(parts: &Headers<'_>, raw: &[EntryNumbers]) -> Option<Detail>
     requires { raw.now ≡ entries_of (parts_model parts.now) }
     ensures { result ≡ detail_by (parts_model parts.now) }

@@ -1,5 +1,6 @@
 -- A pair that is found in a round stands against every plan, and what is known of an image with its sizes is known of the image.
-use Rattle.std.proofs.Common.{◌≡◌, ◌+◌, ◌-◌, ◌<◌, ◌≤◌, ℕ, List, true, false, None, Some, sym, ap, ◌∙◌, subst, inr}
+use Rattle.std.proofs.Common.{◌≡◌, ◌+◌, ◌-◌, ◌<◌, ◌≤◌, ℕ, List, true, false, Option, None, Some, sym, ap, ◌∙◌, subst, inl, inr, length}
+use Rattle.std.specs.Prelude.{IfNone}
 use Rattle.elf_layout_plan.specs.Blocks.{Block}
 use Rattle.elf_layout_plan.specs.Memory.{Resized, blocks_with}
 use Rattle.elf_layout_plan.specs.Plan.{most_added, resized}
@@ -9,7 +10,8 @@ use Rattle.elf_layout_moves.proofs.ForCallers.{resized_is}
 use Rattle.elf_layout_segments.proofs.RoundSteps.{AreSoFar, ended, nearer, none_so_far, one_more}
 use Rattle.elf_layout_reasons.specs.declared.stuck.StuckPair.{StuckPair}
 use Rattle.elf_layout_reasons.specs.Pair.{IsFirstPair, IsStuckPair}
-use Rattle.elf_layout_reasons.specs.Stuck.{DoRoundsEnd, HasNoStuckPair, IsRound, IsStuckInRound, first_pair}
+use Rattle.elf_layout_reasons.specs.Stuck.{DoRoundsEnd, HasManyBlocks, HasNoStuckPair, IsRound, IsStuckInRound, first_pair}
+use Rattle.elf_layout_reasons.specs.declared.stuck.TheConstants.{MOST_BLOCKS}
 use Rattle.elf_layout_reasons.proofs.PairSteps.{none_stuck, pair_is}
 
 -- two blocks that are stuck make a pair
@@ -43,7 +45,17 @@ pair_stuck r looked pair is round first =
     subst R (sym (resized_is r is)) (pair_at r pair (subst P (sym first.counted) round) (subst Q (sym first.counted) first.first))
 
 pub no_pair : (r : Resized) → IsResized r → DoRoundsEnd r → HasNoStuckPair r.image
-no_pair r is end = inr (let P : Resized → Type 0 = DoRoundsEnd in subst P (sym (resized_is r is)) end)
+no_pair r is end = inr (let P : Resized → Type 0 = DoRoundsEnd in inl (subst P (sym (resized_is r is)) end))
+
+-- a pair isn't looked for among so many blocks
+pub too_many : (r : Resized) (looked : ℕ) → IsResized r → IsStuckInRound r looked → MOST_BLOCKS < length (blocks_with r looked) → HasNoStuckPair r.image
+too_many r looked is round many =
+    let P : Resized → Type 0 = HasManyBlocks in
+    inr (inr (subst P (sym (resized_is r is)) (record { looked = looked; round = round; many = many })))
+
+pub none_of_many : (r : Resized) (looked : ℕ) (answer : Option StuckPair) → IsResized r → IsStuckInRound r looked → IfNone answer (MOST_BLOCKS < length (blocks_with r looked)) → IfNone answer (HasNoStuckPair r.image)
+none_of_many r looked None is round many = too_many r looked is round many
+none_of_many r looked (Some pair) is round many = many
 
 -- ## Rounds so far
 

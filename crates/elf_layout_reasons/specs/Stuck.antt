@@ -1,12 +1,13 @@
 -- Which two blocks overlap and never move, and in which round that is found.
-use Rattle.std.specs.Prelude.{ℕ, ◌≡◌, ◌⊎◌, List, [], ◌∷◌, true, false, Option, Some, None, IsTrue, if◌then◌else◌}
+use Rattle.std.specs.Prelude.{ℕ, ◌≡◌, ◌<◌, ◌⊎◌, List, [], ◌∷◌, length, true, false, Option, Some, None, IsTrue, if◌then◌else◌}
 use Rattle.elf_format.specs.Image.{Image}
 use Rattle.elf_format.specs.Options.{first_there}
 use Rattle.elf_layout_plan.specs.Blocks.{Block, is_stuck_pair}
-use Rattle.elf_layout_plan.specs.Memory.{Resized}
+use Rattle.elf_layout_plan.specs.Memory.{Resized, blocks_with}
 use Rattle.elf_layout_plan.specs.Plan.{resized}
 use Rattle.elf_layout_plan.specs.Refusals.{do_sizes_of_image_fit}
 use Rattle.elf_layout_plan.specs.Rounds.{AreRounds, do_move, headers_needed, is_stuck_with, leads_to}
+use Rattle.elf_layout_reasons.specs.declared.stuck.TheConstants.{MOST_BLOCKS}
 
 -- ## Pairs
 
@@ -44,6 +45,12 @@ pub record DoRoundsEnd (r : Resized) : Type 0 where
   pub moved : List ℕ
   pub ended : AreRounds r before looked moved
 
--- a new size or the offset of a text is past its field, or rounds come to an end
+-- rounds lead to such a number, with more blocks than are compared
+pub record HasManyBlocks (r : Resized) : Type 0 where
+  pub looked : ℕ
+  pub round : IsStuckInRound r looked
+  pub many : MOST_BLOCKS < length (blocks_with r looked)
+
+-- a new size or the offset of a text is past its field, or rounds come to an end, or there are too many blocks
 abbrev pub HasNoStuckPair : Image → Type 0
-HasNoStuckPair image = (do_sizes_of_image_fit image ≡ false) ⊎ DoRoundsEnd (resized image)
+HasNoStuckPair image = (do_sizes_of_image_fit image ≡ false) ⊎ DoRoundsEnd (resized image) ⊎ HasManyBlocks (resized image)

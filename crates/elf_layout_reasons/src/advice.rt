@@ -1,13 +1,13 @@
-ghost use Rattle.std.specs.Prelude.{◌≡◌};
+//! What takes a block of memory, and what may be done where two overlap that never move.
+ghost use Rattle.std.specs.Prelude.{◌≡◌, Some};
 ghost use Rattle.elf_format.specs.Options.{is_some_and};
-ghost use Rattle.elf_layout_reasons.specs.Advice.{advice_for as advice_by, is_grown_list as grown_list, name_of as name_by, part_of as part_by, section_of as section_by};
+ghost use Rattle.elf_layout_reasons.specs.Advice.{advice_for as advice_by, advice_words, is_grown_list as grown_list, name_of as name_by, part_of as part_by, part_words, section_of as section_by};
 
 use crate::stuck::StuckPair;
 use elf_format::constants::SHT_DYNAMIC;
 use elf_format::form::Form;
 use elf_image::Builder;
 use elf_layout_moves::blocks::MemoryBlock;
-use std::alloc::{AllocError, Global};
 use std::fmt;
 
 /// What takes a block of memory.
@@ -24,6 +24,8 @@ pub enum Part {
 }
 
 impl fmt::Display for Part {
+    ghost output = { λ part. Some (part_words part) };
+
     fn fmt<W: fmt::Write>(&self, f: &mut fmt::Formatter<W>) -> fmt::Result {
         match self {
             Part::FileHeader => write!(f, "the file header"),
@@ -43,12 +45,24 @@ pub enum Advice {
     SpareHeaders,
 }
 
-impl fmt::Display for Advice {
-    fn fmt<W: fmt::Write>(&self, f: &mut fmt::Formatter<W>) -> fmt::Result {
-        f.write_str(match self {
+impl Advice {
+    /// What is missing, in words.
+    pub fn words(self) -> &'static str
+        ensures { result.now ≡ advice_words self }
+    {
+        match self {
             Advice::SpareEntries => "no spare entry",
             Advice::SpareHeaders => "no room for a further entry",
-        })
+        }
+    }
+}
+
+impl fmt::Display for Advice {
+    ghost output = { λ advice. Some (advice_words advice) };
+
+    fn fmt<W: fmt::Write>(&self, f: &mut fmt::Formatter<W>) -> fmt::Result {
+        let words = self.words();
+        write!(f, "{words}")
     }
 }
 
@@ -110,28 +124,4 @@ pub fn name_of<'a>(image: &'a Builder<'_>, part: Part) -> &'a [u8]
         None => &[],
         Some(section) => section.name.as_slice(),
     }
-}
-
-/// What takes a block, in words: a section's name where it has one, shown lossily. Error: `AllocError`.
-pub fn part_text(alloc: Global, image: &Builder<'_>, part: Part) -> Result<String, AllocError> {
-    let name = name_of(image, part);
-    if name.is_empty() {
-        return format!(in alloc; "{part}");
-    }
-    String::from_utf8_lossy(alloc, name)
-}
-
-/// What may be done, in words that name both blocks; `None` where nothing is known. Error: `AllocError`.
-pub fn advice_text(
-    alloc: Global,
-    image: &Builder<'_>,
-    pair: &StuckPair,
-) -> Result<Option<String>, AllocError> {
-    let Some(advice) = advice_for(image, pair) else {
-        return Ok(None);
-    };
-    let earlier = part_text(alloc, image, part_of(image, pair.earlier))?;
-    let later = part_text(alloc, image, part_of(image, pair.later))?;
-    let text = format!(in alloc; "{earlier} has {advice}, {later} stands behind it")?;
-    Ok(Some(text))
 }

@@ -6,6 +6,8 @@ pub mod advice;
 mod pairs;
 mod rounds;
 pub mod stuck;
+pub mod texts;
 
-pub use crate::advice::{Advice, Part, advice_for, advice_text, name_of, part_of, part_text};
-pub use crate::stuck::{StuckPair, stuck_pair};
+pub use crate::advice::{Advice, Part, advice_for, name_of, part_of};
+pub use crate::stuck::{MOST_BLOCKS, StuckPair, stuck_pair};
+pub use crate::texts::{advice_text, pair_text, part_text};

@@ -1,5 +1,6 @@
-ghost use Rattle.std.specs.Prelude.{◌≡◌, IfNone, IfOk, IfSome, false, true};
+ghost use Rattle.std.specs.Prelude.{◌≡◌, ◌<◌, IfNone, IfOk, IfSome, false, length, true};
 ghost use Rattle.elf_image.specs.Kept.{image_at_read};
+ghost use Rattle.elf_layout_plan.specs.Memory.{blocks_with};
 ghost use Rattle.elf_layout_plan.specs.Plan.{IsOverlapping, resized};
 ghost use Rattle.elf_layout_plan.specs.Refusals.{do_sizes_of_image_fit, sizes_of_image};
 ghost use Rattle.elf_layout_plan.specs.Rounds.{is_stuck_with};
@@ -16,6 +17,9 @@ use elf_layout_segments::anchors::anchors;
 use elf_layout_sizes::new_sizes_of;
 use std::alloc::{AllocError, Global};
 
+/// How many blocks are looked at: each two of them are compared.
+pub const MOST_BLOCKS: usize = 2000;
+
 /// Two blocks of memory that overlap and never move.
 #[derive(Clone, Copy)]
 pub struct StuckPair {
@@ -27,21 +31,31 @@ pub struct StuckPair {
     pub later: MemoryBlock,
 }
 
-// The first two blocks that overlap and never move, with so many program headers more.
-fn pair_with(alloc: Global, r: &Resizing<'_, '_>, looked: usize) -> Result<StuckPair, AllocError>
+// The first two blocks that overlap and never move, with so many program headers more; `None` where there are more blocks
+// than are compared.
+fn pair_with(
+    alloc: Global,
+    r: &Resizing<'_, '_>,
+    looked: usize,
+) -> Result<Option<StuckPair>, AllocError>
     requires { is_stuck_with r.now looked ≡ true }
-    ensures { IfOk result (λ pair. IsFirstPair r.now looked pair) }
+    ensures pair { IfOk result (λ answer. IfSome answer (IsFirstPair r.now looked)) }
+    ensures many { IfOk result (λ answer. IfNone answer
+        (MOST_BLOCKS < length (blocks_with r.now looked))) }
 {
     let _image = r.image.source();
     let blocks = blocks_of(alloc, r, looked)?;
+    if blocks.len() > MOST_BLOCKS {
+        return Ok(None);
+    }
     let Some((earlier, later)) = first_pair(&blocks) else {
         unreachable!()
     };
-    Ok(StuckPair {
+    Ok(Some(StuckPair {
         looked,
         earlier,
         later,
-    })
+    }))
 }
 
 // The first two blocks that overlap and never move, of an image with its new sizes.
@@ -56,7 +70,7 @@ fn pair_of(alloc: Global, r: &Resizing<'_, '_>) -> Result<Option<StuckPair>, All
         return Ok(None);
     };
     let pair = pair_with(alloc, r, looked)?;
-    Ok(Some(pair))
+    Ok(pair)
 }
 
 // The new sizes of the sections; `None` where one of them is too large.
@@ -80,8 +94,8 @@ fn fitting_sizes<'data>(
 }
 
 /// The first two blocks of memory that overlap and never move, by which a layout of the image is refused with `Overlap`; `None`
-/// where there is another cause, or none: a new size is too large, or the rounds come to an end. The image's source is read
-/// once more. Error: `AllocError`, only where a growth was refused.
+/// where there is another cause, or none: a new size is too large, or the rounds come to an end; and where there are more than
+/// `MOST_BLOCKS` blocks. The image's source is read once more. Error: `AllocError`, only where a growth was refused.
 pub fn stuck_pair(alloc: Global, image: &Builder<'_>) -> Result<Option<StuckPair>, AllocError>
     ensures pair { IfOk result (λ answer. IfSome answer (IsStuckPair (resized image.now))) }
     ensures none { IfOk result (λ answer. IfNone answer (HasNoStuckPair image.now)) }
