@@ -2,14 +2,19 @@
 _arwen() {
     local word="${COMP_WORDS[COMP_CWORD]}" words=""
     if [ "$COMP_CWORD" -eq 1 ]; then
-        COMPREPLY=($(compgen -W "macho elf help --quiet --version" -- "$word"))
+        COMPREPLY=($(compgen -W "macho elf show help --quiet --version" -- "$word"))
+        return
+    fi
+    if [ "${COMP_WORDS[1]}" = show ]; then
+        if [ "${word:0:1}" = - ]; then words="--json --help"; COMPREPLY=($(compgen -W "$words" -- "$word")); return; fi
+        COMPREPLY=($(compgen -f -- "$word"))
         return
     fi
     if [ "$COMP_CWORD" -eq 2 ]; then
         case "${COMP_WORDS[1]}" in
         macho) words="delete-rpath change-rpath add-rpath change-install-name change-install-id apply help" ;;
         elf) words="add-debug-tag clear-exec-stack force-rpath no-default-lib remove-rpath set-exec-stack add-rpath set-rpath set-interpreter set-os-abi set-soname set-page-size add-needed remove-needed replace-needed apply shrink-rpath print-rpath print-needed print-soname print-interpreter print-os-abi print-exec-stack help" ;;
-        help) words="macho elf" ;;
+        help) words="macho elf show" ;;
         esac
         COMPREPLY=($(compgen -W "$words" -- "$word"))
         return

@@ -1,6 +1,7 @@
 # fish completion for arwen
 complete -c arwen -n __fish_use_subcommand -f -a macho -d 'Edit a Mach-O file'
 complete -c arwen -n __fish_use_subcommand -f -a elf -d 'Edit or print an ELF file'
+complete -c arwen -n __fish_use_subcommand -f -a show -d 'Tell what files are, and what they ask of a loader'
 complete -c arwen -n __fish_use_subcommand -f -a help -d 'Print help'
 complete -c arwen -n '__fish_seen_subcommand_from macho; and not __fish_seen_subcommand_from delete-rpath change-rpath add-rpath change-install-name change-install-id apply' -f -a delete-rpath -d 'Remove a run path'
 complete -c arwen -n '__fish_seen_subcommand_from macho; and not __fish_seen_subcommand_from delete-rpath change-rpath add-rpath change-install-name change-install-id apply' -f -a change-rpath -d 'Put a run path in the place of another'
@@ -31,3 +32,4 @@ complete -c arwen -n '__fish_seen_subcommand_from elf; and not __fish_seen_subco
 complete -c arwen -n '__fish_seen_subcommand_from elf; and not __fish_seen_subcommand_from add-debug-tag clear-exec-stack force-rpath no-default-lib remove-rpath set-exec-stack add-rpath set-rpath set-interpreter set-os-abi set-soname set-page-size add-needed remove-needed replace-needed apply shrink-rpath print-rpath print-needed print-soname print-interpreter print-os-abi print-exec-stack' -f -a print-interpreter -d 'Print the interpreter'
 complete -c arwen -n '__fish_seen_subcommand_from elf; and not __fish_seen_subcommand_from add-debug-tag clear-exec-stack force-rpath no-default-lib remove-rpath set-exec-stack add-rpath set-rpath set-interpreter set-os-abi set-soname set-page-size add-needed remove-needed replace-needed apply shrink-rpath print-rpath print-needed print-soname print-interpreter print-os-abi print-exec-stack' -f -a print-os-abi -d 'Print the ABI byte'
 complete -c arwen -n '__fish_seen_subcommand_from elf; and not __fish_seen_subcommand_from add-debug-tag clear-exec-stack force-rpath no-default-lib remove-rpath set-exec-stack add-rpath set-rpath set-interpreter set-os-abi set-soname set-page-size add-needed remove-needed replace-needed apply shrink-rpath print-rpath print-needed print-soname print-interpreter print-os-abi print-exec-stack' -f -a print-exec-stack -d 'Print whether the stack may be run'
+complete -c arwen -n '__fish_seen_subcommand_from show' -l json -d 'Tell of each file in one line of JSON'

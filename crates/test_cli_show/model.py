@@ -20,6 +20,14 @@ REFUSED = {
     'three-bytes': 'neither an ELF file nor a Mach-O file: UnknownFormat',
 }
 
+LINES = {
+    'elf-object': 'error while reading ELF file: A parse error occurred while reading the file: Unsupported (a relocatable object)',
+    'fat-archive': 'error while reading Mach-O file: unix archive is not supported as fat file format',
+    'script': 'neither an ELF file nor a Mach-O file (a script)',
+    'three-bytes': 'neither an ELF file nor a Mach-O file (text)',
+    'missing': 'file error: No such file or directory (os error 2)',
+}
+
 
 def text(data, at=0):
     return data[at:data.index(b'\0', at)].decode('utf-8', 'replace')
@@ -140,18 +148,28 @@ def lines(told):
             yield '  %s:%s%s' % (key, ' ' * max(15 - len(key), 0), shown)
 
 
+def json_line(name, told):
+    return json.dumps(dict(told, file=name), sort_keys=True, separators=(',', ':'), ensure_ascii=False)
+
+
 def main():
-    with open('data/cases') as names:
-        for name in names.read().split():
-            if name in REFUSED:
-                print('%s: %s' % (name, REFUSED[name]) + '\n%s: %s' % (name, REFUSED[name]))
-                continue
-            with open('data/' + name, 'rb') as file:
-                told = facts(file.read())
-            print(name + ':')
-            for line in lines(told):
-                print(line)
-            print(json.dumps(dict(told, file=name), sort_keys=True, separators=(',', ':'), ensure_ascii=False))
+    shown, refused = [], []
+    with open('data/cases') as cases:
+        names = cases.read().split()
+    for name in names:
+        if name in REFUSED:
+            print('%s: %s' % (name, REFUSED[name]) + '\n%s: %s' % (name, REFUSED[name]))
+            continue
+        with open('data/' + name, 'rb') as file:
+            told = facts(file.read())
+        print(name + ':')
+        for line in lines(told):
+            print(line)
+        print(json_line(name, told))
+        shown.append(json_line(name, told))
+    for line in shown + ['%s: %s' % (name, LINES[name]) for name in names + ['missing'] if name in LINES]:
+        print(line)
+    print('some files are not shown')
 
 
 if __name__ == '__main__':

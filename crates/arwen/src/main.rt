@@ -1,5 +1,5 @@
 //! Patches finished Mach-O and ELF files from the command line: run paths, names of libraries and what else a
-//! loader is told. Prints what it takes from ELF files.
+//! loader is told. Prints what it takes from them.
 #![tactic(auto)]
 
 use arwen_cli::cli::{ArwenError, execute, fault_line};
@@ -47,7 +47,7 @@ fn given_words<R: Env + AllocGlobal>(rt: &R) -> Result<Vec<String>, ArwenError> 
     Ok(given.collect(rt.alloc())?)
 }
 
-/// Prints help on the standard output and a fault on the standard error.
+/// Prints help on the standard output and a fault on the standard error, unless its lines are there.
 fn report<R: Files + Print + Eprint + AllocGlobal>(
     rt: &R,
     words: &[&str],
@@ -56,6 +56,7 @@ fn report<R: Files + Print + Eprint + AllocGlobal>(
     match error {
         ArwenError::Line { text, status: 0 } => rt.print(text),
         ArwenError::Line { text, .. } => rt.eprint(text),
+        ArwenError::NotAllShown => Ok(()),
         _ => match fault_line(rt, words, error) {
             Ok(line) => rt.eprintln(line),
             Err(_) => rt.eprintln(error.line()),

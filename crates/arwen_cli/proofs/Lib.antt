@@ -5,3 +5,4 @@ pub mod Table
 pub mod Parsing
 pub mod Meanings
 pub mod Quiet
+pub mod FaultLines

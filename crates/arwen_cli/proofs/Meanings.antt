@@ -1,18 +1,26 @@
 -- What a name and the words behind it mean is what its command asks for with its values.
-use Rattle.std.proofs.Common.{◌≡◌, ◌≢◌, ◌∷◌, [], ◌≤◌, List, Option, Some, None, Ok, Err, Bor, true, false, length, map, arith, inl, inr, refl, sym, ap, ◌∙◌, subst, codes}
+use Rattle.std.proofs.Common.{◌≡◌, ◌≢◌, ◌∷◌, [], ◌≤◌, List, Option, Some, None, Ok, Err, Bor, true, false, length, map, drop, rules, arith, inl, inr, refl, sym, ap, ◌∙◌, subst, codes}
 use Rattle.std.specs.Prelude.{option_and_then, option_map, slice_get}
 use Rattle.std.proofs.lemmas.List.{length-map}
 use Rattle.clap.specs.Lexer.{usize_max}
 use Rattle.command_words.proofs.ForCallers.{meant_with-named, named-map}
 use Rattle.elf_commands.specs.Meaning.{ElfMeaning, Reading, elf_lines}
 use Rattle.macho_commands.specs.Meaning.{MachoMeaning, macho_lines}
-use Rattle.arwen_cli.specs.Meaning.{Meaning, of_elf, of_macho}
+use Rattle.elf_commands.specs.ElfEngine.{ElfMayFail as ElfCommandMayFail}
+use Rattle.elf_commands.specs.declared.error.ElfCommandError.TheVariants as elf_error
+use Rattle.macho_commands.specs.declared.error.MachoCommandError.TheVariants as macho_error
+use Rattle.arwen_cli_show.specs.Args.{ShowMeaning, args_meant}
+use Rattle.arwen_cli_show.specs.declared.command.ShowCommandError.TheVariants as show_error
+use Rattle.arwen_cli.specs.Fault.{IsOfLine}
+use Rattle.arwen_cli.specs.declared.cli.error.ArwenError.{ArwenError}
+use Rattle.arwen_cli.specs.declared.cli.error.ArwenError.TheVariants.{Memory}
+use Rattle.arwen_cli.specs.Meaning.{Meaning, of_elf, of_macho, of_show}
 use Rattle.command_words.specs.Rows.{Given, Line, Named, Text, asked_by_words, asked_with, given_by, kind_of, line_named, meant_by, meant_with, named, named_of}
 use Rattle.command_words.specs.Groups.{Wrong}
 use Rattle.command_words.specs.WordValues.{TellsNoValue}
 use Rattle.command_words.specs.declared.word_values.ValueError.{ValueError}
 use Rattle.command_words.specs.declared.word_values.ValueError.TheVariants as value
-use Rattle.arwen_cli.specs.Line.{has_option, if_taken, meaning_of}
+use Rattle.arwen_cli.specs.Line.{LineMayFail, MeaningMayFail, has_option, if_taken, meaning_of}
 use Rattle.arwen_cli.specs.Parser.{IsTaken, MeansBy, MeansTaken, is_table}
 use Rattle.arwen_cli.proofs.Named.{differs}
 use Rattle.arwen_cli.proofs.Table.{NamesValues, line_passes, line_taken}
@@ -119,11 +127,21 @@ taken_of (Some (Ok taken)) m e = cc
 taken_of (Some (Err wrong)) m e = absurd (some≢none m e)
 
 -- the words behind the first
-first_word : (words : List (Bor Text)) (first : Bor Text) (known : Text) → Some first ≡ slice_get words 0 → first.now ≡ known → (rest : List (Bor Text)) × (texts words ≡ known ∷ texts rest) × (length rest ≤ length words)
+first_word : (words : List (Bor Text)) (first : Bor Text) (known : Text) → Some first ≡ slice_get words 0 → first.now ≡ known
+    → (rest : List (Bor Text)) × (texts words ≡ known ∷ texts rest) × (length rest ≤ length words) × (drop 1 words ≡ rest)
 first_word [] first known is named = absurd (cc)
 first_word (word ∷ words) first known is named =
     let same : first ≡ word = cc in
-    (words, ap (λ (n : Text). n ∷ texts words) (ap (λ (w : Bor Text). w.now) (sym same) ∙ named), omega arith)
+    (words, ap (λ (n : Text). n ∷ texts words) (ap (λ (w : Bor Text). w.now) (sym same) ∙ named), omega arith, refl)
+
+-- words behind `show` that ask for files to be shown, and a line that does
+show_line : (rest : List Text) (m : ShowMeaning) → args_meant rest ≡ Some m → meaning_of (codes "show" ∷ rest) ≡ Some (of_show m)
+show_line [] m meant = absurd (some≢none m meant)
+show_line (name ∷ rest) m meant = ap (option_map of_show) meant
+
+show_asked : (rest : List Text) (m : Meaning) → meaning_of (codes "show" ∷ rest) ≡ Some m → (s : ShowMeaning) × (args_meant rest ≡ Some s)
+show_asked [] m meant = absurd (some≢none m meant)
+show_asked (name ∷ rest) m meant = made_of of_show (args_meant (name ∷ rest)) m meant
 
 module _ (words : List (Bor Text)) (first : Bor Text) (is : Some first ≡ slice_get words 0) (plain : has_option (texts words) ≡ false) where
   behind : (known : Text) → (rest : List (Bor Text)) → texts words ≡ known ∷ texts rest → has_option (texts rest) ≡ false
@@ -142,6 +160,17 @@ module _ (words : List (Bor Text)) (first : Bor Text) (is : Some first ≡ slice
       let at = subst (λ ws. MeansTaken (codes "elf") elf_lines ws m) w.1 by in
       let n = means_of (codes "elf") elf_lines refl (texts w.0) (Ok m) at (behind (codes "elf") w.0 w.1) in
       ap meaning_of (w.1 ∙ ap (λ ws. codes "elf" ∷ ws) n.2) ∙ ap (λ asked. option_map of_elf (if_taken asked)) n.3
+
+  pub show_means : (m : ShowMeaning) → first.now ≡ codes "show" → args_meant (texts (drop 1 words)) ≡ Some m → meaning_of (texts words) ≡ Some (of_show m)
+  show_means m named meant =
+      let w = first_word words first (codes "show") is named in
+      ap meaning_of w.1 ∙ show_line (texts w.0) m (ap (λ ws. args_meant (texts ws)) (sym w.3) ∙ meant)
+
+  pub show_passes : (m : Meaning) → first.now ≡ codes "show" → meaning_of (texts words) ≡ Some m → (s : ShowMeaning) × (args_meant (texts (drop 1 words)) ≡ Some s)
+  show_passes m named meant =
+      let w = first_word words first (codes "show") is named in
+      let asked = show_asked (texts w.0) m (ap meaning_of (sym w.1) ∙ meant) in
+      (asked.0, ap (λ ws. args_meant (texts ws)) w.3 ∙ asked.1)
 
   macho_by : (m : Meaning) (rest : List Text) → has_option rest ≡ false → length rest ≤ usize_max → meaning_of (codes "macho" ∷ rest) ≡ Some m → (taken : MachoMeaning) × MeansBy (codes "macho") macho_lines (codes "macho" ∷ rest) taken
   macho_by m [] p fits meant = absurd (some≢none m meant)
@@ -172,15 +201,34 @@ module _ (words : List (Bor Text)) (first : Bor Text) (is : Some first ≡ slice
 
 -- a line with another first word means nothing
 pub other_line : (words : List (Bor Text)) (m : Meaning) → ((first : Bor Text) → Some first ≡ slice_get words 0 → first.now ≢ codes "macho")
-    → ((first : Bor Text) → Some first ≡ slice_get words 0 → first.now ≢ codes "elf") → meaning_of (texts words) ≢ Some m
-other_line [] m macho elf e = cc
-other_line (word ∷ []) m macho elf e = cc
-other_line (word ∷ name ∷ words) m macho elf e = elim (differs word.now (codes "macho")) [
+    → ((first : Bor Text) → Some first ≡ slice_get words 0 → first.now ≢ codes "elf") → ((first : Bor Text) → Some first ≡ slice_get words 0 → first.now ≢ codes "show")
+    → meaning_of (texts words) ≢ Some m
+other_line [] m macho elf show e = cc
+other_line (word ∷ []) m macho elf show e = cc
+other_line (word ∷ name ∷ words) m macho elf show e = elim (differs word.now (codes "macho")) [
   | inl same ↦ macho word refl same
   | inr not_macho ↦ elim (differs word.now (codes "elf")) [
     | inl same ↦ elf word refl same
-    | inr not_elf ↦
-        let none : meaning_of (texts (word ∷ name ∷ words)) ≡ None = simp (not_macho, not_elf) in
-        cc
+    | inr not_elf ↦ elim (differs word.now (codes "show")) [
+      | inl same ↦ show word refl same
+      | inr not_show ↦
+          let none : meaning_of (texts (word ∷ name ∷ words)) ≡ None = simp (not_macho, not_elf, not_show) in
+          cc
+    ]
   ]
 ]
+
+-- ---- the errors of a line
+
+memory_fails : (m : Meaning) → MeaningMayFail m Memory
+memory_fails (of_macho m) = (macho_error.Memory, tt, refl)
+memory_fails (of_elf m) = (elf_error.Memory, no_memory m, refl)
+  where
+    no_memory : (m : ElfMeaning) → ElfCommandMayFail m elf_error.Memory
+    no_memory m = search rules
+memory_fails (of_show m) = (show_error.Memory, refl)
+
+-- the error of a line that wasn't read is one that the line may have
+pub line_fails : (meaning : Option Meaning) (e : ArwenError) → IsOfLine e → ((m : Meaning) → meaning ≡ Some m → e ≡ Memory) → LineMayFail meaning e
+line_fails None e of_line refused = of_line
+line_fails (Some m) e of_line refused = let P : ArwenError → Type 0 = MeaningMayFail m in subst P (sym (refused m refl)) (memory_fails m)

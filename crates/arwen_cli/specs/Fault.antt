@@ -1,5 +1,5 @@
 -- What the program answers when it does not do what was asked.
-use Rattle.std.specs.Prelude.{ℕ, ⊤}
+use Rattle.std.specs.Prelude.{ℕ, List, codes, ⊤}
 use Rattle.elf_apply.specs.declared.error.ElfError.{ElfError}
 use Rattle.elf_apply.specs.declared.error.ElfError.TheVariants as elf
 use Rattle.elf_apply.specs.declared.batch.ElfBatchError.{ElfBatchError}
@@ -14,15 +14,29 @@ use Rattle.macho_commands.specs.declared.error.MachoCommandError.{MachoCommandEr
 use Rattle.macho_commands.specs.declared.error.MachoCommandError.TheVariants as macho_command
 use Rattle.elf_commands.specs.declared.error.ElfCommandError.{ElfCommandError}
 use Rattle.elf_commands.specs.declared.error.ElfCommandError.TheVariants as elf_command
+use Rattle.arwen_cli_show.specs.declared.command.ShowCommandError.{ShowCommandError}
+use Rattle.arwen_cli_show.specs.declared.command.ShowCommandError.TheVariants as show_command
 use Rattle.arwen_cli.specs.declared.cli.error.ArwenError.{ArwenError}
 use Rattle.arwen_cli.specs.declared.cli.error.FaultLine.{FaultLine}
-use Rattle.arwen_cli.specs.declared.cli.error.ArwenError.TheVariants.{Edits, Elf, ElfBatch, Io, Line, Macho, MachoBatch, Memory}
+use Rattle.arwen_cli.specs.declared.cli.error.ArwenError.TheVariants.{Edits, Elf, ElfBatch, Io, Line, Macho, MachoBatch, Memory, NotAllShown}
 
 -- the status that the program ends with
 abbrev pub status_of : ArwenError → ℕ
 status_of (Line text status) = status
 status_of (Edits fault) = 2
 status_of _ = 1
+
+-- what kind of fault it is
+abbrev pub words_told : ArwenError → List ℕ
+words_told (Macho e) = codes "error while patching Mach-O file"
+words_told (Elf e) = codes "error while patching ELF file"
+words_told (Io e) = codes "file error"
+words_told (Line text status) = codes "invalid command line"
+words_told Memory = codes "out of memory"
+words_told (Edits fault) = codes "invalid edit list"
+words_told (MachoBatch e) = codes "Mach-O batch refused"
+words_told (ElfBatch e) = codes "ELF batch refused"
+words_told NotAllShown = codes "some files are not shown"
 
 -- the error of a line that means no command, or want of memory
 abbrev pub IsOfLine : ArwenError → Type 0
@@ -77,6 +91,12 @@ answer_to_elf_command (elf_command.ElfBatch e) = answer_to_elf_batch e
 answer_to_elf_command (elf_command.Io e) = Io e
 answer_to_elf_command (elf_command.Edits fault) = Edits fault
 answer_to_elf_command elf_command.Memory = Memory
+
+-- the same of the command that shows files
+abbrev pub answer_to_show_command : ShowCommandError → ArwenError
+answer_to_show_command show_command.NotAll = NotAllShown
+answer_to_show_command (show_command.Io e) = Io e
+answer_to_show_command show_command.Memory = Memory
 
 -- the program's answer for words that were not read as edits
 abbrev pub answer_to_words : EditsError → ArwenError

@@ -10,8 +10,10 @@ use Rattle.elf_commands.specs.declared.error.ElfCommandError.{ElfCommandError}
 use Rattle.macho_commands.specs.Engine.{MayFail}
 use Rattle.macho_commands.specs.Meaning.{MachoMeaning, macho_lines}
 use Rattle.macho_commands.specs.declared.error.MachoCommandError.{MachoCommandError}
-use Rattle.arwen_cli.specs.Fault.{IsOfLine, answer_to_elf_command, answer_to_macho_command}
-use Rattle.arwen_cli.specs.Meaning.{Meaning, of_elf, of_macho}
+use Rattle.arwen_cli_show.specs.Args.{args_meant}
+use Rattle.arwen_cli_show.specs.declared.command.ShowCommandError.{ShowCommandError}
+use Rattle.arwen_cli.specs.Fault.{IsOfLine, answer_to_elf_command, answer_to_macho_command, answer_to_show_command}
+use Rattle.arwen_cli.specs.Meaning.{Meaning, of_elf, of_macho, of_show}
 use Rattle.command_words.specs.Rows.{Text, meant_by}
 use Rattle.arwen_cli.specs.declared.cli.error.ArwenError.{ArwenError}
 
@@ -21,13 +23,16 @@ use Rattle.arwen_cli.specs.declared.cli.error.ArwenError.{ArwenError}
 abbrev pub if_taken : Option Reading → Option ElfMeaning
 if_taken asked = option_and_then result_ok asked
 
--- the first word names the commands, the second a command, and those behind it are its values in order
+-- the first word names the commands, the second a command, and those behind it are its values in order; or the first word
+-- is that of the command that shows files
 abbrev pub meaning_of : List Text → Option Meaning
 meaning_of (first ∷ name ∷ words) =
     if bytes_eq first (codes "macho") then option_map of_macho (meant_by macho_lines name words)
     else (if bytes_eq first (codes "elf")
     then option_map of_elf (if_taken (meant_by elf_lines name words))
-    else None)
+    else (if bytes_eq first (codes "show")
+    then option_map of_show (args_meant (name ∷ words))
+    else None))
 meaning_of _ = None
 
 -- ---- words that are no values by themselves
@@ -52,9 +57,13 @@ abbrev pub ElfMayFail : ElfMeaning → ArwenError → Type 0
 ElfMayFail meaning e =
     (cause : ElfCommandError) × CommandMayFail meaning cause × (e ≡ answer_to_elf_command cause)
 
+abbrev pub ShowMayFail : ArwenError → Type 0
+ShowMayFail e = (cause : ShowCommandError) × (e ≡ answer_to_show_command cause)
+
 abbrev pub MeaningMayFail : Meaning → ArwenError → Type 0
 MeaningMayFail (of_macho meaning) e = MachoMayFail meaning e
 MeaningMayFail (of_elf meaning) e = ElfMayFail meaning e
+MeaningMayFail (of_show meaning) e = ShowMayFail e
 
 -- the error of a line: that of the command that it means, or else of the line
 abbrev pub LineMayFail : Option Meaning → ArwenError → Type 0

@@ -1,38 +1,79 @@
--- What a fault leaves open, by the bytes of its file.
-use Rattle.std.specs.Prelude.{ℕ, ◌≡◌, List, Option, Some, None, ⊤}
+-- What the program says of a fault.
+use Rattle.std.specs.Prelude.{ℕ, ◌≡◌, ◌++◌, ◌∷◌, [], Bool, true, false, if◌then◌else◌, List, Option, Some, None, codes, string_bytes}
+use Rattle.arwen_cli_facts.specs.Reasons.{TellsWords, elf_words, file_line, macho_words}
+use Rattle.arwen_cli_facts.specs.declared.refusal.Told.{Told}
+use Rattle.arwen_cli_overlaps.specs.Overlaps.{TellsOverlap}
+use Rattle.byte_store.specs.Known.{IsAll}
+use Rattle.command_words.specs.Rows.{Text}
+use Rattle.elf_commands.specs.ElfAsked.{elf_asked}
+use Rattle.elf_commands.specs.Meaning.{ElfMeaning, elf_file_of}
+use Rattle.file_kinds.specs.Reasons.{Words}
+use Rattle.macho_commands.specs.Meaning.{file_of as macho_file_of}
+use Rattle.arwen_cli.specs.Fault.{words_told}
+use Rattle.arwen_cli.specs.Line.{has_option, meaning_of}
+use Rattle.arwen_cli.specs.Meaning.{Meaning, of_elf, of_macho, of_show}
 use Rattle.arwen_cli.specs.declared.cli.error.ArwenError.{ArwenError}
-use Rattle.arwen_cli.specs.declared.cli.telling.Told.{Told}
-use Rattle.arwen_cli.specs.declared.cli.telling.Told.TheVariants as told
-use Rattle.arwen_cli.specs.declared.cli.error.ArwenError.TheVariants.{Elf, Macho}
-use Rattle.elf_apply.specs.declared.error.ElfError.{ElfError}
-use Rattle.elf_apply.specs.declared.error.ElfError.TheVariants as elf
-use Rattle.elf_image_reasons.specs.Told.{reason_of}
-use Rattle.file_kinds.specs.Reasons.{Words, elf_reason, macho_reason}
-use Rattle.macho_edits.specs.declared.error.MachoError.{MachoError}
-use Rattle.macho_edits.specs.declared.error.MachoError.TheVariants as macho
+use Rattle.arwen_cli.specs.declared.cli.error.ArwenError.TheVariants.{Edits, Elf, Line, Macho, Memory, NotAllShown}
 
-abbrev pub elf_told : ElfError → List ℕ → Option Words
-elf_told (elf.Parse fault) file = elf_reason fault file
-elf_told _ file = None
-
-abbrev pub macho_told : MachoError → List ℕ → Option Words
-macho_told (macho.Parsing fault) file = macho_reason fault file
-macho_told _ file = None
+-- ## What a fault leaves open
 
 -- what the file is, where that says why
-abbrev pub words_told : ArwenError → List ℕ → Option Words
-words_told (Elf e) file = elf_told e file
-words_told (Macho e) file = macho_told e file
-words_told _ file = None
+abbrev pub words_of : ArwenError → List ℕ → Option Words
+words_of (Elf e) file = elf_words e file
+words_of (Macho e) file = macho_words e file
+words_of _ file = None
 
--- the read rule that a file breaks first
-abbrev pub IsRule : List ℕ → Option Told → Type 0
-IsRule file None = ⊤
-IsRule file (Some (told.Rule reason)) = reason_of file ≡ Some reason
-IsRule file (Some (told.Words words)) = ⊥
-
--- what is told of the bytes of a file: what it is, or else the rule that it breaks. Nothing may be told of any
+-- what is told of the bytes of a file: what it is, or else the rule that it breaks. Nothing may be told of a rule
 abbrev pub TellsBytes : ArwenError → List ℕ → Option Told → Type 0
-TellsBytes error file None = ⊤
-TellsBytes error file (Some (told.Words words)) = words_told error file ≡ Some words.now
-TellsBytes error file (Some (told.Rule reason)) = (words_told error file ≡ None) × (reason_of file ≡ Some reason)
+TellsBytes error file reason = TellsWords (words_of error file) file reason
+
+-- what is told of two blocks of known bytes that stand against a command
+abbrev pub TellsOverlapOf : ElfMeaning → Option (List ℕ) → Text → Type 0
+TellsOverlapOf meaning known text = (file : List ℕ) × IsAll known file × TellsOverlap (elf_asked meaning) file text
+
+-- ## The line
+
+-- the fault's words, and what else there is to say of it
+abbrev pub IsCausesText : ArwenError → Text → Type 0
+IsCausesText (Line text status) causes = causes ≡ string_bytes text
+IsCausesText Memory causes = causes ≡ words_told Memory
+IsCausesText NotAllShown causes = causes ≡ words_told NotAllShown
+IsCausesText e causes = (inner : Text) × (causes ≡ words_told e ++ (codes ": " ++ inner))
+
+-- the file that is named, unless by the empty word; none where files are shown, of which each has a line of its own
+abbrev pub path_if : Text → Option Text
+path_if [] = None
+path_if (c ∷ cs) = Some (c ∷ cs)
+
+abbrev pub path_of : Meaning → Option Text
+path_of (of_macho meaning) = path_if (macho_file_of meaning)
+path_of (of_elf meaning) = path_if (elf_file_of meaning)
+path_of (of_show meaning) = None
+
+abbrev pub path_in : Option Meaning → Option Text
+path_in None = None
+path_in (Some meaning) = path_of meaning
+
+-- a fault of the line itself, or of its edit list, is no file's
+abbrev pub is_of_line : ArwenError → Bool
+is_of_line (Line text status) = true
+is_of_line (Edits fault) = true
+is_of_line e = false
+
+abbrev pub path_for : ArwenError → Option Meaning → Option Text
+path_for e meaning = if is_of_line e then None else path_in meaning
+
+abbrev pub line_with : Option Text → Text → Option Text → Text
+line_with None causes bracket = causes
+line_with (Some path) causes bracket = file_line path causes bracket
+
+-- The line that tells a fault: in front the path that is named, then the causes, and perhaps a text in brackets.
+pub record IsLineWith (path : Option Text) (error : ArwenError) (line : Text) : Type 0 where
+  pub causes : Text
+  pub causes_are : IsCausesText error causes
+  pub bracket : Option Text
+  pub line_is : line ≡ line_with path causes bracket
+
+-- the line that tells the fault of a line's words, of which none is an option
+abbrev pub IsFaultLine : List Text → ArwenError → Text → Type 0
+IsFaultLine words error line = has_option words ≡ false → IsLineWith (path_for error (meaning_of words)) error line

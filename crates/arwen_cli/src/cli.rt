@@ -1,7 +1,8 @@
 //! The command line: what the words of a line mean, and doing it.
 ghost use Rattle.std.specs.Prelude.{◌≡◌, false, IfErr, IsSome, OnOk, map};
-ghost use Rattle.arwen_cli.specs.Line.{ElfMayFail, LineMayFail, MachoMayFail, MeaningMayFail, has_option, meaning_of};
+ghost use Rattle.arwen_cli.specs.Line.{ElfMayFail, LineMayFail, MachoMayFail, MeaningMayFail, ShowMayFail, has_option, meaning_of};
 ghost use Rattle.arwen_cli.specs.Meaning.{shown};
+ghost use Rattle.arwen_cli.specs.Quiet.{notes_asked};
 ghost use Rattle.elf_commands.specs.Meaning.{elf_command_model};
 ghost use Rattle.macho_commands.specs.Meaning.{macho_command_model};
 
@@ -13,9 +14,11 @@ mod parser;
 mod quiet;
 mod telling;
 
+pub use arwen_cli_show as show;
+use arwen_cli_show::Args;
 pub use command::Command;
 pub use command_words::{
-    EditFault, EditKind, EditsError, KeyValueError, MOST_BYTES, ValueError, parse_key_val,
+    EditFault, EditKind, EditsError, KeyValueError, MOST_BYTES, Notes, ValueError, parse_key_val,
 };
 pub use elf_commands::elf::{
     FileProbe, Probe, edit_path, edit_store, print_path, print_store, run_elf, shrink_path,
@@ -27,11 +30,11 @@ pub use file::read_bytes;
 pub use line::parse_line;
 pub use macho_commands::{
     MachoCommand, MachoCommandError, add, apply, change, delete, install_id, install_name,
-    macho_execute, parse_macho_edits, patch_path, patch_store, run_macho,
+    macho_execute, macho_execute_telling, parse_macho_edits, patch_path, patch_store, run_macho,
 };
 use quiet::is_quiet;
 use std::rt::Files;
-pub use telling::{fault_line, notes_of};
+pub use telling::fault_line;
 
 /// Does what the words behind the program's name ask. A line that asks for help, and one that is
 /// wrong, is answered by `ArwenError::Line`. Notes go to the standard error once an edit is made, unless a word `-q` or
@@ -46,19 +49,17 @@ pub fn execute<R: Files + Print + Eprint + AllocGlobal>(
         → LineMayFail (meaning_of (map (λ w. w.now) words.now)) e) }
 {
     let command = parse_line(rt.alloc(), words)?;
-    if is_quiet(words) {
-        return execute_command(rt, command);
-    }
-    let notes = notes_of(rt, &command);
-    execute_command(rt, command)?;
-    tell(rt, notes);
-    Ok(())
+    execute_command(rt, command, notes_for(words))
 }
 
-/// Prints notes on the standard error, where there are any. It doesn't matter whether that fails.
-fn tell<R: Eprint>(rt: &R, notes: Option<String>) {
-    if let Some(text) = notes {
-        let _ = rt.eprint(text.as_str());
+/// Whether the words of a line leave notes out. Takes no memory.
+fn notes_for(words: &[&str]) -> Notes
+    ensures { result ≡ notes_asked (map (λ w. w.now) words.now) }
+{
+    if is_quiet(words) {
+        Notes::LeftOut
+    } else {
+        Notes::Wanted
     }
 }
 
@@ -66,28 +67,45 @@ fn tell<R: Eprint>(rt: &R, notes: Option<String>) {
 fn execute_command<R: Files + Print + Eprint + AllocGlobal>(
     rt: &R,
     command: Command,
+    notes: Notes,
 ) -> Result<(), ArwenError>
     ensures { IfErr result (MeaningMayFail (shown command)) }
 {
     match command {
-        Command::Macho(macho) => execute_macho(rt, macho),
-        Command::Elf(elf) => execute_elf(rt, elf),
+        Command::Macho(macho) => execute_macho(rt, macho, notes),
+        Command::Elf(elf) => execute_elf(rt, elf, notes),
+        Command::Show(args) => execute_show(rt, args),
     }
 }
 
 /// Does what is asked of a Mach-O file.
-fn execute_macho<R: Files + AllocGlobal>(rt: &R, macho: MachoCommand) -> Result<(), ArwenError>
+fn execute_macho<R: Files + Eprint + AllocGlobal>(
+    rt: &R,
+    macho: MachoCommand,
+    notes: Notes,
+) -> Result<(), ArwenError>
     ensures { IfErr result (MachoMayFail (macho_command_model macho)) }
 {
-    Ok(macho_execute(rt, macho)?)
+    Ok(macho_execute_telling(rt, macho, notes)?)
 }
 
 /// Does what is asked of an ELF file.
 fn execute_elf<R: Files + Print + Eprint + AllocGlobal>(
     rt: &R,
     elf: ElfCommand,
+    notes: Notes,
 ) -> Result<(), ArwenError>
     ensures { IfErr result (ElfMayFail (elf_command_model elf)) }
 {
-    Ok(elf::execute(rt, elf)?)
+    Ok(elf::execute_telling(rt, elf, notes)?)
+}
+
+/// Tells what files are.
+fn execute_show<R: Files + Print + Eprint + AllocGlobal>(
+    rt: &R,
+    args: Args,
+) -> Result<(), ArwenError>
+    ensures { IfErr result ShowMayFail }
+{
+    Ok(show::execute(rt, args)?)
 }

@@ -1,4 +1,2 @@
-pub mod FirstSteps
-pub mod NulSteps
-pub mod SliceLaws
 pub mod Joined
+pub mod ShownSteps

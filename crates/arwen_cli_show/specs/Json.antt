@@ -5,10 +5,10 @@ use Rattle.json.specs.Print.{print}
 use Rattle.serde_json.specs.Data.{Data, Members, array, boolean, no_members, null, number, object, put, string, unsigned}
 use Rattle.serde_json.specs.View.{items_of}
 use Rattle.serde_json.specs.Written.{IsInOrder}
-use Rattle.arwen_cli_show.specs.ElfFacts.{ElfFacts, LibraryFacts}
-use Rattle.arwen_cli_show.specs.FileFacts.{FileFacts, elf, fat, macho}
-use Rattle.arwen_cli_show.specs.MachoFacts.{MachoFacts, SliceFacts}
-use Rattle.arwen_cli_show.specs.Names.{bits_of, cpu_name, file_type_name, flag_names, kind_name, machine_name, name_or, order_name, permissions}
+use Rattle.arwen_cli_facts.specs.ElfFacts.{ElfFacts, LibraryFacts}
+use Rattle.arwen_cli_facts.specs.FileFacts.{FileFacts, elf, fat, macho}
+use Rattle.arwen_cli_facts.specs.MachoFacts.{MachoFacts, SliceFacts}
+use Rattle.arwen_cli_facts.specs.Names.{bits_of, cpu_name, file_type_name, flag_names, kind_name, machine_name, name_or, order_name, permissions}
 
 -- ## Values
 

@@ -1,9 +1,5 @@
-pub mod ElfFacts
-pub mod FileFacts
+pub mod Args
+pub mod Command
 pub mod Json
 pub mod Lines
-pub mod MachoFacts
-pub mod Names
-pub mod Refusals
 pub mod Shown
-pub mod Texts

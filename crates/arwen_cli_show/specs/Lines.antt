@@ -1,10 +1,10 @@
 -- What is told of a file as lines for people: a key and a value each.
 use Rattle.std.specs.Prelude.{ℕ, ◌-◌, List, [], ◌∷◌, ◌++◌, length, Bool, true, false, Option, Some, None, codes, decimal, option_map, replicate, unwrap_or}
 use Rattle.std.specs.List.{flat_map}
-use Rattle.arwen_cli_show.specs.ElfFacts.{ElfFacts, LibraryFacts}
-use Rattle.arwen_cli_show.specs.FileFacts.{FileFacts, elf, fat, macho}
-use Rattle.arwen_cli_show.specs.MachoFacts.{MachoFacts, SliceFacts}
-use Rattle.arwen_cli_show.specs.Names.{bits_of, cpu_name, file_type_name, flag_names, kind_name, machine_name, name_or, order_name, permissions}
+use Rattle.arwen_cli_facts.specs.ElfFacts.{ElfFacts, LibraryFacts}
+use Rattle.arwen_cli_facts.specs.FileFacts.{FileFacts, elf, fat, macho}
+use Rattle.arwen_cli_facts.specs.MachoFacts.{MachoFacts, SliceFacts}
+use Rattle.arwen_cli_facts.specs.Names.{bits_of, cpu_name, file_type_name, flag_names, kind_name, machine_name, name_or, order_name, permissions}
 
 -- two blanks, the key with a colon, blanks up to the column of values, the value
 unfoldable pub line : List ℕ → List ℕ → List ℕ

@@ -2,15 +2,17 @@
 ghost use Rattle.std.specs.Prelude.{◌≡◌, IfOk, OnOk, codes, map, option_map, unwrap_or};
 ghost use Rattle.serde_json.specs.Data.{put as with_member, string};
 ghost use Rattle.serde_json.specs.View.{members_view, view};
-ghost use Rattle.arwen_cli_show.specs.ElfFacts.{elf_model, library_model};
+ghost use Rattle.arwen_cli_facts.specs.ElfFacts.{elf_model, library_model};
 ghost use Rattle.arwen_cli_show.specs.Json.{libraries_data, library_data, text_data_if, texts_data, with_elf, with_elf_head, with_elf_names, with_elf_tail};
-ghost use Rattle.arwen_cli_show.specs.Names.{flag_names as flags_told, machine_name as machine_told, name_or as name_or_told, permissions as permissions_told};
+ghost use Rattle.arwen_cli_facts.specs.Names.{flag_names as flags_told, machine_name as machine_told, name_or as name_or_told, permissions as permissions_told};
 
-use crate::elf::{ElfSummary, NeededLibrary};
 use crate::members::{
     Members, put_answer, put_number, put_number_if, put_text, put_text_if, put_texts,
 };
-use crate::names::{bits, flag_names, kind_name, machine_name, name_or, order_name, permissions};
+use arwen_cli_facts::elf::{ElfSummary, NeededLibrary};
+use arwen_cli_facts::names::{
+    bits, flag_names, kind_name, machine_name, name_or, order_name, permissions,
+};
 use serde_json::{Map, Value, put};
 use std::alloc::{AllocError, Global};
 

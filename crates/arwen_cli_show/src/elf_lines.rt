@@ -1,13 +1,15 @@
 //! What is told of an ELF file, as lines.
 ghost use Rattle.std.specs.Prelude.{◌≡◌, ◌++◌, OnOk, codes, map, option_map, string_bytes, unwrap_or};
 ghost use Rattle.std.specs.List.{flat_map};
-ghost use Rattle.arwen_cli_show.specs.ElfFacts.{elf_model, library_model};
+ghost use Rattle.arwen_cli_facts.specs.ElfFacts.{elf_model, library_model};
 ghost use Rattle.arwen_cli_show.specs.Lines.{elf_head_lines, elf_lines, elf_name_lines, elf_tail_lines, library_lines, line, line_if, lines};
-ghost use Rattle.arwen_cli_show.specs.Names.{flag_names as flags_told, machine_name as machine_told, name_or as name_or_told, permissions as permissions_told};
+ghost use Rattle.arwen_cli_facts.specs.Names.{flag_names as flags_told, machine_name as machine_told, name_or as name_or_told, permissions as permissions_told};
 
-use crate::elf::{ElfSummary, NeededLibrary};
 use crate::lines::{put_line, put_line_if, put_lines, put_number, put_number_if};
-use crate::names::{bits, flag_names, kind_name, machine_name, name_or, order_name, permissions};
+use arwen_cli_facts::elf::{ElfSummary, NeededLibrary};
+use arwen_cli_facts::names::{
+    bits, flag_names, kind_name, machine_name, name_or, order_name, permissions,
+};
 use std::alloc::{AllocError, Global};
 
 /// Puts the lines of an ELF file behind a text.

@@ -1,25 +1,21 @@
-//! What a file is and what it asks of a loader: facts of ELF and Mach-O files, each told once, as text for people and as
-//! JSON.
+//! What a file is and what it asks of a loader, told as text for people and as JSON, and the command that tells it.
 //!
-//! `summarize` reads bytes and answers their `Summary`. `show_bytes` writes it, as lines or as one line of JSON.
+//! `show_bytes` writes what is told of the bytes of a file, `show_paths` of the files at paths. `parse_args` reads the words
+//! of a line, and `execute` does what they ask.
 #![tactic(auto)]
 
-pub mod elf;
+pub mod args;
+pub mod command;
 mod elf_json;
 mod elf_lines;
-pub mod error;
 mod lines;
-pub mod macho;
 mod macho_json;
 mod macho_lines;
 mod members;
-pub mod names;
+mod notes;
 pub mod show;
-pub mod summary;
-mod text;
 
-pub use crate::elf::{ElfKind, ElfSummary, NeededLibrary};
-pub use crate::error::ShowError;
-pub use crate::macho::{MachoSummary, SliceSummary};
+pub use crate::args::{Args, ArgsFault, HELP, parse_args};
+pub use crate::command::{ShowCommandError, execute, show_paths};
 pub use crate::show::{Style, show_bytes};
-pub use crate::summary::{Summary, summarize};
+pub use arwen_cli_facts::{ShowError, Summary, summarize};

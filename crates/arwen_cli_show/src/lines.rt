@@ -1,7 +1,7 @@
 //! Lines for people: a key and a value each.
 ghost use Rattle.std.specs.Prelude.{◌≡◌, ◌++◌, OnOk, option_map, replicate, string_bytes};
 ghost use Rattle.arwen_cli_show.specs.Lines.{answer as answer_told, line as line_told, line_if, lines as lines_told, number_line, number_line_if};
-ghost use Rattle.arwen_cli_show.specs.Texts.{text_model, texts_model};
+ghost use Rattle.arwen_cli_facts.specs.Texts.{text_model, texts_model};
 
 use std::alloc::{AllocError, Global};
 

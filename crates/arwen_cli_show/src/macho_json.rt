@@ -3,12 +3,12 @@ ghost use Rattle.std.specs.Prelude.{◌≡◌, IfOk, OnOk, codes, map};
 ghost use Rattle.serde_json.specs.Data.{put as with_member, string};
 ghost use Rattle.serde_json.specs.View.{members_view, view};
 ghost use Rattle.arwen_cli_show.specs.Json.{slice_data, slices_data, with_macho, with_macho_head, with_macho_tail};
-ghost use Rattle.arwen_cli_show.specs.MachoFacts.{macho_model, slice_told};
-ghost use Rattle.arwen_cli_show.specs.Names.{cpu_name as cpu_told, file_type_name as file_type_told, name_or as name_or_told};
+ghost use Rattle.arwen_cli_facts.specs.MachoFacts.{macho_model, slice_told};
+ghost use Rattle.arwen_cli_facts.specs.Names.{cpu_name as cpu_told, file_type_name as file_type_told, name_or as name_or_told};
 
-use crate::macho::{MachoSummary, SliceSummary};
 use crate::members::{Members, put_answer, put_number, put_text, put_text_if, put_texts};
-use crate::names::{bits, cpu_name, file_type_name, name_or, order_name};
+use arwen_cli_facts::macho::{MachoSummary, SliceSummary};
+use arwen_cli_facts::names::{bits, cpu_name, file_type_name, name_or, order_name};
 use serde_json::{Map, Value, put};
 use std::alloc::{AllocError, Global};
 

@@ -2,12 +2,12 @@
 ghost use Rattle.std.specs.Prelude.{◌≡◌, ◌++◌, OnOk, codes, map, string_bytes};
 ghost use Rattle.std.specs.List.{flat_map};
 ghost use Rattle.arwen_cli_show.specs.Lines.{line, macho_head_lines, macho_lines, macho_tail_lines, slice_lines};
-ghost use Rattle.arwen_cli_show.specs.MachoFacts.{macho_model, slice_told};
-ghost use Rattle.arwen_cli_show.specs.Names.{cpu_name as cpu_told, file_type_name as file_type_told, name_or as name_or_told};
+ghost use Rattle.arwen_cli_facts.specs.MachoFacts.{macho_model, slice_told};
+ghost use Rattle.arwen_cli_facts.specs.Names.{cpu_name as cpu_told, file_type_name as file_type_told, name_or as name_or_told};
 
 use crate::lines::{answer, put_line, put_line_if, put_lines, put_number};
-use crate::macho::{MachoSummary, SliceSummary};
-use crate::names::{bits, cpu_name, file_type_name, name_or, order_name};
+use arwen_cli_facts::macho::{MachoSummary, SliceSummary};
+use arwen_cli_facts::names::{bits, cpu_name, file_type_name, name_or, order_name};
 use std::alloc::{AllocError, Global};
 
 /// Puts the lines of a thin file behind a text.

@@ -3,7 +3,7 @@ ghost use Rattle.std.specs.Prelude.{◌≡◌, IfOk, OnOk};
 ghost use Rattle.serde_json.specs.Data.{boolean, put as with_member, string};
 ghost use Rattle.serde_json.specs.View.{members_view, view};
 ghost use Rattle.arwen_cli_show.specs.Json.{number_data, number_data_if, text_data_if, texts_data};
-ghost use Rattle.arwen_cli_show.specs.Texts.{text_model, texts_model};
+ghost use Rattle.arwen_cli_facts.specs.Texts.{text_model, texts_model};
 
 use serde_json::{Map, Value, put};
 use std::alloc::{AllocError, Global};

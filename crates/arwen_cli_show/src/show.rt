@@ -1,24 +1,23 @@
 //! What is told of a file, written.
 ghost use Rattle.std.specs.Prelude.{◌≡◌, ◌++◌, IfErr, IfOk, OnOk, string_bytes};
 ghost use Rattle.serde_json.specs.View.{members_view, view};
-ghost use Rattle.arwen_cli_show.specs.FileFacts.{summary_model};
+ghost use Rattle.arwen_cli_facts.specs.FileFacts.{summary_model};
 ghost use Rattle.arwen_cli_show.specs.Json.{file_data, with_facts};
 ghost use Rattle.arwen_cli_show.specs.Lines.{fact_lines, file_lines};
-ghost use Rattle.arwen_cli_show.specs.Refusals.{FailsShow};
-ghost use Rattle.arwen_cli_show.specs.Shown.{Shows, Tells};
+ghost use Rattle.arwen_cli_facts.specs.Refusals.{Refuses};
+ghost use Rattle.arwen_cli_show.specs.Shown.{FailsShow, Shows, Tells, TellsOf};
 ghost use Rattle.arwen_cli_show.specs.declared.show.Style.TheVariants.{Json};
 
-use crate::error::ShowError;
 use crate::lines::put_line;
 use crate::members::{Members, put_text};
-use crate::summary::{Summary, summarize};
 use crate::{elf_json, elf_lines, macho_json, macho_lines};
+use arwen_cli_facts::{ShowError, Summary, summarize};
 use serde_json::{Map, Value};
 use std::alloc::{AllocError, Global};
 use std::io::Write;
 
 /// How facts are written.
-#[derive(Clone, Copy, Debug, PartialEq, Eq)]
+#[derive(Clone, Copy, Debug)]
 pub enum Style {
     /// The file's name with a colon, and a line for each fact: two blanks, a key, its value.
     Lines,
@@ -39,9 +38,23 @@ pub fn show_bytes<W: Write>(
         (Shows style name.now bytes.now (W.contents out.old) (W.contents out.new)) }
     ensures fails { IfErr result (FailsShow bytes.now out.old out.new) }
 {
-    let summary = summarize(alloc, bytes)?;
-    let text = text_of(alloc, name, &summary, style)?;
+    let text = text_of_bytes(alloc, name, bytes, style)?;
     Ok(out.write_all(text.as_bytes())?)
+}
+
+/// What is told of the bytes of a file, as text.
+pub(crate) fn text_of_bytes(
+    alloc: Global,
+    name: &str,
+    bytes: &[u8],
+    style: Style,
+) -> Result<String, ShowError>
+    ensures tells { IfOk result (λ text.
+        TellsOf style name.now bytes.now (string_bytes text)) }
+    ensures refused { IfErr result (Refuses bytes.now) }
+{
+    let summary = summarize(alloc, bytes)?;
+    Ok(text_of(alloc, name, &summary, style)?)
 }
 
 /// What is told of a file, as text.

@@ -1,8 +1,10 @@
 //! Prints what is told of each file that the file `cases` names: its lines, and its line of JSON. Of a file that is refused
-//! it prints the error.
+//! it prints the error. Then all of them are shown at once, with one that isn't there: what each writer got, and the answer.
 #![tactic(auto)]
 
-use arwen_cli_show::{Style, show_bytes};
+use arwen_cli_show::{ShowCommandError, Style, show_bytes, show_paths};
+use byte_store::RuntimeFiles;
+use std::alloc::AllocError;
 use std::io::Write;
 use std::{fs, io};
 
@@ -11,7 +13,8 @@ fn main(rt: HostRuntime) -> io::Result<()> {
     for name in names.lines() {
         show_file(&rt, name)?;
     }
-    Ok(())
+    let paths = paths_of(&rt, names.as_str())?;
+    show_all(&rt, paths.as_slice())
 }
 
 /// Prints what is told of a file, in both styles.
@@ -27,5 +30,35 @@ fn show(rt: &HostRuntime, name: &str, bytes: &[u8], style: Style) -> io::Result<
     match show_bytes(rt.alloc(), name, bytes, style, &mut text) {
         Ok(()) => io::writer(rt).write_all(text.as_slice()),
         Err(error) => println!(rt; "{name}: {error}: {error:?}"),
+    }
+}
+
+/// The names of lines, and one of no file.
+fn paths_of(rt: &HostRuntime, names: &str) -> Result<Vec<String>, AllocError> {
+    let mut paths = Vec::new(rt.alloc());
+    for name in names.lines() {
+        paths.push(String::from_str(rt.alloc(), name)?)?;
+    }
+    paths.push(String::from_str(rt.alloc(), "missing")?)?;
+    Ok(paths)
+}
+
+/// Shows files, each in a line of JSON, and prints what each writer got, and the answer.
+fn show_all(rt: &HostRuntime, paths: &[String]) -> io::Result<()> {
+    let files = RuntimeFiles { files: rt };
+    let mut out = Vec::new(rt.alloc());
+    let mut err = Vec::new(rt.alloc());
+    let style = Style::Json;
+    let answer = show_paths(rt.alloc(), &files, paths, style, &mut out, &mut err);
+    io::writer(rt).write_all(out.as_slice())?;
+    io::writer(rt).write_all(err.as_slice())?;
+    print_answer(rt, &answer)
+}
+
+/// Prints what came of showing files.
+fn print_answer(rt: &HostRuntime, answer: &Result<(), ShowCommandError>) -> io::Result<()> {
+    match answer {
+        Ok(()) => println!(rt; "all are shown"),
+        Err(error) => println!(rt; "{error}"),
     }
 }

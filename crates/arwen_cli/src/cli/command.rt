@@ -1,4 +1,5 @@
 //! What a line asks for.
+use arwen_cli_show::Args;
 use elf_commands::ElfCommand;
 use macho_commands::MachoCommand;
 
@@ -9,4 +10,6 @@ pub enum Command {
     Macho(MachoCommand),
     /// Something of an ELF file.
     Elf(ElfCommand),
+    /// To be told what files are.
+    Show(Args),
 }

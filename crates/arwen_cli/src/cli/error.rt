@@ -1,9 +1,11 @@
 //! What the program answers when it does not do what was asked.
-ghost use Rattle.std.specs.Prelude.{◌≡◌};
-ghost use Rattle.arwen_cli.specs.Fault.{answer_to, answer_to_batch, answer_to_elf, answer_to_elf_batch, answer_to_elf_command, answer_to_macho_command};
-ghost use Rattle.arwen_cli.specs.Fault.{answer_to_read, answer_to_words, fault_told, status_of};
+ghost use Rattle.std.specs.Prelude.{◌≡◌, ◌↔◌, IsTrue, Some};
+ghost use Rattle.arwen_cli.specs.Fault.{answer_to, answer_to_batch, answer_to_elf, answer_to_elf_batch, answer_to_elf_command, answer_to_macho_command, answer_to_show_command};
+ghost use Rattle.arwen_cli.specs.Fault.{answer_to_read, answer_to_words, fault_told, status_of, words_told};
 ghost use Rattle.arwen_cli.specs.declared.cli.error.ArwenError.TheVariants.{Io, Memory};
 
+use arwen_cli_facts::{ElfCauses, MachoCauses};
+use arwen_cli_show::ShowCommandError;
 use arwen_elf::elf::{ElfBatchError, ElfError};
 use arwen_macho::macho::{MachoBatchError, MachoError};
 use byte_store::ReadError;
@@ -11,23 +13,19 @@ use command_words::{EditFault, EditsError};
 use elf_commands::ElfCommandError;
 use macho_commands::MachoCommandError;
 use std::alloc::{AllocError, AllocFailed};
+use std::error::Error;
 use std::{fmt, io};
-use thiserror::Error;
 
 /// Why the program did not do what was asked.
-#[derive(Debug, Drop, Error)]
+#[derive(Debug, Drop)]
 pub enum ArwenError {
     /// An edit of a Mach-O file was refused.
-    #[error("error while patching Mach-O file")]
     Macho(MachoError),
     /// An ELF file was not read, or what it says was not printed.
-    #[error("error while patching ELF file")]
     Elf(ElfError),
     /// A file could not be read, created or written.
-    #[error("file error")]
     Io(io::Error),
     /// The line is wrong, or asks for help.
-    #[error("invalid command line")]
     Line {
         /// The text to print, with its line ends.
         text: String,
@@ -35,17 +33,15 @@ pub enum ArwenError {
         status: u8,
     },
     /// There was no memory.
-    #[error("out of memory")]
     Memory,
     /// The words of `apply` are no list of edits.
-    #[error("invalid edit list")]
     Edits(EditFault),
     /// One of several edits of a Mach-O file was refused.
-    #[error("Mach-O batch refused")]
     MachoBatch(MachoBatchError),
     /// One of several edits of an ELF file was refused.
-    #[error("ELF batch refused")]
     ElfBatch(ElfBatchError),
+    /// Of some files nothing is told; a line on the standard error said why of each of them.
+    NotAllShown,
 }
 
 impl ArwenError {
@@ -58,6 +54,30 @@ impl ArwenError {
             ArwenError::Edits(_) => 2,
             _ => 1,
         }
+    }
+
+    /// What kind of fault it is, in words.
+    pub fn words(&self) -> &'static str
+        ensures { result.now ≡ words_told self.now }
+    {
+        match self {
+            ArwenError::Macho(_) => "error while patching Mach-O file",
+            ArwenError::Elf(_) => "error while patching ELF file",
+            ArwenError::Io(_) => "file error",
+            ArwenError::Line { .. } => "invalid command line",
+            ArwenError::Memory => "out of memory",
+            ArwenError::Edits(_) => "invalid edit list",
+            ArwenError::MachoBatch(_) => "Mach-O batch refused",
+            ArwenError::ElfBatch(_) => "ELF batch refused",
+            ArwenError::NotAllShown => "some files are not shown",
+        }
+    }
+
+    /// Whether it is want of memory.
+    pub(crate) fn is_memory(&self) -> bool
+        ensures { IsTrue result ↔ self.now ≡ Memory }
+    {
+        matches!(self, ArwenError::Memory)
     }
 
     /// The fault as one line of text, its causes joined by `: `.
@@ -92,6 +112,18 @@ impl From<ElfCommandError> for ArwenError {
             ElfCommandError::Io(fault) => ArwenError::Io(fault),
             ElfCommandError::Edits(fault) => ArwenError::Edits(fault),
             ElfCommandError::Memory => ArwenError::Memory,
+        }
+    }
+}
+
+impl From<ShowCommandError> for ArwenError {
+    ghost from_gives = { λ e answer. answer ≡ answer_to_show_command e };
+
+    fn from(error: ShowCommandError) -> ArwenError {
+        match error {
+            ShowCommandError::NotAll => ArwenError::NotAllShown,
+            ShowCommandError::Io(fault) => ArwenError::Io(fault),
+            ShowCommandError::Memory => ArwenError::Memory,
         }
     }
 }
@@ -192,6 +224,17 @@ impl<T: Drop> From<AllocFailed<T>> for ArwenError {
     }
 }
 
+impl fmt::Display for ArwenError {
+    ghost output = { λ e. Some (words_told e) };
+
+    fn fmt<W: fmt::Write>(&self, f: &mut fmt::Formatter<W>) -> fmt::Result {
+        let words = self.words();
+        write!(f, "{words}")
+    }
+}
+
+impl Error for ArwenError {}
+
 /// A fault with its causes, from the outermost on. It ends at a text that already holds the next.
 #[derive(Clone, Copy, Debug)]
 pub struct FaultLine<'a> {
@@ -203,66 +246,64 @@ impl fmt::Display for FaultLine<'_> {
     fn fmt<W: fmt::Write>(&self, f: &mut fmt::Formatter<W>) -> fmt::Result {
         let outer = self.error;
         match outer {
-            ArwenError::Macho(fault) => {
-                let causes = MachoCauses { fault };
-                write!(f, "{outer}: {causes}")
-            }
-            ArwenError::Elf(fault) => {
-                let causes = ElfCauses { fault };
-                write!(f, "{outer}: {causes}")
-            }
-            ArwenError::Io(fault) => write!(f, "{outer}: {fault}"),
             ArwenError::Line { text, .. } => write!(f, "{text}"),
-            ArwenError::Memory => write!(f, "{outer}"),
-            ArwenError::Edits(fault) => write!(f, "{outer}: {fault}"),
-            ArwenError::ElfBatch(batch) => {
-                let index = batch.index;
-                let causes = ElfCauses {
-                    fault: &batch.fault,
-                };
-                write!(f, "{outer}: edit {index}: {causes}")
-            }
-            ArwenError::MachoBatch(batch) => {
-                let index = batch.index;
-                let causes = MachoCauses {
-                    fault: &batch.fault,
-                };
-                write!(f, "{outer}: edit {index}: {causes}")
+            ArwenError::Memory | ArwenError::NotAllShown => write!(f, "{outer}"),
+            _ => {
+                let cause = InnerCause { error: outer };
+                write!(f, "{outer}: {cause}")
             }
         }
     }
 }
 
-/// A refused edit with its causes.
+/// What a fault has behind its own words.
 #[derive(Clone, Copy)]
-struct MachoCauses<'a> {
-    fault: &'a MachoError,
+pub(crate) struct InnerCause<'a> {
+    pub(crate) error: &'a ArwenError,
 }
 
-impl fmt::Display for MachoCauses<'_> {
+impl fmt::Display for InnerCause<'_> {
     fn fmt<W: fmt::Write>(&self, f: &mut fmt::Formatter<W>) -> fmt::Result {
-        let fault = self.fault;
-        match fault {
-            MachoError::Parsing(cause) => write!(f, "{fault}: {cause}"),
-            _ => write!(f, "{fault}"),
+        match self.error {
+            ArwenError::Macho(fault) => write!(f, "{}", MachoCauses { fault }),
+            ArwenError::Elf(fault) => write!(f, "{}", ElfCauses { fault }),
+            ArwenError::Io(fault) => write!(f, "{fault}"),
+            ArwenError::Edits(fault) => write!(f, "{fault}"),
+            ArwenError::ElfBatch(batch) => write!(f, "{}", ElfBatchCauses { batch }),
+            ArwenError::MachoBatch(batch) => write!(f, "{}", MachoBatchCauses { batch }),
+            ArwenError::Line { .. } | ArwenError::Memory | ArwenError::NotAllShown => Ok(()),
         }
     }
 }
 
-/// A fault of an ELF file with its causes.
+/// A refused batch of edits of an ELF file: which edit, and its causes.
 #[derive(Clone, Copy)]
-struct ElfCauses<'a> {
-    fault: &'a ElfError,
+struct ElfBatchCauses<'a> {
+    batch: &'a ElfBatchError,
 }
 
-impl fmt::Display for ElfCauses<'_> {
+impl fmt::Display for ElfBatchCauses<'_> {
     fn fmt<W: fmt::Write>(&self, f: &mut fmt::Formatter<W>) -> fmt::Result {
-        let fault = self.fault;
-        match fault {
-            ElfError::Io(cause) => write!(f, "{fault}: {cause}"),
-            ElfError::Parse(cause) | ElfError::Write(cause) => write!(f, "{fault}: {cause}"),
-            ElfError::Modify(cause) => write!(f, "{fault}: {cause}"),
-            ElfError::InvalidDtNeededEncoding | ElfError::Memory => write!(f, "{fault}"),
-        }
+        let index = self.batch.index;
+        let causes = ElfCauses {
+            fault: &self.batch.fault,
+        };
+        write!(f, "edit {index}: {causes}")
+    }
+}
+
+/// The same of a Mach-O file.
+#[derive(Clone, Copy)]
+struct MachoBatchCauses<'a> {
+    batch: &'a MachoBatchError,
+}
+
+impl fmt::Display for MachoBatchCauses<'_> {
+    fn fmt<W: fmt::Write>(&self, f: &mut fmt::Formatter<W>) -> fmt::Result {
+        let index = self.batch.index;
+        let causes = MachoCauses {
+            fault: &self.batch.fault,
+        };
+        write!(f, "edit {index}: {causes}")
     }
 }

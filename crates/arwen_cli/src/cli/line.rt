@@ -8,11 +8,13 @@ ghost use Rattle.macho_commands.specs.Meaning.{macho_lines};
 ghost use Rattle.macho_commands.specs.Meaning.{macho_command_model};
 ghost use Rattle.arwen_cli.specs.Meaning.{shown};
 ghost use Rattle.arwen_cli.specs.Line.{has_option, meaning_of};
+ghost use Rattle.arwen_cli_show.specs.Args.{ShowMeaning, args_meant, args_model};
 ghost use Rattle.arwen_cli.specs.Parser.{MayRefuse, MayRefuseReading, MayRefuseTaken, MeansBy, MeansTaken};
 
 use crate::cli::parser::{First, parse_values};
 use crate::cli::quiet::without_quiet;
 use crate::cli::{ArwenError, Command, ElfCommand, MachoCommand};
+use arwen_cli_show::{Args, ArgsFault, HELP, parse_args};
 use command_words::{ValueError, Values};
 use elf_commands::elf_table;
 use macho_commands::macho_table;
@@ -29,6 +31,7 @@ Usage: arwen <COMMAND>
 Commands:
   macho  Edit a Mach-O file (`arwen help macho` lists the edits)
   elf    Edit or print an ELF file (`arwen help elf` lists the commands)
+  show   Tell what files are, and what they ask of a loader
   help   Print this text, or the help of the command behind it
 
 Options:
@@ -81,6 +84,7 @@ fn parse_heard(alloc: Global, words: &[&str]) -> Result<Command, ArwenError>
     match *first {
         "macho" => Ok(Command::Macho(parse_macho(alloc, words)?)),
         "elf" => Ok(Command::Elf(parse_elf(alloc, words)?)),
+        "show" => Ok(Command::Show(parse_show(alloc, &words[1..])?)),
         word => Err(or_memory(other_line(alloc, word, words))),
     }
 }
@@ -104,6 +108,7 @@ fn help(alloc: Global, topic: Option<&&str>) -> Result<ArwenError, AllocError>
     match topic {
         Some(word) if *word == "macho" => help_of(alloc, parse_macho(alloc, &["macho", "--help"])),
         Some(word) if *word == "elf" => help_of(alloc, parse_elf(alloc, &["elf", "--help"])),
+        Some(word) if *word == "show" => line_of(alloc, HELP, 0),
         Some(word) => unknown_word(alloc, word),
         None => usage(alloc, 0),
     }
@@ -190,6 +195,40 @@ fn parse_elf(alloc: Global, words: &[&str]) -> Result<ElfCommand, ArwenError>
 {
     let (name, values) = parse_values(alloc, ELF, elf_table(), words)?;
     elf_command(alloc, name, values)
+}
+
+/// What a line asks for whose first word is `show`, by the words behind it.
+fn parse_show(alloc: Global, words: &[&str]) -> Result<Args, ArwenError>
+    ensures means { IfOk result (λ args.
+        args_meant (map (λ w. w.now) words.now) ≡ Some (args_model args)) }
+    ensures refused { IfErr result (λ error. (meaning : ShowMeaning)
+        → args_meant (map (λ w. w.now) words.now) ≡ Some meaning → error ≡ ArwenError.Memory) }
+    ensures err { IfErr result (λ error. IsOfLine error) }
+{
+    match parse_args(alloc, words) {
+        Ok(args) => Ok(args),
+        Err(fault) => Err(no_args(alloc, fault)),
+    }
+}
+
+/// The answer to words behind `show` that ask for no file to be shown.
+fn no_args(alloc: Global, fault: ArgsFault<'_>) -> ArwenError
+    ensures memory { fault.entry ≡ ArgsFault.Memory → result ≡ ArwenError.Memory }
+    ensures kind { IsOfLine result }
+{
+    match fault {
+        ArgsFault::Memory => ArwenError::Memory,
+        fault => or_memory(args_line(alloc, &fault)),
+    }
+}
+
+/// What is said of such words.
+fn args_line(alloc: Global, fault: &ArgsFault<'_>) -> Result<ArwenError, AllocError>
+    ensures { IfOk result (λ fault. IsOfLine fault) }
+{
+    let text = format!(in alloc; "{fault}")?;
+    let status = fault.status();
+    Ok(ArwenError::Line { text, status })
 }
 
 /// The command for ELF files of a name with its values.

@@ -1,38 +1,24 @@
-//! What the program says beside what is asked for: of a fault its file and what it leaves open, and notes.
-ghost use Rattle.std.specs.Prelude.{◌≡◌, IfSome, option_map};
-ghost use Rattle.arwen_cli.specs.Telling.{IsRule, TellsBytes, elf_told, macho_told, words_told};
+//! What the program says beside what is asked for: of a fault its file and what it leaves open.
+ghost use Rattle.std.specs.Prelude.{◌≡◌, ◌++◌, None, Some, IfOk, IfSome, codes, map, option_map, string_bytes};
+ghost use Rattle.arwen_cli.specs.Fault.{words_told};
+ghost use Rattle.arwen_cli.specs.Meaning.{shown};
+ghost use Rattle.arwen_cli.specs.Telling.{IsCausesText, IsFaultLine, IsLineWith, TellsBytes, TellsOverlapOf, is_of_line as is_line_fault, path_if, path_of as path_told, words_of as words_for};
 ghost use Rattle.byte_store.specs.Known.{IsAll};
+ghost use Rattle.command_words.specs.Rows.{Text};
+ghost use Rattle.elf_commands.specs.Meaning.{elf_command_model, elf_file_of};
 
 use crate::cli::Command;
-use crate::cli::error::ArwenError;
+use crate::cli::error::{ArwenError, InnerCause};
 use crate::cli::line::parse_line;
-use arwen_elf::elf::ElfError;
+use arwen_cli_facts::{Told, bracket_of, elf_words, file_line, macho_words, rule_of};
+use arwen_cli_overlaps::overlap_text;
+use arwen_elf::elf::{ElfError, ModifyCause};
 use arwen_macho::macho::MachoError;
 use byte_store::{Opens, load_whole};
 use command_words::{MOST_BYTES, RegularFiles};
-use elf_image_reasons::{Reason, explain_refusal};
-use file_kinds::{elf_reason, macho_reason};
+use elf_commands::ElfCommand;
 use std::alloc::{AllocError, Global};
-use std::fmt;
 use std::rt::Files;
-
-/// What a fault leaves open.
-#[derive(Clone, Copy)]
-pub(crate) enum Told {
-    /// What the file is.
-    Words(&'static str),
-    /// The read rule that an ELF file breaks first, and what contradicts it.
-    Rule(Reason),
-}
-
-impl fmt::Display for Told {
-    fn fmt<W: fmt::Write>(&self, f: &mut fmt::Formatter<W>) -> fmt::Result {
-        match self {
-            Told::Words(words) => f.write_str(words),
-            Told::Rule(reason) => write!(f, "{reason}"),
-        }
-    }
-}
 
 /// The line in which the program tells the fault of a line's words: in front the file that they name, where they name
 /// one, then the causes, and in brackets what the last cause leaves open, for which the file is read again. Error:
@@ -41,20 +27,62 @@ pub fn fault_line<R: Files + AllocGlobal>(
     rt: &R,
     words: &[&str],
     error: &ArwenError,
-) -> Result<String, AllocError> {
-    if matches!(error, ArwenError::Line { .. } | ArwenError::Edits(_)) {
-        return plain_line(rt.alloc(), error);
+) -> Result<String, AllocError>
+    ensures { IfOk result (λ line.
+        IsFaultLine (map (λ w. w.now) words.now) error.now (string_bytes line)) }
+{
+    if is_of_line(error) {
+        return causes_text(rt.alloc(), error);
     }
     match parse_line(rt.alloc(), words) {
         Ok(command) => named_line(rt, &command, error),
-        Err(_) => plain_line(rt.alloc(), error),
+        Err(unread) => unread_line(rt.alloc(), &unread, error),
     }
 }
 
-/// The causes of a fault alone.
-fn plain_line(alloc: Global, error: &ArwenError) -> Result<String, AllocError> {
-    let line = error.line();
-    format!(in alloc; "{line}")
+/// Whether a fault is one of the line itself, or of its edit list.
+fn is_of_line(error: &ArwenError) -> bool
+    ensures { result ≡ is_line_fault error.now }
+{
+    match error {
+        ArwenError::Line { .. } | ArwenError::Edits(_) => true,
+        _ => false,
+    }
+}
+
+/// The line of a fault of words that were not read, since they mean no command or there was no memory.
+fn unread_line(alloc: Global, unread: &ArwenError, error: &ArwenError) -> Result<String, AllocError>
+    ensures means { IfOk result (λ _. unread.now ≡ ArwenError.Memory → ⊥) }
+    ensures line { IfOk result (λ line. IsCausesText error.now (string_bytes line)) }
+{
+    if unread.is_memory() {
+        return Err(AllocError);
+    }
+    causes_text(alloc, error)
+}
+
+/// The causes of a fault.
+fn causes_text(alloc: Global, error: &ArwenError) -> Result<String, AllocError>
+    ensures { IfOk result (λ text. IsCausesText error.now (string_bytes text)) }
+{
+    match error {
+        ArwenError::Line { text, .. } => String::from_str(alloc, text.as_str()),
+        ArwenError::Memory | ArwenError::NotAllShown => String::from_str(alloc, error.words()),
+        _ => inner_text(alloc, error),
+    }
+}
+
+/// The words of a fault, and what it has behind them.
+fn inner_text(alloc: Global, error: &ArwenError) -> Result<String, AllocError>
+    ensures { IfOk result (λ text. (inner : Text)
+        × (string_bytes text ≡ words_told error.now ++ (codes ": " ++ inner))) }
+{
+    let cause = InnerCause { error };
+    let inner = format!(in alloc; "{cause}")?;
+    let mut text = String::from_str(alloc, error.words())?;
+    text.push_str(": ")?;
+    text.push_str(inner.as_str())?;
+    Ok(text)
 }
 
 /// The line of a fault of a command, with its file.
@@ -62,24 +90,67 @@ fn named_line<R: Files + AllocGlobal>(
     rt: &R,
     command: &Command,
     error: &ArwenError,
-) -> Result<String, AllocError> {
-    let path = path_of(command);
-    let line = error.line();
-    if path.is_empty() {
-        return plain_line(rt.alloc(), error);
-    }
-    match reason_at(rt, path, error) {
-        Some(reason) => format!(in rt.alloc(); "{path}: {line} ({reason})"),
-        None => format!(in rt.alloc(); "{path}: {line}"),
+) -> Result<String, AllocError>
+    ensures { IfOk result (λ line.
+        IsLineWith (path_told (shown command.now)) error.now (string_bytes line)) }
+{
+    let causes = causes_text(rt.alloc(), error)?;
+    let Some(path) = path_of(command) else {
+        return Ok(causes);
+    };
+    let bracket = bracket_at(rt, command, path, error)?;
+    file_line(rt.alloc(), path, causes.as_str(), &bracket)
+}
+
+/// The path that a command names; `None` for the empty word, and of a command that shows files.
+fn path_of(command: &Command) -> Option<&str>
+    ensures { option_map (λ path. path.now) result ≡ path_told (shown command.entry.now) }
+{
+    match command {
+        Command::Macho(macho) => some_path(macho.path_to_binary()),
+        Command::Elf(elf) => some_path(elf.path_to_binary()),
+        Command::Show(_) => None,
     }
 }
 
-/// The path that a command names.
-fn path_of(command: &Command) -> &str {
+/// A path that isn't the empty word.
+fn some_path(path: &str) -> Option<&str>
+    ensures { option_map (λ path. path.now) result ≡ path_if path.entry.now }
+{
+    if path.is_empty() { None } else { Some(path) }
+}
+
+/// What stands in brackets behind the fault of a command.
+fn bracket_at<R: Files + AllocGlobal>(
+    rt: &R,
+    command: &Command,
+    path: &str,
+    error: &ArwenError,
+) -> Result<Option<String>, AllocError> {
     match command {
-        Command::Macho(macho) => macho.path_to_binary(),
-        Command::Elf(elf) => elf.path_to_binary(),
+        Command::Elf(elf) if is_overlap(error) => {
+            let files = RegularFiles { files: rt };
+            Ok(overlap_at(rt.alloc(), &files, elf))
+        }
+        _ => bracket_of(rt.alloc(), reason_at(rt, path, error)),
     }
+}
+
+/// Whether a fault is that two blocks overlap that never move.
+fn is_overlap(error: &ArwenError) -> bool {
+    matches!(
+        error,
+        ArwenError::Elf(ElfError::Modify(ModifyCause::Overlap))
+    )
+}
+
+/// What is said of two blocks that stand against a command for the file at its path; `None` where nothing is found.
+fn overlap_at<'p, O: Opens<'p>>(alloc: Global, files: &O, elf: &'p ElfCommand) -> Option<String>
+    ensures { IfSome result (λ text. TellsOverlapOf (elf_command_model elf.now)
+        (O.contents files.now (elf_file_of (elf_command_model elf.now))) (string_bytes text)) }
+{
+    let bytes = bytes_at(alloc, files, elf.path_to_binary())?;
+    overlap_text(alloc, bytes.as_slice(), elf)
 }
 
 /// The bytes of the file at a path; `None` where they can't be read. None of them is written.
@@ -93,7 +164,11 @@ fn bytes_at<'p, O: Opens<'p>>(alloc: Global, files: &O, path: &'p str) -> Option
 }
 
 /// What the fault of the file at a path leaves open; `None` where it can't be read.
-fn reason_at<R: Files + AllocGlobal>(rt: &R, path: &str, error: &ArwenError) -> Option<Told> {
+fn reason_at<R: Files + AllocGlobal>(
+    rt: &R,
+    path: &str,
+    error: &ArwenError,
+) -> Option<Told<'static>> {
     if !is_of_bytes(error) {
         return None;
     }
@@ -111,7 +186,7 @@ fn is_of_bytes(error: &ArwenError) -> bool {
 }
 
 /// What the fault of a file leaves open, by its bytes: what the file is, or the read rule that it breaks.
-fn reason_of(alloc: Global, error: &ArwenError, bytes: &[u8]) -> Option<Told>
+fn reason_of(alloc: Global, error: &ArwenError, bytes: &[u8]) -> Option<Told<'static>>
     ensures { TellsBytes error.now bytes.now result }
 {
     if let Some(words) = words_of(error, bytes) {
@@ -123,52 +198,13 @@ fn reason_of(alloc: Global, error: &ArwenError, bytes: &[u8]) -> Option<Told>
     }
 }
 
-/// The read rule that an ELF file breaks; `None` also where there is no memory.
-fn rule_of(alloc: Global, bytes: &[u8]) -> Option<Told>
-    ensures { IsRule bytes.now result }
-{
-    match explain_refusal(alloc, bytes) {
-        Ok(Some(reason)) => Some(Told::Rule(reason)),
-        _ => None,
-    }
-}
-
 /// What the file of a fault is, where that says why.
 fn words_of(error: &ArwenError, bytes: &[u8]) -> Option<&'static str>
-    ensures { option_map (λ text. text.now) result ≡ words_told error.now bytes.now }
+    ensures { option_map (λ text. text.now) result ≡ words_for error.now bytes.now }
 {
     match error {
-        ArwenError::Elf(fault) => elf_reason_of(fault, bytes),
-        ArwenError::Macho(fault) => macho_reason_of(fault, bytes),
+        ArwenError::Elf(fault) => elf_words(fault, bytes),
+        ArwenError::Macho(fault) => macho_words(fault, bytes),
         _ => None,
-    }
-}
-
-/// What the fault of an ELF file leaves open.
-fn elf_reason_of(error: &ElfError, bytes: &[u8]) -> Option<&'static str>
-    ensures { option_map (λ text. text.now) result ≡ elf_told error.now bytes.now }
-{
-    match error {
-        ElfError::Parse(fault) => elf_reason(*fault, bytes),
-        _ => None,
-    }
-}
-
-/// What the fault of a Mach-O file leaves open.
-fn macho_reason_of(error: &MachoError, bytes: &[u8]) -> Option<&'static str>
-    ensures { option_map (λ text. text.now) result ≡ macho_told error.now bytes.now }
-{
-    match error {
-        MachoError::Parsing(fault) => macho_reason(*fault, bytes),
-        _ => None,
-    }
-}
-
-/// The lines, each of which begins with `note: `, that tell what a user should know of the edits that a command makes,
-/// as its file is before; none where it can't be read, or where there is no memory.
-pub fn notes_of<R: Files + AllocGlobal>(rt: &R, command: &Command) -> Option<String> {
-    match command {
-        Command::Macho(macho) => macho_commands::notes_of_file(rt, macho),
-        Command::Elf(elf) => elf_commands::elf::notes_of_file(rt, elf),
     }
 }

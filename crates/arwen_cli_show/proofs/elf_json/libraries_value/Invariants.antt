@@ -1,6 +1,6 @@
 use Rattle.std.proofs.Common.{◌≡◌, map, take}
 use Rattle.serde_json.specs.View.{view}
-use Rattle.arwen_cli_show.specs.ElfFacts.{library_model}
+use Rattle.arwen_cli_facts.specs.ElfFacts.{library_model}
 use Rattle.arwen_cli_show.specs.Json.{library_data}
 use Rattle.arwen_cli_show.proofs.elf_json.libraries_value.Given as goal
 

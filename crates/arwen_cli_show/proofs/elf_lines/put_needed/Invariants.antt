@@ -1,6 +1,6 @@
 use Rattle.std.proofs.Common.{◌≡◌, ◌++◌, map, string_bytes, take}
 use Rattle.std.specs.List.{flat_map}
-use Rattle.arwen_cli_show.specs.ElfFacts.{library_model}
+use Rattle.arwen_cli_facts.specs.ElfFacts.{library_model}
 use Rattle.arwen_cli_show.specs.Lines.{library_lines}
 use Rattle.arwen_cli_show.proofs.elf_lines.put_needed.Given as goal
 

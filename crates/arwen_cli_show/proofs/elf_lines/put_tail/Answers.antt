@@ -2,7 +2,7 @@ use Rattle.std.proofs.Common.{codes, option_map, string_bytes}
 use Rattle.std.specs.Prelude.{unwrap_or}
 use Rattle.std.proofs.lemmas.Result.{on_ok_weaker}
 use Rattle.arwen_cli_show.specs.Lines.{elf_tail_lines, line, line_if, lines, number_line_if}
-use Rattle.arwen_cli_show.specs.Names.{flag_names, permissions}
+use Rattle.arwen_cli_facts.specs.Names.{flag_names, permissions}
 use Rattle.arwen_cli_show.proofs.Joined.{joined_4}
 use Rattle.arwen_cli_show.proofs.elf_lines.put_tail.Goals as goal
 

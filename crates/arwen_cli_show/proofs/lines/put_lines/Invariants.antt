@@ -1,6 +1,6 @@
 use Rattle.std.proofs.Common.{◌≡◌, ◌++◌, string_bytes, take}
 use Rattle.arwen_cli_show.specs.Lines.{lines}
-use Rattle.arwen_cli_show.specs.Texts.{texts_model}
+use Rattle.arwen_cli_facts.specs.Texts.{texts_model}
 use Rattle.arwen_cli_show.proofs.lines.put_lines.Given as goal
 
 -- the lines of the values so far

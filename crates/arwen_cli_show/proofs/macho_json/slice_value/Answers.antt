@@ -4,7 +4,7 @@ use Rattle.serde_json.specs.Data.{Members, no_members, object, put}
 use Rattle.serde_json.specs.View.{members_view, view}
 use Rattle.serde_json.specs.declared.value.Value.{Object, the_lemmas}
 use Rattle.arwen_cli_show.specs.Json.{number_data, slice_data, with_macho}
-use Rattle.arwen_cli_show.specs.MachoFacts.{macho_model}
+use Rattle.arwen_cli_facts.specs.MachoFacts.{macho_model}
 use Rattle.arwen_cli_show.proofs.macho_json.slice_value.Goals as goal
 
 pub returns : goal.returns

@@ -1,7 +1,7 @@
 use Rattle.std.proofs.Common.{ℕ, List, ◌++◌, codes, string_bytes, ap, ◌∙◌}
 use Rattle.std.proofs.lemmas.Result.{on_ok_weaker}
 use Rattle.arwen_cli_show.specs.Lines.{line, macho_head_lines, number_line}
-use Rattle.arwen_cli_show.specs.Names.{bits_of, cpu_name, file_type_name, name_or, order_name}
+use Rattle.arwen_cli_facts.specs.Names.{bits_of, cpu_name, file_type_name, name_or, order_name}
 use Rattle.arwen_cli_show.proofs.Joined.{joined_5}
 use Rattle.arwen_cli_show.proofs.macho_lines.put_head.Goals as goal
 

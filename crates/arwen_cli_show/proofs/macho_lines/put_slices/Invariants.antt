@@ -1,7 +1,7 @@
 use Rattle.std.proofs.Common.{◌≡◌, ◌++◌, map, string_bytes, take}
 use Rattle.std.specs.List.{flat_map}
 use Rattle.arwen_cli_show.specs.Lines.{slice_lines}
-use Rattle.arwen_cli_show.specs.MachoFacts.{slice_told}
+use Rattle.arwen_cli_facts.specs.MachoFacts.{slice_told}
 use Rattle.arwen_cli_show.proofs.macho_lines.put_slices.Given as goal
 
 -- the lines of the slices so far

@@ -1,0 +1,3 @@
+pub mod FirstSteps
+pub mod NulSteps
+pub mod SliceLaws

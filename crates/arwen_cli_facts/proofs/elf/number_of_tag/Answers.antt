@@ -1,0 +1,21 @@
+-- No entry so far has such a number, and the one that is looked at has one or not.
+use Rattle.std.proofs.Common.{map, sym}
+use Rattle.elf_image.specs.ImageModel.{entry_model}
+use Rattle.arwen_cli_facts.specs.ElfFacts.{number_if_tagged, number_tagged}
+use Rattle.arwen_cli_facts.proofs.FirstSteps.{first_found, goes_past, none_found}
+use Rattle.arwen_cli_facts.proofs.elf.number_of_tag.Goals as goal
+
+pub returns-in-Some : goal.returns-in-Some
+returns-in-Some c =
+    first_found (number_if_tagged c.args.tag) c.args.entries.now c.loop-entry.entry-index c.entry-item.result c.loop-entry-test.true c.entry-item.is c.in-Some.number (sym c.in-Some.ensures)
+    (number_tagged c.args.tag (map entry_model c.args.entries.now)) c.loop-entry.invariant
+
+pub loop-entry-preserved : goal.loop-entry-preserved
+loop-entry-preserved c =
+    goes_past (number_if_tagged c.args.tag) c.args.entries.now c.loop-entry.entry-index c.entry-item.result c.loop-entry-test.true c.entry-item.is (sym c.in_default.ensures)
+    (number_tagged c.args.tag (map entry_model c.args.entries.now)) c.loop-entry.invariant
+
+pub returns : goal.returns
+returns c =
+    none_found (number_if_tagged c.args.tag) c.args.entries.now c.loop-entry.entry-index c.loop-entry-test.false
+    (number_tagged c.args.tag (map entry_model c.args.entries.now)) c.loop-entry.invariant
