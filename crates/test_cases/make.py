@@ -268,7 +268,7 @@ def elfs():
         "elf-damaged": bytes(damaged),
         "elf-object": elf(little64, kind=1),
         "elf-core": elf(little64, kind=4),
-        "elf-loader": elf(little64, [(DT_SONAME, b"ld-tiny.so.1"), (DT_NEEDED, b"libc.so.6")]),
+        "elf-loader": elf(little64, [(DT_SONAME, b"ld-tiny.so.1"), (DT_RUNPATH, b"/opt/lib"), (DT_NEEDED, b"libc.so.6")]),
         "elf-bad-class": b"\x7fELF\x03" + full[5:],
         "elf-bad-text": full.replace(b"/old\0", b"/old!"),
         "elf-moved-list": altered(full, 2, 16, 8),

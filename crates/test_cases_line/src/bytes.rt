@@ -26,6 +26,7 @@ pub(crate) fn run<R: Files + Print + AllocGlobal>(
         Command::Macho(_) => Ok(()),
         Command::Elf(command) if is_text => elf_text(rt, bytes.as_slice(), command),
         Command::Elf(command) => elf_page(rt, bytes.as_slice(), command),
+        Command::Show(_) => println!(rt; "no bytes are changed"),
     }
 }
 

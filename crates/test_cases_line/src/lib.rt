@@ -4,7 +4,7 @@
 //! - `> WORD WORD ..` does what these words of a command line ask. Printed are its own prints, the status, the
 //!   first line of the fault, the length of `file`, and each row of 16 bytes in which it changed.
 //! - `m WORD WORD ..` does the same, a command for ELF files by the function of its own module.
-//! - `n WORD WORD ..` only reads the words, and prints the notes of the command that they mean on `file` as it is.
+//! - `n WORD WORD ..` does the command that the words mean to a copy of its file's bytes, and prints its notes, or the fault.
 //! - `? WORD WORD ..` only reads the words, and prints the command that they mean, or the status and the fault.
 //! - `h WORD WORD ..` only reads the words too, and prints all of the text that they are answered with.
 //! - `! WORD WORD ..` does it to the bytes of `file` alone. Printed are the rows that an edit would change, or that an
@@ -22,6 +22,7 @@ mod changes;
 mod faults;
 mod library;
 mod modules;
+mod notes;
 mod reading;
 mod runs;
 

@@ -1,6 +1,6 @@
 //! Commands for ELF files, each done by the function of its own module.
 
-use arwen_cli::cli::{ArwenError, Command, ElfCommand, ElfCommandError, elf, macho_execute};
+use arwen_cli::cli::{ArwenError, Command, ElfCommand, ElfCommandError, elf, macho_execute, show};
 use std::rt::Files;
 
 /// Does what a command asks.
@@ -11,6 +11,7 @@ pub(crate) fn execute<R: Files + Print + Eprint + AllocGlobal>(
     match command {
         Command::Macho(command) => Ok(macho_execute(rt, command)?),
         Command::Elf(command) => Ok(execute_mark(rt, command)?),
+        Command::Show(args) => Ok(show::execute(rt, args)?),
     }
 }
 

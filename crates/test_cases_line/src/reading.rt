@@ -1,7 +1,8 @@
 //! The words of a line, and the command that they mean.
 use crate::bytes;
 use crate::faults::tell;
-use arwen_cli::cli::{ArwenError, Command, notes_of, parse_line};
+use crate::notes::print_notes;
+use arwen_cli::cli::{ArwenError, Command, parse_line};
 use std::alloc::AllocError;
 use std::io;
 use std::rt::Files;
@@ -81,15 +82,6 @@ fn use_command<R: Files + Print + AllocGlobal>(
         Use::ShowText => println!(rt; "no text"),
         Use::OnPage => bytes::run(rt, command, false),
         Use::AsText => bytes::run(rt, command, true),
-    }
-}
-
-/// Prints the notes of a command.
-fn print_notes<R: Files + Print + AllocGlobal>(rt: &R, command: &Command) -> io::Result<()> {
-    match notes_of(rt, command) {
-        Some(notes) if notes.is_empty() => println!(rt; "no notes"),
-        Some(notes) => print!(rt; "{notes}"),
-        None => println!(rt; "not read"),
     }
 }
 
