@@ -1,0 +1,5 @@
+pub mod ListLaws
+pub mod RisingLaws
+pub mod ChangeLaws
+pub mod SymbolLaws
+pub mod EditedLaws

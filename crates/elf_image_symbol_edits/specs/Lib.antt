@@ -1,0 +1,6 @@
+pub mod EditedList
+pub mod Rising
+pub mod Changes
+pub mod EditedModel
+pub mod Loan
+pub mod Rows

@@ -1,0 +1,6 @@
+pub mod ListSteps
+pub mod KeptSteps
+pub mod HashSteps
+pub mod NameSteps
+pub mod RecordSteps
+pub mod AlongSteps

@@ -1,0 +1,15 @@
+use Rattle.std.proofs.Common.{◌≤◌, ◌-◌, ◌*◌, length, true}
+use Rattle.elf_format.specs.Records.{Relocation, relocation_size}
+use Rattle.elf_relocations.specs.Renumbered.{do_relocations_fit, does_relocation_fit, is_symbol_below}
+use Rattle.elf_relocations.proofs.TableSteps.{AllPass, count_of}
+use Rattle.elf_relocations.proofs.relocations.do_relocations_fit.Given as goal
+
+-- those that are left are there, name symbols, and fit just where all do
+abbrev pub invariant-loop : goal.invariant-loop
+invariant-loop l =
+    let left = count_of l.form l.kind l.content - l.counter in
+    record {
+      room : left * relocation_size l.form l.kind ≤ length l.rest;
+      named : AllPass (λ (x : Relocation). is_symbol_below (length l.numbers) x.r_symbol) l.form l.kind left l.rest true;
+      fit : AllPass (does_relocation_fit l.form l.numbers) l.form l.kind left l.rest (do_relocations_fit l.form l.kind l.numbers l.content);
+    }

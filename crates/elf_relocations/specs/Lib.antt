@@ -1,0 +1,4 @@
+pub mod Renumbered
+pub mod Inverse
+pub mod Steps
+pub mod Rows
