@@ -1,8 +1,9 @@
 #!/usr/bin/env python3
 """Makes ELF files of which each breaks one read rule, of `data/program-gnu-x86_64`, into `data` or the folder that is named.
 
-A rule's file is `broken-` with the rule's name. Each is the linked program with a number or two changed, or cut; so what is
-wrong with it can be said in a line.
+A rule's file is `broken-` with the rule's name; those that break a rule on links, texts or versions in another way have the
+name of what is wrong. Each is the linked program with a number or two changed, or cut; so what is wrong with it can be said in
+a line.
 """
 import os
 import struct
@@ -10,11 +11,19 @@ import sys
 
 HERE = os.path.dirname(os.path.abspath(__file__))
 PT_LOAD, PT_DYNAMIC, PT_INTERP = 1, 2, 3
-SHT_NOBITS = 8
+SHT_HASH, SHT_NOBITS = 5, 8
 DT_STRTAB = 5
 # Where a number stands in a program header, a section header, and the file header (64 bits), and its form.
 SEGMENT = {"p_type": (0, "<I"), "p_offset": (8, "<Q"), "p_vaddr": (16, "<Q"), "p_filesz": (32, "<Q"), "p_memsz": (40, "<Q")}
-SECTION = {"sh_type": (4, "<I"), "sh_addr": (16, "<Q"), "sh_offset": (24, "<Q"), "sh_size": (32, "<Q"), "sh_link": (40, "<I")}
+SECTION = {
+    "sh_name": (0, "<I"),
+    "sh_type": (4, "<I"),
+    "sh_addr": (16, "<Q"),
+    "sh_offset": (24, "<Q"),
+    "sh_size": (32, "<Q"),
+    "sh_link": (40, "<I"),
+    "sh_info": (44, "<I"),
+}
 HEADER = {"e_type": (16, "<H"), "e_phoff": (32, "<Q"), "e_shoff": (40, "<Q"), "e_phnum": (56, "<H"), "e_shnum": (60, "<H")}
 
 
@@ -52,6 +61,37 @@ class File:
 
     def change(self, at, field, by):
         self.put(at, field, self.get(at, field) + by)
+
+
+def flawed(data):
+    """Files that break a rule on links, texts or versions in one more way each, by name."""
+    made = {}
+
+    def header(name, section, field, value):
+        file = File(data)
+        file.put(file.section(section), SECTION[field], value)
+        made[name] = bytes(file.data)
+
+    def number(name, section, at, form, value):
+        file = File(data)
+        file.put(file.get(file.section(section), SECTION["sh_offset"]) + at, (0, form), value)
+        made[name] = bytes(file.data)
+
+    header("repeated-type", b".gnu.hash", "sh_type", SHT_HASH)
+    header("missing-link", b".gnu.version", "sh_link", 40)
+    header("wrong-link", b".gnu.hash", "sh_link", 5)
+    header("partial-entry", b".dynsym", "sh_size", 0x2F)
+    number("symbol-section", b".symtab", 5 * 24 + 6, "<H", 40)
+    number("relocation-symbol", b".rela.plt", 12, "<I", 9)
+    header("partial-relocation", b".rela.plt", "sh_size", 0x17)
+    header("info-section", b".rela.plt", "sh_info", 40)
+    header("section-name", b".text", "sh_name", 0x1000)
+    number("library-name", b".gnu.version_r", 4, "<I", 0x1000)
+    number("version-name", b".gnu.version_r", 16 + 8, "<I", 0x1000)
+    header("version-count", b".gnu.version", "sh_size", 2)
+    number("unknown-version", b".gnu.version", 2, "<H", 9)
+    header("shared-strings", b".text", "sh_link", 5)
+    return made
 
 
 def broken(data):
@@ -103,6 +143,7 @@ def broken(data):
         f.put(0, HEADER["e_phoff"], len(f.data) - size)
 
     by("loaded-header-table", moved_table)
+    made.update(flawed(data))
     return {"broken-" + rule: file for rule, file in made.items()}
 
 

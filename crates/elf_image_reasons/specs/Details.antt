@@ -1,11 +1,12 @@
--- What contradicts a read rule that a file breaks: the first section, program header or tag for which its test fails.
+-- What contradicts a read rule that a file breaks: the first section, program header or tag for which its test fails; of a section with
+-- links, texts or versions also what of it does (`Flaws`).
 use Rattle.std.specs.Prelude.{ℕ, ◌+◌, ◌*◌, List, [], ◌∷◌, length, map, Bool, true, false, ◌&&◌, not, Option, Some, None, Result, Ok, Err, is_some, nat_le, nat_lt, ◌==◌, if◌then◌else◌, find, position, count_by, slice_index, slice_get}
 use Rattle.std.specs.List.{list_any}
 use Rattle.patch_bytes.specs.Memory.{◌>>=◌, Memory}
 use Rattle.elf_format.specs.declared.constants.TheConstants.{DT_GNU_HASH, DT_HASH, DT_STRSZ, DT_STRTAB, DT_SYMENT, DT_SYMTAB, DT_VERDEF, DT_VERDEFNUM, DT_VERNEED, DT_VERNEEDNUM, DT_VERSYM, ET_DYN, ET_EXEC, PT_DYNAMIC, PT_INTERP, SHT_DYNAMIC, SHT_DYNSYM, SHT_GNU_HASH, SHT_GNU_VERDEF, SHT_GNU_VERNEED, SHT_GNU_VERSYM, SHT_HASH}
 use Rattle.elf_format.specs.declared.fault.ElfFault.{ElfFault}
 use Rattle.elf_format.specs.Dynamic.{has_tag, shown_entry, table_tags, value_of_tag}
-use Rattle.elf_format.specs.File.{Opened, Parts, has_file_bytes, is_allocated, is_loaded, linked_section, loads_of, opened_of, section_of_type, segment_of_type}
+use Rattle.elf_format.specs.File.{Opened, Parts, has_file_bytes, is_allocated, is_loaded, linked_section, opened_of, section_of_type, segment_of_type}
 use Rattle.elf_format.specs.Options.{first_there, is_one_of, is_some_and}
 use Rattle.elf_format.specs.Placement.{crosses_file_end, ends_by, file_part, holds, is_stored, is_uninitialized, memory_part}
 use Rattle.elf_format.specs.Places.{file_range, place_of}
@@ -23,6 +24,8 @@ use Rattle.elf_image_reasons.specs.declared.detail.Piece.{Piece}
 use Rattle.elf_image_reasons.specs.declared.detail.Piece.TheVariants as pieces
 use Rattle.elf_image_reasons.specs.declared.rule.Rule.{Rule}
 use Rattle.elf_image_reasons.specs.declared.rule.Rule.TheVariants as rules
+use Rattle.elf_image_flaws.specs.declared.flaws.Flaw.{Flaw}
+use Rattle.elf_image_flaws.specs.Flaws.{broken_links, broken_texts, broken_versions}
 
 -- ## Before the parts are there
 
@@ -216,7 +219,7 @@ tables_detail p =
     section_of_type SHT_DYNAMIC p.sections
     >>= λ list. list_detail (symbol_size p.opened.form) (raw_entries p) p.sections (linked_section p.sections list)
 
--- ## Texts
+-- ## Texts of the dynamic list
 
 -- the first of some entries whose text isn't there
 abbrev pub without_text : ℕ → Memory → List EntryNumbers → Option Detail
@@ -234,13 +237,19 @@ unloaded_detail p = let table : Range = segment_table_range p in Some (details.U
 abbrev pub lone_detail : Rule → Parts → Option Detail
 lone_detail rule p = first_there (wrong_section rule (length (file_of p)) p.segments p.sections) (wrong_segment rule (length (file_of p)) p.segments)
 
+-- a section with what of it contradicts a rule
+abbrev pub flawed : Option (ℕ × Flaw) → Option Detail
+flawed told = told >>= λ x. Some (details.Flawed x.0 x.1)
+
 abbrev pub joint_detail : Rule → Parts → Option Detail
 joint_detail rules.SegmentsApart p = shared_segments p.segments
 joint_detail rules.SectionsLoaded p = shared_sections p.sections
+joint_detail rules.TableLinks p = flawed (broken_links p)
 joint_detail rules.DynamicSection p = dynamic_detail p.segments p.sections
 joint_detail rules.Interpreter p = interpreter_detail p.segments
 joint_detail rules.DynamicTables p = tables_detail p
-joint_detail rules.Texts p = text_detail p
+joint_detail rules.Texts p = first_there (text_detail p) (flawed (broken_texts p))
+joint_detail rules.Versions p = flawed (broken_versions p)
 joint_detail rules.LoadedHeaderTable p = unloaded_detail p
 joint_detail _ p = None
 

@@ -1,4 +1,5 @@
 use crate::line::write_detail;
+use elf_image_flaws::flaws::Flaw;
 use std::fmt;
 
 /// What of a file has a range of its bytes.
@@ -64,6 +65,11 @@ pub enum Detail {
         section: usize,
         address: u64,
         size: u64,
+    },
+    /// A section, with what of it contradicts the rule.
+    Flawed {
+        section: usize,
+        flaw: Flaw,
     },
     /// A program header of `PT_DYNAMIC` or a dynamic section without the other.
     Alone {

@@ -1,6 +1,6 @@
 // What contradicts a rule on the dynamic section, the interpreter, or the tables and texts of the dynamic list.
 ghost use Rattle.std.specs.Prelude.{◌≡◌, ◌≤◌, ◌==◌, IfOk, is_some, length, position};
-ghost use Rattle.elf_format.specs.declared.constants.TheConstants.{PT_DYNAMIC as DYNAMIC_SEGMENT, SHT_DYNAMIC as DYNAMIC_SECTION};
+ghost use Rattle.elf_format.specs.declared.constants.TheConstants.{PT_DYNAMIC as DYNAMIC_SEGMENT};
 ghost use Rattle.patch_bytes.specs.Memory.{memory_of};
 ghost use Rattle.elf_format.specs.Dynamic.{shown_entry};
 ghost use Rattle.elf_format.specs.Rules.{raw_entries as entries_of};
@@ -13,6 +13,7 @@ use elf_format::entries::show_entry;
 use elf_format::lookups::{section_of_type, segment_of_type};
 use elf_format::records::{EntryNumbers, SectionHeader, SegmentHeader};
 use elf_format::view_fault::ViewFault;
+use elf_image_flaws::links::place_of_type;
 use elf_image_rules::headers::Headers;
 use elf_image_versions::texts::dynamic_texts;
 use std::alloc::AllocError;
@@ -32,13 +33,6 @@ fn apart_detail(segment: SegmentHeader, section: SectionHeader) -> Option<Detail
     })
 }
 
-// The number of the first dynamic section.
-fn dynamic_section(sections: &[SectionHeader]) -> Option<usize>
-    ensures { result ≡ position (λ s. s.sh_type == DYNAMIC_SECTION) sections.now }
-{
-    sections.iter().position(|s| s.sh_type == SHT_DYNAMIC)
-}
-
 // The number of the first PT_DYNAMIC.
 fn dynamic_segment(segments: &[SegmentHeader]) -> Option<usize>
     ensures { result ≡ position (λ p. p.p_type == DYNAMIC_SEGMENT) segments.now }
@@ -50,7 +44,7 @@ fn dynamic_segment(segments: &[SegmentHeader]) -> Option<usize>
 fn lone_section(sections: &[SectionHeader]) -> Option<Detail>
     ensures { result ≡ lone_section_by sections.now }
 {
-    let number = dynamic_section(sections)?;
+    let number = place_of_type(sections, SHT_DYNAMIC)?;
     Some(Detail::Alone {
         piece: Piece::Section(number),
     })

@@ -1,7 +1,6 @@
 // What contradicts a rule on the first bytes of a file, its header and its header tables.
 ghost use Rattle.std.specs.Prelude.{◌≡◌, option_map, slice_index};
 ghost use Rattle.elf_format.specs.File.{opened_of};
-ghost use Rattle.elf_format.specs.Options.{first_there as first_of};
 ghost use Rattle.elf_format.specs.Seen.{opened_model};
 ghost use Rattle.elf_image_reasons.specs.Details.{early_detail as early_by, kind_detail as kind_by, kind_of_file as kind_file, past_end as past_by, table_detail as table_by, tables_of_file as tables_file};
 
@@ -12,6 +11,7 @@ use elf_format::form::Form;
 use elf_format::numbers::{part, read_file_header};
 use elf_format::opening::form;
 use elf_format::records::FileHeader;
+use elf_image_flaws::flaws::first_there;
 
 // The byte at a position, 0 past the end.
 fn byte(file: &[u8], position: usize) -> u8
@@ -51,16 +51,6 @@ fn past_end(piece: Piece, start: u64, size: u64, length: usize) -> Option<Detail
         });
     }
     None
-}
-
-// The first of two details that is there.
-pub(crate) fn first_there(first: Option<Detail>, second: Option<Detail>) -> Option<Detail>
-    ensures { result ≡ first_of first second }
-{
-    match first {
-        Some(detail) => Some(detail),
-        None => second,
-    }
 }
 
 // The first header table that ends past the end.

@@ -19,3 +19,4 @@ pub use crate::broken::broken_rule;
 pub use crate::detail::{Detail, Piece};
 pub use crate::reason::{Reason, explain_refusal};
 pub use crate::rule::Rule;
+pub use elf_image_flaws::{Flaw, MOST_VERSIONS};

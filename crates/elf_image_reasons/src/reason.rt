@@ -1,18 +1,22 @@
 ghost use Rattle.std.specs.Prelude.{◌≡◌, IfOk, Some};
 ghost use Rattle.elf_format.specs.Rules.{raw_entries as entries_of};
 ghost use Rattle.elf_image_rules.specs.Read.{parts_model};
-ghost use Rattle.elf_image_reasons.specs.Details.{detail_of as detail_by, joint_detail as joint_by, late_detail as late_by, lone_detail as lone_by, part_detail as part_by, unloaded_detail as unloaded_by};
+ghost use Rattle.elf_image_reasons.specs.Details.{detail_of as detail_by, flawed as flawed_by, joint_detail as joint_by, late_detail as late_by, lone_detail as lone_by, part_detail as part_by, unloaded_detail as unloaded_by};
 ghost use Rattle.elf_image_reasons.specs.Told.{reason_of};
 
 use crate::broken::{broken_rule, is_memory};
 use crate::detail::Detail;
 use crate::dynamic::{dynamic_detail, interpreter_detail, text_detail};
-use crate::headers::{early_detail, first_there};
+use crate::headers::early_detail;
 use crate::meetings::{shared_sections, shared_segments};
 use crate::placed::{wrong_section, wrong_segment};
 use crate::rule::Rule;
 use crate::tables::tables_detail;
 use elf_format::records::EntryNumbers;
+use elf_image_flaws::flaws::{Flaw, first_there};
+use elf_image_flaws::links::broken_links;
+use elf_image_flaws::names::broken_texts;
+use elf_image_flaws::versions::broken_versions;
 use elf_image_rules::dynamic::raw_entries;
 use elf_image_rules::headers::{Headers, read_headers};
 use std::alloc::{AllocError, Global};
@@ -58,6 +62,36 @@ fn lone_detail(parts: &Headers<'_>, rule: Rule) -> Option<Detail>
     )
 }
 
+// A section with what of it contradicts a rule.
+fn flawed(told: Option<(usize, Flaw)>) -> Option<Detail>
+    ensures { result ≡ flawed_by told }
+{
+    let (section, flaw) = told?;
+    Some(Detail::Flawed { section, flaw })
+}
+
+// What contradicts the rule on texts: a dynamic entry, or any other text.
+fn texts_detail(
+    alloc: Global,
+    parts: &Headers<'_>,
+    raw: &[EntryNumbers],
+) -> Result<Option<Detail>, AllocError>
+    requires { raw.now ≡ entries_of (parts_model parts.now) }
+    ensures { IfOk result (λ answer. answer ≡ joint_by Rule.Texts (parts_model parts.now)) }
+{
+    let entry = text_detail(parts, raw)?;
+    let other = broken_texts(alloc, parts, raw)?;
+    Ok(first_there(entry, flawed(other)))
+}
+
+// What contradicts the rule on versions.
+fn versions_detail(alloc: Global, parts: &Headers<'_>) -> Result<Option<Detail>, AllocError>
+    ensures { IfOk result (λ answer. answer ≡ joint_by Rule.Versions (parts_model parts.now)) }
+{
+    let told = broken_versions(alloc, parts)?;
+    Ok(flawed(told))
+}
+
 // What contradicts a rule besides.
 fn joint_detail(
     alloc: Global,
@@ -71,10 +105,12 @@ fn joint_detail(
     match rule {
         Rule::SegmentsApart => shared_segments(alloc, &parts.segments),
         Rule::SectionsLoaded => shared_sections(alloc, &parts.sections),
+        Rule::TableLinks => Ok(flawed(broken_links(parts))),
         Rule::DynamicSection => Ok(dynamic_detail(&parts.segments, &parts.sections)),
         Rule::Interpreter => Ok(interpreter_detail(&parts.segments)),
         Rule::DynamicTables => Ok(tables_detail(parts, raw)),
-        Rule::Texts => text_detail(parts, raw),
+        Rule::Texts => texts_detail(alloc, parts, raw),
+        Rule::Versions => versions_detail(alloc, parts),
         Rule::LoadedHeaderTable => Ok(Some(unloaded_table(parts))),
         _ => Ok(None),
     }

@@ -5,7 +5,7 @@ use std::alloc::{AllocError, Global};
 pub(crate) const LIST: u8 = 184;
 
 /// Where the section headers begin, of which each has 64 bytes.
-const TABLE: u8 = 240;
+pub(crate) const TABLE: u8 = 240;
 
 fn put_16(out: &mut Vec<u8>, n: u16) -> Result<(), AllocError> {
     out.extend_from_slice(&n.to_le_bytes())

@@ -1,4 +1,4 @@
-use crate::made::{LIST, changed, file};
+use crate::made::{LIST, TABLE, changed, file};
 use elf_apply::steps::edit;
 use elf_edits::ElfEdit;
 use elf_image::Builder;
@@ -87,6 +87,38 @@ fn a_section_elsewhere_is_told(rt: HostRuntime) -> Result<(), Fail> {
 fn two_segments_at_one_place_are_told(rt: HostRuntime) -> Result<(), Fail> {
     let text = told_twice(rt.alloc(), 120, 1)?;
     let wanted = "segments apart: program header 0 and program header 1 share an address";
+    assert_eq!(rt; text.as_str(), wanted);
+    Ok(())
+}
+
+#[test]
+fn a_link_to_no_string_table_is_told(rt: HostRuntime) -> Result<(), Fail> {
+    let text = told_twice(rt.alloc(), TABLE as usize + 68, 6)?;
+    let wanted = "one of each and linked: section 1 links to section 0, which is no string table";
+    assert_eq!(rt; text.as_str(), wanted);
+    Ok(())
+}
+
+#[test]
+fn a_link_to_nothing_is_told(rt: HostRuntime) -> Result<(), Fail> {
+    let text = told_twice(rt.alloc(), TABLE as usize + 168, 9)?;
+    let wanted = "one of each and linked: section 2 links to section 9, which isn't there";
+    assert_eq!(rt; text.as_str(), wanted);
+    Ok(())
+}
+
+#[test]
+fn a_name_that_is_not_there_is_told(rt: HostRuntime) -> Result<(), Fail> {
+    let text = told_twice(rt.alloc(), TABLE as usize + 64, 0x40)?;
+    let wanted = "texts: the name of section 1 is at 0x40, no text begins there and ends";
+    assert_eq!(rt; text.as_str(), wanted);
+    Ok(())
+}
+
+#[test]
+fn a_user_of_the_dynamic_strings_is_told(rt: HostRuntime) -> Result<(), Fail> {
+    let text = told_twice(rt.alloc(), TABLE as usize + 232, 1)?;
+    let wanted = "versions: section 3 links to section 1, which has the dynamic strings";
     assert_eq!(rt; text.as_str(), wanted);
     Ok(())
 }

@@ -1,0 +1,8 @@
+use Rattle.std.proofs.Common.{◌≡◌, drop}
+use Rattle.elf_image_rules.specs.Read.{parts_model}
+use Rattle.elf_image_flaws.specs.Flaws.{first_flawed, first_told, numbered, texts_flaw}
+use Rattle.elf_image_flaws.proofs.names.wrong_texts.Given as goal
+
+-- what is told of the sections that are left is told of all
+abbrev pub invariant-loop-number : goal.invariant-loop-number
+invariant-loop-number l = first_told (numbered (λ _ s. texts_flaw (parts_model l.parts) s)) l.number (drop l.number l.sections) ≡ first_flawed (λ _ s. texts_flaw (parts_model l.parts) s) l.sections
