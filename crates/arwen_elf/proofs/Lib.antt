@@ -1,3 +1,4 @@
 pub mod ReadSteps
 pub mod PrintSteps
 pub mod WholeLaws
+pub mod WrittenLaws

@@ -6,6 +6,7 @@ ghost use Rattle.elf_apply.specs.Taken.{RemovedAre, edits_model, shrink_model};
 ghost use Rattle.arwen_elf.specs.Contained.{BatchTaken, EditTaken, InPlaceTaken};
 
 use crate::elf::container::ElfContainer;
+use crate::elf::rewriter::values::one_text;
 use elf_apply::batch::ElfBatchError;
 use elf_apply::error::Result;
 use elf_edits::ElfEdit;
@@ -31,8 +32,7 @@ impl<'a> ElfContainer<'a> {
     pub fn add_runpath(&mut self, alloc: Global, text: &[u8]) -> Result<()>
         ensures { EditTaken (AddRunPath (text.now ∷ [])) self.old self.new result }
     {
-        let text = Vec::from_slice(alloc, text)?;
-        let texts = Vec::from_array(alloc, [text])?;
+        let texts = one_text(alloc, text)?;
         self.inner.edit(alloc, ElfEdit::AddRpath(texts))
     }
 

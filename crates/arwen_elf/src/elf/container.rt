@@ -1,16 +1,18 @@
-ghost use Rattle.std.specs.Prelude.{◌≡◌, false, Ok, IfErr, IfOk, OnOk, MatchResult, map, option_map, string_bytes};
+ghost use Rattle.std.specs.Prelude.{◌≡◌, ◌∷◌, ◌++◌, ◌==◌, [], Some, false, Ok, IfErr, IfOk, OnOk, MatchResult, map, option_map, string_bytes};
+ghost use Rattle.std.specs.Fmt.{decimal};
+ghost use Rattle.std.specs.List.{flat_map, slice_split};
 ghost use Rattle.std.specs.Io.KnownBytes.{Appends};
 ghost use Rattle.elf_image.specs.Image.{image_of, shown};
 ghost use Rattle.elf_image.specs.Answers.{borrowed};
 ghost use Rattle.elf_apply.specs.Causes.{FailsPrint, FailsWrite, RefusesRead};
 ghost use Rattle.arwen_elf.specs.PageSizes.{page_size_for};
-ghost use Rattle.arwen_elf.specs.Prints.{before_nul as bytes_before_nul, cut_at_colons as parts_between_colons, directories_shown, line_if, line_of, printed_exec_stack, printed_interpreter, printed_needed, printed_os_abi, printed_runpath, printed_soname};
-ghost use Rattle.arwen_elf.specs.WriterModel.{ShowsBothViews};
+ghost use Rattle.arwen_elf.specs.Prints.{before_nul as bytes_before_nul, cut_at_colons as parts_between_colons, directories_shown, line_if, line_of, lossily, printed_exec_stack, printed_interpreter, printed_needed, printed_os_abi, printed_runpath, printed_soname, stack_line};
+ghost use Rattle.arwen_elf.specs.WriterModel.{ShowsBothViews, needed_left};
 ghost use Rattle.arwen_elf.specs.NewFile.{HoldsImage, IsNotStored};
 ghost use Rattle.arwen_elf.specs.Written.{AnswersBytes, AnswersPieces, AnswersWrite, IsIo, MayNotWrite};
 
 use crate::elf::rewriter::new_file::NotWritten;
-use crate::elf::rewriter::writer::Writer;
+use crate::elf::rewriter::writer::{Needed, Writer};
 use bstr::ByteSlice;
 use byte_store::{Creates, Difference};
 use elf_apply::error::{ElfError, Result};
@@ -28,27 +30,80 @@ pub struct ElfContainer<'a> {
     bytes: &'a [u8],
 }
 
-// A text as it is printed: lossily, with a line feed.
-fn line(alloc: Global, text: &[u8]) -> std::result::Result<Vec<u8>, AllocError>
-    ensures { IfOk result (λ made. made.items ≡ line_of text.now) }
+// Puts a text as it is printed behind others: lossily, with a line feed.
+fn put_line(lines: &mut String, text: &[u8]) -> std::result::Result<(), AllocError>
+    ensures { OnOk result (string_bytes lines.new ≡ string_bytes lines.old ++ line_of text.now) }
 {
-    let shown = text.to_str_lossy(alloc)?;
-    let mut made = Vec::new(alloc);
-    made.extend_from_slice(shown.as_bytes())?;
-    made.push(b'\n')?;
+    text.to_str_lossy_into(lines)?;
+    lines.push('\n')
+}
+
+// The line of a text.
+fn line(alloc: Global, text: &[u8]) -> std::result::Result<String, AllocError>
+    ensures { IfOk result (λ made. string_bytes made ≡ line_of text.now) }
+{
+    let mut made = String::new(alloc);
+    put_line(&mut made, text)?;
     Ok(made)
 }
 
+// The lines of the texts that are left.
+fn lines_of(alloc: Global, texts: Needed<'_>) -> std::result::Result<String, AllocError>
+    ensures { IfOk result (λ lines. string_bytes lines ≡ flat_map line_of (needed_left texts.entry)) }
+{
+    let mut lines = String::new(alloc);
+    for text in texts {
+        put_line(&mut lines, text)?;
+    }
+    Ok(lines)
+}
+
+// Writes a text.
+fn write_text<W: Write>(out: &mut W, text: String) -> Result<()>
+    ensures prints { OnOk result (Appends (W.contents out.old) (W.contents out.new)
+        (string_bytes text)) }
+    ensures fails { IfErr result FailsWrite }
+{
+    let answer = out.write_all(text.as_bytes());
+    drop(text);
+    Ok(answer?)
+}
+
+// Writes a text's line.
+fn write_line<W: Write>(alloc: Global, out: &mut W, text: &[u8]) -> Result<()>
+    ensures prints { OnOk result (Appends (W.contents out.old) (W.contents out.new)
+        (line_of text.now)) }
+    ensures fails { IfErr result (FailsPrint out.old out.new) }
+{
+    write_text(out, line(alloc, text)?)
+}
+
 // Writes a text's line, or nothing where there is no text.
-fn write_line<W: Write>(alloc: Global, out: &mut W, text: Option<&[u8]>) -> Result<()>
+fn write_line_if<W: Write>(alloc: Global, out: &mut W, text: Option<&[u8]>) -> Result<()>
     ensures prints { OnOk result (Appends (W.contents out.old) (W.contents out.new)
         (line_if (option_map borrowed text.entry))) }
     ensures fails { IfErr result (FailsPrint out.old out.new) }
 {
     match text {
         None => Ok(()),
-        Some(text) => Ok(out.write_all(line(alloc, text)?.as_slice())?),
+        Some(text) => write_line(alloc, out, text),
     }
+}
+
+// What is printed of the stack's flags.
+fn stack_text(flags: u32) -> &'static [u8]
+    ensures { result.now ≡ stack_line (Some flags) }
+{
+    if flags & PF_X == 0 { b"-\n" } else { b"X\n" }
+}
+
+// A number's line.
+fn number_line(alloc: Global, number: u8) -> std::result::Result<String, AllocError>
+    ensures { IfOk result (λ made. string_bytes made ≡ decimal number ++ 10 ∷ []) }
+{
+    let mut made = number.to_string(alloc)?;
+    made.push('\n')?;
+    Ok(made)
 }
 
 // The bytes before the first NUL, all where there is none.
@@ -67,14 +122,31 @@ fn before_nul(bytes: &[u8]) -> &[u8]
 fn cut_at_colons(alloc: Global, text: &str) -> std::result::Result<Vec<String>, AllocError>
     ensures { IfOk result (λ parts. map string_bytes parts.items ≡ parts_between_colons text.now) }
 {
-    let mut parts = Vec::new(alloc);
     if text.is_empty() {
-        return Ok(parts);
+        return Ok(Vec::new(alloc));
     }
+    parts_of(alloc, text)
+}
+
+// The parts of a text between its colons.
+fn parts_of(alloc: Global, text: &str) -> std::result::Result<Vec<String>, AllocError>
+    ensures { IfOk result (λ parts.
+        map string_bytes parts.items ≡ slice_split (λ b. b == 58) text.now) }
+{
+    let mut parts = Vec::new(alloc);
     for part in text.split(':') {
         parts.push(String::from_str(alloc, part)?)?;
     }
     Ok(parts)
+}
+
+// The directories of a run path.
+fn directories_in(alloc: Global, text: &[u8]) -> std::result::Result<Vec<String>, AllocError>
+    ensures { IfOk result (λ parts.
+        map string_bytes parts.items ≡ parts_between_colons (lossily text.now)) }
+{
+    let shown = text.to_str_lossy(alloc)?;
+    cut_at_colons(alloc, &shown)
 }
 
 impl<'a> ElfContainer<'a> {
@@ -121,7 +193,7 @@ impl<'a> ElfContainer<'a> {
     {
         match self.inner.searched_runpath() {
             None => Ok(Vec::new(alloc)),
-            Some(text) => Ok(cut_at_colons(alloc, &text.to_str_lossy(alloc)?)?),
+            Some(text) => Ok(directories_in(alloc, text)?),
         }
     }
 
@@ -132,7 +204,7 @@ impl<'a> ElfContainer<'a> {
             (printed_runpath (shown self.now.inner))) }
         ensures fails { IfErr result (FailsPrint out.old out.new) }
     {
-        write_line(alloc, out, self.inner.elf_runpath())
+        write_line_if(alloc, out, self.inner.elf_runpath())
     }
 
     /// Prints the text of the first DT_SONAME entry (gABI, Dynamic Section), the library's own name, in the same way.
@@ -142,7 +214,7 @@ impl<'a> ElfContainer<'a> {
             (printed_soname (shown self.now.inner))) }
         ensures fails { IfErr result (FailsPrint out.old out.new) }
     {
-        write_line(alloc, out, self.inner.elf_soname())
+        write_line_if(alloc, out, self.inner.elf_soname())
     }
 
     /// Prints the text of each DT_NEEDED entry (gABI, Dynamic Section) in the same way, in order. Errors: `Memory`,
@@ -152,11 +224,7 @@ impl<'a> ElfContainer<'a> {
             (printed_needed (shown self.now.inner))) }
         ensures fails { IfErr result (FailsPrint out.old out.new) }
     {
-        let mut lines = Vec::new(alloc);
-        for text in self.inner.elf_needed() {
-            lines.extend_from_slice(line(alloc, text)?.as_slice())?;
-        }
-        Ok(out.write_all(lines.as_slice())?)
+        write_text(out, lines_of(alloc, self.inner.elf_needed())?)
     }
 
     /// Prints the bytes of the interpreter's section before the first NUL (gABI, Program Interpreter) in the same way.
@@ -166,7 +234,10 @@ impl<'a> ElfContainer<'a> {
             (printed_interpreter (shown self.now.inner))) }
         ensures fails { IfErr result (FailsPrint out.old out.new) }
     {
-        write_line(alloc, out, self.inner.elf_interpreter().map(before_nul))
+        match self.inner.elf_interpreter() {
+            None => Ok(()),
+            Some(bytes) => write_line(alloc, out, before_nul(bytes)),
+        }
     }
 
     /// Prints the ABI byte (gABI, ELF Identification, `EI_OSABI`) in decimal, with a line feed. Errors: `Memory`,
@@ -176,9 +247,8 @@ impl<'a> ElfContainer<'a> {
             (printed_os_abi (shown self.now.inner))) }
         ensures fails { IfErr result (FailsPrint out.old out.new) }
     {
-        let mut text = self.inner.header().os_abi.to_string(alloc)?;
-        text.push('\n')?;
-        Ok(out.write_all(text.as_bytes())?)
+        let text = number_line(alloc, self.inner.header().os_abi)?;
+        write_text(out, text)
     }
 
     /// Prints `X` where the flags of the first PT_GNU_STACK (GNU extension) let the stack be run (`PF_X`), else `-`,
@@ -190,10 +260,7 @@ impl<'a> ElfContainer<'a> {
     {
         match self.inner.elf_gnu_exec_stack() {
             None => Ok(()),
-            Some(flags) => {
-                let text = if flags & PF_X == 0 { b"-\n" } else { b"X\n" };
-                Ok(out.write_all(text)?)
-            }
+            Some(flags) => Ok(out.write_all(stack_text(flags))?),
         }
     }
 

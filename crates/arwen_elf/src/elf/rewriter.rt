@@ -4,7 +4,7 @@ mod edits;
 pub mod machines;
 pub mod new_file;
 mod output;
-mod values;
+pub(crate) mod values;
 pub mod writer;
 
 pub use crate::elf::rewriter::new_file::NotWritten;

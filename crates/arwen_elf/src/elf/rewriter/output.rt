@@ -46,18 +46,32 @@ fn bytes_by<'data>(
     }
 }
 
+// The bytes of an edited image, with the image that was read from its source.
+fn bytes_from<'data>(
+    alloc: Global,
+    read: &Builder<'data>,
+    image: &Builder<'data>,
+) -> std::result::Result<Vec<u8>, LayoutFault>
+    requires read { read.now ≡ image_at_read image.now }
+    requires whole { IsWhole read.now image.now }
+    ensures bytes { IfOk result (λ bytes. IsWrittenOf image.now bytes.items) }
+    ensures fault { IfErr result (IsNoEdit image.now) }
+{
+    match lay_out_from_read(alloc, read, image) {
+        Ok(plan) => bytes_by(alloc, read, image, &plan),
+        Err(fault) => Err(fault),
+    }
+}
+
 // The bytes of an edited image.
 fn edited_bytes(alloc: Global, image: &Builder<'_>) -> std::result::Result<Vec<u8>, LayoutFault>
     requires { IsWhole (image_at_read image.now) image.now }
     ensures bytes { IfOk result (λ bytes. IsWrittenOf image.now bytes.items) }
     ensures fault { IfErr result (IsNoEdit image.now) }
 {
-    let Ok(read) = read_source(alloc, image) else {
-        return Err(LayoutFault::Memory);
-    };
-    match lay_out_from_read(alloc, &read, image) {
-        Ok(plan) => bytes_by(alloc, &read, image, &plan),
-        Err(fault) => Err(fault),
+    match read_source(alloc, image) {
+        Ok(read) => bytes_from(alloc, &read, image),
+        Err(_) => Err(LayoutFault::Memory),
     }
 }
 
@@ -104,8 +118,29 @@ fn pieces_by_sizes<'a, 'data>(
     ensures fault { IfErr result (IsNoEdit image.entry.now) }
 {
     let NewSizes { sizes, strings } = new;
-    match lay_out_from_sizes(alloc, read, image, &sizes) {
+    let planned = lay_out_from_sizes(alloc, read, image, &sizes);
+    drop(sizes);
+    match planned {
         Ok(plan) => pieces_by(alloc, read, image, &plan, strings),
+        Err(fault) => Err(fault),
+    }
+}
+
+// The same, by no more than the image that was read from its source.
+fn pieces_from<'a, 'data>(
+    alloc: Global,
+    read: &'a Builder<'data>,
+    image: &'a Builder<'data>,
+) -> std::result::Result<Difference, LayoutFault>
+    requires read { read.now ≡ image_at_read image.now }
+    requires whole { IsWhole read.now image.now }
+    ensures makeable { IfOk result (λ d. IsDifference image.entry.now.source d) }
+    ensures bytes { IfOk result (λ d.
+        IsWrittenOf image.entry.now (made_of image.entry.now.source d)) }
+    ensures fault { IfErr result (IsNoEdit image.entry.now) }
+{
+    match new_sizes_with_strings(alloc, read, image) {
+        Ok(new) => pieces_by_sizes(alloc, read, image, new),
         Err(fault) => Err(fault),
     }
 }
@@ -118,12 +153,9 @@ fn edited_pieces(alloc: Global, image: &Builder<'_>) -> std::result::Result<Diff
         IsWrittenOf image.now (made_of image.now.source d)) }
     ensures fault { IfErr result (IsNoEdit image.now) }
 {
-    let Ok(read) = read_source(alloc, image) else {
-        return Err(LayoutFault::Memory);
-    };
-    match new_sizes_with_strings(alloc, &read, image) {
-        Ok(new) => pieces_by_sizes(alloc, &read, image, new),
-        Err(fault) => Err(fault),
+    match read_source(alloc, image) {
+        Ok(read) => pieces_from(alloc, &read, image),
+        Err(_) => Err(LayoutFault::Memory),
     }
 }
 

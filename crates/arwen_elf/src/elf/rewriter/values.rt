@@ -1,10 +1,28 @@
 //! The values of single calls, copied for the edit that each call is.
-ghost use Rattle.std.specs.Prelude.{◌≡◌, IfOk};
+ghost use Rattle.std.specs.Prelude.{◌≡◌, ◌∷◌, ◌++◌, [], IfOk, OnOk};
 ghost use Rattle.std.specs.HashSet.{keys};
 ghost use Rattle.elf_edits.specs.EditModel.{pair_model, pairs_model, texts_model};
 
 use std::alloc::{AllocError, Global};
 use std::collections::{HashMap, HashSet};
+
+// A copy of one text.
+pub(crate) fn one_text(alloc: Global, text: &[u8]) -> Result<Vec<Vec<u8>>, AllocError>
+    ensures { IfOk result (λ copies. texts_model copies.items ≡ text.now ∷ []) }
+{
+    let mut texts = Vec::new(alloc);
+    push_copy(alloc, &mut texts, text)?;
+    Ok(texts)
+}
+
+// Puts a copy of a text behind others.
+fn push_copy(alloc: Global, copies: &mut Vec<Vec<u8>>, text: &[u8]) -> Result<(), AllocError>
+    ensures { OnOk result (texts_model copies.new.items
+        ≡ texts_model copies.old.items ++ (text.now ∷ [])) }
+{
+    copies.push(Vec::from_slice(alloc, text)?)?;
+    Ok(())
+}
 
 // Copies of texts.
 pub(crate) fn copy_texts(alloc: Global, texts: &[Vec<u8>]) -> Result<Vec<Vec<u8>>, AllocError>
@@ -12,7 +30,7 @@ pub(crate) fn copy_texts(alloc: Global, texts: &[Vec<u8>]) -> Result<Vec<Vec<u8>
 {
     let mut copies = Vec::new(alloc);
     for text in texts {
-        copies.push(Vec::from_slice(alloc, text.as_slice())?)?;
+        push_copy(alloc, &mut copies, text.as_slice())?;
     }
     Ok(copies)
 }
@@ -23,7 +41,7 @@ pub(crate) fn copy_set(alloc: Global, texts: &HashSet<Vec<u8>>) -> Result<Vec<Ve
 {
     let mut copies = Vec::new(alloc);
     for text in texts {
-        copies.push(Vec::from_slice(alloc, text.as_slice())?)?;
+        push_copy(alloc, &mut copies, text.as_slice())?;
     }
     Ok(copies)
 }
