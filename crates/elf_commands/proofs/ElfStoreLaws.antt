@@ -1,15 +1,18 @@
 -- What edits leave of the bytes of a store.
-use Rattle.std.proofs.Common.{◌≡◌, ℕ, List, Option, Some, ap, subst, inl, inr}
+use Rattle.std.proofs.Common.{◌≡◌, ◌∙◌, ℕ, List, Option, Some, length, refl, ap, subst, inl, inr, arith}
 use Rattle.byte_store.specs.Composed.{IsNotMade, made_of}
 use Rattle.byte_store.specs.Known.{Becomes, IsAll, Stays}
 use Rattle.byte_store.specs.declared.composed.Difference.{Difference}
 use Rattle.byte_store.specs.declared.difference.ReplaceError.{ReplaceError}
 use Rattle.byte_store.specs.declared.difference.ReplaceError.TheVariants as replace
+use Rattle.byte_store.specs.declared.reading.ReadError.{ReadError}
+use Rattle.byte_store.specs.declared.reading.ReadError.TheVariants as read
+use Rattle.arwen_elf.specs.Written.{IsNoDifference}
 use Rattle.elf_commands.specs.ElfAsked.{ElfAsked, one, printing, several, shrinking}
 use Rattle.elf_edits.specs.Edit.{Edit}
-use Rattle.elf_commands.specs.ElfEngine.{AreEditsAsked, LeavesElf, TellsEachFile}
-use Rattle.elf_commands.specs.ElfStores.{FailsElf, IsElfPatched}
-use Rattle.elf_commands.specs.ElfErrors.{answer_to_replaced}
+use Rattle.elf_commands.specs.ElfEngine.{AreEditsAsked, LeavesElf, MayFailAs, TellsEachFile, TellsEdit}
+use Rattle.elf_commands.specs.ElfStores.{FailsElf, IsElfPatched, IsNothing, TellsElfPath}
+use Rattle.elf_commands.specs.ElfErrors.{answer_to_read, answer_to_replaced}
 use Rattle.elf_commands.specs.declared.error.ElfCommandError.{ElfCommandError}
 use Rattle.elf_commands.specs.declared.error.ElfCommandError.TheVariants.{Edits, Elf, ElfBatch, Io, Memory}
 
@@ -43,3 +46,35 @@ elf_failed a contents old new loaded d (replace.Write e) all leaves part = inr (
   left = e.left;
   part = part;
 })
+
+-- edits that are refused for bytes that were read
+pub file_refused : (a : ElfAsked) (known : Option (List ℕ)) (loaded : List ℕ) (e : ElfCommandError) → IsAll known loaded → TellsEdit a loaded e → FailsElf a known known e
+file_refused a known loaded (Io e) all tells = inl refl
+file_refused a known loaded e all tells = (refl, λ file is. let P : List ℕ → Type 0 = λ l. TellsEdit a l e in subst P (all file is) tells)
+
+-- a store that is not read
+pub read_fails : (a : ElfAsked) (old new : Option (List ℕ)) (e : ReadError) → Stays old new → FailsElf a old new (answer_to_read e)
+read_fails a old new read.Memory kept = (kept, λ file is. tt)
+read_fails a old new (read.Io e) kept = inl kept
+
+-- what is not read or not written is a failure that a command may have
+pub read_as_asked : (a : ElfAsked) (e : ReadError) → MayFailAs a (answer_to_read e)
+read_as_asked printing read.Memory = tt
+read_as_asked printing (read.Io e) = tt
+read_as_asked a read.Memory = tt
+read_as_asked a (read.Io e) = tt
+
+pub replaced_as_asked : (a : ElfAsked) (e : ReplaceError) → MayFailAs a (answer_to_replaced e)
+replaced_as_asked printing replace.Memory = tt
+replaced_as_asked printing (replace.Write e) = tt
+replaced_as_asked a replace.Memory = tt
+replaced_as_asked a (replace.Write e) = tt
+
+-- bytes that differ nowhere
+pub nothing_differs : (bytes : List ℕ) (n : ℕ) (d : Difference) → n ≡ length bytes → IsNoDifference bytes d → IsNothing n d
+nothing_differs bytes n d is none = record { growth = ap length none.no_growth; pieces = ap length none.no_pieces; end = omega (arith, none.as_long) }
+
+-- the store at a path
+pub tells_at : (a : ElfAsked) (known old new : Option (List ℕ)) (e : ElfCommandError) → old ≡ known → FailsElf a old new e → TellsElfPath a known e
+tells_at a known old new (Io e) same fails = tt
+tells_at a known old new e same fails = λ file is. fails.1 file (same ∙ is)

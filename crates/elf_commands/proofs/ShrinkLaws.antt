@@ -33,7 +33,7 @@ use Rattle.elf_commands.specs.ShrinkRuns.{AreFoundIn, FailsShrink, IsQuiet, IsRe
 use Rattle.elf_commands_probe.specs.Shrinking.{AreFound, Finding, removal_lines}
 use Rattle.elf_commands.specs.declared.command.ElfCommand.{ElfCommand}
 use Rattle.elf_commands.specs.declared.command.ElfCommand.TheVariants as command
-use Rattle.elf_commands.specs.declared.elf.commands.shrink_rpath.Args.{Args}
+use Rattle.elf_commands.specs.declared.elf.shrink_rpath.Args.{Args}
 use Rattle.elf_commands.specs.declared.error.ElfCommandError.{ElfCommandError}
 use Rattle.elf_commands.specs.declared.error.ElfCommandError.TheVariants.{Edits, Elf, ElfBatch, Io, Memory}
 use Rattle.elf_commands.proofs.ElfOutcomes.{edited_answer, leaves_pieces, made_of_edits, one_refused, source_is, tells_no_image}
@@ -240,6 +240,11 @@ refused_is_quiet w (Io e) = tt
 refused_is_quiet w (Edits wrong) = refl
 refused_is_quiet w (Elf e) = refl
 refused_is_quiet w (ElfBatch e) = refl
+
+-- the store at a path
+pub shrink_tells_at : (finds : Finding) (prefixes : List Text) (known old new : Option (List ℕ)) (e : ElfCommandError) → old ≡ known → FailsShrink finds prefixes old new e → TellsShrunkPath finds prefixes known e
+shrink_tells_at finds prefixes known old new (Io e) same fails = tt
+shrink_tells_at finds prefixes known old new e same fails = λ file is. fails.1 file (same ∙ is)
 
 -- ## Any command
 

@@ -1,4 +1,8 @@
-//! What is asked of an ELF file, with its values.
+//! What is asked of an ELF file, with its values, and the rows of the commands, as help shows them.
+ghost use Rattle.std.specs.Prelude.{◌≡◌, map};
+ghost use Rattle.command_words.specs.Rows.{named_of, row_model};
+ghost use Rattle.elf_commands.specs.Meaning.{elf_lines};
+
 use crate::elf::{
     add_debug_tag, add_needed, add_rpath, apply, clear_execstack, force_rpath, no_default_lib,
     path_alone, print_execstack, print_interpreter, print_needed, print_os_abi, print_rpath,
@@ -6,7 +10,9 @@ use crate::elf::{
     set_os_abi, set_page_size, set_rpath, set_soname, shrink_rpath,
 };
 use crate::texts::{bytes_of, pairs_copied, texts_of};
-use command_words::{ValueError, Values, copied, number_of, pairs_of};
+use command_words::{
+    Row, Value, ValueError, ValueForm, ValueOption, Values, copied, number_of, pairs_of,
+};
 use elf_edits::ElfEdit;
 use std::alloc::{AllocError, Global};
 use std::slice;
@@ -283,4 +289,235 @@ impl ElfCommand {
             ElfCommand::PrintExecStack(args) => args.path_to_binary.as_str(),
         }
     }
+}
+
+/// What help says of `apply` of edits of an ELF file below its values.
+const ELF_EDITS: &str = "Edits:
+  add-debug-tag
+  clear-exec-stack
+  force-rpath
+  no-default-lib
+  remove-rpath
+  set-exec-stack
+  add-rpath <NEW>
+  set-rpath <NEW>
+  set-interpreter <INTERPRETER>
+  set-os-abi <ABI>
+  set-soname <NAME>
+  set-page-size <SIZE>
+  add-needed [NEW]...
+  remove-needed [OLD]...
+  replace-needed [OLD=NEW]...
+
+Example:
+  arwen elf apply libgreet.so set-soname libgreet.so.1 + add-rpath /opt/lib
+";
+
+/// The commands for ELF files.
+pub static ELF_ROWS: [Row; 23] = [
+    Row {
+        name: add_debug_tag::NAME,
+        about: "Add an entry for a debugger",
+        form: ValueForm::Path,
+        is_edit: true,
+        more: "",
+    },
+    Row {
+        name: clear_execstack::NAME,
+        about: "Take the permission to run from the stack",
+        form: ValueForm::Path,
+        is_edit: true,
+        more: "",
+    },
+    Row {
+        name: force_rpath::NAME,
+        about: "Make every DT_RUNPATH a DT_RPATH",
+        form: ValueForm::Path,
+        is_edit: true,
+        more: "",
+    },
+    Row {
+        name: no_default_lib::NAME,
+        about: "Leave out the default directories",
+        form: ValueForm::Path,
+        is_edit: true,
+        more: "",
+    },
+    Row {
+        name: remove_rpath::NAME,
+        about: "Remove the run path",
+        form: ValueForm::Path,
+        is_edit: true,
+        more: "",
+    },
+    Row {
+        name: set_execstack::NAME,
+        about: "Give the stack the permission to run",
+        form: ValueForm::Path,
+        is_edit: true,
+        more: "",
+    },
+    Row {
+        name: add_rpath::NAME,
+        about: "Add a directory to the run path",
+        form: ValueForm::Text(Value {
+            name: "NEW",
+            help: "Directory to add",
+        }),
+        is_edit: true,
+        more: "",
+    },
+    Row {
+        name: set_rpath::NAME,
+        about: "Set the run path",
+        form: ValueForm::Text(Value {
+            name: "NEW",
+            help: "Directories, with a colon between two",
+        }),
+        is_edit: true,
+        more: "",
+    },
+    Row {
+        name: set_interpreter::NAME,
+        about: "Set the interpreter",
+        form: ValueForm::Text(Value {
+            name: "INTERPRETER",
+            help: "Path of the interpreter",
+        }),
+        is_edit: true,
+        more: "",
+    },
+    Row {
+        name: set_os_abi::NAME,
+        about: "Set the ABI byte",
+        form: ValueForm::Text(Value {
+            name: "ABI",
+            help: "Name of the ABI",
+        }),
+        is_edit: true,
+        more: "",
+    },
+    Row {
+        name: set_soname::NAME,
+        about: "Set the library's own name",
+        form: ValueForm::Text(Value {
+            name: "NAME",
+            help: "New name",
+        }),
+        is_edit: true,
+        more: "",
+    },
+    Row {
+        name: set_page_size::NAME,
+        about: "Set the page size",
+        form: ValueForm::Text(Value {
+            name: "SIZE",
+            help: "Bytes, a power of two from 1024 on",
+        }),
+        is_edit: true,
+        more: "",
+    },
+    Row {
+        name: add_needed::NAME,
+        about: "Add needed libraries",
+        form: ValueForm::Words(Value {
+            name: "NEW",
+            help: "Names of the libraries",
+        }),
+        is_edit: true,
+        more: "",
+    },
+    Row {
+        name: remove_needed::NAME,
+        about: "Remove needed libraries",
+        form: ValueForm::Words(Value {
+            name: "OLD",
+            help: "Names of the libraries",
+        }),
+        is_edit: true,
+        more: "",
+    },
+    Row {
+        name: replace_needed::NAME,
+        about: "Replace needed libraries, all at once",
+        form: ValueForm::Words(Value {
+            name: "OLD=NEW",
+            help: "Pairs of an old and a new name",
+        }),
+        is_edit: true,
+        more: "",
+    },
+    Row {
+        name: apply::NAME,
+        about: "Make several edits, all or none",
+        form: ValueForm::Words(Value {
+            name: "EDITS",
+            help: "Edits with their words, with a word `+` between two edits",
+        }),
+        is_edit: false,
+        more: ELF_EDITS,
+    },
+    Row {
+        name: shrink_rpath::NAME,
+        about: "Leave out of the run path directories that have no needed library",
+        form: ValueForm::Options(ValueOption {
+            long: "allowed-rpath-prefixes",
+            short: 'a',
+            value: Value {
+                name: "PREFIX",
+                help: "Leave out directories too that no such prefix begins",
+            },
+        }),
+        is_edit: false,
+        more: "",
+    },
+    Row {
+        name: print_rpath::NAME,
+        about: "Print the run path",
+        form: ValueForm::Path,
+        is_edit: false,
+        more: "",
+    },
+    Row {
+        name: print_needed::NAME,
+        about: "Print the needed libraries",
+        form: ValueForm::Path,
+        is_edit: false,
+        more: "",
+    },
+    Row {
+        name: print_soname::NAME,
+        about: "Print the library's own name",
+        form: ValueForm::Path,
+        is_edit: false,
+        more: "",
+    },
+    Row {
+        name: print_interpreter::NAME,
+        about: "Print the interpreter",
+        form: ValueForm::Path,
+        is_edit: false,
+        more: "",
+    },
+    Row {
+        name: print_os_abi::NAME,
+        about: "Print the ABI byte",
+        form: ValueForm::Path,
+        is_edit: false,
+        more: "",
+    },
+    Row {
+        name: print_execstack::NAME,
+        about: "Print whether the stack may be run",
+        form: ValueForm::Path,
+        is_edit: false,
+        more: "",
+    },
+];
+
+/// The commands for ELF files, as a slice.
+pub fn elf_table() -> &'static [Row]
+    ensures { map row_model result.now ≡ map named_of elf_lines }
+{
+    ELF_ROWS.as_slice()
 }

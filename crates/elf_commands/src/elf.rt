@@ -1,9 +1,9 @@
-//! The commands for ELF files.
+//! The commands for ELF files: of each its name, its values, and the call that does it.
 ghost use Rattle.std.specs.Prelude.{IfErr};
 ghost use Rattle.elf_commands.specs.ElfEngine.{ElfMayFail};
 ghost use Rattle.elf_commands.specs.Meaning.{elf_command_model};
+ghost use Rattle.elf_commands.specs.Prints.{PrintMayFail};
 
-mod commands;
 mod editing;
 mod engine;
 mod noting;
@@ -14,15 +14,8 @@ mod standard_error;
 use crate::command::ElfCommand;
 use crate::error::ElfCommandError;
 use command_words::Notes;
-pub(crate) use commands::path_alone;
-pub use commands::{
-    add_debug_tag, add_needed, add_rpath, apply, clear_execstack, force_rpath, no_default_lib,
-    print_execstack, print_interpreter, print_needed, print_os_abi, print_rpath, print_soname,
-    remove_needed, remove_rpath, replace_needed, set_execstack, set_interpreter, set_os_abi,
-    set_page_size, set_rpath, set_soname, shrink_rpath,
-};
-use editing::edit_telling;
 pub use editing::{edit_path, edit_store};
+use editing::{edit_file, edit_telling};
 pub use elf_commands_probe::{FileProbe, Probe};
 pub use engine::{edits_asked, run_elf};
 use printing::print_file;
@@ -69,5 +62,492 @@ fn execute_unprobed<R: Files + Print + Eprint + AllocGlobal>(
         print_file(rt, elf)
     } else {
         edit_telling(rt, elf, notes)
+    }
+}
+
+/// Values that are a path alone.
+pub(crate) mod path_alone {
+    /// The file of a command.
+    #[derive(Debug, Drop)]
+    pub struct Args {
+        /// Path to the file to change, or to read.
+        pub path_to_binary: String,
+    }
+}
+
+/// `add-debug-tag`: adds an entry for a debugger (gABI, Dynamic Section, DT_DEBUG).
+pub mod add_debug_tag {
+    pub use super::path_alone::Args;
+    use super::{ElfCommand, ElfCommandError, Files, edit_file};
+
+    /// The word that names the command.
+    pub const NAME: &str = "add-debug-tag";
+
+    /// Edits the file.
+    pub fn execute<R: Files + AllocGlobal>(rt: &R, args: Args) -> Result<(), ElfCommandError>
+        ensures { IfErr result (ElfMayFail (elf_command_model (ElfCommand.AddDebugTag args))) }
+    {
+        edit_file(rt, ElfCommand::AddDebugTag(args))
+    }
+}
+
+/// `clear-exec-stack`: takes the permission to run from the stack (GNU extension, PT_GNU_STACK).
+pub mod clear_execstack {
+    pub use super::path_alone::Args;
+    use super::{ElfCommand, ElfCommandError, Files, edit_file};
+
+    /// The word that names the command.
+    pub const NAME: &str = "clear-exec-stack";
+
+    /// Edits the file.
+    pub fn execute<R: Files + AllocGlobal>(rt: &R, args: Args) -> Result<(), ElfCommandError>
+        ensures { IfErr result (ElfMayFail (elf_command_model (ElfCommand.ClearExecStack args))) }
+    {
+        edit_file(rt, ElfCommand::ClearExecStack(args))
+    }
+}
+
+/// `force-rpath`: makes every DT_RUNPATH a DT_RPATH (gABI, Dynamic Section).
+pub mod force_rpath {
+    pub use super::path_alone::Args;
+    use super::{ElfCommand, ElfCommandError, Files, edit_file};
+
+    /// The word that names the command.
+    pub const NAME: &str = "force-rpath";
+
+    /// Edits the file.
+    pub fn execute<R: Files + AllocGlobal>(rt: &R, args: Args) -> Result<(), ElfCommandError>
+        ensures { IfErr result (ElfMayFail (elf_command_model (ElfCommand.ForceRpath args))) }
+    {
+        edit_file(rt, ElfCommand::ForceRpath(args))
+    }
+}
+
+/// `no-default-lib`: leaves out the default directories of libraries (DT_FLAGS_1, DF_1_NODEFLIB).
+pub mod no_default_lib {
+    pub use super::path_alone::Args;
+    use super::{ElfCommand, ElfCommandError, Files, edit_file};
+
+    /// The word that names the command.
+    pub const NAME: &str = "no-default-lib";
+
+    /// Edits the file.
+    pub fn execute<R: Files + AllocGlobal>(rt: &R, args: Args) -> Result<(), ElfCommandError>
+        ensures { IfErr result (ElfMayFail (elf_command_model (ElfCommand.NoDefaultLib args))) }
+    {
+        edit_file(rt, ElfCommand::NoDefaultLib(args))
+    }
+}
+
+/// `remove-rpath`: removes the run path (gABI, Dynamic Section).
+pub mod remove_rpath {
+    pub use super::path_alone::Args;
+    use super::{ElfCommand, ElfCommandError, Files, edit_file};
+
+    /// The word that names the command.
+    pub const NAME: &str = "remove-rpath";
+
+    /// Edits the file.
+    pub fn execute<R: Files + AllocGlobal>(rt: &R, args: Args) -> Result<(), ElfCommandError>
+        ensures { IfErr result (ElfMayFail (elf_command_model (ElfCommand.RemoveRpath args))) }
+    {
+        edit_file(rt, ElfCommand::RemoveRpath(args))
+    }
+}
+
+/// `set-exec-stack`: gives the stack the permission to run (GNU extension, PT_GNU_STACK).
+pub mod set_execstack {
+    pub use super::path_alone::Args;
+    use super::{ElfCommand, ElfCommandError, Files, edit_file};
+
+    /// The word that names the command.
+    pub const NAME: &str = "set-exec-stack";
+
+    /// Edits the file.
+    pub fn execute<R: Files + AllocGlobal>(rt: &R, args: Args) -> Result<(), ElfCommandError>
+        ensures { IfErr result (ElfMayFail (elf_command_model (ElfCommand.SetExecStack args))) }
+    {
+        edit_file(rt, ElfCommand::SetExecStack(args))
+    }
+}
+
+/// `add-rpath`: adds a directory to the run path (gABI, Dynamic Section).
+pub mod add_rpath {
+    use super::{ElfCommand, ElfCommandError, Files, edit_file};
+
+    /// The word that names the command.
+    pub const NAME: &str = "add-rpath";
+
+    /// The values of the command.
+    #[derive(Debug, Drop)]
+    pub struct Args {
+        /// Directory to add.
+        pub new_rpath: String,
+        /// Path to the file to change.
+        pub path_to_binary: String,
+    }
+
+    /// Edits the file.
+    pub fn execute<R: Files + AllocGlobal>(rt: &R, args: Args) -> Result<(), ElfCommandError>
+        ensures { IfErr result (ElfMayFail (elf_command_model (ElfCommand.AddRpath args))) }
+    {
+        edit_file(rt, ElfCommand::AddRpath(args))
+    }
+}
+
+/// `set-rpath`: sets the run path (gABI, Dynamic Section).
+pub mod set_rpath {
+    use super::{ElfCommand, ElfCommandError, Files, edit_file};
+
+    /// The word that names the command.
+    pub const NAME: &str = "set-rpath";
+
+    /// The values of the command.
+    #[derive(Debug, Drop)]
+    pub struct Args {
+        /// Directories, with a colon between two.
+        pub new_rpath: String,
+        /// Path to the file to change.
+        pub path_to_binary: String,
+    }
+
+    /// Edits the file.
+    pub fn execute<R: Files + AllocGlobal>(rt: &R, args: Args) -> Result<(), ElfCommandError>
+        ensures { IfErr result (ElfMayFail (elf_command_model (ElfCommand.SetRpath args))) }
+    {
+        edit_file(rt, ElfCommand::SetRpath(args))
+    }
+}
+
+/// `set-interpreter`: sets the interpreter (gABI, Program Interpreter).
+pub mod set_interpreter {
+    use super::{ElfCommand, ElfCommandError, Files, edit_file};
+
+    /// The word that names the command.
+    pub const NAME: &str = "set-interpreter";
+
+    /// The values of the command.
+    #[derive(Debug, Drop)]
+    pub struct Args {
+        /// Path of the interpreter.
+        pub interpreter: String,
+        /// Path to the file to change.
+        pub path_to_binary: String,
+    }
+
+    /// Edits the file.
+    pub fn execute<R: Files + AllocGlobal>(rt: &R, args: Args) -> Result<(), ElfCommandError>
+        ensures { IfErr result (ElfMayFail (elf_command_model (ElfCommand.SetInterpreter args))) }
+    {
+        edit_file(rt, ElfCommand::SetInterpreter(args))
+    }
+}
+
+/// `set-os-abi`: sets the ABI byte (gABI, ELF Identification, EI_OSABI).
+pub mod set_os_abi {
+    use super::{ElfCommand, ElfCommandError, Files, edit_file};
+
+    /// The word that names the command.
+    pub const NAME: &str = "set-os-abi";
+
+    /// The values of the command.
+    #[derive(Debug, Drop)]
+    pub struct Args {
+        /// Name of the ABI.
+        pub os_abi: String,
+        /// Path to the file to change.
+        pub path_to_binary: String,
+    }
+
+    /// Edits the file.
+    pub fn execute<R: Files + AllocGlobal>(rt: &R, args: Args) -> Result<(), ElfCommandError>
+        ensures { IfErr result (ElfMayFail (elf_command_model (ElfCommand.SetOsAbi args))) }
+    {
+        edit_file(rt, ElfCommand::SetOsAbi(args))
+    }
+}
+
+/// `set-soname`: sets the library's own name (gABI, Dynamic Section, DT_SONAME).
+pub mod set_soname {
+    use super::{ElfCommand, ElfCommandError, Files, edit_file};
+
+    /// The word that names the command.
+    pub const NAME: &str = "set-soname";
+
+    /// The values of the command.
+    #[derive(Debug, Drop)]
+    pub struct Args {
+        /// New name.
+        pub soname: String,
+        /// Path to the file to change.
+        pub path_to_binary: String,
+    }
+
+    /// Edits the file.
+    pub fn execute<R: Files + AllocGlobal>(rt: &R, args: Args) -> Result<(), ElfCommandError>
+        ensures { IfErr result (ElfMayFail (elf_command_model (ElfCommand.SetSoname args))) }
+    {
+        edit_file(rt, ElfCommand::SetSoname(args))
+    }
+}
+
+/// `set-page-size`: sets the page size (gABI, Program Header, p_align of each PT_LOAD).
+pub mod set_page_size {
+    use super::{ElfCommand, ElfCommandError, Files, edit_file};
+
+    /// The word that names the command.
+    pub const NAME: &str = "set-page-size";
+
+    /// The values of the command.
+    #[derive(Debug, Drop)]
+    pub struct Args {
+        /// Page size in bytes, a power of two from 1,024 on.
+        pub page_size: u32,
+        /// Path to the file to change.
+        pub path_to_binary: String,
+    }
+
+    /// Edits the file.
+    pub fn execute<R: Files + AllocGlobal>(rt: &R, args: Args) -> Result<(), ElfCommandError>
+        ensures { IfErr result (ElfMayFail (elf_command_model (ElfCommand.SetPageSize args))) }
+    {
+        edit_file(rt, ElfCommand::SetPageSize(args))
+    }
+}
+
+/// `add-needed`: adds needed libraries (gABI, Dynamic Section, DT_NEEDED).
+pub mod add_needed {
+    use super::{ElfCommand, ElfCommandError, Files, edit_file};
+
+    /// The word that names the command.
+    pub const NAME: &str = "add-needed";
+
+    /// The values of the command.
+    #[derive(Debug, Drop)]
+    pub struct Args {
+        /// Path to the file to change.
+        pub path_to_binary: String,
+        /// Names of the libraries to add.
+        pub dt_needed: Vec<String>,
+    }
+
+    /// Edits the file.
+    pub fn execute<R: Files + AllocGlobal>(rt: &R, args: Args) -> Result<(), ElfCommandError>
+        ensures { IfErr result (ElfMayFail (elf_command_model (ElfCommand.AddNeeded args))) }
+    {
+        edit_file(rt, ElfCommand::AddNeeded(args))
+    }
+}
+
+/// `remove-needed`: removes needed libraries (gABI, Dynamic Section, DT_NEEDED).
+pub mod remove_needed {
+    use super::{ElfCommand, ElfCommandError, Files, edit_file};
+
+    /// The word that names the command.
+    pub const NAME: &str = "remove-needed";
+
+    /// The values of the command.
+    #[derive(Debug, Drop)]
+    pub struct Args {
+        /// Path to the file to change.
+        pub path_to_binary: String,
+        /// Names of the libraries to remove.
+        pub dt_needed: Vec<String>,
+    }
+
+    /// Edits the file.
+    pub fn execute<R: Files + AllocGlobal>(rt: &R, args: Args) -> Result<(), ElfCommandError>
+        ensures { IfErr result (ElfMayFail (elf_command_model (ElfCommand.RemoveNeeded args))) }
+    {
+        edit_file(rt, ElfCommand::RemoveNeeded(args))
+    }
+}
+
+/// `replace-needed`: replaces needed libraries, all at once (gABI, Dynamic Section, DT_NEEDED).
+pub mod replace_needed {
+    use super::{ElfCommand, ElfCommandError, Files, edit_file};
+
+    /// The word that names the command.
+    pub const NAME: &str = "replace-needed";
+
+    /// The values of the command.
+    #[derive(Debug, Drop)]
+    pub struct Args {
+        /// Path to the file to change.
+        pub path_to_binary: String,
+        /// Pairs of an old and a new name; of a repeated old name the last pair counts.
+        pub dt_needed: Vec<(String, String)>,
+    }
+
+    /// Edits the file.
+    pub fn execute<R: Files + AllocGlobal>(rt: &R, args: Args) -> Result<(), ElfCommandError>
+        ensures { IfErr result (ElfMayFail (elf_command_model (ElfCommand.ReplaceNeeded args))) }
+    {
+        edit_file(rt, ElfCommand::ReplaceNeeded(args))
+    }
+}
+
+/// `apply`: makes several edits, all or none.
+pub mod apply {
+    use super::{ElfCommand, ElfCommandError, Files, edit_file};
+
+    /// The word that names the command.
+    pub const NAME: &str = "apply";
+
+    /// The values of the command.
+    #[derive(Debug, Drop)]
+    pub struct Args {
+        /// Path to the file to change.
+        pub path_to_binary: String,
+        /// The words of the edits, with a word `+` between two edits.
+        pub edits: Vec<String>,
+    }
+
+    /// Edits the file.
+    pub fn execute<R: Files + AllocGlobal>(rt: &R, args: Args) -> Result<(), ElfCommandError>
+        ensures { IfErr result (ElfMayFail (elf_command_model (ElfCommand.Apply args))) }
+    {
+        edit_file(rt, ElfCommand::Apply(args))
+    }
+}
+
+/// `shrink-rpath`: leaves out of the run path the directories that have no needed library.
+pub mod shrink_rpath {
+    use super::{ElfCommand, ElfCommandError, Files, shrink_file};
+
+    /// The word that names the command.
+    pub const NAME: &str = "shrink-rpath";
+
+    /// The values of the command.
+    #[derive(Debug, Drop)]
+    pub struct Args {
+        /// Path to the file to change.
+        pub path_to_binary: String,
+        /// Prefixes that are allowed: directories that none begins are left out too. None allow all.
+        pub allowed_rpath_prefixes: Vec<String>,
+    }
+
+    /// Edits the file. Which directories went is told on the standard error.
+    pub fn execute<R: Files + Eprint + AllocGlobal>(
+        rt: &R,
+        args: Args,
+    ) -> Result<(), ElfCommandError>
+        ensures { IfErr result (ElfMayFail (elf_command_model (ElfCommand.ShrinkRpath args))) }
+    {
+        shrink_file(rt, args)
+    }
+}
+
+/// `print-rpath`: prints the run path.
+pub mod print_rpath {
+    pub use super::path_alone::Args;
+    use super::{ElfCommand, ElfCommandError, Files, print_file};
+
+    /// The word that names the command.
+    pub const NAME: &str = "print-rpath";
+
+    /// Prints to the standard output.
+    pub fn execute<R: Files + Print + AllocGlobal>(
+        rt: &R,
+        args: Args,
+    ) -> Result<(), ElfCommandError>
+        ensures { IfErr result PrintMayFail }
+    {
+        print_file(rt, ElfCommand::PrintRpath(args))
+    }
+}
+
+/// `print-needed`: prints the needed libraries.
+pub mod print_needed {
+    pub use super::path_alone::Args;
+    use super::{ElfCommand, ElfCommandError, Files, print_file};
+
+    /// The word that names the command.
+    pub const NAME: &str = "print-needed";
+
+    /// Prints to the standard output.
+    pub fn execute<R: Files + Print + AllocGlobal>(
+        rt: &R,
+        args: Args,
+    ) -> Result<(), ElfCommandError>
+        ensures { IfErr result PrintMayFail }
+    {
+        print_file(rt, ElfCommand::PrintNeeded(args))
+    }
+}
+
+/// `print-soname`: prints the library's own name.
+pub mod print_soname {
+    pub use super::path_alone::Args;
+    use super::{ElfCommand, ElfCommandError, Files, print_file};
+
+    /// The word that names the command.
+    pub const NAME: &str = "print-soname";
+
+    /// Prints to the standard output.
+    pub fn execute<R: Files + Print + AllocGlobal>(
+        rt: &R,
+        args: Args,
+    ) -> Result<(), ElfCommandError>
+        ensures { IfErr result PrintMayFail }
+    {
+        print_file(rt, ElfCommand::PrintSoname(args))
+    }
+}
+
+/// `print-interpreter`: prints the interpreter.
+pub mod print_interpreter {
+    pub use super::path_alone::Args;
+    use super::{ElfCommand, ElfCommandError, Files, print_file};
+
+    /// The word that names the command.
+    pub const NAME: &str = "print-interpreter";
+
+    /// Prints to the standard output.
+    pub fn execute<R: Files + Print + AllocGlobal>(
+        rt: &R,
+        args: Args,
+    ) -> Result<(), ElfCommandError>
+        ensures { IfErr result PrintMayFail }
+    {
+        print_file(rt, ElfCommand::PrintInterpreter(args))
+    }
+}
+
+/// `print-os-abi`: prints the ABI byte.
+pub mod print_os_abi {
+    pub use super::path_alone::Args;
+    use super::{ElfCommand, ElfCommandError, Files, print_file};
+
+    /// The word that names the command.
+    pub const NAME: &str = "print-os-abi";
+
+    /// Prints to the standard output.
+    pub fn execute<R: Files + Print + AllocGlobal>(
+        rt: &R,
+        args: Args,
+    ) -> Result<(), ElfCommandError>
+        ensures { IfErr result PrintMayFail }
+    {
+        print_file(rt, ElfCommand::PrintOsAbi(args))
+    }
+}
+
+/// `print-exec-stack`: prints whether the stack may be run.
+pub mod print_execstack {
+    pub use super::path_alone::Args;
+    use super::{ElfCommand, ElfCommandError, Files, print_file};
+
+    /// The word that names the command.
+    pub const NAME: &str = "print-exec-stack";
+
+    /// Prints to the standard output.
+    pub fn execute<R: Files + Print + AllocGlobal>(
+        rt: &R,
+        args: Args,
+    ) -> Result<(), ElfCommandError>
+        ensures { IfErr result PrintMayFail }
+    {
+        print_file(rt, ElfCommand::PrintExecStack(args))
     }
 }

@@ -6,10 +6,8 @@ mod command;
 pub mod elf;
 mod elf_words;
 mod error;
-mod tables;
 mod texts;
 
-pub use command::ElfCommand;
+pub use command::{ElfCommand, elf_table};
 pub use elf_words::parse_elf_edits;
 pub use error::ElfCommandError;
-pub use tables::elf_table;

@@ -14,10 +14,10 @@ ghost use Rattle.elf_commands.specs.ElfEngine.{MayFailAs, TellsNoImage};
 ghost use Rattle.elf_commands.specs.Failures.{HasShrinkCause, HasShrinkCauseAt, HasTellCause};
 ghost use Rattle.elf_commands.specs.ShrinkRuns.{FailsShrink, IsQuiet, IsRemovalTold, IsShrunkBy, IsShrunkImage, RunsShrink, ShrinksStore, Steps, TellsShrink, TellsShrunk, TellsShrunkPath, TellsUnshrunk, TellsUntold};
 
-use crate::elf::commands::shrink_rpath::Args;
 use crate::elf::editing::make_opened;
 use crate::elf::engine::{changed_bytes, pieces_of};
 use crate::elf::printing::load_elf;
+use crate::elf::shrink_rpath::Args;
 use crate::elf::standard_error::StandardError;
 use crate::error::ElfCommandError;
 use crate::texts::texts_of;

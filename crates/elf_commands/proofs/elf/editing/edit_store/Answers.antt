@@ -1,21 +1,37 @@
 use Rattle.std.proofs.Common.{[], List, Option, ℕ, string_bytes, subst}
-use Rattle.std.specs.Prelude.{IfOk}
+use Rattle.std.specs.Prelude.{IfErr, IfOk, OnOk}
 use Rattle.std.specs.declared.alloc.Global.{Global}
 use Rattle.std.specs.declared.vec.Vec.{Vec}
-use Rattle.std.proofs.lemmas.Result.{IfOk-weaker, err_from_is_err_and}
+use Rattle.std.proofs.lemmas.Result.{IfErr-weaker, IfOk-weaker, err_from_is_err_and}
 use Rattle.command_words.specs.Rows.{Text}
 use Rattle.elf_edits.specs.Edit.{Edit}
 use Rattle.elf_edits.specs.declared.edit.ElfEdit.{ElfEdit}
 use Rattle.elf_commands.specs.ElfAsked.{ElfAsked, elf_asked}
 use Rattle.elf_commands.specs.ElfEngine.{AreAskedIf, AreEditsAsked}
+use Rattle.elf_commands.specs.ElfStores.{FailsElf, IsElfPatched}
 use Rattle.elf_commands.specs.ElfWords.{edits_model}
 use Rattle.elf_commands.specs.Meaning.{elf_command_model, elf_file_of}
 use Rattle.elf_commands.specs.Noting.{TellsWanted}
 use Rattle.elf_commands.proofs.ElfOutcomes.{may_fail}
-use Rattle.elf_commands.proofs.ElfStoreLaws.{words_refused}
-use Rattle.elf_commands.proofs.FailureLaws.{refused_for_itself}
+use Rattle.elf_commands.proofs.ElfStoreLaws.{read_as_asked, read_fails, words_refused}
+use Rattle.elf_commands.proofs.FailureLaws.{cause_after, read_cause, refused_for_itself}
 use Rattle.elf_commands.proofs.NotingLaws.{nothing_told, told_of_store}
 use Rattle.elf_commands.proofs.elf.editing.edit_store.Goals as goal
+
+pub returns-in_err-bytes-clause-err : goal.returns-in_err-bytes-clause-err
+returns-in_err-bytes-clause-err g c =
+    let p = err_from_is_err_and c.from_residual.result c.from_residual.ensures.1 in
+    rw (p.1, p.2) (read_as_asked (elf_asked (elf_command_model c.args.command.now)) c.in_err-bytes.field-0.0)
+
+pub returns-in_err-bytes-clause-left : goal.returns-in_err-bytes-clause-left
+returns-in_err-bytes-clause-left g c =
+    let p = err_from_is_err_and c.from_residual.result c.from_residual.ensures.1 in
+    rw (p.1, p.2) (read_fails (elf_asked (elf_command_model c.args.command.now)) _ _ c.in_err-bytes.field-0.0 c.in_err-bytes.ensures.kept)
+
+pub returns-in_err-bytes-clause-cause : goal.returns-in_err-bytes-clause-cause
+returns-in_err-bytes-clause-cause g c =
+    let p = err_from_is_err_and c.from_residual.result c.from_residual.ensures.1 in
+    rw (p.1, p.2) (read_cause g.S.Store.may_fail_read g.S.Store.may_fail_write g.S.Store.may_take_none (g.S.Store.contents c.args.store.now) _ _ c.in_err-bytes.field-0.0 c.in_err-bytes.ensures.cause)
 
 pub returns-in_err-edits-clause-err : goal.returns-in_err-edits-clause-err
 returns-in_err-edits-clause-err g c =
@@ -52,3 +68,19 @@ returns-clause-told g c =
     IfOk-weaker c.edit_loaded.result _ _ (λ text told.
     told_of_store c.args.notes a edits path (g.S.Store.contents c.args.store.now) c.in_ok-bytes.bytes.items (string_bytes text) are c.in_ok-bytes.ensures.read told)
     (subst Of c.as_slice.ensures.value c.edit_loaded.ensures.told)
+
+-- the store that was loaded has the bytes that it had
+pub returns-clause-patched : goal.returns-clause-patched
+returns-clause-patched g c =
+    let Patched : Option (List ℕ) → Type 0 = λ o. OnOk c.edit_loaded.result (IsElfPatched (elf_asked (elf_command_model c.args.command.now)) o (g.S.Store.contents c.edit_loaded.new.store)) in
+    subst Patched c.in_ok-bytes.ensures.kept c.edit_loaded.ensures.patched
+
+pub returns-clause-left : goal.returns-clause-left
+returns-clause-left g c =
+    let Fails : Option (List ℕ) → Type 0 = λ o. IfErr c.edit_loaded.result (FailsElf (elf_asked (elf_command_model c.args.command.now)) o (g.S.Store.contents c.edit_loaded.new.store)) in
+    subst Fails c.in_ok-bytes.ensures.kept c.edit_loaded.ensures.left
+
+pub returns-clause-cause : goal.returns-clause-cause
+returns-clause-cause g c =
+    IfErr-weaker c.edit_loaded.result _ _ (λ e why.
+    cause_after g.S.Store.may_fail_read g.S.Store.may_fail_write g.S.Store.may_take_none (g.S.Store.contents c.args.store.now) _ _ _ e c.in_ok-bytes.ensures.grows why) c.edit_loaded.ensures.cause
