@@ -18,11 +18,12 @@ use Rattle.elf_format.specs.declared.form.Form.{Form}
 use Rattle.elf_format.specs.Image.{Image, ImageSection, counted, entries_read, image_of}
 use Rattle.elf_format.specs.Options.{each, is_one_of}
 use Rattle.elf_format.specs.Records.{entry_numbers, entry_size}
-use Rattle.elf_format.specs.Rules.{dynamic_texts_of, file_of, linked_texts, raw_entries, texts_of}
+use Rattle.elf_format.specs.Rules.{ArePartsOf, MeetsRules, dynamic_texts_of, file_of, linked_texts, raw_entries, texts_of}
 use Rattle.elf_format.specs.Views.{NamedSymbol, section_memory}
-use Rattle.elf_image.specs.DynamicList.{IsListed, holds_nul}
+use Rattle.elf_image_parts.specs.DynamicList.{IsListed, holds_nul}
 use Rattle.elf_image.specs.Edited.{AreEntriesOf, AreKept, ArePicked, AreSegments, IsEdited, IsEditOf, IsInterpreterOf, IsName, IsSameDynamicSymbol, IsSameSection, IsSameSymbol, kept_segment}
 use Rattle.elf_image.specs.ReadImage.{AreDynamicSymbols, AreStaticSymbols, HoldsParts}
+use Rattle.elf_image.proofs.ReadComplete.{read_is_complete}
 use Rattle.elf_image.proofs.ReadImageLaws.{read_images_hold_parts}
 use Rattle.elf_format.proofs.ForCallers.Lengths.{length-counted, slice_index-counted}
 
@@ -148,7 +149,7 @@ interpreter_itself (Some bytes) = inl refl
 
 -- ## All of it
 
-module _ (p : Parts) (image : Image) (holds : HoldsParts p image) where
+module _ (p : Parts) (file : List ℕ) (parts : ArePartsOf file p) (rules : MeetsRules p) (image : Image) (holds : HoldsParts p image) where
   sections_same : (i : ℕ) (x : ImageSection) → slice_get image.sections i ≡ Some x → IsSameSection x x
   sections_same i x at =
       let (s, _, is) = holds.sections.each i x at in
@@ -165,7 +166,7 @@ module _ (p : Parts) (image : Image) (holds : HoldsParts p image) where
   dynamic_same None are i x at = absurd (none-some x (ap (λ (l : List NamedSymbol). slice_get l i) (sym are) ∙ at))
   dynamic_same (Some s) are i x at =
       let (y, _, _, _, is) = are.each i x at in
-      (name_whole (length (file_of p)) (dynamic_texts_of p (linked_section p.sections s)) y.st_name x.name is.name, refl)
+      (name_whole (length (file_of p)) (dynamic_texts_of p (linked_section p.sections s)) y.st_name x.name is.name, inl refl, refl)
 
   edits_itself : IsEditOf image image
   edits_itself = record {
@@ -185,8 +186,15 @@ module _ (p : Parts) (image : Image) (holds : HoldsParts p image) where
     needs = refl;
     entries = list_read p (section_of_type SHT_DYNAMIC p.sections) image.entries holds.entries;
     interpreter = interpreter_itself image.interpreter;
+    complete = read_is_complete p file parts rules image holds;
     unchanged = λ _. refl;
   }
+
+-- an image that was read is an edit of itself
+pub read_itself : (file : List ℕ) (image : Image) → image_of file ≡ Ok image → IsEditOf image image
+read_itself file image h =
+    let (p, _, parts, rules, holds) = read_images_hold_parts file image h in
+    edits_itself p file parts rules image holds
 
 pub read_is_edited : (file : List ℕ) (image : Image) → image_of file ≡ Ok image → IsEdited image
 read_is_edited file image h =
@@ -194,5 +202,5 @@ read_is_edited file image h =
     record {
       read = image;
       is_read = ap image_of (holds.source ∙ parts.same_file) ∙ h;
-      is_edit = edits_itself p image holds;
+      is_edit = read_itself file image h;
     }

@@ -9,3 +9,11 @@ pub use Rattle.elf_image.proofs.KeptSections
 pub use Rattle.elf_image.proofs.LookupSteps
 -- the image of an accepted file holds its parts
 pub use Rattle.elf_image.proofs.ReadImageLaws
+-- an image that was read is complete, with the names that were read; and what is found in a list
+pub use Rattle.elf_image.proofs.ReadComplete
+-- lists of a file's symbols, and whether they are as they were read
+pub use Rattle.elf_image.proofs.SymbolLists
+-- each symbol of an edited image, by the one that was read
+pub use Rattle.elf_image.proofs.SymbolsAtRead
+-- each change of symbols leaves an image that was read and edited: also edited symbols that are put in place of those that are there
+pub use Rattle.elf_image.proofs.SymbolsKept

@@ -1,14 +1,40 @@
 -- A changed image was read and edited, where the one before it was.
-use Rattle.std.proofs.Common.{◌≡◌, ℕ, List, sym, ap, ◌∙◌, inr, subst, Option, Some, None, true}
-use Rattle.std.specs.Prelude.{IsSome, IsTrue, not}
+use Rattle.std.proofs.Common.{◌≡◌, ℕ, Bool, List, refl, sym, ap, ◌∙◌, inr, subst, Option, Some, None, true}
+use Rattle.std.specs.Prelude.{IsSome, IsTrue, is_some, not}
 use Rattle.std.specs.Option.{option_map}
 use Rattle.std.proofs.lemmas.Bool.{true≢false}
+use Rattle.elf_format.specs.declared.constants.TheConstants.{PT_INTERP}
 use Rattle.elf_format.specs.declared.header.Header.{Header}
 use Rattle.elf_format.specs.declared.records.SegmentHeader.{SegmentHeader}
 use Rattle.elf_format.specs.Dynamic.{Entry}
+use Rattle.elf_format.specs.File.{segment_of_type}
 use Rattle.elf_format.specs.Image.{Image}
-use Rattle.elf_image.specs.DynamicList.{all_but_last, holds_nul}
+use Rattle.elf_image_parts.specs.DynamicList.{all_but_last, holds_nul}
+use Rattle.elf_image.specs.Complete.{IsComplete}
 use Rattle.elf_image.specs.Edited.{AreEntriesOf, AreSegments, IsEdited, IsInterpreterOf}
+
+-- ## What is there leans on nothing that went
+
+-- the same sections and symbols, with an interpreter where there was one and there is its program header
+complete_with : (read image : Image) (changed : Bool) (header : Header) (segments : List SegmentHeader) (entries : Option (List Entry)) (interpreter : Option (List ℕ)) (size : Option ℕ)
+    → is_some interpreter ≡ is_some image.interpreter → is_some (segment_of_type PT_INTERP segments) ≡ is_some (segment_of_type PT_INTERP image.segments) → IsComplete read image
+    → IsComplete read (record image { changed = changed; header = header; segments = segments; entries = entries; interpreter = interpreter; page_size = size })
+complete_with read image changed header segments entries interpreter size same_interpreter same_segment h = record {
+  lasting = h.lasting;
+  linked = h.linked;
+  first_dynamic = h.first_dynamic;
+  first_static = h.first_static;
+  no_static = h.no_static;
+  dynamic_sections = h.dynamic_sections;
+  static_sections = h.static_sections;
+  dynamic_relocated = h.dynamic_relocated;
+  static_relocated = h.static_relocated;
+  tables = h.tables;
+  interpreter = same_interpreter ∙ h.interpreter ∙ sym same_segment;
+  interpreter_section = λ some. h.interpreter_section (sym same_interpreter ∙ some);
+}
+
+-- ## Parts of an image, one at a time
 
 -- another dynamic list, that is one of what was read where the one before is
 pub with_entries : (image : Image) (new : Option (List Entry)) → IsEdited image → ((read : Option (List Entry)) → AreEntriesOf read image.entries → AreEntriesOf read new)
@@ -27,14 +53,15 @@ with_entries image new h step = record {
     needs = h.is_edit.needs;
     entries = step h.read.entries h.is_edit.entries;
     interpreter = h.is_edit.interpreter;
+    complete = complete_with h.read image true image.header image.segments new image.interpreter image.page_size refl refl h.is_edit.complete;
     unchanged = λ e. absurd (true≢false e);
   };
 }
 
 -- other program headers, and another page size
 pub with_segments : (image : Image) (size : Option ℕ) (new : List SegmentHeader) → IsEdited image → ((read : List SegmentHeader) → AreSegments image.page_size read image.segments → AreSegments size read new)
-    → IsEdited (record image { changed = true; segments = new; page_size = size })
-with_segments image size new h step = record {
+    → is_some (segment_of_type PT_INTERP new) ≡ is_some (segment_of_type PT_INTERP image.segments) → IsEdited (record image { changed = true; segments = new; page_size = size })
+with_segments image size new h step same = record {
   read = h.read;
   is_read = h.is_read;
   is_edit = record {
@@ -48,6 +75,7 @@ with_segments image size new h step = record {
     needs = h.is_edit.needs;
     entries = h.is_edit.entries;
     interpreter = h.is_edit.interpreter;
+    complete = complete_with h.read image true image.header new image.entries image.interpreter size refl same h.is_edit.complete;
     unchanged = λ e. absurd (true≢false e);
   };
 }
@@ -74,6 +102,7 @@ with_interpreter image bytes h there no_nul = record {
     needs = h.is_edit.needs;
     entries = h.is_edit.entries;
     interpreter = interpreter_set h.read.interpreter image.interpreter bytes there no_nul h.is_edit.interpreter;
+    complete = complete_with h.read image true image.header image.segments image.entries (Some bytes) image.page_size (sym there) refl h.is_edit.complete;
     unchanged = λ e. absurd (true≢false e);
   };
 }
@@ -94,6 +123,7 @@ with_os_abi image byte h = record {
     needs = h.is_edit.needs;
     entries = h.is_edit.entries;
     interpreter = h.is_edit.interpreter;
+    complete = complete_with h.read image true (record image.header { os_abi = byte }) image.segments image.entries image.interpreter image.page_size refl refl h.is_edit.complete;
     unchanged = λ e. absurd (true≢false e);
   };
 }

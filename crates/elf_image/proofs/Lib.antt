@@ -9,6 +9,9 @@ pub mod EntriesKept
 pub mod Kept
 pub mod KeptSections
 pub mod LookupSteps
+pub mod ReadComplete
+pub mod SymbolsKept
+pub mod SymbolsAtRead
 pub mod CopySteps
 pub mod SymbolLists
 pub mod ForCallers

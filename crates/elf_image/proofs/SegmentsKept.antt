@@ -1,15 +1,15 @@
 -- Each change of an image leaves one that was read and edited.
 use Rattle.std.proofs.Common.{◌≡◌, ℕ, Bool, true, false, cond, List, [], ◌∷◌, ◌++◌, refl, sym, ap, ◌∙◌, inl, inr, Option, Some, None}
-use Rattle.std.specs.Prelude.{◌==◌, if◌then◌else◌, IsSome, unwrap_or}
+use Rattle.std.specs.Prelude.{◌==◌, if◌then◌else◌, IsSome, is_some, unwrap_or}
 use Rattle.std.specs.Option.{option_map, option_to_list}
 use Rattle.std.proofs.lemmas.Bool.{ne_eqb}
 use Rattle.std.proofs.lemmas.List.{append-nil, map-append}
 use Rattle.std.proofs.lemmas.Option.{none-some}
-use Rattle.elf_format.specs.declared.constants.TheConstants.{PT_GNU_STACK, PT_LOAD}
+use Rattle.elf_format.specs.declared.constants.TheConstants.{PT_GNU_STACK, PT_INTERP, PT_LOAD}
 use Rattle.elf_format.specs.declared.records.SegmentHeader.{SegmentHeader}
 use Rattle.elf_format.specs.File.{segment_of_type}
 use Rattle.elf_image.specs.Edited.{AreKept, AreSegments, CanGo, kept_segment}
-use Rattle.elf_image.specs.Segments.{added_stack, with_align, with_load_align, with_stack_added, with_stack_flags}
+use Rattle.elf_image_parts.specs.Segments.{added_stack, with_align, with_load_align, with_stack_added, with_stack_flags}
 
 -- ## Program headers
 
@@ -128,7 +128,7 @@ none_read size [] [] more h e = (refl, e)
 none_read size [] (p ∷ ps) more h e = absurd h
 none_read size (old ∷ olds) [] more h e =
     let (rest, others) = none_read size olds [] more h.1 e in
-    (first-by old olds false (ne_eqb old.p_type PT_GNU_STACK h.0.1) ∙ rest, others)
+    (first-by old olds false (ne_eqb old.p_type PT_GNU_STACK h.0.2) ∙ rest, others)
 none_read size (old ∷ olds) (p ∷ ps) more h e = elim h [
   | inl same ↦
       let (typed, behind) = none_first p (ps ++ more) (p.p_type == PT_GNU_STACK) refl e in
@@ -136,7 +136,7 @@ none_read size (old ∷ olds) (p ∷ ps) more h e = elim h [
       (first-by old olds false (ap (λ (q : SegmentHeader). q.p_type == PT_GNU_STACK) (sym same.0) ∙ typed) ∙ rest, others)
   | inr gone ↦
       let (rest, others) = none_read size olds (p ∷ ps) more gone.1 e in
-      (first-by old olds false (ne_eqb old.p_type PT_GNU_STACK gone.0.1) ∙ rest, others)
+      (first-by old olds false (ne_eqb old.p_type PT_GNU_STACK gone.0.2) ∙ rest, others)
 ]
 
 none_added : (o : Option ℕ) → segment_of_type PT_GNU_STACK (option_to_list (option_map added_stack o)) ≡ None → o ≡ None
@@ -154,3 +154,30 @@ segments_pushed size flags read now none h =
       are_all = ap (with_stack_added flags) all;
       only_one = λ _. unread;
     }
+
+-- ## Program headers of other types
+
+there_by : (b : Bool) (x y : SegmentHeader) (o q : Option SegmentHeader) → is_some o ≡ is_some q → is_some (if b then Some x else o) ≡ is_some (if b then Some y else q)
+there_by true x y o q same = refl
+there_by false x y o q same = same
+
+-- the same program headers of a type are there under another alignment
+pub type_aligned : (type n : ℕ) (ps : List SegmentHeader) → is_some (segment_of_type type (with_load_align n ps)) ≡ is_some (segment_of_type type ps)
+type_aligned type n [] = refl
+type_aligned type n (p ∷ ps) = there_by (p.p_type == type) (with_align n p) p (segment_of_type type (with_load_align n ps)) (segment_of_type type ps) (type_aligned type n ps)
+
+-- with other flags of the stack
+pub type_flagged : (type flags : ℕ) (ps : List SegmentHeader) → is_some (segment_of_type type (with_stack_flags flags ps)) ≡ is_some (segment_of_type type ps)
+unfolding with_stack_flags
+type_flagged type flags [] = refl
+type_flagged type flags (p ∷ ps) = by_stack (p.p_type == PT_GNU_STACK) (type_flagged type flags ps)
+  where
+    by_stack : (b : Bool) → is_some (segment_of_type type (with_stack_flags flags ps)) ≡ is_some (segment_of_type type ps)
+        → is_some (segment_of_type type (if b then record p { p_flags = flags } ∷ ps else p ∷ with_stack_flags flags ps)) ≡ is_some (segment_of_type type (p ∷ ps))
+    by_stack true more = there_by (p.p_type == type) (record p { p_flags = flags }) p (segment_of_type type ps) (segment_of_type type ps) refl
+    by_stack false more = there_by (p.p_type == type) p p (segment_of_type type (with_stack_flags flags ps)) (segment_of_type type ps) more
+
+-- and behind an added program header for the stack
+pub type_added : (flags : ℕ) (ps : List SegmentHeader) → is_some (segment_of_type PT_INTERP (with_stack_added flags ps)) ≡ is_some (segment_of_type PT_INTERP ps)
+type_added flags [] = refl
+type_added flags (p ∷ ps) = there_by (p.p_type == PT_INTERP) p p (segment_of_type PT_INTERP (with_stack_added flags ps)) (segment_of_type PT_INTERP ps) (type_added flags ps)

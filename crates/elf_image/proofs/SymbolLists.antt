@@ -1,17 +1,22 @@
 -- The symbols of a file, whose header tables are read once more.
-use Rattle.std.proofs.Common.{◌≡◌, ℕ, List, Option, Some, None, Result, Ok, refl, sym, ap, subst, ◌∙◌}
-use Rattle.std.specs.Prelude.{IfSome}
+use Rattle.std.proofs.Common.{◌≡◌, ◌↔◌, ℕ, Bool, true, false, List, [], ◌∷◌, length, Option, Some, None, Result, Ok, refl, sym, ap, subst, ◌∙◌}
+use Rattle.std.specs.Prelude.{IfSome, IsTrue, bytes_eq, not}
+use Rattle.std.proofs.lemmas.Bool.{false_from_ne_true, false≢true}
+use Rattle.std.proofs.lemmas.Slice.Eq.{bytes_eq-Decides}
 use Rattle.elf_format.specs.declared.fault.ElfFault.{ElfFault}
 use Rattle.patch_bytes.specs.Memory.{◌>>=◌}
 use Rattle.elf_format.specs.declared.constants.TheConstants.{SHT_DYNSYM, SHT_SYMTAB}
 use Rattle.elf_format.specs.Options.{each}
 use Rattle.elf_format.specs.File.{Parts, section_of_type}
-use Rattle.elf_format.specs.Image.{Image, ImageSection, dynamic_symbols_read, image_of, section_read, static_symbols}
+use Rattle.elf_format.specs.Image.{Image, ImageSection, counted, dynamic_symbols_read, image_of, section_read, static_symbols}
 use Rattle.elf_format.specs.Views.{NamedSymbol}
+use Rattle.elf_image_symbol_edits.specs.EditedList.{EditedList}
 use Rattle.elf_image.specs.ImageSteps.{NamedParts, named_in}
 use Rattle.elf_format.specs.Stages.{parts_read}
+use Rattle.elf_image.specs.Names.{are_same_texts}
 use Rattle.elf_image.specs.declared.symbol_lists.SymbolLists.{SymbolLists}
-use Rattle.elf_image.specs.SymbolsRead.{AreSymbolsOfImage, AreSymbolsOfFile, AreSymbolsRead, KeepsSymbols, lists_read}
+use Rattle.elf_image.specs.SymbolsRead.{AreSymbolsOfImage, AreSymbolsOfFile, AreSymbolsRead, HasDynamicSymbolsOf, HasStaticSymbolsOf, lists_read}
+use Rattle.elf_image.proofs.ReadComplete.{same_texts-refl}
 use Rattle.elf_image.proofs.ReadImageLaws.{read_images_hold_parts}
 
 -- what holds of what is there gives something else of it
@@ -74,7 +79,7 @@ module _ (p : Parts) where
     named_there lists there = named_by_lists ∙ ap named_from there
 
 -- one answer is not two
-same_answer : {A : Type 0} → (x y : A) (r : Result A ElfFault) → r ≡ Ok x → r ≡ Ok y → x ≡ y
+pub same_answer : {A : Type 0} → (x y : A) (r : Result A ElfFault) → r ≡ Ok x → r ≡ Ok y → x ≡ y
 same_answer x y r first second = same_Ok x y (sym first ∙ second)
 
 -- an image of a file has the file's bytes
@@ -91,8 +96,47 @@ lists_of_file file p image lists there read are_read are = record {
   by_image = λ other again. subst (λ (i : Image). AreSymbolsOfImage i lists) (same_answer image other (image_of file) read again) are;
 }
 
--- an image with these symbols has those of the one that was read
-pub keeps_symbols : (image : Image) (lists : SymbolLists) → AreSymbolsOfFile image.source lists → AreSymbolsOfImage image lists → KeepsSymbols image
-keeps_symbols image lists are now read is =
-    let then : AreSymbolsOfImage read lists = are.by_image read is in
-    record { symbols = sym now.symbols ∙ then.symbols; dynamic_symbols = sym now.dynamic_symbols ∙ then.dynamic_symbols }
+-- ## Symbols as they were read
+
+pub same_texts-means : (texts now : List (List ℕ)) → are_same_texts texts now ≡ true → now ≡ texts
+same_texts-means [] [] same = refl
+same_texts-means [] (u ∷ us) same = absurd (false≢true same)
+same_texts-means (t ∷ ts) [] same = absurd (false≢true same)
+same_texts-means (t ∷ ts) (u ∷ us) same = by_text (bytes_eq t u) refl (same_texts-means ts us) same
+  where
+    by_text : (b : Bool) → bytes_eq t u ≡ b → (are_same_texts ts us ≡ true → us ≡ ts) → (elim b as (λ _. Bool) [ true ↦ are_same_texts ts us | _ ↦ false ]) ≡ true → u ∷ us ≡ t ∷ ts
+    by_text true one more h = ap (λ (x : List ℕ). x ∷ us) (sym ((bytes_eq-Decides t u).0 one)) ∙ ap (λ (l : List (List ℕ)). t ∷ l) (more h)
+    by_text false one more h = absurd (false≢true h)
+
+-- what tells whether the names are those that were read
+pub names_told : (r : Bool) (texts now : List (List ℕ)) → IsTrue r ↔ (now ≡ texts) → r ≡ not (not (are_same_texts texts now))
+names_told true texts now told =
+    sym (ap (λ (b : Bool). not (not b)) (ap (are_same_texts texts) (told.0 refl) ∙ same_texts-refl texts))
+names_told false texts now told =
+    sym (ap (λ (b : Bool). not (not b)) (false_from_ne_true (are_same_texts texts now) (λ same. false≢true (told.1 (same_texts-means texts now same)))))
+
+-- the numbers at read of what was read
+pub read_numbers : (source : List ℕ) (read : Image) → image_of source ≡ Ok read
+    → (read.symbol_numbers ≡ counted (length read.symbols)) × (read.dynamic_symbol_numbers ≡ counted (length read.dynamic_symbols))
+read_numbers source read is =
+    let (_, _, _, _, holds) = read_images_hold_parts source read is in
+    (holds.symbol_numbers, holds.dynamic_symbol_numbers)
+
+-- what tells whether they are those that were read, in their order
+pub dynamic_told : (r : Bool) (image read : Image) (e : EditedList) → image_of image.source ≡ Ok read → e.read ≡ read.dynamic_symbols
+    → IsTrue r ↔ ((e.numbers ≡ counted (length e.read)) × (e.symbols ≡ e.read)) → IsTrue r ↔ HasDynamicSymbolsOf read (record image { dynamic_symbols = e.symbols; dynamic_symbol_numbers = e.numbers })
+dynamic_told r image read e is same told =
+    let numbers = (read_numbers image.source read is).1 in
+    let count : counted (length e.read) ≡ read.dynamic_symbol_numbers = ap (λ (ys : List NamedSymbol). counted (length ys)) same ∙ sym numbers in (
+      (λ (yes : IsTrue r). record { symbols = (told.0 yes).1 ∙ same; numbers = (told.0 yes).0 ∙ count }),
+      (λ (has : HasDynamicSymbolsOf read (record image { dynamic_symbols = e.symbols; dynamic_symbol_numbers = e.numbers })). told.1 (has.numbers ∙ sym count, has.symbols ∙ sym same)),
+    )
+
+pub static_told : (r : Bool) (image read : Image) (e : EditedList) → image_of image.source ≡ Ok read → e.read ≡ read.symbols
+    → IsTrue r ↔ ((e.numbers ≡ counted (length e.read)) × (e.symbols ≡ e.read)) → IsTrue r ↔ HasStaticSymbolsOf read (record image { symbols = e.symbols; symbol_numbers = e.numbers })
+static_told r image read e is same told =
+    let numbers = (read_numbers image.source read is).0 in
+    let count : counted (length e.read) ≡ read.symbol_numbers = ap (λ (ys : List NamedSymbol). counted (length ys)) same ∙ sym numbers in (
+      (λ (yes : IsTrue r). record { symbols = (told.0 yes).1 ∙ same; numbers = (told.0 yes).0 ∙ count }),
+      (λ (has : HasStaticSymbolsOf read (record image { symbols = e.symbols; symbol_numbers = e.numbers })). told.1 (has.numbers ∙ sym count, has.symbols ∙ sym same)),
+    )

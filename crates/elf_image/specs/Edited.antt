@@ -2,14 +2,17 @@
 use Rattle.std.specs.Prelude.{ℕ, ◌≡◌, ◌≢◌, ◌<◌, ◌⊎◌, List, [], ◌∷◌, ◌++◌, length, slice_index, All, false, not, ◌==◌, if◌then◌else◌, IsTrue, IsSome, Option, Some, None, unwrap_or, Ok}
 use Rattle.std.specs.List.{slice_get}
 use Rattle.std.specs.Option.{option_map, option_to_list}
-use Rattle.elf_format.specs.declared.constants.TheConstants.{PT_GNU_STACK, PT_LOAD}
+use Rattle.elf_format.specs.declared.constants.TheConstants.{PT_DYNAMIC, PT_GNU_STACK, PT_LOAD}
 use Rattle.elf_format.specs.declared.records.SegmentHeader.{SegmentHeader}
+use Rattle.elf_format.specs.declared.version_id.VersionId.{VersionId}
 use Rattle.elf_format.specs.Dynamic.{Entry}
 use Rattle.elf_format.specs.File.{segment_of_type}
 use Rattle.elf_format.specs.Image.{Image, ImageSection, image_of}
 use Rattle.elf_format.specs.Views.{NamedSymbol}
-use Rattle.elf_image.specs.DynamicList.{IsListed, all_but_last, holds_nul, tables_of}
-use Rattle.elf_image.specs.Segments.{added_stack}
+use Rattle.elf_image_symbol_edits.specs.EditedList.{as_global}
+use Rattle.elf_image.specs.Complete.{IsComplete}
+use Rattle.elf_image_parts.specs.DynamicList.{IsListed, all_but_last, holds_nul, tables_of}
+use Rattle.elf_image_parts.specs.Segments.{added_stack}
 
 -- ## Sections and symbols
 
@@ -32,9 +35,13 @@ IsSameSection old s = IsName s.name × (s ≡ record old { name = s.name })
 abbrev pub IsSameSymbol : NamedSymbol → NamedSymbol → Type 0
 IsSameSymbol old y = IsName y.name × (y ≡ record old { name = y.name })
 
--- the symbol with another name and another version
+-- the version that was read, or in its place that of a global symbol without one of its own (GNU symbol versioning)
+abbrev pub IsVersionOf : Option VersionId → Option VersionId → Type 0
+IsVersionOf old now = (now ≡ old) ⊎ (now ≡ as_global old)
+
+-- the symbol with another name, its version perhaps cleared
 abbrev pub IsSameDynamicSymbol : NamedSymbol → NamedSymbol → Type 0
-IsSameDynamicSymbol old y = IsName y.name × (y ≡ record old { name = y.name; version = y.version })
+IsSameDynamicSymbol old y = IsName y.name × IsVersionOf old.version y.version × (y ≡ record old { name = y.name; version = y.version })
 
 -- ## Program headers
 
@@ -46,9 +53,9 @@ kept_segment page_size flags old = record old {
   p_align = if old.p_type == PT_LOAD then unwrap_or page_size old.p_align else old.p_align;
 }
 
--- neither what is loaded nor the stack's program header goes
+-- neither what is loaded nor the program headers of the dynamic list and of the stack go
 abbrev pub CanGo : SegmentHeader → Type 0
-CanGo old = (old.p_type ≢ PT_LOAD) × (old.p_type ≢ PT_GNU_STACK)
+CanGo old = (old.p_type ≢ PT_LOAD) × (old.p_type ≢ PT_DYNAMIC) × (old.p_type ≢ PT_GNU_STACK)
 
 -- those that were read, in their order: some have gone, the others are as they are kept
 abbrev pub AreKept : Option ℕ → List SegmentHeader → List SegmentHeader → Type 0
@@ -101,6 +108,8 @@ pub record IsEditOf (read image : Image) : Type 0 where
   pub needs : image.needs ≡ read.needs
   pub entries : AreEntriesOf read.entries image.entries
   pub interpreter : IsInterpreterOf read.interpreter image.interpreter
+  -- what is there leans on nothing that went
+  pub complete : IsComplete read image
   pub unchanged : image.changed ≡ false → image ≡ read
 
 -- An image that was read from its source, and edited.

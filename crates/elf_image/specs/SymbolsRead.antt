@@ -28,11 +28,16 @@ pub record AreSymbolsOfFile (file : List ℕ) (lists : SymbolLists) : Type 0 whe
   pub by_parts : (p : Parts) → parts_read file ≡ Ok p → AreSymbolsRead p lists
   pub by_image : (image : Image) → image_of file ≡ Ok image → AreSymbolsOfImage image lists
 
--- an image has the symbols of the one that was read
-pub record HasSymbolsOf (read image : Image) : Type 0 where
-  pub symbols : image.symbols ≡ read.symbols
-  pub dynamic_symbols : image.dynamic_symbols ≡ read.dynamic_symbols
+-- an image has the dynamic symbols of another one
+pub record HasDynamicSymbolsOf (read image : Image) : Type 0 where
+  pub symbols : image.dynamic_symbols ≡ read.dynamic_symbols
+  pub numbers : image.dynamic_symbol_numbers ≡ read.dynamic_symbol_numbers
 
--- the same of the one that was read from its source
-abbrev pub KeepsSymbols : Image → Type 0
-KeepsSymbols image = (read : Image) → image_of image.source ≡ Ok read → HasSymbolsOf read image
+-- the same of the symbols for a link editor
+pub record HasStaticSymbolsOf (read image : Image) : Type 0 where
+  pub symbols : image.symbols ≡ read.symbols
+  pub numbers : image.symbol_numbers ≡ read.symbol_numbers
+
+-- what is asked of an image and of the one that was read from its source
+abbrev pub OfRead : Image → (Image → Type 0) → Type 0
+OfRead image Holds = (read : Image) → image_of image.source ≡ Ok read → Holds read

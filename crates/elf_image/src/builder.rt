@@ -2,14 +2,14 @@ ghost use Rattle.std.specs.Prelude.{◌≡◌, ◌<◌, length, map, slice_index
 ghost use Rattle.elf_image.specs.ImageModel.{definition_model, entry_model, needs_model, section_model, segment_model};
 ghost use Rattle.elf_format.specs.Answers.{borrowed};
 
-use crate::dynamic::Dynamic;
-use crate::section::Section;
-use crate::segment;
-use crate::symbol_lists::SymbolLists;
+use crate::symbol_lists::EditedLists;
 use crate::version::Versions;
 use elf_format::form::Form;
 use elf_format::header::Header;
-use elf_image_symbols::Symbols;
+use elf_image_parts::dynamic::Dynamic;
+use elf_image_parts::section::Section;
+use elf_image_parts::segment;
+use elf_image_symbol_edits::SymbolsNow;
 use patch_bytes::{ByteOrder2, ByteString, Wide};
 use std::alloc::{AllocError, Global};
 use std::marker::Model;
@@ -28,8 +28,7 @@ pub struct Builder<'data> {
     pub(crate) header: Header,
     pub(crate) segments: Vec<Segment<'data>>,
     pub(crate) sections: Vec<Section<'data>>,
-    // The symbols as they were read.
-    pub(crate) lists: SymbolLists<'data>,
+    pub(crate) lists: EditedLists<'data>,
     pub(crate) versions: Versions<'data>,
     pub(crate) dynamic: Option<Vec<Dynamic<'data>>>,
     pub(crate) interpreter: Option<ByteString<'data>>,
@@ -53,9 +52,8 @@ impl<'data> Model for Builder<'data> {
 }
 
 impl<'data> Builder<'data> {
-    ghost use Rattle.std.specs.Prelude.{IsTrue};
     ghost use Rattle.elf_image.specs.Edited.{IsEdited};
-    ghost use Rattle.elf_image.specs.SymbolsRead.{KeepsSymbols};
+    ghost use Rattle.elf_image_symbol_edits.specs.Loan.{numbers_now, symbols_now};
 
     /// The class (gABI, ELF Identification, `EI_CLASS`). Takes no memory.
     pub fn class(&self) -> Wide
@@ -103,18 +101,20 @@ impl<'data> Builder<'data> {
 
     /// The symbols for a link editor (gABI, Symbol Table, `SHT_SYMTAB`); none without that section. Takes no
     /// memory.
-    pub fn symbols(&self) -> &Symbols<'data>
-        ensures { result.now ≡ self.now.symbols }
+    pub fn symbols(&self) -> SymbolsNow<'_>
+        ensures symbols { symbols_now result ≡ self.now.symbols }
+        ensures numbers { numbers_now result ≡ self.now.symbol_numbers }
     {
-        &self.lists.symbols
+        self.lists.symbols.lend()
     }
 
     /// The symbols for a loader with their versions (gABI, Symbol Table, `SHT_DYNSYM`); none without that
     /// section. Takes no memory.
-    pub fn dynamic_symbols(&self) -> &Symbols<'data>
-        ensures { result.now ≡ self.now.dynamic_symbols }
+    pub fn dynamic_symbols(&self) -> SymbolsNow<'_>
+        ensures symbols { symbols_now result ≡ self.now.dynamic_symbols }
+        ensures numbers { numbers_now result ≡ self.now.dynamic_symbol_numbers }
     {
-        &self.lists.dynamic_symbols
+        self.lists.dynamic_symbols.lend()
     }
 
     /// The versions that the file defines and needs (GNU symbol versioning). Takes no memory.
@@ -184,9 +184,7 @@ impl<'data> Builder<'data> {
         requires { i < length self.now.symbols }
         ensures { result ≡ slice_index self.now.symbol_numbers i }
     {
-        // no edit moves symbols yet
-        let _lists = &self.lists;
-        i
+        self.symbols().read_number(i)
     }
 
     /// The number that the symbol for a loader at a position had at read. Takes no memory.
@@ -194,17 +192,6 @@ impl<'data> Builder<'data> {
         requires { i < length self.now.dynamic_symbols }
         ensures { result ≡ slice_index self.now.dynamic_symbol_numbers i }
     {
-        // no edit moves symbols yet
-        let _lists = &self.lists;
-        i
-    }
-
-    /// Whether its symbols are those that were read, in their order. Takes no memory.
-    pub fn keeps_symbols(&self) -> bool
-        ensures { IsTrue result → KeepsSymbols self.now }
-    {
-        // no edit changes them yet
-        let _lists = &self.lists;
-        true
+        self.dynamic_symbols().read_number(i)
     }
 }

@@ -5,10 +5,10 @@ ghost use Rattle.elf_image.specs.ImageModel.{entry_model, section_model};
 ghost use Rattle.elf_image.specs.ImageSteps.{listed_model};
 
 use crate::builder::Builder;
-use crate::dynamic::Dynamic;
 use crate::read::Listed;
-use crate::section::Section;
 use crate::version::Versions;
+use elf_image_parts::dynamic::Dynamic;
+use elf_image_parts::section::Section;
 use patch_bytes::ByteString;
 use std::alloc::{AllocError, Global};
 
@@ -22,6 +22,7 @@ impl<'data> Builder<'data> {
         let interpreter = copied_interpreter(alloc, &self.interpreter)?;
         let section_numbers = Vec::from_slice(alloc, &self.section_numbers)?;
         let segments = Vec::from_slice(alloc, &self.segments)?;
+        let lists = self.lists.try_clone(alloc)?;
         Ok(Builder {
             source: self.source,
             changed: self.changed,
@@ -29,7 +30,7 @@ impl<'data> Builder<'data> {
             header: self.header,
             segments,
             sections,
-            lists: self.lists.same(),
+            lists,
             versions: listed.versions,
             dynamic: listed.dynamic,
             interpreter,
@@ -45,7 +46,8 @@ fn copied_listed<'data>(
     dynamic: &Option<Vec<Dynamic<'data>>>,
     versions: &Versions<'data>,
 ) -> Result<Listed<'data>, AllocError>
-    ensures { IfOk result (λ copies. listed_model copies ≡ listed_parts_model dynamic.now versions.now) }
+    ensures { IfOk result (λ copies.
+        listed_model copies ≡ listed_parts_model dynamic.now versions.now) }
 {
     let versions = versions.try_clone(alloc)?;
     let dynamic = match dynamic {

@@ -7,9 +7,9 @@ ghost use Rattle.elf_image.specs.Kept.{interpreter_number as number_of_interpret
 ghost use Rattle.elf_image.specs.Lookups.{CountsReadSegments, dynamic_strings_position as strings_position, has_interpreter, interpreter_position as interpreter_at, link_position as link_at, section_position as section_at, type_position as type_at};
 
 use crate::builder::{Builder, Segment};
-use crate::section::Section;
 use elf_format::constants::{PT_INTERP, SHT_DYNAMIC, SHT_DYNSYM, SHT_PROGBITS};
 use elf_format::numbers::{part, read_file_header};
+use elf_image_parts::section::Section;
 
 impl<'data> Builder<'data> {
     /// Where the section that had this number at read stands now (gABI, Sections); `None` where it is gone, or where

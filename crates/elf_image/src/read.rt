@@ -3,6 +3,7 @@ ghost use Rattle.std.specs.Prelude.{◌≡◌, ◌≢◌, Ok, Err, MatchResult, 
 ghost use Rattle.elf_format.specs.Image.{counted as numbers_below, image_of, interpreter_read};
 ghost use Rattle.elf_image.specs.ImageSteps.{LinksRead, TextsRead, image_built, image_by_groups, image_gathered, listed_in, listed_model, named_in, named_model};
 ghost use Rattle.elf_image.specs.Edited.{IsEdited};
+ghost use Rattle.elf_image.specs.EditedLists.{edits_of_none};
 ghost use Rattle.elf_image.specs.ImageModel.{segment_model, text_model};
 ghost use Rattle.elf_image.specs.SymbolsRead.{AreSymbolsOfFile, AreSymbolsRead};
 ghost use Rattle.elf_format.specs.Answers.{Gives, borrowed};
@@ -16,12 +17,10 @@ ghost use Rattle.elf_image_versions.specs.WalkSteps.{AreDefinitions, AreNeeds};
 pub(crate) mod texts;
 
 use crate::builder::{Builder, Segment};
-use crate::dynamic::Dynamic;
 use crate::read::texts::entries::entries;
 use crate::read::texts::sections::sections;
 use crate::read::texts::symbols::symbol_lists;
-use crate::section::Section;
-use crate::symbol_lists::SymbolLists;
+use crate::symbol_lists::{EditedLists, SymbolLists};
 use crate::version::Versions;
 use elf_format::fault::ElfFault;
 use elf_format::header::Header;
@@ -31,6 +30,8 @@ use elf_format::records::{EntryNumbers, SegmentHeader};
 use elf_format::section_data::SectionData;
 use elf_format::versions::{RawDefinition, RawNeeds};
 use elf_format::view_fault::ViewFault;
+use elf_image_parts::dynamic::Dynamic;
+use elf_image_parts::section::Section;
 use elf_image_placement::placement::{check_placement, header_table_loaded};
 use elf_image_rules::dynamic::{check_links, raw_entries};
 use elf_image_rules::headers::{Headers, read_headers};
@@ -283,10 +284,15 @@ fn image_and_last<'data>(
     Ok(image)
 }
 
-// The image that has these parts.
-fn builder<'data>(parts: &Headers<'data>, gathered: Gathered<'data>) -> Builder<'data>
+// The image that has these parts, with room for edits of its symbols.
+fn builder<'data>(
+    parts: &Headers<'data>,
+    gathered: Gathered<'data>,
+    lists: EditedLists<'data>,
+) -> Builder<'data>
     requires edited { IsEdited (image_gathered (parts_model parts.now) gathered) }
-    requires lists { AreSymbolsOfFile parts.now.file.now gathered.named.lists }
+    requires known { AreSymbolsOfFile parts.now.file.now gathered.named.lists }
+    requires lists { lists ≡ edits_of_none gathered.named.lists }
     ensures { result ≡ image_gathered (parts_model parts.now) gathered.entry }
 {
     Builder {
@@ -296,7 +302,7 @@ fn builder<'data>(parts: &Headers<'data>, gathered: Gathered<'data>) -> Builder<
         header: Header::of(parts.header),
         segments: gathered.segments,
         sections: gathered.named.sections,
-        lists: gathered.named.lists,
+        lists,
         versions: gathered.listed.versions,
         dynamic: gathered.listed.dynamic,
         interpreter: gathered.interpreter,
@@ -321,7 +327,8 @@ fn image_of_file<'data>(
     let raw = raw_entries(alloc, &parts)?;
     let kinds = linked_kinds(alloc, &parts, &raw)?;
     let gathered = image_and_last(alloc, &parts, &raw, &kinds, known)?;
-    Ok(builder(&parts, gathered))
+    let lists = EditedLists::new(alloc, &gathered.named.lists)?;
+    Ok(builder(&parts, gathered, lists))
 }
 
 impl<'data> Builder<'data> {
@@ -340,7 +347,8 @@ impl<'data> Builder<'data> {
     pub fn read_source(&self, alloc: Global) -> Result<Builder<'data>, AllocError>
         ensures { IfOk result (λ read. image_of self.now.source ≡ Ok read) }
     {
-        match image_of_file(alloc, self.source, Some(&self.lists)) {
+        let lists = self.lists.read();
+        match image_of_file(alloc, self.source, Some(&lists)) {
             Ok(read) => Ok(read),
             Err(ElfFault::Memory) => Err(AllocError),
             Err(_) => unreachable!(),

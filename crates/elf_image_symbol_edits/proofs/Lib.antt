@@ -3,3 +3,4 @@ pub mod RisingLaws
 pub mod ChangeLaws
 pub mod SymbolLaws
 pub mod EditedLaws
+pub mod SpreadLaws

@@ -72,7 +72,7 @@ rising_there false count kept rising = rising
 
 -- ## Some of them
 
-counted-more : (n : ℕ) → counted (n + 1) ≡ counted n ++ n ∷ []
+pub counted-more : (n : ℕ) → counted (n + 1) ≡ counted n ++ n ∷ []
 unfolding counted
 counted-more n = let next : n + 1 ≡ suc n = omega arith in ap counted next
 

@@ -49,7 +49,7 @@ now-numbers read cs n place = by_change (change_of cs n)
     by_change (Some c) = refl
 
 -- a change that gives back the name, and clears nothing, makes nothing of its symbol
-makes-nothing : (c : Change) (y : NamedSymbol) → c.name.bytes ≡ y.name → c.is_cleared ≡ false → changed_by c y ≡ y
+pub makes-nothing : (c : Change) (y : NamedSymbol) → c.name.bytes ≡ y.name → c.is_cleared ≡ false → changed_by c y ≡ y
 makes-nothing c y named keeps =
     ap (λ (b : Bool). record y { name = c.name.bytes; version = version_by b y.version }) keeps ∙ ap (λ (n : List ℕ). record y { name = n }) named
 

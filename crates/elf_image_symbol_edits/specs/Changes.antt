@@ -1,5 +1,6 @@
 -- The changes of symbols.
-use Rattle.std.specs.Prelude.{ℕ, ◌≡◌, ◌<◌, ◌≤◌, ◌⊎◌, List, [], length, map, Bool, ◌==◌, if◌then◌else◌, Option, Some, None, All, find, slice_index_or}
+use Rattle.std.specs.Prelude.{ℕ, ◌≡◌, ◌<◌, ◌≤◌, ◌⊎◌, List, [], ◌∷◌, length, map, Bool, false, ◌==◌, if◌then◌else◌, Option, Some, None, All, find, slice_index_or, unwrap_or}
+use Rattle.patch_bytes.specs.ByteString.{borrowed_string}
 use Rattle.elf_format.specs.declared.version_id.VersionId.{VersionId}
 use Rattle.elf_format.specs.Views.{NamedSymbol}
 use Rattle.elf_image_symbol_edits.specs.declared.change.Change.{Change}
@@ -40,11 +41,24 @@ read_at read number = slice_index_or read number no_symbol
 unfoldable pub symbol_now : List NamedSymbol → List Change → ℕ → NamedSymbol
 symbol_now read changes number = changed (change_of changes number) (read_at read number)
 
+-- a change of a symbol that leaves it as it was read
+abbrev pub idle_change : List NamedSymbol → ℕ → Change
+idle_change read number = record { number = number; name = borrowed_string (read_at read number).name; is_cleared = false }
+
+-- the change of a symbol, or else one that leaves it as it was read
+abbrev pub change_at : List NamedSymbol → List Change → ℕ → Change
+change_at read changes number = unwrap_or (change_of changes number) (idle_change read number)
+
 -- a change leaves of its symbol what is looked at
 abbrev pub Leaves : {A : Type 0} → (NamedSymbol → A) → List NamedSymbol → Change → Type 0
 Leaves part read c = part (changed_by c (read_at read c.number)) ≡ part (read_at read c.number)
 
 -- ## Changes in order
+
+-- the first of some changes is of the symbol with a number
+abbrev pub starts_at : ℕ → List Change → Bool
+starts_at number [] = false
+starts_at number (c ∷ cs) = c.number == number
 
 -- the name is the one that was read, or has no NUL
 abbrev pub HasName : List NamedSymbol → Change → Type 0

@@ -4,7 +4,7 @@ use Rattle.patch_bytes.specs.ByteString.{borrowed_string, owned_string}
 use Rattle.elf_format.specs.declared.version_id.VersionId.{VersionId}
 use Rattle.elf_format.specs.Views.{NamedSymbol}
 use Rattle.elf_image_symbol_edits.specs.declared.change.Change.{Change}
-use Rattle.elf_image_symbol_edits.specs.Changes.{symbol_now}
+use Rattle.elf_image_symbol_edits.specs.Changes.{change_at, symbol_now}
 use Rattle.elf_image_symbol_edits.specs.EditedList.{EditedList, as_read, changed_at, with_global_version, with_name, without_numbers}
 
 -- a function of section 5, with a name and a version
@@ -46,6 +46,15 @@ changes =
     ∷ record { number = 3; name = borrowed_string (121 ∷ []); is_cleared = false }
     ∷ []
 
+-- a change of each, those of a and c leaving them as they were read
+abbrev pub spread : List Change
+spread =
+    record { number = 0; name = borrowed_string (97 ∷ []); is_cleared = false }
+    ∷ record { number = 1; name = owned_string (120 ∷ []); is_cleared = true }
+    ∷ record { number = 2; name = borrowed_string (99 ∷ []); is_cleared = false }
+    ∷ record { number = 3; name = borrowed_string (121 ∷ []); is_cleared = false }
+    ∷ []
+
 -- a and c, as they were read
 abbrev pub left : List NamedSymbol
 left = function (97 ∷ []) (version 2) ∷ function (99 ∷ []) (version 1) ∷ []
@@ -62,3 +71,5 @@ pub record EditRows : Type 0 where
   -- the change of a symbol that is gone is not another one's
   pub shown : map (symbol_now read changes) (0 ∷ 1 ∷ 2 ∷ 3 ∷ []) ≡ now
   pub shown_without : map (symbol_now read changes) (0 ∷ 2 ∷ []) ≡ left
+  pub told_of_each : map (change_at read changes) (0 ∷ 1 ∷ 2 ∷ 3 ∷ []) ≡ spread
+  pub shown_spread : map (symbol_now read spread) (0 ∷ 1 ∷ 2 ∷ 3 ∷ []) ≡ now

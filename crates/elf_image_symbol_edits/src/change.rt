@@ -1,7 +1,7 @@
 //! What edits made of one symbol.
 ghost use Rattle.std.specs.Prelude.{◌≡◌, ◌<◌, ◌↔◌, IfOk, IsTrue, length};
 ghost use Rattle.elf_image_symbols.specs.SymbolModel.{symbol_model};
-ghost use Rattle.elf_image_symbol_edits.specs.Changes.{Leaves, changed_by, version_by};
+ghost use Rattle.elf_image_symbol_edits.specs.Changes.{Leaves, changed_by, idle_change, version_by};
 ghost use Rattle.elf_image_symbol_edits.specs.EditedList.{as_global};
 
 use elf_format::version_id::VersionId;
@@ -31,6 +31,18 @@ fn is_global(version: Option<VersionId>) -> bool
 }
 
 impl<'data> Change<'data> {
+    // A change of a symbol that leaves it as it was read.
+    pub(crate) fn idle(table: &Symbols<'data>, number: usize) -> Change<'data>
+        requires { number < length table.now }
+        ensures { result ≡ idle_change table.now number }
+    {
+        Change {
+            number,
+            name: ByteString::borrowed(table.name(number)),
+            is_cleared: false,
+        }
+    }
+
     // The version of the symbol, of the one that was read.
     fn version(&self, read: Option<VersionId>) -> Option<VersionId>
         ensures { result ≡ version_by self.now.is_cleared read }

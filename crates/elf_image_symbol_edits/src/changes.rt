@@ -1,8 +1,10 @@
 //! The changes of symbols, in the order of their numbers.
-ghost use Rattle.std.specs.Prelude.{◌≡◌, ◌<◌, ◌≤◌, ◌↔◌, ℕ, All, IfOk, IsTrue, MatchResult, insert, length, option_copied, true, vec_capacity};
+ghost use Rattle.std.specs.Prelude.{◌≡◌, ◌+◌, ◌<◌, ◌≤◌, ◌↔◌, ℕ, All, IfOk, IsTrue, MatchResult, insert, length, map, option_copied, true, vec_capacity};
 ghost use Rattle.std.specs.List.Sorted.{IsNonDecreasingBy};
-ghost use Rattle.elf_image_symbol_edits.specs.Changes.{AreChanges, IsGapFor, IsPlaceOf, Leaves, change_of, number_of, symbol_now};
+ghost use Rattle.elf_format.specs.Image.{counted};
+ghost use Rattle.elf_image_symbol_edits.specs.Changes.{AreChanges, IsGapFor, IsPlaceOf, Leaves, change_at, change_of, number_of, starts_at as do_start_at, symbol_now};
 ghost use Rattle.elf_image_symbol_edits.specs.EditedList.{changed_at};
+ghost use Rattle.elf_image_symbol_edits.specs.Rising.{AreRising};
 
 use crate::change::Change;
 use elf_image_symbols::Symbols;
@@ -74,11 +76,7 @@ pub(crate) fn touch<'data>(
     match place_of(changes, number) {
         Ok(k) => k,
         Err(k) => {
-            let change = Change {
-                number,
-                name: ByteString::borrowed(table.name(number)),
-                is_cleared: false,
-            };
+            let change = Change::idle(table, number);
             insert_reserved(changes, k, change);
             k
         }
@@ -148,4 +146,67 @@ pub(crate) fn copy_changes<'data>(
         copy.push_reserved(change);
     }
     Ok(copy)
+}
+
+// Whether the first of the changes that are left is of the symbol with a number.
+fn starts_at(changes: &[Change<'_>], number: usize) -> bool
+    ensures { result ≡ do_start_at number changes.now }
+{
+    if changes.is_empty() {
+        return false;
+    }
+    changes[0].number == number
+}
+
+// The change of a symbol, where none of those before it is left, or else one that leaves it as it was.
+fn change_or_idle<'data>(
+    alloc: Global,
+    changes: &[Change<'data>],
+    table: &Symbols<'data>,
+    number: usize,
+) -> Result<Change<'data>, AllocError>
+    requires there { number < length table.now }
+    requires rising { AreRising number (length table.now) (map number_of changes.now) }
+    ensures { IfOk result (λ change. change ≡ change_at table.now changes.now number) }
+{
+    if starts_at(changes, number) {
+        changes[0].try_clone(alloc)
+    } else {
+        Ok(Change::idle(table, number))
+    }
+}
+
+// The changes of the symbols behind one, where none of those before it is left.
+fn changes_behind<'a, 'data>(changes: &'a [Change<'data>], number: usize) -> &'a [Change<'data>]
+    ensures rising { (high : ℕ) → AreRising number high (map number_of changes.now)
+        → AreRising (number + 1) high (map number_of result.now) }
+    ensures same { (m : ℕ) → number < m → change_of result.now m ≡ change_of changes.now m }
+{
+    if starts_at(changes, number) {
+        &changes[1..]
+    } else {
+        changes
+    }
+}
+
+// A change of each symbol: those that there are, and else such as leave it as it was.
+pub(crate) fn spread_changes<'data>(
+    alloc: Global,
+    changes: &[Change<'data>],
+    table: &Symbols<'data>,
+) -> Result<Vec<Change<'data>>, AllocError>
+    requires { AreRising 0 (length table.now) (map number_of changes.now) }
+    ensures items { IfOk result (λ spread. spread.items
+        ≡ map (change_at table.now changes.now) (counted (length table.now))) }
+    ensures room { IfOk result (λ spread. length table.now ≤ vec_capacity spread) }
+{
+    let count = table.len();
+    let mut spread = Vec::with_capacity(alloc, count)?;
+    let mut rest = changes;
+    for number in 0..count {
+        let change = change_or_idle(alloc, rest, table, number)?;
+        spread.push_reserved(change);
+        rest = changes_behind(rest, number);
+    }
+    Ok(spread)
 }

@@ -1,6 +1,8 @@
 //! The symbols of a section under edits.
 use crate::change::Change;
-use crate::changes::{are_idle, copy_changes, keep_names, set_cleared, set_name, touch};
+use crate::changes::{
+    are_idle, copy_changes, keep_names, set_cleared, set_name, spread_changes, touch,
+};
 use crate::numbers::{copy_numbers, list_all, list_others};
 use crate::symbols_now::SymbolsNow;
 use elf_image_symbols::Symbols;
@@ -69,6 +71,25 @@ impl<'data> EditedSymbols<'data> {
             changes,
             kept,
             are_all: self.are_all,
+        })
+    }
+
+    /// The same symbols with the same edits, made ready for edits of many of them. An edit of a symbol that has none yet
+    /// moves what is told of those behind it; in the copy none moves anything, and each takes the time of a search. To
+    /// make it takes one pass over all symbols that were read: use it before many edits, where some symbols are edited
+    /// already or they don't come in rising order. Error: `AllocError`.
+    pub fn spread(&self, alloc: Global) -> Result<EditedSymbols<'data>, AllocError>
+        ensures { IfOk result (λ copy. copy ≡ self.now) }
+    {
+        let room = self.table.len();
+        let changes = spread_changes(alloc, &self.changes, &self.table)?;
+        let kept = copy_numbers(alloc, &self.kept, room)?;
+        let are_all = self.are_all;
+        Ok(EditedSymbols {
+            table: self.table.same(),
+            changes,
+            kept,
+            are_all,
         })
     }
 

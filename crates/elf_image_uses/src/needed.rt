@@ -3,6 +3,7 @@ ghost use Rattle.std.specs.Prelude.{◌≡◌, [], ◌∷◌, ◌&&◌, ◌||◌
 ghost use Rattle.std.specs.List.{list_any};
 ghost use Rattle.std.specs.List.Sorted.{IsNonDecreasing};
 ghost use Rattle.elf_format.specs.Options.{is_one_of};
+ghost use Rattle.elf_image_symbol_edits.specs.Loan.{symbols_now};
 ghost use Rattle.elf_image.specs.ImageModel.{section_model};
 ghost use Rattle.elf_image.specs.Kept.{dynamic_strings_number as number_of_strings};
 ghost use Rattle.elf_image_uses.specs.Needed.{is_info_number as has_section_number, is_lasting, is_section_used as are_sections_used, lasting_types, names_section};
@@ -15,7 +16,7 @@ use elf_format::constants::{
     SHF_INFO_LINK, SHT_DYNAMIC, SHT_DYNSYM, SHT_GNU_HASH, SHT_GNU_VERDEF, SHT_GNU_VERNEED,
     SHT_GNU_VERSYM, SHT_HASH, SHT_NULL, SHT_REL, SHT_RELA, SHT_SYMTAB,
 };
-use elf_image::{Builder, Section, Symbols};
+use elf_image::{Builder, Section, SymbolsNow};
 
 // Whether no section of a type goes.
 fn is_lasting_type(kind: u32) -> bool
@@ -151,9 +152,10 @@ fn is_gone_named(image: &Builder<'_>, gone: &[usize]) -> bool
 }
 
 // Whether one of some symbols is defined in one of the sections that go.
-fn is_symbol_within(gone: &[usize], symbols: &Symbols<'_>) -> bool
+fn is_symbol_within(gone: &[usize], symbols: SymbolsNow<'_>) -> bool
     requires { IsNonDecreasing gone.now }
-    ensures { result ≡ list_any (λ y. is_one_of gone.now y.st_shndx) symbols.now }
+    ensures { result ≡ list_any (λ y. is_one_of gone.now y.st_shndx)
+        (symbols_now symbols.entry) }
 {
     for i in 0..symbols.len() {
         let numbers = symbols.numbers(i, 0);

@@ -2,7 +2,7 @@ use Rattle.std.proofs.Common.{◌≡◌, ◌∙◌, ◌<◌, arith, length, map}
 use Rattle.std.specs.Prelude.{vec_len}
 use Rattle.std.proofs.lemmas.List.{length-map, length-set}
 use Rattle.elf_image.specs.ImageModel.{segment_model}
-use Rattle.elf_image.specs.Segments.{with_align}
+use Rattle.elf_image_parts.specs.Segments.{with_align}
 use Rattle.elf_image.proofs.EditSteps.{mapped_all, next_changed}
 use Rattle.elf_image.proofs.edits.align_loads.Goals as goal
 

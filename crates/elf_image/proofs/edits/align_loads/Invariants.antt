@@ -1,7 +1,7 @@
 -- The program headers so far have the alignment.
 use Rattle.std.proofs.Common.{◌≡◌, ◌++◌, map, take, drop, length}
 use Rattle.elf_image.specs.ImageModel.{segment_model}
-use Rattle.elf_image.specs.Segments.{with_align}
+use Rattle.elf_image_parts.specs.Segments.{with_align}
 use Rattle.elf_image.proofs.edits.align_loads.Given as goal
 
 abbrev pub invariant-loop-i : goal.invariant-loop-i

@@ -1,6 +1,6 @@
 use Rattle.std.proofs.Common.{◌∙◌, List, ap, map, refl, sym}
 use Rattle.std.specs.Prelude.{position}
-use Rattle.elf_image.specs.declared.segment.Segment.{Segment}
+use Rattle.elf_image_parts.specs.declared.segment.Segment.{Segment}
 use Rattle.elf_image.specs.ImageModel.{segment_model}
 use Rattle.elf_image.proofs.EditSteps.{flags_set, is_stack, none_flagged, none_seen}
 use Rattle.elf_image.proofs.edits.flag_stack.Goals as goal

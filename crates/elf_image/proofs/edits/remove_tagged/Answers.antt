@@ -2,8 +2,8 @@ use Rattle.std.proofs.Common.{ap, ◌∙◌, map, rules}
 use Rattle.std.specs.Prelude.{◌==◌, not}
 use borrow.Author.Tests.{tests}
 use Rattle.std.proofs.lemmas.Fn.{filter_same}
-use Rattle.elf_image.specs.declared.dynamic.Dynamic.{Dynamic}
-use Rattle.elf_image.specs.DynamicTag.{tag_of}
+use Rattle.elf_image_parts.specs.declared.dynamic.Dynamic.{Dynamic}
+use Rattle.elf_image_parts.specs.DynamicTag.{tag_of}
 use Rattle.elf_image.specs.ImageModel.{entry_model}
 use Rattle.elf_image.proofs.EditSteps.{without_kept}
 use Rattle.elf_image.proofs.edits.remove_tagged.Goals as goal

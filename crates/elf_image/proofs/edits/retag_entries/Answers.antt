@@ -4,7 +4,7 @@ use Rattle.std.proofs.lemmas.List.{length-map, length-set}
 use Rattle.elf_format.specs.Dynamic.{Entry}
 use Rattle.elf_format.specs.Image.{entry_tag}
 use Rattle.elf_image.specs.ImageModel.{entry_model}
-use Rattle.elf_image.specs.DynamicList.{with_tag}
+use Rattle.elf_image_parts.specs.DynamicList.{with_tag}
 use Rattle.elf_image.proofs.EditSteps.{mapped_all, next_changed}
 use Rattle.elf_image.proofs.edits.retag_entries.Goals as goal
 

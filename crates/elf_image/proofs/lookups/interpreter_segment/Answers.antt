@@ -6,7 +6,7 @@ use denote.Ref.{Bor}
 use Rattle.std.proofs.lemmas.Iterator.{YieldsList-from_slice}
 use Rattle.std.proofs.lemmas.Iterator.Search.{find_from_yields_List}
 use Rattle.elf_format.specs.declared.constants.TheConstants.{PT_INTERP}
-use Rattle.elf_image.specs.declared.segment.Segment.{Segment}
+use Rattle.elf_image_parts.specs.declared.segment.Segment.{Segment}
 use Rattle.elf_image.specs.ImageModel.{segment_model}
 use Rattle.elf_image.proofs.LookupSteps.{find-map}
 use Rattle.elf_image.proofs.lookups.interpreter_segment.Goals as goal

@@ -50,9 +50,10 @@ builder-requires c =
     (image_gathered parts) c.in_ok-gathered.gathered c.in_ok-gathered.ensures.image in
     record {
       edited = read_is_edited c.args.bytes.now image read;
-      lists = subst (λ (file : List ℕ). AreSymbolsOfFile file c.in_ok-gathered.gathered.named.lists) (sym (source_is_file c.args.bytes.now image read))
+      known = subst (λ (file : List ℕ). AreSymbolsOfFile file c.in_ok-gathered.gathered.named.lists) (sym (source_is_file c.args.bytes.now image read))
           (lists_of_file c.args.bytes.now parts image c.in_ok-gathered.gathered.named.lists c.in_ok-parts.ensures read c.in_ok-gathered.ensures.lists
           (record { symbols = refl; dynamic_symbols = refl }));
+      lists = c.in_ok-lists.ensures;
     }
 
 answer_of : Image → Result Image ElfFault

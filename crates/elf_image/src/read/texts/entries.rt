@@ -11,12 +11,12 @@ ghost use Rattle.elf_format.specs.Seen.{shown_entry_model};
 ghost use Rattle.elf_image_rules.specs.Read.{parts_model};
 ghost use Rattle.elf_format.specs.Rules.{raw_entries};
 
-use crate::dynamic::Dynamic;
 use elf_format::constants::SHT_DYNAMIC;
 use elf_format::entries::{ShownEntry, show_entry};
 use elf_format::lookups::section_of_type;
 use elf_format::records::EntryNumbers;
 use elf_format::view_fault::ViewFault;
+use elf_image_parts::dynamic::Dynamic;
 use elf_image_rules::headers::Headers;
 use elf_image_versions::texts::dynamic_texts;
 use patch_bytes::ByteString;

@@ -9,12 +9,12 @@ ghost use Rattle.elf_image_rules.specs.Read.{parts_model};
 ghost use Rattle.elf_format.specs.Rules.{data_of, texts_of};
 ghost use Rattle.elf_image.specs.TextSteps.{named_section};
 
-use crate::section::Section;
 use elf_format::lookups::{bytes_of, section_bytes};
 use elf_format::records::SectionHeader;
 use elf_format::section_data::SectionData;
 use elf_format::texts::text;
 use elf_format::view_fault::ViewFault;
+use elf_image_parts::section::Section;
 use elf_image_rules::headers::Headers;
 use patch_bytes::ByteString;
 use std::alloc::Global;

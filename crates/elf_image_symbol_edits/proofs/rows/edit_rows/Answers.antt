@@ -15,4 +15,6 @@ returns c = record {
   without_versions = refl;
   shown = refl;
   shown_without = refl;
+  told_of_each = refl;
+  shown_spread = refl;
 }

@@ -1,12 +1,10 @@
--- At each position stands what had its number.
-use Rattle.std.proofs.Common.{ap, sym, subst, ◌∙◌, ◌<◌, length}
-use Rattle.std.specs.Prelude.{slice_index}
-use Rattle.elf_format.specs.Image.{Image}
-use Rattle.elf_format.proofs.ForCallers.Lengths.{slice_index-counted}
+-- The number is that of the symbols that are lent.
+use Rattle.std.proofs.Common.{List, ℕ, ap, sym, ◌∙◌}
+use Rattle.std.specs.List.{slice_get}
+use Rattle.std.proofs.lemmas.Option.{get_or_from_slice_get}
 use Rattle.elf_image.proofs.builder.Builder.read_dynamic_symbol.Goals as goal
 
 pub returns : goal.returns
 returns c =
-    sym (slice_index-counted (length c.self.inside.lists.dynamic_symbols) c.args.i
-    (subst (λ (image : Image). c.args.i < length image.dynamic_symbols) (sym c.self.view_is) c.requires))
-    ∙ ap (λ (image : Image). slice_index image.dynamic_symbol_numbers c.args.i) c.self.view_is
+    sym (get_or_from_slice_get c.args.self.now.dynamic_symbol_numbers c.args.i c.read_number.result 0
+    (ap (λ (ns : List ℕ). slice_get ns c.args.i) (sym c.dynamic_symbols.ensures.numbers) ∙ c.read_number.ensures))

@@ -1,19 +1,19 @@
 -- The first program header for the stack gets the flags that are written last.
 use Rattle.std.proofs.Common.{◌≡◌, ◌∙◌, ◌<◌, ℕ, length, arith, List, Some, true, ap, map, refl, subst, sym, slice_set, option_map}
-use Rattle.std.specs.Prelude.{position}
+use Rattle.std.specs.Prelude.{is_some, position}
 use Rattle.elf_format.specs.declared.records.SegmentHeader.{SegmentHeader}
 use Rattle.elf_format.specs.Image.{Image}
-use Rattle.elf_format.specs.declared.constants.TheConstants.{PT_GNU_STACK}
+use Rattle.elf_format.specs.declared.constants.TheConstants.{PT_GNU_STACK, PT_INTERP}
 use Rattle.elf_image.specs.File.{segment_of_type}
 use Rattle.elf_image.specs.BuilderModel.{image_model}
 use Rattle.elf_image.specs.Edited.{AreSegments}
 use Rattle.elf_image.specs.ImageModel.{segment_model}
-use Rattle.elf_image.specs.LendingFlags.{with_flags}
-use Rattle.elf_image.specs.Segments.{with_stack_flags}
+use Rattle.elf_image_parts.specs.LendingFlags.{with_flags}
+use Rattle.elf_image_parts.specs.Segments.{with_stack_flags}
 use Rattle.elf_image.proofs.EditSteps.{first_seen, flags_set, is_stack, place_within}
 use Rattle.elf_image.proofs.Kept.{with_segments}
 use Rattle.elf_image.proofs.LookupSteps.{position-map}
-use Rattle.elf_image.proofs.SegmentsKept.{segments_flagged}
+use Rattle.elf_image.proofs.SegmentsKept.{segments_flagged, type_flagged}
 use Rattle.elf_image.proofs.builder.Builder.stack_flags_at.Goals as goal
 
 pub index_mut-requires : goal.index_mut-requires
@@ -28,7 +28,8 @@ invariant_of-self-lent c w =
     let found = sym (position-map segment_model is_stack c.self.inside.segments.items) ∙ ap (λ (i : Image). position is_stack i.segments) c.self.view_is ∙ c.requires in
     let changes = flags_set segment_model c.self.inside.segments.items c.args.at c.index_mut.result.now c.index_mut.ensures.value found (with_flags c.index_mut.result.now w) w refl in (
       with_segments (image_model c.self.inside) c.self.inside.page_size (map segment_model (slice_set c.self.inside.segments.items c.args.at (with_flags c.index_mut.result.now w))) c.self.invariant.0
-          (λ read h. subst (λ (ps : List SegmentHeader). AreSegments c.self.inside.page_size read ps) (sym changes) (segments_flagged c.self.inside.page_size w read old h)),
+          (λ read h. subst (λ (ps : List SegmentHeader). AreSegments c.self.inside.page_size read ps) (sym changes) (segments_flagged c.self.inside.page_size w read old h))
+          (ap (λ (ps : List SegmentHeader). is_some (segment_of_type PT_INTERP ps)) changes ∙ type_flagged PT_INTERP w old),
       c.self.invariant.1,
     )
 

@@ -2,7 +2,7 @@
 use Rattle.std.specs.Prelude.{ℕ, List, [], ◌∷◌, ◌++◌, map, ◌==◌, if◌then◌else◌}
 use Rattle.elf_format.specs.declared.constants.TheConstants.{PT_GNU_STACK, PT_LOAD}
 use Rattle.elf_format.specs.declared.records.SegmentHeader.{SegmentHeader}
-use Rattle.elf_image.specs.declared.segment.TheConstants.{STACK_ALIGN}
+use Rattle.elf_image_parts.specs.declared.segment.TheConstants.{STACK_ALIGN}
 
 -- a loaded segment gets the alignment
 abbrev pub with_align : ℕ → SegmentHeader → SegmentHeader

@@ -13,7 +13,7 @@ use Rattle.elf_format.specs.Hashes.{GnuHeader, gnu_header, word_of_table}
 use Rattle.elf_format.specs.Image.{Image, ImageSection}
 use Rattle.elf_format.specs.Options.{is_none_or, is_some_and}
 use Rattle.elf_image.specs.Kept.{KeptSection, kept_of_type, kept_sections}
-use Rattle.elf_image_uses.specs.Staying.{table_number}
+use Rattle.elf_image.specs.Staying.{table_number}
 
 -- ## Hash tables
 

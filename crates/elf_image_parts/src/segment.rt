@@ -1,5 +1,5 @@
 ghost use Rattle.std.specs.Prelude.{◌≡◌};
-ghost use Rattle.elf_image.specs.ImageModel.{segment_model};
+ghost use Rattle.elf_image_parts.specs.PartModels.{segment_model};
 
 use elf_format::constants::PT_LOAD;
 use elf_format::records::SegmentHeader;
@@ -13,11 +13,12 @@ pub const STACK_ALIGN: u64 = 16;
 /// A program header of a file (gABI, Program Header). Offsets, addresses and sizes are in bytes.
 #[derive(Clone, Copy, Debug)]
 pub struct Segment {
-    pub(crate) numbers: SegmentHeader,
+    /// All its numbers.
+    pub numbers: SegmentHeader,
 }
 
 impl Segment {
-    ghost use Rattle.elf_image.specs.Segments.{with_align};
+    ghost use Rattle.elf_image_parts.specs.Segments.{with_align};
 
     /// All its numbers.
     pub fn numbers(&self) -> SegmentHeader
@@ -82,8 +83,8 @@ impl Segment {
         self.numbers.p_align
     }
 
-    // Gives a loaded segment the alignment.
-    pub(crate) fn align_load(&mut self, align: u64)
+    /// Gives a loaded segment the alignment.
+    pub fn align_load(&mut self, align: u64)
         ensures { segment_model self.new ≡ with_align align (segment_model self.old) }
     {
         if self.numbers.p_type == PT_LOAD {
@@ -92,10 +93,10 @@ impl Segment {
     }
 
     ghost use Rattle.std.specs.Borrow.{sem};
-    ghost use Rattle.elf_image.specs.LendingFlags.{LendsFlags};
+    ghost use Rattle.elf_image_parts.specs.LendingFlags.{LendsFlags};
 
-    // Lends the flags.
-    pub(crate) fn flags_mut(&mut self) -> &mut u32
+    /// Lends the flags.
+    pub fn flags_mut(&mut self) -> &mut u32
         ensures* lends { sem 𝓛 (LendsFlags self.entry result) }
         ensures value { result.now ≡ (segment_model self.old).p_flags }
     {

@@ -1,7 +1,7 @@
 -- The tag of an entry of the dynamic list.
 use Rattle.std.specs.Prelude.{ℕ}
-use Rattle.elf_image.specs.declared.dynamic.Dynamic.{Dynamic}
-use Rattle.elf_image.specs.declared.dynamic.Dynamic.TheVariants.{Auto, Integer, Text}
+use Rattle.elf_image_parts.specs.declared.dynamic.Dynamic.{Dynamic}
+use Rattle.elf_image_parts.specs.declared.dynamic.Dynamic.TheVariants.{Auto, Integer, Text}
 
 abbrev pub tag_of : Dynamic → ℕ
 tag_of (Auto tag) = tag

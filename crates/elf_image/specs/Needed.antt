@@ -6,7 +6,7 @@ use Rattle.elf_format.specs.Image.{Image, ImageSection}
 use Rattle.elf_format.specs.Options.{is_one_of}
 use Rattle.elf_format.specs.Places.{is_set}
 use Rattle.elf_image.specs.Kept.{KeptSection, dynamic_strings_number, is_numbered}
-use Rattle.elf_image_uses.specs.Staying.{going, staying}
+use Rattle.elf_image.specs.Staying.{going, staying}
 
 -- ## Sections by which a file is read
 

@@ -1,8 +1,8 @@
 -- What a program header is once its flags are no longer lent.
 use Rattle.std.specs.Prelude.{ℕ}
 use Rattle.std.specs.Borrow.{Fml, Lends, MutBor, u32}
-use Rattle.elf_image.specs.declared.segment.Segment.{Segment}
-use Rattle.elf_image.specs.contracts.segment.Segment.{the_row}
+use Rattle.elf_image_parts.specs.declared.segment.Segment.{Segment}
+use Rattle.elf_image_parts.specs.contracts.segment.Segment.{the_row}
 
 -- the program header with these flags
 abbrev pub with_flags : Segment → ℕ → Segment

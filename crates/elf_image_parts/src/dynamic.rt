@@ -15,7 +15,7 @@ pub enum Dynamic<'data> {
 }
 
 impl Dynamic<'_> {
-    ghost use Rattle.elf_image.specs.DynamicTag.{tag_of};
+    ghost use Rattle.elf_image_parts.specs.DynamicTag.{tag_of};
 
     /// The entry's tag. Takes no memory.
     pub fn tag(&self) -> u64
@@ -30,8 +30,8 @@ impl Dynamic<'_> {
 
     ghost use Rattle.std.specs.Prelude.{◌==◌, if◌then◌else◌};
     ghost use Rattle.elf_format.specs.Image.{entry_tag};
-    ghost use Rattle.elf_image.specs.DynamicList.{with_tag};
-    ghost use Rattle.elf_image.specs.ImageModel.{entry_model};
+    ghost use Rattle.elf_image_parts.specs.DynamicList.{with_tag};
+    ghost use Rattle.elf_image_parts.specs.PartModels.{entry_model};
 
     /// Whether the entry has a tag. Takes no memory.
     pub fn has_tag(&self, tag: u64) -> bool
@@ -44,8 +44,8 @@ impl Dynamic<'_> {
         }
     }
 
-    // Gives the entry another tag.
-    pub(crate) fn set_tag(&mut self, new: u64)
+    /// Gives the entry another tag. Takes no memory.
+    pub fn set_tag(&mut self, new: u64)
         ensures { entry_model self.new ≡ with_tag new (entry_model self.old) }
     {
         match self {
@@ -55,8 +55,8 @@ impl Dynamic<'_> {
         }
     }
 
-    // Gives the entry the new tag where it has the old one.
-    pub(crate) fn change_tag(&mut self, old: u64, new: u64)
+    /// Gives the entry the new tag where it has the old one. Takes no memory.
+    pub fn change_tag(&mut self, old: u64, new: u64)
         ensures { entry_model self.new
             ≡ (if entry_tag (entry_model self.old) == old then with_tag new (entry_model self.old)
             else entry_model self.old) }
@@ -69,7 +69,7 @@ impl Dynamic<'_> {
 
 impl<'data> Dynamic<'data> {
     ghost use Rattle.std.specs.Prelude.{IfOk};
-    ghost use Rattle.elf_image.specs.ImageModel.{entry_model};
+    ghost use Rattle.elf_image_parts.specs.PartModels.{entry_model};
 
     /// The same entry: a borrowed text is lent again, an owned one copied. Error: `AllocError`.
     pub fn try_clone(&self, alloc: Global) -> Result<Dynamic<'data>, AllocError>

@@ -1,0 +1,5 @@
+pub mod PartModels
+pub mod DynamicTag
+pub mod DynamicList
+pub mod Segments
+pub mod LendingFlags
