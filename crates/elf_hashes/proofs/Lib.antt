@@ -14,3 +14,6 @@ pub mod HashSteps
 pub mod ChainSteps
 pub mod OrderSteps
 pub mod VersionSteps
+pub mod InOrder
+pub mod SameHashes
+pub mod ForCallers

@@ -1,6 +1,7 @@
 //! The gABI's hash table.
 ghost use Rattle.std.specs.Prelude.{◌≡◌, ◌<◌, ◌≤◌, ◌^◌, length, IfOk, MatchResult};
 ghost use Rattle.elf_format.specs.Hashes.{gabi_hash};
+ghost use Rattle.elf_image_symbol_edits.specs.Loan.{symbols_now};
 ghost use Rattle.elf_tables.specs.Fields.{fields, words};
 ghost use Rattle.elf_tables.specs.declared.fault.TableFault.TheVariants.{NumberTooLarge};
 ghost use Rattle.elf_hashes.specs.Found.{ArePlaces, hashed_names, in_order};
@@ -9,7 +10,7 @@ ghost use Rattle.elf_hashes.specs.Gabi.{IsGabiTable, gabi_words};
 use crate::chains::make_chains;
 use crate::hashes::{Hashing, hashes};
 use elf_format::form::Form;
-use elf_image_symbols::Symbols;
+use elf_image_symbol_edits::SymbolsNow;
 use elf_tables::{TableFault, push_words};
 use std::alloc::{AllocError, Global};
 
@@ -37,16 +38,16 @@ fn gabi_table(
 /// not local, but for the first. `NumberTooLarge` where there are more symbols than 32 bits can count.
 pub fn build_hash(
     alloc: Global,
-    symbols: &Symbols<'_>,
+    symbols: SymbolsNow<'_>,
     order: &[usize],
     buckets: u32,
     form: Form,
 ) -> Result<Vec<u8>, TableFault>
     requires some { 0 < buckets }
-    requires places { ArePlaces symbols.now order.now }
+    requires places { ArePlaces (symbols_now symbols) order.now }
     ensures { MatchResult result
         (λ table. (IsGabiTable form buckets
-        (hashed_names (in_order symbols.now order.now)) table.items)
+        (hashed_names (in_order (symbols_now symbols.entry) order.now)) table.items)
         × (length order.now < 2 ^ 32))
         (λ fault. fault ≡ NumberTooLarge → 2 ^ 32 ≤ length order.now) }
 {

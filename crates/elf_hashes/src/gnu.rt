@@ -1,6 +1,7 @@
 //! The GNU hash table.
 ghost use Rattle.std.specs.Prelude.{◌≡◌, ◌<◌, ◌≤◌, ◌^◌, ◌%◌, ◌++◌, length, IfOk, MatchResult, OnOk};
 ghost use Rattle.elf_format.specs.Hashes.{gnu_hash};
+ghost use Rattle.elf_image_symbol_edits.specs.Loan.{symbols_now};
 ghost use Rattle.elf_tables.specs.Fields.{fields, words};
 ghost use Rattle.elf_tables.specs.declared.fault.TableFault.TheVariants.{NumberTooLarge};
 ghost use Rattle.elf_hashes.specs.Buckets.{heads, in_buckets};
@@ -11,7 +12,7 @@ use crate::chains::make_chains;
 use crate::filter::push_filter;
 use crate::hashes::{Hashing, hashes};
 use elf_format::form::Form;
-use elf_image_symbols::Symbols;
+use elf_image_symbol_edits::SymbolsNow;
 use elf_tables::{TableFault, push_words};
 use std::alloc::{AllocError, Global};
 
@@ -159,7 +160,7 @@ fn gnu_table(
 /// than 32 bits can count.
 pub fn build_gnu_hash(
     alloc: Global,
-    symbols: &Symbols<'_>,
+    symbols: SymbolsNow<'_>,
     order: &[usize],
     sizes: GnuSizes,
     form: Form,
@@ -167,10 +168,10 @@ pub fn build_gnu_hash(
     requires buckets { 0 < sizes.buckets }
     requires filter_words { 0 < sizes.filter_words }
     requires filter_shift { sizes.filter_shift < 32 }
-    requires places { ArePlaces symbols.now order.now }
+    requires places { ArePlaces (symbols_now symbols) order.now }
     ensures { MatchResult result
         (λ table. (IsGnuTable form sizes
-        (hashed_names (in_order symbols.now order.now)) table.items)
+        (hashed_names (in_order (symbols_now symbols.entry) order.now)) table.items)
         × (length order.now < 2 ^ 32))
         (λ fault. fault ≡ NumberTooLarge → 2 ^ 32 ≤ length order.now) }
 {

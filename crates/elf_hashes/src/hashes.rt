@@ -2,11 +2,13 @@
 ghost use Rattle.std.specs.Prelude.{◌≡◌, ◌<◌, ◌++◌, Some, length, map, option_map, slice_get, IfOk, OnOk};
 ghost use Rattle.elf_format.specs.Hashes.{gnu_hash as gnu_hash_of};
 ghost use Rattle.elf_image_symbols.specs.SymbolModel.{symbol_model};
+ghost use Rattle.elf_image_symbol_edits.specs.Loan.{symbols_now};
 ghost use Rattle.elf_hashes.specs.Buckets.{hashes_of};
 ghost use Rattle.elf_hashes.specs.Found.{ArePlaces, found_name, hashed_names, in_order, is_found as is_symbol_found, is_local as is_symbol_local};
 ghost use Rattle.elf_hashes.specs.Steps.{hash_by};
 
-use elf_image_symbols::{Symbol, Symbols};
+use elf_image_symbol_edits::SymbolsNow;
+use elf_image_symbols::Symbol;
 use elf_tables::{gnu_hash, sysv_hash};
 use std::alloc::{AllocError, Global};
 
@@ -58,13 +60,13 @@ fn found_hash(hashing: Hashing, symbol: &Symbol<'_>) -> Option<u32>
 fn push_hashes(
     hashes: &mut Vec<Option<u32>>,
     hashing: Hashing,
-    symbols: &Symbols<'_>,
+    symbols: SymbolsNow<'_>,
     order: &[usize],
 ) -> Result<(), AllocError>
-    requires { ArePlaces symbols.now order.now }
+    requires { ArePlaces (symbols_now symbols) order.now }
     ensures { OnOk result (hashes.new.items ≡ hashes.old.items
         ++ map (λ y. option_map (hash_by hashing) (found_name y))
-        (in_order symbols.now order.now)) }
+        (in_order (symbols_now symbols.entry) order.now)) }
 {
     for i in order {
         let symbol = symbols.get(*i);
@@ -77,12 +79,13 @@ fn push_hashes(
 pub(crate) fn hashes(
     alloc: Global,
     hashing: Hashing,
-    symbols: &Symbols<'_>,
+    symbols: SymbolsNow<'_>,
     order: &[usize],
 ) -> Result<Vec<Option<u32>>, AllocError>
-    requires { ArePlaces symbols.now order.now }
+    requires { ArePlaces (symbols_now symbols) order.now }
     ensures { IfOk result (λ hashes. hashes.items
-        ≡ hashes_of (hash_by hashing) (hashed_names (in_order symbols.now order.now))) }
+        ≡ hashes_of (hash_by hashing)
+        (hashed_names (in_order (symbols_now symbols.entry) order.now))) }
 {
     if order.len() == 0 {
         return Ok(Vec::new(alloc));
@@ -94,9 +97,10 @@ pub(crate) fn hashes(
 }
 
 // The GNU hash of a symbol, where a look-up finds it.
-fn own_hash(symbols: &Symbols<'_>, i: usize) -> Option<u32>
-    requires { i < length symbols.now }
-    ensures { slice_get (hashes_of gnu_hash_of (hashed_names symbols.now)) i ≡ Some result }
+fn own_hash(symbols: SymbolsNow<'_>, i: usize) -> Option<u32>
+    requires { i < length (symbols_now symbols) }
+    ensures { slice_get (hashes_of gnu_hash_of (hashed_names (symbols_now symbols.entry))) i
+        ≡ Some result }
 {
     if i == 0 {
         return None;
@@ -108,10 +112,10 @@ fn own_hash(symbols: &Symbols<'_>, i: usize) -> Option<u32>
 // The GNU hash of each symbol that a look-up finds, the symbols being as they stand.
 pub(crate) fn own_hashes(
     alloc: Global,
-    symbols: &Symbols<'_>,
+    symbols: SymbolsNow<'_>,
 ) -> Result<Vec<Option<u32>>, AllocError>
     ensures { IfOk result (λ hashes. hashes.items
-        ≡ hashes_of gnu_hash_of (hashed_names symbols.now)) }
+        ≡ hashes_of gnu_hash_of (hashed_names (symbols_now symbols.entry))) }
 {
     let mut hashes = Vec::with_capacity(alloc, symbols.len())?;
     for i in 0..symbols.len() {

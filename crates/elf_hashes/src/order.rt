@@ -2,6 +2,7 @@
 ghost use Rattle.std.specs.Prelude.{◌≡◌, ◌<◌, ◌≤◌, ◌^◌, ◌++◌, ◌∷◌, All, drop, length, IfOk, MatchResult, OnOk};
 ghost use Rattle.std.specs.List.{flat_map};
 ghost use Rattle.elf_image_symbols.specs.SymbolModel.{symbol_model};
+ghost use Rattle.elf_image_symbol_edits.specs.Loan.{symbols_now};
 ghost use Rattle.elf_tables.specs.declared.fault.TableFault.TheVariants.{NumberTooLarge};
 ghost use Rattle.elf_hashes.specs.Found.{is_local as is_symbol_local, is_sought as is_symbol_sought};
 ghost use Rattle.elf_hashes.specs.Order.{places_by_bucket, places_where};
@@ -9,7 +10,8 @@ ghost use Rattle.elf_hashes.specs.Steps.{walk};
 
 use crate::chains::{Chained, make_chains};
 use crate::hashes::{is_local, own_hashes};
-use elf_image_symbols::{Symbol, Symbols};
+use elf_image_symbol_edits::SymbolsNow;
+use elf_image_symbols::Symbol;
 use elf_tables::TableFault;
 use std::alloc::{AllocError, Global};
 
@@ -21,9 +23,9 @@ fn is_sought(symbol: &Symbol<'_>) -> bool
 }
 
 // Appends where the local symbols stand, the first one apart.
-fn push_locals(order: &mut Vec<usize>, symbols: &Symbols<'_>) -> Result<(), AllocError>
+fn push_locals(order: &mut Vec<usize>, symbols: SymbolsNow<'_>) -> Result<(), AllocError>
     ensures { OnOk result (order.new.items
-        ≡ order.old.items ++ places_where is_symbol_local 1 (drop 1 symbols.now)) }
+        ≡ order.old.items ++ places_where is_symbol_local 1 (drop 1 (symbols_now symbols.entry))) }
 {
     for i in 1..symbols.len() {
         let symbol = symbols.get(i);
@@ -35,9 +37,9 @@ fn push_locals(order: &mut Vec<usize>, symbols: &Symbols<'_>) -> Result<(), Allo
 }
 
 // Appends where the symbols stand that are defined elsewhere, the first one apart.
-fn push_sought(order: &mut Vec<usize>, symbols: &Symbols<'_>) -> Result<(), AllocError>
+fn push_sought(order: &mut Vec<usize>, symbols: SymbolsNow<'_>) -> Result<(), AllocError>
     ensures { OnOk result (order.new.items
-        ≡ order.old.items ++ places_where is_symbol_sought 1 (drop 1 symbols.now)) }
+        ≡ order.old.items ++ places_where is_symbol_sought 1 (drop 1 (symbols_now symbols.entry))) }
 {
     for i in 1..symbols.len() {
         let symbol = symbols.get(i);
@@ -82,13 +84,17 @@ fn push_chains(order: &mut Vec<usize>, chained: &Chained) -> Result<(), AllocErr
 }
 
 // Where symbols stand in that order, of which there is one at least.
-fn places(alloc: Global, symbols: &Symbols<'_>, chained: &Chained) -> Result<Vec<usize>, AllocError>
+fn places(
+    alloc: Global,
+    symbols: SymbolsNow<'_>,
+    chained: &Chained,
+) -> Result<Vec<usize>, AllocError>
     requires firsts { All (λ first. first < length chained.now.nexts.items)
         chained.now.firsts.items }
     requires nexts { All (λ next. next < length chained.now.nexts.items) chained.now.nexts.items }
     ensures { IfOk result (λ order. order.items
-        ≡ 0 ∷ (places_where is_symbol_local 1 (drop 1 symbols.now)
-        ++ places_where is_symbol_sought 1 (drop 1 symbols.now)
+        ≡ 0 ∷ (places_where is_symbol_local 1 (drop 1 (symbols_now symbols.entry))
+        ++ places_where is_symbol_sought 1 (drop 1 (symbols_now symbols.entry))
         ++ flat_map (walk chained.now.nexts.items (length chained.now.nexts.items))
         chained.now.firsts.items)) }
 {
@@ -105,14 +111,14 @@ fn places(alloc: Global, symbols: &Symbols<'_>, chained: &Chained) -> Result<Vec
 /// found, each group as it stands. `NumberTooLarge` where there are more symbols than 32 bits can count.
 pub fn order_for_gnu_hash(
     alloc: Global,
-    symbols: &Symbols<'_>,
+    symbols: SymbolsNow<'_>,
     buckets: u32,
 ) -> Result<Vec<usize>, TableFault>
     requires { 0 < buckets }
     ensures { MatchResult result
-        (λ order. (order.items ≡ places_by_bucket buckets symbols.now)
-        × (length symbols.now < 2 ^ 32))
-        (λ fault. fault ≡ NumberTooLarge → 2 ^ 32 ≤ length symbols.now) }
+        (λ order. (order.items ≡ places_by_bucket buckets (symbols_now symbols.entry))
+        × (length (symbols_now symbols.entry) < 2 ^ 32))
+        (λ fault. fault ≡ NumberTooLarge → 2 ^ 32 ≤ length (symbols_now symbols.entry)) }
 {
     if symbols.len() > u32::MAX as usize {
         return Err(TableFault::NumberTooLarge);

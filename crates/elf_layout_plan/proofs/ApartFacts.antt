@@ -9,6 +9,7 @@ use Rattle.elf_format.specs.Placement.{file_part, is_stored, shows_at}
 use Rattle.elf_format.specs.declared.range.Range.{Range}
 use Rattle.elf_format.specs.Ranges.{apart, end_of, range}
 use Rattle.elf_layout_plan.specs.Anchors.{is_loaded_section}
+use Rattle.elf_image.specs.Complete.{IsComplete}
 use Rattle.elf_image.specs.Kept.{KeptSection, kept_sections, place_at_read}
 use Rattle.elf_layout_plan.specs.Memory.{Resized, sized_sections}
 use Rattle.elf_layout_plan.specs.Sizes.{new_size}
@@ -50,3 +51,4 @@ pub record AreFacts (r : Resized) : Type 0 where
   pub keeps_size : Each (λ k. (k.section.sh_type ≡ SHT_NOBITS) ⊎ (k.section.sh_type ≡ SHT_NOTE) → new_size r.read r.image k ≡ k.section.sh_size) (kept_sections r.image)
   pub originals : Each (IsOriginal r.read) (kept_sections r.image)
   pub numbers : (i : ℕ) (k : KeptSection) → slice_get (kept_sections r.read) i ≡ Some k → k.number ≡ i
+  pub complete : IsComplete r.read r.image

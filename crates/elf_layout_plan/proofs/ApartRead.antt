@@ -285,6 +285,7 @@ module _ (image read : Image) (edit : IsEditOf read image) (p : Parts) (rules : 
     keeps_size = keeps_size;
     originals = originals;
     numbers = numbers;
+    complete = edit.complete;
   }
 
 -- the image with its sizes, where the one that was read is known

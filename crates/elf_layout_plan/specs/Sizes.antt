@@ -1,5 +1,5 @@
 -- How large each section is to be.
-use Rattle.std.specs.Prelude.{ℕ, ◌+◌, ◌*◌, ◌/◌, ◌^◌, max, List, length, map, drop, count_by, sum_by, Bool, ◌&&◌, ◌||◌, not, Some, None, nat_le, nat_lt, ◌==◌, if◌then◌else◌, unwrap_or}
+use Rattle.std.specs.Prelude.{ℕ, ◌+◌, ◌*◌, ◌^◌, max, List, length, map, drop, count_by, sum_by, Bool, ◌&&◌, ◌||◌, not, Some, None, nat_le, nat_lt, ◌==◌, if◌then◌else◌, unwrap_or}
 use Rattle.std.specs.List.{list_all}
 use Rattle.patch_bytes.specs.Number.{word_size}
 use Rattle.patch_bytes.specs.Memory.{memory_of}
@@ -13,6 +13,7 @@ use Rattle.elf_format.specs.Records.{entry_size, symbol_size}
 use Rattle.elf_format.specs.Versions.{VersionDefinition, VersionNeeds}
 use Rattle.elf_format.specs.Views.{NamedSymbol}
 use Rattle.elf_tables.specs.Strings.{table_length}
+pub use Rattle.elf_hashes.specs.Found.{is_found}
 use Rattle.elf_image.specs.Kept.{KeptSection, interpreter_number, is_numbered, kept_sections}
 use Rattle.elf_layout_plan.specs.Needs.{written_entries, written_needs}
 use Rattle.elf_layout_plan.specs.Texts.{are_names_changed, is_table_copied, texts_in_use}
@@ -40,10 +41,6 @@ needs_size needs = sum_by (λ n. 16 + 16 * length n.versions) needs
 -- a gABI hash table has its two numbers, as many buckets as it had, and an entry for each symbol (gABI, Hash Table)
 abbrev pub gabi_table_size : Form → List ℕ → ℕ → ℕ
 gabi_table_size form content symbols = 4 * (2 + unwrap_or (word_of_table form (memory_of content) 0) 0 + symbols)
-
--- a look-up may find the symbol: it is defined, and not local (gABI, Symbol Table, st_shndx and st_info)
-abbrev pub is_found : NamedSymbol → Bool
-is_found y = not (y.st_shndx == 0) && not (y.st_info / 16 == 0)
 
 -- a GNU hash table has its four numbers, a filter and buckets as it had them, and a word for each symbol that can be found,
 -- the first symbol never being one

@@ -1,6 +1,6 @@
 -- The texts that an image uses of each of its string tables, and whether a table can be copied with its offsets (gABI, String
 -- Table).
-use Rattle.std.specs.Prelude.{ℕ, List, [], ◌∷◌, ◌++◌, map, Bool, true, false, not, ◌==◌, if◌then◌else◌}
+use Rattle.std.specs.Prelude.{ℕ, List, [], ◌∷◌, ◌++◌, map, Bool, true, false, ◌==◌, if◌then◌else◌}
 use Rattle.std.specs.List.{flat_map}
 use Rattle.std.specs.Str.{bytes_eq}
 use Rattle.elf_format.specs.declared.constants.TheConstants.{SHT_DYNAMIC, SHT_DYNSYM, SHT_GNU_VERDEF, SHT_GNU_VERNEED, SHT_SYMTAB}
@@ -8,8 +8,8 @@ use Rattle.elf_format.specs.Dynamic.{Auto, Entry, Integer, Text}
 use Rattle.elf_format.specs.Image.{Image}
 use Rattle.elf_format.specs.Options.{is_some_and, list_at}
 use Rattle.elf_format.specs.Versions.{VersionDefinition, VersionNeeds}
-use Rattle.elf_format.specs.Views.{NamedSymbol}
 use Rattle.elf_image.specs.Kept.{link_of_type}
+pub use Rattle.elf_image.specs.Names.{are_names_changed, are_same_texts, texts_of_symbols}
 use Rattle.elf_layout_plan.specs.Needs.{written_entries, written_needs}
 
 abbrev pub texts_of_entry : Entry → List (List ℕ)
@@ -19,9 +19,6 @@ texts_of_entry (Text tag text) = text ∷ []
 
 abbrev pub texts_of_entries : List Entry → List (List ℕ)
 texts_of_entries entries = flat_map texts_of_entry entries
-
-abbrev pub texts_of_symbols : List NamedSymbol → List (List ℕ)
-texts_of_symbols symbols = map (λ y. y.name) symbols
 
 abbrev pub texts_of_definitions : List VersionDefinition → List (List ℕ)
 texts_of_definitions definitions = flat_map (λ d. d.names) definitions
@@ -57,14 +54,3 @@ is_subsequence (t ∷ ts) (u ∷ us) = elim (bytes_eq t u) [ true ↦ is_subsequ
 -- A string table is copied where no text was added to those that were used at read, and none changed: perhaps some went.
 abbrev pub is_table_copied : Image → Image → ℕ → Bool
 is_table_copied read image number = is_subsequence (texts_in_use read image number) (texts_in_use read read number)
-
--- the texts are the same, one by one
-abbrev pub are_same_texts : List (List ℕ) → List (List ℕ) → Bool
-are_same_texts [] [] = true
-are_same_texts [] (u ∷ us) = false
-are_same_texts (t ∷ ts) [] = false
-are_same_texts (t ∷ ts) (u ∷ us) = elim (bytes_eq t u) [ true ↦ are_same_texts ts us | _ ↦ false ]
-
--- The names of the dynamic symbols, one by one, aren't those that were read: then hash tables are made anew.
-abbrev pub are_names_changed : Image → Image → Bool
-are_names_changed read image = not (are_same_texts (texts_of_symbols read.dynamic_symbols) (texts_of_symbols image.dynamic_symbols))

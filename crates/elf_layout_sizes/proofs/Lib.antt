@@ -1,5 +1,4 @@
 pub mod HashSteps
-pub mod NeedSteps
 pub mod SizeSteps
 pub mod SymbolSteps
 pub mod TextSteps

@@ -6,14 +6,12 @@ use Rattle.std.proofs.lemmas.List.{length-append}
 use Rattle.elf_format.specs.declared.constants.TheConstants.{SHT_DYNAMIC, SHT_DYNSYM, SHT_GNU_VERDEF, SHT_GNU_VERNEED, SHT_SYMTAB}
 use Rattle.elf_format.specs.Image.{Image}
 use Rattle.elf_format.specs.Options.{list_at}
-use Rattle.elf_format.specs.Views.{NamedSymbol}
-use Rattle.elf_image.specs.SymbolsRead.{HasSymbolsOf}
 use Rattle.elf_layout_plan.specs.Needs.{written_entries, written_needs}
-use Rattle.elf_layout_plan.specs.Texts.{if_linked, if_names, is_subsequence, is_table_copied, texts_in_use, texts_of_definitions, texts_of_entries, texts_of_needs, texts_of_symbols}
-use Rattle.elf_layout_plan.proofs.ForCallers.SameTexts.{subsequence_of_itself}
+use Rattle.elf_layout_plan.specs.Texts.{are_names_changed, if_linked, if_names, is_subsequence, is_table_copied, texts_in_use, texts_of_definitions, texts_of_entries, texts_of_needs, texts_of_symbols}
+use Rattle.elf_layout_plan.proofs.ForCallers.SameTexts.{names_kept, subsequence_of_itself}
 use Rattle.elf_layout_sizes.specs.declared.other_texts.Others.{Others}
 use Rattle.elf_layout_sizes.specs.Inner.{Edit, is_linked}
-use Rattle.elf_layout_sizes.specs.OtherTexts.{HasNamesOf, HaveSameCounts, count_of, others_in_use, with_names}
+use Rattle.elf_layout_sizes.specs.OtherTexts.{HasDynamicNamesOf, HasNamesOf, HaveSameCounts, count_of, others_in_use, with_names}
 use Rattle.elf_layout_sizes.proofs.TextSteps.{text_found, text_passed, too_few}
 
 -- more texts now, whatever names stand among both
@@ -122,14 +120,10 @@ copied_if_known e r number (Some t) now before is names own own_read says =
     ∙ ap (λ (o : Others). is_subsequence (with_names o ys zs) (with_names before ys zs)) own
     ∙ ap (λ (o : Others). is_subsequence (with_names (others_in_use e number) ys zs) (with_names o ys zs)) own_read)
 
--- names of symbols that stay, in a table that both link to or neither does
-pub names_stay : (read image : Image) (number : ℕ) → HasSymbolsOf read image → is_linked image SHT_DYNSYM number ≡ is_linked read SHT_DYNSYM number
-    → is_linked image SHT_SYMTAB number ≡ is_linked read SHT_SYMTAB number → HasNamesOf read image number
-names_stay read image number has dynamic static = record {
-  dynamic =
-      ap (λ (ys : List NamedSymbol). if_linked image SHT_DYNSYM number (texts_of_symbols ys)) has.dynamic_symbols
-      ∙ ap (λ (b : Bool). if b then texts_of_symbols read.dynamic_symbols else []) dynamic;
-  static =
-      ap (λ (ys : List NamedSymbol). if_linked image SHT_SYMTAB number (texts_of_symbols ys)) has.symbols
-      ∙ ap (λ (b : Bool). if b then texts_of_symbols read.symbols else []) static;
-}
+-- names of dynamic symbols that are those that were read, in a table to which they link now as at read
+pub dynamic_names : (read image : Image) (number : ℕ) → is_linked image SHT_DYNSYM number ≡ true → is_linked read SHT_DYNSYM number ≡ true
+    → are_names_changed read image ≡ false → HasDynamicNamesOf read image number
+dynamic_names read image number now before kept =
+    ap (λ (b : Bool). if b then texts_of_symbols image.dynamic_symbols else []) now
+    ∙ sym (names_kept read image kept)
+    ∙ sym (ap (λ (b : Bool). if b then texts_of_symbols read.dynamic_symbols else []) before)

@@ -1,24 +1,16 @@
 -- Walks over symbols, one by one.
-use Rattle.std.proofs.Common.{◌≡◌, ◌+◌, ℕ, List, [], ◌∷◌, ◌++◌, append_assoc, drop, take, sym, ap, ◌∙◌, refl, Option, Some, None, Bool, true, false, cond, arith}
-use Rattle.std.specs.Prelude.{◌==◌, ◌||◌, count_by, option_map, slice_get}
-use Rattle.std.proofs.lemmas.List.{drop_more, take_more}
-use Rattle.std.proofs.lemmas.List.Folds.{list_any-append}
+use Rattle.std.proofs.Common.{◌≡◌, ◌+◌, ℕ, List, [], ◌∷◌, ◌++◌, append_assoc, drop, sym, ap, ◌∙◌, refl, Option, Some, None, Bool, true, false, cond, arith}
+use Rattle.std.specs.Prelude.{count_by, option_map, slice_get}
+use Rattle.std.proofs.lemmas.List.{drop_more}
 use Rattle.std.proofs.lemmas.List.Sums.{sum_by-cons}
 use Rattle.std.proofs.lemmas.Option.{get_or_from_slice_get, none-some, same_Some, slice_get_within}
-use Rattle.elf_format.specs.Options.{is_some_and}
 use Rattle.elf_format.specs.Views.{NamedSymbol}
-use Rattle.elf_layout_plan.specs.Needs.{is_version_used}
 use Rattle.elf_layout_plan.specs.Texts.{texts_of_symbols}
 
 -- what is left from a position on begins with what stands there
 pub rest_at : {A : Type 0} → (xs : List A) (i : ℕ) (x : A) → slice_get xs i ≡ Some x → drop i xs ≡ x ∷ drop (i + 1) xs
 rest_at {A} xs i x at =
     drop_more xs i x (slice_get_within xs i x at) ∙ ap (λ (y : A). y ∷ drop (i + 1) xs) (get_or_from_slice_get xs i x x at)
-
--- one more of the first ends with what stands behind them
-pub front_at : {A : Type 0} → (xs : List A) (i : ℕ) (x : A) → slice_get xs i ≡ Some x → take (i + 1) xs ≡ take i xs ++ x ∷ []
-front_at {A} xs i x at =
-    take_more xs i x (slice_get_within xs i x at) ∙ ap (λ (y : A). take i xs ++ y ∷ []) (get_or_from_slice_get xs i x x at)
 
 -- a part of the symbol at a position is a part of a symbol that stands there
 pub with_part : {A B : Type 0} → (f : A → B) (o : Option A) (t : B) → option_map f o ≡ Some t → (x : A) × (o ≡ Some x) × (f x ≡ t)
@@ -63,15 +55,3 @@ counted_next test ys i y count next all at is one_more so_far = let here = count
 pub counted_on : (test : NamedSymbol → Bool) (ys : List NamedSymbol) (i : ℕ) (y : NamedSymbol) (count next all : ℕ) → slice_get ys i ≡ Some y → test y ≡ false
     → next ≡ count → count + count_by test (drop i ys) ≡ all → next + count_by test (drop (i + 1) ys) ≡ all
 counted_on test ys i y count next all at is same so_far = let here = counted_at test ys i y false at is in omega (arith, same, so_far, here)
-
-or_false : (b : Bool) → (b || false) ≡ b
-or_false true = refl
-or_false false = refl
-
--- the versions of one symbol more
-pub used_next : (ys : List NamedSymbol) (i : ℕ) (y : NamedSymbol) (index : ℕ) → slice_get ys i ≡ Some y
-    → is_version_used (take (i + 1) ys) index ≡ (is_version_used (take i ys) index || is_some_and (λ v. v.index == index) y.version)
-used_next ys i y index at =
-    ap (λ (l : List NamedSymbol). is_version_used l index) (front_at ys i y at)
-    ∙ list_any-append (λ (z : NamedSymbol). is_some_and (λ v. v.index == index) z.version) (take i ys) (y ∷ [])
-    ∙ ap (λ (b : Bool). is_version_used (take i ys) index || b) (or_false (is_some_and (λ v. v.index == index) y.version))

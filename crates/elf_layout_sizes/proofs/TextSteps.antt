@@ -1,23 +1,10 @@
 -- Steps of walks over texts.
-use Rattle.std.proofs.Common.{◌≡◌, ◌≢◌, ℕ, suc, ◌-◌, length-drop, eq-eqb, inl, inr, ◌+◌, ◌<◌, ◌≤◌, ◌∙◌, List, [], ◌∷◌, ◌++◌, append_assoc, Bool, true, false, length, drop, get_or, refl, sym, ap, arith}
+use Rattle.std.proofs.Common.{◌≡◌, ℕ, ◌-◌, length-drop, eq-eqb, inl, inr, ◌+◌, ◌<◌, ◌≤◌, ◌∙◌, List, [], ◌∷◌, ◌++◌, append_assoc, Bool, true, false, length, drop, get_or, refl, sym, ap, arith}
 use Rattle.std.proofs.lemmas.List.{drop_more, drop_all}
 use Rattle.std.proofs.lemmas.Bool.{cases_lt, ne_eqb}
 use Rattle.std.specs.Str.{bytes_eq}
 use Rattle.std.specs.Prelude.{nat_eq}
-use Rattle.elf_layout_plan.specs.Texts.{are_same_texts, is_subsequence}
-
-by_test : (b : Bool) (ts us : List (List ℕ)) → are_same_texts ts us ≡ false → (elim b as (λ _. Bool) [ true ↦ are_same_texts ts us | _ ↦ false ]) ≡ false
-by_test true ts us differ = differ
-by_test false ts us differ = refl
-
--- lists of different lengths don't hold the same texts
-pub lengths_differ : (ts us : List (List ℕ)) → length ts ≢ length us → are_same_texts ts us ≡ false
-lengths_differ [] [] differ = absurd (differ refl)
-lengths_differ [] (u ∷ us) differ = refl
-lengths_differ (t ∷ ts) [] differ = refl
-lengths_differ (t ∷ ts) (u ∷ us) differ =
-    let shorter : length ts ≢ length us = λ same. differ (ap (λ n. suc n) same) in
-    by_test (bytes_eq t u) ts us (lengths_differ ts us shorter)
+use Rattle.elf_layout_plan.specs.Texts.{is_subsequence}
 
 -- nothing is left of no texts
 pub none_left : (ts : List (List ℕ)) → length ts ≡ 0 → is_subsequence ts [] ≡ true

@@ -1,58 +1,25 @@
 -- What the steps towards the new sizes hand to each other.
-use Rattle.std.specs.Prelude.{ℕ, ◌*◌, ◌^◌, [], ◌∷◌, List, map, filter, length, Bool, false, true, ◌&&◌, ◌||◌, not, Some, None, nat_le, nat_lt, ◌==◌, slice_index_or, if◌then◌else◌}
+use Rattle.std.specs.Prelude.{ℕ, ◌*◌, ◌^◌, [], ◌∷◌, List, length, Bool, true, ◌&&◌, ◌||◌, not, Some, None, nat_le, nat_lt, ◌==◌, if◌then◌else◌}
 use Rattle.patch_bytes.specs.declared.number.Wide.{Wide}
 use Rattle.patch_bytes.specs.Memory.{memory_of}
-use Rattle.elf_format.specs.declared.constants.TheConstants.{DT_VERNEED, DT_VERNEEDNUM, SHT_DYNAMIC, SHT_DYNSYM, SHT_GNU_HASH, SHT_GNU_VERDEF, SHT_GNU_VERNEED, SHT_GNU_VERSYM, SHT_HASH, SHT_STRTAB, SHT_SYMTAB}
-use Rattle.elf_format.specs.Dynamic.{Entry}
-use Rattle.elf_format.specs.Image.{Image, ImageSection, entry_tag}
+use Rattle.elf_format.specs.declared.constants.TheConstants.{SHT_DYNAMIC, SHT_DYNSYM, SHT_GNU_HASH, SHT_GNU_VERDEF, SHT_GNU_VERNEED, SHT_GNU_VERSYM, SHT_HASH, SHT_STRTAB, SHT_SYMTAB}
+use Rattle.elf_format.specs.Image.{Image, ImageSection}
 use Rattle.elf_format.specs.declared.form.Form.{Form}
 use Rattle.elf_format.specs.Form.{by_class}
 use Rattle.elf_format.specs.Hashes.{gnu_header}
-use Rattle.elf_format.specs.Options.{is_one_of, is_some_and}
+use Rattle.elf_format.specs.Options.{is_some_and}
 use Rattle.elf_format.specs.Records.{symbol_size}
 use Rattle.elf_format.specs.Views.{NamedSymbol}
 use Rattle.elf_tables.specs.Strings.{table_length}
 use Rattle.elf_image.specs.Kept.{interpreter_number, link_of_type}
 use Rattle.elf_layout_plan.specs.Sizes.{definitions_size, dynamic_size, gnu_table_size, hash_size, interpreter_size, needs_size}
 use Rattle.elf_layout_plan.specs.Texts.{is_table_copied, texts_in_use}
-use Rattle.elf_format.specs.Versions.{VersionName, VersionNeeds}
-use Rattle.elf_layout_plan.specs.Needs.{is_empty, written_needs}
+use Rattle.elf_layout_plan.specs.Needs.{written_needs}
 
 -- An edited image, and the one that was read from the same bytes.
 pub record Edit : Type 0 where
   pub read : Image
   pub image : Image
-
--- ## Needed versions
-
--- the mark of a version's index; none past the marks
-abbrev pub mark_of : List Bool → ℕ → Bool
-mark_of marks index = slice_index_or marks index false
-
--- the versions that stay where the marked ones go
-abbrev pub unmarked_names : List Bool → List VersionName → List VersionName
-unmarked_names marks names = filter (λ v. not (mark_of marks v.index)) names
-
--- a library's record goes with the last of its versions
-abbrev pub is_unmarked : List Bool → VersionNeeds → Bool
-is_unmarked marks n = is_empty n.versions || not (is_empty (unmarked_names marks n.versions))
-
-abbrev pub with_unmarked_names : List Bool → VersionNeeds → VersionNeeds
-with_unmarked_names marks n = record n { versions = unmarked_names marks n.versions }
-
--- the records that stay, with the versions of each that do
-abbrev pub unmarked_needs : List Bool → List VersionNeeds → List VersionNeeds
-unmarked_needs marks needs = map (with_unmarked_names marks) (filter (is_unmarked marks) needs)
-
--- ## The dynamic list
-
--- the entry is of needed versions
-abbrev pub is_of_needs : Entry → Bool
-is_of_needs e = is_one_of (DT_VERNEED ∷ DT_VERNEEDNUM ∷ []) (entry_tag e)
-
--- the entries that stay, where those of needed versions may go
-abbrev pub staying_entries : Bool → List Entry → List Entry
-staying_entries without entries = filter (λ e. not (without && is_of_needs e)) entries
 
 -- ## String tables
 

@@ -1,8 +1,7 @@
 -- What is known of a string table before the sizes are computed.
 use Rattle.std.specs.Prelude.{ℕ, ◌≡◌, Some, IsTrue, MatchOption}
-use Rattle.elf_format.specs.declared.constants.TheConstants.{SHT_DYNAMIC}
 use Rattle.elf_format.specs.Image.{Image}
-use Rattle.elf_image.specs.Kept.{link_of_type}
+use Rattle.elf_image.specs.Kept.{dynamic_strings_number}
 use Rattle.elf_layout_plan.specs.Texts.{is_table_copied}
 use Rattle.elf_layout_sizes.specs.MadeTables.{IsMade}
 use Rattle.elf_layout_sizes.specs.declared.known.Known.{Known}
@@ -12,7 +11,7 @@ pub record IsKnownTable (read image : Image) (number : ℕ) (known : Known) : Ty
   pub numbered : known.number ≡ number
   pub table : MatchOption known.made (IsTrue (is_table_copied read image number)) (IsMade read image number)
 
--- the same, of the string table of the dynamic list
+-- the same, of the dynamic strings
 pub record IsKnown (read image : Image) (known : Known) : Type 0 where
-  pub linked : link_of_type SHT_DYNAMIC image ≡ Some known.number
+  pub linked : dynamic_strings_number image ≡ Some known.number
   pub table : MatchOption known.made (IsTrue (is_table_copied read image known.number)) (IsMade read image known.number)

@@ -1,9 +1,8 @@
 -- String tables that are made anew (gABI, String Table).
 use Rattle.std.specs.Prelude.{ℕ, ◌≡◌, ◌≤◌, ◌<◌, ◌^◌, false, Some}
-use Rattle.elf_format.specs.declared.constants.TheConstants.{SHT_DYNAMIC}
 use Rattle.elf_format.specs.Image.{Image}
 use Rattle.elf_tables.specs.Strings.{IsTableOf, PlacesStand, Strings, table_length}
-use Rattle.elf_image.specs.Kept.{link_of_type}
+use Rattle.elf_image.specs.Kept.{dynamic_strings_number}
 use Rattle.elf_layout_plan.specs.Texts.{is_table_copied, texts_in_use}
 
 -- The table that had that number isn't copied, and this one holds the texts that the image uses of it.
@@ -19,8 +18,8 @@ pub record IsTooLong (read image : Image) (number : ℕ) : Type 0 where
   pub anew : is_table_copied read image number ≡ false
   pub long : 2 ^ 32 < table_length (texts_in_use read image number)
 
--- The string table of an image's dynamic list isn't copied, and this one holds the texts that the image uses of it.
-pub record IsMadeOfList (read image : Image) (table : Strings) : Type 0 where
+-- The table of an image's dynamic strings isn't copied, and this one holds the texts that the image uses of it.
+pub record IsMadeOfDynamic (read image : Image) (table : Strings) : Type 0 where
   pub number : ℕ
-  pub linked : link_of_type SHT_DYNAMIC image ≡ Some number
+  pub linked : dynamic_strings_number image ≡ Some number
   pub made : IsMade read image number table

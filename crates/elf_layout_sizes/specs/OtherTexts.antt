@@ -30,7 +30,15 @@ pub record HaveSameCounts (now read : Others) : Type 0 where
   pub versions : length now.versions ≡ length read.versions
   pub sections : length now.sections ≡ length read.sections
 
--- the names of symbols that stand in the string table with that number are those that stood there at read
+-- the names of dynamic symbols that stand in the string table with that number are those that stood there at read
+abbrev pub HasDynamicNamesOf : Image → Image → ℕ → Type 0
+HasDynamicNamesOf read image number = if_linked image SHT_DYNSYM number (texts_of_symbols image.dynamic_symbols) ≡ if_linked read SHT_DYNSYM number (texts_of_symbols read.dynamic_symbols)
+
+-- the same of the symbols for a link editor
+abbrev pub HasStaticNamesOf : Image → Image → ℕ → Type 0
+HasStaticNamesOf read image number = if_linked image SHT_SYMTAB number (texts_of_symbols image.symbols) ≡ if_linked read SHT_SYMTAB number (texts_of_symbols read.symbols)
+
+-- and of both
 pub record HasNamesOf (read image : Image) (number : ℕ) : Type 0 where
-  pub dynamic : if_linked image SHT_DYNSYM number (texts_of_symbols image.dynamic_symbols) ≡ if_linked read SHT_DYNSYM number (texts_of_symbols read.dynamic_symbols)
-  pub static : if_linked image SHT_SYMTAB number (texts_of_symbols image.symbols) ≡ if_linked read SHT_SYMTAB number (texts_of_symbols read.symbols)
+  pub dynamic : HasDynamicNamesOf read image number
+  pub static : HasStaticNamesOf read image number

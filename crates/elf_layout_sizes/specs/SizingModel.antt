@@ -1,7 +1,6 @@
 -- What is computed once of an edited image, seen as that image.
 use Rattle.std.specs.Prelude.{◌≡◌, IfSome}
 use Rattle.elf_image.specs.Kept.{interpreter_number}
-use Rattle.elf_layout_plan.specs.Texts.{are_names_changed}
 use Rattle.elf_layout_sizes.specs.declared.kinds.Sizing.TheInside.{Inside}
 use Rattle.elf_layout_sizes.specs.Inner.{Edit}
 use Rattle.elf_layout_sizes.specs.KnownTables.{IsKnown}
@@ -12,6 +11,5 @@ sizing_model s = s.users
 -- what is kept beside the users of texts is the image's
 pub record IsSizing (s : Inside) : Type 0 where
   pub read_users : s.read_users ≡ record { read = s.users.read; image = s.users.read }
-  pub names : s.are_names_changed ≡ are_names_changed s.users.read s.users.image
   pub interpreter : s.interpreter ≡ interpreter_number s.users.read
   pub strings : IfSome s.strings (IsKnown s.users.read s.users.image)

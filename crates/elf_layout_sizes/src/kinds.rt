@@ -1,12 +1,11 @@
 //! How large a section is to be, by its kind.
 ghost use Rattle.std.specs.Prelude.{◌≡◌, ℕ, ◌<◌, ◌^◌, false, true, Some, MatchResult, SomeIff};
 ghost use Rattle.elf_image.specs.ImageModel.{section_model};
-ghost use Rattle.elf_layout_plan.specs.Texts.{are_names_changed as have_names_changed};
 ghost use Rattle.elf_layout_sizes.specs.Inner.{fits_class};
 ghost use Rattle.elf_tables.specs.declared.fault.TableFault.TheVariants.{NumberTooLarge};
 
 use crate::known::{Known, known_strings};
-use crate::strings::{have_same_names, made_for};
+use crate::strings::made_for;
 use crate::tables::{gabi_size, gnu_size};
 use crate::users::Users;
 use crate::versions::{definitions_size, grown};
@@ -20,17 +19,6 @@ use elf_tables::{Finished, TableFault};
 use patch_bytes::Wide;
 use std::alloc::{AllocError, Global};
 use std::marker::Model;
-
-// The names of the dynamic symbols, one by one, aren't those that were read.
-fn are_names_changed(users: &Users<'_, '_>) -> bool
-    ensures { result ≡ have_names_changed users.now.read users.now.image }
-{
-    if users.keeps_symbols() {
-        return false;
-    }
-    let (read, image) = (users.read(), users.image());
-    !have_same_names(read.dynamic_symbols(), image.dynamic_symbols())
-}
 
 // A size that fits its field (gABI, Data Representation). `NumberTooLarge` where it doesn't.
 fn fitted(wide: Wide, size: Option<u64>) -> Result<u64, TableFault>
@@ -52,7 +40,6 @@ fn fitted(wide: Wide, size: Option<u64>) -> Result<u64, TableFault>
 pub(crate) struct Sizing<'a, 'data> {
     users: Users<'a, 'data>,
     read_users: Users<'a, 'data>,
-    are_names_changed: bool,
     interpreter: Option<usize>,
     strings: Option<Known<'a>>,
 }
@@ -70,40 +57,37 @@ impl<'a, 'data> Model for Sizing<'a, 'data> {
 
 impl<'a, 'data> Sizing<'a, 'data> {
     ghost use Rattle.std.specs.Prelude.{◌≡◌, ◌==◌, ◌<◌, ◌*◌, ◌^◌, ◌||◌, false, true, nat_le, IfOk, IfSome, IsTrue, MatchResult, SomeIff};
-    ghost use Rattle.elf_image.specs.SymbolsRead.{HasSymbolsOf};
+    ghost use Rattle.elf_image.specs.Kept.{image_at_read};
     ghost use Rattle.elf_format.specs.Records.{symbol_size};
     ghost use Rattle.elf_layout_plan.specs.Sizes.{hash_size, interpreter_size};
     ghost use Rattle.elf_layout_plan.specs.Texts.{is_table_copied};
-    ghost use Rattle.elf_layout_sizes.specs.MadeTables.{IsMadeOfList};
+    ghost use Rattle.elf_layout_sizes.specs.MadeTables.{IsMadeOfDynamic};
     ghost use Rattle.elf_layout_sizes.specs.Inner.{do_all_fit, do_strings_fit, does_size_fit, lists_size, size_by, sizes_by, strings_length};
 
-    // What is computed once of an edited image, whose symbols may be known to be those that were read.
+    // What is computed once of an edited image.
     pub(crate) fn new(
         alloc: Global,
         read: &'a Builder<'data>,
         image: &'a Builder<'data>,
-        keeps_symbols: bool,
     ) -> Result<Self, AllocError>
-        requires { IsTrue keeps_symbols → HasSymbolsOf read.now image.now }
+        requires { read.now ≡ image_at_read image.now }
         ensures { IfOk result (λ sizing. sizing
             ≡ record { read = read.entry.now; image = image.entry.now }) }
     {
-        let users = Users::new(alloc, read, image, keeps_symbols)?;
-        let read_users = Users::new(alloc, read, read, false)?;
+        let users = Users::new(alloc, read, image)?;
+        let read_users = Users::of_read(alloc, read);
         let strings = known_strings(alloc, &users, &read_users)?;
-        let are_names_changed = are_names_changed(&users);
         Ok(Sizing {
             users,
             read_users,
-            are_names_changed,
             interpreter: read.interpreter_number(),
             strings,
         })
     }
 
-    // The string table of the dynamic list, where it was made anew.
+    // The table of the dynamic strings, where it was made anew.
     pub(crate) fn into_strings(self) -> Option<Finished<'a>>
-        ensures { IfSome result (IsMadeOfList self.entry.read self.entry.image) }
+        ensures { IfSome result (IsMadeOfDynamic self.entry.read self.entry.image) }
     {
         let strings = self.strings;
         match strings {
@@ -112,8 +96,8 @@ impl<'a, 'data> Sizing<'a, 'data> {
         }
     }
 
-    // The size of the string table that had that number and this size at read, where it is that of the dynamic list
-    // and known.
+    // The size of the string table that had that number and this size at read, where it is that of the dynamic
+    // strings and known.
     fn known_size(&self, number: usize, old: u64) -> Option<u64>
         ensures { let size = strings_length self.now.read self.now.image number old in
             IfSome result (λ length. (length ≡ size)
@@ -159,7 +143,7 @@ impl<'a, 'data> Sizing<'a, 'data> {
             SomeIff result (size < 2 ^ 64) size }
     {
         let old = section.sh_size;
-        if !self.are_names_changed {
+        if !self.users.are_names_changed() {
             return Some(old);
         }
         let symbols = self.users.image().dynamic_symbols();

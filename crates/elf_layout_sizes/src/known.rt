@@ -1,4 +1,4 @@
-//! The string table of the dynamic list, which is made once, for its size and for its bytes.
+//! The dynamic strings, whose table is made once, for its size and for its bytes.
 ghost use Rattle.std.specs.Prelude.{◌≡◌, IfOk, IfSome, MatchOption, length};
 ghost use Rattle.elf_layout_sizes.specs.KnownTables.{IsKnown, IsKnownTable};
 
@@ -45,7 +45,7 @@ fn known_table<'a, 'data>(
     }
 }
 
-// The string table of the dynamic list; `None` where there is no list, or the table is too long.
+// The table of the dynamic strings; `None` where there are none, or the table is too long.
 pub(crate) fn known_strings<'a, 'data>(
     alloc: Global,
     users: &Users<'a, 'data>,
@@ -54,7 +54,7 @@ pub(crate) fn known_strings<'a, 'data>(
     requires { read_users.now ≡ record { read = users.now.read; image = users.now.read } }
     ensures { IfOk result (λ known. IfSome known (IsKnown users.now.read users.now.image)) }
 {
-    match users.list_link() {
+    match users.strings_link() {
         Some(number) => known_table(alloc, users, read_users, number),
         None => Ok(None),
     }

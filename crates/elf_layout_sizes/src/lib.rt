@@ -3,6 +3,7 @@
 
 mod kinds;
 mod known;
+mod links;
 mod other_texts;
 mod sizes;
 mod strings;
@@ -11,5 +12,6 @@ mod texts;
 mod users;
 mod versions;
 
+pub use crate::links::dynamic_strings_number;
 pub use crate::sizes::{NewSizes, new_sizes_of, new_sizes_with_strings, sizes_of};
 pub use crate::strings::made_table;

@@ -1,9 +1,8 @@
 ghost use Rattle.std.specs.Prelude.{◌≡◌, IfErr, IfOk, IfSome, IsTrue, MatchResult, OnOk, false, true};
-ghost use Rattle.elf_image.specs.SymbolsRead.{HasSymbolsOf};
 ghost use Rattle.elf_image.specs.Kept.{image_at_read};
 ghost use Rattle.elf_layout_plan.specs.Refusals.{AreNoSizes, do_sizes_of_image_fit, sizes_of_image};
 ghost use Rattle.elf_layout_plan.specs.Sizes.{do_sizes_fit, new_sizes};
-ghost use Rattle.elf_layout_sizes.specs.MadeTables.{IsMadeOfList};
+ghost use Rattle.elf_layout_sizes.specs.MadeTables.{IsMadeOfDynamic};
 ghost use Rattle.elf_tables.specs.declared.fault.TableFault.TheVariants.{NumberTooLarge};
 
 use crate::kinds::Sizing;
@@ -23,21 +22,11 @@ pub fn sizes_of(alloc: Global, image: &Builder<'_>) -> Result<Vec<u64>, LayoutFa
     new_sizes_of(alloc, &read, image)
 }
 
-/// The new sizes of the sections, and the string table of the dynamic list, where it is made anew and was made for them.
+/// The new sizes of the sections, and the table of the dynamic strings, where it is made anew and was made for them.
 #[derive(Drop)]
 pub struct NewSizes<'t> {
     pub sizes: Vec<u64>,
     pub strings: Option<Finished<'t>>,
-}
-
-// Whether the symbols of an image are known to be those of the image that was read.
-fn keeps_symbols(read: &Builder<'_>, image: &Builder<'_>) -> bool
-    requires { read.now ≡ image_at_read image.now }
-    ensures { IsTrue result → HasSymbolsOf read.now image.now }
-{
-    // the image was read from its source
-    let _source = image.source();
-    image.keeps_symbols()
 }
 
 // The new sizes and the string table, with the fault of a table.
@@ -53,9 +42,9 @@ fn gathered<'a, 'data>(
         (λ fault. fault ≡ NumberTooLarge
         → do_sizes_fit read.entry.now image.entry.now ≡ false) }
     ensures strings { IfOk result (λ new.
-        IfSome new.strings (IsMadeOfList read.entry.now image.entry.now)) }
+        IfSome new.strings (IsMadeOfDynamic read.entry.now image.entry.now)) }
 {
-    let sizing = Sizing::new(alloc, read, image, keeps_symbols(read, image))?;
+    let sizing = Sizing::new(alloc, read, image)?;
     let sizes = sizing.sizes(alloc)?;
     Ok(NewSizes {
         sizes,
@@ -63,7 +52,7 @@ fn gathered<'a, 'data>(
     })
 }
 
-/// The new sizes, as `sizes_of` tells them, with the string table of the dynamic list where it was made anew for them, for
+/// The new sizes, as `sizes_of` tells them, with the table of the dynamic strings where it was made anew for them, for
 /// a caller that has the image as its source was read.
 pub fn new_sizes_with_strings<'a, 'data>(
     alloc: Global,
@@ -73,7 +62,7 @@ pub fn new_sizes_with_strings<'a, 'data>(
     requires { read.now ≡ image_at_read image.now }
     ensures sizes { IfOk result (λ new. new.sizes.items ≡ sizes_of_image image.entry.now) }
     ensures strings { IfOk result (λ new.
-        IfSome new.strings (IsMadeOfList read.entry.now image.entry.now)) }
+        IfSome new.strings (IsMadeOfDynamic read.entry.now image.entry.now)) }
     ensures fit { OnOk result (IsTrue (do_sizes_of_image_fit image.entry.now)) }
     ensures fault { IfErr result (AreNoSizes image.entry.now) }
 {

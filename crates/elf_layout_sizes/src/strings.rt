@@ -2,12 +2,13 @@
 ghost use Rattle.std.specs.Prelude.{◌≡◌, ℕ, ◌≤◌, ◌<◌, ◌^◌, List, ◌∷◌, drop, length, IfErr, IfOk, IsTrue, MatchOption, MatchResult};
 ghost use Rattle.elf_tables.specs.declared.fault.TableFault.TheVariants.{NumberTooLarge};
 ghost use Rattle.elf_tables.specs.Strings.{HoldNoNul, IsTableOf, PlacesStand, table_length};
-ghost use Rattle.elf_layout_plan.specs.Texts.{are_same_texts, is_subsequence as is_subsequence_of, is_table_copied, texts_in_use, texts_of_symbols};
+ghost use Rattle.elf_image.specs.Kept.{image_at_read};
+ghost use Rattle.elf_layout_plan.specs.Texts.{is_subsequence as is_subsequence_of, is_table_copied, texts_in_use};
 ghost use Rattle.elf_layout_sizes.specs.MadeTables.{IsMade, IsTooLong};
 
 use crate::texts::Texts;
 use crate::users::Users;
-use elf_image::{Builder, Symbols};
+use elf_image::Builder;
 use elf_tables::{Finished, TableFault};
 use std::alloc::{AllocError, Global};
 
@@ -41,21 +42,6 @@ pub(crate) fn is_subsequence(some: &Texts<'_>, all: &Texts<'_>) -> bool
         next = next_after(some, next, all.text(i));
     }
     next == some.len()
-}
-
-// Whether the symbols have the same names, one by one.
-pub(crate) fn have_same_names(left: &Symbols<'_>, right: &Symbols<'_>) -> bool
-    ensures { result ≡ are_same_texts (texts_of_symbols left.now) (texts_of_symbols right.now) }
-{
-    if left.len() != right.len() {
-        return false;
-    }
-    for i in 0..left.len() {
-        if left.name(i) != right.name(i) {
-            return false;
-        }
-    }
-    true
 }
 
 // Whether the texts are those that an image uses of the string table with that number, with some left out.
@@ -101,20 +87,21 @@ pub(crate) fn made_for<'a, 'data>(
 
 /// The string table with that number at read, with the texts that the edited image uses of it (gABI, String Table); `None`
 /// where the table that was read is copied. `NumberTooLarge` where it has more than 2 to the 32 bytes, so that the last of
-/// its texts has an offset past 32 bits.
+/// its texts has an offset past 32 bits. The caller has the image as its source was read.
 pub fn made_table<'a, 'data>(
     alloc: Global,
     read: &'a Builder<'data>,
     image: &'a Builder<'data>,
     number: usize,
 ) -> Result<Option<Finished<'a>>, TableFault>
+    requires { read.now ≡ image_at_read image.now }
     ensures table { IfOk result (λ made. MatchOption made
         (IsTrue (is_table_copied read.entry.now image.entry.now number))
         (IsMade read.entry.now image.entry.now number)) }
     ensures fault { IfErr result (λ fault.
         fault ≡ NumberTooLarge → IsTooLong read.entry.now image.entry.now number) }
 {
-    let users = Users::new(alloc, read, image, false)?;
-    let read_users = Users::new(alloc, read, read, false)?;
+    let users = Users::new(alloc, read, image)?;
+    let read_users = Users::of_read(alloc, read);
     made_for(alloc, &users, &read_users, number)
 }

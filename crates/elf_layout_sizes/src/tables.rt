@@ -4,12 +4,13 @@ ghost use Rattle.patch_bytes.specs.Memory.{memory_of};
 ghost use Rattle.patch_bytes.specs.Number.{word_size};
 ghost use Rattle.elf_format.specs.Hashes.{gnu_header, word_of_table};
 ghost use Rattle.elf_image.specs.ImageModel.{symbol_model};
+ghost use Rattle.elf_image_symbol_edits.specs.Loan.{symbols_now};
 ghost use Rattle.elf_layout_plan.specs.Sizes.{gabi_table_size, is_found as is_found_symbol};
 ghost use Rattle.elf_layout_sizes.specs.Inner.{gnu_size_with as size_of_gnu};
 
 use crate::versions::grown;
 use elf_format::numbers::word_at;
-use elf_image::{Form, Symbol, Symbols};
+use elf_image::{Form, Symbol, SymbolsNow};
 use patch_bytes::Wide;
 
 // The number of buckets that a gABI hash table had, 0 where it isn't there (gABI, Hash Table).
@@ -64,8 +65,8 @@ fn is_found(symbol: &Symbol<'_>) -> bool
 }
 
 // How many symbols a look-up may find, without the first, which is never one.
-fn count_found(symbols: &Symbols<'_>) -> usize
-    ensures { result ≡ count_by is_found_symbol (drop 1 symbols.now) }
+fn count_found(symbols: SymbolsNow<'_>) -> usize
+    ensures { result ≡ count_by is_found_symbol (drop 1 (symbols_now symbols.entry)) }
 {
     let mut count = 0;
     for i in 1..symbols.len() {
@@ -78,8 +79,8 @@ fn count_found(symbols: &Symbols<'_>) -> usize
 
 // The size of a GNU hash table of these symbols; as it was where its four numbers aren't there. `None` where it is past
 // 64 bits.
-pub(crate) fn gnu_size(form: Form, content: &[u8], old: u64, symbols: &Symbols<'_>) -> Option<u64>
-    ensures { let size = size_of_gnu form content.now old symbols.now in
+pub(crate) fn gnu_size(form: Form, content: &[u8], old: u64, symbols: SymbolsNow<'_>) -> Option<u64>
+    ensures { let size = size_of_gnu form content.now old (symbols_now symbols.entry) in
         SomeIff result (size < 2 ^ 64) size }
 {
     match gnu_front(form, content) {

@@ -1,6 +1,6 @@
 //! The texts that stand in a string table, as they are gathered.
-use crate::versions::{does_need_stay, is_marked, is_of_needs};
-use elf_image::{Dynamic, Section, Symbols, VersionDef, VersionNeed, VersionNeedName};
+use elf_image::{Dynamic, Section, SymbolsNow, VersionDef, VersionNeed, VersionNeedName};
+use elf_layout_needs::StayingNeeds;
 use elf_tables::{Finished, StringTable, TableFault};
 use patch_bytes::ByteString;
 use std::alloc::{AllocError, Global};
@@ -27,7 +27,8 @@ impl<'t> Texts<'t> {
     ghost use Rattle.patch_bytes.specs.ByteString.{bytes_of_each};
     ghost use Rattle.elf_image.specs.ImageModel.{definition_model, entry_model, name_model, needs_model, section_model};
     ghost use Rattle.elf_layout_plan.specs.Texts.{texts_of_definitions, texts_of_entries, texts_of_entry, texts_of_needs, texts_of_symbols};
-    ghost use Rattle.elf_layout_sizes.specs.Inner.{staying_entries, unmarked_names, unmarked_needs, with_unmarked_names};
+    ghost use Rattle.elf_image_symbol_edits.specs.Loan.{symbols_now};
+    ghost use Rattle.elf_layout_needs.specs.Staying.{staying_entries, unmarked_names, unmarked_needs, with_unmarked_names};
 
     // No text. Takes no memory.
     pub(crate) fn new(alloc: Global) -> Self
@@ -72,8 +73,8 @@ impl<'t> Texts<'t> {
     }
 
     // Adds the names of symbols.
-    pub(crate) fn push_symbols(&mut self, symbols: &'t Symbols<'_>) -> Result<(), AllocError>
-        ensures { OnOk result (self.new ≡ self.old ++ texts_of_symbols symbols.entry.now) }
+    pub(crate) fn push_symbols(&mut self, symbols: SymbolsNow<'t>) -> Result<(), AllocError>
+        ensures { OnOk result (self.new ≡ self.old ++ texts_of_symbols (symbols_now symbols.entry)) }
     {
         self.list.reserve(symbols.len())?;
         for i in 0..symbols.len() {
@@ -107,13 +108,13 @@ impl<'t> Texts<'t> {
     pub(crate) fn push_entries(
         &mut self,
         entries: &'t [Dynamic<'_>],
-        without_needs: bool,
+        staying: &StayingNeeds,
     ) -> Result<(), AllocError>
         ensures { OnOk result (self.new ≡ self.old ++ texts_of_entries
-            (staying_entries without_needs (map entry_model entries.entry.now))) }
+            (staying_entries staying.now.are_gone (map entry_model entries.entry.now))) }
     {
         for entry in entries {
-            if !(without_needs && is_of_needs(entry)) {
+            if staying.does_entry_stay(entry) {
                 self.push_entry(entry)?;
             }
         }
@@ -148,13 +149,14 @@ impl<'t> Texts<'t> {
     fn push_names(
         &mut self,
         names: &'t [VersionNeedName<'_>],
-        marks: &[bool],
+        staying: &StayingNeeds,
     ) -> Result<(), AllocError>
         ensures { OnOk result (self.new ≡ self.old
-            ++ map (λ v. v.name) (unmarked_names marks.now (map name_model names.entry.now))) }
+            ++ map (λ v. v.name)
+            (unmarked_names staying.now.marks (map name_model names.entry.now))) }
     {
         for name in names {
-            if !is_marked(marks, name.index) {
+            if staying.does_version_stay(name.index) {
                 self.push(name.name.as_slice())?;
             }
         }
@@ -162,26 +164,30 @@ impl<'t> Texts<'t> {
     }
 
     // Adds the texts of a library's record that stays.
-    fn push_need(&mut self, need: &'t VersionNeed<'_>, marks: &[bool]) -> Result<(), AllocError>
+    fn push_need(
+        &mut self,
+        need: &'t VersionNeed<'_>,
+        staying: &StayingNeeds,
+    ) -> Result<(), AllocError>
         ensures { OnOk result (self.new ≡ self.old ++ texts_of_needs
-            (with_unmarked_names marks.now (needs_model need.entry.now) ∷ [])) }
+            (with_unmarked_names staying.now.marks (needs_model need.entry.now) ∷ [])) }
     {
         self.push(need.file.as_slice())?;
-        self.push_names(need.versions.as_slice(), marks)
+        self.push_names(need.versions.as_slice(), staying)
     }
 
     // Adds the texts of needed versions that stay.
     pub(crate) fn push_needs(
         &mut self,
         needs: &'t [VersionNeed<'_>],
-        marks: &[bool],
+        staying: &StayingNeeds,
     ) -> Result<(), AllocError>
         ensures { OnOk result (self.new ≡ self.old ++ texts_of_needs
-            (unmarked_needs marks.now (map needs_model needs.entry.now))) }
+            (unmarked_needs staying.now.marks (map needs_model needs.entry.now))) }
     {
         for need in needs {
-            if does_need_stay(need, marks) {
-                self.push_need(need, marks)?;
+            if staying.does_need_stay(need) {
+                self.push_need(need, staying)?;
             }
         }
         Ok(())

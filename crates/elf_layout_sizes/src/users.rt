@@ -1,103 +1,14 @@
 //! Who uses the texts of string tables, and which texts.
-ghost use Rattle.std.specs.Prelude.{◌≡◌, ◌&&◌, IfOk, not, ◌==◌, map};
-ghost use Rattle.elf_format.specs.Options.{is_some_and};
-ghost use Rattle.elf_image.specs.Kept.{link_of_type as link_of_kind};
-ghost use Rattle.elf_layout_plan.specs.Needs.{is_empty, lists_needs as name_needs, written_needs};
-ghost use Rattle.elf_layout_sizes.specs.Inner.{unmarked_needs};
-ghost use Rattle.elf_layout_sizes.specs.Seen.{AreLinks};
-ghost use Rattle.elf_format.specs.Image.{lists_tag as is_tag_listed};
-ghost use Rattle.elf_image.specs.ImageModel.{entry_model, section_model};
-
+use crate::links::{Links, links_of};
 use crate::other_texts::{Others, is_known_copied};
 use crate::texts::Texts;
-use crate::versions::{are_needs_gone, count_staying, dropped_marks, grown, needs_size};
-use elf_image::constants::{
-    DT_SYMTAB, DT_VERNEED, DT_VERNEEDNUM, DT_VERSYM, SHT_DYNAMIC, SHT_DYNSYM, SHT_GNU_VERDEF,
-    SHT_GNU_VERNEED, SHT_SYMTAB,
-};
-use elf_image::{Builder, Dynamic, Section};
+use crate::versions::{grown, needs_size};
+use elf_image::constants::{SHT_DYNAMIC, SHT_DYNSYM, SHT_GNU_VERDEF, SHT_GNU_VERNEED, SHT_SYMTAB};
+use elf_image::{Builder, Section};
+use elf_layout_needs::StayingNeeds;
 use elf_layout_plan::is_numbered;
 use std::alloc::{AllocError, Global};
 use std::marker::Model;
-
-// The string tables that the users of texts link to.
-#[derive(Clone, Copy)]
-pub(crate) struct Links {
-    dynamic: Option<usize>,
-    dynamic_symbols: Option<usize>,
-    definitions: Option<usize>,
-    needs: Option<usize>,
-    symbols: Option<usize>,
-}
-
-// The links of an image.
-fn links_of(image: &Builder<'_>) -> Links
-    ensures { AreLinks image.now result }
-{
-    Links {
-        dynamic: image.link_of_type(SHT_DYNAMIC),
-        dynamic_symbols: image.link_of_type(SHT_DYNSYM),
-        definitions: image.link_of_type(SHT_GNU_VERDEF),
-        needs: image.link_of_type(SHT_GNU_VERNEED),
-        symbols: image.link_of_type(SHT_SYMTAB),
-    }
-}
-
-// Whether an entry of the dynamic list has a tag.
-fn lists_tag(entries: &[Dynamic<'_>], tag: u64) -> bool
-    ensures { result ≡ is_tag_listed tag (map entry_model entries.now) }
-{
-    for entry in entries {
-        if entry.has_tag(tag) {
-            return true;
-        }
-    }
-    false
-}
-
-// Whether the dynamic list names the symbols, their versions, the needed versions and how many there are.
-fn lists_needs(entries: &[Dynamic<'_>]) -> bool
-    ensures { result ≡ name_needs (map entry_model entries.now) }
-{
-    lists_tag(entries, DT_SYMTAB)
-        && lists_tag(entries, DT_VERSYM)
-        && lists_tag(entries, DT_VERNEED)
-        && lists_tag(entries, DT_VERNEEDNUM)
-}
-
-// Whether the dynamic list leads a loader to the needed versions.
-fn leads_to_needs(image: &Builder<'_>) -> bool
-    ensures { result ≡ is_some_and name_needs image.now.entries }
-{
-    match image.dynamic_data() {
-        Some(entries) => lists_needs(entries),
-        None => false,
-    }
-}
-
-// Marks the versions that go: a dynamic symbol had each at read, and none has it now.
-fn dropped_versions(
-    alloc: Global,
-    read: &Builder<'_>,
-    image: &Builder<'_>,
-) -> Result<Vec<bool>, AllocError>
-    ensures { IfOk result (λ marks. unmarked_needs marks.items image.now.needs
-        ≡ written_needs read.now image.now) }
-{
-    if !leads_to_needs(image) {
-        return Ok(Vec::new(alloc));
-    }
-    let marks = dropped_marks(alloc, read.dynamic_symbols(), image.dynamic_symbols())?;
-    Ok(marks)
-}
-
-// Whether there are needed versions, and none of them is written.
-fn is_without_needs(image: &Builder<'_>, marks: &[bool]) -> bool
-    ensures { result ≡ (not (is_empty image.now.needs)
-        && is_empty (unmarked_needs marks.now image.now.needs)) }
-{
-    are_needs_gone(&image.versions().needs, marks)
-}
 
 // An edited image with the image that was read from the same bytes, and what is known of the users of its texts.
 #[derive(Drop)]
@@ -105,9 +16,10 @@ pub(crate) struct Users<'a, 'data> {
     read: &'a Builder<'data>,
     image: &'a Builder<'data>,
     links: Links,
-    marks: Vec<bool>,
-    without_needs: bool,
-    keeps_symbols: bool,
+    staying: StayingNeeds,
+    // The names of the dynamic symbols, one by one, aren't those that were read.
+    are_names_changed: bool,
+    keeps_static_symbols: bool,
 }
 
 impl<'a, 'data> Model for Users<'a, 'data> {
@@ -124,34 +36,49 @@ impl<'a, 'data> Model for Users<'a, 'data> {
 impl<'a, 'data> Users<'a, 'data> {
     ghost use Rattle.std.specs.Prelude.{◌≡◌, ◌<◌, ◌^◌, ◌++◌, length, IfOk, IfSome, IsTrue, OnOk, SomeIff};
     ghost use Rattle.elf_format.specs.Options.{list_at};
-    ghost use Rattle.elf_image.specs.SymbolsRead.{HasSymbolsOf};
+    ghost use Rattle.elf_image.specs.ImageModel.{section_model};
+    ghost use Rattle.elf_image.specs.Kept.{dynamic_strings_number, image_at_read};
     ghost use Rattle.elf_layout_plan.specs.Sizes.{dynamic_size as size_of_dynamic, needs_size as size_of_needs};
     ghost use Rattle.elf_tables.specs.Strings.{HoldNoNul};
     ghost use Rattle.elf_layout_plan.specs.Needs.{written_entries, written_needs};
-    ghost use Rattle.elf_layout_sizes.specs.OtherTexts.{HasNamesOf, others_in_use};
-    ghost use Rattle.elf_layout_plan.specs.Texts.{if_linked, if_names, is_table_copied, texts_in_use, texts_of_definitions, texts_of_entries, texts_of_needs, texts_of_symbols};
+    ghost use Rattle.elf_layout_sizes.specs.OtherTexts.{HasDynamicNamesOf, HasNamesOf, HasStaticNamesOf, others_in_use};
+    ghost use Rattle.elf_layout_plan.specs.Texts.{are_names_changed as have_names_changed, if_linked, if_names, is_table_copied, texts_in_use, texts_of_definitions, texts_of_entries, texts_of_needs, texts_of_symbols};
 
-    // What is known of the users of an image's texts, and whether its symbols are known to be those that were read.
+    // What is known of the users of an edited image's texts.
     pub(crate) fn new(
         alloc: Global,
         read: &'a Builder<'data>,
         image: &'a Builder<'data>,
-        keeps_symbols: bool,
     ) -> Result<Self, AllocError>
-        requires { IsTrue keeps_symbols → HasSymbolsOf read.now image.now }
+        requires { read.now ≡ image_at_read image.now }
         ensures { IfOk result (λ users. users
             ≡ record { read = read.entry.now; image = image.entry.now }) }
     {
-        let marks = dropped_versions(alloc, read, image)?;
-        let without_needs = is_without_needs(image, &marks);
+        // the image was read from its source
+        let _source = image.source();
+        let staying = StayingNeeds::new(alloc, read, image)?;
         Ok(Users {
             read,
             image,
             links: links_of(image),
-            marks,
-            without_needs,
-            keeps_symbols,
+            staying,
+            are_names_changed: !image.keeps_dynamic_names(),
+            keeps_static_symbols: image.keeps_static_symbols(),
         })
+    }
+
+    // The same of the image that was read. Takes no memory.
+    pub(crate) fn of_read(alloc: Global, read: &'a Builder<'data>) -> Self
+        ensures { result ≡ record { read = read.entry.now; image = read.entry.now } }
+    {
+        Users {
+            read,
+            image: read,
+            links: links_of(read),
+            staying: StayingNeeds::all(alloc),
+            are_names_changed: false,
+            keeps_static_symbols: true,
+        }
     }
 
     // The image that was read. Takes no memory.
@@ -168,18 +95,21 @@ impl<'a, 'data> Users<'a, 'data> {
         self.image
     }
 
-    // Whether the image's symbols are known to be those that were read.
-    pub(crate) fn keeps_symbols(&self) -> bool
-        ensures { IsTrue result → HasSymbolsOf self.now.read self.now.image }
+    // Whether the names of the dynamic symbols, one by one, aren't those that were read.
+    pub(crate) fn are_names_changed(&self) -> bool
+        ensures { result ≡ have_names_changed self.now.read self.now.image }
     {
-        self.keeps_symbols
+        self.are_names_changed
     }
 
-    // The number of the string table of the dynamic list (gABI, Sections, `sh_link`).
-    pub(crate) fn list_link(&self) -> Option<usize>
-        ensures { result ≡ link_of_kind SHT_DYNAMIC self.now.image }
+    // The number of the dynamic strings.
+    pub(crate) fn strings_link(&self) -> Option<usize>
+        ensures { result ≡ dynamic_strings_number self.now.image }
     {
-        self.links.dynamic
+        match self.links.dynamic {
+            Some(number) => Some(number),
+            None => self.links.dynamic_symbols,
+        }
     }
 
     // How many entries the dynamic list has that is written.
@@ -188,7 +118,7 @@ impl<'a, 'data> Users<'a, 'data> {
             ≡ length (list_at (λ es. es) (written_entries self.now.read self.now.image)) }
     {
         match self.image.dynamic_data() {
-            Some(entries) => count_staying(entries, self.without_needs),
+            Some(entries) => self.staying.count_entries(entries),
             None => 0,
         }
     }
@@ -209,7 +139,7 @@ impl<'a, 'data> Users<'a, 'data> {
         ensures { let size = size_of_needs (written_needs self.now.read self.now.image) in
             SomeIff result (size < 2 ^ 64) size }
     {
-        needs_size(&self.image.versions().needs, &self.marks)
+        needs_size(&self.image.versions().needs, &self.staying)
     }
 
     // Adds the texts of the dynamic list, where they stand in the string table with that number.
@@ -221,7 +151,7 @@ impl<'a, 'data> Users<'a, 'data> {
             return Ok(());
         }
         match self.image.dynamic_data() {
-            Some(entries) => texts.push_entries(entries, self.without_needs),
+            Some(entries) => texts.push_entries(entries, &self.staying),
             None => Ok(()),
         }
     }
@@ -256,7 +186,7 @@ impl<'a, 'data> Users<'a, 'data> {
         if !is_numbered(self.links.needs, number) {
             return Ok(());
         }
-        texts.push_needs(self.image.versions().needs.as_slice(), &self.marks)
+        texts.push_needs(self.image.versions().needs.as_slice(), &self.staying)
     }
 
     // Adds the names of the symbols for a link editor, the same.
@@ -312,21 +242,36 @@ impl<'a, 'data> Users<'a, 'data> {
         })
     }
 
+    // Whether the names of dynamic symbols in that string table are known to be those that stood there at read.
+    fn keeps_dynamic_names(&self, read_users: &Users<'_, '_>, number: usize) -> bool
+        requires { read_users.now ≡ record { read = self.now.read; image = self.now.read } }
+        ensures { IsTrue result → HasDynamicNamesOf self.now.read self.now.image number }
+    {
+        let is_linked = is_numbered(self.links.dynamic_symbols, number);
+        if is_linked != is_numbered(read_users.links.dynamic_symbols, number) {
+            return false;
+        }
+        !is_linked || !self.are_names_changed
+    }
+
+    // The same of the symbols for a link editor.
+    fn keeps_static_names(&self, read_users: &Users<'_, '_>, number: usize) -> bool
+        requires { read_users.now ≡ record { read = self.now.read; image = self.now.read } }
+        ensures { IsTrue result → HasStaticNamesOf self.now.read self.now.image number }
+    {
+        let is_linked = is_numbered(self.links.symbols, number);
+        if is_linked != is_numbered(read_users.links.symbols, number) {
+            return false;
+        }
+        !is_linked || self.keeps_static_symbols
+    }
+
     // Whether the names of symbols in that string table are known to be those that stood there at read.
     fn keeps_names(&self, read_users: &Users<'_, '_>, number: usize) -> bool
         requires { read_users.now ≡ record { read = self.now.read; image = self.now.read } }
         ensures { IsTrue result → HasNamesOf self.now.read self.now.image number }
     {
-        let (now, at_read) = (self.links, read_users.links);
-        if is_numbered(now.symbols, number) != is_numbered(at_read.symbols, number) {
-            return false;
-        }
-        if is_numbered(now.dynamic_symbols, number)
-            != is_numbered(at_read.dynamic_symbols, number)
-        {
-            return false;
-        }
-        self.keeps_symbols
+        self.keeps_dynamic_names(read_users, number) && self.keeps_static_names(read_users, number)
     }
 
     // Whether that string table is copied, where it can be told without a look at the names of symbols.

@@ -1,3 +1,5 @@
 pub mod EntryLaws
 pub mod TableSteps
 pub mod InverseSteps
+pub mod SameNumbers
+pub mod ForCallers

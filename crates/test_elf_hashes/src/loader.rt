@@ -2,7 +2,7 @@
 
 use crate::support::{LITTLE_64, Runtime, gabi_table, gnu_table, order_of, same, symbols};
 use elf_hashes::GnuSizes;
-use elf_image_symbols::Symbols;
+use elf_image_symbol_edits::SymbolsNow;
 use elf_tables::{gnu_hash, sysv_hash};
 use patch_bytes::{ByteOrder2, read_u32_at, read_u64_at};
 use std::alloc::AllocError;
@@ -48,7 +48,7 @@ fn word(table: &[u8], i: usize) -> Option<usize> {
 // The number of the symbol that a look-up in the gABI's table comes to.
 fn found_by_gabi_hash(
     table: &[u8],
-    symbols: &Symbols<'_>,
+    symbols: SymbolsNow<'_>,
     order: &[usize],
     name: &[u8],
 ) -> Option<usize> {
@@ -68,7 +68,7 @@ fn found_by_gabi_hash(
 }
 
 // Whether the symbol that stands at a place in an order has a name.
-fn has_name(symbols: &Symbols<'_>, order: &[usize], i: usize, name: &[u8]) -> bool {
+fn has_name(symbols: SymbolsNow<'_>, order: &[usize], i: usize, name: &[u8]) -> bool {
     if i >= order.len() || order[i] >= symbols.len() {
         return false;
     }
@@ -93,7 +93,7 @@ fn passes(table: &[u8], hash: u32) -> Option<bool> {
 // The number of the symbol that a look-up in the GNU table comes to.
 fn found_by_gnu_hash(
     table: &[u8],
-    symbols: &Symbols<'_>,
+    symbols: SymbolsNow<'_>,
     order: &[usize],
     name: &[u8],
 ) -> Option<usize> {
@@ -136,20 +136,21 @@ fn wanted(order: &[usize], number: usize) -> Option<usize> {
 fn each_name(rt: HostRuntime) {
     let texts = again!(&rt; texts(&rt)).expect(&rt, "memory");
     let records = again!(&rt; records(&rt)).expect(&rt, "memory");
-    let symbols = symbols(&rt, LITTLE_64, &texts, &records, None);
-    let order = order_of(&rt, &symbols, 37);
-    let gabi = gabi_table(&rt, &symbols, order.as_slice(), 5, LITTLE_64);
+    let edited = symbols(&rt, LITTLE_64, &texts, &records, None);
+    let symbols = edited.lend();
+    let order = order_of(&rt, symbols, 37);
+    let gabi = gabi_table(&rt, symbols, order.as_slice(), 5, LITTLE_64);
     let sizes = GnuSizes {
         buckets: 37,
         filter_words: 16,
         filter_shift: 11,
     };
-    let gnu = gnu_table(&rt, &symbols, order.as_slice(), sizes, LITTLE_64);
+    let gnu = gnu_table(&rt, symbols, order.as_slice(), sizes, LITTLE_64);
     for i in 0..COUNT {
         let want = wanted(order.as_slice(), i);
-        let found = found_by_gabi_hash(&gabi, &symbols, order.as_slice(), &name(i));
+        let found = found_by_gabi_hash(&gabi, symbols, order.as_slice(), &name(i));
         same(&rt, "by the gABI's table", &found, &want);
-        let found = found_by_gnu_hash(&gnu, &symbols, order.as_slice(), &name(i));
+        let found = found_by_gnu_hash(&gnu, symbols, order.as_slice(), &name(i));
         same(&rt, "by the GNU table", &found, &want);
     }
 }

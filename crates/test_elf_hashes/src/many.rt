@@ -19,10 +19,11 @@ fn repeated(rt: &impl Runtime, count: usize) -> Result<Vec<u8>, AllocError> {
 #[test]
 fn one_bucket(rt: HostRuntime) {
     let bytes = again!(&rt; repeated(&rt, COUNT)).expect(&rt, "memory");
-    let symbols = symbols(&rt, LITTLE_64, b"\0f\0", &bytes, None);
-    let order = order_of(&rt, &symbols, 1);
+    let edited = symbols(&rt, LITTLE_64, b"\0f\0", &bytes, None);
+    let symbols = edited.lend();
+    let order = order_of(&rt, symbols, 1);
     same(&rt, "as they stand", &order.last(), &Some(&COUNT));
-    let table = gabi_table(&rt, &symbols, order.as_slice(), 1, LITTLE_64);
+    let table = gabi_table(&rt, symbols, order.as_slice(), 1, LITTLE_64);
     same(
         &rt,
         "two numbers, a bucket, the chain",
@@ -34,14 +35,15 @@ fn one_bucket(rt: HostRuntime) {
 #[test]
 fn one_run(rt: HostRuntime) {
     let bytes = again!(&rt; repeated(&rt, COUNT)).expect(&rt, "memory");
-    let symbols = symbols(&rt, LITTLE_64, b"\0f\0", &bytes, None);
-    let order = order_of(&rt, &symbols, 3);
+    let edited = symbols(&rt, LITTLE_64, b"\0f\0", &bytes, None);
+    let symbols = edited.lend();
+    let order = order_of(&rt, symbols, 3);
     let sizes = GnuSizes {
         buckets: 3,
         filter_words: 1,
         filter_shift: 6,
     };
-    let table = gnu_table(&rt, &symbols, order.as_slice(), sizes, LITTLE_64);
+    let table = gnu_table(&rt, symbols, order.as_slice(), sizes, LITTLE_64);
     same(
         &rt,
         "header, filter, buckets, words",

@@ -1,9 +1,11 @@
 //! What the tests share: calls that are refused memory, comparisons, symbols, and tables of them.
 ghost use Rattle.std.specs.Prelude.{◌≡◌, ◌↔◌, ◌<◌, All, length, IsTrue};
+ghost use Rattle.elf_image_symbol_edits.specs.Loan.{symbols_now};
 ghost use Rattle.elf_hashes.specs.Found.{ArePlaces};
 
 use elf_format::form::Form;
 use elf_hashes::{GnuSizes, build_gnu_hash, build_hash, order_for_gnu_hash};
+use elf_image_symbol_edits::{EditedSymbols, SymbolsNow};
 use elf_image_symbols::Symbols;
 use elf_tables::TableFault;
 use patch_bytes::{ByteOrder2, Wide};
@@ -64,27 +66,28 @@ pub(crate) fn same<T: PartialEq + fmt::Debug>(rt: &impl Abort, what: &str, found
     assert_eq!(rt; found, want, "{what}");
 }
 
-// The symbols of a table, whose names are there.
+// The symbols of a table, whose names are there, none of them edited.
 pub(crate) fn symbols<'d>(
-    rt: &impl Abort,
+    rt: &impl Runtime,
     form: Form,
     texts: &'d [u8],
     bytes: &'d [u8],
     versions: Option<&'d [u8]>,
-) -> Symbols<'d> {
-    Symbols::read(form, texts, bytes, versions).expect(rt, "names of symbols")
+) -> EditedSymbols<'d> {
+    let table = Symbols::read(form, texts, bytes, versions).expect(rt, "names of symbols");
+    again!(rt; EditedSymbols::new(rt.alloc(), table.same())).expect(rt, "memory")
 }
 
 // Whether each position is that of a symbol.
-pub(crate) fn are_places(symbols: &Symbols<'_>, order: &[usize]) -> bool
-    ensures { IsTrue result ↔ ArePlaces symbols.now order.now }
+pub(crate) fn are_places(symbols: SymbolsNow<'_>, order: &[usize]) -> bool
+    ensures { IsTrue result ↔ ArePlaces (symbols_now symbols.entry) order.now }
 {
     let count = symbols.len();
     order.iter().all(|i| *i < count)
 }
 
 // The order that a GNU table of so many buckets asks for.
-pub(crate) fn order_of(rt: &impl Runtime, symbols: &Symbols<'_>, buckets: u32) -> Vec<usize> {
+pub(crate) fn order_of(rt: &impl Runtime, symbols: SymbolsNow<'_>, buckets: u32) -> Vec<usize> {
     assert!(rt; buckets > 0, "no buckets");
     again!(rt; order_for_gnu_hash(rt.alloc(), symbols, buckets)).expect(rt, "an order")
 }
@@ -92,7 +95,7 @@ pub(crate) fn order_of(rt: &impl Runtime, symbols: &Symbols<'_>, buckets: u32) -
 // The gABI's table of symbols in an order.
 pub(crate) fn gabi_table(
     rt: &impl Runtime,
-    symbols: &Symbols<'_>,
+    symbols: SymbolsNow<'_>,
     order: &[usize],
     buckets: u32,
     form: Form,
@@ -107,7 +110,7 @@ pub(crate) fn gabi_table(
 // The GNU table of symbols in an order.
 pub(crate) fn gnu_table(
     rt: &impl Runtime,
-    symbols: &Symbols<'_>,
+    symbols: SymbolsNow<'_>,
     order: &[usize],
     sizes: GnuSizes,
     form: Form,

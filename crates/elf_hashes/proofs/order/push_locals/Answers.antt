@@ -1,6 +1,7 @@
 -- One symbol's position more, or none.
 use Rattle.std.proofs.Common.{◌++◌, drop, sym, ◌∙◌}
 use Rattle.elf_image_symbols.specs.SymbolModel.{symbol_model}
+use Rattle.elf_image_symbol_edits.specs.Loan.{symbols_now}
 use Rattle.elf_hashes.specs.Found.{is_local}
 use Rattle.elf_hashes.specs.Order.{places_where}
 use Rattle.elf_hashes.proofs.OrderSteps.{places-no, places-yes}
@@ -9,7 +10,7 @@ use Rattle.elf_hashes.proofs.order.push_locals.Goals.{then-is_local+in_ok-push, 
 
 pub loop-i-preserved : goal.loop-i-preserved
 loop-i-preserved c =
-    let ys = c.args.symbols.now in
+    let ys = symbols_now c.args.symbols in
     let all = c.args.order.now.items ++ places_where is_local 1 (drop 1 ys) in
     elim c.if-is_local.branch [
       | then-is_local+in_ok-push w ↦

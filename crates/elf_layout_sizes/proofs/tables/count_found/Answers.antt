@@ -2,6 +2,7 @@
 use Rattle.std.proofs.Common.{drop, sym, ◌∙◌, arith}
 use Rattle.std.specs.Prelude.{count_by}
 use Rattle.elf_image.specs.ImageModel.{symbol_model}
+use Rattle.elf_image_symbol_edits.specs.Loan.{symbols_now}
 use Rattle.elf_layout_plan.specs.Sizes.{is_found}
 use Rattle.elf_layout_sizes.proofs.SymbolSteps.{counted_next, counted_on}
 use Rattle.elf_layout_sizes.proofs.tables.count_found.Goals as goal
@@ -12,12 +13,12 @@ loop-i-preserved c =
     elim c.if-is_found.branch [
       | then-is_found w ↦ (
         omega (arith, w.count-is, c.loop-i.invariant.0),
-        counted_next is_found c.args.symbols.now c.loop-i.i (symbol_model c.get.result) c.loop-i.count c.if-is_found.count (count_by is_found (drop 1 c.args.symbols.now))
+        counted_next is_found (symbols_now c.args.symbols) c.loop-i.i (symbol_model c.get.result) c.loop-i.count c.if-is_found.count (count_by is_found (drop 1 (symbols_now c.args.symbols)))
             c.get.ensures (sym c.is_found.ensures ∙ w.if-is_found.true) w.count-is c.loop-i.invariant.1,
       )
       | else-is_found w ↦ (
         omega (arith, w.count-is, c.loop-i.invariant.0),
-        counted_on is_found c.args.symbols.now c.loop-i.i (symbol_model c.get.result) c.loop-i.count c.if-is_found.count (count_by is_found (drop 1 c.args.symbols.now))
+        counted_on is_found (symbols_now c.args.symbols) c.loop-i.i (symbol_model c.get.result) c.loop-i.count c.if-is_found.count (count_by is_found (drop 1 (symbols_now c.args.symbols)))
             c.get.ensures (sym c.is_found.ensures ∙ w.if-is_found.false) w.count-is c.loop-i.invariant.1,
       )
     ]

@@ -1,17 +1,21 @@
--- The links are the image's, and what stays is what is written.
-use Rattle.std.proofs.Common.{Bool, List, ap, ◌∙◌}
-use Rattle.std.specs.Prelude.{◌&&◌, not}
-use Rattle.elf_layout_plan.specs.Needs.{is_empty}
-use Rattle.elf_layout_sizes.specs.Inner.{unmarked_needs}
-use Rattle.elf_layout_sizes.proofs.NeedSteps.{written_staying}
+-- The links are the image's, what stays is what is written, and what is told of symbols is so.
+use Rattle.std.proofs.Common.{◌≡◌, Bool, true, false, refl, ap, ◌∙◌}
+use Rattle.std.specs.Prelude.{not}
+use Rattle.elf_layout_plan.specs.Texts.{are_names_changed}
+use Rattle.elf_layout_needs.proofs.ForCallers.NeedSteps.{at_read}
 use Rattle.elf_layout_sizes.proofs.users.Users.new.Goals as goal
 
+not_not : (b : Bool) → not (not b) ≡ b
+not_not true = refl
+not_not false = refl
+
 pub invariant_of-result : goal.invariant_of-result
-invariant_of-result c = record {
-  links = c.links_of.ensures;
-  needs = c.in_ok-marks.ensures;
-  entries = written_staying c.args.read.now c.args.image.now c.in_ok-marks.marks.items c.is_without_needs-without_needs.result c.in_ok-marks.ensures
-      (c.is_without_needs-without_needs.ensures
-      ∙ ap (λ (m : List Bool). not (is_empty c.args.image.now.needs) && is_empty (unmarked_needs m c.args.image.now.needs)) c.deref.ensures.value);
-  symbols = c.requires;
-}
+invariant_of-result c =
+    let is_read = at_read c.args.image.now c.args.read.now c.source-source.ensures.edited c.requires in
+    record {
+      links = c.links_of.ensures;
+      needs = c.in_ok-staying.ensures.needs;
+      entries = c.in_ok-staying.ensures.entries;
+      names = ap not (c.keeps_dynamic_names.ensures c.args.read.now is_read) ∙ not_not (are_names_changed c.args.read.now c.args.image.now);
+      static = (c.keeps_static_symbols.ensures c.args.read.now is_read).0;
+    }

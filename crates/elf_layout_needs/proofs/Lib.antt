@@ -1,0 +1,3 @@
+pub mod NeedSteps
+pub mod SymbolSteps
+pub mod ForCallers

@@ -1,0 +1,10 @@
+//! Which needed versions of an edited ELF file stay, and which entries of its dynamic list with them (GNU symbol
+//! versioning).
+#![tactic(auto)]
+
+mod entries;
+mod marks;
+mod records;
+mod staying;
+
+pub use crate::staying::StayingNeeds;
