@@ -1,11 +1,12 @@
 -- What the steps give is a file to which the image is written.
-use Rattle.std.proofs.Common.{◌≡◌, ◌<◌, ℕ, zero, suc, Bool, true, false, List, [], ◌∷◌, length, refl, sym, ap, ◌∙◌, subst, Option, Some, arith}
-use Rattle.std.specs.Prelude.{unwrap_or, IsTrue}
+use Rattle.std.proofs.Common.{◌≡◌, ◌<◌, ◌^◌, ℕ, zero, suc, Bool, true, false, List, [], ◌∷◌, length, refl, sym, ap, ◌∙◌, subst, Option, Some, arith}
+use Rattle.std.specs.Prelude.{◌||◌, not, nat_lt, unwrap_or, IsTrue}
 use Rattle.std.specs.List.{list_all, slice_get}
 use Rattle.std.specs.Option.{option_map}
-use Rattle.std.proofs.lemmas.Bool.{and_parts, false≢true}
+use Rattle.std.proofs.lemmas.Bool.{and_parts, false≢true, ltb-true}
 use Rattle.std.proofs.lemmas.Option.{none-some, same_Some, slice_get_within}
 use Rattle.patch_bytes.specs.Memory.{◌>>=◌}
+use Rattle.patch_bytes.specs.Bytes.{AreBytes}
 use Rattle.elf_format.specs.declared.constants.TheConstants.{SHT_STRTAB}
 use Rattle.elf_format.specs.declared.form.Form.{Form}
 use Rattle.elf_format.specs.declared.records.EntryNumbers.{EntryNumbers}
@@ -20,7 +21,8 @@ use Rattle.elf_format.specs.Places.{Place}
 use Rattle.elf_format.specs.Rules.{text_users}
 use Rattle.elf_tables.specs.Fields.{do_fields_fit}
 use Rattle.elf_tables.specs.Spelled.{entry_fields}
-use Rattle.elf_image.specs.Kept.{KeptSection, kept_sections}
+use Rattle.elf_image.specs.Kept.{KeptSection, image_at_read, kept_sections}
+use Rattle.elf_image.specs.Names.{are_names_changed}
 use Rattle.elf_layout_plan.specs.Memory.{Resized}
 use Rattle.elf_layout_plan.specs.Plan.{Layout, resized}
 use Rattle.elf_write_spec.specs.Base.{is_interpreter}
@@ -30,8 +32,10 @@ use Rattle.elf_write_spec.specs.Whole.{IsWhole}
 use Rattle.elf_write_spec.specs.Output.{AreHeadersApart, AreSectionsWritten, IsPlannedOutput, written_bytes}
 use Rattle.elf_layout_plan.specs.ApartLaws.{PlansAreApart, PlansShowNotes}
 use Rattle.elf_write_spec.proofs.ForCallers.FilesWritten.{files_are_written, files_by_plan}
-use Rattle.elf_write_contents.specs.declared.made.Made.{Made}
-use Rattle.elf_write_contents.specs.Inner.{AreContents, AreHeaders, ArePromised, AreRaw, IsMadeContent, IsPlanned, IsPlannedFile, strings_at, output_of}
+use Rattle.elf_write_strings.specs.declared.made.Made.{Made}
+use Rattle.elf_write_strings.specs.DynamicStrings.{strings_at}
+use Rattle.elf_write_symbols.specs.Renumbering.{do_symbols_fit}
+use Rattle.elf_write_contents.specs.Inner.{AreContents, AreHeaders, ArePromised, AreRaw, IsMadeContent, IsPlanned, IsPlannedFile, output_of}
 use Rattle.elf_write_contents.specs.Numbers.{do_records_fit}
 use Rattle.elf_write_contents.proofs.ForCallers.{edit_of, linked_at, names_at, names_typed, shows_none, shows_texts}
 use Rattle.elf_write_spec.proofs.ForCallers.WholeEdits.{ReadFacts, SectionRead, kept-at, kept_is, length-kept, read_facts, section_read}
@@ -94,6 +98,13 @@ pub entries_fit : (form : Form) (header : FileHeader) (segments : List SegmentHe
     → do_records_fit form header segments hs raw ≡ true → IsTrue (list_all (λ e. do_fields_fit (entry_fields form e)) raw)
 unfolding do_records_fit
 entries_fit form header segments hs raw fit = (and_parts _ _ fit).1
+
+-- with other names dynamic symbols are few enough for 32 bits
+few_symbols : (read image : Image) → do_symbols_fit read image ≡ true → are_names_changed read image ≡ true
+    → length image.dynamic_symbols < 2 ^ 32
+few_symbols read image fit changed =
+    ltb-true (length image.dynamic_symbols) (2 ^ 32)
+    (ap (λ (b : Bool). not b || nat_lt (length image.dynamic_symbols) (2 ^ 32)) (sym changed) ∙ fit)
 
 module _ (read image : Image) (plan : Layout) (made : Option Made) (raw : List EntryNumbers) (contents : List (List ℕ))
     (planned : IsPlanned read image plan)
@@ -168,48 +179,56 @@ module _ (read image : Image) (plan : Layout) (made : Option Made) (raw : List E
   sections_written hs (k ∷ ks) (p ∷ ps) (h ∷ part) [] linked headers bytes = absurd bytes
   sections_written hs _ _ _ _ linked headers bytes = absurd headers
 
-  pub is_planned_output : (hs : List SectionHeader) → AreHeadersApart image plan
+  pub is_planned_output : AreBytes image.source → (hs : List SectionHeader) → AreHeadersApart image plan
       → AreRaw (resized image) plan made raw
       → AreHeaders (resized image) (strings_at image made image.header.e_shstrndx) (kept_sections image) plan.places hs
-      → do_records_fit image.form (written_header image plan) plan.segments hs raw ≡ true
+      → do_records_fit image.form (written_header image plan) plan.segments hs raw ≡ true → do_symbols_fit read image ≡ true
       → IsPlannedOutput (output_of image plan hs contents raw)
   unfolding do_records_fit
-  is_planned_output hs apart is_raw headers fit =
+  is_planned_output source hs apart is_raw headers fit few =
       let four = and_parts _ _ fit in
       let three = and_parts _ _ four.0 in
       let two = and_parts _ _ three.0 in
       record {
         edited = planned.ready.edited;
+        source = source;
         whole = subst (λ (r : Image). IsWhole r image) planned.ready.at_read planned.ready.whole;
         planned = planned.planned;
         written = record {
           headers = apart;
           no_list = is_raw.no_list;
           sections = sections_written hs (kept_sections image) plan.places hs contents (λ i k at. content_linked i k at) headers are;
-          fit = record { header = two.0; segments = two.1; sections = three.1; entries = four.1 };
+          fit = record {
+            header = two.0;
+            segments = two.1;
+            sections = three.1;
+            entries = four.1;
+            symbols = λ changed. few_symbols read image few
+                (ap (λ (r : Image). are_names_changed r image) planned.ready.at_read ∙ changed);
+          };
         };
       }
 
   -- there is such a one
-  pub are_written : (hs : List SectionHeader) → AreHeadersApart image plan
+  pub are_written : AreBytes image.source → (hs : List SectionHeader) → AreHeadersApart image plan
       → AreRaw (resized image) plan made raw
       → AreHeaders (resized image) (strings_at image made image.header.e_shstrndx) (kept_sections image) plan.places hs
-      → do_records_fit image.form (written_header image plan) plan.segments hs raw ≡ true
+      → do_records_fit image.form (written_header image plan) plan.segments hs raw ≡ true → do_symbols_fit read image ≡ true
       → (entries : List EntryNumbers) × IsPlannedOutput (output_of image plan hs contents entries)
-  are_written hs apart is_raw headers fit = (raw, is_planned_output hs apart is_raw headers fit)
+  are_written source hs apart is_raw headers fit few = (raw, is_planned_output source hs apart is_raw headers fit few)
 
   -- these are its bytes
-  pub is_planned_file : (hs : List SectionHeader) (bytes : List ℕ) → AreHeadersApart image plan
+  pub is_planned_file : AreBytes image.source → (hs : List SectionHeader) (bytes : List ℕ) → AreHeadersApart image plan
       → AreRaw (resized image) plan made raw
       → AreHeaders (resized image) (strings_at image made image.header.e_shstrndx) (kept_sections image) plan.places hs
-      → do_records_fit image.form (written_header image plan) plan.segments hs raw ≡ true
+      → do_records_fit image.form (written_header image plan) plan.segments hs raw ≡ true → do_symbols_fit read image ≡ true
       → bytes ≡ written_bytes (output_of image plan hs contents raw)
       → IsPlannedFile image plan bytes
-  is_planned_file hs bytes apart is_raw headers fit same = record {
+  is_planned_file source hs bytes apart is_raw headers fit few same = record {
     output = output_of image plan hs contents raw;
     of_image = refl;
     by_plan = refl;
-    whole = is_planned_output hs apart is_raw headers fit;
+    whole = is_planned_output source hs apart is_raw headers fit few;
     are_bytes = same;
   }
 

@@ -1,5 +1,6 @@
 //! The bytes of an edited ELF file.
 ghost use Rattle.std.specs.Prelude.{◌≡◌, false, IfErr, IfOk, IsTrue};
+ghost use Rattle.patch_bytes.specs.Bytes.{AreBytes};
 ghost use Rattle.patch_bytes.specs.ByteString.{bytes_of_each};
 ghost use Rattle.elf_format.specs.Ranges.{apart, range};
 ghost use Rattle.elf_format.specs.Records.{file_header_size};
@@ -52,6 +53,11 @@ pub(crate) fn are_headers_apart(image: &Builder<'_>, plan: &Plan) -> bool
     header.is_apart(table_range(image, plan))
 }
 
+// Each byte of a source is below 256.
+pub(crate) fn show_bytes(source: &[u8])
+    ensures { AreBytes source.now }
+{}
+
 // The bytes of the file with these contents.
 fn bytes_of_contents<'data>(
     alloc: Global,
@@ -69,6 +75,7 @@ fn bytes_of_contents<'data>(
         (bytes_of_each contents.now) }
     ensures { IfOk result (λ bytes. IsPlannedFile image.now plan.now bytes.items) }
 {
+    show_bytes(image.source());
     let header = prepared.header;
     let bytes = laid_bytes(
         alloc,
@@ -97,7 +104,8 @@ fn bytes_of_prepared<'a, 'data>(
     ensures { IfOk result (λ bytes.
         IsPlannedFile image.entry.now plan.now bytes.items) }
 {
-    let contents = contents(alloc, read, image, plan, &prepared.made, &prepared.raw)?;
+    let (made, renumbering) = (&prepared.made, &prepared.renumbering);
+    let contents = contents(alloc, read, image, plan, made, renumbering, &prepared.raw)?;
     bytes_of_contents(alloc, read, image, plan, prepared, &contents)
 }
 

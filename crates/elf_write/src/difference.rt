@@ -6,7 +6,7 @@ ghost use Rattle.elf_tables.specs.declared.fault.TableFault.TheVariants.{NumberT
 ghost use Rattle.elf_image.specs.Kept.{image_at_read, kept_sections};
 ghost use Rattle.elf_layout_plan.specs.Plan.{IsPlan, resized};
 ghost use Rattle.elf_layout_plan.specs.Refusals.{do_sizes_of_image_fit};
-ghost use Rattle.elf_layout_sizes.specs.MadeTables.{IsMadeOfList};
+ghost use Rattle.elf_layout_sizes.specs.MadeTables.{IsMadeOfDynamic};
 ghost use Rattle.elf_write_spec.specs.Whole.{IsWhole};
 ghost use Rattle.elf_write_spec.specs.Output.{AreHeadersApart};
 ghost use Rattle.elf_write_spec.specs.WrittenFile.{IsWrittenByPlan, IsWrittenOf};
@@ -15,7 +15,7 @@ ghost use Rattle.elf_write_contents.specs.Numbers.{do_numbers_fit as do_all_fit}
 ghost use Rattle.elf_write_contents.specs.PreparedSteps.{IsPrepared};
 ghost use Rattle.elf_write.specs.Refused.{AreNoBytes};
 
-use crate::bytes::are_headers_apart;
+use crate::bytes::{are_headers_apart, show_bytes};
 use crate::laying::laid_difference;
 use byte_store::Difference;
 use elf_image::Builder;
@@ -23,8 +23,8 @@ use elf_layout_plan::laws::{plans_are_apart, plans_show_notes};
 use elf_layout_plan::{LayoutFault, Plan, read_source};
 use elf_tables::{Finished, TableFault};
 use elf_write_contents::contents::contents;
-use elf_write_contents::made::strings_from;
 use elf_write_contents::prepared::{Prepared, prepare_with_strings};
+use elf_write_strings::made::strings_from;
 use patch_bytes::ByteString;
 use std::alloc::{AllocError, Global};
 
@@ -47,6 +47,7 @@ fn difference_of_contents<'data>(
         IsPlannedFile image.now plan.now (made_of image.now.source d)) }
     ensures makeable { IfOk result (λ d. IsDifference image.now.source d) }
 {
+    show_bytes(image.source());
     let header = prepared.header;
     let difference = laid_difference(
         alloc,
@@ -76,7 +77,8 @@ fn difference_of_prepared<'a, 'data>(
         IsPlannedFile image.entry.now plan.now (made_of image.entry.now.source d)) }
     ensures makeable { IfOk result (λ d. IsDifference image.entry.now.source d) }
 {
-    let contents = contents(alloc, read, image, plan, &prepared.made, &prepared.raw)?;
+    let (made, renumbering) = (&prepared.made, &prepared.renumbering);
+    let contents = contents(alloc, read, image, plan, made, renumbering, &prepared.raw)?;
     difference_of_contents(alloc, read, image, plan, prepared, &contents)
 }
 
@@ -90,7 +92,7 @@ fn difference_where_apart<'a, 'data>(
 ) -> Result<Difference, TableFault>
     requires planned { IsPlanned read.now image.now plan.now }
     requires apart { AreHeadersApart image.now plan.now }
-    requires strings { IfSome strings (IsMadeOfList read.now image.now) }
+    requires strings { IfSome strings (IsMadeOfDynamic read.now image.now) }
     ensures written { IfOk result (λ d.
         IsPlannedFile image.entry.now plan.now (made_of image.entry.now.source d)) }
     ensures makeable { IfOk result (λ d. IsDifference image.entry.now.source d) }
@@ -116,7 +118,7 @@ fn promised(image: &Builder<'_>, plan: &Plan, difference: Difference) -> Differe
 }
 
 /// What of the bytes of the file differs from the image's source, as `image_pieces_from_read` tells it, for a caller that may
-/// have the string table of the dynamic list too, where it is made anew.
+/// have the table of the dynamic strings too, where it is made anew.
 pub fn image_pieces_with_strings<'a, 'data>(
     alloc: Global,
     read: &'a Builder<'data>,
@@ -128,7 +130,7 @@ pub fn image_pieces_with_strings<'a, 'data>(
     requires whole { IsWhole read.now image.now }
     requires planned { IsPlan (resized image.now) plan.now }
     requires sized { IsTrue (do_sizes_of_image_fit image.now) }
-    requires strings { IfSome strings (IsMadeOfList read.now image.now) }
+    requires strings { IfSome strings (IsMadeOfDynamic read.now image.now) }
     ensures makeable { IfOk result (λ d. IsDifference image.entry.now.source d) }
     ensures written { IfOk result (λ d.
         IsWrittenOf image.entry.now (made_of image.entry.now.source d)) }

@@ -1,10 +1,11 @@
 -- The bytes of all sections, and of each by what its type asks for.
-use Rattle.std.proofs.Common.{◌≡◌, ◌≤◌, ◌<◌, ℕ, zero, suc, ◌*◌, true, false, List, [], ◌∷◌, ◌++◌, length, map, refl, sym, ap, ◌∙◌, subst, Option, Some, None, Result, Ok, Err, get_or, arith}
+use Rattle.std.proofs.Common.{◌≡◌, ◌≢◌, ◌≤◌, ◌<◌, ℕ, zero, suc, ◌*◌, true, false, List, [], ◌∷◌, ◌++◌, length, map, refl, sym, ap, ◌∙◌, subst, inl, inr, Option, Some, None, Result, Ok, Err, get_or, arith}
 use Rattle.std.specs.Prelude.{IfOk, option_map, if◌then◌else◌, ◌==◌}
-use Rattle.std.specs.List.{slice_get}
+use Rattle.std.specs.List.{list_all, slice_get}
+use Rattle.std.proofs.lemmas.Bool.{cases_eq, ne_eqb}
 use Rattle.std.proofs.lemmas.List.{length-map}
 use Rattle.std.proofs.lemmas.Option.{none-some, same_Some, slice_get-get_or, slice_get-map, slice_get_read, slice_get_within}
-use Rattle.elf_format.specs.declared.constants.TheConstants.{SHT_DYNAMIC, SHT_DYNSYM, SHT_GNU_VERDEF, SHT_GNU_VERNEED, SHT_STRTAB}
+use Rattle.elf_format.specs.declared.constants.TheConstants.{SHT_DYNAMIC, SHT_DYNSYM, SHT_GNU_HASH, SHT_GNU_VERDEF, SHT_GNU_VERNEED, SHT_GNU_VERSYM, SHT_HASH, SHT_STRTAB}
 use Rattle.elf_format.specs.declared.records.EntryNumbers.{EntryNumbers}
 use Rattle.elf_format.specs.Image.{Image, ImageSection}
 use Rattle.elf_format.specs.Options.{is_some_and, list_at}
@@ -18,19 +19,23 @@ use Rattle.elf_image.specs.Kept.{KeptSection, interpreter_number, kept_sections}
 use Rattle.elf_layout_plan.specs.Memory.{Resized, sized_sections}
 use Rattle.elf_layout_plan.specs.Plan.{Layout, layout_for, resized}
 use Rattle.elf_layout_plan.specs.Needs.{written_needs}
-use Rattle.elf_layout_plan.specs.Sizes.{definitions_size, needs_size}
+use Rattle.elf_layout_plan.specs.Sizes.{definitions_size, hash_size, needs_size}
 use Rattle.elf_layout_plan.specs.Standing.{place_in, places}
 use Rattle.elf_layout_plan.proofs.ForCallers.ApartRead.{edited_facts}
 use Rattle.elf_layout_plan.proofs.ForCallers.ApartSections.{sized_of}
-use Rattle.elf_write_spec.specs.Contents.{AreDefinitionsIn, AreNeedsIn, AreSymbolsOf, spelled_list}
+use Rattle.elf_write_spec.specs.Contents.{AreDefinitionsIn, AreNeedsIn, AreSymbolsOf, AreVersionsIn, IsGabiContent, IsGnuContent, spelled_list}
 use Rattle.elf_write_spec.specs.Final.{final}
-use Rattle.elf_write_contents.specs.declared.made.Made.{Made}
-use Rattle.elf_write_contents.specs.ContentSteps.{AreBytesOf, IsBytesAt, made_or}
-use Rattle.elf_write_contents.specs.Inner.{AreContents, AreRaw, AreStrings, IsMadeContent, IsPlanned, strings_at}
-use Rattle.elf_write_contents.proofs.ReadyEdits.{edit_of}
-use Rattle.elf_write_spec.proofs.ForCallers.WholeEdits.{ReadFacts, length-kept, read_facts}
-use Rattle.elf_write_contents.proofs.OthersCopied.{content_is_read}
-use Rattle.elf_write_contents.proofs.ContentsMade.{IsOther, PlacedAt, bytes_at, definitions_made, needs_made, placed_at, resized_with, symbols_made}
+use Rattle.elf_write_strings.specs.declared.made.Made.{Made}
+use Rattle.elf_write_contents.specs.ContentSteps.{AreBytesOf, IsBytesAt, IsNumbering, IsRelocated, made_or}
+use Rattle.elf_write_strings.specs.DynamicStrings.{AreStrings, strings_at}
+use Rattle.elf_write_spec.specs.Ready.{IsPlanned, IsReady}
+use Rattle.elf_write_contents.specs.Inner.{AreContents, AreRaw, IsMadeContent}
+use Rattle.elf_write_strings.proofs.ForCallers.ReadyEdits.{edit_of}
+use Rattle.elf_write_spec.proofs.ForCallers.WholeEdits.{ReadFacts, kept-at, length-kept, read_facts}
+use Rattle.elf_write_strings.proofs.ForCallers.MadeShort.{all_at as fits_at}
+use Rattle.elf_write_strings.proofs.ForCallers.OthersCopied.{content_is_read}
+use Rattle.elf_write_symbols.specs.Fits.{do_numbers_fit_in, do_section_relocations_fit}
+use Rattle.elf_write_contents.proofs.ContentsMade.{IsOther, PlacedAt, bytes_at, definitions_made, gabi_made, gnu_made, needs_made, placed_at, resized_with, symbols_made, versions_made}
 use Rattle.elf_write_contents.proofs.ContentsByType.{interpreter_made, list_made, others_made, room, strings_made}
 use Rattle.elf_write_spec.proofs.ForCallers.NumberedSections.{kept}
 
@@ -116,6 +121,21 @@ both_ok (Err e) P Q R both p q = p
 
 -- ## By type
 
+-- none of the types of tables that are made of the image's lists, or of string tables
+pub record HasNoTable (n : ℕ) : Type 0 where
+  pub dynamic : n ≢ SHT_DYNAMIC
+  pub strings : n ≢ SHT_STRTAB
+  pub symbols : n ≢ SHT_DYNSYM
+  pub definitions : n ≢ SHT_GNU_VERDEF
+  pub needs : n ≢ SHT_GNU_VERNEED
+
+-- the new numbers of symbols fit the relocations of each section
+pub numbers_fit : (read image : Image) → IsReady read image → list_all (do_section_relocations_fit read image) (kept_sections image) ≡ true
+    → (i : ℕ) (s : ImageSection) → slice_get image.sections i ≡ Some s → do_numbers_fit_in read image s ≡ true
+numbers_fit read image is all i s at =
+    fits_at (do_section_relocations_fit read image) (kept_sections image) i (kept i s) all
+    (kept-at read image (edit_of is) i ∙ ap (option_map (kept i)) at)
+
 module _ (read image : Image) (plan : Layout) (made : Option Made) (raw : List EntryNumbers) (is : IsPlanned read image plan) (i : ℕ)
     (s : ImageSection) (s_at : slice_get image.sections i ≡ Some s) where
   -- the section with its place
@@ -136,11 +156,61 @@ module _ (read image : Image) (plan : Layout) (made : Option Made) (raw : List E
   all_at_place bytes h = bytes_at read image plan made raw facts.parts i bytes is.ready.at_read place h
 
   module _ (apart : is_some_and (λ n. n == i) (interpreter_number read) ≡ false) where
-    pub others_at : IsOther s.sh_type → IsBytesAt image plan made raw i s.content
-    others_at other =
-        subst (λ (x : ImageSection). IsBytesAt image plan made raw i x.content) same
-        (all_at_place place.section.content (others_made read image plan made raw is.ready facts i place apart
-        (subst (λ (x : ImageSection). IsOther x.sh_type) (sym same) other)))
+    -- ## Tables that number the dynamic symbols
+
+    versions_at : s.sh_type ≡ SHT_GNU_VERSYM → (bytes : List ℕ) → length bytes ≡ 2 * length image.dynamic_symbols
+        → AreVersionsIn (resized image) s bytes → IsBytesAt image plan made raw i bytes
+    versions_at e bytes long are =
+        all_at_place bytes (versions_made read image plan made raw facts.parts i place apart bytes (of_type SHT_GNU_VERSYM e) long
+        (subst (λ (x : ImageSection). AreVersionsIn (resized_with read image) x bytes) (sym same)
+        (subst (λ (x : Image). AreVersionsIn (resized_with x image) s bytes) (sym is.ready.at_read) are)))
+
+    gabi_at : s.sh_type ≡ SHT_HASH → (bytes : List ℕ) → length bytes ≡ hash_size read image s
+        → IsGabiContent (resized image) s bytes → IsBytesAt image plan made raw i bytes
+    gabi_at e bytes long are =
+        all_at_place bytes (gabi_made read image plan made raw facts.parts i place apart bytes (of_type SHT_HASH e)
+        (long ∙ ap (hash_size read image) (sym same))
+        (subst (λ (x : ImageSection). IsGabiContent (resized_with read image) x bytes) (sym same)
+        (subst (λ (x : Image). IsGabiContent (resized_with x image) s bytes) (sym is.ready.at_read) are)))
+
+    gnu_at : s.sh_type ≡ SHT_GNU_HASH → (bytes : List ℕ) → length bytes ≡ hash_size read image s
+        → IsGnuContent (resized image) s bytes → IsBytesAt image plan made raw i bytes
+    gnu_at e bytes long are =
+        all_at_place bytes (gnu_made read image plan made raw facts.parts i place apart bytes (of_type SHT_GNU_HASH e)
+        (long ∙ ap (hash_size read image) (sym same))
+        (subst (λ (x : ImageSection). IsGnuContent (resized_with read image) x bytes) (sym same)
+        (subst (λ (x : Image). IsGnuContent (resized_with x image) s bytes) (sym is.ready.at_read) are)))
+
+    others_at : IsOther s.sh_type → (bytes : List ℕ) → IsRelocated (resized image) s bytes → IsBytesAt image plan made raw i bytes
+    others_at other bytes are =
+        all_at_place bytes (others_made read image plan made raw is.ready facts i place apart
+        (subst (λ (x : ImageSection). IsOther x.sh_type) (sym same) other) bytes
+        (subst (λ (x : ImageSection). IsRelocated (resized_with read image) x bytes) (sym same)
+        (subst (λ (x : Image). IsRelocated (resized_with x image) s bytes) (sym is.ready.at_read) are)))
+
+    -- and what is as it was read
+    pub numbering_at : HasNoTable s.sh_type → (bytes : List ℕ) → IsNumbering read image s bytes → IsBytesAt image plan made raw i bytes
+    numbering_at none bytes numbers = elim (cases_eq s.sh_type SHT_GNU_VERSYM) [
+      | inl e ↦ versions_at e bytes (numbers.versions e).0 (numbers.versions e).1
+      | inr versions ↦ elim (cases_eq s.sh_type SHT_HASH) [
+        | inl e ↦ gabi_at e bytes (numbers.gabi e).0 (numbers.gabi e).1
+        | inr gabi ↦ elim (cases_eq s.sh_type SHT_GNU_HASH) [
+          | inl e ↦ gnu_at e bytes (numbers.gnu e).0 (numbers.gnu e).1
+          | inr gnu ↦ others_at (record {
+            dynamic = ne_eqb s.sh_type SHT_DYNAMIC none.dynamic;
+            strings = ne_eqb s.sh_type SHT_STRTAB none.strings;
+            symbols = ne_eqb s.sh_type SHT_DYNSYM none.symbols;
+            gabi = ne_eqb s.sh_type SHT_HASH gabi;
+            gnu = ne_eqb s.sh_type SHT_GNU_HASH gnu;
+            versions = ne_eqb s.sh_type SHT_GNU_VERSYM versions;
+            definitions = ne_eqb s.sh_type SHT_GNU_VERDEF none.definitions;
+            needs = ne_eqb s.sh_type SHT_GNU_VERNEED none.needs;
+          }) bytes (numbers.others versions gabi gnu)
+        ]
+      ]
+    ]
+
+    -- ## Tables that are made of the image's lists
 
     pub strings_at_place : AreStrings read image made → s.sh_type ≡ SHT_STRTAB → IsBytesAt image plan made raw i (made_or made i s.content)
     strings_at_place strings e =

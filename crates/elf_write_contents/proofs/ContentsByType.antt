@@ -23,7 +23,7 @@ use Rattle.elf_format.specs.Records.{entry_size}
 use Rattle.elf_format.specs.Rules.{file_of, is_opaque_relocation}
 use Rattle.elf_format.specs.Views.{interpreter_section}
 use Rattle.elf_format.proofs.ForCallers.ViewsAgree.{there_if}
-use Rattle.elf_image.specs.Kept.{KeptSection, interpreter_number, is_numbered, kept_of_type, kept_sections, link_of_type, stands_as_interpreter}
+use Rattle.elf_image.specs.Kept.{KeptSection, dynamic_strings_number, interpreter_number, is_numbered, kept_of_type, kept_sections, stands_as_interpreter}
 use Rattle.elf_layout_plan.specs.Needs.{written_entries}
 use Rattle.elf_layout_plan.specs.Plan.{Layout, resized}
 use Rattle.elf_layout_plan.specs.Sizes.{interpreter_size, new_size, strings_size}
@@ -33,15 +33,18 @@ use Rattle.elf_write_spec.specs.Contents.{AreEntriesOf, IsContentByKind, spelled
 use Rattle.elf_write_spec.specs.Final.{final}
 use Rattle.elf_tables.specs.Spelled.{spelled_entry}
 use Rattle.elf_tables.proofs.ForCallers.EntryBack.{entries_are_read_back}
-use Rattle.elf_write_spec.proofs.ForCallers.SectionKinds.{is_copied}
+use Rattle.elf_write_spec.proofs.ForCallers.SectionKinds.{kind_by}
 use Rattle.elf_write_spec.proofs.ForCallers.LinkedLists.{count-same, found_only}
 use Rattle.elf_write_spec.proofs.ForCallers.RawEntries.{length-raw}
-use Rattle.elf_write_contents.specs.declared.made.Made.{Made}
-use Rattle.elf_write_contents.specs.Inner.{AreRaw, AreStrings, IsMadeContent, IsReady, content_read, strings_at}
-use Rattle.elf_write_contents.proofs.ReadyEdits.{edit_of}
+use Rattle.elf_write_strings.specs.declared.made.Made.{Made}
+use Rattle.elf_write_strings.specs.DynamicStrings.{AreStrings, IsTold, content_read, strings_at}
+use Rattle.elf_write_spec.specs.Ready.{IsReady}
+use Rattle.elf_write_contents.specs.ContentSteps.{IsRelocated}
+use Rattle.elf_write_contents.specs.Inner.{AreRaw, IsMadeContent}
+use Rattle.elf_write_strings.proofs.ForCallers.ReadyEdits.{edit_of}
 use Rattle.elf_write_spec.proofs.ForCallers.WholeEdits.{ReadFacts, SectionRead, interpreter_stands, interpreter_type, length-kept, length-now, section_read}
-use Rattle.elf_write_contents.proofs.OthersCopied.{content_is_read, others_copied}
-use Rattle.elf_write_contents.proofs.ContentsMade.{IsOther, PlacedAt, content_by, content_copied, content_from, kind_copied, kind_is, resized_with, stored, typed, typed_size}
+use Rattle.elf_write_strings.proofs.ForCallers.OthersCopied.{content_is_read, others_copied}
+use Rattle.elf_write_contents.proofs.ContentsMade.{IsOther, PlacedAt, content_by, content_from, content_plain, is_plain, kind_is, kind_plain, plain_long, relocations_stored, resized_with, stored, typed, typed_size}
 use Rattle.elf_write_contents.proofs.ContentsCopied.{content_long, content_sized, copied_size, few_lists}
 use Rattle.elf_write_spec.proofs.ForCallers.NumberedSections.{kept}
 
@@ -49,16 +52,30 @@ module _ (read image : Image) (plan : Layout) (made : Option Made) (raw : List E
     (i : ℕ) (at : PlacedAt read image plan f.parts i) (apart : is_numbered (interpreter_number read) (kept i at.section) ≡ false) where
   -- ## Sections that are copied
 
-  pub others_made : IsOther at.section.sh_type → IsMadeContent (resized_with read image) plan made raw (kept i at.section) at.place at.section.content
-  others_made other = record {
-    sized = content_sized read image plan is f i at (copied_size read image plan is f i at apart other);
-    content = content_from read image plan made raw f.parts i at apart (strings_at image made at.section.sh_link) at.section.content at.section.kind
-        refl (content_copied (resized_with read image) plan raw (strings_at image made at.section.sh_link) (kept i at.section)
-        at.section.content at.section.kind
-        (ap is_copied (kind_is read image plan made raw f.parts i at at.section.sh_type refl)
-        ∙ kind_copied at.section.sh_type (is_opaque_relocation f.parts at.old) other) refl);
-    strings = λ e. absurd (false≢true (sym other.strings ∙ eq-eqb at.section.sh_type SHT_STRTAB e));
-  }
+  others_sized : IsOther at.section.sh_type → (bytes : List ℕ) → is_plain at.section.kind ≡ true → IsRelocated (resized_with read image) at.section bytes
+      → length bytes ≡ (if occupies_file at.place then at.place.sh_size else 0)
+  others_sized other bytes plain are =
+      let same : at.place.sh_size ≡ at.section.sh_size = copied_size read image plan is f i at apart other in
+      let kind : at.section.kind ≡ kind_by at.section.sh_type (is_opaque_relocation f.parts at.old) =
+      kind_is read image plan made raw f.parts i at at.section.sh_type refl in
+      plain_long (resized_with read image) at.section bytes (if occupies_file at.place then at.place.sh_size else 0) at.section.kind plain are
+      (content_sized read image plan is f i at same)
+      (λ e. sym same ∙ sym (stored read image plan made raw f.parts i at apart at.section.sh_type refl
+      (relocations_stored at.section.sh_type (is_opaque_relocation f.parts at.old) (sym kind ∙ e))))
+
+  pub others_made : IsOther at.section.sh_type → (bytes : List ℕ) → IsRelocated (resized_with read image) at.section bytes
+      → IsMadeContent (resized_with read image) plan made raw (kept i at.section) at.place bytes
+  others_made other bytes are =
+      let plain : is_plain at.section.kind ≡ true =
+      ap is_plain (kind_is read image plan made raw f.parts i at at.section.sh_type refl)
+      ∙ kind_plain at.section.sh_type (is_opaque_relocation f.parts at.old) other in
+      record {
+        sized = others_sized other bytes plain are;
+        content = content_from read image plan made raw f.parts i at apart (strings_at image made at.section.sh_link) bytes at.section.kind
+            refl (content_plain (resized_with read image) plan raw (strings_at image made at.section.sh_link) (kept i at.section)
+            bytes at.section.kind plain are);
+        strings = λ e. absurd (false≢true (sym other.strings ∙ eq-eqb at.section.sh_type SHT_STRTAB e));
+      }
 
   -- ## String tables
 
@@ -76,31 +93,38 @@ module _ (read image : Image) (plan : Layout) (made : Option Made) (raw : List E
     long = λ long. ap length (e ∙ content_as_read) ∙ long ∙ sym (cond-true (is_table_copied read image i) at.section.sh_size _ copied);
   }
 
-  table_is : (m : Option Made) → AreStrings read image m → IsTable (strings_at image m i)
-  table_is None strings = copied_table (content_read image i) refl (by_link (link_of_type SHT_DYNAMIC image) refl)
+  -- the table that is told anew
+  told_table : (m : Made) → IsTold read image m → m.number ≡ i → IsTable m.table.bytes
+  told_table m told number = by_copied (is_table_copied read image i) refl
     where
-      by_link : (o : Option ℕ) → link_of_type SHT_DYNAMIC image ≡ o → is_table_copied read image i ≡ true
-      by_link None e = others_copied read image is f i (ap (is_some_and (λ link. link == i)) e)
-      by_link (Some n) e = by_test (n == i) refl
-        where
-          by_test : (b : Bool) → (n == i) ≡ b → is_table_copied read image i ≡ true
-          by_test true same = strings.copied refl i (e ∙ ap (λ k. Some k) (eqb-true n i same))
-          by_test false other = others_copied read image is f i (ap (is_some_and (λ link. link == i)) e ∙ other)
-  table_is (Some m) strings = by_test (m.number == i) refl
-    where
-      by_test : (b : Bool) → (m.number == i) ≡ b → IsTable (if b then m.table.bytes else content_read image i)
-      by_test true same =
-          let has = (strings.anew m refl).1 in
-          let number : m.number ≡ i = eqb-true m.number i same in
-          let anew : is_table_copied read image i ≡ false = ap (is_table_copied read image) (sym number) ∙ has.anew in
+      by_copied : (b : Bool) → is_table_copied read image i ≡ b → IsTable m.table.bytes
+      by_copied true copied =
+          copied_table m.table.bytes (told.copied (ap (is_table_copied read image) number ∙ copied) ∙ ap (content_read image) number) copied
+      by_copied false anew =
+          let has = told.anew (ap (is_table_copied read image) number ∙ anew) in
           record {
             copied = λ yes. absurd (false≢true (sym anew ∙ yes));
             long = λ _. has.holds.long ∙ ap (λ n. table_length (texts_in_use read image n)) number
                 ∙ sym (cond-false (is_table_copied read image i) at.section.sh_size _ anew);
           }
+
+  table_is : (m : Option Made) → AreStrings read image m → IsTable (strings_at image m i)
+  table_is None strings = copied_table (content_read image i) refl (by_link (dynamic_strings_number image) refl)
+    where
+      by_link : (o : Option ℕ) → dynamic_strings_number image ≡ o → is_table_copied read image i ≡ true
+      by_link None e = others_copied read image is f i (ap (is_some_and (λ link. link == i)) e)
+      by_link (Some n) e = by_test (n == i) refl
+        where
+          by_test : (b : Bool) → (n == i) ≡ b → is_table_copied read image i ≡ true
+          by_test true same = (strings.as_read refl i (e ∙ ap (λ k. Some k) (eqb-true n i same))).copied
+          by_test false other = others_copied read image is f i (ap (is_some_and (λ link. link == i)) e ∙ other)
+  table_is (Some m) strings = by_test (m.number == i) refl
+    where
+      by_test : (b : Bool) → (m.number == i) ≡ b → IsTable (if b then m.table.bytes else content_read image i)
+      by_test true same = told_table m (strings.told m refl) (eqb-true m.number i same)
       by_test false other =
           copied_table (content_read image i) refl
-          (others_copied read image is f i (ap (is_some_and (λ link. link == i)) (strings.anew m refl).0 ∙ other))
+          (others_copied read image is f i (ap (is_some_and (λ link. link == i)) (strings.told m refl).linked ∙ other))
 
   pub strings_made : at.section.sh_type ≡ SHT_STRTAB → AreStrings read image made
       → IsMadeContent (resized_with read image) plan made raw (kept i at.section) at.place (strings_at image made i)

@@ -1,8 +1,8 @@
 -- The bytes of sections that stay as they were read: they are as many as their places have.
-use Rattle.std.proofs.Common.{◌≡◌, ◌≤◌, ℕ, ◌*◌, ◌/◌, ◌%◌, Bool, true, false, eqb, List, [], length, refl, sym, ap, ◌∙◌, subst, Option, Some, arith}
+use Rattle.std.proofs.Common.{◌≡◌, ◌≤◌, ℕ, ◌*◌, ◌/◌, ◌%◌, Bool, true, false, eqb, List, [], length, refl, sym, ap, ◌∙◌, subst, Option, Some}
 use Rattle.std.specs.Prelude.{◌&&◌, not, if◌then◌else◌, ◌==◌, count_by, nat_le}
 use Rattle.std.specs.List.{list_all, slice_get}
-use Rattle.std.proofs.lemmas.Bool.{and_parts, cond-false, cond-true, eqb-true, false≢true, leb-true}
+use Rattle.std.proofs.lemmas.Bool.{and_parts, cond-false, eqb-true, false≢true, leb-true}
 use Rattle.elf_format.specs.declared.constants.TheConstants.{SHT_DYNAMIC, SHT_DYNSYM, SHT_GNU_HASH, SHT_GNU_VERDEF, SHT_GNU_VERNEED, SHT_GNU_VERSYM, SHT_HASH, SHT_STRTAB, SHT_SYMTAB}
 use Rattle.elf_format.specs.declared.form.Form.{Form}
 use Rattle.elf_format.specs.declared.records.SectionHeader.{SectionHeader}
@@ -10,20 +10,18 @@ use Rattle.elf_format.specs.File.{Parts, has_file_bytes, section_bytes, section_
 use Rattle.elf_format.specs.Image.{Image, ImageSection, symbols_of}
 use Rattle.elf_format.specs.Places.{occupies_file}
 use Rattle.elf_format.specs.Records.{symbol_numbers, symbol_size}
-use Rattle.elf_format.specs.Rules.{are_linked, are_whole, file_of, infos_are_sections, is_one_of_each, relocations_fit, single_section_types, symbols_have_sections, unit_of, version_symbols_agree}
+use Rattle.elf_format.specs.Rules.{are_linked, are_whole, file_of, infos_are_sections, is_one_of_each, relocations_fit, single_section_types, symbols_have_sections, unit_of}
 use Rattle.elf_format.specs.Views.{NamedSymbol}
 use Rattle.elf_format.proofs.ForCallers.Placed.{IsIn, IsIn-slice_get}
-use Rattle.elf_format.proofs.ForCallers.ViewsAgree.{found_by_type, length-bytes, test_at, there_and, version_symbols_right, whole_count, whole_entries}
-use Rattle.elf_image.specs.ReadImage.{AreDynamicSymbols, AreStaticSymbols}
+use Rattle.elf_format.proofs.ForCallers.ViewsAgree.{length-bytes, whole_count, whole_entries}
+use Rattle.elf_image.specs.ReadImage.{AreStaticSymbols}
 use Rattle.elf_image.specs.Kept.{interpreter_number, is_numbered}
 use Rattle.elf_layout_plan.specs.Plan.{Layout}
-use Rattle.elf_layout_plan.specs.Sizes.{hash_size, interpreter_size, new_size, table_size}
-use Rattle.elf_layout_plan.specs.Texts.{are_names_changed}
+use Rattle.elf_layout_plan.specs.Sizes.{interpreter_size, new_size, table_size}
 use Rattle.elf_write_spec.proofs.ForCallers.LinkedLists.{found_only}
 use Rattle.elf_write_spec.proofs.ForCallers.LinkedRelocations.{symbol_size-pos}
-use Rattle.elf_write_contents.specs.Inner.{IsReady}
-use Rattle.elf_write_contents.proofs.ReadyEdits.{edit_of}
-use Rattle.elf_write_spec.proofs.ForCallers.WholeEdits.{ReadFacts, final_is}
+use Rattle.elf_write_spec.specs.Ready.{IsReady}
+use Rattle.elf_write_spec.proofs.ForCallers.WholeEdits.{ReadFacts}
 use Rattle.elf_write_contents.proofs.ContentsMade.{IsOther, PlacedAt}
 use Rattle.elf_format.proofs.ForCallers.Lengths.{length-records}
 use Rattle.elf_write_spec.proofs.ForCallers.NumberedSections.{kept}
@@ -48,18 +46,6 @@ module _ (p : Parts) (linked : is_one_of_each p.segments p.sections && are_linke
       let one = and_parts (nat_le (count_of SHT_SYMTAB) 1) _ singles in
       let two = and_parts (nat_le (count_of SHT_DYNSYM) 1) _ one.1 in
       leb-true (count_of SHT_DYNAMIC) 1 (and_parts (nat_le (count_of SHT_DYNAMIC) 1) _ two.1).0
-
-  pub only_versions : (i : ℕ) (s : SectionHeader) → slice_get p.sections i ≡ Some s → s.sh_type ≡ SHT_GNU_VERSYM
-      → section_of_type SHT_GNU_VERSYM p.sections ≡ Some s
-  only_versions i s at e =
-      let one = and_parts (nat_le (count_of SHT_SYMTAB) 1) _ singles in
-      let two = and_parts (nat_le (count_of SHT_DYNSYM) 1) _ one.1 in
-      let three = and_parts (nat_le (count_of SHT_DYNAMIC) 1) _ two.1 in
-      let four = and_parts (nat_le (count_of SHT_HASH) 1) _ three.1 in
-      let five = and_parts (nat_le (count_of SHT_GNU_HASH) 1) _ four.1 in
-      let few : nat_le (count_of SHT_GNU_VERSYM) 1 ≡ true = (and_parts (nat_le (count_of SHT_GNU_VERSYM) 1) _ five.1).0 in
-      found_only (λ (t : SectionHeader). t.sh_type == SHT_GNU_VERSYM) p.sections i s (leb-true (count_of SHT_GNU_VERSYM) 1 few) at
-      (ap (λ n. n == SHT_GNU_VERSYM) e)
 
 -- ## Sizes that were read
 
@@ -110,9 +96,6 @@ module _ (read image : Image) (plan : Layout) (is : IsReady read image) (f : Rea
   table_unit : (s : SectionHeader) → s.sh_type ≡ SHT_SYMTAB → unit_of f.parts.opened.form s ≡ symbol_size f.parts.opened.form
   table_unit s e = rw e refl
 
-  versions_unit : (s : SectionHeader) → s.sh_type ≡ SHT_GNU_VERSYM → unit_of f.parts.opened.form s ≡ 2
-  versions_unit s e = rw e refl
-
   static_size : at.section.sh_type ≡ SHT_SYMTAB → length image.symbols * symbol_size image.form ≡ at.section.sh_size
   static_size e =
       let typed : at.old.sh_type ≡ SHT_SYMTAB = old_type ∙ e in
@@ -127,36 +110,6 @@ module _ (read image : Image) (plan : Layout) (is : IsReady read image) (f : Rea
       ap (λ (form : Form). length image.symbols * symbol_size form) form_is
       ∙ ap (λ n. n * size) (ap (λ (l : List NamedSymbol). length l) is.whole.symbols ∙ count ∙ room)
       ∙ whole_count at.old.sh_size size (symbol_size-pos f.parts.opened.form.wide) whole ∙ old_size
-
-  versions_size : at.section.sh_type ≡ SHT_GNU_VERSYM → 2 * length image.dynamic_symbols ≡ at.section.sh_size
-  versions_size e =
-      let p : Parts = f.parts in
-      let typed : at.old.sh_type ≡ SHT_GNU_VERSYM = old_type ∙ e in
-      let size : ℕ = symbol_size p.opened.form in
-      let found = only_versions p f.rules.linked i at.old at.is_old typed in
-      let right : version_symbols_agree p at.old ≡ true =
-      test_at (λ (s : SectionHeader). version_symbols_agree p s) (section_of_type SHT_GNU_VERSYM p.sections) at.old
-      (version_symbols_right p f.rules) found in
-      let (y, y_there, same) = there_and (λ (symbols : SectionHeader). at.old.sh_size / 2 == symbols.sh_size / size)
-      (section_of_type SHT_DYNSYM p.sections) (and_parts _ _ right).0 in
-      let known = found_by_type p f.rules SHT_DYNSYM refl y y_there in
-      let count : length read.dynamic_symbols ≡ length (symbols_of p y) =
-      (subst (λ (o : Option SectionHeader). AreDynamicSymbols p (section_of_type SHT_GNU_VERSYM p.sections) o read.dynamic_symbols) y_there
-      f.holds.dynamic_symbols).count in
-      let whole : at.old.sh_size % 2 ≡ 0 =
-      ap (λ n. at.old.sh_size % n) (sym (versions_unit at.old typed)) ∙ whole_entries p f.rules at.old is_in in
-      let half : length image.dynamic_symbols ≡ at.old.sh_size / 2 =
-      ap (λ (l : List NamedSymbol). length l) is.whole.dynamic_symbols ∙ count ∙ counted_symbols y known.0 known.1
-      ∙ sym (eqb-true (at.old.sh_size / 2) (y.sh_size / size) same) in
-      let all : (at.old.sh_size / 2) * 2 ≡ at.old.sh_size = whole_count at.old.sh_size 2 (omega arith) whole in
-      ap (λ n. 2 * n) half ∙ twice (at.old.sh_size / 2) at.old.sh_size all ∙ old_size
-    where
-      twice : (n m : ℕ) → n * 2 ≡ m → 2 * n ≡ m
-      twice n m h = omega (arith, h)
-
-  -- hash tables keep their sizes
-  hash_same : hash_size read image at.section ≡ at.section.sh_size
-  hash_same = cond-true (not (are_names_changed read image)) at.section.sh_size _ (ap not (final_is read image (edit_of is)).names)
 
   -- ## Any other section keeps its size
 
@@ -175,11 +128,11 @@ module _ (read image : Image) (plan : Layout) (is : IsReady read image) (f : Rea
       pick (n == SHT_STRTAB) _ _ old (never (n == SHT_STRTAB) _ old other.strings) (λ _.
       pick (n == SHT_SYMTAB) _ _ old (λ e. static_size (eqb-true n SHT_SYMTAB e)) (λ _.
       pick (n == SHT_DYNSYM) _ _ old (never (n == SHT_DYNSYM) _ old other.symbols) (λ _.
-      pick (n == SHT_GNU_VERSYM) _ _ old (λ e. versions_size (eqb-true n SHT_GNU_VERSYM e)) (λ _.
+      pick (n == SHT_GNU_VERSYM) _ _ old (never (n == SHT_GNU_VERSYM) _ old other.versions) (λ _.
       pick (n == SHT_GNU_VERDEF) _ _ old (never (n == SHT_GNU_VERDEF) _ old other.definitions) (λ _.
       pick (n == SHT_GNU_VERNEED) _ _ old (never (n == SHT_GNU_VERNEED) _ old other.needs) (λ _.
-      pick (n == SHT_HASH) _ _ old (λ _. hash_same) (λ _.
-      pick (n == SHT_GNU_HASH) _ _ old (λ _. hash_same) (λ _. refl)))))))))
+      pick (n == SHT_HASH) _ _ old (never (n == SHT_HASH) _ old other.gabi) (λ _.
+      pick (n == SHT_GNU_HASH) _ _ old (never (n == SHT_GNU_HASH) _ old other.gnu) (λ _. refl)))))))))
 
   pub copied_size : is_numbered (interpreter_number read) (kept i at.section) ≡ false → IsOther at.section.sh_type
       → at.place.sh_size ≡ at.section.sh_size

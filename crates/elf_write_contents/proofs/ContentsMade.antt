@@ -2,7 +2,7 @@
 use Rattle.std.proofs.Common.{◌≡◌, ◌<◌, ℕ, ◌*◌, Bool, true, false, eqb, List, [], ◌∷◌, length, map, refl, sym, ap, ◌∙◌, subst, Option, Some}
 use Rattle.std.specs.Prelude.{◌&&◌, not, if◌then◌else◌, ◌==◌}
 use Rattle.std.specs.List.{slice_get}
-use Rattle.std.proofs.lemmas.Bool.{both_ways, cond-false, cond-true, eq-eqb, false≢true}
+use Rattle.std.proofs.lemmas.Bool.{both_ways, cond-false, cond-true, eq-eqb, eqb-true, false≢true}
 use Rattle.std.proofs.lemmas.Option.{same_Some}
 use Rattle.elf_format.specs.declared.constants.TheConstants.{SHT_DYNAMIC, SHT_DYNSYM, SHT_GNU_HASH, SHT_GNU_VERDEF, SHT_GNU_VERNEED, SHT_GNU_VERSYM, SHT_HASH, SHT_NOBITS, SHT_NOTE, SHT_REL, SHT_RELA, SHT_STRTAB, SHT_SYMTAB}
 use Rattle.elf_format.specs.declared.records.EntryNumbers.{EntryNumbers}
@@ -27,13 +27,14 @@ use Rattle.elf_layout_plan.proofs.ForCallers.ApartRead.{edited_facts}
 use Rattle.elf_layout_plan.proofs.ForCallers.ApartSections.{at-sized, sized_of}
 use Rattle.elf_layout_plan.proofs.ForCallers.PlacedLists.{slice_get-at}
 use Rattle.elf_layout_plan.proofs.ForCallers.PlacedPlaces.{keeps_kind}
-use Rattle.elf_write_spec.specs.Contents.{AreDefinitionsIn, AreNeedsIn, AreSymbolsOf, IsContent, IsContentOfKind}
+use Rattle.elf_write_spec.specs.Contents.{AreDefinitionsIn, AreNeedsIn, AreSymbolsOf, AreVersionsIn, IsContent, IsContentOfKind, IsGabiContent, IsGnuContent}
 use Rattle.elf_write_spec.specs.Final.{final}
-use Rattle.elf_write_spec.proofs.ForCallers.SectionKinds.{is_copied}
-use Rattle.elf_write_contents.specs.declared.made.Made.{Made}
-use Rattle.elf_write_contents.specs.ContentSteps.{IsBytesAt}
-use Rattle.elf_write_contents.specs.Inner.{IsMadeContent, IsPlanned, strings_at}
-use Rattle.elf_write_contents.proofs.ReadyEdits.{edit_of}
+use Rattle.elf_write_strings.specs.declared.made.Made.{Made}
+use Rattle.elf_write_contents.specs.ContentSteps.{IsBytesAt, IsRelocatedOf}
+use Rattle.elf_write_strings.specs.DynamicStrings.{strings_at}
+use Rattle.elf_write_spec.specs.Ready.{IsPlanned}
+use Rattle.elf_write_contents.specs.Inner.{IsMadeContent}
+use Rattle.elf_write_strings.proofs.ForCallers.ReadyEdits.{edit_of}
 use Rattle.elf_write_spec.proofs.ForCallers.WholeEdits.{ReadFacts, SectionRead, section_read}
 use Rattle.elf_write_spec.proofs.ForCallers.NumberedSections.{kept}
 use Rattle.elf_write_spec.proofs.ForCallers.SectionKinds.{kind_by}
@@ -98,41 +99,77 @@ bytes_at read image plan made raw p i bytes same at is = record {
 
 -- ## Kinds
 
--- bytes as they were read, of a kind that is copied
-pub content_copied : (r : Resized) (plan : Layout) (raw : List EntryNumbers) (strings : List ℕ) (s : KeptSection) (bytes : List ℕ) (kind : SectionData)
-    → is_copied kind ≡ true → bytes ≡ s.section.content → IsContentOfKind r plan raw strings s bytes kind
-content_copied r plan raw strings s bytes kinds.Opaque h e = e
-content_copied r plan raw strings s bytes kinds.Uninitialized h e = e
-content_copied r plan raw strings s bytes kinds.Dynamic h e = absurd (false≢true h)
-content_copied r plan raw strings s bytes kinds.Relocation h e = e
-content_copied r plan raw strings s bytes kinds.Note h e = e
-content_copied r plan raw strings s bytes kinds.Strings h e = absurd (false≢true h)
-content_copied r plan raw strings s bytes kinds.Symbols h e = e
-content_copied r plan raw strings s bytes kinds.DynamicSymbols h e = absurd (false≢true h)
-content_copied r plan raw strings s bytes kinds.Hash h e = e
-content_copied r plan raw strings s bytes kinds.GnuHash h e = e
-content_copied r plan raw strings s bytes kinds.GnuVersym h e = e
-content_copied r plan raw strings s bytes kinds.GnuVerdef h e = absurd (false≢true h)
-content_copied r plan raw strings s bytes kinds.GnuVerneed h e = absurd (false≢true h)
+-- a kind of which the bytes are those that were read, but for the symbols that relocations name
+abbrev pub is_plain : SectionData → Bool
+is_plain kinds.Opaque = true
+is_plain kinds.Uninitialized = true
+is_plain kinds.Dynamic = false
+is_plain kinds.Relocation = true
+is_plain kinds.Note = true
+is_plain kinds.Strings = false
+is_plain kinds.Symbols = true
+is_plain kinds.DynamicSymbols = false
+is_plain kinds.Hash = false
+is_plain kinds.GnuHash = false
+is_plain kinds.GnuVersym = false
+is_plain kinds.GnuVerdef = false
+is_plain kinds.GnuVerneed = false
 
--- a type of which the bytes are made, or of string tables
+-- bytes of such a kind
+pub content_plain : (r : Resized) (plan : Layout) (raw : List EntryNumbers) (strings : List ℕ) (s : KeptSection) (bytes : List ℕ) (kind : SectionData)
+    → is_plain kind ≡ true → IsRelocatedOf r s.section bytes kind → IsContentOfKind r plan raw strings s bytes kind
+content_plain r plan raw strings s bytes kinds.Opaque h is = is
+content_plain r plan raw strings s bytes kinds.Uninitialized h is = is
+content_plain r plan raw strings s bytes kinds.Dynamic h is = absurd (false≢true h)
+content_plain r plan raw strings s bytes kinds.Relocation h is = is.1
+content_plain r plan raw strings s bytes kinds.Note h is = is
+content_plain r plan raw strings s bytes kinds.Strings h is = absurd (false≢true h)
+content_plain r plan raw strings s bytes kinds.Symbols h is = is
+content_plain r plan raw strings s bytes kinds.DynamicSymbols h is = absurd (false≢true h)
+content_plain r plan raw strings s bytes kinds.Hash h is = absurd (false≢true h)
+content_plain r plan raw strings s bytes kinds.GnuHash h is = absurd (false≢true h)
+content_plain r plan raw strings s bytes kinds.GnuVersym h is = absurd (false≢true h)
+content_plain r plan raw strings s bytes kinds.GnuVerdef h is = absurd (false≢true h)
+content_plain r plan raw strings s bytes kinds.GnuVerneed h is = absurd (false≢true h)
+
+-- they are as many as a size that both the bytes that were read and relocations have
+pub plain_long : (r : Resized) (s : ImageSection) (bytes : List ℕ) (size : ℕ) (kind : SectionData) → is_plain kind ≡ true → IsRelocatedOf r s bytes kind
+    → length s.content ≡ size → (kind ≡ kinds.Relocation → s.sh_size ≡ size) → length bytes ≡ size
+plain_long r s bytes size kinds.Opaque h is long relocations = ap length is ∙ long
+plain_long r s bytes size kinds.Uninitialized h is long relocations = ap length is ∙ long
+plain_long r s bytes size kinds.Dynamic h is long relocations = absurd (false≢true h)
+plain_long r s bytes size kinds.Relocation h is long relocations = is.0 ∙ relocations refl
+plain_long r s bytes size kinds.Note h is long relocations = ap length is ∙ long
+plain_long r s bytes size kinds.Strings h is long relocations = absurd (false≢true h)
+plain_long r s bytes size kinds.Symbols h is long relocations = ap length is ∙ long
+plain_long r s bytes size kinds.DynamicSymbols h is long relocations = absurd (false≢true h)
+plain_long r s bytes size kinds.Hash h is long relocations = absurd (false≢true h)
+plain_long r s bytes size kinds.GnuHash h is long relocations = absurd (false≢true h)
+plain_long r s bytes size kinds.GnuVersym h is long relocations = absurd (false≢true h)
+plain_long r s bytes size kinds.GnuVerdef h is long relocations = absurd (false≢true h)
+plain_long r s bytes size kinds.GnuVerneed h is long relocations = absurd (false≢true h)
+
+-- none of the types of which the bytes are made, or of string tables
 pub record IsOther (n : ℕ) : Type 0 where
   pub dynamic : (n == SHT_DYNAMIC) ≡ false
   pub strings : (n == SHT_STRTAB) ≡ false
   pub symbols : (n == SHT_DYNSYM) ≡ false
+  pub gabi : (n == SHT_HASH) ≡ false
+  pub gnu : (n == SHT_GNU_HASH) ≡ false
+  pub versions : (n == SHT_GNU_VERSYM) ≡ false
   pub definitions : (n == SHT_GNU_VERDEF) ≡ false
   pub needs : (n == SHT_GNU_VERNEED) ≡ false
 
-either : (b : Bool) (x y : SectionData) → is_copied x ≡ true → is_copied y ≡ true → is_copied (if b then x else y) ≡ true
+either : (b : Bool) (x y : SectionData) → is_plain x ≡ true → is_plain y ≡ true → is_plain (if b then x else y) ≡ true
 either true x y h k = h
 either false x y h k = k
 
-other_one : (b : Bool) (x y : SectionData) → b ≡ false → is_copied y ≡ true → is_copied (if b then x else y) ≡ true
+other_one : (b : Bool) (x y : SectionData) → b ≡ false → is_plain y ≡ true → is_plain (if b then x else y) ≡ true
 other_one true x y h k = absurd (false≢true (sym h))
 other_one false x y h k = k
 
-pub kind_copied : (n : ℕ) (opaque : Bool) → IsOther n → is_copied (kind_by n opaque) ≡ true
-kind_copied n opaque is =
+pub kind_plain : (n : ℕ) (opaque : Bool) → IsOther n → is_plain (kind_by n opaque) ≡ true
+kind_plain n opaque is =
     either (n == SHT_NOBITS) kinds.Uninitialized _ refl
     (other_one (n == SHT_DYNAMIC) kinds.Dynamic _ is.dynamic
     (either (is_one_of (SHT_REL ∷ SHT_RELA ∷ []) n) (if opaque then kinds.Opaque else kinds.Relocation) _ (either opaque kinds.Opaque kinds.Relocation refl refl)
@@ -140,11 +177,28 @@ kind_copied n opaque is =
     (other_one (n == SHT_STRTAB) kinds.Strings _ is.strings
     (either (n == SHT_SYMTAB) kinds.Symbols _ refl
     (other_one (n == SHT_DYNSYM) kinds.DynamicSymbols _ is.symbols
-    (either (n == SHT_HASH) kinds.Hash _ refl
-    (either (n == SHT_GNU_HASH) kinds.GnuHash _ refl
-    (either (n == SHT_GNU_VERSYM) kinds.GnuVersym _ refl
+    (other_one (n == SHT_HASH) kinds.Hash _ is.gabi
+    (other_one (n == SHT_GNU_HASH) kinds.GnuHash _ is.gnu
+    (other_one (n == SHT_GNU_VERSYM) kinds.GnuVersym _ is.versions
     (other_one (n == SHT_GNU_VERDEF) kinds.GnuVerdef _ is.definitions
     (other_one (n == SHT_GNU_VERNEED) kinds.GnuVerneed kinds.Opaque is.needs refl)))))))))))
+
+-- relocations have bytes in the file
+pub relocations_stored : (n : ℕ) (opaque : Bool) → kind_by n opaque ≡ kinds.Relocation → (not (eqb n 0) && not (eqb n 8)) ≡ true
+relocations_stored n opaque is = by_tests (eqb n 0) refl (eqb n 8) refl
+  where
+    to_true : SectionData → Bool
+    to_true kinds.Opaque = true
+    to_true kinds.Uninitialized = true
+    to_true _ = false
+
+    none : (k : SectionData) → to_true k ≡ true → k ≡ kinds.Relocation → ⊥
+    none k told e = false≢true (ap to_true (sym e) ∙ told)
+
+    by_tests : (a : Bool) → eqb n 0 ≡ a → (b : Bool) → eqb n 8 ≡ b → (not a && not b) ≡ true
+    by_tests true a b b_is = absurd (none (kind_by 0 opaque) refl (ap (λ (m : ℕ). kind_by m opaque) (sym (eqb-true n 0 a)) ∙ is))
+    by_tests false a true b = absurd (none (kind_by 8 opaque) refl (ap (λ (m : ℕ). kind_by m opaque) (sym (eqb-true n 8 b)) ∙ is))
+    by_tests false a false b = refl
 
 module _ (read image : Image) (plan : Layout) (made : Option Made) (raw : List EntryNumbers) (p : Parts) (i : ℕ) (at : PlacedAt read image plan p i) where
   abbrev pub here : KeptSection
@@ -241,3 +295,20 @@ module _ (read image : Image) (plan : Layout) (made : Option Made) (raw : List E
         → AreNeedsIn r (strings_at image made at.section.sh_link) bytes
         → IsMadeContent r plan made raw here at.place bytes
     needs_made bytes e long are = typed bytes SHT_GNU_VERNEED e refl refl kinds.GnuVerneed (λ opaque. refl) long are
+
+    -- ## Tables that number the dynamic symbols
+
+    pub versions_made : (bytes : List ℕ) → at.section.sh_type ≡ SHT_GNU_VERSYM → length bytes ≡ 2 * length image.dynamic_symbols
+        → AreVersionsIn r at.section bytes
+        → IsMadeContent r plan made raw here at.place bytes
+    versions_made bytes e long are = typed bytes SHT_GNU_VERSYM e refl refl kinds.GnuVersym (λ opaque. refl) long are
+
+    pub gabi_made : (bytes : List ℕ) → at.section.sh_type ≡ SHT_HASH → length bytes ≡ hash_size read image at.section
+        → IsGabiContent r at.section bytes
+        → IsMadeContent r plan made raw here at.place bytes
+    gabi_made bytes e long are = typed bytes SHT_HASH e refl refl kinds.Hash (λ opaque. refl) long are
+
+    pub gnu_made : (bytes : List ℕ) → at.section.sh_type ≡ SHT_GNU_HASH → length bytes ≡ hash_size read image at.section
+        → IsGnuContent r at.section bytes
+        → IsMadeContent r plan made raw here at.place bytes
+    gnu_made bytes e long are = typed bytes SHT_GNU_HASH e refl refl kinds.GnuHash (λ opaque. refl) long are

@@ -25,14 +25,17 @@ use Rattle.elf_layout_plan.specs.Plan.{Layout, resized}
 use Rattle.elf_write_spec.specs.Contents.{AreEntriesOf, IsEntryOf}
 use Rattle.elf_write_spec.specs.Final.{final}
 use Rattle.elf_write_spec.specs.Headers.{Reads, written_header, written_section}
+use Rattle.elf_write_spec.proofs.ForCallers.FinalEntries.{written_none}
 use Rattle.elf_write_spec.proofs.ForCallers.TextsRead.{text_inside}
-use Rattle.elf_write_contents.specs.declared.made.Made.{Made}
+use Rattle.elf_write_strings.specs.declared.made.Made.{Made}
 use Rattle.elf_write_contents.specs.FitSteps.{do_unnamed_fit, unnamed}
-use Rattle.elf_write_contents.specs.Inner.{AreHeaders, AreRaw, AreStrings, IsPlanned, IsReady, strings_at}
-use Rattle.elf_write_contents.specs.Numbers.{do_numbers_fit, do_sections_fit, does_entry_fit, entry_with}
+use Rattle.elf_write_strings.specs.DynamicStrings.{AreStrings, strings_at}
+use Rattle.elf_write_spec.specs.Ready.{IsPlanned, IsReady}
+use Rattle.elf_write_contents.specs.Inner.{AreHeaders, AreRaw}
+use Rattle.elf_write_contents.specs.Numbers.{do_header_numbers_fit, do_sections_fit, does_entry_fit, entry_with}
 use Rattle.elf_write_contents.proofs.FitsStrings.{strings_short, words_end}
-use Rattle.elf_write_contents.proofs.ReadyEdits.{edit_of}
-use Rattle.elf_write_spec.proofs.ForCallers.WholeEdits.{Nowhere, ReadFacts, There, final_is, read_facts, type_at}
+use Rattle.elf_write_strings.proofs.ForCallers.ReadyEdits.{edit_of}
+use Rattle.elf_write_spec.proofs.ForCallers.WholeEdits.{Nowhere, ReadFacts, There, entries_written, read_facts, type_at}
 
 -- ## Section headers
 
@@ -91,10 +94,10 @@ module _ (r : Resized) (plan : Layout) (strings : List ℕ) (short : length stri
       ∙ ap (λ (b : Bool). does_entry_fit r plan e && b) (entries_fit es xs are.1)
 
 -- no list without a dynamic section
-none_listed : (read now : Option (List Entry)) → AreEditedEntries read now → read ≡ None → list_at (λ es. es) now ≡ []
-none_listed None None are none = refl
-none_listed None (Some now) are none = absurd are
-none_listed (Some read) now are none = absurd (none-some read (sym none))
+none_edited : (read now : Option (List Entry)) → AreEditedEntries read now → read ≡ None → now ≡ None
+none_edited None None are none = refl
+none_edited None (Some now) are none = absurd are
+none_edited (Some read) now are none = absurd (none-some read (sym none))
 
 no_entries : (read image : Image) → IsReady read image → kept_of_type SHT_DYNAMIC image ≡ None
     → list_at (λ es. es) (final (image_at_read image) image).entries ≡ []
@@ -102,8 +105,8 @@ unfolding entries_read
 no_entries read image is none =
     let f = read_facts read image (edit_of is) in
     ap (λ (r : Image). list_at (λ es. es) (final r image).entries) (sym is.at_read)
-    ∙ ap (list_at (λ es. es)) (final_is read image (edit_of is)).entries
-    ∙ none_listed read.entries image.entries f.edit.entries (read_none f)
+    ∙ ap (list_at (λ es. es)) (entries_written read image)
+    ∙ ap (list_at (λ es. es)) (written_none read image (none_edited read.entries image.entries f.edit.entries (read_none f)))
   where
     read_none : (f : ReadFacts read image) → read.entries ≡ None
     read_none f = elim (type_at read image (edit_of is) f SHT_DYNAMIC) [
@@ -132,8 +135,8 @@ module _ (read image : Image) (plan : Layout) (made : Option Made) (raw : List E
       → header ≡ written_header image plan
       → AreHeaders (resized image) (strings_at image made image.header.e_shstrndx) (kept_sections image) plan.places sections
       → AreRaw (resized image) plan made raw
-      → do_unnamed_fit image.form header plan.segments sections raw ≡ do_numbers_fit image plan
-  unfolding do_unnamed_fit do_numbers_fit
+      → do_unnamed_fit image.form header plan.segments sections raw ≡ do_header_numbers_fit image plan
+  unfolding do_unnamed_fit do_header_numbers_fit
   numbers_fit header sections is strings header_is headers are =
       let segments_fit : Bool = list_all (λ p. do_fields_fit (segment_fields image.form p)) plan.segments in
       ap (λ (h : FileHeader). do_fields_fit (file_header_fields image.form h) && segments_fit

@@ -16,15 +16,16 @@ use Rattle.elf_format.specs.File.{has_file_bytes, section_bytes}
 use Rattle.elf_format.specs.Form.{by_class}
 use Rattle.elf_format.specs.Image.{Image, ImageSection}
 use Rattle.elf_format.specs.Rules.{file_of}
-use Rattle.elf_image.specs.Kept.{interpreter_number, is_numbered, kept_sections, link_of_type}
+use Rattle.elf_image.specs.Kept.{dynamic_strings_number, interpreter_number, is_numbered, kept_sections, link_of_type}
 use Rattle.elf_layout_plan.specs.Sizes.{fits_field, interpreter_size, new_size, new_sizes, strings_size, table_size}
 use Rattle.elf_layout_plan.specs.Texts.{is_table_copied, texts_in_use}
 use Rattle.elf_tables.specs.Strings.{table_length}
-use Rattle.elf_write_contents.specs.declared.made.Made.{Made}
-use Rattle.elf_write_contents.specs.Inner.{AreStrings, IsReady, content_read, strings_at}
-use Rattle.elf_write_contents.proofs.MadeShort.{all_at, strings_read}
-use Rattle.elf_write_contents.proofs.OthersCopied.{content_is_read}
-use Rattle.elf_write_contents.proofs.ReadyEdits.{edit_of}
+use Rattle.elf_write_strings.specs.declared.made.Made.{Made}
+use Rattle.elf_write_strings.specs.DynamicStrings.{AreStrings, content_read, strings_at}
+use Rattle.elf_write_spec.specs.Ready.{IsReady}
+use Rattle.elf_write_strings.proofs.ForCallers.MadeShort.{all_at, strings_read}
+use Rattle.elf_write_strings.proofs.ForCallers.OthersCopied.{content_is_read, list_linked}
+use Rattle.elf_write_strings.proofs.ForCallers.ReadyEdits.{edit_of}
 use Rattle.elf_write_spec.proofs.ForCallers.WholeEdits.{ReadFacts, kept-at, not_interpreter, read_facts}
 use Rattle.elf_write_spec.proofs.ForCallers.NumberedSections.{kept}
 
@@ -80,7 +81,7 @@ narrow_fits : (wide : Wide) (n : ℕ) → n ≤ 2 ^ 32 → n ≤ words_end wide
 narrow_fits W32 n less = less
 narrow_fits W64 n less = omega (arith, less)
 
-copied_short : (read image : Image) (is : IsReady read image) (number : ℕ) → link_of_type SHT_DYNAMIC image ≡ Some number
+copied_short : (read image : Image) (is : IsReady read image) (number : ℕ) → dynamic_strings_number image ≡ Some number
     → is_table_copied read image number ≡ true → length (content_read image number) ≤ words_end image.form.wide
 copied_short read image is number linked copied =
     let f = read_facts read image (edit_of is) in
@@ -100,13 +101,14 @@ copied_short read image is number linked copied =
 
 pub strings_short : (read image : Image) (made : Option Made) → IsReady read image → AreStrings read image made → (number : ℕ)
     → link_of_type SHT_DYNAMIC image ≡ Some number → length (strings_at image made number) ≤ words_end image.form.wide
-strings_short read image None is strings number linked = copied_short read image is number linked (strings.copied refl number linked)
+strings_short read image None is strings number linked =
+    let here = list_linked read image is (read_facts read image (edit_of is)) number linked in
+    copied_short read image is number here (strings.as_read refl number here).copied
 strings_short read image (Some m) is strings number linked =
-    let anew = strings.anew m refl in
-    let same : m.number ≡ number = same_Some m.number number (sym anew.0 ∙ linked) in
+    let told = strings.told m refl in
+    let here = list_linked read image is (read_facts read image (edit_of is)) number linked in
+    let same : m.number ≡ number = same_Some m.number number (sym told.linked ∙ here) in
     let table : strings_at image (Some m) number ≡ m.table.bytes =
     ap (λ (b : Bool). if b then m.table.bytes else content_read image number) (eq-eqb m.number number same) in
-    let long : length m.table.bytes ≡ table_length (texts_in_use read image m.number) = anew.1.holds.long in
-    let fits : table_length (texts_in_use read image m.number) ≤ 2 ^ 32 = anew.1.fits in
-    subst (λ (n : ℕ). n ≤ words_end image.form.wide) (sym (ap length table ∙ long))
-    (narrow_fits image.form.wide (table_length (texts_in_use read image m.number)) fits)
+    subst (λ (n : ℕ). n ≤ words_end image.form.wide) (sym (ap length table))
+    (narrow_fits image.form.wide (length m.table.bytes) told.short)

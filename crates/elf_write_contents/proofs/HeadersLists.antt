@@ -14,14 +14,16 @@ use Rattle.elf_format.specs.Places.{Place}
 use Rattle.elf_format.specs.Views.{NamedSymbol}
 use Rattle.elf_tables.specs.Fields.{do_fields_fit, does_field_fit}
 use Rattle.elf_tables.specs.Spelled.{class_word, file_header_fields, section_fields, segment_fields}
+use Rattle.elf_hashes.specs.Found.{is_local}
 use Rattle.elf_image.specs.Kept.{KeptSection, kept_sections}
 use Rattle.elf_layout_plan.specs.Memory.{Resized}
 use Rattle.elf_layout_plan.specs.Plan.{Layout, resized}
-use Rattle.elf_write_spec.specs.Final.{final, is_local}
+use Rattle.elf_write_spec.specs.Final.{final}
 use Rattle.elf_write_spec.specs.Headers.{IsHeaderOf, behind_locals, written_header, written_info, written_section}
 use Rattle.elf_write_contents.specs.HeaderSteps.{AreMade, IsHeaderAt}
 use Rattle.elf_write_contents.specs.Inner.{AreHeaders}
-use Rattle.elf_write_contents.specs.Numbers.{do_numbers_fit, do_sections_fit, does_entry_fit}
+use Rattle.elf_write_contents.specs.Numbers.{do_header_numbers_fit, do_numbers_fit, do_sections_fit, does_entry_fit}
+use Rattle.elf_write_contents.proofs.NumbersUnfit.{headers_unfit}
 
 -- ## Behind the last local symbol
 
@@ -120,10 +122,10 @@ far_section r (k ∷ ss) (q ∷ ps) (suc i) s p s_at p_at far =
     and_right (do_fields_fit (section_fields r.image.form (written_section r k.section q 0))) (do_sections_fit r ss ps)
     (far_section r ss ps i s p s_at p_at far)
 
-pub far_numbers : (image : Image) (plan : Layout) → do_sections_fit (resized image) (kept_sections image) plan.places ≡ false
-    → do_numbers_fit image plan ≡ false
-unfolding do_numbers_fit
-far_numbers image plan far =
+far_headers : (image : Image) (plan : Layout) → do_sections_fit (resized image) (kept_sections image) plan.places ≡ false
+    → do_header_numbers_fit image plan ≡ false
+unfolding do_header_numbers_fit
+far_headers image plan far =
     let r : Resized = resized image in
     let entries : Bool = list_all (does_entry_fit r plan) (list_at (λ (es : List Entry). es) (final r.read image).entries) in
     let headers : Bool =
@@ -131,3 +133,7 @@ far_numbers image plan far =
     && list_all (λ p. do_fields_fit (segment_fields image.form p)) plan.segments in
     and_left (headers && do_sections_fit r (kept_sections image) plan.places) entries
     (and_right headers (do_sections_fit r (kept_sections image) plan.places) far)
+
+pub far_numbers : (image : Image) (plan : Layout) → do_sections_fit (resized image) (kept_sections image) plan.places ≡ false
+    → do_numbers_fit image plan ≡ false
+far_numbers image plan far = headers_unfit image plan (far_headers image plan far)

@@ -1,32 +1,29 @@
 -- What is known of each section header that is written.
-use Rattle.std.proofs.Common.{◌≡◌, ℕ, ◌<◌, ◌≤◌, ◌^◌, Bool, true, false, List, [], ◌++◌, length, map, get_or, refl, sym, ap, ◌∙◌, subst, Option, Some, arith}
+use Rattle.std.proofs.Common.{◌≡◌, ℕ, ◌<◌, ◌≤◌, ◌^◌, Bool, true, false, List, [], length, map, get_or, refl, sym, ap, ◌∙◌, subst, Option, Some, arith}
 use Rattle.std.specs.Prelude.{Contains, IsSome, if◌then◌else◌, ◌==◌, unwrap_or}
 use Rattle.std.specs.List.{slice_get}
 use Rattle.std.specs.Option.{option_map}
-use Rattle.std.proofs.lemmas.Bool.{eq-eqb}
 use Rattle.std.proofs.lemmas.List.{length-map}
-use Rattle.std.proofs.lemmas.List.Elements.{Contains-append_right}
 use Rattle.std.proofs.lemmas.Option.{get_or_from_slice_get, same_Some, slice_get_read, slice_get_within}
 use Rattle.patch_bytes.specs.Memory.{◌>>=◌, Memory, memory_of, text_at}
-use Rattle.elf_format.specs.declared.constants.TheConstants.{SHT_DYNAMIC, SHT_DYNSYM, SHT_GNU_VERDEF, SHT_GNU_VERNEED, SHT_SYMTAB}
+use Rattle.elf_format.specs.declared.constants.TheConstants.{SHT_DYNSYM, SHT_GNU_VERDEF, SHT_GNU_VERNEED, SHT_SYMTAB}
 use Rattle.elf_format.specs.declared.form.Form.{Form}
 use Rattle.elf_format.specs.declared.header.Header.{Header}
 use Rattle.elf_format.specs.declared.records.FileHeader.{FileHeader}
 use Rattle.elf_format.specs.declared.records.SectionHeader.{SectionHeader}
 use Rattle.elf_format.specs.File.{Opened, Parts, section_bytes, sections_of}
 use Rattle.elf_format.specs.Image.{Image, ImageSection}
-use Rattle.elf_format.specs.Options.{list_at}
 use Rattle.elf_format.specs.Places.{Place}
 use Rattle.elf_format.specs.Records.{section_header_size, segment_header_size}
 use Rattle.elf_format.specs.Rules.{file_of, texts_of}
 use Rattle.elf_image.specs.declared.section.Section.{Section}
 use Rattle.elf_image.specs.ImageModel.{section_model}
 use Rattle.elf_image.specs.Kept.{KeptSection, image_at_read, kept_sections}
+use Rattle.elf_layout_needs.specs.Staying.{Staying, unmarked_needs}
+use Rattle.elf_layout_needs.specs.Written.{AreWritten}
 use Rattle.elf_layout_plan.specs.Memory.{Resized, sized_sections}
-use Rattle.elf_layout_plan.specs.Needs.{written_entries, written_needs}
 use Rattle.elf_layout_plan.specs.Plan.{Layout, layout_for, resized}
 use Rattle.elf_layout_plan.specs.Standing.{place_in, places}
-use Rattle.elf_layout_plan.specs.Texts.{if_linked, if_names, texts_in_use, texts_of_definitions, texts_of_entries, texts_of_needs, texts_of_symbols}
 use Rattle.elf_layout_plan.proofs.ForCallers.ApartLists.{at-map}
 use Rattle.elf_layout_plan.proofs.ForCallers.ApartRead.{edited_facts}
 use Rattle.elf_layout_plan.proofs.ForCallers.ApartSections.{sized_of}
@@ -36,14 +33,16 @@ use Rattle.elf_write_spec.specs.Headers.{Reads, behind_locals, is_info_number, w
 use Rattle.elf_write_spec.proofs.ForCallers.TextsRead.{text_reads}
 use Rattle.elf_write_spec.proofs.ForCallers.WholeLists.{there_at}
 use Rattle.elf_write_contents.specs.declared.headers.Known.{Known}
-use Rattle.elf_write_contents.specs.declared.made.Made.{Made}
+use Rattle.elf_write_strings.specs.declared.made.Made.{Made}
 use Rattle.elf_write_contents.specs.HeaderSteps.{IsHeaderAt, IsKnown, header_by, headers_read, info_by}
-use Rattle.elf_write_contents.specs.Inner.{AreStrings, IsPlanned, IsReady, content_read}
+use Rattle.elf_write_strings.specs.DynamicStrings.{AreStrings, content_read}
+use Rattle.elf_write_spec.specs.Ready.{IsPlanned, IsReady}
 use Rattle.elf_write_contents.specs.Numbers.{do_numbers_fit}
 use Rattle.elf_write_contents.proofs.HeadersLists.{far_numbers, far_section}
 use Rattle.elf_write_contents.proofs.NamesTable.{names_at}
-use Rattle.elf_write_contents.proofs.ReadyEdits.{edit_of}
-use Rattle.elf_write_spec.proofs.ForCallers.WholeEdits.{ReadFacts, SectionRead, final_is, kept-at, kept_is, length-kept, length-now, new_number-same, read_facts, section_read}
+use Rattle.elf_write_strings.proofs.ForCallers.ReadyEdits.{edit_of}
+use Rattle.elf_write_strings.proofs.ForCallers.TextsTold.{told_names}
+use Rattle.elf_write_spec.proofs.ForCallers.WholeEdits.{ReadFacts, SectionRead, kept-at, kept_is, length-kept, length-now, needs_written, new_number-same, read_facts, section_read, static_same}
 use Rattle.elf_write_spec.proofs.ForCallers.NumberedSections.{kept}
 
 -- ## The file header
@@ -133,26 +132,31 @@ name_read read image is f i at =
     text_reads (length (file_of p)) (memory_of (content_read image n)) at.old.sh_name at.section.name
     (ap (λ (m : Memory). text_at (length (file_of p)) m at.old.sh_name) (sym memory) ∙ at.of_old.name)
 
--- the name of a section stands in a table that is made anew in place of the names
+-- the name of a section stands in a table that is told anew in place of the names
 pub name_made : (read image : Image) (made : Option Made) → AreStrings read image made → (i : ℕ) (s : ImageSection)
     → slice_get image.sections i ≡ Some s
     → (m : Made) → made ≡ Some m → m.number ≡ image.header.e_shstrndx → IsSome (place_of m.table s.name)
-unfolding texts_in_use
 name_made read image made strings i s at m is own =
     let named : List (List ℕ) = map (λ (x : ImageSection). x.name) image.sections in
     let name_at : slice_get named i ≡ Some s.name = at-map (λ (x : ImageSection). x.name) image.sections i s at in
     let here : Contains named s.name =
     (i, slice_get_within named i s.name name_at, get_or_from_slice_get named i s.name s.name name_at) in
-    let linked : if_names image m.number ≡ named =
-    ap (λ (b : Bool). if b then named else []) (eq-eqb image.header.e_shstrndx m.number (sym own)) in
-    let among : Contains (if_names image m.number) s.name = subst (λ (l : List (List ℕ)). Contains l s.name) (sym linked) here in
-    let entries : List (List ℕ) = if_linked image SHT_DYNAMIC m.number (list_at texts_of_entries (written_entries read image)) in
-    let dynamic : List (List ℕ) = if_linked image SHT_DYNSYM m.number (texts_of_symbols image.dynamic_symbols) in
-    let defined : List (List ℕ) = if_linked image SHT_GNU_VERDEF m.number (texts_of_definitions image.definitions) in
-    let needed : List (List ℕ) = if_linked image SHT_GNU_VERNEED m.number (texts_of_needs (written_needs read image)) in
-    let symbols : List (List ℕ) = if_linked image SHT_SYMTAB m.number (texts_of_symbols image.symbols) in
-    (strings.anew m is).1.holds.added s.name
-    (Contains-append_right (entries ++ dynamic ++ defined ++ needed ++ symbols) (if_names image m.number) s.name among)
+    told_names read image m (strings.told m is) own s.name here
+
+-- ## What is known of the image as a whole
+
+pub known_of : (read image : Image) (s : Staying) (known : Known) → IsReady read image → AreWritten read image s
+    → known.symbols ≡ behind_locals image.symbols
+    → known.dynamic_symbols ≡ behind_locals (final read image).dynamic_symbols
+    → known.needs ≡ length (unmarked_needs s.marks image.needs)
+    → headers_read image ≡ Some known.headers.items
+    → IsKnown image known
+known_of read image s known is stays symbols dynamic needs headers = record {
+  symbols = symbols;
+  dynamic_symbols = dynamic ∙ ap (λ (r : Image). behind_locals (final r image).dynamic_symbols) is.at_read;
+  needs = needs ∙ ap length (stays.needs ∙ sym (needs_written read image) ∙ ap (λ (r : Image). (final r image).needs) is.at_read);
+  headers = headers;
+}
 
 -- ## Headers
 
@@ -160,19 +164,18 @@ name_made read image made strings i s at m is own =
 pub info_is : (image : Image) → IsReady (image_at_read image) image → (known : Known) → IsKnown image known → (s : ImageSection)
     → written_info (image_at_read image) image s ≡ info_by known image s
 info_is image is known known_is s =
-    let r : Resized = resized image in
-    let fin = final_is (image_at_read image) image (edit_of is) in
     let t : ℕ = s.sh_type in
     let other : ℕ = if is_info_number s then new_number image s.sh_info else s.sh_info in
     let info : ℕ → ℕ → ℕ → ℕ → ℕ =
     λ a b d z. if t == SHT_SYMTAB then a else if t == SHT_DYNSYM then b else if t == SHT_GNU_VERDEF then length image.definitions
     else if t == SHT_GNU_VERNEED then d else z in
-    let b : ℕ = behind_locals (final r.read r.image).dynamic_symbols in
-    let d : ℕ = length (final r.read r.image).needs in
-    ap (λ (n : ℕ). info n b d other) (ap behind_locals fin.symbols ∙ sym known_is.symbols)
-    ∙ ap (λ (n : ℕ). info known.symbols n d other) (ap behind_locals fin.dynamic_symbols ∙ sym known_is.dynamic_symbols)
-    ∙ ap (λ (n : ℕ). info known.symbols known.dynamic_symbols n other) (ap length fin.needs)
-    ∙ ap (info known.symbols known.dynamic_symbols (length image.needs)) (by_test (is_info_number s))
+    let b : ℕ = behind_locals (final (image_at_read image) image).dynamic_symbols in
+    let d : ℕ = length (final (image_at_read image) image).needs in
+    ap (λ (n : ℕ). info n b d other)
+    (ap behind_locals (static_same (image_at_read image) image (edit_of is)) ∙ sym known_is.symbols)
+    ∙ ap (λ (n : ℕ). info known.symbols n d other) (sym known_is.dynamic_symbols)
+    ∙ ap (λ (n : ℕ). info known.symbols known.dynamic_symbols n other) (sym known_is.needs)
+    ∙ ap (info known.symbols known.dynamic_symbols known.needs) (by_test (is_info_number s))
   where
     by_test : (b : Bool) → (if b then new_number image s.sh_info else s.sh_info) ≡ s.sh_info
     by_test true = new_number-same (image_at_read image) image (edit_of is) s.sh_info

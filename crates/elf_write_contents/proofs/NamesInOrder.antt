@@ -1,6 +1,6 @@
 -- The names of symbols among the texts that a string table is made of, and the records that are spelled with their places.
-use Rattle.std.proofs.Common.{◌≡◌, ℕ, ◌+◌, ◌<◌, true, List, [], ◌++◌, append_assoc, drop, get_or, length, map, sym, ap, ◌∙◌, Some, arith}
-use Rattle.std.specs.Prelude.{◌==◌, if◌then◌else◌, slice_get, slice_index, unwrap_or}
+use Rattle.std.proofs.Common.{◌≡◌, ℕ, ◌+◌, ◌<◌, Bool, true, List, [], ◌++◌, append_assoc, drop, get_or, length, map, sym, ap, ◌∙◌, Some, arith}
+use Rattle.std.specs.Prelude.{◌==◌, ◌&&◌, if◌then◌else◌, slice_get, slice_index, unwrap_or}
 use Rattle.std.specs.List.{flat_map}
 use Rattle.std.proofs.lemmas.List.{get_or-append-add, get_or-map, get_or_append_left, length-append, length-map}
 use Rattle.std.proofs.lemmas.Option.{get_or_from_slice_get, slice_get_within}
@@ -12,7 +12,7 @@ use Rattle.elf_layout_sizes.proofs.ForCallers.SymbolSteps.{rest_at}
 use Rattle.elf_tables.specs.Fields.{do_fields_fit}
 use Rattle.elf_tables.specs.Spelled.{spelled_symbol, symbol_fields}
 use Rattle.elf_tables.specs.Strings.{Strings, place_of}
-use Rattle.elf_write_contents.specs.SymbolSteps.{HasNames, does_symbol_fit, place_in, place_of_named, symbol_bytes, symbol_in}
+use Rattle.elf_write_contents.specs.SymbolSteps.{HasNames, begins_empty, does_symbol_fit, place_in, place_of_named, symbol_bytes, symbol_in}
 use Rattle.elf_image_symbols.specs.TableSymbols.{symbol_with}
 
 -- the texts of a table at a position stand at the place that the table's order tells there
@@ -50,17 +50,20 @@ names_behind table texts front rest ys told is =
 -- ## The records
 
 -- a symbol's place is that of its name
-pub placed_in : (table : Strings) (y : NamedSymbol) (place : ℕ) → place_of table y.name ≡ Some place → place_of_named y place ≡ place_in table y
-placed_in table y place told = ap (λ (n : ℕ). if length y.name == 0 then 0 else n) (sym (ap (λ o. unwrap_or o 0) told))
+pub placed_in : (table : Strings) (begins : Bool) (y : NamedSymbol) (place : ℕ) → begins ≡ begins_empty table → place_of table y.name ≡ Some place
+    → place_of_named begins y place ≡ place_in table y
+placed_in table begins y place starts told =
+    ap (λ (b : Bool). if length y.name == 0 && b then 0 else place) starts
+    ∙ ap (λ (n : ℕ). if length y.name == 0 && begins_empty table then 0 else n) (sym (ap (λ o. unwrap_or o 0) told))
 
--- the numbers that are spelled for a symbol, by the place that is next in the table's order
-pub placed_next : (table : Strings) (ys : List NamedSymbol) (before i nth place : ℕ) (y : NamedSymbol) (places : List ℕ) (numbers : SymbolNumbers)
-    → HasNames table before ys → slice_get ys i ≡ Some y → nth ≡ before + i → places ≡ table.in_order
-    → place_of_named y (slice_index places nth) ≡ place → symbol_with place y ≡ numbers → numbers ≡ symbol_in table y
-placed_next table ys before i nth place y places numbers named at next own placed spelled =
-    let told : place_of table y.name ≡ Some (slice_index places nth) =
-    named.each i y at ∙ ap (λ (n : ℕ). Some (slice_index table.in_order n)) (sym next) ∙ ap (λ (l : List ℕ). Some (slice_index l nth)) (sym own) in
-    sym spelled ∙ ap (λ (n : ℕ). symbol_with n y) (sym placed ∙ placed_in table y (slice_index places nth) told)
+-- the numbers that are spelled for a symbol, by the place that the table's order has for it
+pub placed_next : (table : Strings) (ys : List NamedSymbol) (before i place : ℕ) (begins : Bool) (y : NamedSymbol) (places : List ℕ) (numbers : SymbolNumbers)
+    → HasNames table before ys → slice_get ys i ≡ Some y → places ≡ table.in_order → begins ≡ begins_empty table
+    → place_of_named begins y (slice_index places (before + i)) ≡ place → symbol_with place y ≡ numbers → numbers ≡ symbol_in table y
+placed_next table ys before i place begins y places numbers named at own starts placed spelled =
+    let told : place_of table y.name ≡ Some (slice_index places (before + i)) =
+    named.each i y at ∙ ap (λ (l : List ℕ). Some (slice_index l (before + i))) (sym own) in
+    sym spelled ∙ ap (λ (n : ℕ). symbol_with n y) (sym placed ∙ placed_in table begins y (slice_index places (before + i)) starts told)
 
 -- a symbol whose numbers fit, as these are
 pub placed_fits : (form : Form) (table : Strings) (y : NamedSymbol) (numbers : SymbolNumbers) → does_symbol_fit form table y ≡ true → numbers ≡ symbol_in table y

@@ -17,8 +17,8 @@ use Rattle.elf_format.specs.Rules.{is_opaque_relocation, links_to, names_are_tex
 use Rattle.elf_format.proofs.ForCallers.Placed.{IsIn-slice_get, passes_picked}
 use Rattle.elf_format.proofs.ForCallers.ViewsAgree.{links_right, there_and}
 use Rattle.elf_write_spec.proofs.ForCallers.HeaderTables.{header_bytes}
-use Rattle.elf_write_contents.specs.Inner.{IsReady}
-use Rattle.elf_write_contents.proofs.ReadyEdits.{edit_of}
+use Rattle.elf_write_spec.specs.Ready.{IsReady}
+use Rattle.elf_write_strings.proofs.ForCallers.ReadyEdits.{edit_of}
 use Rattle.elf_write_spec.proofs.ForCallers.WholeEdits.{ReadFacts, SectionRead, length-now, section_read}
 use Rattle.elf_format.proofs.ForCallers.Lengths.{length-sections}
 use Rattle.elf_write_spec.proofs.ForCallers.SectionKinds.{kind_by}

@@ -1,61 +1,77 @@
 -- What the section of dynamic symbols shows, copied or spelled anew, by what its callers know of it.
-use Rattle.std.proofs.Common.{◌≡◌, ℕ, ◌*◌, Bool, true, false, List, length, refl, sym, ap, ◌∙◌, subst, Option, Some, None}
-use Rattle.std.specs.Prelude.{IsTrue, ◌==◌, if◌then◌else◌}
-use Rattle.std.specs.List.{flat_map, list_all}
-use Rattle.std.proofs.lemmas.Bool.{eqb-true}
-use Rattle.std.proofs.lemmas.Option.{none-some, same_Some, slice_get_within}
+use Rattle.std.proofs.Common.{◌≡◌, ◌<◌, ℕ, ◌*◌, Bool, true, false, List, length, refl, sym, ap, ◌∙◌, subst, Option, Some, None, arith}
+use Rattle.std.specs.Prelude.{◌||◌, IsTrue, ◌==◌, if◌then◌else◌, option_map, slice_index}
+use Rattle.std.specs.List.{flat_map, list_all, slice_get}
+use Rattle.std.proofs.lemmas.Bool.{eq-eqb, eqb-true, false≢true}
+use Rattle.std.proofs.lemmas.Option.{none-some, same_Some, slice_get-map, slice_get_within}
 use Rattle.patch_bytes.specs.Bytes.{AreBytes}
-use Rattle.elf_format.specs.declared.constants.TheConstants.{SHT_DYNAMIC, SHT_DYNSYM}
+use Rattle.elf_format.specs.declared.constants.TheConstants.{SHT_DYNSYM}
+use Rattle.elf_format.specs.declared.records.SymbolNumbers.{SymbolNumbers}
 use Rattle.elf_format.specs.Options.{list_at}
 use Rattle.elf_format.specs.Image.{Image, ImageSection}
 use Rattle.elf_format.specs.Records.{symbol_size, symbols_in}
 use Rattle.elf_format.specs.Views.{NamedSymbol}
-use Rattle.elf_image.specs.Kept.{link_of_type}
+use Rattle.elf_format.proofs.ForCallers.Lengths.{slice_index-counted}
+use Rattle.elf_image.specs.Kept.{dynamic_strings_number}
+use Rattle.elf_image.specs.Names.{are_names_changed}
+use Rattle.elf_layout_plan.specs.Needs.{written_entries}
 use Rattle.elf_layout_plan.specs.Texts.{texts_of_entries}
-use Rattle.elf_layout_sizes.specs.MadeTables.{IsMade}
-use Rattle.elf_tables.specs.Strings.{Strings}
-use Rattle.elf_write_spec.specs.Contents.{AreSymbolsOf}
+use Rattle.elf_layout_plan.proofs.ForCallers.SameTexts.{names_kept}
+use Rattle.elf_tables.specs.Strings.{StandsAt, Strings}
+use Rattle.elf_write_spec.specs.Contents.{AreSymbolsOf, IsSymbolOf}
 use Rattle.elf_write_spec.specs.Final.{final}
-use Rattle.elf_write_contents.specs.declared.made.Made.{Made}
-use Rattle.elf_write_contents.specs.Inner.{AreStrings, IsReady, IsSectionOfType, content_read, strings_at}
-use Rattle.elf_write_contents.specs.SymbolSteps.{HasNames, does_symbol_fit, symbol_bytes, table_made}
-use Rattle.elf_write_contents.proofs.ReadyEdits.{edit_of}
-use Rattle.elf_write_spec.proofs.ForCallers.WholeEdits.{ReadFacts, SectionRead, final_is, read_facts, section_read}
-use Rattle.elf_write_contents.proofs.SymbolsMade.{anew, fits, length-spelled, named_in_order}
-use Rattle.elf_write_contents.proofs.SymbolsRead.{copied, sized}
+use Rattle.elf_write_strings.specs.declared.made.Made.{Made}
+use Rattle.elf_write_strings.specs.DynamicStrings.{AreStrings, IsTold, content_read, strings_at}
+use Rattle.elf_write_spec.specs.Ready.{IsReady, IsSectionOfType}
+use Rattle.elf_write_contents.specs.SymbolSteps.{HasNames, TellsNames, does_symbol_fit, made_for, symbol_bytes}
+use Rattle.elf_write_strings.proofs.ForCallers.ReadyEdits.{edit_of}
+use Rattle.elf_write_spec.proofs.ForCallers.FinalSymbols.{all_symbols, count_read, final_ordered}
+use Rattle.elf_write_spec.proofs.ForCallers.OrderFacts.{ordered-same}
+use Rattle.elf_write_spec.proofs.ForCallers.WholeEdits.{ReadFacts, SectionRead, read_facts, section_read}
+use Rattle.elf_write_contents.proofs.SymbolsFinal.{final_long}
+use Rattle.elf_write_contents.proofs.SymbolsMade.{anew, fits, length-spelled, named_in_order, strings_are, tells_names}
+use Rattle.elf_write_strings.proofs.ForCallers.SymbolsRead.{count, each_symbol, name_stands, sized, symbol_read}
 
 -- ## Which table
 
--- without one that is made anew, those that were read
-strings_none : (b : Bool) (t : Strings) (bytes : List ℕ) → (if b then Some t else None) ≡ None → (if b then t.bytes else bytes) ≡ bytes
-strings_none true t bytes h = absurd (none-some t (sym h))
-strings_none false t bytes h = refl
+-- the strings that are told where the section links
+pub record IsMadeFor (read image : Image) (made : Option Made) (number : ℕ) (m : Made) : Type 0 where
+  pub linked : m.number ≡ number
+  pub told : IsTold read image m
+  pub strings : strings_at image made number ≡ m.table.bytes
 
-strings_copied : (image : Image) (made : Option Made) (number : ℕ) → table_made made number ≡ None
-    → strings_at image made number ≡ content_read image number
-strings_copied image None number h = refl
-strings_copied image (Some m) number h = strings_none (m.number == number) m.table (content_read image number) h
-
-pub is_made : (read image : Image) (made : Option Made) (number : ℕ) (table : Strings) → AreStrings read image made
-    → table_made made number ≡ Some table → IsMade read image number table
-is_made read image None number table are h = absurd (none-some table h)
-is_made read image (Some m) number table are h = by_test (m.number == number) refl h
+pub is_made_for : (read image : Image) (made : Option Made) (number : ℕ) (m : Made) → AreStrings read image made → made_for made number ≡ Some m
+    → IsMadeFor read image made number m
+is_made_for read image None number m are h = absurd (none-some m h)
+is_made_for read image (Some n) number m are h = by_test (n.number == number) refl h
   where
-    by_test : (b : Bool) → (m.number == number) ≡ b → (if b then Some m.table else None) ≡ Some table → IsMade read image number table
+    by_test : (b : Bool) → (n.number == number) ≡ b → (if b then Some n else None) ≡ Some m → IsMadeFor read image (Some n) number m
+    by_test false e there = absurd (none-some m there)
     by_test true e there =
-        subst (λ (n : ℕ). IsMade read image n table) (eqb-true m.number number e)
-        (subst (λ (t : Strings). IsMade read image m.number t) (same_Some m.table table there) (are.anew m refl).1)
-    by_test false e there = absurd (none-some table there)
+        subst (λ (k : Made). IsMadeFor read image (Some n) number k) (same_Some n m there) (record {
+          linked = eqb-true n.number number e;
+          told = are.told n refl;
+          strings = ap (λ (b : Bool). if b then n.table.bytes else content_read image number) e;
+        })
 
--- the dynamic list links to it
-pub is_listed : (read image : Image) (made : Option Made) (number : ℕ) (table : Strings) → AreStrings read image made
-    → table_made made number ≡ Some table → link_of_type SHT_DYNAMIC image ≡ Some number
-is_listed read image None number table are h = absurd (none-some table h)
-is_listed read image (Some m) number table are h = by_test (m.number == number) refl h
-  where
-    by_test : (b : Bool) → (m.number == number) ≡ b → (if b then Some m.table else None) ≡ Some table → link_of_type SHT_DYNAMIC image ≡ Some number
-    by_test true e there = (are.anew m refl).0 ∙ ap Some (eqb-true m.number number e)
-    by_test false e there = absurd (none-some table there)
+-- without them the names are those that were read
+pub record IsNoneFor (read image : Image) (made : Option Made) (number : ℕ) : Type 0 where
+  pub same : are_names_changed read image ≡ false
+  pub strings : strings_at image made number ≡ content_read image number
+
+neither : (a b : Bool) → (a || b) ≡ false → a ≡ false
+neither false b h = refl
+neither true b h = absurd (false≢true (sym h))
+
+pub is_none_for : (read image : Image) (made : Option Made) (number : ℕ) → AreStrings read image made → dynamic_strings_number image ≡ Some number
+    → made_for made number ≡ None → IsNoneFor read image made number
+is_none_for read image None number are linked h = record {
+  same = neither (are_names_changed read image) _ (are.as_read refl number linked).stay;
+  strings = refl;
+}
+is_none_for read image (Some m) number are linked h =
+    let own : (m.number == number) ≡ true = eq-eqb m.number number (same_Some m.number number (sym (are.told m refl).linked ∙ linked)) in
+    absurd (none-some m (sym h ∙ ap (λ (b : Bool). if b then Some m else None) own))
 
 -- ## The section
 
@@ -75,44 +91,80 @@ module _ (read image : Image) (section : ImageSection) (is : IsReady read image)
   pub symbol_sizes : length section.content ≡ length image.dynamic_symbols * symbol_size image.form
   symbol_sizes = ap (λ (x : ImageSection). length x.content) (sym same) ∙ sized read image is f of.position at typed
 
-  -- the symbols in their final form are the image's
-  finally : (strings bytes : List ℕ) → AreSymbolsOf strings image.dynamic_symbols (symbols_in image.form bytes)
-      → AreSymbolsOf strings (final read image).dynamic_symbols (symbols_in image.form bytes)
-  finally strings bytes are =
-      subst (λ (ys : List NamedSymbol). AreSymbolsOf strings ys (symbols_in image.form bytes)) (sym (final_is read image (edit_of is)).dynamic_symbols) are
+  -- ## Copied
 
-  pub symbols_copied : (made : Option Made) → table_made made section.sh_link ≡ None
+  -- with the names that were read, each symbol has the record that it had
+  symbol_as_read : are_names_changed read image ≡ false → (j : ℕ) (y : NamedSymbol) (n : SymbolNumbers) → slice_get image.dynamic_symbols j ≡ Some y
+      → slice_get (symbols_in image.form at.section.content) j ≡ Some n → IsSymbolOf (content_read image at.section.sh_link) y n
+  symbol_as_read kept j y n y_at n_at =
+      let strings : List ℕ = content_read image at.section.sh_link in
+      let (old, old_there, is_same) = f.edit.dynamic_symbols.same j y y_at in
+      let below : j < length read.dynamic_symbols =
+      omega (arith, slice_get_within image.dynamic_symbols j y y_at, count_read read image (edit_of is) f) in
+      let number : slice_index image.dynamic_symbol_numbers j ≡ j =
+      ap (λ (l : List ℕ). slice_index l j) (all_symbols read image (edit_of is) f).numbers
+      ∙ slice_index-counted (length read.dynamic_symbols) j below in
+      let old_at : slice_get read.dynamic_symbols j ≡ Some old =
+      ap (λ (k : ℕ). slice_get read.dynamic_symbols k) (sym number) ∙ old_there in
+      let was = symbol_read read image is f of.position at typed j old n old_at n_at in
+      let name_of : NamedSymbol → List ℕ = λ z. z.name in
+      let named : old.name ≡ y.name =
+      same_Some old.name y.name
+      (sym (slice_get-map name_of read.dynamic_symbols j ∙ ap (option_map name_of) old_at)
+      ∙ ap (λ (l : List (List ℕ)). slice_get l j) (names_kept read image kept)
+      ∙ slice_get-map name_of image.dynamic_symbols j ∙ ap (option_map name_of) y_at) in
+      let stands : StandsAt strings n.st_name y.name =
+      subst (λ (text : List ℕ). StandsAt strings n.st_name text) named (name_stands read image is f of.position at typed old n was) in
+      record {
+        name = stands.read;
+        st_info = sym (ap (λ (z : NamedSymbol). z.st_info) is_same.2 ∙ ap (λ (z : NamedSymbol). z.st_info) was.fields);
+        st_other = sym (ap (λ (z : NamedSymbol). z.st_other) is_same.2 ∙ ap (λ (z : NamedSymbol). z.st_other) was.fields);
+        st_shndx = sym (ap (λ (z : NamedSymbol). z.st_shndx) is_same.2 ∙ ap (λ (z : NamedSymbol). z.st_shndx) was.fields);
+        st_value = sym (ap (λ (z : NamedSymbol). z.st_value) is_same.2 ∙ ap (λ (z : NamedSymbol). z.st_value) was.fields);
+        st_size = sym (ap (λ (z : NamedSymbol). z.st_size) is_same.2 ∙ ap (λ (z : NamedSymbol). z.st_size) was.fields);
+      }
+
+  pub symbols_copied : (made : Option Made) → AreStrings read image made → made_for made section.sh_link ≡ None
       → AreSymbolsOf (strings_at image made section.sh_link) (final read image).dynamic_symbols (symbols_in image.form section.content)
-  symbols_copied made none =
-      finally (strings_at image made section.sh_link) section.content
-      (subst (λ (strings : List ℕ). AreSymbolsOf strings image.dynamic_symbols (symbols_in image.form section.content))
-      (sym (strings_copied image made section.sh_link none))
-      (subst (λ (x : ImageSection). AreSymbolsOf (content_read image x.sh_link) image.dynamic_symbols (symbols_in image.form x.content))
-      same (copied read image is f of.position at typed)))
+  symbols_copied made are none =
+      let link : at.section.sh_link ≡ section.sh_link = ap (λ (x : ImageSection). x.sh_link) same in
+      let linked : dynamic_strings_number image ≡ Some section.sh_link =
+      strings_are read image is f of.position at typed ∙ ap (λ (n : ℕ). Some n) link in
+      let so = is_none_for read image made section.sh_link are linked none in
+      let finally : (final read image).dynamic_symbols ≡ image.dynamic_symbols =
+      final_ordered read image (edit_of is) f ∙ ordered-same read image so.same in
+      subst (λ (ys : List NamedSymbol). AreSymbolsOf (strings_at image made section.sh_link) ys (symbols_in image.form section.content)) (sym finally)
+      (subst (λ (strings : List ℕ). AreSymbolsOf strings image.dynamic_symbols (symbols_in image.form section.content)) (sym so.strings)
+      (subst (λ (x : ImageSection). AreSymbolsOf (content_read image x.sh_link) image.dynamic_symbols (symbols_in image.form x.content)) same
+      (each_symbol (content_read image at.section.sh_link) image.dynamic_symbols (symbols_in image.form at.section.content)
+      (count_read read image (edit_of is) f ∙ count read image is f of.position at typed) (symbol_as_read so.same))))
 
-  pub symbols_named : (table : Strings) → IsMade read image section.sh_link table → link_of_type SHT_DYNAMIC image ≡ Some section.sh_link
-      → HasNames table (length (list_at texts_of_entries image.entries)) image.dynamic_symbols
-  symbols_named table made listed =
-      named_in_order read image is f of.position at typed table (subst (λ (x : ImageSection). IsMade read image x.sh_link table) (sym same) made)
-      (listed ∙ ap (λ (x : ImageSection). Some x.sh_link) (sym same))
+  -- ## Spelled anew
 
-  module _ (table : Strings) (made : IsMade read image section.sh_link table) (are : AreBytes section.content) where
-    made_there : IsMade read image at.section.sh_link table
-    made_there = subst (λ (x : ImageSection). IsMade read image x.sh_link table) (sym same) made
+  module _ (m : Made) (told : IsTold read image m) (linked : m.number ≡ section.sh_link) where
+    linked_there : m.number ≡ at.section.sh_link
+    linked_there = linked ∙ ap (λ (x : ImageSection). x.sh_link) (sym same)
 
-    bytes_there : AreBytes at.section.content
-    bytes_there = subst (λ (x : ImageSection). AreBytes x.content) (sym same) are
+    pub symbols_told : TellsNames m.table image.dynamic_symbols
+    symbols_told = tells_names read image is f of.position at typed m told linked_there
 
-    pub symbols_fit : IsTrue (list_all (does_symbol_fit image.form table) image.dynamic_symbols)
-    symbols_fit = fits read image is f of.position at typed table made_there bytes_there
+    pub symbols_named : m.is_copied ≡ false
+        → HasNames m.table (length (list_at texts_of_entries (written_entries read image))) image.dynamic_symbols
+    symbols_named made_anew = named_in_order read image is f of.position at typed m told linked_there made_anew
 
-    pub symbols_anew : AreSymbolsOf table.bytes (final read image).dynamic_symbols
-        (symbols_in image.form (flat_map (symbol_bytes image.form table) image.dynamic_symbols))
-    symbols_anew =
-        finally table.bytes (flat_map (symbol_bytes image.form table) image.dynamic_symbols)
-        (anew read image is f of.position at typed table made_there bytes_there)
+    module _ (are : AreBytes section.content) where
+      bytes_there : AreBytes at.section.content
+      bytes_there = subst (λ (x : ImageSection). AreBytes x.content) (sym same) are
+
+      pub symbols_fit : IsTrue (list_all (does_symbol_fit image.form m.table) (final read image).dynamic_symbols)
+      symbols_fit = fits read image is f of.position at typed m told linked_there bytes_there
+
+      pub symbols_anew : AreSymbolsOf m.table.bytes (final read image).dynamic_symbols
+          (symbols_in image.form (flat_map (symbol_bytes image.form m.table) (final read image).dynamic_symbols))
+      symbols_anew = anew read image is f of.position at typed m told linked_there bytes_there
 
 -- as many bytes as the symbols take
-pub anew_sized : (image : Image) (table : Strings)
-    → length (flat_map (symbol_bytes image.form table) image.dynamic_symbols) ≡ length image.dynamic_symbols * symbol_size image.form
-anew_sized image table = length-spelled image.form table image.dynamic_symbols
+pub anew_sized : (read image : Image) → IsReady read image → (table : Strings)
+    → length (flat_map (symbol_bytes image.form table) (final read image).dynamic_symbols) ≡ length image.dynamic_symbols * symbol_size image.form
+anew_sized read image is table =
+    length-spelled image.form table (final read image).dynamic_symbols ∙ ap (λ (n : ℕ). n * symbol_size image.form) (final_long read image is)

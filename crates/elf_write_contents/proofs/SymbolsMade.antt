@@ -1,12 +1,11 @@
--- The dynamic symbols spelled anew, their names in a string table that is made anew.
-use Rattle.std.proofs.Common.{◌≡◌, ◌<◌, ℕ, ◌+◌, ◌*◌, ◌/◌, ◌^◌, Bool, true, false, List, [], ◌∷◌, ◌++◌, append_assoc, get_or, length, map, refl, sym, ap, ◌∙◌, subst, Option, Some, arith}
-use Rattle.std.specs.Prelude.{◌==◌, IsSome, if◌then◌else◌, option_map, unwrap_or}
+-- The dynamic symbols spelled anew, their names in a string table that tells them.
+use Rattle.std.proofs.Common.{◌≡◌, ◌<◌, ℕ, ◌+◌, ◌*◌, ◌/◌, ◌^◌, Bool, true, false, List, [], ◌∷◌, ◌++◌, append_assoc, get_or, length, map, refl, sym, ap, ◌∙◌, subst, Option, Some, None, arith}
+use Rattle.std.specs.Prelude.{◌&&◌, ◌==◌, IsSome, if◌then◌else◌, option_map, unwrap_or}
 use Rattle.std.specs.List.{Contains, flat_map, list_all, slice_get}
 use Rattle.std.proofs.Math.Nat.{mul-div_left}
-use Rattle.std.proofs.lemmas.Bool.{and_from, eq-eqb, lt-ltb, ne_eqb}
+use Rattle.std.proofs.lemmas.Bool.{and_from, eqb-true, false≢true, lt-ltb, ne_eqb}
 use Rattle.std.proofs.lemmas.List.{append-nil, length-append, length-map}
 use Rattle.std.proofs.lemmas.List.Folds.{list_all-map}
-use Rattle.std.proofs.lemmas.List.Elements.{Contains-append_left, Contains-append_right}
 use Rattle.std.proofs.lemmas.Option.{none-some, same_Some, slice_get-get_or, slice_get-map, slice_get_within}
 use Rattle.patch_bytes.specs.Bytes.{AreBytes}
 use Rattle.patch_bytes.specs.Memory.{◌>>=◌}
@@ -25,7 +24,7 @@ use Rattle.elf_format.specs.Records.{symbol_numbers, symbol_size, symbols_in}
 use Rattle.elf_format.specs.Views.{NamedSymbol}
 use Rattle.elf_format.proofs.ForCallers.NumberSteps.{number_at-below}
 use Rattle.elf_format.proofs.ForCallers.ViewsAgree.{there_if}
-use Rattle.elf_image.specs.Kept.{KeptSection, link_of_type}
+use Rattle.elf_image.specs.Kept.{KeptSection, dynamic_strings_number, link_of_type}
 use Rattle.elf_layout_plan.specs.Needs.{written_entries, written_needs}
 use Rattle.elf_layout_plan.specs.Texts.{if_linked, if_names, texts_in_use, texts_of_definitions, texts_of_entries, texts_of_needs, texts_of_symbols}
 use Rattle.elf_tables.specs.Fields.{do_fields_fit}
@@ -40,13 +39,19 @@ use Rattle.elf_write_spec.specs.Contents.{AreSymbolsOf, IsSymbolOf}
 use Rattle.elf_write_spec.specs.Final.{final}
 use Rattle.elf_write_spec.proofs.ForCallers.TextsRead.{text_inside}
 use Rattle.elf_write_spec.proofs.ForCallers.WholeLists.{all-each, there_at}
-use Rattle.elf_write_contents.specs.Inner.{IsReady}
-use Rattle.elf_write_contents.specs.SymbolSteps.{HasNames, does_symbol_fit, place_of_name, symbol_bytes, symbol_in}
+use Rattle.elf_write_spec.specs.Ready.{IsReady}
+use Rattle.elf_write_spec.proofs.ForCallers.FinalEntries.{written_none}
+use Rattle.elf_write_spec.proofs.ForCallers.FinalSymbols.{final_at}
+use Rattle.elf_write_strings.specs.declared.made.Made.{Made}
+use Rattle.elf_write_strings.specs.DynamicStrings.{IsTold}
+use Rattle.elf_write_strings.proofs.ForCallers.OthersCopied.{list_linked, no_entries_read, none_edited, symbols_linked}
+use Rattle.elf_write_strings.proofs.ForCallers.TextsTold.{linked_if, told_symbols}
+use Rattle.elf_write_contents.specs.SymbolSteps.{HasNames, TellsNames, begins_empty, does_symbol_fit, place_of_name, symbol_bytes, symbol_in}
 use Rattle.elf_image_symbols.specs.TableSymbols.{symbol_with}
 use Rattle.elf_write_contents.proofs.NamesInOrder.{names_behind}
-use Rattle.elf_write_contents.proofs.ReadyEdits.{edit_of}
-use Rattle.elf_write_spec.proofs.ForCallers.WholeEdits.{Nowhere, ReadFacts, SectionRead, There, final_is, type_at}
-use Rattle.elf_write_contents.proofs.SymbolsRead.{count, each_symbol, is_one, link_was, record_at, symbol_read, symbol_size-positive}
+use Rattle.elf_write_strings.proofs.ForCallers.ReadyEdits.{edit_of}
+use Rattle.elf_write_spec.proofs.ForCallers.WholeEdits.{Nowhere, ReadFacts, SectionRead, There, type_at}
+use Rattle.elf_write_strings.proofs.ForCallers.SymbolsRead.{count, each_symbol, is_one, link_was, record_at, symbol_read, symbol_size-positive}
 
 -- ## Numbers that fit their fields
 
@@ -119,10 +124,10 @@ module _ (form : Form) (table : Strings) where
       ∙ (tables_are_read_back form).symbols ns [] (fits-map ys fit)
 
 -- the empty text stands at 0 of a table that begins with a NUL
-first_stands : (bytes : List ℕ) → slice_get bytes 0 ≡ Some 0 → StandsAt bytes 0 []
+first_stands : (bytes : List ℕ) → is_some_and (λ byte. byte == 0) (slice_get bytes 0) ≡ true → StandsAt bytes 0 []
 unfolding StandsWith
-first_stands [] none = absurd (none-some 0 none)
-first_stands (x ∷ xs) first = stands-from (x ∷ xs) 0 [] refl (ap (λ (b : ℕ). b ∷ []) (same_Some x 0 first))
+first_stands [] none = absurd (false≢true none)
+first_stands (x ∷ xs) first = stands-from (x ∷ xs) 0 [] refl (ap (λ (b : ℕ). b ∷ []) (eqb-true x 0 first))
 
 -- ## The symbols of the image
 
@@ -132,22 +137,13 @@ contains_at xs i x at =
     let within : i < length xs = slice_get_within xs i x at in
     (i, within, same_Some (get_or xs i x) x (sym (slice_get-get_or xs i x within) ∙ at))
 
--- the texts of the dynamic symbols are among those of a table
-names_within : (a names c d e g : List (List ℕ)) (name : List ℕ) → Contains names name → Contains (a ++ names ++ c ++ d ++ e ++ g) name
-names_within a names c d e g name there =
-    Contains-append_left (a ++ names ++ c ++ d ++ e) g name
-    (Contains-append_left (a ++ names ++ c ++ d) e name
-    (Contains-append_left (a ++ names ++ c) d name
-    (Contains-append_left (a ++ names) c name
-    (Contains-append_right a names name there))))
-
 in_two : (a b c d e f : List (List ℕ)) → a ++ b ++ c ++ d ++ e ++ f ≡ a ++ (b ++ (c ++ d ++ e ++ f))
 in_two a b c d e f = simp append_assoc
 
 module _ (read image : Image) (is : IsReady read image) (f : ReadFacts read image) (i : ℕ) (at : SectionRead read image f.parts i)
-    (typed : at.section.sh_type ≡ SHT_DYNSYM) (table : Strings) (made : IsMade read image at.section.sh_link table) where
-  -- the dynamic symbols link to that table
-  link_is : link_of_type SHT_DYNSYM image ≡ Some at.section.sh_link
+    (typed : at.section.sh_type ≡ SHT_DYNSYM) where
+  -- the section is the one of dynamic symbols
+  pub link_is : link_of_type SHT_DYNSYM image ≡ Some at.section.sh_link
   link_is = elim (type_at read image (edit_of is) f SHT_DYNSYM) [
     | Nowhere was none ↦ absurd (none-some at.old (sym was ∙ is_one read image is f i at typed))
     | There j other other_typed now_typed was there ↦
@@ -157,98 +153,127 @@ module _ (read image : Image) (is : IsReady read image) (f : ReadFacts read imag
         ∙ ap (λ (h : SectionHeader). h.sh_link) same ∙ sym (link_was read image is f i at typed))
   ]
 
-  names_linked : if_linked image SHT_DYNSYM at.section.sh_link (texts_of_symbols image.dynamic_symbols) ≡ texts_of_symbols image.dynamic_symbols
-  names_linked =
-      ap (λ (o : Option ℕ). if is_some_and (λ link. link == at.section.sh_link) o then texts_of_symbols image.dynamic_symbols else []) link_is
-      ∙ ap (λ (b : Bool). if b then texts_of_symbols image.dynamic_symbols else []) (eq-eqb at.section.sh_link at.section.sh_link refl)
+  -- it links to the dynamic strings
+  pub strings_are : dynamic_strings_number image ≡ Some at.section.sh_link
+  strings_are = symbols_linked read image is f at.section.sh_link link_is
 
-  -- so their names are among its texts
-  named : (j : ℕ) (y : NamedSymbol) → slice_get image.dynamic_symbols j ≡ Some y
-      → Contains (texts_in_use read image at.section.sh_link) y.name
-  unfolding texts_in_use
+module _ (read image : Image) (is : IsReady read image) (f : ReadFacts read image) (i : ℕ) (at : SectionRead read image f.parts i)
+    (typed : at.section.sh_type ≡ SHT_DYNSYM) (m : Made) (told : IsTold read image m) (linked : m.number ≡ at.section.sh_link) where
+  link_here : link_of_type SHT_DYNSYM image ≡ Some m.number
+  link_here = link_is read image is f i at typed ∙ ap (λ (n : ℕ). Some n) (sym linked)
+
+  -- the table tells where each symbol has its name
+  named : (j : ℕ) (y : NamedSymbol) → slice_get image.dynamic_symbols j ≡ Some y → IsSome (place_of m.table y.name)
   named j y y_at =
-      let number : ℕ = at.section.sh_link in
-      names_within
-      (if_linked image SHT_DYNAMIC number (list_at texts_of_entries (written_entries read image)))
-      (if_linked image SHT_DYNSYM number (texts_of_symbols image.dynamic_symbols))
-      (if_linked image SHT_GNU_VERDEF number (texts_of_definitions image.definitions))
-      (if_linked image SHT_GNU_VERNEED number (texts_of_needs (written_needs read image)))
-      (if_linked image SHT_SYMTAB number (texts_of_symbols image.symbols))
-      (if_names image number) y.name
-      (subst (λ (l : List (List ℕ)). Contains l y.name) (sym names_linked)
+      told_symbols read image m told link_here y.name
       (contains_at (texts_of_symbols image.dynamic_symbols) j y.name
-      (slice_get-map (λ (z : NamedSymbol). z.name) image.dynamic_symbols j ∙ ap (option_map (λ (z : NamedSymbol). z.name)) y_at)))
+      (slice_get-map (λ (z : NamedSymbol). z.name) image.dynamic_symbols j ∙ ap (option_map (λ (z : NamedSymbol). z.name)) y_at))
 
-  -- behind the texts of the dynamic list, where that links to it too
-  pub named_in_order : link_of_type SHT_DYNAMIC image ≡ Some at.section.sh_link → HasNames table (length (list_at texts_of_entries image.entries)) image.dynamic_symbols
-  unfolding texts_in_use final
-  named_in_order listed =
-      let number : ℕ = at.section.sh_link in
-      let front : List (List ℕ) = list_at texts_of_entries image.entries in
-      let written : List (List ℕ) = list_at texts_of_entries (written_entries read image) in
+  pub tells_names : TellsNames m.table image.dynamic_symbols
+  tells_names = record { each = named }
+
+  -- ## The order of the names in a table that is made anew
+
+  abbrev front : List (List ℕ)
+  front = list_at texts_of_entries (written_entries read image)
+
+  -- the dynamic list has its texts before them, where there is one
+  front_linked : if_linked image SHT_DYNAMIC m.number front ≡ front
+  front_linked = by_link (link_of_type SHT_DYNAMIC image) refl
+    where
+      by_link : (o : Option ℕ) → link_of_type SHT_DYNAMIC image ≡ o → if_linked image SHT_DYNAMIC m.number front ≡ front
+      by_link (Some n) o_is =
+          let same : n ≡ m.number =
+          same_Some n m.number (sym (list_linked read image is f n o_is) ∙ told.linked) in
+          linked_if image SHT_DYNAMIC m.number front (o_is ∙ ap (λ (k : ℕ). Some k) same)
+      by_link None o_is =
+          let none_read : read.entries ≡ None = no_entries_read read image is f o_is in
+          let none : written_entries read image ≡ None =
+          written_none read image (none_edited read.entries image.entries f.edit.entries none_read) in
+          let empty : front ≡ [] = ap (list_at texts_of_entries) none in
+          ap (λ (o : Option ℕ). if is_some_and (λ link. link == m.number) o then front else []) o_is ∙ sym empty
+
+  pub named_in_order : m.is_copied ≡ false → HasNames m.table (length front) image.dynamic_symbols
+  unfolding texts_in_use
+  named_in_order anew =
+      let number : ℕ = m.number in
+      let names : List (List ℕ) = texts_of_symbols image.dynamic_symbols in
       let defined : List (List ℕ) = if_linked image SHT_GNU_VERDEF number (texts_of_definitions image.definitions) in
       let needed : List (List ℕ) = if_linked image SHT_GNU_VERNEED number (texts_of_needs (written_needs read image)) in
       let static : List (List ℕ) = if_linked image SHT_SYMTAB number (texts_of_symbols image.symbols) in
       let sections : List (List ℕ) = if_names image number in
-      let first : if_linked image SHT_DYNAMIC number written ≡ front =
-      ap (λ (o : Option ℕ). if is_some_and (λ link. link == number) o then written else []) listed
-      ∙ ap (λ (b : Bool). if b then written else []) (eq-eqb number number refl)
-      ∙ ap (list_at texts_of_entries) (final_is read image (edit_of is)).entries in
-      names_behind table (texts_in_use read image number) front (defined ++ needed ++ static ++ sections) image.dynamic_symbols made.holds.in_order
-      (ap (λ (l : List (List ℕ)). l ++ if_linked image SHT_DYNSYM number (texts_of_symbols image.dynamic_symbols) ++ defined ++ needed ++ static ++ sections) first
-      ∙ ap (λ (l : List (List ℕ)). front ++ l ++ defined ++ needed ++ static ++ sections) names_linked
-      ∙ in_two front (texts_of_symbols image.dynamic_symbols) defined needed static sections)
+      let made : IsMade read image number m.table = told.anew (sym told.which ∙ anew) in
+      names_behind m.table (texts_in_use read image number) front (defined ++ needed ++ static ++ sections) image.dynamic_symbols made.holds.in_order
+      (ap (λ (l : List (List ℕ)). l ++ if_linked image SHT_DYNSYM number names ++ defined ++ needed ++ static ++ sections) front_linked
+      ∙ ap (λ (l : List (List ℕ)). front ++ l ++ defined ++ needed ++ static ++ sections) (linked_if image SHT_DYNSYM number names link_here)
+      ∙ in_two front names defined needed static sections)
 
-  -- and stand where it tells, no name at 0
-  name_stands : (name : List ℕ) → IsSome (place_of table name) → StandsAt table.bytes (place_of_name table name) name
-  name_stands [] told = first_stands table.bytes made.holds.first
-  name_stands (byte ∷ name) told =
-      let (place, is) = there_if (place_of table (byte ∷ name)) told in
+  -- ## Where the names stand
+
+  -- each stands where the table tells, and the empty one at 0 where that begins with a NUL
+  name_stands : (name : List ℕ) → IsSome (place_of m.table name) → StandsAt m.table.bytes (place_of_name m.table name) name
+  name_stands [] there = by_first (begins_empty m.table) refl
+    where
+      by_first : (b : Bool) → begins_empty m.table ≡ b → StandsAt m.table.bytes (if b then 0 else unwrap_or (place_of m.table []) 0) []
+      by_first true first = first_stands m.table.bytes first
+      by_first false first =
+          let (place, is_place) = there_if (place_of m.table []) there in
+          subst (λ (n : ℕ). StandsAt m.table.bytes n []) (sym (ap (λ (o : Option ℕ). unwrap_or o 0) is_place)) (told.stand [] place is_place)
+  name_stands (byte ∷ name) there =
+      let (place, is_place) = there_if (place_of m.table (byte ∷ name)) there in
       let some : (length (byte ∷ name) == 0) ≡ false = ne_eqb (length (byte ∷ name)) 0 (λ none. absurd (omega (arith, none))) in
-      subst (λ (b : Bool). StandsAt table.bytes (if b then 0 else unwrap_or (place_of table (byte ∷ name)) 0) (byte ∷ name)) (sym some)
-      (subst (λ (n : ℕ). StandsAt table.bytes n (byte ∷ name)) (sym (ap (λ (o : Option ℕ). unwrap_or o 0) is)) (made.stand (byte ∷ name) place is))
+      subst (λ (b : Bool). StandsAt m.table.bytes (if b && begins_empty m.table then 0 else unwrap_or (place_of m.table (byte ∷ name)) 0) (byte ∷ name))
+      (sym some)
+      (subst (λ (n : ℕ). StandsAt m.table.bytes n (byte ∷ name)) (sym (ap (λ (o : Option ℕ). unwrap_or o 0) is_place))
+      (told.stand (byte ∷ name) place is_place))
 
-  stands : (j : ℕ) (y : NamedSymbol) → slice_get image.dynamic_symbols j ≡ Some y → StandsAt table.bytes (symbol_in table y).st_name y.name
-  stands j y y_at = name_stands y.name (made.holds.added y.name (named j y y_at))
+  stands : (j : ℕ) (y : NamedSymbol) → slice_get image.dynamic_symbols j ≡ Some y → StandsAt m.table.bytes (symbol_in m.table y).st_name y.name
+  stands j y y_at = name_stands y.name (named j y y_at)
 
   -- offsets have 32 bits
-  place_fits : (j : ℕ) (y : NamedSymbol) → slice_get image.dynamic_symbols j ≡ Some y → (symbol_in table y).st_name < 256 ^ 4
+  place_fits : (j : ℕ) (y : NamedSymbol) → slice_get image.dynamic_symbols j ≡ Some y → (symbol_in m.table y).st_name < 256 ^ 4
   place_fits j y y_at =
-      let place : ℕ = (symbol_in table y).st_name in
-      let inside : place + length y.name < length table.bytes =
-      text_inside (length y.name + 1) table.bytes place y.name ((stands j y y_at).read (length y.name + 1) (omega arith)) in
-      omega (arith, inside, made.holds.long, made.fits)
+      let place : ℕ = (symbol_in m.table y).st_name in
+      let inside : place + length y.name < length m.table.bytes =
+      text_inside (length y.name + 1) m.table.bytes place y.name ((stands j y y_at).read (length y.name + 1) (omega arith)) in
+      omega (arith, inside, told.short)
+
+  -- ## The records
 
   module _ (are : AreBytes at.section.content) where
-    fits_at : (j : ℕ) (y : NamedSymbol) → slice_get image.dynamic_symbols j ≡ Some y → does_symbol_fit image.form table y ≡ true
+    fits_at : (j : ℕ) (y : NamedSymbol) → slice_get (final read image).dynamic_symbols j ≡ Some y → does_symbol_fit image.form m.table y ≡ true
     unfolding does_symbol_fit form_of
     fits_at j y y_at =
         let form : Form = image.form in
         let ns : List SymbolNumbers = symbols_in form at.section.content in
-        let place : ℕ = (symbol_in table y).st_name in
-        let within : j < length ns =
-        omega (arith, slice_get_within image.dynamic_symbols j y y_at, count read image is f i at typed) in
-        let (n, n_at) = there_at ns j within in
-        let of = symbol_read read image is f i at typed j y n y_at n_at in
-        let from = record_at (symbol_numbers form) (symbol_size form) (length at.section.content / symbol_size form) at.section.content are j n n_at in
-        let same : symbol_in table y ≡ placed place (symbol_numbers form from.part) =
-        ap (λ (z : NamedSymbol). symbol_with place z) of.fields ∙ ap (placed place) from.decoded in
-        ap (λ (m : SymbolNumbers). do_fields_fit (symbol_fields form m)) same
-        ∙ placed_fits form.wide form.order place from.part (place_fits j y y_at) from.bytes
+        let place : ℕ = (symbol_in m.table y).st_name in
+        let was = final_at read image (edit_of is) f j y y_at in
+        let within : was.number < length ns =
+        omega (arith, slice_get_within read.dynamic_symbols was.number was.old was.is_old, count read image is f i at typed) in
+        let (n, n_at) = there_at ns was.number within in
+        let of = symbol_read read image is f i at typed was.number was.old n was.is_old n_at in
+        let from = record_at (symbol_numbers form) (symbol_size form) (length at.section.content / symbol_size form) at.section.content are was.number n n_at in
+        let same : symbol_in m.table y ≡ placed place (symbol_numbers form from.part) =
+        ap (λ (z : NamedSymbol). symbol_with place z) was.same.2
+        ∙ ap (λ (z : NamedSymbol). symbol_with place z) of.fields ∙ ap (placed place) from.decoded in
+        ap (λ (k : SymbolNumbers). do_fields_fit (symbol_fields form k)) same
+        ∙ placed_fits form.wide form.order place from.part (place_fits was.position y was.is_there) from.bytes
 
-    pub fits : list_all (does_symbol_fit image.form table) image.dynamic_symbols ≡ true
-    fits = all-each (does_symbol_fit image.form table) image.dynamic_symbols fits_at
+    pub fits : list_all (does_symbol_fit image.form m.table) (final read image).dynamic_symbols ≡ true
+    fits = all-each (does_symbol_fit image.form m.table) (final read image).dynamic_symbols fits_at
 
     -- each symbol has its record
-    pub anew : AreSymbolsOf table.bytes image.dynamic_symbols (symbols_in image.form (flat_map (symbol_bytes image.form table) image.dynamic_symbols))
+    pub anew : AreSymbolsOf m.table.bytes (final read image).dynamic_symbols
+        (symbols_in image.form (flat_map (symbol_bytes image.form m.table) (final read image).dynamic_symbols))
     anew =
-        let ys : List NamedSymbol = image.dynamic_symbols in
-        subst (AreSymbolsOf table.bytes ys) (sym (spelled_back image.form table ys fits))
-        (each_symbol table.bytes ys (map (symbol_in table) ys) (sym (length-map ys (symbol_in table))) (λ j y n y_at n_at.
-        let same : symbol_in table y ≡ n =
-        same_Some (symbol_in table y) n (sym (slice_get-map (symbol_in table) ys j ∙ ap (option_map (symbol_in table)) y_at) ∙ n_at) in
-        subst (IsSymbolOf table.bytes y) same (record {
-          name = (stands j y y_at).read;
+        let ys : List NamedSymbol = (final read image).dynamic_symbols in
+        subst (AreSymbolsOf m.table.bytes ys) (sym (spelled_back image.form m.table ys fits))
+        (each_symbol m.table.bytes ys (map (symbol_in m.table) ys) (sym (length-map ys (symbol_in m.table))) (λ j y n y_at n_at.
+        let was = final_at read image (edit_of is) f j y y_at in
+        let same : symbol_in m.table y ≡ n =
+        same_Some (symbol_in m.table y) n (sym (slice_get-map (symbol_in m.table) ys j ∙ ap (option_map (symbol_in m.table)) y_at) ∙ n_at) in
+        subst (IsSymbolOf m.table.bytes y) same (record {
+          name = (stands was.position y was.is_there).read;
           st_info = refl;
           st_other = refl;
           st_shndx = refl;

@@ -7,8 +7,9 @@ use Rattle.elf_format.specs.declared.records.SectionHeader.{SectionHeader}
 use Rattle.elf_format.specs.File.{opened_of, sections_of}
 use Rattle.elf_format.specs.Image.{Image, ImageSection}
 use Rattle.elf_format.specs.Places.{Place}
-use Rattle.elf_image.specs.Kept.{KeptSection}
+use Rattle.elf_image.specs.Kept.{KeptSection, image_at_read}
 use Rattle.elf_layout_plan.specs.Memory.{Resized}
+use Rattle.elf_write_spec.specs.Final.{final}
 use Rattle.elf_write_spec.specs.Headers.{IsHeaderOf, behind_locals}
 use Rattle.elf_write_contents.specs.declared.headers.Known.{Known}
 
@@ -19,7 +20,8 @@ headers_read image = opened_of image.source >>= sections_of
 -- what is known of the image as a whole is right
 pub record IsKnown (image : Image) (known : Known) : Type 0 where
   pub symbols : known.symbols ≡ behind_locals image.symbols
-  pub dynamic_symbols : known.dynamic_symbols ≡ behind_locals image.dynamic_symbols
+  pub dynamic_symbols : known.dynamic_symbols ≡ behind_locals (final (image_at_read image) image).dynamic_symbols
+  pub needs : known.needs ≡ length (final (image_at_read image) image).needs
   pub headers : headers_read image ≡ Some known.headers.items
 
 -- sh_info of tables that are made of the image's lists follows from these
@@ -28,7 +30,7 @@ info_by known image s =
     if s.sh_type == SHT_SYMTAB then known.symbols
     else if s.sh_type == SHT_DYNSYM then known.dynamic_symbols
     else if s.sh_type == SHT_GNU_VERDEF then length image.definitions
-    else if s.sh_type == SHT_GNU_VERNEED then length image.needs
+    else if s.sh_type == SHT_GNU_VERNEED then known.needs
     else s.sh_info
 
 -- a section's header at a place, its name at a place of the names

@@ -1,61 +1,22 @@
 -- What the steps towards the bytes of a file hand to each other.
-use Rattle.std.specs.Prelude.{ℕ, ◌≡◌, List, [], ◌∷◌, length, Option, Some, None, IsTrue, ◌==◌, if◌then◌else◌, unwrap_or}
-use Rattle.std.specs.List.{slice_get}
-use Rattle.patch_bytes.specs.Memory.{◌>>=◌}
+use Rattle.std.specs.Prelude.{ℕ, ◌≡◌, List, [], ◌∷◌, length, Option, Some, None, if◌then◌else◌}
 use Rattle.elf_format.specs.declared.constants.TheConstants.{SHT_DYNAMIC, SHT_STRTAB}
 use Rattle.elf_format.specs.declared.records.EntryNumbers.{EntryNumbers}
 use Rattle.elf_format.specs.declared.records.SectionHeader.{SectionHeader}
-use Rattle.elf_format.specs.Image.{Image, ImageSection}
+use Rattle.elf_format.specs.Image.{Image}
 use Rattle.elf_format.specs.Options.{list_at}
 use Rattle.elf_format.specs.Places.{Place, occupies_file}
-use Rattle.elf_image.specs.Edited.{IsEdited}
-use Rattle.elf_layout_sizes.specs.MadeTables.{IsMade}
-use Rattle.elf_image.specs.Kept.{KeptSection, image_at_read, kept_at_number, kept_of_type, link_of_type}
+use Rattle.elf_image.specs.Kept.{KeptSection, kept_of_type}
 use Rattle.elf_layout_plan.specs.Memory.{Resized}
-use Rattle.elf_layout_plan.specs.Plan.{IsPlan, Layout, resized}
-use Rattle.elf_layout_plan.specs.Refusals.{do_sizes_of_image_fit}
-use Rattle.elf_layout_plan.specs.Texts.{is_table_copied}
+use Rattle.elf_layout_plan.specs.Plan.{Layout}
 use Rattle.elf_write_spec.specs.Contents.{AreEntriesOf, IsContent}
 use Rattle.elf_write_spec.specs.Final.{final}
 use Rattle.elf_write_spec.specs.Headers.{IsHeaderOf}
-use Rattle.elf_write_spec.specs.Whole.{IsWhole}
 use Rattle.elf_write_spec.specs.Output.{IsPlannedOutput, Output, written_bytes}
 use Rattle.elf_write_spec.specs.WrittenFile.{IsWrittenByPlan, IsWrittenOf}
-use Rattle.elf_write_contents.specs.declared.made.Made.{Made}
-
--- An edited image of which nothing went, with the image that was read from its source.
-pub record IsReady (read image : Image) : Type 0 where
-  pub at_read : read ≡ image_at_read image
-  pub edited : IsEdited image
-  pub whole : IsWhole read image
-  pub sized : IsTrue (do_sizes_of_image_fit image)
-
--- the same with a plan of it
-pub record IsPlanned (read image : Image) (plan : Layout) : Type 0 where
-  pub ready : IsReady read image
-  pub planned : IsPlan (resized image) plan
-
--- the section is one of an image, and has that type
-pub record IsSectionOfType (type : ℕ) (image : Image) (section : ImageSection) : Type 0 where
-  pub position : ℕ
-  pub there : slice_get image.sections position ≡ Some section
-  pub typed : section.sh_type ≡ type
-
--- ## String tables
-
--- The string table of the dynamic list, where it is made anew; every other one is copied.
-pub record AreStrings (read image : Image) (made : Option Made) : Type 0 where
-  pub copied : made ≡ None → (number : ℕ) → link_of_type SHT_DYNAMIC image ≡ Some number → IsTrue (is_table_copied read image number)
-  pub anew : (m : Made) → made ≡ Some m → (link_of_type SHT_DYNAMIC image ≡ Some m.number) × IsMade read image m.number m.table
-
--- the bytes that a section had at read
-abbrev pub content_read : Image → ℕ → List ℕ
-content_read image number = unwrap_or (kept_at_number number image >>= λ s. Some s.section.content) []
-
--- the bytes of the string table that had a number, once it is written
-abbrev pub strings_at : Image → Option Made → ℕ → List ℕ
-strings_at image None number = content_read image number
-strings_at image (Some m) number = if m.number == number then m.table.bytes else content_read image number
+pub use Rattle.elf_write_spec.specs.Ready.{IsPlanned, IsReady, IsSectionOfType}
+use Rattle.elf_write_strings.specs.declared.made.Made.{Made}
+use Rattle.elf_write_strings.specs.DynamicStrings.{strings_at}
 
 -- ## Headers and entries
 

@@ -1,9 +1,8 @@
+pub mod ContentSteps
+pub mod EntrySteps
 pub mod FitSteps
 pub mod HeaderSteps
-pub mod EntrySteps
 pub mod Inner
-pub mod PreparedSteps
 pub mod Numbers
+pub mod PreparedSteps
 pub mod SymbolSteps
-pub mod ContentSteps
-pub mod VersionPlaces

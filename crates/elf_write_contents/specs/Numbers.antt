@@ -12,12 +12,15 @@ use Rattle.elf_format.specs.Options.{list_at}
 use Rattle.elf_format.specs.Places.{Place}
 use Rattle.elf_tables.specs.Fields.{do_fields_fit}
 use Rattle.elf_tables.specs.Spelled.{entry_fields, file_header_fields, section_fields, segment_fields}
-use Rattle.elf_image.specs.Kept.{KeptSection, kept_sections}
+use Rattle.elf_image.specs.Kept.{KeptSection, image_at_read, kept_sections}
 use Rattle.elf_layout_plan.specs.Memory.{Resized}
 use Rattle.elf_layout_plan.specs.Plan.{Layout, resized}
 use Rattle.elf_write_spec.specs.Contents.{table_value}
 use Rattle.elf_write_spec.specs.Final.{final}
 use Rattle.elf_write_spec.specs.Headers.{written_header, written_section}
+use Rattle.elf_write_strings.specs.DynamicStrings.{do_names_reach}
+use Rattle.elf_write_symbols.specs.Fits.{do_section_relocations_fit}
+use Rattle.elf_write_symbols.specs.Renumbering.{do_symbols_fit}
 
 -- the section headers, whatever the places of their names, which fit
 abbrev pub do_sections_fit : Resized → List KeptSection → List Place → Bool
@@ -34,14 +37,24 @@ does_entry_fit r plan (Auto tag) = do_fields_fit (entry_fields r.image.form (ent
 does_entry_fit r plan (Integer tag number) = do_fields_fit (entry_fields r.image.form (entry_with tag number))
 does_entry_fit r plan (Text tag text) = do_fields_fit (entry_fields r.image.form (entry_with tag 0))
 
--- Each number of the file header, the program headers, the section headers and the dynamic list fits its field.
-unfoldable pub do_numbers_fit : Image → Layout → Bool
-do_numbers_fit image plan =
+-- each number of the file header, the program headers, the section headers and the dynamic list fits its field
+unfoldable pub do_header_numbers_fit : Image → Layout → Bool
+do_header_numbers_fit image plan =
     let r = resized image in
     do_fields_fit (file_header_fields image.form (written_header image plan))
     && list_all (λ p. do_fields_fit (segment_fields image.form p)) plan.segments
     && do_sections_fit r (kept_sections image) plan.places
     && list_all (does_entry_fit r plan) (list_at (λ es. es) (final r.read image).entries)
+
+-- Each of them does; so do the offsets of texts, where texts move in dynamic strings that are copied, and the new numbers of dynamic
+-- symbols in hash tables and in relocations.
+unfoldable pub do_numbers_fit : Image → Layout → Bool
+do_numbers_fit image plan =
+    let read = image_at_read image in
+    do_header_numbers_fit image plan
+    && do_names_reach read image
+    && do_symbols_fit read image
+    && list_all (do_section_relocations_fit read image) (kept_sections image)
 
 -- the same of records that are there
 unfoldable pub do_records_fit : Form → FileHeader → List SegmentHeader → List SectionHeader → List EntryNumbers → Bool

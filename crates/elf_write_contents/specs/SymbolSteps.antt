@@ -1,5 +1,6 @@
 -- The steps of spelling the dynamic symbols (gABI, Symbol Table).
-use Rattle.std.specs.Prelude.{ℕ, ◌+◌, ◌≡◌, ◌≤◌, List, length, slice_get, slice_index, Bool, Option, Some, None, ◌==◌, if◌then◌else◌, unwrap_or}
+use Rattle.std.specs.Prelude.{ℕ, ◌+◌, ◌≡◌, ◌≤◌, List, length, slice_get, slice_index, Bool, ◌&&◌, Option, Some, None, IsSome, ◌==◌, if◌then◌else◌, unwrap_or}
+use Rattle.elf_format.specs.Options.{is_some_and}
 use Rattle.elf_format.specs.declared.form.Form.{Form}
 use Rattle.elf_format.specs.declared.records.SymbolNumbers.{SymbolNumbers}
 use Rattle.elf_format.specs.Views.{NamedSymbol}
@@ -7,20 +8,28 @@ use Rattle.elf_tables.specs.Fields.{do_fields_fit}
 use Rattle.elf_tables.specs.Spelled.{spelled_symbol, symbol_fields}
 use Rattle.elf_image_symbols.specs.TableSymbols.{symbol_with}
 use Rattle.elf_tables.specs.Strings.{Strings, place_of}
-use Rattle.elf_write_contents.specs.declared.made.Made.{Made}
+use Rattle.elf_write_strings.specs.declared.made.Made.{Made}
 
--- the string table that is made anew for that number
-abbrev pub table_made : Option Made → ℕ → Option Strings
-table_made None number = None
-table_made (Some m) number = if m.number == number then Some m.table else None
+-- the dynamic strings that are told anew, where they had that number
+abbrev pub made_for : Option Made → ℕ → Option Made
+made_for None number = None
+made_for (Some m) number = if m.number == number then Some m else None
 
--- where a string table tells a name; no name is at 0 (gABI, Symbol Table, st_name)
+-- the empty text stands at 0
+abbrev pub begins_empty : Strings → Bool
+begins_empty table = is_some_and (λ byte. byte == 0) (slice_get table.bytes 0)
+
+-- where a string table tells a name; no name is at 0, if the table begins with a NUL (gABI, Symbol Table, st_name)
 abbrev pub place_of_name : Strings → List ℕ → ℕ
-place_of_name table name = if length name == 0 then 0 else unwrap_or (place_of table name) 0
+place_of_name table name = if length name == 0 && begins_empty table then 0 else unwrap_or (place_of table name) 0
 
 -- the place of a symbol's name, where a table has it there
-abbrev pub place_of_named : NamedSymbol → ℕ → ℕ
-place_of_named y place = if length y.name == 0 then 0 else place
+abbrev pub place_of_named : Bool → NamedSymbol → ℕ → ℕ
+place_of_named begins y place = if length y.name == 0 && begins then 0 else place
+
+-- the table tells where each of these symbols has its name
+pub record TellsNames (table : Strings) (ys : List NamedSymbol) : Type 0 where
+  pub each : (i : ℕ) (y : NamedSymbol) → slice_get ys i ≡ Some y → IsSome (place_of table y.name)
 
 -- behind so many texts a table was made of the names of these symbols
 pub record HasNames (table : Strings) (before : ℕ) (ys : List NamedSymbol) : Type 0 where

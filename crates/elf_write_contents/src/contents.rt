@@ -1,23 +1,39 @@
 //! The bytes of each section that is written.
-ghost use Rattle.std.specs.Prelude.{◌≡◌, ◌<◌, ◌==◌, IfOk, IsTrue, false, length};
+ghost use Rattle.std.specs.Prelude.{◌≡◌, ◌<◌, ◌==◌, ◌*◌, IfOk, IsTrue, false, length};
 ghost use Rattle.std.specs.List.{list_all};
 ghost use Rattle.patch_bytes.specs.ByteString.{bytes_of_each};
+ghost use Rattle.elf_format.specs.declared.constants.TheConstants.{SHT_GNU_VERSYM as VERSYM};
 ghost use Rattle.elf_format.specs.Options.{is_some_and, list_at};
+ghost use Rattle.elf_hashes.specs.Versions.{AreVersionsOf};
 ghost use Rattle.elf_tables.specs.Fields.{do_fields_fit};
 ghost use Rattle.elf_tables.specs.Spelled.{entry_fields};
 ghost use Rattle.elf_image.specs.Kept.{interpreter_number as number_of_interpreter, kept_sections};
 ghost use Rattle.elf_layout_plan.specs.Plan.{resized};
-ghost use Rattle.elf_write_contents.specs.ContentSteps.{IsBytesAt, made_or};
-ghost use Rattle.elf_write_contents.specs.Inner.{AreContents, AreRaw, AreStrings, IsPlanned};
+ghost use Rattle.elf_image.specs.ImageModel.{section_model};
+ghost use Rattle.elf_write_symbols.specs.Fits.{do_numbers_fit_in, do_section_relocations_fit};
+ghost use Rattle.elf_write_symbols.specs.Renumbering.{IsRenumberingFor};
+ghost use Rattle.elf_write_contents.specs.ContentSteps.{IsBytesAt, IsNumbering, IsRelocated, made_or};
+ghost use Rattle.elf_write_strings.specs.DynamicStrings.{AreStrings};
+ghost use Rattle.elf_write_spec.specs.Contents.{AreVersionsIn};
+ghost use Rattle.elf_write_spec.specs.Final.{final};
+ghost use Rattle.elf_write_spec.specs.Ready.{IsPlanned, IsReady, IsSectionOfType};
+ghost use Rattle.elf_write_contents.specs.Inner.{AreContents, AreRaw};
 
 use crate::entries::list_content;
-use crate::made::Made;
 use crate::symbols::symbols_content;
-use crate::versions::{definitions_content, needs_content};
 use elf_format::records::EntryNumbers;
-use elf_image::constants::{SHT_DYNAMIC, SHT_DYNSYM, SHT_GNU_VERDEF, SHT_GNU_VERNEED, SHT_STRTAB};
+use elf_format::section_data::SectionData;
+use elf_image::constants::{
+    SHT_DYNAMIC, SHT_DYNSYM, SHT_GNU_HASH, SHT_GNU_VERDEF, SHT_GNU_VERNEED, SHT_GNU_VERSYM,
+    SHT_HASH, SHT_STRTAB,
+};
 use elf_image::{Builder, Section};
 use elf_layout_plan::{Plan, is_numbered};
+use elf_write_strings::made::Made;
+use elf_write_strings::versions::{definitions_content, needs_content};
+use elf_write_symbols::{
+    Renumbering, gabi_content, gnu_content, relocations_content, versions_content,
+};
 use patch_bytes::ByteString;
 use std::alloc::{AllocError, Global};
 
@@ -29,10 +45,14 @@ pub fn contents<'a, 'data>(
     image: &'a Builder<'data>,
     plan: &Plan,
     made: &'a Option<Made<'_>>,
+    renumbering: &Option<Renumbering>,
     raw: &[EntryNumbers],
 ) -> Result<Vec<ByteString<'a>>, AllocError>
     requires planned { IsPlanned read.now image.now plan.now }
     requires strings { AreStrings read.now image.now made.now }
+    requires renumbering { IsRenumberingFor read.now image.now renumbering.now }
+    requires relocations { IsTrue (list_all (do_section_relocations_fit read.now image.now)
+        (kept_sections image.now)) }
     requires raw { AreRaw (resized image.now) plan.now made.now raw.now }
     requires fit { IsTrue (list_all (λ e. do_fields_fit (entry_fields image.now.form e))
         raw.now) }
@@ -46,7 +66,7 @@ pub fn contents<'a, 'data>(
         let bytes = if is_numbered(interpreter, i) {
             interpreter_content(image)
         } else {
-            section_content(alloc, read, image, plan, made, raw, i)?
+            section_content(alloc, read, image, plan, made, renumbering, raw, i)?
         };
         contents.push(bytes)?;
     }
@@ -88,11 +108,15 @@ fn section_content<'a, 'data>(
     image: &'a Builder<'data>,
     plan: &Plan,
     made: &'a Option<Made<'_>>,
+    renumbering: &Option<Renumbering>,
     raw: &[EntryNumbers],
     i: usize,
 ) -> Result<ByteString<'a>, AllocError>
     requires planned { IsPlanned read.now image.now plan.now }
     requires strings { AreStrings read.now image.now made.now }
+    requires renumbering { IsRenumberingFor read.now image.now renumbering.now }
+    requires relocations { IsTrue (list_all (do_section_relocations_fit read.now image.now)
+        (kept_sections image.now)) }
     requires raw { AreRaw (resized image.now) plan.now made.now raw.now }
     requires fit { IsTrue (list_all (λ e. do_fields_fit (entry_fields image.now.form e))
         raw.now) }
@@ -109,7 +133,7 @@ fn section_content<'a, 'data>(
             Ok(ByteString::owned(bytes))
         }
         SHT_STRTAB => Ok(strings_content(made, section, i)),
-        SHT_DYNSYM => symbols_content(alloc, read, image, made, section),
+        SHT_DYNSYM => symbols_content(alloc, read, image, made, renumbering, section),
         SHT_GNU_VERDEF => {
             let bytes = definitions_content(alloc, read, image, made, section)?;
             Ok(ByteString::owned(bytes))
@@ -118,6 +142,88 @@ fn section_content<'a, 'data>(
             let bytes = needs_content(alloc, read, image, made, section)?;
             Ok(ByteString::owned(bytes))
         }
+        _ => numbering_content(alloc, read, image, renumbering, section),
+    }
+}
+
+// Bytes that hold the versions of the symbols are those that were read, where no version changed.
+fn show_versions(
+    read: &Builder<'_>,
+    image: &Builder<'_>,
+    section: &Section<'_>,
+    content: &[u8],
+    bytes: &[u8],
+)
+    requires ready { IsReady read.now image.now }
+    requires at { IsSectionOfType VERSYM image.now (section_model section.now) }
+    requires content { content.now ≡ (section_model section.now).content }
+    requires versions { AreVersionsOf image.now.form (final read.now image.now).dynamic_symbols
+        bytes.now }
+    ensures { AreVersionsIn (resized image.now) (section_model section.now) bytes.now }
+{}
+
+// The bytes of the section of versions.
+fn symbol_versions<'data>(
+    alloc: Global,
+    read: &Builder<'data>,
+    image: &Builder<'data>,
+    renumbering: &Option<Renumbering>,
+    section: &Section<'data>,
+) -> Result<ByteString<'data>, AllocError>
+    requires ready { IsReady read.now image.now }
+    requires renumbering { IsRenumberingFor read.now image.now renumbering.now }
+    requires at { IsSectionOfType VERSYM image.now (section_model section.now) }
+    ensures sized { IfOk result (λ content. length content.bytes
+        ≡ 2 * length image.now.dynamic_symbols) }
+    ensures versions { IfOk result (λ content.
+        AreVersionsIn (resized image.now) (section_model section.now) content.bytes) }
+{
+    let bytes = versions_content(alloc, read, image, renumbering, section)?;
+    show_versions(read, image, section, section.content, bytes.as_slice());
+    Ok(bytes)
+}
+
+// The bytes of a section that numbers the dynamic symbols, or of one that is as it was read: none of those of which the
+// bytes are made by types above.
+fn numbering_content<'data>(
+    alloc: Global,
+    read: &Builder<'data>,
+    image: &Builder<'data>,
+    renumbering: &Option<Renumbering>,
+    section: &Section<'data>,
+) -> Result<ByteString<'data>, AllocError>
+    requires ready { IsReady read.now image.now }
+    requires renumbering { IsRenumberingFor read.now image.now renumbering.now }
+    requires at { IsSectionOfType section.now.sh_type image.now (section_model section.now) }
+    requires fit { IsTrue (do_numbers_fit_in read.now image.now (section_model section.now)) }
+    ensures { IfOk result (λ content. IsNumbering read.now image.now
+        (section_model section.now) content.bytes) }
+{
+    match section.sh_type {
+        SHT_GNU_VERSYM => symbol_versions(alloc, read, image, renumbering, section),
+        SHT_HASH => gabi_content(alloc, read, image, renumbering, section),
+        SHT_GNU_HASH => gnu_content(alloc, read, image, renumbering, section),
+        _ => relocated_content(alloc, read, image, renumbering, section),
+    }
+}
+
+// The bytes of a section of relocations that is one, or of one that is as it was read.
+fn relocated_content<'data>(
+    alloc: Global,
+    read: &Builder<'data>,
+    image: &Builder<'data>,
+    renumbering: &Option<Renumbering>,
+    section: &Section<'data>,
+) -> Result<ByteString<'data>, AllocError>
+    requires ready { IsReady read.now image.now }
+    requires renumbering { IsRenumberingFor read.now image.now renumbering.now }
+    requires at { IsSectionOfType section.now.sh_type image.now (section_model section.now) }
+    requires fit { IsTrue (do_numbers_fit_in read.now image.now (section_model section.now)) }
+    ensures { IfOk result (λ content. IsRelocated (resized image.now)
+        (section_model section.now) content.bytes) }
+{
+    match section.kind {
+        SectionData::Relocation => { relocations_content(alloc, read, image, renumbering, section) }
         _ => Ok(ByteString::borrowed(section.content)),
     }
 }

@@ -8,38 +8,41 @@ ghost use Rattle.elf_image.specs.ImageModel.{entry_model};
 ghost use Rattle.elf_image.specs.Kept.{image_at_read};
 ghost use Rattle.elf_layout_plan.specs.Plan.{resized};
 ghost use Rattle.elf_write_spec.specs.Contents.{spelled_list, table_value as value_of_table};
-ghost use Rattle.elf_write_spec.specs.Final.{final};
+ghost use Rattle.elf_layout_needs.specs.Staying.{staying_entries};
+ghost use Rattle.elf_layout_needs.specs.Written.{AreWritten};
 ghost use Rattle.elf_write_contents.specs.EntrySteps.{numbers_with, places_behind as places_left, value_with};
-ghost use Rattle.elf_write_contents.specs.Inner.{AreRaw, AreStrings, IsPlanned, IsReady};
+ghost use Rattle.elf_write_strings.specs.DynamicStrings.{AreStrings};
+ghost use Rattle.elf_write_spec.specs.Ready.{IsPlanned};
+ghost use Rattle.elf_write_contents.specs.Inner.{AreRaw};
 
 mod tables;
-pub(crate) mod texts;
 
 use self::tables::table_value;
-use self::texts::{text_places, texts_of};
-use crate::made::Made;
 use elf_format::form::Form;
 use elf_format::records::EntryNumbers;
 use elf_image::constants::SHT_DYNAMIC;
 use elf_image::{Builder, Dynamic};
+use elf_layout_needs::StayingNeeds;
 use elf_layout_plan::Plan;
 use elf_tables::spelled::push_entry;
+use elf_write_strings::made::Made;
+use elf_write_strings::texts::{list_texts, text_places};
 use std::alloc::{AllocError, Global};
 
-// No needed version goes from an image of which nothing went.
-fn keeps_needs(read: &Builder<'_>, image: &Builder<'_>)
-    requires { IsReady read.now image.now }
-    ensures { (final (image_at_read image.now) image.now).needs ≡ image.now.needs }
-{}
-
 // The value of an entry: a table's, its own number, or the first of the places.
-fn value_of(image: &Builder<'_>, plan: &Plan, entry: &Dynamic<'_>, places: &[u64]) -> u64
-    requires { (final (image_at_read image.now) image.now).needs ≡ image.now.needs }
+fn value_of(
+    image: &Builder<'_>,
+    plan: &Plan,
+    staying: &StayingNeeds,
+    entry: &Dynamic<'_>,
+    places: &[u64],
+) -> u64
+    requires { AreWritten (image_at_read image.now) image.now staying.now }
     ensures { result ≡ value_with (λ tag. value_of_table (resized image.now) plan.now tag)
         places.now (entry_model entry.now) }
 {
     match entry {
-        Dynamic::Auto { tag } => table_value(image, plan, *tag),
+        Dynamic::Auto { tag } => table_value(image, plan, staying, *tag),
         Dynamic::Integer { val, .. } => *val,
         Dynamic::Text { .. } => match places.first() {
             Some(place) => *place,
@@ -61,24 +64,28 @@ fn places_behind<'p>(entry: &Dynamic<'_>, places: &'p [u64]) -> &'p [u64]
     }
 }
 
-// The numbers of entries, each text at the next of the places.
+// The numbers of the entries that stay, each text at the next of the places.
 fn numbers_of(
     alloc: Global,
     image: &Builder<'_>,
     plan: &Plan,
+    staying: &StayingNeeds,
     entries: &[Dynamic<'_>],
     places: &[u64],
 ) -> Result<Vec<EntryNumbers>, AllocError>
-    requires { (final (image_at_read image.now) image.now).needs ≡ image.now.needs }
+    requires { AreWritten (image_at_read image.now) image.now staying.now }
     ensures { IfOk result (λ raw. raw.items
         ≡ numbers_with (λ tag. value_of_table (resized image.now) plan.now tag) places.now
-        (map entry_model entries.now)) }
+        (staying_entries staying.now.are_gone (map entry_model entries.now))) }
 {
     let mut raw = Vec::new(alloc);
     let mut left = places;
     for entry in entries {
+        if !staying.does_entry_stay(entry) {
+            continue;
+        }
         let d_tag = entry.tag();
-        let d_value = value_of(image, plan, entry, left);
+        let d_value = value_of(image, plan, staying, entry, left);
         raw.push(EntryNumbers { d_tag, d_value })?;
         left = places_behind(entry, left);
     }
@@ -91,9 +98,11 @@ pub(crate) fn raw_entries<'data>(
     read: &Builder<'data>,
     image: &Builder<'data>,
     plan: &Plan,
+    staying: &StayingNeeds,
     made: &Option<Made<'_>>,
 ) -> Result<Vec<EntryNumbers>, AllocError>
     requires planned { IsPlanned read.now image.now plan.now }
+    requires staying { AreWritten read.now image.now staying.now }
     requires strings { AreStrings read.now image.now made.now }
     ensures { IfOk result (λ raw. AreRaw (resized image.now) plan.now made.now raw.items) }
 {
@@ -103,10 +112,9 @@ pub(crate) fn raw_entries<'data>(
     let Some(entries) = image.dynamic_data() else {
         return Ok(Vec::new(alloc));
     };
-    keeps_needs(read, image);
-    let texts = texts_of(alloc, entries)?;
+    let texts = list_texts(alloc, image, staying)?;
     let places = text_places(alloc, read, image, made, list, texts.as_slice())?;
-    numbers_of(alloc, image, plan, entries, places.as_slice())
+    numbers_of(alloc, image, plan, staying, entries, places.as_slice())
 }
 
 // Appends so many zeros.

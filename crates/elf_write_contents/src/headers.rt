@@ -7,22 +7,31 @@ ghost use Rattle.elf_layout_plan.specs.Plan.{IsPlan, resized};
 ghost use Rattle.elf_layout_plan.specs.PlanModel.{place_model};
 ghost use Rattle.elf_tables.specs.declared.fault.TableFault.TheVariants.{NumberTooLarge};
 ghost use Rattle.elf_tables.specs.Strings.{place_of};
-ghost use Rattle.elf_write_spec.specs.Final.{is_local as is_local_symbol};
+ghost use Rattle.elf_hashes.specs.Found.{is_local as is_local_symbol};
+ghost use Rattle.elf_image_symbol_edits.specs.Loan.{symbols_now};
+ghost use Rattle.elf_layout_needs.specs.Written.{AreWritten};
+ghost use Rattle.elf_write_spec.specs.Final.{final};
 ghost use Rattle.elf_write_spec.specs.Headers.{Reads, behind_locals as behind_all, written_header};
 ghost use Rattle.elf_write_contents.specs.HeaderSteps.{IsHeaderAt, IsKnown, header_by, headers_read, info_by};
-ghost use Rattle.elf_write_contents.specs.Inner.{AreHeaders, AreStrings, IsPlanned, content_read, strings_at};
+ghost use Rattle.elf_write_strings.specs.DynamicStrings.{AreStrings, content_read, strings_at};
+ghost use Rattle.elf_write_spec.specs.Ready.{IsPlanned, IsReady};
+ghost use Rattle.elf_write_symbols.specs.Renumbering.{IsRenumberingFor};
+ghost use Rattle.elf_write_contents.specs.Inner.{AreHeaders};
 ghost use Rattle.elf_write_contents.specs.Numbers.{do_numbers_fit};
-ghost use Rattle.elf_write_contents.specs.declared.made.Made.{Made};
+ghost use Rattle.elf_write_strings.specs.declared.made.Made.{Made};
 
-use crate::made::Made;
 use elf_format::form::Form;
 use elf_format::opening::{open, sections};
 use elf_format::records::{FileHeader, SectionHeader};
 use elf_format::view_fault::ViewFault;
 use elf_image::constants::{SHT_DYNSYM, SHT_GNU_VERDEF, SHT_GNU_VERNEED, SHT_SYMTAB};
-use elf_image::{Builder, Section, Symbols};
+use elf_image::{Builder, Section};
+use elf_image_symbol_edits::SymbolsNow;
+use elf_layout_needs::StayingNeeds;
 use elf_layout_plan::{Plan, SectionPlace};
 use elf_tables::TableFault;
+use elf_write_strings::made::Made;
+use elf_write_symbols::{Renumbering, order_of};
 use std::alloc::Global;
 
 // How many program headers and sections a plan has: few enough for plain numbering (gABI, ELF Header, e_phnum and e_shnum).
@@ -65,26 +74,48 @@ struct Known {
     // One past the last local symbol of each symbol table.
     symbols: usize,
     dynamic_symbols: usize,
+    // How many records of needed versions are written.
+    needs: usize,
     // The section headers that were read.
     headers: Vec<SectionHeader>,
 }
 
 // Whether the symbol at a position is local (gABI, Symbol Table, `st_info`).
 #[inline(always)]
-fn is_local(symbols: &Symbols<'_>, i: usize) -> bool
-    requires { i < length symbols.now }
-    ensures { option_map is_local_symbol (slice_get symbols.now i) ≡ Some result }
+fn is_local(symbols: SymbolsNow<'_>, i: usize) -> bool
+    requires { i < length (symbols_now symbols) }
+    ensures { option_map is_local_symbol (slice_get (symbols_now symbols.entry) i) ≡ Some result }
 {
     symbols.numbers(i, 0).st_info / 16 == 0
 }
 
 // One past the last local symbol, 0 where there is none (gABI, Sections, sh_info of symbol tables).
-fn behind_locals(symbols: &Symbols<'_>) -> usize
-    ensures { result ≡ behind_all symbols.now }
+fn behind_locals(symbols: SymbolsNow<'_>) -> usize
+    ensures { result ≡ behind_all (symbols_now symbols.entry) }
 {
     let mut behind = 0;
     for i in 0..symbols.len() {
         if is_local(symbols, i) {
+            behind = i + 1;
+        }
+    }
+    behind
+}
+
+// One past the last local one of the dynamic symbols, in their new order.
+fn behind_dynamic_locals(
+    read: &Builder<'_>,
+    image: &Builder<'_>,
+    renumbering: &Option<Renumbering>,
+) -> usize
+    requires ready { IsReady read.now image.now }
+    requires renumbering { IsRenumberingFor read.now image.now renumbering.now }
+    ensures { result ≡ behind_all (final read.now image.now).dynamic_symbols }
+{
+    let symbols = image.dynamic_symbols();
+    let mut behind = 0;
+    for i in 0..symbols.len() {
+        if is_local(symbols, order_of(read, image, renumbering, i)) {
             behind = i + 1;
         }
     }
@@ -101,7 +132,16 @@ fn read_headers(alloc: Global, image: &Builder<'_>) -> Result<Vec<SectionHeader>
 }
 
 // What the section headers take from the image as a whole; `None` where memory runs out.
-fn known_of(alloc: Global, image: &Builder<'_>) -> Option<Known>
+fn known_of(
+    alloc: Global,
+    read: &Builder<'_>,
+    image: &Builder<'_>,
+    staying: &StayingNeeds,
+    renumbering: &Option<Renumbering>,
+) -> Option<Known>
+    requires ready { IsReady read.now image.now }
+    requires staying { AreWritten read.now image.now staying.now }
+    requires renumbering { IsRenumberingFor read.now image.now renumbering.now }
     ensures { IfSome result (λ known. IsKnown image.now known) }
 {
     let Ok(headers) = read_headers(alloc, image) else {
@@ -109,7 +149,8 @@ fn known_of(alloc: Global, image: &Builder<'_>) -> Option<Known>
     };
     Some(Known {
         symbols: behind_locals(image.symbols()),
-        dynamic_symbols: behind_locals(image.dynamic_symbols()),
+        dynamic_symbols: behind_dynamic_locals(read, image, renumbering),
+        needs: staying.count_needs(&image.versions().needs),
         headers,
     })
 }
@@ -141,7 +182,7 @@ fn info_of(image: &Builder<'_>, known: &Known, section: &Section<'_>) -> Option<
         SHT_SYMTAB => known.symbols,
         SHT_DYNSYM => known.dynamic_symbols,
         SHT_GNU_VERDEF => image.versions().definitions.len(),
-        SHT_GNU_VERNEED => image.versions().needs.len(),
+        SHT_GNU_VERNEED => known.needs,
         _ => return Some(section.sh_info),
     };
     if count > u32::MAX as usize {
@@ -232,9 +273,13 @@ pub(crate) fn section_headers<'data>(
     read: &Builder<'data>,
     image: &Builder<'data>,
     plan: &Plan,
+    staying: &StayingNeeds,
+    renumbering: &Option<Renumbering>,
     made: &Option<Made<'_>>,
 ) -> Result<Vec<SectionHeader>, TableFault>
     requires planned { IsPlanned read.now image.now plan.now }
+    requires staying { AreWritten read.now image.now staying.now }
+    requires renumbering { IsRenumberingFor read.now image.now renumbering.now }
     requires strings { AreStrings read.now image.now made.now }
     ensures headers { IfOk result (λ headers. AreHeaders (resized image.now)
         (strings_at image.now made.now image.now.header.e_shstrndx)
@@ -242,7 +287,7 @@ pub(crate) fn section_headers<'data>(
     ensures fault { IfErr result (λ fault.
         fault ≡ NumberTooLarge → do_numbers_fit image.now plan.now ≡ false) }
 {
-    let Some(known) = known_of(alloc, image) else {
+    let Some(known) = known_of(alloc, read, image, staying, renumbering) else {
         return Err(TableFault::Memory);
     };
     headers_with(alloc, image, plan, made, &known)

@@ -6,7 +6,5 @@ pub mod contents;
 mod entries;
 mod fits;
 mod headers;
-pub mod made;
 pub mod prepared;
 mod symbols;
-mod versions;

@@ -1,25 +1,31 @@
-//! What is made of an image before the contents of its sections: string table, headers and dynamic entries.
+//! What is made of an image before the contents of its sections: strings, numbers of symbols, headers and dynamic entries.
 ghost use Rattle.std.specs.Prelude.{◌≡◌, false, IfErr, IfOk};
 ghost use Rattle.elf_tables.specs.declared.fault.TableFault.TheVariants.{NumberTooLarge};
-ghost use Rattle.elf_write_contents.specs.Inner.{AreStrings, IsPlanned};
+ghost use Rattle.elf_write_spec.specs.Ready.{IsPlanned};
+ghost use Rattle.elf_write_strings.specs.DynamicStrings.{AreStrings};
+ghost use Rattle.elf_write_symbols.specs.Renumbering.{IsRenumberingFor};
 ghost use Rattle.elf_write_contents.specs.Numbers.{do_numbers_fit as do_all_fit};
 ghost use Rattle.elf_write_contents.specs.PreparedSteps.{IsPrepared};
 
 use crate::entries::raw_entries;
-use crate::fits::do_numbers_fit;
+use crate::fits::do_header_numbers_fit;
 use crate::headers::{file_header, section_headers};
-use crate::made::{Made, made_strings};
 use elf_format::records::{EntryNumbers, FileHeader, SectionHeader};
 use elf_image::Builder;
+use elf_layout_needs::StayingNeeds;
 use elf_layout_plan::Plan;
 use elf_tables::TableFault;
+use elf_write_strings::made::{Made, made_strings};
+use elf_write_symbols::{Renumbering, do_relocations_fit_in, renumbering_of};
 use std::alloc::Global;
 
 /// What stands in the headers of a written file, and in its dynamic section.
 #[derive(Drop)]
 pub struct Prepared<'t> {
-    /// The string table of the dynamic list, where it is made anew.
+    /// The dynamic strings, where they are told anew.
     pub made: Option<Made<'t>>,
+    /// The new order and numbers of the dynamic symbols, where names changed.
+    pub renumbering: Option<Renumbering>,
     /// The file header (gABI, ELF Header).
     pub header: FileHeader,
     /// The section headers, in order (gABI, Sections).
@@ -45,7 +51,8 @@ pub fn prepare<'a, 'data>(
     prepare_with_strings(alloc, read, image, plan, made)
 }
 
-/// The same, with the string table that is made anew, which [`strings_from`](crate::made::strings_from) gives. Errors as there.
+/// The same, with the dynamic strings that are told anew, which [`strings_from`](elf_write_strings::made::strings_from)
+/// gives. Errors as there.
 pub fn prepare_with_strings<'a, 'data>(
     alloc: Global,
     read: &'a Builder<'data>,
@@ -59,14 +66,39 @@ pub fn prepare_with_strings<'a, 'data>(
     ensures fault { IfErr result (λ fault.
         fault ≡ NumberTooLarge → do_all_fit image.entry.now plan.now ≡ false) }
 {
-    let raw = raw_entries(alloc, read, image, plan, &made)?;
+    let renumbering = renumbering_of(alloc, read, image)?;
+    prepare_numbered(alloc, read, image, plan, made, renumbering)
+}
+
+// The same, with the new order and numbers of the dynamic symbols.
+fn prepare_numbered<'a, 'data>(
+    alloc: Global,
+    read: &'a Builder<'data>,
+    image: &'a Builder<'data>,
+    plan: &Plan,
+    made: Option<Made<'a>>,
+    renumbering: Option<Renumbering>,
+) -> Result<Prepared<'a>, TableFault>
+    requires planned { IsPlanned read.now image.now plan.now }
+    requires strings { AreStrings read.now image.now made }
+    requires renumbering { IsRenumberingFor read.now image.now renumbering }
+    ensures prepared { IfOk result (IsPrepared read.entry.now image.entry.now plan.now) }
+    ensures fault { IfErr result (λ fault.
+        fault ≡ NumberTooLarge → do_all_fit image.entry.now plan.now ≡ false) }
+{
+    let staying = StayingNeeds::new(alloc, read, image)?;
+    let raw = raw_entries(alloc, read, image, plan, &staying, &made)?;
+    let headers = section_headers(alloc, read, image, plan, &staying, &renumbering, &made)?;
     let header = file_header(image, plan);
-    let headers = section_headers(alloc, read, image, plan, &made)?;
-    if !do_numbers_fit(read, image, plan, &made, header, &headers, &raw) {
+    if !do_header_numbers_fit(read, image, plan, &made, header, &headers, &raw) {
+        return Err(TableFault::NumberTooLarge);
+    }
+    if !do_relocations_fit_in(read, image, &renumbering) {
         return Err(TableFault::NumberTooLarge);
     }
     Ok(Prepared {
         made,
+        renumbering,
         header,
         headers,
         raw,

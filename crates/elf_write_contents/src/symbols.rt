@@ -1,80 +1,150 @@
 //! The bytes of the dynamic symbols (gABI, Symbol Table).
-ghost use Rattle.std.specs.Prelude.{◌≡◌, ◌++◌, ◌*◌, ◌<◌, IfOk, IsTrue, OnOk, Some, flat_map, length, option_map};
+ghost use Rattle.std.specs.Prelude.{◌≡◌, ◌++◌, ◌*◌, ◌<◌, IfOk, IsTrue, None, OnOk, Some, flat_map, length, option_map};
 ghost use Rattle.std.specs.List.{list_all, slice_get};
-ghost use Rattle.elf_format.specs.declared.constants.TheConstants.{SHT_DYNAMIC, SHT_DYNSYM};
+ghost use Rattle.elf_format.specs.declared.constants.TheConstants.{SHT_DYNSYM};
 ghost use Rattle.elf_format.specs.Options.{list_at};
 ghost use Rattle.elf_format.specs.Records.{symbol_size, symbols_in};
 ghost use Rattle.elf_image.specs.ImageModel.{section_model};
-ghost use Rattle.elf_image.specs.Kept.{link_of_type};
+ghost use Rattle.elf_image_symbol_edits.specs.Loan.{symbols_now};
+ghost use Rattle.elf_layout_plan.specs.Needs.{written_entries};
 ghost use Rattle.elf_layout_plan.specs.Texts.{texts_of_entries};
-ghost use Rattle.elf_layout_sizes.specs.MadeTables.{IsMade};
 ghost use Rattle.elf_write_spec.specs.Contents.{AreSymbolsOf};
 ghost use Rattle.elf_write_spec.specs.Final.{final};
-ghost use Rattle.elf_write_contents.specs.Inner.{AreStrings, IsReady, IsSectionOfType, strings_at};
-ghost use Rattle.elf_write_contents.specs.SymbolSteps.{HasNames, does_symbol_fit, place_of_named, symbol_bytes, table_made};
+ghost use Rattle.elf_write_spec.specs.Ready.{IsReady, IsSectionOfType};
+ghost use Rattle.elf_write_strings.specs.DynamicStrings.{AreStrings, IsTold, strings_at};
+ghost use Rattle.elf_write_symbols.specs.Renumbering.{IsRenumberingFor};
+ghost use Rattle.elf_write_contents.specs.SymbolSteps.{HasNames, TellsNames, begins_empty as begins_empty_text, does_symbol_fit, made_for as made_with, place_in, place_of_named, symbol_bytes};
 
-use crate::entries::texts::texts_of;
-use crate::made::Made;
-use elf_image::{Builder, Form, Section, Symbols};
+use elf_image::{Builder, Section};
+use elf_image_symbol_edits::SymbolsNow;
+use elf_layout_needs::StayingNeeds;
 use elf_tables::Finished;
 use elf_tables::spelled::push_symbol;
+use elf_write_strings::made::Made;
+use elf_write_strings::texts::list_texts;
+use elf_write_symbols::{Renumbering, order_of};
 use patch_bytes::ByteString;
 use std::alloc::{AllocError, Global};
 
-// The string table that is made anew for a number.
-fn table_made_for<'m, 't>(made: &'m Option<Made<'t>>, number: u32) -> Option<&'m Finished<'t>>
-    ensures { option_map (λ table. table.now) result ≡ table_made made.entry.now number }
+// The dynamic strings that are told anew, where they had that number.
+fn made_for<'m, 't>(made: &'m Option<Made<'t>>, number: u32) -> Option<&'m Made<'t>>
+    ensures { option_map (λ m. m.now) result ≡ made_with made.entry.now number }
 {
     match made {
-        Some(made) if made.number == number as usize => Some(&made.table),
+        Some(made) if made.number == number as usize => Some(made),
         _ => None,
     }
 }
 
-// Where the name of the symbol at a position stands, if a string table has it at a place: no name stands at 0.
-#[inline(always)]
-fn name_place(symbols: &Symbols<'_>, i: usize, place: u32) -> u32
-    requires { i < length symbols.now }
-    ensures { option_map (λ y. place_of_named y place) (slice_get symbols.now i) ≡ Some result }
+// Whether the empty text stands at 0 of a table.
+fn begins_empty(table: &Finished<'_>) -> bool
+    ensures { result ≡ begins_empty_text table.now }
 {
-    if symbols.has_name(i) { place } else { 0 }
+    match table.bytes().first() {
+        Some(byte) => *byte == 0,
+        None => false,
+    }
 }
 
-// Appends the records of symbols, whose names were added to a string table behind so many other texts.
-fn push_symbols(
+// Where the name of the symbol at a position stands, if a string table has it at a place: no name stands at 0 of a table that
+// begins with a NUL.
+#[inline(always)]
+fn name_place(symbols: SymbolsNow<'_>, i: usize, place: u32, begins: bool) -> u32
+    requires { i < length (symbols_now symbols) }
+    ensures { option_map (λ y. place_of_named begins y place)
+        (slice_get (symbols_now symbols.entry) i)
+        ≡ Some result }
+{
+    if begins && !symbols.has_name(i) {
+        0
+    } else {
+        place
+    }
+}
+
+// Appends the records of the symbols in their new order, whose names were added to a string table behind so many other
+// texts.
+fn push_in_order(
     bytes: &mut Vec<u8>,
-    form: Form,
-    symbols: &Symbols<'_>,
+    read: &Builder<'_>,
+    image: &Builder<'_>,
+    renumbering: &Option<Renumbering>,
     table: &Finished<'_>,
     before: usize,
 ) -> Result<(), AllocError>
-    requires named { HasNames table.now before symbols.now }
-    requires fit { IsTrue (list_all (does_symbol_fit form table.now) symbols.now) }
-    ensures { OnOk result (bytes.new.items
-        ≡ bytes.old.items ++ flat_map (symbol_bytes form table.now) symbols.now) }
+    requires ready { IsReady read.now image.now }
+    requires renumbering { IsRenumberingFor read.now image.now renumbering.now }
+    requires named { HasNames table.now before image.now.dynamic_symbols }
+    requires fit { IsTrue (list_all (does_symbol_fit image.now.form table.now)
+        (final read.now image.now).dynamic_symbols) }
+    ensures { OnOk result (bytes.new.items ≡ bytes.old.items
+        ++ flat_map (symbol_bytes image.now.form table.now)
+        (final read.now image.now).dynamic_symbols) }
 {
+    let form = image.form();
+    let symbols = image.dynamic_symbols();
+    let begins = begins_empty(table);
     let places = table.in_order();
-    let mut nth = before;
     for i in 0..symbols.len() {
-        let place = name_place(symbols, i, places[nth]);
-        push_symbol(bytes, form, symbols.numbers(i, place))?;
-        nth += 1;
+        let at = order_of(read, image, renumbering, i);
+        let place = name_place(symbols, at, places[before + at], begins);
+        push_symbol(bytes, form, symbols.numbers(at, place))?;
     }
     Ok(())
 }
 
-// How many texts the dynamic list has. They are the first of those that its string table is made of.
-fn count_texts(alloc: Global, image: &Builder<'_>) -> Result<usize, AllocError>
-    ensures { IfOk result (λ count. count ≡ length (list_at texts_of_entries image.now.entries)) }
+// Where a string table that has the name of the symbol at a position tells it.
+fn told_place(symbols: SymbolsNow<'_>, table: &Finished<'_>, i: usize, begins: bool) -> u32
+    requires within { i < length (symbols_now symbols) }
+    requires named { TellsNames table.now (symbols_now symbols) }
+    requires begins { begins ≡ begins_empty_text table.now }
+    ensures { option_map (λ y. place_in table.now y) (slice_get (symbols_now symbols.entry) i)
+        ≡ Some result }
 {
-    let Some(entries) = image.dynamic_data() else {
-        return Ok(0);
-    };
-    let texts = texts_of(alloc, entries)?;
+    let place = table.offset_of(symbols.name(i)).unwrap();
+    name_place(symbols, i, place, begins)
+}
+
+// Appends the records of the symbols in their new order, whose names a string table tells.
+fn push_told(
+    bytes: &mut Vec<u8>,
+    read: &Builder<'_>,
+    image: &Builder<'_>,
+    renumbering: &Option<Renumbering>,
+    table: &Finished<'_>,
+) -> Result<(), AllocError>
+    requires ready { IsReady read.now image.now }
+    requires renumbering { IsRenumberingFor read.now image.now renumbering.now }
+    requires named { TellsNames table.now image.now.dynamic_symbols }
+    requires fit { IsTrue (list_all (does_symbol_fit image.now.form table.now)
+        (final read.now image.now).dynamic_symbols) }
+    ensures { OnOk result (bytes.new.items ≡ bytes.old.items
+        ++ flat_map (symbol_bytes image.now.form table.now)
+        (final read.now image.now).dynamic_symbols) }
+{
+    let form = image.form();
+    let symbols = image.dynamic_symbols();
+    let begins = begins_empty(table);
+    for i in 0..symbols.len() {
+        let at = order_of(read, image, renumbering, i);
+        let place = told_place(symbols, table, at, begins);
+        push_symbol(bytes, form, symbols.numbers(at, place))?;
+    }
+    Ok(())
+}
+
+// How many texts the dynamic list has that is written. They are the first of those that its string table is made of.
+fn count_texts(alloc: Global, read: &Builder<'_>, image: &Builder<'_>) -> Result<usize, AllocError>
+    requires { IsReady read.now image.now }
+    ensures { IfOk result (λ count. count
+        ≡ length (list_at texts_of_entries (written_entries read.now image.now))) }
+{
+    let staying = StayingNeeds::new(alloc, read, image)?;
+    let texts = list_texts(alloc, image, &staying)?;
     Ok(texts.len())
 }
 
-// The section of dynamic symbols as it was read; its names stand in a string table that is copied.
+// The section of dynamic symbols as it was read; none of them has another name.
 fn symbols_copied<'data>(
     read: &Builder<'data>,
     image: &Builder<'data>,
@@ -82,8 +152,9 @@ fn symbols_copied<'data>(
     section: &Section<'data>,
 ) -> ByteString<'data>
     requires ready { IsReady read.now image.now }
+    requires strings { AreStrings read.now image.now made.now }
     requires at { IsSectionOfType SHT_DYNSYM image.now (section_model section.now) }
-    requires copied { table_made made.now section.now.sh_link ≡ None }
+    requires copied { made_with made.now section.now.sh_link ≡ None }
     ensures sized { length result.bytes
         ≡ length image.now.dynamic_symbols * symbol_size image.now.form }
     ensures symbols { AreSymbolsOf (strings_at image.now made.now section.now.sh_link)
@@ -98,57 +169,88 @@ fn show_symbols_fit(
     read: &Builder<'_>,
     image: &Builder<'_>,
     section: &Section<'_>,
-    table: &Finished<'_>,
+    made: &Made<'_>,
     content: &[u8],
 )
     requires ready { IsReady read.now image.now }
     requires at { IsSectionOfType SHT_DYNSYM image.now (section_model section.now) }
-    requires table { IsMade read.now image.now section.now.sh_link table.now }
+    requires told { IsTold read.now image.now made.now }
+    requires linked { made.now.number ≡ section.now.sh_link }
     requires content { content.now ≡ (section_model section.now).content }
-    ensures fit { IsTrue (list_all (does_symbol_fit image.now.form table.now)
-        image.now.dynamic_symbols) }
-    ensures symbols { AreSymbolsOf table.now.bytes (final read.now image.now).dynamic_symbols
+    ensures fit { IsTrue (list_all (does_symbol_fit image.now.form made.now.table)
+        (final read.now image.now).dynamic_symbols) }
+    ensures symbols { AreSymbolsOf made.now.table.bytes (final read.now image.now).dynamic_symbols
         (symbols_in image.now.form
-        (flat_map (symbol_bytes image.now.form table.now) image.now.dynamic_symbols)) }
+        (flat_map (symbol_bytes image.now.form made.now.table)
+        (final read.now image.now).dynamic_symbols)) }
 {}
 
-// The dynamic symbols spelled anew, their names in this string table.
-#[tactic(auto, using(crate::proofs::SymbolsGiven::anew_sized))]
+// Appends the records of the symbols in their new order, their names in these strings.
+fn push_symbols(
+    alloc: Global,
+    bytes: &mut Vec<u8>,
+    read: &Builder<'_>,
+    image: &Builder<'_>,
+    made: &Made<'_>,
+    renumbering: &Option<Renumbering>,
+    section: &Section<'_>,
+) -> Result<(), AllocError>
+    requires ready { IsReady read.now image.now }
+    requires renumbering { IsRenumberingFor read.now image.now renumbering.now }
+    requires at { IsSectionOfType SHT_DYNSYM image.now (section_model section.now) }
+    requires told { IsTold read.now image.now made.now }
+    requires linked { made.now.number ≡ section.now.sh_link }
+    requires fit { IsTrue (list_all (does_symbol_fit image.now.form made.now.table)
+        (final read.now image.now).dynamic_symbols) }
+    ensures { OnOk result (bytes.new.items ≡ bytes.old.items
+        ++ flat_map (symbol_bytes image.now.form made.now.table)
+        (final read.now image.now).dynamic_symbols) }
+{
+    if made.is_copied {
+        return push_told(bytes, read, image, renumbering, &made.table);
+    }
+    let before = count_texts(alloc, read, image)?;
+    push_in_order(bytes, read, image, renumbering, &made.table, before)
+}
+
+// The dynamic symbols spelled anew, their names in these strings.
 fn symbols_anew<'data>(
     alloc: Global,
     read: &Builder<'data>,
     image: &Builder<'data>,
+    made: &Made<'_>,
+    renumbering: &Option<Renumbering>,
     section: &Section<'data>,
-    table: &Finished<'_>,
 ) -> Result<ByteString<'data>, AllocError>
     requires ready { IsReady read.now image.now }
+    requires renumbering { IsRenumberingFor read.now image.now renumbering.now }
     requires at { IsSectionOfType SHT_DYNSYM image.now (section_model section.now) }
-    requires table { IsMade read.now image.now section.now.sh_link table.now }
-    requires listed { link_of_type SHT_DYNAMIC image.now ≡ Some section.now.sh_link }
+    requires told { IsTold read.now image.now made.now }
+    requires linked { made.now.number ≡ section.now.sh_link }
     ensures sized { IfOk result (λ content. length content.bytes
         ≡ length image.now.dynamic_symbols * symbol_size image.now.form) }
-    ensures symbols { IfOk result (λ content. AreSymbolsOf table.now.bytes
+    ensures symbols { IfOk result (λ content. AreSymbolsOf made.now.table.bytes
         (final read.now image.now).dynamic_symbols
         (symbols_in image.now.form content.bytes)) }
 {
-    show_symbols_fit(read, image, section, table, section.content);
-    let form = image.form();
-    let before = count_texts(alloc, image)?;
+    show_symbols_fit(read, image, section, made, section.content);
     let mut bytes = Vec::with_capacity(alloc, section.content.len())?;
-    push_symbols(&mut bytes, form, image.dynamic_symbols(), table, before)?;
+    push_symbols(alloc, &mut bytes, read, image, made, renumbering, section)?;
     Ok(ByteString::owned(bytes))
 }
 
-// The bytes of a section of dynamic symbols: as they were read, unless their names stand in a string table that is made anew.
+// The bytes of a section of dynamic symbols: as they were read, unless their names stand in strings that are told anew.
 pub(crate) fn symbols_content<'data>(
     alloc: Global,
     read: &Builder<'data>,
     image: &Builder<'data>,
     made: &Option<Made<'_>>,
+    renumbering: &Option<Renumbering>,
     section: &Section<'data>,
 ) -> Result<ByteString<'data>, AllocError>
     requires ready { IsReady read.now image.now }
     requires strings { AreStrings read.now image.now made.now }
+    requires renumbering { IsRenumberingFor read.now image.now renumbering.now }
     requires at { IsSectionOfType SHT_DYNSYM image.now (section_model section.now) }
     ensures sized { IfOk result (λ content. length content.bytes
         ≡ length image.now.dynamic_symbols * symbol_size image.now.form) }
@@ -157,8 +259,8 @@ pub(crate) fn symbols_content<'data>(
         (final read.now image.now).dynamic_symbols
         (symbols_in image.now.form content.bytes)) }
 {
-    match table_made_for(made, section.sh_link) {
+    match made_for(made, section.sh_link) {
         None => Ok(symbols_copied(read, image, made, section)),
-        Some(table) => symbols_anew(alloc, read, image, section, table),
+        Some(made) => symbols_anew(alloc, read, image, made, renumbering, section),
     }
 }

@@ -1,6 +1,7 @@
 -- What the bytes that are written of a section are, by the section's type.
-use Rattle.std.proofs.Common.{◌≡◌, ℕ, List, length, Bool, true, false, refl, ap, ◌∙◌, subst}
+use Rattle.std.proofs.Common.{◌≡◌, ℕ, List, length, Bool, true, false, refl, sym, ap, ◌∙◌, subst}
 use Rattle.std.specs.Prelude.{IsTrue, ◌==◌}
+use Rattle.std.proofs.lemmas.Bool.{false≢true}
 use Rattle.elf_format.specs.declared.constants.TheConstants.{SHT_DYNAMIC, SHT_DYNSYM, SHT_GNU_HASH, SHT_GNU_VERDEF, SHT_GNU_VERNEED, SHT_GNU_VERSYM, SHT_HASH, SHT_PROGBITS, SHT_STRTAB, SHT_SYMTAB}
 use Rattle.elf_format.specs.declared.section_data.SectionData.{SectionData}
 use Rattle.elf_format.specs.declared.section_data.SectionData.TheVariants as kinds
@@ -9,17 +10,20 @@ use Rattle.elf_format.specs.Image.{ImageSection}
 use Rattle.elf_format.specs.Options.{list_at}
 use Rattle.elf_format.specs.Records.{symbols_in}
 use Rattle.elf_format.specs.Rules.{data_of, file_of, is_opaque_relocation}
+use Rattle.elf_hashes.specs.Versions.{AreVersionsOf}
 use Rattle.elf_image.specs.Kept.{image_at_read}
+use Rattle.elf_image.specs.Names.{are_names_changed}
 use Rattle.elf_layout_plan.specs.Plan.{resized}
 use Rattle.elf_layout_plan.specs.Texts.{is_table_copied}
 use Rattle.elf_write_spec.specs.Base.{is_interpreter}
-use Rattle.elf_write_spec.specs.Contents.{AreDefinitionsIn, AreEntriesOf, AreNeedsIn, AreSymbolsOf, IsContent, IsContentOfKind, content_at_number, spelled_list}
+use Rattle.elf_write_spec.specs.Contents.{AreDefinitionsIn, AreEntriesOf, AreNeedsIn, AreSymbolsOf, IsContent, IsContentOfKind, IsGabiContent, IsGnuContent, content_at_number, spelled_list}
 use Rattle.elf_write_spec.specs.Final.{final}
 use Rattle.elf_write_spec.specs.Output.{IsPlannedOutput, Output}
+use Rattle.elf_write_spec.specs.WrittenFile.{is_kind_copied}
 use Rattle.elf_write_spec.proofs.WholeEdits as edits
 use Rattle.elf_write_spec.proofs.WholeFacts.{ReadFacts, SectionAt, whole_edit}
 use Rattle.elf_write_spec.proofs.NumberedSections.{kept}
-use Rattle.elf_write_spec.proofs.SectionKinds.{kind_by}
+use Rattle.elf_write_spec.proofs.SectionKinds.{IsTold, copied_by, kind_by}
 
 -- ## The interpreter's section
 
@@ -86,11 +90,40 @@ module _ (w : Output) (is : IsPlannedOutput w) (f : ReadFacts w) (i : ℕ) (at :
   pub symbols_copied : at.old.sh_type ≡ SHT_SYMTAB → at.bytes ≡ section_bytes (file_of f.parts) at.old
   symbols_copied h = shows SHT_SYMTAB h refl kinds.Symbols refl ∙ content_read
 
-  pub hash_copied : at.old.sh_type ≡ SHT_HASH → at.bytes ≡ section_bytes (file_of f.parts) at.old
-  hash_copied h = shows SHT_HASH h refl kinds.Hash refl ∙ content_read
+  -- hash tables are, where the names are those that were read
+  same_names : are_names_changed (image_at_read w.image) w.image ≡ false
+      → IsTold (resized w.image) (kept i at.section) (record { table = false; names = true; versions = false; against_dynamic = true })
+  same_names same = record {
+    table = λ h. absurd (false≢true h);
+    names = λ _. same;
+    versions = λ h. absurd (false≢true h);
+    against_dynamic = λ h. absurd (false≢true (sym h));
+  }
 
-  pub gnu_hash_copied : at.old.sh_type ≡ SHT_GNU_HASH → at.bytes ≡ section_bytes (file_of f.parts) at.old
-  gnu_hash_copied h = shows SHT_GNU_HASH h refl kinds.GnuHash refl ∙ content_read
+  hash_kept : are_names_changed (image_at_read w.image) w.image ≡ false → (kind : SectionData)
+      → is_kind_copied (record { table = false; names = true; versions = false; against_dynamic = true }) kind ≡ true
+      → ShowsAs kind → at.bytes ≡ section_bytes (file_of f.parts) at.old
+  hash_kept same kind copied content =
+      copied_by (resized w.image) w.plan w.raw linked_bytes (kept i at.section) at.bytes
+      (record { table = false; names = true; versions = false; against_dynamic = true }) (same_names same) kind copied content
+      ∙ content_read
 
-  pub versions_copied : at.old.sh_type ≡ SHT_GNU_VERSYM → at.bytes ≡ section_bytes (file_of f.parts) at.old
-  versions_copied h = shows SHT_GNU_VERSYM h refl kinds.GnuVersym refl ∙ content_read
+  pub hash_copied : are_names_changed (image_at_read w.image) w.image ≡ false → at.old.sh_type ≡ SHT_HASH
+      → at.bytes ≡ section_bytes (file_of f.parts) at.old
+  hash_copied same h = hash_kept same kinds.Hash refl (shows SHT_HASH h refl kinds.Hash refl)
+
+  pub gnu_hash_copied : are_names_changed (image_at_read w.image) w.image ≡ false → at.old.sh_type ≡ SHT_GNU_HASH
+      → at.bytes ≡ section_bytes (file_of f.parts) at.old
+  gnu_hash_copied same h = hash_kept same kinds.GnuHash refl (shows SHT_GNU_HASH h refl kinds.GnuHash refl)
+
+  -- and else made of the final symbols
+  pub hash_shown : at.old.sh_type ≡ SHT_HASH → IsGabiContent (resized w.image) at.section at.bytes
+  hash_shown h = shows SHT_HASH h refl kinds.Hash refl
+
+  pub gnu_hash_shown : at.old.sh_type ≡ SHT_GNU_HASH → IsGnuContent (resized w.image) at.section at.bytes
+  gnu_hash_shown h = shows SHT_GNU_HASH h refl kinds.GnuHash refl
+
+  -- the versions of the final symbols
+  pub versions_shown : at.old.sh_type ≡ SHT_GNU_VERSYM
+      → AreVersionsOf w.image.form (final (image_at_read w.image) w.image).dynamic_symbols at.bytes
+  versions_shown h = (shows SHT_GNU_VERSYM h refl kinds.GnuVersym refl).versions

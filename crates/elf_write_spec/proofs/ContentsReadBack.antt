@@ -19,6 +19,7 @@ use Rattle.elf_format.specs.Rules.{file_of, is_opaque_relocation, links_to, symb
 use Rattle.elf_format.specs.Views.{section_memory}
 use Rattle.elf_format.proofs.ForCallers.Placed.{IsIn-slice_get, passes_picked}
 use Rattle.elf_format.proofs.ForCallers.ViewsAgree.{links_right, there_and}
+use Rattle.elf_hashes.specs.Versions.{AreVersionsOf}
 use Rattle.elf_image.specs.ReadImage.{IsSectionOf}
 use Rattle.elf_image.specs.Kept.{KeptSection, image_at_read}
 use Rattle.elf_layout_plan.specs.Memory.{Resized}
@@ -87,8 +88,9 @@ module _ (w : Output) (is : IsPlannedOutput w) (f : ReadFacts w) where
   pub symbols_content : (i : ℕ) (at : SectionAt w f.parts i) → at.old.sh_type ≡ SHT_SYMTAB → at.bytes ≡ at.section.content
   symbols_content i at e = content_by i at SHT_SYMTAB e (λ h. omega (arith, h)) kinds.Symbols (λ opaque. refl)
 
-  pub versym_content : (i : ℕ) (at : SectionAt w f.parts i) → at.old.sh_type ≡ SHT_GNU_VERSYM → at.bytes ≡ at.section.content
-  versym_content i at e = content_by i at SHT_GNU_VERSYM e (λ h. omega (arith, h)) kinds.GnuVersym (λ opaque. refl)
+  pub versym_content : (i : ℕ) (at : SectionAt w f.parts i) → at.old.sh_type ≡ SHT_GNU_VERSYM
+      → AreVersionsOf w.image.form (final (image_at_read w.image) w.image).dynamic_symbols at.bytes
+  versym_content i at e = (content_by i at SHT_GNU_VERSYM e (λ h. omega (arith, h)) kinds.GnuVersym (λ opaque. refl)).versions
 
   pub dynamic_content : (i : ℕ) (at : SectionAt w f.parts i) → at.old.sh_type ≡ SHT_DYNSYM
       → AreSymbolsOf (content_at_number w.image w.contents at.section.sh_link) (final (image_at_read w.image) w.image).dynamic_symbols

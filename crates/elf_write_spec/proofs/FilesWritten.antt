@@ -7,7 +7,7 @@ use Rattle.std.proofs.lemmas.List.{length-map}
 use Rattle.std.proofs.lemmas.Option.{none-some, same_Some, slice_get_within}
 use Rattle.patch_bytes.specs.Memory.{memory_of}
 use Rattle.patch_bytes.specs.Number.{field}
-use Rattle.elf_format.specs.declared.constants.TheConstants.{SHT_DYNAMIC, SHT_NOBITS, SHT_NULL}
+use Rattle.elf_format.specs.declared.constants.TheConstants.{SHT_DYNAMIC, SHT_GNU_VERSYM, SHT_NOBITS, SHT_NULL}
 use Rattle.elf_format.specs.declared.records.EntryNumbers.{EntryNumbers}
 use Rattle.elf_format.specs.declared.records.SectionHeader.{SectionHeader}
 use Rattle.elf_format.specs.Dynamic.{entries_at}
@@ -17,6 +17,8 @@ use Rattle.elf_format.specs.Options.{is_some_and, list_at}
 use Rattle.elf_format.specs.Places.{Place, file_range, occupies_file, occupies_memory, place_of, places_of}
 use Rattle.elf_format.specs.Ranges.{all_apart, range}
 use Rattle.elf_format.specs.Records.{section_header_size}
+use Rattle.elf_hashes.specs.Versions.{AreVersionsOf}
+use Rattle.elf_image.specs.Names.{are_names_changed}
 use Rattle.elf_image.specs.Kept.{KeptSection, image_at_read, interpreter_number, is_numbered, kept_sections, place_at_read}
 use Rattle.elf_layout_plan.specs.Anchors.{is_loaded_section}
 use Rattle.elf_layout_plan.specs.Apart.{are_notes_shown, did_show_note, does_take_memory, header_addresses, is_loaded_note, is_memory_apart, is_note_shown, is_shown_by}
@@ -24,7 +26,6 @@ use Rattle.elf_layout_plan.specs.ApartLaws.{PlansAreApart, PlansShowNotes}
 use Rattle.elf_layout_plan.specs.FilePlaced.{written_headers}
 use Rattle.elf_layout_plan.specs.Memory.{Resized, is_movable, priority_of}
 use Rattle.elf_layout_plan.specs.Plan.{resized}
-use Rattle.elf_layout_plan.specs.Texts.{is_table_copied}
 use Rattle.elf_layout_plan.proofs.ForCallers.ApartFixed.{fixed_sections_stay}
 use Rattle.elf_layout_plan.proofs.ForCallers.ApartLists.{at-map, map-at}
 use Rattle.elf_layout_plan.proofs.ForCallers.ApartSections.{kept-at}
@@ -33,20 +34,25 @@ use Rattle.elf_write_spec.specs.ReadBack.{rewritten_section}
 use Rattle.elf_write_spec.specs.Base.{has_position, is_interpreter}
 use Rattle.elf_write_spec.specs.Contents.{AreDefinitionsSpelled, AreNeedsSpelled, IsContentByKind, content_at_number}
 use Rattle.elf_write_spec.specs.Final.{final}
+use Rattle.elf_write_spec.specs.KeptSymbols.{AreRelocationsKept}
 use Rattle.elf_write_spec.specs.Laws.{section_table}
+use Rattle.elf_write_spec.specs.Look.{AreNamesFound}
 use Rattle.elf_write_spec.specs.Stays.{AreHashesSeen, IsSeenAt, written_places}
 use Rattle.elf_write_spec.specs.Output.{IsPlannedOutput, Output, written_bytes}
-use Rattle.elf_write_spec.specs.WrittenFile.{AreVersionsSpelled, EachSection, IsNumberedList, IsSectionKept, IsWrittenByPlan, IsWrittenOf, is_copied, is_fixed, is_kind_copied, is_loaded_with_bytes, places_in}
+use Rattle.elf_write_spec.specs.WrittenFile.{AreVersionsSpelled, EachSection, IsNumberedList, IsSectionKept, IsWrittenByPlan, IsWrittenOf, is_copied, is_fixed, is_kind_copied, is_loaded_with_bytes, places_in, unchanged_for}
 use Rattle.elf_write_spec.proofs.ApartInFile.{plans_are_apart_in_file}
-use Rattle.elf_write_spec.proofs.ContentFacts.{definitions_shown, needs_shown}
+use Rattle.elf_write_spec.proofs.ContentFacts.{definitions_shown, needs_shown, versions_shown}
 use Rattle.elf_write_spec.proofs.DataSeen.{written_files_keep_data, written_files_keep_hashes, written_files_keep_others}
 use Rattle.elf_write_spec.proofs.FileParts.{other_than, written_files_have_parts}
+use Rattle.elf_write_spec.proofs.NamesFound.{written_files_find_names}
 use Rattle.elf_write_spec.proofs.NumberedSections.{kept}
 use Rattle.elf_write_spec.proofs.RawEntries.{entries_here}
 use Rattle.elf_write_spec.proofs.FilesReadBack.{rewritten_image, rewritten_is, image_read_back, written_files_show}
-use Rattle.elf_write_spec.proofs.SectionKinds.{copied_by}
+use Rattle.elf_write_spec.proofs.RelocationsKept.{relocations_kept}
+use Rattle.elf_write_spec.proofs.SectionKinds.{IsTold, copied_by}
 use Rattle.elf_write_spec.proofs.SectionsReadBack.{rewritten-at, length-sections}
 use Rattle.elf_write_spec.proofs.SectionsSeen.{section_seen}
+use Rattle.elf_write_spec.proofs.SymbolsKept.{written_files_keep_symbols}
 use Rattle.elf_write_spec.proofs.WholeFacts.{Nowhere, ReadFacts, SectionAt, There, TypeAt, content_is, length-kept, lengths, places_are, read_facts, section_at, section_at_header, type_at}
 use Rattle.elf_write_spec.proofs.WholeLists.{same_items}
 
@@ -105,12 +111,20 @@ module _ (w : Output) (is : IsPlannedOutput w) (f : ReadFacts w) (i : ℕ) (at :
       let seen = section_seen w is f i at (ap occupies_memory (sym was) ∙ both.0) (ap occupies_file (sym was) ∙ both.1) in
       subst (λ (a : ℕ). IsSeenAt w.plan.segments (written_bytes w) a at.bytes) (sym at.address) seen
 
+  unchanged_told : IsTold (resized w.image) k (unchanged_for w.image k)
+  unchanged_told = record {
+    table = λ e. e;
+    names = λ e. not-true (are_names_changed (image_at_read w.image) w.image) e;
+    versions = λ e. e;
+    against_dynamic = λ e. e;
+  }
+
   copied_at : is_copied w.image k ≡ true → at.bytes ≡ at.section.content
   copied_at h =
       let r : Resized = resized w.image in
       let strings : List ℕ = content_at_number w.image w.contents at.section.sh_link in
-      let both = and_parts (not (is_interpreter r.read k)) (is_kind_copied (is_table_copied r.read r.image i) at.section.kind) h in
-      copied_by r w.plan w.raw strings k at.bytes (is_table_copied r.read r.image i) (λ e. e) at.section.kind both.1
+      let both = and_parts (not (is_interpreter r.read k)) (is_kind_copied (unchanged_for w.image k) at.section.kind) h in
+      copied_by r w.plan w.raw strings k at.bytes (unchanged_for w.image k) unchanged_told at.section.kind both.1
       (other_than (at.bytes ≡ list_at (λ name. name) w.image.interpreter) (IsContentByKind r w.plan w.raw strings k at.bytes)
       (is_interpreter r.read k) (not-true (is_interpreter r.read k) both.0) at.written.content)
 
@@ -286,8 +300,19 @@ files_are_written are_apart show_notes w is =
           (λ s now. is_loaded_note s ≡ true → list_all (λ p. is_shown_by w.plan.segments p.p_type (place_at_read now))
           (filter (did_show_note r s) w.image.segments) ≡ true)
           (λ i at. note_at w is f i at show_notes);
-      hashes = λ raw list. subst (λ (numbers : List EntryNumbers). AreHashesSeen w.image w.plan.segments numbers (written_bytes w))
-          (raw_read_back w is f raw list) (written_files_keep_hashes w is);
+      hashes = λ same raw list. subst (λ (numbers : List EntryNumbers). AreHashesSeen w.image w.plan.segments numbers (written_bytes w))
+          (raw_read_back w is f raw list) (written_files_keep_hashes w is same);
+      found = λ changed raw list lists.
+          subst (λ (numbers : List EntryNumbers). AreNamesFound (rewritten_image w) numbers (written_bytes w))
+          (raw_read_back w is f raw list)
+          (written_files_find_names w is changed lists (rewritten_image w) (image_read_back w is));
+      symbols = written_files_keep_symbols w is (rewritten_image w) (image_read_back w is);
+      relocations = each_section w is f (λ s now. AreRelocationsKept w.image (rewritten_image w) s.section now)
+          (λ i at kind. relocations_kept w is f (written_files_have_parts w is) i at kind);
+      symbol_versions = each_section w is f
+          (λ s now. s.section.sh_type ≡ SHT_GNU_VERSYM
+          → AreVersionsOf w.image.form (final (image_at_read w.image) w.image).dynamic_symbols now.content)
+          (λ i at type. versions_shown w is f i at (sym (ap (λ (x : ImageSection). x.sh_type) at.of_old.fields) ∙ type));
       versions = each_section w is f (AreVersionsSpelled (rewritten_image w)) (versions_at w is f);
       apart = record {
         memory =

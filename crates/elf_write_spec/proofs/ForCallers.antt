@@ -19,25 +19,31 @@ pub use Rattle.elf_write_spec.proofs.NumberedSections
 pub use Rattle.elf_write_spec.proofs.Laying
 -- what the bytes of a written section are, where it isn't the interpreter's
 pub use Rattle.elf_write_spec.proofs.LinkedContents
+-- the dynamic list that is written: its entries, its tables, and whether there is one
+pub use Rattle.elf_write_spec.proofs.FinalEntries
+-- the dynamic symbols in their final form: each is one of the image, and there are as many
+pub use Rattle.elf_write_spec.proofs.FinalSymbols
 -- lists of which each element matches the one at its position in another list, and how many elements pass a test
 pub use Rattle.elf_write_spec.proofs.LinkedLists
 -- the relocations of a written file name symbols of their table, which has as many as it had
 pub use Rattle.elf_write_spec.proofs.LinkedRelocations
+-- the order in which the dynamic symbols are written, and the new number of each
+pub use Rattle.elf_write_spec.proofs.OrderFacts
 -- the patches of a written file: they share no byte, lie in the file, and each stands in it
 pub use Rattle.elf_write_spec.proofs.Patches
 -- the dynamic entries of a written file are those that were written
 pub use Rattle.elf_write_spec.proofs.RawEntries
 -- a written file is accepted, and reading it gives the image in its final form, which is shown both ways
 pub use Rattle.elf_write_spec.proofs.FilesReadBack
--- an edited image whose dynamic symbols are those that were read: its names, its needed versions and its dynamic list stay
-pub use Rattle.elf_write_spec.proofs.SameLists
 -- texts in tables, memories of whole lists, and lists of values that are there one by one
 pub use Rattle.elf_write_spec.proofs.TextsRead
+-- tables of versions of symbols: those that hold the same versions are one
+pub use Rattle.elf_write_spec.proofs.VersionBytes
 -- what is known of an edited image of which nothing went: the parts that were read, and how they match the sections that are there
 pub use Rattle.elf_write_spec.proofs.WholeEdits
 -- what is known of what is written: the parts that were read, and how they match, section by section, what is written
 pub use Rattle.elf_write_spec.proofs.WholeFacts
--- lists: elements at positions, the first one that passes a test, and the numbers of sections
+-- lists: elements at positions, and the first one that passes a test
 pub use Rattle.elf_write_spec.proofs.WholeLists
 -- string tables but that of the dynamic list keep their texts
 pub use Rattle.elf_write_spec.proofs.TextsStay

@@ -13,7 +13,7 @@ use Rattle.elf_layout_plan.specs.Plan.{resized}
 use Rattle.elf_write_spec.specs.ReadBack.{HasWrittenParts}
 use Rattle.elf_write_spec.specs.Contents.{IsContentByKind, IsContentOfKind, content_at_number}
 use Rattle.elf_write_spec.specs.Output.{IsPlannedOutput, Output, written_bytes}
-use Rattle.elf_write_spec.proofs.SectionKinds.{copied_by, is_copied}
+use Rattle.elf_write_spec.proofs.SectionKinds.{copied_by, is_copied, nothing_told, untold}
 use Rattle.elf_write_spec.proofs.WholeEdits as edits
 use Rattle.elf_write_spec.proofs.WholeFacts.{ReadFacts, SectionAt, whole_edit}
 use Rattle.elf_write_spec.proofs.NumberedSections.{kept}
@@ -77,6 +77,6 @@ module _ (w : Output) (is : IsPlannedOutput w) (f : ReadFacts w) where
       → is_copied (data_of f.parts at.old) ≡ true
       → at.bytes ≡ section_bytes (file_of f.parts) at.old
   bytes_copied i at other copied =
-      copied_by (resized w.image) w.plan w.raw (content_at_number w.image w.contents at.section.sh_link) (kept i at.section) at.bytes false
-      (λ e. absurd (false≢true e)) at.section.kind (ap is_copied (section_kind i at) ∙ copied) (content_kind i at other)
+      copied_by (resized w.image) w.plan w.raw (content_at_number w.image w.contents at.section.sh_link) (kept i at.section) at.bytes untold
+      (nothing_told (resized w.image) (kept i at.section)) at.section.kind (ap is_copied (section_kind i at) ∙ copied) (content_kind i at other)
       ∙ section_content i at

@@ -21,11 +21,12 @@ use Rattle.elf_write_spec.specs.ReadBack.{HasWrittenParts, written_parts}
 use Rattle.elf_write_spec.specs.Contents.{AreSymbolsOf, content_at_number}
 use Rattle.elf_write_spec.specs.Final.{final}
 use Rattle.elf_write_spec.specs.Output.{IsPlannedOutput, Output, written_bytes}
+use Rattle.elf_write_spec.proofs.FinalSymbols.{final_at}
 use Rattle.elf_write_spec.proofs.LinkedContents.{bytes_copied, bytes_there, content_of_kind}
 use Rattle.elf_write_spec.proofs.SectionKinds.{is_copied}
 use Rattle.elf_write_spec.proofs.LinkedLists.{all-picked}
 use Rattle.elf_write_spec.proofs.LinkedMatch.{count_kept, each-header, form_kept}
-use Rattle.elf_write_spec.proofs.WholeFacts.{ReadFacts, SectionAt, final_is}
+use Rattle.elf_write_spec.proofs.WholeFacts.{ReadFacts, SectionAt, whole_edit}
 use Rattle.elf_write_spec.proofs.SectionKinds.{kind_by}
 
 -- a symbol's section is there, or its number has a special meaning
@@ -89,9 +90,10 @@ module _ (w : Output) (is : IsPlannedOutput w) (f : ReadFacts w) (has : HasWritt
       → slice_get (final (image_at_read w.image) w.image).dynamic_symbols i ≡ Some y
       → is_section_there f.parts.opened.header.e_shnum y.st_shndx ≡ true
   image_pass right i y at =
-      symbols_pass f.parts right (section_of_type SHT_DYNSYM f.parts.sections) refl (section_of_type SHT_GNU_VERSYM f.parts.sections)
-      (image_at_read w.image).dynamic_symbols f.holds.dynamic_symbols i y
-      (ap (λ (l : List NamedSymbol). slice_get l i) (sym is.whole.dynamic_symbols ∙ sym (final_is w is).dynamic_symbols) ∙ at)
+      let was = final_at (image_at_read w.image) w.image (whole_edit w is) f i y at in
+      ap (is_section_there f.parts.opened.header.e_shnum) was.section
+      ∙ symbols_pass f.parts right (section_of_type SHT_DYNSYM f.parts.sections) refl (section_of_type SHT_GNU_VERSYM f.parts.sections)
+      (image_at_read w.image).dynamic_symbols f.holds.dynamic_symbols was.number was.old was.is_old
 
   table_read_back : symbols_have_sections f.parts ≡ true → (i : ℕ) (at : SectionAt w f.parts i)
       → (at.old.sh_type ≡ SHT_SYMTAB) ⊎ (at.old.sh_type ≡ SHT_DYNSYM)

@@ -34,9 +34,11 @@ use Rattle.elf_write_spec.specs.Base.{is_interpreter}
 use Rattle.elf_write_spec.specs.Contents.{AreEntriesOf, IsContentOfKind, content_at_number, spelled_list}
 use Rattle.elf_write_spec.specs.Final.{final}
 use Rattle.elf_write_spec.specs.Output.{IsPlannedOutput, Output, written_bytes}
+use Rattle.elf_write_spec.proofs.FinalEntries.{written_listed}
 use Rattle.elf_write_spec.proofs.InterpreterAt.{isnt_interpreter}
 use Rattle.elf_write_spec.proofs.SpelledEntries.{spelled-read}
-use Rattle.elf_write_spec.proofs.WholeFacts.{Nowhere, ReadFacts, SectionAt, There, TypeAt, final_is, read_facts, type_at}
+use Rattle.elf_write_spec.proofs.WholeEdits.{entries_written}
+use Rattle.elf_write_spec.proofs.WholeFacts.{Nowhere, ReadFacts, SectionAt, There, TypeAt, read_facts, type_at}
 use Rattle.elf_write_spec.proofs.NumberedSections.{kept}
 
 -- ## The entries of an image
@@ -61,6 +63,12 @@ module _ (r : Resized) (plan : Layout) (strings : List ℕ) where
   no-null (e ∷ es) [] h listed = absurd h
   no-null (e ∷ es) (x ∷ xs) h listed =
       ((λ null. (All-head IsListed e es listed).not_null (sym h.0.tag ∙ null)), no-null es xs h.1 (All-tail IsListed e es listed))
+
+-- the entries that are written, too
+pub final_listed : (w : Output) → ReadFacts w → All IsListed (list_at (λ es. es) (final (image_at_read w.image) w.image).entries)
+final_listed w f =
+    subst (λ (o : Option (List Entry)). All IsListed (list_at (λ es. es) o)) (sym (entries_written (image_at_read w.image) w.image))
+    (written_listed (image_at_read w.image) w.image (all_listed (image_at_read w.image).entries w.image.entries f.edit.entries))
 
 -- ## Sizes
 
@@ -102,7 +110,7 @@ module _ (w : Output) (is : IsPlannedOutput w) (f : ReadFacts w) (i : ℕ) (at :
   abbrev pub list_strings : List ℕ
   list_strings = content_at_number w.image w.contents at.section.sh_link
 
-  abbrev final_entries : List Entry
+  abbrev pub final_entries : List Entry
   final_entries = list_at (λ es. es) (final (image_at_read w.image) w.image).entries
 
   content_by : Bool → SectionData → Type 0
@@ -117,10 +125,9 @@ module _ (w : Output) (is : IsPlannedOutput w) (f : ReadFacts w) (i : ℕ) (at :
   unfolding content_by
   content = subst (content_by false) kind_is (subst (λ b. content_by b at.section.kind) not_interpreter at.written.content)
 
-  -- one raw entry for each of the image
-  pub are_entries : AreEntriesOf (resized w.image) w.plan list_strings (list_at (λ es. es) w.image.entries) w.raw
-  are_entries = subst (λ (o : Option (List Entry)). AreEntriesOf (resized w.image) w.plan list_strings (list_at (λ es. es) o) w.raw)
-      (final_is w is).entries content.0
+  -- one raw entry for each that is written
+  pub are_entries : AreEntriesOf (resized w.image) w.plan list_strings final_entries w.raw
+  are_entries = content.0
 
   -- as many bytes as its place
   pub place_filled : length at.bytes ≡ at.place.sh_size
@@ -148,8 +155,7 @@ module _ (w : Output) (is : IsPlannedOutput w) (f : ReadFacts w) (i : ℕ) (at :
 
   tags : Each (λ e. e.d_tag ≢ 0) w.raw
   tags =
-      no-null (resized w.image) w.plan list_strings (list_at (λ es. es) w.image.entries) w.raw are_entries
-      (all_listed (image_at_read w.image).entries w.image.entries f.edit.entries)
+      no-null (resized w.image) w.plan list_strings final_entries w.raw are_entries (final_listed w f)
 
   -- a reader with room for as many bytes finds the entries there
   pub entries_there : (size : ℕ) → length at.bytes ≤ size → entries_at size w.image.form (memory_of at.bytes) 0 ≡ Some w.raw

@@ -1,7 +1,7 @@
--- The defined and the needed versions of a written file are those of the image.
-use Rattle.std.proofs.Common.{◌≡◌, ℕ, true, cond, List, length, sym, ap, ◌∙◌, subst, Option, Some, None, arith}
+-- The defined and the needed versions of a written file are those of the image in its final form.
+use Rattle.std.proofs.Common.{◌≡◌, ℕ, true, cond, List, [], length, sym, ap, ◌∙◌, subst, Option, Some, None, arith}
 use Rattle.std.specs.Prelude.{◌==◌, if◌then◌else◌}
-use Rattle.std.proofs.lemmas.Option.{cond_some}
+use Rattle.std.proofs.lemmas.Option.{cond_some, same_Some}
 use Rattle.patch_bytes.specs.Memory.{◌>>=◌, Memory, memory_of}
 use Rattle.patch_bytes.proofs.MemoryLaws.{bind_some}
 use Rattle.elf_format.specs.declared.constants.TheConstants.{SHT_DYNSYM, SHT_GNU_VERDEF, SHT_GNU_VERNEED, SHT_SYMTAB}
@@ -23,8 +23,10 @@ use Rattle.elf_write_spec.specs.Final.{final, new_number}
 use Rattle.elf_write_spec.specs.Headers.{behind_locals, is_info_number, written_info}
 use Rattle.elf_write_spec.specs.Output.{IsPlannedOutput, Output, written_bytes}
 use Rattle.elf_write_spec.proofs.ContentsReadBack.{bytes_are, definitions_content, linked_at, needs_content, texts_fit}
+use Rattle.elf_write_spec.proofs.StayingVersions.{no_needs}
 use Rattle.elf_write_spec.proofs.StringsReadBack.{definitions_shared, needs_shared, texts_kept}
-use Rattle.elf_write_spec.proofs.WholeFacts.{ReadFacts, SectionAt, There, Nowhere, final_is, read_facts, type_at}
+use Rattle.elf_write_spec.proofs.WholeEdits.{needs_written}
+use Rattle.elf_write_spec.proofs.WholeFacts.{ReadFacts, SectionAt, There, Nowhere, read_facts, type_at}
 
 -- ## Chains
 
@@ -102,7 +104,7 @@ module _ (w : Output) (is : IsPlannedOutput w) (has : HasWrittenParts w) (f : Re
     pub whole : is_whole_walk at.header.sh_info (need_steps (written_parts w) at.header) ≡ true
     pub shown : each (shown_need (length (written_bytes w)) (linked_texts (written_parts w) at.header))
         (values_of (need_steps (written_parts w) at.header))
-        ≡ Some w.image.needs
+        ≡ Some (final (image_at_read w.image) w.image).needs
 
   pub definitions_at : at.old.sh_type ≡ SHT_GNU_VERDEF → section_of_type SHT_GNU_VERDEF f.parts.sections ≡ Some at.old → AreDefinitionsReadBack
   definitions_at e was =
@@ -147,8 +149,7 @@ module _ (w : Output) (is : IsPlannedOutput w) (has : HasWrittenParts w) (f : Re
             ∙ each-agrees (shown_need room (memory_of l.table.bytes)) (shown_need room texts)
             (shown_need-keeps room room (omega arith) (memory_of l.table.bytes) texts
             (texts_kept w is has f i at l (needs_shared w is has f at.old was)))
-            (values_of (walked (need_at w.image.form (memory_of at.bytes)) count 0)) ns shown.shown
-            ∙ ap (λ (xs : List VersionNeeds). Some xs) (final_is w is).needs;
+            (values_of (walked (need_at w.image.form (memory_of at.bytes)) count 0)) ns shown.shown;
       }
 
 -- ## All of them
@@ -170,15 +171,18 @@ module _ (w : Output) (is : IsPlannedOutput w) (has : HasWrittenParts w) (f : Re
 
   needs_there : (i : ℕ) (at : SectionAt w f.parts i) → at.old.sh_type ≡ SHT_GNU_VERNEED
       → section_of_type SHT_GNU_VERNEED f.parts.sections ≡ Some at.old
-      → needs_read (written_parts w) (Some at.header) ≡ Some w.image.needs
+      → needs_read (written_parts w) (Some at.header) ≡ Some (final (image_at_read w.image) w.image).needs
   unfolding needs_read
   needs_there i at e was = (needs_at w is has f i at e was).shown
 
-  needs_nowhere : section_of_type SHT_GNU_VERNEED f.parts.sections ≡ None → needs_read (written_parts w) None ≡ Some w.image.needs
+  needs_nowhere : section_of_type SHT_GNU_VERNEED f.parts.sections ≡ None
+      → needs_read (written_parts w) None ≡ Some (final (image_at_read w.image) w.image).needs
   unfolding needs_read
   needs_nowhere was =
       let of_none : needs_read f.parts None ≡ Some (image_at_read w.image).needs = ap (needs_read f.parts) (sym was) ∙ f.holds.needs in
-      of_none ∙ ap (λ (ns : List VersionNeeds). Some ns) (sym f.edit.needs)
+      let empty : w.image.needs ≡ [] = f.edit.needs ∙ sym (same_Some [] (image_at_read w.image).needs of_none) in
+      ap (λ (ns : List VersionNeeds). Some ns)
+      (sym (needs_written (image_at_read w.image) w.image ∙ no_needs (image_at_read w.image) w.image empty))
 
 -- the defined versions
 pub definitions_read_back : (w : Output) → IsPlannedOutput w → HasWrittenParts w
@@ -192,7 +196,7 @@ definitions_read_back w is has =
 
 -- the needed versions
 pub needs_read_back : (w : Output) → IsPlannedOutput w → HasWrittenParts w
-    → needs_read (written_parts w) (section_of_type SHT_GNU_VERNEED w.headers) ≡ Some w.image.needs
+    → needs_read (written_parts w) (section_of_type SHT_GNU_VERNEED w.headers) ≡ Some (final (image_at_read w.image) w.image).needs
 needs_read_back w is has =
     let f = read_facts w is in
     elim (type_at w is f SHT_GNU_VERNEED) [

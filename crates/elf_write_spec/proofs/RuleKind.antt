@@ -31,7 +31,8 @@ use Rattle.elf_write_spec.specs.Final.{final, new_number}
 use Rattle.elf_write_spec.specs.Output.{IsPlannedOutput, Output, written_bytes}
 use Rattle.elf_write_spec.proofs.ContentFacts.{dynamic_symbols_shown, linked_bytes, symbols_copied}
 use Rattle.elf_write_spec.proofs.HeaderTables.{header_bytes, sections_there-all}
-use Rattle.elf_write_spec.proofs.WholeFacts.{ReadFacts, SectionAt, final_is, lengths, new_number-same, read_facts, section_at, section_at_header}
+use Rattle.elf_write_spec.proofs.FinalSymbols.{final_at}
+use Rattle.elf_write_spec.proofs.WholeFacts.{ReadFacts, SectionAt, lengths, new_number-same, read_facts, section_at, section_at_header, whole_edit}
 use Rattle.elf_write_spec.proofs.WholeLists.{has_at}
 use Rattle.elf_format.proofs.ForCallers.Lengths.{length-sections}
 
@@ -253,11 +254,10 @@ module _ (w : Output) (is : IsPlannedOutput w) (has : HasWrittenParts w) (f : Re
           let symbols : List NamedSymbol = (final (image_at_read w.image) w.image).dynamic_symbols in
           let (j, y_at) = has_at (symbols_in w.image.form at.bytes) y here in
           let (x, x_at, is_x) = symbols-at (linked_bytes w is f i at) symbols (symbols_in w.image.form at.bytes) shown j y y_at in
-          let was : slice_get (image_at_read w.image).dynamic_symbols j ≡ Some x =
-          ap (λ (l : List NamedSymbol). slice_get l j) (sym ((final_is w is).dynamic_symbols ∙ is.whole.dynamic_symbols)) ∙ x_at in
-          subst IsPlain (sym is_x.st_shndx)
+          let was = final_at (image_at_read w.image) w.image (whole_edit w is) f j x x_at in
+          subst IsPlain (sym (is_x.st_shndx ∙ was.section))
           (plain_dynamic (image_at_read w.image).dynamic_symbols (section_of_type SHT_GNU_VERSYM f.parts.sections)
-          (section_of_type SHT_DYNSYM f.parts.sections) refl f.holds.dynamic_symbols j x was)
+          (section_of_type SHT_DYNSYM f.parts.sections) refl f.holds.dynamic_symbols was.number was.old was.is_old)
       | inr none ↦ absurd (false≢true none)
     ]
   ]

@@ -6,22 +6,22 @@ use Rattle.elf_format.specs.File.{Parts}
 use Rattle.elf_format.specs.Rules.{are_linked, are_tables_linked, are_whole, infos_are_sections, is_one_of_each, relocations_fit, symbols_have_sections}
 use Rattle.elf_write_spec.specs.ReadBack.{HasWrittenParts, written_parts}
 use Rattle.elf_write_spec.specs.Output.{IsPlannedOutput, Output}
-use Rattle.elf_write_spec.proofs.LinkedRelocations.{are_single, relocations_read_back}
-use Rattle.elf_write_spec.proofs.LinkedSizes.{whole_read_back}
+use Rattle.elf_write_spec.proofs.LinkedRelocations.{relocations_read_back}
+use Rattle.elf_write_spec.proofs.LinkedSizes.{are_single, whole_read_back}
 use Rattle.elf_write_spec.proofs.LinkedSymbols.{symbols_read_back}
 use Rattle.elf_write_spec.proofs.LinkedTypes.{infos_read_back, linked_read_back, one_of_each}
 use Rattle.elf_write_spec.proofs.WholeFacts.{ReadFacts, read_facts}
 
 -- the parts of the rule
-record AreLinked (p : Parts) : Type 0 where
-  each : is_one_of_each p.segments p.sections ≡ true
-  single : are_single p ≡ true
-  linked : are_linked p.sections ≡ true
-  symbols : symbols_have_sections p ≡ true
-  relocations : relocations_fit p ≡ true
-  infos : infos_are_sections p ≡ true
+pub record AreLinked (p : Parts) : Type 0 where
+  pub each : is_one_of_each p.segments p.sections ≡ true
+  pub single : are_single p ≡ true
+  pub linked : are_linked p.sections ≡ true
+  pub symbols : symbols_have_sections p ≡ true
+  pub relocations : relocations_fit p ≡ true
+  pub infos : infos_are_sections p ≡ true
 
-read_linked : (p : Parts) → are_tables_linked p ≡ true → AreLinked p
+pub read_linked : (p : Parts) → are_tables_linked p ≡ true → AreLinked p
 read_linked p h =
     let sixth = and_parts _ (infos_are_sections p) h in
     let fifth = and_parts _ (relocations_fit p) sixth.0 in
@@ -46,7 +46,7 @@ linked_with w is has f read =
     (and_from _ (are_whole w.image.form w.headers)
     (and_from (is_one_of_each w.plan.segments w.headers) (are_linked w.headers) (one_of_each w is f read.each)
     (linked_read_back w is f read.linked))
-    (whole_read_back w is f))
+    (whole_read_back w is f read.single))
     (symbols_read_back w is f has read.symbols))
     (relocations_read_back w is f has read.single read.relocations))
     (infos_read_back w is f read.infos)

@@ -30,8 +30,10 @@ use Rattle.elf_write_spec.specs.Contents.{address_of_type, place_of_kept, string
 use Rattle.elf_write_spec.specs.Final.{final, new_number}
 use Rattle.elf_write_spec.specs.Headers.{behind_locals, is_info_number, written_info}
 use Rattle.elf_write_spec.specs.Output.{IsPlannedOutput, Output}
-use Rattle.elf_write_spec.proofs.RawEntries.{all_listed, are_entries, list_strings, raw_is}
-use Rattle.elf_write_spec.proofs.TableTags.{has-same, once-same, raw_tables, tables_read, tables_written, value_written}
+use Rattle.elf_write_spec.proofs.FinalEntries.{written_tables}
+use Rattle.elf_write_spec.proofs.RawEntries.{all_listed, are_entries, final_listed, list_strings, raw_is}
+use Rattle.elf_write_spec.proofs.TableTags.{AreTagsLeft, has-lasting, has-left, once-left, raw_tables, tables_read, tables_written, value_written}
+use Rattle.elf_write_spec.proofs.WholeEdits.{entries_written}
 use Rattle.elf_write_spec.proofs.WholeFacts.{Nowhere, ReadFacts, SectionAt, There, TypeAt, kept_is, read_facts, section_at, type_at}
 use Rattle.elf_write_spec.proofs.NumberedSections.{kept}
 
@@ -112,7 +114,7 @@ module _ (raw : List EntryNumbers) (form : Form) (sections : List SectionHeader)
 -- ## A tag that passes its test
 
 -- what the tag's value is, where it was there at read
-module _ (raw old : List EntryNumbers) (same : raw_tables raw ≡ raw_tables old) (value : ℕ → ℕ)
+module _ (raw old : List EntryNumbers) (left : AreTagsLeft (raw_tables old) (raw_tables raw)) (value : ℕ → ℕ)
     (values : (tag : ℕ) → is_table_tag tag ≡ true → (n : ℕ) → value_of_tag tag raw ≡ Some n → n ≡ value tag) where
   tag_passes : (tag : ℕ) → is_table_tag tag ≡ true → (was now : Option SectionHeader) (before test : ℕ → SectionHeader → Bool)
       → is_none_or (λ n. is_some_and (λ s. before n s) was) (value_of_tag tag old) ≡ true
@@ -132,7 +134,7 @@ module _ (raw old : List EntryNumbers) (same : raw_tables raw ≡ raw_tables old
       by_value : (o : Option ℕ) → value_of_tag tag raw ≡ o → is_none_or (λ n. is_some_and (λ s. test n s) now) (value_of_tag tag raw) ≡ true
       by_value None e = ap (is_none_or (λ n. is_some_and (λ s. test n s) now)) e
       by_value (Some n) e =
-          let is_there : has_tag tag old ≡ true = sym (has-same tag is_table raw old same) ∙ ap is_some e in
+          let is_there : has_tag tag old ≡ true = has-left tag is_table raw old left (ap is_some e) in
           ap (is_none_or (λ m. is_some_and (λ s. test m s) now)) e
           ∙ ap (λ m. is_some_and (λ s. test m s) now) (values tag is_table n e)
           ∙ by_old (value_of_tag tag old) refl is_there
@@ -202,22 +204,29 @@ module _ (w : Output) (is : IsPlannedOutput w) (f : ReadFacts w) (i : ℕ) (at :
       (subst (λ (o : Option (List Entry)). All IsListed (list_at (λ l. l) o)) (sym same) (read_listed w is))
       ∙ ap (λ (o : Option (List Entry)). tables_of (list_at (λ l. l) o)) same
 
-  now_listed : All IsListed (list_at (λ es. es) w.image.entries)
-  now_listed = all_listed (image_at_read w.image).entries w.image.entries f.edit.entries
+  abbrev last_entries : List Entry
+  last_entries = list_at (λ es. es) (final (image_at_read w.image) w.image).entries
 
-  -- it names the tables that were read
-  same_tables : raw_tables w.raw ≡ raw_tables old_raw
-  same_tables =
-      tables_written (resized w.image) w.plan (list_strings w is f i at type) (list_at (λ es. es) w.image.entries) w.raw
-      (are_entries w is f i at type) now_listed
-      ∙ tables-kept (image_at_read w.image).entries w.image.entries f.edit.entries ∙ sym read_tables
+  -- it names the tables that were read, but for needed versions of which none is left
+  tables_left : AreTagsLeft (raw_tables old_raw) (raw_tables w.raw)
+  tables_left =
+      let now : raw_tables w.raw ≡ tables_of last_entries =
+      tables_written (resized w.image) w.plan (list_strings w is f i at type) last_entries w.raw (are_entries w is f i at type)
+      (final_listed w f) in
+      let was : tables_of (list_at (λ es. es) w.image.entries) ≡ raw_tables old_raw =
+      tables-kept (image_at_read w.image).entries w.image.entries f.edit.entries ∙ sym read_tables in
+      let written : AreTagsLeft (tables_of (list_at (λ es. es) w.image.entries)) (tables_of last_entries) =
+      subst (λ (o : Option (List Entry)). AreTagsLeft (tables_of (list_at (λ es. es) w.image.entries)) (tables_of (list_at (λ es. es) o)))
+      (sym (entries_written (image_at_read w.image) w.image)) (written_tables (image_at_read w.image) w.image) in
+      subst (λ (l : List ℕ). AreTagsLeft l (raw_tables w.raw)) was
+      (subst (λ (l : List ℕ). AreTagsLeft (tables_of (list_at (λ es. es) w.image.entries)) l) (sym now) written)
 
   abbrev value : ℕ → ℕ
   value = table_value (resized w.image) w.plan
 
   values : (tag : ℕ) → is_table_tag tag ≡ true → (n : ℕ) → value_of_tag tag w.raw ≡ Some n → n ≡ value tag
-  values = value_written (resized w.image) w.plan (list_strings w is f i at type) (list_at (λ es. es) w.image.entries) w.raw
-      (are_entries w is f i at type) now_listed
+  values = value_written (resized w.image) w.plan (list_strings w is f i at type) last_entries w.raw (are_entries w is f i at type)
+      (final_listed w f)
 
   agreed : Agree old_raw f.parts.opened.form f.parts.sections at.old
   agreed = agree-parts old_raw f.parts.opened.form f.parts.sections at.old
@@ -232,7 +241,7 @@ module _ (w : Output) (is : IsPlannedOutput w) (f : ReadFacts w) (i : ℕ) (at :
       → test (value tag) a.header ≡ true)
       → is_none_or (λ n. is_some_and (λ s. test n s) (section_of_type type w.headers)) (value_of_tag tag w.raw) ≡ true
   passes type tag is_table before test h on =
-      tag_passes w.raw old_raw same_tables value values tag is_table (section_of_type type f.parts.sections)
+      tag_passes w.raw old_raw tables_left value values tag is_table (section_of_type type f.parts.sections)
       (section_of_type type w.headers) before test h
       (λ s n there passed. by_at (type_at w is f type) s n there passed)
     where
@@ -328,7 +337,7 @@ module _ (w : Output) (is : IsPlannedOutput w) (f : ReadFacts w) (i : ℕ) (at :
       → ((a : SectionAt w f.parts at.old.sh_link) (n : ℕ) → before n a.old ≡ true → test (value tag) a.header ≡ true)
       → is_none_or (λ n. is_some_and (λ s. test n s) (linked_section w.headers at.header)) (value_of_tag tag w.raw) ≡ true
   string_passes tag is_table before test h on =
-      tag_passes w.raw old_raw same_tables value values tag is_table (linked_section f.parts.sections at.old)
+      tag_passes w.raw old_raw tables_left value values tag is_table (linked_section f.parts.sections at.old)
       (linked_section w.headers at.header) before test h (λ s n there passed.
       let a = section_at w is f at.old.sh_link (slice_get_within f.parts.sections at.old.sh_link s there) in
       let same : a.old ≡ s = same_Some a.old s (sym a.is_old ∙ there) in
@@ -342,7 +351,7 @@ module _ (w : Output) (is : IsPlannedOutput w) (f : ReadFacts w) (i : ℕ) (at :
       (tag_fits old_raw DT_STRSZ was (λ n s. nat_le n s.sh_size)) agreed.strings in
       let inner = and_parts (has_tag DT_STRTAB old_raw) (tag_is_address old_raw DT_STRTAB was) outer.0 in
       and_from (has_tag DT_STRTAB w.raw && tag_is_address w.raw DT_STRTAB now) (tag_fits w.raw DT_STRSZ now (λ n s. nat_le n s.sh_size))
-      (and_from (has_tag DT_STRTAB w.raw) (tag_is_address w.raw DT_STRTAB now) (has-same DT_STRTAB refl w.raw old_raw same_tables ∙ inner.0)
+      (and_from (has_tag DT_STRTAB w.raw) (tag_is_address w.raw DT_STRTAB now) (has-lasting DT_STRTAB refl w.raw old_raw tables_left refl inner.0)
       (string_passes DT_STRTAB refl (λ n s. is_allocated s && s.sh_addr == n) (λ n s. is_allocated s && s.sh_addr == n) inner.1
       (λ a n passed.
       and_from (is_allocated a.header) (a.header.sh_addr == value DT_STRTAB)
@@ -379,7 +388,7 @@ module _ (w : Output) (is : IsPlannedOutput w) (f : ReadFacts w) (i : ℕ) (at :
 
   all_right : agree_by w.raw w.image.form w.headers at.header ≡ true
   all_right = agree-from w.raw w.image.form w.headers at.header (record {
-    once = once-same w.raw old_raw same_tables agreed.once;
+    once = once-left w.raw old_raw tables_left agreed.once;
     strings = strings_right;
     symbols = symbols_right;
     hashes = hashes_right;

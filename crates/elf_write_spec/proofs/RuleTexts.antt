@@ -7,11 +7,13 @@ use Rattle.elf_format.specs.declared.constants.TheConstants.{SHT_DYNAMIC, SHT_DY
 use Rattle.elf_format.specs.declared.records.SectionHeader.{SectionHeader}
 use Rattle.elf_format.specs.Dynamic.{Entry, shown_entry}
 use Rattle.elf_format.specs.File.{Parts, linked_section, section_of_type}
-use Rattle.elf_format.specs.Image.{definitions_read, dynamic_symbols_read, entries_read, needs_read, static_symbols, symbols_of}
+use Rattle.elf_format.specs.Image.{Image, definitions_read, dynamic_symbols_read, entries_read, needs_read, static_symbols, symbols_of}
 use Rattle.elf_format.specs.Options.{each, is_none_or}
 use Rattle.elf_format.specs.Rules.{definition_steps, definition_texts_end, do_texts_end, dynamic_texts_of, entry_texts_end, file_of, linked_texts, need_steps, need_texts_end, raw_entries, section_names_end, symbols_are_named, texts_of}
 use Rattle.elf_format.specs.Versions.{VersionDefinition, VersionNeeds, shown_definition, shown_need, values_of}
 use Rattle.elf_format.specs.Views.{NamedSymbol, names_of}
+use Rattle.elf_image.specs.Kept.{image_at_read}
+use Rattle.elf_write_spec.specs.Final.{final}
 use Rattle.elf_write_spec.specs.ReadBack.{HasWrittenParts, written_parts}
 use Rattle.elf_write_spec.specs.Output.{IsPlannedOutput, Output}
 use Rattle.elf_write_spec.proofs.DynamicReadBack.{dynamic_read_back}
@@ -65,6 +67,7 @@ module _ (p : Parts) where
 pub texts_end : (w : Output) → IsPlannedOutput w → HasWrittenParts w → IsTrue (do_texts_end (written_parts w))
 texts_end w is has =
     let p : Parts = written_parts w in
+    let last : Image = final (image_at_read w.image) w.image in
     and_from _ (need_texts_end p)
     (and_from _ (definition_texts_end p)
     (and_from _ (entry_texts_end p)
@@ -72,7 +75,7 @@ texts_end w is has =
     (and_from (section_names_end p) (symbols_are_named p (texts_of p) SHT_SYMTAB)
     (ap is_some (names_read_back w is has))
     (static_end p (section_of_type SHT_SYMTAB w.headers) w.image.symbols (symbols_read_back w is has)))
-    (dynamic_end p (section_of_type SHT_DYNSYM w.headers) w.image.dynamic_symbols (dynamic_read_back w is has)))
-    (entries_end p (section_of_type SHT_DYNAMIC w.headers) w.image.entries (entries_read_back w is has)))
+    (dynamic_end p (section_of_type SHT_DYNSYM w.headers) last.dynamic_symbols (dynamic_read_back w is has)))
+    (entries_end p (section_of_type SHT_DYNAMIC w.headers) last.entries (entries_read_back w is has)))
     (definitions_end p (section_of_type SHT_GNU_VERDEF w.headers) w.image.definitions (definitions_read_back w is has)))
-    (needs_end p (section_of_type SHT_GNU_VERNEED w.headers) w.image.needs (needs_read_back w is has))
+    (needs_end p (section_of_type SHT_GNU_VERNEED w.headers) last.needs (needs_read_back w is has))

@@ -1,9 +1,9 @@
 -- The versions of a written file agree.
-use Rattle.std.proofs.Common.{◌≡◌, ℕ, ◌/◌, Bool, true, eqb, List, [], ◌∷◌, ◌++◌, length, map, refl, sym, ap, ◌∙◌, Option, Some, None}
-use Rattle.std.specs.Prelude.{IsTrue, ◌&&◌, ◌||◌, not, nat_lt, ◌==◌}
-use Rattle.std.specs.List.{flat_map, list_all}
-use Rattle.std.proofs.lemmas.Bool.{and_from, and_parts, eq-eqb, eqb-true}
-use Rattle.std.proofs.lemmas.Option.{none-some, same_Some}
+use Rattle.std.proofs.Common.{◌≡◌, ℕ, zero, suc, ◌*◌, ◌/◌, Bool, true, false, eqb, List, [], ◌∷◌, ◌++◌, length, map, take, drop, refl, sym, ap, ◌∙◌, subst, inl, inr, Option, Some, None, arith}
+use Rattle.std.specs.Prelude.{IsTrue, ◌&&◌, ◌||◌, not, nat_lt, ◌==◌, option_map}
+use Rattle.std.specs.List.{flat_map, list_all, slice_get}
+use Rattle.std.proofs.lemmas.Bool.{and_from, and_parts, eq-eqb, eqb-true, or_cases}
+use Rattle.std.proofs.lemmas.Option.{none-some, same_Some, slice_get-map}
 use Rattle.patch_bytes.specs.Memory.{◌>>=◌, Memory, text_at}
 use Rattle.patch_bytes.proofs.MemoryLaws.{bind_some}
 use Rattle.elf_format.specs.declared.constants.TheConstants.{SHT_DYNAMIC, SHT_DYNSYM, SHT_GNU_VERDEF, SHT_GNU_VERNEED, SHT_GNU_VERSYM, SHT_NULL, VER_NDX_FIRST}
@@ -13,22 +13,29 @@ use Rattle.elf_format.specs.declared.records.SectionHeader.{SectionHeader}
 use Rattle.elf_format.specs.declared.version_id.VersionId.{VersionId}
 use Rattle.elf_format.specs.File.{Parts, section_bytes, section_of_type}
 use Rattle.elf_format.specs.Form.{records}
-use Rattle.elf_format.specs.Image.{definitions_read, needs_read, symbols_of}
+use Rattle.elf_format.specs.Image.{Image, definitions_read, needs_read, symbols_of, versions_read}
 use Rattle.elf_format.specs.Options.{each, first_there, is_none_or, is_one_of, is_some_and, list_at}
 use Rattle.elf_format.specs.Records.{symbol_numbers, symbol_size}
 use Rattle.elf_format.specs.Rules.{are_dynamic_strings_own, are_versions_right, definition_steps, dynamic_strings_user, file_of, known_versions, linked_texts, need_steps, version_symbols_agree}
 use Rattle.elf_format.specs.Versions.{DefinitionNumbers, NeedNumbers, VersionDefinition, VersionName, VersionNeeds, is_whole_walk, shown_definition, shown_need, shown_need_name, values_of, version_id}
 use Rattle.elf_format.proofs.ForCallers.Placed.{IsIn-slice_get}
 use Rattle.elf_format.proofs.ForCallers.ViewsAgree.{length-bytes, test_at, there_and, version_symbols_right}
+use Rattle.elf_format.specs.Views.{NamedSymbol}
 use Rattle.elf_image.specs.Kept.{image_at_read}
+use Rattle.elf_image.specs.ReadImage.{AreDynamicSymbols}
+use Rattle.elf_image_symbol_edits.specs.EditedList.{as_global, global_version}
+use Rattle.elf_layout_plan.specs.Needs.{is_version_used, written_needs}
+use Rattle.elf_write_spec.specs.Final.{final}
 use Rattle.elf_write_spec.specs.ReadBack.{HasWrittenParts, written_parts}
 use Rattle.elf_write_spec.specs.Output.{IsPlannedOutput, Output, written_bytes}
-use Rattle.elf_write_spec.proofs.ContentsReadBack.{bytes_are, content_was, size_is, versym_content}
-use Rattle.elf_write_spec.proofs.DynamicReadBack.{dynamic_as_read}
+use Rattle.elf_write_spec.proofs.ContentsReadBack.{bytes_are, size_is, versym_content}
+use Rattle.elf_write_spec.proofs.DynamicReadBack.{dynamic_count}
+use Rattle.elf_write_spec.proofs.FinalSymbols.{SymbolRead, final_at}
 use Rattle.elf_write_spec.proofs.RecordsReadBack.{definitions_read_back, definitions_at, needs_read_back, needs_at}
-use Rattle.elf_write_spec.proofs.SymbolsReadBack.{form_is}
-use Rattle.elf_write_spec.proofs.WholeFacts.{ReadFacts, SectionAt, There, Nowhere, TypeAt, read_facts, section_at_header, type_at}
-use Rattle.elf_write_spec.proofs.WholeLists.{all-each}
+use Rattle.elf_write_spec.proofs.StayingVersions.{one_left, one_of_both, one_right, version_used, written_stays}
+use Rattle.elf_write_spec.proofs.WholeEdits.{needs_written}
+use Rattle.elf_write_spec.proofs.WholeFacts.{ReadFacts, SectionAt, There, Nowhere, TypeAt, read_facts, section_at_header, type_at, whole_edit}
+use Rattle.elf_write_spec.proofs.WholeLists.{all-each, mapped_at}
 use Rattle.elf_format.proofs.ForCallers.Lengths.{length-records}
 
 -- ## Indices
@@ -118,16 +125,63 @@ module _ (p : Parts) where
       ∙ ap (λ (l : List ℕ). map (λ (x : VersionDefinition). x.index) ds ++ l)
       (all_need_indices (section_of_type SHT_GNU_VERNEED p.sections) ns n)
 
+-- of which those of definitions stay, and so do those of needed versions that still are there
+indices_stay : (ds : List VersionDefinition) (ns now : List VersionNeeds) (n : ℕ)
+    → (is_one_of (flat_map (λ x. map (λ v. v.index) x.versions) ns) n ≡ true
+    → is_one_of (flat_map (λ x. map (λ v. v.index) x.versions) now) n ≡ true)
+    → is_one_of (shown_indices ds ns) n ≡ true → is_one_of (shown_indices ds now) n ≡ true
+unfolding shown_indices
+indices_stay ds ns now n stays h =
+    let defined : List ℕ = map (λ (d : VersionDefinition). d.index) ds in
+    let needed : List ℕ = flat_map (λ (x : VersionNeeds). map (λ (v : VersionName). v.index) x.versions) ns in
+    let left : List ℕ = flat_map (λ (x : VersionNeeds). map (λ (v : VersionName). v.index) x.versions) now in
+    elim (or_cases (is_one_of defined n) (is_one_of needed n) (one_of_both defined needed n h)) [
+      | inl here ↦ one_left defined left n here
+      | inr there ↦ one_right defined left n (stays there)
+    ]
+
+-- ## Versions
+
+-- records that are read as values that are there
+records-some : {A : Type 0} (decode : List ℕ → A) (size count : ℕ) (bytes : List ℕ)
+    → records (λ b. Some (decode b)) size count bytes ≡ map (λ (x : A). Some x) (records decode size count bytes)
+unfolding records
+records-some decode size zero bytes = refl
+records-some {A} decode size (suc count) bytes =
+    ap (λ (l : List (Option A)). Some (decode (take size bytes)) ∷ l) (records-some decode size count (drop size bytes))
+
+some_inside : {A : Type 0} (o : Option A) (x : A) → option_map (λ (y : A). Some y) o ≡ Some (Some x) → o ≡ Some x
+some_inside None x h = absurd (none-some (Some x) h)
+some_inside (Some y) x h = same_Some (Some y) (Some x) h
+
+-- a version that was cleared is that of a global symbol
+cleared_global : (old : Option VersionId) (v : VersionId) → as_global old ≡ Some v → v ≡ global_version
+cleared_global None v h = absurd (none-some v h)
+cleared_global (Some u) v h = sym (same_Some global_version v h)
+
 -- ## The parts of the rule
 
 module _ (w : Output) (is : IsPlannedOutput w) (has : HasWrittenParts w) (f : ReadFacts w) where
-  -- the versions that are known are those that were
-  known_same : known_versions (written_parts w) ≡ known_versions f.parts
-  known_same =
-      known_are (written_parts w) w.image.definitions w.image.needs (definitions_read_back w is has) (needs_read_back w is has)
-      ∙ ap (λ (ds : List VersionDefinition). shown_indices ds w.image.needs) f.edit.definitions
-      ∙ ap (shown_indices (image_at_read w.image).definitions) f.edit.needs
-      ∙ sym (known_are f.parts (image_at_read w.image).definitions (image_at_read w.image).needs f.holds.definitions f.holds.needs)
+  abbrev read : Image
+  read = image_at_read w.image
+
+  abbrev symbols_now : List NamedSymbol
+  symbols_now = (final read w.image).dynamic_symbols
+
+  -- a version that was known still is where a symbol has it
+  known_stays : (n : ℕ) → is_one_of (known_versions f.parts) n ≡ true → is_version_used w.image.dynamic_symbols n ≡ true
+      → is_one_of (known_versions (written_parts w)) n ≡ true
+  known_stays n known used =
+      let was : known_versions f.parts ≡ shown_indices w.image.definitions w.image.needs =
+      known_are f.parts read.definitions read.needs f.holds.definitions f.holds.needs
+      ∙ ap (λ (ds : List VersionDefinition). shown_indices ds read.needs) (sym f.edit.definitions)
+      ∙ ap (shown_indices w.image.definitions) (sym f.edit.needs) in
+      let now : known_versions (written_parts w) ≡ shown_indices w.image.definitions (written_needs read w.image) =
+      known_are (written_parts w) w.image.definitions (final read w.image).needs (definitions_read_back w is has) (needs_read_back w is has)
+      ∙ ap (shown_indices w.image.definitions) (needs_written read w.image) in
+      ap (λ (l : List ℕ). is_one_of l n) now
+      ∙ indices_stay w.image.definitions w.image.needs (written_needs read w.image) n (written_stays read w.image n used)
+      (ap (λ (l : List ℕ). is_one_of l n) (sym was) ∙ known)
 
   definitions_walk : is_none_or (λ s. is_whole_walk s.sh_info (definition_steps (written_parts w) s))
       (section_of_type SHT_GNU_VERDEF w.headers) ≡ true
@@ -146,79 +200,134 @@ module _ (w : Output) (is : IsPlannedOutput w) (has : HasWrittenParts w) (f : Re
         | There i at e was now there ↦ ap (is_none_or test) now ∙ (needs_at w is has f i at e was).whole
       ]
 
-  -- the version symbols have the size that they had
-  module _ (j : ℕ) (at : SectionAt w f.parts j) (e : at.old.sh_type ≡ SHT_GNU_VERSYM) where
-    versym_size : at.header.sh_size ≡ at.old.sh_size
-    versym_size =
-        at.size ∙ sym (size_is w is f j at SHT_GNU_VERSYM e refl) ∙ ap length (versym_content w is f j at e ∙ content_was w is f j at)
-        ∙ length-bytes f.parts f.rules at.old (IsIn-slice_get f.parts.sections j at.old at.is_old)
-        (ap (λ t. not (eqb t 0) && not (eqb t 8)) e)
-
-    versym_records : records (version_id w.image.form) 2 (at.header.sh_size / 2) (section_bytes (written_bytes w) at.header)
-        ≡ records (version_id f.parts.opened.form) 2 (at.old.sh_size / 2) (section_bytes (file_of f.parts) at.old)
-    versym_records =
-        ap (λ (m : Form). records (version_id m) 2 (at.header.sh_size / 2) (section_bytes (written_bytes w) at.header)) (form_is w is has f)
-        ∙ ap (λ (n : ℕ). records (version_id f.parts.opened.form) 2 (n / 2) (section_bytes (written_bytes w) at.header)) versym_size
-        ∙ ap (records (version_id f.parts.opened.form) 2 (at.old.sh_size / 2))
-        (bytes_are w is has f j at ∙ versym_content w is f j at e ∙ content_was w is f j at)
-
-    -- there are as many dynamic symbols as there were
-    count_same : (k : ℕ) (symbols : SectionAt w f.parts k) → symbols.old.sh_type ≡ SHT_DYNSYM
-        → section_of_type SHT_DYNSYM f.parts.sections ≡ Some symbols.old
-        → symbols.header.sh_size / symbol_size w.image.form ≡ symbols.old.sh_size / symbol_size f.parts.opened.form
-    count_same k symbols typed was =
-        let new_size : length (section_bytes (written_bytes w) symbols.header) ≡ symbols.header.sh_size =
+  -- as many dynamic symbols as its size says
+  module _ (k : ℕ) (symbols : SectionAt w f.parts k) (typed : symbols.old.sh_type ≡ SHT_DYNSYM) where
+    new_count : length (symbols_of (written_parts w) symbols.header) ≡ symbols.header.sh_size / symbol_size w.image.form
+    new_count =
+        let size : length (section_bytes (written_bytes w) symbols.header) ≡ symbols.header.sh_size =
         ap length (bytes_are w is has f k symbols) ∙ size_is w is f k symbols SHT_DYNSYM typed refl ∙ sym symbols.size in
-        let old_size : length (section_bytes (file_of f.parts) symbols.old) ≡ symbols.old.sh_size =
-        length-bytes f.parts f.rules symbols.old (IsIn-slice_get f.parts.sections k symbols.old symbols.is_old)
-        (ap (λ t. not (eqb t 0) && not (eqb t 8)) typed) in
-        let new_count : length (symbols_of (written_parts w) symbols.header) ≡ symbols.header.sh_size / symbol_size w.image.form =
         length-records (symbol_numbers w.image.form) (symbol_size w.image.form)
         (length (section_bytes (written_bytes w) symbols.header) / symbol_size w.image.form)
         (section_bytes (written_bytes w) symbols.header)
-        ∙ ap (λ (n : ℕ). n / symbol_size w.image.form) new_size in
-        let old_count : length (symbols_of f.parts symbols.old) ≡ symbols.old.sh_size / symbol_size f.parts.opened.form =
+        ∙ ap (λ (n : ℕ). n / symbol_size w.image.form) size
+
+    old_count : length (symbols_of f.parts symbols.old) ≡ symbols.old.sh_size / symbol_size f.parts.opened.form
+    old_count =
+        let size : length (section_bytes (file_of f.parts) symbols.old) ≡ symbols.old.sh_size =
+        length-bytes f.parts f.rules symbols.old (IsIn-slice_get f.parts.sections k symbols.old symbols.is_old)
+        (ap (λ t. not (eqb t 0) && not (eqb t 8)) typed) in
         length-records (symbol_numbers f.parts.opened.form) (symbol_size f.parts.opened.form)
         (length (section_bytes (file_of f.parts) symbols.old) / symbol_size f.parts.opened.form)
         (section_bytes (file_of f.parts) symbols.old)
-        ∙ ap (λ (n : ℕ). n / symbol_size f.parts.opened.form) old_size in
-        sym new_count ∙ dynamic_as_read w is has f k symbols typed was ∙ old_count
+        ∙ ap (λ (n : ℕ). n / symbol_size f.parts.opened.form) size
 
-    symbols_counted : version_symbols_agree f.parts at.old ≡ true
-        → is_some_and (λ symbols. at.header.sh_size / 2 == symbols.sh_size / symbol_size w.image.form)
+  module _ (j : ℕ) (at : SectionAt w f.parts j) (e : at.old.sh_type ≡ SHT_GNU_VERSYM)
+      (was : section_of_type SHT_GNU_VERSYM f.parts.sections ≡ Some at.old) (agreed : version_symbols_agree f.parts at.old ≡ true) where
+    -- a version for each symbol
+    versym_count : at.header.sh_size / 2 ≡ length symbols_now
+    versym_count =
+        let size : at.header.sh_size ≡ 2 * length symbols_now =
+        at.size ∙ sym (size_is w is f j at SHT_GNU_VERSYM e refl) ∙ (versym_content w is f j at e).sized in
+        ap (λ (n : ℕ). n / 2) size ∙ omega arith
+
+    symbols_counted : is_some_and (λ symbols. at.header.sh_size / 2 == symbols.sh_size / symbol_size w.image.form)
         (section_of_type SHT_DYNSYM w.headers) ≡ true
-    symbols_counted agreed =
+    symbols_counted =
         let old_test : SectionHeader → Bool = λ symbols. at.old.sh_size / 2 == symbols.sh_size / symbol_size f.parts.opened.form in
         let new_test : SectionHeader → Bool = λ symbols. at.header.sh_size / 2 == symbols.sh_size / symbol_size w.image.form in
-        let (s, s_there, counted) = there_and old_test (section_of_type SHT_DYNSYM f.parts.sections) (and_parts _ _ agreed).0 in
+        let (s, s_there, _) = there_and old_test (section_of_type SHT_DYNSYM f.parts.sections) (and_parts _ _ agreed).0 in
         elim (type_at w is f SHT_DYNSYM) [
-          | Nowhere was now none ↦ absurd (none-some s (sym was ∙ s_there))
-          | There k symbols typed was now there ↦
-              let same : s ≡ symbols.old = same_Some s symbols.old (sym s_there ∙ was) in
-              let old_count : at.old.sh_size / 2 ≡ symbols.old.sh_size / symbol_size f.parts.opened.form =
-              eqb-true (at.old.sh_size / 2) (s.sh_size / symbol_size f.parts.opened.form) counted
-              ∙ ap (λ (h : SectionHeader). h.sh_size / symbol_size f.parts.opened.form) same in
+          | Nowhere none now gone ↦ absurd (none-some s (sym none ∙ s_there))
+          | There k symbols typed found now there ↦
               ap (is_some_and new_test) now
               ∙ eq-eqb (at.header.sh_size / 2) (symbols.header.sh_size / symbol_size w.image.form)
-              (ap (λ (n : ℕ). n / 2) versym_size ∙ old_count ∙ sym (count_same k symbols typed was))
+              (versym_count ∙ sym (dynamic_count w is has f k symbols typed found) ∙ new_count k symbols typed)
         ]
 
-    versym_agree : version_symbols_agree f.parts at.old ≡ true → version_symbols_agree (written_parts w) at.header ≡ true
-    versym_agree agreed =
-        let test : List ℕ → VersionId → Bool = λ known v. nat_lt v.index VER_NDX_FIRST || is_one_of known v.index in
-        and_from _ (list_all (test (known_versions (written_parts w)))
-        (records (version_id w.image.form) 2 (at.header.sh_size / 2) (section_bytes (written_bytes w) at.header)))
-        (symbols_counted agreed)
-        (ap (λ (known : List ℕ). list_all (test known) (records (version_id w.image.form) 2 (at.header.sh_size / 2)
-        (section_bytes (written_bytes w) at.header))) known_same
-        ∙ ap (list_all (test (known_versions f.parts))) versym_records ∙ (and_parts _ _ agreed).1)
+    abbrev passes : List ℕ → VersionId → Bool
+    passes known v = nat_lt v.index VER_NDX_FIRST || is_one_of known v.index
+
+    -- the version that a symbol had was known
+    old_passes : (k : ℕ) (y : NamedSymbol) (v : VersionId) → slice_get read.dynamic_symbols k ≡ Some y → y.version ≡ Some v
+        → passes (known_versions f.parts) v ≡ true
+    unfolding versions_read
+    old_passes k y v at_k has_v =
+        let old_test : SectionHeader → Bool = λ symbols. at.old.sh_size / 2 == symbols.sh_size / symbol_size f.parts.opened.form in
+        let (s, s_there, counted) = there_and old_test (section_of_type SHT_DYNSYM f.parts.sections) (and_parts _ _ agreed).0 in
+        elim (type_at w is f SHT_DYNSYM) [
+          | Nowhere none now gone ↦ absurd (none-some s (sym none ∙ s_there))
+          | There m symbols typed found now there ↦
+              let p : Parts = f.parts in
+              let bytes : List ℕ = section_bytes (file_of p) at.old in
+              let count : ℕ = length (symbols_of p symbols.old) in
+              let are = subst (λ o. AreDynamicSymbols p (section_of_type SHT_GNU_VERSYM p.sections) o read.dynamic_symbols) found
+              f.holds.dynamic_symbols in
+              let (n, version, _, version_at, is_y) = are.each k y at_k in
+              let own : version ≡ Some v = sym (ap (λ (z : NamedSymbol). z.version) is_y.fields) ∙ has_v in
+              let here : slice_get (map (λ (u : VersionId). Some u) (records (version_id p.opened.form) 2 count bytes)) k ≡ Some (Some v) =
+              ap (λ (l : List (Option VersionId)). slice_get l k) (sym (records-some (version_id p.opened.form) 2 count bytes))
+              ∙ ap (λ (o : Option SectionHeader). slice_get (versions_read p o count) k) (sym was)
+              ∙ version_at ∙ ap (λ (o : Option VersionId). Some o) own in
+              let id_at : slice_get (records (version_id p.opened.form) 2 count bytes) k ≡ Some v =
+              some_inside (slice_get (records (version_id p.opened.form) 2 count bytes) k) v
+              (sym (slice_get-map (λ (u : VersionId). Some u) (records (version_id p.opened.form) 2 count bytes) k) ∙ here) in
+              let same : s ≡ symbols.old = same_Some s symbols.old (sym s_there ∙ found) in
+              let long : at.old.sh_size / 2 ≡ count =
+              eqb-true (at.old.sh_size / 2) (s.sh_size / symbol_size p.opened.form) counted
+              ∙ ap (λ (h : SectionHeader). h.sh_size / symbol_size p.opened.form) same ∙ sym (old_count m symbols typed) in
+              (IsIn-slice_get (records (version_id p.opened.form) 2 count bytes) k v id_at).passes (passes (known_versions p))
+              (ap (λ (c : ℕ). list_all (passes (known_versions p)) (records (version_id p.opened.form) 2 c bytes)) (sym long)
+              ∙ (and_parts _ _ agreed).1)
+        ]
+
+    -- the version that a symbol has is known
+    symbol_passes : (y : NamedSymbol) → SymbolRead read w.image y → (v : VersionId) → y.version ≡ Some v
+        → passes (known_versions (written_parts w)) v ≡ true
+    symbol_passes y r v has_v = elim r.same.1 [
+      | inl kept ↦
+          let used : is_version_used w.image.dynamic_symbols v.index ≡ true =
+          version_used w.image.dynamic_symbols r.position y v r.is_there has_v in
+          elim (or_cases (nat_lt v.index VER_NDX_FIRST) (is_one_of (known_versions f.parts) v.index)
+          (old_passes r.number r.old v r.is_old (sym kept ∙ has_v))) [
+            | inl low ↦ ap (λ (b : Bool). b || is_one_of (known_versions (written_parts w)) v.index) low
+            | inr known ↦
+                ap (λ (b : Bool). nat_lt v.index VER_NDX_FIRST || b) (known_stays v.index known used)
+                ∙ either (nat_lt v.index VER_NDX_FIRST)
+          ]
+      | inr cleared ↦
+          let global : v ≡ global_version = cleared_global r.old.version v (sym cleared ∙ has_v) in
+          ap (λ (u : VersionId). nat_lt u.index VER_NDX_FIRST || is_one_of (known_versions (written_parts w)) u.index) global
+    ]
+      where
+        either : (b : Bool) → (b || true) ≡ true
+        either true = refl
+        either false = refl
+
+    versym_agree : version_symbols_agree (written_parts w) at.header ≡ true
+    versym_agree =
+        let form : Form = w.image.form in
+        let bytes : List ℕ = section_bytes (written_bytes w) at.header in
+        let ids : List VersionId = records (version_id form) 2 (at.header.sh_size / 2) bytes in
+        let are : map (λ (u : VersionId). Some u) ids ≡ map (λ (y : NamedSymbol). y.version) symbols_now =
+        sym (records-some (version_id form) 2 (at.header.sh_size / 2) bytes)
+        ∙ ap (λ (n : ℕ). records (λ b. Some (version_id form b)) 2 n bytes) versym_count
+        ∙ ap (λ (xs : List ℕ). records (λ b. Some (version_id form b)) 2 (length symbols_now) xs) (bytes_are w is has f j at)
+        ∙ (versym_content w is f j at e).versions in
+        and_from _ (list_all (passes (known_versions (written_parts w))) ids) symbols_counted
+        (all-each (passes (known_versions (written_parts w))) ids (λ i v v_at.
+        let here : option_map (λ (y : NamedSymbol). y.version) (slice_get symbols_now i) ≡ Some (Some v) =
+        sym (slice_get-map (λ (y : NamedSymbol). y.version) symbols_now i)
+        ∙ ap (λ (l : List (Option VersionId)). slice_get l i) (sym are)
+        ∙ slice_get-map (λ (u : VersionId). Some u) ids i ∙ ap (option_map (λ (u : VersionId). Some u)) v_at in
+        let (y, y_at, has_v) = mapped_at (λ (y : NamedSymbol). y.version) (slice_get symbols_now i) (Some v) here in
+        symbol_passes y (final_at read w.image (whole_edit w is) f i y y_at) v has_v))
 
   symbols_agree : is_none_or (λ s. version_symbols_agree (written_parts w) s) (section_of_type SHT_GNU_VERSYM w.headers) ≡ true
   symbols_agree = elim (type_at w is f SHT_GNU_VERSYM) [
     | Nowhere was now none ↦ ap (is_none_or (λ (s : SectionHeader). version_symbols_agree (written_parts w) s)) now
     | There j at e was now there ↦
         ap (is_none_or (λ (s : SectionHeader). version_symbols_agree (written_parts w) s)) now
-        ∙ versym_agree j at e (test_at (λ (s : SectionHeader). version_symbols_agree f.parts s)
+        ∙ versym_agree j at e was (test_at (λ (s : SectionHeader). version_symbols_agree f.parts s)
         (section_of_type SHT_GNU_VERSYM f.parts.sections) at.old
         (version_symbols_right f.parts f.rules) was)
   ]

@@ -22,17 +22,17 @@ use Rattle.elf_format.specs.Rules.{linked_texts, raw_entries, shares_texts, text
 use Rattle.elf_format.specs.Views.{first_by_tag, section_memory}
 use Rattle.elf_format.proofs.ForCallers.ViewsAgree.{agrees, test_at}
 use Rattle.elf_image.specs.DynamicList.{IsListed, is_number_tag, is_text_tag}
-use Rattle.elf_image.specs.Edited.{AreEntriesOf as AreEditedEntries}
 use Rattle.elf_image.specs.Kept.{KeptSection, dynamic_strings_number, image_at_read, kept_at_number, link_of_type}
 use Rattle.elf_layout_plan.specs.Memory.{Resized}
 use Rattle.elf_layout_plan.specs.Plan.{Layout, resized}
 use Rattle.elf_write_spec.specs.ReadBack.{HasWrittenParts, written_parts}
 use Rattle.elf_write_spec.specs.Contents.{AreEntriesOf, IsEntryOf, content_at_number, place_of_kept, table_value}
+use Rattle.elf_write_spec.specs.Final.{final}
 use Rattle.elf_write_spec.specs.Output.{IsPlannedOutput, Output, written_bytes}
 use Rattle.elf_write_spec.proofs.ContentsReadBack.{Linked, entries_content, link_is, size_is, texts_are}
-use Rattle.elf_write_spec.proofs.RawEntries.{raw_is}
+use Rattle.elf_write_spec.proofs.RawEntries.{final_listed, raw_is}
 use Rattle.elf_write_spec.proofs.TextsRead.{whole-Keeps}
-use Rattle.elf_write_spec.proofs.WholeFacts.{ReadFacts, SectionAt, There, Nowhere, final_is, kept_is, type_at}
+use Rattle.elf_write_spec.proofs.WholeFacts.{ReadFacts, SectionAt, There, Nowhere, kept_is, type_at}
 use Rattle.elf_write_spec.proofs.NumberedSections.{kept}
 
 -- ## Without a dynamic list
@@ -76,12 +76,9 @@ module _ (r : Resized) (plan : Layout) (strings : List ℕ) where
       first_value e x (find (λ y. y.d_tag == DT_STRSZ) xs) value are.0 listed.0 (value_is es xs are.1 listed.1 value)
       (eqb x.d_tag DT_STRSZ) refl h
 
--- each entry of an edited list is of its tag's kind
-pub listed_all : (read now : Option (List Entry)) → AreEditedEntries read now → AllByRecursion IsListed (list_at (λ es. es) now)
-listed_all None None are = tt
-listed_all None (Some now) are = absurd are
-listed_all (Some read) None are = absurd are
-listed_all (Some read) (Some now) are = recursion_from_All IsListed now are.listed
+-- each entry that is written is of its tag's kind
+pub listed_all : (w : Output) → ReadFacts w → AllByRecursion IsListed (list_at (λ es. es) (final (image_at_read w.image) w.image).entries)
+listed_all w f = recursion_from_All IsListed (list_at (λ es. es) (final (image_at_read w.image) w.image).entries) (final_listed w f)
 
 -- as many places of a list as it has, or all, are the whole list
 limited : (xs : List ℕ) (o : Option ℕ) → ((value : ℕ) → o ≡ Some value → value ≡ length xs)
@@ -95,15 +92,6 @@ module _ (w : Output) (is : IsPlannedOutput w) (has : HasWrittenParts w) (f : Re
       ap (λ (o : Option SectionHeader). unwrap_or (entries_at (length (written_bytes w)) w.image.form
       (section_memory (written_bytes w) o) 0) []) now
       ∙ ap (λ (o : Option (List EntryNumbers)). unwrap_or o []) (no_entries (length (written_bytes w)) w.image.form)
-
-  -- the entries that are written are those of the image
-  pub entries_are : (j : ℕ) (list : SectionAt w f.parts j) → list.old.sh_type ≡ SHT_DYNAMIC
-      → AreEntriesOf (resized w.image) w.plan (content_at_number w.image w.contents list.section.sh_link)
-      (list_at (λ es. es) w.image.entries) w.raw
-  entries_are j list e =
-      subst (λ (o : Option (List Entry)). AreEntriesOf (resized w.image) w.plan (content_at_number w.image w.contents list.section.sh_link)
-      (list_at (λ es. es) o) w.raw)
-      (final_is w is).entries (entries_content w is f j list e)
 
   -- the size of the dynamic strings
   strings_size : (n : ℕ) → dynamic_strings_number w.image ≡ Some n → (s : SectionAt w f.parts n)
@@ -127,8 +115,8 @@ module _ (w : Output) (is : IsPlannedOutput w) (has : HasWrittenParts w) (f : Re
         ∙ ap (λ (n : ℕ). Some n) (link_is w is f j list ∙ sym (shares list.old was)) in
         let strings : List ℕ = content_at_number w.image w.contents list.section.sh_link in
         let own : value ≡ table_value (resized w.image) w.plan DT_STRSZ =
-        value_is (resized w.image) w.plan strings (list_at (λ es. es) w.image.entries) w.raw (entries_are j list typed)
-        (listed_all (image_at_read w.image).entries w.image.entries f.edit.entries) value
+        value_is (resized w.image) w.plan strings (list_at (λ es. es) (final (image_at_read w.image) w.image).entries) w.raw
+        (entries_content w is f j list typed) (listed_all w f) value
         (sym (ap (value_of_tag DT_STRSZ) (raw_is w is has list.header now)) ∙ h) in
         own ∙ strings_size at.old.sh_link number l.table ∙ sym (size_is w is f at.old.sh_link l.table SHT_STRTAB l.type refl)
   ]

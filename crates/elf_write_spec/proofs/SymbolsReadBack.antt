@@ -99,7 +99,7 @@ module _ (w : Output) (is : IsPlannedOutput w) (has : HasWrittenParts w) (f : Re
       → text_at (length (written_bytes w)) (texts_of (written_parts w) (linked_section w.headers at.header)) a ≡ Some text
   static_text i at e l a text h =
       let same : l.table.bytes ≡ section_bytes (file_of f.parts) l.table.old =
-      strings_content w is f at.old.sh_link l.table l.type (copied w is f i at e) ∙ content_was w is f at.old.sh_link l.table in
+      strings_content w is f at.old.sh_link l.table l.type (copied w is has f i at e) ∙ content_was w is f at.old.sh_link l.table in
       let old_texts : texts_of f.parts (linked_section f.parts.sections at.old) ≡ memory_of l.table.bytes =
       ap (texts_of f.parts) l.was_linked ∙ ap (λ (xs : List ℕ). memory_of xs) (sym same) in
       let there : text_at (length (file_of f.parts)) (memory_of l.table.bytes) a ≡ Some text =

@@ -1,13 +1,15 @@
--- The tags of tables in a dynamic list: an image's list and its raw entries have the same, and an edited list those that were read.
-use Rattle.std.proofs.Common.{◌≡◌, ℕ, suc, Bool, true, false, cond, List, [], ◌∷◌, map, length, refl, sym, ap, ◌∙◌, Option, Some, None, All}
+-- The tags of tables in a dynamic list: an image's list and its raw entries have the same, and an edited list those that were read, but
+-- for those of needed versions where none is left.
+use Rattle.std.proofs.Common.{◌≡◌, ◌≤◌, ◌⊎◌, ℕ, suc, Bool, true, false, cond, List, [], ◌∷◌, map, length, refl, sym, ap, ◌∙◌, Option, Some, None, All, inl, inr, arith}
 use Rattle.std.specs.Prelude.{◌==◌, ◌||◌, not, filter, find, is_some, nat_le, count_by}
 use Rattle.std.specs.List.{list_any}
-use Rattle.std.proofs.lemmas.Bool.{both_ways, cond_both, eq-eqb, eqb-true, not-true, or_parts}
+use Rattle.std.proofs.lemmas.Bool.{both_ways, cond_both, eq-eqb, eqb-true, false≢true, le-leb, leb-true, not-true, or_cases, or_parts}
 use Rattle.std.proofs.lemmas.List.Elements.{All-head, All-tail}
 use Rattle.std.proofs.lemmas.List.Sums.{length-filter}
 use Rattle.std.proofs.lemmas.Option.{none-some, same_Some}
 use Rattle.patch_bytes.specs.Memory.{◌>>=◌, Memory, text_at}
 use Rattle.patch_bytes.proofs.MemoryLaws.{bind_some}
+use Rattle.elf_format.specs.declared.constants.TheConstants.{DT_VERNEED, DT_VERNEEDNUM}
 use Rattle.elf_format.specs.declared.records.EntryNumbers.{EntryNumbers}
 use Rattle.elf_format.specs.Dynamic.{Auto, Entry, Integer, Text, has_tag, shown_entry, table_tags, text_tags, value_of_tag}
 use Rattle.elf_format.specs.Image.{entry_tag}
@@ -71,6 +73,68 @@ tables-tags (e ∷ es) listed =
     by_kind true h = ap (λ o. tables_with o (tables_of es)) (sym h)
     by_kind false h = ap (λ o. tables_with o (tables_of es)) (sym h)
 
+-- ## Tags that are left
+
+-- the tag isn't one of needed versions
+abbrev pub is_lasting_tag : ℕ → Bool
+is_lasting_tag tag = not (is_one_of (DT_VERNEED ∷ DT_VERNEEDNUM ∷ []) tag)
+
+-- these tags are those that were there, or those without the ones of needed versions
+abbrev pub AreTagsLeft : List ℕ → List ℕ → Type 0
+AreTagsLeft old now = (now ≡ old) ⊎ (now ≡ filter is_lasting_tag old)
+
+any-filtered : (test keep : ℕ → Bool) (xs : List ℕ) → list_any test (filter keep xs) ≡ true → list_any test xs ≡ true
+any-filtered test keep [] h = absurd (false≢true h)
+any-filtered test keep (x ∷ xs) h = by_test (keep x) (any-filtered test keep xs) h
+  where
+    either : (b : Bool) → (b || true) ≡ true
+    either true = refl
+    either false = refl
+
+    by_test : (b : Bool) → (list_any test (filter keep xs) ≡ true → list_any test xs ≡ true)
+        → list_any test (cond b (x ∷ filter keep xs) (filter keep xs)) ≡ true → (test x || list_any test xs) ≡ true
+    by_test true rest h = elim (or_cases (test x) (list_any test (filter keep xs)) h) [
+      | inl here ↦ ap (λ (b : Bool). b || list_any test xs) here
+      | inr later ↦ ap (λ (b : Bool). test x || b) (rest later) ∙ either (test x)
+    ]
+    by_test false rest h = ap (λ (b : Bool). test x || b) (rest h) ∙ either (test x)
+
+any-lasting : (tag : ℕ) (keep : ℕ → Bool) → keep tag ≡ true → (xs : List ℕ) → list_any (λ t. t == tag) xs ≡ true
+    → list_any (λ t. t == tag) (filter keep xs) ≡ true
+any-lasting tag keep kept [] h = absurd (false≢true h)
+any-lasting tag keep kept (x ∷ xs) h = elim (or_cases (x == tag) (list_any (λ t. t == tag) xs) h) [
+  | inl here ↦
+      ap (λ (b : Bool). list_any (λ t. t == tag) (cond b (x ∷ filter keep xs) (filter keep xs))) (ap keep (eqb-true x tag here) ∙ kept)
+      ∙ ap (λ (b : Bool). b || list_any (λ t. t == tag) (filter keep xs)) here
+  | inr later ↦ by_test (keep x) (any-lasting tag keep kept xs later)
+]
+  where
+    either : (b : Bool) → (b || true) ≡ true
+    either true = refl
+    either false = refl
+
+    by_test : (b : Bool) → list_any (λ t. t == tag) (filter keep xs) ≡ true
+        → list_any (λ t. t == tag) (cond b (x ∷ filter keep xs) (filter keep xs)) ≡ true
+    by_test true rest = ap (λ (b : Bool). (x == tag) || b) rest ∙ either (x == tag)
+    by_test false rest = rest
+
+length-filtered : (test keep : ℕ → Bool) (xs : List ℕ) → length (filter test (filter keep xs)) ≤ length (filter test xs)
+length-filtered test keep [] = omega arith
+length-filtered test keep (x ∷ xs) = by_tests (keep x) (test x) refl (length-filtered test keep xs)
+  where
+    by_tests : (k b : Bool) → test x ≡ b → length (filter test (filter keep xs)) ≤ length (filter test xs)
+        → length (filter test (cond k (x ∷ filter keep xs) (filter keep xs))) ≤ length (cond b (x ∷ filter test xs) (filter test xs))
+    by_tests true true e rest =
+        let same : length (filter test (x ∷ filter keep xs)) ≡ suc (length (filter test (filter keep xs))) =
+        ap (λ (c : Bool). length (cond c (x ∷ filter test (filter keep xs)) (filter test (filter keep xs)))) e in
+        omega (arith, same, rest)
+    by_tests true false e rest =
+        let same : length (filter test (x ∷ filter keep xs)) ≡ length (filter test (filter keep xs)) =
+        ap (λ (c : Bool). length (cond c (x ∷ filter test (filter keep xs)) (filter test (filter keep xs)))) e in
+        omega (arith, same, rest)
+    by_tests false true e rest = omega (arith, rest)
+    by_tests false false e rest = rest
+
 -- ## How often a tag is there
 
 module _ (tag : ℕ) (is_table : is_table_tag tag ≡ true) where
@@ -90,11 +154,22 @@ module _ (tag : ℕ) (is_table : is_table_tag tag ≡ true) where
           (ap (λ c. length (cond c (e.d_tag ∷ filter (λ t. t == tag) (raw_tables es)) (filter (λ t. t == tag) (raw_tables es)))) h)
       by_tests false h false g rest = rest
 
-  count-same : (raw old : List EntryNumbers) → raw_tables raw ≡ raw_tables old
-      → count_by (λ e. e.d_tag == tag) raw ≡ count_by (λ e. e.d_tag == tag) old
-  count-same raw old same =
-      sym (length-filter (λ e. e.d_tag == tag) raw) ∙ count-tables raw ∙ ap (λ (l : List ℕ). length (filter (λ t. t == tag) l)) same
-      ∙ sym (count-tables old) ∙ length-filter (λ e. e.d_tag == tag) old
+  pub count-left : (raw old : List EntryNumbers) → AreTagsLeft (raw_tables old) (raw_tables raw)
+      → count_by (λ e. e.d_tag == tag) raw ≤ count_by (λ e. e.d_tag == tag) old
+  count-left raw old left =
+      let now = sym (length-filter (λ (e : EntryNumbers). e.d_tag == tag) raw) ∙ count-tables raw in
+      let was = sym (length-filter (λ (e : EntryNumbers). e.d_tag == tag) old) ∙ count-tables old in
+      elim left [
+        | inl same ↦ omega (arith, now, was, ap (λ (l : List ℕ). length (filter (λ t. t == tag) l)) same)
+        | inr less ↦
+            omega (
+              arith,
+              now,
+              was,
+              ap (λ (l : List ℕ). length (filter (λ t. t == tag) l)) less,
+              length-filtered (λ t. t == tag) is_lasting_tag (raw_tables old),
+            )
+      ]
 
   -- it is there just where it is among these
   has-tables : (raw : List EntryNumbers) → has_tag tag raw ≡ list_any (λ t. t == tag) (raw_tables raw)
@@ -110,18 +185,40 @@ module _ (tag : ℕ) (is_table : is_table_tag tag ≡ true) where
       by_tests false h true g rest = rest ∙ sym (ap (λ c. c || list_any (λ t. t == tag) (raw_tables es)) h)
       by_tests false h false g rest = rest
 
-  pub has-same : (raw old : List EntryNumbers) → raw_tables raw ≡ raw_tables old → has_tag tag raw ≡ has_tag tag old
-  has-same raw old same = has-tables raw ∙ ap (list_any (λ t. t == tag)) same ∙ sym (has-tables old)
+  pub has-left : (raw old : List EntryNumbers) → AreTagsLeft (raw_tables old) (raw_tables raw) → has_tag tag raw ≡ true
+      → has_tag tag old ≡ true
+  has-left raw old left h =
+      let there : list_any (λ t. t == tag) (raw_tables raw) ≡ true = sym (has-tables raw) ∙ h in
+      has-tables old ∙ elim left [
+        | inl same ↦ ap (list_any (λ t. t == tag)) (sym same) ∙ there
+        | inr less ↦
+            any-filtered (λ t. t == tag) is_lasting_tag (raw_tables old) (ap (list_any (λ t. t == tag)) (sym less) ∙ there)
+      ]
 
--- with the same tags of tables each comes once if each came once
-pub once-same : (raw old : List EntryNumbers) → raw_tables raw ≡ raw_tables old → tags_come_once old ≡ true → tags_come_once raw ≡ true
-once-same raw old same h =
+  -- another tag than those of needed versions is there where it was
+  pub has-lasting : (raw old : List EntryNumbers) → AreTagsLeft (raw_tables old) (raw_tables raw) → is_lasting_tag tag ≡ true
+      → has_tag tag old ≡ true → has_tag tag raw ≡ true
+  has-lasting raw old left lasts h =
+      let there : list_any (λ t. t == tag) (raw_tables old) ≡ true = sym (has-tables old) ∙ h in
+      has-tables raw ∙ elim left [
+        | inl same ↦ ap (list_any (λ t. t == tag)) same ∙ there
+        | inr less ↦ ap (list_any (λ t. t == tag)) less ∙ any-lasting tag is_lasting_tag lasts (raw_tables old) there
+      ]
+
+-- where no tag of a table comes more often each comes once if each came once
+pub once-left : (raw old : List EntryNumbers) → AreTagsLeft (raw_tables old) (raw_tables raw) → tags_come_once old ≡ true
+    → tags_come_once raw ≡ true
+once-left raw old left h =
     all-from (λ tag. nat_le (count_by (λ e. e.d_tag == tag) raw) 1) table_tags
     (each-from (λ tag. nat_le (count_by (λ e. e.d_tag == tag) raw) 1 ≡ true) table_tags (λ i tag there.
     let is_table : is_table_tag tag ≡ true = any-from (λ x. x == tag) table_tags i tag there (eq-eqb tag tag refl) in
-    ap (λ n. nat_le n 1) (count-same tag is_table raw old same)
-    ∙ each-at (λ t. nat_le (count_by (λ e. e.d_tag == t) old) 1 ≡ true) table_tags
-    (all-at (λ t. nat_le (count_by (λ e. e.d_tag == t) old) 1) table_tags h) i tag there))
+    let once = each-at (λ t. nat_le (count_by (λ e. e.d_tag == t) old) 1 ≡ true) table_tags
+    (all-at (λ t. nat_le (count_by (λ e. e.d_tag == t) old) 1) table_tags h) i tag there in
+    le-leb (count_by (λ e. e.d_tag == tag) raw) 1 (omega (
+      arith,
+      count-left tag is_table raw old left,
+      leb-true (count_by (λ e. e.d_tag == tag) old) 1 once,
+    ))))
 
 -- ## Entries that were read, and entries that are written
 

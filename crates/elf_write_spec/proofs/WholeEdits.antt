@@ -1,6 +1,6 @@
 -- What is known of an edited image of which nothing went: the parts of the file that was read, and how they match the sections that are
 -- there.
-use Rattle.std.proofs.Common.{◌≡◌, ℕ, ◌<◌, List, length, map, Bool, true, false, refl, sym, ap, ◌∙◌, subst, inl, inr, Option, Some, None, Ok, arith}
+use Rattle.std.proofs.Common.{◌≡◌, ℕ, ◌<◌, List, length, Bool, true, false, refl, sym, ap, ◌∙◌, subst, inl, inr, Option, Some, None, Ok, arith}
 use Rattle.std.specs.Prelude.{if◌then◌else◌, ◌&&◌, ◌==◌, find, nat_le}
 use Rattle.std.proofs.lemmas.Bool.{both_ways, eq-eqb, eqb-true, false_from_ne_true, false≢true}
 use Rattle.std.proofs.lemmas.Option.{none-some, same_Some, slice_get_within}
@@ -8,7 +8,7 @@ use Rattle.patch_bytes.specs.Memory.{◌>>=◌}
 use Rattle.patch_bytes.proofs.MemoryLaws.{bind_some}
 use Rattle.std.specs.Option.{option_map}
 use Rattle.std.specs.List.{slice_get}
-use Rattle.elf_format.specs.declared.constants.TheConstants.{PT_INTERP, SHN_LORESERVE, SHT_DYNSYM, SHT_GNU_VERSYM, SHT_PROGBITS, SHT_SYMTAB}
+use Rattle.elf_format.specs.declared.constants.TheConstants.{PT_INTERP, SHN_LORESERVE, SHT_PROGBITS, SHT_SYMTAB}
 use Rattle.elf_format.specs.declared.records.SectionHeader.{SectionHeader}
 use Rattle.elf_format.specs.declared.records.SegmentHeader.{SegmentHeader}
 use Rattle.elf_format.specs.File.{Parts, section_of_type, segment_of_type}
@@ -19,16 +19,15 @@ use Rattle.elf_image.specs.Edited.{IsEdited, IsEditOf}
 use Rattle.elf_image.specs.ReadImage.{HoldsParts, IsSectionOf}
 use Rattle.elf_image.proofs.ForCallers.ReadImageLaws.{read_images_hold_parts}
 use Rattle.elf_image.specs.Kept.{KeptSection, image_at_read, interpreter_number, is_numbered, kept_at_number, kept_from, kept_of_type, kept_sections, stands_as_interpreter}
-use Rattle.elf_layout_plan.specs.Texts.{are_names_changed}
+use Rattle.elf_layout_plan.specs.Needs.{written_entries, written_needs}
 use Rattle.elf_layout_plan.proofs.ForCallers.ApartLists.{find-at}
 use Rattle.elf_layout_plan.proofs.ForCallers.ApartSections.{kept-at as kept-parts}
 use Rattle.elf_layout_plan.proofs.ForCallers.PlacedRead.{at_read}
-use Rattle.elf_layout_plan.proofs.ForCallers.SameTexts.{names_same}
 use Rattle.elf_write_spec.specs.Base.{is_interpreter}
-use Rattle.elf_write_spec.specs.Final.{buckets_of, by_bucket, final, final_symbol, new_number, ordered}
+use Rattle.elf_write_spec.specs.Final.{final, final_symbol, new_number}
 use Rattle.elf_write_spec.specs.Whole.{IsWhole}
 use Rattle.elf_write_spec.proofs.WholeLists.{FoundAt, NonePasses, find-is, find-no, first_at, map-same, there_at}
-use Rattle.elf_write_spec.proofs.SameLists.{IsKnown, entries_same, known_below, known_dynamic, known_static, needs_same}
+use Rattle.elf_write_spec.proofs.KnownSections.{IsKnown, known_below, known_static}
 use Rattle.elf_format.proofs.ForCallers.Lengths.{length-sections}
 use Rattle.elf_write_spec.proofs.NumberedSections.{kept}
 use Rattle.elf_write_spec.proofs.NumberedSections as sections_by_number
@@ -250,17 +249,10 @@ type_at read image is f type = elim (first_at (was read image is f type) f.parts
   | inr none ↦ type_nowhere read image is f type none
 ]
 
--- ## The image in its final form
-
-pub record FinalIs (read image : Image) : Type 0 where
-  pub symbols : (final read image).symbols ≡ image.symbols
-  pub dynamic_symbols : (final read image).dynamic_symbols ≡ image.dynamic_symbols
-  pub needs : (final read image).needs ≡ image.needs
-  pub entries : (final read image).entries ≡ image.entries
-  pub names : are_names_changed read image ≡ false
+-- ## The symbols in their final form
 
 -- a symbol keeps the number of its section
-same_symbol : (read image : Image) → IsWholeEdit read image → (f : ReadFacts read image) → (y : NamedSymbol)
+pub same_symbol : (read image : Image) → IsWholeEdit read image → (f : ReadFacts read image) → (y : NamedSymbol)
     → IsKnown f.parts.opened.header.e_shnum y.st_shndx → final_symbol image y ≡ y
 same_symbol read image is f y known = ap (λ (n : ℕ). record y { st_shndx = n }) (by_test (nat_le SHN_LORESERVE y.st_shndx) refl)
   where
@@ -282,25 +274,20 @@ same_symbol read image is f y known = ap (λ (n : ℕ). record y { st_shndx = n 
         ap (λ (o : Option KeptSection). elim o as (λ _. ℕ) [ Some s ↦ s.position | None ↦ 0 ]) (kept_is read image is y.st_shndx)
         ∙ in_sections (slice_get image.sections y.st_shndx) refl within
 
-pub final_is : (read image : Image) → IsWholeEdit read image → FinalIs read image
-unfolding final ordered
-final_is read image is =
+-- the static symbols are those of the image
+pub static_same : (read image : Image) → IsWholeEdit read image → (final read image).symbols ≡ image.symbols
+unfolding final
+static_same read image is =
     let f = read_facts read image is in
-    let names : are_names_changed read image ≡ false = names_same read image is.whole.dynamic_symbols in
-    let buckets : List NamedSymbol =
-    elim (buckets_of image) as (λ _. List NamedSymbol) [ Some n ↦ by_bucket n image.dynamic_symbols | None ↦ image.dynamic_symbols ] in
-    let in_order : ordered read image ≡ image.dynamic_symbols =
-    ap (λ (b : Bool). if b then buckets else image.dynamic_symbols) names in
-    record {
-      symbols = map-same (final_symbol image) image.symbols (λ i y at. same_symbol read image is f y
-          (known_static f.parts f.rules read.symbols (section_of_type SHT_SYMTAB f.parts.sections) refl f.holds.symbols i y
-          (ap (λ (l : List NamedSymbol). slice_get l i) (sym is.whole.symbols) ∙ at)));
-      dynamic_symbols = ap (map (final_symbol image)) in_order
-          ∙ map-same (final_symbol image) image.dynamic_symbols (λ i y at. same_symbol read image is f y
-          (known_dynamic f.parts f.rules read.dynamic_symbols (section_of_type SHT_GNU_VERSYM f.parts.sections)
-          (section_of_type SHT_DYNSYM f.parts.sections) refl f.holds.dynamic_symbols i y
-          (ap (λ (l : List NamedSymbol). slice_get l i) (sym is.whole.dynamic_symbols) ∙ at)));
-      needs = needs_same read image is.whole.dynamic_symbols;
-      entries = entries_same read image is.whole.dynamic_symbols;
-      names = names;
-    }
+    map-same (final_symbol image) image.symbols (λ i y at. same_symbol read image is f y
+    (known_static f.parts f.rules read.symbols (section_of_type SHT_SYMTAB f.parts.sections) refl f.holds.symbols i y
+    (ap (λ (l : List NamedSymbol). slice_get l i) (sym is.whole.symbols) ∙ at)))
+
+-- needed versions and the dynamic list are those that are written
+pub needs_written : (read image : Image) → (final read image).needs ≡ written_needs read image
+unfolding final
+needs_written read image = refl
+
+pub entries_written : (read image : Image) → (final read image).entries ≡ written_entries read image
+unfolding final
+entries_written read image = refl

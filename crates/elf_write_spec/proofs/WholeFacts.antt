@@ -349,8 +349,3 @@ type_at w is f type = elim (first_at (was w is f type) f.parts.sections) [
   | inl found ↦ type_found w is f type found
   | inr none ↦ type_nowhere w is f type none
 ]
-
--- ## The image in its final form
-
-pub final_is : (w : Output) → IsPlannedOutput w → edits.FinalIs (image_at_read w.image) w.image
-final_is w is = edits.final_is (image_at_read w.image) w.image (whole_edit w is)

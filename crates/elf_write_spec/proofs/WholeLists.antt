@@ -1,9 +1,10 @@
--- Lists: elements at positions, the first one that passes a test, and the numbers of sections.
-use Rattle.std.proofs.Common.{◌≡◌, ℕ, zero, suc, ◌<◌, ◌⊎◌, Bool, true, false, cond, List, ◌∷◌, length, map, refl, ap, ◌∙◌, subst, inl, inr, Some, None, arith, []}
-use Rattle.std.specs.Prelude.{filter, find}
+-- Lists: elements at positions, and the first one that passes a test.
+use Rattle.std.proofs.Common.{◌≡◌, ℕ, zero, suc, ◌<◌, ◌⊎◌, Bool, true, false, cond, List, ◌∷◌, length, map, refl, sym, ap, ◌∙◌, subst, inl, inr, Option, Some, None, arith, []}
+use Rattle.std.specs.Prelude.{◌==◌, find, option_map}
 use Rattle.std.specs.List.{list_all, slice_get}
-use Rattle.std.proofs.lemmas.Bool.{and_from}
+use Rattle.std.proofs.lemmas.Bool.{and_from, and_parts, eqb-true, false≢true, or_cases}
 use Rattle.std.proofs.lemmas.Option.{none-some, same_Some}
+use Rattle.elf_format.specs.Options.{is_one_of}
 use Rattle.elf_layout_plan.proofs.ForCallers.PlacedLists.{Has, has_cases, has_none}
 
 -- ## Elements at positions
@@ -30,19 +31,26 @@ map-same f [] same = refl
 map-same {A} f (x ∷ xs) same =
     ap (λ (z : A). z ∷ map f xs) (same zero x refl) ∙ ap (λ (zs : List A). x ∷ zs) (map-same f xs (λ i y. same (suc i) y))
 
--- a filter that every element passes
-pub filter-same : {A : Type 0} (test : A → Bool) (xs : List A) → ((i : ℕ) (x : A) → slice_get xs i ≡ Some x → test x ≡ true)
-    → filter test xs ≡ xs
-filter-same test [] all = refl
-filter-same {A} test (x ∷ xs) all =
-    ap (λ (b : Bool). cond b (x ∷ filter test xs) (filter test xs)) (all zero x refl)
-    ∙ ap (λ (zs : List A). x ∷ zs) (filter-same test xs (λ i y. all (suc i) y))
-
 -- a test that each element passes
 pub all-each : {A : Type 0} (test : A → Bool) (xs : List A) → ((i : ℕ) (x : A) → slice_get xs i ≡ Some x → test x ≡ true)
     → list_all test xs ≡ true
 all-each test [] all = refl
 all-each test (x ∷ xs) all = and_from (test x) (list_all test xs) (all zero x refl) (all-each test xs (λ i y. all (suc i) y))
+
+-- what a function gives of a value that is there
+pub mapped_at : {A B : Type 0} (f : A → B) (o : Option A) (b : B) → option_map f o ≡ Some b → (x : A) × (o ≡ Some x) × (f x ≡ b)
+mapped_at f None b h = absurd (none-some b h)
+mapped_at f (Some x) b h = (x, refl, same_Some (f x) b h)
+
+-- what each of some numbers passes
+pub passes_one : (test : ℕ → Bool) (ns : List ℕ) (n : ℕ) → list_all test ns ≡ true → is_one_of ns n ≡ true → test n ≡ true
+passes_one test [] n all one = absurd (false≢true one)
+passes_one test (m ∷ ms) n all one =
+    let both = and_parts (test m) (list_all test ms) all in
+    elim (or_cases (m == n) (is_one_of ms n) one) [
+      | inl same ↦ ap test (sym (eqb-true m n same)) ∙ both.0
+      | inr later ↦ passes_one test ms n both.1 later
+    ]
 
 -- ## The first that passes a test
 
@@ -108,8 +116,6 @@ find-is test (z ∷ xs) (suc i) x at passes before =
 pub find-no : {A : Type 0} (test : A → Bool) (xs : List A) → NonePasses test xs → find test xs ≡ None
 find-no test [] none = refl
 find-no test (x ∷ xs) none = find-step test x xs false (none zero x refl) ∙ find-no test xs (λ j y. none (suc j) y)
-
--- ## Numbers from 0 on
 
 -- ## What is in a list
 

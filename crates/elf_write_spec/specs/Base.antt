@@ -1,9 +1,7 @@
 -- What of the bytes that were read stays where it is.
-use Rattle.std.specs.Prelude.{ℕ, zero, suc, ◌+◌, ◌*◌, List, [], ◌∷◌, length, map, filter, slice_index, Bool, true, false, ◌&&◌, not, nat_le, nat_lt, if◌then◌else◌}
+use Rattle.std.specs.Prelude.{ℕ, zero, suc, ◌+◌, ◌*◌, List, [], ◌∷◌, length, map, filter, slice_index, Bool, ◌&&◌, not, nat_le, nat_lt, if◌then◌else◌}
 use Rattle.std.specs.List.{list_any}
 use Rattle.elf_format.specs.declared.range.Range.{Range}
-use Rattle.elf_format.specs.declared.section_data.SectionData.{SectionData}
-use Rattle.elf_format.specs.declared.section_data.SectionData.TheVariants as kinds
 use Rattle.elf_format.specs.File.{loads_of}
 use Rattle.elf_format.specs.Places.{file_range, occupies_file}
 use Rattle.elf_format.specs.Placement.{file_part}
@@ -12,22 +10,8 @@ use Rattle.elf_format.specs.Image.{Image}
 use Rattle.elf_format.specs.Records.{file_header_size, segment_header_size}
 use Rattle.elf_layout_plan.specs.Anchors.{is_loaded_section}
 use Rattle.elf_image.specs.Kept.{KeptSection, interpreter_number, is_numbered, kept_sections, place_at_read}
+pub use Rattle.elf_image.specs.Renumbering.{is_opaque}
 use Rattle.elf_layout_plan.specs.Memory.{Resized}
-
-abbrev pub is_opaque : SectionData → Bool
-is_opaque kinds.Opaque = true
-is_opaque kinds.Uninitialized = false
-is_opaque kinds.Dynamic = false
-is_opaque kinds.Relocation = false
-is_opaque kinds.Note = false
-is_opaque kinds.Strings = false
-is_opaque kinds.Symbols = false
-is_opaque kinds.DynamicSymbols = false
-is_opaque kinds.Hash = false
-is_opaque kinds.GnuHash = false
-is_opaque kinds.GnuVersym = false
-is_opaque kinds.GnuVerdef = false
-is_opaque kinds.GnuVerneed = false
 
 abbrev pub is_interpreter : Image → KeptSection → Bool
 is_interpreter read s = is_numbered (interpreter_number read) s

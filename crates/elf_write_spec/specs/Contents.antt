@@ -1,5 +1,5 @@
 -- The bytes of each section that is written.
-use Rattle.std.specs.Prelude.{ℕ, ◌-◌, ◌*◌, ◌≤◌, ◌≡◌, List, [], ◌∷◌, ◌++◌, length, map, replicate, true, Option, Some, IsTrue, ◌==◌, if◌then◌else◌, unwrap_or}
+use Rattle.std.specs.Prelude.{ℕ, ◌-◌, ◌*◌, ◌≤◌, ◌≡◌, List, [], ◌∷◌, ◌++◌, length, map, replicate, true, ◌&&◌, Option, Some, IsTrue, ◌==◌, if◌then◌else◌, unwrap_or}
 use Rattle.std.specs.List.{flat_map, slice_get}
 use Rattle.patch_bytes.specs.Memory.{◌>>=◌, memory_of}
 use Rattle.patch_bytes.specs.declared.number.ByteOrder2.{ByteOrder2}
@@ -10,7 +10,7 @@ use Rattle.elf_format.specs.declared.records.SymbolNumbers.{SymbolNumbers}
 use Rattle.elf_format.specs.declared.section_data.SectionData.{SectionData}
 use Rattle.elf_format.specs.declared.section_data.SectionData.TheVariants as kinds
 use Rattle.elf_format.specs.Dynamic.{Auto, Entry, Integer, Text}
-use Rattle.elf_format.specs.Image.{Image, entry_tag}
+use Rattle.elf_format.specs.Image.{Image, ImageSection, entry_tag}
 use Rattle.elf_format.specs.Options.{list_at}
 use Rattle.elf_format.specs.Places.{Place}
 use Rattle.elf_format.specs.Records.{entry_size, symbol_size, symbols_in}
@@ -19,12 +19,22 @@ use Rattle.elf_format.specs.Views.{NamedSymbol, Table, defined_versions, needed_
 use Rattle.elf_tables.specs.Spelled.{spelled_entry}
 use Rattle.elf_tables.specs.Strings.{PlacesStand, Strings}
 use Rattle.elf_tables.specs.VersionRecords.{definition_table, has_definition_texts, has_needs_texts, needs_table, placed_definition, placed_needs}
+use Rattle.elf_format.specs.Hashes.{GnuHeader, gnu_header, word_of_table}
+use Rattle.elf_hashes.specs.declared.gnu.GnuSizes.{GnuSizes}
+use Rattle.elf_hashes.specs.Found.{hashed_names}
+use Rattle.elf_hashes.specs.Gabi.{IsGabiTable}
+use Rattle.elf_hashes.specs.Gnu.{IsGnuTable}
+use Rattle.elf_hashes.specs.Versions.{AreVersionsOf}
+use Rattle.elf_relocations.specs.Renumbered.{AreRenumbered}
+use Rattle.elf_image.specs.Names.{are_names_changed}
+use Rattle.elf_image.specs.Relocated.{is_against}
+use Rattle.elf_image.specs.Staying.{table_number}
 use Rattle.elf_image.specs.Kept.{KeptSection, dynamic_strings_number, kept_at_number, kept_of_type}
 use Rattle.elf_layout_plan.specs.Memory.{Resized}
 use Rattle.elf_layout_plan.specs.Plan.{Layout}
 use Rattle.elf_layout_plan.specs.Texts.{is_table_copied}
 use Rattle.elf_write_spec.specs.Base.{is_interpreter}
-use Rattle.elf_write_spec.specs.Final.{final}
+use Rattle.elf_write_spec.specs.Final.{are_versions_kept, final, new_dynamic_symbols}
 use Rattle.elf_write_spec.specs.Headers.{Reads}
 
 -- ## The dynamic list (gABI, Dynamic Section)
@@ -132,6 +142,46 @@ AreDefinitionsIn image = AreDefinitionsOf image.form image.definitions
 abbrev pub AreNeedsIn : Resized → List ℕ → List ℕ → Type 0
 AreNeedsIn r = AreNeedsOf r.image.form (final r.read r.image).needs
 
+-- The versions of the symbols (GNU symbol versioning, .gnu.version), as they were read where no version changed.
+pub record AreVersionsIn (r : Resized) (s : ImageSection) (bytes : List ℕ) : Type 0 where
+  pub versions : AreVersionsOf r.image.form (final r.read r.image).dynamic_symbols bytes
+  pub copied : IsTrue (are_versions_kept r.read r.image) → bytes ≡ s.content
+
+-- ## Relocations (gABI, Relocation)
+
+-- The relocations of a section are as they were read; where the dynamic symbols are renumbered and these are against them, each names
+-- its symbol by the new number.
+abbrev pub AreRelocationsOf : Resized → ImageSection → List ℕ → Type 0
+AreRelocationsOf r s bytes = elim (are_names_changed r.read r.image && is_against (table_number SHT_DYNSYM r.image) s) [
+  | true ↦ AreRenumbered r.image.form s.sh_type (new_dynamic_symbols r.read r.image) s.content bytes
+  | _ ↦ bytes ≡ s.content
+]
+
+-- ## Hash tables
+
+-- as many buckets as the gABI's table has in its bytes (gABI, Hash Table)
+abbrev pub gabi_buckets : Form → List ℕ → ℕ
+gabi_buckets form content = unwrap_or (word_of_table form (memory_of content) 0) 0
+
+-- the sizes that a table's header tells (GNU hash section)
+abbrev pub sizes_in : GnuHeader → GnuSizes
+sizes_in h = record { buckets = h.buckets; filter_words = h.filter_words; filter_shift = h.filter_shift }
+
+-- A hash table is as it was read where the names are; else it is made of the final symbols, as many buckets as it had.
+abbrev pub IsGabiContent : Resized → ImageSection → List ℕ → Type 0
+IsGabiContent r s bytes = elim (are_names_changed r.read r.image) [
+  | true ↦ IsGabiTable r.image.form (gabi_buckets r.image.form s.content) (hashed_names (final r.read r.image).dynamic_symbols) bytes
+  | _ ↦ bytes ≡ s.content
+]
+
+-- the same of a GNU table: buckets, words of the filter and shift are those that it had
+abbrev pub IsGnuContent : Resized → ImageSection → List ℕ → Type 0
+IsGnuContent r s bytes = elim (are_names_changed r.read r.image) [
+  | true ↦ (header : GnuHeader) → gnu_header r.image.form (memory_of s.content) ≡ Some header
+      → IsGnuTable r.image.form (sizes_in header) (hashed_names (final r.read r.image).dynamic_symbols) bytes
+  | _ ↦ bytes ≡ s.content
+]
+
 -- ## All of them
 
 -- the bytes of the section that was read at a number
@@ -147,6 +197,10 @@ IsContentOfKind r plan raw strings s bytes kind = elim kind [
   | kinds.DynamicSymbols ↦ AreSymbolsOf strings (final r.read r.image).dynamic_symbols (symbols_in r.image.form bytes)
   | kinds.GnuVerdef ↦ AreDefinitionsIn r.image strings bytes
   | kinds.GnuVerneed ↦ AreNeedsIn r strings bytes
+  | kinds.GnuVersym ↦ AreVersionsIn r s.section bytes
+  | kinds.Relocation ↦ AreRelocationsOf r s.section bytes
+  | kinds.Hash ↦ IsGabiContent r s.section bytes
+  | kinds.GnuHash ↦ IsGnuContent r s.section bytes
   | _ ↦ bytes ≡ s.section.content
 ]
 

@@ -1,16 +1,17 @@
 -- What an edited image shows in the end, once it is written: needed versions that no symbol has any more are dropped, sections have
 -- their numbers in the file that is written, and the dynamic symbols stand in the order that a GNU hash table asks for.
-use Rattle.std.specs.Prelude.{ℕ, ◌/◌, ◌%◌, List, [], ◌∷◌, ◌++◌, map, filter, Bool, ◌&&◌, not, Option, Some, None, nat_le, ◌==◌, if◌then◌else◌}
-use Rattle.std.specs.List.{flat_map}
+use Rattle.std.specs.Prelude.{ℕ, List, [], ◌∷◌, length, map, position, slice_index, Bool, true, false, ◌&&◌, not, Option, Some, None, nat_le, ◌==◌, if◌then◌else◌, unwrap_or}
 use Rattle.patch_bytes.specs.Memory.{◌>>=◌, memory_of}
 use Rattle.elf_format.specs.declared.constants.TheConstants.{SHN_LORESERVE, SHT_GNU_HASH}
-use Rattle.elf_format.specs.Hashes.{gnu_hash, gnu_header}
+use Rattle.elf_format.specs.declared.version_id.VersionId.{VersionId}
+use Rattle.elf_format.specs.Hashes.{gnu_header}
 use Rattle.elf_format.specs.Image.{Image, counted, shown}
 use Rattle.elf_format.specs.Views.{NamedSymbol, View}
 use Rattle.elf_image.specs.Kept.{kept_at_number, kept_of_type}
 use Rattle.elf_layout_plan.specs.Needs.{written_entries, written_needs}
-use Rattle.elf_layout_plan.specs.Sizes.{is_found}
-use Rattle.elf_layout_plan.specs.Texts.{are_names_changed}
+use Rattle.elf_hashes.specs.Found.{in_order}
+use Rattle.elf_hashes.specs.Order.{places_by_bucket}
+use Rattle.elf_image.specs.Names.{are_names_changed}
 
 -- ## Numbers of sections
 
@@ -29,24 +30,6 @@ final_symbol image y = record y { st_shndx = new_symbol_section image y.st_shndx
 
 -- ## The order of the dynamic symbols
 
--- the symbol isn't seen by other files (gABI, Symbol Table, st_info, STB_LOCAL)
-abbrev pub is_local : NamedSymbol → Bool
-is_local y = y.st_info / 16 == 0
-
--- the symbol is defined elsewhere
-abbrev pub is_sought : NamedSymbol → Bool
-is_sought y = not (is_local y) && y.st_shndx == 0
-
--- the symbols that are found through a bucket of so many
-abbrev pub in_bucket : ℕ → List NamedSymbol → ℕ → List NamedSymbol
-in_bucket buckets symbols bucket = filter (λ y. is_found y && gnu_hash y.name % buckets == bucket) symbols
-
--- the first symbol stays first; then those that are local, those that are sought, and bucket by bucket those that are found
-unfoldable pub by_bucket : ℕ → List NamedSymbol → List NamedSymbol
-by_bucket buckets [] = []
-by_bucket buckets (first ∷ rest) =
-    first ∷ filter is_local rest ++ filter is_sought rest ++ flat_map (in_bucket buckets rest) (counted buckets)
-
 -- how many buckets the GNU hash table has (GNU hash section)
 abbrev pub buckets_of : Image → Option ℕ
 buckets_of image =
@@ -54,12 +37,29 @@ buckets_of image =
     >>= λ s. gnu_header image.form (memory_of s.section.content)
     >>= λ header. Some header.buckets
 
--- with other names than were read hash tables are made anew, and then a GNU table decides on the order
-unfoldable pub ordered : Image → Image → List NamedSymbol
-ordered read image =
+-- Where in the image's list each dynamic symbol of the final one stands. With other names than were read hash tables are made anew,
+-- and then a GNU table decides on the order.
+unfoldable pub dynamic_order : Image → Image → List ℕ
+dynamic_order read image =
     if are_names_changed read image
-    then elim (buckets_of image) [ Some buckets ↦ by_bucket buckets image.dynamic_symbols | None ↦ image.dynamic_symbols ]
-    else image.dynamic_symbols
+    then elim (buckets_of image) [
+      | Some buckets ↦ places_by_bucket buckets image.dynamic_symbols
+      | None ↦ counted (length image.dynamic_symbols)
+    ]
+    else counted (length image.dynamic_symbols)
+
+-- the dynamic symbols in that order
+abbrev pub ordered : Image → Image → List NamedSymbol
+ordered read image = in_order image.dynamic_symbols (dynamic_order read image)
+
+-- the number that the dynamic symbol gets which was read at a number; 0 where it isn't there
+abbrev pub new_dynamic_symbol : Image → Image → ℕ → ℕ
+new_dynamic_symbol read image number =
+    unwrap_or (position (λ i. slice_index image.dynamic_symbol_numbers i == number) (dynamic_order read image)) 0
+
+-- the new number of each dynamic symbol that was read
+abbrev pub new_dynamic_symbols : Image → Image → List ℕ
+new_dynamic_symbols read image = map (new_dynamic_symbol read image) (counted (length read.dynamic_symbols))
 
 -- ## All of it
 
@@ -75,3 +75,27 @@ final read image = record image {
 -- What a file shows to which the image was written.
 abbrev pub final_view : Image → Image → View
 final_view read image = shown (final read image)
+
+-- ## Whether versions changed
+
+-- the same version, or none, and hidden or not (GNU symbol versioning)
+abbrev pub is_same_version : Option VersionId → Option VersionId → Bool
+is_same_version None None = true
+is_same_version None (Some v) = false
+is_same_version (Some u) None = false
+is_same_version (Some u) (Some v) = u.index == v.index && (if u.hidden then v.hidden else not v.hidden)
+
+-- the versions are the same, symbol by symbol
+abbrev pub are_same_versions : List (Option VersionId) → List (Option VersionId) → Bool
+are_same_versions [] [] = true
+are_same_versions [] (v ∷ vs) = false
+are_same_versions (u ∷ us) [] = false
+are_same_versions (u ∷ us) (v ∷ vs) = is_same_version u v && are_same_versions us vs
+
+abbrev pub versions_of_symbols : List NamedSymbol → List (Option VersionId)
+versions_of_symbols symbols = map (λ y. y.version) symbols
+
+-- the versions of the final dynamic symbols are those that were read
+abbrev pub are_versions_kept : Image → Image → Bool
+are_versions_kept read image =
+    are_same_versions (versions_of_symbols read.dynamic_symbols) (versions_of_symbols (final read image).dynamic_symbols)

@@ -1,17 +1,18 @@
 -- The headers that are written.
-use Rattle.std.specs.Prelude.{ℕ, ◌+◌, ◌<◌, ◌≡◌, List, [], ◌∷◌, length, Bool, ◌&&◌, ◌||◌, not, Some, ◌==◌, if◌then◌else◌}
+use Rattle.std.specs.Prelude.{ℕ, ◌+◌, ◌<◌, ◌≡◌, List, [], ◌∷◌, length, not, Some, ◌==◌, if◌then◌else◌}
 use Rattle.patch_bytes.specs.Memory.{memory_of, text_at}
-use Rattle.elf_format.specs.declared.constants.TheConstants.{SHF_INFO_LINK, SHT_DYNSYM, SHT_GNU_VERDEF, SHT_GNU_VERNEED, SHT_NULL, SHT_REL, SHT_RELA, SHT_SYMTAB}
+use Rattle.elf_format.specs.declared.constants.TheConstants.{SHT_DYNSYM, SHT_GNU_VERDEF, SHT_GNU_VERNEED, SHT_SYMTAB}
 use Rattle.elf_format.specs.declared.records.FileHeader.{FileHeader}
 use Rattle.elf_format.specs.declared.records.SectionHeader.{SectionHeader}
 use Rattle.elf_format.specs.Image.{Image, ImageSection}
-use Rattle.elf_format.specs.Options.{is_one_of}
-use Rattle.elf_format.specs.Places.{Place, is_set}
+use Rattle.elf_format.specs.Places.{Place}
 use Rattle.elf_format.specs.Records.{section_header_size, segment_header_size}
 use Rattle.elf_format.specs.Views.{NamedSymbol}
 use Rattle.elf_layout_plan.specs.Memory.{Resized}
 use Rattle.elf_layout_plan.specs.Plan.{Layout}
-use Rattle.elf_write_spec.specs.Final.{final, is_local, new_number}
+use Rattle.elf_hashes.specs.Found.{is_local}
+pub use Rattle.elf_image.specs.Needed.{is_info_number}
+use Rattle.elf_write_spec.specs.Final.{final, new_number}
 
 -- a text stands at a place of a table, with a NUL behind it: any reader that has room for it finds it there
 abbrev pub Reads : List ℕ → ℕ → List ℕ → Type 0
@@ -43,12 +44,6 @@ written_header image plan = record {
 unfoldable pub behind_locals : List NamedSymbol → ℕ
 behind_locals [] = 0
 behind_locals (y ∷ ys) = if not (behind_locals ys == 0) then behind_locals ys + 1 else if is_local y then 1 else 0
-
--- sh_info is a section's number (gABI, Sections, sh_link and sh_info, SHF_INFO_LINK)
-abbrev pub is_info_number : ImageSection → Bool
-is_info_number s =
-    is_one_of (SHT_REL ∷ SHT_RELA ∷ []) s.sh_type
-    || is_set SHF_INFO_LINK s.sh_flags && not (is_one_of (SHT_NULL ∷ SHT_SYMTAB ∷ SHT_DYNSYM ∷ SHT_GNU_VERDEF ∷ SHT_GNU_VERNEED ∷ []) s.sh_type)
 
 -- sh_info of tables that are made of the image's lists follows from these
 abbrev pub written_info : Image → Image → ImageSection → ℕ

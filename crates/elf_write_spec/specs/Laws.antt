@@ -1,6 +1,9 @@
 -- What is proved of written files.
-use Rattle.std.specs.Prelude.{ℕ, ◌*◌, ◌≡◌, List, [], ◌∷◌, ◌++◌, length, map, filter, Some, IsTrue}
-use Rattle.elf_format.specs.Image.{Image}
+use Rattle.std.specs.Prelude.{ℕ, ◌*◌, ◌≡◌, List, [], ◌∷◌, ◌++◌, length, map, filter, true, false, Some, Ok, IsTrue}
+use Rattle.elf_format.specs.Image.{Image, image_of, lists_tag}
+use Rattle.elf_format.specs.Options.{list_at}
+use Rattle.elf_format.specs.declared.constants.TheConstants.{DT_SYMTAB}
+use Rattle.elf_image.specs.Names.{are_names_changed}
 use Rattle.elf_format.specs.Places.{file_range, occupies_file}
 use Rattle.elf_format.specs.declared.range.Range.{Range}
 use Rattle.elf_format.specs.Ranges.{all_apart, range}
@@ -13,6 +16,8 @@ use Rattle.elf_layout_plan.specs.Memory.{Resized}
 use Rattle.elf_layout_plan.specs.Plan.{IsPlan, Layout, resized}
 use Rattle.elf_write_spec.specs.ReadBack.{HasWrittenParts, IsReadBack}
 use Rattle.elf_write_spec.specs.Final.{final_view}
+use Rattle.elf_write_spec.specs.KeptSymbols.{AreSymbolsKept}
+use Rattle.elf_write_spec.specs.Look.{AreNamesFound}
 use Rattle.elf_write_spec.specs.Stays.{AreHashesSeen, AreOthersSeen, IsDataSeen, written_places}
 use Rattle.elf_write_spec.specs.Output.{AreHeadersApart, IsPlannedOutput, Output, written_bytes}
 
@@ -52,6 +57,19 @@ abbrev pub WrittenFilesKeepOthers : Type 0
 WrittenFilesKeepOthers = (w : Output) → IsPlannedOutput w
     → AreOthersSeen w.image w.plan.segments (written_places w.image (written_headers (resized w.image) w.plan) w.plan.places) (written_bytes w)
 
--- The hash tables of the dynamic symbols, as they were read, stand in a written file where the dynamic list says.
+-- The hash tables of the dynamic symbols, as they were read, stand in a written file where the dynamic list says, if the names are those
+-- that were read.
 abbrev pub WrittenFilesKeepHashes : Type 0
-WrittenFilesKeepHashes = (w : Output) → IsPlannedOutput w → AreHashesSeen w.image w.plan.segments w.raw (written_bytes w)
+WrittenFilesKeepHashes = (w : Output) → IsPlannedOutput w → are_names_changed (image_at_read w.image) w.image ≡ false
+    → AreHashesSeen w.image w.plan.segments w.raw (written_bytes w)
+
+-- Else look-ups find exactly the symbols that are defined and not local, by the names that they have now.
+abbrev pub WrittenFilesFindNames : Type 0
+WrittenFilesFindNames = (w : Output) → IsPlannedOutput w → are_names_changed (image_at_read w.image) w.image ≡ true
+    → lists_tag DT_SYMTAB (list_at (λ es. es) w.image.entries) ≡ true
+    → (again : Image) → image_of (written_bytes w) ≡ Ok again → AreNamesFound again w.raw (written_bytes w)
+
+-- Each dynamic symbol of the image stands in a written file at its new number.
+abbrev pub WrittenFilesKeepSymbols : Type 0
+WrittenFilesKeepSymbols = (w : Output) → IsPlannedOutput w
+    → (again : Image) → image_of (written_bytes w) ≡ Ok again → AreSymbolsKept w.image again

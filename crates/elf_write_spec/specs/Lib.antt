@@ -1,10 +1,13 @@
 pub mod Final
 pub mod Whole
+pub mod Ready
 pub mod Base
 pub mod Headers
 pub mod Contents
 pub mod Output
 pub mod ReadBack
 pub mod Stays
+pub mod Look
+pub mod KeptSymbols
 pub mod WrittenFile
 pub mod Laws

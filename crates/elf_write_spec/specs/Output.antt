@@ -1,7 +1,8 @@
 -- What is written to which plan, and the bytes of the file.
-use Rattle.std.specs.Prelude.{ℕ, ◌≡◌, List, [], ◌∷◌, ◌++◌, length, ◌&&◌, not, None, IsTrue, if◌then◌else◌}
+use Rattle.std.specs.Prelude.{ℕ, ◌^◌, ◌<◌, ◌≡◌, List, [], ◌∷◌, ◌++◌, length, ◌&&◌, not, true, None, IsTrue, if◌then◌else◌}
 use Rattle.std.specs.List.{flat_map, list_all}
 use Rattle.byte_store.specs.Laid.{Patch, laid}
+use Rattle.patch_bytes.specs.Bytes.{AreBytes}
 use Rattle.elf_format.specs.declared.constants.TheConstants.{SHT_DYNAMIC}
 use Rattle.elf_format.specs.declared.records.EntryNumbers.{EntryNumbers}
 use Rattle.elf_format.specs.declared.records.SectionHeader.{SectionHeader}
@@ -13,6 +14,7 @@ use Rattle.elf_tables.specs.Fields.{do_fields_fit}
 use Rattle.elf_tables.specs.Spelled.{entry_fields, file_header_fields, section_fields, segment_fields}
 use Rattle.elf_tables.specs.Spelled.{spelled_file_header, spelled_section_header, spelled_segment_header}
 use Rattle.elf_image.specs.Edited.{IsEdited}
+use Rattle.elf_image.specs.Names.{are_names_changed}
 use Rattle.elf_layout_plan.specs.FilePlaced.{written_size, written_table}
 use Rattle.elf_image.specs.Kept.{KeptSection, image_at_read, kept_of_type, kept_sections}
 use Rattle.elf_layout_plan.specs.Memory.{Resized}
@@ -85,6 +87,8 @@ pub record DoNumbersFit (w : Output) : Type 0 where
   pub segments : IsTrue (list_all (λ p. do_fields_fit (segment_fields w.image.form p)) w.plan.segments)
   pub sections : IsTrue (list_all (λ s. do_fields_fit (section_fields w.image.form s)) w.headers)
   pub entries : IsTrue (list_all (λ e. do_fields_fit (entry_fields w.image.form e)) w.raw)
+  -- hash tables that are made anew name symbols by 32 bits
+  pub symbols : are_names_changed (image_at_read w.image) w.image ≡ true → length w.image.dynamic_symbols < 2 ^ 32
 
 -- The file header doesn't move, nor does a program header table that stands in a loaded segment: they are to share no byte.
 abbrev pub AreHeadersApart : Image → Layout → Type 0
@@ -96,9 +100,10 @@ pub record IsOutput (w : Output) : Type 0 where
   pub sections : AreSectionsWritten w (kept_sections w.image) w.plan.places w.headers w.contents
   pub fit : DoNumbersFit w
 
--- what the laws are about: an edited image of which nothing went, its plan, and what is written of them
+-- what the laws are about: an edited image of which nothing went, read from bytes, its plan, and what is written of them
 pub record IsPlannedOutput (w : Output) : Type 0 where
   pub edited : IsEdited w.image
+  pub source : AreBytes w.image.source
   pub whole : IsWhole (image_at_read w.image) w.image
   pub planned : IsPlan (resized w.image) w.plan
   pub written : IsOutput w

@@ -1,5 +1,5 @@
--- An image of which nothing went: the calls of `Builder` change its dynamic list, its interpreter, its ABI, alignments and the flags
--- of the stack, and take none of its sections, symbols and program headers away.
+-- An image of which nothing went: its dynamic list, its interpreter, its ABI, alignments, the flags of the stack, and names and versions
+-- of its dynamic symbols may have changed; none of its sections, symbols and program headers is gone.
 use Rattle.std.specs.Prelude.{ℕ, ◌≡◌, List, ◌++◌, length, IsSome, Option}
 use Rattle.std.specs.Option.{option_map, option_to_list}
 use Rattle.elf_format.specs.declared.records.SegmentHeader.{SegmentHeader}
@@ -20,5 +20,6 @@ pub record IsWhole (read image : Image) : Type 0 where
   pub sections : image.sections ≡ read.sections
   pub section_numbers : image.section_numbers ≡ read.section_numbers
   pub symbols : image.symbols ≡ read.symbols
-  pub dynamic_symbols : image.dynamic_symbols ≡ read.dynamic_symbols
+  pub symbol_numbers : image.symbol_numbers ≡ read.symbol_numbers
+  pub dynamic_symbol_numbers : image.dynamic_symbol_numbers ≡ read.dynamic_symbol_numbers
   pub interpreter : IsSome read.interpreter → IsSome image.interpreter

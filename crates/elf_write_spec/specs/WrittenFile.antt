@@ -1,19 +1,24 @@
 -- A file to which an edited image is written, in words of what is read of it.
-use Rattle.std.specs.Prelude.{ℕ, ◌*◌, ◌≡◌, List, [], ◌∷◌, ◌++◌, length, map, filter, Bool, true, false, ◌&&◌, not, Some, Ok, IsTrue}
+use Rattle.std.specs.Prelude.{ℕ, ◌*◌, ◌≡◌, List, [], ◌∷◌, ◌++◌, length, map, filter, Bool, true, false, ◌&&◌, ◌||◌, not, Some, Ok, IsTrue}
 use Rattle.std.specs.List.{list_all, slice_get}
 use Rattle.patch_bytes.specs.Memory.{memory_of}
 use Rattle.patch_bytes.specs.Number.{field}
-use Rattle.elf_format.specs.declared.constants.TheConstants.{SHT_DYNAMIC, SHT_GNU_VERDEF, SHT_GNU_VERNEED}
+use Rattle.elf_format.specs.declared.constants.TheConstants.{DT_SYMTAB, SHT_DYNAMIC, SHT_DYNSYM, SHT_GNU_VERDEF, SHT_GNU_VERNEED, SHT_GNU_VERSYM}
 use Rattle.elf_format.specs.declared.range.Range.{Range}
 use Rattle.elf_format.specs.declared.records.EntryNumbers.{EntryNumbers}
 use Rattle.elf_format.specs.declared.section_data.SectionData.{SectionData}
 use Rattle.elf_format.specs.declared.section_data.SectionData.TheVariants as kinds
 use Rattle.elf_format.specs.Dynamic.{entries_at}
-use Rattle.elf_format.specs.Image.{Image, ImageSection, image_of}
+use Rattle.elf_format.specs.Image.{Image, ImageSection, image_of, lists_tag}
+use Rattle.elf_format.specs.Options.{list_at}
 use Rattle.elf_format.specs.Places.{Place, file_range, occupies_file}
 use Rattle.elf_format.specs.Ranges.{all_apart, range}
 use Rattle.elf_format.specs.Records.{file_header_size, section_header_size, segment_header_size}
 use Rattle.elf_format.specs.Views.{dynamic_symbol_count, loader_view, section_view}
+use Rattle.elf_hashes.specs.Versions.{AreVersionsOf}
+use Rattle.elf_image.specs.Names.{are_names_changed}
+use Rattle.elf_image.specs.Relocated.{is_against}
+use Rattle.elf_image.specs.Staying.{table_number}
 use Rattle.elf_layout_plan.specs.Anchors.{is_loaded_section}
 use Rattle.elf_layout_plan.specs.Apart.{addresses_of, did_show_note, does_take_memory, is_loaded_note, is_shown_by}
 use Rattle.elf_layout_plan.specs.Memory.{is_movable}
@@ -23,8 +28,10 @@ use Rattle.elf_image.specs.Kept.{KeptSection, image_at_read, kept_of_type, kept_
 use Rattle.elf_write_spec.specs.ReadBack.{HasWrittenParts, IsReadBack}
 use Rattle.elf_write_spec.specs.Base.{is_interpreter}
 use Rattle.elf_write_spec.specs.Contents.{AreDefinitionsSpelled, AreNeedsSpelled}
-use Rattle.elf_write_spec.specs.Final.{final, final_view, new_number}
+use Rattle.elf_write_spec.specs.Final.{are_versions_kept, final, final_view, new_number}
 use Rattle.elf_write_spec.specs.Headers.{written_info}
+use Rattle.elf_write_spec.specs.KeptSymbols.{AreRelocationsKept, AreSymbolsKept}
+use Rattle.elf_write_spec.specs.Look.{AreNamesFound}
 use Rattle.elf_write_spec.specs.Stays.{AreHashesSeen, AreOthersSeen, IsDataSeen, IsSeenAt, written_places}
 use Rattle.elf_write_spec.specs.Output.{IsOutput, Output, written_bytes}
 
@@ -101,27 +108,46 @@ is_fixed image s = not (is_interpreter (image_at_read image) s) && not (is_movab
 abbrev pub is_loaded_with_bytes : ImageSection → Bool
 is_loaded_with_bytes s = is_loaded_section s && occupies_file (place_at_read s)
 
--- sections of that kind are written as they were read; a string table, where that is told of it
-abbrev pub is_kind_copied : Bool → SectionData → Bool
-is_kind_copied is_table kinds.Opaque = true
-is_kind_copied is_table kinds.Uninitialized = true
-is_kind_copied is_table kinds.Dynamic = false
-is_kind_copied is_table kinds.Relocation = true
-is_kind_copied is_table kinds.Note = true
-is_kind_copied is_table kinds.Strings = is_table
-is_kind_copied is_table kinds.Symbols = true
-is_kind_copied is_table kinds.DynamicSymbols = false
-is_kind_copied is_table kinds.Hash = true
-is_kind_copied is_table kinds.GnuHash = true
-is_kind_copied is_table kinds.GnuVersym = true
-is_kind_copied is_table kinds.GnuVerdef = false
-is_kind_copied is_table kinds.GnuVerneed = false
+-- What decides on the bytes of sections of some kinds: whether the section is a string table that is copied, whether the names of the
+-- dynamic symbols are those that were read, whether their versions in the final order are, and whether the section's relocations are
+-- against them.
+pub record Unchanged : Type 0 where
+  pub table : Bool
+  pub names : Bool
+  pub versions : Bool
+  pub against_dynamic : Bool
+
+abbrev pub unchanged_for : Image → KeptSection → Unchanged
+unchanged_for image s =
+    let read = image_at_read image in
+    record {
+      table = is_table_copied read image s.number;
+      names = not (are_names_changed read image);
+      versions = are_versions_kept read image;
+      against_dynamic = is_against (table_number SHT_DYNSYM image) s.section;
+    }
+
+-- sections of that kind are written as they were read
+abbrev pub is_kind_copied : Unchanged → SectionData → Bool
+is_kind_copied u kinds.Opaque = true
+is_kind_copied u kinds.Uninitialized = true
+is_kind_copied u kinds.Dynamic = false
+is_kind_copied u kinds.Relocation = u.names || not u.against_dynamic
+is_kind_copied u kinds.Note = true
+is_kind_copied u kinds.Strings = u.table
+is_kind_copied u kinds.Symbols = true
+is_kind_copied u kinds.DynamicSymbols = false
+is_kind_copied u kinds.Hash = u.names
+is_kind_copied u kinds.GnuHash = u.names
+is_kind_copied u kinds.GnuVersym = u.versions
+is_kind_copied u kinds.GnuVerdef = false
+is_kind_copied u kinds.GnuVerneed = false
 
 -- The bytes of the section are written as they were read: it isn't the interpreter's, nor one of the dynamic list, the dynamic symbols
--- or the records of versions, nor a string table with a text that was added or changed.
+-- or the records of versions, nor a string table with a text that was added or changed; where names of dynamic symbols changed, it is no
+-- hash table and has no relocations against them; where their versions did, it doesn't hold these.
 abbrev pub is_copied : Image → KeptSection → Bool
-is_copied image s =
-    not (is_interpreter (image_at_read image) s) && is_kind_copied (is_table_copied (image_at_read image) image s.number) s.section.kind
+is_copied image s = not (is_interpreter (image_at_read image) s) && is_kind_copied (unchanged_for image s) s.section.kind
 
 -- the loaded note is shown, by a program header of the same type, for each one that is still there and showed it
 abbrev pub IsNoteShown : Image → Image → KeptSection → ImageSection → Type 0
@@ -194,8 +220,18 @@ pub record IsWrittenOf (image : Image) (file : List ℕ) : Type 0 where
       (written_places image (file_header_of again ∷ segment_table_of again ∷ []) (places_in again)) file
   -- program headers that are still there show the notes that they showed
   pub notes : EachSection image again (IsNoteShown image again)
-  -- hash tables stand, as they were read, where the dynamic list says
-  pub hashes : (raw : List EntryNumbers) → IsNumberedList image again raw → AreHashesSeen image again.segments raw file
+  -- hash tables stand, as they were read, where the dynamic list says, if the names of the dynamic symbols are those that were read
+  pub hashes : are_names_changed (image_at_read image) image ≡ false
+      → (raw : List EntryNumbers) → IsNumberedList image again raw → AreHashesSeen image again.segments raw file
+  -- else look-ups in the tables that the list names find exactly the symbols that are defined and not local, by the names that they have now
+  pub found : are_names_changed (image_at_read image) image ≡ true
+      → (raw : List EntryNumbers) → IsNumberedList image again raw → lists_tag DT_SYMTAB (list_at (λ es. es) image.entries) ≡ true
+      → AreNamesFound again raw file
+  -- each dynamic symbol stands at its new number, and relocations and versions follow
+  pub symbols : AreSymbolsKept image again
+  pub relocations : EachSection image again (λ s now. AreRelocationsKept image again s.section now)
+  pub symbol_versions : EachSection image again (λ s now.
+      s.section.sh_type ≡ SHT_GNU_VERSYM → AreVersionsOf again.form again.dynamic_symbols now.content)
   -- the bytes of the version sections, with revisions, hashes and links, which no reader of the lists looks at
   pub versions : EachSection image again (AreVersionsSpelled again)
   pub apart : IsEverythingApart again

@@ -1,11 +1,12 @@
 //! The values of dynamic entries that follow from tables (gABI, Dynamic Section).
-ghost use Rattle.std.specs.Prelude.{◌≡◌, option_map};
+ghost use Rattle.std.specs.Prelude.{◌≡◌, length, option_map};
 ghost use Rattle.elf_format.specs.declared.constants.TheConstants.{DT_STRSZ as STRSZ, DT_STRTAB as STRTAB};
 ghost use Rattle.elf_image.specs.Kept.{image_at_read};
 ghost use Rattle.elf_layout_plan.specs.Plan.{resized};
 ghost use Rattle.elf_layout_plan.specs.PlanModel.{place_model};
 ghost use Rattle.elf_write_spec.specs.Contents.{address_of_type as address_of_kind, strings_place as place_of_strings, table_value as value_of_table};
 ghost use Rattle.elf_write_spec.specs.Final.{final};
+ghost use Rattle.elf_layout_needs.specs.Written.{AreWritten};
 ghost use Rattle.elf_write_contents.specs.EntrySteps.{place_at as place_there};
 
 use elf_image::Builder;
@@ -14,6 +15,7 @@ use elf_image::constants::{
     DT_VERNEED, DT_VERSYM, SHT_DYNSYM, SHT_GNU_HASH, SHT_GNU_VERDEF, SHT_GNU_VERNEED,
     SHT_GNU_VERSYM, SHT_HASH,
 };
+use elf_layout_needs::StayingNeeds;
 use elf_layout_plan::{Plan, SectionPlace};
 
 // Where the section at a position comes to stand.
@@ -64,10 +66,18 @@ fn strings_size(image: &Builder<'_>, plan: &Plan) -> u64
     }
 }
 
+// How many records of needed versions are written.
+fn count_needs(image: &Builder<'_>, staying: &StayingNeeds) -> u64
+    requires { AreWritten (image_at_read image.now) image.now staying.now }
+    ensures { result ≡ length (final (image_at_read image.now) image.now).needs }
+{
+    staying.count_needs(&image.versions().needs) as u64
+}
+
 // The value of a tag that follows from a table: its address, its size, the size of its records or
 // their count.
-pub(super) fn table_value(image: &Builder<'_>, plan: &Plan, tag: u64) -> u64
-    requires { (final (image_at_read image.now) image.now).needs ≡ image.now.needs }
+pub(super) fn table_value(image: &Builder<'_>, plan: &Plan, staying: &StayingNeeds, tag: u64) -> u64
+    requires { AreWritten (image_at_read image.now) image.now staying.now }
     ensures { result ≡ value_of_table (resized image.now) plan.now tag }
 {
     match tag {
@@ -81,6 +91,6 @@ pub(super) fn table_value(image: &Builder<'_>, plan: &Plan, tag: u64) -> u64
         DT_VERDEF => address_of_type(image, plan, SHT_GNU_VERDEF),
         DT_VERDEFNUM => image.versions().definitions.len() as u64,
         DT_VERNEED => address_of_type(image, plan, SHT_GNU_VERNEED),
-        _ => image.versions().needs.len() as u64,
+        _ => count_needs(image, staying),
     }
 }

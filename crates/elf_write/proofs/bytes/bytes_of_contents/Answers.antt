@@ -1,4 +1,5 @@
-use Rattle.std.proofs.Common.{◌∙◌, List, ap, subst, sym}
+use Rattle.std.proofs.Common.{◌∙◌, ℕ, List, ap, subst, sym}
+use Rattle.patch_bytes.specs.Bytes.{AreBytes}
 use Rattle.patch_bytes.specs.ByteString.{bytes_of_each}
 use Rattle.elf_format.specs.declared.records.EntryNumbers.{EntryNumbers}
 use Rattle.elf_format.specs.declared.records.SectionHeader.{SectionHeader}
@@ -10,18 +11,20 @@ use Rattle.elf_write.proofs.bytes.bytes_of_contents.Goals as goal
 pub laid_bytes-requires-clause-output : goal.laid_bytes-requires-clause-output
 laid_bytes-requires-clause-output c =
     let p = c.requires.prepared in
+    let source : AreBytes c.args.image.now.source = subst (λ (l : List ℕ). AreBytes l) c.source.ensures.source c.show_bytes.ensures in
     subst (λ (hs : List SectionHeader).
     (raw : List EntryNumbers) × IsPlannedOutput (output_of c.args.image.now c.args.plan.now hs (bytes_of_each c.args.contents.now) raw))
     (sym c.deref.ensures.value)
     (are_written c.args.read.now c.args.image.now c.args.plan.now c.args.prepared.now.made c.args.prepared.now.raw.items
-    (bytes_of_each c.args.contents.now) c.requires.planned c.requires.contents c.args.prepared.now.headers.items c.requires.apart p.raw p.headers p.fit)
+    (bytes_of_each c.args.contents.now) c.requires.planned c.requires.contents source c.args.prepared.now.headers.items c.requires.apart p.raw p.headers p.fit p.symbols)
 
 pub returns : goal.returns
 returns c =
     let p = c.requires.prepared in
+    let source : AreBytes c.args.image.now.source = subst (λ (l : List ℕ). AreBytes l) c.source.ensures.source c.show_bytes.ensures in
     is_planned_file c.args.read.now c.args.image.now c.args.plan.now c.args.prepared.now.made c.args.prepared.now.raw.items
-    (bytes_of_each c.args.contents.now) c.requires.planned c.requires.contents c.args.prepared.now.headers.items c.in_ok-bytes.bytes.items
-    c.requires.apart p.raw p.headers p.fit
+    (bytes_of_each c.args.contents.now) c.requires.planned c.requires.contents source c.args.prepared.now.headers.items c.in_ok-bytes.bytes.items
+    c.requires.apart p.raw p.headers p.fit p.symbols
     (c.in_ok-bytes.ensures c.args.prepared.now.raw.items
     ∙ ap (λ (hs : List SectionHeader).
     written_bytes (output_of c.args.image.now c.args.plan.now hs (bytes_of_each c.args.contents.now) c.args.prepared.now.raw.items)) c.deref.ensures.value)

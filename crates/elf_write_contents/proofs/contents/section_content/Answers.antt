@@ -1,7 +1,6 @@
 -- The bytes of a section, type by type.
-use Rattle.std.proofs.Common.{◌≡◌, ◌≤◌, ◌*◌, ℕ, List, length, sym, ap, ◌∙◌, subst, Some, arith}
+use Rattle.std.proofs.Common.{◌≡◌, ◌≤◌, ◌*◌, ℕ, List, length, refl, sym, ap, ◌∙◌, subst, Some, arith}
 use Rattle.std.specs.Prelude.{slice_index_or}
-use Rattle.std.proofs.lemmas.Bool.{ne_eqb}
 use Rattle.std.specs.List.{slice_get}
 use Rattle.patch_bytes.specs.ByteString.{StringValue}
 use Rattle.elf_format.specs.declared.constants.TheConstants.{SHT_DYNAMIC, SHT_DYNSYM, SHT_GNU_VERDEF, SHT_GNU_VERNEED, SHT_STRTAB}
@@ -12,8 +11,9 @@ use Rattle.elf_image.specs.ImageModel.{section_model}
 use Rattle.elf_layout_plan.specs.declared.plan.SectionPlace.{SectionPlace}
 use Rattle.elf_layout_plan.specs.PlanModel.{place_model}
 use Rattle.elf_write_spec.specs.Contents.{spelled_list}
-use Rattle.elf_write_contents.specs.ContentSteps.{IsBytesAt}
-use Rattle.elf_write_contents.proofs.ContentsAll.{both_ok, definitions_at, list_at_place, list_fits, needs_at, others_at, place_there, place_within, places_long, section_there, strings_at_place, symbols_at}
+use Rattle.elf_write_contents.specs.ContentSteps.{IsBytesAt, IsNumbering}
+use Rattle.elf_write_contents.proofs.ContentsAll.{both_ok, definitions_at, list_at_place, list_fits, needs_at, numbering_at, numbers_fit, place_there, place_within, places_long, section_there, strings_at_place, symbols_at}
+use Rattle.elf_write_strings.proofs.ForCallers.Results.{if_ok}
 use Rattle.elf_write_contents.proofs.contents.section_content.Goals as goal
 
 pub bounds-places-i : goal.bounds-places-i
@@ -120,18 +120,32 @@ returns-in_ok-bytes-in-1879048190 c =
     c.requires.apart c.in-1879048190.is c.in_ok-bytes-in-1879048190.bytes.items c.in_ok-bytes-in-1879048190.ensures.sized
     c.in_ok-bytes-in-1879048190.ensures.versions)
 
+pub numbering_content-requires-clause-at : goal.numbering_content-requires-clause-at
+numbering_content-requires-clause-at c = record {
+  position = c.args.i;
+  there = section_there c.sections.result.now c.args.image.now.sections c.args.i c.index-sections-i.result c.sections.ensures
+      c.requires.within c.index-sections-i.is;
+  typed = refl;
+}
+
+pub numbering_content-requires-clause-fit : goal.numbering_content-requires-clause-fit
+numbering_content-requires-clause-fit c =
+    numbers_fit c.args.read.now c.args.image.now c.requires.planned.ready c.requires.relocations c.args.i (section_model c.index-sections-i.result)
+    (section_there c.sections.result.now c.args.image.now.sections c.args.i c.index-sections-i.result c.sections.ensures
+    c.requires.within c.index-sections-i.is)
+
 pub returns-in_default : goal.returns-in_default
 returns-in_default c =
     let s : ImageSection = section_model c.index-sections-i.result in
     let at : _ = section_there c.sections.result.now c.args.image.now.sections c.args.i c.index-sections-i.result c.sections.ensures
     c.requires.within c.index-sections-i.is in
-    subst (λ (bytes : List ℕ). IsBytesAt c.args.image.now c.args.plan.now c.args.made.now c.args.raw.now c.args.i bytes)
-    (sym (ap (λ (s : StringValue). s.bytes) c.borrowed.ensures))
-    (others_at c.args.read.now c.args.image.now c.args.plan.now c.args.made.now c.args.raw.now c.requires.planned c.args.i s at
+    if_ok c.numbering_content.result (λ content. IsNumbering c.args.read.now c.args.image.now s content.bytes)
+    (λ content. IsBytesAt c.args.image.now c.args.plan.now c.args.made.now c.args.raw.now c.args.i content.bytes)
+    (λ content. numbering_at c.args.read.now c.args.image.now c.args.plan.now c.args.made.now c.args.raw.now c.requires.planned c.args.i s at
     c.requires.apart (record {
-      dynamic = ne_eqb s.sh_type SHT_DYNAMIC (λ (e : c.index-sections-i.result.sh_type ≡ SHT_DYNAMIC). omega (arith, e));
-      strings = ne_eqb s.sh_type SHT_STRTAB (λ (e : c.index-sections-i.result.sh_type ≡ SHT_STRTAB). omega (arith, e));
-      symbols = ne_eqb s.sh_type SHT_DYNSYM (λ (e : c.index-sections-i.result.sh_type ≡ SHT_DYNSYM). omega (arith, e));
-      definitions = ne_eqb s.sh_type SHT_GNU_VERDEF (λ (e : c.index-sections-i.result.sh_type ≡ SHT_GNU_VERDEF). omega (arith, e));
-      needs = ne_eqb s.sh_type SHT_GNU_VERNEED (λ (e : c.index-sections-i.result.sh_type ≡ SHT_GNU_VERNEED). omega (arith, e));
-    }))
+      dynamic = λ (e : c.index-sections-i.result.sh_type ≡ SHT_DYNAMIC). omega (arith, e);
+      strings = λ (e : c.index-sections-i.result.sh_type ≡ SHT_STRTAB). omega (arith, e);
+      symbols = λ (e : c.index-sections-i.result.sh_type ≡ SHT_DYNSYM). omega (arith, e);
+      definitions = λ (e : c.index-sections-i.result.sh_type ≡ SHT_GNU_VERDEF). omega (arith, e);
+      needs = λ (e : c.index-sections-i.result.sh_type ≡ SHT_GNU_VERNEED). omega (arith, e);
+    }) content.bytes) c.numbering_content.ensures

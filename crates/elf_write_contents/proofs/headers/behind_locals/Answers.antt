@@ -1,7 +1,8 @@
 use Rattle.std.proofs.Common.{◌∙◌, List, true, false, refl, sym}
 use Rattle.elf_format.specs.Views.{NamedSymbol}
 use Rattle.elf_layout_sizes.proofs.ForCallers.SymbolSteps.{with_part}
-use Rattle.elf_write_spec.specs.Final.{is_local}
+use Rattle.elf_hashes.specs.Found.{is_local}
+use Rattle.elf_image_symbol_edits.specs.Loan.{symbols_now}
 use Rattle.elf_write_spec.specs.Headers.{behind_locals as behind_all}
 use Rattle.std.specs.Prelude.{slice_get}
 use Rattle.elf_write_contents.proofs.HeadersLists.{behind_more}
@@ -14,7 +15,7 @@ loop-i-init c = refl
 
 pub loop-i-preserved : goal.loop-i-preserved
 loop-i-preserved c =
-    let ys : List NamedSymbol = c.args.symbols.now in
+    let ys : List NamedSymbol = symbols_now c.args.symbols in
     let (y, at, told) = with_part is_local (slice_get ys c.loop-i.i) c.is_local.result c.is_local.ensures in
     elim c.if-is_local.branch [
       | then-is_local w ↦ w.behind-is ∙ sym (behind_more ys c.loop-i.i y true at (told ∙ w.if-is_local.true))

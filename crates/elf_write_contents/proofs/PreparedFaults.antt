@@ -1,0 +1,35 @@
+-- What is known of an image whose numbers are made: those of its dynamic symbols fit, and which part of it doesn't where some don't.
+use Rattle.std.proofs.Common.{◌≡◌, ◌^◌, Bool, true, false, length, sym, ap, ◌∙◌, Option, Some, None}
+use Rattle.std.specs.Prelude.{◌||◌, not, nat_lt}
+use Rattle.std.specs.List.{list_all}
+use Rattle.std.proofs.lemmas.Bool.{lt-ltb, or_right}
+use Rattle.elf_format.specs.Image.{Image}
+use Rattle.elf_image.specs.Kept.{kept_sections}
+use Rattle.elf_image.specs.Names.{are_names_changed}
+use Rattle.elf_layout_plan.specs.Plan.{Layout}
+use Rattle.elf_write_spec.specs.Ready.{IsPlanned}
+use Rattle.elf_write_strings.specs.DynamicStrings.{do_names_reach}
+use Rattle.elf_write_symbols.specs.declared.renumbering.Renumbering.{Renumbering}
+use Rattle.elf_write_symbols.specs.Fits.{do_section_relocations_fit}
+use Rattle.elf_write_symbols.specs.Renumbering.{IsRenumberingFor, do_symbols_fit}
+use Rattle.elf_write_contents.specs.Numbers.{do_numbers_fit}
+use Rattle.elf_write_contents.proofs.NumbersUnfit.{names_unfit, relocations_unfit, symbols_unfit}
+
+-- the new numbers of dynamic symbols fit
+pub symbols_fit : (read image : Image) (o : Option Renumbering) → IsRenumberingFor read image o → do_symbols_fit read image ≡ true
+symbols_fit read image None same = ap (λ (b : Bool). not b || nat_lt (length image.dynamic_symbols) (2 ^ 32)) same
+symbols_fit read image (Some r) is =
+    or_right (not (are_names_changed read image)) (nat_lt (length image.dynamic_symbols) (2 ^ 32))
+    (lt-ltb (length image.dynamic_symbols) (2 ^ 32) is.few)
+
+module _ (read image : Image) (plan : Layout) (is : IsPlanned read image plan) where
+  pub names_far : do_names_reach read image ≡ false → do_numbers_fit image plan ≡ false
+  names_far far = names_unfit image plan (ap (λ (r : Image). do_names_reach r image) (sym is.ready.at_read) ∙ far)
+
+  pub symbols_far : do_symbols_fit read image ≡ false → do_numbers_fit image plan ≡ false
+  symbols_far far = symbols_unfit image plan (ap (λ (r : Image). do_symbols_fit r image) (sym is.ready.at_read) ∙ far)
+
+  pub relocations_far : list_all (do_section_relocations_fit read image) (kept_sections image) ≡ false → do_numbers_fit image plan ≡ false
+  relocations_far far =
+      relocations_unfit image plan
+      (ap (λ (r : Image). list_all (do_section_relocations_fit r image) (kept_sections image)) (sym is.ready.at_read) ∙ far)

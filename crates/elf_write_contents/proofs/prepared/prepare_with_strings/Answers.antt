@@ -1,0 +1,14 @@
+-- Where dynamic symbols are too many, not all numbers fit.
+use Rattle.std.proofs.Common.{◌≡◌, false}
+use Rattle.std.proofs.lemmas.Result.{err_from_is_err_and}
+use Rattle.elf_tables.specs.declared.fault.TableFault.TheVariants.{NumberTooLarge}
+use Rattle.elf_write_contents.specs.Numbers.{do_numbers_fit}
+use Rattle.elf_write_contents.proofs.PreparedFaults.{symbols_far}
+use Rattle.elf_write_contents.proofs.prepared.prepare_with_strings.Goals as goal
+
+pub returns-in_err-renumbering-clause-fault : goal.returns-in_err-renumbering-clause-fault
+returns-in_err-renumbering-clause-fault c =
+    let p = err_from_is_err_and c.from_residual.result c.from_residual.ensures.1 in
+    let far : c.in_err-renumbering.field-0.0 ≡ NumberTooLarge → do_numbers_fit c.args.image.now c.args.plan.now ≡ false =
+    λ large. symbols_far c.args.read.now c.args.image.now c.args.plan.now c.requires.planned (c.in_err-renumbering.ensures large) in
+    rw (p.1, p.2) far

@@ -1,9 +1,0 @@
-use Rattle.std.proofs.Common.{subst, arith}
-use Rattle.patch_bytes.specs.Bytes.{AreBytes}
-use Rattle.elf_write_contents.proofs.VersionsFew.{few_names}
-use Rattle.elf_write_contents.proofs.versions.records.count_names.Goals as goal
-
-pub returns : goal.returns
-returns c =
-    let are : AreBytes c.args.source.now = record { each = λ i. omega (arith, c.type_inv.source i) } in
-    few_names c.args.image.now c.requires.edited (subst AreBytes c.requires.source are)

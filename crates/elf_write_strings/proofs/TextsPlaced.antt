@@ -1,0 +1,505 @@
+-- Where the texts of the dynamic list stand.
+use Rattle.std.proofs.Common.{◌≡◌, ℕ, zero, suc, ◌+◌, ◌≤◌, ◌<◌, Bool, true, false, cond, List, [], ◌∷◌, ◌++◌, length, map, drop, take, get_or, append_assoc, refl, sym, ap, ◌∙◌, subst, Option, Some, None, arith, length-append, inl, inr}
+use Rattle.std.specs.Prelude.{Contains, IfSome, IsSome, min, not, ◌||◌, ◌==◌, if◌then◌else◌, unwrap_or}
+use Rattle.std.specs.List.{slice_get}
+use Rattle.std.specs.Borrow.{Bor}
+use Rattle.std.specs.Str.{bytes_eq}
+use Rattle.std.specs.Cmp.Lexicographic.{bytes_decides}
+use Rattle.std.proofs.lemmas.Bool.{cases_lt, eq-eqb, eqb-true, false≢true, ne_eqb}
+use Rattle.std.proofs.lemmas.List.{drop_all, drop_more, get_or-map, length-map, take_more}
+use Rattle.std.proofs.lemmas.List.Elements.{Contains-get_or}
+use Rattle.std.proofs.lemmas.Option.{none-some, same_Some, slice_get_within}
+use Rattle.patch_bytes.specs.Memory.{◌>>=◌, Keeps, Memory, memory_of, text_at}
+use Rattle.patch_bytes.proofs.MemoryLaws.{Keeps-first_places, bind_some, text_at-keeps}
+use Rattle.elf_format.specs.declared.constants.TheConstants.{DT_STRSZ, SHT_DYNAMIC}
+use Rattle.elf_format.specs.declared.records.EntryNumbers.{EntryNumbers}
+use Rattle.elf_format.specs.declared.records.SectionHeader.{SectionHeader}
+use Rattle.elf_format.specs.Answers.{borrowed}
+use Rattle.elf_format.specs.declared.form.Form.{Form}
+use Rattle.elf_format.specs.Dynamic.{Auto, Entry, Integer, Text, entries_at, shown_entry, table_tags, text_tags, value_of_tag}
+use Rattle.elf_format.specs.File.{section_bytes, section_of_type}
+use Rattle.elf_format.specs.Image.{Image, ImageSection, entries_read}
+use Rattle.elf_format.specs.Options.{each, is_one_of, is_some_and, list_at}
+use Rattle.elf_format.specs.Rules.{file_of, linked_texts, raw_entries}
+use Rattle.elf_format.specs.Views.{first_by_tag, section_memory}
+use Rattle.elf_image.specs.declared.dynamic.Dynamic.{Dynamic}
+use Rattle.elf_image.specs.declared.section.Section.{Section}
+use Rattle.elf_image.specs.ImageModel.{entry_model, section_model}
+use Rattle.elf_image.specs.Lookups.{type_position}
+use Rattle.elf_tables.specs.Strings.{StandsAt, place_of}
+use Rattle.elf_image.specs.Kept.{KeptSection, dynamic_strings_number, kept_of_type, link_of_type}
+use Rattle.elf_image.specs.Names.{are_names_changed}
+use Rattle.elf_layout_plan.specs.Needs.{written_entries}
+use Rattle.elf_layout_plan.specs.Texts.{is_subsequence, texts_of_entries}
+use Rattle.elf_write_spec.specs.Headers.{Reads}
+use Rattle.elf_write_strings.specs.declared.made.Made.{Made}
+use Rattle.elf_write_strings.specs.PlacedTexts.{EntriesStand, EntryStands, TellsAll, TextsStand, content_at, has_text, link_at, numbers_in, places_among}
+use Rattle.elf_write_strings.specs.DynamicStrings.{AreStrings, IsTold, content_read, is_list_left, strings_at}
+use Rattle.elf_write_spec.specs.Ready.{IsReady}
+use Rattle.elf_write_strings.proofs.LinksAt.{Link, NoLink}
+use Rattle.elf_write_strings.proofs.LinksAt as tables
+use Rattle.elf_write_strings.proofs.OthersCopied.{content_is_read, list_linked}
+use Rattle.elf_write_strings.proofs.TextsTold.{told_list}
+use Rattle.elf_write_strings.proofs.VersionsTexts.{text_stands}
+use Rattle.elf_write_strings.proofs.ReadyEdits.{edit_of}
+use Rattle.elf_write_spec.proofs.ForCallers.WholeEdits.{ReadFacts, SectionRead, Nowhere, There, length-now, read_facts, section_read, type_at}
+use Rattle.elf_write_spec.proofs.ForCallers.NumberedSections.{kept}
+
+-- ## Places that are made one by one
+
+-- one text more stands at one place more
+pub stand_more : (strings : List ℕ) (ts : List (List ℕ)) (ps : List ℕ) → TextsStand strings ts ps → (t : List ℕ) (p : ℕ)
+    → Reads strings p t → TextsStand strings (ts ++ t ∷ []) (ps ++ p ∷ [])
+stand_more strings [] [] are t p here = (here, tt)
+stand_more strings [] (q ∷ qs) are t p here = absurd are
+stand_more strings (u ∷ us) [] are t p here = absurd are
+stand_more strings (u ∷ us) (q ∷ qs) are t p here = (are.0, stand_more strings us qs are.1 t p here)
+
+map-more : (ts : List (Bor (List ℕ))) (t : Bor (List ℕ)) → map borrowed (ts ++ t ∷ []) ≡ map borrowed ts ++ t.now ∷ []
+map-more [] t = refl
+map-more (u ∷ us) t = ap (λ (l : List (List ℕ)). u.now ∷ l) (map-more us t)
+
+pub stand_next : (strings : List ℕ) (texts : List (Bor (List ℕ))) (i : ℕ) (d : Bor (List ℕ)) (ps : List ℕ) → i < length texts
+    → TextsStand strings (map borrowed (take i texts)) ps → (p : ℕ) → Reads strings p (get_or texts i d).now
+    → TextsStand strings (map borrowed (take (i + 1) texts)) (ps ++ p ∷ [])
+stand_next strings texts i d ps within are p here =
+    subst (λ (ts : List (List ℕ)). TextsStand strings ts (ps ++ p ∷ []))
+    (sym (ap (map borrowed) (take_more texts i d within) ∙ map-more (take i texts) (get_or texts i d)))
+    (stand_more strings (map borrowed (take i texts)) ps are (get_or texts i d).now p here)
+
+-- a text is read where a table tells its place
+pub reads_from : (bytes : List ℕ) (o : Option ℕ) (text : List ℕ) (v w : ℕ) → IfSome o (λ place. StandsAt bytes place text) → o ≡ Some v → w ≡ v
+    → Reads bytes w text
+reads_from bytes None text v w stands some same = absurd (none-some v some)
+reads_from bytes (Some u) text v w stands some same =
+    subst (λ (n : ℕ). Reads bytes n text) (same_Some u v some ∙ sym same) stands.read
+
+-- ## Places among entries
+
+by_has : (b : Bool) (t : List ℕ) (ts : List (List ℕ)) (x : EntryNumbers) (es : List Entry) (xs : List EntryNumbers) → List ℕ
+by_has b t ts x es xs = elim b as (λ _. List ℕ) [ true ↦ x.d_value ∷ places_among ts es xs | _ ↦ places_among (t ∷ ts) es xs ]
+
+-- the next text is that of the entry
+next_found : (ts : List (List ℕ)) (n : ℕ) (e : Entry) (es : List Entry) (x : EntryNumbers) (xs : List EntryNumbers)
+    → is_some_and (λ t. has_text t e) (slice_get ts n) ≡ true
+    → places_among (drop n ts) (e ∷ es) (x ∷ xs) ≡ x.d_value ∷ places_among (drop (n + 1) ts) es xs
+unfolding by_has
+next_found [] n e es x xs h = absurd (false≢true h)
+next_found (t ∷ ts) zero e es x xs h = ap (λ (b : Bool). by_has b t ts x es xs) h
+next_found (t ∷ ts) (suc n) e es x xs h =
+    let next : suc (n + 1) ≡ suc n + 1 = omega arith in
+    next_found ts n e es x xs h
+    ∙ ap (λ (m : ℕ). x.d_value ∷ places_among (drop m (t ∷ ts)) es xs) next
+
+-- it isn't
+next_passed : (ts : List (List ℕ)) (n : ℕ) (e : Entry) (es : List Entry) (x : EntryNumbers) (xs : List EntryNumbers)
+    → is_some_and (λ t. has_text t e) (slice_get ts n) ≡ false
+    → places_among (drop n ts) (e ∷ es) (x ∷ xs) ≡ places_among (drop n ts) es xs
+unfolding by_has
+next_passed [] zero e es x xs h = refl
+next_passed [] (suc n) e es x xs h = refl
+next_passed (t ∷ ts) zero e es x xs h = ap (λ (b : Bool). by_has b t ts x es xs) h
+next_passed (t ∷ ts) (suc n) e es x xs h = next_passed ts n e es x xs h
+
+-- no entry is left
+pub ended : (ts : List (List ℕ)) (xs : List EntryNumbers) → places_among ts [] xs ≡ []
+ended [] xs = refl
+ended (t ∷ ts) xs = refl
+
+ended_numbers : (ts : List (List ℕ)) (es : List Entry) → places_among ts es [] ≡ []
+ended_numbers [] es = refl
+ended_numbers (t ∷ ts) [] = refl
+ended_numbers (t ∷ ts) (e ∷ es) = refl
+
+module _ (ts : List (List ℕ)) (es : List Dynamic) (xs : List EntryNumbers) (whole made : List ℕ) (i : ℕ) (e : Dynamic) (x : EntryNumbers) where
+  left : ℕ → ℕ → List ℕ
+  left n j = places_among (drop n ts) (map entry_model (drop j es)) (drop j xs)
+
+  split : i < length es → i < length xs
+      → left (length made) i
+      ≡ places_among (drop (length made) ts) (entry_model (get_or es i e) ∷ map entry_model (drop (i + 1) es)) (get_or xs i x ∷ drop (i + 1) xs)
+  unfolding left
+  split in_es in_xs =
+      ap (λ (l : List Dynamic). places_among (drop (length made) ts) (map entry_model l) (drop i xs)) (drop_more es i e in_es)
+      ∙ ap (λ (l : List EntryNumbers). places_among (drop (length made) ts) (entry_model (get_or es i e) ∷ map entry_model (drop (i + 1) es)) l)
+      (drop_more xs i x in_xs)
+
+  -- one place more
+  one_found : i < length es → i < length xs → is_some_and (λ t. has_text t (entry_model (get_or es i e))) (slice_get ts (length made)) ≡ true
+      → made ++ places_among (drop (length made) ts) (map entry_model (drop i es)) (drop i xs) ≡ whole
+      → (made ++ (get_or xs i x).d_value ∷ [])
+      ++ places_among (drop (length (made ++ (get_or xs i x).d_value ∷ [])) ts) (map entry_model (drop (i + 1) es)) (drop (i + 1) xs) ≡ whole
+  unfolding left
+  one_found in_es in_xs h all =
+      let value : ℕ = (get_or xs i x).d_value in
+      ap (λ (n : ℕ). (made ++ value ∷ []) ++ left n (i + 1)) (length-append made (value ∷ []))
+      ∙ append_assoc made (value ∷ []) (left (length made + 1) (i + 1))
+      ∙ ap (λ (l : List ℕ). made ++ l) (sym (next_found ts (length made) (entry_model (get_or es i e)) (map entry_model (drop (i + 1) es))
+      (get_or xs i x) (drop (i + 1) xs) h))
+      ∙ ap (λ (l : List ℕ). made ++ l) (sym (split in_es in_xs))
+      ∙ all
+
+  one_passed : i < length es → i < length xs → is_some_and (λ t. has_text t (entry_model (get_or es i e))) (slice_get ts (length made)) ≡ false
+      → made ++ places_among (drop (length made) ts) (map entry_model (drop i es)) (drop i xs) ≡ whole
+      → made ++ places_among (drop (length made) ts) (map entry_model (drop (i + 1) es)) (drop (i + 1) xs) ≡ whole
+  unfolding left
+  one_passed in_es in_xs h all =
+      ap (λ (l : List ℕ). made ++ l) (sym (next_passed ts (length made) (entry_model (get_or es i e)) (map entry_model (drop (i + 1) es))
+      (get_or xs i x) (drop (i + 1) xs) h))
+      ∙ ap (λ (l : List ℕ). made ++ l) (sym (split in_es in_xs))
+      ∙ all
+
+  -- the same by what is known in the loop
+  pub is_found : (n : ℕ) → n ≡ length made → i < min (length es) (length xs) → e ≡ get_or es i e
+      → is_some_and (λ t. has_text t (entry_model e)) (slice_get ts n) ≡ true
+      → made ++ places_among (drop (length made) ts) (map entry_model (drop i es)) (drop i xs) ≡ whole
+      → (made ++ (get_or xs i x).d_value ∷ [])
+      ++ places_among (drop (length (made ++ (get_or xs i x).d_value ∷ [])) ts) (map entry_model (drop (i + 1) es)) (drop (i + 1) xs) ≡ whole
+  is_found n long within is h all =
+      one_found (omega (arith, within)) (omega (arith, within))
+      (ap (λ (y : Dynamic). is_some_and (λ t. has_text t (entry_model y)) (slice_get ts (length made))) (sym is)
+      ∙ ap (λ (m : ℕ). is_some_and (λ t. has_text t (entry_model e)) (slice_get ts m)) (sym long) ∙ h) all
+
+  pub is_passed : (n : ℕ) → n ≡ length made → i < min (length es) (length xs) → e ≡ get_or es i e
+      → is_some_and (λ t. has_text t (entry_model e)) (slice_get ts n) ≡ false
+      → made ++ places_among (drop (length made) ts) (map entry_model (drop i es)) (drop i xs) ≡ whole
+      → made ++ places_among (drop (length made) ts) (map entry_model (drop (i + 1) es)) (drop (i + 1) xs) ≡ whole
+  is_passed n long within is h all =
+      one_passed (omega (arith, within)) (omega (arith, within))
+      (ap (λ (y : Dynamic). is_some_and (λ t. has_text t (entry_model y)) (slice_get ts (length made))) (sym is)
+      ∙ ap (λ (m : ℕ). is_some_and (λ t. has_text t (entry_model e)) (slice_get ts m)) (sym long) ∙ h) all
+
+module _ (ts : List (List ℕ)) (es : List Dynamic) (xs : List EntryNumbers) (whole made : List ℕ) (i : ℕ) where
+  nil_right : (l : List ℕ) → l ++ [] ≡ l
+  nil_right [] = refl
+  nil_right (y ∷ ys) = ap (λ (l : List ℕ). y ∷ l) (nil_right ys)
+
+  -- all were looked at
+  all_looked : made ++ places_among (drop (length made) ts) (map entry_model (drop i es)) (drop i xs) ≡ whole
+      → length es ≤ i → made ≡ whole
+  all_looked all past =
+      sym (nil_right made) ∙ ap (λ (l : List ℕ). made ++ l) (sym (ap (λ (l : List Dynamic). places_among (drop (length made) ts) (map entry_model l) (drop i xs))
+      (drop_all i es past) ∙ ended (drop (length made) ts) (drop i xs))) ∙ all
+
+  all_numbers : made ++ places_among (drop (length made) ts) (map entry_model (drop i es)) (drop i xs) ≡ whole
+      → length xs ≤ i → made ≡ whole
+  all_numbers all past =
+      sym (nil_right made) ∙ ap (λ (l : List ℕ). made ++ l) (sym (ap (λ (l : List EntryNumbers). places_among (drop (length made) ts) (map entry_model (drop i es)) l)
+      (drop_all i xs past) ∙ ended_numbers (drop (length made) ts) (map entry_model (drop i es)))) ∙ all
+
+  pub all_places : made ++ places_among (drop (length made) ts) (map entry_model (drop i es)) (drop i xs) ≡ whole
+      → min (length es) (length xs) ≤ i → made ≡ whole
+  all_places all past = elim (cases_lt i (length es)) [
+    | inl less ↦ all_numbers all (omega (arith, less, past))
+    | inr more ↦ all_looked all more
+  ]
+
+-- ## Entries whose texts stand where they say
+
+module _ (strings : List ℕ) where
+  -- a text that is the next one, or another one
+  by_text : (b : Bool) (t own : List ℕ) → bytes_eq t own ≡ b → (ts : List (List ℕ)) (us : List (List ℕ)) (x : EntryNumbers) (es : List Entry) (xs : List EntryNumbers)
+      → Reads strings x.d_value own
+      → (is_subsequence ts us ≡ true → TextsStand strings ts (places_among ts es xs))
+      → (is_subsequence (t ∷ ts) us ≡ true → TextsStand strings (t ∷ ts) (places_among (t ∷ ts) es xs))
+      → (elim b as (λ _. Bool) [ true ↦ is_subsequence ts us | _ ↦ is_subsequence (t ∷ ts) us ]) ≡ true
+      → TextsStand strings (t ∷ ts) (by_has b t ts x es xs)
+  unfolding by_has
+  by_text true t own is ts us x es xs here found passed h =
+      (subst (λ (u : List ℕ). Reads strings x.d_value u) (sym ((bytes_decides t own).0 is)) here, found h)
+  by_text false t own is ts us x es xs here found passed h = passed h
+
+  -- texts of the entries, with some left out, stand at the places among these
+  pub texts_stand : (es : List Entry) (xs : List EntryNumbers) → EntriesStand strings es xs → (ts : List (List ℕ))
+      → is_subsequence ts (texts_of_entries es) ≡ true → TextsStand strings ts (places_among ts es xs)
+  unfolding is_subsequence by_has
+  texts_stand es xs stand [] h = tt
+  texts_stand [] xs stand (t ∷ ts) h = absurd (false≢true h)
+  texts_stand (e ∷ es) [] stand (t ∷ ts) h = absurd stand
+  texts_stand (Auto tag ∷ es) (x ∷ xs) stand (t ∷ ts) h = texts_stand es xs stand.1 (t ∷ ts) h
+  texts_stand (Integer tag number ∷ es) (x ∷ xs) stand (t ∷ ts) h = texts_stand es xs stand.1 (t ∷ ts) h
+  texts_stand (Text tag own ∷ es) (x ∷ xs) stand (t ∷ ts) h =
+      by_text (bytes_eq t own) t own refl ts (texts_of_entries es) x es xs stand.0.read (texts_stand es xs stand.1 ts)
+      (texts_stand es xs stand.1 (t ∷ ts)) h
+
+-- ## The entries that were read
+
+module _ (strings : List ℕ) (room : ℕ) (texts : Memory) (keeps : Keeps texts (memory_of strings)) where
+  by_tag : (is_text is_table : Bool) (x : EntryNumbers) (e : Entry)
+      → cond is_text (text_at room texts x.d_value >>= λ t. Some (Text x.d_tag t))
+      (cond is_table (Some (Auto x.d_tag)) (Some (Integer x.d_tag x.d_value))) ≡ Some e
+      → EntryStands strings e x.d_value
+  by_tag true is_table x e h =
+      let (t, there, made) = bind_some (text_at room texts x.d_value) (λ t. Some (Text x.d_tag t)) e h in
+      subst (λ (y : Entry). EntryStands strings y x.d_value) (same_Some (Text x.d_tag t) e made)
+      (text_stands room strings x.d_value t
+      (text_at-keeps room room (omega arith) texts (memory_of strings) keeps x.d_value t there))
+  by_tag false true x e h = subst (λ (y : Entry). EntryStands strings y x.d_value) (same_Some (Auto x.d_tag) e h) tt
+  by_tag false false x e h = subst (λ (y : Entry). EntryStands strings y x.d_value) (same_Some (Integer x.d_tag x.d_value) e h) tt
+
+  one_stands : (x : EntryNumbers) (e : Entry) → shown_entry room texts x ≡ Some e → EntryStands strings e x.d_value
+  unfolding shown_entry
+  one_stands x e h = by_tag (is_one_of text_tags x.d_tag) (is_one_of table_tags x.d_tag) x e h
+
+  all_stand : (xs : List EntryNumbers) (es : List Entry) → each (shown_entry room texts) xs ≡ Some es → EntriesStand strings es xs
+  unfolding each
+  all_stand [] es h = subst (λ (l : List Entry). EntriesStand strings l []) (same_Some [] es h) tt
+  all_stand (x ∷ xs) es h =
+      let (e, there, more) = bind_some (shown_entry room texts x) (λ z. each (shown_entry room texts) xs >>= λ zs. Some (z ∷ zs)) es h in
+      let (rest, rest_there, made) = bind_some (each (shown_entry room texts) xs) (λ zs. Some (e ∷ zs)) es more in
+      subst (λ (l : List Entry). EntriesStand strings l (x ∷ xs)) (same_Some (e ∷ rest) es made)
+      (one_stands x e there, all_stand xs rest rest_there)
+
+-- as many places of a memory as a tag says, or all
+limited : (o : Option ℕ) (m : Memory) → Keeps (first_by_tag o m) m
+limited None m a x h = h
+limited (Some n) m a x h = Keeps-first_places n m a x h
+
+module _ (read image : Image) (is : IsReady read image) (f : ReadFacts read image) where
+  memory_kept : (link : ℕ) (o : Option SectionHeader) → slice_get f.parts.sections link ≡ o
+      → Keeps (section_memory (file_of f.parts) o) (memory_of (content_read image link))
+  memory_kept link None o_is = λ a x h. absurd (none-some x h)
+  memory_kept link (Some old) o_is =
+      let within : link < length image.sections =
+      omega (arith, slice_get_within f.parts.sections link old o_is, length-now read image (edit_of is) f) in
+      let here : SectionRead read image f.parts link = section_read read image (edit_of is) f link within in
+      let same : old ≡ here.old = same_Some old here.old (sym o_is ∙ here.is_old) in
+      let bytes : content_read image link ≡ section_bytes (file_of f.parts) old =
+      content_is_read read image is link here.section here.is_section ∙ ap (λ (s : ImageSection). s.content) here.of_old.fields
+      ∙ ap (section_bytes (file_of f.parts)) (sym same) in
+      λ a x h. ap (λ (l : List ℕ). slice_get l a) bytes ∙ h
+
+  -- the texts of the table that a section linked to lie in its bytes
+  texts_kept : (s : SectionHeader) → Keeps (linked_texts f.parts s) (memory_of (content_read image s.sh_link))
+  texts_kept s a x h =
+      memory_kept s.sh_link (slice_get f.parts.sections s.sh_link) refl a x
+      (limited (value_of_tag DT_STRSZ (raw_entries f.parts)) (section_memory (file_of f.parts) (slice_get f.parts.sections s.sh_link)) a x h)
+
+  -- the section of the dynamic list, at that position
+  pub record ListHere (list : ℕ) : Type 0 where
+    pub i : ℕ
+    pub at : SectionRead read image f.parts i
+    pub was : section_of_type SHT_DYNAMIC f.parts.sections ≡ Some at.old
+    pub now : kept_of_type SHT_DYNAMIC image ≡ Some (kept i at.section)
+    pub there : slice_get image.sections list ≡ Some at.section
+
+  list_here : (list : ℕ) → type_position image SHT_DYNAMIC ≡ Some list → ListHere list
+  list_here list here = elim (tables.link_at image SHT_DYNAMIC is.edited) [
+    | NoLink none not ↦ absurd (none-some list (sym none ∙ here))
+    | Link j k position at found ↦ elim (type_at read image (edit_of is) f SHT_DYNAMIC) [
+      | Nowhere was now ↦ absurd (none-some k (sym now ∙ found))
+      | There i section e e' was now ↦
+          let own : 0 + j ≡ list = same_Some (0 + j) list (sym position ∙ here) in
+          let index : j ≡ list = omega (arith, own) in
+          let same : k ≡ kept i section.section = same_Some k (kept i section.section) (sym found ∙ now) in
+          record {
+            i = i;
+            at = section;
+            was = was;
+            now = now;
+            there = ap (slice_get image.sections) (sym index) ∙ at ∙ ap (λ (x : KeptSection). Some x.section) same;
+          }
+    ]
+  ]
+
+-- what is read of two parts of a list of entries is one
+texts_at : (o : Option (List Entry)) → list_at texts_of_entries o ≡ texts_of_entries (list_at (λ es. es) o)
+texts_at None = refl
+texts_at (Some es) = refl
+
+module _ (read image : Image) (is : IsReady read image) (f : ReadFacts read image) (list : ℕ) (here : ListHere read image is f list) where
+  -- the bytes of that section, the number that it links to
+  content_here : content_at read list ≡ section_bytes (file_of f.parts) here.at.old
+  content_here =
+      ap (λ (ss : List ImageSection). unwrap_or (slice_get ss list >>= λ s. Some s.content) []) (sym is.whole.sections)
+      ∙ ap (λ (o : Option ImageSection). unwrap_or (o >>= λ s. Some s.content) []) here.there
+      ∙ ap (λ (s : ImageSection). s.content) here.at.of_old.fields
+
+  section_link : link_at image list ≡ here.at.section.sh_link
+  section_link = ap (λ (o : Option ImageSection). unwrap_or (o >>= λ s. Some s.sh_link) 0) here.there
+
+  old_link : here.at.old.sh_link ≡ link_at image list
+  old_link = sym (section_link ∙ ap (λ (s : ImageSection). s.sh_link) here.at.of_old.fields)
+
+  pub link_now : link_of_type SHT_DYNAMIC image ≡ Some (link_at image list)
+  link_now = ap (λ (o : Option KeptSection). o >>= λ s. Some s.section.sh_link) here.now ∙ ap (λ (n : ℕ). Some n) (sym section_link)
+
+  -- the numbers of the entries that were read
+  numbers_here : numbers_in read (content_at read list) ≡ raw_entries f.parts
+  numbers_here =
+      ap (numbers_in read) content_here
+      ∙ ap (λ (file : List ℕ). unwrap_or (entries_at (length file) read.form (memory_of (section_bytes (file_of f.parts) here.at.old)) 0) []) f.holds.source
+      ∙ ap (λ (form : Form). unwrap_or (entries_at (length (file_of f.parts)) form (memory_of (section_bytes (file_of f.parts) here.at.old)) 0) []) f.holds.form
+      ∙ ap (λ (o : Option SectionHeader). unwrap_or (entries_at (length (file_of f.parts)) f.parts.opened.form (section_memory (file_of f.parts) o) 0) []) (sym here.was)
+
+  -- each text that was read stands where its entry says
+  entries_stand : EntriesStand (content_read image (link_at image list)) (list_at (λ es. es) read.entries) (numbers_in read (content_at read list))
+  unfolding entries_read
+  entries_stand =
+      let of_section : entries_read f.parts (Some here.at.old) ≡ Some read.entries = ap (entries_read f.parts) (sym here.was) ∙ f.holds.entries in
+      let (es, there, made) = bind_some (each (shown_entry (length (file_of f.parts)) (linked_texts f.parts here.at.old)) (raw_entries f.parts))
+      (λ es. Some (Some es)) read.entries of_section in
+      let stand : EntriesStand (content_read image here.at.old.sh_link) es (raw_entries f.parts) =
+      all_stand (content_read image here.at.old.sh_link) (length (file_of f.parts)) (linked_texts f.parts here.at.old)
+      (texts_kept read image is f here.at.old) (raw_entries f.parts) es there in
+      subst (λ (xs : List EntryNumbers). EntriesStand (content_read image (link_at image list)) (list_at (λ es. es) read.entries) xs) (sym numbers_here)
+      (subst (λ (o : Option (List Entry)). EntriesStand (content_read image (link_at image list)) (list_at (λ es. es) o) (raw_entries f.parts))
+      (same_Some (Some es) read.entries made)
+      (subst (λ (n : ℕ). EntriesStand (content_read image n) es (raw_entries f.parts)) old_link stand))
+
+-- ## Both kinds of tables
+
+stays : (a b : Bool) → (a || not b) ≡ false → b ≡ true
+stays true b h = absurd (false≢true (sym h))
+stays false true h = refl
+stays false false h = absurd (false≢true (sym h))
+
+module _ (read image : Image) (is : IsReady read image) (list : ℕ) (at : type_position image SHT_DYNAMIC ≡ Some list) where
+  abbrev facts : ReadFacts read image
+  facts = read_facts read image (edit_of is)
+
+  pub here : ListHere read image is facts list
+  here = list_here read image is facts list at
+
+  pub linked_now : link_of_type SHT_DYNAMIC image ≡ Some (link_at image list)
+  linked_now = link_now read image is facts list here
+
+  -- so it has its texts among the dynamic strings
+  pub strings_number : dynamic_strings_number image ≡ Some (link_at image list)
+  strings_number = list_linked read image is facts (link_at image list) linked_now
+
+  -- each text that was read stands where its entry says
+  pub read_stand : EntriesStand (content_read image (link_at image list)) (list_at (λ es. es) read.entries) (numbers_in read (content_at read list))
+  read_stand = entries_stand read image is facts list here
+
+  -- the texts stand in a table that is copied with the places of its texts
+  copied_stand : AreStrings read image None → (ts : List (List ℕ)) → ts ≡ list_at texts_of_entries (written_entries read image)
+      → TextsStand (content_read image (link_at image list)) ts
+      (places_among ts (list_at (λ es. es) read.entries) (numbers_in read (content_at read list)))
+  copied_stand are ts own =
+      let left : is_list_left read image ≡ true =
+      stays (are_names_changed read image) (is_list_left read image) (are.as_read refl (link_at image list) strings_number).stay in
+      texts_stand (content_read image (link_at image list)) (list_at (λ es. es) read.entries) (numbers_in read (content_at read list)) read_stand ts
+      (ap (λ (us : List (List ℕ)). is_subsequence us (texts_of_entries (list_at (λ es. es) read.entries))) own
+      ∙ ap (is_subsequence (list_at texts_of_entries (written_entries read image))) (sym (texts_at read.entries)) ∙ left)
+
+  pub if_copied : (made : Option Made) → made ≡ None → AreStrings read image made → (ts : List (List ℕ))
+      → ts ≡ list_at texts_of_entries (written_entries read image)
+      → TextsStand (strings_at image made (link_at image list)) ts
+      (places_among ts (list_at (λ es. es) read.entries) (numbers_in read (content_at read list)))
+  if_copied None none are ts own = copied_stand are ts own
+  if_copied (Some m) none are ts own = absurd (none-some m (sym none))
+
+  -- the number of strings that are told anew is what the list links to
+  made_number : (m : Made) → IsTold read image m → m.number ≡ link_at image list
+  made_number m told = same_Some m.number (link_at image list) (sym told.linked ∙ strings_number)
+
+  pub made_strings : (made : Option Made) (m : Made) → made ≡ Some m → AreStrings read image made
+      → strings_at image made (link_at image list) ≡ m.table.bytes
+  made_strings None m some are = absurd (none-some m some)
+  made_strings (Some n) m some are =
+      let same : n ≡ m = same_Some n m some in
+      ap (λ (b : Bool). if b then n.table.bytes else content_read image (link_at image list))
+      (eq-eqb n.number (link_at image list) (made_number n (are.told n refl)))
+      ∙ ap (λ (x : Made). x.table.bytes) same
+
+  -- they tell each text of the list
+  held : (m : Made) → IsTold read image m → TellsAll m.table (list_at texts_of_entries (written_entries read image))
+  held m told = told_list read image m told (linked_now ∙ ap (λ (n : ℕ). Some n) (sym (made_number m told)))
+
+  pub made_holds : (made : Option Made) (m : Made) → made ≡ Some m → AreStrings read image made → (texts : List (Bor (List ℕ)))
+      → map borrowed texts ≡ list_at texts_of_entries (written_entries read image)
+      → (k : ℕ) (d : Bor (List ℕ)) → k < length texts → IsSome (place_of m.table (get_or texts k d).now)
+  made_holds made m some are texts own k d within =
+      let inside : k < length (map borrowed texts) = omega (arith, within, length-map texts borrowed) in
+      let has : Contains (map borrowed texts) (get_or (map borrowed texts) k d.now) = Contains-get_or (map borrowed texts) k d.now inside in
+      held m (are.told m some) (get_or texts k d).now
+      (subst (λ (ts : List (List ℕ)). Contains ts (get_or texts k d).now) own
+      (subst (λ (t : List ℕ). Contains (map borrowed texts) t) (get_or-map borrowed texts k d d.now within) has))
+
+-- ## Texts of which some are left out
+
+subsequence_by : Bool → List ℕ → List (List ℕ) → List (List ℕ) → Bool
+subsequence_by b t ts us = elim b [ true ↦ is_subsequence ts us | _ ↦ is_subsequence (t ∷ ts) us ]
+
+-- the next text is that of the entry
+left_found : (ts : List (List ℕ)) (n : ℕ) (e : Entry) (es : List Entry) → is_some_and (λ t. has_text t e) (slice_get ts n) ≡ true
+    → is_subsequence (drop n ts) (texts_of_entries (e ∷ es)) ≡ is_subsequence (drop (n + 1) ts) (texts_of_entries es)
+unfolding is_subsequence subsequence_by
+left_found [] n e es h = absurd (false≢true h)
+left_found (t ∷ ts) zero (Auto tag) es h = absurd (false≢true h)
+left_found (t ∷ ts) zero (Integer tag number) es h = absurd (false≢true h)
+left_found (t ∷ ts) zero (Text tag own) es h = ap (λ (b : Bool). subsequence_by b t ts (texts_of_entries es)) h
+left_found (t ∷ ts) (suc n) e es h =
+    let next : suc (n + 1) ≡ suc n + 1 = omega arith in
+    left_found ts n e es h ∙ ap (λ (m : ℕ). is_subsequence (drop m (t ∷ ts)) (texts_of_entries es)) next
+
+-- it isn't
+left_passed : (ts : List (List ℕ)) (n : ℕ) (e : Entry) (es : List Entry) → is_some_and (λ t. has_text t e) (slice_get ts n) ≡ false
+    → is_subsequence (drop n ts) (texts_of_entries (e ∷ es)) ≡ is_subsequence (drop n ts) (texts_of_entries es)
+unfolding is_subsequence subsequence_by
+left_passed [] zero e es h = refl
+left_passed [] (suc n) e es h = refl
+left_passed (t ∷ ts) zero (Auto tag) es h = refl
+left_passed (t ∷ ts) zero (Integer tag number) es h = refl
+left_passed (t ∷ ts) zero (Text tag own) es h = ap (λ (b : Bool). subsequence_by b t ts (texts_of_entries es)) h
+left_passed (t ∷ ts) (suc n) e es h = left_passed ts n e es h
+
+-- the same by what is known in the loop
+pub left_next : (ts : List (List ℕ)) (es : List Dynamic) (n m i : ℕ) (e : Dynamic) (b is : Bool) → i < length es → e ≡ get_or es i e
+    → b ≡ is_some_and (λ t. has_text t (entry_model e)) (slice_get ts n) → m ≡ cond b (n + 1) n
+    → is_subsequence (drop n ts) (texts_of_entries (map entry_model (drop i es))) ≡ is
+    → is_subsequence (drop m ts) (texts_of_entries (map entry_model (drop (i + 1) es))) ≡ is
+left_next ts es n m i e b is within own tells next so_far =
+    let split : map entry_model (drop i es) ≡ entry_model e ∷ map entry_model (drop (i + 1) es) =
+    ap (map entry_model) (drop_more es i e within) ∙ ap (λ (x : Dynamic). entry_model x ∷ map entry_model (drop (i + 1) es)) (sym own) in
+    let all : is_subsequence (drop n ts) (texts_of_entries (entry_model e ∷ map entry_model (drop (i + 1) es))) ≡ is =
+    ap (λ (l : List Entry). is_subsequence (drop n ts) (texts_of_entries l)) (sym split) ∙ so_far in
+    by_test b tells next all
+  where
+    by_test : (b : Bool) → b ≡ is_some_and (λ t. has_text t (entry_model e)) (slice_get ts n) → m ≡ cond b (n + 1) n
+        → is_subsequence (drop n ts) (texts_of_entries (entry_model e ∷ map entry_model (drop (i + 1) es))) ≡ is
+        → is_subsequence (drop m ts) (texts_of_entries (map entry_model (drop (i + 1) es))) ≡ is
+    by_test true tells next all =
+        ap (λ (k : ℕ). is_subsequence (drop k ts) (texts_of_entries (map entry_model (drop (i + 1) es)))) next
+        ∙ sym (left_found ts n (entry_model e) (map entry_model (drop (i + 1) es)) (sym tells)) ∙ all
+    by_test false tells next all =
+        ap (λ (k : ℕ). is_subsequence (drop k ts) (texts_of_entries (map entry_model (drop (i + 1) es)))) next
+        ∙ sym (left_passed ts n (entry_model e) (map entry_model (drop (i + 1) es)) (sym tells)) ∙ all
+
+same_next : (n m : ℕ) → (suc n == suc m) ≡ (n == m)
+same_next n m = by_test (n == m) refl
+  where
+    by_test : (b : Bool) → (n == m) ≡ b → (suc n == suc m) ≡ b
+    by_test true is = eq-eqb (suc n) (suc m) (ap suc (eqb-true n m is))
+    by_test false is = ne_eqb (suc n) (suc m) (λ e. false≢true (sym is ∙ eq-eqb n m (omega (arith, e))))
+
+-- the next text is one of them
+pub next_within : (ts : List (List ℕ)) (n : ℕ) (e : Entry) → is_some_and (λ t. has_text t e) (slice_get ts n) ≡ true → n < length ts
+next_within [] n e h = absurd (false≢true h)
+next_within (t ∷ ts) zero e h = omega arith
+next_within (t ∷ ts) (suc n) e h = omega (arith, next_within ts n e h)
+
+-- no text is left where all were found
+pub left_end : (ts : List (List ℕ)) (es : List Dynamic) (n i : ℕ) (is : Bool) → length es ≤ i
+    → is_subsequence (drop n ts) (texts_of_entries (map entry_model (drop i es))) ≡ is → n ≤ length ts → (n == length ts) ≡ is
+unfolding is_subsequence
+left_end ts es n i is past so_far inside =
+    let ended : is_subsequence (drop n ts) [] ≡ is =
+    ap (λ (l : List Dynamic). is_subsequence (drop n ts) (texts_of_entries (map entry_model l))) (sym (drop_all i es past)) ∙ so_far in
+    by_order ts n inside ∙ ended
+  where
+    by_order : (ts : List (List ℕ)) (n : ℕ) → n ≤ length ts → (n == length ts) ≡ is_subsequence (drop n ts) []
+    by_order [] n inside =
+        let none : n ≡ 0 = omega (arith, inside) in
+        subst (λ (k : ℕ). (k == 0) ≡ is_subsequence (drop k []) []) (sym none) refl
+    by_order (t ∷ ts) zero inside = ne_eqb 0 (length (t ∷ ts)) (λ e. omega (arith, e))
+    by_order (t ∷ ts) (suc n) inside = same_next n (length ts) ∙ by_order ts n (omega (arith, inside))
+
+-- ## The bytes of a section of an image
+
+pub content_of : (sections : List Section) (i : ℕ) (d : Section) → i < length sections
+    → unwrap_or (slice_get (map section_model sections) i >>= λ s. Some s.content) [] ≡ (get_or sections i d).content.now
+content_of [] i d within = absurd (omega (arith, within))
+content_of (s ∷ ss) zero d within = refl
+content_of (s ∷ ss) (suc i) d within = content_of ss i d (omega (arith, within))

@@ -1,0 +1,3 @@
+pub mod DynamicStrings
+pub mod PlacedTexts
+pub mod VersionPlaces

@@ -1,0 +1,3 @@
+pub mod Renumbering
+pub mod Fits
+pub mod Steps
