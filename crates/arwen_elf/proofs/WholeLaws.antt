@@ -152,7 +152,8 @@ edited_there edit image h = record {
     sections = h.whole.sections;
     section_numbers = h.whole.section_numbers;
     symbols = h.whole.symbols;
-    dynamic_symbols = h.whole.dynamic_symbols;
+    symbol_numbers = h.whole.symbol_numbers;
+    dynamic_symbol_numbers = h.whole.dynamic_symbol_numbers;
     interpreter = λ some. interpreter_stays edit image.interpreter (h.whole.interpreter some);
   };
 }
@@ -227,7 +228,8 @@ read_is_there file image h =
         sections = refl;
         section_numbers = refl;
         symbols = refl;
-        dynamic_symbols = refl;
+        symbol_numbers = refl;
+        dynamic_symbol_numbers = refl;
         interpreter = λ some. some;
       };
     }

@@ -3,10 +3,9 @@ use Rattle.std.proofs.Common.{◌≡◌, ◌<◌, ◌≤◌, ◌+◌, ℕ, zero,
 use Rattle.std.proofs.lemmas.List.{drop_all, map_more}
 use Rattle.elf_image.specs.Image.{Image}
 use Rattle.elf_edits.specs.declared.edit.ElfEdit.{ElfEdit}
-use Rattle.elf_edits.specs.declared.facts.Facts.{Facts}
 use Rattle.elf_edits.specs.Batch.{Refusal, run}
 use Rattle.elf_edits.specs.EditModel.{edit_model}
-use Rattle.elf_edits.specs.Cause.{Cause, first_cause}
+use Rattle.elf_edits.specs.Cause.{Cause, Facts, first_cause}
 use Rattle.elf_edits.specs.Decided.{all_edited, first_refusal, refusal_or}
 use Rattle.elf_edits.specs.Edit.{Edit}
 use Rattle.elf_edits.specs.Edited.{edited_image}

@@ -8,15 +8,23 @@ use Rattle.elf_format.specs.declared.records.SegmentHeader.{SegmentHeader}
 use Rattle.elf_image.specs.Dynamic.{Entry}
 use Rattle.elf_image.specs.DynamicList.{IsListed, KeepsTables, tables_of}
 use Rattle.elf_image.specs.File.{segment_of_type}
-use Rattle.elf_image.specs.Image.{Image}
+use Rattle.elf_image.specs.Image.{Image, image_of}
 use Rattle.elf_image.specs.ImageModel.{entry_model, text_model}
+use Rattle.elf_image.specs.Edited.{IsEdited}
+use Rattle.elf_image.specs.Names.{are_names_changed, are_same_texts, texts_of_symbols}
 use Rattle.elf_image.specs.Options.{first_there}
+use Rattle.elf_image.specs.Renumbering.{can_renumber}
+use Rattle.elf_image.specs.SymbolEdits.{IsPutFor, with_dynamic_symbols}
+use Rattle.elf_image.specs.SymbolsRead.{OfRead}
+use Rattle.elf_image.specs.Views.{NamedSymbol}
+use Rattle.elf_image_symbol_edits.specs.EditedList.{EditedList}
+use Rattle.elf_edits.specs.SymbolChanges.{AreSymbolsAfter}
 use Rattle.elf_image.specs.Segments.{with_stack_added, with_stack_flags}
 use Rattle.elf_edits.specs.declared.constants.TheConstants.{STACK_FLAGS}
 use Rattle.elf_edits.specs.declared.list.NewList.{NewList}
 use Rattle.elf_edits.specs.Abi.{abi_number, lowercase_name, with_nul}
 use Rattle.elf_edits.specs.Cause.{NoDynamic, NoInterpreter, UnknownAbi, cause_if, facts_of, first_cause}
-use Rattle.elf_edits.specs.Edit.{ClearExecStack, Edit, SetExecStack, SetInterpreter, SetOsAbi, SetPageSize, all_but_last, edited_entries, touches_entries}
+use Rattle.elf_edits.specs.Edit.{ClearExecStack, ClearSymbolVersion, Edit, RenameDynamicSymbols, SetExecStack, SetInterpreter, SetOsAbi, SetPageSize, all_but_last, edited_entries, edited_symbols, is_of_symbols, touches_entries, touches_symbols}
 use Rattle.elf_edits.specs.Edited.{edited_image, is_list_with, touches_rest, with_align, with_load_align, with_run, with_stack_changed, without_run}
 use Rattle.elf_edits.specs.Entries.{with_tag, with_tags_changed}
 use Rattle.elf_image.specs.Image.{entry_tag, lists_tag}
@@ -24,9 +32,9 @@ use Rattle.elf_image.specs.declared.dynamic.Dynamic.{Dynamic}
 use Rattle.std.specs.declared.alloc.Global.{Global}
 use Rattle.std.specs.declared.vec.Vec.{Vec}
 use Rattle.elf_edits.specs.Texts.{holds_nul}
-use Rattle.elf_edits.proofs.ForCallers.{IsFree, is_free, lists_again, stands_not, stored_whole, untouched}
+use Rattle.elf_edits.proofs.ForCallers.{IsFree, fixed_names_stay, is_free, lists_again, stands_not, stored_whole, symbols_untouched, untouched}
 use Rattle.elf_apply.specs.declared.draft.Draft.{Draft}
-use Rattle.elf_apply.specs.Drafted.{CanPutEntries, CanPutInterpreter, changed_if, IsDraftOf, ListsEntries, OnlyShows, Writes, drafted, entries_drafted, flags_now, is_written, stack_flags_of, with_entries_put, with_flags, with_flags_put, with_interpreter_put, with_list, with_retagged, with_os_abi_put, with_page_size, with_page_size_put}
+use Rattle.elf_apply.specs.Drafted.{AreSymbolsFor, CanPutEntries, CanPutInterpreter, changed_if, IsDraftOf, ListsEntries, OnlyShows, Writes, drafted, entries_drafted, flags_now, is_written, stack_flags_of, symbols_drafted, with_entries_put, with_flags, with_flags_put, with_interpreter_put, with_list, with_retagged, with_os_abi_put, with_page_size, with_page_size_put, with_symbols, with_symbols_put}
 
 pub by_test : {P : Type 0} (b : Bool) → (b ≡ true → P) → (b ≡ false → P) → P
 by_test true then_so else_so = then_so refl
@@ -53,11 +61,11 @@ image_with changed abi segments entries interpreter size image = record image {
 
 -- ## Nothing and something written
 
-pub nothing_written : (image : Image) → OnlyShows image image (record { entries = None; interpreter = None; os_abi = None; stack_flags = None; page_size = None })
+pub nothing_written : (image : Image) → OnlyShows image image (record { entries = None; interpreter = None; os_abi = None; stack_flags = None; page_size = None; symbols = None })
 unfolding drafted image_with
 nothing_written image = record {
   shows = ap (λ changed. image_with changed image.header.os_abi image.segments image.entries image.interpreter image.page_size image) (or_false image.changed);
-  draft = record { tables = tt; entries = tt; interpreter_there = tt; interpreter = tt };
+  draft = record { tables = tt; entries = tt; interpreter_there = tt; interpreter = tt; symbols = tt };
 }
 
 written_marks : (changed before after : Bool) → after ≡ true → (changed || after) ≡ ((changed || before) || true)
@@ -89,6 +97,10 @@ set_edit : (image : Image) → edited_image SetExecStack image ≡ image_with (i
 unfolding edited_image edited_entries image_with
 set_edit image = ap (λ o. image_with (image.changed || true) image.header.os_abi (with_stack_changed with_run image.segments) o image.interpreter image.page_size image) (kept_list image.entries)
 
+-- the image with the symbols that were written
+abbrev based : Image → Draft → Image
+based image d = record image { dynamic_symbols = symbols_drafted d image.dynamic_symbols }
+
 -- ## The interpreter
 
 not_false_is : (b : Bool) → not b ≡ false → b ≡ true
@@ -101,7 +113,7 @@ is_there o h = h
 pub interpreter_written : (bytes : List ℕ) (image : Image) (d : Draft) → IsFree (SetInterpreter bytes) (facts_of image) → IsDraftOf image d → Writes (SetInterpreter bytes) image d (record d { interpreter = Some (owned_string (with_nul bytes)) })
 unfolding drafted edited_image image_with
 interpreter_written bytes image d free is = record {
-  shows = ap (λ changed. image_with changed (unwrap_or d.os_abi image.header.os_abi) (with_page_size d.page_size (with_flags d.stack_flags image.segments)) (first_there (entries_drafted d) image.entries) (Some (with_nul bytes)) (first_there d.page_size image.page_size) image)
+  shows = ap (λ changed. image_with changed (unwrap_or d.os_abi image.header.os_abi) (with_page_size d.page_size (with_flags d.stack_flags image.segments)) (first_there (entries_drafted d) image.entries) (Some (with_nul bytes)) (first_there d.page_size image.page_size) (based image d))
       (written_marks image.changed (is_written d) (is_written (record d { interpreter = Some (owned_string (with_nul bytes)) })) marked)
       ∙ sym (interpreter_edit bytes (drafted d image));
   draft = record {
@@ -109,11 +121,12 @@ interpreter_written bytes image d free is = record {
     entries = is.entries;
     interpreter_there = is_there image.interpreter there;
     interpreter = stored_whole bytes (or_parts (holds_nul (all_but_last bytes)) false free.texts).0;
+    symbols = is.symbols;
   };
 }
   where
     marked : is_written (record d { interpreter = Some (owned_string (with_nul bytes)) }) ≡ true
-    marked = ap (λ b. b || is_some d.entries) (or_true ((is_some d.stack_flags || is_some d.page_size) || is_some d.os_abi))
+    marked = ap (λ b. (b || is_some d.entries) || is_some d.symbols) (or_true ((is_some d.stack_flags || is_some d.page_size) || is_some d.os_abi))
 
     there : is_some image.interpreter ≡ true
     there = not_false_is (is_some image.interpreter) (stands_not (not (is_some image.interpreter)) NoInterpreter free.interpreter)
@@ -131,17 +144,17 @@ os_abi_written name number image d free is same =
     subst (λ (o : Option ℕ). Writes (SetOsAbi name) image d (record d { os_abi = o })) (sym (same ∙ found.1)) (by_number found.0 found.1)
   where
     marked : (n : ℕ) → is_written (record d { os_abi = Some n }) ≡ true
-    marked n = ap (λ b. (b || is_some d.interpreter) || is_some d.entries) (or_true (is_some d.stack_flags || is_some d.page_size))
+    marked n = ap (λ b. ((b || is_some d.interpreter) || is_some d.entries) || is_some d.symbols) (or_true (is_some d.stack_flags || is_some d.page_size))
 
     by_number : (n : ℕ) → abi_number name ≡ Some n → Writes (SetOsAbi name) image d (record d { os_abi = Some n })
     by_number n is_named = record {
       shows =
-          ap (λ changed. image_with changed n (with_page_size d.page_size (with_flags d.stack_flags image.segments)) (first_there (entries_drafted d) image.entries) (first_there (text_model d.interpreter) image.interpreter) (first_there d.page_size image.page_size) image)
+          ap (λ changed. image_with changed n (with_page_size d.page_size (with_flags d.stack_flags image.segments)) (first_there (entries_drafted d) image.entries) (first_there (text_model d.interpreter) image.interpreter) (first_there d.page_size image.page_size) (based image d))
           (written_marks image.changed (is_written d) (is_written (record d { os_abi = Some n })) (marked n))
-          ∙ ap (λ o. image_with ((image.changed || is_written d) || true) (unwrap_or o (unwrap_or d.os_abi image.header.os_abi)) (with_page_size d.page_size (with_flags d.stack_flags image.segments)) (first_there (entries_drafted d) image.entries) (first_there (text_model d.interpreter) image.interpreter) (first_there d.page_size image.page_size) image)
+          ∙ ap (λ o. image_with ((image.changed || is_written d) || true) (unwrap_or o (unwrap_or d.os_abi image.header.os_abi)) (with_page_size d.page_size (with_flags d.stack_flags image.segments)) (first_there (entries_drafted d) image.entries) (first_there (text_model d.interpreter) image.interpreter) (first_there d.page_size image.page_size) (based image d))
           (sym is_named)
           ∙ sym (os_abi_edit name (drafted d image));
-      draft = record { tables = is.tables; entries = is.entries; interpreter_there = is.interpreter_there; interpreter = is.interpreter };
+      draft = record { tables = is.tables; entries = is.entries; interpreter_there = is.interpreter_there; interpreter = is.interpreter; symbols = is.symbols };
     }
 
 -- ## The page size
@@ -164,16 +177,16 @@ pub page_size_written : (size : ℕ) (image : Image) (d : Draft) → IsDraftOf i
 unfolding drafted edited_image image_with
 page_size_written size image d is = record {
   shows =
-      ap (λ changed. image_with changed (unwrap_or d.os_abi image.header.os_abi) (with_load_align size (with_flags d.stack_flags image.segments)) (first_there (entries_drafted d) image.entries) (first_there (text_model d.interpreter) image.interpreter) (Some size) image)
+      ap (λ changed. image_with changed (unwrap_or d.os_abi image.header.os_abi) (with_load_align size (with_flags d.stack_flags image.segments)) (first_there (entries_drafted d) image.entries) (first_there (text_model d.interpreter) image.interpreter) (Some size) (based image d))
       (written_marks image.changed (is_written d) (is_written (record d { page_size = Some size })) marked)
-      ∙ ap (λ segments. image_with ((image.changed || is_written d) || true) (unwrap_or d.os_abi image.header.os_abi) segments (first_there (entries_drafted d) image.entries) (first_there (text_model d.interpreter) image.interpreter) (Some size) image)
+      ∙ ap (λ segments. image_with ((image.changed || is_written d) || true) (unwrap_or d.os_abi image.header.os_abi) segments (first_there (entries_drafted d) image.entries) (first_there (text_model d.interpreter) image.interpreter) (Some size) (based image d))
       (aligned_last size d.page_size (with_flags d.stack_flags image.segments))
       ∙ sym (page_size_edit size (drafted d image));
-  draft = record { tables = is.tables; entries = is.entries; interpreter_there = is.interpreter_there; interpreter = is.interpreter };
+  draft = record { tables = is.tables; entries = is.entries; interpreter_there = is.interpreter_there; interpreter = is.interpreter; symbols = is.symbols };
 }
   where
     marked : is_written (record d { page_size = Some size }) ≡ true
-    marked = ap (λ b. ((b || is_some d.os_abi) || is_some d.interpreter) || is_some d.entries) (or_true (is_some d.stack_flags))
+    marked = ap (λ b. (((b || is_some d.os_abi) || is_some d.interpreter) || is_some d.entries) || is_some d.symbols) (or_true (is_some d.stack_flags))
 
 -- ## The stack
 
@@ -236,23 +249,23 @@ module _ (image : Image) (d : Draft) (change : ℕ → ℕ) where
   flags_drafted : drafted after image ≡ flags_changed
   unfolding drafted image_with after flags_changed new_flags
   flags_drafted =
-      ap (λ changed. image_with changed (unwrap_or d.os_abi image.header.os_abi) (with_page_size d.page_size (with_flags (Some new_flags) image.segments)) (first_there (entries_drafted d) image.entries) (first_there (text_model d.interpreter) image.interpreter) (first_there d.page_size image.page_size) image)
+      ap (λ changed. image_with changed (unwrap_or d.os_abi image.header.os_abi) (with_page_size d.page_size (with_flags (Some new_flags) image.segments)) (first_there (entries_drafted d) image.entries) (first_there (text_model d.interpreter) image.interpreter) (first_there d.page_size image.page_size) (based image d))
       (written_marks image.changed (is_written d) true refl)
-      ∙ ap (λ segments. image_with ((image.changed || is_written d) || true) (unwrap_or d.os_abi image.header.os_abi) segments (first_there (entries_drafted d) image.entries) (first_there (text_model d.interpreter) image.interpreter) (first_there d.page_size image.page_size) image)
+      ∙ ap (λ segments. image_with ((image.changed || is_written d) || true) (unwrap_or d.os_abi image.header.os_abi) segments (first_there (entries_drafted d) image.entries) (first_there (text_model d.interpreter) image.interpreter) (first_there d.page_size image.page_size) (based image d))
       (ap (with_page_size d.page_size) (sym (flags_set change d.stack_flags image.segments)) ∙ sized_flags_set change d.page_size (with_flags d.stack_flags image.segments))
 
 pub stack_cleared : (image : Image) (d : Draft) → IsDraftOf image d → Writes ClearExecStack image d (record d { stack_flags = Some (without_run (flags_now d image.segments)) })
 unfolding image_with after flags_changed new_flags
 stack_cleared image d is = record {
   shows = flags_drafted image d without_run ∙ sym (cleared_edit (drafted d image));
-  draft = record { tables = is.tables; entries = is.entries; interpreter_there = is.interpreter_there; interpreter = is.interpreter };
+  draft = record { tables = is.tables; entries = is.entries; interpreter_there = is.interpreter_there; interpreter = is.interpreter; symbols = is.symbols };
 }
 
 pub stack_set : (image : Image) (d : Draft) → IsDraftOf image d → Writes SetExecStack image d (record d { stack_flags = Some (with_run (flags_now d image.segments)) })
 unfolding image_with after flags_changed new_flags
 stack_set image d is = record {
   shows = flags_drafted image d with_run ∙ sym (set_edit (drafted d image));
-  draft = record { tables = is.tables; entries = is.entries; interpreter_there = is.interpreter_there; interpreter = is.interpreter };
+  draft = record { tables = is.tables; entries = is.entries; interpreter_there = is.interpreter_there; interpreter = is.interpreter; symbols = is.symbols };
 }
 
 -- ## The dynamic list
@@ -261,32 +274,36 @@ not_both : {P : Type 0} → true ≡ false → P
 not_both h = absurd (cc)
 
 -- an edit of the list leaves all else
-pub rest_stays : (edit : Edit) → touches_rest edit ≡ false → (image : Image) → edited_image edit image ≡ record image {
+pub rest_stays : (edit : Edit) → touches_rest edit ≡ false → is_of_symbols edit ≡ false → (image : Image) → edited_image edit image ≡ record image {
   changed = image.changed || is_list_with (touches_entries image.header.e_machine edit) image.entries;
   entries = option_map (edited_entries image.header.e_machine edit) image.entries;
 }
 unfolding edited_image
-rest_stays (SetInterpreter bytes) h image = not_both h
-rest_stays (SetOsAbi name) h image = not_both h
-rest_stays ClearExecStack h image = not_both h
-rest_stays SetExecStack h image = not_both h
-rest_stays (SetPageSize size) h image = not_both h
-rest_stays _ h image = refl
+rest_stays (SetInterpreter bytes) h k image = not_both h
+rest_stays (SetOsAbi name) h k image = not_both h
+rest_stays ClearExecStack h k image = not_both h
+rest_stays SetExecStack h k image = not_both h
+rest_stays (SetPageSize size) h k image = not_both h
+rest_stays (RenameDynamicSymbols pairs) h k image = not_both k
+rest_stays (ClearSymbolVersion name) h k image = not_both k
+rest_stays _ h k image = refl
 
 -- and has a list
 there : (task : List ℕ) (image : Image) → cause_if (not (is_some image.entries)) (NoDynamic task) ≡ None → is_some image.entries ≡ true
 there task image h = not_false_is (is_some image.entries) (stands_not (not (is_some image.entries)) (NoDynamic task) h)
 
-list_there : (edit : Edit) (image : Image) → touches_rest edit ≡ false → IsFree edit (facts_of image) → is_some image.entries ≡ true
-list_there (SetInterpreter bytes) image h free = not_both h
-list_there (SetOsAbi name) image h free = not_both h
-list_there ClearExecStack image h free = not_both h
-list_there SetExecStack image h free = not_both h
-list_there (SetPageSize size) image h free = not_both h
-list_there _ image h free = there _ image free.list
+list_there : (edit : Edit) (image : Image) → touches_rest edit ≡ false → is_of_symbols edit ≡ false → IsFree edit (facts_of image) → is_some image.entries ≡ true
+list_there (SetInterpreter bytes) image h k free = not_both h
+list_there (SetOsAbi name) image h k free = not_both h
+list_there ClearExecStack image h k free = not_both h
+list_there SetExecStack image h k free = not_both h
+list_there (SetPageSize size) image h k free = not_both h
+list_there (RenameDynamicSymbols pairs) image h k free = not_both k
+list_there (ClearSymbolVersion name) image h k free = not_both k
+list_there _ image h k free = there _ image free.list
 
-pub listed_in : (edit : Edit) (image : Image) → touches_rest edit ≡ false → IsFree edit (facts_of image) → (es : List Entry) × (image.entries ≡ Some es)
-listed_in edit image h free = by_list image.entries (list_there edit image h free)
+pub listed_in : (edit : Edit) (image : Image) → touches_rest edit ≡ false → is_of_symbols edit ≡ false → IsFree edit (facts_of image) → (es : List Entry) × (image.entries ≡ Some es)
+listed_in edit image h k free = by_list image.entries (list_there edit image h k free)
   where
     by_list : (o : Option (List Entry)) → is_some o ≡ true → (es : List Entry) × (o ≡ Some es)
     by_list None k = absurd (cc)
@@ -318,13 +335,13 @@ same_two : (c c' : Bool) (e e' : Option (List Entry)) (abi : ℕ) (segments : Li
     → image_with c abi segments e interpreter size image ≡ image_with c' abi segments e' interpreter size image
 same_two c c' e e' abi segments interpreter size image changed entries = cc
 
-pub list_written : (edit : Edit) (image : Image) (d : Draft) (made : NewList) → touches_rest edit ≡ false → IsFree edit (facts_of image) → ListsEntries image → IsDraftOf image d
+pub list_written : (edit : Edit) (image : Image) (d : Draft) (made : NewList) → touches_rest edit ≡ false → is_of_symbols edit ≡ false → IsFree edit (facts_of image) → ListsEntries image → IsDraftOf image d
     → ((machine : ℕ) → map entry_model made.entries.items ≡ edited_entries machine edit (unwrap_or (first_there (entries_drafted d) image.entries) []))
     → ((machine : ℕ) → made.is_touched ≡ touches_entries machine edit (unwrap_or (first_there (entries_drafted d) image.entries) []))
     → Writes edit image d (with_list made d)
 unfolding drafted image_with now_listed
-list_written edit image d made kind free listed is list touched =
-    let read = listed_in edit image kind free in
+list_written edit image d made kind other free listed is list touched =
+    let read = listed_in edit image kind other free in
     let now = is_now image d read.0 read.1 listed is in
     by_test made.is_touched
     (λ holds. subst (λ (x : Draft). Writes edit image d x) (sym (cond-true made.is_touched (record d { entries = Some made.entries }) d holds)) (when_touched read.0 now.0 read.1 now.1 holds))
@@ -338,8 +355,8 @@ list_written edit image d made kind free listed is list touched =
 
     -- what the edit makes, by the list with what was written
     edited_parts : edited_image edit (drafted d image) ≡ image_with ((image.changed || is_written d) || is_list_with (touches_entries machine edit) (now_listed image d)) (unwrap_or d.os_abi image.header.os_abi)
-        (with_page_size d.page_size (with_flags d.stack_flags image.segments)) (option_map (edited_entries machine edit) (now_listed image d)) (first_there (text_model d.interpreter) image.interpreter) (first_there d.page_size image.page_size) image
-    edited_parts = rest_stays edit kind (drafted d image)
+        (with_page_size d.page_size (with_flags d.stack_flags image.segments)) (option_map (edited_entries machine edit) (now_listed image d)) (first_there (text_model d.interpreter) image.interpreter) (first_there d.page_size image.page_size) (based image d)
+    edited_parts = rest_stays edit kind other (drafted d image)
 
     when_touched : (read es : List Entry) → image.entries ≡ Some read → IsNow image d read es → made.is_touched ≡ true → Writes edit image d new
     when_touched read es there now holds =
@@ -351,8 +368,8 @@ list_written edit image d made kind free listed is list touched =
           shows =
               same_two (image.changed || is_written new) ((image.changed || is_written d) || is_list_with (touches_entries machine edit) (now_listed image d))
               (Some (map entry_model made.entries.items)) (option_map (edited_entries machine edit) (now_listed image d))
-              (unwrap_or d.os_abi image.header.os_abi) (with_page_size d.page_size (with_flags d.stack_flags image.segments)) (first_there (text_model d.interpreter) image.interpreter) (first_there d.page_size image.page_size) image
-              (written_marks image.changed (is_written d) (is_written new) (or_true (((is_some d.stack_flags || is_some d.page_size) || is_some d.os_abi) || is_some d.interpreter)) ∙ sym (ap (λ b. (image.changed || is_written d) || b) marked))
+              (unwrap_or d.os_abi image.header.os_abi) (with_page_size d.page_size (with_flags d.stack_flags image.segments)) (first_there (text_model d.interpreter) image.interpreter) (first_there d.page_size image.page_size) (based image d)
+              (written_marks image.changed (is_written d) (is_written new) (ap (λ b. b || is_some d.symbols) (or_true (((is_some d.stack_flags || is_some d.page_size) || is_some d.os_abi) || is_some d.interpreter))) ∙ sym (ap (λ b. (image.changed || is_written d) || b) marked))
               (ap Some made_is ∙ sym (ap (option_map (edited_entries machine edit)) now.now))
               ∙ sym edited_parts;
           draft = record {
@@ -360,6 +377,7 @@ list_written edit image d made kind free listed is list touched =
             entries = subst (λ (l : List Entry). All IsListed l) (sym made_is) again.listed;
             interpreter_there = is.interpreter_there;
             interpreter = is.interpreter;
+            symbols = is.symbols;
           };
         }
 
@@ -372,12 +390,80 @@ list_written edit image d made kind free listed is list touched =
           shows =
               same_two (image.changed || is_written d) ((image.changed || is_written d) || is_list_with (touches_entries machine edit) (now_listed image d))
               (now_listed image d) (option_map (edited_entries machine edit) (now_listed image d))
-              (unwrap_or d.os_abi image.header.os_abi) (with_page_size d.page_size (with_flags d.stack_flags image.segments)) (first_there (text_model d.interpreter) image.interpreter) (first_there d.page_size image.page_size) image
+              (unwrap_or d.os_abi image.header.os_abi) (with_page_size d.page_size (with_flags d.stack_flags image.segments)) (first_there (text_model d.interpreter) image.interpreter) (first_there d.page_size image.page_size) (based image d)
               (sym (or_false (image.changed || is_written d)) ∙ sym (ap (λ b. (image.changed || is_written d) || b) marked))
               (now.now ∙ sym (ap Some (untouched machine edit es not_touched)) ∙ sym (ap (option_map (edited_entries machine edit)) now.now))
               ∙ sym edited_parts;
           draft = is;
         }
+
+-- ## The dynamic symbols
+
+alone : (edit : Edit) (image : Image) (touched : Bool) → record image {
+  changed = image.changed || (touched || is_list_with (λ es. false) image.entries);
+  dynamic_symbols = edited_symbols edit image.dynamic_symbols;
+  entries = option_map (λ es. es) image.entries;
+} ≡ record image { changed = image.changed || touched; dynamic_symbols = edited_symbols edit image.dynamic_symbols }
+alone edit image touched =
+    ap (λ b. record image { changed = image.changed || b; dynamic_symbols = edited_symbols edit image.dynamic_symbols; entries = option_map (λ es. es) image.entries }) (ap (λ b. touched || b) (no_list image.entries) ∙ or_false touched)
+    ∙ ap (λ (o : Option (List Entry)). record image { changed = image.changed || touched; dynamic_symbols = edited_symbols edit image.dynamic_symbols; entries = o }) (kept_list image.entries)
+  where
+    no_list : (o : Option (List Entry)) → is_list_with (λ es. false) o ≡ false
+    no_list None = refl
+    no_list (Some es) = refl
+
+-- an edit of the symbols leaves all else
+symbols_alone : (edit : Edit) → is_of_symbols edit ≡ true → (image : Image) → edited_image edit image ≡ record image {
+  changed = image.changed || touches_symbols edit image.dynamic_symbols;
+  dynamic_symbols = edited_symbols edit image.dynamic_symbols;
+}
+unfolding edited_image edited_entries touches_entries image_with
+symbols_alone (RenameDynamicSymbols pairs) h image = alone (RenameDynamicSymbols pairs) image (touches_symbols (RenameDynamicSymbols pairs) image.dynamic_symbols)
+symbols_alone (ClearSymbolVersion name) h image = alone (ClearSymbolVersion name) image (touches_symbols (ClearSymbolVersion name) image.dynamic_symbols)
+symbols_alone _ h image = not_both (sym h)
+
+-- what was written before, with these symbols
+symbols_written_as : (edit : Edit) (image : Image) (d : Draft) (made : EditedList) → is_of_symbols edit ≡ true → touches_symbols edit (symbols_drafted d image.dynamic_symbols) ≡ true
+    → made.symbols ≡ edited_symbols edit (symbols_drafted d image.dynamic_symbols) → drafted (record d { symbols = Some made }) image ≡ edited_image edit (drafted d image)
+unfolding drafted
+symbols_written_as edit image d made kind touched is =
+    ap (λ b. record (drafted (record d { symbols = Some made }) image) { changed = b }) (written_marks image.changed (is_written d) (is_written (record d { symbols = Some made })) (or_true ((((is_some d.stack_flags || is_some d.page_size) || is_some d.os_abi) || is_some d.interpreter) || is_some d.entries))
+    ∙ sym (ap (λ b. (image.changed || is_written d) || b) touched))
+    ∙ ap (λ (l : List NamedSymbol). record (drafted d image) { changed = (image.changed || is_written d) || touches_symbols edit (symbols_drafted d image.dynamic_symbols); dynamic_symbols = l }) is
+    ∙ sym (symbols_alone edit kind (drafted d image))
+
+none_written : (edit : Edit) (image : Image) (d : Draft) → is_of_symbols edit ≡ true → touches_symbols edit (symbols_drafted d image.dynamic_symbols) ≡ false → drafted d image ≡ edited_image edit (drafted d image)
+unfolding drafted
+none_written edit image d kind untouched =
+    sym (symbols_alone edit kind (drafted d image)
+    ∙ ap (λ b. record (drafted d image) { changed = (image.changed || is_written d) || b; dynamic_symbols = edited_symbols edit (symbols_drafted d image.dynamic_symbols) }) untouched
+    ∙ ap (λ b. record (drafted d image) { changed = b; dynamic_symbols = edited_symbols edit (symbols_drafted d image.dynamic_symbols) }) (or_false (image.changed || is_written d))
+    ∙ ap (λ (l : List NamedSymbol). record (drafted d image) { dynamic_symbols = l }) (symbols_untouched edit (symbols_drafted d image.dynamic_symbols) untouched))
+
+-- an edit keeps the names that have to stay, also of symbols that others wrote before
+names_for : (edit : Edit) (image : Image) (ys : List NamedSymbol) → IsFree edit (facts_of image) → can_renumber image ≡ false → texts_of_symbols ys ≡ texts_of_symbols image.dynamic_symbols → texts_of_symbols (edited_symbols edit ys) ≡ texts_of_symbols image.dynamic_symbols
+names_for edit image ys free fixed same = fixed_names_stay edit image ys free fixed same ∙ same
+
+pub symbols_written : (edit : Edit) (image : Image) (d : Draft) (now : EditedList) (made : Option EditedList) → is_of_symbols edit ≡ true → IsFree edit (facts_of image) → IsDraftOf image d
+    → now.symbols ≡ symbols_drafted d image.dynamic_symbols → AreSymbolsFor image now → AreSymbolsAfter edit now made → Writes edit image d (with_symbols made d)
+symbols_written edit image d now None kind free is same for after = record {
+  shows = none_written edit image d kind (sym (ap (touches_symbols edit) same) ∙ after);
+  draft = is;
+}
+symbols_written edit image d now (Some made) kind free is same for after = record {
+  shows = symbols_written_as edit image d made kind (sym (ap (touches_symbols edit) same) ∙ after.0) (ap (λ (e : EditedList). e.symbols) after.1 ∙ ap (edited_symbols edit) same);
+  draft = record {
+    tables = is.tables;
+    entries = is.entries;
+    interpreter_there = is.interpreter_there;
+    interpreter = is.interpreter;
+    symbols = record {
+      read = subst (λ (l : List NamedSymbol). OfRead image (λ read. l ≡ read.dynamic_symbols)) (sym (ap (λ (e : EditedList). e.read) after.1)) for.read;
+      numbers = ap (λ (e : EditedList). e.numbers) after.1 ∙ for.numbers;
+      names = λ fixed. ap (λ (e : EditedList). texts_of_symbols e.symbols) after.1 ∙ names_for edit image now.symbols free fixed (for.names fixed);
+    };
+  };
+}
 
 -- ## Each edit, as it is called
 
@@ -419,9 +505,9 @@ marks_if : {A : Type 0} (part : Option A) (old : Bool) → changed_if part old �
 marks_if None old = sym (or_false old)
 marks_if (Some x) old = sym (or_true old)
 
-or_each : (c a b d e f : Bool) → (((((c || a) || b) || d) || e) || f) ≡ (c || ((((a || b) || d) || e) || f))
-or_each true a b d e f = refl
-or_each false a b d e f = refl
+or_each : (c a b d e f g : Bool) → ((((((c || a) || b) || d) || e) || f) || g) ≡ (c || (((((a || b) || d) || e) || f) || g))
+or_each true a b d e f g = refl
+or_each false a b d e f g = refl
 
 -- a text is kept where there is one
 kept_there : (o : Option StringValue) → is_some (text_model o) ≡ is_some o
@@ -429,23 +515,21 @@ kept_there None = refl
 kept_there (Some text) = refl
 
 -- part by part, all of it is put in place
-pub put_together : (d : Draft) (image : Image) → with_entries_put d.entries (with_interpreter_put (text_model d.interpreter) (with_os_abi_put d.os_abi (with_page_size_put d.page_size (with_flags_put d.stack_flags image)))) ≡ drafted d image
+pub put_together : (d : Draft) (image : Image) → with_symbols_put d.symbols (with_entries_put d.entries (with_interpreter_put (text_model d.interpreter) (with_os_abi_put d.os_abi (with_page_size_put d.page_size (with_flags_put d.stack_flags image))))) ≡ drafted d image
 unfolding drafted image_with
 put_together d image =
-    ap (λ changed. image_with changed (unwrap_or d.os_abi image.header.os_abi) (with_page_size d.page_size (with_flags d.stack_flags image.segments)) (first_there (entries_drafted d) image.entries) (first_there (text_model d.interpreter) image.interpreter) (first_there d.page_size image.page_size) image) marked
+    ap (λ changed. image_with changed (unwrap_or d.os_abi image.header.os_abi) (with_page_size d.page_size (with_flags d.stack_flags image.segments)) (first_there (entries_drafted d) image.entries) (first_there (text_model d.interpreter) image.interpreter) (first_there d.page_size image.page_size) (based image d)) marked
   where
-    flagged : Bool
-    flagged = changed_if d.stack_flags image.changed
-
-    marked : changed_if d.entries (changed_if (text_model d.interpreter) (changed_if d.os_abi (changed_if d.page_size (changed_if d.stack_flags image.changed)))) ≡ (image.changed || is_written d)
+    marked : changed_if d.symbols (changed_if d.entries (changed_if (text_model d.interpreter) (changed_if d.os_abi (changed_if d.page_size (changed_if d.stack_flags image.changed))))) ≡ (image.changed || is_written d)
     marked =
-        marks_if d.entries (changed_if (text_model d.interpreter) (changed_if d.os_abi (changed_if d.page_size (changed_if d.stack_flags image.changed))))
+        marks_if d.symbols (changed_if d.entries (changed_if (text_model d.interpreter) (changed_if d.os_abi (changed_if d.page_size (changed_if d.stack_flags image.changed)))))
+        ∙ ap (λ b. b || is_some d.symbols) (marks_if d.entries (changed_if (text_model d.interpreter) (changed_if d.os_abi (changed_if d.page_size (changed_if d.stack_flags image.changed))))
         ∙ ap (λ b. b || is_some d.entries) (marks_if (text_model d.interpreter) (changed_if d.os_abi (changed_if d.page_size (changed_if d.stack_flags image.changed)))
         ∙ ap (λ b. b || is_some (text_model d.interpreter)) (marks_if d.os_abi (changed_if d.page_size (changed_if d.stack_flags image.changed))
         ∙ ap (λ b. b || is_some d.os_abi) (marks_if d.page_size (changed_if d.stack_flags image.changed)
-        ∙ ap (λ b. b || is_some d.page_size) (marks_if d.stack_flags image.changed))))
-        ∙ or_each image.changed (is_some d.stack_flags) (is_some d.page_size) (is_some d.os_abi) (is_some (text_model d.interpreter)) (is_some d.entries)
-        ∙ ap (λ b. image.changed || ((((is_some d.stack_flags || is_some d.page_size) || is_some d.os_abi) || b) || is_some d.entries)) (kept_there d.interpreter)
+        ∙ ap (λ b. b || is_some d.page_size) (marks_if d.stack_flags image.changed)))))
+        ∙ or_each image.changed (is_some d.stack_flags) (is_some d.page_size) (is_some d.os_abi) (is_some (text_model d.interpreter)) (is_some d.entries) (is_some d.symbols)
+        ∙ ap (λ b. image.changed || (((((is_some d.stack_flags || is_some d.page_size) || is_some d.os_abi) || b) || is_some d.entries) || is_some d.symbols)) (kept_there d.interpreter)
 
 -- the flags of a stack that is there, and one that is added
 flags_at_first : (b : Bool) (flags : ℕ) (p : SegmentHeader) (ps : List SegmentHeader) → with_stack_flags flags ps ≡ with_stack_changed (λ _. flags) ps
@@ -517,3 +601,49 @@ retagged_none old new image found is fails =
     by_list : (o : Option (List Entry)) → lists_tag old (unwrap_or o []) ≡ false → option_map (with_tags_changed old new) o ≡ o
     by_list None h = refl
     by_list (Some es) h = ap Some (none_retagged old new es h)
+
+-- ## Symbols that are put in place
+
+-- an image in which names have to stay has those that were read
+pub can_put_symbols : (image : Image) (edited : EditedList) → IsEdited image → AreSymbolsFor image edited → IsPutFor image edited
+can_put_symbols image edited is for = record {
+  read = for.read;
+  numbers = for.numbers;
+  names = λ read is_read changed. by_test (can_renumber image)
+      (λ holds. holds)
+      (λ fails. tables_of_read read is_read
+      (ap (λ (l : List (List ℕ)). not (are_same_texts (texts_of_symbols read.dynamic_symbols) l)) (sym (for.names fails)) ∙ changed));
+}
+  where
+    tables_of_read : (read : Image) → image_of image.source ≡ Ok read → are_names_changed read image ≡ true → can_renumber image ≡ true
+    tables_of_read read is_read changed =
+        let both : Ok is.read ≡ Ok read = sym is.is_read ∙ is_read in
+        let same : is.read ≡ read = cc in
+        is.is_edit.complete.tables (ap (λ (r : Image). are_names_changed r image) same ∙ changed)
+
+pub symbols_put : (image : Image) (edited : EditedList) → edited.numbers ≡ image.dynamic_symbol_numbers → with_dynamic_symbols edited image ≡ with_symbols_put (Some edited) image
+symbols_put image edited same = ap (λ (l : List ℕ). record image { changed = true; dynamic_symbols = edited.symbols; dynamic_symbol_numbers = l }) same
+
+-- the symbols of a draft, or those that the image has
+pub symbols_of_draft : (image : Image) (d : Draft) (made : EditedList) → IsDraftOf image d → Some made ≡ d.symbols → (made.symbols ≡ symbols_drafted d image.dynamic_symbols) × AreSymbolsFor image made
+symbols_of_draft image d made is there = (
+  ap (λ (o : Option EditedList). elim o as (λ _. List NamedSymbol) [ None ↦ image.dynamic_symbols | Some e ↦ e.symbols ]) there,
+  subst (λ (o : Option EditedList). IfSome o (AreSymbolsFor image)) (sym there) is.symbols,
+)
+
+pub symbols_of_image : (image : Image) (d : Draft) (held : EditedList) → None ≡ d.symbols → OfRead image (λ read. held.read ≡ read.dynamic_symbols) → held.numbers ≡ image.dynamic_symbol_numbers → held.symbols ≡ image.dynamic_symbols
+    → (held.symbols ≡ symbols_drafted d image.dynamic_symbols) × AreSymbolsFor image held
+symbols_of_image image d held none read numbers symbols = (
+  symbols ∙ ap (λ (o : Option EditedList). elim o as (λ _. List NamedSymbol) [ None ↦ image.dynamic_symbols | Some e ↦ e.symbols ]) none,
+  record { read = read; numbers = numbers; names = λ fixed. ap texts_of_symbols symbols },
+)
+
+-- symbols that may be put in place, also after other parts were
+pub symbols_still_for : (old now : Image) (o : Option EditedList) → IfSome o (AreSymbolsFor old) → now.source ≡ old.source → now.dynamic_symbol_numbers ≡ old.dynamic_symbol_numbers → now.dynamic_symbols ≡ old.dynamic_symbols
+    → can_renumber now ≡ can_renumber old → IfSome o (AreSymbolsFor now)
+symbols_still_for old now None h source numbers symbols can = tt
+symbols_still_for old now (Some edited) h source numbers symbols can = record {
+  read = λ read is_read. h.read read (ap image_of (sym source) ∙ is_read);
+  numbers = h.numbers ∙ sym numbers;
+  names = λ fixed. h.names (sym can ∙ fixed) ∙ sym (ap texts_of_symbols symbols);
+}

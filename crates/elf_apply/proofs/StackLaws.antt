@@ -10,8 +10,7 @@ use Rattle.elf_image.specs.Lending.{with_segments}
 use Rattle.elf_image.specs.Options.{first_there}
 use Rattle.elf_image.specs.Segments.{with_stack_added, with_stack_flags}
 use Rattle.elf_edits.specs.declared.constants.TheConstants.{STACK_FLAGS}
-use Rattle.elf_edits.specs.declared.facts.Facts.{Facts}
-use Rattle.elf_edits.specs.Cause.{Cause, MipsImage, TooManyHeaders, cause_if, facts_of}
+use Rattle.elf_edits.specs.Cause.{Cause, Facts, MipsImage, TooManyHeaders, cause_if, facts_of}
 use Rattle.elf_apply.specs.Drafted.{stack_flags_of}
 use Rattle.elf_apply.specs.StackLent.{stack_cause, with_stack}
 use Rattle.elf_apply.proofs.DraftLaws.{flags_added, flags_there}

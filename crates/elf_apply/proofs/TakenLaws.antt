@@ -6,9 +6,8 @@ use Rattle.elf_image.specs.Dynamic.{Entry}
 use Rattle.elf_image.specs.Image.{Image, lists_tag}
 use Rattle.elf_image.specs.Options.{first_there}
 use Rattle.elf_edits.specs.declared.edit.ElfEdit.{ElfEdit}
-use Rattle.elf_edits.specs.declared.facts.Facts.{Facts}
 use Rattle.elf_edits.specs.Batch.{Refusal, answer_at, run, run_from, then_on}
-use Rattle.elf_edits.specs.Cause.{BadPageSize, Cause, MipsImage, NoDynamic, cause, cause_if, facts_of, first_cause, is_page_size}
+use Rattle.elf_edits.specs.Cause.{BadPageSize, Cause, Facts, MipsImage, NoDynamic, cause, cause_if, facts_of, first_cause, is_page_size}
 use Rattle.elf_edits.specs.Decided.{all_edited, first_refusal, unless_refused}
 use Rattle.elf_edits.specs.Edit.{Edit, SetPageSize, UseRpath, UseRunpath, edited_entries, touches_entries}
 use Rattle.elf_edits.specs.EditModel.{edit_model}

@@ -7,7 +7,12 @@ use Rattle.elf_image.specs.DynamicList.{IsListed, KeepsTables, without_tag}
 use Rattle.elf_image.specs.File.{segment_of_type}
 use Rattle.elf_image.specs.Image.{Image, lists_tag}
 use Rattle.elf_image.specs.ImageModel.{entry_model, text_model}
+use Rattle.elf_image.specs.Names.{texts_of_symbols}
 use Rattle.elf_image.specs.Options.{first_there}
+use Rattle.elf_image.specs.Renumbering.{can_renumber}
+use Rattle.elf_image.specs.SymbolsRead.{OfRead}
+use Rattle.elf_image.specs.Views.{NamedSymbol}
+use Rattle.elf_image_symbol_edits.specs.EditedList.{EditedList}
 use Rattle.elf_edits.specs.declared.constants.TheConstants.{STACK_FLAGS}
 use Rattle.elf_edits.specs.Edit.{all_but_last, edited_entries}
 use Rattle.elf_edits.specs.Edited.{with_load_align, with_stack_changed}
@@ -28,9 +33,13 @@ use Rattle.elf_apply.specs.declared.draft.Draft.{Draft}
 abbrev pub entries_drafted : Draft → Option (List Entry)
 entries_drafted d = option_map (λ list. map entry_model list.items) d.entries
 
+-- the dynamic symbols with what was written
+abbrev pub symbols_drafted : Draft → List NamedSymbol → List NamedSymbol
+symbols_drafted d symbols = elim d.symbols [ None ↦ symbols | Some edited ↦ edited.symbols ]
+
 -- some part was written
 abbrev pub is_written : Draft → Bool
-is_written d = (((is_some d.stack_flags || is_some d.page_size) || is_some d.os_abi) || is_some d.interpreter) || is_some d.entries
+is_written d = ((((is_some d.stack_flags || is_some d.page_size) || is_some d.os_abi) || is_some d.interpreter) || is_some d.entries) || is_some d.symbols
 
 -- the program header of the stack with these flags, where they were written; without one, one is added last
 abbrev pub with_flags : Option ℕ → List SegmentHeader → List SegmentHeader
@@ -48,6 +57,7 @@ drafted d image = record image {
   changed = image.changed || is_written d;
   header = record image.header { os_abi = unwrap_or d.os_abi image.header.os_abi };
   segments = with_page_size d.page_size (with_flags d.stack_flags image.segments);
+  dynamic_symbols = symbols_drafted d image.dynamic_symbols;
   entries = first_there (entries_drafted d) image.entries;
   interpreter = first_there (text_model d.interpreter) image.interpreter;
   page_size = first_there d.page_size image.page_size;
@@ -65,12 +75,19 @@ flags_now d segments = unwrap_or d.stack_flags (stack_flags_of segments)
 abbrev pub ListsEntries : Image → Type 0
 ListsEntries image = All IsListed (unwrap_or image.entries [])
 
+-- edited symbols of an image: of those that were read, with none gone; with the image's names where these have to stay
+pub record AreSymbolsFor (image : Image) (edited : EditedList) : Type 0 where
+  pub read : OfRead image (λ read. edited.read ≡ read.dynamic_symbols)
+  pub numbers : edited.numbers ≡ image.dynamic_symbol_numbers
+  pub names : can_renumber image ≡ false → texts_of_symbols edited.symbols ≡ texts_of_symbols image.dynamic_symbols
+
 -- what was written may be put in place
 pub record IsDraftOf (image : Image) (d : Draft) : Type 0 where
   pub tables : IfSome (entries_drafted d) (KeepsTables image.entries)
   pub entries : IfSome (entries_drafted d) (All IsListed)
   pub interpreter_there : IfSome (text_model d.interpreter) (λ _. IsSome image.interpreter)
   pub interpreter : IfSome (text_model d.interpreter) (λ bytes. holds_nul (all_but_last bytes) ≡ false)
+  pub symbols : IfSome d.symbols (AreSymbolsFor image)
 
 -- a draft of an image that shows another one
 pub record OnlyShows (image shown : Image) (d : Draft) : Type 0 where
@@ -84,6 +101,11 @@ Writes edit image old new = OnlyShows image (edited_image edit (drafted old imag
 -- a list that was made, where the edit wrote something
 abbrev pub with_list : NewList → Draft → Draft
 with_list made d = if made.is_touched then record d { entries = Some made.entries } else d
+
+-- symbols that were made, where the edit wrote something
+abbrev pub with_symbols : Option EditedList → Draft → Draft
+with_symbols None d = d
+with_symbols (Some made) d = record d { symbols = Some made }
 
 -- ## Putting it in place, part by part
 
@@ -106,6 +128,9 @@ with_interpreter_put bytes image = record image { changed = changed_if bytes ima
 
 abbrev pub with_entries_put : Option (Vec Dynamic Global) → Image → Image
 with_entries_put list image = record image { changed = changed_if list image.changed; entries = first_there (option_map (λ l. map entry_model l.items) list) image.entries }
+
+abbrev pub with_symbols_put : Option EditedList → Image → Image
+with_symbols_put symbols image = record image { changed = changed_if symbols image.changed; dynamic_symbols = elim symbols [ None ↦ image.dynamic_symbols | Some edited ↦ edited.symbols ] }
 
 -- an interpreter is there, and the bytes have a NUL last alone
 pub record CanPutInterpreter (image : Image) (bytes : Option (List ℕ)) : Type 0 where

@@ -2,7 +2,7 @@
 use Rattle.std.specs.Prelude.{ℕ, ◌≡◌, Option, Some, None, Result, Err, string_bytes}
 use Rattle.elf_image.specs.Image.{Image}
 use Rattle.elf_edits.specs.Batch.{Refusal}
-use Rattle.elf_edits.specs.Cause.{BadPageSize, Cause, MipsImage, NoDynamic, NoInterpreter, NoRunPath, NulInText, TooManyHeaders, UnknownAbi}
+use Rattle.elf_edits.specs.Cause.{BadPageSize, CannotRenumber, Cause, MipsImage, NoDynamic, NoInterpreter, NoRunPath, NulInText, TooManyHeaders, UnknownAbi}
 use Rattle.elf_edits.specs.declared.cause.Cause.{Cause as CauseFound}
 use Rattle.elf_edits.specs.Edit.{words_of}
 use Rattle.elf_edits.specs.CauseModel.{cause_model}
@@ -21,10 +21,10 @@ cause_told (told.BadPageSize size) = Some (BadPageSize size)
 cause_told told.NoRunPath = Some NoRunPath
 cause_told told.NulInText = Some NulInText
 cause_told told.MipsImage = Some MipsImage
+cause_told told.CannotRenumber = Some CannotRenumber
 cause_told told.TooManyHeaders = Some TooManyHeaders
 cause_told told.Overlap = None
 cause_told told.SymbolInRelocation = None
-cause_told told.CannotRenumber = None
 cause_told told.SectionInUse = None
 
 -- the answer is a refusal for this cause

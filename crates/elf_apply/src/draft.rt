@@ -1,20 +1,22 @@
 //! The parts of an image that edits wrote, before they are put in place.
-ghost use Rattle.std.specs.Prelude.{◌≡◌, [], false, IfOk, MatchResult, None as none, Some as some, map, option_map, unwrap_or};
+ghost use Rattle.std.specs.Prelude.{◌≡◌, [], false, true, IfOk, IfSome, MatchResult, None as none, Some as some, map, option_map, unwrap_or};
 ghost use Rattle.patch_bytes.specs.ByteString.{owned_string};
 ghost use Rattle.elf_edits.specs.Abi.{with_nul as stored_with_nul};
 ghost use Rattle.elf_edits.specs.Cause.{facts_of, first_cause};
+ghost use Rattle.elf_edits.specs.Edit.{is_of_symbols};
 ghost use Rattle.elf_edits.specs.EditModel.{edit_model};
 ghost use Rattle.elf_edits.specs.Edited.{touches_rest};
 ghost use Rattle.elf_image.specs.Image.{Image};
 ghost use Rattle.elf_image.specs.ImageModel.{entry_model, text_model};
 ghost use Rattle.elf_image.specs.Options.{first_there};
-ghost use Rattle.elf_apply.specs.Drafted.{CanPutEntries, CanPutInterpreter, IsDraftOf, ListsEntries, OnlyShows, Writes, drafted, entries_drafted, flags_now, with_entries_put, with_flags_put, with_interpreter_put, with_list, with_os_abi_put, with_page_size_put};
+ghost use Rattle.elf_apply.specs.Drafted.{AreSymbolsFor, CanPutEntries, CanPutInterpreter, IsDraftOf, ListsEntries, OnlyShows, Writes, drafted, entries_drafted, flags_now, symbols_drafted, with_entries_put, with_flags_put, with_interpreter_put, with_list, with_os_abi_put, with_page_size_put, with_symbols, with_symbols_put};
 
 use elf_edits::abi::{abi_number, with_nul};
 use elf_edits::constants::STACK_FLAGS;
-use elf_edits::{ElfEdit, NewList, edit_list};
+use elf_edits::{ElfEdit, NewList, edit_list, edit_symbols};
 use elf_image::constants::PF_X;
 use elf_image::{Builder, Dynamic};
+use elf_image_symbol_edits::EditedSymbols;
 use patch_bytes::ByteString;
 use std::alloc::{AllocError, Global};
 
@@ -26,6 +28,7 @@ pub(crate) struct Draft<'data> {
     os_abi: Option<u8>,
     stack_flags: Option<u32>,
     page_size: Option<u32>,
+    symbols: Option<EditedSymbols<'data>>,
 }
 
 impl<'data> Draft<'data> {
@@ -39,6 +42,7 @@ impl<'data> Draft<'data> {
             os_abi: None,
             stack_flags: None,
             page_size: None,
+            symbols: None,
         }
     }
 
@@ -59,6 +63,28 @@ impl<'data> Draft<'data> {
     {
         if made.is_touched {
             self.entries = Some(made.entries);
+        }
+    }
+
+    // The dynamic symbols with what was written.
+    fn symbols<'s>(&'s self, builder: &'s Builder<'data>) -> &'s EditedSymbols<'data>
+        requires { IsDraftOf builder.now self.now }
+        ensures symbols { result.now.symbols
+            ≡ symbols_drafted self.now builder.now.dynamic_symbols }
+        ensures whole { AreSymbolsFor builder.now result.now }
+    {
+        match &self.symbols {
+            Some(symbols) => symbols,
+            None => builder.edited_dynamic_symbols(),
+        }
+    }
+
+    // Notes the symbols that an edit made, where the edit wrote something.
+    fn note_symbols(&mut self, made: Option<EditedSymbols<'data>>)
+        ensures { self.new ≡ with_symbols made.entry self.old }
+    {
+        if let Some(made) = made {
+            self.symbols = Some(made);
         }
     }
 
@@ -86,6 +112,23 @@ impl<'data> Draft<'data> {
         Ok(())
     }
 
+    // Writes what an edit of the dynamic symbols makes.
+    fn write_symbols(
+        &mut self,
+        alloc: Global,
+        builder: &Builder<'data>,
+        edit: &ElfEdit,
+    ) -> Result<(), AllocError>
+        requires symbols { is_of_symbols (edit_model edit.now) ≡ true }
+        requires free { first_cause (edit_model edit.now) (facts_of builder.now) ≡ none }
+        requires draft { IsDraftOf builder.now self.old }
+        ensures { IfOk result (λ _. Writes (edit_model edit.now) builder.now self.old self.new) }
+    {
+        let made = edit_symbols(alloc, edit, self.symbols(builder))?;
+        self.note_symbols(made);
+        Ok(())
+    }
+
     // Writes what an edit of the dynamic list makes.
     fn write_list(
         &mut self,
@@ -94,6 +137,7 @@ impl<'data> Draft<'data> {
         edit: &ElfEdit,
     ) -> Result<(), AllocError>
         requires list { touches_rest (edit_model edit.now) ≡ false }
+        requires no_symbols { is_of_symbols (edit_model edit.now) ≡ false }
         requires free { first_cause (edit_model edit.now) (facts_of builder.now) ≡ none }
         requires listed { ListsEntries builder.now }
         requires draft { IsDraftOf builder.now self.old }
@@ -136,6 +180,8 @@ impl<'data> Draft<'data> {
                 self.page_size = Some(*size);
                 Ok(())
             }
+            ElfEdit::RenameDynamicSymbols(_) => self.write_symbols(alloc, builder, edit),
+            ElfEdit::ClearSymbolVersion(_) => self.write_symbols(alloc, builder, edit),
             edit_of_list => self.write_list(alloc, builder, edit_of_list),
         }
     }
@@ -157,12 +203,14 @@ impl<'data> Draft<'data> {
             os_abi,
             stack_flags,
             page_size,
+            symbols,
         } = self;
         put_stack_flags(alloc, builder, stack_flags)?;
         put_page_size(builder, page_size);
         put_os_abi(builder, os_abi);
         put_interpreter(builder, interpreter);
         put_entries(builder, entries);
+        put_symbols(builder, symbols);
         Ok(())
     }
 }
@@ -226,5 +274,16 @@ fn put_entries<'data>(builder: &mut Builder<'data>, list: Option<Vec<Dynamic<'da
 {
     if let Some(list) = list {
         builder.set_dynamic(list);
+    }
+}
+
+fn put_symbols<'data>(builder: &mut Builder<'data>, symbols: Option<EditedSymbols<'data>>)
+    requires { IfSome symbols (AreSymbolsFor builder.old) }
+    ensures { builder.new ≡ with_symbols_put symbols.entry builder.old }
+{
+    // an image has other names than were read only where they can change
+    let _source = builder.source();
+    if let Some(symbols) = symbols {
+        builder.put_dynamic_symbols(symbols);
     }
 }

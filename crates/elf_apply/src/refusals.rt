@@ -27,6 +27,7 @@ pub(crate) fn cause_error(alloc: Global, cause: Cause<'_>) -> ElfError
         Cause::UnknownAbi(name) => unknown_abi(alloc, name),
         Cause::BadPageSize(size) => ElfError::Modify(ModifyCause::BadPageSize(size)),
         Cause::NoRunPath => ElfError::Modify(ModifyCause::NoRunPath),
+        Cause::CannotRenumber => ElfError::Modify(ModifyCause::CannotRenumber),
         Cause::TooManyHeaders => ElfError::Modify(ModifyCause::TooManyHeaders),
     }
 }
@@ -42,7 +43,7 @@ fn unknown_abi(alloc: Global, name: &str) -> ElfError
 }
 
 // Why a dynamic list can't be edited, whatever the edit writes. Takes no memory.
-pub(crate) fn list_refusal(facts: &Facts, task: Task) -> Option<ModifyCause>
+pub(crate) fn list_refusal(facts: &Facts<'_>, task: Task) -> Option<ModifyCause>
     ensures { option_map cause_told result
         ≡ option_map some (first_there (cause_if (facts.now.machine == MIPS) mips_image)
         (cause_if (not facts.now.has_list) (no_dynamic (words_of task)))) }
@@ -57,7 +58,7 @@ pub(crate) fn list_refusal(facts: &Facts, task: Task) -> Option<ModifyCause>
 }
 
 // Why the page size can't be set. Takes no memory.
-pub(crate) fn page_size_refusal(facts: &Facts, size: u32) -> Option<ModifyCause>
+pub(crate) fn page_size_refusal(facts: &Facts<'_>, size: u32) -> Option<ModifyCause>
     ensures { option_map cause_told result
         ≡ option_map some (first_there (cause_if (facts.now.machine == MIPS) mips_image)
         (cause_if (not (is_page_size size)) (bad_page_size size))) }
@@ -72,7 +73,7 @@ pub(crate) fn page_size_refusal(facts: &Facts, size: u32) -> Option<ModifyCause>
 }
 
 // Why no program header for the stack can be added. Takes no memory.
-pub(crate) fn stack_refusal(facts: &Facts) -> Option<ModifyCause>
+pub(crate) fn stack_refusal(facts: &Facts<'_>) -> Option<ModifyCause>
     ensures { option_map cause_told result
         ≡ option_map some (first_there (cause_if (facts.now.machine == MIPS) mips_image)
         (cause_if facts.now.is_full too_many_headers)) }

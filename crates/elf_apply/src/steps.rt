@@ -5,6 +5,7 @@ ghost use Rattle.elf_edits.specs.Cause.{MipsImage as mips_image, cause_if, facts
 ghost use Rattle.elf_edits.specs.Decided.{all_edited, first_refusal as first_refusal_of};
 ghost use Rattle.elf_edits.specs.Edit.{SetPageSize, UseRpath, UseRunpath, dropped_tags, task_of};
 ghost use Rattle.elf_edits.specs.EditModel.{edit_model};
+ghost use Rattle.elf_edits.specs.Facts.{facts_model};
 ghost use Rattle.elf_edits.specs.Texts.{has_some};
 ghost use Rattle.elf_format.specs.declared.constants.TheConstants.{EM_MIPS as MIPS};
 ghost use Rattle.elf_image.specs.DynamicList.{can_follow, is_free_tag};
@@ -53,16 +54,21 @@ fn draft_of<'data>(
 }
 
 // The first edit that is refused, and why.
-fn first_refusal<'e>(edits: &'e [ElfEdit], facts: &Facts) -> Option<(usize, Cause<'e>)>
-    ensures { option_map refusal_model result
-        ≡ first_refusal_of facts.now 0 (edits_model edits.now) }
+fn first_refusal<'e>(
+    alloc: Global,
+    edits: &'e [ElfEdit],
+    facts: &Facts<'_>,
+) -> std::result::Result<Option<(usize, Cause<'e>)>, AllocError>
+    ensures { IfOk result (λ found. option_map refusal_model found
+        ≡ first_refusal_of (facts_model facts.now) 0 (edits_model edits.now)) }
 {
     for (index, edit) in edits.iter().enumerate() {
-        if let Some(cause) = cause_of(edit, facts) {
-            return Some((index, cause));
+        let found = cause_of(alloc, edit, facts)?;
+        if let Some(cause) = found {
+            return Ok(Some((index, cause)));
         }
     }
-    None
+    Ok(None)
 }
 
 /// A batch of edits: all of them, or none. An empty batch is accepted without memory. The error tells the edit that was
@@ -78,7 +84,8 @@ pub fn apply(
     if edits.is_empty() {
         return Ok(());
     }
-    if let Some((index, cause)) = first_refusal(edits, &image_facts(builder)) {
+    let refusal = first_refusal(alloc, edits, &image_facts(builder))?;
+    if let Some((index, cause)) = refusal {
         let fault = cause_error(alloc, cause);
         return Err(ElfBatchError { index, fault });
     }
@@ -136,11 +143,11 @@ fn drop_tags(builder: &mut Builder<'_>, tags: &[u64])
 }
 
 // Why the dynamic list can't be edited, whatever the edit writes.
-fn list_cause(edit: &ElfEdit, facts: &Facts) -> Option<ModifyCause>
+fn list_cause(edit: &ElfEdit, facts: &Facts<'_>) -> Option<ModifyCause>
     requires { IsSome (task_of (edit_model edit.now)) }
     ensures { option_map cause_told result
         ≡ option_map some (first_there (cause_if (facts.now.machine == MIPS) mips_image)
-        (list_missing (task_of (edit_model edit.now)) facts.now)) }
+        (list_missing (task_of (edit_model edit.now)) (facts_model facts.now))) }
 {
     match edit.task() {
         Some(task) => list_refusal(facts, task),

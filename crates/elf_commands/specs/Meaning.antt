@@ -1,8 +1,8 @@
 -- What a command for ELF files asks for, with its texts as bytes.
 use Rattle.std.specs.Prelude.{ℕ, ◌∷◌, [], List, Option, Some, None, Result, Ok, Err, codes, false, map, true}
 use Rattle.std.specs.Prelude.{string_bytes}
-use Rattle.elf_edits.specs.Edit.{Edit, AddDebugEntry, AddNeeded, AddRunPath, ClearExecStack, DeleteNeeded}
-use Rattle.elf_edits.specs.Edit.{DeleteRunPath, NoDefaultLibrary, ReplaceNeeded, SetExecStack}
+use Rattle.elf_edits.specs.Edit.{Edit, AddDebugEntry, AddNeeded, AddRunPath, ClearExecStack, ClearSymbolVersion, DeleteNeeded}
+use Rattle.elf_edits.specs.Edit.{DeleteRunPath, NoDefaultLibrary, RenameDynamicSymbols, ReplaceNeeded, SetExecStack}
 use Rattle.elf_edits.specs.Edit.{SetInterpreter, SetOsAbi, SetPageSize, SetRunPath, SetSoname, UseRpath}
 use Rattle.command_words.specs.Groups.{Wrong}
 use Rattle.command_words.specs.KeyValue.{decimal_number}
@@ -82,9 +82,11 @@ elf_lines = edit_line (codes "add-debug-tag") (by_none AddDebugEntry)
     ∷ edit_line (codes "set-os-abi") (by_one SetOsAbi)
     ∷ edit_line (codes "set-soname") (by_one SetSoname)
     ∷ edit_line (codes "set-page-size") (by_number SetPageSize)
+    ∷ edit_line (codes "clear-symbol-version") (by_one ClearSymbolVersion)
     ∷ edit_line (codes "add-needed") (by_many AddNeeded)
     ∷ edit_line (codes "remove-needed") (by_many DeleteNeeded)
     ∷ edit_line (codes "replace-needed") (by_pairs ReplaceNeeded)
+    ∷ edit_line (codes "rename-dynamic-symbols") (by_pairs RenameDynamicSymbols)
     ∷ other_line (codes "apply") (by_words (λ path words. Ok (apply_elf path words)))
     ∷ other_line (codes "shrink-rpath")
     (by_options (codes "allowed-rpath-prefixes") 97 (λ path prefixes. Ok (shrink_elf path prefixes)))
@@ -117,12 +119,16 @@ elf_command_model (elf.SetSoname args) =
     edit_elf (SetSoname (string_bytes args.soname)) (string_bytes args.path_to_binary)
 elf_command_model (elf.SetPageSize args) =
     edit_elf (SetPageSize args.page_size) (string_bytes args.path_to_binary)
+elf_command_model (elf.ClearSymbolVersion args) =
+    edit_elf (ClearSymbolVersion (string_bytes args.symbol)) (string_bytes args.path_to_binary)
 elf_command_model (elf.AddNeeded args) =
     edit_elf (AddNeeded (map string_bytes args.dt_needed.items)) (string_bytes args.path_to_binary)
 elf_command_model (elf.RemoveNeeded args) =
     edit_elf (DeleteNeeded (map string_bytes args.dt_needed.items)) (string_bytes args.path_to_binary)
 elf_command_model (elf.ReplaceNeeded args) =
     edit_elf (ReplaceNeeded (map text_pair_model args.dt_needed.items)) (string_bytes args.path_to_binary)
+elf_command_model (elf.RenameDynamicSymbols args) =
+    edit_elf (RenameDynamicSymbols (map text_pair_model args.rename_symbols.items)) (string_bytes args.path_to_binary)
 elf_command_model (elf.Apply args) =
     apply_elf (string_bytes args.path_to_binary) (map string_bytes args.edits.items)
 elf_command_model (elf.ShrinkRpath args) =

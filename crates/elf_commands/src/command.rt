@@ -4,10 +4,11 @@ ghost use Rattle.command_words.specs.Rows.{named_of, row_model};
 ghost use Rattle.elf_commands.specs.Meaning.{elf_lines};
 
 use crate::elf::{
-    add_debug_tag, add_needed, add_rpath, apply, clear_execstack, force_rpath, no_default_lib,
-    path_alone, print_execstack, print_interpreter, print_needed, print_os_abi, print_rpath,
-    print_soname, remove_needed, remove_rpath, replace_needed, set_execstack, set_interpreter,
-    set_os_abi, set_page_size, set_rpath, set_soname, shrink_rpath,
+    add_debug_tag, add_needed, add_rpath, apply, clear_execstack, clear_version_symbol,
+    force_rpath, no_default_lib, path_alone, print_execstack, print_interpreter, print_needed,
+    print_os_abi, print_rpath, print_soname, remove_needed, remove_rpath, rename_dynamic_symbols,
+    replace_needed, set_execstack, set_interpreter, set_os_abi, set_page_size, set_rpath,
+    set_soname, shrink_rpath,
 };
 use crate::texts::{bytes_of, pairs_copied, texts_of};
 use command_words::{
@@ -44,12 +45,16 @@ pub enum ElfCommand {
     SetSoname(set_soname::Args),
     /// Set the page size.
     SetPageSize(set_page_size::Args),
+    /// Clear the version of symbols of a name.
+    ClearSymbolVersion(clear_version_symbol::Args),
     /// Add needed libraries.
     AddNeeded(add_needed::Args),
     /// Remove needed libraries.
     RemoveNeeded(remove_needed::Args),
     /// Replace needed libraries, all at once.
     ReplaceNeeded(replace_needed::Args),
+    /// Rename dynamic symbols, all at once.
+    RenameDynamicSymbols(rename_dynamic_symbols::Args),
     /// Several of these edits, all or none.
     Apply(apply::Args),
     /// Leave directories out of the run path.
@@ -157,6 +162,12 @@ impl ElfCommand {
                 page_size: number_of(value)?,
                 path_to_binary,
             }),
+            clear_version_symbol::NAME => {
+                ElfCommand::ClearSymbolVersion(clear_version_symbol::Args {
+                    symbol: value,
+                    path_to_binary,
+                })
+            }
             _ => return Ok(None),
         }))
     }
@@ -186,6 +197,12 @@ impl ElfCommand {
                 path_to_binary,
                 dt_needed: pairs_of(alloc, words.as_slice())?,
             }),
+            rename_dynamic_symbols::NAME => {
+                ElfCommand::RenameDynamicSymbols(rename_dynamic_symbols::Args {
+                    path_to_binary,
+                    rename_symbols: pairs_of(alloc, words.as_slice())?,
+                })
+            }
             apply::NAME => ElfCommand::Apply(apply::Args {
                 path_to_binary,
                 edits: words,
@@ -231,6 +248,9 @@ impl ElfCommand {
             ElfCommand::SetOsAbi(args) => ElfEdit::SetOsAbi(copied(alloc, &args.os_abi)?),
             ElfCommand::SetSoname(args) => ElfEdit::SetSoname(bytes_of(alloc, &args.soname)?),
             ElfCommand::SetPageSize(args) => ElfEdit::SetPageSize(args.page_size),
+            ElfCommand::ClearSymbolVersion(args) => {
+                ElfEdit::ClearSymbolVersion(bytes_of(alloc, &args.symbol)?)
+            }
             ElfCommand::AddNeeded(args) => {
                 ElfEdit::AddNeeded(texts_of(alloc, args.dt_needed.as_slice())?)
             }
@@ -239,6 +259,9 @@ impl ElfCommand {
             }
             ElfCommand::ReplaceNeeded(args) => {
                 ElfEdit::ReplaceNeeded(pairs_copied(alloc, args.dt_needed.as_slice())?)
+            }
+            ElfCommand::RenameDynamicSymbols(args) => {
+                ElfEdit::RenameDynamicSymbols(pairs_copied(alloc, args.rename_symbols.as_slice())?)
             }
             _ => return Ok(None),
         }))
@@ -276,9 +299,11 @@ impl ElfCommand {
             ElfCommand::SetOsAbi(args) => args.path_to_binary.as_str(),
             ElfCommand::SetSoname(args) => args.path_to_binary.as_str(),
             ElfCommand::SetPageSize(args) => args.path_to_binary.as_str(),
+            ElfCommand::ClearSymbolVersion(args) => args.path_to_binary.as_str(),
             ElfCommand::AddNeeded(args) => args.path_to_binary.as_str(),
             ElfCommand::RemoveNeeded(args) => args.path_to_binary.as_str(),
             ElfCommand::ReplaceNeeded(args) => args.path_to_binary.as_str(),
+            ElfCommand::RenameDynamicSymbols(args) => args.path_to_binary.as_str(),
             ElfCommand::Apply(args) => args.path_to_binary.as_str(),
             ElfCommand::ShrinkRpath(args) => args.path_to_binary.as_str(),
             ElfCommand::PrintRpath(args) => args.path_to_binary.as_str(),
@@ -305,16 +330,18 @@ const ELF_EDITS: &str = "Edits:
   set-os-abi <ABI>
   set-soname <NAME>
   set-page-size <SIZE>
+  clear-symbol-version <SYMBOL>
   add-needed [NEW]...
   remove-needed [OLD]...
   replace-needed [OLD=NEW]...
+  rename-dynamic-symbols [OLD=NEW]...
 
 Example:
   arwen elf apply libgreet.so set-soname libgreet.so.1 + add-rpath /opt/lib
 ";
 
 /// The commands for ELF files.
-pub static ELF_ROWS: [Row; 23] = [
+pub static ELF_ROWS: [Row; 25] = [
     Row {
         name: add_debug_tag::NAME,
         about: "Add an entry for a debugger",
@@ -418,6 +445,16 @@ pub static ELF_ROWS: [Row; 23] = [
         more: "",
     },
     Row {
+        name: clear_version_symbol::NAME,
+        about: "Clear the version of dynamic symbols",
+        form: ValueForm::Text(Value {
+            name: "SYMBOL",
+            help: "Name of the symbols",
+        }),
+        is_edit: true,
+        more: "",
+    },
+    Row {
         name: add_needed::NAME,
         about: "Add needed libraries",
         form: ValueForm::Words(Value {
@@ -440,6 +477,16 @@ pub static ELF_ROWS: [Row; 23] = [
     Row {
         name: replace_needed::NAME,
         about: "Replace needed libraries, all at once",
+        form: ValueForm::Words(Value {
+            name: "OLD=NEW",
+            help: "Pairs of an old and a new name",
+        }),
+        is_edit: true,
+        more: "",
+    },
+    Row {
+        name: rename_dynamic_symbols::NAME,
+        about: "Rename dynamic symbols, all at once",
         form: ValueForm::Words(Value {
             name: "OLD=NEW",
             help: "Pairs of an old and a new name",

@@ -315,6 +315,31 @@ pub mod set_page_size {
     }
 }
 
+/// `clear-symbol-version`: makes the version of symbols of a name that of a global symbol (GNU symbol versioning).
+pub mod clear_version_symbol {
+    use super::{ElfCommand, ElfCommandError, Files, edit_file};
+
+    /// The word that names the command.
+    pub const NAME: &str = "clear-symbol-version";
+
+    /// The values of the command.
+    #[derive(Debug, Drop)]
+    pub struct Args {
+        /// Name of the dynamic symbols.
+        pub symbol: String,
+        /// Path to the file to change.
+        pub path_to_binary: String,
+    }
+
+    /// Edits the file.
+    pub fn execute<R: Files + AllocGlobal>(rt: &R, args: Args) -> Result<(), ElfCommandError>
+        ensures { IfErr result
+            (ElfMayFail (elf_command_model (ElfCommand.ClearSymbolVersion args))) }
+    {
+        edit_file(rt, ElfCommand::ClearSymbolVersion(args))
+    }
+}
+
 /// `add-needed`: adds needed libraries (gABI, Dynamic Section, DT_NEEDED).
 pub mod add_needed {
     use super::{ElfCommand, ElfCommandError, Files, edit_file};
@@ -384,6 +409,31 @@ pub mod replace_needed {
         ensures { IfErr result (ElfMayFail (elf_command_model (ElfCommand.ReplaceNeeded args))) }
     {
         edit_file(rt, ElfCommand::ReplaceNeeded(args))
+    }
+}
+
+/// `rename-dynamic-symbols`: gives dynamic symbols other names, all at once (gABI, Symbol Table, st_name).
+pub mod rename_dynamic_symbols {
+    use super::{ElfCommand, ElfCommandError, Files, edit_file};
+
+    /// The word that names the command.
+    pub const NAME: &str = "rename-dynamic-symbols";
+
+    /// The values of the command.
+    #[derive(Debug, Drop)]
+    pub struct Args {
+        /// Path to the file to change.
+        pub path_to_binary: String,
+        /// Pairs of an old and a new name; of a repeated old name the last pair counts.
+        pub rename_symbols: Vec<(String, String)>,
+    }
+
+    /// Edits the file.
+    pub fn execute<R: Files + AllocGlobal>(rt: &R, args: Args) -> Result<(), ElfCommandError>
+        ensures { IfErr result
+            (ElfMayFail (elf_command_model (ElfCommand.RenameDynamicSymbols args))) }
+    {
+        edit_file(rt, ElfCommand::RenameDynamicSymbols(args))
     }
 }
 

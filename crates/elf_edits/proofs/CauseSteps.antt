@@ -5,8 +5,7 @@ use Rattle.std.specs.List.{list_any}
 use Rattle.std.proofs.lemmas.Bool.{cond-true, cond-false, eq-eqb, ne_eqb, true≢false}
 use Rattle.elf_format.specs.declared.constants.TheConstants.{EM_MIPS}
 use Rattle.elf_image.specs.Options.{first_there}
-use Rattle.elf_edits.specs.declared.facts.Facts.{Facts}
-use Rattle.elf_edits.specs.Cause.{Cause, MipsImage, NulInText, cause_if, first_cause, interpreter_missing, list_missing, own_cause}
+use Rattle.elf_edits.specs.Cause.{Cause, Facts, MipsImage, NulInText, cause_if, first_cause, interpreter_missing, list_missing, own_cause}
 use Rattle.elf_edits.specs.Edit.{Edit, task_of, texts_of}
 use Rattle.elf_edits.specs.Texts.{holds_nul}
 use Rattle.elf_edits.proofs.ListLaws.{first_of_three}

@@ -1,6 +1,6 @@
 -- A batch is decided by the facts at its start.
-use Rattle.std.proofs.Common.{◌≡◌, ℕ, ◌+◌, Bool, true, false, not, ◌&&◌, List, [], ◌∷◌, ◌++◌, length, map, refl, sym, ap, ◌∙◌, Option, Some, None, is_some, option_map, Ok, Err}
-use Rattle.std.specs.Prelude.{◌==◌, is_none, nat_le}
+use Rattle.std.proofs.Common.{◌≡◌, ℕ, ◌+◌, Bool, true, false, not, ◌&&◌, List, [], ◌∷◌, ◌++◌, length, map, refl, sym, ap, subst, ◌∙◌, Option, Some, None, is_some, option_map, Ok, Err}
+use Rattle.std.specs.Prelude.{◌==◌, if◌then◌else◌, is_none, nat_le}
 use Rattle.std.specs.List.{list_any}
 use Rattle.std.proofs.lemmas.Bool.{cond-true, cond-false}
 use Rattle.std.proofs.lemmas.List.{length-map}
@@ -9,17 +9,21 @@ use Rattle.elf_format.specs.declared.records.SegmentHeader.{SegmentHeader}
 use Rattle.elf_image.specs.File.{segment_of_type}
 use Rattle.elf_image.specs.Image.{Image}
 use Rattle.elf_image.specs.Options.{first_there}
+use Rattle.elf_image.specs.Names.{texts_of_symbols}
+use Rattle.elf_image.specs.Renumbering.{can_renumber}
+use Rattle.elf_image.specs.Views.{NamedSymbol}
 use Rattle.elf_edits.specs.declared.edit.ElfEdit.{ElfEdit}
 use Rattle.elf_edits.specs.declared.edit.ElfEdit.TheVariants as edits
 use Rattle.elf_edits.specs.declared.constants.TheConstants.{MOST_SEGMENTS}
-use Rattle.elf_edits.specs.declared.facts.Facts.{Facts}
 use Rattle.elf_edits.specs.Batch.{answer_at, run_from, then_on}
-use Rattle.elf_edits.specs.Cause.{Cause, NoInterpreter, NulInText, MipsImage, TooManyHeaders, cause, cause_if, facts_of, first_cause, has_no_room_for_stack, interpreter_missing, list_missing, own_cause}
+use Rattle.elf_edits.specs.Cause.{CannotRenumber, Cause, Facts, NoInterpreter, NulInText, MipsImage, TooManyHeaders, cause, cause_if, facts_of, first_cause, fixed_names, has_no_room_for_stack, interpreter_missing, list_missing, own_cause}
 use Rattle.elf_edits.specs.Decided.{all_edited, first_refusal, refusal_or, unless_refused}
-use Rattle.elf_edits.specs.Edit.{ClearExecStack, Edit, SetExecStack, SetInterpreter, SetPageSize, edit_model, edited_entries, task_of, texts_of}
+use Rattle.elf_edits.specs.Edit.{ClearExecStack, Edit, RenameDynamicSymbols, SetExecStack, SetInterpreter, SetPageSize, edit_model, edited_entries, edited_symbols, task_of, texts_of}
 use Rattle.elf_edits.specs.Edited.{edited_image, edited_interpreter, edited_segments, step, with_align, with_stack_changed}
+use Rattle.elf_edits.specs.Symbols.{has_new_name, names_behind_first}
 use Rattle.elf_edits.specs.Texts.{holds_nul}
 use Rattle.elf_edits.proofs.ListLaws.{by_test}
+use Rattle.elf_edits.proofs.SymbolLaws.{names_behind, names_stay}
 
 -- ## No cause stands
 
@@ -108,26 +112,44 @@ room_stays (SetPageSize size) image free =
     ∙ ap (λ n. is_none (segment_of_type PT_GNU_STACK image.segments) && nat_le MOST_SEGMENTS n) (length-map image.segments (with_align size))
 room_stays _ image free = refl
 
+-- where names have to stay, an edit has no other one for any of them
+pub no_new_name : (pairs : List (List ℕ × List ℕ)) (image : Image) → IsFree (RenameDynamicSymbols pairs) (facts_of image) → can_renumber image ≡ false → list_any (has_new_name pairs) (names_behind_first image.dynamic_symbols) ≡ false
+no_new_name pairs image free fixed =
+    sym (ap (list_any (has_new_name pairs)) (cond-false (can_renumber image) [] (names_behind_first image.dynamic_symbols) fixed))
+    ∙ stands_not (list_any (has_new_name pairs) (fixed_names image)) CannotRenumber free.own
+
+-- so it leaves them, also in symbols that edits before it made
+pub fixed_names_stay : (edit : Edit) (image : Image) (ys : List NamedSymbol) → IsFree edit (facts_of image) → can_renumber image ≡ false → texts_of_symbols ys ≡ texts_of_symbols image.dynamic_symbols → texts_of_symbols (edited_symbols edit ys) ≡ texts_of_symbols ys
+fixed_names_stay edit image ys free fixed same =
+    names_stay edit ys (λ pairs is. ap (list_any (has_new_name pairs)) (names_behind ys image.dynamic_symbols same) ∙ no_new_name pairs image (subst (λ (e : Edit). IsFree e (facts_of image)) is free) fixed)
+
+names_fixed_again : (edit : Edit) (image : Image) → IsFree edit (facts_of image) → (if can_renumber image then [] else names_behind_first (edited_symbols edit image.dynamic_symbols)) ≡ fixed_names image
+names_fixed_again edit image free = by_test (can_renumber image)
+    (λ holds. cond-true (can_renumber image) [] (names_behind_first (edited_symbols edit image.dynamic_symbols)) holds ∙ sym (cond-true (can_renumber image) [] (names_behind_first image.dynamic_symbols) holds))
+    (λ fails.
+    ap (λ l. if can_renumber image then [] else l) (names_behind (edited_symbols edit image.dynamic_symbols) image.dynamic_symbols (fixed_names_stay edit image image.dynamic_symbols free fails refl)))
+
 -- the facts, with another answer on the run path
 abbrev with_run_path : Bool → Facts → Facts
 with_run_path b facts = record facts { has_run_path = b }
 
-facts_with : ℕ → Bool → Bool → Bool → Bool → Facts
-facts_with machine list path interpreter room = record { machine = machine; has_list = list; has_run_path = path; has_interpreter = interpreter; is_full = room }
+facts_with : ℕ → Bool → Bool → Bool → Bool → List (List ℕ) → Facts
+facts_with machine list path interpreter room names = record { machine = machine; has_list = list; has_run_path = path; has_interpreter = interpreter; is_full = room; fixed_names = names }
 
-same_parts : (m m' : ℕ) (l l' p i i' r r' : Bool) → m ≡ m' → l ≡ l' → i ≡ i' → r ≡ r' → facts_with m l p i r ≡ facts_with m' l' p i' r'
-same_parts m m' l l' p i i' r r' machine list interpreter room = cc
+same_parts : (m m' : ℕ) (l l' p i i' r r' : Bool) (n n' : List (List ℕ)) → m ≡ m' → l ≡ l' → i ≡ i' → r ≡ r' → n ≡ n' → facts_with m l p i r n ≡ facts_with m' l' p i' r' n'
+same_parts m m' l l' p i i' r r' n n' machine list interpreter room names = cc
 
-same_facts : (old new : Facts) → new.machine ≡ old.machine → new.has_list ≡ old.has_list → new.has_interpreter ≡ old.has_interpreter → new.is_full ≡ old.is_full → new ≡ with_run_path new.has_run_path old
+same_facts : (old new : Facts) → new.machine ≡ old.machine → new.has_list ≡ old.has_list → new.has_interpreter ≡ old.has_interpreter → new.is_full ≡ old.is_full → new.fixed_names ≡ old.fixed_names → new ≡ with_run_path new.has_run_path old
 unfolding facts_with
-same_facts old new machine list interpreter room = same_parts new.machine old.machine new.has_list old.has_list new.has_run_path new.has_interpreter old.has_interpreter new.is_full old.is_full machine list interpreter room
+same_facts old new machine list interpreter room names =
+    same_parts new.machine old.machine new.has_list old.has_list new.has_run_path new.has_interpreter old.has_interpreter new.is_full old.is_full new.fixed_names old.fixed_names machine list interpreter room names
 
 pub facts_stay : (edit : Edit) (image : Image) → cause edit image ≡ None → facts_of (edited_image edit image) ≡ with_run_path (facts_of (edited_image edit image)).has_run_path (facts_of image)
 unfolding cause edited_image full lacks_stack
 facts_stay edit image none =
     let free = is_free edit (facts_of image) none in
     same_facts (facts_of image) (facts_of (edited_image edit image)) refl (some_if_changed (edited_entries image.header.e_machine edit) image.entries)
-    (interpreter_stays edit image free) (room_stays edit image free)
+    (interpreter_stays edit image free) (room_stays edit image free) (names_fixed_again edit image free)
 
 -- no edit of a batch asks for the run path
 asks_no_run_path : (edit : ElfEdit) (facts : Facts) (b : Bool) → first_cause (edit_model edit) (with_run_path b facts) ≡ first_cause (edit_model edit) facts

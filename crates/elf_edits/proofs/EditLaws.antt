@@ -11,9 +11,8 @@ use Rattle.elf_image.specs.Dynamic.{Auto, Entry, Integer, Text}
 use Rattle.elf_image.specs.DynamicList.{IsListed, is_free_tag, table_tag}
 use Rattle.elf_image.specs.Image.{lists_tag}
 use Rattle.elf_edits.specs.declared.constants.TheConstants.{DF_1_NODEFLIB}
-use Rattle.elf_edits.specs.declared.facts.Facts.{Facts}
-use Rattle.elf_edits.specs.Cause.{interpreter_missing, own_cause}
-use Rattle.elf_edits.specs.Edit.{AddDebugEntry, AddNeeded, AddRunPath, DeleteNeeded, DeleteRunPath, Edit, NoDefaultLibrary, ReplaceNeeded, SetRunPath, SetSoname, ShrinkRunPath, UseRpath, UseRunpath, dropped_tags, edited_entries, task_of, texts_of, touches_entries}
+use Rattle.elf_edits.specs.Cause.{Facts, interpreter_missing, own_cause}
+use Rattle.elf_edits.specs.Edit.{AddDebugEntry, AddNeeded, AddRunPath, DeleteNeeded, DeleteRunPath, Edit, NoDefaultLibrary, ReplaceNeeded, SetRunPath, SetSoname, ShrinkRunPath, UseRpath, UseRunpath, dropped_tags, edited_entries, is_of_symbols, task_of, texts_of, touches_entries}
 use Rattle.elf_edits.specs.Edited.{touches_rest}
 use Rattle.elf_edits.specs.Entries.{changed_where, directories_removed, has_one_of, has_tag, is_run_path, needs_one_of, not_needed_yet, search_of, text_if, with_bits, with_each_added, with_tag, with_text, with_text_changed, without_tags}
 use Rattle.elf_edits.specs.Shrunk.{shrunk_text}
@@ -191,6 +190,7 @@ pub record DropsTags (edit : Edit) (task : List ℕ) : Type 0 where
   pub no_interpreter : (facts : Facts) → interpreter_missing edit facts ≡ None
   pub no_own : (facts : Facts) → own_cause edit facts ≡ None
   pub of_list : touches_rest edit ≡ false
+  pub no_symbols : is_of_symbols edit ≡ false
   pub free : AllPass is_free_tag (dropped_tags edit)
   pub entries : (machine : ℕ) (es : List Entry) → edited_entries machine edit es ≡ without_tags (dropped_tags edit) es
   pub touched : (machine : ℕ) (es : List Entry) → touches_entries machine edit es ≡ list_any (has_one_of (dropped_tags edit)) es
@@ -215,6 +215,7 @@ drops_tags DeleteRunPath some = (
     no_interpreter = λ facts. refl;
     no_own = λ facts. refl;
     of_list = refl;
+    no_symbols = refl;
     free = free_tags;
     entries = λ machine es. ap (λ (f : Entry → Bool). filter (λ e. not (f e)) es) (fun_ext one_of_run_paths);
     touched = λ machine es. ap (λ (f : Entry → Bool). list_any f es) (fun_ext one_of_run_paths);

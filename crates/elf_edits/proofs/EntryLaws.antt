@@ -158,6 +158,11 @@ module _ (f g : List ℕ) where
   all_swapped_back [] = refl
   all_swapped_back (name ∷ names) = ap (λ n. n ∷ map swap_name (map swap_name names)) (swapped_back name) ∙ ap (λ l. name ∷ l) (all_swapped_back names)
 
+-- a name that is swapped twice
+pub name_swapped_back : (f g name : List ℕ) → let swap = λ (n : List ℕ). unwrap_or (value_of (swap_of f g) n) n in swap (swap name) ≡ name
+unfolding swapped_for swap_name
+name_swapped_back f g name = swapped_back f g name
+
 pub maps_at_once : MapsAtOnce
 unfolding edited_entries swapped_for swap_name
 maps_at_once = record {

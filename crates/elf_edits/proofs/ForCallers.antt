@@ -5,6 +5,10 @@
 pub use Rattle.elf_edits.proofs.DecidedLaws.{IsFree, is_free, stands_not, step_is, step_refused}
 -- a batch is decided by the facts at its start
 pub use Rattle.elf_edits.proofs.DecidedLaws.{all_edited-push, batch_decided}
+-- an edit leaves the names of dynamic symbols that have to stay
+pub use Rattle.elf_edits.proofs.DecidedLaws.{fixed_names_stay}
+-- an edit that writes no name and no version leaves the symbols as they were
+pub use Rattle.elf_edits.proofs.SymbolLaws.{symbols_untouched}
 -- an edited list is a list again
 pub use Rattle.elf_edits.proofs.EditLaws.{lists_again}
 pub use Rattle.elf_edits.proofs.ListedLaws.{ListsAgain}

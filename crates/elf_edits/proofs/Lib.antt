@@ -5,12 +5,14 @@ pub mod ListedLaws
 pub mod UntouchedLaws
 pub mod EditLaws
 pub mod EntryLaws
+pub mod SymbolLaws
 pub mod TwiceLaws
 pub mod ShownLaws
 pub mod BatchLaws
 pub mod TextSteps
 pub mod LookupSteps
 pub mod ListSteps
+pub mod SymbolSteps
 pub mod CauseSteps
 pub mod ShrunkLaws
 pub mod DecidedLaws

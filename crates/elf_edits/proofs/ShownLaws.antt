@@ -1,5 +1,5 @@
 -- What an edited image shows.
-use Rattle.std.proofs.Common.{◌≡◌, ℕ, Bool, true, ◌||◌, ◌&&◌, List, [], ◌∷◌, map, refl, sym, ap, subst, ◌∙◌, Option, Some, None, option_map, Result, Ok, Err}
+use Rattle.std.proofs.Common.{◌≡◌, ℕ, Bool, true, ◌||◌, ◌&&◌, List, [], ◌∷◌, map, refl, sym, ap, subst, ◌∙◌, Option, Some, None, false, option_map, Result, Ok, Err}
 use Rattle.std.specs.Prelude.{if◌then◌else◌, ◌==◌}
 use Rattle.std.proofs.lemmas.Bool.{cond-true, cond-false}
 use Rattle.patch_bytes.specs.Memory.{◌>>=◌}
@@ -11,11 +11,12 @@ use Rattle.elf_image.specs.Image.{Image, lists_tag, seen_symbol, shown, shown_if
 use Rattle.elf_image.specs.Versions.{VersionDefinition, VersionNeeds}
 use Rattle.elf_image.specs.Views.{NamedSymbol}
 use Rattle.elf_edits.specs.Cause.{Cause, cause}
-use Rattle.elf_edits.specs.Edit.{ClearExecStack, Edit, SetExecStack, SetPageSize, edited_entries}
+use Rattle.elf_edits.specs.Edit.{ClearExecStack, Edit, SetExecStack, SetPageSize, edited_entries, edited_symbols}
 use Rattle.elf_edits.specs.Edited.{edited_image, edited_segments, edited_view, stack_change, stack_flags_changed, step, touches, with_align, with_stack_changed}
 use Rattle.elf_edits.specs.Laws.{EditsShow, KeepsTheRest}
 use Rattle.elf_edits.proofs.EditLaws.{IsUntouched, symtab_untouched, tags_kept, verdef_untouched, verdefnum_untouched, verneed_untouched, verneednum_untouched, versym_untouched}
 use Rattle.elf_edits.proofs.ListLaws.{by_test}
+use Rattle.elf_edits.proofs.SymbolLaws.{seen_edited}
 
 -- ## The stack
 
@@ -58,8 +59,8 @@ stack_shown _ ps = refl
 -- ## The tables that the list names
 
 module _ (image : Image) where
-  symbols_by : Option (List Entry) → Option (List NamedSymbol)
-  symbols_by es = es >>= (λ entries. shown_if (lists_tag DT_SYMTAB entries) (map (seen_symbol (lists_tag DT_VERSYM entries)) image.dynamic_symbols))
+  symbols_by : List NamedSymbol → Option (List Entry) → Option (List NamedSymbol)
+  symbols_by ys es = es >>= (λ entries. shown_if (lists_tag DT_SYMTAB entries) (map (seen_symbol (lists_tag DT_VERSYM entries)) ys))
 
   definitions_by : Option (List Entry) → Option (List VersionDefinition)
   definitions_by es = es >>= (λ entries. shown_if (lists_tag DT_VERDEF entries && lists_tag DT_VERDEFNUM entries) image.definitions)
@@ -71,12 +72,18 @@ module _ (image : Image) where
     named : (tag : ℕ) → IsUntouched tag → (es : List Entry) → lists_tag tag (edited_entries machine edit es) ≡ lists_tag tag es
     named tag is es = tags_kept tag is machine edit es
 
-    symbols_same : (es : Option (List Entry)) → symbols_by (option_map (edited_entries machine edit) es) ≡ symbols_by es
+    symbols_edited : (es : Option (List Entry)) → symbols_by (edited_symbols edit image.dynamic_symbols) (option_map (edited_entries machine edit) es) ≡ option_map (edited_symbols edit) (symbols_by image.dynamic_symbols es)
     unfolding symbols_by
-    symbols_same None = refl
-    symbols_same (Some es) =
-        ap (λ b. shown_if b (map (seen_symbol (lists_tag DT_VERSYM (edited_entries machine edit es))) image.dynamic_symbols)) (named DT_SYMTAB symtab_untouched es)
-        ∙ ap (λ b. shown_if (lists_tag DT_SYMTAB es) (map (seen_symbol b) image.dynamic_symbols)) (named DT_VERSYM versym_untouched es)
+    symbols_edited None = refl
+    symbols_edited (Some es) =
+        ap (λ b. shown_if b (map (seen_symbol (lists_tag DT_VERSYM (edited_entries machine edit es))) (edited_symbols edit image.dynamic_symbols))) (named DT_SYMTAB symtab_untouched es)
+        ∙ ap (λ b. shown_if (lists_tag DT_SYMTAB es) (map (seen_symbol b) (edited_symbols edit image.dynamic_symbols))) (named DT_VERSYM versym_untouched es)
+        ∙ ap (shown_if (lists_tag DT_SYMTAB es)) (seen_edited edit (lists_tag DT_VERSYM es) image.dynamic_symbols)
+        ∙ edited_if (lists_tag DT_SYMTAB es) (map (seen_symbol (lists_tag DT_VERSYM es)) image.dynamic_symbols)
+      where
+        edited_if : (b : Bool) (ys : List NamedSymbol) → shown_if b (edited_symbols edit ys) ≡ option_map (edited_symbols edit) (shown_if b ys)
+        edited_if true ys = refl
+        edited_if false ys = refl
 
     definitions_same : (es : Option (List Entry)) → definitions_by (option_map (edited_entries machine edit) es) ≡ definitions_by es
     unfolding definitions_by
@@ -97,9 +104,9 @@ unfolding edited_image flags_of stack_in symbols_by definitions_by needs_by
 edited_shows edit old =
     let machine = old.header.e_machine in
     ap (λ (o : Option ℕ). record (shown (edited_image edit old)) { stack_flags = o }) (stack_shown edit old.segments)
-    ∙ ap (λ (o : Option (List NamedSymbol)). record (shown (edited_image edit old)) { stack_flags = stack_flags_changed (stack_change edit) (shown old).stack_flags; symbols = o }) (symbols_same old machine edit old.entries)
-    ∙ ap (λ (o : Option (List VersionDefinition)). record (shown (edited_image edit old)) { stack_flags = stack_flags_changed (stack_change edit) (shown old).stack_flags; symbols = (shown old).symbols; definitions = o }) (definitions_same old machine edit old.entries)
-    ∙ ap (λ (o : Option (List VersionNeeds)). record (shown (edited_image edit old)) { stack_flags = stack_flags_changed (stack_change edit) (shown old).stack_flags; symbols = (shown old).symbols; definitions = (shown old).definitions; needs = o }) (needs_same old machine edit old.entries)
+    ∙ ap (λ (o : Option (List NamedSymbol)). record (shown (edited_image edit old)) { stack_flags = stack_flags_changed (stack_change edit) (shown old).stack_flags; symbols = o }) (symbols_edited old machine edit old.entries)
+    ∙ ap (λ (o : Option (List VersionDefinition)). record (shown (edited_image edit old)) { stack_flags = stack_flags_changed (stack_change edit) (shown old).stack_flags; symbols = option_map (edited_symbols edit) (shown old).symbols; definitions = o }) (definitions_same old machine edit old.entries)
+    ∙ ap (λ (o : Option (List VersionNeeds)). record (shown (edited_image edit old)) { stack_flags = stack_flags_changed (stack_change edit) (shown old).stack_flags; symbols = option_map (edited_symbols edit) (shown old).symbols; definitions = (shown old).definitions; needs = o }) (needs_same old machine edit old.entries)
 
 -- ## One step
 
@@ -128,7 +135,11 @@ step_of edit old h = ap (λ o. by_cause o edit old) h
 
 kept_rest : (edit : Edit) (old : Image) → KeepsTheRest old (edited_image edit old)
 unfolding edited_image
-kept_rest edit old = record { source = refl; form = refl; header = refl; sections = refl; symbols = refl; dynamic_symbols = refl; definitions = refl; needs = refl; section_numbers = refl; symbol_numbers = refl; dynamic_symbol_numbers = refl }
+kept_rest edit old = record { source = refl; form = refl; header = refl; sections = refl; symbols = refl; definitions = refl; needs = refl; section_numbers = refl; symbol_numbers = refl; dynamic_symbol_numbers = refl }
+
+symbols_made : (edit : Edit) (old : Image) → (edited_image edit old).dynamic_symbols ≡ edited_symbols edit old.dynamic_symbols
+unfolding edited_image
+symbols_made edit old = refl
 
 marked : (edit : Edit) (old : Image) → (edited_image edit old).changed ≡ (old.changed || touches edit old)
 unfolding edited_image
@@ -138,6 +149,7 @@ pub edits_show : EditsShow
 unfolding step by_cause
 edits_show = record {
   shows = λ edit old new h. ap shown ((accepted_step edit old new h).1) ∙ edited_shows edit old;
+  symbols = λ edit old new h. ap (λ (i : Image). i.dynamic_symbols) ((accepted_step edit old new h).1) ∙ symbols_made edit old;
   marks = λ edit old new h. ap (λ (i : Image). i.changed) ((accepted_step edit old new h).1) ∙ marked edit old;
   keeps = λ edit old new h. subst (λ (i : Image). KeepsTheRest old i) (sym ((accepted_step edit old new h).1)) (kept_rest edit old);
   accepted = λ edit old new h. (accepted_step edit old new h).0;

@@ -1,5 +1,5 @@
 -- Why an edit is refused.
-use Rattle.std.specs.Prelude.{ℕ, List, length, Bool, false, Option, Some, None, is_none, is_some, not, ◌&&◌, ◌==◌, nat_le, if◌then◌else◌}
+use Rattle.std.specs.Prelude.{ℕ, List, [], length, Bool, false, Option, Some, None, is_none, is_some, not, ◌&&◌, ◌==◌, nat_le, if◌then◌else◌}
 use Rattle.std.specs.List.{list_any}
 use Rattle.std.specs.Int.{is_power_of_two}
 use Rattle.elf_format.specs.declared.constants.TheConstants.{EM_MIPS, PT_GNU_STACK}
@@ -7,11 +7,13 @@ use Rattle.elf_image.specs.Dynamic.{Entry}
 use Rattle.elf_image.specs.File.{segment_of_type}
 use Rattle.elf_image.specs.Image.{Image}
 use Rattle.elf_image.specs.Options.{first_there}
+use Rattle.elf_image.specs.Renumbering.{can_renumber}
 use Rattle.elf_edits.specs.declared.constants.TheConstants.{MOST_SEGMENTS, SMALLEST_PAGE}
-use Rattle.elf_edits.specs.declared.facts.Facts.{Facts}
 use Rattle.elf_edits.specs.Abi.{abi_number, lowercase_name}
-use Rattle.elf_edits.specs.Edit.{Edit, ClearExecStack, SetExecStack, SetInterpreter, SetOsAbi, SetPageSize, ShrinkRunPath, task_of, texts_of}
+use Rattle.elf_edits.specs.Edit.{Edit, ClearExecStack, RenameDynamicSymbols, SetExecStack, SetInterpreter, SetOsAbi, SetPageSize, ShrinkRunPath, task_of, texts_of}
 use Rattle.elf_edits.specs.Entries.{is_run_path}
+pub use Rattle.elf_edits.specs.Facts.{Facts}
+use Rattle.elf_edits.specs.Symbols.{has_new_name, names_behind_first}
 use Rattle.elf_edits.specs.Texts.{holds_nul}
 
 -- A cause, with what its text tells.
@@ -30,6 +32,8 @@ pub data Cause : Type 0 where
   BadPageSize : ℕ → Cause
   -- no entry has a run path
   NoRunPath : Cause
+  -- a dynamic symbol is to have another name, and hash tables or relocations can't follow
+  CannotRenumber : Cause
   -- there would be more program headers than a file can have
   TooManyHeaders : Cause
 
@@ -49,6 +53,10 @@ abbrev pub lists_run_path : Option (List Entry) → Bool
 lists_run_path None = false
 lists_run_path (Some entries) = list_any is_run_path entries
 
+-- The names of the dynamic symbols but the first, where hash tables or relocations can't follow when a symbol gets another one.
+abbrev pub fixed_names : Image → List (List ℕ)
+fixed_names image = if can_renumber image then [] else names_behind_first image.dynamic_symbols
+
 -- What of an image causes look at.
 abbrev pub facts_of : Image → Facts
 facts_of image = record {
@@ -57,6 +65,7 @@ facts_of image = record {
   has_run_path = lists_run_path image.entries;
   has_interpreter = is_some image.interpreter;
   is_full = has_no_room_for_stack image;
+  fixed_names = fixed_names image;
 }
 
 -- the dynamic section that an edit of its list needs
@@ -74,6 +83,7 @@ abbrev pub own_cause : Edit → Facts → Option Cause
 own_cause (SetOsAbi name) facts = cause_if (is_none (abi_number name)) (UnknownAbi (lowercase_name name))
 own_cause (SetPageSize size) facts = cause_if (not (is_page_size size)) (BadPageSize size)
 own_cause (ShrinkRunPath prefixes answers) facts = cause_if (not facts.has_run_path) NoRunPath
+own_cause (RenameDynamicSymbols pairs) facts = cause_if (list_any (has_new_name pairs) facts.fixed_names) CannotRenumber
 own_cause ClearExecStack facts = cause_if facts.is_full TooManyHeaders
 own_cause SetExecStack facts = cause_if facts.is_full TooManyHeaders
 own_cause _ facts = None

@@ -2,7 +2,7 @@
 use Rattle.elf_edits.specs.declared.cause.Cause.{Cause as CauseTold}
 use Rattle.elf_edits.specs.declared.cause.Cause.TheVariants as told
 use Rattle.elf_edits.specs.Abi.{lowercase_name}
-use Rattle.elf_edits.specs.Cause.{BadPageSize, Cause, MipsImage, NoDynamic, NoInterpreter, NoRunPath, NulInText, TooManyHeaders, UnknownAbi}
+use Rattle.elf_edits.specs.Cause.{BadPageSize, CannotRenumber, Cause, MipsImage, NoDynamic, NoInterpreter, NoRunPath, NulInText, TooManyHeaders, UnknownAbi}
 use Rattle.elf_edits.specs.Edit.{words_of}
 
 -- a name that is told is meant with its ASCII letters lowered
@@ -14,4 +14,5 @@ cause_model told.NulInText = NulInText
 cause_model (told.UnknownAbi name) = UnknownAbi (lowercase_name name.now)
 cause_model (told.BadPageSize size) = BadPageSize size
 cause_model told.NoRunPath = NoRunPath
+cause_model told.CannotRenumber = CannotRenumber
 cause_model told.TooManyHeaders = TooManyHeaders

@@ -1,9 +1,8 @@
 -- A batch that is decided before any of its edits is made: no edit of a batch changes what causes look at.
 use Rattle.std.specs.Prelude.{ℕ, ◌+◌, List, [], ◌∷◌, Option, Some, None, Result, Ok, Err}
 use Rattle.elf_image.specs.Image.{Image}
-use Rattle.elf_edits.specs.declared.facts.Facts.{Facts}
 use Rattle.elf_edits.specs.Batch.{Refusal}
-use Rattle.elf_edits.specs.Cause.{Cause, first_cause}
+use Rattle.elf_edits.specs.Cause.{Cause, Facts, first_cause}
 use Rattle.elf_edits.specs.Edit.{Edit}
 use Rattle.elf_edits.specs.Edited.{edited_image}
 

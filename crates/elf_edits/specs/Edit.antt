@@ -1,16 +1,18 @@
--- The edits of what an image shows: the words of their refusals, their texts, and the dynamic list after each.
-use Rattle.std.specs.Prelude.{ℕ, ◌-◌, List, [], ◌∷◌, codes, length, take, Bool, false, true, not, Option, Some, None}
+-- The edits of what an image shows: the words of their refusals, their texts, and the dynamic list and symbols after each.
+use Rattle.std.specs.Prelude.{ℕ, ◌-◌, List, [], ◌∷◌, codes, drop, length, take, Bool, false, true, not, Option, Some, None}
 use Rattle.std.specs.List.{flat_map, list_any}
 use Rattle.std.specs.String.{string_bytes}
 use Rattle.elf_format.specs.declared.constants.TheConstants.{DT_DEBUG, DT_RPATH, DT_RUNPATH, DT_SONAME}
 use Rattle.elf_image.specs.Dynamic.{Entry, Integer}
 use Rattle.elf_image.specs.Image.{lists_tag}
+use Rattle.elf_image.specs.Views.{NamedSymbol}
 use Rattle.elf_edits.specs.declared.edit.ElfEdit.{ElfEdit}
 use Rattle.elf_edits.specs.declared.edit.ElfEdit.TheVariants as edits
 use Rattle.elf_edits.specs.declared.edit.Task.{Task}
 use Rattle.elf_edits.specs.declared.edit.Task.TheVariants as tasks
 use Rattle.elf_edits.specs.Entries.{directories_removed, has_tag, is_replaced, is_run_path, needs_one_of, not_needed_yet, search_of, with_last_unless_there, with_needed_added, with_needed_replaced, with_run_paths_added, with_run_paths_shrunk, with_tags_changed, with_text_set, without_default_directories, without_needed, without_run_paths}
 pub use Rattle.elf_edits.specs.Shrunk.{Answer}
+use Rattle.elf_edits.specs.Symbols.{behind_first, cleared, has_new_name, has_version_to_clear, renamed}
 use Rattle.elf_edits.specs.TextModel.{bytes_of, pairs_model, texts_model}
 use Rattle.elf_edits.specs.Texts.{has_some}
 
@@ -38,6 +40,10 @@ pub data Edit : Type 0 where
   SetInterpreter : List ℕ → Edit
   -- the ABI byte, by a name
   SetOsAbi : List ℕ → Edit
+  -- the names of dynamic symbols: pairs of an old and a new name
+  RenameDynamicSymbols : List (List ℕ × List ℕ) → Edit
+  -- the version of dynamic symbols of a name
+  ClearSymbolVersion : List ℕ → Edit
   -- whether the stack may be run
   ClearExecStack : Edit
   SetExecStack : Edit
@@ -60,6 +66,8 @@ task_of NoDefaultLibrary = Some (codes "set soname")
 task_of (ShrinkRunPath prefixes answers) = Some (codes "shrink rpath")
 task_of (SetInterpreter bytes) = None
 task_of (SetOsAbi name) = None
+task_of (RenameDynamicSymbols pairs) = None
+task_of (ClearSymbolVersion name) = None
 task_of ClearExecStack = None
 task_of SetExecStack = None
 task_of (SetPageSize size) = None
@@ -79,6 +87,8 @@ texts_of (SetSoname text) = text ∷ []
 texts_of (ShrinkRunPath prefixes answers) = prefixes
 texts_of (SetInterpreter bytes) = all_but_last bytes ∷ []
 texts_of (SetOsAbi name) = name ∷ []
+texts_of (RenameDynamicSymbols pairs) = flat_map (λ pair. pair.0 ∷ pair.1 ∷ []) pairs
+texts_of (ClearSymbolVersion name) = name ∷ []
 texts_of AddDebugEntry = []
 texts_of DeleteRunPath = []
 texts_of UseRunpath = []
@@ -106,6 +116,8 @@ edited_entries machine NoDefaultLibrary es = without_default_directories es
 edited_entries machine (ShrinkRunPath prefixes answers) es = with_run_paths_shrunk (search_of machine prefixes answers es) es
 edited_entries machine (SetInterpreter bytes) es = es
 edited_entries machine (SetOsAbi name) es = es
+edited_entries machine (RenameDynamicSymbols pairs) es = es
+edited_entries machine (ClearSymbolVersion name) es = es
 edited_entries machine ClearExecStack es = es
 edited_entries machine SetExecStack es = es
 edited_entries machine (SetPageSize size) es = es
@@ -126,6 +138,8 @@ touches_entries machine NoDefaultLibrary es = true
 touches_entries machine (ShrinkRunPath prefixes answers) es = has_some (directories_removed (search_of machine prefixes answers es) es)
 touches_entries machine (SetInterpreter bytes) es = false
 touches_entries machine (SetOsAbi name) es = false
+touches_entries machine (RenameDynamicSymbols pairs) es = false
+touches_entries machine (ClearSymbolVersion name) es = false
 touches_entries machine ClearExecStack es = false
 touches_entries machine SetExecStack es = false
 touches_entries machine (SetPageSize size) es = false
@@ -134,6 +148,30 @@ touches_entries machine (SetPageSize size) es = false
 abbrev pub dropped_tags : Edit → List ℕ
 dropped_tags DeleteRunPath = DT_RPATH ∷ DT_RUNPATH ∷ []
 dropped_tags _ = []
+
+-- ## The dynamic symbols
+
+-- an edit of them, and of nothing else
+abbrev pub is_of_symbols : Edit → Bool
+is_of_symbols (RenameDynamicSymbols pairs) = true
+is_of_symbols (ClearSymbolVersion name) = true
+is_of_symbols _ = false
+
+abbrev pub is_rename : Edit → Bool
+is_rename (RenameDynamicSymbols pairs) = true
+is_rename _ = false
+
+-- The dynamic symbols after an edit.
+abbrev pub edited_symbols : Edit → List NamedSymbol → List NamedSymbol
+edited_symbols (RenameDynamicSymbols pairs) symbols = behind_first (renamed pairs) symbols
+edited_symbols (ClearSymbolVersion name) symbols = behind_first (cleared name) symbols
+edited_symbols _ symbols = symbols
+
+-- Whether an edit writes a name or a version, be it what stands there already.
+abbrev pub touches_symbols : Edit → List NamedSymbol → Bool
+touches_symbols (RenameDynamicSymbols pairs) symbols = list_any (λ y. has_new_name pairs y.name) (drop 1 symbols)
+touches_symbols (ClearSymbolVersion name) symbols = list_any (has_version_to_clear name) (drop 1 symbols)
+touches_symbols _ symbols = false
 
 -- ## In the code
 
@@ -157,10 +195,12 @@ edit_model edits.AddDebugTag = AddDebugEntry
 edit_model (edits.AddNeeded names) = AddNeeded (texts_model names.items)
 edit_model (edits.AddRpath texts) = AddRunPath (texts_model texts.items)
 edit_model edits.ClearExecStack = ClearExecStack
+edit_model (edits.ClearSymbolVersion name) = ClearSymbolVersion (bytes_of name)
 edit_model edits.ForceRpath = UseRpath
 edit_model edits.NoDefaultLib = NoDefaultLibrary
 edit_model (edits.RemoveNeeded names) = DeleteNeeded (texts_model names.items)
 edit_model edits.RemoveRpath = DeleteRunPath
+edit_model (edits.RenameDynamicSymbols pairs) = RenameDynamicSymbols (pairs_model pairs.items)
 edit_model (edits.ReplaceNeeded pairs) = ReplaceNeeded (pairs_model pairs.items)
 edit_model edits.SetExecStack = SetExecStack
 edit_model (edits.SetInterpreter bytes) = SetInterpreter (bytes_of bytes)

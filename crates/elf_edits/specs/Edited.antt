@@ -9,7 +9,7 @@ use Rattle.elf_image.specs.Views.{View}
 use Rattle.elf_edits.specs.declared.constants.TheConstants.{STACK_ALIGN, STACK_FLAGS}
 use Rattle.elf_edits.specs.Abi.{abi_number, with_nul}
 use Rattle.elf_edits.specs.Cause.{Cause, cause}
-use Rattle.elf_edits.specs.Edit.{ClearExecStack, Edit, SetExecStack, SetInterpreter, SetOsAbi, SetPageSize, edited_entries, touches_entries}
+use Rattle.elf_edits.specs.Edit.{ClearExecStack, Edit, SetExecStack, SetInterpreter, SetOsAbi, SetPageSize, edited_entries, edited_symbols, touches_entries, touches_symbols}
 
 -- ## Besides the dynamic list
 
@@ -77,9 +77,10 @@ edited_view machine edit view = record view {
   stack_flags = stack_flags_changed (stack_change edit) view.stack_flags;
   interpreter = edited_interpreter edit view.interpreter;
   entries = option_map (edited_entries machine edit) view.entries;
+  symbols = option_map (edited_symbols edit) view.symbols;
 }
 
--- an edit of something else than the dynamic list writes it, be it with what stands there already
+-- an edit of something else than the dynamic list and symbols writes it, be it with what stands there already
 abbrev pub touches_rest : Edit → Bool
 touches_rest (SetInterpreter bytes) = true
 touches_rest (SetOsAbi name) = true
@@ -95,7 +96,8 @@ is_list_with test (Some entries) = test entries
 
 -- Whether an edit adds, removes or writes something. An edit that finds nothing of what it looks for doesn't.
 abbrev pub touches : Edit → Image → Bool
-touches edit image = touches_rest edit || is_list_with (touches_entries image.header.e_machine edit) image.entries
+touches edit image =
+    touches_rest edit || touches_symbols edit image.dynamic_symbols || is_list_with (touches_entries image.header.e_machine edit) image.entries
 
 -- The image after an edit: these parts, and all others as they were.
 unfoldable pub edited_image : Edit → Image → Image
@@ -103,6 +105,7 @@ edited_image edit image = record image {
   changed = image.changed || touches edit image;
   header = record image.header { os_abi = edited_abi edit image.header.os_abi };
   segments = edited_segments edit image.segments;
+  dynamic_symbols = edited_symbols edit image.dynamic_symbols;
   entries = option_map (edited_entries image.header.e_machine edit) image.entries;
   interpreter = edited_interpreter edit image.interpreter;
   page_size = edited_page_size edit image.page_size;

@@ -3,12 +3,13 @@ use Rattle.std.specs.Prelude.{ℕ, ◌≡◌, List, [], ◌∷◌, ◌++◌, All
 use Rattle.std.specs.List.{list_any}
 use Rattle.elf_image.specs.Dynamic.{Entry, Text}
 use Rattle.elf_image.specs.Image.{Image, entry_tag, shown}
-use Rattle.elf_image.specs.Views.{View}
+use Rattle.elf_image.specs.Views.{NamedSymbol, View}
 use Rattle.elf_edits.specs.Batch.{Refusal, answer_at, answers, left_by, left_by_all, run, run_from, then_on}
 use Rattle.elf_edits.specs.Cause.{Cause, cause}
-use Rattle.elf_edits.specs.Edit.{AddDebugEntry, DeleteNeeded, Edit, NoDefaultLibrary, ReplaceNeeded, SetRunPath, UseRpath, edited_entries}
+use Rattle.elf_edits.specs.Edit.{AddDebugEntry, DeleteNeeded, Edit, NoDefaultLibrary, RenameDynamicSymbols, ReplaceNeeded, SetRunPath, UseRpath, edited_entries, edited_symbols}
 use Rattle.elf_edits.specs.Edited.{edited_view, step, touches}
 use Rattle.elf_edits.specs.Entries.{is_run_path, needed_names, needs_one_of}
+use Rattle.elf_edits.specs.Symbols.{names_behind_first, new_name}
 use Rattle.elf_edits.specs.Texts.{value_of}
 
 -- ## One edit
@@ -20,17 +21,17 @@ pub record KeepsTheRest (old new : Image) : Type 0 where
   pub header : new.header ≡ record old.header { os_abi = new.header.os_abi }
   pub sections : new.sections ≡ old.sections
   pub symbols : new.symbols ≡ old.symbols
-  pub dynamic_symbols : new.dynamic_symbols ≡ old.dynamic_symbols
   pub definitions : new.definitions ≡ old.definitions
   pub needs : new.needs ≡ old.needs
   pub section_numbers : new.section_numbers ≡ old.section_numbers
   pub symbol_numbers : new.symbol_numbers ≡ old.symbol_numbers
   pub dynamic_symbol_numbers : new.dynamic_symbol_numbers ≡ old.dynamic_symbol_numbers
 
--- An edit that isn't refused shows the edited view, marks the image where it adds, removes or writes something, and
--- keeps the rest; it is refused exactly where a cause stands, with the first one.
+-- An edit that isn't refused shows the edited view, has the edited symbols, shown or not, marks the image where it adds, removes or
+-- writes something, and keeps the rest; it is refused exactly where a cause stands, with the first one.
 pub record EditsShow : Type 0 where
   pub shows : (edit : Edit) (old new : Image) → step edit old ≡ Ok new → shown new ≡ edited_view old.header.e_machine edit (shown old)
+  pub symbols : (edit : Edit) (old new : Image) → step edit old ≡ Ok new → new.dynamic_symbols ≡ edited_symbols edit old.dynamic_symbols
   pub marks : (edit : Edit) (old new : Image) → step edit old ≡ Ok new → new.changed ≡ (old.changed || touches edit old)
   pub keeps : (edit : Edit) (old new : Image) → step edit old ≡ Ok new → KeepsTheRest old new
   pub accepted : (edit : Edit) (old new : Image) → step edit old ≡ Ok new → cause edit old ≡ None
@@ -95,3 +96,11 @@ pub record MapsAtOnce : Type 0 where
   pub first_swapped : (f g : List ℕ) → value_of (swap_of f g) f ≡ Some g
   pub second_swapped : (f g : List ℕ) → value_of (swap_of f g) g ≡ Some f
   pub swapped_back : (machine : ℕ) (f g : List ℕ) (es : List Entry) → needed_names (edited_entries machine (ReplaceNeeded (swap_of f g)) (edited_entries machine (ReplaceNeeded (swap_of f g)) es)) ≡ needed_names es
+
+-- ## Edits of the dynamic symbols
+
+-- A map is applied to all symbols but the first at once, each by its old name; a map that swaps two names gives, the second time, back
+-- what was shown.
+pub record SymbolsAreRenamedAtOnce : Type 0 where
+  pub all : (pairs : List (List ℕ × List ℕ)) (symbols : List NamedSymbol) → names_behind_first (edited_symbols (RenameDynamicSymbols pairs) symbols) ≡ map (new_name pairs) (names_behind_first symbols)
+  pub swapped_back : (machine : ℕ) (f g : List ℕ) (view : View) → let swap = edited_view machine (RenameDynamicSymbols (swap_of f g)) in swap (swap view) ≡ view

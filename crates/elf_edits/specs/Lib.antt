@@ -2,14 +2,17 @@ pub mod Texts
 pub mod TextModel
 pub mod Shrunk
 pub mod Entries
+pub mod Symbols
 pub mod Edit
 pub mod EditModel
 pub mod Abi
+pub mod Facts
 pub mod Cause
 pub mod CauseModel
 pub mod Edited
 pub mod Batch
 pub mod Decided
 pub mod Changes
+pub mod SymbolChanges
 pub mod Laws
 pub mod Rows

@@ -1,15 +1,18 @@
 -- Small lists and images, and what the edits make of them. Each row is computed.
-use Rattle.std.specs.Prelude.{ℕ, ◌≡◌, List, [], ◌∷◌, ◌++◌, true, false, Some, None, Ok, Err, codes, replicate}
+use Rattle.std.specs.Prelude.{ℕ, ◌≡◌, List, [], ◌∷◌, ◌++◌, true, false, Option, Some, None, Ok, Err, codes, replicate}
 use Rattle.patch_bytes.specs.declared.number.ByteOrder2.TheVariants.{Little}
 use Rattle.patch_bytes.specs.declared.number.Wide.TheVariants.{W64}
 use Rattle.elf_format.specs.declared.constants.TheConstants.{EM_MIPS}
 use Rattle.elf_format.specs.declared.records.SegmentHeader.{SegmentHeader}
+use Rattle.elf_format.specs.declared.section_data.SectionData.TheVariants as kinds
+use Rattle.elf_format.specs.declared.version_id.VersionId.{VersionId}
 use Rattle.elf_image.specs.Dynamic.{Auto, Entry, Integer, Text}
-use Rattle.elf_image.specs.Image.{Image}
+use Rattle.elf_image.specs.Image.{Image, ImageSection}
+use Rattle.elf_image.specs.Views.{NamedSymbol}
 use Rattle.elf_edits.specs.Abi.{abi_number, with_nul}
 use Rattle.elf_edits.specs.Batch.{answers, left_by_all, run}
-use Rattle.elf_edits.specs.Cause.{BadPageSize, MipsImage, NoDynamic, NoInterpreter, NulInText, TooManyHeaders, UnknownAbi, cause}
-use Rattle.elf_edits.specs.Edit.{AddDebugEntry, AddNeeded, AddRunPath, ClearExecStack, DeleteNeeded, DeleteRunPath, Edit, NoDefaultLibrary, ReplaceNeeded, SetExecStack, SetInterpreter, SetOsAbi, SetPageSize, SetRunPath, SetSoname, UseRpath, UseRunpath, edited_entries}
+use Rattle.elf_edits.specs.Cause.{BadPageSize, CannotRenumber, MipsImage, NoDynamic, NoInterpreter, NulInText, TooManyHeaders, UnknownAbi, cause}
+use Rattle.elf_edits.specs.Edit.{AddDebugEntry, AddNeeded, AddRunPath, ClearExecStack, ClearSymbolVersion, DeleteNeeded, DeleteRunPath, Edit, NoDefaultLibrary, RenameDynamicSymbols, ReplaceNeeded, SetExecStack, SetInterpreter, SetOsAbi, SetPageSize, SetRunPath, SetSoname, UseRpath, UseRunpath, edited_entries, edited_symbols}
 use Rattle.elf_edits.specs.Edited.{added_stack, step}
 
 -- x86-64
@@ -202,3 +205,74 @@ pub record BatchRows : Type 0 where
   -- a refused batch leaves nothing behind
   pub nothing_left : left_by_all ((SetOsAbi (codes "linux") ∷ SetPageSize 1000 ∷ []) ∷ (DeleteRunPath ∷ []) ∷ []) small_image ≡ record small_image { changed = true; entries = Some (needed (codes "libc.so.6") ∷ Auto 5 ∷ Auto 10 ∷ []) }
   pub answered : answers ((SetOsAbi (codes "linux") ∷ SetPageSize 1000 ∷ []) ∷ (DeleteRunPath ∷ []) ∷ []) small_image ≡ Some (record { index = 1; cause = BadPageSize 1000 }) ∷ None ∷ []
+
+-- ## Dynamic symbols
+
+-- a symbol with this name and version
+abbrev pub symbol : List ℕ → Option VersionId → NamedSymbol
+symbol name version = record { name = name; st_info = 18; st_other = 0; st_shndx = 1; st_value = 0; st_size = 0; version = version }
+
+abbrev pub plain : List ℕ → NamedSymbol
+plain name = symbol name None
+
+-- the versions of a local and of a global symbol, and one of a library's own
+abbrev pub local : Option VersionId
+local = Some (record { index = 0; hidden = false })
+
+abbrev pub global : Option VersionId
+global = Some (record { index = 1; hidden = false })
+
+abbrev pub own : Option VersionId
+own = Some (record { index = 3; hidden = true })
+
+abbrev pub swap : Edit
+swap = RenameDynamicSymbols ((codes "f", codes "g") ∷ (codes "g", codes "f") ∷ [])
+
+pub record SymbolRows : Type 0 where
+  -- names by their old ones, all at once; versions stay
+  pub swapped : edited_symbols swap (plain [] ∷ symbol (codes "f") own ∷ plain (codes "g") ∷ plain (codes "h") ∷ plain (codes "f") ∷ []) ≡ plain [] ∷ symbol (codes "g") own ∷ plain (codes "f") ∷ plain (codes "h") ∷ plain (codes "g") ∷ []
+  pub last_pair_counts : edited_symbols (RenameDynamicSymbols ((codes "f", codes "g") ∷ (codes "f", codes "h") ∷ [])) (plain [] ∷ plain (codes "f") ∷ []) ≡ plain [] ∷ plain (codes "h") ∷ []
+  -- those without a name get one, and others lose theirs
+  pub empty_name : edited_symbols (RenameDynamicSymbols (([], codes "x") ∷ (codes "f", []) ∷ [])) (plain [] ∷ plain [] ∷ plain (codes "f") ∷ []) ≡ plain [] ∷ plain (codes "x") ∷ plain [] ∷ []
+  pub first_keeps_name : edited_symbols (RenameDynamicSymbols ((codes "f", codes "g") ∷ [])) (plain (codes "f") ∷ []) ≡ plain (codes "f") ∷ []
+  pub none_there : edited_symbols swap [] ≡ []
+  -- all of the name, hidden or not
+  pub cleared : edited_symbols (ClearSymbolVersion (codes "f")) (symbol [] local ∷ symbol (codes "f") own ∷ symbol (codes "g") own ∷ symbol (codes "f") local ∷ []) ≡ symbol [] local ∷ symbol (codes "f") global ∷ symbol (codes "g") own ∷ symbol (codes "f") global ∷ []
+  pub first_keeps_version : edited_symbols (ClearSymbolVersion []) (symbol [] local ∷ symbol [] own ∷ []) ≡ symbol [] local ∷ symbol [] global ∷ []
+  pub no_versions : edited_symbols (ClearSymbolVersion (codes "f")) (plain [] ∷ plain (codes "f") ∷ []) ≡ plain [] ∷ plain (codes "f") ∷ []
+
+abbrev pub with_symbols : List NamedSymbol → Image
+with_symbols symbols = record small_image { dynamic_symbols = symbols }
+
+-- a gABI hash table with entries of 8 bytes, which isn't made anew
+abbrev pub long_hash : ImageSection
+long_hash = record { name = codes ".hash"; kind = kinds.Hash; sh_type = 5; sh_flags = 2; sh_addr = 64; sh_offset = 64; sh_size = 0; sh_link = 0; sh_info = 0; sh_addralign = 8; sh_entsize = 8; content = [] }
+
+abbrev pub fixed_image : Image
+fixed_image = record (with_symbols (plain (codes "a") ∷ symbol (codes "f") own ∷ [])) { sections = long_hash ∷ []; section_numbers = 1 ∷ [] }
+
+pub record SymbolStepRows : Type 0 where
+  pub renamed : step swap (with_symbols (plain [] ∷ plain (codes "f") ∷ [])) ≡ Ok (record (with_symbols (plain [] ∷ plain (codes "g") ∷ [])) { changed = true })
+  pub same_name : Marks (RenameDynamicSymbols ((codes "f", codes "f") ∷ [])) (with_symbols (plain [] ∷ plain (codes "f") ∷ []))
+  pub no_such_name : LeavesAll swap (with_symbols (plain (codes "f") ∷ plain (codes "h") ∷ []))
+  pub no_pairs : LeavesAll (RenameDynamicSymbols []) (with_symbols (plain [] ∷ plain [] ∷ []))
+  pub already_global : Marks (ClearSymbolVersion (codes "f")) (with_symbols (symbol [] local ∷ symbol (codes "f") global ∷ []))
+  pub no_such_symbol : LeavesAll (ClearSymbolVersion (codes "g")) (with_symbols (symbol (codes "g") local ∷ symbol (codes "f") own ∷ []))
+  pub no_version : LeavesAll (ClearSymbolVersion (codes "f")) (with_symbols (plain [] ∷ plain (codes "f") ∷ []))
+  -- a table that isn't made anew stands against other names, be they the same, of symbols that are there
+  pub fixed_name : step swap fixed_image ≡ Err CannotRenumber
+  pub fixed_to_same : step (RenameDynamicSymbols ((codes "f", codes "f") ∷ [])) fixed_image ≡ Err CannotRenumber
+  pub fixed_others : LeavesAll (RenameDynamicSymbols ((codes "a", codes "g") ∷ (codes "g", codes "f") ∷ [])) fixed_image
+  pub fixed_cleared : step (ClearSymbolVersion (codes "f")) fixed_image ≡ Ok (record fixed_image { changed = true; dynamic_symbols = plain (codes "a") ∷ symbol (codes "f") global ∷ [] })
+  -- a NUL comes before it, and the machine before that
+  pub nul_in_old : cause (RenameDynamicSymbols ((codes "f", []) ∷ (with_nul_in_it, []) ∷ [])) fixed_image ≡ Some NulInText
+  pub nul_in_new : cause (RenameDynamicSymbols ((codes "f", with_nul_in_it) ∷ [])) fixed_image ≡ Some NulInText
+  pub nul_to_clear : cause (ClearSymbolVersion with_nul_in_it) small_image ≡ Some NulInText
+  pub machine_first : cause (RenameDynamicSymbols ((with_nul_in_it, []) ∷ [])) mips_image ≡ Some MipsImage
+  pub machine_to_clear : cause (ClearSymbolVersion with_nul_in_it) mips_image ≡ Some MipsImage
+  -- a file without a dynamic section may have them too
+  pub without_list : step swap (record (with_symbols (plain [] ∷ plain (codes "f") ∷ [])) { entries = None }) ≡ Ok (record (with_symbols (plain [] ∷ plain (codes "g") ∷ [])) { changed = true; entries = None })
+  -- one after the other
+  pub in_a_batch : run (RenameDynamicSymbols ((codes "f", codes "g") ∷ []) ∷ ClearSymbolVersion (codes "g") ∷ RenameDynamicSymbols ((codes "g", codes "h") ∷ []) ∷ []) (with_symbols (plain [] ∷ symbol (codes "f") own ∷ []))
+      ≡ Ok (record (with_symbols (plain [] ∷ symbol (codes "h") global ∷ [])) { changed = true })
+  pub second_refused : run (ClearSymbolVersion (codes "f") ∷ swap ∷ []) fixed_image ≡ Err (record { index = 1; cause = CannotRenumber })

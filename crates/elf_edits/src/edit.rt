@@ -33,6 +33,9 @@ pub enum ElfEdit {
     AddRpath(Vec<Vec<u8>>),
     /// Takes the permission to run from the stack (GNU extension PT_GNU_STACK).
     ClearExecStack,
+    /// Gives every dynamic symbol of this name, but the first symbol, where there are versions, that of a global symbol
+    /// without one of its own, not hidden (GNU symbol versioning, `VER_NDX_GLOBAL`).
+    ClearSymbolVersion(Vec<u8>),
     /// Makes every DT_RUNPATH a DT_RPATH.
     ForceRpath,
     /// Leaves out the default directories: sets DF_1_NODEFLIB in every DT_FLAGS_1; without one, puts one last.
@@ -41,6 +44,9 @@ pub enum ElfEdit {
     RemoveNeeded(Vec<Vec<u8>>),
     /// Drops every DT_RPATH and DT_RUNPATH.
     RemoveRpath,
+    /// Gives dynamic symbols, but the first, other names, all at once: pairs of an old and a new name, of a repeated old
+    /// name the last.
+    RenameDynamicSymbols(Vec<(Vec<u8>, Vec<u8>)>),
     /// Replaces the texts of DT_NEEDED, all at once: pairs of an old and a new name, of a repeated old name the last.
     ReplaceNeeded(Vec<(Vec<u8>, Vec<u8>)>),
     /// Gives the stack the permission to run.
@@ -85,7 +91,9 @@ impl ElfEdit {
         match self {
             ElfEdit::AddNeeded(names) => any_nul(names.as_slice()),
             ElfEdit::AddRpath(texts) => any_nul(texts.as_slice()),
+            ElfEdit::ClearSymbolVersion(name) => holds_nul(name.as_slice()),
             ElfEdit::RemoveNeeded(names) => any_nul(names.as_slice()),
+            ElfEdit::RenameDynamicSymbols(pairs) => any_nul_in_pairs(pairs.as_slice()),
             ElfEdit::ReplaceNeeded(pairs) => any_nul_in_pairs(pairs.as_slice()),
             ElfEdit::SetInterpreter(bytes) => nul_before_end(bytes.as_slice()),
             ElfEdit::SetOsAbi(name) => holds_nul(name.as_bytes()),

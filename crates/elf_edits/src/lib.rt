@@ -1,4 +1,4 @@
-//! Edits of what an ELF file shows: what each one means, why one is refused, and the dynamic list after it.
+//! Edits of what an ELF file shows: what each one means, why one is refused, and the dynamic list and symbols after it.
 #![tactic(auto)]
 
 pub mod abi;
@@ -13,6 +13,7 @@ pub mod list;
 mod lookups;
 pub mod of_image;
 pub mod rows;
+pub mod symbols;
 pub mod texts;
 
 pub use crate::cause::{Cause, cause_of};
@@ -20,3 +21,4 @@ pub use crate::edit::{ElfEdit, Task, edit_list};
 pub use crate::facts::Facts;
 pub use crate::list::NewList;
 pub use crate::of_image::image_facts;
+pub use crate::symbols::edit_symbols;

@@ -2,13 +2,16 @@ ghost use Rattle.std.specs.Prelude.{◌≡◌, is_some, map, option_map};
 ghost use Rattle.elf_format.specs.declared.constants.TheConstants.{PT_GNU_STACK as STACK};
 ghost use Rattle.elf_image.specs.File.{segment_of_type};
 ghost use Rattle.elf_image.specs.ImageModel.{entry_model, segment_model};
-ghost use Rattle.elf_edits.specs.Cause.{facts_of as facts_seen, lists_run_path};
+ghost use Rattle.elf_edits.specs.Cause.{facts_of as facts_seen, fixed_names, lists_run_path};
+ghost use Rattle.elf_edits.specs.Facts.{facts_model, names_fixed};
 
 use crate::constants::MOST_SEGMENTS;
 use crate::facts::Facts;
 use crate::list::any_run_path;
 use elf_image::constants::PT_GNU_STACK;
 use elf_image::{Builder, Dynamic, Segment};
+use elf_image_symbol_edits::SymbolsNow;
+use elf_image_uses::can_renumber;
 
 // Whether there is a program header for the stack.
 fn has_stack(segments: &[Segment<'_>]) -> bool
@@ -22,9 +25,20 @@ fn has_stack(segments: &[Segment<'_>]) -> bool
     false
 }
 
+// The dynamic symbols, where all but the first have to keep their names.
+fn fixed_symbols<'i>(builder: &'i Builder<'_>) -> Option<SymbolsNow<'i>>
+    ensures { names_fixed result ≡ fixed_names builder.now }
+{
+    if can_renumber(builder) {
+        None
+    } else {
+        Some(builder.edited_dynamic_symbols().lend())
+    }
+}
+
 /// What of an image decides whether an edit is refused. Takes no memory.
-pub fn image_facts(builder: &Builder<'_>) -> Facts
-    ensures { result ≡ facts_seen builder.now }
+pub fn image_facts<'i>(builder: &'i Builder<'_>) -> Facts<'i>
+    ensures { facts_model result ≡ facts_seen builder.now }
 {
     let segments = builder.segments();
     let list = builder.dynamic_data();
@@ -34,6 +48,7 @@ pub fn image_facts(builder: &Builder<'_>) -> Facts
         has_run_path: has_run_path(list),
         has_interpreter: builder.interp_data().is_some(),
         is_full: !has_stack(segments) && segments.len() >= MOST_SEGMENTS,
+        fixed_symbols: fixed_symbols(builder),
     }
 }
 

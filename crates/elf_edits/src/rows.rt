@@ -1,6 +1,6 @@
 //! Small lists and images, and what the edits make of them. The functions do nothing: the contract of each is
 //! computed.
-ghost use Rattle.elf_edits.specs.Rows.{AbiRows, BatchRows, InterpreterRows, MarkRows, NeededRows, OtherEntryRows, PageRows, RefusalRows, RunPathRows, StackRows};
+ghost use Rattle.elf_edits.specs.Rows.{AbiRows, BatchRows, InterpreterRows, MarkRows, NeededRows, OtherEntryRows, PageRows, RefusalRows, RunPathRows, StackRows, SymbolRows, SymbolStepRows};
 
 /// Run paths, needed libraries and the other entries.
 pub fn list_rows()
@@ -26,4 +26,10 @@ pub fn refusal_rows()
 /// Batches, and lists of batches.
 pub fn batch_rows()
     ensures { BatchRows }
+{}
+
+/// Dynamic symbols.
+pub fn symbol_rows()
+    ensures symbols { SymbolRows }
+    ensures steps { SymbolStepRows }
 {}

@@ -4,6 +4,7 @@ ghost use Rattle.elf_edits.specs.Cause.{first_cause};
 ghost use Rattle.elf_edits.specs.CauseModel.{cause_model};
 ghost use Rattle.elf_edits.specs.Edit.{Answer, ShrinkRunPath};
 ghost use Rattle.elf_edits.specs.EditModel.{texts_model};
+ghost use Rattle.elf_edits.specs.Facts.{facts_model};
 
 use elf_edits::texts::any_nul;
 use elf_edits::{Cause, Facts, Task};
@@ -12,10 +13,10 @@ use elf_image::constants::EM_MIPS;
 /// The first cause that stands against shrinking the run paths of an image with these facts: the machine, that there is
 /// no dynamic section, a NUL in a prefix, and that there is no run path; `None` where none does. Takes no memory.
 #[tactic(auto, unfolding(elf_edits::specs::Cause::first_cause))]
-pub fn shrink_cause(prefixes: &[Vec<u8>], facts: &Facts) -> Option<Cause<'static>>
+pub fn shrink_cause(prefixes: &[Vec<u8>], facts: &Facts<'_>) -> Option<Cause<'static>>
     ensures { (answers : List Answer) →
         option_map cause_model result
-        ≡ first_cause (ShrinkRunPath (texts_model prefixes.now) answers) facts.now }
+        ≡ first_cause (ShrinkRunPath (texts_model prefixes.now) answers) (facts_model facts.now) }
 {
     if facts.machine == EM_MIPS {
         Some(Cause::MipsImage)

@@ -1,6 +1,6 @@
 //! The edits of an ELF file, by the names of the program's commands.
 ghost use Rattle.std.specs.Prelude.{◌≡◌, ◌∷◌, [], IfOk, IsOk};
-ghost use Rattle.elf_edits.specs.Edit.{AddDebugEntry, AddNeeded, AddRunPath, ClearExecStack, DeleteNeeded, DeleteRunPath, NoDefaultLibrary, ReplaceNeeded, SetExecStack, SetInterpreter, SetOsAbi, SetPageSize, SetRunPath, SetSoname, UseRpath};
+ghost use Rattle.elf_edits.specs.Edit.{AddDebugEntry, AddNeeded, AddRunPath, ClearExecStack, ClearSymbolVersion, DeleteNeeded, DeleteRunPath, NoDefaultLibrary, RenameDynamicSymbols, ReplaceNeeded, SetExecStack, SetInterpreter, SetOsAbi, SetPageSize, SetRunPath, SetSoname, UseRpath};
 ghost use Rattle.elf_edits.specs.EditModel.{pairs_model, texts_model};
 ghost use Rattle.elf_apply.specs.Taken.{RemovedAre, edits_model, shrink_model};
 ghost use Rattle.arwen_elf.specs.Contained.{BatchTaken, EditTaken, InPlaceTaken};
@@ -113,6 +113,25 @@ impl<'a> ElfContainer<'a> {
             self.old self.new result }
     {
         self.inner.elf_replace_needed(alloc, names)
+    }
+
+    /// Gives the dynamic symbols but the first whose names are keys the keys' values, all at once.
+    pub fn rename_dynamic_symbols(
+        &mut self,
+        alloc: Global,
+        names: &HashMap<Vec<u8>, Vec<u8>>,
+    ) -> Result<()>
+        ensures { EditTaken (RenameDynamicSymbols (pairs_model names.now.entries))
+            self.old self.new result }
+    {
+        self.inner.elf_rename_dynamic_symbols(alloc, names)
+    }
+
+    /// Gives each dynamic symbol of a name, but the first symbol, where there are versions, that of a global symbol.
+    pub fn clear_version_symbol(&mut self, alloc: Global, symbol: &[u8]) -> Result<()>
+        ensures { EditTaken (ClearSymbolVersion symbol.now) self.old self.new result }
+    {
+        self.inner.elf_clear_symbol_version(alloc, symbol)
     }
 
     /// Leaves out the default directories: sets DF_1_NODEFLIB in every DT_FLAGS_1; without one, puts one last.

@@ -1,7 +1,7 @@
 //! The edits of a file's image.
 ghost use Rattle.std.specs.Prelude.{◌≡◌, [], IfOk, IsOk, OnErr, map};
 ghost use Rattle.std.specs.HashSet.{keys};
-ghost use Rattle.elf_edits.specs.Edit.{AddDebugEntry, AddNeeded, AddRunPath, ClearExecStack, DeleteNeeded, DeleteRunPath, NoDefaultLibrary, ReplaceNeeded, SetExecStack, SetInterpreter, SetOsAbi, SetPageSize, SetRunPath, SetSoname, UseRpath, UseRunpath};
+ghost use Rattle.elf_edits.specs.Edit.{AddDebugEntry, AddNeeded, AddRunPath, ClearExecStack, ClearSymbolVersion, DeleteNeeded, DeleteRunPath, NoDefaultLibrary, RenameDynamicSymbols, ReplaceNeeded, SetExecStack, SetInterpreter, SetOsAbi, SetPageSize, SetRunPath, SetSoname, UseRpath, UseRunpath};
 ghost use Rattle.elf_edits.specs.EditModel.{edit_model, pairs_model, texts_model};
 ghost use Rattle.elf_edits_shrink.specs.Questions.{shrink_questions as all_questions};
 ghost use Rattle.elf_edits_shrink.specs.ShrinkModel.{pair_lent};
@@ -179,6 +179,29 @@ impl<'data> Writer<'data> {
     {
         let text = Vec::from_slice(alloc, text)?;
         self.edit(alloc, ElfEdit::SetSoname(text))
+    }
+
+    /// Gives the dynamic symbols but the first whose names are keys the keys' values, all at once (gABI, Symbol Table).
+    /// Errors: `Modify` with `CannotRenumber` where there is such a symbol and hash tables or relocations can't follow.
+    pub fn elf_rename_dynamic_symbols(
+        &mut self,
+        alloc: Global,
+        names: &HashMap<Vec<u8>, Vec<u8>>,
+    ) -> Result<(), ElfError>
+        ensures { TakesEdit (RenameDynamicSymbols (pairs_model names.now.entries))
+            self.old self.new result }
+    {
+        let pairs = copy_map(alloc, names)?;
+        self.edit(alloc, ElfEdit::RenameDynamicSymbols(pairs))
+    }
+
+    /// Gives each dynamic symbol of a name, but the first symbol, where there are versions, that of a global symbol
+    /// without one of its own, not hidden (GNU symbol versioning, `VER_NDX_GLOBAL`).
+    pub fn elf_clear_symbol_version(&mut self, alloc: Global, symbol: &[u8]) -> Result<(), ElfError>
+        ensures { TakesEdit (ClearSymbolVersion symbol.now) self.old self.new result }
+    {
+        let name = Vec::from_slice(alloc, symbol)?;
+        self.edit(alloc, ElfEdit::ClearSymbolVersion(name))
     }
 
     /// Sets DF_1_NODEFLIB in every DT_FLAGS_1; without one, puts one last.

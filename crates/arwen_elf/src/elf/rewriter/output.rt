@@ -4,7 +4,7 @@ ghost use Rattle.byte_store.specs.Composed.{IsDifference, made_of};
 ghost use Rattle.elf_image.specs.Kept.{image_at_read};
 ghost use Rattle.elf_layout_plan.specs.Plan.{IsPlan, resized};
 ghost use Rattle.elf_layout_plan.specs.Refusals.{do_sizes_of_image_fit, sizes_of_image};
-ghost use Rattle.elf_layout_sizes.specs.MadeTables.{IsMadeOfList};
+ghost use Rattle.elf_layout_sizes.specs.MadeTables.{IsMadeOfDynamic};
 ghost use Rattle.elf_write_spec.specs.Whole.{IsWhole};
 ghost use Rattle.elf_write_spec.specs.WrittenFile.{IsWrittenOf};
 ghost use Rattle.arwen_elf.specs.NewFile.{HoldsImage, IsNotStored};
@@ -88,7 +88,7 @@ fn pieces_by<'a, 'data>(
     requires whole { IsWhole read.now image.now }
     requires planned { IsPlan (resized image.now) plan.now }
     requires sized { IsTrue (do_sizes_of_image_fit image.now) }
-    requires strings { IfSome strings (IsMadeOfList read.now image.now) }
+    requires strings { IfSome strings (IsMadeOfDynamic read.now image.now) }
     ensures makeable { IfOk result (λ d. IsDifference image.entry.now.source d) }
     ensures bytes { IfOk result (λ d.
         IsWrittenOf image.entry.now (made_of image.entry.now.source d)) }
@@ -111,7 +111,7 @@ fn pieces_by_sizes<'a, 'data>(
     requires whole { IsWhole read.now image.now }
     requires sizes { new.sizes.items ≡ sizes_of_image image.now }
     requires sized { IsTrue (do_sizes_of_image_fit image.now) }
-    requires strings { IfSome new.strings (IsMadeOfList read.now image.now) }
+    requires strings { IfSome new.strings (IsMadeOfDynamic read.now image.now) }
     ensures makeable { IfOk result (λ d. IsDifference image.entry.now.source d) }
     ensures bytes { IfOk result (λ d.
         IsWrittenOf image.entry.now (made_of image.entry.now.source d)) }

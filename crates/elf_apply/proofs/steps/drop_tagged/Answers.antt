@@ -7,6 +7,7 @@ use Rattle.elf_image.specs.DynamicList.{is_free_tag}
 use Rattle.elf_image.specs.Options.{first_there}
 use Rattle.elf_edits.specs.Cause.{Cause, MipsImage, cause_if, list_missing}
 use Rattle.elf_edits.specs.Edit.{edit_model}
+use Rattle.elf_edits.specs.Facts.{facts_model}
 use Rattle.elf_edits.proofs.ForCallers.{drops_tags}
 use Rattle.elf_apply.specs.Drafted.{with_tags_dropped}
 use Rattle.elf_apply.proofs.DropLaws.{drop_is_plain, tags_dropped}
@@ -20,7 +21,7 @@ pub returns-in-Some : goal.returns-in-Some
 returns-in-Some c =
     let edit = edit_model c.args.edit.now in
     let drops = drops_tags edit c.requires in
-    let facts = c.image_facts.result in (
+    let facts = facts_model c.image_facts.result in (
       refl,
       plain_refused c.in-Some.cause edit drops.0 c.args.builder.now facts (drop_is_plain edit drops.0 drops.1) c.image_facts.ensures
           (c.in-Some.ensures
@@ -34,7 +35,7 @@ pub returns : goal.returns
 returns c =
     let edit = edit_model c.args.edit.now in
     let drops = drops_tags edit c.requires in
-    let facts = c.image_facts.result in
+    let facts = facts_model c.image_facts.result in
     let old = c.args.builder.now in
     plain_taken edit drops.0 old c.drop_tags.new.builder facts (drop_is_plain edit drops.0 drops.1) c.image_facts.ensures
     (c.in_default.ensures

@@ -1,10 +1,10 @@
 -- The step, or its refusal.
 use Rattle.std.proofs.Common.{ap, refl, sym, subst, map, ◌∙◌}
 use Rattle.elf_image.specs.Image.{Image}
-use Rattle.elf_edits.specs.declared.facts.Facts.{Facts}
+use Rattle.elf_edits.specs.Facts.{facts_model}
 use Rattle.elf_edits.specs.EditModel.{texts_model}
 use Rattle.elf_edits_shrink.specs.ShrinkModel.{answer_model}
-use Rattle.elf_edits.specs.Cause.{cause, first_cause}
+use Rattle.elf_edits.specs.Cause.{Facts, cause, first_cause}
 use Rattle.elf_edits.specs.CauseModel.{cause_model}
 use Rattle.elf_apply.specs.Drafted.{IsShrunkOf}
 use Rattle.elf_apply.specs.Taken.{shrink_model}
@@ -27,7 +27,7 @@ set_dynamic-requires-clause-tables c =
     let prefixes = texts_model c.args.prefixes.now in
     let answers = map answer_model c.args.probe.now in
     let edit = shrink_model c.args.prefixes.now c.args.probe.now in
-    let none = found_none edit c.args.builder.now c.image_facts.result c.image_facts.ensures (c.in_default.ensures answers) in
+    let none = found_none edit c.args.builder.now (facts_model c.image_facts.result) c.image_facts.ensures (c.in_default.ensures answers) in
     let is = subst (λ (i : Image). IsShrunkOf edit i c.in_ok-made.made) c.known_image.ensures.same c.in_ok-made.ensures in
     (can_put prefixes answers c.args.builder.now none c.in_ok-made.made c.known_image.ensures.lists is).tables
 
@@ -36,7 +36,7 @@ set_dynamic-requires-clause-entries c =
     let prefixes = texts_model c.args.prefixes.now in
     let answers = map answer_model c.args.probe.now in
     let edit = shrink_model c.args.prefixes.now c.args.probe.now in
-    let none = found_none edit c.args.builder.now c.image_facts.result c.image_facts.ensures (c.in_default.ensures answers) in
+    let none = found_none edit c.args.builder.now (facts_model c.image_facts.result) c.image_facts.ensures (c.in_default.ensures answers) in
     let is = subst (λ (i : Image). IsShrunkOf edit i c.in_ok-made.made) c.known_image.ensures.same c.in_ok-made.ensures in
     (can_put prefixes answers c.args.builder.now none c.in_ok-made.made c.known_image.ensures.lists is).entries
 
@@ -47,7 +47,7 @@ returns-clause-takes c =
     let edit = shrink_model c.args.prefixes.now c.args.probe.now in
     let old = c.args.builder.now in
     let made = c.in_ok-made.made in
-    let none = found_none edit old c.image_facts.result c.image_facts.ensures (c.in_default.ensures answers) in
+    let none = found_none edit old (facts_model c.image_facts.result) c.image_facts.ensures (c.in_default.ensures answers) in
     let is = subst (λ (i : Image). IsShrunkOf edit i made) c.known_image.ensures.same c.in_ok-made.ensures in
     elim c.if-not-is_empty.branch [
       | then-not-is_empty w ↦
@@ -65,6 +65,6 @@ returns-clause-removed c =
     let prefixes = texts_model c.args.prefixes.now in
     let answers = map answer_model c.args.probe.now in
     let edit = shrink_model c.args.prefixes.now c.args.probe.now in
-    let none = found_none edit c.args.builder.now c.image_facts.result c.image_facts.ensures (c.in_default.ensures answers) in
+    let none = found_none edit c.args.builder.now (facts_model c.image_facts.result) c.image_facts.ensures (c.in_default.ensures answers) in
     let is = subst (λ (i : Image). IsShrunkOf edit i c.in_ok-made.made) c.known_image.ensures.same c.in_ok-made.ensures in
     removed_are prefixes answers c.args.builder.now none c.in_ok-made.made is

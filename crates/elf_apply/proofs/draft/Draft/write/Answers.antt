@@ -1,7 +1,8 @@
 -- Each edit writes its part.
 use Rattle.std.proofs.Common.{ap, rules, sym, ◌∙◌}
 use Rattle.std.proofs.lemmas.Nat.{and_le_l}
-use Rattle.elf_edits.specs.Edit.{SetInterpreter, SetOsAbi}
+use Rattle.elf_edits.specs.declared.edit.ElfEdit.{ElfEdit}
+use Rattle.elf_edits.specs.Edit.{SetInterpreter, SetOsAbi, is_of_symbols}
 use Rattle.elf_edits.specs.EditModel.{edit_model}
 use Rattle.elf_apply.proofs.DraftLaws.{cleared_noted, interpreter_noted, os_abi_noted, page_size_noted, set_noted}
 use Rattle.elf_apply.proofs.draft.Draft.write.Goals as goal
@@ -13,7 +14,31 @@ pub overflow_sub-self : goal.overflow_sub-self
 overflow_sub-self c = and_le_l c.flags-flags.result 1
 
 pub write_list-requires : goal.write_list-requires
-write_list-requires c = record { list = search rules; free = c.requires.free; listed = c.requires.listed; draft = c.requires.draft }
+write_list-requires c = record { list = search rules; no_symbols = search rules; free = c.requires.free; listed = c.requires.listed; draft = c.requires.draft }
+
+pub write_symbols-requires-clause-symbols : goal.write_symbols-requires-clause-symbols
+write_symbols-requires-clause-symbols c = ap (λ (e : ElfEdit). is_of_symbols (edit_model e)) c.in-RenameDynamicSymbols.is
+
+pub write_symbols-requires-clause-free : goal.write_symbols-requires-clause-free
+write_symbols-requires-clause-free c = c.requires.free
+
+pub write_symbols-requires-clause-draft : goal.write_symbols-requires-clause-draft
+write_symbols-requires-clause-draft c = c.requires.draft
+
+pub write_symbols-requires-in-ClearSymbolVersion-clause-symbols : goal.write_symbols-requires-in-ClearSymbolVersion-clause-symbols
+write_symbols-requires-in-ClearSymbolVersion-clause-symbols c = ap (λ (e : ElfEdit). is_of_symbols (edit_model e)) c.in-ClearSymbolVersion.is
+
+pub write_symbols-requires-in-ClearSymbolVersion-clause-free : goal.write_symbols-requires-in-ClearSymbolVersion-clause-free
+write_symbols-requires-in-ClearSymbolVersion-clause-free c = c.requires.free
+
+pub write_symbols-requires-in-ClearSymbolVersion-clause-draft : goal.write_symbols-requires-in-ClearSymbolVersion-clause-draft
+write_symbols-requires-in-ClearSymbolVersion-clause-draft c = c.requires.draft
+
+pub returns-in-RenameDynamicSymbols : goal.returns-in-RenameDynamicSymbols
+returns-in-RenameDynamicSymbols c = c.write_symbols.ensures
+
+pub returns-in-ClearSymbolVersion : goal.returns-in-ClearSymbolVersion
+returns-in-ClearSymbolVersion c = c.write_symbols-in-ClearSymbolVersion.ensures
 
 pub returns-in-SetInterpreter : goal.returns-in-SetInterpreter
 returns-in-SetInterpreter c =

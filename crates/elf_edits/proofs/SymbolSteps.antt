@@ -1,0 +1,238 @@
+-- Steps of looking through dynamic symbols, and of changing one after another.
+use Rattle.std.proofs.Common.{◌≡◌, ℕ, zero, suc, ◌+◌, ◌<◌, ◌≤◌, Bool, true, false, ◌||◌, List, [], ◌∷◌, ◌++◌, length, map, take, drop, refl, sym, ap, subst, ◌∙◌, Option, Some, None, is_some, option_map, Bor, arith}
+use Rattle.std.specs.Prelude.{◌&&◌, if◌then◌else◌, not, slice_get, unwrap_or}
+use Rattle.std.specs.List.{flat_map, list_any}
+use Rattle.std.specs.Map.{lookup}
+use Rattle.std.specs.Str.{bytes_eq}
+use Rattle.std.proofs.lemmas.Bool.{cond-true, or_parts}
+use Rattle.std.proofs.lemmas.List.{drop_all, drop_more, take_all}
+use Rattle.std.proofs.lemmas.Option.{get_or_from_slice_get, none-some, same_Some, slice_get_within}
+use Rattle.elf_image.specs.Options.{first_there}
+use Rattle.elf_image.specs.Views.{NamedSymbol}
+use Rattle.elf_image_symbol_edits.specs.EditedList.{EditedList, IsName, changed_at, with_global_version}
+use Rattle.elf_edits.specs.declared.symbols.SymbolChange.{SymbolChange}
+use Rattle.elf_edits.specs.Changes.{name_for}
+use Rattle.elf_edits.specs.Edit.{ClearSymbolVersion, Edit, RenameDynamicSymbols}
+use Rattle.elf_edits.specs.SymbolChanges.{AreSymbolsAfter, GivesNames, renamed_by}
+use Rattle.elf_edits.specs.Symbols.{behind_first, cleared, has_new_name, has_version_to_clear, name_of_symbol, names_behind_first, renamed}
+use Rattle.elf_edits.specs.Texts.{holds_nul, value_of}
+use Rattle.elf_edits.proofs.SymbolLaws.{any_name_behind_first, not_cleared}
+
+-- ## Some symbol is sought
+
+module _ {A : Type 0} (test : A → Bool) (xs : List A) (i : ℕ) (answer : Bool) where
+  there : (x : A) (o : Option A) → o ≡ Some x → option_map test o ≡ Some answer → test x ≡ answer
+  there x o is e = same_Some (test x) answer (sym (ap (option_map test) is) ∙ e)
+
+  from_here : (o : Option A) → slice_get xs i ≡ o → option_map test o ≡ Some answer → list_any test (drop i xs) ≡ (answer || list_any test (drop (i + 1) xs))
+  from_here None at e = absurd (none-some answer e)
+  from_here (Some x) at e =
+      ap (list_any test) (drop_more xs i x (slice_get_within xs i x at) ∙ ap (λ y. y ∷ drop (i + 1) xs) (get_or_from_slice_get xs i x x at))
+      ∙ ap (λ b. b || list_any test (drop (i + 1) xs)) (same_Some (test x) answer e)
+
+  pub any_ends : (all : Bool) → option_map test (slice_get xs i) ≡ Some answer → answer ≡ true → list_any test (drop i xs) ≡ all → true ≡ all
+  any_ends all e holds so_far = sym (ap (λ b. b || list_any test (drop (i + 1) xs)) holds) ∙ sym (from_here (slice_get xs i) refl e) ∙ so_far
+
+  pub any_goes : (all : Bool) → option_map test (slice_get xs i) ≡ Some answer → answer ≡ false → list_any test (drop i xs) ≡ all → list_any test (drop (i + 1) xs) ≡ all
+  any_goes all e fails so_far = sym (ap (λ b. b || list_any test (drop (i + 1) xs)) fails) ∙ sym (from_here (slice_get xs i) refl e) ∙ so_far
+
+-- ## One symbol is changed
+
+-- two changes that make the same of the element at a position
+pub changed_alike : {A B : Type 0} (part : A → B) (f g : A → A) (xs : List A) (i : ℕ) (b : B) → option_map part (slice_get xs i) ≡ Some b → ((x : A) → part x ≡ b → f x ≡ g x) → changed_at i f xs ≡ changed_at i g xs
+changed_alike part f g [] i b at same = refl
+changed_alike part f g (x ∷ xs) zero b at same = ap (λ y. y ∷ xs) (same x (same_Some (part x) b at))
+changed_alike part f g (x ∷ xs) (suc i) b at same = ap (λ l. x ∷ l) (changed_alike part f g xs i b at same)
+
+pub changed_to_itself : {A : Type 0} (xs : List A) (i : ℕ) → changed_at i (λ x. x) xs ≡ xs
+changed_to_itself [] i = refl
+changed_to_itself (x ∷ xs) zero = refl
+changed_to_itself (x ∷ xs) (suc i) = ap (λ l. x ∷ l) (changed_to_itself xs i)
+
+-- the list with another list of symbols
+pub with_symbols : EditedList → List NamedSymbol → EditedList
+with_symbols e ys = record e { symbols = ys }
+
+if_both : (b c : Bool) → (b && c) ≡ true → b ≡ true
+if_both true c h = refl
+if_both false c h = absurd (cc)
+
+-- a version that is there is cleared
+pub one_cleared : (name : List ℕ) (old new : EditedList) (seen : List NamedSymbol) (i : ℕ) (found : Bool) → seen ≡ old.symbols → option_map (has_version_to_clear name) (slice_get seen i) ≡ Some found → found ≡ true
+    → new ≡ record old { symbols = changed_at i with_global_version old.symbols } → new ≡ record old { symbols = changed_at i (cleared name) old.symbols }
+unfolding with_symbols
+one_cleared name old new seen i found is at holds made =
+    made
+    ∙ ap (with_symbols old) (changed_alike (has_version_to_clear name) with_global_version (cleared name) old.symbols i found (ap (λ (ys : List NamedSymbol). option_map (has_version_to_clear name) (slice_get ys i)) (sym is) ∙ at)
+    (λ y h. sym (cond-true (bytes_eq y.name name) (with_global_version y) y (if_both (bytes_eq y.name name) (is_some y.version) (h ∙ holds)))))
+
+pub none_cleared : (name : List ℕ) (old : EditedList) (seen : List NamedSymbol) (i : ℕ) (found : Bool) → seen ≡ old.symbols → option_map (has_version_to_clear name) (slice_get seen i) ≡ Some found → found ≡ false
+    → old ≡ record old { symbols = changed_at i (cleared name) old.symbols }
+unfolding with_symbols
+none_cleared name old seen i found is at fails =
+    ap (with_symbols old) (sym (changed_alike (has_version_to_clear name) (cleared name) (λ y. y) old.symbols i found (ap (λ (ys : List NamedSymbol). option_map (has_version_to_clear name) (slice_get ys i)) (sym is) ∙ at)
+    (λ y h. not_cleared name y (h ∙ fails)) ∙ changed_to_itself old.symbols i))
+
+-- ## One symbol gets a name
+
+module _ (names : List (Bor (List ℕ) × Bor (List ℕ))) (name : List ℕ) where
+  asked : Option (Bor (List ℕ))
+  asked = lookup (λ (k : Bor (List ℕ)). bytes_eq name k.now) names
+
+  pub named_there : (other : Bor (List ℕ)) → Some other ≡ lookup (λ (k : Bor (List ℕ)). bytes_eq name k.now) names → name_for names name ≡ Some other.now
+  unfolding asked
+  named_there other e = ap (option_map (λ (t : Bor (List ℕ)). t.now)) (sym e)
+
+  pub one_renamed : (old new : EditedList) (seen : List NamedSymbol) (i : ℕ) (other : Bor (List ℕ)) (given : List ℕ) → seen ≡ old.symbols → option_map (λ (y : NamedSymbol). y.name) (slice_get seen i) ≡ Some name
+      → Some other ≡ lookup (λ (k : Bor (List ℕ)). bytes_eq name k.now) names → given ≡ other.now
+      → new ≡ record old { symbols = changed_at i (λ y. record y { name = given }) old.symbols } → new ≡ record old { symbols = changed_at i (renamed_by names) old.symbols }
+  unfolding with_symbols
+  one_renamed old new seen i other given is at found same made =
+      made
+      ∙ ap (with_symbols old) (changed_alike name_of_symbol (λ y. record y { name = given }) (renamed_by names) old.symbols i name (ap (λ (ys : List NamedSymbol). option_map name_of_symbol (slice_get ys i)) (sym is) ∙ at)
+      (λ y h. ap (λ (n : List ℕ). record y { name = n }) (same ∙ sym (ap (λ (o : Option (List ℕ)). unwrap_or o y.name) (ap (name_for names) h ∙ named_there other found)))))
+
+  pub none_renamed : (old : EditedList) (seen : List NamedSymbol) (i : ℕ) → seen ≡ old.symbols → option_map (λ (y : NamedSymbol). y.name) (slice_get seen i) ≡ Some name
+      → None ≡ lookup (λ (k : Bor (List ℕ)). bytes_eq name k.now) names → old ≡ record old { symbols = changed_at i (renamed_by names) old.symbols }
+  unfolding with_symbols
+  none_renamed old seen i is at found =
+      ap (with_symbols old) (sym (changed_alike name_of_symbol (renamed_by names) (λ y. y) old.symbols i name (ap (λ (ys : List NamedSymbol). option_map name_of_symbol (slice_get ys i)) (sym is) ∙ at)
+      (λ y h. ap (λ (n : List ℕ). record y { name = n }) (ap (λ (o : Option (List ℕ)). unwrap_or o y.name) (ap (name_for names) h ∙ sym (ap (option_map (λ (t : Bor (List ℕ)). t.now)) found)))) ∙ changed_to_itself old.symbols i))
+
+pub is_name : (name : List ℕ) → holds_nul name ≡ false → IsName name
+is_name name h = ap not h
+
+-- ## All behind the first
+
+-- a list up to a place, and another one from there
+abbrev pub mixed : {A : Type 0} → ℕ → List A → List A → List A
+mixed i new old = take i new ++ drop i old
+
+-- one more element of a list that goes with another
+mixed_more : {A : Type 0} (f : A → A) (i : ℕ) (new old : List A) → length new ≡ length old → i < length old → ((x : A) → slice_get old i ≡ Some x → slice_get new i ≡ Some (f x)) → changed_at i f (mixed i new old) ≡ mixed (suc i) new old
+mixed_more f i [] [] long here at = absurd (omega (arith, here))
+mixed_more f i [] (y ∷ ys) long here at = absurd (omega (arith, long))
+mixed_more f i (x ∷ xs) [] long here at = absurd (omega (arith, here))
+mixed_more f zero (x ∷ xs) (y ∷ ys) long here at = ap (λ z. z ∷ ys) (same_Some (f y) x (sym (at y refl)))
+mixed_more f (suc i) (x ∷ xs) (y ∷ ys) long here at = ap (λ l. x ∷ l) (mixed_more f i xs ys (omega (arith, long)) (omega (arith, here)) at)
+
+behind_first-length : {A : Type 0} (f : A → A) (xs : List A) → length (behind_first f xs) ≡ length xs
+behind_first-length f [] = refl
+behind_first-length {A} f (x ∷ xs) = ap suc (each xs)
+  where
+    each : (ys : List A) → length (map f ys) ≡ length ys
+    each [] = refl
+    each (y ∷ ys) = ap suc (each ys)
+
+map-there : {A : Type 0} (f : A → A) (xs : List A) (i : ℕ) (x : A) → slice_get xs i ≡ Some x → slice_get (map f xs) i ≡ Some (f x)
+map-there f [] i x at = absurd (none-some x at)
+map-there f (y ∷ ys) zero x at = ap (λ z. Some (f z)) (same_Some y x at)
+map-there f (y ∷ ys) (suc i) x at = map-there f ys i x at
+
+behind_first-there : {A : Type 0} (f : A → A) (xs : List A) (i : ℕ) (x : A) → slice_get xs (suc i) ≡ Some x → slice_get (behind_first f xs) (suc i) ≡ Some (f x)
+behind_first-there f [] i x at = absurd (none-some x at)
+behind_first-there f (y ∷ ys) i x at = map-there f ys i x at
+
+changes_at : {A : Type 0} (f : A → A) (xs : List A) (i : ℕ) → 1 ≤ i → (x : A) → slice_get xs i ≡ Some x → slice_get (behind_first f xs) i ≡ Some (f x)
+changes_at f xs zero first x at = absurd (omega (arith, first))
+changes_at f xs (suc i) first x at = behind_first-there f xs i x at
+
+module _ (f : NamedSymbol → NamedSymbol) (old : EditedList) where
+  -- the symbols up to a place changed
+  abbrev pub changed_up_to : ℕ → EditedList
+  changed_up_to i = record old { symbols = mixed i (behind_first f old.symbols) old.symbols }
+
+  pub none_changed_yet : (i : ℕ) → i ≡ 1 → old ≡ changed_up_to i
+  unfolding with_symbols
+  none_changed_yet i is = ap (with_symbols old) (first old.symbols ∙ ap (λ k. mixed k (behind_first f old.symbols) old.symbols) (sym is))
+    where
+      first : (ys : List NamedSymbol) → ys ≡ mixed 1 (behind_first f ys) ys
+      first [] = refl
+      first (y ∷ ys) = refl
+
+  long : (i : ℕ) (xs ys : List NamedSymbol) → length xs ≡ length ys → length (mixed i xs ys) ≡ length ys
+  long i [] [] same = mixed_none i
+    where
+      mixed_none : (k : ℕ) → length (mixed {A = NamedSymbol} k [] []) ≡ 0
+      mixed_none zero = refl
+      mixed_none (suc k) = refl
+  long i [] (y ∷ ys) same = absurd (omega (arith, same))
+  long i (x ∷ xs) [] same = absurd (omega (arith, same))
+  long zero (x ∷ xs) (y ∷ ys) same = refl
+  long (suc i) (x ∷ xs) (y ∷ ys) same = ap suc (long i xs ys (omega (arith, same)))
+
+  pub still_long : (i : ℕ) (now : EditedList) → now ≡ changed_up_to i → length now.symbols ≡ length old.symbols
+  still_long i now is = ap (λ (e : EditedList). length e.symbols) is ∙ long i (behind_first f old.symbols) old.symbols (behind_first-length f old.symbols)
+
+  pub one_more_changed : (i : ℕ) (now new : EditedList) → 1 ≤ i → i < length old.symbols → now ≡ changed_up_to i → new ≡ record now { symbols = changed_at i f now.symbols } → new ≡ changed_up_to (i + 1)
+  unfolding with_symbols
+  one_more_changed i now new first here so_far made =
+      made
+      ∙ ap (λ (e : EditedList). record e { symbols = changed_at i f e.symbols }) so_far
+      ∙ ap (with_symbols old) (mixed_more f i (behind_first f old.symbols) old.symbols (behind_first-length f old.symbols) here (changes_at f old.symbols i first))
+      ∙ ap (λ k. with_symbols old (mixed k (behind_first f old.symbols) old.symbols)) next
+    where
+      next : suc i ≡ i + 1
+      next = omega arith
+
+  pub all_changed : (i : ℕ) (now : EditedList) → length old.symbols ≤ i → now ≡ changed_up_to i → now ≡ record old { symbols = behind_first f old.symbols }
+  unfolding with_symbols
+  all_changed i now past is = is ∙ ap (with_symbols old) (whole i (behind_first f old.symbols) old.symbols (behind_first-length f old.symbols) past)
+    where
+      whole : (k : ℕ) (xs ys : List NamedSymbol) → length xs ≡ length ys → length ys ≤ k → mixed k xs ys ≡ xs
+      whole zero [] [] same h = refl
+      whole (suc k) [] [] same h = refl
+      whole k [] (y ∷ ys) same h = absurd (omega (arith, same))
+      whole k (x ∷ xs) [] same h = absurd (omega (arith, same))
+      whole zero (x ∷ xs) (y ∷ ys) same h = absurd (omega (arith, h))
+      whole (suc k) (x ∷ xs) (y ∷ ys) same h = ap (λ l. x ∷ l) (whole k xs ys (omega (arith, same)) (omega (arith, h)))
+
+-- ## The map of some pairs
+
+module _ (names : List (Bor (List ℕ) × Bor (List ℕ))) (pairs : List (List ℕ × List ℕ)) (same : (name : List ℕ) → name_for names name ≡ value_of pairs name) where
+  same_test : (ys : List NamedSymbol) → list_any (λ y. is_some (name_for names y.name)) ys ≡ list_any (λ y. has_new_name pairs y.name) ys
+  same_test [] = refl
+  same_test (y ∷ ys) = ap (λ o. is_some o || list_any (λ z. is_some (name_for names z.name)) ys) (same y.name) ∙ ap (λ b. has_new_name pairs y.name || b) (same_test ys)
+
+  pub same_found : (ys : List NamedSymbol) → list_any (λ y. is_some (name_for names y.name)) (drop 1 ys) ≡ list_any (λ y. has_new_name pairs y.name) (drop 1 ys)
+  same_found ys = same_test (drop 1 ys)
+
+  pub same_found_names : (ys : List NamedSymbol) → list_any (λ y. is_some (name_for names y.name)) (drop 1 ys) ≡ list_any (has_new_name pairs) (names_behind_first ys)
+  same_found_names ys = same_found ys ∙ sym (any_name_behind_first (has_new_name pairs) ys)
+
+  same_renamed : (y : NamedSymbol) → renamed_by names y ≡ renamed pairs y
+  same_renamed y = ap (λ (o : Option (List ℕ)). record y { name = unwrap_or o y.name }) (same y.name)
+
+  each_renamed : (ys : List NamedSymbol) → map (renamed_by names) ys ≡ map (renamed pairs) ys
+  each_renamed [] = refl
+  each_renamed (y ∷ ys) = ap (λ z. z ∷ map (renamed_by names) ys) (same_renamed y) ∙ ap (λ l. renamed pairs y ∷ l) (each_renamed ys)
+
+  all_renamed : (ys : List NamedSymbol) → behind_first (renamed_by names) ys ≡ behind_first (renamed pairs) ys
+  all_renamed [] = refl
+  all_renamed (y ∷ ys) = ap (λ l. y ∷ l) (each_renamed ys)
+
+  -- what the map makes of symbols, or that it makes nothing
+  abbrev IsRenamedBy : EditedList → Option EditedList → Type 0
+  IsRenamedBy old None = list_any (λ y. is_some (name_for names y.name)) (drop 1 old.symbols) ≡ false
+  IsRenamedBy old (Some new) = (list_any (λ y. is_some (name_for names y.name)) (drop 1 old.symbols) ≡ true) × (new ≡ record old { symbols = behind_first (renamed_by names) old.symbols })
+
+  pub after_renames : (old : EditedList) (made : Option EditedList) → IsRenamedBy old made → AreSymbolsAfter (RenameDynamicSymbols pairs) old made
+  unfolding with_symbols
+  after_renames old None h = sym (same_found old.symbols) ∙ h
+  after_renames old (Some new) h = (sym (same_found old.symbols) ∙ h.0, h.1 ∙ ap (with_symbols old) (all_renamed old.symbols))
+
+  -- a name that is given is among the new ones
+  pub given_names : list_any holds_nul (flat_map (λ pair. pair.0 ∷ pair.1 ∷ []) pairs) ≡ false → GivesNames names
+  given_names none old new is = is_name new (value_whole pairs none (sym (same old) ∙ is))
+    where
+      either : (found : Option (List ℕ)) (b : Bool) (v : List ℕ) → (found ≡ Some new → holds_nul new ≡ false) → holds_nul v ≡ false → first_there found (if b then Some v else None) ≡ Some new → holds_nul new ≡ false
+      either (Some value) b v later here h = later h
+      either None true v later here h = ap holds_nul (sym (same_Some v new h)) ∙ here
+      either None false v later here h = absurd (none-some new h)
+
+      value_whole : (ps : List (List ℕ × List ℕ)) → list_any holds_nul (flat_map (λ pair. pair.0 ∷ pair.1 ∷ []) ps) ≡ false → value_of ps old ≡ Some new → holds_nul new ≡ false
+      value_whole [] free h = absurd (none-some new h)
+      value_whole (p ∷ ps) free h =
+          let parts = or_parts (holds_nul p.0) (holds_nul p.1 || list_any holds_nul (flat_map (λ pair. pair.0 ∷ pair.1 ∷ []) ps)) free in
+          let more = or_parts (holds_nul p.1) (list_any holds_nul (flat_map (λ pair. pair.0 ∷ pair.1 ∷ []) ps)) parts.1 in
+          either (value_of ps old) (bytes_eq old p.0) p.1 (λ later. value_whole ps more.1 later) more.0 h

@@ -1,0 +1,227 @@
+//! Dynamic symbols that edits make (gABI, Symbol Table; GNU symbol versioning).
+ghost use Rattle.std.specs.Prelude.{◌≡◌, ◌<◌, IfOk, Some, drop, false, length, option_map, slice_get};
+ghost use Rattle.std.specs.List.{list_any};
+ghost use Rattle.elf_image_symbol_edits.specs.EditedList.{changed_at};
+ghost use Rattle.elf_image_symbol_edits.specs.Loan.{symbols_now};
+ghost use Rattle.elf_edits.specs.Edit.{RenameDynamicSymbols, edit_model, texts_of};
+ghost use Rattle.elf_edits.specs.SymbolChanges.{AreSymbolsAfter, AreSymbolsChanged, GivesNames, KeepsNames, changed_symbol, is_changed, renamed_by};
+ghost use Rattle.elf_edits.specs.Symbols.{behind_first, cleared, has_new_name, has_version_to_clear, names_behind_first};
+ghost use Rattle.elf_edits.specs.TextModel.{pairs_model};
+ghost use Rattle.elf_edits.specs.Texts.{holds_nul};
+
+use crate::edit::ElfEdit;
+use crate::lookups::map_of;
+use elf_image_symbol_edits::{EditedSymbols, SymbolsNow};
+use patch_bytes::ByteString;
+use std::alloc::{AllocError, Global};
+use std::collections::HashMap;
+
+// So many symbols are changed without making them ready for it.
+const FEW: usize = 16;
+
+// What becomes of dynamic symbols.
+#[derive(Clone, Copy)]
+pub(crate) enum SymbolChange<'e, 'n> {
+    // The name of a symbol is the one that stands for it here, if one does.
+    Name(&'e HashMap<&'n [u8], &'n [u8]>),
+    // A symbol with this name has, where it has a version, that of a global symbol.
+    Version(&'e [u8]),
+}
+
+// Whether a symbol has this name, and a version.
+fn has_version(symbols: &SymbolsNow<'_>, i: usize, name: &[u8]) -> bool
+    requires { i < length (symbols_now symbols.now) }
+    ensures { option_map (has_version_to_clear name.now) (slice_get (symbols_now symbols.now) i)
+        ≡ Some result }
+{
+    symbols.name(i) == name && symbols.get(i).version.is_some()
+}
+
+// Gives a symbol the name that a map has for its own, if it has one.
+fn rename(
+    alloc: Global,
+    names: &HashMap<&[u8], &[u8]>,
+    edited: &mut EditedSymbols<'_>,
+    i: usize,
+) -> Result<(), AllocError>
+    requires there { i < length edited.old.symbols }
+    requires names { GivesNames names.now.entries }
+    ensures { IfOk result (λ _. edited.new ≡ record edited.old {
+      symbols = changed_at i (renamed_by names.now.entries) edited.old.symbols;
+    }) }
+{
+    match names.get(edited.lend().name(i)) {
+        None => Ok(()),
+        Some(name) => {
+            let name = Vec::from_slice(alloc, name)?;
+            edited.rename(i, ByteString::owned(name));
+            Ok(())
+        }
+    }
+}
+
+// Clears the version of a symbol with this name, where it has one.
+fn clear(name: &[u8], edited: &mut EditedSymbols<'_>, i: usize)
+    requires { i < length edited.old.symbols }
+    ensures { edited.new ≡ record edited.old {
+      symbols = changed_at i (cleared name.now) edited.old.symbols;
+    } }
+{
+    if has_version(&edited.lend(), i, name) {
+        edited.clear_version(i);
+    }
+}
+
+impl SymbolChange<'_, '_> {
+    // Whether it is about the symbol at a position.
+    fn is_about(&self, symbols: &SymbolsNow<'_>, i: usize) -> bool
+        requires { i < length (symbols_now symbols.now) }
+        ensures { option_map (is_changed self.now) (slice_get (symbols_now symbols.now) i)
+            ≡ Some result }
+    {
+        match self {
+            SymbolChange::Name(names) => names.contains_key(symbols.name(i)),
+            SymbolChange::Version(name) => has_version(symbols, i, name),
+        }
+    }
+
+    // Whether it is about a symbol behind the first.
+    pub(crate) fn is_about_any(&self, symbols: &SymbolsNow<'_>) -> bool
+        ensures { result ≡ list_any (is_changed self.now) (drop 1 (symbols_now symbols.now)) }
+    {
+        for i in 1..symbols.len() {
+            if self.is_about(symbols, i) {
+                return true;
+            }
+        }
+        false
+    }
+
+    // Makes it of the symbol at a position.
+    fn apply(
+        &self,
+        alloc: Global,
+        edited: &mut EditedSymbols<'_>,
+        i: usize,
+    ) -> Result<(), AllocError>
+        requires there { i < length edited.old.symbols }
+        requires names { KeepsNames self.now }
+        ensures { IfOk result (λ _. edited.new ≡ record edited.old {
+          symbols = changed_at i (changed_symbol self.now) edited.old.symbols;
+        }) }
+    {
+        match self {
+            SymbolChange::Name(names) => rename(alloc, names, edited, i),
+            SymbolChange::Version(name) => {
+                clear(name, edited, i);
+                Ok(())
+            }
+        }
+    }
+
+    // Makes it of all symbols behind the first.
+    fn apply_to_all(&self, alloc: Global, edited: &mut EditedSymbols<'_>) -> Result<(), AllocError>
+        requires { KeepsNames self.now }
+        ensures { IfOk result (λ _. edited.new ≡ record edited.old {
+          symbols = behind_first (changed_symbol self.now) edited.old.symbols;
+        }) }
+    {
+        for i in 1..edited.lend().len() {
+            self.apply(alloc, edited, i)?;
+        }
+        Ok(())
+    }
+
+    // Whether it is about more than a few symbols behind the first.
+    fn is_about_many(&self, symbols: &SymbolsNow<'_>) -> bool {
+        let mut left = FEW;
+        for i in 1..symbols.len() {
+            if self.is_about(symbols, i) {
+                if left == 0 {
+                    return true;
+                }
+                left -= 1;
+            }
+        }
+        false
+    }
+
+    // A copy of the symbols to be changed. Where more than a few are, none moves what is told of those behind it.
+    fn copy<'d>(
+        &self,
+        alloc: Global,
+        symbols: &EditedSymbols<'d>,
+    ) -> Result<EditedSymbols<'d>, AllocError>
+        ensures { IfOk result (λ copy. copy ≡ symbols.now) }
+    {
+        if self.is_about_many(&symbols.lend()) {
+            symbols.spread(alloc)
+        } else {
+            symbols.try_clone(alloc)
+        }
+    }
+
+    // The symbols with it, where it is about one behind the first.
+    fn change<'d>(
+        &self,
+        alloc: Global,
+        symbols: &EditedSymbols<'d>,
+    ) -> Result<Option<EditedSymbols<'d>>, AllocError>
+        requires { KeepsNames self.now }
+        ensures { IfOk result (AreSymbolsChanged self.now symbols.now) }
+    {
+        if !self.is_about_any(&symbols.lend()) {
+            return Ok(None);
+        }
+        let mut copy = self.copy(alloc, symbols)?;
+        self.apply_to_all(alloc, &mut copy)?;
+        Ok(Some(copy))
+    }
+}
+
+// Whether some pairs of an old and a new name have one for a symbol behind the first.
+pub(crate) fn rename_any(
+    alloc: Global,
+    pairs: &[(Vec<u8>, Vec<u8>)],
+    symbols: &SymbolsNow<'_>,
+) -> Result<bool, AllocError>
+    ensures { IfOk result (λ found. found ≡ list_any (has_new_name (pairs_model pairs.now))
+        (names_behind_first (symbols_now symbols.now))) }
+{
+    let names = map_of(alloc, pairs)?;
+    Ok(SymbolChange::Name(&names).is_about_any(symbols))
+}
+
+// The symbols with the names that some pairs have for theirs, where they have one.
+fn renamed<'d>(
+    alloc: Global,
+    pairs: &[(Vec<u8>, Vec<u8>)],
+    symbols: &EditedSymbols<'d>,
+) -> Result<Option<EditedSymbols<'d>>, AllocError>
+    requires { list_any holds_nul (texts_of (RenameDynamicSymbols (pairs_model pairs.now))) ≡ false }
+    ensures { IfOk result
+        (AreSymbolsAfter (RenameDynamicSymbols (pairs_model pairs.now)) symbols.now) }
+{
+    let names = map_of(alloc, pairs)?;
+    SymbolChange::Name(&names).change(alloc, symbols)
+}
+
+/// The dynamic symbols after an edit that writes a name or a version, be it what stands there already; `None` after one
+/// that doesn't. The cost is in proportion to the symbols and the edit's texts. Error: `AllocError`.
+pub fn edit_symbols<'d>(
+    alloc: Global,
+    edit: &ElfEdit,
+    symbols: &EditedSymbols<'d>,
+) -> Result<Option<EditedSymbols<'d>>, AllocError>
+    // the caller knows that no text of the edit has a NUL in it, a cause that comes before
+    requires { list_any holds_nul (texts_of (edit_model edit.now)) ≡ false }
+    ensures { IfOk result (AreSymbolsAfter (edit_model edit.now) symbols.now) }
+{
+    match edit {
+        ElfEdit::RenameDynamicSymbols(pairs) => renamed(alloc, pairs.as_slice(), symbols),
+        ElfEdit::ClearSymbolVersion(name) => {
+            SymbolChange::Version(name.as_slice()).change(alloc, symbols)
+        }
+        _ => Ok(None),
+    }
+}
