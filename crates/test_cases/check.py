@@ -12,6 +12,7 @@ lines about edits have to print what the model says. Python's standard library i
 
 import os
 import re
+import struct
 import sys
 
 HERE = os.path.dirname(os.path.abspath(__file__))
@@ -70,6 +71,7 @@ class Loaded:
         pairs = list(zip(words[0::2], words[1::2]))
         pairs = pairs[: [tag for tag, _ in pairs].index(0)]
         numbers = dict(pairs)
+        self.numbers = pairs
         strings = self.read(numbers[DT_STRTAB], numbers[DT_STRSZ])
         made = []
         for tag, value in pairs:
@@ -77,6 +79,189 @@ class Loaded:
                 value = strings[value : strings.index(b"\0", value)].decode()
             made.append((tag, None if tag in model.TABLES else value))
         return made
+
+
+SHT_SYMTAB, SHT_RELA, SHT_REL, SHT_DYNSYM, SHT_HASH, SHT_GNU_HASH = 2, 4, 9, 11, 5, 0x6FFFFFF6
+SHT_GNU_VERNEED, SHT_GNU_VERSYM = 0x6FFFFFFE, 0x6FFFFFFF
+DT_HASH, DT_SYMTAB, DT_GNU_HASH, DT_VERSYM, DT_VERNEED, DT_VERNEEDNUM = 4, 6, 0x6FFFFEF5, 0x6FFFFFF0, 0x6FFFFFFE, 0x6FFFFFFF
+
+
+class Symbols:
+    """The dynamic symbols of a file by its section headers: their records, hash tables, relocations, and versions that are needed."""
+
+    def __init__(self, file):
+        self.file = file
+        self.table = file.find(SHT_DYNSYM)
+        self.parts = {kind: self.body(file.find(kind)) for kind in (SHT_DYNSYM, SHT_HASH, SHT_GNU_HASH, SHT_GNU_VERSYM)}
+        self.rows = [] if self.table is None else list(self.records())
+        self.needs = list(self.needed())
+
+    def unpack(self, fields, data, at=0):
+        return struct.unpack_from(self.file.order + fields, data, at)
+
+    def body(self, number):
+        """The bytes of the section with that number, `None` without one."""
+        if number is None:
+            return None
+        _, offset, length, _ = self.file.sections[number]
+        return self.file.data[offset : offset + length]
+
+    def records(self):
+        """Name, version and numbers of each symbol."""
+        body, size = self.parts[SHT_DYNSYM], 24 if self.file.big else 16
+        for n, (name, version) in enumerate(self.file.symbols()):
+            if self.file.big:
+                _, info, other, section, value, length = self.unpack("IBBHQQ", body, n * size)
+            else:
+                _, value, length, info, other, section = self.unpack("IIIBBH", body, n * size)
+            yield name, version, (info, other, section, value, length)
+
+    def needed(self):
+        """A library, and index, flags and name of each version that is needed of it; the hash of each name has to be right."""
+        number = self.file.find(SHT_GNU_VERNEED)
+        body, at = self.body(number), 0
+        while body:
+            _, count, library, first, after = self.unpack("HHIII", body, at)
+            names, place = [], at + first
+            for _ in range(count):
+                told, flags, index, name, step = self.unpack("IHHII", body, place)
+                text = self.file.text(self.file.sections[number][3], name)
+                if told != gabi_hash(text.encode()):
+                    raise ValueError("the hash of the version %s is %#x" % (text, told))
+                names.append((index, flags, text))
+                place += step
+            yield self.file.text(self.file.sections[number][3], library), names
+            at += after
+            if not after:
+                return
+
+    def relocations(self, rows):
+        """The relocations against these symbols: offset, type, the symbol, and what is added, where it stands there."""
+        for number, (kind, _, _, link) in enumerate(self.file.sections):
+            if kind not in (SHT_REL, SHT_RELA) or link != self.table:
+                continue
+            body, fields = self.body(number), ("Q" if self.file.big else "I") * (3 if kind == SHT_RELA else 2)
+            for at in range(0, len(body), struct.calcsize("<" + fields)):
+                place, info, *rest = self.unpack(fields, body, at)
+                bits = 32 if self.file.big else 8
+                yield place, info & (1 << bits) - 1, rows[info >> bits], rest
+
+    def found(self, name):
+        """The symbols to which the look-ups of each table come, by the hash of a name."""
+        if self.parts[SHT_HASH]:
+            yield "gABI", list(self.found_gabi(self.parts[SHT_HASH], gabi_hash(name)))
+        if self.parts[SHT_GNU_HASH]:
+            yield "GNU", list(self.found_gnu(self.parts[SHT_GNU_HASH], gnu_hash(name)))
+
+    def found_gabi(self, table, value):
+        buckets, chains = self.unpack("II", table)
+        (at,) = self.unpack("I", table, 8 + 4 * (value % buckets))
+        for _ in range(chains):
+            if at == 0:
+                return
+            yield at
+            (at,) = self.unpack("I", table, 4 * (2 + buckets + at))
+        raise ValueError("a chain without an end")
+
+    def found_gnu(self, table, value):
+        buckets, first, words, shift = self.unpack("IIII", table)
+        bits, word = (64, "Q") if self.file.big else (32, "I")
+        (filtered,) = self.unpack(word, table, 16 + value // bits % words * bits // 8)
+        if not (filtered >> value % bits & filtered >> (value >> shift) % bits & 1):
+            return
+        heads = 16 + words * bits // 8
+        (at,) = self.unpack("I", table, heads + 4 * (value % buckets))
+        while at:
+            (told,) = self.unpack("I", table, heads + 4 * (buckets + at - first))
+            if told | 1 == value | 1:
+                yield at
+            if told & 1:
+                return
+            at += 1
+
+
+def gabi_hash(name):
+    value = 0
+    for byte in name:
+        value = (value << 4) + byte
+        high = value & 0xF0000000
+        value = (value ^ high >> 24) & ~high & 0xFFFFFFFF
+    return value
+
+
+def gnu_hash(name):
+    value = 5381
+    for byte in name:
+        value = (value * 33 + byte) & 0xFFFFFFFF
+    return value
+
+
+def not_found(symbols):
+    """What of look-ups is wrong: each symbol that is defined and not local is found by its name, and no other one is."""
+    for number, (name, _, (info, _, section, _, _)) in enumerate(symbols.rows):
+        is_sought = number > 0 and section != 0 and info >> 4 != 0
+        for kind, found in symbols.found(name.encode()):
+            if is_sought != (number in found):
+                return "the %s table %s symbol %d" % (kind, "misses" if is_sought else "finds", number)
+    return None
+
+
+def left_needs(symbols, rows):
+    """The needed versions that stay: those that a symbol has, and those that none had before; a library goes with its last."""
+    had, has = ({version[0] for _, version, _ in some if version} for some in (symbols.rows, rows))
+    made = []
+    for library, names in symbols.needs:
+        stay = [name for name in names if name[0] in has or name[0] not in had]
+        if stay or not names:
+            made.append((library, stay))
+    return made
+
+
+def is_droppable(entries):
+    """Whether the dynamic list has what versions go by."""
+    tags = {tag for tag, _ in entries or []}
+    return {DT_SYMTAB, DT_VERSYM, DT_VERNEED, DT_VERNEEDNUM} <= tags
+
+
+def compare_symbols(old, new, image):
+    """The dynamic list as it is written, and what is wrong with the symbols of new bytes, where those of an image are meant."""
+    before, after = Symbols(model.File(old)), Symbols(model.File(new))
+    meant = [(name, version, row[2]) for (name, version), row in zip(image.symbols, before.rows)]
+    entries, needs = image.entries, before.needs
+    if is_droppable(before.file.entries):
+        needs = left_needs(before, meant)
+        if before.needs and not needs:
+            entries = [entry for entry in entries if entry[0] not in (DT_VERNEED, DT_VERNEEDNUM)]
+    why = None
+    if sorted(after.rows, key=str) != sorted(meant, key=str) or after.rows[:1] != meant[:1]:
+        why = "symbols are %r, meant %r" % (after.rows, meant)
+    elif after.needs != needs:
+        why = "needed versions are %r, meant %r" % (after.needs, needs)
+    elif list(after.relocations(after.rows)) != list(before.relocations(meant)):
+        why = "relocations are about other symbols"
+    elif [row[0] for row in meant] != [row[0] for row in before.rows]:
+        why = not_found(after)
+    elif any(after.parts[kind] != before.parts[kind] for kind in (SHT_HASH, SHT_GNU_HASH)) or [row[2] for row in after.rows] != [
+        row[2] for row in before.rows
+    ]:
+        why = "the order or a hash table is another, and no name"
+    return entries, why or not_loaded(after, new)
+
+
+def not_loaded(symbols, data):
+    """What a loader sees otherwise: each table stands where the dynamic list says."""
+    loaded, numbers = Loaded(data), {}
+    if loaded.entries is None or symbols.table is None:
+        return None
+    numbers = dict(loaded.numbers)
+    tags = {SHT_DYNSYM: DT_SYMTAB, SHT_HASH: DT_HASH, SHT_GNU_HASH: DT_GNU_HASH, SHT_GNU_VERSYM: DT_VERSYM}
+    for kind, tag in tags.items():
+        part = symbols.parts[kind]
+        if part and tag in numbers and loaded.read(numbers[tag], len(part)) != part:
+            return "a loader sees another table at the tag %#x" % tag
+    if symbols.needs and DT_VERNEEDNUM in numbers and numbers[DT_VERNEEDNUM] != len(symbols.needs):
+        return "DT_VERNEEDNUM is %d" % numbers[DT_VERNEEDNUM]
+    return None
 
 
 def shows(data):
@@ -183,7 +368,10 @@ def compare(data, words, lines):
     new = laid(data, lines[1:])
     if not image.changed:
         return new, None if new == data else "bytes that nothing changes"
-    seen, meant = shows(new), (image.entries, image.interpreter, image.stack, image.abi)
+    entries, why = compare_symbols(data, new, image)
+    if why is not None:
+        return new, why
+    seen, meant = shows(new), (entries, image.interpreter, image.stack, image.abi)
     if seen != meant:
         return new, "shown are %r, meant %r" % (seen, meant)
     sizes = [edit[1][0] for edit in edits if edit[0] == "set-page-size"]
@@ -205,7 +393,7 @@ def steps(text):
     """The lines of a file, each with what was printed of it."""
     found = []
     for line in text.split("\n"):
-        if line[:2] in ("= ", "> ", "m ", "! ", "? ", "* ", "h ", "p ", "n ") or line[:1] in ("#", "", "?", ">"):
+        if line[:2] in ("= ", "> ", "m ", "! ", "$ ", "? ", "* ", "h ", "p ", "n ") or line[:1] in ("#", "", "?", ">"):
             found.append((line, []))
         elif found:
             found[-1][1].append(line)
@@ -218,11 +406,12 @@ def is_checked(status):
 
 
 def is_edit(line, printed):
-    """Whether a line is an edit of an ELF file that was read."""
+    """Whether a line is an edit of the ELF file that lines work on, and it was read."""
     kind, *words = line.split(" ")
     names = model.ALONE + model.ONE + model.MANY + ["apply", "shrink-rpath"]
     is_named = words[:1] == ["elf"] and len(words) > 2 and words[1] in names
-    return kind in (">", "m", "!", "p") and is_named and printed[:1] != [] and is_checked(printed[0])
+    is_of_file = "file" in words or "f" in words
+    return kind in (">", "m", "!", "p") and is_named and is_of_file and printed[:1] != [] and is_checked(printed[0])
 
 
 def check_edit(data, line, printed):

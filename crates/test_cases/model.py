@@ -31,8 +31,10 @@ TASKS = {
 }
 PAGES = {0x9026: 65536, 50: 65536, 8: 65536, 20: 65536, 21: 65536, 183: 65536, 191: 65536, 258: 65536, 2: 8192, 43: 8192}
 ALONE = ["add-debug-tag", "clear-exec-stack", "force-rpath", "no-default-lib", "remove-rpath", "set-exec-stack"]
-ONE = ["add-rpath", "set-rpath", "set-interpreter", "set-os-abi", "set-soname", "set-page-size"]
-MANY = ["add-needed", "remove-needed", "replace-needed"]
+ONE = ["add-rpath", "set-rpath", "set-interpreter", "set-os-abi", "set-soname", "set-page-size", "clear-symbol-version"]
+MANY = ["add-needed", "remove-needed", "replace-needed", "rename-dynamic-symbols"]
+PAIRS = ["replace-needed", "rename-dynamic-symbols"]
+OF_SYMBOLS = ["rename-dynamic-symbols", "clear-symbol-version"]
 
 
 def lowered(text):
@@ -67,7 +69,7 @@ def read_edits(line):
         name, values = group[0], group[1:]
         if name == "set-page-size":
             values = [int(values[0])]
-        elif name == "replace-needed":
+        elif name in PAIRS:
             values = [tuple(word.split("=", 1)) for word in values]
         edits.append((name, values))
     return edits, None
@@ -88,7 +90,7 @@ def fault_of(group):
         digits = all("0" <= c <= "9" for c in values[0]) and values[0]
         if not digits or int(values[0]) >= 2**32:
             return "Number: word 1"
-    if name == "replace-needed":
+    if name in PAIRS:
         for at, word in enumerate(values):
             if "=" not in word:
                 return "KeyValue: word %d" % (at + 1)
@@ -116,7 +118,7 @@ def debug(edit):
         return "%s(%d)" % (kind, values[0])
     if name == "set-os-abi":
         return "%s(%s)" % (kind, rust_text(values[0]))
-    if name == "replace-needed":
+    if name in PAIRS:
         return "%s([%s])" % (kind, ", ".join("(%s, %s)" % (numbers(a), numbers(b)) for a, b in values))
     if name in MANY or name == "add-rpath":
         return "%s([%s])" % (kind, ", ".join(numbers(value) for value in values))
@@ -166,6 +168,8 @@ def cause(edit, facts):
         size = values[0]
         if size < 1024 or size & (size - 1):
             return "bad page size %d" % size
+    if name == "rename-dynamic-symbols" and any(one in dict(values) for one in facts.get("fixed", [])):
+        return "symbols can't be renumbered"
     return None
 
 
@@ -272,7 +276,35 @@ def shrunk_list(entries, prefixes, answers, right):
     return made, removed
 
 
+# ---- symbols
+
+
+def renamed(pairs, symbols):
+    """The symbols with new names behind the first, and whether there is one that has a new name."""
+    names = dict(pairs)
+    made = [(names.get(name, name), version) for name, version in symbols[1:]]
+    return symbols[:1] + made, any(name in names for name, _ in symbols[1:])
+
+
+def cleared(wanted, symbols):
+    """The symbols with the version of a global symbol behind the first where their name is that, and whether there is one."""
+    made = [(name, (1, False)) if name == wanted and version else (name, version) for name, version in symbols[1:]]
+    return symbols[:1] + made, any(name == wanted and version is not None for name, version in symbols[1:])
+
+
+def with_symbols(symbols):
+    """A line of the names, each with the index of its version, and a mark where that is hidden."""
+    words = ["symbols"]
+    for name, version in symbols:
+        words.append(name + ("" if version is None else ":%d%s" % (version[0], "!" if version[1] else "")))
+    return " ".join(words) + "\n"
+
+
 # ---- files
+
+SHT_STRTAB, SHT_HASH, SHT_DYNSYM, SHT_GNU_HASH, SHT_GNU_VERSYM = 3, 5, 11, 0x6FFFFFF6, 0x6FFFFFFF
+# Types of sections that are read; others are kept as they are, as are relocations without a symbol table.
+READ_TYPES = {0, 2, 3, 4, 5, 6, 7, 8, 9, 11, 0x6FFFFFF6, 0x6FFFFFFD, 0x6FFFFFFE, 0x6FFFFFFF}
 
 
 class File:
@@ -289,6 +321,8 @@ class File:
         size = 64 if self.big else 40
         count = self.number("H", 60 if self.big else 48)
         sections = [self.section(at + i * size) for i in range(count)]
+        self.sections = sections
+        self.entry_sizes = [self.number(self.word, at + i * size + (56 if self.big else 36)) for i in range(count)]
         for kind, offset, length, link in sections:
             if kind == 6:
                 self.entries = self.list(offset, length, sections[link])
@@ -308,6 +342,51 @@ class File:
         if self.big:
             return kind, self.number("Q", at + 24), self.number("Q", at + 32), self.number("I", at + 40)
         return kind, self.number("I", at + 16), self.number("I", at + 20), self.number("I", at + 24)
+
+    def find(self, kind):
+        """The number of the section of a type, `None` without one."""
+        return next((i for i, section in enumerate(self.sections) if section[0] == kind), None)
+
+    def text(self, strings, place):
+        start = self.sections[strings][1] + place
+        return self.data[start : self.data.index(b"\0", start)].decode()
+
+    def symbols(self):
+        """The name of each dynamic symbol, and its version: an index, and whether it is hidden."""
+        table, marks = self.find(SHT_DYNSYM), self.find(SHT_GNU_VERSYM)
+        if table is None:
+            return []
+        _, offset, length, strings = self.sections[table]
+        made = []
+        for number in range(length // (24 if self.big else 16)):
+            name = self.text(strings, self.number("I", offset + number * (24 if self.big else 16)))
+            mark = None if marks is None else self.number("H", self.sections[marks][1] + 2 * number)
+            made.append((name, None if mark is None else (mark & 0x7FFF, mark >= 0x8000)))
+        return made
+
+    def has_fixed_symbols(self):
+        """Whether the dynamic symbols can't get other names, since a hash table can't be made anew, or a section that is kept as it
+        is links to them."""
+        table, gabi, gnu = (self.find(kind) for kind in (SHT_DYNSYM, SHT_HASH, SHT_GNU_HASH))
+        if gabi is not None and not self.is_gabi_sound(gabi) or gnu is not None and not self.is_gnu_sound(gnu):
+            return True
+        others = [section for section in self.sections if section[0] not in READ_TYPES]
+        return table is not None and any(link == table for _, _, _, link in others)
+
+    def is_gabi_sound(self, number):
+        _, offset, length, _ = self.sections[number]
+        if self.entry_sizes[number] == 8 or length < 8:
+            return False
+        buckets, chains = self.number("I", offset), self.number("I", offset + 4)
+        return buckets > 0 and length >= 4 * (2 + buckets + chains)
+
+    def is_gnu_sound(self, number):
+        _, offset, length, _ = self.sections[number]
+        if length < 16:
+            return False
+        buckets, _, words, shift = (self.number("I", offset + at) for at in (0, 4, 8, 12))
+        is_filter = words > 0 and words & (words - 1) == 0 and shift < 32
+        return buckets > 0 and is_filter and length >= 16 + words * (8 if self.big else 4) + 4 * buckets
 
     def segments(self):
         at = self.number(self.word, 32 if self.big else 28)
@@ -348,6 +427,7 @@ def refusal(why):
         "MIPS": "MIPS images can't be modified",
         "no interpreter": "No interp section found; can't set interpreter",
         "no run path": "No DT_RPATH entry found",
+        "symbols can't be renumbered": "Symbol table can't be renumbered",
     }
     for short, long in [
         ("no dynamic section, can't ", "No dynamic section found; can't "), ("unknown ABI ", "Unknown ABI "),
@@ -368,12 +448,15 @@ class Image:
         self.interpreter = file.interpreter
         self.abi = file.data[7]
         self.stack = file.stack
+        self.symbols = file.symbols()
+        self.has_fixed_symbols = file.has_fixed_symbols()
         self.pages = PAGES.get(file.machine, 4096)
         self.changed = False
 
     def facts(self):
         return {
             "machine": self.machine, "list": self.entries is not None, "interpreter": self.interpreter is not None,
+            "fixed": [name for name, _ in self.symbols[1:]] if self.has_fixed_symbols else [],
         }
 
     def edit(self, edit):
@@ -387,6 +470,11 @@ class Image:
         elif name in ("clear-exec-stack", "set-exec-stack"):
             flags = 7 if self.stack is None else self.stack
             self.stack = flags & ~1 if name == "clear-exec-stack" else flags | 1
+        elif name in OF_SYMBOLS:
+            change = renamed if name == "rename-dynamic-symbols" else cleared
+            self.symbols, wrote = change(values if name == "rename-dynamic-symbols" else values[0], self.symbols)
+            self.changed = self.changed or wrote
+            return
         else:
             self.entries, wrote = edited(edit, self.entries)
             self.changed = self.changed or wrote
@@ -410,22 +498,35 @@ class Image:
         return brief + line + "pages %d %s\n" % (self.pages, mark)
 
 
+def edit_symbols(data, words):
+    """The same, and the dynamic symbols."""
+    shown, image = edit_image(data, words, True)
+    return shown if image is None else shown + with_symbols(image.symbols)
+
+
 def edit_container(data, words, is_batch):
+    return edit_image(data, words, is_batch)[0]
+
+
+def edit_image(data, words, is_batch):
+    """What is shown after edits, and the image."""
     edits, fault = read_edits(words)
     if fault:
-        return fault
+        return fault + Image(File(data)).shown(), Image(File(data))
     image = Image(File(data))
     if is_batch:
+        planned = Image(File(data))
         for index, edit in enumerate(edits):
-            why = cause(edit, image.facts())
+            why = cause(edit, planned.facts())
             if why:
-                return "edit %d refused: %s\n" % (index, refusal(why)) + image.shown()
+                return "edit %d refused: %s\n" % (index, refusal(why)) + image.shown(), image
+            planned.edit(edit)
     for index, edit in enumerate(edits):
         why = cause(edit, image.facts())
         if why:
-            return "edit %d refused: %s\n" % (index, refusal(why)) + image.shown()
+            return "edit %d refused: %s\n" % (index, refusal(why)) + image.shown(), image
         image.edit(edit)
-    return image.shown()
+    return image.shown(), image
 
 
 def use_runpath(data):
@@ -520,6 +621,8 @@ def answer(kind, rest, data):
         return "".join("%s: %s" % (name, shrink_file(data[name], rest)) for name in data)
     if kind == "=":
         return "".join("%s: %s" % (name, shown(File(data[name]).entries or [])) for name in data)
+    if kind == "$":
+        return "".join("%s: %s" % (name, edit_symbols(data[name], rest)) for name in data)
     if kind in ("!", "."):
         return "".join("%s: %s" % (name, edit_container(data[name], rest, kind == "!")) for name in data)
     return ""

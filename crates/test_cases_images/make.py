@@ -22,11 +22,13 @@ EM_SPARC, EM_X86_64 = 2, 62
 PT_LOAD, PT_DYNAMIC, PT_INTERP, PT_NOTE, PT_PHDR, PT_GNU_STACK = 1, 2, 3, 4, 6, 0x6474E551
 
 SHT_PROGBITS, SHT_SYMTAB, SHT_STRTAB, SHT_HASH, SHT_DYNAMIC, SHT_NOTE, SHT_NOBITS, SHT_REL, SHT_DYNSYM = 1, 2, 3, 5, 6, 7, 8, 9, 11
+SHT_RELA = 4
 SHT_GNU_HASH, SHT_GNU_VERDEF, SHT_GNU_VERNEED, SHT_GNU_VERSYM = 0x6FFFFFF6, 0x6FFFFFFD, 0x6FFFFFFE, 0x6FFFFFFF
 
 WRITE, ALLOC, EXEC, TLS = 1, 2, 4, 0x400
 
 DT_NEEDED, DT_HASH, DT_STRTAB, DT_SYMTAB, DT_STRSZ, DT_SYMENT, DT_SONAME, DT_DEBUG, DT_RUNPATH = 1, 4, 5, 6, 10, 11, 14, 21, 29
+DT_RELA, DT_RELASZ, DT_RELAENT = 7, 8, 9
 DT_GNU_HASH, DT_VERSYM, DT_VERDEF, DT_VERDEFNUM, DT_VERNEED, DT_VERNEEDNUM = 0x6FFFFEF5, 0x6FFFFFF0, 0x6FFFFFFC, 0x6FFFFFFD, 0x6FFFFFFE, 0x6FFFFFFF
 
 
@@ -283,6 +285,71 @@ def versioned():
     return elf(form, segments, sections, 880)
 
 
+# Where the parts of the libraries of two symbols stand.
+HASH_AT, GNU_AT, SYMBOLS_AT, STRINGS_AT, MARKS_AT, NEEDS_AT, RELOCATION_AT, DATA_AT, LIST_AT = 176, 208, 256, 328, 400, 416, 480, 504, 512
+NAMES_AT = 720
+
+
+def two_symbols(names_of_symbols, sections, entries, texts):
+    """A library of 64 bits with two symbols behind the null symbol, and a relocation on the second one. The first symbol is that
+    at 504, the second that at 508; one that has no section isn't defined."""
+    form = Form(64, "<")
+    strings = b"\0" + b"".join(text + b"\0" for text in texts)
+    at = lambda text: strings.index(b"\0" + text + b"\0") + 1
+    listed = bytes(24)
+    for name, value in zip(names_of_symbols, (DATA_AT, DATA_AT + 4)):
+        section, value = (0, 0) if name == b"exit" else (len(sections) + 4, value)
+        listed += form.pack("IBBHQQ", at(name), 0x11 if section else 0x12, 0, section, value, 4 if section else 0)
+    number = len(sections) + 1  # of the symbols
+    links = {SHT_HASH: number, SHT_GNU_HASH: number, SHT_GNU_VERSYM: number, SHT_GNU_VERNEED: number + 1}
+    infos = {SHT_GNU_VERNEED: 1}
+    rows = [(name, kind, ALLOC, place, place, body, links[kind], infos.get(kind, 0), 8, size) for name, kind, place, body, size in sections]
+    table = [(DT_STRTAB, STRINGS_AT), (DT_SYMTAB, SYMBOLS_AT), (DT_STRSZ, len(strings)), (DT_SYMENT, 24)]
+    table += [(DT_RELA, RELOCATION_AT), (DT_RELASZ, 24), (DT_RELAENT, 24)]
+    moves = form.pack("QQq", DATA_AT, 2 << 32 | 1, 0)
+    rows += [
+        (b".dynsym", SHT_DYNSYM, ALLOC, SYMBOLS_AT, SYMBOLS_AT, listed, number + 1, 1, 8, 24),
+        (b".dynstr", SHT_STRTAB, ALLOC, STRINGS_AT, STRINGS_AT, strings, 0, 0, 1, 0),
+        (b".rela.dyn", SHT_RELA, ALLOC, RELOCATION_AT, RELOCATION_AT, moves, number, 0, 8, 24),
+        (b".data", SHT_PROGBITS, WRITE | ALLOC, DATA_AT, DATA_AT, bytes(8), 0, 0, 8, 0),
+        (b".dynamic", SHT_DYNAMIC, WRITE | ALLOC, LIST_AT, LIST_AT, form.dynamic(*entries, *table), number + 1, 0, 8, 16),
+        names(NAMES_AT),
+    ]
+    size = 16 * (len(entries) + len(table) + 1)
+    segments = [(PT_LOAD, 6, 0, 0, 0, NAMES_AT, NAMES_AT, 4096), (PT_DYNAMIC, 6, LIST_AT, LIST_AT, LIST_AT, size, size, 8)]
+    size_of_names = 1 + sum(len(row[0]) + 1 for row in rows)
+    return elf(form, segments, rows, NAMES_AT + size_of_names + -size_of_names % 8)
+
+
+def named_by_tables(*tables):
+    """A library that defines `g` and `f`, with these of the two hash tables, each of two buckets. No table names a symbol yet."""
+    form = Form(64, "<")
+    gabi = (b".hash", SHT_HASH, HASH_AT, form.words(2, 3, 0, 0, 0, 0, 0), 4)
+    gnu = (b".gnu.hash", SHT_GNU_HASH, GNU_AT, form.words(2, 1, 1, 6, 0, 0, 0, 0, 0, 0), 0)
+    all_of = {"gabi": (gabi, (DT_HASH, HASH_AT)), "gnu": (gnu, (DT_GNU_HASH, GNU_AT))}
+    sections, entries = zip(*(all_of[table] for table in tables))
+    return two_symbols((b"g", b"f"), sections, entries, (b"f", b"g"))
+
+
+def needing(*versions):
+    """A library that defines `f` and needs `exit`, of the first of these versions of `libc.so.6`; of the others there is no symbol."""
+    form = Form(64, "<")
+    texts = (b"exit", b"f", b"/a", *versions[1:], b"libc.so.6", versions[0])
+    strings = b"\0" + b"".join(text + b"\0" for text in texts)
+    at = lambda text: strings.index(b"\0" + text + b"\0") + 1
+    record = form.pack("HHIII", 1, len(versions), at(b"libc.so.6"), 16, 0)
+    for number, version in enumerate(versions):
+        after = 16 if number + 1 < len(versions) else 0
+        record += form.pack("IHHII", elf_hash(version), 0, 2 + number, at(version), after)
+    sections = [
+        (b".hash", SHT_HASH, HASH_AT, form.words(2, 3, 2, 1, 0, 0, 0), 4),
+        (b".gnu.version", SHT_GNU_VERSYM, MARKS_AT, form.pack("HHH", 0, 2, 1), 2),
+        (b".gnu.version_r", SHT_GNU_VERNEED, NEEDS_AT, record, 0),
+    ]
+    entries = [(DT_RUNPATH, at(b"/a")), (DT_HASH, HASH_AT), (DT_VERSYM, MARKS_AT), (DT_VERNEED, NEEDS_AT), (DT_VERNEEDNUM, 1)]
+    return two_symbols((b"exit", b"f"), sections, entries, texts)
+
+
 # A library that defines `twice` in two versions and `calls`, which calls `other` of a second library.
 TWICE = """\
 extern int other(int n);
@@ -331,6 +398,11 @@ FILES = {
     "elf-behind": behind,
     "elf-full": full,
     "elf-versioned": versioned,
+    "symbols-both": lambda: named_by_tables("gabi", "gnu"),
+    "symbols-gnu": lambda: named_by_tables("gnu"),
+    "symbols-gabi": lambda: named_by_tables("gabi"),
+    "needs-two": lambda: needing(b"GLIBC_2.2.5", b"GLIBC_ABI_DT_RELR"),
+    "needs-one": lambda: needing(b"GLIBC_2.2.5"),
     "elf-linked": linked,
 }
 

@@ -14,7 +14,7 @@ import struct
 import sys
 
 HERE = os.path.dirname(os.path.abspath(__file__))
-FILES = ["texts", "libraries", "refused", "changed", "symbols", "written", "writers"]
+FILES = ["texts", "libraries", "refused", "changed", "symbols", "written", "renamed", "writers"]
 
 PT_INTERP, PT_GNU_STACK = 3, 0x6474E551
 SHT_PROGBITS, SHT_SYMTAB, SHT_DYNAMIC, SHT_NOBITS, SHT_DYNSYM = 1, 2, 6, 8, 11
@@ -475,6 +475,11 @@ LONG = b"x" * 53
 # The small library at the last addresses of 64 bits.
 AT_TOP = "elf-small 80:c0feffffffffffff 136:b0ffffffffffffff 280:70ffffffffffffff 432:70ffffffffffffff 496:b0ffffffffffffff"
 
+SWAP, CLEAR = "rename-dynamic-symbols f=g g=f", "clear-symbol-version exit"
+
+# The entries behind those of needed versions: DT_STRTAB, DT_SYMTAB, DT_STRSZ, DT_SYMENT, DT_RELA, DT_RELASZ, DT_RELAENT, DT_NULL.
+LEFT = [(5, 328), (6, 256), (10, 33), (11, 24), (7, 480), (8, 24), (9, 24), (0, 0), (0, 0)]
+
 # What stands in written files at which positions, by the file and its edits: so many bytes, those of the old file up to an
 # offset, zeros, and over them these parts. Or why a file isn't written.
 WRITTEN = {
@@ -549,6 +554,40 @@ WRITTEN = {
         (592, b"\x5c\x01\0\0\0\0\0\0\x19"),
         (616, b"\x01"),
     ]),
+    # f and g change their names: g has the first bucket of GNU's table, and what was the second symbol is the first one now. The
+    # gABI's table is 2, 3, 2, 1, 0, 0, 0; of GNU's the filter is 0x1001800, the buckets are 1 and 2, and the chains 177677 and
+    # 177675. The relocation is about symbol 1.
+    ("symbols-both", SWAP): (1368, 1368, [
+        (184, b"\x02\0\0\0\x01"), (225, b"\x18\0\x01"), (232, b"\x01\0\0\0\x02"), (240, b"\x0d\xb6\x02\0\x0b\xb6\x02"),
+        (280, b"\x01"), (288, b"\xfc"), (304, b"\x03"), (312, b"\xf8"), (329, b"g\0f"), (492, b"\x01"),
+    ]),
+    ("symbols-gnu", SWAP): (1296, 1296, [
+        (225, b"\x18\0\x01"), (232, b"\x01\0\0\0\x02"), (240, b"\x0d\xb6\x02\0\x0b\xb6\x02"),
+        (280, b"\x01"), (288, b"\xfc"), (304, b"\x03"), (312, b"\xf8"), (329, b"g\0f"), (492, b"\x01"),
+    ]),
+    # without GNU's table the order is kept: the gABI's is 2, 3, 1, 2, 0, 0, 0
+    ("symbols-gabi", SWAP): (1296, 1296, [(184, b"\x01\0\0\0\x02"), (329, b"g\0f")]),
+    # both names have one bucket in each table, and the first one leads the chain: 2, 3, 1, 0, 0, 2, 0; the filter is
+    # 0x1002800, the buckets are 0 and 1, and the chains 177676 and 177675
+    ("symbols-both", "rename-dynamic-symbols g=x g=h"): (1368, 1368, [
+        (184, b"\x01"), (196, b"\x02"), (225, b"\x28\0\x01"), (236, b"\x01"), (240, b"\x0c\xb6\x02\0\x0b\xb6\x02"),
+        (280, b"\x01"), (304, b"\x03"), (329, b"h\0f"),
+    ]),
+    # no symbol has these names, and none has a version
+    ("symbols-both", "rename-dynamic-symbols x=y =z"): (1368, 1368, []),
+    ("symbols-both", "clear-symbol-version f"): (1368, 1368, []),
+    # the only version of the library that a symbol has goes, and the record of the library stays, with the other one; a run path
+    # takes nothing away
+    ("needs-two", CLEAR): (1448, 1448, [
+        (402, b"\x01"), (418, b"\x01"), (432, b"\x42\x0e\xfd\0\0\0\x03\0\x0b\0\0\0\0" + bytes(19)), (1032, b"\x20"),
+    ]),
+    ("needs-two", "set-rpath /b"): (1448, 1448, [(337, b"b")]),
+    # no version is left: the record goes, and both entries, behind which the others move up
+    ("needs-one", CLEAR): (1448, 1448, [
+        (402, b"\x01"), (416, bytes(32)),
+        *((560 + 16 * n, struct.pack("<QQ", *entry)) for n, entry in enumerate(LEFT)), (1032, b"\0"), (1044, b"\0"),
+    ]),
+    ("needs-one", "set-rpath /b"): (1448, 1448, [(337, b"b")]),
     # no room for an entry or a program header more
     ("elf-small", "set-soname x"): OVERLAP,
     ("elf-full", "set-soname x"): OVERLAP,

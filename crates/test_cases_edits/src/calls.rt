@@ -14,10 +14,12 @@ pub(crate) fn call(
         ElfEdit::AddNeeded(names) => file.add_needed(alloc, names.as_slice()),
         ElfEdit::AddRpath(texts) => add_runpaths(alloc, file, texts.as_slice()),
         ElfEdit::ClearExecStack => file.clear_exec_stack(alloc),
+        ElfEdit::ClearSymbolVersion(name) => file.clear_version_symbol(alloc, name.as_slice()),
         ElfEdit::ForceRpath => file.force_rpath(),
         ElfEdit::NoDefaultLib => file.no_default_lib(alloc),
         ElfEdit::RemoveNeeded(names) => file.remove_needed(alloc, names.as_slice()),
         ElfEdit::RemoveRpath => file.remove_runpath(),
+        ElfEdit::RenameDynamicSymbols(pairs) => rename_symbols(alloc, file, pairs.as_slice()),
         ElfEdit::ReplaceNeeded(pairs) => replace_needed(alloc, file, pairs.as_slice()),
         ElfEdit::SetExecStack => file.set_exec_stack(alloc),
         ElfEdit::SetInterpreter(text) => file.set_interpreter(alloc, text.as_slice()),
@@ -48,6 +50,16 @@ fn replace_needed(
 ) -> Result<(), ElfError> {
     let names = map_of(alloc, pairs)?;
     file.replace_needed(alloc, &names)
+}
+
+/// Renames dynamic symbols by pairs of an old and a new name.
+fn rename_symbols(
+    alloc: Global,
+    file: &mut ElfContainer<'_>,
+    pairs: &[(Vec<u8>, Vec<u8>)],
+) -> Result<(), ElfError> {
+    let names = map_of(alloc, pairs)?;
+    file.rename_dynamic_symbols(alloc, &names)
 }
 
 /// The map of pairs.

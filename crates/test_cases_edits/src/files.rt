@@ -1,7 +1,7 @@
 //! Edits of files by the calls of their container.
 use crate::calls::call;
 use crate::paths::{answers_of, put_removed};
-use crate::shown::put_shown;
+use crate::shown::{put_shown, put_symbols};
 use crate::words::put_fault;
 use arwen_cli::elf::{ElfBatchError, ElfContainer, ElfEdit, ElfError, ModifyCause};
 use std::alloc::{AllocError, Global};
@@ -12,6 +12,8 @@ use test_cases_files::words::{edits_of, split_parts, texts_of};
 pub(crate) enum Way {
     /// By edits in one batch.
     Batch,
+    /// The same, and the dynamic symbols are shown too.
+    BatchWithSymbols,
     /// By edits, each by its own call.
     Calls,
     /// Without words: DT_RUNPATH in the place of DT_RPATH.
@@ -44,11 +46,15 @@ fn edit_file(
     out: &mut String,
 ) -> Result<(), AllocError> {
     match way {
-        Way::Batch | Way::Calls => edit_by_words(alloc, file, words, way, out)?,
         Way::UseRunpath => use_runpath(file, out)?,
         Way::Shrink => shrink(alloc, file, words, out)?,
+        _ => edit_by_words(alloc, file, words, way, out)?,
     }
-    put_shown(alloc, file, out)
+    put_shown(alloc, file, out)?;
+    match way {
+        Way::BatchWithSymbols => put_symbols(file, out),
+        _ => Ok(()),
+    }
 }
 
 /// Does edits that stand in words.
@@ -74,8 +80,8 @@ fn edit_in_way(
     out: &mut String,
 ) -> Result<(), AllocError> {
     match way {
-        Way::Batch => apply(alloc, file, edits, out),
-        _ => call_all(alloc, file, edits, out),
+        Way::Calls => call_all(alloc, file, edits, out),
+        _ => apply(alloc, file, edits, out),
     }
 }
 

@@ -9,7 +9,8 @@
 //! - `* NUMBER NUMBER` does edits to a list of so many run paths and so many needed libraries.
 //! - `= NAME ..` looks at these files from then on, and prints the dynamic list of each. Then `! WORD ..` does edits to
 //!   each of them in one batch, and `. WORD ..` each edit by its own call: printed are the edit that is refused, and
-//!   what the file shows then. `u` makes every DT_RPATH a DT_RUNPATH, `~ PREFIX .. > ANSWER ..` shrinks run paths.
+//!   what the file shows then. `$ WORD ..` does the same as `!`, and prints the dynamic symbols too: each name, and behind a
+//!   colon the index of its version, with a `!` where it is hidden. `u` makes every DT_RPATH a DT_RUNPATH, `~ PREFIX .. > ANSWER ..` shrinks run paths.
 //!
 //! Words are read by their marks. Nothing comes of other lines.
 #![tactic(auto)]
@@ -40,7 +41,7 @@ struct Edits;
 
 impl Cases for Edits {
     fn is_on_files(&self, line: &str) -> bool {
-        matches!(split_kind(line).0, "=" | "!" | "." | "u" | "~")
+        matches!(split_kind(line).0, "=" | "!" | "$" | "." | "u" | "~")
     }
 
     fn answer_on_file(
@@ -53,6 +54,7 @@ impl Cases for Edits {
         let (kind, words) = split_kind(line);
         match kind {
             "!" => files::edit(alloc, bytes, words, Way::Batch, out),
+            "$" => files::edit(alloc, bytes, words, Way::BatchWithSymbols, out),
             "." => files::edit(alloc, bytes, words, Way::Calls, out),
             "u" => files::edit(alloc, bytes, words, Way::UseRunpath, out),
             "~" => files::edit(alloc, bytes, words, Way::Shrink, out),

@@ -9,12 +9,13 @@ use std::alloc::{AllocError, Global};
 use test_cases_files::words::{edits_of, split_parts, texts_of};
 
 /// What is known of a list that stands alone.
-const ALONE: Facts = Facts {
+const ALONE: Facts<'static> = Facts {
     machine: 62,
     has_list: true,
     has_run_path: true,
     has_interpreter: false,
     is_full: false,
+    fixed_symbols: None,
 };
 
 /// Puts down the ABI byte of a name.
@@ -72,7 +73,7 @@ fn edit_all(
     out: &mut String,
 ) -> Result<(), AllocError> {
     for (index, edit) in edits.iter().enumerate() {
-        if let Some(cause) = cause_of(edit, &ALONE) {
+        if let Some(cause) = cause_of(alloc, edit, &ALONE)? {
             return put_refused(index, &cause, out);
         }
     }
@@ -96,6 +97,7 @@ fn put_cause(cause: &Cause<'_>, out: &mut String) -> Result<(), AllocError> {
         Cause::NoInterpreter => out.push_str("no interpreter"),
         Cause::NulInText => out.push_str("NUL in a text"),
         Cause::NoRunPath => out.push_str("no run path"),
+        Cause::CannotRenumber => out.push_str("symbols can't be renumbered"),
         Cause::TooManyHeaders => out.push_str("too many headers"),
     }
 }

@@ -1,7 +1,7 @@
 //! What a file shows.
-use crate::entries::{put_brief, put_list};
+use crate::entries::{put_brief, put_list, put_text};
 use arwen_cli::elf::{ElfContainer, ElfError};
-use elf_image::{Builder, ElfFault};
+use elf_image::{Builder, ElfFault, Symbol, VersionId};
 use std::alloc::{AllocError, Global};
 
 /// Puts down the dynamic list of a file.
@@ -103,4 +103,30 @@ fn put_prints(alloc: Global, file: &ElfContainer<'_>, out: &mut String) -> Resul
 fn put_ending(page_size: u32, changed: bool, out: &mut String) -> Result<(), AllocError> {
     let mark = if changed { "changed" } else { "as read" };
     writeln!(out, "pages {page_size} {mark}")
+}
+
+/// Puts down the dynamic symbols of a file in a line.
+pub(crate) fn put_symbols(file: &ElfContainer<'_>, out: &mut String) -> Result<(), AllocError> {
+    let symbols = file.inner.builder().dynamic_symbols();
+    out.push_str("symbols")?;
+    for i in 0..symbols.len() {
+        put_symbol(&symbols.get(i), out)?;
+    }
+    out.push('\n')
+}
+
+/// Puts down the name of a symbol behind a blank, and its version.
+fn put_symbol(symbol: &Symbol<'_>, out: &mut String) -> Result<(), AllocError> {
+    out.push(' ')?;
+    put_text(symbol.name, out)?;
+    put_version(&symbol.version, out)
+}
+
+/// Puts down the index of a version behind a colon, with a mark where it is hidden.
+fn put_version(version: &Option<VersionId>, out: &mut String) -> Result<(), AllocError> {
+    let Some(version) = version else {
+        return Ok(());
+    };
+    let mark = if version.hidden { "!" } else { "" };
+    write!(out, ":{}{mark}", version.index)
 }

@@ -140,7 +140,7 @@ fn places_of(image: &Builder<'_>) -> Places {
             are_symbols_numbered(image),
             are_dynamic_symbols_numbered(image),
         ),
-        are_symbols_kept: image.keeps_symbols(),
+        are_symbols_kept: image.keeps_static_symbols() && image.keeps_dynamic_symbols(),
     }
 }
 
@@ -200,5 +200,6 @@ fn edited<'d>(alloc: Global, image: &Builder<'d>) -> Result<Builder<'d>, AllocEr
 fn is_same_when_read_again(alloc: Global, image: &Builder<'_>) -> Result<bool, AllocError> {
     let copy = edited(alloc, image)?;
     let read = copy.read_source(alloc)?;
-    Ok(copy.keeps_symbols() && is_same(alloc, image, &read)?)
+    let keeps = copy.keeps_static_symbols() && copy.keeps_dynamic_symbols();
+    Ok(keeps && is_same(alloc, image, &read)?)
 }

@@ -1,7 +1,8 @@
 //! The lists that an image shows, a line for each item.
 ghost use Rattle.std.specs.Prelude.{◌<◌, length};
+ghost use Rattle.elf_image_symbol_edits.specs.Loan.{symbols_now};
 
-use elf_image::{Dynamic, Segment, Symbol, Symbols, VersionDef, VersionNeed, VersionNeedName};
+use elf_image::{Dynamic, Segment, Symbol, SymbolsNow, VersionDef, VersionNeed, VersionNeedName};
 use std::io;
 use test_cases_written::rows::Text;
 
@@ -43,7 +44,11 @@ pub(crate) fn print_symbol(rt: &impl Print, what: &str, symbol: &Symbol<'_>) -> 
 }
 
 /// Prints symbols, and says so where a part of one that is asked for alone is another.
-pub(crate) fn print_symbols(rt: &impl Print, what: &str, symbols: &Symbols<'_>) -> io::Result<()> {
+pub(crate) fn print_symbols(
+    rt: &impl Print,
+    what: &str,
+    symbols: SymbolsNow<'_>,
+) -> io::Result<()> {
     for i in 0..symbols.len() {
         print_symbol(rt, what, &symbols.get(i))?;
         if !are_parts_same(symbols, i) {
@@ -54,8 +59,8 @@ pub(crate) fn print_symbols(rt: &impl Print, what: &str, symbols: &Symbols<'_>) 
 }
 
 /// Whether the parts of a symbol that can be asked for alone are those of the symbol.
-fn are_parts_same(symbols: &Symbols<'_>, i: usize) -> bool
-    requires { i < length symbols.now }
+fn are_parts_same(symbols: SymbolsNow<'_>, i: usize) -> bool
+    requires { i < length (symbols_now symbols) }
 {
     let (symbol, numbers) = (symbols.get(i), symbols.numbers(i, 9));
     symbols.name(i) == symbol.name

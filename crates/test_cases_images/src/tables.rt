@@ -2,7 +2,7 @@
 
 use crate::lists::print_symbols;
 use elf_format::texts::text;
-use elf_image::{Form, Symbols, VersionId};
+use elf_image::{EditedSymbols, Form, Symbols, VersionId};
 use patch_bytes::{ByteOrder2, Wide};
 use std::alloc::{AllocError, Global};
 use std::io;
@@ -75,7 +75,16 @@ fn print_parts(rt: &impl Runtime, parts: &Parts) -> io::Result<()> {
 
 fn print_read(rt: &impl Runtime, symbols: &Symbols<'_>) -> io::Result<()> {
     print_count(rt, symbols)?;
-    print_symbols(rt, "symbol", &symbols.same())
+    let edited = edited_of(rt.alloc(), symbols)?;
+    print_symbols(rt, "symbol", edited.lend())
+}
+
+/// The symbols of a table, none of which an edit changed.
+fn edited_of<'a>(alloc: Global, symbols: &Symbols<'a>) -> Result<EditedSymbols<'a>, AllocError> {
+    match EditedSymbols::new(alloc, symbols.same()) {
+        Err(_) => EditedSymbols::new(alloc, symbols.same()),
+        made => made,
+    }
 }
 
 fn print_count(rt: &impl Runtime, symbols: &Symbols<'_>) -> io::Result<()> {

@@ -43,6 +43,7 @@ fn execute_value<R: Files + Print + Eprint + AllocGlobal>(
         ElfCommand::SetOsAbi(args) => elf::set_os_abi::execute(rt, args),
         ElfCommand::SetSoname(args) => elf::set_soname::execute(rt, args),
         ElfCommand::SetPageSize(args) => elf::set_page_size::execute(rt, args),
+        ElfCommand::ClearSymbolVersion(args) => elf::clear_version_symbol::execute(rt, args),
         other => execute_words(rt, other),
     }
 }
@@ -56,6 +57,7 @@ fn execute_words<R: Files + Print + Eprint + AllocGlobal>(
         ElfCommand::AddNeeded(args) => elf::add_needed::execute(rt, args),
         ElfCommand::RemoveNeeded(args) => elf::remove_needed::execute(rt, args),
         ElfCommand::ReplaceNeeded(args) => elf::replace_needed::execute(rt, args),
+        ElfCommand::RenameDynamicSymbols(args) => { elf::rename_dynamic_symbols::execute(rt, args) }
         ElfCommand::Apply(args) => elf::apply::execute(rt, args),
         ElfCommand::ShrinkRpath(args) => elf::shrink_rpath::execute(rt, args),
         other => execute_print(rt, other),

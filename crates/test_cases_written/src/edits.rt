@@ -4,7 +4,7 @@ use crate::Runtime;
 use crate::words::{first, number, texts_of};
 use arwen_elf::elf::{ElfContainer, ElfError, Writer};
 use std::alloc::{AllocError, Global};
-use std::collections::HashSet;
+use std::collections::{HashMap, HashSet};
 use std::io;
 
 /// A file, read again where memory was refused.
@@ -40,6 +40,34 @@ fn set_of(alloc: Global, words: &str) -> Result<HashSet<Vec<u8>>, AllocError> {
     Ok(names)
 }
 
+/// The pairs of an old and a new name as a map; of an old name that comes twice the last pair counts.
+fn map_of(alloc: Global, words: &str) -> Result<HashMap<Vec<u8>, Vec<u8>>, AllocError> {
+    let mut names = HashMap::new(alloc);
+    for word in words.split(' ') {
+        let (old, new) = word.split_once('=').unwrap_or((word, ""));
+        let old = Vec::from_slice(alloc, old.as_bytes())?;
+        names.insert(old, Vec::from_slice(alloc, new.as_bytes())?)?;
+    }
+    Ok(names)
+}
+
+/// Does an edit of the dynamic symbols, or another.
+fn edit_symbols(
+    alloc: Global,
+    file: &mut Writer<'_>,
+    name: &str,
+    values: &str,
+) -> Result<(), ElfError> {
+    match name {
+        "rename-dynamic-symbols" => {
+            let names = map_of(alloc, values)?;
+            file.elf_rename_dynamic_symbols(alloc, &names)
+        }
+        "clear-symbol-version" => file.elf_clear_symbol_version(alloc, values.as_bytes()),
+        _ => edit_paths(alloc, file, name, values),
+    }
+}
+
 /// Does an edit of the run paths.
 fn edit_paths(
     alloc: Global,
@@ -70,7 +98,7 @@ fn edit(alloc: Global, file: &mut Writer<'_>, words: &str) -> Result<(), ElfErro
         "set-os-abi" => file.elf_set_osabi(alloc, values),
         "set-exec-stack" => file.elf_set_exec_stack(alloc),
         "set-page-size" => file.elf_set_page_size(u32::try_from(number(values)).unwrap_or(0)),
-        _ => edit_paths(alloc, file, name, values),
+        _ => edit_symbols(alloc, file, name, values),
     }
 }
 
