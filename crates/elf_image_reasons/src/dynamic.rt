@@ -7,12 +7,12 @@ ghost use Rattle.elf_format.specs.Rules.{raw_entries as entries_of};
 ghost use Rattle.elf_image_rules.specs.Read.{parts_model};
 ghost use Rattle.elf_image_reasons.specs.Details.{apart_by, dynamic_detail as dynamic_by, interpreter_detail as interpreter_by, lone_section as lone_section_by, lone_segment as lone_segment_by, text_detail as text_by, without_text as without_text_by};
 
-use crate::detail::{Detail, Piece};
 use elf_format::constants::{PT_DYNAMIC, PT_INTERP, SHT_DYNAMIC};
 use elf_format::entries::show_entry;
 use elf_format::lookups::{section_of_type, segment_of_type};
 use elf_format::records::{EntryNumbers, SectionHeader, SegmentHeader};
 use elf_format::view_fault::ViewFault;
+use elf_image_details::detail::{Detail, Piece};
 use elf_image_flaws::links::place_of_type;
 use elf_image_rules::headers::Headers;
 use elf_image_versions::texts::dynamic_texts;

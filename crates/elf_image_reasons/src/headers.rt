@@ -4,13 +4,13 @@ ghost use Rattle.elf_format.specs.File.{opened_of};
 ghost use Rattle.elf_format.specs.Seen.{opened_model};
 ghost use Rattle.elf_image_reasons.specs.Details.{early_detail as early_by, kind_detail as kind_by, kind_of_file as kind_file, past_end as past_by, table_detail as table_by, tables_of_file as tables_file};
 
-use crate::detail::{Detail, Piece};
 use crate::rule::Rule;
 use elf_format::constants::{ET_DYN, ET_EXEC};
 use elf_format::form::Form;
 use elf_format::numbers::{part, read_file_header};
 use elf_format::opening::form;
 use elf_format::records::FileHeader;
+use elf_image_details::detail::{Detail, Piece};
 use elf_image_flaws::flaws::first_there;
 
 // The byte at a position, 0 past the end.

@@ -3,20 +3,17 @@
 #![tactic(auto)]
 
 pub mod broken;
-pub mod detail;
 mod dynamic;
 mod headers;
 pub mod laws;
-mod line;
 mod meetings;
 mod placed;
 pub mod reason;
 pub mod rule;
 mod tables;
-mod tag_names;
 
 pub use crate::broken::broken_rule;
-pub use crate::detail::{Detail, Piece};
 pub use crate::reason::{Reason, explain_refusal};
 pub use crate::rule::Rule;
+pub use elf_image_details::{Detail, Piece};
 pub use elf_image_flaws::{Flaw, MOST_VERSIONS};

@@ -3,9 +3,9 @@ ghost use Rattle.std.specs.Prelude.{◌≡◌, ◌<◌, IfOk, IfSome, length, ma
 ghost use Rattle.elf_format.specs.Ranges.{apart};
 ghost use Rattle.elf_image_reasons.specs.Details.{loaded_range as loaded_by, meeting_from, shared_parts as parts_by, shared_sections as sections_by, shared_segments as segments_by, stored_range as stored_by};
 
-use crate::detail::{Detail, Piece};
 use elf_format::range::Range;
 use elf_format::records::{SectionHeader, SegmentHeader};
+use elf_image_details::detail::{Detail, Piece};
 use elf_image_flaws::flaws::first_there;
 use std::alloc::{AllocError, Global};
 

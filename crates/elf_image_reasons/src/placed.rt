@@ -6,9 +6,9 @@ ghost use Rattle.elf_format.specs.Placement.{crosses_file_end, holds};
 ghost use Rattle.elf_format.specs.Places.{place_of};
 ghost use Rattle.elf_image_reasons.specs.Details.{is_not_shown as not_shown, is_wrong_section as wrong_section_by, is_wrong_segment as wrong_segment_by, section_told, segment_told, wrong_section as section_by, wrong_segment as segment_by};
 
-use crate::detail::{Detail, Piece};
 use crate::rule::Rule;
 use elf_format::records::{SectionHeader, SegmentHeader};
+use elf_image_details::detail::{Detail, Piece};
 
 // Whether a loaded segment holds a section.
 fn some_holds(segments: &[SegmentHeader], section: SectionHeader) -> bool

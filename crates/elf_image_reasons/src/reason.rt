@@ -5,7 +5,6 @@ ghost use Rattle.elf_image_reasons.specs.Details.{detail_of as detail_by, flawed
 ghost use Rattle.elf_image_reasons.specs.Told.{reason_of};
 
 use crate::broken::{broken_rule, is_memory};
-use crate::detail::Detail;
 use crate::dynamic::{dynamic_detail, interpreter_detail, text_detail};
 use crate::headers::early_detail;
 use crate::meetings::{shared_sections, shared_segments};
@@ -13,6 +12,7 @@ use crate::placed::{wrong_section, wrong_segment};
 use crate::rule::Rule;
 use crate::tables::tables_detail;
 use elf_format::records::EntryNumbers;
+use elf_image_details::detail::Detail;
 use elf_image_flaws::flaws::{Flaw, first_there};
 use elf_image_flaws::links::broken_links;
 use elf_image_flaws::names::broken_texts;

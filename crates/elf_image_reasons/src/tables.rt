@@ -7,7 +7,6 @@ ghost use Rattle.elf_format.specs.Rules.{raw_entries as entries_of};
 ghost use Rattle.elf_image_rules.specs.Read.{parts_model};
 ghost use Rattle.elf_image_reasons.specs.Details.{list_detail as list_by, missing_tag as missing_by, repeated_tag as repeated_by, tables_detail as detail_by, told_unless as told_by, wrong_address as address_by, wrong_count as count_wrong, wrong_hashes as hashes_by, wrong_records as records_by, wrong_size as size_by, wrong_strings as strings_by, wrong_symbols as symbols_by, wrong_tables as tables_by, wrong_unit as unit_by, wrong_versions as versions_by};
 
-use crate::detail::Detail;
 use elf_format::constants::{
     DT_GNU_HASH, DT_HASH, DT_STRSZ, DT_STRTAB, DT_SYMENT, DT_SYMTAB, DT_VERDEF, DT_VERDEFNUM,
     DT_VERNEED, DT_VERNEEDNUM, DT_VERSYM, SHT_DYNAMIC, SHT_DYNSYM, SHT_GNU_HASH, SHT_GNU_VERDEF,
@@ -15,6 +14,7 @@ use elf_format::constants::{
 };
 use elf_format::lookups::{has_tag, linked_section, section_of_type, value_of_tag};
 use elf_format::records::{EntryNumbers, SectionHeader};
+use elf_image_details::detail::Detail;
 use elf_image_flaws::flaws::first_there;
 use elf_image_rules::headers::Headers;
 
