@@ -15,6 +15,7 @@ use Rattle.elf_image.specs.Names.{are_names_changed, are_same_texts, texts_of_sy
 use Rattle.elf_image.specs.Options.{first_there}
 use Rattle.elf_image.specs.Renumbering.{can_renumber}
 use Rattle.elf_image.specs.SymbolEdits.{IsPutFor, with_dynamic_symbols}
+use Rattle.elf_image.proofs.ForCallers.SymbolsKept.{put_of_all}
 use Rattle.elf_image.specs.SymbolsRead.{OfRead}
 use Rattle.elf_image.specs.Views.{NamedSymbol}
 use Rattle.elf_image_symbol_edits.specs.EditedList.{EditedList}
@@ -606,14 +607,11 @@ retagged_none old new image found is fails =
 
 -- an image in which names have to stay has those that were read
 pub can_put_symbols : (image : Image) (edited : EditedList) → IsEdited image → AreSymbolsFor image edited → IsPutFor image edited
-can_put_symbols image edited is for = record {
-  read = for.read;
-  numbers = for.numbers;
-  names = λ read is_read changed. by_test (can_renumber image)
-      (λ holds. holds)
-      (λ fails. tables_of_read read is_read
-      (ap (λ (l : List (List ℕ)). not (are_same_texts (texts_of_symbols read.dynamic_symbols) l)) (sym (for.names fails)) ∙ changed));
-}
+can_put_symbols image edited is for =
+    put_of_all image edited is for.read for.numbers (λ read is_read changed. by_test (can_renumber image)
+    (λ holds. holds)
+    (λ fails. tables_of_read read is_read
+    (ap (λ (l : List (List ℕ)). not (are_same_texts (texts_of_symbols read.dynamic_symbols) l)) (sym (for.names fails)) ∙ changed)))
   where
     tables_of_read : (read : Image) → image_of image.source ≡ Ok read → are_names_changed read image ≡ true → can_renumber image ≡ true
     tables_of_read read is_read changed =

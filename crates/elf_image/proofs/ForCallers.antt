@@ -17,3 +17,12 @@ pub use Rattle.elf_image.proofs.SymbolLists
 pub use Rattle.elf_image.proofs.SymbolsAtRead
 -- each change of symbols leaves an image that was read and edited: also edited symbols that are put in place of those that are there
 pub use Rattle.elf_image.proofs.SymbolsKept
+-- symbols that are deleted, and whether relocations name them
+pub use Rattle.elf_image.proofs.SymbolsDeleted
+-- a section that gets another name, and sections that go, leave an image that was read and edited
+pub use Rattle.elf_image.proofs.SectionNamed
+pub use Rattle.elf_image.proofs.SectionsDeleted
+-- what comes once in a file that was read
+pub use Rattle.elf_image.proofs.ReadSingles
+-- what a list contains, and what a filter leaves of it
+pub use Rattle.elf_image.proofs.ListsLeft

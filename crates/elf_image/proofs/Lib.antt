@@ -10,7 +10,16 @@ pub mod Kept
 pub mod KeptSections
 pub mod LookupSteps
 pub mod ReadComplete
+pub mod ListsLeft
+pub mod PicksInPlace
+pub mod SectionsLeft
+pub mod ReadSingles
+pub mod SegmentsLeft
 pub mod SymbolsKept
+pub mod SymbolsDeleted
+pub mod TablesLeft
+pub mod SectionNamed
+pub mod SectionsDeleted
 pub mod SymbolsAtRead
 pub mod CopySteps
 pub mod SymbolLists

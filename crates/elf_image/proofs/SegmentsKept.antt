@@ -52,7 +52,7 @@ flagged_as old p size flags stack is =
     ap (λ (q : SegmentHeader). record q { p_flags = flags }) is
     ∙ ap (λ b. record (kept_segment size p.p_flags old) { p_flags = if b then flags else old.p_flags }) (sym typed)
 
-gone_kept : (size : Option ℕ) (old : SegmentHeader) (olds ps : List SegmentHeader) → CanGo old → AreKept size olds ps → AreKept size (old ∷ olds) ps
+pub gone_kept : (size : Option ℕ) (old : SegmentHeader) (olds ps : List SegmentHeader) → CanGo old → AreKept size olds ps → AreKept size (old ∷ olds) ps
 gone_kept size old olds [] go h = (go, h)
 gone_kept size old olds (p ∷ ps) go h = inr (go, h)
 

@@ -28,6 +28,9 @@ pub mod Staying
 pub mod Relocated
 pub mod Renumbering
 pub mod Needed
+pub mod Along
+pub mod Deleted
+pub mod SectionEdits
 pub mod Names
 pub mod Complete
 pub mod Edited

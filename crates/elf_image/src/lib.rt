@@ -8,6 +8,7 @@ mod edits;
 pub mod laws;
 mod lookups;
 mod read;
+mod section_edits;
 mod symbol_edits;
 mod symbol_lists;
 

@@ -1,9 +1,10 @@
 //! The changes of symbols (gABI, Symbol Table; GNU symbol versioning).
-ghost use Rattle.std.specs.Prelude.{◌≡◌, ◌<◌, ◌↔◌, length, not, true, IsTrue};
+ghost use Rattle.std.specs.Prelude.{◌≡◌, ◌<◌, ◌↔◌, length, not, remove, slice_index, true, IsTrue};
+ghost use Rattle.elf_format.specs.declared.constants.TheConstants.{SHT_DYNSYM as DYNSYM, SHT_SYMTAB as SYMTAB};
 ghost use Rattle.elf_image_symbol_edits.specs.EditedList.{EditedList, IsName, changed_at, with_global_version, with_name};
 ghost use Rattle.elf_image.specs.Names.{are_names_changed};
 ghost use Rattle.elf_image.specs.Renumbering.{can_renumber};
-ghost use Rattle.elf_image.specs.SymbolEdits.{IsPutFor, with_dynamic_symbols};
+ghost use Rattle.elf_image.specs.SymbolEdits.{IsPutFor, IsStaticPutFor, IsUnnamed, with_dynamic_symbols, with_static_symbols};
 ghost use Rattle.elf_image.specs.SymbolsRead.{HasDynamicSymbolsOf, HasStaticSymbolsOf, OfRead};
 
 use crate::builder::Builder;
@@ -53,6 +54,66 @@ impl<'data> Builder<'data> {
         self.changed = true;
     }
 
+    /// Deletes the symbol for a link editor at a position, which isn't the first and which no relocation of a section that is
+    /// there names (gABI, Symbol Table; Relocation). Takes no memory.
+    pub fn delete_symbol(&mut self, i: usize)
+        requires there { i < length self.old.symbols }
+        requires behind { 0 < i }
+        requires unnamed { IsUnnamed SYMTAB (slice_index self.old.symbol_numbers i) self.old }
+        ensures { self.new ≡ record self.old {
+          changed = true;
+          symbols = remove self.old.symbols i;
+          symbol_numbers = remove self.old.symbol_numbers i;
+        } }
+    {
+        self.lists.symbols.delete(i);
+        // they are some of the symbols of their list, edited
+        let _read = self.lists.symbols.read();
+        self.changed = true;
+    }
+
+    /// Deletes the symbol for a loader at a position, which isn't the first and which no relocation of a section that is
+    /// there names (gABI, Symbol Table; Relocation). The caller sees that hash tables and relocations can follow. Takes no
+    /// memory.
+    pub fn delete_dynamic_symbol(&mut self, i: usize)
+        requires there { i < length self.old.dynamic_symbols }
+        requires behind { 0 < i }
+        requires unnamed { IsUnnamed DYNSYM (slice_index self.old.dynamic_symbol_numbers i)
+            self.old }
+        requires tables { can_renumber self.old ≡ true }
+        ensures { self.new ≡ record self.old {
+          changed = true;
+          dynamic_symbols = remove self.old.dynamic_symbols i;
+          dynamic_symbol_numbers = remove self.old.dynamic_symbol_numbers i;
+        } }
+    {
+        self.lists.dynamic_symbols.delete(i);
+        // they are some of the symbols of their list, edited
+        let _read = self.lists.dynamic_symbols.read();
+        self.changed = true;
+    }
+
+    /// The symbols for a link editor with their edits, of which a copy can be edited and put in their place. Takes no memory.
+    pub fn edited_symbols(&self) -> &EditedSymbols<'data>
+        ensures read { OfRead self.now (λ read. result.now.read ≡ read.symbols) }
+        ensures numbers { result.now.numbers ≡ self.now.symbol_numbers }
+        ensures symbols { result.now.symbols ≡ self.now.symbols }
+    {
+        &self.lists.symbols
+    }
+
+    /// Puts these symbols for a link editor in place of those that are there: edited ones of the symbols that were read.
+    /// Some may be gone, but for the first and those that a relocation of a section that is there names. Takes no memory.
+    pub fn put_symbols(&mut self, edited: EditedSymbols<'data>)
+        requires { IsStaticPutFor self.old edited }
+        ensures { self.new ≡ with_static_symbols edited.entry self.old }
+    {
+        // they are some of the symbols of their list, edited
+        let _read = edited.read();
+        self.lists.symbols = edited;
+        self.changed = true;
+    }
+
     /// The symbols for a loader with their edits, of which a copy can be edited and put in their place. Takes no memory.
     pub fn edited_dynamic_symbols(&self) -> &EditedSymbols<'data>
         ensures read { OfRead self.now (λ read. result.now.read ≡ read.dynamic_symbols) }
@@ -62,8 +123,9 @@ impl<'data> Builder<'data> {
         &self.lists.dynamic_symbols
     }
 
-    /// Puts these symbols for a loader in place of those that are there: edited ones of the symbols that were read, with
-    /// none gone, and with other names only where hash tables and relocations can follow. Takes no memory.
+    /// Puts these symbols for a loader in place of those that are there: edited ones of the symbols that were read. Some may
+    /// be gone, but for the first and those that a relocation of a section that is there names. With other names, or some
+    /// gone, only where hash tables and relocations can follow. Takes no memory.
     pub fn put_dynamic_symbols(&mut self, edited: EditedSymbols<'data>)
         requires { IsPutFor self.old edited }
         ensures { self.new ≡ with_dynamic_symbols edited.entry self.old }

@@ -59,6 +59,35 @@ module _ {X Y : Type 0} (f : X → Y) (p : X → Bool) where
   pub keeps_all : (made whole : List Y) (xs : List X) (i : ℕ) → length xs ≤ i → made ++ kept_from xs i ≡ whole → made ≡ whole
   keeps_all made whole xs i past so_far = sym (append-nil made) ∙ sym (ap (λ ys. made ++ map f (filter p ys)) (drop_all i xs past)) ∙ so_far
 
+-- ## Numbers that rise, each beside something
+
+module _ {A : Type 0} (ns : List ℕ) (own : List A) (long : length ns ≡ length own) (rising : (i j : ℕ) → i < j → j < length ns → slice_index ns i < slice_index ns j) where
+  firsts_rise : (xs : List (ℕ × A)) (d : A) → IsNonDecreasingBy (λ x. x.0) xs → IsNonDecreasing (map (λ x. x.0) xs)
+  firsts_rise xs other rise i j d le within =
+      let inside : j < length xs = omega (arith, length-map xs (λ (x : ℕ × A). x.0)) in
+      omega (arith, rise i j (0, other) le inside, get_or-map (λ (x : ℕ × A). x.0) xs i (0, other) d (omega arith), get_or-map (λ (x : ℕ × A). x.0) xs j (0, other) d inside)
+
+  pairs_rise : IsNonDecreasingBy (λ x. x.0) (zip ns own)
+  pairs_rise i j d le within =
+      let least : min (length ns) (length own) ≡ length own = omega (arith, long) in
+      let inside : j < length own = omega (arith, length-zip ns own, least) in
+      let at_i : (get_or (zip ns own) i d).0 ≡ get_or ns i d.0 = ap (λ (x : ℕ × A). x.0) (get_or-zip ns own i d (omega (arith, long)) (omega arith)) in
+      let at_j : (get_or (zip ns own) j d).0 ≡ get_or ns j d.0 = ap (λ (x : ℕ × A). x.0) (get_or-zip ns own j d (omega (arith, long)) inside) in
+      let here_i : get_or ns i d.0 ≡ slice_index ns i = get_or_default ns i d.0 0 (omega (arith, long)) in
+      let here_j : get_or ns j d.0 ≡ slice_index ns j = get_or_default ns j d.0 0 (omega (arith, long)) in
+      elim (cases_lt i j) [
+        | inl less ↦ omega (arith, rising i j less (omega (arith, long)))
+        | inr same ↦ (let e : i ≡ j = omega arith in omega (arith, ap (λ k. slice_index ns k) e))
+      ]
+
+  -- the numbers of those that a filter keeps rise
+  pub kept_firsts_rise : (p : ℕ × A → Bool) → IsNonDecreasing (map (λ x. x.0) (filter p (zip ns own)))
+  kept_firsts_rise p = by_list (filter p (zip ns own)) (IsNonDecreasingBy-filter (λ x. x.0) p (zip ns own) pairs_rise)
+    where
+      by_list : (xs : List (ℕ × A)) → IsNonDecreasingBy (λ x. x.0) xs → IsNonDecreasing (map (λ x. x.0) xs)
+      by_list [] rise = λ i j d le within. absurd (omega (arith, within))
+      by_list (x ∷ xs) rise = firsts_rise (x ∷ xs) x.1 rise
+
 -- ## Symbols
 
 -- the symbol whose numbers are told, and its section
@@ -88,29 +117,9 @@ module _ (image : Image) (edited : IsEdited image) where
       ∙ ap Some (get_or-zip image.symbol_numbers image.symbols i (0, y) (omega (arith, as_many_symbols)) within
       ∙ ap (λ (z : NamedSymbol). (slice_index image.symbol_numbers i, z)) (get_or_from_slice_get image.symbols i y y at))
 
-  rise_firsts : (xs : List (ℕ × NamedSymbol)) → IsNonDecreasingBy (λ x. x.0) xs → IsNonDecreasing (map (λ x. x.0) xs)
-  rise_firsts xs rise i j d le within =
-      let long : j < length xs = omega (arith, length-map xs (λ (x : ℕ × NamedSymbol). x.0)) in
-      let none : NamedSymbol = record { name = []; st_info = 0; st_other = 0; st_shndx = 0; st_value = 0; st_size = 0; version = None } in
-      omega (arith, rise i j (0, none) le long, get_or-map (λ (x : ℕ × NamedSymbol). x.0) xs i (0, none) d (omega arith), get_or-map (λ (x : ℕ × NamedSymbol). x.0) xs j (0, none) d long)
-
-  numbers_rise : IsNonDecreasingBy (λ x. x.0) (zip image.symbol_numbers image.symbols)
-  numbers_rise i j d le within =
-      let inside : j < length image.symbols = omega (arith, numbered_long) in
-      let at_i : (get_or (zip image.symbol_numbers image.symbols) i d).0 ≡ get_or image.symbol_numbers i d.0 =
-      ap (λ (x : ℕ × NamedSymbol). x.0) (get_or-zip image.symbol_numbers image.symbols i d (omega (arith, as_many_symbols)) (omega arith)) in
-      let at_j : (get_or (zip image.symbol_numbers image.symbols) j d).0 ≡ get_or image.symbol_numbers j d.0 =
-      ap (λ (x : ℕ × NamedSymbol). x.0) (get_or-zip image.symbol_numbers image.symbols j d (omega (arith, as_many_symbols)) inside) in
-      let here_i : get_or image.symbol_numbers i d.0 ≡ slice_index image.symbol_numbers i = get_or_default image.symbol_numbers i d.0 0 (omega (arith, as_many_symbols)) in
-      let here_j : get_or image.symbol_numbers j d.0 ≡ slice_index image.symbol_numbers j = get_or_default image.symbol_numbers j d.0 0 (omega (arith, as_many_symbols)) in
-      elim (cases_lt i j) [
-        | inl less ↦ omega (arith, edited.is_edit.symbols.rising i j less (omega (arith, as_many_symbols)))
-        | inr same ↦ (let e : i ≡ j = omega arith in omega (arith, ap (λ k. slice_index image.symbol_numbers k) e))
-      ]
-
   -- the numbers of those that a filter keeps rise
   pub kept_numbers_rise : (p : ℕ × NamedSymbol → Bool) → IsNonDecreasing (map (λ x. x.0) (filter p (zip image.symbol_numbers image.symbols)))
-  kept_numbers_rise p = rise_firsts (filter p (zip image.symbol_numbers image.symbols)) (IsNonDecreasingBy-filter (λ x. x.0) p (zip image.symbol_numbers image.symbols) numbers_rise)
+  kept_numbers_rise p = kept_firsts_rise image.symbol_numbers image.symbols as_many_symbols edited.is_edit.symbols.rising p
 
 -- ## Program headers
 
@@ -188,3 +197,18 @@ deserted_same image gone going_at staying_at interpreter go stay with p =
 pub map_same : {X Y Z : Type 0} (v : X → Y) (f g : Y → Z) → ((y : Y) → f y ≡ g y) → (xs : List X) → map (λ x. f (v x)) xs ≡ map g (map v xs)
 map_same v f g same [] = refl
 map_same v f g same (x ∷ xs) = ap (λ z. z ∷ map (λ y. f (v y)) xs) (same (v x)) ∙ ap (λ zs. g (v x) ∷ zs) (map_same v f g same xs)
+
+-- what a filter leaves of a list that is seen element by element
+pub filter_seen : {X Y : Type 0} (v : X → Y) (f : X → Bool) (g : Y → Bool) → ((x : X) → f x ≡ g (v x)) → (xs : List X) → map v (filter f xs) ≡ filter g (map v xs)
+filter_seen v f g same [] = refl
+filter_seen {X} v f g same (x ∷ xs) =
+    by_test (f x) (filter_seen v f g same xs) ∙ ap (λ (b : Bool). cond b (v x ∷ filter g (map v xs)) (filter g (map v xs))) (same x)
+  where
+    by_test : (b : Bool) → map v (filter f xs) ≡ filter g (map v xs) → map v (cond b (x ∷ filter f xs) (filter f xs)) ≡ cond b (v x ∷ filter g (map v xs)) (filter g (map v xs))
+    by_test true rest = ap (λ l. v x ∷ l) rest
+    by_test false rest = rest
+
+pub filter_same_test : {X : Type 0} (f g : X → Bool) → ((x : X) → f x ≡ g x) → (xs : List X) → filter f xs ≡ filter g xs
+filter_same_test f g same [] = refl
+filter_same_test f g same (x ∷ xs) =
+    ap (λ (b : Bool). cond b (x ∷ filter f xs) (filter f xs)) (same x) ∙ ap (λ l. cond (g x) (x ∷ l) l) (filter_same_test f g same xs)

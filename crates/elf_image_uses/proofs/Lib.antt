@@ -4,3 +4,4 @@ pub mod HashSteps
 pub mod NameSteps
 pub mod RecordSteps
 pub mod AlongSteps
+pub mod ForCallers

@@ -1,9 +1,10 @@
 //! What goes along with sections: symbols and program headers.
-ghost use Rattle.std.specs.Prelude.{◌≡◌, ◌&&◌, ◌||◌, ◌==◌, [], ◌∷◌, IfOk, IsPermutation, if◌then◌else◌, map, not};
+ghost use Rattle.std.specs.Prelude.{◌≡◌, ◌&&◌, ◌||◌, ◌==◌, [], ◌∷◌, IfOk, IsPermutation, filter, if◌then◌else◌, map, not};
 ghost use Rattle.std.specs.List.{list_any};
 ghost use Rattle.std.specs.List.Sorted.{IsNonDecreasing};
 ghost use Rattle.elf_format.specs.declared.constants.TheConstants.{SHT_SYMTAB as SYMTAB};
 ghost use Rattle.elf_format.specs.Options.{is_one_of, is_some_and};
+ghost use Rattle.elf_image.specs.Deleted.{segments_left};
 ghost use Rattle.elf_image.specs.ImageModel.{section_model, segment_model};
 ghost use Rattle.elf_image.specs.Kept.{interpreter_number};
 ghost use Rattle.elf_image_uses.specs.Along.{is_deserted, is_in_memory as takes_room, is_within, symbols_along as numbers_along};
@@ -202,4 +203,41 @@ pub fn deserted_segments(
     let staying = sorted_begins(alloc, image, gone, false)?;
     let interpreter = does_go(gone, image.interpreter_number());
     deserted_of(alloc, image.segments(), &going, &staying, interpreter)
+}
+
+// Those of some program headers that aren't deserted.
+fn left_of<'data>(
+    alloc: Global,
+    segments: &[Segment<'data>],
+    going: &[u64],
+    staying: &[u64],
+    interpreter: bool,
+) -> Result<Vec<Segment<'data>>, AllocError>
+    requires going { IsNonDecreasing going.now }
+    requires staying { IsNonDecreasing staying.now }
+    ensures { IfOk result (λ left. left.items
+        ≡ filter (λ p. not (deserted_by going.now staying.now interpreter (segment_model p)))
+        segments.now) }
+{
+    segments
+        .iter()
+        .filter(|p| !is_deserted_by(going, staying, interpreter, p.numbers()))
+        .copied()
+        .collect(alloc)
+}
+
+/// The program headers that are left where sections go, in order (gABI, Program Header): those that aren't deserted. Error:
+/// `AllocError`.
+pub fn remaining_segments<'data>(
+    alloc: Global,
+    image: &Builder<'data>,
+    gone: &[usize],
+) -> Result<Vec<Segment<'data>>, AllocError>
+    requires { IsNonDecreasing gone.now }
+    ensures { IfOk result (λ left. map segment_model left.items ≡ segments_left gone.now image.now) }
+{
+    let going = sorted_begins(alloc, image, gone, true)?;
+    let staying = sorted_begins(alloc, image, gone, false)?;
+    let interpreter = does_go(gone, image.interpreter_number());
+    left_of(alloc, image.segments(), &going, &staying, interpreter)
 }

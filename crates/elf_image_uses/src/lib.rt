@@ -11,7 +11,7 @@ mod relocations;
 mod renumbering;
 pub mod rows;
 
-pub use crate::along::{deserted_segments, symbols_along};
+pub use crate::along::{deserted_segments, remaining_segments, symbols_along};
 pub use crate::kept::table_number;
 pub use crate::needed::is_section_used;
 pub use crate::relocations::is_symbol_used;

@@ -8,7 +8,7 @@ use Rattle.elf_format.specs.Options.{is_one_of, is_some_and}
 use Rattle.elf_format.specs.Places.{occupies_memory}
 use Rattle.elf_format.specs.Views.{NamedSymbol}
 use Rattle.elf_image.specs.Kept.{interpreter_number, place_at_read}
-use Rattle.elf_image_uses.specs.Staying.{going, staying, table_number}
+use Rattle.elf_image.specs.Staying.{going, staying, table_number}
 
 -- ## Symbols
 

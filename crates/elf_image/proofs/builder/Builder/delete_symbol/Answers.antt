@@ -1,0 +1,23 @@
+-- The image without the symbol was read and edited; the symbols that were read stay those.
+use Rattle.std.proofs.Common.{subst, sym, true}
+use Rattle.std.specs.Prelude.{slice_index}
+use Rattle.elf_format.specs.declared.constants.TheConstants.{SHT_SYMTAB}
+use Rattle.elf_format.specs.Image.{Image}
+use Rattle.elf_image_symbol_edits.specs.EditedList.{EditedList}
+use Rattle.elf_image_symbol_edits.specs.EditedList.{ArePicked as AreEditedSymbols}
+use Rattle.elf_image.specs.BuilderModel.{image_model}
+use Rattle.elf_image.specs.Edited.{IsEdited}
+use Rattle.elf_image.specs.SymbolEdits.{IsUnnamed}
+use Rattle.elf_image.specs.SymbolsRead.{AreSymbolsOfFile}
+use Rattle.elf_image.proofs.SymbolsDeleted.{static_deleted}
+use Rattle.elf_image.proofs.SymbolsKept.{static_put_is_edited}
+use Rattle.elf_image.proofs.builder.Builder.delete_symbol.Goals as goal
+
+pub invariant_of-self : goal.invariant_of-self
+invariant_of-self c =
+    let image : Image = image_model c.self.inside in
+    let unnamed = subst (λ (i : Image). IsUnnamed SHT_SYMTAB (slice_index i.symbol_numbers c.args.i) i) (sym c.self.view_is) c.requires.unnamed in
+    let put = static_deleted image c.self.inside.lists.symbols.read c.args.i c.self.invariant.0 (λ read is. (c.self.invariant.1.by_image read is).symbols) c.requires.behind unnamed in
+    subst (λ (e : EditedList). IsEdited (record image { changed = true; symbols = e.symbols; symbol_numbers = e.numbers })
+    × AreSymbolsOfFile c.self.inside.source.now (record { symbols = e.read; dynamic_symbols = c.self.inside.lists.dynamic_symbols.read }))
+    (sym c.delete.ensures) (static_put_is_edited image _ c.self.invariant.0 put (subst AreEditedSymbols c.delete.ensures c.read-read.ensures.picked), c.self.invariant.1)
