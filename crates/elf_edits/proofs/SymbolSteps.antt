@@ -1,6 +1,6 @@
 -- Steps of looking through dynamic symbols, and of changing one after another.
 use Rattle.std.proofs.Common.{◌≡◌, ℕ, zero, suc, ◌+◌, ◌<◌, ◌≤◌, Bool, true, false, ◌||◌, List, [], ◌∷◌, ◌++◌, length, map, take, drop, refl, sym, ap, subst, ◌∙◌, Option, Some, None, is_some, option_map, Bor, arith}
-use Rattle.std.specs.Prelude.{◌&&◌, if◌then◌else◌, not, slice_get, unwrap_or}
+use Rattle.std.specs.Prelude.{◌&&◌, MatchOption, if◌then◌else◌, not, slice_get, unwrap_or}
 use Rattle.std.specs.List.{flat_map, list_any}
 use Rattle.std.specs.Map.{lookup}
 use Rattle.std.specs.Str.{bytes_eq}
@@ -9,11 +9,12 @@ use Rattle.std.proofs.lemmas.List.{drop_all, drop_more, take_all}
 use Rattle.std.proofs.lemmas.Option.{get_or_from_slice_get, none-some, same_Some, slice_get_within}
 use Rattle.elf_image.specs.Options.{first_there}
 use Rattle.elf_image.specs.Views.{NamedSymbol}
-use Rattle.elf_image_symbol_edits.specs.EditedList.{EditedList, IsName, changed_at, with_global_version}
+use Rattle.elf_image_symbol_edits.specs.EditedList.{EditedList, IsName, changed_at, with_global_version, with_name}
 use Rattle.elf_edits.specs.declared.symbols.SymbolChange.{SymbolChange}
+use Rattle.elf_edits.specs.declared.symbols.SymbolChange.TheVariants as changes
 use Rattle.elf_edits.specs.Changes.{name_for}
 use Rattle.elf_edits.specs.Edit.{ClearSymbolVersion, Edit, RenameDynamicSymbols}
-use Rattle.elf_edits.specs.SymbolChanges.{AreSymbolsAfter, GivesNames, renamed_by}
+use Rattle.elf_edits.specs.SymbolChanges.{AreSymbolsAfter, BeginsAt, GivesNames, changed_symbol, changed_to, is_changed, renamed_by}
 use Rattle.elf_edits.specs.Symbols.{behind_first, cleared, has_new_name, has_version_to_clear, name_of_symbol, names_behind_first, renamed}
 use Rattle.elf_edits.specs.Texts.{holds_nul, value_of}
 use Rattle.elf_edits.proofs.SymbolLaws.{any_name_behind_first, not_cleared}
@@ -142,13 +143,9 @@ module _ (f : NamedSymbol → NamedSymbol) (old : EditedList) where
   abbrev pub changed_up_to : ℕ → EditedList
   changed_up_to i = record old { symbols = mixed i (behind_first f old.symbols) old.symbols }
 
-  pub none_changed_yet : (i : ℕ) → i ≡ 1 → old ≡ changed_up_to i
+  pub none_changed_yet : (i : ℕ) → mixed i (behind_first f old.symbols) old.symbols ≡ old.symbols → old ≡ changed_up_to i
   unfolding with_symbols
-  none_changed_yet i is = ap (with_symbols old) (first old.symbols ∙ ap (λ k. mixed k (behind_first f old.symbols) old.symbols) (sym is))
-    where
-      first : (ys : List NamedSymbol) → ys ≡ mixed 1 (behind_first f ys) ys
-      first [] = refl
-      first (y ∷ ys) = refl
+  none_changed_yet i left = ap (with_symbols old) (sym left)
 
   long : (i : ℕ) (xs ys : List NamedSymbol) → length xs ≡ length ys → length (mixed i xs ys) ≡ length ys
   long i [] [] same = mixed_none i
@@ -175,17 +172,65 @@ module _ (f : NamedSymbol → NamedSymbol) (old : EditedList) where
       next : suc i ≡ i + 1
       next = omega arith
 
-  pub all_changed : (i : ℕ) (now : EditedList) → length old.symbols ≤ i → now ≡ changed_up_to i → now ≡ record old { symbols = behind_first f old.symbols }
+  -- none is left that changes
+  pub all_changed : (i : ℕ) (now : EditedList) → mixed i (behind_first f old.symbols) old.symbols ≡ behind_first f old.symbols → now ≡ changed_up_to i
+      → now ≡ record old { symbols = behind_first f old.symbols }
   unfolding with_symbols
-  all_changed i now past is = is ∙ ap (with_symbols old) (whole i (behind_first f old.symbols) old.symbols (behind_first-length f old.symbols) past)
+  all_changed i now left is = is ∙ ap (with_symbols old) left
+
+-- all of it is taken
+whole_taken : (k : ℕ) (xs ys : List NamedSymbol) → length xs ≡ length ys → length ys ≤ k → mixed k xs ys ≡ xs
+whole_taken zero [] [] same h = refl
+whole_taken (suc k) [] [] same h = refl
+whole_taken k [] (y ∷ ys) same h = absurd (omega (arith, same))
+whole_taken k (x ∷ xs) [] same h = absurd (omega (arith, same))
+whole_taken zero (x ∷ xs) (y ∷ ys) same h = absurd (omega (arith, h))
+whole_taken (suc k) (x ∷ xs) (y ∷ ys) same h = ap (λ l. x ∷ l) (whole_taken k xs ys (omega (arith, same)) (omega (arith, h)))
+
+-- a symbol that a change isn't about stays as it was
+left_as_it_was : (change : SymbolChange) (y : NamedSymbol) → is_changed change y ≡ false → changed_symbol change y ≡ y
+left_as_it_was (changes.Name names) y kept = by_name (name_for names.now.entries y.name) kept
+  where
+    by_name : (o : Option (List ℕ)) → is_some o ≡ false → with_name (unwrap_or o y.name) y ≡ y
+    by_name None e = refl
+    by_name (Some name) e = absurd (cc)
+left_as_it_was (changes.Version name) y kept = not_cleared name.now y kept
+
+-- ## The symbols that a change leaves
+
+module _ (change : SymbolChange) (ys : List NamedSymbol) where
+  none_yet : (xs : List NamedSymbol) → mixed 1 (behind_first (changed_symbol change) xs) xs ≡ xs
+  none_yet [] = refl
+  none_yet (x ∷ xs) = refl
+
+  -- no symbol is looked at yet
+  pub left_first : (i : ℕ) → i ≡ 1 → changed_to change i ys ≡ ys
+  left_first i is = ap (λ (k : ℕ). changed_to change k ys) is ∙ none_yet ys
+
+  same_there : (i : ℕ) → 1 ≤ i → (y : NamedSymbol) → slice_get ys i ≡ Some y → is_changed change y ≡ false → slice_get (behind_first (changed_symbol change) ys) i ≡ Some y
+  same_there i behind y at kept = changes_at (changed_symbol change) ys i behind y at ∙ ap (λ (z : NamedSymbol). Some z) (left_as_it_was change y kept)
+
+  -- one symbol more is left
+  pub left_more : (i : ℕ) (answer : Bool) → 1 ≤ i → i < length ys → option_map (is_changed change) (slice_get ys i) ≡ Some answer → answer ≡ false
+      → changed_to change (i + 1) ys ≡ changed_to change i ys
+  left_more i answer behind here told kept =
+      ap (λ (k : ℕ). changed_to change k ys) next
+      ∙ sym (mixed_more (λ y. y) i (behind_first (changed_symbol change) ys) ys (behind_first-length (changed_symbol change) ys) here
+      (λ y at. same_there i behind y at (there (is_changed change) ys i answer y (slice_get ys i) at told ∙ kept)))
+      ∙ changed_to_itself (changed_to change i ys) i
     where
-      whole : (k : ℕ) (xs ys : List NamedSymbol) → length xs ≡ length ys → length ys ≤ k → mixed k xs ys ≡ xs
-      whole zero [] [] same h = refl
-      whole (suc k) [] [] same h = refl
-      whole k [] (y ∷ ys) same h = absurd (omega (arith, same))
-      whole k (x ∷ xs) [] same h = absurd (omega (arith, same))
-      whole zero (x ∷ xs) (y ∷ ys) same h = absurd (omega (arith, h))
-      whole (suc k) (x ∷ xs) (y ∷ ys) same h = ap (λ l. x ∷ l) (whole k xs ys (omega (arith, same)) (omega (arith, h)))
+      next : i + 1 ≡ suc i
+      next = omega arith
+
+  -- all were looked at
+  pub left_whole : (i : ℕ) → length ys ≤ i → changed_to change i ys ≡ behind_first (changed_symbol change) ys
+  left_whole i past = whole_taken i (behind_first (changed_symbol change) ys) ys (behind_first-length (changed_symbol change) ys) past
+
+-- whether a first one is found that a change is about
+pub any_found : (change : SymbolChange) (ys : List NamedSymbol) (found : Option ℕ) → MatchOption found (list_any (is_changed change) (drop 1 ys) ≡ false) (BeginsAt change ys)
+    → is_some found ≡ list_any (is_changed change) (drop 1 ys)
+any_found change ys None none = sym none
+any_found change ys (Some i) begins = sym begins.about
 
 -- ## The map of some pairs
 

@@ -1,5 +1,5 @@
 -- What the code makes of dynamic symbols.
-use Rattle.std.specs.Prelude.{ℕ, ◌≡◌, List, drop, Bool, true, false, is_some, Option, Some, None, unwrap_or}
+use Rattle.std.specs.Prelude.{ℕ, ◌≡◌, ◌≤◌, List, ◌++◌, length, take, drop, Bool, true, false, is_some, Option, Some, None, unwrap_or}
 use Rattle.std.specs.Borrow.{Bor}
 use Rattle.std.specs.List.{list_any}
 use Rattle.elf_image.specs.Views.{NamedSymbol}
@@ -27,6 +27,22 @@ is_changed (changes.Version name) y = has_version_to_clear name.now y
 abbrev pub changed_symbol : SymbolChange → NamedSymbol → NamedSymbol
 changed_symbol (changes.Name names) y = renamed_by names.now.entries y
 changed_symbol (changes.Version name) y = cleared name.now y
+
+-- the symbols with a change, up to a position
+abbrev pub changed_to : SymbolChange → ℕ → List NamedSymbol → List NamedSymbol
+changed_to change i ys = take i (behind_first (changed_symbol change) ys) ++ drop i ys
+
+-- A change is about symbols behind the first, the first of which stands at a position: it leaves those before.
+pub record BeginsAt (change : SymbolChange) (ys : List NamedSymbol) (i : ℕ) : Type 0 where
+  pub about : list_any (is_changed change) (drop 1 ys) ≡ true
+  pub behind : 1 ≤ i
+  pub within : i ≤ length ys
+  pub before : changed_to change i ys ≡ ys
+
+-- A change leaves the symbols from a position on.
+pub record EndsAt (change : SymbolChange) (ys : List NamedSymbol) (i : ℕ) : Type 0 where
+  pub within : i ≤ length ys
+  pub left : changed_to change i ys ≡ behind_first (changed_symbol change) ys
 
 -- a change by which symbols have names without a NUL
 abbrev pub KeepsNames : SymbolChange → Type 0

@@ -10,7 +10,7 @@ pub mod entries;
 pub mod facts;
 pub mod laws;
 pub mod list;
-mod lookups;
+pub mod lookups;
 pub mod of_image;
 pub mod rows;
 pub mod symbols;

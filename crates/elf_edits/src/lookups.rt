@@ -12,11 +12,8 @@ use elf_image::Dynamic;
 use std::alloc::{AllocError, Global};
 use std::collections::{HashMap, HashSet};
 
-// The set of some names.
-pub(crate) fn set_of<'e>(
-    alloc: Global,
-    names: &'e [Vec<u8>],
-) -> Result<HashSet<&'e [u8]>, AllocError>
+/// The set of some names. Error: `AllocError`.
+pub fn set_of<'e>(alloc: Global, names: &'e [Vec<u8>]) -> Result<HashSet<&'e [u8]>, AllocError>
     ensures { IfOk result (λ set. (name : List ℕ) →
         has_name (keys set) name ≡ is_among (texts_model names.now) name) }
 {
@@ -27,8 +24,8 @@ pub(crate) fn set_of<'e>(
     Ok(set)
 }
 
-// The map of some pairs; of a repeated name the last counts.
-pub(crate) fn map_of<'e>(
+/// The map of some pairs; of a repeated name the last counts. Error: `AllocError`.
+pub fn map_of<'e>(
     alloc: Global,
     pairs: &'e [(Vec<u8>, Vec<u8>)],
 ) -> Result<HashMap<&'e [u8], &'e [u8]>, AllocError>

@@ -1,10 +1,10 @@
 //! Dynamic symbols that edits make (gABI, Symbol Table; GNU symbol versioning).
-ghost use Rattle.std.specs.Prelude.{◌≡◌, ◌<◌, IfOk, Some, drop, false, length, option_map, slice_get};
+ghost use Rattle.std.specs.Prelude.{◌≡◌, ◌<◌, ◌≤◌, IfOk, MatchOption, Some, drop, false, length, option_map, slice_get};
 ghost use Rattle.std.specs.List.{list_any};
 ghost use Rattle.elf_image_symbol_edits.specs.EditedList.{changed_at};
 ghost use Rattle.elf_image_symbol_edits.specs.Loan.{symbols_now};
 ghost use Rattle.elf_edits.specs.Edit.{RenameDynamicSymbols, edit_model, texts_of};
-ghost use Rattle.elf_edits.specs.SymbolChanges.{AreSymbolsAfter, AreSymbolsChanged, GivesNames, KeepsNames, changed_symbol, is_changed, renamed_by};
+ghost use Rattle.elf_edits.specs.SymbolChanges.{AreSymbolsAfter, AreSymbolsChanged, BeginsAt, EndsAt, GivesNames, KeepsNames, changed_symbol, is_changed, renamed_by};
 ghost use Rattle.elf_edits.specs.Symbols.{behind_first, cleared, has_new_name, has_version_to_clear, names_behind_first};
 ghost use Rattle.elf_edits.specs.TextModel.{pairs_model};
 ghost use Rattle.elf_edits.specs.Texts.{holds_nul};
@@ -26,6 +26,15 @@ pub(crate) enum SymbolChange<'e, 'n> {
     Name(&'e HashMap<&'n [u8], &'n [u8]>),
     // A symbol with this name has, where it has a version, that of a global symbol.
     Version(&'e [u8]),
+}
+
+// How far the symbols reach that a change is about.
+#[derive(Clone, Copy)]
+pub struct Reach {
+    // One past the last of them, or of all symbols where they are more than a few.
+    pub end: usize,
+    // How many they are, as far as they were counted: up to one more than a few.
+    pub count: usize,
 }
 
 // Whether a symbol has this name, and a version.
@@ -85,16 +94,47 @@ impl SymbolChange<'_, '_> {
         }
     }
 
+    // Where the first of the symbols that it is about stands, behind the first of all; `None` where it is about none.
+    fn find_first(&self, symbols: &SymbolsNow<'_>) -> Option<usize>
+        ensures { MatchOption result
+            (list_any (is_changed self.now) (drop 1 (symbols_now symbols.now)) ≡ false)
+            (BeginsAt self.now (symbols_now symbols.now)) }
+    {
+        for i in 1..symbols.len() {
+            if self.is_about(symbols, i) {
+                return Some(i);
+            }
+        }
+        None
+    }
+
     // Whether it is about a symbol behind the first.
     pub(crate) fn is_about_any(&self, symbols: &SymbolsNow<'_>) -> bool
         ensures { result ≡ list_any (is_changed self.now) (drop 1 (symbols_now symbols.now)) }
     {
-        for i in 1..symbols.len() {
+        self.find_first(symbols).is_some()
+    }
+
+    // How far the symbols reach that it is about, from a position on.
+    fn reach(&self, symbols: &SymbolsNow<'_>, first: usize) -> Reach
+        requires behind { 1 ≤ first }
+        requires within { first ≤ length (symbols_now symbols.now) }
+        ensures ends { EndsAt self.now (symbols_now symbols.now) result.end }
+        ensures behind { first ≤ result.end }
+    {
+        let mut count = 0;
+        let mut end = first;
+        for i in first..symbols.len() {
+            if count > FEW {
+                let end = symbols.len();
+                return Reach { end, count };
+            }
             if self.is_about(symbols, i) {
-                return true;
+                count += 1;
+                end = i + 1;
             }
         }
-        false
+        Reach { end, count }
     }
 
     // Makes it of the symbol at a position.
@@ -119,46 +159,26 @@ impl SymbolChange<'_, '_> {
         }
     }
 
-    // Makes it of all symbols behind the first.
-    fn apply_to_all(&self, alloc: Global, edited: &mut EditedSymbols<'_>) -> Result<(), AllocError>
-        requires { KeepsNames self.now }
+    // Makes it of the symbols from a position on, up to another one: those that it is about stand there.
+    fn apply_between(
+        &self,
+        alloc: Global,
+        edited: &mut EditedSymbols<'_>,
+        first: usize,
+        end: usize,
+    ) -> Result<(), AllocError>
+        requires names { KeepsNames self.now }
+        requires begins { BeginsAt self.now edited.old.symbols first }
+        requires ends { EndsAt self.now edited.old.symbols end }
+        requires rising { first ≤ end }
         ensures { IfOk result (λ _. edited.new ≡ record edited.old {
           symbols = behind_first (changed_symbol self.now) edited.old.symbols;
         }) }
     {
-        for i in 1..edited.lend().len() {
+        for i in first..end {
             self.apply(alloc, edited, i)?;
         }
         Ok(())
-    }
-
-    // Whether it is about more than a few symbols behind the first.
-    fn is_about_many(&self, symbols: &SymbolsNow<'_>) -> bool {
-        let mut left = FEW;
-        for i in 1..symbols.len() {
-            if self.is_about(symbols, i) {
-                if left == 0 {
-                    return true;
-                }
-                left -= 1;
-            }
-        }
-        false
-    }
-
-    // A copy of the symbols to be changed. Where more than a few are, none moves what is told of those behind it.
-    fn copy<'d>(
-        &self,
-        alloc: Global,
-        symbols: &EditedSymbols<'d>,
-    ) -> Result<EditedSymbols<'d>, AllocError>
-        ensures { IfOk result (λ copy. copy ≡ symbols.now) }
-    {
-        if self.is_about_many(&symbols.lend()) {
-            symbols.spread(alloc)
-        } else {
-            symbols.try_clone(alloc)
-        }
     }
 
     // The symbols with it, where it is about one behind the first.
@@ -170,17 +190,34 @@ impl SymbolChange<'_, '_> {
         requires { KeepsNames self.now }
         ensures { IfOk result (AreSymbolsChanged self.now symbols.now) }
     {
-        if !self.is_about_any(&symbols.lend()) {
+        let Some(first) = self.find_first(&symbols.lend()) else {
             return Ok(None);
-        }
-        let mut copy = self.copy(alloc, symbols)?;
-        self.apply_to_all(alloc, &mut copy)?;
+        };
+        let reach = self.reach(&symbols.lend(), first);
+        let mut copy = copied(alloc, symbols, reach.count)?;
+        self.apply_between(alloc, &mut copy, first, reach.end)?;
         Ok(Some(copy))
     }
 }
 
-// Whether some pairs of an old and a new name have one for a symbol behind the first.
-pub(crate) fn rename_any(
+// A copy of symbols of which so many are to be changed. Where they are more than a few, none moves what is told of those behind
+// it.
+fn copied<'d>(
+    alloc: Global,
+    symbols: &EditedSymbols<'d>,
+    count: usize,
+) -> Result<EditedSymbols<'d>, AllocError>
+    ensures { IfOk result (λ copy. copy ≡ symbols.now) }
+{
+    if count > FEW {
+        symbols.spread(alloc)
+    } else {
+        symbols.try_clone(alloc)
+    }
+}
+
+/// Whether some pairs of an old and a new name have one for a symbol behind the first. Error: `AllocError`.
+pub fn rename_any(
     alloc: Global,
     pairs: &[(Vec<u8>, Vec<u8>)],
     symbols: &SymbolsNow<'_>,
@@ -192,12 +229,13 @@ pub(crate) fn rename_any(
     Ok(SymbolChange::Name(&names).is_about_any(symbols))
 }
 
-// The symbols with the names that some pairs have for theirs, where they have one.
-fn renamed<'d>(
+/// The symbols with the names that some pairs have for theirs, where they have one; `None` where none has. Error: `AllocError`.
+pub fn renamed<'d>(
     alloc: Global,
     pairs: &[(Vec<u8>, Vec<u8>)],
     symbols: &EditedSymbols<'d>,
 ) -> Result<Option<EditedSymbols<'d>>, AllocError>
+    // the caller knows that no name has a NUL in it
     requires { list_any holds_nul (texts_of (RenameDynamicSymbols (pairs_model pairs.now))) ≡ false }
     ensures { IfOk result
         (AreSymbolsAfter (RenameDynamicSymbols (pairs_model pairs.now)) symbols.now) }

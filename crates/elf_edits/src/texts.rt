@@ -28,8 +28,8 @@ pub fn any_nul(texts: &[Vec<u8>]) -> bool
     false
 }
 
-// Whether a text of some pairs does.
-pub(crate) fn any_nul_in_pairs(pairs: &[(Vec<u8>, Vec<u8>)]) -> bool
+/// Whether a text of some pairs does. Takes no memory.
+pub fn any_nul_in_pairs(pairs: &[(Vec<u8>, Vec<u8>)]) -> bool
     ensures { result ≡ list_any nul_in (flat_map (λ pair. pair.0 ∷ pair.1 ∷ [])
         (pairs_model pairs.now)) }
 {

@@ -1,10 +1,10 @@
 -- The hashes of symbols in an order, and of symbols as they stand.
 use Rattle.std.proofs.Common.{◌≡◌, ℕ, zero, suc, ◌+◌, ◌<◌, List, [], ◌∷◌, ◌++◌, length, drop, take, get_or, map, refl, sym, ap, ◌∙◌, Option, Some, None, arith}
 use Rattle.std.specs.Prelude.{option_map, slice_get}
-use Rattle.std.specs.List.{cons_option}
-use Rattle.std.proofs.lemmas.List.{append_assoc, map-append, take_more}
+use Rattle.std.specs.List.{cons_option, filter_map}
+use Rattle.std.proofs.lemmas.List.{append_assoc, take_more}
 use Rattle.std.proofs.lemmas.List.Elements.{All-head, All-tail, filter_map-append}
-use Rattle.std.proofs.lemmas.Option.{get_or_from_slice_get, none-some, slice_get-map, slice_get_within}
+use Rattle.std.proofs.lemmas.Option.{get_or_from_slice_get, none-some, same_Some, slice_get-map, slice_get_within}
 use Rattle.elf_format.specs.Views.{NamedSymbol}
 use Rattle.elf_hashes.specs.Buckets.{hashes_of}
 use Rattle.elf_hashes.specs.Found.{ArePlaces, found_name, hashed_names, in_order}
@@ -27,16 +27,33 @@ in_order-more ys order i y inside at =
 
 -- ## Hashes in an order
 
-pub hashes-more : {Y : Type 0} (seen : NamedSymbol → Y) (ys : List NamedSymbol) (order : List ℕ) (i : ℕ) (y : NamedSymbol) (items was now : List Y) → i < length order
-    → slice_get ys (get_or order i 0) ≡ Some y
-    → was ≡ items ++ map seen (in_order ys (take i order))
-    → now ≡ was ++ seen y ∷ []
-    → now ≡ items ++ map seen (in_order ys (take (i + 1) order))
-hashes-more seen ys order i y items was now inside at before step =
-    let made = map seen (in_order ys (take i order)) in
-    step ∙ ap (λ l. l ++ seen y ∷ []) before ∙ append_assoc items made (seen y ∷ [])
-    ∙ ap (λ l. items ++ l) (sym (map-append seen (in_order ys (take i order)) (y ∷ [])))
-    ∙ ap (λ l. items ++ map seen l) (sym (in_order-more ys order i y inside at))
+-- one more of those at some positions
+pub picked-more : {X : Type 0} (xs : List X) (order : List ℕ) (i : ℕ) (x : X) (items was now : List X) → i < length order
+    → slice_get xs (get_or order i 0) ≡ Some x
+    → was ≡ items ++ filter_map (λ k. slice_get xs k) (take i order)
+    → now ≡ was ++ x ∷ []
+    → now ≡ items ++ filter_map (λ k. slice_get xs k) (take (i + 1) order)
+picked-more {X} xs order i x items was now inside at before step =
+    let pick : List ℕ → List X = filter_map (λ k. slice_get xs k) in
+    let more : pick (take (i + 1) order) ≡ pick (take i order) ++ x ∷ [] =
+    ap pick (take_more order i 0 inside)
+    ∙ filter_map-append (λ k. slice_get xs k) (take i order) (get_or order i 0 ∷ [])
+    ∙ ap (λ (o : Option X). pick (take i order) ++ cons_option o []) at in
+    step ∙ ap (λ l. l ++ x ∷ []) before ∙ append_assoc items (pick (take i order)) (x ∷ [])
+    ∙ ap (λ l. items ++ l) (sym more)
+
+-- what was made of each, at some positions, is what is made of those at these positions
+pub made-then-picked : {X Y : Type 0} (f : X → Y) (xs : List X) (order : List ℕ)
+    → filter_map (λ k. slice_get (map f xs) k) order ≡ map f (filter_map (λ k. slice_get xs k) order)
+made-then-picked f xs [] = refl
+made-then-picked {X} {Y} f xs (k ∷ order) =
+    ap (λ (o : Option Y). cons_option o (filter_map (λ j. slice_get (map f xs) j) order)) (slice_get-map f xs k)
+    ∙ ap (λ (l : List Y). cons_option (option_map f (slice_get xs k)) l) (made-then-picked f xs order)
+    ∙ before (slice_get xs k)
+  where
+    before : (o : Option X) → cons_option (option_map f o) (map f (filter_map (λ j. slice_get xs j) order)) ≡ map f (cons_option o (filter_map (λ j. slice_get xs j) order))
+    before None = refl
+    before (Some x) = refl
 
 map-twice : {X Y Z : Type 0} (f : Y → Z) (g : X → Y) (xs : List X) → map f (map g xs) ≡ map (λ x. f (g x)) xs
 map-twice f g [] = refl
@@ -80,6 +97,15 @@ own-other hash (first ∷ ys) zero y some at = absurd (omega (arith, some))
 own-other hash (first ∷ ys) (suc i) y some at =
     slice_get-map (option_map hash) (map found_name ys) i
     ∙ ap (option_map (option_map hash)) (slice_get-map found_name ys i ∙ ap (option_map found_name) at)
+
+-- what is made of the symbol there
+pub made-at : {X Y : Type 0} (f : X → Y) (xs : List X) (i : ℕ) (x : X) (y : Y) → slice_get xs i ≡ Some x → y ≡ f x → slice_get (map f xs) i ≡ Some y
+made-at {X} {Y} f xs i x y at is = slice_get-map f xs i ∙ ap (option_map f) at ∙ ap (λ (z : Y). Some z) (sym is)
+
+-- a part of what stands there is a part of something
+pub with_part : {X Y : Type 0} (f : X → Y) (o : Option X) (t : Y) → option_map f o ≡ Some t → (x : X) × (o ≡ Some x) × (f x ≡ t)
+with_part f None t is = absurd (none-some t is)
+with_part f (Some x) t is = (x, refl, same_Some (f x) t is)
 
 -- one more of a list
 pub taken-more : {X : Type 0} (xs was now : List X) (i : ℕ) (x : X) → slice_get xs i ≡ Some x → was ≡ take i xs → now ≡ was ++ x ∷ [] → now ≡ take (i + 1) xs

@@ -1,5 +1,6 @@
 //! The hashes of symbols that look-ups find.
-ghost use Rattle.std.specs.Prelude.{◌≡◌, ◌<◌, ◌++◌, Some, length, map, option_map, slice_get, IfOk, OnOk};
+ghost use Rattle.std.specs.Prelude.{◌≡◌, ◌<◌, ◌++◌, All, Some, length, map, option_map, slice_get, IfOk, OnOk};
+ghost use Rattle.std.specs.List.{filter_map};
 ghost use Rattle.elf_format.specs.Hashes.{gnu_hash as gnu_hash_of};
 ghost use Rattle.elf_image_symbols.specs.SymbolModel.{symbol_model};
 ghost use Rattle.elf_image_symbol_edits.specs.Loan.{symbols_now};
@@ -32,7 +33,7 @@ fn hash_of(hashing: Hashing, name: &[u8]) -> u32
 }
 
 // Whether other files don't see a symbol.
-pub(crate) fn is_local(symbol: &Symbol<'_>) -> bool
+fn is_local(symbol: &Symbol<'_>) -> bool
     ensures { result ≡ is_symbol_local (symbol_model symbol.now) }
 {
     symbol.st_info / 16 == 0
@@ -56,21 +57,35 @@ fn found_hash(hashing: Hashing, symbol: &Symbol<'_>) -> Option<u32>
     }
 }
 
-// Appends the hashes of the symbols at these positions.
-fn push_hashes(
-    hashes: &mut Vec<Option<u32>>,
+// The hash of each symbol that a look-up may find, as the symbols stand: so their names are read one behind the other.
+fn found_hashes(
+    alloc: Global,
     hashing: Hashing,
     symbols: SymbolsNow<'_>,
+) -> Result<Vec<Option<u32>>, AllocError>
+    ensures { IfOk result (λ hashes. hashes.items
+        ≡ map (λ y. option_map (hash_by hashing) (found_name y)) (symbols_now symbols.entry)) }
+{
+    let mut hashes = Vec::with_capacity(alloc, symbols.len())?;
+    for i in 0..symbols.len() {
+        let symbol = symbols.get(i);
+        hashes.push(found_hash(hashing, &symbol))?;
+    }
+    Ok(hashes)
+}
+
+// Appends the hashes at these positions.
+fn push_hashes(
+    hashes: &mut Vec<Option<u32>>,
+    found: &[Option<u32>],
     order: &[usize],
 ) -> Result<(), AllocError>
-    requires { ArePlaces (symbols_now symbols) order.now }
-    ensures { OnOk result (hashes.new.items ≡ hashes.old.items
-        ++ map (λ y. option_map (hash_by hashing) (found_name y))
-        (in_order (symbols_now symbols.entry) order.now)) }
+    requires { All (λ i. i < length found.now) order.now }
+    ensures { OnOk result (hashes.new.items
+        ≡ hashes.old.items ++ filter_map (λ i. slice_get found.now i) order.now) }
 {
     for i in order {
-        let symbol = symbols.get(*i);
-        hashes.push(found_hash(hashing, &symbol))?;
+        hashes.push(found[*i])?;
     }
     Ok(())
 }
@@ -90,9 +105,10 @@ pub(crate) fn hashes(
     if order.len() == 0 {
         return Ok(Vec::new(alloc));
     }
+    let found = found_hashes(alloc, hashing, symbols)?;
     let mut hashes = Vec::with_capacity(alloc, order.len())?;
     hashes.push(None)?;
-    push_hashes(&mut hashes, hashing, symbols, &order[1..])?;
+    push_hashes(&mut hashes, &found, &order[1..])?;
     Ok(hashes)
 }
 

@@ -1,7 +1,6 @@
 //! The order that a GNU hash table asks for.
-ghost use Rattle.std.specs.Prelude.{◌≡◌, ◌<◌, ◌≤◌, ◌^◌, ◌++◌, ◌∷◌, All, drop, length, IfOk, MatchResult, OnOk};
+ghost use Rattle.std.specs.Prelude.{◌≡◌, ◌<◌, ◌≤◌, ◌^◌, ◌++◌, ◌∷◌, All, Some, drop, length, option_map, slice_get, IfOk, MatchResult, OnOk};
 ghost use Rattle.std.specs.List.{flat_map};
-ghost use Rattle.elf_image_symbols.specs.SymbolModel.{symbol_model};
 ghost use Rattle.elf_image_symbol_edits.specs.Loan.{symbols_now};
 ghost use Rattle.elf_tables.specs.declared.fault.TableFault.TheVariants.{NumberTooLarge};
 ghost use Rattle.elf_hashes.specs.Found.{is_local as is_symbol_local, is_sought as is_symbol_sought};
@@ -9,17 +8,28 @@ ghost use Rattle.elf_hashes.specs.Order.{places_by_bucket, places_where};
 ghost use Rattle.elf_hashes.specs.Steps.{walk};
 
 use crate::chains::{Chained, make_chains};
-use crate::hashes::{is_local, own_hashes};
+use crate::hashes::own_hashes;
 use elf_image_symbol_edits::SymbolsNow;
-use elf_image_symbols::Symbol;
 use elf_tables::TableFault;
 use std::alloc::{AllocError, Global};
 
-// Whether a symbol is defined elsewhere.
-fn is_sought(symbol: &Symbol<'_>) -> bool
-    ensures { result ≡ is_symbol_sought (symbol_model symbol.now) }
+// Whether other files don't see the symbol at a position. Its name isn't looked at.
+#[inline(always)]
+fn is_local(symbols: SymbolsNow<'_>, i: usize) -> bool
+    requires { i < length (symbols_now symbols) }
+    ensures { option_map is_symbol_local (slice_get (symbols_now symbols.entry) i) ≡ Some result }
 {
-    !is_local(symbol) && symbol.st_shndx == 0
+    symbols.numbers(i, 0).st_info / 16 == 0
+}
+
+// Whether the symbol at a position is defined elsewhere. Its name isn't looked at.
+#[inline(always)]
+fn is_sought(symbols: SymbolsNow<'_>, i: usize) -> bool
+    requires { i < length (symbols_now symbols) }
+    ensures { option_map is_symbol_sought (slice_get (symbols_now symbols.entry) i) ≡ Some result }
+{
+    let numbers = symbols.numbers(i, 0);
+    numbers.st_info / 16 != 0 && numbers.st_shndx == 0
 }
 
 // Appends where the local symbols stand, the first one apart.
@@ -28,8 +38,7 @@ fn push_locals(order: &mut Vec<usize>, symbols: SymbolsNow<'_>) -> Result<(), Al
         ≡ order.old.items ++ places_where is_symbol_local 1 (drop 1 (symbols_now symbols.entry))) }
 {
     for i in 1..symbols.len() {
-        let symbol = symbols.get(i);
-        if is_local(&symbol) {
+        if is_local(symbols, i) {
             order.push(i)?;
         }
     }
@@ -42,8 +51,7 @@ fn push_sought(order: &mut Vec<usize>, symbols: SymbolsNow<'_>) -> Result<(), Al
         ≡ order.old.items ++ places_where is_symbol_sought 1 (drop 1 (symbols_now symbols.entry))) }
 {
     for i in 1..symbols.len() {
-        let symbol = symbols.get(i);
-        if is_sought(&symbol) {
+        if is_sought(symbols, i) {
             order.push(i)?;
         }
     }

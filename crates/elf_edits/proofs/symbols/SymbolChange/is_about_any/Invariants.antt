@@ -1,9 +1,0 @@
-use Rattle.std.proofs.Common.{◌≡◌, drop}
-use Rattle.std.specs.List.{list_any}
-use Rattle.elf_image_symbol_edits.specs.Loan.{symbols_now}
-use Rattle.elf_edits.specs.SymbolChanges.{is_changed}
-use Rattle.elf_edits.proofs.symbols.SymbolChange.is_about_any.Given as goal
-
--- it is about no symbol so far
-abbrev pub invariant-loop-i : goal.invariant-loop-i
-invariant-loop-i l = list_any (is_changed l.self) (drop l.i (symbols_now l.symbols)) ≡ list_any (is_changed l.self) (drop 1 (symbols_now l.symbols))
