@@ -19,7 +19,7 @@ use elf_image::Builder;
 use elf_layout_moves::marks::marks_of;
 use elf_layout_moves::resizing::Resizing;
 use elf_layout_plan::laws::{
-    fixed_sections_stay, plans_are_apart, plans_are_placed, plans_show_notes,
+    fixed_sections_stay, plans_are_apart, plans_are_one, plans_are_placed, plans_show_notes,
 };
 use elf_layout_plan::{LayoutFault, Plan, PlanParts, read_source};
 use elf_layout_segments::anchors::{AnchorAt, anchors, headers_needed, kept_end};
@@ -166,8 +166,8 @@ pub(crate) fn plan_from<'data>(
     plan_of(alloc, &Resizing { read, image, sizes })
 }
 
-// A plan of an image, of which it is known that the image was read and edited: so it is placed as the read rules ask, apart in
-// memory, and shows the notes.
+// A plan of an image, of which it is known that the image was read and edited: so it is the only one, placed as the read rules ask,
+// apart in memory, and shows the notes.
 pub(crate) fn promised(image: &Builder<'_>, plan: Plan) -> Plan
     requires { IsPlan (resized image.now) plan }
     ensures same { result ≡ plan }
@@ -175,6 +175,7 @@ pub(crate) fn promised(image: &Builder<'_>, plan: Plan) -> Plan
 {
     fixed_sections_stay();
     plans_are_apart();
+    plans_are_one();
     plans_are_placed();
     plans_show_notes();
     let _source = image.source();

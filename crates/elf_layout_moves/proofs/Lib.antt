@@ -1,3 +1,4 @@
+pub mod BlocksTold
 pub mod ForCallers
 pub mod ImageSteps
 pub mod ImagesWithSizes
@@ -5,8 +6,10 @@ pub mod Marking
 pub mod MovedLaws
 pub mod MoverLaws
 pub mod OldOrder
+pub mod OneOrder
 pub mod OrderSteps
 pub mod RangeLaws
 pub mod RangeSteps
+pub mod SameMarks
 pub mod SomeTwo
 pub mod TwoPlaces

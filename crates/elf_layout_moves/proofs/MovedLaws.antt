@@ -12,7 +12,7 @@ use Rattle.elf_format.specs.Ranges.{range}
 use Rattle.elf_format.specs.declared.range.Range.{Range}
 use Rattle.elf_format.specs.Records.{file_header_size}
 use Rattle.elf_format.specs.declared.records.SegmentHeader.{SegmentHeader}
-use Rattle.elf_layout_plan.specs.Blocks.{Block, earlier_moves, has_cause, have_causes, is_block_of, later_moves, overlaps, some_two, stay_apart}
+use Rattle.elf_layout_plan.specs.Blocks.{Block, are_moving, earlier_moves, has_cause, have_causes, is_block_of, later_moves, moving_sections, overlaps, some_two, stay_apart}
 use Rattle.elf_image.specs.Kept.{kept_from, kept_sections}
 use Rattle.elf_layout_plan.specs.Memory.{Resized, SizedSection, block_in_load, blocks_with, edge_blocks, fixed_block, header_blocks, loaded_over, section_block, sized_from, sized_sections, table_at_read, table_load, table_size_with, takes_memory}
 use Rattle.elf_layout_plan.specs.Rounds.{are_in_old_order, do_move, sections_at}
@@ -151,6 +151,14 @@ pub same_apart : (blocks : List Block) (found moved : List ℕ) → ((p : ℕ) �
 same_apart blocks found moved same apart =
     let tests : is_one_of found ≡ is_one_of moved = fun_ext same in
     ap (λ (f : ℕ → Bool). not (some_two (λ a b. overlaps a b && not (is_some_and f a.section) && not (is_some_and f b.section)) blocks)) tests ∙ apart
+
+-- these are the sections whose blocks move
+pub same_moving : (blocks : List Block) (found moved : List ℕ) → ((p : ℕ) → is_one_of found p ≡ is_one_of moved p) → moved ≡ moving_sections blocks → are_moving blocks found ≡ true
+same_moving blocks found moved same is =
+    let alike : (p : ℕ) → is_one_of found p ≡ is_one_of (moving_sections blocks) p = λ p. same p ∙ ap (λ (l : List ℕ). is_one_of l p) is in
+    and_from (list_all (is_one_of (moving_sections blocks)) found) (list_all (is_one_of found) (moving_sections blocks))
+    (all_of (is_one_of (moving_sections blocks)) found (λ p among. sym (alike p) ∙ among))
+    (all_of (is_one_of found) (moving_sections blocks) (λ p among. alike p ∙ among))
 
 -- ## Images with new sizes
 

@@ -1,20 +1,22 @@
 -- The blocks that move: those that are stray, and those that the walk marks among the others.
 use Rattle.std.proofs.Common.{◌≡◌, ◌≢◌, ℕ, zero, suc, ◌+◌, ◌<◌, ◌⊎◌, List, [], ◌∷◌, ◌++◌, Bool, true, false, not, ◌&&◌, ◌||◌, add-one, append_assoc, drop, length, refl, sym, ap, ◌∙◌, subst, inl, inr, get_or, arith}
-use Rattle.std.specs.Prelude.{IsSome, None, Option, Some, slice_get, nat_lt, nat_le, ◌==◌, unwrap_or, All, Contains, filter, IsPermutation}
+use Rattle.std.specs.Prelude.{IsSome, None, Option, Some, slice_get, nat_lt, nat_le, ◌==◌, All, Contains, filter, IsPermutation}
 use Rattle.std.specs.List.{cons_option, filter_map, list_all, list_any}
-use Rattle.std.proofs.lemmas.Bool.{and_cases, and_from, and_left, and_parts, and_right, both_ways, cases_Bool, cases_eq, cases_lt, cases_order, eq-eqb, eqb-true, le-leb, lt-ltb, ne_eqb, not-true, not_from_false, not_from_true, or_left, or_right}
+use Rattle.std.proofs.lemmas.Bool.{and_cases, and_from, and_left, and_parts, and_right, both_ways, cases_Bool, cases_eq, eq-eqb, eqb-true, le-leb, lt-ltb, ne_eqb, not-true, not_from_false, not_from_true, or_left, or_right}
 use Rattle.std.proofs.lemmas.List.Elements.{All-contains, All-contains_itself, All-filter, filter_passes}
 use Rattle.std.proofs.lemmas.List.Folds.{Any-from_list_any, list_any_at}
 use Rattle.std.proofs.lemmas.List.Sorted.{All-permutation, IsPermutation-append_right, IsPermutation-filter_both, IsPermutation-refl, IsPermutation-trans}
 use Rattle.std.proofs.lemmas.Option.{get_or_from_slice_get, same_Some, slice_get-get_or, slice_get_within}
 use Rattle.elf_layout_plan.specs.declared.block.Block.{Block as Ranged}
+use Rattle.elf_layout_plan.specs.Marks.{marked_of}
 use Rattle.elf_layout_plan.specs.MovedBlocks.{HasStuck, MoveForCause, StayApart}
 use Rattle.elf_format.specs.Options.{is_one_of}
-use Rattle.elf_layout_plan.specs.Blocks.{Block, earlier_moves, has_cause, have_causes, is_block_of, is_block_of_some, is_earlier, is_kept_out, is_stuck, is_stuck_pair, later_moves, overlaps, some_two, stay_apart}
+use Rattle.elf_layout_plan.specs.Blocks.{Block, earlier_moves, has_cause, has_load, have_causes, in_order, is_block_of, is_block_of_some, is_earlier, is_kept_out, is_stuck, is_stuck_pair, later_moves, movers, movers_in_order, moves_as_stray, overlaps, some_two, stay_apart}
 use Rattle.elf_layout_plan.specs.declared.fault.LayoutFault.{LayoutFault}
 use Rattle.elf_layout_plan.specs.declared.fault.LayoutFault.TheVariants as faults
-use Rattle.elf_layout_moves.specs.BlockSteps.{AreClear, AreMovers, AreOrdered, AreRanges, IsStuckFault, IsWhole, has_load, moves_as_stray, marked_of}
-use Rattle.elf_layout_moves.proofs.OrderSteps.{by_rest}
+use Rattle.elf_layout_moves.specs.BlockSteps.{AreClear, AreMovers, AreOrdered, AreRanges, AreTold, IsStuckFault, IsWhole}
+use Rattle.elf_layout_plan.proofs.ForCallers.ApartLists.{Each, each-from}
+use Rattle.elf_layout_moves.proofs.OneOrder.{in_order_is, one_is_earlier}
 use Rattle.elf_layout_moves.proofs.RangeLaws.{has_cause_there, marked_can, none_stuck_there, stay_apart_there}
 use Rattle.elf_layout_moves.proofs.SomeTwo.{holds_of_two, some_two-IsPermutation, some_two-part, some_two-without}
 
@@ -84,26 +86,6 @@ module _ (blocks : List Block) (ranges : List Ranged) (marks : List Bool) (order
   }
 
 -- ## Stray blocks
-
--- of two blocks the first is the earlier one, or the second is
-one_is_earlier : (x y : Block) → (is_earlier x y ≡ true) ⊎ (is_earlier y x ≡ true)
-one_is_earlier x y =
-    let xs = unwrap_or x.section 0 in
-    let ys = unwrap_or y.section 0 in
-    elim (cases_order x.start y.start) [
-      | inl same ↦ elim (cases_order x.size y.size) [
-        | inl also ↦ elim (cases_lt ys xs) [
-          | inl less ↦ inr (by_rest y.start x.start (nat_lt y.size x.size || y.size == x.size && nat_le ys xs) (sym same) (by_rest y.size x.size (nat_le ys xs) (sym also) (le-leb ys xs (omega (arith, less)))))
-          | inr more ↦ inl (by_rest x.start y.start (nat_lt x.size y.size || x.size == y.size && nat_le xs ys) same (by_rest x.size y.size (nat_le xs ys) also (le-leb xs ys more)))
-        ]
-        | inr (inl less) ↦ inl (by_rest x.start y.start (nat_lt x.size y.size || x.size == y.size && nat_le xs ys) same
-            (or_left (nat_lt x.size y.size) (x.size == y.size && nat_le xs ys) (lt-ltb x.size y.size less)))
-        | inr (inr more) ↦ inr (by_rest y.start x.start (nat_lt y.size x.size || y.size == x.size && nat_le ys xs) (sym same)
-            (or_left (nat_lt y.size x.size) (y.size == x.size && nat_le ys xs) (lt-ltb y.size x.size more)))
-      ]
-      | inr (inl less) ↦ inl (or_left (nat_lt x.start y.start) (x.start == y.start && (nat_lt x.size y.size || x.size == y.size && nat_le xs ys)) (lt-ltb x.start y.start less))
-      | inr (inr more) ↦ inr (or_left (nat_lt y.start x.start) (y.start == x.start && (nat_lt y.size x.size || y.size == x.size && nat_le ys xs)) (lt-ltb y.start x.start more))
-    ]
 
 -- a stray block and the start of a loaded segment overlap
 stray_overlaps : (o c : Block) → o.is_stray ≡ true → c.is_load_start ≡ true → (overlaps o c ≡ true) ⊎ (overlaps c o ≡ true)
@@ -243,6 +225,19 @@ module _ (blocks sorted : List Block) (loaded : Bool) (told : loaded ≡ has_loa
   others_fault faults.Overlap stuck = others_stuck stuck
   others_fault faults.NumberTooLarge never = never
   others_fault faults.Memory given = given
+
+  each_other : (bs : List Block) → All (Contains blocks) bs → Each (Contains blocks) bs
+  each_other bs all = each-from (Contains blocks) bs (λ k x at. at_place (Contains blocks) bs k x all at)
+
+  -- the stray blocks, and what moves of the others in their order, are the blocks that move
+  pub all_chosen : AreTold blocks → AreOrdered sorted → outs ++ movers_in_order sorted ≡ movers blocks
+  unfolding movers
+  all_chosen apart ordered =
+      let these : All (Contains blocks) others = All-filter (λ b. not (moves_as_stray loaded b)) (Contains blocks) blocks (All-contains_itself blocks) in
+      let one : sorted ≡ in_order others = in_order_is (Contains blocks) apart others sorted same ordered (each_other others these)
+      (each_other sorted (All-permutation (Contains blocks) others sorted same these)) in
+      ap (λ (bs : List Block). outs ++ movers_in_order bs) one
+      ∙ ap (λ (t : Bool). filter (λ b. moves_as_stray t b) blocks ++ movers_in_order (in_order (filter (λ b. not (moves_as_stray t b)) blocks))) told
 
   -- a stray block is one of the image's, where there is a loaded segment
   out_is : (k : ℕ) (o : Block) → slice_get outs k ≡ Some o → Contains blocks o × (o.is_stray ≡ true) × (has_load blocks ≡ true)

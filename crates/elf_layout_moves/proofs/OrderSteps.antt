@@ -1,6 +1,6 @@
 -- Blocks that were sorted stand in order.
 use Rattle.std.proofs.Common.{◌≡◌, ℕ, ◌<◌, List, Bool, true, false, ◌&&◌, ◌||◌, sym, subst, inl, inr, get_or, arith}
-use Rattle.std.specs.Prelude.{nat_lt, nat_le, ◌==◌, unwrap_or, IsSortedByKey}
+use Rattle.std.specs.Prelude.{nat_lt, nat_le, ◌==◌, IsSortedByKey}
 use Rattle.std.specs.Cmp.{IsTotalOrder}
 use Rattle.std.specs.declared.cmp.Ordering.{Ordering}
 use Rattle.std.specs.declared.cmp.Ordering.TheVariants.{Less, Equal, Greater}
@@ -9,7 +9,7 @@ use Rattle.std.proofs.lemmas.Bool.{and_from, cases_order, eq-eqb, le-leb, le-ltb
 use Rattle.std.proofs.lemmas.Cmp.{nat_cmp_total, on_total, then_total}
 use Rattle.std.proofs.lemmas.List.Sorted.{ranks_by, sorted_far}
 use Rattle.std.proofs.lemmas.Option.{get_or_from_slice_get, slice_get_within}
-use Rattle.elf_layout_plan.specs.Blocks.{Block}
+use Rattle.elf_layout_plan.specs.Blocks.{Block, rank}
 use Rattle.elf_layout_moves.specs.BlockSteps.{AreOrdered}
 
 -- three numbers, the first of which counts most
@@ -94,7 +94,7 @@ less_means x y h = elim (cases_order x.0 y.0) [
 -- ## Blocks
 
 abbrev pub key_of : Block → Three
-key_of b = (b.start, b.size, unwrap_or b.section 0)
+key_of b = (b.start, b.size, rank b)
 
 pub ordered_from_sort : (blocks : List Block) → IsSortedByKey key_of by_three blocks → AreOrdered blocks
 ordered_from_sort blocks sorted i j x y less at_i at_j =

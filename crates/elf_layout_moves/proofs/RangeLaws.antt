@@ -1,29 +1,32 @@
 -- What the walk over ranges says of the blocks in their order.
 use Rattle.std.proofs.Common.{◌≡◌, ◌≢◌, ℕ, ◌+◌, ◌<◌, ◌≤◌, ◌⊎◌, List, Bool, true, false, not, ◌&&◌, ◌||◌, length, get_or, refl, sym, ap, ◌∙◌, subst, inl, inr, arith}
-use Rattle.std.specs.Prelude.{Some, slice_get, nat_lt, nat_le, ◌==◌, unwrap_or}
-use Rattle.std.proofs.lemmas.Bool.{and_from, and_left, and_parts, and_right, cases_Bool, cases_lt, eq-eqb, eqb-true, false_from_ne_true, le-leb, lt-ltb, ltb-true, not-true, or_cases, or_from, or_left, or_right}
+use Rattle.std.specs.Prelude.{Some, slice_get, nat_lt, nat_le, ◌==◌}
+use Rattle.std.proofs.lemmas.Bool.{and_from, and_left, and_parts, and_right, cases_Bool, cases_lt, eq-eqb, eqb-true, false_from_ne_true, le-leb, le-ltb, lt-ltb, ltb-true, not-true, or_cases, or_from, or_left, or_right}
 use Rattle.std.proofs.lemmas.Option.{same_Some, slice_get-get_or, slice_get_cases, slice_get_within}
 use Rattle.elf_layout_plan.specs.declared.block.Block.{Block as Ranged}
+use Rattle.elf_layout_plan.specs.Marks.{marks}
+use Rattle.elf_layout_plan.specs.MovedBlocks as ranged
 use Rattle.elf_layout_plan.specs.MovedBlocks.{EarlierMoves, HasStuck, IsOrdered, LaterMoves, MoveForCause, Overlap, Pair, StayApart}
-use Rattle.elf_layout_plan.specs.Blocks.{Block, earlier_moves, has_cause, is_block_of, is_block_of_some, is_earlier, is_kept_out, is_stuck_pair, later_moves, overlaps, some_two}
+use Rattle.elf_layout_plan.specs.Blocks.{Block, earlier_moves, has_cause, is_block_of, is_block_of_some, is_earlier, is_kept_out, is_stuck_pair, later_moves, overlaps, rank, some_two}
 use Rattle.elf_layout_plan.specs.declared.fault.LayoutFault.{LayoutFault}
 use Rattle.elf_layout_plan.specs.declared.fault.LayoutFault.TheVariants as faults
 use Rattle.elf_layout_moves.specs.BlockSteps.{AreClear, AreOrdered, AreRanges, HasStuckFault, IsRangeOf, IsStuckFault}
+use Rattle.elf_layout_moves.proofs.SameMarks.{same_marks}
 use Rattle.elf_layout_moves.proofs.SomeTwo.{holds_of_two, none_of_two}
 
 -- ## Two blocks
 
 -- the first starts before the second, or with it and is no larger
 pub earlier_means : (x y : Block) → is_earlier x y ≡ true → (x.start < y.start) ⊎ (x.start ≡ y.start) × (x.size ≤ y.size)
-earlier_means x y h = elim (or_cases (nat_lt x.start y.start) (x.start == y.start && (nat_lt x.size y.size || x.size == y.size && nat_le (unwrap_or x.section 0) (unwrap_or y.section 0))) h) [
+earlier_means x y h = elim (or_cases (nat_lt x.start y.start) (x.start == y.start && (nat_lt x.size y.size || x.size == y.size && nat_le (rank x) (rank y))) h) [
   | inl less ↦ inl (ltb-true x.start y.start less)
   | inr same ↦
-      let parts = and_parts (x.start == y.start) (nat_lt x.size y.size || x.size == y.size && nat_le (unwrap_or x.section 0) (unwrap_or y.section 0)) same in
+      let parts = and_parts (x.start == y.start) (nat_lt x.size y.size || x.size == y.size && nat_le (rank x) (rank y)) same in
       inr (
         eqb-true x.start y.start parts.0,
-        elim (or_cases (nat_lt x.size y.size) (x.size == y.size && nat_le (unwrap_or x.section 0) (unwrap_or y.section 0)) parts.1) [
+        elim (or_cases (nat_lt x.size y.size) (x.size == y.size && nat_le (rank x) (rank y)) parts.1) [
           | inl less ↦ omega (arith, ltb-true x.size y.size less)
-          | inr as_large ↦ omega (arith, eqb-true x.size y.size (and_parts (x.size == y.size) (nat_le (unwrap_or x.section 0) (unwrap_or y.section 0)) as_large).0)
+          | inr as_large ↦ omega (arith, eqb-true x.size y.size (and_parts (x.size == y.size) (nat_le (rank x) (rank y)) as_large).0)
         ],
       )
 ]
@@ -158,6 +161,36 @@ module _ (blocks : List Block) (ranges : List Ranged) (ordered : AreOrdered bloc
         let less : n < m = omega (arith, more, apart) in
         inr (overlapping n m b a less at_n at_m (past_from_back b a (ordered n m b a less at_n at_m) (clear_of_each_other blocks m n a b clear at_m at_n) over))
   ]
+
+  -- ranges overlap just where their blocks do
+  same_overlap : (i j : ℕ) (x y : Block) (a b : Ranged) → i < j → slice_get blocks i ≡ Some x → slice_get blocks j ≡ Some y → slice_get ranges i ≡ Some a → slice_get ranges j ≡ Some b
+      → nat_lt b.start (a.start + a.size) ≡ overlaps x y
+  same_overlap i j x y a b less at_x at_y at_a at_b =
+      let ia = are.each i x a at_x at_a in
+      let ib = are.each j y b at_y at_b in
+      elim (cases_lt b.start (a.start + a.size)) [
+        | inl within ↦
+            let past : y.start < x.start + x.size = (ia.reaches j y less at_y).0 (omega (arith, within, ia.start, ib.start)) in
+            lt-ltb b.start (a.start + a.size) within ∙ sym (overlaps_here x y (ordered i j x y less at_x at_y) past)
+        | inr beyond ↦ le-ltb b.start (a.start + a.size) beyond ∙ sym (false_from_ne_true (overlaps x y) (λ over.
+            let past : y.start < x.start + x.size = past_from_overlaps x y (clear_of_each_other blocks i j x y clear at_x at_y) over in
+            let within : j < i + a.size = (ia.reaches j y less at_y).1 past in
+            omega (arith, within, beyond, ia.start, ib.start)))
+      ]
+
+  -- so the marks of ranges are those of their blocks
+  pub range_marks : ranged.marks_of ranges ≡ marks earlier_moves later_moves blocks
+  range_marks = same_marks ranged.earlier_moves ranged.later_moves earlier_moves later_moves ranges blocks are.as_many (λ i j a b x y less at_a at_b at_x at_y.
+      let over = same_overlap i j x y a b less at_x at_y at_a at_b in
+      let first : a.priority ≡ x.priority = (are.each i x a at_x at_a).priority in
+      let second : b.priority ≡ y.priority = (are.each j y b at_y at_b).priority in (
+        ap (λ (o : Bool). o && nat_lt 0 a.priority && nat_le b.priority a.priority) over
+            ∙ ap (λ (n : ℕ). overlaps x y && nat_lt 0 n && nat_le b.priority n) first
+            ∙ ap (λ (n : ℕ). overlaps x y && nat_lt 0 x.priority && nat_le n x.priority) second,
+        ap (λ (o : Bool). o && nat_lt a.priority b.priority) over
+            ∙ ap (λ (n : ℕ). overlaps x y && nat_lt n b.priority) first
+            ∙ ap (λ (n : ℕ). overlaps x y && nat_lt x.priority n) second,
+      ))
 
   -- ## Two that can't move
 

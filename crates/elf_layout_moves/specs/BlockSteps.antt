@@ -1,12 +1,11 @@
 -- How the sections that move are found: what the steps hand to each other.
-use Rattle.std.specs.Prelude.{ℕ, ◌+◌, ◌≡◌, ◌<◌, ◌↔◌, ◌⊎◌, ◌&&◌, List, [], ◌∷◌, Bool, Option, None, Some, IsSome, Contains, length, slice_get, true, false, if◌then◌else◌}
-use Rattle.std.specs.List.{list_any}
+use Rattle.std.specs.Prelude.{ℕ, ◌+◌, ◌≡◌, ◌<◌, ◌↔◌, ◌⊎◌, List, Option, None, Some, IsSome, Contains, length, slice_get, true, false}
 use Rattle.elf_layout_plan.specs.declared.block.Block.{Block as Ranged}
 use Rattle.elf_layout_plan.specs.declared.fault.LayoutFault.{LayoutFault}
 use Rattle.elf_layout_plan.specs.declared.fault.LayoutFault.TheVariants as faults
 use Rattle.elf_layout_plan.specs.MovedBlocks.{HasStuck}
 use Rattle.elf_format.specs.Image.{Image, ImageSection}
-use Rattle.elf_layout_plan.specs.Blocks.{Block, has_cause, is_block_of_some, is_earlier, is_stuck, stay_apart}
+use Rattle.elf_layout_plan.specs.Blocks.{Block, has_cause, is_block_of_some, is_earlier, is_stuck, rank, stay_apart}
 
 -- what is known of each block of an image: only a section's moves, and the start of a loaded segment is no section
 pub record IsWhole (b : Block) : Type 0 where
@@ -14,19 +13,10 @@ pub record IsWhole (b : Block) : Type 0 where
   pub placed : b.is_load_start ≡ true → b.is_stray ≡ false
   pub fixed : b.is_load_start ≡ true → b.priority ≡ 0
 
--- some loaded segment starts at one of the blocks
-abbrev pub has_load : List Block → Bool
-has_load blocks = list_any (λ b. b.is_load_start) blocks
-
--- a stray block, where there is a loaded segment
-abbrev pub moves_as_stray : Bool → Block → Bool
-moves_as_stray loaded b = loaded && b.is_stray
-
--- those that are marked
-abbrev pub marked_of : List Block → List Bool → List Block
-marked_of [] marks = []
-marked_of (b ∷ bs) [] = []
-marked_of (b ∷ bs) (m ∷ ms) = if m then b ∷ marked_of bs ms else marked_of bs ms
+-- two of the blocks that start together and have one size and one rank are the same
+abbrev pub AreTold : List Block → Type 0
+AreTold blocks =
+    (x y : Block) → Contains blocks x → Contains blocks y → x.start ≡ y.start → x.size ≡ y.size → rank x ≡ rank y → x ≡ y
 
 -- The blocks that move: each for a cause, and once those of these sections move the others are apart.
 pub record AreMovers (blocks movers : List Block) : Type 0 where

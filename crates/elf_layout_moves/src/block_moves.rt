@@ -1,10 +1,11 @@
 // Which blocks of memory move so that no two of the others overlap.
 ghost use Rattle.std.specs.Prelude.{◌≡◌, ◌==◌, ◌<◌, ◌↔◌, not, false, length, filter, All, IfErr, IfOk, IsErr, IsPermutation, IsTrue, OnOk, map, slice_get};
 ghost use Rattle.std.specs.List.{filter_map, list_any};
-ghost use Rattle.elf_layout_plan.specs.MovedBlocks.{HasStuck, IsOrdered, MoveForCause, StayApart};
+ghost use Rattle.elf_layout_plan.specs.MovedBlocks.{HasStuck, IsOrdered, MoveForCause, StayApart, marks_of};
 ghost use Rattle.elf_layout_plan.specs.declared.fault.LayoutFault.TheVariants.{Overlap};
-ghost use Rattle.elf_layout_plan.specs.Blocks.{Block as Taken, has_cause, have_causes, is_stuck, stay_apart};
-ghost use Rattle.elf_layout_moves.specs.BlockSteps.{AreClear, AreMovers, AreOrdered, AreRanges, HasStuckFault, IsRangeOf, IsStuckFault, IsWhole, has_load, moves_as_stray, marked_of};
+ghost use Rattle.elf_layout_plan.specs.Marks.{marked_of};
+ghost use Rattle.elf_layout_plan.specs.Blocks.{Block as Taken, has_cause, has_load, have_causes, is_stuck, movers, movers_in_order, moves_as_stray, moving_sections, stay_apart};
+ghost use Rattle.elf_layout_moves.specs.BlockSteps.{AreClear, AreMovers, AreOrdered, AreRanges, AreTold, HasStuckFault, IsRangeOf, IsStuckFault, IsWhole};
 
 use crate::blocks::MemoryBlock;
 use elf_layout_plan::{Block, LayoutFault, Steps, walk_blocks};
@@ -56,12 +57,12 @@ fn inside_blocks(
         .collect(alloc)
 }
 
-// Puts blocks in the order of their starts, then of their sizes, then of their sections.
+// Puts blocks in the order of their starts, then of their sizes, then of their ranks.
 fn put_in_order(blocks: &mut [MemoryBlock])
     ensures ordered { AreOrdered blocks.new }
     ensures same { IsPermutation blocks.old blocks.new }
 {
-    blocks.sort_unstable_by_key(|b| (b.start, b.size, b.section.unwrap_or(0)));
+    blocks.sort_unstable_by_key(|b| (b.start, b.size, b.rank()));
 }
 
 // The range of the block at a place of the order, by places in place of addresses: it ends before the first block that starts
@@ -105,6 +106,7 @@ fn walk_on<L: Ledger>(blank: Blank, ranges: &[Block], marks: &mut [bool]) -> Res
     ensures fault { IfErr result (λ fault. fault ≡ Overlap) }
     ensures apart { OnOk result (StayApart ranges.now marks.new) }
     ensures cause { OnOk result (MoveForCause ranges.now marks.new) }
+    ensures chosen { OnOk result (marks.new ≡ marks_of ranges.now) }
     ensures marks { length marks.new ≡ length marks.old }
 {
     let mut steps = Steps::<L>::new(blank);
@@ -117,6 +119,7 @@ fn marks(alloc: Global, ranges: &[Block]) -> Result<Vec<bool>, LayoutFault>
     ensures free { OnOk result (¬ HasStuck ranges.now) }
     ensures apart { IfOk result (λ marks. StayApart ranges.now marks.items) }
     ensures cause { IfOk result (λ marks. MoveForCause ranges.now marks.items) }
+    ensures chosen { IfOk result (λ marks. marks.items ≡ marks_of ranges.now) }
     ensures many { IfOk result (λ marks. length marks.items ≡ length ranges.now) }
     ensures fault { IfErr result (HasStuckFault ranges.now) }
 {
@@ -148,6 +151,7 @@ fn walk_in_order(alloc: Global, sorted: &[MemoryBlock]) -> Result<Vec<MemoryBloc
     requires ordered { AreOrdered sorted.now }
     requires clear { AreClear sorted.now }
     ensures movers { IfOk result (λ movers. AreMovers sorted.now movers.items) }
+    ensures chosen { IfOk result (λ found. found.items ≡ movers_in_order sorted.now) }
     ensures fault { IfErr result (IsStuckFault sorted.now) }
 {
     let ranges = ranges(alloc, sorted)?;
@@ -173,8 +177,10 @@ fn others_in_order(
 
 // The blocks that move, so that no two of the others overlap: the stray ones, and what the walk marks of the others.
 fn movers_of(alloc: Global, blocks: &[MemoryBlock]) -> Result<Vec<MemoryBlock>, LayoutFault>
-    requires { All IsWhole blocks.now }
+    requires whole { All IsWhole blocks.now }
+    requires told { AreTold blocks.now }
     ensures movers { IfOk result (λ movers. AreMovers blocks.now movers.items) }
+    ensures chosen { IfOk result (λ found. found.items ≡ movers blocks.now) }
     ensures fault { IfErr result (IsStuckFault blocks.now) }
 {
     let loaded = is_some_load(blocks);
@@ -200,9 +206,11 @@ pub(crate) fn moved_positions(
     alloc: Global,
     blocks: &[MemoryBlock],
 ) -> Result<Vec<usize>, LayoutFault>
-    requires { All IsWhole blocks.now }
+    requires whole { All IsWhole blocks.now }
+    requires told { AreTold blocks.now }
     ensures causes { IfOk result (λ moved. IsTrue (have_causes blocks.now moved.items)) }
     ensures apart { IfOk result (λ moved. IsTrue (stay_apart moved.items blocks.now)) }
+    ensures chosen { IfOk result (λ moved. moved.items ≡ moving_sections blocks.now) }
     ensures free { OnOk result (is_stuck blocks.now ≡ false) }
     ensures fault { IfErr result (IsStuckFault blocks.now) }
 {

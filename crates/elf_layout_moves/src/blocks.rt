@@ -63,6 +63,25 @@ impl Model for MemoryBlock {
     } };
 }
 
+impl MemoryBlock {
+    ghost use Rattle.std.specs.Prelude.{◌≡◌};
+    ghost use Rattle.elf_layout_plan.specs.Blocks.{rank};
+
+    /// How blocks come that start together and have one size: the starts of loaded segments, then what is no section, then
+    /// sections by their positions. Takes no memory.
+    pub fn rank(&self) -> u128
+        ensures { result ≡ rank self.now }
+    {
+        if self.is_load_start {
+            return 0;
+        }
+        match self.section {
+            None => 1,
+            Some(position) => position as u128 + 2,
+        }
+    }
+}
+
 // A block that never moves and is no section.
 fn fixed(start: u128, size: u128) -> MemoryBlock
     ensures { result ≡ fixed_block start size }

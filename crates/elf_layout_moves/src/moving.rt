@@ -1,7 +1,7 @@
 ghost use Rattle.std.specs.Prelude.{◌≡◌, IfErr, IfOk, IsTrue, OnOk, false};
 ghost use Rattle.elf_layout_plan.specs.Plan.{resized};
 ghost use Rattle.elf_layout_plan.specs.Refusals.{IsStuckBy, sizes_of_image};
-ghost use Rattle.elf_layout_plan.specs.Rounds.{do_move, is_stuck_with};
+ghost use Rattle.elf_layout_plan.specs.Rounds.{are_chosen, do_move, is_stuck_with};
 
 use crate::block_moves::moved_positions;
 use crate::blocks::blocks_of;
@@ -22,6 +22,8 @@ pub fn find_move_sections(
     requires { sizes.now ≡ sizes_of_image image.now }
     ensures found { IfOk result (λ moved.
         IsTrue (do_move (resized image.now) added moved.items)) }
+    ensures chosen { IfOk result (λ moved.
+        IsTrue (are_chosen (resized image.now) added moved.items)) }
     ensures free { OnOk result (is_stuck_with (resized image.now) added ≡ false) }
     ensures fault { IfErr result (IsStuckBy image.now added) }
 {
@@ -41,6 +43,7 @@ pub fn find_moved(
     added: usize,
 ) -> Result<Vec<usize>, LayoutFault>
     ensures found { IfOk result (λ moved. IsTrue (do_move r.now added moved.items)) }
+    ensures chosen { IfOk result (λ moved. IsTrue (are_chosen r.now added moved.items)) }
     ensures free { OnOk result (is_stuck_with r.now added ≡ false) }
     ensures fault { IfErr result (IsStuckBy r.now.image added) }
 {

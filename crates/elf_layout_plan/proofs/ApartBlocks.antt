@@ -1,13 +1,13 @@
 -- Blocks that stay: no two of them share an address.
 use Rattle.std.proofs.Common.{◌≡◌, ℕ, ◌+◌, ◌<◌, ◌≤◌, Bool, true, false, not, ◌&&◌, ◌||◌, ◌⊎◌, List, [], ◌∷◌, max, refl, sym, ap, ◌∙◌, inl, inr, arith}
-use Rattle.std.specs.Prelude.{◌==◌, nat_le, nat_lt, unwrap_or}
+use Rattle.std.specs.Prelude.{◌==◌, nat_le, nat_lt}
 use Rattle.std.specs.List.{list_all, list_any}
 use Rattle.std.proofs.lemmas.Bool.{and_cases, and_from, and_parts, cases_lt, cases_order, false≢true, lt-ltb, ltb-false, not-true, true≢false}
 use Rattle.std.proofs.lemmas.Bool.Decides.{nat_tests}
 use Rattle.elf_format.specs.declared.range.Range.{Range}
 use Rattle.elf_format.specs.Ranges.{all_apart, apart, end_of, range}
 use Rattle.elf_layout_plan.specs.Added.{greatest}
-use Rattle.elf_layout_plan.specs.Blocks.{Block, is_block_of_some, is_earlier, is_kept_out, overlaps, some_two, stay_apart}
+use Rattle.elf_layout_plan.specs.Blocks.{Block, is_block_of_some, is_earlier, is_kept_out, overlaps, rank, some_two, stay_apart}
 use Rattle.elf_layout_plan.proofs.ApartLists.{Each, Pairs, all-at, all-from, each-more, none-at}
 use Rattle.elf_format.proofs.ForCallers.{apart-before, apart-behind}
 
@@ -99,7 +99,7 @@ earlier_or s z n t y m = elim (cases_order s t) [
 
 one_earlier : (a b : Block) → (is_earlier a b ≡ true) ⊎ (is_earlier b a ≡ true)
 unfolding earlier_number
-one_earlier a b = earlier_or a.start a.size (unwrap_or a.section 0) b.start b.size (unwrap_or b.section 0)
+one_earlier a b = earlier_or a.start a.size (rank a) b.start b.size (rank b)
 
 -- an earlier block that doesn't overlap ends by the start of the later one, and neither is kept out by the other
 earlier_clear : (a b : Block) → is_earlier a b ≡ true → overlaps a b ≡ false → (a.start + a.size ≤ b.start) × (is_kept_out a b ≡ false)
@@ -119,7 +119,7 @@ neither-apart a b m n h less_a less_b = elim (one_earlier a b) [
 
 -- a block that begins before the other ends by its start
 pub neither-before : (a b : Block) → Neither overlaps a b → a.start < b.start → a.start + a.size ≤ b.start
-neither-before a b h less = (earlier_clear a b (ap (λ c. c || a.start == b.start && (nat_lt a.size b.size || a.size == b.size && nat_le (unwrap_or a.section 0) (unwrap_or b.section 0))) (lt-ltb a.start b.start less)) h.0).0
+neither-before a b h less = (earlier_clear a b (ap (λ c. c || a.start == b.start && (nat_lt a.size b.size || a.size == b.size && nat_le (rank a) (rank b))) (lt-ltb a.start b.start less)) h.0).0
 
 -- a stray block overlaps the start of each loaded segment
 pub neither-stray : (a b : Block) → Neither overlaps a b → a.is_load_start ≡ true → b.is_stray ≡ true → ⊥

@@ -51,7 +51,7 @@ edges_no_section (p ∷ ps) = (refl, (refl, (refl, edges_no_section ps)))
 -- ## Causes
 
 -- of two blocks, in one order or the other, one has a fact
-some_two-has : (test : Block → Block → Bool) (P : Block → Type 0) → ((a b : Block) → test a b ≡ true → P a ⊎ P b) → (bs : List Block) → some_two test bs ≡ true → Some_in P bs
+pub some_two-has : (test : Block → Block → Bool) (P : Block → Type 0) → ((a b : Block) → test a b ≡ true → P a ⊎ P b) → (bs : List Block) → some_two test bs ≡ true → Some_in P bs
 unfolding some_two
 some_two-has test P tells [] h = absurd (false≢true h)
 some_two-has test P tells (b ∷ bs) h = elim (or_cases (list_any (λ c. test b c || test c b) bs) (some_two test bs) h) [
@@ -77,7 +77,7 @@ some_two-has test P tells (b ∷ bs) h = elim (or_cases (list_any (λ c. test b 
 abbrev pub CanMove : ℕ → Block → Type 0
 CanMove n b = (is_block_of n b ≡ true) × (0 < b.priority)
 
-cause_of : (n : ℕ) (a b : Block) → (is_block_of n a && earlier_moves a b || is_block_of n b && later_moves a b) ≡ true → CanMove n a ⊎ CanMove n b
+pub cause_of : (n : ℕ) (a b : Block) → (is_block_of n a && earlier_moves a b || is_block_of n b && later_moves a b) ≡ true → CanMove n a ⊎ CanMove n b
 cause_of n a b h = elim (or_cases (is_block_of n a && earlier_moves a b) (is_block_of n b && later_moves a b) h) [
   | inl earlier ↦
       let parts = and_parts (is_block_of n a) (earlier_moves a b) earlier in

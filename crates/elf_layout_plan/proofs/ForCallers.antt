@@ -47,6 +47,8 @@ pub use Rattle.elf_layout_plan.proofs.PlacedStays
 pub use Rattle.elf_layout_plan.proofs.RoundLaws
 -- texts that stay: a list of texts has its own texts, and is itself with none left out
 pub use Rattle.elf_layout_plan.proofs.SameTexts
+-- an order by two numbers and something more
+pub use Rattle.elf_layout_plan.proofs.ThreeNumbers
 -- what a section is that is placed behind the segments, and which one is placed there
 pub use Rattle.elf_layout_plan.proofs.UnloadedParts
 -- the program headers that are written: which of them are loaded

@@ -1,4 +1,6 @@
+pub mod MarkSteps
 pub mod WalkSteps
+pub mod ThreeNumbers
 pub mod Computing
 pub mod HeaderLaws
 pub mod SameTexts
@@ -31,6 +33,7 @@ pub mod ApartStays
 pub mod ApartWritten
 pub mod ApartHeaders
 pub mod ApartPlans
+pub mod OnePlan
 pub mod ApartRead
 pub mod ApartNotes
 pub mod ApartShown

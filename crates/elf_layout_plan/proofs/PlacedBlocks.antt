@@ -1,11 +1,11 @@
 -- Blocks that stay share no address.
 use Rattle.std.proofs.Common.{◌≡◌, ◌≤◌, ◌<◌, ◌⊎◌, ℕ, ◌+◌, Bool, true, false, List, [], ◌∷◌, ◌++◌, map, refl, sym, inl, inr, arith}
-use Rattle.std.specs.Prelude.{◌&&◌, ◌||◌, not, ◌==◌, nat_le, nat_lt, unwrap_or, filter}
+use Rattle.std.specs.Prelude.{◌&&◌, ◌||◌, not, ◌==◌, nat_le, nat_lt, filter}
 use Rattle.std.specs.List.{flat_map, list_any}
 use Rattle.std.proofs.lemmas.Bool.{and_from, both_ways, cases_lt, cases_order, eq-eqb, false_from_ne_true, le-leb, lt-ltb, ltb-false, not-true, or_left, or_parts, or_right}
 use Rattle.elf_format.specs.declared.records.SegmentHeader.{SegmentHeader}
 use Rattle.elf_format.specs.File.{loads_of}
-use Rattle.elf_layout_plan.specs.Blocks.{Block, is_block_of_some, is_earlier, is_kept_out, overlaps, some_two, stay_apart}
+use Rattle.elf_layout_plan.specs.Blocks.{Block, is_block_of_some, is_earlier, is_kept_out, overlaps, rank, some_two, stay_apart}
 use Rattle.elf_layout_plan.specs.Memory.{Resized, SizedSection, blocks_with, edge_blocks, header_blocks, section_block, sized_sections, takes_memory}
 use Rattle.elf_layout_plan.proofs.PlacedLists.{Has, Pairs, any-from, append-left, append-right, filter-from, flat_map-from, map-from, pairs-across, pairs-left, pairs-more, pairs-none, pairs-right, pairs-two, pairs-unmap}
 
@@ -20,27 +20,27 @@ swap : (a b : Block) → KeepApart a b → KeepApart b a
 swap a b h = record { one = h.other; other = h.one }
 
 same_start : (a b : Block) → a.start ≡ b.start
-    → (nat_lt a.size b.size || a.size == b.size && nat_le (unwrap_or a.section 0) (unwrap_or b.section 0)) ≡ true → is_earlier a b ≡ true
+    → (nat_lt a.size b.size || a.size == b.size && nat_le (rank a) (rank b)) ≡ true → is_earlier a b ≡ true
 same_start a b e h =
-    or_right (nat_lt a.start b.start) (a.start == b.start && (nat_lt a.size b.size || a.size == b.size && nat_le (unwrap_or a.section 0)
-    (unwrap_or b.section 0)))
-    (and_from (a.start == b.start) (nat_lt a.size b.size || a.size == b.size && nat_le (unwrap_or a.section 0) (unwrap_or b.section 0))
+    or_right (nat_lt a.start b.start) (a.start == b.start && (nat_lt a.size b.size || a.size == b.size && nat_le (rank a)
+    (rank b)))
+    (and_from (a.start == b.start) (nat_lt a.size b.size || a.size == b.size && nat_le (rank a) (rank b))
     (eq-eqb a.start b.start e) h)
 
-same_size : (a b : Block) → a.start ≡ b.start → a.size ≡ b.size → nat_le (unwrap_or a.section 0) (unwrap_or b.section 0) ≡ true
+same_size : (a b : Block) → a.start ≡ b.start → a.size ≡ b.size → nat_le (rank a) (rank b) ≡ true
     → is_earlier a b ≡ true
-same_size a b e f h = same_start a b e (or_right (nat_lt a.size b.size) (a.size == b.size && nat_le (unwrap_or a.section 0) (unwrap_or b.section 0))
-    (and_from (a.size == b.size) (nat_le (unwrap_or a.section 0) (unwrap_or b.section 0)) (eq-eqb a.size b.size f) h))
+same_size a b e f h = same_start a b e (or_right (nat_lt a.size b.size) (a.size == b.size && nat_le (rank a) (rank b))
+    (and_from (a.size == b.size) (nat_le (rank a) (rank b)) (eq-eqb a.size b.size f) h))
 
 starts_first : (a b : Block) → a.start < b.start → is_earlier a b ≡ true
 starts_first a b less =
-    or_left (nat_lt a.start b.start) (a.start == b.start && (nat_lt a.size b.size || a.size == b.size && nat_le (unwrap_or a.section 0)
-    (unwrap_or b.section 0)))
+    or_left (nat_lt a.start b.start) (a.start == b.start && (nat_lt a.size b.size || a.size == b.size && nat_le (rank a)
+    (rank b)))
     (lt-ltb a.start b.start less)
 
 smaller_first : (a b : Block) → a.start ≡ b.start → a.size < b.size → is_earlier a b ≡ true
 smaller_first a b e less = same_start a b e
-    (or_left (nat_lt a.size b.size) (a.size == b.size && nat_le (unwrap_or a.section 0) (unwrap_or b.section 0)) (lt-ltb a.size b.size less))
+    (or_left (nat_lt a.size b.size) (a.size == b.size && nat_le (rank a) (rank b)) (lt-ltb a.size b.size less))
 
 -- one of two is the earlier one
 one_earlier : (a b : Block) → (is_earlier a b ≡ true) ⊎ (is_earlier b a ≡ true)
@@ -50,9 +50,9 @@ one_earlier a b = elim (cases_order a.start b.start) [
   | inl same ↦ elim (cases_order a.size b.size) [
     | inr (inl less) ↦ inl (smaller_first a b same less)
     | inr (inr more) ↦ inr (smaller_first b a (sym same) more)
-    | inl size ↦ elim (cases_lt (unwrap_or b.section 0) (unwrap_or a.section 0)) [
-      | inl less ↦ inr (same_size b a (sym same) (sym size) (le-leb (unwrap_or b.section 0) (unwrap_or a.section 0) (omega arith)))
-      | inr more ↦ inl (same_size a b same size (le-leb (unwrap_or a.section 0) (unwrap_or b.section 0) more))
+    | inl size ↦ elim (cases_lt (rank b) (rank a)) [
+      | inl less ↦ inr (same_size b a (sym same) (sym size) (le-leb (rank b) (rank a) (omega arith)))
+      | inr more ↦ inl (same_size a b same size (le-leb (rank a) (rank b) more))
     ]
   ]
 ]

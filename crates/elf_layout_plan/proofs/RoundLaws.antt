@@ -6,7 +6,7 @@ use Rattle.elf_layout_plan.specs.Blocks.{have_causes, stay_apart}
 use Rattle.elf_layout_plan.specs.Laws.{RoundsAreAsked, RoundsEnd}
 use Rattle.elf_layout_plan.specs.Memory.{Resized, blocks_with}
 use Rattle.elf_layout_plan.specs.Plan.{most_added}
-use Rattle.elf_layout_plan.specs.Rounds.{IsAsked, are_in_old_order, do_move, headers_needed, leads_to, sections_at}
+use Rattle.elf_layout_plan.specs.Rounds.{IsAsked, are_chosen, are_in_old_order, do_move, headers_needed, leads_to, sections_at}
 use Rattle.elf_layout_plan.proofs.HeaderLaws.{headers_needed-le}
 
 module _ (r : Resized) where
@@ -26,9 +26,10 @@ module _ (r : Resized) where
   unfolding leads_to
   asked_on looked [] next asked h = let P : ℕ → Type 0 = IsAsked r in subst P (eqb-true looked next h) asked
   asked_on looked (moved ∷ rounds) next asked h =
-      let front = and_parts (do_move r looked moved && nat_lt looked (headers_needed r moved)) (leads_to r (headers_needed r moved) rounds next) h in
-      let parts = and_parts (do_move r looked moved) (nat_lt looked (headers_needed r moved)) front.0 in
-      asked_on (headers_needed r moved) rounds next (needed_is_asked looked moved parts.0 parts.1) front.1
+      let front = and_parts (do_move r looked moved && are_chosen r looked moved && nat_lt looked (headers_needed r moved)) (leads_to r (headers_needed r moved) rounds next) h in
+      let parts = and_parts (do_move r looked moved && are_chosen r looked moved) (nat_lt looked (headers_needed r moved)) front.0 in
+      let move = (and_parts (do_move r looked moved) (are_chosen r looked moved) parts.0).0 in
+      asked_on (headers_needed r moved) rounds next (needed_is_asked looked moved move parts.1) front.1
 
   -- each round looks with more than the one before it, and none with more than there can be needed
   ends_on : (looked : ℕ) (before : List (List ℕ)) (next : ℕ) → looked ≤ most_added r.image → leads_to r looked before next ≡ true
@@ -39,8 +40,8 @@ module _ (r : Resized) where
       let P : ℕ → Type 0 = λ n. n ≤ most_added r.image in
       (subst P same fits, omega (arith, same))
   ends_on looked (moved ∷ rounds) next fits h =
-      let front = and_parts (do_move r looked moved && nat_lt looked (headers_needed r moved)) (leads_to r (headers_needed r moved) rounds next) h in
-      let more = ltb-true looked (headers_needed r moved) (and_parts (do_move r looked moved) (nat_lt looked (headers_needed r moved)) front.0).1 in
+      let front = and_parts (do_move r looked moved && are_chosen r looked moved && nat_lt looked (headers_needed r moved)) (leads_to r (headers_needed r moved) rounds next) h in
+      let more = ltb-true looked (headers_needed r moved) (and_parts (do_move r looked moved && are_chosen r looked moved) (nat_lt looked (headers_needed r moved)) front.0).1 in
       let rest = ends_on (headers_needed r moved) rounds next (headers_needed-le r moved) front.1 in
       (rest.0, omega (arith, more, rest.1))
 

@@ -1,11 +1,12 @@
 -- What the walk over blocks knows once it has come so far, and each of its steps.
-use Rattle.std.proofs.Common.{◌≡◌, ◌≢◌, ℕ, ◌+◌, ◌<◌, ◌≤◌, ◌⊎◌, List, [], ◌∷◌, Bool, true, false, Some, length, zero, suc, refl, sym, ap, ◌∙◌, subst, inl, inr, set, length-set, arith}
-use Rattle.std.specs.Prelude.{All, slice_get}
-use Rattle.std.proofs.lemmas.Bool.{cases_eq}
-use Rattle.std.proofs.lemmas.List.{get_or-set_same}
-use Rattle.std.proofs.lemmas.Option.{same_Some, slice_get-get_or, slice_get_within}
+use Rattle.std.proofs.Common.{◌≡◌, ◌≢◌, ℕ, ◌+◌, ◌<◌, ◌≤◌, ◌⊎◌, List, [], ◌∷◌, Bool, true, false, ◌&&◌, Some, length, zero, suc, refl, sym, ap, ◌∙◌, subst, inl, inr, set, length-set, get_or, arith}
+use Rattle.std.specs.Prelude.{All, nat_le, nat_lt, slice_get}
+use Rattle.std.proofs.lemmas.Bool.{and_from, and_left, and_right, cases_eq, le-leb, le-ltb, lt-ltb}
+use Rattle.std.proofs.lemmas.List.{get_or-set_other, get_or-set_same}
+use Rattle.std.proofs.lemmas.Option.{get_or_from_slice_get, same_Some, slice_get-get_or, slice_get_within}
 use Rattle.elf_layout_plan.specs.declared.block.Block.{Block}
-use Rattle.elf_layout_plan.specs.MovedBlocks.{EarlierMoves, HasStuck, IsApart, IsOrdered, IsStuck, LaterMoves, MoveForCause, Pair, StayApart, end_of}
+use Rattle.elf_layout_plan.specs.MovedBlocks.{EarlierMoves, HasStuck, IsApart, IsOrdered, IsStuck, LaterMoves, MoveForCause, Pair, StayApart, earlier_moves, end_of, later_moves, marks_of}
+use Rattle.elf_layout_plan.proofs.MarkSteps.{IsMarked, marking_ends, marking_on, marking_over, marking_starts}
 
 -- ## Marks
 
@@ -40,6 +41,27 @@ marked_before marks i k marked =
       | inr apart ↦ inr (sym (kept_elsewhere marks i k apart) ∙ marked)
     ]
 
+-- ## How two blocks meet
+
+apart_tests : (a b : Block) → IsApart a b → (earlier_moves a b ≡ false) × (later_moves a b ≡ false)
+apart_tests a b apart =
+    let past : nat_lt b.start (end_of a) ≡ false = le-ltb b.start (end_of a) apart in (
+      and_left (nat_lt b.start (end_of a) && nat_lt 0 a.priority) (nat_le b.priority a.priority) (and_left (nat_lt b.start (end_of a)) (nat_lt 0 a.priority) past),
+      and_left (nat_lt b.start (end_of a)) (nat_lt a.priority b.priority) past,
+    )
+
+earlier_tests : (a b : Block) → EarlierMoves a b → (earlier_moves a b ≡ true) × (later_moves a b ≡ false)
+earlier_tests a b m = (
+  and_from (nat_lt b.start (end_of a) && nat_lt 0 a.priority) (nat_le b.priority a.priority)
+      (and_from (nat_lt b.start (end_of a)) (nat_lt 0 a.priority) (lt-ltb b.start (end_of a) m.overlap) (lt-ltb 0 a.priority m.can))
+      (le-leb b.priority a.priority m.readily),
+  and_right (nat_lt b.start (end_of a)) (nat_lt a.priority b.priority) (le-ltb a.priority b.priority m.readily),
+)
+
+later_tests : (a b : Block) → LaterMoves a b → later_moves a b ≡ true
+later_tests a b m =
+    and_from (nat_lt b.start (end_of a)) (nat_lt a.priority b.priority) (lt-ltb b.start (end_of a) m.overlap) (lt-ltb a.priority b.priority m.readily)
+
 -- ## The walk
 
 -- The walk has come to a block: what it knows of those before, of which one was the last that stays.
@@ -56,6 +78,8 @@ pub record IsWalked (blocks : List Block) (moves : List Bool) (last next : ℕ) 
   pub causes : MoveForCause blocks moves
   -- what can't move isn't marked
   pub fixed : (k : ℕ) (c : Block) → slice_get blocks k ≡ Some c → c.priority ≡ 0 → slice_get moves k ≡ Some false
+  -- the marks so far are those that all blocks have, looked through in their order
+  pub marked : IsMarked earlier_moves later_moves blocks moves last next
 
 pub walk_starts : (blocks : List Block) (moves : List Bool) → length moves ≡ length blocks → All (λ (moved : Bool). moved ≡ false) moves
     → IsWalked blocks moves 0 1
@@ -74,6 +98,7 @@ walk_starts blocks moves long unmarked =
           let no : ⊥ = cc (free, marked) in
           absurd no;
       fixed = λ k c there stays. still k (slice_get_within blocks k c there);
+      marked = marking_starts earlier_moves later_moves blocks moves;
     }
 
 module _ (blocks : List Block) (moves : List Bool) (last next : ℕ) (l b : Block) (ordered : IsOrdered blocks) (long : length moves ≡ length blocks)
@@ -98,8 +123,9 @@ module _ (blocks : List Block) (moves : List Bool) (last next : ℕ) (l b : Bloc
       → ((k : ℕ) → next ≤ k → k < length blocks → slice_get marks k ≡ Some false)
       → MoveForCause blocks marks
       → ((k : ℕ) (c : Block) → slice_get blocks k ≡ Some c → c.priority ≡ 0 → slice_get marks k ≡ Some false)
+      → IsMarked earlier_moves later_moves blocks marks next (next + 1)
       → IsWalked blocks marks next (next + 1)
-  next_stays marks ended unmarked ahead causes fixed = record {
+  next_stays marks ended unmarked ahead causes fixed marked = record {
     before = omega arith;
     ahead = λ k late inside. ahead k (omega arith) inside;
     last_stays = λ inside. ahead next (omega arith) inside;
@@ -114,7 +140,14 @@ module _ (blocks : List Block) (moves : List Bool) (last next : ℕ) (l b : Bloc
     ];
     causes = causes;
     fixed = fixed;
+    marked = marked;
   }
+
+  -- the marks once the next block stays
+  marked_on : (marks : List Bool) → later_moves l b ≡ false → ((k : ℕ) → k ≢ last → get_or marks k false ≡ get_or moves k false)
+      → get_or marks last false ≡ earlier_moves l b → IsMarked earlier_moves later_moves blocks marks next (next + 1)
+  marked_on marks isnt kept there =
+      marking_on earlier_moves later_moves blocks moves last next l b w.before within at_last at_next w.marked marks isnt kept there
 
   pub walk_past_apart : IsApart l b → IsWalked blocks moves next (next + 1)
   walk_past_apart apart =
@@ -126,6 +159,8 @@ module _ (blocks : List Block) (moves : List Bool) (last next : ℕ) (l b : Bloc
         | inr other ↦ others_apart k c early other free there
       ])
       (λ k free. free) (λ k late inside. w.ahead k late inside) w.causes w.fixed
+      (marked_on moves (apart_tests l b apart).1 (λ k other. refl)
+      (get_or_from_slice_get moves last false false (w.last_stays (slice_get_within blocks last l at_last)) ∙ sym (apart_tests l b apart).0))
 
   pub walk_past_earlier : EarlierMoves l b → IsWalked blocks (set moves last true) next (next + 1)
   walk_past_earlier m =
@@ -142,6 +177,8 @@ module _ (blocks : List Block) (moves : List Bool) (last next : ℕ) (l b : Bloc
       let can : 0 < c.priority = subst (λ (x : Block). 0 < x.priority) one m.can in
       absurd (omega (arith, can, stays)) in
       kept_elsewhere moves last k apart ∙ w.fixed k c there stays)
+      (marked_on (set moves last true) (earlier_tests l b m).1 (λ k other. get_or-set_other moves last k true false other)
+      (get_or-set_same moves last true false inside ∙ sym (earlier_tests l b m).0))
 
   pub walk_past_later : LaterMoves l b → IsWalked blocks (set moves next true) last (next + 1)
   walk_past_later m =
@@ -167,6 +204,8 @@ module _ (blocks : List Block) (moves : List Bool) (last next : ℕ) (l b : Bloc
             let more : l.priority < c.priority = subst (λ (x : Block). l.priority < x.priority) one m.readily in
             absurd (omega (arith, more, stays)) in
             kept_elsewhere moves next k apart ∙ w.fixed k c there stays;
+        marked = marking_over earlier_moves later_moves blocks moves last next l b w.before within at_last at_next w.marked (set moves next true) (later_tests l b m)
+            (λ k other. get_or-set_other moves next k true false other) (get_or-set_same moves next true false inside);
       }
 
   pub walk_stuck : IsStuck l b → HasStuck blocks
@@ -175,6 +214,10 @@ module _ (blocks : List Block) (moves : List Bool) (last next : ℕ) (l b : Bloc
 pub walk_ends : (blocks : List Block) (moves : List Bool) (last next : ℕ) → length blocks ≤ next → IsWalked blocks moves last next → StayApart blocks moves
 walk_ends blocks moves last next all w = λ p first second.
     w.apart p (omega (arith, slice_get_within blocks p.second p.later p.at_second)) first second
+
+pub walk_marks : (blocks : List Block) (moves : List Bool) (last next : ℕ) → length moves ≡ length blocks → length blocks ≤ next → IsWalked blocks moves last next
+    → moves ≡ marks_of blocks
+walk_marks blocks moves last next long all w = marking_ends earlier_moves later_moves blocks moves last next long all w.last_stays w.marked
 
 pub none_stuck : (blocks : List Block) (moves : List Bool) → StayApart blocks moves
     → ((k : ℕ) (c : Block) → slice_get blocks k ≡ Some c → c.priority ≡ 0 → slice_get moves k ≡ Some false) → HasStuck blocks → ⊥

@@ -1,7 +1,8 @@
 -- Blocks of memory: which two overlap, and which of the two moves.
-use Rattle.std.specs.Prelude.{ℕ, ◌+◌, List, [], ◌∷◌, Bool, false, ◌&&◌, ◌||◌, not, Option, nat_le, nat_lt, ◌==◌, unwrap_or}
-use Rattle.std.specs.List.{list_all, list_any}
+use Rattle.std.specs.Prelude.{ℕ, ◌+◌, List, [], ◌∷◌, ◌++◌, Bool, false, ◌&&◌, ◌||◌, not, Option, None, Some, filter, nat_le, nat_lt, ◌==◌, if◌then◌else◌}
+use Rattle.std.specs.List.{filter_map, list_all, list_any}
 use Rattle.elf_format.specs.Options.{is_one_of, is_some_and}
+use Rattle.elf_layout_plan.specs.Marks.{marked_of, marks}
 
 -- A range of memory that something takes, perhaps an empty one.
 pub record Block : Type 0 where
@@ -16,11 +17,19 @@ pub record Block : Type 0 where
   -- it marks the start of a loaded segment
   pub is_load_start : Bool
 
--- the first of two blocks is the earlier one: by where they start, then by their sizes, then by their sections
+-- what is no section comes before all sections, and these come by their positions
+abbrev pub section_rank : Option ℕ → ℕ
+section_rank None = 1
+section_rank (Some position) = position + 2
+
+-- how blocks come that start together and have one size: the starts of loaded segments are first
+abbrev pub rank : Block → ℕ
+rank b = if b.is_load_start then 0 else section_rank b.section
+
+-- the first of two blocks is the earlier one: by where they start, then by their sizes, then by their ranks
 abbrev pub is_earlier : Block → Block → Bool
 is_earlier a b =
-    nat_lt a.start b.start
-    || a.start == b.start && (nat_lt a.size b.size || a.size == b.size && nat_le (unwrap_or a.section 0) (unwrap_or b.section 0))
+    nat_lt a.start b.start || a.start == b.start && (nat_lt a.size b.size || a.size == b.size && nat_le (rank a) (rank b))
 
 -- a stray block overlaps the start of every loaded segment
 abbrev pub is_kept_out : Block → Block → Bool
@@ -74,3 +83,44 @@ has_cause blocks position =
 -- Each of the sections moves for a cause.
 abbrev pub have_causes : List Block → List ℕ → Bool
 have_causes blocks moved = list_all (has_cause blocks) moved
+
+-- ## Which of the answers it is
+
+-- Several lists of sections may have causes and leave the others apart: of three blocks that overlap one after the other the second
+-- may move alone, or the third with it. That the blocks are looked through in their order says which list it is.
+
+-- a block is put before the first one that it is earlier than
+unfoldable pub put_in : Block → List Block → List Block
+put_in b [] = b ∷ []
+put_in b (c ∷ cs) = if is_earlier b c then b ∷ c ∷ cs else c ∷ put_in b cs
+
+-- the blocks in their order
+unfoldable pub in_order : List Block → List Block
+in_order [] = []
+in_order (b ∷ bs) = put_in b (in_order bs)
+
+-- of blocks in their order, those that move
+abbrev pub movers_in_order : List Block → List Block
+movers_in_order blocks = marked_of blocks (marks earlier_moves later_moves blocks)
+
+-- some loaded segment starts at one of the blocks
+abbrev pub has_load : List Block → Bool
+has_load blocks = list_any (λ b. b.is_load_start) blocks
+
+-- a stray block, where there is a loaded segment
+abbrev pub moves_as_stray : Bool → Block → Bool
+moves_as_stray loaded b = loaded && b.is_stray
+
+-- The blocks that move: those that are kept out, and those of the others that move when these are looked through in their order.
+unfoldable pub movers : List Block → List Block
+movers blocks =
+    filter (λ b. moves_as_stray (has_load blocks) b) blocks
+    ++ movers_in_order (in_order (filter (λ b. not (moves_as_stray (has_load blocks) b)) blocks))
+
+-- the sections whose blocks move
+abbrev pub moving_sections : List Block → List ℕ
+moving_sections blocks = filter_map (λ b. b.section) (movers blocks)
+
+-- These are the sections whose blocks move, told in any order.
+abbrev pub are_moving : List Block → List ℕ → Bool
+are_moving blocks moved = list_all (is_one_of (moving_sections blocks)) moved && list_all (is_one_of moved) (moving_sections blocks)

@@ -1,7 +1,8 @@
--- What is proved of rounds.
-use Rattle.std.specs.Prelude.{ℕ, ◌≤◌, List, length, IsTrue}
+-- What is proved of rounds, and that an image has one plan.
+use Rattle.std.specs.Prelude.{ℕ, ◌≡◌, ◌≤◌, List, length, IsTrue}
+use Rattle.elf_format.specs.Image.{Image}
 use Rattle.elf_layout_plan.specs.Memory.{Resized}
-use Rattle.elf_layout_plan.specs.Plan.{most_added}
+use Rattle.elf_layout_plan.specs.Plan.{IsPlan, Layout, most_added, resized}
 use Rattle.elf_layout_plan.specs.Rounds.{IsAsked, leads_to}
 
 -- Rounds lead to a number of entries that is asked for.
@@ -12,3 +13,7 @@ RoundsAreAsked = (r : Resized) (before : List (List ℕ)) (looked : ℕ) → IsT
 abbrev pub RoundsEnd : Type 0
 RoundsEnd = (r : Resized) (before : List (List ℕ)) (looked : ℕ) → IsTrue (leads_to r 0 before looked)
     → (looked ≤ most_added r.image) × (length before ≤ most_added r.image)
+
+-- An image has no more than one plan.
+abbrev pub PlansAreOne : Type 0
+PlansAreOne = (image : Image) (one other : Layout) → IsPlan (resized image) one → IsPlan (resized image) other → one ≡ other

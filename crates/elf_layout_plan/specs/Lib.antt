@@ -1,3 +1,4 @@
+pub mod Marks
 pub mod MovedBlocks
 pub mod Faults
 pub mod Meeting

@@ -1,6 +1,7 @@
 -- Blocks of memory in the order of their starts: which two overlap, and which of the two moves.
-use Rattle.std.specs.Prelude.{ℕ, ◌≡◌, ◌+◌, ◌<◌, ◌≤◌, ◌⊎◌, List, Bool, true, false, Some, slice_get}
+use Rattle.std.specs.Prelude.{ℕ, ◌≡◌, ◌+◌, ◌<◌, ◌≤◌, ◌⊎◌, List, Bool, true, false, ◌&&◌, Some, nat_le, nat_lt, slice_get}
 use Rattle.elf_layout_plan.specs.declared.block.Block.{Block}
+use Rattle.elf_layout_plan.specs.Marks.{marks}
 
 -- where a block ends, which may be past the last address of 64 bits
 abbrev pub end_of : Block → ℕ
@@ -68,3 +69,17 @@ HasCause blocks k =
 -- each block that moves does so against one that it overlaps
 abbrev pub MoveForCause : List Block → List Bool → Type 0
 MoveForCause blocks moves = (k : ℕ) → slice_get moves k ≡ Some true → HasCause blocks k
+
+-- ## Which of the blocks move
+
+-- of two blocks that overlap the earlier one moves, as a test
+abbrev pub earlier_moves : Block → Block → Bool
+earlier_moves earlier later = nat_lt later.start (end_of earlier) && nat_lt 0 earlier.priority && nat_le later.priority earlier.priority
+
+-- of two blocks that overlap the later one moves, as a test
+abbrev pub later_moves : Block → Block → Bool
+later_moves earlier later = nat_lt later.start (end_of earlier) && nat_lt earlier.priority later.priority
+
+-- The marks of blocks, looked through in their order.
+abbrev pub marks_of : List Block → List Bool
+marks_of blocks = marks earlier_moves later_moves blocks

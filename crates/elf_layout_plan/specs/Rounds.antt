@@ -6,7 +6,7 @@ use Rattle.elf_format.specs.declared.constants.TheConstants.{PF_X, SHF_EXECINSTR
 use Rattle.elf_format.specs.Places.{is_set}
 use Rattle.elf_layout_plan.specs.declared.constants.TheConstants.{PF_R, PF_W}
 use Rattle.elf_format.specs.Image.{ImageSection}
-use Rattle.elf_layout_plan.specs.Blocks.{have_causes, is_stuck, stay_apart}
+use Rattle.elf_layout_plan.specs.Blocks.{are_moving, have_causes, is_stuck, stay_apart}
 use Rattle.elf_layout_plan.specs.Anchors.{is_split}
 use Rattle.elf_layout_plan.specs.Memory.{Resized, SizedSection, blocks_with, sized_sections}
 
@@ -35,6 +35,10 @@ are_in_old_order (s ∷ t ∷ ss) = comes_before s t && are_in_old_order (t ∷ 
 abbrev pub do_move : Resized → ℕ → List ℕ → Bool
 do_move r added moved =
     have_causes (blocks_with r added) moved && stay_apart moved (blocks_with r added) && are_in_old_order (sections_at r moved)
+
+-- Of all lists of sections that may move it is this one: the sections whose blocks move when all are looked through in their order.
+abbrev pub are_chosen : Resized → ℕ → List ℕ → Bool
+are_chosen r added moved = are_moving (blocks_with r added) moved
 
 -- two blocks overlap, and neither can move
 abbrev pub is_stuck_with : Resized → ℕ → Bool
@@ -69,13 +73,15 @@ headers_needed r moved = length (added_flags r moved) + count_by (is_split r mov
 unfoldable pub leads_to : Resized → ℕ → List (List ℕ) → ℕ → Bool
 leads_to r looked [] next = looked == next
 leads_to r looked (moved ∷ rounds) next =
-    do_move r looked moved && nat_lt looked (headers_needed r moved) && leads_to r (headers_needed r moved) rounds next
+    do_move r looked moved && are_chosen r looked moved && nat_lt looked (headers_needed r moved)
+    && leads_to r (headers_needed r moved) rounds next
 
 -- Rounds that came to an end: those before the last, and the sections that move in it, for which the number of entries that it
 -- looked with is enough.
 pub record AreRounds (r : Resized) (before : List (List ℕ)) (looked : ℕ) (moved : List ℕ) : Type 0 where
   pub lead : IsTrue (leads_to r 0 before looked)
   pub move : IsTrue (do_move r looked moved)
+  pub chosen : IsTrue (are_chosen r looked moved)
   pub enough : IsTrue (nat_le (headers_needed r moved) looked)
 
 -- A number that a round may look with: none, or what some sections need that have to move where fewer are looked with.

@@ -4,7 +4,7 @@ ghost use Rattle.elf_layout_plan.specs.ApartLaws.{
   PlansAreApart,
   PlansShowNotes,
 };
-ghost use Rattle.elf_layout_plan.specs.Laws.{RoundsAreAsked, RoundsEnd};
+ghost use Rattle.elf_layout_plan.specs.Laws.{PlansAreOne, RoundsAreAsked, RoundsEnd};
 ghost use Rattle.elf_layout_plan.specs.PlacedLaws.{PlansArePlaced};
 
 /// Rounds lead to a number of program headers that is asked for.
@@ -17,6 +17,11 @@ pub fn rounds_are_asked()
 #[tactic(auto, using(crate::proofs::RoundLaws::rounds_end))]
 pub fn rounds_end()
     ensures { RoundsEnd }
+{}
+
+/// An image has no more than one plan.
+pub fn plans_are_one()
+    ensures { PlansAreOne }
 {}
 
 /// A plan of an edited image is placed in the file as the read rules ask of a file.

@@ -1,6 +1,6 @@
 ghost use Rattle.std.specs.Prelude.{◌≡◌, ◌+◌, ◌↔◌, ◌≤◌, All, IfErr, IsErr, OnOk, false, length};
 ghost use Rattle.elf_layout_plan.specs.declared.fault.LayoutFault.TheVariants.{Overlap};
-ghost use Rattle.elf_layout_plan.specs.MovedBlocks.{HasStuck, IsOrdered, MoveForCause, StayApart};
+ghost use Rattle.elf_layout_plan.specs.MovedBlocks.{HasStuck, IsOrdered, MoveForCause, StayApart, marks_of};
 ghost use Rattle.elf_layout_plan.specs.Meeting.{IsMeeting};
 
 use crate::block::Block;
@@ -56,6 +56,7 @@ pub fn walk_blocks<L: Ledger>(
 
     ensures apart { OnOk result (StayApart blocks.now moves.new) }
     ensures cause { OnOk result (MoveForCause blocks.now moves.new) }
+    ensures chosen { OnOk result (moves.new ≡ marks_of blocks.now) }
 
     ensures marks { length moves.new ≡ length moves.old }
     ensures steps { steps.new ≤ steps.old + length blocks.now }

@@ -72,12 +72,12 @@ stuck_now r looked b stuck = record { before = b.so_far.before; lead = b.so_far.
 
 pub end_now : (r : Resized) (looked needed : ℕ) → AreBefore r looked → IsRound r looked needed → needed ≤ looked → DoRoundsEnd r
 end_now r looked needed b round enough =
-    let (before, rounds, _) = ended r looked b.count needed round.moved b.so_far round.move round.need enough in
+    let (before, rounds, _) = ended r looked b.count needed round.moved b.so_far round.move round.chosen round.need enough in
     record { before = before; looked = looked; moved = round.moved; ended = rounds }
 
 pub one_before : (r : Resized) (looked needed : ℕ) → AreBefore r looked → IsRound r looked needed → looked < needed → AreBefore r needed
 one_before r looked needed b round more =
-    record { count = b.count + 1; so_far = one_more r looked b.count needed round.moved b.so_far round.move round.need more }
+    record { count = b.count + 1; so_far = one_more r looked b.count needed round.moved b.so_far round.move round.chosen round.need more }
 
 pub nearer_end : (r : Resized) (looked needed : ℕ) → IsRound r looked needed → looked < needed → most_added r.image - needed < most_added r.image - looked
 nearer_end r looked needed round more = nearer r looked needed round.moved round.need more

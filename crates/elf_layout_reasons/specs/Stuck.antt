@@ -6,7 +6,7 @@ use Rattle.elf_layout_plan.specs.Blocks.{Block, is_stuck_pair}
 use Rattle.elf_layout_plan.specs.Memory.{Resized, blocks_with}
 use Rattle.elf_layout_plan.specs.Plan.{resized}
 use Rattle.elf_layout_plan.specs.Refusals.{do_sizes_of_image_fit}
-use Rattle.elf_layout_plan.specs.Rounds.{AreRounds, do_move, headers_needed, is_stuck_with, leads_to}
+use Rattle.elf_layout_plan.specs.Rounds.{AreRounds, are_chosen, do_move, headers_needed, is_stuck_with, leads_to}
 use Rattle.elf_layout_reasons.specs.declared.stuck.TheConstants.{MOST_BLOCKS}
 
 -- ## Pairs
@@ -30,6 +30,7 @@ first_pair (b ∷ bs) = first_there (first_partner b bs) (first_pair bs)
 pub record IsRound (r : Resized) (looked needed : ℕ) : Type 0 where
   pub moved : List ℕ
   pub move : IsTrue (do_move r looked moved)
+  pub chosen : IsTrue (are_chosen r looked moved)
   pub need : needed ≡ headers_needed r moved
 
 -- rounds lead to a number of program headers with which two blocks overlap that never move

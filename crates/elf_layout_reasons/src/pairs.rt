@@ -10,9 +10,7 @@ fn is_earlier(a: MemoryBlock, b: MemoryBlock) -> bool
     ensures { result ≡ earlier_of a b }
 {
     a.start < b.start
-        || a.start == b.start
-            && (a.size < b.size
-                || a.size == b.size && a.section.unwrap_or(0) <= b.section.unwrap_or(0))
+        || a.start == b.start && (a.size < b.size || a.size == b.size && a.rank() <= b.rank())
 }
 
 // Whether one of two blocks is the start of a loaded segment, and the other one is stray.

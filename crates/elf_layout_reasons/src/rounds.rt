@@ -1,6 +1,6 @@
 // The rounds in which the layout looks, up to the one that finds two blocks that overlap and never move.
 ghost use Rattle.std.specs.Prelude.{◌≡◌, IfNone, IfOk, IfSome, IsTrue, true};
-ghost use Rattle.elf_layout_plan.specs.Rounds.{do_move, is_stuck_with};
+ghost use Rattle.elf_layout_plan.specs.Rounds.{are_chosen, do_move, is_stuck_with};
 ghost use Rattle.elf_layout_segments.specs.AnchorPositions.{AreAnchors};
 ghost use Rattle.elf_layout_reasons.specs.Stuck.{DoRoundsEnd, IsRound, IsStuckInRound};
 
@@ -20,6 +20,8 @@ fn moved_with(
 ) -> Result<Option<Vec<usize>>, AllocError>
     ensures moved { IfOk result (λ answer. IfSome answer (λ moved.
         IsTrue (do_move r.now looked moved.items))) }
+    ensures chosen { IfOk result (λ answer. IfSome answer (λ moved.
+        IsTrue (are_chosen r.now looked moved.items))) }
     ensures stuck { IfOk result (λ answer. IfNone answer
         (is_stuck_with r.now looked ≡ true)) }
 {
@@ -43,6 +45,7 @@ fn needed_for(
 ) -> Result<usize, AllocError>
     requires anchors { AreAnchors r.now anchors.now }
     requires moved { IsTrue (do_move r.now looked moved.now) }
+    requires chosen { IsTrue (are_chosen r.now looked moved.now) }
     ensures { IfOk result (λ needed. IsRound r.now looked needed) }
 {
     let marks = marks_of(alloc, r, moved)?;

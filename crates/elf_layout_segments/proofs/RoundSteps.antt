@@ -9,7 +9,7 @@ use Rattle.elf_layout_plan.specs.declared.fault.LayoutFault.{LayoutFault}
 use Rattle.elf_layout_plan.specs.declared.fault.LayoutFault.TheVariants as faults
 use Rattle.elf_layout_plan.specs.Memory.{Resized}
 use Rattle.elf_layout_plan.specs.Plan.{most_added}
-use Rattle.elf_layout_plan.specs.Rounds.{AreRounds, do_move, headers_needed, leads_to}
+use Rattle.elf_layout_plan.specs.Rounds.{AreRounds, are_chosen, do_move, headers_needed, leads_to}
 use Rattle.elf_layout_plan.proofs.ForCallers.HeaderLaws.{headers_needed-le}
 use Rattle.elf_layout_plan.proofs.ForCallers.RoundLaws.{rounds_end}
 use Rattle.elf_layout_moves.specs.Inner.{IsStuckAt}
@@ -26,23 +26,27 @@ unfolding leads_to
 none_so_far r = record { before = []; lead = refl; counted = refl }
 
 leads_more : (r : Resized) (start : ℕ) (before : List (List ℕ)) (looked : ℕ) (moved : List ℕ) → leads_to r start before looked ≡ true
-    → do_move r looked moved ≡ true → looked < headers_needed r moved → leads_to r start (before ++ moved ∷ []) (headers_needed r moved) ≡ true
+    → do_move r looked moved ≡ true → are_chosen r looked moved ≡ true → looked < headers_needed r moved
+    → leads_to r start (before ++ moved ∷ []) (headers_needed r moved) ≡ true
 unfolding leads_to
-leads_more r start [] looked moved lead move more =
+leads_more r start [] looked moved lead move chosen more =
     let n : ℕ = headers_needed r moved in
-    let P : ℕ → Type 0 = λ k. (do_move r k moved && nat_lt k n && (n == n)) ≡ true in
+    let P : ℕ → Type 0 = λ k. (do_move r k moved && are_chosen r k moved && nat_lt k n && (n == n)) ≡ true in
     subst P (sym (eqb-true start looked lead))
-    (and_from (do_move r looked moved && nat_lt looked n) (n == n) (and_from (do_move r looked moved) (nat_lt looked n) move (lt-ltb looked n more)) (eq-eqb n n refl))
-leads_more r start (m ∷ ms) looked moved lead move more =
-    let front = and_parts (do_move r start m && nat_lt start (headers_needed r m)) (leads_to r (headers_needed r m) ms looked) lead in
-    and_from (do_move r start m && nat_lt start (headers_needed r m)) _ front.0 (leads_more r (headers_needed r m) ms looked moved front.1 move more)
+    (and_from (do_move r looked moved && are_chosen r looked moved && nat_lt looked n) (n == n)
+    (and_from (do_move r looked moved && are_chosen r looked moved) (nat_lt looked n)
+    (and_from (do_move r looked moved) (are_chosen r looked moved) move chosen) (lt-ltb looked n more)) (eq-eqb n n refl))
+leads_more r start (m ∷ ms) looked moved lead move chosen more =
+    let front = and_parts (do_move r start m && are_chosen r start m && nat_lt start (headers_needed r m)) (leads_to r (headers_needed r m) ms looked) lead in
+    and_from (do_move r start m && are_chosen r start m && nat_lt start (headers_needed r m)) _ front.0
+    (leads_more r (headers_needed r m) ms looked moved front.1 move chosen more)
 
 pub one_more : (r : Resized) (looked count needed : ℕ) (moved : List ℕ) → AreSoFar r looked count → do_move r looked moved ≡ true
-    → needed ≡ headers_needed r moved → looked < needed → AreSoFar r needed (count + 1)
-one_more r looked count needed moved so move need more = record {
+    → are_chosen r looked moved ≡ true → needed ≡ headers_needed r moved → looked < needed → AreSoFar r needed (count + 1)
+one_more r looked count needed moved so move chosen need more = record {
   before = so.before ++ moved ∷ [];
   lead = let P : ℕ → Type 0 = λ n. leads_to r 0 (so.before ++ moved ∷ []) n ≡ true in
-      subst P (sym need) (leads_more r 0 so.before looked moved so.lead move (omega (arith, more, need)));
+      subst P (sym need) (leads_more r 0 so.before looked moved so.lead move chosen (omega (arith, more, need)));
   counted = omega (arith, so.counted, length-append so.before (moved ∷ []));
 }
 
@@ -67,10 +71,10 @@ nearer r looked needed moved need more = omega (arith, need, more, headers_neede
 
 -- ## How they end
 
-pub ended : (r : Resized) (looked count needed : ℕ) (moved : List ℕ) → AreSoFar r looked count → do_move r looked moved ≡ true → needed ≡ headers_needed r moved
-    → needed ≤ looked → (before : List (List ℕ)) × AreRounds r before looked moved × (count ≡ length before + 1)
-ended r looked count needed moved so move need enough =
-    (so.before, record { lead = so.lead; move = move; enough = le-leb (headers_needed r moved) looked (omega (arith, need, enough)) }, so.counted)
+pub ended : (r : Resized) (looked count needed : ℕ) (moved : List ℕ) → AreSoFar r looked count → do_move r looked moved ≡ true → are_chosen r looked moved ≡ true
+    → needed ≡ headers_needed r moved → needed ≤ looked → (before : List (List ℕ)) × AreRounds r before looked moved × (count ≡ length before + 1)
+ended r looked count needed moved so move chosen need enough =
+    (so.before, record { lead = so.lead; move = move; chosen = chosen; enough = le-leb (headers_needed r moved) looked (omega (arith, need, enough)) }, so.counted)
 
 pub ended_by : (r : Resized) (looked count : ℕ) (fault : LayoutFault) → AreSoFar r looked count → IsStuckAt r looked fault → IsNoEnd r fault
 ended_by r looked count faults.Overlap so stuck = record { before = so.before; looked = looked; lead = so.lead; stuck = stuck }

@@ -1,5 +1,5 @@
 ghost use Rattle.std.specs.Prelude.{◌≡◌, IfErr, IfOk, IsTrue};
-ghost use Rattle.elf_layout_plan.specs.Rounds.{do_move, headers_needed as needed};
+ghost use Rattle.elf_layout_plan.specs.Rounds.{are_chosen, do_move, headers_needed as needed};
 ghost use Rattle.elf_layout_moves.specs.Inner.{IsStuckAt};
 ghost use Rattle.elf_layout_segments.specs.AnchorPositions.{AreAnchors, IsEnded, IsNoEnd};
 
@@ -37,6 +37,7 @@ fn look(
 ) -> Result<Round, LayoutFault>
     requires { AreAnchors r.now anchors.now }
     ensures moved { IfOk result (λ round. IsTrue (do_move r.now looked round.moved.items)) }
+    ensures chosen { IfOk result (λ round. IsTrue (are_chosen r.now looked round.moved.items)) }
     ensures needed { IfOk result (λ round. round.needed ≡ needed r.now round.moved.items) }
     ensures fault { IfErr result (IsStuckAt r.now looked) }
 {

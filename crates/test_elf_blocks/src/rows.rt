@@ -67,6 +67,12 @@ fn one_that_moves_gives_room(rt: HostRuntime) {
 }
 
 #[test]
+fn one_stays_that_would_move_against_one_that_moved(rt: HostRuntime) {
+    let rows = [(0, 20, 0), (10, 20, 1), (25, 5, 2)];
+    three(&rt, rows, Some(&[false, true, false]));
+}
+
+#[test]
 fn one_moves_against_one_that_moves(rt: HostRuntime) {
     let rows = [(0, 15, 2), (10, 30, 2), (20, 5, 0)];
     three(&rt, rows, Some(&[true, true, false]));

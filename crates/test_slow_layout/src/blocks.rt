@@ -135,6 +135,17 @@ pub(crate) fn blocks_with(
     Ok(blocks)
 }
 
+/// How blocks come that start together and have one size: starts of loaded segments, what is no section, sections.
+fn rank(block: &Block) -> u128 {
+    if block.is_load_start {
+        return 0;
+    }
+    match block.section {
+        None => 1,
+        Some(position) => position as u128 + 2,
+    }
+}
+
 /// The first of two blocks is the earlier one.
 fn is_earlier(a: &Block, b: &Block) -> bool {
     if a.start != b.start {
@@ -143,7 +154,7 @@ fn is_earlier(a: &Block, b: &Block) -> bool {
     if a.size != b.size {
         return a.size < b.size;
     }
-    a.section.unwrap_or(0) <= b.section.unwrap_or(0)
+    rank(a) <= rank(b)
 }
 
 /// The first of two blocks is the earlier one, and overlaps the later one.

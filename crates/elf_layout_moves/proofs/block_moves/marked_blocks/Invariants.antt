@@ -1,5 +1,5 @@
 use Rattle.std.proofs.Common.{◌≡◌, ◌++◌, drop}
-use Rattle.elf_layout_moves.specs.BlockSteps.{marked_of}
+use Rattle.elf_layout_plan.specs.Marks.{marked_of}
 use Rattle.elf_layout_moves.proofs.block_moves.marked_blocks.Given as goal
 
 abbrev pub invariant-loop-place : goal.invariant-loop-place

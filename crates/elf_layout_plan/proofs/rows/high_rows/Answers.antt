@@ -7,5 +7,5 @@ use Rattle.elf_layout_plan.proofs.rows.high_rows.Goals as goal
 pub returns : goal.returns
 unfolding computing
 returns c = record {
-  plan = record { before = (1 ∷ []) ∷ []; moved = 1 ∷ []; ended = record { lead = refl; move = refl; enough = refl }; counted = refl; follows = refl; fits = refl };
+  plan = record { before = (1 ∷ []) ∷ []; moved = 1 ∷ []; ended = record { lead = refl; move = refl; chosen = refl; enough = refl }; counted = refl; follows = refl; fits = refl };
 }

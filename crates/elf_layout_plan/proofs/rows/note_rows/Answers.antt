@@ -7,6 +7,6 @@ use Rattle.elf_layout_plan.proofs.rows.note_rows.Goals as goal
 pub returns : goal.returns
 unfolding computing
 returns c = record {
-  split = record { before = (1 ∷ []) ∷ []; moved = 1 ∷ []; ended = record { lead = refl; move = refl; enough = refl }; counted = refl; follows = refl; fits = refl };
-  both = record { before = (1 ∷ []) ∷ []; moved = 1 ∷ 2 ∷ []; ended = record { lead = refl; move = refl; enough = refl }; counted = refl; follows = refl; fits = refl };
+  split = record { before = (1 ∷ []) ∷ []; moved = 1 ∷ []; ended = record { lead = refl; move = refl; chosen = refl; enough = refl }; counted = refl; follows = refl; fits = refl };
+  both = record { before = (1 ∷ []) ∷ []; moved = 1 ∷ 2 ∷ []; ended = record { lead = refl; move = refl; chosen = refl; enough = refl }; counted = refl; follows = refl; fits = refl };
 }

@@ -7,6 +7,6 @@ use Rattle.elf_layout_plan.proofs.rows.start_rows.Goals as goal
 pub returns : goal.returns
 unfolding computing
 returns c = record {
-  fits = record { before = (1 ∷ []) ∷ []; moved = 1 ∷ []; ended = record { lead = refl; move = refl; enough = refl }; counted = refl; follows = refl; fits = refl };
+  fits = record { before = (1 ∷ []) ∷ []; moved = 1 ∷ []; ended = record { lead = refl; move = refl; chosen = refl; enough = refl }; counted = refl; follows = refl; fits = refl };
   overlaps = record { before = (1 ∷ []) ∷ []; looked = 1; lead = refl; stuck = refl };
 }

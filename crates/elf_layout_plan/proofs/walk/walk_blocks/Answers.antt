@@ -2,7 +2,7 @@ use Rattle.std.proofs.Common.{◌≡◌, ◌+◌, ◌<◌, ℕ, List, Bool, leng
 use Rattle.std.proofs.lemmas.Option.{slice_get-get_or}
 use Rattle.elf_layout_plan.specs.declared.block.Block.{Block}
 use Rattle.elf_layout_plan.specs.MovedBlocks.{StayApart}
-use Rattle.elf_layout_plan.proofs.WalkSteps.{IsWalked, none_stuck, walk_ends, walk_past_apart, walk_past_earlier, walk_past_later, walk_stuck}
+use Rattle.elf_layout_plan.proofs.WalkSteps.{IsWalked, none_stuck, walk_ends, walk_marks, walk_past_apart, walk_past_earlier, walk_past_later, walk_stuck}
 use Rattle.elf_layout_plan.proofs.walk.walk_blocks.Goals as goal
 use Rattle.elf_layout_plan.proofs.walk.walk_blocks.Goals.{in-Apart, in-Later, in-Earlier}
 
@@ -56,3 +56,7 @@ returns-clause-refused g c =
 
 pub returns-clause-apart : goal.returns-clause-apart
 returns-clause-apart g c = walk_ends c.args.blocks.now c.loop-next.moves c.loop-next.last c.loop-next.next (omega arith) c.loop-next.invariant.walked
+
+pub returns-clause-chosen : goal.returns-clause-chosen
+returns-clause-chosen g c =
+    walk_marks c.args.blocks.now c.loop-next.moves c.loop-next.last c.loop-next.next (omega arith) (omega arith) c.loop-next.invariant.walked

@@ -17,7 +17,7 @@ returns-in_err-round-clause-fault c =
 pub returns-then-round-looked-clause-ended : goal.returns-then-round-looked-clause-ended
 returns-then-round-looked-clause-ended c =
     ended c.args.r.now c.loop-round.looked c.loop-round.count c.in_ok-round.round.needed c.in_ok-round.round.moved.items c.loop-round.invariant
-    c.in_ok-round.ensures.moved c.in_ok-round.ensures.needed c.if-round-looked.true
+    c.in_ok-round.ensures.moved c.in_ok-round.ensures.chosen c.in_ok-round.ensures.needed c.if-round-looked.true
 
 pub overflow_add-count : goal.overflow_add-count
 overflow_add-count c =
@@ -30,7 +30,7 @@ overflow_add-count c =
 pub loop-round-preserved : goal.loop-round-preserved
 loop-round-preserved c =
     one_more c.args.r.now c.loop-round.looked c.loop-round.count c.in_ok-round.round.needed c.in_ok-round.round.moved.items c.loop-round.invariant
-    c.in_ok-round.ensures.moved c.in_ok-round.ensures.needed c.if-round-looked.false
+    c.in_ok-round.ensures.moved c.in_ok-round.ensures.chosen c.in_ok-round.ensures.needed c.if-round-looked.false
 
 pub loop-round-smaller : goal.loop-round-smaller
 loop-round-smaller c =
