@@ -25,7 +25,7 @@ use Rattle.elf_write_spec.proofs.ForCallers.Laying.{length-values, value-at}
 use Rattle.elf_write_contents.specs.Inner.{IsReady}
 use Rattle.elf_write.specs.LayingSteps.{IsCleared, TakesFrom, is_in_load, is_in_range, is_rewritten_at, rewritten_places}
 use Rattle.elf_write_contents.proofs.ForCallers.{edit_of}
-use Rattle.elf_write_spec.proofs.ForCallers.WholeEdits.{ReadFacts, read_facts}
+use Rattle.elf_write_spec.proofs.ForCallers.IntactEdits.{ReadFacts, read_facts}
 use Rattle.elf_format.proofs.ForCallers.Lengths.{length-segments}
 use Rattle.elf_image.proofs.ForCallers.KeptSections.{kept-at, length-kept}
 

@@ -192,7 +192,7 @@ pub as_many : (image : Image) (plan : Layout) (headers : List SectionHeader) (co
 as_many image plan headers contents (raw, is) =
     let w : Output = output_of image plan headers contents raw in
     let l = lengths w is (read_facts w is) in
-    (l.places ∙ sym l.sections, l.contents ∙ sym l.sections)
+    (l.places, l.contents)
 
 -- The headers, tables and contents of a file, each at its place; it has so many bytes.
 pub record IsFileOf (image : Image) (plan : Layout) (headers : List SectionHeader) (contents : List (List ℕ)) (spelled : SpelledHeaders)

@@ -28,7 +28,6 @@ use Rattle.elf_layout_plan.specs.Plan.{Layout, resized}
 use Rattle.elf_write_spec.specs.Base.{is_interpreter}
 use Rattle.elf_write_spec.specs.Contents.{IsContent, IsContentOfKind, content_at_number}
 use Rattle.elf_write_spec.specs.Headers.{IsHeaderOf, written_header}
-use Rattle.elf_write_spec.specs.Whole.{IsWhole}
 use Rattle.elf_write_spec.specs.Output.{AreHeadersApart, AreSectionsWritten, IsPlannedOutput, written_bytes}
 use Rattle.elf_layout_plan.specs.ApartLaws.{PlansAreApart, PlansShowNotes}
 use Rattle.elf_write_spec.proofs.ForCallers.FilesWritten.{files_are_written, files_by_plan}
@@ -38,8 +37,8 @@ use Rattle.elf_write_symbols.specs.Renumbering.{do_symbols_fit}
 use Rattle.elf_write_contents.specs.Inner.{AreContents, AreHeaders, ArePromised, AreRaw, IsMadeContent, IsPlanned, IsPlannedFile, output_of}
 use Rattle.elf_write_contents.specs.Numbers.{do_records_fit}
 use Rattle.elf_write_contents.proofs.ForCallers.{edit_of, linked_at, names_at, names_typed, shows_none, shows_texts}
-use Rattle.elf_write_spec.proofs.ForCallers.WholeEdits.{ReadFacts, SectionRead, kept-at, kept_is, length-kept, read_facts, section_read}
-use Rattle.elf_write_spec.proofs.ForCallers.NumberedSections.{kept}
+use Rattle.elf_write_spec.proofs.ForCallers.IntactEdits.{ReadFacts, SectionRead, kept-at, kept_is, length-kept, read_facts, section_read}
+use Rattle.elf_write_spec.proofs.ForCallers.IntactSections.{kept}
 
 -- the content at a position
 record ContentAt (r : Resized) (plan : Layout) (made : Option Made) (raw : List EntryNumbers) (ps : List Place) (cs : List (List ℕ)) (i : ℕ) (k : KeptSection) : Type 0 where
@@ -82,7 +81,7 @@ without_texts r plan raw a b s bytes none shown = by_interpreter (is_interpreter
     by_kind kinds.Relocation h is = is
     by_kind kinds.Note h is = is
     by_kind kinds.Strings h is = is
-    by_kind kinds.Symbols h is = is
+    by_kind kinds.Symbols h is = absurd (false≢true (sym h))
     by_kind kinds.Hash h is = is
     by_kind kinds.GnuHash h is = is
     by_kind kinds.GnuVersym h is = is
@@ -192,7 +191,6 @@ module _ (read image : Image) (plan : Layout) (made : Option Made) (raw : List E
       record {
         edited = planned.ready.edited;
         source = source;
-        whole = subst (λ (r : Image). IsWhole r image) planned.ready.at_read planned.ready.whole;
         planned = planned.planned;
         written = record {
           headers = apart;

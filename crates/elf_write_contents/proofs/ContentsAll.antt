@@ -5,7 +5,7 @@ use Rattle.std.specs.List.{list_all, slice_get}
 use Rattle.std.proofs.lemmas.Bool.{cases_eq, ne_eqb}
 use Rattle.std.proofs.lemmas.List.{length-map}
 use Rattle.std.proofs.lemmas.Option.{none-some, same_Some, slice_get-get_or, slice_get-map, slice_get_read, slice_get_within}
-use Rattle.elf_format.specs.declared.constants.TheConstants.{SHT_DYNAMIC, SHT_DYNSYM, SHT_GNU_HASH, SHT_GNU_VERDEF, SHT_GNU_VERNEED, SHT_GNU_VERSYM, SHT_HASH, SHT_STRTAB}
+use Rattle.elf_format.specs.declared.constants.TheConstants.{SHT_DYNAMIC, SHT_DYNSYM, SHT_GNU_HASH, SHT_GNU_VERDEF, SHT_GNU_VERNEED, SHT_GNU_VERSYM, SHT_HASH, SHT_STRTAB, SHT_SYMTAB}
 use Rattle.elf_format.specs.declared.records.EntryNumbers.{EntryNumbers}
 use Rattle.elf_format.specs.Image.{Image, ImageSection}
 use Rattle.elf_format.specs.Options.{is_some_and, list_at}
@@ -31,13 +31,13 @@ use Rattle.elf_write_strings.specs.DynamicStrings.{AreStrings, strings_at}
 use Rattle.elf_write_spec.specs.Ready.{IsPlanned, IsReady}
 use Rattle.elf_write_contents.specs.Inner.{AreContents, AreRaw, IsMadeContent}
 use Rattle.elf_write_strings.proofs.ForCallers.ReadyEdits.{edit_of}
-use Rattle.elf_write_spec.proofs.ForCallers.WholeEdits.{ReadFacts, kept-at, length-kept, read_facts}
+use Rattle.elf_write_spec.proofs.ForCallers.IntactEdits.{ReadFacts, kept-at, length-kept, read_facts}
 use Rattle.elf_write_strings.proofs.ForCallers.MadeShort.{all_at as fits_at}
 use Rattle.elf_write_strings.proofs.ForCallers.OthersCopied.{content_is_read}
 use Rattle.elf_write_symbols.specs.Fits.{do_numbers_fit_in, do_section_relocations_fit}
 use Rattle.elf_write_contents.proofs.ContentsMade.{IsOther, PlacedAt, bytes_at, definitions_made, gabi_made, gnu_made, needs_made, placed_at, resized_with, symbols_made, versions_made}
-use Rattle.elf_write_contents.proofs.ContentsByType.{interpreter_made, list_made, others_made, room, strings_made}
-use Rattle.elf_write_spec.proofs.ForCallers.NumberedSections.{kept}
+use Rattle.elf_write_contents.proofs.ContentsByType.{interpreter_made, list_made, others_made, room, strings_made, symbols_made as static_symbols_made}
+use Rattle.elf_write_spec.proofs.ForCallers.IntactSections.{kept}
 
 -- ## Position by position
 
@@ -188,24 +188,35 @@ module _ (read image : Image) (plan : Layout) (made : Option Made) (raw : List E
         (subst (λ (x : ImageSection). IsRelocated (resized_with read image) x bytes) (sym same)
         (subst (λ (x : Image). IsRelocated (resized_with x image) s bytes) (sym is.ready.at_read) are)))
 
+    static_at : AreStrings read image made → s.sh_type ≡ SHT_SYMTAB → (bytes : List ℕ) → IsRelocated (resized image) s bytes
+        → IsBytesAt image plan made raw i bytes
+    static_at strings e bytes are =
+        all_at_place bytes (static_symbols_made read image plan made raw is.ready facts i place apart (of_type SHT_SYMTAB e) strings bytes
+        (subst (λ (x : ImageSection). IsRelocated (resized_with read image) x bytes) (sym same)
+        (subst (λ (x : Image). IsRelocated (resized_with x image) s bytes) (sym is.ready.at_read) are)))
+
     -- and what is as it was read
-    pub numbering_at : HasNoTable s.sh_type → (bytes : List ℕ) → IsNumbering read image s bytes → IsBytesAt image plan made raw i bytes
-    numbering_at none bytes numbers = elim (cases_eq s.sh_type SHT_GNU_VERSYM) [
+    pub numbering_at : AreStrings read image made → HasNoTable s.sh_type → (bytes : List ℕ) → IsNumbering read image s bytes → IsBytesAt image plan made raw i bytes
+    numbering_at texts none bytes numbers = elim (cases_eq s.sh_type SHT_GNU_VERSYM) [
       | inl e ↦ versions_at e bytes (numbers.versions e).0 (numbers.versions e).1
       | inr versions ↦ elim (cases_eq s.sh_type SHT_HASH) [
         | inl e ↦ gabi_at e bytes (numbers.gabi e).0 (numbers.gabi e).1
         | inr gabi ↦ elim (cases_eq s.sh_type SHT_GNU_HASH) [
           | inl e ↦ gnu_at e bytes (numbers.gnu e).0 (numbers.gnu e).1
-          | inr gnu ↦ others_at (record {
-            dynamic = ne_eqb s.sh_type SHT_DYNAMIC none.dynamic;
-            strings = ne_eqb s.sh_type SHT_STRTAB none.strings;
-            symbols = ne_eqb s.sh_type SHT_DYNSYM none.symbols;
-            gabi = ne_eqb s.sh_type SHT_HASH gabi;
-            gnu = ne_eqb s.sh_type SHT_GNU_HASH gnu;
-            versions = ne_eqb s.sh_type SHT_GNU_VERSYM versions;
-            definitions = ne_eqb s.sh_type SHT_GNU_VERDEF none.definitions;
-            needs = ne_eqb s.sh_type SHT_GNU_VERNEED none.needs;
-          }) bytes (numbers.others versions gabi gnu)
+          | inr gnu ↦ elim (cases_eq s.sh_type SHT_SYMTAB) [
+            | inl e ↦ static_at texts e bytes (numbers.others versions gabi gnu)
+            | inr static ↦ others_at (record {
+              dynamic = ne_eqb s.sh_type SHT_DYNAMIC none.dynamic;
+              strings = ne_eqb s.sh_type SHT_STRTAB none.strings;
+              static = ne_eqb s.sh_type SHT_SYMTAB static;
+              symbols = ne_eqb s.sh_type SHT_DYNSYM none.symbols;
+              gabi = ne_eqb s.sh_type SHT_HASH gabi;
+              gnu = ne_eqb s.sh_type SHT_GNU_HASH gnu;
+              versions = ne_eqb s.sh_type SHT_GNU_VERSYM versions;
+              definitions = ne_eqb s.sh_type SHT_GNU_VERDEF none.definitions;
+              needs = ne_eqb s.sh_type SHT_GNU_VERNEED none.needs;
+            }) bytes (numbers.others versions gabi gnu)
+          ]
         ]
       ]
     ]

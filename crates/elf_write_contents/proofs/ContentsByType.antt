@@ -8,7 +8,7 @@ use Rattle.std.proofs.lemmas.List.{length-append, length-replicate}
 use Rattle.std.proofs.lemmas.Option.{same_Some, slice_get_within}
 use Rattle.patch_bytes.specs.Memory.{◌>>=◌}
 use Rattle.patch_bytes.proofs.MemoryLaws.{some_bind}
-use Rattle.elf_format.specs.declared.constants.TheConstants.{PT_INTERP, SHT_DYNAMIC, SHT_PROGBITS, SHT_STRTAB}
+use Rattle.elf_format.specs.declared.constants.TheConstants.{PT_INTERP, SHT_DYNAMIC, SHT_PROGBITS, SHT_STRTAB, SHT_SYMTAB}
 use Rattle.elf_format.specs.declared.form.Form.{Form}
 use Rattle.elf_format.specs.declared.records.EntryNumbers.{EntryNumbers}
 use Rattle.elf_format.specs.declared.records.SectionHeader.{SectionHeader}
@@ -34,19 +34,20 @@ use Rattle.elf_write_spec.specs.Final.{final}
 use Rattle.elf_tables.specs.Spelled.{spelled_entry}
 use Rattle.elf_tables.proofs.ForCallers.EntryBack.{entries_are_read_back}
 use Rattle.elf_write_spec.proofs.ForCallers.SectionKinds.{kind_by}
-use Rattle.elf_write_spec.proofs.ForCallers.LinkedLists.{count-same, found_only}
+use Rattle.elf_write_spec.proofs.ForCallers.IntactCounts.{count-same, found_only}
 use Rattle.elf_write_spec.proofs.ForCallers.RawEntries.{length-raw}
 use Rattle.elf_write_strings.specs.declared.made.Made.{Made}
 use Rattle.elf_write_strings.specs.DynamicStrings.{AreStrings, IsTold, content_read, strings_at}
 use Rattle.elf_write_spec.specs.Ready.{IsReady}
-use Rattle.elf_write_contents.specs.ContentSteps.{IsRelocated}
+use Rattle.elf_write_contents.specs.ContentSteps.{IsRelocated, IsRelocatedOf}
 use Rattle.elf_write_contents.specs.Inner.{AreRaw, IsMadeContent}
 use Rattle.elf_write_strings.proofs.ForCallers.ReadyEdits.{edit_of}
-use Rattle.elf_write_spec.proofs.ForCallers.WholeEdits.{ReadFacts, SectionRead, interpreter_stands, interpreter_type, length-kept, length-now, section_read}
+use Rattle.elf_write_spec.proofs.ForCallers.IntactEdits.{ReadFacts, SectionRead, interpreter_stands, interpreter_type, length-kept, length-now, section_read}
 use Rattle.elf_write_strings.proofs.ForCallers.OthersCopied.{content_is_read, others_copied}
-use Rattle.elf_write_contents.proofs.ContentsMade.{IsOther, PlacedAt, content_by, content_from, content_plain, is_plain, kind_is, kind_plain, plain_long, relocations_stored, resized_with, stored, typed, typed_size}
-use Rattle.elf_write_contents.proofs.ContentsCopied.{content_long, content_sized, copied_size, few_lists}
-use Rattle.elf_write_spec.proofs.ForCallers.NumberedSections.{kept}
+use Rattle.elf_write_contents.proofs.ContentsMade.{IsOther, PlacedAt, content_by, content_from, content_plain, is_plain, kind_is, kind_plain, plain_long, relocations_stored, resized_with, statics_made, stored, typed, typed_size}
+use Rattle.elf_write_contents.proofs.ContentsCopied.{content_long, content_sized, copied_size, few_lists, static_size}
+use Rattle.elf_write_contents.proofs.SymbolsStatic.{statics_copied}
+use Rattle.elf_write_spec.proofs.ForCallers.IntactSections.{kept}
 
 module _ (read image : Image) (plan : Layout) (made : Option Made) (raw : List EntryNumbers) (is : IsReady read image) (f : ReadFacts read image)
     (i : ℕ) (at : PlacedAt read image plan f.parts i) (apart : is_numbered (interpreter_number read) (kept i at.section) ≡ false) where
@@ -76,6 +77,26 @@ module _ (read image : Image) (plan : Layout) (made : Option Made) (raw : List E
             bytes at.section.kind plain are);
         strings = λ e. absurd (false≢true (sym other.strings ∙ eq-eqb at.section.sh_type SHT_STRTAB e));
       }
+
+  -- ## Static symbols
+
+  pub symbols_made : at.section.sh_type ≡ SHT_SYMTAB → AreStrings read image made → (bytes : List ℕ)
+      → IsRelocated (resized_with read image) at.section bytes
+      → IsMadeContent (resized_with read image) plan made raw (kept i at.section) at.place bytes
+  symbols_made e strings bytes are =
+      let same : bytes ≡ at.section.content =
+      subst (IsRelocatedOf (resized_with read image) at.section bytes) (kind_is read image plan made raw f.parts i at SHT_SYMTAB e) are in
+      statics_made read image plan made raw f.parts i at apart bytes e
+      (ap length same ∙ content_long read image plan is f i at (ap (λ t. not (eqb t 0) && not (eqb t 8)) e)
+      ∙ sym (static_size read image plan is f i at e))
+      (statics_copied read image is f i (record {
+        old = at.old;
+        section = at.section;
+        is_old = at.is_old;
+        is_section = at.is_section;
+        is_kept = at.is_kept;
+        of_old = at.of_old;
+      }) e made strings bytes same)
 
   -- ## String tables
 

@@ -2,7 +2,7 @@
 use Rattle.std.proofs.Common.{◌≡◌, ◌≤◌, ℕ, ◌*◌, ◌/◌, ◌%◌, Bool, true, false, eqb, List, [], length, refl, sym, ap, ◌∙◌, subst, Option, Some}
 use Rattle.std.specs.Prelude.{◌&&◌, not, if◌then◌else◌, ◌==◌, count_by, nat_le}
 use Rattle.std.specs.List.{list_all, slice_get}
-use Rattle.std.proofs.lemmas.Bool.{and_parts, cond-false, eqb-true, false≢true, leb-true}
+use Rattle.std.proofs.lemmas.Bool.{and_parts, cond-false, false≢true, leb-true}
 use Rattle.elf_format.specs.declared.constants.TheConstants.{SHT_DYNAMIC, SHT_DYNSYM, SHT_GNU_HASH, SHT_GNU_VERDEF, SHT_GNU_VERNEED, SHT_GNU_VERSYM, SHT_HASH, SHT_STRTAB, SHT_SYMTAB}
 use Rattle.elf_format.specs.declared.form.Form.{Form}
 use Rattle.elf_format.specs.declared.records.SectionHeader.{SectionHeader}
@@ -18,13 +18,13 @@ use Rattle.elf_image.specs.ReadImage.{AreStaticSymbols}
 use Rattle.elf_image.specs.Kept.{interpreter_number, is_numbered}
 use Rattle.elf_layout_plan.specs.Plan.{Layout}
 use Rattle.elf_layout_plan.specs.Sizes.{interpreter_size, new_size, table_size}
-use Rattle.elf_write_spec.proofs.ForCallers.LinkedLists.{found_only}
+use Rattle.elf_write_spec.proofs.ForCallers.IntactCounts.{found_only}
 use Rattle.elf_write_spec.proofs.ForCallers.LinkedRelocations.{symbol_size-pos}
 use Rattle.elf_write_spec.specs.Ready.{IsReady}
-use Rattle.elf_write_spec.proofs.ForCallers.WholeEdits.{ReadFacts}
+use Rattle.elf_write_spec.proofs.ForCallers.IntactEdits.{ReadFacts}
 use Rattle.elf_write_contents.proofs.ContentsMade.{IsOther, PlacedAt}
 use Rattle.elf_format.proofs.ForCallers.Lengths.{length-records}
-use Rattle.elf_write_spec.proofs.ForCallers.NumberedSections.{kept}
+use Rattle.elf_write_spec.proofs.ForCallers.IntactSections.{kept}
 
 -- ## One of each
 
@@ -96,7 +96,7 @@ module _ (read image : Image) (plan : Layout) (is : IsReady read image) (f : Rea
   table_unit : (s : SectionHeader) → s.sh_type ≡ SHT_SYMTAB → unit_of f.parts.opened.form s ≡ symbol_size f.parts.opened.form
   table_unit s e = rw e refl
 
-  static_size : at.section.sh_type ≡ SHT_SYMTAB → length image.symbols * symbol_size image.form ≡ at.section.sh_size
+  pub static_size : at.section.sh_type ≡ SHT_SYMTAB → length image.symbols * symbol_size image.form ≡ at.section.sh_size
   static_size e =
       let typed : at.old.sh_type ≡ SHT_SYMTAB = old_type ∙ e in
       let size : ℕ = symbol_size f.parts.opened.form in
@@ -126,7 +126,7 @@ module _ (read image : Image) (plan : Layout) (is : IsReady read image) (f : Rea
       let old : ℕ = at.section.sh_size in
       pick (n == SHT_DYNAMIC) _ _ old (never (n == SHT_DYNAMIC) _ old other.dynamic) (λ _.
       pick (n == SHT_STRTAB) _ _ old (never (n == SHT_STRTAB) _ old other.strings) (λ _.
-      pick (n == SHT_SYMTAB) _ _ old (λ e. static_size (eqb-true n SHT_SYMTAB e)) (λ _.
+      pick (n == SHT_SYMTAB) _ _ old (never (n == SHT_SYMTAB) _ old other.static) (λ _.
       pick (n == SHT_DYNSYM) _ _ old (never (n == SHT_DYNSYM) _ old other.symbols) (λ _.
       pick (n == SHT_GNU_VERSYM) _ _ old (never (n == SHT_GNU_VERSYM) _ old other.versions) (λ _.
       pick (n == SHT_GNU_VERDEF) _ _ old (never (n == SHT_GNU_VERDEF) _ old other.definitions) (λ _.

@@ -27,7 +27,7 @@ use Rattle.elf_layout_plan.proofs.ForCallers.ApartRead.{edited_facts}
 use Rattle.elf_layout_plan.proofs.ForCallers.ApartSections.{at-sized, sized_of}
 use Rattle.elf_layout_plan.proofs.ForCallers.PlacedLists.{slice_get-at}
 use Rattle.elf_layout_plan.proofs.ForCallers.PlacedPlaces.{keeps_kind}
-use Rattle.elf_write_spec.specs.Contents.{AreDefinitionsIn, AreNeedsIn, AreSymbolsOf, AreVersionsIn, IsContent, IsContentOfKind, IsGabiContent, IsGnuContent}
+use Rattle.elf_write_spec.specs.Contents.{AreDefinitionsIn, AreNeedsIn, AreStaticSymbolsIn, AreSymbolsOf, AreVersionsIn, IsContent, IsContentOfKind, IsGabiContent, IsGnuContent}
 use Rattle.elf_write_spec.specs.Final.{final}
 use Rattle.elf_write_strings.specs.declared.made.Made.{Made}
 use Rattle.elf_write_contents.specs.ContentSteps.{IsBytesAt, IsRelocatedOf}
@@ -35,8 +35,8 @@ use Rattle.elf_write_strings.specs.DynamicStrings.{strings_at}
 use Rattle.elf_write_spec.specs.Ready.{IsPlanned}
 use Rattle.elf_write_contents.specs.Inner.{IsMadeContent}
 use Rattle.elf_write_strings.proofs.ForCallers.ReadyEdits.{edit_of}
-use Rattle.elf_write_spec.proofs.ForCallers.WholeEdits.{ReadFacts, SectionRead, section_read}
-use Rattle.elf_write_spec.proofs.ForCallers.NumberedSections.{kept}
+use Rattle.elf_write_spec.proofs.ForCallers.IntactEdits.{ReadFacts, SectionRead, section_read}
+use Rattle.elf_write_spec.proofs.ForCallers.IntactSections.{kept}
 use Rattle.elf_write_spec.proofs.ForCallers.SectionKinds.{kind_by}
 
 -- ## A section and its place
@@ -107,7 +107,7 @@ is_plain kinds.Dynamic = false
 is_plain kinds.Relocation = true
 is_plain kinds.Note = true
 is_plain kinds.Strings = false
-is_plain kinds.Symbols = true
+is_plain kinds.Symbols = false
 is_plain kinds.DynamicSymbols = false
 is_plain kinds.Hash = false
 is_plain kinds.GnuHash = false
@@ -124,7 +124,7 @@ content_plain r plan raw strings s bytes kinds.Dynamic h is = absurd (false≢tr
 content_plain r plan raw strings s bytes kinds.Relocation h is = is.1
 content_plain r plan raw strings s bytes kinds.Note h is = is
 content_plain r plan raw strings s bytes kinds.Strings h is = absurd (false≢true h)
-content_plain r plan raw strings s bytes kinds.Symbols h is = is
+content_plain r plan raw strings s bytes kinds.Symbols h is = absurd (false≢true h)
 content_plain r plan raw strings s bytes kinds.DynamicSymbols h is = absurd (false≢true h)
 content_plain r plan raw strings s bytes kinds.Hash h is = absurd (false≢true h)
 content_plain r plan raw strings s bytes kinds.GnuHash h is = absurd (false≢true h)
@@ -141,7 +141,7 @@ plain_long r s bytes size kinds.Dynamic h is long relocations = absurd (false≢
 plain_long r s bytes size kinds.Relocation h is long relocations = is.0 ∙ relocations refl
 plain_long r s bytes size kinds.Note h is long relocations = ap length is ∙ long
 plain_long r s bytes size kinds.Strings h is long relocations = absurd (false≢true h)
-plain_long r s bytes size kinds.Symbols h is long relocations = ap length is ∙ long
+plain_long r s bytes size kinds.Symbols h is long relocations = absurd (false≢true h)
 plain_long r s bytes size kinds.DynamicSymbols h is long relocations = absurd (false≢true h)
 plain_long r s bytes size kinds.Hash h is long relocations = absurd (false≢true h)
 plain_long r s bytes size kinds.GnuHash h is long relocations = absurd (false≢true h)
@@ -149,10 +149,11 @@ plain_long r s bytes size kinds.GnuVersym h is long relocations = absurd (false�
 plain_long r s bytes size kinds.GnuVerdef h is long relocations = absurd (false≢true h)
 plain_long r s bytes size kinds.GnuVerneed h is long relocations = absurd (false≢true h)
 
--- none of the types of which the bytes are made, or of string tables
+-- none of the types of which the bytes are made, or of string tables and static symbols
 pub record IsOther (n : ℕ) : Type 0 where
   pub dynamic : (n == SHT_DYNAMIC) ≡ false
   pub strings : (n == SHT_STRTAB) ≡ false
+  pub static : (n == SHT_SYMTAB) ≡ false
   pub symbols : (n == SHT_DYNSYM) ≡ false
   pub gabi : (n == SHT_HASH) ≡ false
   pub gnu : (n == SHT_GNU_HASH) ≡ false
@@ -175,7 +176,7 @@ kind_plain n opaque is =
     (either (is_one_of (SHT_REL ∷ SHT_RELA ∷ []) n) (if opaque then kinds.Opaque else kinds.Relocation) _ (either opaque kinds.Opaque kinds.Relocation refl refl)
     (either (n == SHT_NOTE) kinds.Note _ refl
     (other_one (n == SHT_STRTAB) kinds.Strings _ is.strings
-    (either (n == SHT_SYMTAB) kinds.Symbols _ refl
+    (other_one (n == SHT_SYMTAB) kinds.Symbols _ is.static
     (other_one (n == SHT_DYNSYM) kinds.DynamicSymbols _ is.symbols
     (other_one (n == SHT_HASH) kinds.Hash _ is.gabi
     (other_one (n == SHT_GNU_HASH) kinds.GnuHash _ is.gnu
@@ -285,6 +286,11 @@ module _ (read image : Image) (plan : Layout) (made : Option Made) (raw : List E
         → AreSymbolsOf (strings_at image made at.section.sh_link) (final read image).dynamic_symbols (symbols_in image.form bytes)
         → IsMadeContent r plan made raw here at.place bytes
     symbols_made bytes e long are = typed bytes SHT_DYNSYM e refl refl kinds.DynamicSymbols (λ opaque. refl) long are
+
+    pub statics_made : (bytes : List ℕ) → at.section.sh_type ≡ SHT_SYMTAB → length bytes ≡ length image.symbols * symbol_size image.form
+        → AreStaticSymbolsIn r here (strings_at image made at.section.sh_link) bytes
+        → IsMadeContent r plan made raw here at.place bytes
+    statics_made bytes e long are = typed bytes SHT_SYMTAB e refl refl kinds.Symbols (λ opaque. refl) long are
 
     pub definitions_made : (bytes : List ℕ) → at.section.sh_type ≡ SHT_GNU_VERDEF → length bytes ≡ definitions_size image.definitions
         → AreDefinitionsIn image (strings_at image made at.section.sh_link) bytes

@@ -28,7 +28,7 @@ use Rattle.elf_write_spec.specs.Ready.{IsReady}
 use Rattle.elf_write_contents.specs.Inner.{AreRaw}
 use Rattle.elf_write_strings.proofs.ForCallers.LinksAt.{Link, NoLink}
 use Rattle.elf_write_strings.proofs.ForCallers.LinksAt as links
-use Rattle.elf_write_spec.proofs.ForCallers.WholeEdits.{entries_written}
+use Rattle.elf_write_spec.proofs.ForCallers.IntactEdits.{entries_written}
 
 -- one entry for each, where each text stands at its place
 pub are_entries : (r : Resized) (plan : Layout) (strings : List ℕ) (es : List Entry) (places : List ℕ)

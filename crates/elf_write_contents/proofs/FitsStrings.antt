@@ -26,8 +26,8 @@ use Rattle.elf_write_spec.specs.Ready.{IsReady}
 use Rattle.elf_write_strings.proofs.ForCallers.MadeShort.{all_at, strings_read}
 use Rattle.elf_write_strings.proofs.ForCallers.OthersCopied.{content_is_read, list_linked}
 use Rattle.elf_write_strings.proofs.ForCallers.ReadyEdits.{edit_of}
-use Rattle.elf_write_spec.proofs.ForCallers.WholeEdits.{ReadFacts, kept-at, not_interpreter, read_facts}
-use Rattle.elf_write_spec.proofs.ForCallers.NumberedSections.{kept}
+use Rattle.elf_write_spec.proofs.ForCallers.IntactEdits.{ReadFacts, kept-at, not_interpreter, read_facts}
+use Rattle.elf_write_spec.proofs.ForCallers.IntactSections.{kept}
 
 -- one past the greatest word of a class
 abbrev pub words_end : Wide → ℕ

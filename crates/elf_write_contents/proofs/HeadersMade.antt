@@ -31,7 +31,7 @@ use Rattle.elf_tables.specs.Strings.{place_of}
 use Rattle.elf_write_spec.specs.Final.{final, new_number}
 use Rattle.elf_write_spec.specs.Headers.{Reads, behind_locals, is_info_number, written_header, written_info, written_section}
 use Rattle.elf_write_spec.proofs.ForCallers.TextsRead.{text_reads}
-use Rattle.elf_write_spec.proofs.ForCallers.WholeLists.{there_at}
+use Rattle.elf_write_spec.proofs.ForCallers.IntactLists.{there_at}
 use Rattle.elf_write_contents.specs.declared.headers.Known.{Known}
 use Rattle.elf_write_strings.specs.declared.made.Made.{Made}
 use Rattle.elf_write_contents.specs.HeaderSteps.{IsHeaderAt, IsKnown, header_by, headers_read, info_by}
@@ -42,8 +42,8 @@ use Rattle.elf_write_contents.proofs.HeadersLists.{far_numbers, far_section}
 use Rattle.elf_write_contents.proofs.NamesTable.{names_at}
 use Rattle.elf_write_strings.proofs.ForCallers.ReadyEdits.{edit_of}
 use Rattle.elf_write_strings.proofs.ForCallers.TextsTold.{told_names}
-use Rattle.elf_write_spec.proofs.ForCallers.WholeEdits.{ReadFacts, SectionRead, kept-at, kept_is, length-kept, length-now, needs_written, new_number-same, read_facts, section_read, static_same}
-use Rattle.elf_write_spec.proofs.ForCallers.NumberedSections.{kept}
+use Rattle.elf_write_spec.proofs.ForCallers.IntactEdits.{ReadFacts, SectionRead, kept-at, kept_is, length-kept, length-now, needs_written, new_number-same, read_facts, section_read, static_same}
+use Rattle.elf_write_spec.proofs.ForCallers.IntactSections.{kept}
 
 -- ## The file header
 

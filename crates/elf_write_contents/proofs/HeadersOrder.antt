@@ -7,9 +7,9 @@ use Rattle.elf_format.specs.Views.{NamedSymbol}
 use Rattle.elf_write_spec.specs.Final.{dynamic_order, final}
 use Rattle.elf_write_spec.specs.Headers.{behind_locals}
 use Rattle.elf_write_spec.specs.Ready.{IsReady}
-use Rattle.elf_write_spec.proofs.ForCallers.FinalSymbols.{all_symbols, final_count, final_ordered}
-use Rattle.elf_write_spec.proofs.ForCallers.OrderFacts.{ordered-at}
-use Rattle.elf_write_spec.proofs.ForCallers.WholeEdits.{read_facts}
+use Rattle.elf_write_spec.proofs.ForCallers.IntactSymbols.{all_symbols, final_count, final_ordered}
+use Rattle.elf_write_spec.proofs.ForCallers.IntactOrder.{ordered-at}
+use Rattle.elf_write_spec.proofs.ForCallers.IntactEdits.{read_facts}
 use Rattle.elf_write_strings.proofs.ForCallers.ReadyEdits.{edit_of}
 
 module _ (read image : Image) (is : IsReady read image) where

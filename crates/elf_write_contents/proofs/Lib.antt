@@ -11,6 +11,7 @@ pub mod HeadersOrder
 pub mod ContentsNumbering
 pub mod ContentsMade
 pub mod ContentsCopied
+pub mod SymbolsStatic
 pub mod ContentsByType
 pub mod ContentsAll
 pub mod NamesTable

@@ -19,7 +19,7 @@ use Rattle.elf_format.proofs.ForCallers.ViewsAgree.{links_right, there_and}
 use Rattle.elf_write_spec.proofs.ForCallers.HeaderTables.{header_bytes}
 use Rattle.elf_write_spec.specs.Ready.{IsReady}
 use Rattle.elf_write_strings.proofs.ForCallers.ReadyEdits.{edit_of}
-use Rattle.elf_write_spec.proofs.ForCallers.WholeEdits.{ReadFacts, SectionRead, length-now, section_read}
+use Rattle.elf_write_spec.proofs.ForCallers.IntactEdits.{ReadFacts, SectionRead, length-now, section_read}
 use Rattle.elf_format.proofs.ForCallers.Lengths.{length-sections}
 use Rattle.elf_write_spec.proofs.ForCallers.SectionKinds.{kind_by}
 
@@ -96,6 +96,7 @@ module _ (read image : Image) (is : IsReady read image) (f : ReadFacts read imag
 -- a kind of which the bytes show texts
 unfoldable pub shows_texts : SectionData → Bool
 shows_texts kinds.Dynamic = true
+shows_texts kinds.Symbols = true
 shows_texts kinds.DynamicSymbols = true
 shows_texts kinds.GnuVerdef = true
 shows_texts kinds.GnuVerneed = true
@@ -104,7 +105,6 @@ shows_texts kinds.Uninitialized = false
 shows_texts kinds.Relocation = false
 shows_texts kinds.Note = false
 shows_texts kinds.Strings = false
-shows_texts kinds.Symbols = false
 shows_texts kinds.Hash = false
 shows_texts kinds.GnuHash = false
 shows_texts kinds.GnuVersym = false
@@ -133,20 +133,22 @@ text_kinds opaque n h =
           let c = no_text (is_one_of (SHT_REL ∷ SHT_RELA ∷ []) n) (if opaque then kinds.Opaque else kinds.Relocation) _ (relocations opaque) b in
           let d = no_text (n == SHT_NOTE) kinds.Note _ refl c in
           let e = no_text (n == SHT_STRTAB) kinds.Strings _ refl d in
-          let g = no_text (n == SHT_SYMTAB) kinds.Symbols _ refl e in
-          elim (or_later (n == SHT_DYNSYM) kinds.DynamicSymbols _ g) [
-            | inl same ↦ user_of n SHT_DYNSYM refl same
-            | inr i ↦
-                let j = no_text (n == SHT_HASH) kinds.Hash _ refl i in
-                let k = no_text (n == SHT_GNU_HASH) kinds.GnuHash _ refl j in
-                let l = no_text (n == SHT_GNU_VERSYM) kinds.GnuVersym _ refl k in
-                elim (or_later (n == SHT_GNU_VERDEF) kinds.GnuVerdef _ l) [
-                  | inl same ↦ user_of n SHT_GNU_VERDEF refl same
-                  | inr m ↦ elim (or_later (n == SHT_GNU_VERNEED) kinds.GnuVerneed _ m) [
-                    | inl same ↦ user_of n SHT_GNU_VERNEED refl same
-                    | inr none ↦ absurd (false≢true none)
+          elim (or_later (n == SHT_SYMTAB) kinds.Symbols _ e) [
+            | inl same ↦ user_of n SHT_SYMTAB refl same
+            | inr g ↦ elim (or_later (n == SHT_DYNSYM) kinds.DynamicSymbols _ g) [
+              | inl same ↦ user_of n SHT_DYNSYM refl same
+              | inr i ↦
+                  let j = no_text (n == SHT_HASH) kinds.Hash _ refl i in
+                  let k = no_text (n == SHT_GNU_HASH) kinds.GnuHash _ refl j in
+                  let l = no_text (n == SHT_GNU_VERSYM) kinds.GnuVersym _ refl k in
+                  elim (or_later (n == SHT_GNU_VERDEF) kinds.GnuVerdef _ l) [
+                    | inl same ↦ user_of n SHT_GNU_VERDEF refl same
+                    | inr m ↦ elim (or_later (n == SHT_GNU_VERNEED) kinds.GnuVerneed _ m) [
+                      | inl same ↦ user_of n SHT_GNU_VERNEED refl same
+                      | inr none ↦ absurd (false≢true none)
+                    ]
                   ]
-                ]
+            ]
           ]
     ]
   where

@@ -5,9 +5,9 @@ use Rattle.elf_format.specs.Image.{Image}
 use Rattle.elf_format.specs.Views.{NamedSymbol}
 use Rattle.elf_write_spec.specs.Final.{dynamic_order, final}
 use Rattle.elf_write_spec.specs.Ready.{IsReady}
-use Rattle.elf_write_spec.proofs.ForCallers.FinalSymbols.{all_symbols, final_count, final_ordered}
-use Rattle.elf_write_spec.proofs.ForCallers.OrderFacts.{ordered-at}
-use Rattle.elf_write_spec.proofs.ForCallers.WholeEdits.{ReadFacts, read_facts}
+use Rattle.elf_write_spec.proofs.ForCallers.IntactSymbols.{all_symbols, final_count, final_ordered}
+use Rattle.elf_write_spec.proofs.ForCallers.IntactOrder.{ordered-at}
+use Rattle.elf_write_spec.proofs.ForCallers.IntactEdits.{ReadFacts, read_facts}
 use Rattle.elf_write_strings.proofs.ForCallers.ReadyEdits.{edit_of}
 
 module _ (read image : Image) (is : IsReady read image) where

@@ -38,10 +38,10 @@ use Rattle.elf_tables.proofs.ForCallers.StandingTexts.{stands-from}
 use Rattle.elf_write_spec.specs.Contents.{AreSymbolsOf, IsSymbolOf}
 use Rattle.elf_write_spec.specs.Final.{final}
 use Rattle.elf_write_spec.proofs.ForCallers.TextsRead.{text_inside}
-use Rattle.elf_write_spec.proofs.ForCallers.WholeLists.{all-each, there_at}
+use Rattle.elf_write_spec.proofs.ForCallers.IntactLists.{all-each, there_at}
 use Rattle.elf_write_spec.specs.Ready.{IsReady}
 use Rattle.elf_write_spec.proofs.ForCallers.FinalEntries.{written_none}
-use Rattle.elf_write_spec.proofs.ForCallers.FinalSymbols.{final_at}
+use Rattle.elf_write_spec.proofs.ForCallers.IntactSymbols.{final_at}
 use Rattle.elf_write_strings.specs.declared.made.Made.{Made}
 use Rattle.elf_write_strings.specs.DynamicStrings.{IsTold}
 use Rattle.elf_write_strings.proofs.ForCallers.OthersCopied.{list_linked, no_entries_read, none_edited, symbols_linked}
@@ -50,7 +50,7 @@ use Rattle.elf_write_contents.specs.SymbolSteps.{HasNames, TellsNames, begins_em
 use Rattle.elf_image_symbols.specs.TableSymbols.{symbol_with}
 use Rattle.elf_write_contents.proofs.NamesInOrder.{names_behind}
 use Rattle.elf_write_strings.proofs.ForCallers.ReadyEdits.{edit_of}
-use Rattle.elf_write_spec.proofs.ForCallers.WholeEdits.{Nowhere, ReadFacts, SectionRead, There, type_at}
+use Rattle.elf_write_spec.proofs.ForCallers.IntactEdits.{Nowhere, ReadFacts, SectionRead, There, type_at}
 use Rattle.elf_write_strings.proofs.ForCallers.SymbolsRead.{count, each_symbol, is_one, link_was, record_at, symbol_read, symbol_size-positive}
 
 -- ## Numbers that fit their fields

@@ -28,9 +28,10 @@ use Rattle.elf_write_spec.specs.Output.{IsPlannedOutput, Output, written_bytes}
 use Rattle.elf_write_spec.proofs.DataStays.{DataFacts, IsNoTable, data_facts, data_keeps_size, fixed_keeps_offset, no_table}
 use Rattle.elf_write_spec.proofs.Laying.{AreApart, field-values}
 use Rattle.elf_write_spec.proofs.Patches.{data_is_apart, keeps_base, places_in_file, swapped}
-use Rattle.elf_write_spec.proofs.WholeFacts.{Lengths, ReadFacts, SectionAt, lengths, section_at}
+use Rattle.elf_write_spec.proofs.WholeFacts.{ReadFacts, SectionAt, read_at, section_at}
+use Rattle.elf_write_spec.proofs.WholeEdits.{one_number}
 use Rattle.elf_format.proofs.ForCallers.Lengths.{length-segments}
-use Rattle.elf_write_spec.proofs.NumberedSections.{kept}
+use Rattle.elf_write_spec.proofs.NumberedSections.{kept_as}
 
 -- ## Positions and ranges
 
@@ -113,8 +114,8 @@ module _ (w : Output) (is : IsPlannedOutput w) (f : ReadFacts w) where
       (pairs-unmap AreApart file_range (filter is_stored read_places) (all_apart_pairs (stored_ranges read_places) loaded_rules.1)))
       i j s t less at_s at_t s_stored t_stored
 
-  place_was : (i : ℕ) (at : SectionAt w f.parts i) → slice_get read_places i ≡ Some (place_of at.old)
-  place_was i at = at-map place_of f.parts.sections i at.old at.is_old
+  place_was : (i : ℕ) (at : SectionAt w f.parts i) → slice_get read_places at.number ≡ Some (place_of at.old)
+  place_was i at = at-map place_of f.parts.sections at.number at.old at.is_old
 
   pub section_place : (i : ℕ) (at : SectionAt w f.parts i) → place_at_read at.section ≡ place_of at.old
   section_place i at = ap place_at_read at.of_old.fields
@@ -130,7 +131,7 @@ module _ (w : Output) (is : IsPlannedOutput w) (f : ReadFacts w) where
       let is_held : Place → Bool = λ x. list_any (λ p. holds p x) (loads_of f.parts.segments) && not (eqb x.sh_offset 0) in
       let held : is_held s ≡ true = each-at (λ x. is_stored x ≡ true → is_held x ≡ true) read_places
       (each-unfilter (λ x. is_held x ≡ true) is_stored read_places (all-at is_held (filter is_stored read_places) loaded_rules.0))
-      i s (place_was i at) stored in
+      at.number s (place_was i at) stored in
       let (j, p, at_p, shown) = any-at (λ p. holds p s) (loads_of f.parts.segments)
       (and_parts (list_any (λ p. holds p s) (loads_of f.parts.segments)) (not (eqb s.sh_offset 0)) held).0 in
       let is_shown = shows p s.sh_offset s.sh_size s.sh_addr shown in
@@ -141,15 +142,14 @@ module _ (w : Output) (is : IsPlannedOutput w) (f : ReadFacts w) where
       (has_from (file_part p) k (omega arith) (omega arith)))
 
   -- what is written anew didn't have a byte of data
-  not_rewritten : (i : ℕ) (at : SectionAt w f.parts i) → is_data r.read (kept i at.section) ≡ true → is_stored (place_of at.old) ≡ true
+  not_rewritten : (i : ℕ) (at : SectionAt w f.parts i) → is_data r.read (kept_as i at.number at.section) ≡ true → is_stored (place_of at.old) ≡ true
       → (k : ℕ) → at.old.sh_offset ≤ k → k < at.old.sh_offset + at.old.sh_size
       → (j : ℕ) (s : KeptSection) → slice_get (kept_sections w.image) j ≡ Some s → is_rewritten r.read s ≡ true
       → has_position k (file_range (place_at_read s.section)) ≡ false
   not_rewritten i at is_it stored k begins ends j s at_s rewritten =
-      let l : Lengths w f.parts = lengths w is f in
       let below = slice_get_within w.image.sections j s.section (kept-at 0 w.image.section_numbers w.image.sections j s at_s).2 in
-      let other : SectionAt w f.parts j = section_at w is f j (omega (arith, below, l.sections)) in
-      let same : s ≡ kept j other.section = same_Some s (kept j other.section) (sym at_s ∙ other.is_kept) in
+      let other : SectionAt w f.parts j = section_at w is f j below in
+      let same : s ≡ kept_as j other.number other.section = same_Some s (kept_as j other.number other.section) (sym at_s ∙ other.is_kept) in
       let outer = and_parts (occupies_memory (place_at_read s.section) && occupies_file (place_at_read s.section))
       (not (is_data r.read s)) rewritten in
       let place : place_at_read s.section ≡ place_of other.old = ap (λ (x : KeptSection). place_at_read x.section) same
@@ -159,35 +159,35 @@ module _ (w : Output) (is : IsPlannedOutput w) (f : ReadFacts w) where
       (ap (λ (x : Place). occupies_memory x && occupies_file x) (sym place) ∙ outer.0)
       (λ e. both_ways (is_data r.read s) no_data (ap (is_data r.read) (same ∙ one other e) ∙ is_it)))
     where
-      one : (other : SectionAt w f.parts j) → j ≡ i → kept j other.section ≡ kept i at.section
+      one : (other : SectionAt w f.parts j) → other.number ≡ at.number
+          → kept_as j other.number other.section ≡ kept_as i at.number at.section
       one other e =
-          let at_i : slice_get w.image.sections i ≡ Some other.section =
-          subst (λ (n : ℕ). slice_get w.image.sections n ≡ Some other.section) e other.is_section in
-          let section : other.section ≡ at.section = same_Some other.section at.section (sym at_i ∙ at.is_section) in
-          ap (λ (n : ℕ). kept n other.section) e ∙ ap (kept i) section
+          let index : j ≡ i = one_number (image_at_read w.image) w.image f j i (read_at other) (read_at at) e in
+          same_Some (kept_as j other.number other.section) (kept_as i at.number at.section)
+          (sym other.is_kept ∙ ap (slice_get (kept_sections w.image)) index ∙ at.is_kept)
 
       by_size : (other : SectionAt w f.parts j) → (eqb other.old.sh_size 0 ≡ true) ⊎ (eqb other.old.sh_size 0 ≡ false)
-          → (occupies_memory (place_of other.old) && occupies_file (place_of other.old)) ≡ true → (j ≡ i → ⊥)
+          → (occupies_memory (place_of other.old) && occupies_file (place_of other.old)) ≡ true → (other.number ≡ at.number → ⊥)
           → has_position k (file_range (place_of other.old)) ≡ false
       by_size other (inl none) taken differ = not_in_empty (file_range (place_of other.old)) k (eqb-true other.old.sh_size 0 none)
       by_size other (inr some) taken differ =
           let t : Place = place_of other.old in
           let t_stored : is_stored t ≡ true =
           and_from (occupies_memory t && occupies_file t) (not (eqb t.sh_size 0)) taken (not_from_false (eqb t.sh_size 0) some) in
-          not_in (file_range (place_of at.old)) (file_range t) k (elim (cases_order j i) [
+          not_in (file_range (place_of at.old)) (file_range t) k (elim (cases_order other.number at.number) [
             | inl same ↦ absurd (differ same)
             | inr (inl less) ↦ swapped (file_range t) (file_range (place_of at.old))
-                (two_were_apart j i t (place_of at.old) less (place_was j other) (place_was i at) t_stored stored)
-            | inr (inr more) ↦ two_were_apart i j (place_of at.old) t more (place_was i at) (place_was j other) stored t_stored
+                (two_were_apart other.number at.number t (place_of at.old) less (place_was j other) (place_was i at) t_stored stored)
+            | inr (inr more) ↦ two_were_apart at.number other.number (place_of at.old) t more (place_was i at) (place_was j other) stored t_stored
           ]) begins ends
 
   -- no old place had one
-  in_no_old_place : (i : ℕ) (at : SectionAt w f.parts i) → is_data r.read (kept i at.section) ≡ true → is_stored (place_of at.old) ≡ true
+  in_no_old_place : (i : ℕ) (at : SectionAt w f.parts i) → is_data r.read (kept_as i at.number at.section) ≡ true → is_stored (place_of at.old) ≡ true
       → (k : ℕ) → at.old.sh_offset ≤ k → k < at.old.sh_offset + at.old.sh_size → list_any (has_position k) (old_places r.read r.image) ≡ false
   in_no_old_place i at is_it stored k begins ends =
       let s : Place = place_of at.old in
-      let header = clear_at (header_range f.parts) clear_of_headers.0 i s (place_was i at) stored in
-      let table = clear_at (segment_table_range f.parts) clear_of_headers.1 i s (place_was i at) stored in
+      let header = clear_at (header_range f.parts) clear_of_headers.0 at.number s (place_was i at) stored in
+      let table = clear_at (segment_table_range f.parts) clear_of_headers.1 at.number s (place_was i at) stored in
       let P : Range → Type 0 = λ x. has_position k x ≡ false in
       none-from (has_position k) (old_places r.read r.image) (
         not_in (file_range s) (range 0 (file_header_size w.image.form)) k
@@ -205,7 +205,7 @@ module _ (w : Output) (is : IsPlannedOutput w) (f : ReadFacts w) where
       )
 
   -- so the base has it
-  pub base_has : (i : ℕ) (at : SectionAt w f.parts i) → is_data r.read (kept i at.section) ≡ true → is_stored (place_of at.old) ≡ true
+  pub base_has : (i : ℕ) (at : SectionAt w f.parts i) → is_data r.read (kept_as i at.number at.section) ≡ true → is_stored (place_of at.old) ≡ true
       → (k : ℕ) → at.old.sh_offset ≤ k → k < at.old.sh_offset + at.old.sh_size → base_byte r k ≡ slice_index w.image.source k
   base_has i at is_it stored k begins ends =
       let loaded : Bool = list_any (λ p. has_position k (file_part p)) (loads_of r.read.segments) in
@@ -217,26 +217,26 @@ module _ (w : Output) (is : IsPlannedOutput w) (f : ReadFacts w) where
   -- ## Data in the written file
 
   -- its type is none of a table's
-  not_table : (i : ℕ) (at : SectionAt w f.parts i) → is_data r.read (kept i at.section) ≡ true → IsNoTable at.section.sh_type
+  not_table : (i : ℕ) (at : SectionAt w f.parts i) → is_data r.read (kept_as i at.number at.section) ≡ true → IsNoTable at.section.sh_type
   not_table i at is_it =
-      let facts = data_facts r (kept i at.section) is_it in
+      let facts = data_facts r (kept_as i at.number at.section) is_it in
       subst (λ (n : ℕ). IsNoTable n) (ap (λ (x : ImageSection). x.sh_type) (sym at.of_old.fields))
       (no_table f.parts at.old (ap (λ (x : ImageSection). is_opaque x.kind) (sym at.of_old.fields) ∙ facts.opaque))
 
   -- where it was
-  pub data_offset : (i : ℕ) (at : SectionAt w f.parts i) → is_data r.read (kept i at.section) ≡ true → is_stored (place_of at.old) ≡ true
+  pub data_offset : (i : ℕ) (at : SectionAt w f.parts i) → is_data r.read (kept_as i at.number at.section) ≡ true → is_stored (place_of at.old) ≡ true
       → is_stored at.place ≡ true → at.place.sh_offset ≡ at.old.sh_offset
   data_offset i at is_it stored stored_now =
-      let facts = data_facts r (kept i at.section) is_it in
-      fixed_keeps_offset w.image w.plan is.edited is.planned i (kept i at.section) at.place at.is_kept at.is_place facts.other
+      let facts = data_facts r (kept_as i at.number at.section) is_it in
+      fixed_keeps_offset w.image w.plan is.edited is.planned i (kept_as i at.number at.section) at.place at.is_kept at.is_place facts.other
       (not_table i at is_it)
       (ap is_stored (section_place i at) ∙ stored) stored_now refl
       ∙ ap (λ (x : ImageSection). x.sh_offset) at.of_old.fields
 
-  pub data_size : (i : ℕ) (at : SectionAt w f.parts i) → is_data r.read (kept i at.section) ≡ true → at.place.sh_size ≡ at.old.sh_size
+  pub data_size : (i : ℕ) (at : SectionAt w f.parts i) → is_data r.read (kept_as i at.number at.section) ≡ true → at.place.sh_size ≡ at.old.sh_size
   data_size i at is_it =
-      let facts = data_facts r (kept i at.section) is_it in
-      at.place_size ∙ data_keeps_size (image_at_read w.image) w.image (kept i at.section) facts.other (not_table i at is_it)
+      let facts = data_facts r (kept_as i at.number at.section) is_it in
+      at.place_size ∙ data_keeps_size (image_at_read w.image) w.image (kept_as i at.number at.section) facts.other (not_table i at is_it)
       ∙ ap (λ (x : ImageSection). x.sh_size) at.of_old.fields
 
   place_stored : (i : ℕ) (at : SectionAt w f.parts i) → is_stored (place_of at.old) ≡ true → at.place.sh_size ≡ at.old.sh_size
@@ -248,7 +248,7 @@ module _ (w : Output) (is : IsPlannedOutput w) (f : ReadFacts w) where
       && occupies_file (record at.place { sh_type = n }) && not (eqb at.place.sh_size 0)) at.place_type
       ∙ ap (λ (n : ℕ). occupies_memory (place_of at.old) && occupies_file (place_of at.old) && not (eqb n 0)) size ∙ stored
 
-  base_field : (i : ℕ) (at : SectionAt w f.parts i) → is_data r.read (kept i at.section) ≡ true → is_stored (place_of at.old) ≡ true
+  base_field : (i : ℕ) (at : SectionAt w f.parts i) → is_data r.read (kept_as i at.number at.section) ≡ true → is_stored (place_of at.old) ≡ true
       → (size : ℕ)
       → at.old.sh_offset + at.old.sh_size ≤ size → at.old.sh_offset + at.old.sh_size ≤ length w.image.source
       → field at.old.sh_size at.old.sh_offset (base r size) ≡ field at.old.sh_size at.old.sh_offset w.image.source
@@ -258,7 +258,7 @@ module _ (w : Output) (is : IsPlannedOutput w) (f : ReadFacts w) where
       (λ k begins ends. base_has i at is_it stored k begins ends)
 
   -- its bytes
-  pub data_stands : (i : ℕ) (at : SectionAt w f.parts i) → is_data r.read (kept i at.section) ≡ true → occupies_file at.place ≡ true
+  pub data_stands : (i : ℕ) (at : SectionAt w f.parts i) → is_data r.read (kept_as i at.number at.section) ≡ true → occupies_file at.place ≡ true
       → field at.place.sh_size at.place.sh_offset (written_bytes w) ≡ field at.old.sh_size at.old.sh_offset w.image.source
   data_stands i at is_it in_file = elim (cases_Bool (eqb at.old.sh_size 0)) [
     | inl none ↦ empty at.place.sh_size at.place.sh_offset (written_bytes w) (data_size i at is_it ∙ eqb-true at.old.sh_size 0 none)
@@ -267,7 +267,7 @@ module _ (w : Output) (is : IsPlannedOutput w) (f : ReadFacts w) where
         let stored = old_stored some in
         let size : at.place.sh_size ≡ at.old.sh_size = data_size i at is_it in
         let offset : at.place.sh_offset ≡ at.old.sh_offset = data_offset i at is_it stored (place_stored i at stored size) in
-        keeps_base w is (file_range at.place) (data_is_apart w is i (kept i at.section) at.place at.is_kept at.is_place in_file is_it)
+        keeps_base w is (file_range at.place) (data_is_apart w is i (kept_as i at.number at.section) at.place at.is_kept at.is_place in_file is_it)
         ∙ ap (λ (n : ℕ). field n at.place.sh_offset (base r (written_size r w.plan))) size
         ∙ ap (λ (n : ℕ). field at.old.sh_size n (base r (written_size r w.plan))) offset
         ∙ base_field i at is_it stored (written_size r w.plan) (omega (arith, offset, size, place_ends)) old_ends
@@ -279,8 +279,8 @@ module _ (w : Output) (is : IsPlannedOutput w) (f : ReadFacts w) where
       same_file : occupies_file (place_of at.old) ≡ occupies_file at.place
       same_file = ap (λ (n : ℕ). occupies_file (record at.place { sh_type = n })) (sym at.place_type)
 
-      facts : DataFacts r (kept i at.section)
-      facts = data_facts r (kept i at.section) is_it
+      facts : DataFacts r (kept_as i at.number at.section)
+      facts = data_facts r (kept_as i at.number at.section) is_it
 
       old_stored : eqb at.old.sh_size 0 ≡ false → is_stored (place_of at.old) ≡ true
       old_stored some =
@@ -302,7 +302,7 @@ module _ (w : Output) (is : IsPlannedOutput w) (f : ReadFacts w) where
           let ends : ends_by long (file_range (place_of at.old)) ≡ true =
           each-at (λ s. occupies_file s ≡ true → ends_by long (file_range s) ≡ true) read_places
           (each-unfilter (λ s. ends_by long (file_range s) ≡ true) occupies_file read_places
-          (all-at (λ s. ends_by long (file_range s)) (filter occupies_file read_places) all)) i (place_of at.old) (place_was i at)
+          (all-at (λ s. ends_by long (file_range s)) (filter occupies_file read_places) all)) at.number (place_of at.old) (place_was i at)
           (same_file ∙ in_file) in
           subst (λ (l : List ℕ). at.old.sh_offset + at.old.sh_size ≤ length l) f.are_parts.same_file
           (leb-true (at.old.sh_offset + at.old.sh_size) long ends)

@@ -21,18 +21,18 @@ use Rattle.elf_write_spec.specs.Final.{final}
 use Rattle.elf_write_spec.specs.Output.{IsPlannedOutput, Output}
 use Rattle.elf_write_spec.specs.WrittenFile.{is_kind_copied}
 use Rattle.elf_write_spec.proofs.WholeEdits as edits
-use Rattle.elf_write_spec.proofs.WholeFacts.{ReadFacts, SectionAt, whole_edit}
-use Rattle.elf_write_spec.proofs.NumberedSections.{kept}
-use Rattle.elf_write_spec.proofs.SectionKinds.{IsTold, copied_by, kind_by}
+use Rattle.elf_write_spec.proofs.WholeFacts.{ReadFacts, SectionAt, read_at}
+use Rattle.elf_write_spec.proofs.NumberedSections.{kept_as}
+use Rattle.elf_write_spec.proofs.SectionKinds.{IsTold, copied_by, kind_by, untold}
 
 -- ## The interpreter's section
 
 module _ (w : Output) (is : IsPlannedOutput w) (f : ReadFacts w) (i : ℕ) (at : SectionAt w f.parts i) where
   -- a section of another type isn't the interpreter's
   pub not_interpreter : (type : ℕ) → at.old.sh_type ≡ type → (type == SHT_PROGBITS) ≡ false
-      → is_interpreter (image_at_read w.image) (kept i at.section) ≡ false
+      → is_interpreter (image_at_read w.image) (kept_as i at.number at.section) ≡ false
   not_interpreter type is_type other =
-      edits.not_interpreter (image_at_read w.image) w.image (whole_edit w is) i at.section at.is_section
+      edits.not_interpreter (image_at_read w.image) w.image f i (read_at at)
       (ap (λ (n : ℕ). n == SHT_PROGBITS) (ap (λ (x : ImageSection). x.sh_type) at.of_old.fields ∙ is_type) ∙ other)
 
   -- ## The kind of a section
@@ -43,7 +43,7 @@ module _ (w : Output) (is : IsPlannedOutput w) (f : ReadFacts w) (i : ℕ) (at :
 
   -- what its bytes show, were it of a kind
   abbrev pub ShowsAs : SectionData → Type 0
-  ShowsAs kind = IsContentOfKind (resized w.image) w.plan w.raw linked_bytes (kept i at.section) at.bytes kind
+  ShowsAs kind = IsContentOfKind (resized w.image) w.plan w.raw linked_bytes (kept_as i at.number at.section) at.bytes kind
 
   kind_is : at.section.kind ≡ data_of f.parts at.old
   kind_is = ap (λ (x : ImageSection). x.kind) at.of_old.fields
@@ -55,7 +55,7 @@ module _ (w : Output) (is : IsPlannedOutput w) (f : ReadFacts w) (i : ℕ) (at :
       → kind_by type (is_opaque_relocation f.parts at.old) ≡ kind
       → ShowsAs kind
   shows type is_type other kind kind_same =
-      let content : IsContent (resized w.image) w.plan w.raw linked_bytes (kept i at.section) at.bytes = at.written.content in
+      let content : IsContent (resized w.image) w.plan w.raw linked_bytes (kept_as i at.number at.section) at.bytes = at.written.content in
       let plain : ShowsAs at.section.kind = subst (λ (b : Bool). elim b as (λ _. Type 0) [
         | true ↦ at.bytes ≡ list_at (λ name. name) w.image.interpreter
         | _ ↦ ShowsAs at.section.kind
@@ -69,7 +69,7 @@ module _ (w : Output) (is : IsPlannedOutput w) (f : ReadFacts w) (i : ℕ) (at :
       × (at.bytes ≡ spelled_list w.image.form w.raw (length at.bytes))
   dynamic_shown h = shows SHT_DYNAMIC h refl kinds.Dynamic refl
 
-  pub strings_shown : at.old.sh_type ≡ SHT_STRTAB → IsTrue (is_table_copied (image_at_read w.image) w.image i)
+  pub strings_shown : at.old.sh_type ≡ SHT_STRTAB → IsTrue (is_table_copied (image_at_read w.image) w.image at.number)
       → at.bytes ≡ at.section.content
   strings_shown h = shows SHT_STRTAB h refl kinds.Strings refl
 
@@ -87,25 +87,29 @@ module _ (w : Output) (is : IsPlannedOutput w) (f : ReadFacts w) (i : ℕ) (at :
   content_read : at.section.content ≡ section_bytes (file_of f.parts) at.old
   content_read = ap (λ (x : ImageSection). x.content) at.of_old.fields
 
-  pub symbols_copied : at.old.sh_type ≡ SHT_SYMTAB → at.bytes ≡ section_bytes (file_of f.parts) at.old
-  symbols_copied h = shows SHT_SYMTAB h refl kinds.Symbols refl ∙ content_read
+  pub symbols_shown : at.old.sh_type ≡ SHT_SYMTAB
+      → AreSymbolsOf linked_bytes (final (image_at_read w.image) w.image).symbols (symbols_in w.image.form at.bytes)
+  symbols_shown h = (shows SHT_SYMTAB h refl kinds.Symbols refl).symbols
 
   -- hash tables are, where the names are those that were read
   same_names : are_names_changed (image_at_read w.image) w.image ≡ false
-      → IsTold (resized w.image) (kept i at.section) (record { table = false; names = true; versions = false; against_dynamic = true })
+      → IsTold (resized w.image) (kept_as i at.number at.section) (record untold { names = true })
   same_names same = record {
     table = λ h. absurd (false≢true h);
     names = λ _. same;
     versions = λ h. absurd (false≢true h);
     against_dynamic = λ h. absurd (false≢true (sym h));
+    symbols = λ h. absurd (false≢true h);
+    numbers = λ h. absurd (false≢true h);
+    against_static = λ h. absurd (false≢true (sym h));
   }
 
   hash_kept : are_names_changed (image_at_read w.image) w.image ≡ false → (kind : SectionData)
-      → is_kind_copied (record { table = false; names = true; versions = false; against_dynamic = true }) kind ≡ true
+      → is_kind_copied (record untold { names = true }) kind ≡ true
       → ShowsAs kind → at.bytes ≡ section_bytes (file_of f.parts) at.old
   hash_kept same kind copied content =
-      copied_by (resized w.image) w.plan w.raw linked_bytes (kept i at.section) at.bytes
-      (record { table = false; names = true; versions = false; against_dynamic = true }) (same_names same) kind copied content
+      copied_by (resized w.image) w.plan w.raw linked_bytes (kept_as i at.number at.section) at.bytes
+      (record untold { names = true }) (same_names same) kind copied content
       ∙ content_read
 
   pub hash_copied : are_names_changed (image_at_read w.image) w.image ≡ false → at.old.sh_type ≡ SHT_HASH

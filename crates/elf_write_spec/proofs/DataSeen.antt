@@ -1,5 +1,5 @@
 -- Data, hash tables and all other bytes that stay are seen at their addresses in a written file.
-use Rattle.std.proofs.Common.{◌≡◌, ℕ, Bool, true, false, ◌&&◌, ◌||◌, List, [], ◌∷◌, sym, ap, ◌∙◌, subst, arith}
+use Rattle.std.proofs.Common.{◌≡◌, ℕ, Bool, true, false, ◌&&◌, ◌||◌, List, [], ◌∷◌, sym, ap, ◌∙◌, subst}
 use Rattle.std.specs.Prelude.{◌==◌, if◌then◌else◌}
 use Rattle.std.proofs.lemmas.Bool.{and_parts, both_ways, cond-false, eq-eqb, eqb-true, false_from_ne_true}
 use Rattle.std.proofs.lemmas.Option.{same_Some, slice_get_within}
@@ -25,8 +25,8 @@ pub use Rattle.elf_write_spec.proofs.HashesSeen.{written_files_keep_hashes}
 use Rattle.elf_write_spec.proofs.DataStays.{DataFacts, IsNoTable, data_facts, no_table}
 use Rattle.elf_write_spec.proofs.FileParts.{data_content}
 use Rattle.elf_write_spec.proofs.SectionsSeen.{section_seen}
-use Rattle.elf_write_spec.proofs.WholeFacts.{ReadFacts, SectionAt, lengths, read_facts, section_at}
-use Rattle.elf_write_spec.proofs.NumberedSections.{kept}
+use Rattle.elf_write_spec.proofs.WholeFacts.{ReadFacts, SectionAt, read_facts, section_at}
+use Rattle.elf_write_spec.proofs.NumberedSections.{kept_as}
 
 -- ## Data never moves
 
@@ -60,9 +60,9 @@ never_moves r k other none =
 -- ## It is seen
 
 module _ (w : Output) (is : IsPlannedOutput w) (f : ReadFacts w) (i : ℕ) (at : SectionAt w f.parts i)
-    (is_it : is_data (image_at_read w.image) (kept i at.section) ≡ true) (stored : occupies_file (place_at_read at.section) ≡ true) where
-  facts : DataFacts (resized w.image) (kept i at.section)
-  facts = data_facts (resized w.image) (kept i at.section) is_it
+    (is_it : is_data (image_at_read w.image) (kept_as i at.number at.section) ≡ true) (stored : occupies_file (place_at_read at.section) ≡ true) where
+  facts : DataFacts (resized w.image) (kept_as i at.number at.section)
+  facts = data_facts (resized w.image) (kept_as i at.number at.section) is_it
 
   no_table_there : IsNoTable at.section.sh_type
   no_table_there =
@@ -71,15 +71,15 @@ module _ (w : Output) (is : IsPlannedOutput w) (f : ReadFacts w) (i : ℕ) (at :
 
   same_address : at.place.sh_addr ≡ at.section.sh_addr
   same_address =
-      let there = fixed_sections_stay w.image w.plan is.planned i (kept i at.section) at.is_kept
-      (never_moves (resized w.image) (kept i at.section) facts.other no_table_there) in
+      let there = fixed_sections_stay w.image w.plan is.planned i (kept_as i at.number at.section) at.is_kept
+      (never_moves (resized w.image) (kept_as i at.number at.section) facts.other no_table_there) in
       ap (λ (x : Place). x.sh_addr) (same_Some at.place there.place (sym at.is_place ∙ there.is_there)) ∙ there.same_address
 
   data_seen : Keeps (memory_of at.section.content) (from (byte_at w.plan.segments (written_bytes w)) at.section.sh_addr)
   data_seen =
       let was : place_at_read at.section ≡ place_of at.old = ap place_at_read at.of_old.fields in
       let same : at.bytes ≡ at.section.content =
-      data_content (resized w.image) w.plan w.raw (content_at_number w.image w.contents at.section.sh_link) (kept i at.section) at.bytes is_it
+      data_content (resized w.image) w.plan w.raw (content_at_number w.image w.contents at.section.sh_link) (kept_as i at.number at.section) at.bytes is_it
       at.written.content in
       let seen = section_seen w is f i at (ap occupies_memory (sym was) ∙ facts.loaded) (ap occupies_file (sym was) ∙ stored) in
       subst (λ (bytes : List ℕ). Keeps (memory_of bytes) (from (byte_at w.plan.segments (written_bytes w)) at.section.sh_addr)) same
@@ -89,10 +89,9 @@ pub written_files_keep_data : WrittenFilesKeepData
 written_files_keep_data w is i s at_s h =
     let r : Resized = resized w.image in
     let f = read_facts w is in
-    let l = lengths w is f in
     let below = slice_get_within w.image.sections i s.section (kept-at 0 w.image.section_numbers w.image.sections i s at_s).2 in
-    let at : SectionAt w f.parts i = section_at w is f i (omega (arith, below, l.sections)) in
-    let same : kept i at.section ≡ s = same_Some (kept i at.section) s (sym at.is_kept ∙ at_s) in
+    let at : SectionAt w f.parts i = section_at w is f i below in
+    let same : kept_as i at.number at.section ≡ s = same_Some (kept_as i at.number at.section) s (sym at.is_kept ∙ at_s) in
     let both = and_parts (is_data r.read s) (occupies_file (place_at_read s.section)) h in
     subst (λ (k : KeptSection). Keeps (memory_of k.section.content) (from (byte_at w.plan.segments (written_bytes w)) k.section.sh_addr)) same
     (data_seen w is f i at (ap (is_data r.read) same ∙ both.0) (ap (λ (k : KeptSection). occupies_file (place_at_read k.section)) same ∙ both.1))

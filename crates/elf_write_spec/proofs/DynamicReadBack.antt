@@ -2,69 +2,33 @@
 use Rattle.std.proofs.Common.{◌≡◌, ℕ, zero, suc, List, ◌∷◌, length, map, replicate, refl, sym, ap, ◌∙◌, subst, inl, inr, Option, Some, None, []}
 use Rattle.std.specs.Prelude.{option_map}
 use Rattle.std.specs.List.{slice_get}
-use Rattle.std.proofs.lemmas.Option.{none-some, same_Some, slice_get-map}
+use Rattle.std.proofs.lemmas.Option.{none-some, slice_get-map}
 use Rattle.elf_format.specs.declared.constants.TheConstants.{SHT_DYNSYM, SHT_GNU_VERSYM}
 use Rattle.elf_format.specs.declared.records.SectionHeader.{SectionHeader}
-use Rattle.elf_format.specs.declared.records.SymbolNumbers.{SymbolNumbers}
 use Rattle.elf_format.specs.declared.version_id.VersionId.{VersionId}
-use Rattle.elf_format.specs.File.{linked_section, section_of_type}
+use Rattle.elf_format.specs.File.{section_of_type}
 use Rattle.elf_format.specs.Form.{records}
 use Rattle.elf_format.specs.Image.{Image, dynamic_symbols_read, symbols_of, versions_read}
 use Rattle.elf_format.specs.Options.{is_one_of}
 use Rattle.elf_format.specs.Records.{symbols_in}
-use Rattle.elf_format.specs.Rules.{dynamic_texts_of, file_of, linked_texts, text_users}
+use Rattle.elf_format.specs.Rules.{linked_texts, text_users}
 use Rattle.elf_format.specs.Versions.{version_id}
 use Rattle.elf_format.specs.Views.{NamedSymbol}
 use Rattle.elf_image.specs.Edited.{IsVersionOf}
 use Rattle.elf_image.specs.ReadImage.{AreDynamicSymbols, AreSymbolsOf}
 use Rattle.elf_image_symbol_edits.specs.EditedList.{as_global}
-use Rattle.elf_image_symbols.specs.TableSymbols.{kept_as}
 use Rattle.elf_image.specs.Kept.{image_at_read}
 use Rattle.elf_write_spec.specs.ReadBack.{HasWrittenParts, written_parts}
-use Rattle.elf_write_spec.specs.Contents.{AreSymbolsOf as AreWrittenSymbols, IsSymbolOf as IsWrittenSymbol}
+use Rattle.elf_write_spec.specs.Contents.{AreSymbolsOf as AreWrittenSymbols}
 use Rattle.elf_write_spec.specs.Final.{final}
 use Rattle.elf_write_spec.specs.Output.{IsPlannedOutput, Output, written_bytes}
 use Rattle.elf_write_spec.proofs.ContentsReadBack.{Linked, bytes_are, dynamic_content, linked_at, texts_fit, versym_content}
-use Rattle.elf_write_spec.proofs.FinalSymbols.{count_read, final_at, final_count, final_none}
+use Rattle.elf_write_spec.proofs.FinalSymbols.{final_at, final_none}
 use Rattle.elf_write_spec.proofs.StringsReadBack.{symbols_shared, texts_kept}
-use Rattle.elf_write_spec.proofs.SymbolsReadBack.{symbols_made}
+use Rattle.elf_write_spec.proofs.SymbolsReadBack.{in_replicate, length-written, symbol_is, symbols_made, written_at}
 use Rattle.elf_write_spec.proofs.TextsRead.{text_read_back}
-use Rattle.elf_write_spec.proofs.WholeEdits.{IsWholeEdit}
-use Rattle.elf_write_spec.proofs.WholeFacts.{ReadFacts, SectionAt, There, Nowhere, read_facts, type_at, whole_edit}
+use Rattle.elf_write_spec.proofs.WholeFacts.{ReadFacts, SectionAt, There, Nowhere, read_facts, type_at}
 use Rattle.elf_format.proofs.ForCallers.Lengths.{length-versions_read}
-
--- ## Records
-
-length-written : (strings : List ℕ) (ys : List NamedSymbol) (ns : List SymbolNumbers) → AreWrittenSymbols strings ys ns
-    → length ys ≡ length ns
-length-written strings [] [] are = refl
-length-written strings [] (n ∷ ns) are = absurd are
-length-written strings (y ∷ ys) [] are = absurd are
-length-written strings (y ∷ ys) (n ∷ ns) are = ap suc (length-written strings ys ns are.1)
-
--- the record of a symbol
-written_at : (strings : List ℕ) (ys : List NamedSymbol) (ns : List SymbolNumbers) → AreWrittenSymbols strings ys ns
-    → (i : ℕ) (y : NamedSymbol) → slice_get ys i ≡ Some y → (n : SymbolNumbers) × (slice_get ns i ≡ Some n) × IsWrittenSymbol strings y n
-written_at strings [] [] are i y there = absurd (none-some y there)
-written_at strings [] (n ∷ ns) are i y there = absurd are
-written_at strings (x ∷ ys) [] are i y there = absurd are
-written_at strings (x ∷ ys) (n ∷ ns) are zero y there =
-    (n, refl, subst (λ (z : NamedSymbol). IsWrittenSymbol strings z n) (same_Some x y there) are.0)
-written_at strings (x ∷ ys) (n ∷ ns) are (suc i) y there = written_at strings ys ns are.1 i y there
-
--- a symbol by its record and its version
-symbol_is : (strings : List ℕ) (x : NamedSymbol) (n : SymbolNumbers) (version : Option VersionId) → IsWrittenSymbol strings x n
-    → x.version ≡ version
-    → x ≡ kept_as n version x.name
-symbol_is strings x n version is same =
-    let made : NamedSymbol = kept_as n version x.name in
-    ap (λ (v : Option VersionId). record x { version = v }) same
-    ∙ ap (λ (k : ℕ). record made { st_info = k; st_other = x.st_other; st_shndx = x.st_shndx; st_value = x.st_value; st_size = x.st_size })
-    (sym is.st_info)
-    ∙ ap (λ (k : ℕ). record made { st_other = k; st_shndx = x.st_shndx; st_value = x.st_value; st_size = x.st_size }) (sym is.st_other)
-    ∙ ap (λ (k : ℕ). record made { st_shndx = k; st_value = x.st_value; st_size = x.st_size }) (sym is.st_shndx)
-    ∙ ap (λ (k : ℕ). record made { st_value = k; st_size = x.st_size }) (sym is.st_value)
-    ∙ ap (λ (k : ℕ). record made { st_size = k }) (sym is.st_size)
 
 -- a value for each of a list that gives nothing else
 replicate-map : {A B : Type 0} (f : A → B) (b : B) (xs : List A) → ((i : ℕ) (x : A) → slice_get xs i ≡ Some x → f x ≡ b)
@@ -72,11 +36,6 @@ replicate-map : {A B : Type 0} (f : A → B) (b : B) (xs : List A) → ((i : ℕ
 replicate-map f b [] same = refl
 replicate-map {A} {B} f b (x ∷ xs) same =
     ap (λ (l : List B). b ∷ l) (replicate-map f b xs (λ i y. same (suc i) y)) ∙ ap (λ (y : B). y ∷ map f xs) (sym (same zero x refl))
-
-in_replicate : {A : Type 0} (x : A) (n k : ℕ) (y : A) → slice_get (replicate n x) k ≡ Some y → y ≡ x
-in_replicate x zero k y at = absurd (none-some y at)
-in_replicate x (suc n) zero y at = sym (same_Some x y at)
-in_replicate x (suc n) (suc k) y at = in_replicate x n k y at
 
 -- none that was cleared is none
 no_version : (old now : Option VersionId) → IsVersionOf old now → old ≡ None → now ≡ None
@@ -89,9 +48,6 @@ module _ (w : Output) (is : IsPlannedOutput w) (has : HasWrittenParts w) (f : Re
 
   abbrev symbols : List NamedSymbol
   symbols = (final read w.image).dynamic_symbols
-
-  abbrev whole : IsWholeEdit read w.image
-  whole = whole_edit w is
 
   -- the versions that are written are those of the symbols
   versions_there : (j : ℕ) (at : SectionAt w f.parts j) → at.old.sh_type ≡ SHT_GNU_VERSYM
@@ -106,8 +62,9 @@ module _ (w : Output) (is : IsPlannedOutput w) (has : HasWrittenParts w) (f : Re
       → versions_read (written_parts w) None (length symbols) ≡ map (λ y. y.version) symbols
   unfolding versions_read
   versions_nowhere none = replicate-map (λ (y : NamedSymbol). y.version) None symbols (λ i y at.
-      let was = final_at read w.image whole f i y at in
-      no_version was.old.version y.version was.same.1 (old_version none was.number was.old was.is_old))
+      let (x, was, made) = final_at read w.image f i y at in
+      ap (λ (z : NamedSymbol). z.version) made
+      ∙ no_version was.old.version x.version was.same.1 (old_version none was.number was.old was.is_old))
     where
       old_version : section_of_type SHT_GNU_VERSYM f.parts.sections ≡ None → (k : ℕ) (y : NamedSymbol)
           → slice_get read.dynamic_symbols k ≡ Some y → y.version ≡ None
@@ -125,7 +82,7 @@ module _ (w : Output) (is : IsPlannedOutput w) (has : HasWrittenParts w) (f : Re
 
   pub versions_are : versions_read (written_parts w) (section_of_type SHT_GNU_VERSYM w.headers) (length symbols)
       ≡ map (λ y. y.version) symbols
-  versions_are = elim (type_at w is f SHT_GNU_VERSYM) [
+  versions_are = elim (type_at w is f SHT_GNU_VERSYM refl) [
     | Nowhere was now none ↦
         ap (λ (o : Option SectionHeader). versions_read (written_parts w) o (length symbols)) now ∙ versions_nowhere was
     | There j at e was now there ↦
@@ -145,20 +102,9 @@ module _ (w : Output) (is : IsPlannedOutput w) (has : HasWrittenParts w) (f : Re
         (subst (λ (xs : List ℕ). AreWrittenSymbols xs symbols (symbols_in w.image.form at.bytes)) linked.are_strings
         (dynamic_content w is f i at e))
 
-    -- there are as many as were read
+    -- one for each symbol
     pub dynamic_count : length (symbols_of (written_parts w) at.header) ≡ length symbols
     dynamic_count = sym (length-written linked.table.bytes symbols (symbols_of (written_parts w) at.header) written)
-
-    were : AreSymbolsOf (length (file_of f.parts)) (dynamic_texts_of f.parts (linked_section f.parts.sections at.old))
-        (symbols_of f.parts at.old)
-        (versions_read f.parts (section_of_type SHT_GNU_VERSYM f.parts.sections)
-        (length (symbols_of f.parts at.old))) read.dynamic_symbols
-    were =
-        subst (λ o. AreDynamicSymbols f.parts (section_of_type SHT_GNU_VERSYM f.parts.sections) o read.dynamic_symbols) was
-        f.holds.dynamic_symbols
-
-    pub dynamic_as_read : length (symbols_of (written_parts w) at.header) ≡ length (symbols_of f.parts at.old)
-    dynamic_as_read = dynamic_count ∙ final_count read w.image whole f ∙ count_read read w.image whole f ∙ were.count
 
     new_versions : List (Option VersionId)
     new_versions = versions_read (written_parts w) (section_of_type SHT_GNU_VERSYM w.headers)
@@ -204,7 +150,7 @@ module _ (w : Output) (is : IsPlannedOutput w) (has : HasWrittenParts w) (f : Re
       let empty : read.dynamic_symbols ≡ [] =
       subst (λ o. AreDynamicSymbols f.parts (section_of_type SHT_GNU_VERSYM f.parts.sections) o read.dynamic_symbols) was
       f.holds.dynamic_symbols in
-      ap (λ (ys : List NamedSymbol). Some ys) (sym (final_none read w.image whole f empty))
+      ap (λ (ys : List NamedSymbol). Some ys) (sym (final_none read w.image f empty))
 
 -- the dynamic symbols
 pub dynamic_read_back : (w : Output) → IsPlannedOutput w → HasWrittenParts w
@@ -212,7 +158,7 @@ pub dynamic_read_back : (w : Output) → IsPlannedOutput w → HasWrittenParts w
     ≡ Some (final (image_at_read w.image) w.image).dynamic_symbols
 dynamic_read_back w is has =
     let f = read_facts w is in
-    elim (type_at w is f SHT_DYNSYM) [
+    elim (type_at w is f SHT_DYNSYM refl) [
       | Nowhere was now none ↦ ap (dynamic_symbols_read (written_parts w)) now ∙ dynamic_nowhere w is has f was
       | There i at e was now there ↦ ap (dynamic_symbols_read (written_parts w)) now ∙ dynamic_there w is has f i at e was
     ]

@@ -154,7 +154,7 @@ pub entries_read_back : (w : Output) → IsPlannedOutput w → HasWrittenParts w
     → entries_read (written_parts w) (section_of_type SHT_DYNAMIC w.headers) ≡ Some (final (image_at_read w.image) w.image).entries
 entries_read_back w is has =
     let f = read_facts w is in
-    elim (type_at w is f SHT_DYNAMIC) [
+    elim (type_at w is f SHT_DYNAMIC refl) [
       | Nowhere was now none ↦ ap (entries_read (written_parts w)) now ∙ entries_nowhere w is has f was
       | There j list e was now there ↦ ap (entries_read (written_parts w)) now ∙ entries_there w is has f j list e was now
     ]

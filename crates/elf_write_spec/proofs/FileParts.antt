@@ -47,7 +47,7 @@ use Rattle.elf_write_spec.proofs.DataStays.{data_facts}
 use Rattle.elf_write_spec.proofs.Laying.{StandsIn}
 use Rattle.elf_write_spec.proofs.Patches.{as_many, length-table, length-written, patches_lie, patches_stand, section-patch}
 use Rattle.elf_write_spec.proofs.WholeFacts.{ReadFacts, SectionAt, lengths, read_facts, section_at_header}
-use Rattle.elf_write_spec.proofs.NumberedSections.{kept}
+use Rattle.elf_write_spec.proofs.NumberedSections.{kept_as}
 
 -- ## The file header
 
@@ -168,7 +168,7 @@ module _ (w : Output) (is : IsPlannedOutput w) where
   stored_bytes : (f : ReadFacts w) (i : ℕ) (at : SectionAt w f.parts i) → occupies_file at.place ≡ true
       → field at.place.sh_size at.place.sh_offset (written_bytes w) ≡ at.bytes
   unfolding section_bytes
-  stored_bytes f i at in_file = by_test (is_data (image_at_read w.image) (kept i at.section)) refl
+  stored_bytes f i at in_file = by_test (is_data (image_at_read w.image) (kept_as i at.number at.section)) refl
     where
       long : length at.bytes ≡ at.place.sh_size
       long = at.written.sized ∙ cond-true (occupies_file at.place) at.place.sh_size 0 in_file
@@ -180,16 +180,16 @@ module _ (w : Output) (is : IsPlannedOutput w) where
           (ap (λ (n : ℕ). occupies_file (record at.place { sh_type = n })) (sym at.place_type) ∙ in_file)
           ∙ ap (field at.old.sh_size at.old.sh_offset) f.are_parts.same_file
 
-      by_test : (b : Bool) → is_data (image_at_read w.image) (kept i at.section) ≡ b
+      by_test : (b : Bool) → is_data (image_at_read w.image) (kept_as i at.number at.section) ≡ b
           → field at.place.sh_size at.place.sh_offset (written_bytes w) ≡ at.bytes
       by_test true is_it =
           data_stands w is f i at is_it in_file ∙ sym old_content
           ∙ sym (data_content (resized w.image) w.plan w.raw (content_at_number w.image w.contents at.section.sh_link)
-          (kept i at.section) at.bytes is_it at.written.content)
+          (kept_as i at.number at.section) at.bytes is_it at.written.content)
       by_test false other =
           ap (λ (n : ℕ). field n at.place.sh_offset (written_bytes w)) (sym long)
           ∙ section-patch (StandsIn (written_bytes w)) (resized w.image) (kept_sections w.image) w.plan.places w.contents stand.1.1.1
-          i (kept i at.section) at.place at.bytes at.is_kept at.is_place at.is_bytes in_file other
+          i (kept_as i at.number at.section) at.place at.bytes at.is_kept at.is_place at.is_bytes in_file other
 
   bytes_at : (f : ReadFacts w) (i : ℕ) (at : SectionAt w f.parts i) → section_bytes (written_bytes w) at.header ≡ at.bytes
   unfolding section_bytes

@@ -1,5 +1,5 @@
 -- A file that is written whole is one to which its image is written.
-use Rattle.std.proofs.Common.{◌≡◌, ℕ, true, ◌&&◌, List, [], ◌∷◌, ◌++◌, map, length, refl, sym, ap, ◌∙◌, subst, Option, Some, arith}
+use Rattle.std.proofs.Common.{◌≡◌, ℕ, true, ◌&&◌, List, [], ◌∷◌, ◌++◌, map, length, refl, sym, ap, ◌∙◌, subst, Option, Some}
 use Rattle.std.specs.Prelude.{◌*◌, ◌==◌, filter, if◌then◌else◌, not}
 use Rattle.std.specs.List.{list_all, list_any, slice_get}
 use Rattle.std.proofs.lemmas.Bool.{and_parts, cond-false, cond-true, not-true}
@@ -13,7 +13,8 @@ use Rattle.elf_format.specs.declared.records.SectionHeader.{SectionHeader}
 use Rattle.elf_format.specs.Dynamic.{entries_at}
 use Rattle.elf_format.specs.File.{has_file_bytes, section_bytes}
 use Rattle.elf_format.specs.Image.{ImageSection}
-use Rattle.elf_format.specs.Options.{is_some_and, list_at}
+use Rattle.elf_format.specs.Options.{is_one_of, is_some_and, list_at}
+use Rattle.elf_format.specs.Rules.{text_users}
 use Rattle.elf_format.specs.Places.{Place, file_range, occupies_file, occupies_memory, place_of, places_of}
 use Rattle.elf_format.specs.Ranges.{all_apart, range}
 use Rattle.elf_format.specs.Records.{section_header_size}
@@ -33,7 +34,7 @@ use Rattle.elf_layout_plan.proofs.ForCallers.PlacedLists.{all-at, filter-from, s
 use Rattle.elf_write_spec.specs.ReadBack.{rewritten_section}
 use Rattle.elf_write_spec.specs.Base.{has_position, is_interpreter}
 use Rattle.elf_write_spec.specs.Contents.{AreDefinitionsSpelled, AreNeedsSpelled, IsContentByKind, content_at_number}
-use Rattle.elf_write_spec.specs.Final.{final}
+use Rattle.elf_write_spec.specs.Final.{final, is_static_renumbered}
 use Rattle.elf_write_spec.specs.KeptSymbols.{AreRelocationsKept}
 use Rattle.elf_write_spec.specs.Laws.{section_table}
 use Rattle.elf_write_spec.specs.Look.{AreNamesFound}
@@ -45,7 +46,7 @@ use Rattle.elf_write_spec.proofs.ContentFacts.{definitions_shown, needs_shown, v
 use Rattle.elf_write_spec.proofs.DataSeen.{written_files_keep_data, written_files_keep_hashes, written_files_keep_others}
 use Rattle.elf_write_spec.proofs.FileParts.{other_than, written_files_have_parts}
 use Rattle.elf_write_spec.proofs.NamesFound.{written_files_find_names}
-use Rattle.elf_write_spec.proofs.NumberedSections.{kept}
+use Rattle.elf_write_spec.proofs.NumberedSections.{kept_as}
 use Rattle.elf_write_spec.proofs.RawEntries.{entries_here}
 use Rattle.elf_write_spec.proofs.FilesReadBack.{rewritten_image, rewritten_is, image_read_back, written_files_show}
 use Rattle.elf_write_spec.proofs.RelocationsKept.{relocations_kept}
@@ -53,14 +54,15 @@ use Rattle.elf_write_spec.proofs.SectionKinds.{IsTold, copied_by}
 use Rattle.elf_write_spec.proofs.SectionsReadBack.{rewritten-at, length-sections}
 use Rattle.elf_write_spec.proofs.SectionsSeen.{section_seen}
 use Rattle.elf_write_spec.proofs.SymbolsKept.{written_files_keep_symbols}
-use Rattle.elf_write_spec.proofs.WholeFacts.{Nowhere, ReadFacts, SectionAt, There, TypeAt, content_is, length-kept, lengths, places_are, read_facts, section_at, section_at_header, type_at}
+use Rattle.elf_write_spec.proofs.ContentsReadBack.{linked_at}
+use Rattle.elf_write_spec.proofs.WholeFacts.{Nowhere, ReadFacts, SectionAt, There, TypeAt, length-kept, lengths, places_are, read_facts, section_at, section_at_header, type_at}
 use Rattle.elf_write_spec.proofs.WholeLists.{same_items}
 
 -- ## A section, with what is read of it
 
 module _ (w : Output) (is : IsPlannedOutput w) (f : ReadFacts w) (i : ℕ) (at : SectionAt w f.parts i) where
   abbrev k : KeptSection
-  k = kept i at.section
+  k = kept_as i at.number at.section
 
   abbrev now : ImageSection
   now = rewritten_section at.section at.header at.bytes
@@ -117,6 +119,9 @@ module _ (w : Output) (is : IsPlannedOutput w) (f : ReadFacts w) (i : ℕ) (at :
     names = λ e. not-true (are_names_changed (image_at_read w.image) w.image) e;
     versions = λ e. e;
     against_dynamic = λ e. e;
+    symbols = λ e. e;
+    numbers = λ e. not-true (is_static_renumbered (image_at_read w.image) w.image) e;
+    against_static = λ e. e;
   }
 
   copied_at : is_copied w.image k ≡ true → at.bytes ≡ at.section.content
@@ -163,13 +168,13 @@ module _ (w : Output) (is : IsPlannedOutput w) (f : ReadFacts w) (i : ℕ) (at :
 
 module _ (w : Output) (is : IsPlannedOutput w) (f : ReadFacts w) where
   each_section : (Holds : KeptSection → ImageSection → Type 0)
-      → ((i : ℕ) (at : SectionAt w f.parts i) → Holds (kept i at.section) (rewritten_section at.section at.header at.bytes))
+      → ((i : ℕ) (at : SectionAt w f.parts i) → Holds (kept_as i at.number at.section) (rewritten_section at.section at.header at.bytes))
       → EachSection w.image (rewritten_image w) Holds
   unfolding rewritten_image
   each_section Holds holds i s now at_s at_now =
       let below = slice_get_within w.image.sections i s.section (kept-at 0 w.image.section_numbers w.image.sections i s at_s).2 in
-      let at : SectionAt w f.parts i = section_at w is f i (omega (arith, below, (lengths w is f).sections)) in
-      let same : kept i at.section ≡ s = same_Some (kept i at.section) s (sym at.is_kept ∙ at_s) in
+      let at : SectionAt w f.parts i = section_at w is f i below in
+      let same : kept_as i at.number at.section ≡ s = same_Some (kept_as i at.number at.section) s (sym at.is_kept ∙ at_s) in
       let read : rewritten_section at.section at.header at.bytes ≡ now = same_Some (rewritten_section at.section at.header at.bytes) now
       (sym (rewritten-at w.image.sections w.headers w.contents i at.section at.header at.bytes at.is_section at.is_header at.is_bytes) ∙ at_now) in
       subst (λ (x : ImageSection). Holds s x) read
@@ -179,8 +184,7 @@ module _ (w : Output) (is : IsPlannedOutput w) (f : ReadFacts w) where
   unfolding rewritten_image
   count_read_back =
       let long = lengths w is f in
-      length-sections w.image.sections w.headers w.contents (long.headers ∙ sym long.sections) (long.contents ∙ sym long.sections)
-      ∙ long.sections ∙ sym long.headers
+      length-sections w.image.sections w.headers w.contents long.headers long.contents ∙ sym long.headers
 
   -- everything stands where the plan has it
   places_read_back : places_in (rewritten_image w) ≡ w.plan.places
@@ -201,43 +205,44 @@ module _ (w : Output) (is : IsPlannedOutput w) (f : ReadFacts w) where
       sym (length-map (rewritten_image w).sections place_at_read) ∙ ap (λ (ps : List Place). length ps) places_read_back
 
   -- what is read at a position has the bytes that were written there
-  bytes_read_back : (n : ℕ) (s : ImageSection) → slice_get (rewritten_image w).sections n ≡ Some s → content_at_number w.image w.contents n ≡ s.content
+  bytes_read_back : (n : ℕ) (at : SectionAt w f.parts n) (s : ImageSection) → slice_get (rewritten_image w).sections n ≡ Some s → at.bytes ≡ s.content
   unfolding rewritten_image
-  bytes_read_back n s there =
-      let below = slice_get_within (rewritten_image w).sections n s there in
-      let at : SectionAt w f.parts n = section_at w is f n (omega (arith, below, count_read_back, (lengths w is f).headers)) in
+  bytes_read_back n at s there =
       let read : rewritten_section at.section at.header at.bytes ≡ s = same_Some (rewritten_section at.section at.header at.bytes) s
       (sym (rewritten-at w.image.sections w.headers w.contents n at.section at.header at.bytes at.is_section at.is_header at.is_bytes) ∙ there) in
-      content_is w is n at.bytes at.is_bytes ∙ ap (λ (x : ImageSection). x.content) read
+      ap (λ (x : ImageSection). x.content) read
 
   -- the records of versions, with the texts of the table that is read where their section links
   versions_at : (i : ℕ) (at : SectionAt w f.parts i)
-      → AreVersionsSpelled (rewritten_image w) (kept i at.section) (rewritten_section at.section at.header at.bytes)
+      → AreVersionsSpelled (rewritten_image w) (kept_as i at.number at.section) (rewritten_section at.section at.header at.bytes)
   unfolding rewritten_image final
   versions_at i at =
       let type : at.section.sh_type ≡ at.old.sh_type = ap (λ (x : ImageSection). x.sh_type) at.of_old.fields in
-      let link : at.section.sh_link ≡ at.header.sh_link = ap (λ (x : ImageSection). x.sh_link) at.of_old.fields ∙ sym at.link in
-      let strings = λ (texts : ImageSection) (there : slice_get (rewritten_image w).sections at.header.sh_link ≡ Some texts).
-      ap (content_at_number w.image w.contents) link ∙ bytes_read_back at.header.sh_link texts there in
+      let strings = λ (user : is_one_of text_users at.old.sh_type ≡ true) (texts : ImageSection)
+      (there : slice_get (rewritten_image w).sections at.header.sh_link ≡ Some texts).
+      let l = linked_at w is f i at user in
+      l.are_strings ∙ bytes_read_back l.position l.table texts (ap (slice_get (rewritten_image w).sections) (sym l.link) ∙ there) in
       record {
         definitions = λ is_type texts there.
-            subst (λ (l : List ℕ). AreDefinitionsSpelled w.image.form.order w.image.definitions l at.bytes) (strings texts there)
+            subst (λ (l : List ℕ). AreDefinitionsSpelled w.image.form.order w.image.definitions l at.bytes)
+            (strings (ap (is_one_of text_users) (sym type ∙ is_type)) texts there)
             (definitions_shown w is f i at (sym type ∙ is_type)).spelled;
         needs = λ is_type texts there.
-            subst (λ (l : List ℕ). AreNeedsSpelled w.image.form.order (final (image_at_read w.image) w.image).needs l at.bytes) (strings texts there)
+            subst (λ (l : List ℕ). AreNeedsSpelled w.image.form.order (final (image_at_read w.image) w.image).needs l at.bytes)
+            (strings (ap (is_one_of text_users) (sym type ∙ is_type)) texts there)
             (needs_shown w is f i at (sym type ∙ is_type)).spelled;
       }
 
   -- the numbers of the dynamic list are those that were written
   raw_read_back : (raw : List EntryNumbers) → IsNumberedList w.image (rewritten_image w) raw → w.raw ≡ raw
   unfolding rewritten_image
-  raw_read_back raw l = by_type (type_at w is f SHT_DYNAMIC)
+  raw_read_back raw l = by_type (type_at w is f SHT_DYNAMIC refl)
     where
       by_type : TypeAt w f.parts SHT_DYNAMIC → w.raw ≡ raw
       by_type (Nowhere _ _ none) = absurd (none-some l.list (sym none ∙ l.is_list))
       by_type (There i at type _ _ is_kept) =
           let has = written_files_have_parts w is in
-          let same : kept i at.section ≡ l.list = same_Some (kept i at.section) l.list (sym is_kept ∙ l.is_list) in
+          let same : kept_as i at.number at.section ≡ l.list = same_Some (kept_as i at.number at.section) l.list (sym is_kept ∙ l.is_list) in
           let here : slice_get (rewritten_image w).sections i ≡ Some l.now =
           ap (λ (x : KeptSection). slice_get (rewritten_image w).sections x.position) same ∙ l.is_now in
           let read : rewritten_section at.section at.header at.bytes ≡ l.now = same_Some (rewritten_section at.section at.header at.bytes) l.now
@@ -276,7 +281,7 @@ files_are_written are_apart show_notes w is =
       form = refl;
       header = refl;
       sections = record {
-        count = count_read_back w is f ∙ (lengths w is f).headers ∙ sym (lengths w is f).sections ∙ sym (length-kept w is);
+        count = count_read_back w is f ∙ (lengths w is f).headers ∙ sym (length-kept w is);
         each = each_section w is f (IsSectionKept w.image) (section_kept w is f);
       };
       lists = record { symbols = refl; dynamic_symbols = refl; definitions = refl; needs = refl; entries = refl; interpreter = refl };
@@ -308,7 +313,7 @@ files_are_written are_apart show_notes w is =
           (written_files_find_names w is changed lists (rewritten_image w) (image_read_back w is));
       symbols = written_files_keep_symbols w is (rewritten_image w) (image_read_back w is);
       relocations = each_section w is f (λ s now. AreRelocationsKept w.image (rewritten_image w) s.section now)
-          (λ i at kind. relocations_kept w is f (written_files_have_parts w is) i at kind);
+          (λ i at kind. relocations_kept w is f i at kind);
       symbol_versions = each_section w is f
           (λ s now. s.section.sh_type ≡ SHT_GNU_VERSYM
           → AreVersionsOf w.image.form (final (image_at_read w.image) w.image).dynamic_symbols now.content)

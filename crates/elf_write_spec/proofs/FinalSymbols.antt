@@ -1,21 +1,19 @@
 -- The dynamic symbols in their final form: each is one of the image, there are as many, and each was read with its section and, but for
 -- a version that was cleared, its version.
-use Rattle.std.proofs.Common.{◌≡◌, ℕ, zero, suc, List, [], ◌∷◌, length, refl, sym, ap, ◌∙◌, subst, Option, Some, None, arith}
+use Rattle.std.proofs.Common.{◌≡◌, ◌<◌, ◌≤◌, ℕ, zero, suc, map, List, [], ◌∷◌, length, refl, sym, ap, ◌∙◌, Option, Some, None, arith}
 use Rattle.std.specs.Prelude.{slice_index}
 use Rattle.std.specs.List.{cons_option, slice_get}
-use Rattle.std.proofs.lemmas.Option.{none-some}
-use Rattle.elf_format.specs.declared.constants.TheConstants.{SHT_DYNSYM, SHT_GNU_VERSYM}
-use Rattle.elf_format.specs.File.{section_of_type}
+use Rattle.std.proofs.lemmas.Option.{get_or_from_slice_get, none-some, slice_get-get_or, slice_get_within}
 use Rattle.elf_format.specs.Image.{Image}
 use Rattle.elf_format.specs.Views.{NamedSymbol}
-use Rattle.elf_format.proofs.ForCallers.Lengths.{length-counted}
 use Rattle.elf_hashes.specs.Found.{in_order}
 use Rattle.elf_image.specs.Edited.{IsSameDynamicSymbol}
 use Rattle.elf_write_spec.specs.Final.{dynamic_order, final, final_symbol, ordered}
-use Rattle.elf_write_spec.proofs.KnownSections.{IsKnown, known_dynamic}
-use Rattle.elf_write_spec.proofs.OrderFacts.{HasAllSymbols, length-final}
-use Rattle.elf_write_spec.proofs.WholeEdits.{IsWholeEdit, ReadFacts, same_symbol}
-use Rattle.elf_write_spec.proofs.WholeLists.{map-same}
+use Rattle.elf_write_spec.proofs.OrderFacts.{HasSymbols, length-final}
+use Rattle.elf_write_spec.proofs.WholeEdits.{ReadFacts}
+use Rattle.elf_write_spec.proofs.NumberedSections.{number_behind}
+use Rattle.elf_layout_plan.proofs.ForCallers.ApartLists.{map-at}
+use Rattle.elf_write_spec.proofs.WholeLists.{there_at}
 
 -- ## Symbols in an order
 
@@ -48,7 +46,7 @@ pub record SymbolRead (read image : Image) (y : NamedSymbol) : Type 0 where
   pub same : IsSameDynamicSymbol old y
   pub section : y.st_shndx ≡ old.st_shndx
 
-module _ (read image : Image) (is : IsWholeEdit read image) (f : ReadFacts read image) where
+module _ (read image : Image) (f : ReadFacts read image) where
   pub symbol_read : (i : ℕ) (y : NamedSymbol) → slice_get image.dynamic_symbols i ≡ Some y → SymbolRead read image y
   symbol_read i y at =
       let (old, old_at, same) = f.edit.dynamic_symbols.same i y at in
@@ -62,40 +60,57 @@ module _ (read image : Image) (is : IsWholeEdit read image) (f : ReadFacts read 
         section = ap (λ (z : NamedSymbol). z.st_shndx) same.2;
       }
 
-  known_now : (i : ℕ) (y : NamedSymbol) → slice_get image.dynamic_symbols i ≡ Some y → IsKnown f.parts.opened.header.e_shnum y.st_shndx
-  known_now i y at =
-      let was = symbol_read i y at in
-      subst (IsKnown f.parts.opened.header.e_shnum) (sym was.section)
-      (known_dynamic f.parts f.rules read.dynamic_symbols (section_of_type SHT_GNU_VERSYM f.parts.sections)
-      (section_of_type SHT_DYNSYM f.parts.sections) refl f.holds.dynamic_symbols was.number was.old was.is_old)
-
-  -- the final symbols are those of the image, in their order
-  pub final_ordered : (final read image).dynamic_symbols ≡ ordered read image
+  -- the final symbols are those of the image, in their order, each with the new number of its section
+  pub final_ordered : (final read image).dynamic_symbols ≡ map (final_symbol image) (ordered read image)
   unfolding final
-  final_ordered =
-      map-same (final_symbol image) (ordered read image) (λ i y at.
-      let (j, there) = in_order-from image.dynamic_symbols (dynamic_order read image) i y at in
-      same_symbol read image is f y (known_now j y there))
+  final_ordered = refl
 
-  pub final_at : (i : ℕ) (y : NamedSymbol) → slice_get (final read image).dynamic_symbols i ≡ Some y → SymbolRead read image y
+  pub final_at : (i : ℕ) (y : NamedSymbol) → slice_get (final read image).dynamic_symbols i ≡ Some y
+      → (x : NamedSymbol) × SymbolRead read image x × (y ≡ final_symbol image x)
   final_at i y at =
-      let (j, there) = in_order-from image.dynamic_symbols (dynamic_order read image) i y
+      let (x, x_at, made) = map-at (final_symbol image) (ordered read image) i y
       (ap (λ (l : List NamedSymbol). slice_get l i) (sym final_ordered) ∙ at) in
-      symbol_read j y there
+      let (j, there) = in_order-from image.dynamic_symbols (dynamic_order read image) i x x_at in
+      (x, symbol_read j x there, sym made)
 
   -- ## How many
 
-  pub count_read : length image.dynamic_symbols ≡ length read.dynamic_symbols
-  count_read =
-      sym f.edit.dynamic_symbols.numbered
-      ∙ ap (λ (l : List ℕ). length l) (is.whole.dynamic_symbol_numbers ∙ f.holds.dynamic_symbol_numbers)
-      ∙ length-counted (length read.dynamic_symbols)
+  number_below : (i n : ℕ) → slice_get image.dynamic_symbol_numbers i ≡ Some n → n < length read.dynamic_symbols
+  number_below i n at =
+      let within : i < length image.dynamic_symbols =
+      omega (arith, slice_get_within image.dynamic_symbol_numbers i n at, f.edit.dynamic_symbols.numbered) in
+      let (y, y_at) = there_at image.dynamic_symbols i within in
+      let (old, old_at, _) = f.edit.dynamic_symbols.same i y y_at in
+      omega (
+        arith,
+        slice_get_within read.dynamic_symbols (slice_index image.dynamic_symbol_numbers i) old old_at,
+        get_or_from_slice_get image.dynamic_symbol_numbers i n 0 at,
+      )
 
-  pub all_symbols : HasAllSymbols read image
+  -- no more than were read
+  pub count_read : length image.dynamic_symbols ≤ length read.dynamic_symbols
+  count_read = no_more (length image.dynamic_symbols) refl
+    where
+      numbers : List ℕ
+      numbers = image.dynamic_symbol_numbers
+
+      no_more : (n : ℕ) → length image.dynamic_symbols ≡ n → length image.dynamic_symbols ≤ length read.dynamic_symbols
+      no_more zero e = omega (arith, e)
+      no_more (suc n) e =
+          let within : n < length numbers = omega (arith, e, f.edit.dynamic_symbols.numbered) in
+          omega (
+            arith,
+            e,
+            number_behind numbers f.edit.dynamic_symbols.rising n within,
+            number_below n (slice_index numbers n) (slice_get-get_or numbers n 0 within),
+          )
+
+  pub all_symbols : HasSymbols read image
   all_symbols = record {
     complete = f.edit.complete;
-    numbers = is.whole.dynamic_symbol_numbers ∙ f.holds.dynamic_symbol_numbers;
     as_many = sym f.edit.dynamic_symbols.numbered;
+    rising = f.edit.dynamic_symbols.rising;
+    below = number_below;
   }
 
   pub final_count : length (final read image).dynamic_symbols ≡ length image.dynamic_symbols
@@ -104,4 +119,5 @@ module _ (read image : Image) (is : IsWholeEdit read image) (f : ReadFacts read 
   -- none of none
   pub final_none : read.dynamic_symbols ≡ [] → (final read image).dynamic_symbols ≡ []
   final_none none =
-      no_items (final read image).dynamic_symbols (final_count ∙ count_read ∙ ap (λ (l : List NamedSymbol). length l) none)
+      no_items (final read image).dynamic_symbols
+      (omega (arith, final_count, count_read, ap (λ (l : List NamedSymbol). length l) none))

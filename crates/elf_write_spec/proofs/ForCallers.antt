@@ -13,7 +13,7 @@ pub use Rattle.elf_write_spec.proofs.FileParts
 pub use Rattle.elf_write_spec.proofs.FilesWritten
 -- the section header table of a file: where each header's bytes stand, and that all of them lie in the file
 pub use Rattle.elf_write_spec.proofs.HeaderTables
--- the sections that are there in an image of which none went: each has its position for its number
+-- the sections that are there, each at its position, with the number that it was read at
 pub use Rattle.elf_write_spec.proofs.NumberedSections
 -- patches that share no byte, laid over bytes: each stands in them whole, and all other bytes stay
 pub use Rattle.elf_write_spec.proofs.Laying
@@ -39,13 +39,23 @@ pub use Rattle.elf_write_spec.proofs.FilesReadBack
 pub use Rattle.elf_write_spec.proofs.TextsRead
 -- tables of versions of symbols: those that hold the same versions are one
 pub use Rattle.elf_write_spec.proofs.VersionBytes
--- what is known of an edited image of which nothing went: the parts that were read, and how they match the sections that are there
+-- what is known of an edited image: the parts that were read, and how they match the sections that are there
 pub use Rattle.elf_write_spec.proofs.WholeEdits
 -- what is known of what is written: the parts that were read, and how they match, section by section, what is written
 pub use Rattle.elf_write_spec.proofs.WholeFacts
 -- lists: elements at positions, and the first one that passes a test
 pub use Rattle.elf_write_spec.proofs.WholeLists
--- string tables but that of the dynamic list keep their texts
-pub use Rattle.elf_write_spec.proofs.TextsStay
+-- the static symbols in their final form: each is one of the image, and the new number of each
+pub use Rattle.elf_write_spec.proofs.StaticSymbols
 -- what a section's bytes are, by its type
 pub use Rattle.elf_write_spec.proofs.SectionKinds
+-- the same of an image of which nothing went
+pub use Rattle.elf_write_spec.proofs.IntactSections
+pub use Rattle.elf_write_spec.proofs.IntactEdits
+pub use Rattle.elf_write_spec.proofs.IntactOrder
+pub use Rattle.elf_write_spec.proofs.IntactSymbols
+pub use Rattle.elf_write_spec.proofs.IntactVersions
+pub use Rattle.elf_write_spec.proofs.IntactTexts
+pub use Rattle.elf_write_spec.proofs.IntactCounts
+pub use Rattle.elf_write_spec.proofs.IntactKnown
+pub use Rattle.elf_write_spec.proofs.IntactLists

@@ -32,7 +32,7 @@ use Rattle.elf_write_spec.specs.Final.{final}
 use Rattle.elf_write_spec.specs.Look.{FindsByGabiHash, FindsByGnuHash, loaded_from, name_seen}
 use Rattle.elf_write_spec.specs.Output.{DoNumbersFit, Output, written_bytes}
 use Rattle.elf_write_spec.specs.ReadBack.{IsRewrittenImage}
-use Rattle.elf_write_spec.proofs.OrderFacts.{HasAllSymbols, KeepsFirst, final_bucketed, length-final}
+use Rattle.elf_write_spec.proofs.OrderFacts.{HasSymbols, KeepsFirst, final_bucketed, length-final}
 use Rattle.elf_write_spec.proofs.OrderTables.{HasGnuSizes, buckets_are, gabi_buckets_told, gnu_sizes_told}
 
 -- ## Words of bytes fit in 32 bits
@@ -103,7 +103,7 @@ sizes_fit image s all told =
 
 -- ## Look-ups
 
-module _ (w : Output) (again : Image) (same : IsRewrittenImage w again) (all : HasAllSymbols (image_at_read w.image) w.image)
+module _ (w : Output) (again : Image) (same : IsRewrittenImage w again) (all : HasSymbols (image_at_read w.image) w.image)
     (first : KeepsFirst w.image) (changed : are_names_changed (image_at_read w.image) w.image ≡ true) (fit : DoNumbersFit w)
     (names : AreNamesOf again.dynamic_symbols (name_seen (written_bytes w))) where
   can : can_renumber w.image ≡ true

@@ -24,7 +24,7 @@ use Rattle.elf_write_spec.proofs.RawEntries.{raw_is}
 use Rattle.elf_write_spec.proofs.RuleTables.{tables_right}
 use Rattle.elf_write_spec.proofs.SectionsSeen.{same_allocated, section_seen}
 use Rattle.elf_write_spec.proofs.WholeFacts.{Nowhere, ReadFacts, SectionAt, There, TypeAt, read_facts, type_at}
-use Rattle.elf_write_spec.proofs.NumberedSections.{kept}
+use Rattle.elf_write_spec.proofs.NumberedSections.{kept_as}
 
 -- what holds of a value where there is one
 pub none_or : {A : Type 0} (test : A → Bool) (o : Option A) (x : A) → o ≡ Some x → is_none_or test o ≡ true → test x ≡ true
@@ -85,7 +85,7 @@ module _ (w : Output) (is : IsPlannedOutput w) (f : ReadFacts w) (list : Section
       → TypeAt w f.parts type → IsSeenByTag w.image w.plan.segments w.raw (written_bytes w) type tag
   seen_by type tag agrees stored copied (Nowhere _ _ none) s address is_table value = absurd (none-some s (sym none ∙ is_table))
   seen_by type tag agrees stored copied (There i at is_type _ header is_kept) s address is_table value =
-      let same : kept i at.section ≡ s = same_Some (kept i at.section) s (sym is_kept ∙ is_table) in
+      let same : kept_as i at.number at.section ≡ s = same_Some (kept_as i at.number at.section) s (sym is_kept ∙ is_table) in
       subst (λ (k : KeptSection). Keeps (memory_of k.section.content) (from (byte_at w.plan.segments (written_bytes w)) address)) same
       (seen_at tag address i at (ap (tag_is_address (raw_entries p) tag) (sym header) ∙ agrees) value (stored at.old is_type) (copied i at is_type))
 
@@ -97,9 +97,9 @@ module _ (w : Output) (is : IsPlannedOutput w) (f : ReadFacts w) (list : Section
       → AreHashesSeen w.image w.plan.segments w.raw (written_bytes w)
   hashes_seen same = record {
     gabi = seen_by SHT_HASH DT_HASH each_agrees.0 (has_bytes SHT_HASH refl) (λ i at is_type. hash_copied w is f i at same is_type)
-        (type_at w is f SHT_HASH);
+        (type_at w is f SHT_HASH refl);
     gnu = seen_by SHT_GNU_HASH DT_GNU_HASH each_agrees.1 (has_bytes SHT_GNU_HASH refl) (λ i at is_type. gnu_hash_copied w is f i at same is_type)
-        (type_at w is f SHT_GNU_HASH);
+        (type_at w is f SHT_GNU_HASH refl);
   }
 
 -- without entries nothing is told
@@ -110,7 +110,7 @@ nothing_told w none = record {
 }
 
 pub written_files_keep_hashes : WrittenFilesKeepHashes
-written_files_keep_hashes w is same = by_list (type_at w is (read_facts w is) SHT_DYNAMIC)
+written_files_keep_hashes w is same = by_list (type_at w is (read_facts w is) SHT_DYNAMIC refl)
   where
     by_list : TypeAt w (read_facts w is).parts SHT_DYNAMIC → AreHashesSeen w.image w.plan.segments w.raw (written_bytes w)
     by_list (There i at _ _ header _) = hashes_seen w is (read_facts w is) at.header header same

@@ -1,9 +1,9 @@
 -- The interpreter's name of a written file is that of its image.
-use Rattle.std.proofs.Common.{◌≡◌, ◌⊎◌, ℕ, Bool, true, false, not, List, refl, sym, ap, ◌∙◌, subst, inl, inr, Option, Some, None, arith}
-use Rattle.std.specs.Prelude.{◌==◌, ◌&&◌, IsSome, find, is_some}
+use Rattle.std.proofs.Common.{◌≡◌, ℕ, Bool, true, false, not, List, refl, sym, ap, ◌∙◌, subst, Option, Some, None}
+use Rattle.std.specs.Prelude.{◌==◌, ◌&&◌, IsSome, is_some}
 use Rattle.std.specs.List.{slice_get}
-use Rattle.std.proofs.lemmas.Bool.{and_parts, both_ways, eq-eqb, eqb-true, false≢true, ne_eqb}
-use Rattle.std.proofs.lemmas.Option.{none-some, same_Some, slice_get_within}
+use Rattle.std.proofs.lemmas.Bool.{and_parts, eq-eqb, eqb-true, false≢true}
+use Rattle.std.proofs.lemmas.Option.{none-some}
 use Rattle.patch_bytes.specs.Memory.{◌>>=◌}
 use Rattle.patch_bytes.specs.Number.{field}
 use Rattle.patch_bytes.proofs.MemoryLaws.{some_bind}
@@ -20,8 +20,7 @@ use Rattle.elf_format.specs.Views.{interpreter_section}
 use Rattle.elf_format.proofs.ForCallers.Placed.{find_some, section_bytes-is}
 use Rattle.elf_format.proofs.ForCallers.ViewsAgree.{there_if}
 use Rattle.elf_image.specs.Edited.{IsInterpreterOf}
-use Rattle.elf_layout_plan.specs.Anchors.{OneSection, anchor_of, anchor_or_itself}
-use Rattle.elf_image.specs.Kept.{KeptSection, image_at_read, interpreter_number, is_numbered, kept_sections, stands_as_interpreter}
+use Rattle.elf_image.specs.Kept.{KeptSection, image_at_read, is_numbered}
 use Rattle.elf_layout_plan.specs.Memory.{Resized}
 use Rattle.elf_layout_plan.specs.Plan.{Layout, resized}
 use Rattle.elf_layout_plan.specs.Written.{anchored_to, target_at}
@@ -31,12 +30,11 @@ use Rattle.elf_write_spec.specs.Base.{is_interpreter}
 use Rattle.elf_write_spec.specs.Contents.{IsContentByKind, content_at_number}
 use Rattle.elf_write_spec.specs.Output.{IsPlannedOutput, Output, written_bytes}
 use Rattle.elf_write_spec.proofs.ContentsReadBack.{bytes_are}
-use Rattle.elf_write_spec.proofs.InterpreterAt.{interpreter_is, interpreter_type, kept_same, section_here}
-use Rattle.elf_write_spec.proofs.RuleDynamic.{interpreter_right}
-use Rattle.elf_write_spec.proofs.WholeFacts.{ReadFacts, SectionAt, read_facts, section_at}
-use Rattle.elf_write_spec.proofs.WholeLists.{FoundAt, NonePasses, find-is, first_at}
-use Rattle.elf_write_spec.proofs.WrittenTypes.{ASegment, NoSegment, SegmentAt, all_places_are, becomes, becomes-section, segment_at}
-use Rattle.elf_write_spec.proofs.NumberedSections.{kept}
+use Rattle.elf_write_spec.proofs.InterpreterAt.{interpreter_is, interpreter_type}
+use Rattle.elf_write_spec.proofs.RuleDynamic.{goes_by, interpreter_right, number_there}
+use Rattle.elf_write_spec.proofs.WholeFacts.{ReadFacts, SectionAt, read_facts}
+use Rattle.elf_write_spec.proofs.WrittenTypes.{ASegment, GoneSegment, NoSegment, SegmentAt, all_places_are, becomes, becomes-section, segment_at}
+use Rattle.elf_write_spec.proofs.NumberedSections.{kept_as}
 
 -- ## Sections at one place
 
@@ -81,53 +79,16 @@ found_bytes file p sections s is there =
 
 -- ## The section with the interpreter's name
 
-interpreter_anchor : (r : Resized) (p : SegmentHeader) → p.p_type ≡ PT_INTERP
-    → anchor_of r p ≡ anchor_or_itself (find (is_numbered (interpreter_number r.read)) (kept_sections r.image))
-unfolding anchor_of
-interpreter_anchor r p type = rw type refl
-
 module _ (w : Output) (is : IsPlannedOutput w) (f : ReadFacts w) where
-  -- the first that stood where PT_INTERP says
-  number_there : (old : SegmentHeader) → segment_of_type PT_INTERP f.parts.segments ≡ Some old
-      → (n : ℕ) × (interpreter_number (image_at_read w.image) ≡ Some n)
-  number_there old there =
-      let test : KeptSection → Bool = λ s. stands_as_interpreter old s.section in
-      let right : is_some (interpreter_section old f.parts.sections) ≡ true =
-      subst (λ o. is_none_or (λ q. is_some (interpreter_section q f.parts.sections)) o ≡ true) there f.rules.interpreter in
-      let (x, found) = there_if (interpreter_section old f.parts.sections) right in
-      let (i, at_i, stands) = find-at (stands_at old) f.parts.sections x found in
-      let at = section_at w is f i (slice_get_within f.parts.sections i x at_i) in
-      let stood : stands_as_interpreter old at.section ≡ true =
-      ap (stands_as_interpreter old) at.of_old.fields ∙ ap (stands_at old) (same_Some at.old x (sym at.is_old ∙ at_i)) ∙ stands in
-      by_first i at stood (first_at test (kept_sections w.image))
-    where
-      by_first : (i : ℕ) (at : SectionAt w f.parts i) → stands_as_interpreter old at.section ≡ true
-          → FoundAt (λ s. stands_as_interpreter old s.section) (kept_sections w.image)
-          ⊎ NonePasses (λ s. stands_as_interpreter old s.section) (kept_sections w.image)
-          → (n : ℕ) × (interpreter_number (image_at_read w.image) ≡ Some n)
-      by_first i at stood (inl found) = (
-        found.element.number,
-        some_bind (segment_of_type PT_INTERP (image_at_read w.image).segments)
-            (λ q. find (λ s. stands_as_interpreter q s.section) (kept_sections (image_at_read w.image)) >>= λ s. Some s.number) old
-            (ap (segment_of_type PT_INTERP) f.holds.segments ∙ there)
-            ∙ some_bind (find (λ s. stands_as_interpreter old s.section) (kept_sections (image_at_read w.image)))
-            (λ s. Some s.number) found.element
-            (ap (find (λ s. stands_as_interpreter old s.section)) (sym (kept_same w is)) ∙ found.is_first),
-      )
-      by_first i at stood (inr none) =
-          absurd (both_ways (stands_as_interpreter old at.section) (none i (kept i at.section) at.is_kept) stood)
+  -- a section was read where PT_INTERP says
+  section_was : (old : SegmentHeader) → segment_of_type PT_INTERP f.parts.segments ≡ Some old
+      → is_some (interpreter_section old f.parts.sections) ≡ true
+  section_was old there =
+      subst (λ o. is_none_or (λ q. is_some (interpreter_section q f.parts.sections)) o ≡ true) there f.rules.interpreter
 
-  -- PT_INTERP goes by it
-  goes_by : (n : ℕ) (at : SectionAt w f.parts n) (p : SegmentHeader) → interpreter_number (image_at_read w.image) ≡ Some n
-      → p.p_type ≡ PT_INTERP
-      → anchor_of (resized w.image) p ≡ OneSection (kept n at.section)
-  goes_by n at p number type =
-      interpreter_anchor (resized w.image) p type
-      ∙ ap (λ o. anchor_or_itself (find (is_numbered o) (kept_sections w.image))) number
-      ∙ ap anchor_or_itself (find-is (is_numbered (Some n)) (kept_sections w.image) n (kept n at.section) at.is_kept (eq-eqb n n refl)
-      (λ j s less there_s.
-      let (_, same) = section_here w is f j s there_s in
-      ne_eqb n s.number (λ e. omega (arith, e, less, ap (λ (k : KeptSection). k.number) same))))
+  -- there is an interpreter where its program header is
+  name_there : (p : SegmentHeader) → segment_of_type PT_INTERP w.image.segments ≡ Some p → IsSome w.image.interpreter
+  name_there p there_now = f.edit.complete.interpreter ∙ ap is_some there_now
 
 -- PT_INTERP of the written file names the bytes of the section with the interpreter's name
 record StandsReadBack (w : Output) (f : ReadFacts w) : Type 0 where
@@ -135,7 +96,7 @@ record StandsReadBack (w : Output) (f : ReadFacts w) : Type 0 where
   is_segment : segment_of_type PT_INTERP w.plan.segments ≡ Some segment
   number : ℕ
   at : SectionAt w f.parts number
-  named : is_interpreter (image_at_read w.image) (kept number at.section) ≡ true
+  named : is_interpreter (image_at_read w.image) (kept_as number at.number at.section) ≡ true
   is_placed : IsPlaced segment at.header
 
 stands_read_back : (w : Output) (is : IsPlannedOutput w) (f : ReadFacts w) (old p : SegmentHeader)
@@ -143,20 +104,20 @@ stands_read_back : (w : Output) (is : IsPlannedOutput w) (f : ReadFacts w) (old 
     → segment_of_type PT_INTERP w.image.segments ≡ Some p
     → segment_of_type PT_INTERP w.plan.segments ≡ Some (becomes (resized w.image) is.planned.moved p) → StandsReadBack w f
 stands_read_back w is f old p there there_now there_plan =
-    let (n, number) = number_there w is f old there in
-    let found = interpreter_is w is f n number in
+    let (n, number) = number_there w is f old there (section_was w is f old there) in
+    let found = interpreter_is w is f n number (name_there w is f p there_now) in
     let at = found.at in
     let (_, _, typed) = find-at (λ (q : SegmentHeader). q.p_type == PT_INTERP) w.image.segments p there_now in
-    let anchor = goes_by w is f n at p number (eqb-true p.p_type PT_INTERP typed) in
+    let anchor = goes_by w is f found.position n at p number found.number (eqb-true p.p_type PT_INTERP typed) in
     let goes : becomes (resized w.image) is.planned.moved p ≡ anchored_to w.image.form p (target_at at.place) =
-    becomes-section (resized w.image) is.planned.moved p (kept n at.section) at.place anchor
-    (ap (λ (l : List Place). slice_get l n) (sym (all_places_are w is)) ∙ at.is_place) in
+    becomes-section (resized w.image) is.planned.moved p (kept_as found.position at.number at.section) at.place anchor
+    (ap (λ (l : List Place). slice_get l found.position) (sym (all_places_are w is)) ∙ at.is_place) in
     record {
       segment = anchored_to w.image.form p (target_at at.place);
       is_segment = there_plan ∙ ap Some goes;
-      number = n;
+      number = found.position;
       at = at;
-      named = ap (λ o. is_numbered o (kept n at.section)) number ∙ eq-eqb n n refl;
+      named = ap (λ o. is_numbered o (kept_as found.position at.number at.section)) number ∙ eq-eqb n at.number (sym found.number);
       is_placed = record {
         type = at.type ∙ ap (λ (s : ImageSection). s.sh_type) (sym at.of_old.fields) ∙ interpreter_type w f n found;
         offset = at.offset;
@@ -183,6 +144,10 @@ name_of : (o : Option (List ℕ)) → IsSome o → Some (list_at (λ name. name)
 name_of None h = absurd (false≢true h)
 name_of (Some name) h = refl
 
+none_of : (o : Option (List ℕ)) → is_some o ≡ false → o ≡ None
+none_of None h = refl
+none_of (Some name) h = absurd (false≢true (sym h))
+
 -- the content of the interpreter's section is its name
 name_written : (r : Resized) (plan : Layout) (raw : List EntryNumbers) (strings : List ℕ) (s : KeptSection) (bytes : List ℕ) (b : Bool)
     → b ≡ true
@@ -196,34 +161,22 @@ module _ (w : Output) (is : IsPlannedOutput w) (has : HasWrittenParts w) (f : Re
   read : Image
   read = image_at_read w.image
 
-  -- a name was read where PT_INTERP was
-  name_was : (old : SegmentHeader) → segment_of_type PT_INTERP f.parts.segments ≡ Some old → IsSome read.interpreter
-  unfolding read read_by
-  name_was old there =
-      let right : is_some (interpreter_section old f.parts.sections) ≡ true =
-      subst (λ o. is_none_or (λ q. is_some (interpreter_section q f.parts.sections)) o ≡ true) there f.rules.interpreter in
-      let (s, found) = there_if (interpreter_section old f.parts.sections) right in
-      let made : read.interpreter ≡ Some (section_bytes (file_of f.parts) s) =
-      f.holds.interpreter ∙ read_is f.parts ∙ ap (read_by f.parts) there
-      ∙ some_bind (interpreter_section old f.parts.sections) (λ x. Some (section_bytes (file_of f.parts) x)) s found in
-      ap is_some made
-
-  name_here : (old : SegmentHeader) → segment_of_type PT_INTERP f.parts.segments ≡ Some old → StandsReadBack w f
+  name_here : (p : SegmentHeader) → segment_of_type PT_INTERP w.image.segments ≡ Some p → StandsReadBack w f
       → interpreter_read (written_parts w) ≡ w.image.interpreter
   unfolding read read_by
-  name_here old there again =
+  name_here p there_now again =
       let at = again.at in
       let file : List ℕ = written_bytes w in
       let bytes : at.bytes ≡ list_at (λ name. name) w.image.interpreter =
       name_written (resized w.image) w.plan w.raw (content_at_number w.image w.contents at.section.sh_link)
-      (kept again.number at.section) at.bytes
-      (is_interpreter (image_at_read w.image) (kept again.number at.section)) again.named at.written.content in
+      (kept_as again.number at.number at.section) at.bytes
+      (is_interpreter (image_at_read w.image) (kept_as again.number at.number at.section)) again.named at.written.content in
       let right : is_some (interpreter_section again.segment w.headers) ≡ true =
       subst (λ o. is_none_or (λ q. is_some (interpreter_section q w.headers)) o ≡ true) again.is_segment (interpreter_right w is has) in
       read_is (written_parts w) ∙ ap (read_by (written_parts w)) again.is_segment
       ∙ found_bytes file again.segment w.headers at.header again.is_placed right
       ∙ ap Some (bytes_are w is has f again.number at ∙ bytes)
-      ∙ name_of w.image.interpreter (is.whole.interpreter (name_was old there))
+      ∙ name_of w.image.interpreter (name_there w is f p there_now)
 
   name_by : SegmentAt w is f PT_INTERP → interpreter_read (written_parts w) ≡ w.image.interpreter
   unfolding read read_by
@@ -231,7 +184,10 @@ module _ (w : Output) (is : IsPlannedOutput w) (has : HasWrittenParts w) (f : Re
       let was : read.interpreter ≡ None = f.holds.interpreter ∙ read_is f.parts ∙ ap (read_by f.parts) none_old in
       read_is (written_parts w) ∙ ap (read_by (written_parts w)) none_plan
       ∙ sym (name_gone read.interpreter w.image.interpreter was f.edit.interpreter)
-  name_by (ASegment old p there there_now same there_plan) = name_here old there (stands_read_back w is f old p there there_now there_plan)
+  name_by (ASegment old p there there_now same there_plan) = name_here p there_now (stands_read_back w is f old p there there_now there_plan)
+  name_by (GoneSegment old there can none_now none_plan) =
+      read_is (written_parts w) ∙ ap (read_by (written_parts w)) none_plan
+      ∙ sym (none_of w.image.interpreter (f.edit.complete.interpreter ∙ ap is_some none_now))
 
 pub name_read_back : (w : Output) → IsPlannedOutput w → HasWrittenParts w → interpreter_read (written_parts w) ≡ w.image.interpreter
-name_read_back w is has = name_by w is has (read_facts w is) (segment_at w is (read_facts w is) PT_INTERP refl refl)
+name_read_back w is has = name_by w is has (read_facts w is) (segment_at w is (read_facts w is) PT_INTERP refl refl refl)

@@ -1,5 +1,6 @@
 pub mod WholeLists
-pub mod KnownSections
+pub mod LinkedLists
+pub mod SingleTypes
 pub mod NumberedSections
 pub mod SectionKinds
 pub mod WholeEdits
@@ -8,6 +9,7 @@ pub mod OrderLists
 pub mod OrderTables
 pub mod OrderFacts
 pub mod FinalSymbols
+pub mod StaticSymbols
 pub mod StayingVersions
 pub mod MovedFacts
 pub mod UnloadedFacts
@@ -28,7 +30,6 @@ pub mod BaseBytes
 pub mod FileParts
 pub mod RuleKind
 pub mod RulePlaced
-pub mod LinkedLists
 pub mod LinkedSegments
 pub mod LinkedMatch
 pub mod LinkedTypes
@@ -45,10 +46,8 @@ pub mod RuleTables
 pub mod TextsRead
 pub mod ContentsReadBack
 pub mod NamesReadBack
-pub mod TextsStay
 pub mod StringsReadBack
 pub mod EntriesReadBack
-pub mod TablesCopied
 pub mod SymbolsReadBack
 pub mod DynamicReadBack
 pub mod RecordsReadBack
@@ -69,4 +68,13 @@ pub mod FoundNames
 pub mod NamesFound
 pub mod DataSeen
 pub mod FilesWritten
+pub mod IntactLists
+pub mod IntactCounts
+pub mod IntactKnown
+pub mod IntactSections
+pub mod IntactEdits
+pub mod IntactOrder
+pub mod IntactSymbols
+pub mod IntactVersions
+pub mod IntactTexts
 pub mod ForCallers

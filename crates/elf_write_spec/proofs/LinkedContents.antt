@@ -15,24 +15,24 @@ use Rattle.elf_write_spec.specs.Contents.{IsContentByKind, IsContentOfKind, cont
 use Rattle.elf_write_spec.specs.Output.{IsPlannedOutput, Output, written_bytes}
 use Rattle.elf_write_spec.proofs.SectionKinds.{copied_by, is_copied, nothing_told, untold}
 use Rattle.elf_write_spec.proofs.WholeEdits as edits
-use Rattle.elf_write_spec.proofs.WholeFacts.{ReadFacts, SectionAt, whole_edit}
-use Rattle.elf_write_spec.proofs.NumberedSections.{kept}
+use Rattle.elf_write_spec.proofs.WholeFacts.{ReadFacts, SectionAt, read_at}
+use Rattle.elf_write_spec.proofs.NumberedSections.{kept_as}
 
 module _ (w : Output) (is : IsPlannedOutput w) (f : ReadFacts w) where
   -- the interpreter's section is of PROGBITS
   pub interpreter_type : (i : ℕ) (at : SectionAt w f.parts i)
-      → is_numbered (interpreter_number (image_at_read w.image)) (kept i at.section) ≡ true
+      → is_numbered (interpreter_number (image_at_read w.image)) (kept_as i at.number at.section) ≡ true
       → at.section.sh_type ≡ SHT_PROGBITS
-  interpreter_type i at = edits.interpreter_type (image_at_read w.image) w.image (whole_edit w is) i at.section at.is_section
+  interpreter_type i at = edits.interpreter_type (image_at_read w.image) w.image f i (read_at at)
 
   pub section_type : (i : ℕ) (at : SectionAt w f.parts i) → at.section.sh_type ≡ at.old.sh_type
   section_type i at = ap (λ (x : ImageSection). x.sh_type) at.of_old.fields
 
   -- a section of another type isn't the interpreter's
   pub not_interpreter : (i : ℕ) (at : SectionAt w f.parts i) → (at.old.sh_type == SHT_PROGBITS) ≡ false
-      → is_numbered (interpreter_number (image_at_read w.image)) (kept i at.section) ≡ false
+      → is_numbered (interpreter_number (image_at_read w.image)) (kept_as i at.number at.section) ≡ false
   not_interpreter i at other =
-      edits.not_interpreter (image_at_read w.image) w.image (whole_edit w is) i at.section at.is_section
+      edits.not_interpreter (image_at_read w.image) w.image f i (read_at at)
       (ap (λ n. n == SHT_PROGBITS) (section_type i at) ∙ other)
 
   -- ## Bytes
@@ -45,18 +45,18 @@ module _ (w : Output) (is : IsPlannedOutput w) (f : ReadFacts w) where
       → (elim b as (λ _. Type 0) [
         | true ↦ at.bytes ≡ list_at (λ name. name) w.image.interpreter
         | _ ↦ IsContentByKind (resized w.image) w.plan w.raw (content_at_number w.image w.contents at.section.sh_link)
-            (kept i at.section) at.bytes
+            (kept_as i at.number at.section) at.bytes
       ])
       → IsContentByKind (resized w.image) w.plan w.raw (content_at_number w.image w.contents at.section.sh_link)
-      (kept i at.section) at.bytes
+      (kept_as i at.number at.section) at.bytes
   content_by i at true other h = absurd (false≢true (sym other))
   content_by i at false other h = h
 
   pub content_kind : (i : ℕ) (at : SectionAt w f.parts i) → (at.old.sh_type == SHT_PROGBITS) ≡ false
       → IsContentByKind (resized w.image) w.plan w.raw (content_at_number w.image w.contents at.section.sh_link)
-      (kept i at.section) at.bytes
+      (kept_as i at.number at.section) at.bytes
   content_kind i at other =
-      content_by i at (is_numbered (interpreter_number (image_at_read w.image)) (kept i at.section))
+      content_by i at (is_numbered (interpreter_number (image_at_read w.image)) (kept_as i at.number at.section))
       (not_interpreter i at other) at.written.content
 
   pub section_kind : (i : ℕ) (at : SectionAt w f.parts i) → at.section.kind ≡ data_of f.parts at.old
@@ -64,10 +64,10 @@ module _ (w : Output) (is : IsPlannedOutput w) (f : ReadFacts w) where
 
   pub content_of_kind : (i : ℕ) (at : SectionAt w f.parts i) → (at.old.sh_type == SHT_PROGBITS) ≡ false → (kind : SectionData)
       → data_of f.parts at.old ≡ kind
-      → IsContentOfKind (resized w.image) w.plan w.raw (content_at_number w.image w.contents at.section.sh_link) (kept i at.section)
+      → IsContentOfKind (resized w.image) w.plan w.raw (content_at_number w.image w.contents at.section.sh_link) (kept_as i at.number at.section)
       at.bytes kind
   content_of_kind i at other kind is_kind =
-      subst (IsContentOfKind (resized w.image) w.plan w.raw (content_at_number w.image w.contents at.section.sh_link) (kept i at.section)
+      subst (IsContentOfKind (resized w.image) w.plan w.raw (content_at_number w.image w.contents at.section.sh_link) (kept_as i at.number at.section)
       at.bytes) (section_kind i at ∙ is_kind) (content_kind i at other)
 
   pub section_content : (i : ℕ) (at : SectionAt w f.parts i) → at.section.content ≡ section_bytes (file_of f.parts) at.old
@@ -77,6 +77,6 @@ module _ (w : Output) (is : IsPlannedOutput w) (f : ReadFacts w) where
       → is_copied (data_of f.parts at.old) ≡ true
       → at.bytes ≡ section_bytes (file_of f.parts) at.old
   bytes_copied i at other copied =
-      copied_by (resized w.image) w.plan w.raw (content_at_number w.image w.contents at.section.sh_link) (kept i at.section) at.bytes untold
-      (nothing_told (resized w.image) (kept i at.section)) at.section.kind (ap is_copied (section_kind i at) ∙ copied) (content_kind i at other)
+      copied_by (resized w.image) w.plan w.raw (content_at_number w.image w.contents at.section.sh_link) (kept_as i at.number at.section) at.bytes untold
+      (nothing_told (resized w.image) (kept_as i at.number at.section)) at.section.kind (ap is_copied (section_kind i at) ∙ copied) (content_kind i at other)
       ∙ section_content i at

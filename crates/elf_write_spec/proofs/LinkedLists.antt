@@ -2,7 +2,7 @@
 use Rattle.std.proofs.Common.{◌≡◌, ◌≤◌, ℕ, zero, suc, ◌+◌, Bool, true, false, cond, List, [], ◌∷◌, ◌++◌, length, refl, sym, ap, ◌∙◌, Some, arith}
 use Rattle.std.specs.Prelude.{count_by, filter, find}
 use Rattle.std.specs.List.{flat_map, list_all, slice_get}
-use Rattle.std.proofs.lemmas.Bool.{and_from, cond-true}
+use Rattle.std.proofs.lemmas.Bool.{and_from, cond-true, false_from_ne_true}
 use Rattle.std.proofs.lemmas.List.Sums.{sum_by-append, sum_by-cons}
 use Rattle.std.proofs.lemmas.Option.{none-some, same_Some}
 
@@ -70,12 +70,51 @@ count-flat_map f test made (x ∷ xs) each = omega (
   count-flat_map f test made xs each,
 )
 
-one_there : {A : Type 0} (test : A → Bool) (xs : List A) (i : ℕ) (x : A) → slice_get xs i ≡ Some x → test x ≡ true → 1 ≤ count_by test xs
+pub one_there : {A : Type 0} (test : A → Bool) (xs : List A) (i : ℕ) (x : A) → slice_get xs i ≡ Some x → test x ≡ true → 1 ≤ count_by test xs
 one_there test [] i x at passes = absurd (none-some x at)
 one_there test (y ∷ ys) zero x at passes =
     let same : one_if (test y) ≡ 1 = ap (λ z. one_if (test z)) (same_Some y x at) ∙ ap one_if passes in
     omega (arith, count-cons test y ys, same)
 one_there test (y ∷ ys) (suc i) x at passes = omega (arith, count-cons test y ys, one_there test ys i x at passes)
+
+-- where no two pass, those that do stand at one position
+pub one_place : {A : Type 0} (test : A → Bool) (xs : List A) (i j : ℕ) (x y : A) → count_by test xs ≤ 1 → slice_get xs i ≡ Some x
+    → slice_get xs j ≡ Some y → test x ≡ true → test y ≡ true → i ≡ j
+one_place test [] i j x y few x_at y_at x_is y_is = absurd (none-some x x_at)
+one_place test (z ∷ zs) zero zero x y few x_at y_at x_is y_is = refl
+one_place test (z ∷ zs) zero (suc j) x y few x_at y_at x_is y_is =
+    let first : one_if (test z) ≡ 1 = ap (λ v. one_if (test v)) (same_Some z x x_at) ∙ ap one_if x_is in
+    absurd (omega (arith, few, count-cons test z zs, first, one_there test zs j y y_at y_is))
+one_place test (z ∷ zs) (suc i) zero x y few x_at y_at x_is y_is =
+    let first : one_if (test z) ≡ 1 = ap (λ v. one_if (test v)) (same_Some z y y_at) ∙ ap one_if y_is in
+    absurd (omega (arith, few, count-cons test z zs, first, one_there test zs i x x_at x_is))
+one_place test (z ∷ zs) (suc i) (suc j) x y few x_at y_at x_is y_is =
+    ap suc (one_place test zs i j x y (omega (arith, few, count-cons test z zs)) x_at y_at x_is y_is)
+
+-- no two positions pass
+pub count-once : {A : Type 0} (test : A → Bool) (xs : List A)
+    → ((i j : ℕ) (x y : A) → slice_get xs i ≡ Some x → slice_get xs j ≡ Some y → test x ≡ true → test y ≡ true → i ≡ j) → count_by test xs ≤ 1
+count-once test [] once = omega arith
+count-once {A} test (x ∷ xs) once = by_test (test x) refl (λ rest. count-once test xs rest)
+  where
+    by_test : (b : Bool) → test x ≡ b
+        → (((i j : ℕ) (y z : A) → slice_get xs i ≡ Some y → slice_get xs j ≡ Some z → test y ≡ true → test z ≡ true → i ≡ j) → count_by test xs ≤ 1)
+        → count_by test (x ∷ xs) ≤ 1
+    by_test true is behind =
+        let none : count_by test xs ≡ 0 =
+        count-none test xs (λ i y at. false_from_ne_true (test y) (λ passes.
+        let same : 0 ≡ suc i = once 0 (suc i) x y refl at is passes in
+        absurd (omega (arith, same)))) in
+        omega (arith, count-cons test x xs, ap one_if is, none)
+    by_test false is behind =
+        omega (
+          arith,
+          count-cons test x xs,
+          ap one_if is,
+          behind (λ i j y z y_at z_at y_is z_is.
+              let next : suc i ≡ suc j = once (suc i) (suc j) y z y_at z_at y_is z_is in
+              omega (arith, next)),
+        )
 
 -- the only one that passes is the one that is found
 pub found_only : {A : Type 0} (test : A → Bool) (xs : List A) (i : ℕ) (x : A) → count_by test xs ≤ 1 → slice_get xs i ≡ Some x

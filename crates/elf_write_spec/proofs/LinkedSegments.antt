@@ -9,7 +9,7 @@ use Rattle.std.proofs.lemmas.List.Sums.{count_by-le-length}
 use Rattle.elf_format.specs.declared.constants.TheConstants.{PT_DYNAMIC, PT_GNU_STACK, PT_INTERP, PT_LOAD, PT_PHDR, SHT_DYNAMIC}
 use Rattle.elf_format.specs.declared.records.SegmentHeader.{SegmentHeader}
 use Rattle.elf_format.specs.File.{is_loaded}
-use Rattle.elf_image.specs.Edited.{AreKept}
+use Rattle.elf_image.specs.Edited.{AreKept, AreSegments}
 use Rattle.elf_image.specs.Segments.{added_stack}
 use Rattle.elf_layout_plan.specs.Anchors.{HeaderTable, Itself, Anchor, Notes, OneSection, anchor_by_range, anchor_of, anchor_or_itself, section_or_table, section_under}
 use Rattle.elf_image.specs.Kept.{KeptSection, interpreter_number, is_numbered, kept_of_type, kept_sections}
@@ -19,7 +19,6 @@ use Rattle.elf_layout_plan.specs.Standing.{places}
 use Rattle.elf_layout_plan.specs.Written.{Target, behind_last_load, anchored_to, places_of_kept, resized_table, target_at, targets_of, targets_of_notes, written_from, written_segments}
 use Rattle.elf_layout_plan.proofs.ForCallers.ApartLists.{each-at}
 use Rattle.elf_layout_plan.proofs.ForCallers.ApartWritten.{added_headers, all_added_are_loaded}
-use Rattle.elf_write_spec.specs.Whole.{AreAllKept}
 use Rattle.elf_write_spec.proofs.LinkedLists.{count-append, count-cons, count-flat_map, count-none, one_if}
 use Rattle.elf_layout_plan.proofs.ForCallers.PlacedWritten.{table_type}
 use Rattle.elf_layout_plan.proofs.ForCallers.PlacedCount.{length-one}
@@ -186,7 +185,7 @@ count-written r moved type other plain =
           (count-from r moved type plain),
     )
 
--- ## Those of an image of which nothing went
+-- ## Those of an edited image
 
 count-kept : (type : ℕ) (page_size : Option ℕ) (olds ps : List SegmentHeader) → AreKept page_size olds ps
     → count_of type ps ≤ count_of type olds
@@ -205,7 +204,7 @@ count-stack type None other = refl
 count-stack type (Some flags) other =
     omega (arith, count-cons (λ (q : SegmentHeader). q.p_type == type) (added_stack flags) [], ap one_if other)
 
-count-whole : (type : ℕ) (page_size : Option ℕ) (read now : List SegmentHeader) → AreAllKept page_size read now
+count-whole : (type : ℕ) (page_size : Option ℕ) (read now : List SegmentHeader) → AreSegments page_size read now
     → (PT_GNU_STACK == type) ≡ false
     → count_of type now ≤ count_of type read
 count-whole type page_size read now h other =
@@ -225,7 +224,7 @@ planned_segments r plan planned = ap (λ (l : Layout). l.segments) planned.follo
 
 pub count-planned : (r : Resized) (plan : Layout) → IsPlan r plan → (type : ℕ) → (PT_LOAD == type) ≡ false → (PT_GNU_STACK == type) ≡ false
     → ((p : SegmentHeader) → p.p_type ≡ type → is_notes (anchor_of r p) ≡ false)
-    → (read : List SegmentHeader) → AreAllKept r.image.page_size read r.image.segments → count_of type plan.segments ≤ count_of type read
+    → (read : List SegmentHeader) → AreSegments r.image.page_size read r.image.segments → count_of type plan.segments ≤ count_of type read
 count-planned r plan planned type loaded stack plain read whole =
     omega (
       arith,
@@ -241,7 +240,7 @@ pub record NoMoreSingles (read now : List SegmentHeader) : Type 0 where
   pub table : count_of PT_PHDR now ≤ count_of PT_PHDR read
 
 pub no_more_singles : (r : Resized) (plan : Layout) → IsPlan r plan → (read : List SegmentHeader)
-    → AreAllKept r.image.page_size read r.image.segments
+    → AreSegments r.image.page_size read r.image.segments
     → NoMoreSingles read plan.segments
 no_more_singles r plan planned read whole = record {
   dynamic = count-planned r plan planned PT_DYNAMIC refl refl (plain-dynamic r) read whole;

@@ -31,7 +31,7 @@ use Rattle.elf_write_spec.proofs.LinkedLists.{all-at_each, found_only}
 use Rattle.elf_write_spec.proofs.LinkedMatch.{each-header, form_kept, is_in}
 use Rattle.elf_write_spec.proofs.WholeFacts.{Nowhere, ReadFacts, SectionAt, There, type_at}
 use Rattle.elf_write_spec.proofs.WholeLists.{passes_one}
-use Rattle.elf_write_spec.proofs.NumberedSections.{kept}
+use Rattle.elf_write_spec.proofs.NumberedSections.{kept_as}
 
 -- ## By type
 
@@ -124,14 +124,14 @@ only_one p single type is_single i s at is_type =
     found_only (λ (t : SectionHeader). t.sh_type == type) p.sections i s few at (eq-eqb s.sh_type type is_type)
 
 -- how large the section at a position is, were it of a type
-abbrev size_by : Output → ℕ → ImageSection → ℕ → ℕ
-size_by w i s type = by_type type
-    (max s.sh_size ((length (list_at (λ es. es) (written_entries (image_at_read w.image) w.image)) + 1) * entry_size w.image.form))
-    (strings_size (image_at_read w.image) w.image (kept i s)) (length w.image.symbols * symbol_size w.image.form)
+abbrev size_by : Output → KeptSection → ℕ → ℕ
+size_by w s type = by_type type
+    (max s.section.sh_size ((length (list_at (λ es. es) (written_entries (image_at_read w.image) w.image)) + 1) * entry_size w.image.form))
+    (strings_size (image_at_read w.image) w.image s) (length w.image.symbols * symbol_size w.image.form)
     (length w.image.dynamic_symbols * symbol_size w.image.form) (2 * length w.image.dynamic_symbols)
     (definitions_size w.image.definitions)
-    (needs_size (written_needs (image_at_read w.image) w.image)) (hash_size (image_at_read w.image) w.image s)
-    (hash_size (image_at_read w.image) w.image s) s.sh_size
+    (needs_size (written_needs (image_at_read w.image) w.image)) (hash_size (image_at_read w.image) w.image s.section)
+    (hash_size (image_at_read w.image) w.image s.section) s.section.sh_size
 
 module _ (w : Output) (is : IsPlannedOutput w) (f : ReadFacts w) where
   pub section_size : (i : ℕ) (at : SectionAt w f.parts i) → at.section.sh_size ≡ at.old.sh_size
@@ -141,15 +141,15 @@ module _ (w : Output) (is : IsPlannedOutput w) (f : ReadFacts w) where
   section_entsize i at = ap (λ (x : ImageSection). x.sh_entsize) at.of_old.fields
 
   -- the size by the type
-  table_is : (i : ℕ) (s : ImageSection) → table_size (image_at_read w.image) w.image (kept i s) ≡ size_by w i s s.sh_type
-  table_is i s = refl
+  table_is : (s : KeptSection) → table_size (image_at_read w.image) w.image s ≡ size_by w s s.section.sh_type
+  table_is s = refl
 
-  plain_size : (i : ℕ) (at : SectionAt w f.parts i) → is_numbered (interpreter_number (image_at_read w.image)) (kept i at.section) ≡ false
-      → at.header.sh_size ≡ table_size (image_at_read w.image) w.image (kept i at.section)
+  plain_size : (i : ℕ) (at : SectionAt w f.parts i) → is_numbered (interpreter_number (image_at_read w.image)) (kept_as i at.number at.section) ≡ false
+      → at.header.sh_size ≡ table_size (image_at_read w.image) w.image (kept_as i at.number at.section)
   unfolding new_size
   plain_size i at other =
       at.size ∙ at.place_size
-      ∙ cond-false (is_numbered (interpreter_number (image_at_read w.image)) (kept i at.section))
+      ∙ cond-false (is_numbered (interpreter_number (image_at_read w.image)) (kept_as i at.number at.section))
       (interpreter_size w.image at.section) _ other
 
   -- ## Whole entries
@@ -172,8 +172,8 @@ module _ (w : Output) (is : IsPlannedOutput w) (f : ReadFacts w) where
   gabi_entries : are_single f.parts ≡ true → are_names_changed (image_at_read w.image) w.image ≡ true
       → (i : ℕ) (at : SectionAt w f.parts i) → at.old.sh_type ≡ SHT_HASH → (at.section.sh_entsize == 8) ≡ false
   gabi_entries single changed i at type =
-      let found = only_one f.parts single SHT_HASH refl i at.old at.is_old type in
-      elim (type_at w is f SHT_HASH) [
+      let found = only_one f.parts single SHT_HASH refl at.number at.old at.is_old type in
+      elim (type_at w is f SHT_HASH refl) [
         | Nowhere was now none ↦ absurd (none-some at.old (sym was ∙ found))
         | There j a typed was now there ↦
             let same : a.old ≡ at.old = same_Some a.old at.old (sym was ∙ found) in
@@ -241,16 +241,16 @@ module _ (w : Output) (is : IsPlannedOutput w) (f : ReadFacts w) where
           ∙ by_header (gnu_header w.image.form (memory_of at.section.content))
 
   whole_size : are_single f.parts ≡ true → (i : ℕ) (at : SectionAt w f.parts i) (b : Bool)
-      → is_numbered (interpreter_number (image_at_read w.image)) (kept i at.section) ≡ b
+      → is_numbered (interpreter_number (image_at_read w.image)) (kept_as i at.number at.section) ≡ b
       → at.header.sh_size % unit_by w.image.form at.section.sh_type at.section.sh_entsize ≡ 0
   whole_size single i at true e =
       ap (λ n. at.header.sh_size % unit_by w.image.form n at.section.sh_entsize) (interpreter_type w is f i at e)
       ∙ one_whole at.header.sh_size
   whole_size single i at false e =
-      ap (λ n. n % unit_by w.image.form at.section.sh_type at.section.sh_entsize) (plain_size i at e ∙ table_is i at.section)
+      ap (λ n. n % unit_by w.image.form at.section.sh_type at.section.sh_entsize) (plain_size i at e ∙ table_is (kept_as i at.number at.section))
       ∙ whole_by w.image.form at.section.sh_entsize at.section.sh_size at.section.sh_type
       (length (list_at (λ es. es) (written_entries (image_at_read w.image) w.image)) + 1)
-      (strings_size (image_at_read w.image) w.image (kept i at.section)) (length w.image.symbols)
+      (strings_size (image_at_read w.image) w.image (kept_as i at.number at.section)) (length w.image.symbols)
       (length w.image.dynamic_symbols) (length w.image.dynamic_symbols) (definitions_size w.image.definitions)
       (needs_size (written_needs (image_at_read w.image) w.image)) (hash_size (image_at_read w.image) w.image at.section)
       (hash_size (image_at_read w.image) w.image at.section) (was_whole i at) (hash_whole single i at) (gnu_hash_whole i at)
@@ -261,16 +261,16 @@ module _ (w : Output) (is : IsPlannedOutput w) (f : ReadFacts w) where
       (each-header w is f (λ h. (h.sh_size % unit_of w.image.form h == 0) ≡ true) (λ i at.
       eq-eqb (at.header.sh_size % unit_of w.image.form at.header) 0
       (ap (λ n. at.header.sh_size % n) (unit_is i at)
-      ∙ whole_size single i at (is_numbered (interpreter_number (image_at_read w.image)) (kept i at.section)) refl)))
+      ∙ whole_size single i at (is_numbered (interpreter_number (image_at_read w.image)) (kept_as i at.number at.section)) refl)))
 
   -- ## Tables of symbols, and relocations
 
   -- a section of another type has the size that its type gives
   typed_size : (i : ℕ) (at : SectionAt w f.parts i) (type : ℕ) → at.old.sh_type ≡ type → (type == SHT_PROGBITS) ≡ false
-      → at.header.sh_size ≡ size_by w i at.section type
+      → at.header.sh_size ≡ size_by w (kept_as i at.number at.section) type
   typed_size i at type is_type other =
-      plain_size i at (not_interpreter w is f i at (ap (λ n. n == SHT_PROGBITS) is_type ∙ other)) ∙ table_is i at.section
-      ∙ ap (size_by w i at.section) (section_type w is f i at ∙ is_type)
+      plain_size i at (not_interpreter w is f i at (ap (λ n. n == SHT_PROGBITS) is_type ∙ other)) ∙ table_is (kept_as i at.number at.section)
+      ∙ ap (size_by w (kept_as i at.number at.section)) (section_type w is f i at ∙ is_type)
 
   pub symbol_sizes : (i : ℕ) (at : SectionAt w f.parts i) → at.old.sh_type ≡ SHT_SYMTAB
       → at.header.sh_size ≡ length w.image.symbols * symbol_size w.image.form

@@ -27,10 +27,10 @@ use Rattle.elf_write_spec.proofs.ContentFacts.{gnu_hash_shown, hash_shown}
 use Rattle.elf_write_spec.proofs.FoundNames.{entries_listed, names_are_seen}
 use Rattle.elf_write_spec.proofs.FoundTables.{gabi_found, gnu_found}
 use Rattle.elf_write_spec.proofs.HashesSeen.{bytes_seen, each_agrees, has_bytes, none_or, told}
-use Rattle.elf_write_spec.proofs.NumberedSections.{kept}
-use Rattle.elf_write_spec.proofs.OrderFacts.{KeepsFirst, keeps_first-same}
+use Rattle.elf_write_spec.proofs.NumberedSections.{kept_as}
+use Rattle.elf_write_spec.proofs.OrderFacts.{KeepsFirst, keeps_first}
 use Rattle.elf_write_spec.proofs.SymbolsKept.{has_all, read_again}
-use Rattle.elf_write_spec.proofs.WholeFacts.{Nowhere, ReadFacts, SectionAt, There, TypeAt, new_number-same, read_facts, type_at}
+use Rattle.elf_write_spec.proofs.WholeFacts.{Nowhere, ReadFacts, SectionAt, There, TypeAt, read_facts, type_at}
 
 -- the bytes of a section are bytes where those of the file are
 section_is_bytes : (file : List ℕ) (s : SectionHeader) → AreBytes file → AreBytes (section_bytes file s)
@@ -50,7 +50,7 @@ final_listed read image listed = entries_listed read image listed
 module _ (w : Output) (is : IsPlannedOutput w) (changed : are_names_changed (image_at_read w.image) w.image ≡ true) (again : Image)
     (same : IsRewrittenImage w again) (names : AreNamesOf again.dynamic_symbols (name_seen (written_bytes w))) (f : ReadFacts w) where
   first : KeepsFirst w.image
-  first = keeps_first-same w.image (new_number-same w is)
+  first = keeps_first (image_at_read w.image) w.image f
 
   -- the bytes of a section as it was read
   content_is_bytes : (i : ℕ) (at : SectionAt w f.parts i) → AreBytes at.section.content
@@ -76,7 +76,7 @@ module _ (w : Output) (is : IsPlannedOutput w) (changed : are_names_changed (ima
         ap (tag_is_address (raw_entries (written_parts w)) DT_HASH) (sym header) ∙ (each_agrees w is f list there).0 in
         let seen : Keeps (memory_of at.bytes) (from (byte_at w.plan.segments (written_bytes w)) address) =
         bytes_seen w is f list there DT_HASH address i at agrees value (has_bytes w is f list there SHT_HASH refl at.old is_type) in
-        gabi_found w again same (has_all w is) first changed is.written.fit names (kept i at.section) address at.bytes is_kept
+        gabi_found w again same (has_all w is) first changed is.written.fit names (kept_as i at.number at.section) address at.bytes is_kept
         (content_is_bytes i at) (hash_shown w is f i at is_type) seen
 
     gnu_by : TypeAt w f.parts SHT_GNU_HASH → (address : ℕ) → value_of_tag DT_GNU_HASH w.raw ≡ Some address
@@ -89,11 +89,11 @@ module _ (w : Output) (is : IsPlannedOutput w) (changed : are_names_changed (ima
         ap (tag_is_address (raw_entries (written_parts w)) DT_GNU_HASH) (sym header) ∙ (each_agrees w is f list there).1 in
         let seen : Keeps (memory_of at.bytes) (from (byte_at w.plan.segments (written_bytes w)) address) =
         bytes_seen w is f list there DT_GNU_HASH address i at agrees value (has_bytes w is f list there SHT_GNU_HASH refl at.old is_type) in
-        gnu_found w again same (has_all w is) first changed is.written.fit names (kept i at.section) address at.bytes is_kept
+        gnu_found w again same (has_all w is) first changed is.written.fit names (kept_as i at.number at.section) address at.bytes is_kept
         (content_is_bytes i at) (gnu_hash_shown w is f i at is_type) seen
 
     both_found : AreNamesFound again w.raw (written_bytes w)
-    both_found = record { gabi = gabi_by (type_at w is f SHT_HASH); gnu = gnu_by (type_at w is f SHT_GNU_HASH) }
+    both_found = record { gabi = gabi_by (type_at w is f SHT_HASH refl); gnu = gnu_by (type_at w is f SHT_GNU_HASH refl) }
 
   -- without a list nothing is told
   none_listed : w.raw ≡ [] → AreNamesFound again w.raw (written_bytes w)
@@ -113,4 +113,4 @@ written_files_find_names w is changed listed again read =
     let (es, is_list, named) = final_listed (image_at_read w.image) w.image listed in
     let names : AreNamesOf again.dynamic_symbols (name_seen (written_bytes w)) =
     names_are_seen (written_bytes w) again read es (same.entries ∙ is_list) named in
-    found_by_list w is changed again same names f (type_at w is f SHT_DYNAMIC)
+    found_by_list w is changed again same names f (type_at w is f SHT_DYNAMIC refl)

@@ -1,70 +1,130 @@
--- The sections that are there in an image of which none went: each has its position for its number.
-use Rattle.std.proofs.Common.{◌≡◌, ◌<◌, ℕ, zero, suc, ◌+◌, Bool, cond, List, [], ◌∷◌, length, refl, ap, ◌∙◌, Some, arith}
-use Rattle.std.specs.Prelude.{◌==◌, find}
+-- The sections that are there, each at its position, with the number that it was read at; these numbers rise.
+use Rattle.std.proofs.Common.{◌≡◌, ◌<◌, ◌≤◌, ℕ, zero, suc, ◌+◌, ◌-◌, List, [], ◌∷◌, length, refl, ap, ◌∙◌, inl, inr, Option, Some, None, arith}
+use Rattle.std.specs.Prelude.{◌==◌, slice_index}
 use Rattle.std.specs.List.{slice_get}
-use Rattle.std.specs.Option.{option_map}
-use Rattle.std.proofs.lemmas.Bool.{eq-eqb, ne_eqb}
-use Rattle.std.proofs.lemmas.Option.{none-some, same_Some}
+use Rattle.std.proofs.lemmas.Bool.{cases_order, eq-eqb, eqb-true, ne_eqb}
+use Rattle.std.proofs.lemmas.Option.{get_or_from_slice_get, none-some, same_Some, slice_get-get_or, slice_get_within}
 use Rattle.elf_format.specs.Image.{Image, ImageSection, counted}
-use Rattle.elf_format.proofs.ForCallers.Lengths.{slice_get-counted}
+use Rattle.elf_format.proofs.ForCallers.Lengths.{length-counted, slice_index-counted}
 use Rattle.elf_image.specs.Kept.{KeptSection, kept_at_number, kept_from, kept_sections}
+use Rattle.elf_image.proofs.ForCallers.KeptSections as sections_kept
+use Rattle.elf_layout_plan.proofs.ForCallers.ApartLists.{find-at}
+use Rattle.elf_layout_plan.proofs.ForCallers.ApartSections.{kept-at as kept-parts}
+use Rattle.elf_write_spec.specs.Final.{new_number}
+use Rattle.elf_write_spec.proofs.WholeLists.{find-is}
 
-abbrev pub kept : ℕ → ImageSection → KeptSection
-kept i s = record { position = i; number = i; section = s }
+-- the section at a position, with its number
+abbrev pub kept_as : ℕ → ℕ → ImageSection → KeptSection
+kept_as i n s = record { position = i; number = n; section = s }
 
--- the sections that are there, numbered from a position on
-abbrev numbered : ℕ → List ImageSection → List KeptSection
-numbered n [] = []
-numbered n (s ∷ ss) = kept n s ∷ numbered (n + 1) ss
+-- ## Numbers that rise
 
-from_numbers : (n : ℕ) (ns : List ℕ) (ss : List ImageSection) → ((j : ℕ) → j < length ss → slice_get ns j ≡ Some (n + j))
-    → kept_from n ns ss ≡ numbered n ss
-from_numbers n [] [] numbers = refl
-from_numbers n (m ∷ ms) [] numbers = refl
-from_numbers n [] (s ∷ ss) numbers = absurd (none-some (n + 0) (numbers 0 (omega arith)))
-from_numbers n (m ∷ ms) (s ∷ ss) numbers =
-    let first : m ≡ n + 0 = same_Some m (n + 0) (numbers 0 (omega arith)) in
-    let own : m ≡ n = omega (arith, first) in
-    let rest : (j : ℕ) → j < length ss → slice_get ms j ≡ Some (n + 1 + j) =
-    λ j less. numbers (suc j) (omega (arith, less)) ∙ ap (λ (k : ℕ). Some k) (omega arith) in
-    ap (λ (k : ℕ). record { position = n; number = k; section = s } ∷ kept_from (n + 1) ms ss) own
-    ∙ ap (λ (ks : List KeptSection). kept n s ∷ ks) (from_numbers (n + 1) ms ss rest)
+abbrev pub AreRising : List ℕ → Type 0
+AreRising ns = (i j : ℕ) → i < j → j < length ns → slice_index ns i < slice_index ns j
 
-numbered-at : (n : ℕ) (ss : List ImageSection) (i : ℕ) → slice_get (numbered n ss) i ≡ option_map (kept (n + i)) (slice_get ss i)
-numbered-at n [] i = refl
-numbered-at n (s ∷ ss) zero = ap (λ (k : ℕ). Some (kept k s)) (omega arith)
-numbered-at n (s ∷ ss) (suc i) =
-    numbered-at (n + 1) ss i ∙ ap (λ (k : ℕ). option_map (kept k) (slice_get ss i)) (omega arith)
+-- so none is less than its position
+pub number_behind : (ns : List ℕ) → AreRising ns → (i : ℕ) → i < length ns → i ≤ slice_index ns i
+number_behind ns rising zero less = omega arith
+number_behind ns rising (suc i) less =
+    let before : i ≤ slice_index ns i = number_behind ns rising i (omega (arith, less)) in
+    omega (arith, before, rising i (suc i) (omega arith) less)
 
-length-numbered : (n : ℕ) (ss : List ImageSection) → length (numbered n ss) ≡ length ss
-length-numbered n [] = refl
-length-numbered n (s ∷ ss) = ap suc (length-numbered (n + 1) ss)
+-- and each stands once
+pub one_position : (ns : List ℕ) → AreRising ns → (i j n : ℕ) → slice_get ns i ≡ Some n → slice_get ns j ≡ Some n → i ≡ j
+one_position ns rising i j n at_i at_j = elim (cases_order i j) [
+  | inl same ↦ same
+  | inr other ↦ elim other [
+    | inl less ↦ absurd (omega (
+      arith,
+      rising i j less (slice_get_within ns j n at_j),
+      get_or_from_slice_get ns i n 0 at_i,
+      get_or_from_slice_get ns j n 0 at_j,
+    ))
+    | inr more ↦ absurd (omega (
+      arith,
+      rising j i more (slice_get_within ns i n at_i),
+      get_or_from_slice_get ns i n 0 at_i,
+      get_or_from_slice_get ns j n 0 at_j,
+    ))
+  ]
+]
 
-found_at : (p : ℕ) (ss : List ImageSection) (i n : ℕ) → n ≡ p + i
-    → find (λ s. s.number == n) (numbered p ss) ≡ option_map (kept n) (slice_get ss i)
-found_at p [] i n own = refl
-found_at p (s ∷ ss) zero n own =
-    let same : p ≡ n = omega (arith, own) in
-    ap (λ (b : Bool). cond b (Some (kept p s)) (find (λ x. x.number == n) (numbered (p + 1) ss))) (eq-eqb p n same)
-    ∙ ap (λ (k : ℕ). Some (kept k s)) same
-found_at p (s ∷ ss) (suc i) n own =
-    ap (λ (b : Bool). cond b (Some (kept p s)) (find (λ x. x.number == n) (numbered (p + 1) ss))) (ne_eqb p n (λ e. omega (arith, e, own)))
-    ∙ found_at (p + 1) ss i n (omega (arith, own))
+-- where there are as many as there are numbers below a bound, each of these is there, at its own position
+rise_by : (ns : List ℕ) → AreRising ns → (i k : ℕ) → i + k < length ns → slice_index ns i + k ≤ slice_index ns (i + k)
+rise_by ns rising i zero less =
+    let here : slice_index ns (i + 0) ≡ slice_index ns i = ap (slice_index ns) (omega arith) in
+    omega (arith, here)
+rise_by ns rising i (suc k) less =
+    let before : slice_index ns i + k ≤ slice_index ns (i + k) = rise_by ns rising i k (omega (arith, less)) in
+    omega (arith, before, rising (i + k) (i + suc k) (omega arith) less)
 
-module _ (image : Image) (counts : image.section_numbers ≡ counted (length image.sections)) where
-  are_numbered : kept_sections image ≡ numbered 0 image.sections
-  are_numbered = from_numbers 0 image.section_numbers image.sections (λ j less.
-      ap (λ (ns : List ℕ). slice_get ns j) counts ∙ slice_get-counted (length image.sections) j less ∙ ap (λ (k : ℕ). Some k) (omega arith))
+pub each_there : (ns : List ℕ) (count : ℕ) → AreRising ns → ((i n : ℕ) → slice_get ns i ≡ Some n → n < count) → length ns ≡ count
+    → (i : ℕ) → i < count → slice_get ns i ≡ Some i
+each_there ns count rising below many i less =
+    let last : ℕ = slice_index ns (i + (count - 1 - i)) in
+    let inside : i + (count - 1 - i) < length ns = omega (arith, less, many) in
+    let ends : last < count = below (i + (count - 1 - i)) last (slice_get-get_or ns (i + (count - 1 - i)) 0 inside) in
+    let here : i < length ns = omega (arith, less, many) in
+    let same : slice_index ns i ≡ i =
+    omega (arith, number_behind ns rising i here, rise_by ns rising i (count - 1 - i) inside, ends, less) in
+    slice_get-get_or ns i 0 here ∙ ap (λ (n : ℕ). Some n) same
 
+-- those below a number do
+pub counted_rise : (n : ℕ) → AreRising (counted n)
+counted_rise n i j less within =
+    let below : j < n = omega (arith, within, length-counted n) in
+    omega (arith, slice_index-counted n i (omega (arith, less, below)), slice_index-counted n j below, less)
+
+-- ## Each section at its position
+
+at_from : (p : ℕ) (ns : List ℕ) (ss : List ImageSection) (i n : ℕ) (s : ImageSection) → slice_get ns i ≡ Some n → slice_get ss i ≡ Some s
+    → slice_get (kept_from p ns ss) i ≡ Some (kept_as (p + i) n s)
+at_from p [] ss i n s n_at s_at = absurd (none-some n n_at)
+at_from p (m ∷ ns) [] i n s n_at s_at = absurd (none-some s s_at)
+at_from p (m ∷ ns) (t ∷ ss) zero n s n_at s_at =
+    ap (λ (k : ℕ). Some (kept_as p k t)) (same_Some m n n_at) ∙ ap (λ (x : ImageSection). Some (kept_as p n x)) (same_Some t s s_at)
+    ∙ ap (λ (k : ℕ). Some (kept_as k n s)) (omega arith)
+at_from p (m ∷ ns) (t ∷ ss) (suc i) n s n_at s_at =
+    at_from (p + 1) ns ss i n s n_at s_at ∙ ap (λ (k : ℕ). Some (kept_as k n s)) (omega arith)
+
+-- the number of a section that is there is its position; another number stays
+pub new-there : (image : Image) (n : ℕ) (k : KeptSection) → kept_at_number n image ≡ Some k → new_number image n ≡ k.position
+new-there image n k is = ap (λ (o : Option KeptSection). elim o as (λ _. ℕ) [ Some s ↦ s.position | None ↦ n ]) is
+
+pub new-gone : (image : Image) (n : ℕ) → kept_at_number n image ≡ None → new_number image n ≡ n
+new-gone image n is = ap (λ (o : Option KeptSection). elim o as (λ _. ℕ) [ Some s ↦ s.position | None ↦ n ]) is
+
+module _ (image : Image) (as_many : length image.section_numbers ≡ length image.sections) where
   pub length-kept : length (kept_sections image) ≡ length image.sections
-  length-kept = ap length are_numbered ∙ length-numbered 0 image.sections
+  length-kept = sections_kept.length-kept image as_many
 
-  -- the i-th section that is there
-  pub kept-at : (i : ℕ) → slice_get (kept_sections image) i ≡ option_map (kept i) (slice_get image.sections i)
-  kept-at i =
-      ap (λ (ks : List KeptSection). slice_get ks i) are_numbered ∙ numbered-at 0 image.sections i
-      ∙ ap (λ (k : ℕ). option_map (kept k) (slice_get image.sections i)) (omega arith)
+  -- the section at a position
+  pub kept-at : (i n : ℕ) (s : ImageSection) → slice_get image.section_numbers i ≡ Some n → slice_get image.sections i ≡ Some s
+      → slice_get (kept_sections image) i ≡ Some (kept_as i n s)
+  kept-at i n s n_at s_at =
+      at_from 0 image.section_numbers image.sections i n s n_at s_at ∙ ap (λ (k : ℕ). Some (kept_as k n s)) (omega arith)
 
-  -- the section that was read at a number stands at that position
-  pub kept_is : (n : ℕ) → kept_at_number n image ≡ option_map (kept n) (slice_get image.sections n)
-  kept_is n = ap (find (λ s. s.number == n)) are_numbered ∙ found_at 0 image.sections n n (omega arith)
+  -- what is known of it
+  pub kept_has : (i : ℕ) (k : KeptSection) → slice_get (kept_sections image) i ≡ Some k
+      → (k.position ≡ i) × (slice_get image.section_numbers i ≡ Some k.number) × (slice_get image.sections i ≡ Some k.section)
+  kept_has i k at =
+      let (position, number, section) = kept-parts 0 image.section_numbers image.sections i k at in
+      (omega (arith, position), number, section)
+
+module _ (image : Image) (as_many : length image.section_numbers ≡ length image.sections) (rising : AreRising image.section_numbers) where
+  -- the one that was read at a number
+  pub kept_is : (i : ℕ) (k : KeptSection) → slice_get (kept_sections image) i ≡ Some k → kept_at_number k.number image ≡ Some k
+  kept_is i k at =
+      find-is (λ s. s.number == k.number) (kept_sections image) i k at (eq-eqb k.number k.number refl) (λ j x less x_at.
+      let (_, x_number, _) = kept_has image as_many j x x_at in
+      let (_, k_number, _) = kept_has image as_many i k at in
+      ne_eqb x.number k.number (λ same.
+      let one : j ≡ i = one_position image.section_numbers rising j i k.number (x_number ∙ ap (λ (n : ℕ). Some n) same) k_number in
+      omega (arith, one, less)))
+
+  pub kept_found : (n : ℕ) (k : KeptSection) → kept_at_number n image ≡ Some k
+      → (slice_get (kept_sections image) k.position ≡ Some k) × (k.number ≡ n)
+  kept_found n k is =
+      let (i, at, passes) = find-at (λ s. s.number == n) (kept_sections image) k is in
+      let (position, _, _) = kept_has image as_many i k at in
+      (ap (slice_get (kept_sections image)) position ∙ at, eqb-true k.number n passes)

@@ -1,9 +1,9 @@
--- The order in which the dynamic symbols are written, and the new number of each, in an image that still has all of them.
-use Rattle.std.proofs.Common.{◌≡◌, ◌≢◌, ◌↔◌, ℕ, ◌<◌, ◌≤◌, List, [], ◌∷◌, length, get_or, map, Bool, true, false, refl, sym, ap, ◌∙◌, subst, inl, inr, Option, Some, None, arith}
+-- The order in which the dynamic symbols are written, and the new number of each.
+use Rattle.std.proofs.Common.{◌≡◌, ◌≢◌, ◌↔◌, ℕ, ◌<◌, ◌≤◌, List, [], ◌∷◌, length, get_or, map, Bool, true, false, not, refl, sym, ap, ◌∙◌, subst, inl, inr, Option, Some, None, arith}
 use Rattle.std.specs.Prelude.{if◌then◌else◌, ◌||◌, ◌==◌, is_some, nat_le, option_map, position, slice_index, unwrap_or}
 use Rattle.std.specs.List.{slice_get}
 use Rattle.std.specs.List.Sorted.{IsPermutation}
-use Rattle.std.proofs.lemmas.Bool.{cases_eq, cases_lt, cond-false, cond-true, eq-eqb, eqb-true, ne_eqb}
+use Rattle.std.proofs.lemmas.Bool.{cases_eq, cases_lt, cond-false, cond-true, eq-eqb, false≢true, ne_eqb}
 use Rattle.std.proofs.lemmas.List.{get_or-map, length-map}
 use Rattle.std.proofs.lemmas.Option.{get_or_from_slice_get, same_Some, slice_get-get_or, slice_get-map, slice_get_within}
 use Rattle.patch_bytes.specs.Memory.{◌>>=◌, memory_of}
@@ -20,18 +20,23 @@ use Rattle.elf_hashes.proofs.ForCallers.{IsSeenAlike, counted-once, hashed_names
 use Rattle.elf_hashes.proofs.OrderLaws.{orders_by_bucket}
 use Rattle.elf_image.specs.Complete.{IsComplete, has_section}
 use Rattle.elf_image.specs.Kept.{KeptSection, kept_at_number, kept_of_type}
-use Rattle.elf_image.specs.Names.{are_names_changed}
+use Rattle.elf_image.specs.Names.{are_names_changed, are_same_texts, texts_of_symbols}
+use Rattle.elf_image.proofs.ForCallers.SymbolLists.{same_texts-means}
 use Rattle.elf_relocations.specs.Inverse.{IsInverse}
-use Rattle.elf_write_spec.specs.Final.{buckets_of, dynamic_order, final, final_symbol, new_dynamic_symbol, new_dynamic_symbols, new_number, new_symbol_section, ordered}
+use Rattle.elf_write_spec.specs.Final.{buckets_of, dynamic_order, final, final_symbol, new_dynamic_symbol, new_dynamic_symbols, new_symbol_section, ordered}
+use Rattle.elf_write_spec.proofs.NumberedSections.{AreRising, each_there, one_position}
 use Rattle.elf_write_spec.proofs.OrderLists as orders
+use Rattle.elf_write_spec.proofs.WholeEdits.{ReadFacts, SectionRead, lasting_there, length-read, number_below, number_past, read_number}
+use Rattle.elf_write_spec.proofs.WholeLists.{there_at}
 use Rattle.elf_write_spec.proofs.OrderLists.{in_order-at, length-in_order, position-at, position-none}
 use Rattle.elf_write_spec.proofs.OrderTables.{buckets_are, gnu_sizes_told}
 
--- Each dynamic symbol that was read is still there, and what leans on them can follow another order.
-pub record HasAllSymbols (read image : Image) : Type 0 where
+-- Each dynamic symbol that is there has a number at read, these rise, and what leans on them can follow another order.
+pub record HasSymbols (read image : Image) : Type 0 where
   pub complete : IsComplete read image
-  pub numbers : image.dynamic_symbol_numbers ≡ counted (length read.dynamic_symbols)
   pub as_many : length image.dynamic_symbols ≡ length image.dynamic_symbol_numbers
+  pub rising : AreRising image.dynamic_symbol_numbers
+  pub below : (i n : ℕ) → slice_get image.dynamic_symbol_numbers i ≡ Some n → n < length read.dynamic_symbols
 
 -- ## Sections of symbols
 
@@ -39,30 +44,26 @@ pub record HasAllSymbols (read image : Image) : Type 0 where
 abbrev pub KeepsFirst : Image → Type 0
 KeepsFirst image = (n : ℕ) (s : KeptSection) → kept_at_number n image ≡ Some s → (s.position ≡ 0) ↔ (n ≡ 0)
 
--- it is where sections keep their numbers
-pub keeps_first-same : (image : Image) → ((n : ℕ) → new_number image n ≡ n) → KeepsFirst image
-keeps_first-same image same n s at =
-    let is : s.position ≡ n = sym (ap (λ (o : Option KeptSection). elim o as (λ _. ℕ) [ Some k ↦ k.position | None ↦ n ]) at) ∙ same n in
-    (λ e. sym is ∙ e, λ e. is ∙ e)
+-- it is, as none stands before its number
+pub keeps_first : (read image : Image) → ReadFacts read image → KeepsFirst image
+keeps_first read image f n s at =
+    let (here, _, own) = read_number read image f n s at in
+    let behind : s.position ≤ n = omega (arith, number_past read image f s.position here, own) in
+    (λ e. first_number e here own, λ e. omega (arith, behind, e))
+  where
+    first_number : s.position ≡ 0 → (here : SectionRead read image f.parts s.position) → here.number ≡ n → n ≡ 0
+    first_number e here own =
+        let some : 0 < length f.parts.sections = omega (arith, number_below read image f s.position here) in
+        let (was, was_at) = there_at read.sections 0 (omega (arith, some, length-read read image f)) in
+        let (i, first, zero_is) = lasting_there read image f 0 was was_at refl in
+        let index : i ≡ 0 = omega (arith, number_past read image f i first, zero_is) in
+        let same : first.number ≡ here.number =
+        same_Some first.number here.number (sym first.is_number ∙ ap (slice_get image.section_numbers) (index ∙ sym e) ∙ here.is_number) in
+        sym own ∙ sym same ∙ zero_is
 
 first_of_or : (a : Bool) → (a || false || false) ≡ true → a ≡ true
 first_of_or true h = refl
 first_of_or false h = h
-
-section-same : (image : Image) → ((n : ℕ) → new_number image n ≡ n) → (n : ℕ)
-    → (n == 0 || nat_le SHN_LORESERVE n || is_some (kept_at_number n image)) ≡ true → new_symbol_section image n ≡ n
-section-same image same n there = by_tests (nat_le SHN_LORESERVE n) (kept_at_number n image) there (same n)
-  where
-    by_tests : (high : Bool) (o : Option KeptSection) → (n == 0 || high || is_some o) ≡ true
-        → (elim o as (λ _. ℕ) [ Some s ↦ s.position | None ↦ n ]) ≡ n
-        → (if high then n else elim o as (λ _. ℕ) [ Some s ↦ s.position | None ↦ 0 ]) ≡ n
-    by_tests true o h e = refl
-    by_tests false None h e = sym (eqb-true n 0 (first_of_or (n == 0) h))
-    by_tests false (Some s) h e = e
-
--- then a symbol whose section is there keeps the number of its section
-pub final_symbol-same : (image : Image) → ((n : ℕ) → new_number image n ≡ n) → (y : NamedSymbol) → has_section image y ≡ true → final_symbol image y ≡ y
-final_symbol-same image same y there = ap (λ (n : ℕ). record y { st_shndx = n }) (section-same image same y.st_shndx there)
 
 same_tests : (a b : ℕ) → (a ≡ 0) ↔ (b ≡ 0) → (a == 0) ≡ (b == 0)
 same_tests a b both = elim (cases_eq b 0) [
@@ -85,6 +86,18 @@ final_symbol-alike : (image : Image) → KeepsFirst image → (y : NamedSymbol) 
 final_symbol-alike image first y there = record { named = refl; bound = refl; defined = section-zero image first y.st_shndx there }
 
 -- ## Names that are those that were read
+
+-- there are as many symbols
+pub names_count : (read image : Image) → are_names_changed read image ≡ false → length image.dynamic_symbols ≡ length read.dynamic_symbols
+names_count read image same =
+    let texts : texts_of_symbols image.dynamic_symbols ≡ texts_of_symbols read.dynamic_symbols =
+    same_texts-means (texts_of_symbols read.dynamic_symbols) (texts_of_symbols image.dynamic_symbols)
+    (not-false (are_same_texts (texts_of_symbols read.dynamic_symbols) (texts_of_symbols image.dynamic_symbols)) same) in
+    sym (length-map image.dynamic_symbols (λ (y : NamedSymbol). y.name)) ∙ ap length texts ∙ length-map read.dynamic_symbols (λ (y : NamedSymbol). y.name)
+  where
+    not-false : (b : Bool) → not b ≡ false → b ≡ true
+    not-false true h = refl
+    not-false false h = absurd (false≢true (sym h))
 
 -- the symbols stay in their order
 pub order-same : (read image : Image) → are_names_changed read image ≡ false → dynamic_order read image ≡ counted (length image.dynamic_symbols)
@@ -132,7 +145,7 @@ unfolding places_by_bucket
 first_place buckets [] some = absurd (omega (arith, some))
 first_place buckets (y ∷ ys) some = refl
 
-module _ (read image : Image) (all : HasAllSymbols read image) where
+module _ (read image : Image) (all : HasSymbols read image) where
   -- the table has a bucket
   pub some_buckets : (buckets : ℕ) → are_names_changed read image ≡ true → buckets_of image ≡ Some buckets → buckets ≢ 0
   some_buckets buckets changed is none =
@@ -186,108 +199,136 @@ module _ (read image : Image) (all : HasAllSymbols read image) where
 
   -- ## New numbers
 
-  -- each symbol has the number that it was read at
-  number-at : (i : ℕ) → i < length image.dynamic_symbols → slice_index image.dynamic_symbol_numbers i ≡ i
-  number-at i below =
-      let many : length image.dynamic_symbols ≡ length read.dynamic_symbols =
-      all.as_many ∙ ap length all.numbers ∙ length-counted (length read.dynamic_symbols) in
-      ap (λ (l : List ℕ). slice_index l i) all.numbers ∙ slice_index-counted (length read.dynamic_symbols) i (omega (arith, below, many))
-
   is_below : (i n : ℕ) → slice_get (dynamic_order read image) i ≡ Some n → n < length image.dynamic_symbols
   is_below i n at = orders.is_below (length image.dynamic_symbols) (dynamic_order read image) order_once i n at
 
   stands : (n : ℕ) → n < length image.dynamic_symbols → (i : ℕ) × (slice_get (dynamic_order read image) i ≡ Some n)
   stands n below = orders.stands (length image.dynamic_symbols) (dynamic_order read image) order_once n below
 
+  -- the number at read of the symbol at a position
+  number-at : (m : ℕ) → m < length image.dynamic_symbols → slice_get image.dynamic_symbol_numbers m ≡ Some (slice_index image.dynamic_symbol_numbers m)
+  number-at m below = slice_get-get_or image.dynamic_symbol_numbers m 0 (omega (arith, below, all.as_many))
+
+  position_below : (m n : ℕ) → slice_get image.dynamic_symbol_numbers m ≡ Some n → m < length image.dynamic_symbols
+  position_below m n at = omega (arith, slice_get_within image.dynamic_symbol_numbers m n at, all.as_many)
+
   -- another symbol has another number
-  other_number : (n i m : ℕ) → slice_get (dynamic_order read image) i ≡ Some m → m ≢ n → (slice_index image.dynamic_symbol_numbers m == n) ≡ false
+  other_number : (n i m : ℕ) → slice_get (dynamic_order read image) i ≡ Some m → ((k : ℕ) → slice_get image.dynamic_symbol_numbers k ≡ Some n → m ≢ k)
+      → (slice_index image.dynamic_symbol_numbers m == n) ≡ false
   other_number n i m at other =
-      ne_eqb (slice_index image.dynamic_symbol_numbers m) n (λ e. other (sym (number-at m (is_below i m at)) ∙ e))
+      ne_eqb (slice_index image.dynamic_symbol_numbers m) n (λ e.
+      other m (number-at m (is_below i m at) ∙ ap (λ (k : ℕ). Some k) e) refl)
 
   -- where the order has a symbol, that is its new number
-  pub new-order : (i n : ℕ) → slice_get (dynamic_order read image) i ≡ Some n → new_dynamic_symbol read image n ≡ i
-  new-order i n at =
+  pub new-order : (i m n : ℕ) → slice_get (dynamic_order read image) i ≡ Some m → slice_get image.dynamic_symbol_numbers m ≡ Some n
+      → new_dynamic_symbol read image n ≡ i
+  new-order i m n at number =
       let test : ℕ → Bool = λ j. slice_index image.dynamic_symbol_numbers j == n in
-      let here : test n ≡ true = eq-eqb (slice_index image.dynamic_symbol_numbers n) n (number-at n (is_below i n at)) in
+      let here : test m ≡ true =
+      eq-eqb (slice_index image.dynamic_symbol_numbers m) n (get_or_from_slice_get image.dynamic_symbol_numbers m n 0 number) in
       let found : position test (dynamic_order read image) ≡ Some i =
-      position-at test (dynamic_order read image) i n at here (λ j m less there. other_number n j m there (λ same.
-      let one : j ≡ i = orders.one_place (length image.dynamic_symbols) (dynamic_order read image) order_once j i n
-      (there ∙ ap (λ (k : ℕ). Some k) same) at in
+      position-at test (dynamic_order read image) i m at here (λ j k less there. other_number n j k there (λ l at_l same.
+      let own : k ≡ m = same ∙ one_position image.dynamic_symbol_numbers all.rising l m n at_l number in
+      let one : j ≡ i = orders.one_place (length image.dynamic_symbols) (dynamic_order read image) order_once j i m
+      (there ∙ ap (λ (x : ℕ). Some x) own) at in
       omega (arith, one, less))) in
       ap (λ (o : Option ℕ). unwrap_or o 0) found
 
   -- at the new number of a symbol the order has that symbol
-  pub order-new : (n : ℕ) → n < length image.dynamic_symbols → slice_get (dynamic_order read image) (new_dynamic_symbol read image n) ≡ Some n
-  order-new n below =
-      let (i, at) = stands n below in
-      ap (slice_get (dynamic_order read image)) (new-order i n at) ∙ at
+  pub order-new : (m n : ℕ) → slice_get image.dynamic_symbol_numbers m ≡ Some n
+      → slice_get (dynamic_order read image) (new_dynamic_symbol read image n) ≡ Some m
+  order-new m n number =
+      let (i, at) = stands m (position_below m n number) in
+      ap (slice_get (dynamic_order read image)) (new-order i m n at number) ∙ at
 
-  pub new_below : (n : ℕ) → n < length image.dynamic_symbols → new_dynamic_symbol read image n < length image.dynamic_symbols
-  new_below n below =
-      omega (arith, slice_get_within (dynamic_order read image) (new_dynamic_symbol read image n) n (order-new n below), length-order)
+  pub new_below : (m n : ℕ) → slice_get image.dynamic_symbol_numbers m ≡ Some n → new_dynamic_symbol read image n < length image.dynamic_symbols
+  new_below m n number =
+      omega (arith, slice_get_within (dynamic_order read image) (new_dynamic_symbol read image n) m (order-new m n number), length-order)
 
   -- one that isn't there has none
-  pub new_past : (n : ℕ) → length image.dynamic_symbols ≤ n → new_dynamic_symbol read image n ≡ 0
-  new_past n past =
+  pub new_gone : (n : ℕ) → ((m : ℕ) → slice_get image.dynamic_symbol_numbers m ≡ Some n → ⊥) → new_dynamic_symbol read image n ≡ 0
+  new_gone n gone =
       let none : position (λ j. slice_index image.dynamic_symbol_numbers j == n) (dynamic_order read image) ≡ None =
       position-none (λ j. slice_index image.dynamic_symbol_numbers j == n) (dynamic_order read image)
-      (λ j m there. other_number n j m there (λ same. omega (arith, same, is_below j m there, past))) in
+      (λ j m there. other_number n j m there (λ k at_k same. gone k at_k)) in
       ap (λ (o : Option ℕ). unwrap_or o 0) none
+
+  -- the first symbol that was read is the first that is there
+  first_number : 0 < length image.dynamic_symbols → slice_get image.dynamic_symbol_numbers 0 ≡ Some 0
+  first_number some =
+      all.complete.first_dynamic (omega (arith, all.below 0 (slice_index image.dynamic_symbol_numbers 0) (number-at 0 some)))
 
   pub new-first : new_dynamic_symbol read image 0 ≡ 0
   new-first = elim (cases_lt 0 (length image.dynamic_symbols)) [
-    | inl some ↦ new-order 0 0 (order_first some)
-    | inr none ↦ new_past 0 none
+    | inl some ↦ new-order 0 0 0 (order_first some) (first_number some)
+    | inr none ↦ new_gone 0 (λ m at. omega (arith, position_below m 0 at, none))
   ]
 
   -- only the first symbol is the first
-  pub new-zero : (n : ℕ) → n < length image.dynamic_symbols → (new_dynamic_symbol read image n ≡ 0) ↔ (n ≡ 0)
-  new-zero n below = (
+  pub new-zero : (m n : ℕ) → slice_get image.dynamic_symbol_numbers m ≡ Some n → (new_dynamic_symbol read image n ≡ 0) ↔ (n ≡ 0)
+  new-zero m n number = (
     λ e.
-        same_Some n 0 (sym (ap (slice_get (dynamic_order read image)) (sym e) ∙ order-new n below) ∙ order_first (omega (arith, below))),
+        let some : 0 < length image.dynamic_symbols = omega (arith, position_below m n number) in
+        let first : m ≡ 0 = same_Some m 0 (sym (ap (slice_get (dynamic_order read image)) (sym e) ∙ order-new m n number) ∙ order_first some) in
+        same_Some n 0 (sym (ap (slice_get image.dynamic_symbol_numbers) (sym first) ∙ number) ∙ first_number some),
     λ e. ap (new_dynamic_symbol read image) e ∙ new-first,
   )
 
-  -- with the names that were read each symbol keeps its number
-  pub new-same : are_names_changed read image ≡ false → (n : ℕ) → n < length image.dynamic_symbols → new_dynamic_symbol read image n ≡ n
+  -- with the names that were read each symbol is there
+  pub all_there : are_names_changed read image ≡ false → (n : ℕ) → n < length read.dynamic_symbols
+      → slice_get image.dynamic_symbol_numbers n ≡ Some n
+  all_there same n below =
+      each_there image.dynamic_symbol_numbers (length read.dynamic_symbols) all.rising all.below
+      (sym all.as_many ∙ names_count read image same) n below
+
+  -- and keeps its number
+  pub new-same : are_names_changed read image ≡ false → (n : ℕ) → n < length read.dynamic_symbols → new_dynamic_symbol read image n ≡ n
   new-same same n below =
-      new-order n n (ap (λ (l : List ℕ). slice_get l n) (order-same read image same) ∙ slice_get-counted (length image.dynamic_symbols) n below)
+      let inside : n < length image.dynamic_symbols = position_below n n (all_there same n below) in
+      new-order n n n
+      (ap (λ (l : List ℕ). slice_get l n) (order-same read image same) ∙ slice_get-counted (length image.dynamic_symbols) n inside)
+      (all_there same n below)
 
   -- each symbol stands at its new number
-  pub ordered-new : (n : ℕ) → n < length image.dynamic_symbols
-      → slice_get (ordered read image) (new_dynamic_symbol read image n) ≡ slice_get image.dynamic_symbols n
-  ordered-new n below = ordered-at (new_dynamic_symbol read image n) n (order-new n below)
+  pub ordered-new : (m n : ℕ) → slice_get image.dynamic_symbol_numbers m ≡ Some n
+      → slice_get (ordered read image) (new_dynamic_symbol read image n) ≡ slice_get image.dynamic_symbols m
+  ordered-new m n number = ordered-at (new_dynamic_symbol read image n) m (order-new m n number)
 
   -- the new numbers, one by one
-  pub new-at : (n : ℕ) → n < length image.dynamic_symbols → slice_index (new_dynamic_symbols read image) n ≡ new_dynamic_symbol read image n
+  pub new-at : (n : ℕ) → n < length read.dynamic_symbols → slice_index (new_dynamic_symbols read image) n ≡ new_dynamic_symbol read image n
   new-at n below =
       let count : ℕ = length read.dynamic_symbols in
-      let inside : n < count = omega (arith, below, all.as_many ∙ ap length all.numbers ∙ length-counted count) in
-      get_or-map (new_dynamic_symbol read image) (counted count) n 0 0 (omega (arith, inside, length-counted count))
-      ∙ ap (new_dynamic_symbol read image) (slice_index-counted count n inside)
+      get_or-map (new_dynamic_symbol read image) (counted count) n 0 0 (omega (arith, below, length-counted count))
+      ∙ ap (new_dynamic_symbol read image) (slice_index-counted count n below)
 
-  pub length-new : length (new_dynamic_symbols read image) ≡ length image.dynamic_symbols
+  pub length-new : length (new_dynamic_symbols read image) ≡ length read.dynamic_symbols
   length-new =
       let count : ℕ = length read.dynamic_symbols in
-      length-map (counted count) (new_dynamic_symbol read image) ∙ sym (all.as_many ∙ ap length all.numbers)
+      length-map (counted count) (new_dynamic_symbol read image) ∙ length-counted count
 
-  -- they are the inverse of the order
-  pub new_inverse : IsInverse (dynamic_order read image) (new_dynamic_symbols read image)
-  new_inverse =
+  -- where none went, they are the inverse of the order
+  pub new_inverse : image.dynamic_symbol_numbers ≡ counted (length read.dynamic_symbols) → IsInverse (dynamic_order read image) (new_dynamic_symbols read image)
+  new_inverse numbers =
       let order : List ℕ = dynamic_order read image in
-      let numbers : List ℕ = new_dynamic_symbols read image in
+      let news : List ℕ = new_dynamic_symbols read image in
+      let count : ℕ = length read.dynamic_symbols in
+      let many : length image.dynamic_symbols ≡ count = all.as_many ∙ ap length numbers ∙ length-counted count in
+      let own : (n : ℕ) → n < count → slice_get image.dynamic_symbol_numbers n ≡ Some n =
+      λ n below. ap (λ (l : List ℕ). slice_get l n) numbers ∙ slice_get-counted count n below in
       record {
-        long = length-new ∙ sym length-order;
+        long = length-new ∙ sym many ∙ sym length-order;
         inside = λ old less.
-            let below : old < length image.dynamic_symbols = omega (arith, less, length-order) in
-            omega (arith, new-at old below, new_below old below, length-order);
+            let below : old < count = omega (arith, less, length-order, many) in
+            omega (arith, new-at old below, new_below old old (own old below), length-order);
         from_old = λ old less.
-            let below : old < length image.dynamic_symbols = omega (arith, less, length-order) in
-            ap (slice_index order) (new-at old below) ∙ get_or_from_slice_get order (new_dynamic_symbol read image old) old 0 (order-new old below);
+            let below : old < count = omega (arith, less, length-order, many) in
+            ap (slice_index order) (new-at old below)
+            ∙ get_or_from_slice_get order (new_dynamic_symbol read image old) old 0 (order-new old old (own old below));
         from_new = λ new less.
             let old : ℕ = slice_index order new in
             let at : slice_get order new ≡ Some old = slice_get-get_or order new 0 less in
-            new-at old (is_below new old at) ∙ new-order new old at;
+            let below : old < count = omega (arith, is_below new old at, many) in
+            new-at old below ∙ new-order new old old at (own old below);
       }
 
   -- ## The final symbols
@@ -300,12 +341,12 @@ module _ (read image : Image) (all : HasAllSymbols read image) where
   length-final = ap length final_list ∙ length-map (ordered read image) (final_symbol image) ∙ length-ordered
 
   -- each stands at its new number
-  pub final-new : (n : ℕ) (y : NamedSymbol) → slice_get image.dynamic_symbols n ≡ Some y
+  pub final-new : (m n : ℕ) (y : NamedSymbol) → slice_get image.dynamic_symbol_numbers m ≡ Some n → slice_get image.dynamic_symbols m ≡ Some y
       → slice_get (final read image).dynamic_symbols (new_dynamic_symbol read image n) ≡ Some (final_symbol image y)
-  final-new n y at =
+  final-new m n y number at =
       let new : ℕ = new_dynamic_symbol read image n in
       ap (λ (l : List NamedSymbol). slice_get l new) final_list ∙ slice_get-map (final_symbol image) (ordered read image) new
-      ∙ ap (option_map (final_symbol image)) (ordered-new n (slice_get_within image.dynamic_symbols n y at) ∙ at)
+      ∙ ap (option_map (final_symbol image)) (ordered-new m n number ∙ at)
 
   -- the section of each of them is there
   ordered_there : (i : ℕ) (y : NamedSymbol) → slice_get (ordered read image) i ≡ Some y → has_section image y ≡ true

@@ -45,7 +45,7 @@ use Rattle.elf_write_spec.proofs.ApartInFile.{stands_behind}
 use Rattle.elf_write_spec.proofs.Laying.{AreApart, field-laid_apart, field-values, range_of}
 use Rattle.elf_write_spec.proofs.Patches.{AreSized, are_sized, first_range, length-written, patches_lie_in_base, second_range, third_range}
 use Rattle.elf_write_spec.proofs.WholeFacts.{SectionAt, lengths, read_facts, section_at}
-use Rattle.elf_write_spec.proofs.NumberedSections.{kept}
+use Rattle.elf_write_spec.proofs.NumberedSections.{kept_as}
 use Rattle.elf_format.proofs.ForCallers.{apart-before, apart-from_empty}
 
 -- ## One place
@@ -170,7 +170,7 @@ same_kind w is j k x at_k at_x =
     let below = slice_get_within w.plan.places j x at_x in
     let at : SectionAt w f.parts j = section_at w is f j (omega (arith, below, l.places)) in
     let same_place : at.place ≡ x = same_Some at.place x (sym at.is_place ∙ at_x) in
-    let same_kept : at.section ≡ k.section = ap (λ (y : KeptSection). y.section) (same_Some (kept j at.section) k (sym at.is_kept ∙ at_k)) in
+    let same_kept : at.section ≡ k.section = ap (λ (y : KeptSection). y.section) (same_Some (kept_as j at.number at.section) k (sym at.is_kept ∙ at_k)) in
     let type : x.sh_type ≡ k.section.sh_type =
     ap (λ (y : Place). y.sh_type) (sym same_place) ∙ at.place_type
     ∙ sym (ap (λ (y : ImageSection). y.sh_type) at.of_old.fields) ∙ ap (λ (y : ImageSection). y.sh_type) same_kept in

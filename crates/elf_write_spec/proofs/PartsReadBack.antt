@@ -1,9 +1,8 @@
 -- What is read of each part of a written file.
-use Rattle.std.proofs.Common.{◌≡◌, List, refl, sym, ap, ◌∙◌, Some}
+use Rattle.std.proofs.Common.{◌≡◌, refl, ap, ◌∙◌, Some}
 use Rattle.elf_format.specs.declared.constants.TheConstants.{SHT_DYNAMIC, SHT_DYNSYM, SHT_GNU_VERDEF, SHT_GNU_VERNEED, SHT_SYMTAB}
 use Rattle.elf_format.specs.File.{section_of_type}
 use Rattle.elf_format.specs.Image.{definitions_read, dynamic_symbols_read, entries_read, interpreter_read, needs_read, static_symbols}
-use Rattle.elf_format.specs.Views.{NamedSymbol}
 use Rattle.elf_image.specs.Kept.{image_at_read}
 use Rattle.elf_write_spec.specs.ReadBack.{HasWrittenParts, written_parts}
 use Rattle.elf_write_spec.specs.Final.{final}
@@ -13,14 +12,11 @@ use Rattle.elf_write_spec.proofs.EntriesReadBack.{entries_read_back}
 use Rattle.elf_write_spec.proofs.InterpreterReadBack.{name_read_back}
 use Rattle.elf_write_spec.proofs.RecordsReadBack.{definitions_read_back, needs_read_back}
 use Rattle.elf_write_spec.proofs.SymbolsReadBack.{symbols_read_back}
-use Rattle.elf_write_spec.proofs.WholeEdits.{static_same}
-use Rattle.elf_write_spec.proofs.WholeFacts.{whole_edit}
 
 -- the static symbols
 pub symbols_read : (w : Output) → IsPlannedOutput w → HasWrittenParts w
     → static_symbols (written_parts w) (section_of_type SHT_SYMTAB w.headers) ≡ Some (final (image_at_read w.image) w.image).symbols
-symbols_read w is has =
-    symbols_read_back w is has ∙ ap (λ (ys : List NamedSymbol). Some ys) (sym (static_same (image_at_read w.image) w.image (whole_edit w is)))
+symbols_read w is has = symbols_read_back w is has
 
 -- the dynamic symbols
 pub loaded_symbols_read : (w : Output) → IsPlannedOutput w → HasWrittenParts w

@@ -39,7 +39,7 @@ use Rattle.elf_write_spec.proofs.InterpreterAt.{isnt_interpreter}
 use Rattle.elf_write_spec.proofs.SpelledEntries.{spelled-read}
 use Rattle.elf_write_spec.proofs.WholeEdits.{entries_written}
 use Rattle.elf_write_spec.proofs.WholeFacts.{Nowhere, ReadFacts, SectionAt, There, TypeAt, read_facts, type_at}
-use Rattle.elf_write_spec.proofs.NumberedSections.{kept}
+use Rattle.elf_write_spec.proofs.NumberedSections.{kept_as}
 
 -- ## The entries of an image
 
@@ -103,7 +103,7 @@ module _ (w : Output) (is : IsPlannedOutput w) (f : ReadFacts w) (i : ℕ) (at :
   kind_is : at.section.kind ≡ kinds.Dynamic
   kind_is = ap (λ (s : ImageSection). s.kind) at.of_old.fields ∙ dynamic_kind f.parts at.old type
 
-  not_interpreter : is_interpreter (image_at_read w.image) (kept i at.section) ≡ false
+  not_interpreter : is_interpreter (image_at_read w.image) (kept_as i at.number at.section) ≡ false
   not_interpreter = isnt_interpreter w is f i at (ap (λ n. n == 1) section_type)
 
   -- the strings of the list, as they are written
@@ -116,7 +116,7 @@ module _ (w : Output) (is : IsPlannedOutput w) (f : ReadFacts w) (i : ℕ) (at :
   content_by : Bool → SectionData → Type 0
   content_by b kind = elim b [
     | true ↦ at.bytes ≡ list_at (λ name. name) w.image.interpreter
-    | _ ↦ IsContentOfKind (resized w.image) w.plan w.raw list_strings (kept i at.section) at.bytes kind
+    | _ ↦ IsContentOfKind (resized w.image) w.plan w.raw list_strings (kept_as i at.number at.section) at.bytes kind
   ]
 
   -- its entries and its bytes
@@ -138,8 +138,8 @@ module _ (w : Output) (is : IsPlannedOutput w) (f : ReadFacts w) (i : ℕ) (at :
   unfolding new_size
   place_long =
       at.place_size
-      ∙ cond-false (is_numbered (interpreter_number (image_at_read w.image)) (kept i at.section)) (interpreter_size w.image at.section)
-      (table_size (image_at_read w.image) w.image (kept i at.section)) not_interpreter
+      ∙ cond-false (is_numbered (interpreter_number (image_at_read w.image)) (kept_as i at.number at.section)) (interpreter_size w.image at.section)
+      (table_size (image_at_read w.image) w.image (kept_as i at.number at.section)) not_interpreter
       ∙ cond-true (at.section.sh_type == SHT_DYNAMIC) (dynamic_size (image_at_read w.image) w.image at.section) _
       (ap (λ n. n == SHT_DYNAMIC) section_type)
 
@@ -177,7 +177,7 @@ module _ (w : Output) (is : IsPlannedOutput w) (f : ReadFacts w) (i : ℕ) (at :
 
 pub raw_is : (w : Output) → IsPlannedOutput w → HasWrittenParts w → (list : SectionHeader)
     → section_of_type SHT_DYNAMIC w.headers ≡ Some list → raw_entries (written_parts w) ≡ w.raw
-raw_is w is has list there = by_type (read_facts w is) (type_at w is (read_facts w is) SHT_DYNAMIC)
+raw_is w is has list there = by_type (read_facts w is) (type_at w is (read_facts w is) SHT_DYNAMIC refl)
   where
     by_type : (f : ReadFacts w) → TypeAt w f.parts SHT_DYNAMIC → raw_entries (written_parts w) ≡ w.raw
     by_type f (Nowhere _ none _) = absurd (none-some list (sym none ∙ there))

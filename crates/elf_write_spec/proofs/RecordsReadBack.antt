@@ -1,5 +1,5 @@
 -- The defined and the needed versions of a written file are those of the image in its final form.
-use Rattle.std.proofs.Common.{◌≡◌, ℕ, true, cond, List, [], length, sym, ap, ◌∙◌, subst, Option, Some, None, arith}
+use Rattle.std.proofs.Common.{◌≡◌, ℕ, true, cond, List, [], length, refl, sym, ap, ◌∙◌, subst, Option, Some, None, arith}
 use Rattle.std.specs.Prelude.{◌==◌, if◌then◌else◌}
 use Rattle.std.proofs.lemmas.Option.{cond_some, same_Some}
 use Rattle.patch_bytes.specs.Memory.{◌>>=◌, Memory, memory_of}
@@ -189,7 +189,7 @@ pub definitions_read_back : (w : Output) → IsPlannedOutput w → HasWrittenPar
     → definitions_read (written_parts w) (section_of_type SHT_GNU_VERDEF w.headers) ≡ Some w.image.definitions
 definitions_read_back w is has =
     let f = read_facts w is in
-    elim (type_at w is f SHT_GNU_VERDEF) [
+    elim (type_at w is f SHT_GNU_VERDEF refl) [
       | Nowhere was now none ↦ ap (definitions_read (written_parts w)) now ∙ definitions_nowhere w is has f was
       | There i at e was now there ↦ ap (definitions_read (written_parts w)) now ∙ definitions_there w is has f i at e was
     ]
@@ -199,7 +199,7 @@ pub needs_read_back : (w : Output) → IsPlannedOutput w → HasWrittenParts w
     → needs_read (written_parts w) (section_of_type SHT_GNU_VERNEED w.headers) ≡ Some (final (image_at_read w.image) w.image).needs
 needs_read_back w is has =
     let f = read_facts w is in
-    elim (type_at w is f SHT_GNU_VERNEED) [
+    elim (type_at w is f SHT_GNU_VERNEED refl) [
       | Nowhere was now none ↦ ap (needs_read (written_parts w)) now ∙ needs_nowhere w is has f was
       | There i at e was now there ↦ ap (needs_read (written_parts w)) now ∙ needs_there w is has f i at e was
     ]

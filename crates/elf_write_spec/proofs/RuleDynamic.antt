@@ -2,10 +2,9 @@
 use Rattle.std.proofs.Common.{◌≡◌, ℕ, Bool, true, false, cond, List, [], ◌∷◌, length, take, refl, sym, ap, ◌∙◌, Option, Some, None}
 use Rattle.std.specs.Prelude.{◌==◌, ◌&&◌, IsTrue, find, if◌then◌else◌, is_some}
 use Rattle.std.specs.List.{slice_get}
-use Rattle.std.specs.Option.{option_map}
 use Rattle.std.proofs.Math.Seq.{take-length}
 use Rattle.std.proofs.lemmas.Bool.{and_from, and_parts, both_ways, eq-eqb, eqb-true, false≢true}
-use Rattle.std.proofs.lemmas.Option.{same_Some, slice_get_within}
+use Rattle.std.proofs.lemmas.Option.{same_Some}
 use Rattle.patch_bytes.specs.Memory.{◌>>=◌, memory_of}
 use Rattle.patch_bytes.proofs.MemoryLaws.{some_bind}
 use Rattle.elf_format.specs.declared.form.Form.{Form}
@@ -21,19 +20,20 @@ use Rattle.elf_format.specs.Rules.{dynamic_section_agrees, file_of, is_dynamic_s
 use Rattle.elf_format.specs.Views.{interpreter_section}
 use Rattle.elf_image.specs.Edited.{kept_segment}
 use Rattle.elf_layout_plan.specs.Anchors.{Itself, Anchor, OneSection, is_loaded_section, anchor_by_range, anchor_of, anchor_or_itself, section_or_table, section_under}
-use Rattle.elf_image.specs.Kept.{KeptSection, image_at_read, interpreter_number, is_numbered, kept_of_type, kept_sections, stands_as_interpreter}
+use Rattle.elf_image.specs.Kept.{KeptSection, image_at_read, interpreter_number, is_numbered, kept_at_number, kept_of_type, kept_sections, stands_as_interpreter}
 use Rattle.elf_layout_plan.specs.Memory.{Resized}
 use Rattle.elf_layout_plan.specs.Plan.{resized}
 use Rattle.elf_layout_plan.specs.Written.{anchored_to, target_at}
 use Rattle.elf_layout_plan.proofs.ForCallers.ApartLists.{find-at, find-misses, each-at}
 use Rattle.elf_write_spec.specs.ReadBack.{HasWrittenParts, written_parts}
 use Rattle.elf_write_spec.specs.Output.{IsPlannedOutput, Output, written_bytes}
-use Rattle.elf_write_spec.proofs.InterpreterAt.{interpreter_is, kept_same}
+use Rattle.elf_write_spec.proofs.InterpreterAt.{interpreter_is}
+use Rattle.elf_write_spec.proofs.WholeEdits.{read_kept, was_there}
 use Rattle.elf_write_spec.proofs.RawEntries.{entries_here, place_filled}
 use Rattle.elf_write_spec.proofs.UnloadedStay.{unloaded_stays}
-use Rattle.elf_write_spec.proofs.WholeFacts.{Nowhere, ReadFacts, SectionAt, There, TypeAt, kept_is, read_facts, section_at, type_at}
-use Rattle.elf_write_spec.proofs.WrittenTypes.{ASegment, NoSegment, SegmentAt, all_places_are, becomes, becomes-section, has_type, segment_at}
-use Rattle.elf_write_spec.proofs.NumberedSections.{kept}
+use Rattle.elf_write_spec.proofs.WholeFacts.{Nowhere, ReadFacts, SectionAt, There, TypeAt, kept_is, read_facts, type_at}
+use Rattle.elf_write_spec.proofs.WrittenTypes.{ASegment, GoneSegment, NoSegment, SegmentAt, all_places_are, becomes, becomes-section, has_type, segment_at}
+use Rattle.elf_write_spec.proofs.NumberedSections.{kept_as}
 
 -- ## What a program header goes by
 
@@ -64,10 +64,10 @@ first_typed type ps p h = let (_, _, passes) = find-at (has_type type) ps p h in
 
 -- where its section goes
 becomes_at : (w : Output) (is : IsPlannedOutput w) (f : ReadFacts w) (i : ℕ) (at : SectionAt w f.parts i) (p : SegmentHeader)
-    → anchor_of (resized w.image) p ≡ OneSection (kept i at.section)
+    → anchor_of (resized w.image) p ≡ OneSection (kept_as i at.number at.section)
     → becomes (resized w.image) is.planned.moved p ≡ anchored_to w.image.form p (target_at at.place)
 becomes_at w is f i at p anchor =
-    becomes-section (resized w.image) is.planned.moved p (kept i at.section) at.place anchor
+    becomes-section (resized w.image) is.planned.moved p (kept_as i at.number at.section) at.place anchor
     (ap (λ (l : List Place). slice_get l i) (sym (all_places_are w is)) ∙ at.is_place)
 
 address_by : SegmentHeader → Place → Bool → ℕ
@@ -131,6 +131,8 @@ dynamic_by w is has f (NoSegment no_old _ none) (There i at type at_old at_heade
 dynamic_by w is has f (ASegment old p is_old is_p like now) (Nowhere no_section none_section _) h =
     absurd (false≢true (sym (both (dynamic_section_agrees f.parts) (segment_of_type PT_DYNAMIC f.parts.segments)
     (section_of_type SHT_DYNAMIC f.parts.sections) (Some old) None is_old no_section) ∙ h))
+dynamic_by w is has f (GoneSegment old is_old can none_now none) section h =
+    absurd (can.1 (first_typed PT_DYNAMIC f.parts.segments old is_old))
 dynamic_by w is has f (ASegment old p is_old is_p like now) (There i at type at_old at_header at_kept) h =
     let agreed : dynamic_section_agrees f.parts old at.old ≡ true =
     sym (both (dynamic_section_agrees f.parts) (segment_of_type PT_DYNAMIC f.parts.segments) (section_of_type SHT_DYNAMIC f.parts.sections)
@@ -140,7 +142,7 @@ dynamic_by w is has f (ASegment old p is_old is_p like now) (There i at type at_
     let allocated : is_allocated at.old ≡ true =
     (and_parts (old.p_offset == at.old.sh_offset && old.p_vaddr == at.old.sh_addr) (is_allocated at.old)
     (and_parts (old.p_offset == at.old.sh_offset && old.p_vaddr == at.old.sh_addr && is_allocated at.old) ends agreed).0).1 in
-    let anchor : anchor_of (resized w.image) p ≡ OneSection (kept i at.section) =
+    let anchor : anchor_of (resized w.image) p ≡ OneSection (kept_as i at.number at.section) =
     dynamic_anchor (resized w.image) p (first_typed PT_DYNAMIC w.image.segments p is_p) ∙ ap anchor_or_itself at_kept in
     let goes = becomes_at w is f i at p anchor in
     both (dynamic_section_agrees (written_parts w)) (segment_of_type PT_DYNAMIC w.plan.segments) (section_of_type SHT_DYNAMIC w.headers)
@@ -151,7 +153,7 @@ dynamic_by w is has f (ASegment old p is_old is_p like now) (There i at type at_
 pub dynamic_right : (w : Output) → IsPlannedOutput w → HasWrittenParts w → IsTrue (is_dynamic_section_right (written_parts w))
 dynamic_right w is has =
     let f = read_facts w is in
-    dynamic_by w is has f (segment_at w is f PT_DYNAMIC refl refl) (type_at w is f SHT_DYNAMIC) f.rules.dynamic
+    dynamic_by w is has f (segment_at w is f PT_DYNAMIC refl refl refl) (type_at w is f SHT_DYNAMIC refl) f.rules.dynamic
 
 -- ## The interpreter
 
@@ -208,35 +210,29 @@ stands-test type offset address size q is =
 module _ (w : Output) (is : IsPlannedOutput w) (f : ReadFacts w) where
   -- a section stood where PT_INTERP says
   stood_there : (old : SegmentHeader) → is_some (interpreter_section old f.parts.sections) ≡ true
-      → (i : ℕ) × (at : SectionAt w f.parts i) × (stands_as_interpreter old at.section ≡ true)
+      → (i : ℕ) × (was : ImageSection) × (slice_get (image_at_read w.image).sections i ≡ Some was) × (stands_as_interpreter old was ≡ true)
   stood_there old h = by_found (interpreter_section old f.parts.sections) refl h
     where
       by_found : (o : Option SectionHeader) → interpreter_section old f.parts.sections ≡ o → is_some o ≡ true
-          → (i : ℕ) × (at : SectionAt w f.parts i) × (stands_as_interpreter old at.section ≡ true)
+          → (i : ℕ) × (was : ImageSection) × (slice_get (image_at_read w.image).sections i ≡ Some was) × (stands_as_interpreter old was ≡ true)
       by_found None e there = absurd (false≢true there)
       by_found (Some x) e there =
           let (i, at_i, passes) = find-at (λ (s : SectionHeader). s.sh_type == SHT_PROGBITS && s.sh_offset == old.p_offset
           && s.sh_addr == old.p_vaddr && s.sh_size == old.p_filesz)
           f.parts.sections x e in
-          let at = section_at w is f i (slice_get_within f.parts.sections i x at_i) in
-          let same : at.old ≡ x = same_Some at.old x (sym at.is_old ∙ at_i) in (
-            i,
-            at,
-            ap (stands_as_interpreter old) at.of_old.fields
-                ∙ ap (λ (s : SectionHeader). s.sh_type == SHT_PROGBITS && s.sh_offset == old.p_offset && s.sh_addr == old.p_vaddr
-                && s.sh_size == old.p_filesz) same ∙ passes,
-          )
+          let (was, was_at, of_old) = was_there (image_at_read w.image) w.image f i x at_i in
+          (i, was, was_at, ap (stands_as_interpreter old) of_old.fields ∙ passes)
 
   -- so there is a number of that section
-  number_there : (old : SegmentHeader) → segment_of_type PT_INTERP f.parts.segments ≡ Some old
+  pub number_there : (old : SegmentHeader) → segment_of_type PT_INTERP f.parts.segments ≡ Some old
       → is_some (interpreter_section old f.parts.sections) ≡ true
       → (n : ℕ) × (interpreter_number (image_at_read w.image) ≡ Some n)
   number_there old is_old h =
-      let (i, at, stands) = stood_there old h in
-      let among : slice_get (kept_sections (image_at_read w.image)) i ≡ Some (kept i at.section) =
-      ap (λ (l : List KeptSection). slice_get l i) (sym (kept_same w is)) ∙ at.is_kept in
+      let (i, was, was_at, stands) = stood_there old h in
+      let among : slice_get (kept_sections (image_at_read w.image)) i ≡ Some (kept_as i i was) =
+      read_kept (image_at_read w.image) w.image f i was was_at in
       by_found (find (λ s. stands_as_interpreter old s.section) (kept_sections (image_at_read w.image))) refl
-      (find-some (λ s. stands_as_interpreter old s.section) (kept_sections (image_at_read w.image)) i (kept i at.section) among stands)
+      (find-some (λ s. stands_as_interpreter old s.section) (kept_sections (image_at_read w.image)) i (kept_as i i was) among stands)
     where
       first : segment_of_type PT_INTERP (image_at_read w.image).segments ≡ Some old
       first = ap (segment_of_type PT_INTERP) f.holds.segments ∙ is_old
@@ -253,14 +249,14 @@ module _ (w : Output) (is : IsPlannedOutput w) (f : ReadFacts w) where
       )
 
   -- PT_INTERP goes by it
-  goes_by : (n : ℕ) (at : SectionAt w f.parts n) (p : SegmentHeader) → interpreter_number (image_at_read w.image) ≡ Some n
-      → p.p_type ≡ PT_INTERP
-      → anchor_of (resized w.image) p ≡ OneSection (kept n at.section)
-  goes_by n at p number type =
+  pub goes_by : (i n : ℕ) (at : SectionAt w f.parts i) (p : SegmentHeader) → interpreter_number (image_at_read w.image) ≡ Some n
+      → at.number ≡ n → p.p_type ≡ PT_INTERP
+      → anchor_of (resized w.image) p ≡ OneSection (kept_as i at.number at.section)
+  goes_by i n at p number own type =
       interpreter_anchor (resized w.image) p type
       ∙ ap anchor_or_itself (ap (λ o. find (is_numbered o) (kept_sections w.image)) number
       ∙ find-same (is_numbered (Some n)) (λ s. s.number == n) (λ s. swap n s.number) (kept_sections w.image)
-      ∙ kept_is w is n ∙ ap (option_map (kept n)) at.is_section)
+      ∙ ap (λ (m : ℕ). kept_at_number m w.image) (sym own) ∙ kept_is w is f i at)
 
   -- its section's header stands where that says
   header_stands : (n : ℕ) (at : SectionAt w f.parts n) (old p : SegmentHeader) → p ≡ kept_segment w.image.page_size p.p_flags old
@@ -284,29 +280,30 @@ module _ (w : Output) (is : IsPlannedOutput w) (f : ReadFacts w) where
       by_memory true takes = sym (address_in w.image.form p at.place takes)
       by_memory false none =
           let unloaded : is_loaded_section at.section ≡ false = ap (is_set SHF_ALLOC) flags ∙ none in
-          unloaded_stays w.image w.plan is.planned n (kept n at.section) at.is_kept unloaded at.place at.is_place
+          unloaded_stays w.image w.plan is.planned n (kept_as n at.number at.section) at.is_kept unloaded at.place at.is_place
           ∙ was.is_address ∙ sym (ap (λ (q : SegmentHeader). q.p_vaddr) like) ∙ sym (address_out w.image.form p at.place none)
 
   interpreter_by : SegmentAt w is f PT_INTERP
       → is_none_or (λ q. is_some (interpreter_section q f.parts.sections)) (segment_of_type PT_INTERP f.parts.segments) ≡ true
       → is_none_or (λ q. is_some (interpreter_section q w.headers)) (segment_of_type PT_INTERP w.plan.segments) ≡ true
   interpreter_by (NoSegment no_old _ none) h = ap (is_none_or (λ q. is_some (interpreter_section q w.headers))) none
+  interpreter_by (GoneSegment old is_old can none_now none) h = ap (is_none_or (λ q. is_some (interpreter_section q w.headers))) none
   interpreter_by (ASegment old p is_old is_p like now) h =
       let stood : is_some (interpreter_section old f.parts.sections) ≡ true =
       sym (ap (is_none_or (λ q. is_some (interpreter_section q f.parts.sections))) is_old) ∙ h in
       let (n, number) = number_there old is_old stood in
-      let found = interpreter_is w is f n number in
+      let found = interpreter_is w is f n number (f.edit.complete.interpreter ∙ ap is_some is_p) in
       let at = found.at in
       let same : found.segment ≡ old = same_Some found.segment old (sym found.is_segment ∙ is_old) in
       let stands : stands_as_interpreter old at.section ≡ true = ap (λ q. stands_as_interpreter q at.section) (sym same) ∙ found.stands in
       let q : SegmentHeader = anchored_to w.image.form p (target_at at.place) in
-      let goes = becomes_at w is f n at p (goes_by n at p number (first_typed PT_INTERP w.image.segments p is_p)) in
+      let goes = becomes_at w is f found.position at p (goes_by found.position n at p number found.number (first_typed PT_INTERP w.image.segments p is_p)) in
       let written : segment_of_type PT_INTERP w.plan.segments ≡ Some q = now ∙ ap (λ (x : SegmentHeader). Some x) goes in
       ap (is_none_or (λ x. is_some (interpreter_section x w.headers))) written
       ∙ find-some (λ (s : SectionHeader). s.sh_type == SHT_PROGBITS && s.sh_offset == q.p_offset && s.sh_addr == q.p_vaddr
       && s.sh_size == q.p_filesz)
-      w.headers n at.header at.is_header (stands-test at.header.sh_type at.header.sh_offset at.header.sh_addr at.header.sh_size q
-      (header_stands n at old p like stands))
+      w.headers found.position at.header at.is_header (stands-test at.header.sh_type at.header.sh_offset at.header.sh_addr at.header.sh_size q
+      (header_stands found.position at old p like stands))
 
 pub interpreter_right : (w : Output) → IsPlannedOutput w → HasWrittenParts w → IsTrue (is_interpreter_right (written_parts w))
-interpreter_right w is has = let f = read_facts w is in interpreter_by w is f (segment_at w is f PT_INTERP refl refl) f.rules.interpreter
+interpreter_right w is has = let f = read_facts w is in interpreter_by w is f (segment_at w is f PT_INTERP refl refl refl) f.rules.interpreter

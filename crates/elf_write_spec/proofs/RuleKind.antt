@@ -2,9 +2,9 @@
 use Rattle.std.proofs.Common.{◌≡◌, ◌≤◌, ◌<◌, ℕ, zero, suc, Bool, true, false, not, ◌&&◌, List, [], ◌∷◌, length, filter, refl, sym, ap, ◌∙◌, subst, inl, inr, Option, Some, None, arith}
 use Rattle.std.specs.Prelude.{IsTrue, nat_lt, ◌==◌}
 use Rattle.std.specs.List.{list_all, slice_get}
-use Rattle.std.proofs.lemmas.Bool.{and_from, and_parts, eq-eqb, eqb-true, false≢true, or_cases}
+use Rattle.std.proofs.lemmas.Bool.{and_from, and_parts, eq-eqb, eqb-true, false≢true, lt-ltb, or_cases}
 use Rattle.std.proofs.lemmas.Bool.Decides.{nat_tests}
-use Rattle.std.proofs.lemmas.Option.{none-some, same_Some}
+use Rattle.std.proofs.lemmas.Option.{none-some, same_Some, slice_get_within}
 use Rattle.elf_format.specs.declared.constants.TheConstants.{ET_DYN, ET_EXEC, PN_XNUM, SHN_LORESERVE, SHN_XINDEX, SHT_DYNSYM, SHT_GNU_VERSYM, SHT_STRTAB, SHT_SYMTAB}
 use Rattle.elf_format.specs.declared.form.Form.{Form}
 use Rattle.elf_format.specs.declared.header.Header.{Header}
@@ -14,9 +14,9 @@ use Rattle.elf_format.specs.File.{Opened, section_bytes, section_of_type, sectio
 use Rattle.elf_format.specs.Image.{symbols_of}
 use Rattle.elf_format.specs.Options.{is_none_or, is_one_of}
 use Rattle.elf_format.specs.Records.{file_header_size, section_header, section_header_size, segment_header_size, symbols_in}
-use Rattle.elf_format.specs.Rules.{file_of, is_file_kind, is_symbol_table, names_are_texts, no_extended_numbers}
+use Rattle.elf_format.specs.Rules.{is_file_kind, is_symbol_table, names_are_texts, no_extended_numbers}
 use Rattle.elf_format.specs.Views.{NamedSymbol}
-use Rattle.elf_image.specs.ReadImage.{AreDynamicSymbols}
+use Rattle.elf_image.specs.ReadImage.{AreDynamicSymbols, AreStaticSymbols}
 use Rattle.elf_image.specs.Kept.{image_at_read}
 use Rattle.elf_layout_plan.specs.Memory.{Resized}
 use Rattle.elf_layout_plan.specs.Plan.{Layout, does_place_fit, does_plan_fit, does_segment_fit, layout_for, resized}
@@ -27,12 +27,13 @@ use Rattle.elf_layout_plan.proofs.ForCallers.PlacedRead.{ReadsPlaced, header_fil
 use Rattle.elf_layout_plan.proofs.ForCallers.PlacedSegments.{end_before_sections, header_before_kept_end, kept_before_segments_end, segments_before_end}
 use Rattle.elf_write_spec.specs.ReadBack.{HasWrittenParts, written_parts}
 use Rattle.elf_write_spec.specs.Contents.{AreSymbolsOf, IsSymbolOf}
-use Rattle.elf_write_spec.specs.Final.{final, new_number}
+use Rattle.elf_write_spec.specs.Final.{final, new_number, new_symbol_section}
 use Rattle.elf_write_spec.specs.Output.{IsPlannedOutput, Output, written_bytes}
-use Rattle.elf_write_spec.proofs.ContentFacts.{dynamic_symbols_shown, linked_bytes, symbols_copied}
+use Rattle.elf_write_spec.proofs.ContentFacts.{dynamic_symbols_shown, linked_bytes, symbols_shown}
 use Rattle.elf_write_spec.proofs.HeaderTables.{header_bytes, sections_there-all}
 use Rattle.elf_write_spec.proofs.FinalSymbols.{final_at}
-use Rattle.elf_write_spec.proofs.WholeFacts.{ReadFacts, SectionAt, lengths, new_number-same, read_facts, section_at, section_at_header, whole_edit}
+use Rattle.elf_write_spec.proofs.StaticSymbols.{final_static, section_moves, static_read}
+use Rattle.elf_write_spec.proofs.WholeFacts.{ReadFacts, SectionAt, lengths, names_section_at, read_facts, section_at_header}
 use Rattle.elf_write_spec.proofs.WholeLists.{has_at}
 use Rattle.elf_format.proofs.ForCallers.Lengths.{length-sections}
 
@@ -161,15 +162,25 @@ module _ (w : Output) (is : IsPlannedOutput w) (f : ReadFacts w) where
   same_type : w.image.header.e_type ≡ f.parts.opened.header.e_type
   same_type = ap (λ (h : Header). h.e_type) header_was ∙ ap (λ (h : Header). h.e_type) f.holds.header
 
-  -- the section of names keeps its number
-  pub names_number : new_number w.image w.image.header.e_shstrndx ≡ f.parts.opened.header.e_shstrndx
-  names_number =
-      new_number-same w is w.image.header.e_shstrndx ∙ ap (λ (h : Header). h.e_shstrndx) header_was
-      ∙ ap (λ (h : Header). h.e_shstrndx) f.holds.header
+  -- a section with a number below the count that was read was there
+  pub section_below : (n : ℕ) → n < f.parts.opened.header.e_shnum → n < length f.parts.sections
+  section_below n less = omega (arith, less, length-sections f.parts.opened f.parts.sections f.are_parts.sections)
 
-  -- as many sections as were read
-  pub count_is : length w.plan.places ≡ f.parts.opened.header.e_shnum
-  count_is = (lengths w is f).places ∙ length-sections f.parts.opened f.parts.sections f.are_parts.sections
+  -- there is a section
+  pub some_place : 0 < length w.plan.places
+  some_place =
+      let number : ℕ = f.parts.opened.header.e_shstrndx in
+      let less : number < f.parts.opened.header.e_shnum = below number f.parts.opened.header.e_shnum old_kind.names_number in
+      let (j, at, _, _) = names_section_at w is f (section_below number less) in
+      omega (arith, slice_get_within w.plan.places j at.place at.is_place)
+
+  -- the section of names has a number of one that is there
+  pub names_below : new_number w.image w.image.header.e_shstrndx < length w.plan.places
+  names_below =
+      let number : ℕ = f.parts.opened.header.e_shstrndx in
+      let less : number < f.parts.opened.header.e_shnum = below number f.parts.opened.header.e_shnum old_kind.names_number in
+      let (j, at, _, new) = names_section_at w is f (section_below number less) in
+      omega (arith, slice_get_within w.plan.places j at.place at.is_place, new)
 
   pub same_form : w.image.form ≡ f.parts.opened.form
   same_form = f.edit.form ∙ f.holds.form
@@ -191,15 +202,12 @@ names_right w is has f =
     let o : Opened = f.parts.opened in
     let number : ℕ = o.header.e_shstrndx in
     let less : number < o.header.e_shnum = below number o.header.e_shnum old.names_number in
-    let same : new_number w.image w.image.header.e_shstrndx ≡ number = names_number w is f in
-    let count : length w.plan.places ≡ o.header.e_shnum = count_is w is f in
-    let all : length f.parts.sections ≡ o.header.e_shnum = length-sections o f.parts.sections f.are_parts.sections in
-    let at : SectionAt w f.parts number = section_at w is f number (omega (arith, less, all)) in
+    let (j, at, is_number, same) = names_section_at w is f (section_below w is f number less) in
     let here : slice_get w.headers (new_number w.image w.image.header.e_shstrndx) ≡ Some at.header =
     ap (λ (n : ℕ). slice_get w.headers n) same ∙ at.is_header in
-    names_test (written_parts w).opened w.headers has.parts.sections (omega (arith, less, same, count)) at.header here
+    names_test (written_parts w).opened w.headers has.parts.sections (names_below w is f) at.header here
     ∙ ap (λ (n : ℕ). n == SHT_STRTAB) at.type
-    ∙ sym (names_test o f.parts.sections f.are_parts.sections less at.old at.is_old)
+    ∙ sym (names_test o f.parts.sections f.are_parts.sections less at.old (ap (slice_get f.parts.sections) (sym is_number) ∙ at.is_old))
     ∙ old.names
 
 -- ## Numbers of sections in symbols
@@ -238,26 +246,52 @@ module _ (w : Output) (is : IsPlannedOutput w) (has : HasWrittenParts w) (f : Re
       subst IsPlain (sym (ap (λ (z : NamedSymbol). z.st_shndx) is_y.fields))
       (plain_in s found.0 table y (slice_get-at (symbols_of f.parts s) i y y_at))
 
-  -- and now
+  plain_static : (symbols : List NamedSymbol) (o : Option SectionHeader) → section_of_type SHT_SYMTAB f.parts.sections ≡ o
+      → AreStaticSymbols f.parts o symbols → (i : ℕ) (x : NamedSymbol) → slice_get symbols i ≡ Some x → IsPlain x.st_shndx
+  plain_static symbols None o_is none i x at = absurd (none-some x (ap (λ (l : List NamedSymbol). slice_get l i) (sym none) ∙ at))
+  plain_static symbols (Some s) o_is are i x at =
+      let (y, version, y_at, _, is_y) = are.each i x at in
+      let found = find-at (λ x. x.sh_type == SHT_SYMTAB) f.parts.sections s o_is in
+      let table : is_symbol_table s ≡ true = ap (is_one_of (SHT_SYMTAB ∷ SHT_DYNSYM ∷ [])) (eqb-true s.sh_type SHT_SYMTAB found.1) in
+      subst IsPlain (sym (ap (λ (z : NamedSymbol). z.st_shndx) is_y.fields))
+      (plain_in s found.0 table y (slice_get-at (symbols_of f.parts s) i y y_at))
+
+  -- and now: a section's number is below the special ones
+  plain_below : (n : ℕ) → n < length w.plan.places → IsPlain n
+  plain_below n less = grind (arith, nat_tests, counts_fit w is)
+
+  plain_moved : (x : NamedSymbol) → IsPlain x.st_shndx → IsPlain (new_symbol_section w.image x.st_shndx)
+  plain_moved x plain =
+      let long = lengths w is f in
+      elim (section_moves (image_at_read w.image) w.image f (omega (arith, some_place w is f, long.places, long.sections)) x.st_shndx) [
+        | inl special ↦ subst IsPlain (sym special.1) plain
+        | inr less ↦ plain_below (new_symbol_section w.image x.st_shndx) (omega (arith, less, long.places))
+      ]
+
   plain_written : (i : ℕ) (at : SectionAt w f.parts i) → is_symbol_table at.old ≡ true → (y : SymbolNumbers)
       → Has y (symbols_in w.image.form at.bytes) → IsPlain y.st_shndx
   plain_written i at table y here = elim (or_cases (SHT_SYMTAB == at.old.sh_type) (is_one_of (SHT_DYNSYM ∷ []) at.old.sh_type) table) [
     | inl static ↦
-        let same : at.bytes ≡ section_bytes (file_of f.parts) at.old =
-        symbols_copied w is f i at (sym (eqb-true SHT_SYMTAB at.old.sh_type static)) in
-        plain_in at.old (slice_get-at f.parts.sections i at.old at.is_old) table y
-        (subst (λ (l : List SymbolNumbers). Has y l)
-        (ap (symbols_in w.image.form) same ∙ ap (λ (form : Form). symbols_in form (section_bytes (file_of f.parts) at.old)) (same_form w is f)) here)
+        let shown = symbols_shown w is f i at (sym (eqb-true SHT_SYMTAB at.old.sh_type static)) in
+        let symbols : List NamedSymbol = (final (image_at_read w.image) w.image).symbols in
+        let (j, y_at) = has_at (symbols_in w.image.form at.bytes) y here in
+        let (x, x_at, is_x) = symbols-at (linked_bytes w is f i at) symbols (symbols_in w.image.form at.bytes) shown j y y_at in
+        let (z, z_at, made) = final_static (image_at_read w.image) w.image f j x x_at in
+        let was = static_read (image_at_read w.image) w.image f j z z_at in
+        subst IsPlain (sym (is_x.st_shndx ∙ ap (λ (v : NamedSymbol). v.st_shndx) made))
+        (plain_moved z (subst IsPlain (sym was.section)
+        (plain_static (image_at_read w.image).symbols (section_of_type SHT_SYMTAB f.parts.sections) refl f.holds.symbols was.number was.old was.is_old)))
     | inr rest ↦ elim (or_cases (SHT_DYNSYM == at.old.sh_type) false rest) [
       | inl dynamic ↦
           let shown = dynamic_symbols_shown w is f i at (sym (eqb-true SHT_DYNSYM at.old.sh_type dynamic)) in
           let symbols : List NamedSymbol = (final (image_at_read w.image) w.image).dynamic_symbols in
           let (j, y_at) = has_at (symbols_in w.image.form at.bytes) y here in
           let (x, x_at, is_x) = symbols-at (linked_bytes w is f i at) symbols (symbols_in w.image.form at.bytes) shown j y y_at in
-          let was = final_at (image_at_read w.image) w.image (whole_edit w is) f j x x_at in
-          subst IsPlain (sym (is_x.st_shndx ∙ was.section))
+          let (z, was, made) = final_at (image_at_read w.image) w.image f j x x_at in
+          subst IsPlain (sym (is_x.st_shndx ∙ ap (λ (v : NamedSymbol). v.st_shndx) made))
+          (plain_moved z (subst IsPlain (sym was.section)
           (plain_dynamic (image_at_read w.image).dynamic_symbols (section_of_type SHT_GNU_VERSYM f.parts.sections)
-          (section_of_type SHT_DYNSYM f.parts.sections) refl f.holds.dynamic_symbols was.number was.old was.is_old)
+          (section_of_type SHT_DYNSYM f.parts.sections) refl f.holds.dynamic_symbols was.number was.old was.is_old)))
       | inr none ↦ absurd (false≢true none)
     ]
   ]
@@ -284,17 +318,15 @@ file_kind w is has =
     let f : ReadFacts w = read_facts w is in
     let old = old_kind w is f in
     let fits = counts_fit w is in
-    let count : length w.plan.places ≡ f.parts.opened.header.e_shnum = count_is w is f in
     kind_from (written_parts w).opened (record {
       type = ap (is_one_of (ET_EXEC ∷ ET_DYN ∷ [])) (same_type w is f) ∙ old.type;
       table = not_zero w.plan.e_shoff (let more = behind_header w is in let some = header_filled w.image.form in omega (arith, more, some));
-      filled = ap (λ (n : ℕ). not (n == 0)) count ∙ old.filled;
+      filled = not_zero (length w.plan.places) (some_place w is f);
       sections = fits.1;
       segments = fits.0;
       segment_size = eq-eqb (segment_header_size w.image.form) (segment_header_size w.image.form) refl;
       section_size = eq-eqb (section_header_size w.image.form) (section_header_size w.image.form) refl;
-      names_number = ap (λ (n : ℕ). nat_lt n (length w.plan.places)) (names_number w is f)
-          ∙ ap (nat_lt f.parts.opened.header.e_shstrndx) count ∙ old.names_number;
+      names_number = lt-ltb (new_number w.image w.image.header.e_shstrndx) (length w.plan.places) (names_below w is f);
       names = names_right w is has f;
       numbers = no_extended w is has f;
     })

@@ -17,7 +17,6 @@ pub record AreLinked (p : Parts) : Type 0 where
   pub each : is_one_of_each p.segments p.sections ≡ true
   pub single : are_single p ≡ true
   pub linked : are_linked p.sections ≡ true
-  pub symbols : symbols_have_sections p ≡ true
   pub relocations : relocations_fit p ≡ true
   pub infos : infos_are_sections p ≡ true
 
@@ -32,7 +31,6 @@ read_linked p h =
       each = second.0;
       single = (and_parts _ (are_single p) second.0).1;
       linked = second.1;
-      symbols = fourth.1;
       relocations = fifth.1;
       infos = sixth.1;
     }
@@ -47,7 +45,7 @@ linked_with w is has f read =
     (and_from (is_one_of_each w.plan.segments w.headers) (are_linked w.headers) (one_of_each w is f read.each)
     (linked_read_back w is f read.linked))
     (whole_read_back w is f read.single))
-    (symbols_read_back w is f has read.symbols))
+    (symbols_read_back w is f has))
     (relocations_read_back w is f has read.single read.relocations))
     (infos_read_back w is f read.infos)
 

@@ -2,19 +2,18 @@
 use Rattle.std.proofs.Common.{◌≡◌, ◌≤◌, ℕ, Bool, true, List, length, refl, sym, ap, ◌∙◌, subst, arith, Option, Some, None, All}
 use Rattle.std.specs.Prelude.{◌==◌, ◌&&◌, IsTrue, if◌then◌else◌, is_some, nat_le, unwrap_or}
 use Rattle.std.specs.List.{slice_get}
-use Rattle.std.specs.Option.{option_map}
 use Rattle.std.proofs.lemmas.Bool.{and_from, and_parts, eq-eqb, eqb-true, false≢true, le-leb}
 use Rattle.std.proofs.lemmas.Option.{none-some, same_Some, slice_get_within}
 use Rattle.patch_bytes.specs.Memory.{◌>>=◌}
 use Rattle.patch_bytes.proofs.MemoryLaws.{bind_some}
-use Rattle.elf_format.specs.declared.constants.TheConstants.{DT_GNU_HASH, DT_HASH, DT_STRSZ, DT_STRTAB, DT_SYMENT, DT_SYMTAB, DT_VERDEF, DT_VERDEFNUM, DT_VERNEED, DT_VERNEEDNUM, DT_VERSYM, SHF_ALLOC, SHT_DYNAMIC, SHT_DYNSYM, SHT_GNU_HASH, SHT_GNU_VERDEF, SHT_GNU_VERNEED, SHT_GNU_VERSYM, SHT_HASH, SHT_SYMTAB}
+use Rattle.elf_format.specs.declared.constants.TheConstants.{DT_GNU_HASH, DT_HASH, DT_STRSZ, DT_STRTAB, DT_SYMENT, DT_SYMTAB, DT_VERDEF, DT_VERDEFNUM, DT_VERNEED, DT_VERNEEDNUM, DT_VERSYM, SHF_ALLOC, SHT_DYNAMIC, SHT_DYNSYM, SHT_GNU_HASH, SHT_GNU_VERDEF, SHT_GNU_VERNEED, SHT_GNU_VERSYM, SHT_HASH, SHT_NULL, SHT_SYMTAB}
 use Rattle.elf_format.specs.declared.form.Form.{Form}
 use Rattle.elf_format.specs.declared.records.EntryNumbers.{EntryNumbers}
 use Rattle.elf_format.specs.declared.records.SectionHeader.{SectionHeader}
 use Rattle.elf_format.specs.Dynamic.{Entry, has_tag, shown_entry, value_of_tag}
 use Rattle.elf_format.specs.File.{is_allocated, linked_section, section_of_type}
 use Rattle.elf_format.specs.Image.{Image, ImageSection, entries_read, image_of}
-use Rattle.elf_format.specs.Options.{each, first_there, is_none_or, is_some_and, list_at}
+use Rattle.elf_format.specs.Options.{each, first_there, is_none_or, is_one_of, is_some_and, list_at}
 use Rattle.elf_format.specs.Places.{Place, is_set}
 use Rattle.elf_format.specs.Records.{symbol_size}
 use Rattle.elf_format.specs.Rules.{are_dynamic_tables_right, dynamic_tables_agree, file_of, linked_texts, raw_entries, tag_fits, tag_is_address, tags_come_once}
@@ -34,8 +33,10 @@ use Rattle.elf_write_spec.proofs.FinalEntries.{written_tables}
 use Rattle.elf_write_spec.proofs.RawEntries.{all_listed, are_entries, final_listed, list_strings, raw_is}
 use Rattle.elf_write_spec.proofs.TableTags.{AreTagsLeft, has-lasting, has-left, once-left, raw_tables, tables_read, tables_written, value_written}
 use Rattle.elf_write_spec.proofs.WholeEdits.{entries_written}
-use Rattle.elf_write_spec.proofs.WholeFacts.{Nowhere, ReadFacts, SectionAt, There, TypeAt, kept_is, read_facts, section_at, type_at}
-use Rattle.elf_write_spec.proofs.NumberedSections.{kept}
+use Rattle.elf_write_spec.proofs.WholeFacts.{Nowhere, ReadFacts, SectionAt, There, TypeAt, kept_is, moved_to, read_facts, type_at}
+use Rattle.elf_write_spec.proofs.NumberedSections.{kept_as}
+use Rattle.elf_write_spec.proofs.LinkedMatch.{names_link}
+use Rattle.elf_image.specs.Needed.{lasting_types}
 
 -- ## The rule by what it is of
 
@@ -189,7 +190,7 @@ module _ (w : Output) (f : ReadFacts w) (i : ℕ) (at : SectionAt w f.parts i) w
 
 module _ (w : Output) (is : IsPlannedOutput w) (f : ReadFacts w) (i : ℕ) (at : SectionAt w f.parts i) (type : at.old.sh_type ≡ SHT_DYNAMIC)
     (at_old : section_of_type SHT_DYNAMIC f.parts.sections ≡ Some at.old)
-    (at_kept : kept_of_type SHT_DYNAMIC w.image ≡ Some (kept i at.section)) where
+    (at_kept : kept_of_type SHT_DYNAMIC w.image ≡ Some (kept_as i at.number at.section)) where
   abbrev old_raw : List EntryNumbers
   old_raw = raw_entries f.parts
 
@@ -234,16 +235,16 @@ module _ (w : Output) (is : IsPlannedOutput w) (f : ReadFacts w) (i : ℕ) (at :
 
   -- ## Tags of the one section of a type
 
-  passes : (type : ℕ) (tag : ℕ) → is_table_tag tag ≡ true → (before test : ℕ → SectionHeader → Bool)
+  passes : (type : ℕ) → is_one_of lasting_types type ≡ true → (tag : ℕ) → is_table_tag tag ≡ true → (before test : ℕ → SectionHeader → Bool)
       → is_none_or (λ n. is_some_and (λ s. before n s) (section_of_type type f.parts.sections)) (value_of_tag tag old_raw) ≡ true
-      → ((j : ℕ) (a : SectionAt w f.parts j) → a.old.sh_type ≡ type → kept_of_type type w.image ≡ Some (kept j a.section) → (n : ℕ)
+      → ((j : ℕ) (a : SectionAt w f.parts j) → a.old.sh_type ≡ type → kept_of_type type w.image ≡ Some (kept_as j a.number a.section) → (n : ℕ)
       → before n a.old ≡ true
       → test (value tag) a.header ≡ true)
       → is_none_or (λ n. is_some_and (λ s. test n s) (section_of_type type w.headers)) (value_of_tag tag w.raw) ≡ true
-  passes type tag is_table before test h on =
+  passes type lasting tag is_table before test h on =
       tag_passes w.raw old_raw tables_left value values tag is_table (section_of_type type f.parts.sections)
       (section_of_type type w.headers) before test h
-      (λ s n there passed. by_at (type_at w is f type) s n there passed)
+      (λ s n there passed. by_at (type_at w is f type lasting) s n there passed)
     where
       by_at : TypeAt w f.parts type → (s : SectionHeader) (n : ℕ) → section_of_type type f.parts.sections ≡ Some s → before n s ≡ true
           → is_some_and (λ x. test (value tag) x) (section_of_type type w.headers) ≡ true
@@ -253,11 +254,11 @@ module _ (w : Output) (is : IsPlannedOutput w) (f : ReadFacts w) (i : ℕ) (at :
           ∙ on j a is_type a_kept n (ap (before n) (same_Some a.old s (sym a_old ∙ there)) ∙ passed)
 
   -- an address
-  address_right : (type : ℕ) (tag : ℕ) → is_table_tag tag ≡ true → value tag ≡ address_of_type w.image w.plan type
+  address_right : (type : ℕ) → is_one_of lasting_types type ≡ true → (tag : ℕ) → is_table_tag tag ≡ true → value tag ≡ address_of_type w.image w.plan type
       → tag_is_address old_raw tag (section_of_type type f.parts.sections) ≡ true
       → tag_is_address w.raw tag (section_of_type type w.headers) ≡ true
-  address_right type tag is_table says h =
-      passes type tag is_table (λ n s. is_allocated s && s.sh_addr == n) (λ n s. is_allocated s && s.sh_addr == n) h
+  address_right type lasting tag is_table says h =
+      passes type lasting tag is_table (λ n s. is_allocated s && s.sh_addr == n) (λ n s. is_allocated s && s.sh_addr == n) h
       (λ j a is_type a_kept n passed.
       let placed : address_of_type w.image w.plan type ≡ a.place.sh_addr =
       ap (λ (o : Option KeptSection). unwrap_or (place_of_kept w.plan o >>= λ p. Some p.sh_addr) 0) a_kept
@@ -267,17 +268,17 @@ module _ (w : Output) (is : IsPlannedOutput w) (f : ReadFacts w) (i : ℕ) (at :
       (eq-eqb a.header.sh_addr (value tag) (a.address ∙ sym placed ∙ sym says)))
 
   -- a number of records
-  records_right : (type tag count_tag : ℕ) → is_table_tag tag ≡ true → is_table_tag count_tag ≡ true
+  records_right : (type : ℕ) → is_one_of lasting_types type ≡ true → (tag count_tag : ℕ) → is_table_tag tag ≡ true → is_table_tag count_tag ≡ true
       → value tag ≡ address_of_type w.image w.plan type
       → ((j : ℕ) (a : SectionAt w f.parts j) → a.old.sh_type ≡ type → a.header.sh_info ≡ value count_tag)
       → records_by old_raw f.parts.sections tag count_tag type ≡ true → records_by w.raw w.headers tag count_tag type ≡ true
-  records_right type tag count_tag is_table is_count says counts h =
+  records_right type lasting tag count_tag is_table is_count says counts h =
       let both = and_parts (tag_is_address old_raw tag (section_of_type type f.parts.sections))
       (tag_fits old_raw count_tag (section_of_type type f.parts.sections) (λ value s. s.sh_info == value)) h in
       and_from (tag_is_address w.raw tag (section_of_type type w.headers))
       (tag_fits w.raw count_tag (section_of_type type w.headers) (λ value s. s.sh_info == value))
-      (address_right type tag is_table says both.0)
-      (passes type count_tag is_count (λ n s. s.sh_info == n) (λ n s. s.sh_info == n) both.1 (λ j a is_type a_kept n passed.
+      (address_right type lasting tag is_table says both.0)
+      (passes type lasting count_tag is_count (λ n s. s.sh_info == n) (λ n s. s.sh_info == n) both.1 (λ j a is_type a_kept n passed.
       eq-eqb a.header.sh_info (value count_tag) (counts j a is_type)))
 
   symbols_right : symbols_by w.raw w.image.form w.headers ≡ true
@@ -287,8 +288,8 @@ module _ (w : Output) (is : IsPlannedOutput w) (f : ReadFacts w) (i : ℕ) (at :
       agreed.symbols in
       and_from (tag_is_address w.raw DT_SYMTAB (section_of_type SHT_DYNSYM w.headers))
       (tag_fits w.raw DT_SYMENT (section_of_type SHT_DYNSYM w.headers) (λ n _. n == symbol_size w.image.form))
-      (address_right SHT_DYNSYM DT_SYMTAB refl refl both.0)
-      (passes SHT_DYNSYM DT_SYMENT refl (λ n _. n == symbol_size f.parts.opened.form) (λ n _. n == symbol_size w.image.form) both.1
+      (address_right SHT_DYNSYM refl DT_SYMTAB refl refl both.0)
+      (passes SHT_DYNSYM refl DT_SYMENT refl (λ n _. n == symbol_size f.parts.opened.form) (λ n _. n == symbol_size w.image.form) both.1
       (λ j a is_type a_kept n passed.
       eq-eqb (symbol_size w.image.form) (symbol_size w.image.form) refl))
 
@@ -298,7 +299,7 @@ module _ (w : Output) (is : IsPlannedOutput w) (f : ReadFacts w) (i : ℕ) (at :
       (tag_is_address old_raw DT_GNU_HASH (section_of_type SHT_GNU_HASH f.parts.sections)) agreed.hashes in
       and_from (tag_is_address w.raw DT_HASH (section_of_type SHT_HASH w.headers))
       (tag_is_address w.raw DT_GNU_HASH (section_of_type SHT_GNU_HASH w.headers))
-      (address_right SHT_HASH DT_HASH refl refl both.0) (address_right SHT_GNU_HASH DT_GNU_HASH refl refl both.1)
+      (address_right SHT_HASH refl DT_HASH refl refl both.0) (address_right SHT_GNU_HASH refl DT_GNU_HASH refl refl both.1)
 
   versions_right : versions_by w.raw w.headers ≡ true
   versions_right =
@@ -312,9 +313,9 @@ module _ (w : Output) (is : IsPlannedOutput w) (f : ReadFacts w) (i : ℕ) (at :
       (records_by w.raw w.headers DT_VERNEED DT_VERNEEDNUM SHT_GNU_VERNEED)
       (and_from (tag_is_address w.raw DT_VERSYM (section_of_type SHT_GNU_VERSYM w.headers))
       (records_by w.raw w.headers DT_VERDEF DT_VERDEFNUM SHT_GNU_VERDEF)
-      (address_right SHT_GNU_VERSYM DT_VERSYM refl refl inner.0)
-      (records_right SHT_GNU_VERDEF DT_VERDEF DT_VERDEFNUM refl refl refl (λ j a is_type. definitions_info w f j a is_type) inner.1))
-      (records_right SHT_GNU_VERNEED DT_VERNEED DT_VERNEEDNUM refl refl refl (λ j a is_type. needs_info w f j a is_type) outer.1)
+      (address_right SHT_GNU_VERSYM refl DT_VERSYM refl refl inner.0)
+      (records_right SHT_GNU_VERDEF refl DT_VERDEF DT_VERDEFNUM refl refl refl (λ j a is_type. definitions_info w f j a is_type) inner.1))
+      (records_right SHT_GNU_VERNEED refl DT_VERNEED DT_VERNEEDNUM refl refl refl (λ j a is_type. needs_info w f j a is_type) outer.1)
 
   -- ## The strings
 
@@ -322,26 +323,29 @@ module _ (w : Output) (is : IsPlannedOutput w) (f : ReadFacts w) (i : ℕ) (at :
   link_is = ap (λ (s : ImageSection). s.sh_link) at.of_old.fields
 
   -- the section of the strings, and its place
-  strings_at : (a : SectionAt w f.parts at.old.sh_link) → strings_place w.image w.plan ≡ Some a.place
-  strings_at a =
+  strings_at : (j : ℕ) (a : SectionAt w f.parts j) → a.number ≡ at.old.sh_link → strings_place w.image w.plan ≡ Some a.place
+  strings_at j a own =
       let n : ℕ = at.old.sh_link in
       let link : link_of_type SHT_DYNAMIC w.image ≡ Some at.section.sh_link =
       ap (λ (o : Option KeptSection). o >>= λ s. Some s.section.sh_link) at_kept in
       let number : dynamic_strings_number w.image ≡ Some n = ap (λ o. first_there o (link_of_type SHT_DYNSYM w.image)) link
       ∙ ap (λ m. Some m) link_is in
       ap (λ (o : Option ℕ). place_of_kept w.plan (o >>= λ m. kept_at_number m w.image)) number
-      ∙ ap (place_of_kept w.plan) (kept_is w is n ∙ ap (option_map (kept n)) a.is_section) ∙ a.is_place
+      ∙ ap (place_of_kept w.plan) (ap (λ (m : ℕ). kept_at_number m w.image) (sym own) ∙ kept_is w is f j a) ∙ a.is_place
 
   string_passes : (tag : ℕ) → is_table_tag tag ≡ true → (before test : ℕ → SectionHeader → Bool)
       → is_none_or (λ n. is_some_and (λ s. before n s) (linked_section f.parts.sections at.old)) (value_of_tag tag old_raw) ≡ true
-      → ((a : SectionAt w f.parts at.old.sh_link) (n : ℕ) → before n a.old ≡ true → test (value tag) a.header ≡ true)
+      → ((j : ℕ) (a : SectionAt w f.parts j) → a.number ≡ at.old.sh_link → (n : ℕ) → before n a.old ≡ true → test (value tag) a.header ≡ true)
       → is_none_or (λ n. is_some_and (λ s. test n s) (linked_section w.headers at.header)) (value_of_tag tag w.raw) ≡ true
   string_passes tag is_table before test h on =
       tag_passes w.raw old_raw tables_left value values tag is_table (linked_section f.parts.sections at.old)
       (linked_section w.headers at.header) before test h (λ s n there passed.
-      let a = section_at w is f at.old.sh_link (slice_get_within f.parts.sections at.old.sh_link s there) in
-      let same : a.old ≡ s = same_Some a.old s (sym a.is_old ∙ there) in
-      ap (is_some_and (λ x. test (value tag) x)) (ap (slice_get w.headers) at.link ∙ a.is_header) ∙ on a n (ap (before n) same ∙ passed))
+      let (j, a, own, new) =
+      moved_to w is f i at.old.sh_link at (slice_get_within f.parts.sections at.old.sh_link s there)
+      (names_link at (ap (λ m. m == SHT_NULL) type)) in
+      let same : a.old ≡ s = same_Some a.old s (sym a.is_old ∙ ap (slice_get f.parts.sections) own ∙ there) in
+      ap (is_some_and (λ x. test (value tag) x)) (ap (slice_get w.headers) (at.link ∙ new) ∙ a.is_header)
+      ∙ on j a own n (ap (before n) same ∙ passed))
 
   strings_right : strings_by w.raw w.headers at.header ≡ true
   strings_right =
@@ -353,20 +357,20 @@ module _ (w : Output) (is : IsPlannedOutput w) (f : ReadFacts w) (i : ℕ) (at :
       and_from (has_tag DT_STRTAB w.raw && tag_is_address w.raw DT_STRTAB now) (tag_fits w.raw DT_STRSZ now (λ n s. nat_le n s.sh_size))
       (and_from (has_tag DT_STRTAB w.raw) (tag_is_address w.raw DT_STRTAB now) (has-lasting DT_STRTAB refl w.raw old_raw tables_left refl inner.0)
       (string_passes DT_STRTAB refl (λ n s. is_allocated s && s.sh_addr == n) (λ n s. is_allocated s && s.sh_addr == n) inner.1
-      (λ a n passed.
+      (λ j a own n passed.
       and_from (is_allocated a.header) (a.header.sh_addr == value DT_STRTAB)
       (ap (λ m. is_set SHF_ALLOC m) a.flags ∙ (and_parts (is_allocated a.old) (a.old.sh_addr == n) passed).0)
       (eq-eqb a.header.sh_addr (value DT_STRTAB)
-      (a.address ∙ sym (ap (λ (o : Option Place). unwrap_or (o >>= λ p. Some p.sh_addr) 0) (strings_at a)))))))
-      (string_passes DT_STRSZ refl (λ n s. nat_le n s.sh_size) (λ n s. nat_le n s.sh_size) outer.1 (λ a n passed.
-      let size : value DT_STRSZ ≡ a.place.sh_size = ap (λ (o : Option Place). unwrap_or (o >>= λ p. Some p.sh_size) 0) (strings_at a) in
+      (a.address ∙ sym (ap (λ (o : Option Place). unwrap_or (o >>= λ p. Some p.sh_addr) 0) (strings_at j a own)))))))
+      (string_passes DT_STRSZ refl (λ n s. nat_le n s.sh_size) (λ n s. nat_le n s.sh_size) outer.1 (λ j a own n passed.
+      let size : value DT_STRSZ ≡ a.place.sh_size = ap (λ (o : Option Place). unwrap_or (o >>= λ p. Some p.sh_size) 0) (strings_at j a own) in
       let same : value DT_STRSZ ≡ a.header.sh_size = size ∙ sym a.size in
       le-leb (value DT_STRSZ) a.header.sh_size (subst (λ m. value DT_STRSZ ≤ m) same (omega arith))))
 
   -- ## Texts
 
-  shared : (type : ℕ) → shares_by f.parts.sections at.old type ≡ true → shares_by w.headers at.header type ≡ true
-  shared type h = by_at (type_at w is f type)
+  shared : (type : ℕ) → is_one_of lasting_types type ≡ true → shares_by f.parts.sections at.old type ≡ true → shares_by w.headers at.header type ≡ true
+  shared type lasting h = by_at (type_at w is f type lasting)
     where
       by_at : TypeAt w f.parts type → shares_by w.headers at.header type ≡ true
       by_at (Nowhere _ none _) = ap (is_none_or (λ (s : SectionHeader). s.sh_link == at.header.sh_link)) none
@@ -374,7 +378,7 @@ module _ (w : Output) (is : IsPlannedOutput w) (f : ReadFacts w) (i : ℕ) (at :
           let was : a.old.sh_link ≡ at.old.sh_link =
           eqb-true a.old.sh_link at.old.sh_link (sym (ap (is_none_or (λ (s : SectionHeader). s.sh_link == at.old.sh_link)) a_old) ∙ h) in
           ap (is_none_or (λ (s : SectionHeader). s.sh_link == at.header.sh_link)) a_header
-          ∙ eq-eqb a.header.sh_link at.header.sh_link (a.link ∙ was ∙ sym at.link)
+          ∙ eq-eqb a.header.sh_link at.header.sh_link (a.link ∙ ap (new_number w.image) was ∙ sym at.link)
 
   texts_right : texts_by w.headers at.header ≡ true
   texts_right =
@@ -383,8 +387,8 @@ module _ (w : Output) (is : IsPlannedOutput w) (f : ReadFacts w) (i : ℕ) (at :
       let outer = and_parts (was SHT_DYNSYM && was SHT_GNU_VERDEF) (was SHT_GNU_VERNEED) agreed.texts in
       let inner = and_parts (was SHT_DYNSYM) (was SHT_GNU_VERDEF) outer.0 in
       and_from (now SHT_DYNSYM && now SHT_GNU_VERDEF) (now SHT_GNU_VERNEED)
-      (and_from (now SHT_DYNSYM) (now SHT_GNU_VERDEF) (shared SHT_DYNSYM inner.0) (shared SHT_GNU_VERDEF inner.1))
-      (shared SHT_GNU_VERNEED outer.1)
+      (and_from (now SHT_DYNSYM) (now SHT_GNU_VERDEF) (shared SHT_DYNSYM refl inner.0) (shared SHT_GNU_VERDEF refl inner.1))
+      (shared SHT_GNU_VERNEED refl outer.1)
 
   all_right : agree_by w.raw w.image.form w.headers at.header ≡ true
   all_right = agree-from w.raw w.image.form w.headers at.header (record {
@@ -397,7 +401,7 @@ module _ (w : Output) (is : IsPlannedOutput w) (f : ReadFacts w) (i : ℕ) (at :
   })
 
 pub tables_right : (w : Output) → IsPlannedOutput w → HasWrittenParts w → IsTrue (are_dynamic_tables_right (written_parts w))
-tables_right w is has = by_at (read_facts w is) (type_at w is (read_facts w is) SHT_DYNAMIC)
+tables_right w is has = by_at (read_facts w is) (type_at w is (read_facts w is) SHT_DYNAMIC refl)
   where
     by_at : (f : ReadFacts w) → TypeAt w f.parts SHT_DYNAMIC
         → is_none_or (λ list. dynamic_tables_agree (written_parts w) list) (section_of_type SHT_DYNAMIC w.headers) ≡ true

@@ -74,7 +74,7 @@ texts_end w is has =
     (and_from _ (symbols_are_named p (dynamic_texts_of p) SHT_DYNSYM)
     (and_from (section_names_end p) (symbols_are_named p (texts_of p) SHT_SYMTAB)
     (ap is_some (names_read_back w is has))
-    (static_end p (section_of_type SHT_SYMTAB w.headers) w.image.symbols (symbols_read_back w is has)))
+    (static_end p (section_of_type SHT_SYMTAB w.headers) last.symbols (symbols_read_back w is has)))
     (dynamic_end p (section_of_type SHT_DYNSYM w.headers) last.dynamic_symbols (dynamic_read_back w is has)))
     (entries_end p (section_of_type SHT_DYNAMIC w.headers) last.entries (entries_read_back w is has)))
     (definitions_end p (section_of_type SHT_GNU_VERDEF w.headers) w.image.definitions (definitions_read_back w is has)))

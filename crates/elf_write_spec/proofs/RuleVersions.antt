@@ -1,8 +1,8 @@
 -- The versions of a written file agree.
-use Rattle.std.proofs.Common.{◌≡◌, ℕ, zero, suc, ◌*◌, ◌/◌, Bool, true, false, eqb, List, [], ◌∷◌, ◌++◌, length, map, take, drop, refl, sym, ap, ◌∙◌, subst, inl, inr, Option, Some, None, arith}
+use Rattle.std.proofs.Common.{◌≡◌, ◌⊎◌, ℕ, zero, suc, ◌*◌, ◌/◌, Bool, true, false, eqb, List, [], ◌∷◌, ◌++◌, length, map, take, drop, refl, sym, ap, ◌∙◌, subst, inl, inr, Option, Some, None, arith}
 use Rattle.std.specs.Prelude.{IsTrue, ◌&&◌, ◌||◌, not, nat_lt, ◌==◌, option_map}
 use Rattle.std.specs.List.{flat_map, list_all, slice_get}
-use Rattle.std.proofs.lemmas.Bool.{and_from, and_parts, eq-eqb, eqb-true, or_cases}
+use Rattle.std.proofs.lemmas.Bool.{and_from, and_parts, both_ways, eq-eqb, eqb-true, false≢true, ne_eqb, not-true, or_cases}
 use Rattle.std.proofs.lemmas.Option.{none-some, same_Some, slice_get-map}
 use Rattle.patch_bytes.specs.Memory.{◌>>=◌, Memory, text_at}
 use Rattle.patch_bytes.proofs.MemoryLaws.{bind_some}
@@ -16,7 +16,7 @@ use Rattle.elf_format.specs.Form.{records}
 use Rattle.elf_format.specs.Image.{Image, definitions_read, needs_read, symbols_of, versions_read}
 use Rattle.elf_format.specs.Options.{each, first_there, is_none_or, is_one_of, is_some_and, list_at}
 use Rattle.elf_format.specs.Records.{symbol_numbers, symbol_size}
-use Rattle.elf_format.specs.Rules.{are_dynamic_strings_own, are_versions_right, definition_steps, dynamic_strings_user, file_of, known_versions, linked_texts, need_steps, version_symbols_agree}
+use Rattle.elf_format.specs.Rules.{are_dynamic_strings_own, are_versions_right, definition_steps, dynamic_strings_user, file_of, known_versions, linked_texts, need_steps, text_users, version_symbols_agree}
 use Rattle.elf_format.specs.Versions.{DefinitionNumbers, NeedNumbers, VersionDefinition, VersionName, VersionNeeds, is_whole_walk, shown_definition, shown_need, shown_need_name, values_of, version_id}
 use Rattle.elf_format.proofs.ForCallers.Placed.{IsIn-slice_get}
 use Rattle.elf_format.proofs.ForCallers.ViewsAgree.{length-bytes, test_at, there_and, version_symbols_right}
@@ -28,13 +28,14 @@ use Rattle.elf_layout_plan.specs.Needs.{is_version_used, written_needs}
 use Rattle.elf_write_spec.specs.Final.{final}
 use Rattle.elf_write_spec.specs.ReadBack.{HasWrittenParts, written_parts}
 use Rattle.elf_write_spec.specs.Output.{IsPlannedOutput, Output, written_bytes}
-use Rattle.elf_write_spec.proofs.ContentsReadBack.{bytes_are, size_is, versym_content}
+use Rattle.elf_write_spec.proofs.ContentsReadBack.{bytes_are, linked_at, size_is, versym_content}
+use Rattle.elf_write_spec.proofs.LinkedMatch.{Both, LinkAt, Neither, link_at, names_link}
 use Rattle.elf_write_spec.proofs.DynamicReadBack.{dynamic_count}
 use Rattle.elf_write_spec.proofs.FinalSymbols.{SymbolRead, final_at}
 use Rattle.elf_write_spec.proofs.RecordsReadBack.{definitions_read_back, definitions_at, needs_read_back, needs_at}
 use Rattle.elf_write_spec.proofs.StayingVersions.{one_left, one_of_both, one_right, version_used, written_stays}
 use Rattle.elf_write_spec.proofs.WholeEdits.{needs_written}
-use Rattle.elf_write_spec.proofs.WholeFacts.{ReadFacts, SectionAt, There, Nowhere, TypeAt, read_facts, section_at_header, type_at, whole_edit}
+use Rattle.elf_write_spec.proofs.WholeFacts.{ReadFacts, SectionAt, There, Nowhere, TypeAt, read_facts, section_at_header, type_at}
 use Rattle.elf_write_spec.proofs.WholeLists.{all-each, mapped_at}
 use Rattle.elf_format.proofs.ForCallers.Lengths.{length-records}
 
@@ -187,7 +188,7 @@ module _ (w : Output) (is : IsPlannedOutput w) (has : HasWrittenParts w) (f : Re
       (section_of_type SHT_GNU_VERDEF w.headers) ≡ true
   definitions_walk =
       let test : SectionHeader → Bool = λ s. is_whole_walk s.sh_info (definition_steps (written_parts w) s) in
-      elim (type_at w is f SHT_GNU_VERDEF) [
+      elim (type_at w is f SHT_GNU_VERDEF refl) [
         | Nowhere was now none ↦ ap (is_none_or test) now
         | There i at e was now there ↦ ap (is_none_or test) now ∙ (definitions_at w is has f i at e was).whole
       ]
@@ -195,7 +196,7 @@ module _ (w : Output) (is : IsPlannedOutput w) (has : HasWrittenParts w) (f : Re
   needs_walk : is_none_or (λ s. is_whole_walk s.sh_info (need_steps (written_parts w) s)) (section_of_type SHT_GNU_VERNEED w.headers) ≡ true
   needs_walk =
       let test : SectionHeader → Bool = λ s. is_whole_walk s.sh_info (need_steps (written_parts w) s) in
-      elim (type_at w is f SHT_GNU_VERNEED) [
+      elim (type_at w is f SHT_GNU_VERNEED refl) [
         | Nowhere was now none ↦ ap (is_none_or test) now
         | There i at e was now there ↦ ap (is_none_or test) now ∙ (needs_at w is has f i at e was).whole
       ]
@@ -214,7 +215,7 @@ module _ (w : Output) (is : IsPlannedOutput w) (has : HasWrittenParts w) (f : Re
     old_count : length (symbols_of f.parts symbols.old) ≡ symbols.old.sh_size / symbol_size f.parts.opened.form
     old_count =
         let size : length (section_bytes (file_of f.parts) symbols.old) ≡ symbols.old.sh_size =
-        length-bytes f.parts f.rules symbols.old (IsIn-slice_get f.parts.sections k symbols.old symbols.is_old)
+        length-bytes f.parts f.rules symbols.old (IsIn-slice_get f.parts.sections symbols.number symbols.old symbols.is_old)
         (ap (λ t. not (eqb t 0) && not (eqb t 8)) typed) in
         length-records (symbol_numbers f.parts.opened.form) (symbol_size f.parts.opened.form)
         (length (section_bytes (file_of f.parts) symbols.old) / symbol_size f.parts.opened.form)
@@ -236,7 +237,7 @@ module _ (w : Output) (is : IsPlannedOutput w) (has : HasWrittenParts w) (f : Re
         let old_test : SectionHeader → Bool = λ symbols. at.old.sh_size / 2 == symbols.sh_size / symbol_size f.parts.opened.form in
         let new_test : SectionHeader → Bool = λ symbols. at.header.sh_size / 2 == symbols.sh_size / symbol_size w.image.form in
         let (s, s_there, _) = there_and old_test (section_of_type SHT_DYNSYM f.parts.sections) (and_parts _ _ agreed).0 in
-        elim (type_at w is f SHT_DYNSYM) [
+        elim (type_at w is f SHT_DYNSYM refl) [
           | Nowhere none now gone ↦ absurd (none-some s (sym none ∙ s_there))
           | There k symbols typed found now there ↦
               ap (is_some_and new_test) now
@@ -254,7 +255,7 @@ module _ (w : Output) (is : IsPlannedOutput w) (has : HasWrittenParts w) (f : Re
     old_passes k y v at_k has_v =
         let old_test : SectionHeader → Bool = λ symbols. at.old.sh_size / 2 == symbols.sh_size / symbol_size f.parts.opened.form in
         let (s, s_there, counted) = there_and old_test (section_of_type SHT_DYNSYM f.parts.sections) (and_parts _ _ agreed).0 in
-        elim (type_at w is f SHT_DYNSYM) [
+        elim (type_at w is f SHT_DYNSYM refl) [
           | Nowhere none now gone ↦ absurd (none-some s (sym none ∙ s_there))
           | There m symbols typed found now there ↦
               let p : Parts = f.parts in
@@ -320,10 +321,11 @@ module _ (w : Output) (is : IsPlannedOutput w) (has : HasWrittenParts w) (f : Re
         ∙ ap (λ (l : List (Option VersionId)). slice_get l i) (sym are)
         ∙ slice_get-map (λ (u : VersionId). Some u) ids i ∙ ap (option_map (λ (u : VersionId). Some u)) v_at in
         let (y, y_at, has_v) = mapped_at (λ (y : NamedSymbol). y.version) (slice_get symbols_now i) (Some v) here in
-        symbol_passes y (final_at read w.image (whole_edit w is) f i y y_at) v has_v))
+        let (x, r, made) = final_at read w.image f i y y_at in
+        symbol_passes x r v (ap (λ (z : NamedSymbol). z.version) (sym made) ∙ has_v)))
 
   symbols_agree : is_none_or (λ s. version_symbols_agree (written_parts w) s) (section_of_type SHT_GNU_VERSYM w.headers) ≡ true
-  symbols_agree = elim (type_at w is f SHT_GNU_VERSYM) [
+  symbols_agree = elim (type_at w is f SHT_GNU_VERSYM refl) [
     | Nowhere was now none ↦ ap (is_none_or (λ (s : SectionHeader). version_symbols_agree (written_parts w) s)) now
     | There j at e was now there ↦
         ap (is_none_or (λ (s : SectionHeader). version_symbols_agree (written_parts w) s)) now
@@ -337,55 +339,110 @@ module _ (w : Output) (is : IsPlannedOutput w) (has : HasWrittenParts w) (f : Re
   own_test link s = not (s.sh_link == link) || is_one_of (SHT_NULL ∷ SHT_DYNAMIC ∷ SHT_DYNSYM ∷ SHT_GNU_VERDEF ∷ SHT_GNU_VERNEED ∷
       []) s.sh_type
 
-  all_own : (new old : ℕ) → new ≡ old → list_all (own_test old) f.parts.sections ≡ true → list_all (own_test new) w.headers ≡ true
+  -- another section links to another one
+  other_link : (k : ℕ) (to : SectionAt w f.parts k) (i : ℕ) (at : SectionAt w f.parts i) → (at.old.sh_type == SHT_NULL) ≡ false
+      → (at.old.sh_link == to.number) ≡ false → (at.header.sh_link == k) ≡ false
+  other_link k to i at some other = by_link (link_at w is f i at.old.sh_link at (names_link at some))
+    where
+      by_link : LinkAt w f.parts at.old.sh_link → (at.header.sh_link == k) ≡ false
+      by_link (Neither old_none none) =
+          ne_eqb at.header.sh_link k (λ e. none-some to.header
+          (sym none ∙ ap (slice_get w.headers) (sym at.link ∙ e) ∙ to.is_header))
+      by_link (Both j l there new number) =
+          ne_eqb at.header.sh_link k (λ e.
+          let here : j ≡ k = sym new ∙ sym at.link ∙ e in
+          let same : l.number ≡ to.number =
+          same_Some l.number to.number (sym l.is_number ∙ ap (slice_get w.image.section_numbers) here ∙ to.is_number) in
+          both_ways (at.old.sh_link == to.number) other (eq-eqb at.old.sh_link to.number (sym number ∙ same)))
+
+  not_null : (type : ℕ) → is_one_of (SHT_NULL ∷ SHT_DYNAMIC ∷ SHT_DYNSYM ∷ SHT_GNU_VERDEF ∷ SHT_GNU_VERNEED ∷ []) type ≡ false → (type == SHT_NULL) ≡ false
+  not_null type other = ne_eqb type SHT_NULL (λ e. false≢true (sym other
+      ∙ ap (is_one_of (SHT_NULL ∷ SHT_DYNAMIC ∷ SHT_DYNSYM ∷ SHT_GNU_VERDEF ∷ SHT_GNU_VERNEED ∷ [])) e))
+
+  all_own : (k : ℕ) (to : SectionAt w f.parts k) → list_all (own_test to.number) f.parts.sections ≡ true → list_all (own_test k) w.headers ≡ true
   unfolding own_test
-  all_own new old same all =
+  all_own k to all =
       let users : List ℕ = SHT_NULL ∷ SHT_DYNAMIC ∷ SHT_DYNSYM ∷ SHT_GNU_VERDEF ∷ SHT_GNU_VERNEED ∷ [] in
-      all-each (own_test new) w.headers (λ i h there.
+      all-each (own_test k) w.headers (λ i h there.
       let (at, same_header) = section_at_header w is f i h there in
-      let here : own_test old at.old ≡ true = (IsIn-slice_get f.parts.sections i at.old at.is_old).passes (own_test old) all in
-      ap (own_test new) (sym same_header)
-      ∙ ap (λ (n : ℕ). not (at.header.sh_link == n) || is_one_of users at.header.sh_type) same
-      ∙ ap (λ (n : ℕ). not (n == old) || is_one_of users at.header.sh_type) at.link
-      ∙ ap (λ (n : ℕ). not (at.old.sh_link == old) || is_one_of users n) at.type
-      ∙ here)
+      let here : own_test to.number at.old ≡ true =
+      (IsIn-slice_get f.parts.sections at.number at.old at.is_old).passes (own_test to.number) all in
+      ap (own_test k) (sym same_header)
+      ∙ ap (λ (n : ℕ). not (at.header.sh_link == k) || is_one_of users n) at.type
+      ∙ by_type i at (is_one_of users at.old.sh_type) refl (or_cases (not (at.old.sh_link == to.number)) (is_one_of users at.old.sh_type) here))
+    where
+      either : (b : Bool) → (b || true) ≡ true
+      either true = refl
+      either false = refl
+
+      by_type : (i : ℕ) (at : SectionAt w f.parts i) (b : Bool)
+          → is_one_of (SHT_NULL ∷ SHT_DYNAMIC ∷ SHT_DYNSYM ∷ SHT_GNU_VERDEF ∷ SHT_GNU_VERNEED ∷ []) at.old.sh_type ≡ b
+          → (not (at.old.sh_link == to.number) ≡ true)
+          ⊎ (is_one_of (SHT_NULL ∷ SHT_DYNAMIC ∷ SHT_DYNSYM ∷ SHT_GNU_VERDEF ∷ SHT_GNU_VERNEED ∷ []) at.old.sh_type ≡ true)
+          → (not (at.header.sh_link == k)
+          || is_one_of (SHT_NULL ∷ SHT_DYNAMIC ∷ SHT_DYNSYM ∷ SHT_GNU_VERDEF ∷ SHT_GNU_VERNEED ∷ []) at.old.sh_type) ≡ true
+      by_type i at true user cases = ap (λ (c : Bool). not (at.header.sh_link == k) || c) user ∙ either (not (at.header.sh_link == k))
+      by_type i at false user (inr one) = absurd (false≢true (sym user ∙ one))
+      by_type i at false user (inl apart) =
+          ap (λ (c : Bool). not c || is_one_of (SHT_NULL ∷ SHT_DYNAMIC ∷ SHT_DYNSYM ∷ SHT_GNU_VERDEF ∷ SHT_GNU_VERNEED ∷ []) at.old.sh_type)
+          (other_link k to i at (not_null at.old.sh_type user) (not-true (at.old.sh_link == to.number) apart))
+
+  -- a section links to the table that it linked to as one that was read
+  record IsUserKept (old_user : Option SectionHeader) (s : SectionHeader) : Type 0 where
+    old : SectionHeader
+    is_old : old_user ≡ Some old
+    position : ℕ
+    table : SectionAt w f.parts position
+    number : table.number ≡ old.sh_link
+    link : s.sh_link ≡ position
+
+  user_kept : (old_user : Option SectionHeader) (s : SectionHeader) (j : ℕ) (at : SectionAt w f.parts j) → is_one_of text_users at.old.sh_type ≡ true
+      → old_user ≡ Some at.old → at.header ≡ s → IsUserKept old_user s
+  user_kept old_user s j at user is_old same =
+      let l = linked_at w is f j at user in
+      record {
+        old = at.old;
+        is_old = is_old;
+        position = l.position;
+        table = l.table;
+        number = l.number;
+        link = ap (λ (x : SectionHeader). x.sh_link) (sym same) ∙ l.link;
+      }
 
   -- the user of the dynamic strings is the section that it was
-  own_by : (new_user old_user : Option SectionHeader) → ((s : SectionHeader) → new_user ≡ Some s
-      → (t : SectionHeader) × (old_user ≡ Some t) × (s.sh_link ≡ t.sh_link))
+  own_by : (new_user old_user : Option SectionHeader) → ((s : SectionHeader) → new_user ≡ Some s → IsUserKept old_user s)
       → is_none_or (λ user. list_all (own_test user.sh_link) f.parts.sections) old_user ≡ true
       → is_none_or (λ user. list_all (own_test user.sh_link) w.headers) new_user ≡ true
   own_by None old_user known all = refl
   own_by (Some s) old_user known all =
-      let (t, t_there, same) = known s refl in
-      all_own s.sh_link t.sh_link same (test_at (λ (u : SectionHeader). list_all
-      (own_test u.sh_link) f.parts.sections) old_user t all t_there)
+      let user = known s refl in
+      let was : list_all (own_test user.old.sh_link) f.parts.sections ≡ true =
+      test_at (λ (u : SectionHeader). list_all (own_test u.sh_link) f.parts.sections) old_user user.old all user.is_old in
+      ap (λ (n : ℕ). list_all (own_test n) w.headers) user.link
+      ∙ all_own user.position user.table (ap (λ (n : ℕ). list_all (own_test n) f.parts.sections) user.number ∙ was)
 
-  user_known : (s : SectionHeader) → dynamic_strings_user w.headers ≡ Some s
-      → (t : SectionHeader) × (dynamic_strings_user f.parts.sections ≡ Some t) × (s.sh_link ≡ t.sh_link)
-  user_known s h = elim (type_at w is f SHT_DYNAMIC) [
+  user_known : (s : SectionHeader) → dynamic_strings_user w.headers ≡ Some s → IsUserKept (dynamic_strings_user f.parts.sections) s
+  user_known s h = elim (type_at w is f SHT_DYNAMIC refl) [
     | There j at e was now there ↦
         let same : at.header ≡ s = same_Some at.header s (sym
-        (ap (λ (o : Option SectionHeader). first_there o (section_of_type SHT_DYNSYM w.headers)) now) ∙ h) in (
-          at.old,
-          ap (λ (o : Option SectionHeader). first_there o (section_of_type SHT_DYNSYM f.parts.sections)) was,
-          ap (λ (x : SectionHeader). x.sh_link) (sym same) ∙ at.link,
-        )
+        (ap (λ (o : Option SectionHeader). first_there o (section_of_type SHT_DYNSYM w.headers)) now) ∙ h) in
+        user_kept (dynamic_strings_user f.parts.sections) s j at (ap (is_one_of text_users) e)
+        (ap (λ (o : Option SectionHeader). first_there o (section_of_type SHT_DYNSYM f.parts.sections)) was) same
     | Nowhere was now none ↦
         let old_user : dynamic_strings_user f.parts.sections ≡ section_of_type SHT_DYNSYM f.parts.sections =
         ap (λ (o : Option SectionHeader). first_there o (section_of_type SHT_DYNSYM f.parts.sections)) was in
         let new_user : section_of_type SHT_DYNSYM w.headers ≡ Some s =
         sym (ap (λ (o : Option SectionHeader). first_there o (section_of_type SHT_DYNSYM w.headers)) now) ∙ h in
-        symbols_user s old_user new_user (type_at w is f SHT_DYNSYM)
+        symbols_user s old_user new_user (type_at w is f SHT_DYNSYM refl)
   ]
     where
       symbols_user : (s : SectionHeader) → dynamic_strings_user f.parts.sections ≡ section_of_type SHT_DYNSYM f.parts.sections
           → section_of_type SHT_DYNSYM w.headers ≡ Some s → TypeAt w f.parts SHT_DYNSYM
-          → (t : SectionHeader) × (dynamic_strings_user f.parts.sections ≡ Some t) × (s.sh_link ≡ t.sh_link)
+          → IsUserKept (dynamic_strings_user f.parts.sections) s
       symbols_user s old_user new_user (Nowhere was now none) = absurd (none-some s (sym now ∙ new_user))
       symbols_user s old_user new_user (There k at e was now there) =
           let same : at.header ≡ s = same_Some at.header s (sym now ∙ new_user) in
-          (at.old, old_user ∙ was, ap (λ (x : SectionHeader). x.sh_link) (sym same) ∙ at.link)
+          user_kept (dynamic_strings_user f.parts.sections) s k at (ap (is_one_of text_users) e) (old_user ∙ was) same
 
   strings_own : are_dynamic_strings_own w.headers ≡ true
   unfolding own_test

@@ -1,7 +1,7 @@
 -- What a section's bytes are, by its type and by whether its relocations are kept as they are, and of which kinds they are copied.
 use Rattle.std.proofs.Common.{◌≡◌, ℕ, Bool, true, false, not, ◌&&◌, ◌||◌, List, [], ◌∷◌, refl, sym, ap, ◌∙◌, subst, Some}
 use Rattle.std.specs.Prelude.{◌==◌, if◌then◌else◌}
-use Rattle.std.proofs.lemmas.Bool.{false≢true}
+use Rattle.std.proofs.lemmas.Bool.{and_parts, false≢true}
 use Rattle.elf_format.specs.declared.constants.TheConstants.{SHT_DYNAMIC, SHT_DYNSYM, SHT_GNU_HASH, SHT_GNU_VERDEF, SHT_GNU_VERNEED, SHT_GNU_VERSYM, SHT_HASH, SHT_NOBITS, SHT_NOTE, SHT_REL, SHT_RELA, SHT_STRTAB, SHT_SYMTAB}
 use Rattle.elf_format.specs.declared.records.SectionHeader.{SectionHeader}
 use Rattle.elf_format.specs.declared.section_data.SectionData.{SectionData}
@@ -23,8 +23,8 @@ use Rattle.elf_layout_plan.specs.Memory.{Resized}
 use Rattle.elf_layout_plan.specs.Plan.{Layout}
 use Rattle.elf_layout_plan.specs.Texts.{is_table_copied}
 use Rattle.elf_relocations.specs.Renumbered.{AreRenumbered}
-use Rattle.elf_write_spec.specs.Contents.{AreRelocationsOf, IsContentOfKind, gabi_buckets, sizes_in}
-use Rattle.elf_write_spec.specs.Final.{are_versions_kept, final, new_dynamic_symbols}
+use Rattle.elf_write_spec.specs.Contents.{AreRelocationsOf, AreStaticRelocationsOf, IsContentOfKind, gabi_buckets, sizes_in}
+use Rattle.elf_write_spec.specs.Final.{are_symbols_kept, are_versions_kept, final, is_static_renumbered, new_dynamic_symbols, new_static_symbols}
 use Rattle.elf_write_spec.specs.WrittenFile.{Unchanged, is_kind_copied}
 
 abbrev pub kind_by : ℕ → Bool → SectionData
@@ -48,7 +48,15 @@ kind_is p s = refl
 
 -- where nothing is told of what decides on the bytes of some kinds
 abbrev pub untold : Unchanged
-untold = record { table = false; names = false; versions = false; against_dynamic = true }
+untold = record {
+  table = false;
+  names = false;
+  versions = false;
+  against_dynamic = true;
+  symbols = false;
+  numbers = false;
+  against_static = true;
+}
 
 -- kinds of which the bytes are copied, whatever is told
 abbrev pub is_copied : SectionData → Bool
@@ -60,6 +68,9 @@ pub record IsTold (r : Resized) (s : KeptSection) (u : Unchanged) : Type 0 where
   pub names : u.names ≡ true → are_names_changed r.read r.image ≡ false
   pub versions : u.versions ≡ true → are_versions_kept r.read r.image ≡ true
   pub against_dynamic : u.against_dynamic ≡ false → is_against (table_number SHT_DYNSYM r.image) s.section ≡ false
+  pub symbols : u.symbols ≡ true → (are_symbols_kept r.read r.image && is_table_copied r.read r.image s.section.sh_link) ≡ true
+  pub numbers : u.numbers ≡ true → is_static_renumbered r.read r.image ≡ false
+  pub against_static : u.against_static ≡ false → is_against (table_number SHT_SYMTAB r.image) s.section ≡ false
 
 pub nothing_told : (r : Resized) (s : KeptSection) → IsTold r s untold
 nothing_told r s = record {
@@ -67,16 +78,28 @@ nothing_told r s = record {
   names = λ h. absurd (false≢true h);
   versions = λ h. absurd (false≢true h);
   against_dynamic = λ h. absurd (false≢true (sym h));
+  symbols = λ h. absurd (false≢true h);
+  numbers = λ h. absurd (false≢true h);
+  against_static = λ h. absurd (false≢true (sym h));
 }
 
 module _ (r : Resized) (plan : Layout) (raw : List EntryNumbers) (strings : List ℕ) (s : KeptSection) (bytes : List ℕ) where
-  -- relocations that don't change, or aren't against the dynamic symbols
-  pub relocations_copied : (are_names_changed r.read r.image && is_against (table_number SHT_DYNSYM r.image) s.section) ≡ false
-      → AreRelocationsOf r s.section bytes → bytes ≡ s.section.content
-  relocations_copied other are = subst (λ (b : Bool). elim b as (λ _. Type 0) [
+  -- relocations that aren't against dynamic symbols that change
+  pub relocations_static : (are_names_changed r.read r.image && is_against (table_number SHT_DYNSYM r.image) s.section) ≡ false
+      → AreRelocationsOf r s.section bytes → AreStaticRelocationsOf r s.section bytes
+  relocations_static other are = subst (λ (b : Bool). elim b as (λ _. Type 0) [
     | true ↦ AreRenumbered r.image.form s.section.sh_type (new_dynamic_symbols r.read r.image) s.section.content bytes
-    | _ ↦ bytes ≡ s.section.content
+    | _ ↦ AreStaticRelocationsOf r s.section bytes
   ]) other are
+
+  -- nor against static ones that do
+  pub relocations_copied : (are_names_changed r.read r.image && is_against (table_number SHT_DYNSYM r.image) s.section) ≡ false
+      → (is_static_renumbered r.read r.image && is_against (table_number SHT_SYMTAB r.image) s.section) ≡ false
+      → AreRelocationsOf r s.section bytes → bytes ≡ s.section.content
+  relocations_copied other static are = subst (λ (b : Bool). elim b as (λ _. Type 0) [
+    | true ↦ AreRenumbered r.image.form s.section.sh_type (new_static_symbols r.read r.image) s.section.content bytes
+    | _ ↦ bytes ≡ s.section.content
+  ]) static (relocations_static other are)
 
   -- what is copied has the bytes that were read
   pub copied_by : (u : Unchanged) → IsTold r s u → (kind : SectionData) → is_kind_copied u kind ≡ true
@@ -84,22 +107,27 @@ module _ (r : Resized) (plan : Layout) (raw : List EntryNumbers) (strings : List
   copied_by u told kinds.Opaque h content = content
   copied_by u told kinds.Uninitialized h content = content
   copied_by u told kinds.Dynamic h content = absurd (false≢true h)
-  copied_by u told kinds.Relocation h content = relocations_copied (by_test u.names u.against_dynamic refl refl h) content
+  copied_by u told kinds.Relocation h content =
+      let both = and_parts (u.names || not u.against_dynamic) (u.numbers || not u.against_static) h in
+      relocations_copied
+      (by_test u.names u.against_dynamic (are_names_changed r.read r.image) (is_against (table_number SHT_DYNSYM r.image) s.section)
+      told.names told.against_dynamic both.0)
+      (by_test u.numbers u.against_static (is_static_renumbered r.read r.image) (is_against (table_number SHT_SYMTAB r.image) s.section)
+      told.numbers told.against_static both.1)
+      content
     where
       either : (b : Bool) → (b && false) ≡ false
       either true = refl
       either false = refl
 
-      by_test : (a b : Bool) → u.names ≡ a → u.against_dynamic ≡ b → (a || not b) ≡ true
-          → (are_names_changed r.read r.image && is_against (table_number SHT_DYNSYM r.image) s.section) ≡ false
-      by_test true b names_is against_is h = ap (λ (c : Bool). c && is_against (table_number SHT_DYNSYM r.image) s.section) (told.names names_is)
-      by_test false true names_is against_is h = absurd (false≢true h)
-      by_test false false names_is against_is h =
-          ap (λ (c : Bool). are_names_changed r.read r.image && c) (told.against_dynamic against_is)
-          ∙ either (are_names_changed r.read r.image)
+      by_test : (a b changed against : Bool) → (a ≡ true → changed ≡ false) → (b ≡ false → against ≡ false) → (a || not b) ≡ true
+          → (changed && against) ≡ false
+      by_test true b changed against same apart h = ap (λ (c : Bool). c && against) (same refl)
+      by_test false true changed against same apart h = absurd (false≢true h)
+      by_test false false changed against same apart h = ap (λ (c : Bool). changed && c) (apart refl) ∙ either changed
   copied_by u told kinds.Note h content = content
   copied_by u told kinds.Strings h content = content (told.table h)
-  copied_by u told kinds.Symbols h content = content
+  copied_by u told kinds.Symbols h content = content.copied (told.symbols h)
   copied_by u told kinds.DynamicSymbols h content = absurd (false≢true h)
   copied_by u told kinds.Hash h content = subst (λ (b : Bool). elim b as (λ _. Type 0) [
     | true ↦ IsGabiTable r.image.form (gabi_buckets r.image.form s.section.content) (hashed_names (final r.read r.image).dynamic_symbols) bytes

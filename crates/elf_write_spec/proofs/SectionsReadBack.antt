@@ -116,8 +116,7 @@ sections_read w is has =
     let f = read_facts w is in
     let long = lengths w is f in
     each-from (section_read (written_parts w)) w.headers (rewritten_sections w.image.sections w.headers w.contents)
-    (length-sections w.image.sections w.headers w.contents (long.headers ∙ sym long.sections) (long.contents ∙ sym long.sections)
-    ∙ long.sections ∙ sym long.headers)
+    (length-sections w.image.sections w.headers w.contents long.headers long.contents ∙ sym long.headers)
     (λ i h y h_there y_there.
     let (at, same) = section_at_header w is f i h h_there in
     let here = rewritten-at w.image.sections w.headers w.contents i at.section at.header at.bytes at.is_section at.is_header at.is_bytes in

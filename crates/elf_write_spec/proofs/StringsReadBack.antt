@@ -1,6 +1,6 @@
 -- The dynamic strings of a written file: DT_STRSZ leaves all of them to be read.
 use Rattle.std.proofs.Common.{◌≡◌, ℕ, zero, suc, Bool, true, false, cond, eqb, List, [], ◌∷◌, length, refl, sym, ap, ◌∙◌, subst, Option, Some, None}
-use Rattle.std.specs.Prelude.{find, unwrap_or, option_map, ◌==◌}
+use Rattle.std.specs.Prelude.{find, unwrap_or, ◌==◌}
 use Rattle.std.specs.List.{AllByRecursion}
 use Rattle.std.proofs.lemmas.Bool.{and_parts, eqb-true, false≢true}
 use Rattle.std.proofs.lemmas.List.Elements.{recursion_from_All}
@@ -33,7 +33,7 @@ use Rattle.elf_write_spec.proofs.ContentsReadBack.{Linked, entries_content, link
 use Rattle.elf_write_spec.proofs.RawEntries.{final_listed, raw_is}
 use Rattle.elf_write_spec.proofs.TextsRead.{whole-Keeps}
 use Rattle.elf_write_spec.proofs.WholeFacts.{ReadFacts, SectionAt, There, Nowhere, kept_is, type_at}
-use Rattle.elf_write_spec.proofs.NumberedSections.{kept}
+use Rattle.elf_write_spec.proofs.NumberedSections.{kept_as}
 
 -- ## Without a dynamic list
 
@@ -94,10 +94,11 @@ module _ (w : Output) (is : IsPlannedOutput w) (has : HasWrittenParts w) (f : Re
       ∙ ap (λ (o : Option (List EntryNumbers)). unwrap_or o []) (no_entries (length (written_bytes w)) w.image.form)
 
   -- the size of the dynamic strings
-  strings_size : (n : ℕ) → dynamic_strings_number w.image ≡ Some n → (s : SectionAt w f.parts n)
+  strings_size : (n : ℕ) → dynamic_strings_number w.image ≡ Some n → (j : ℕ) (s : SectionAt w f.parts j) → s.number ≡ n
       → table_value (resized w.image) w.plan DT_STRSZ ≡ s.place.sh_size
-  strings_size n is_number s =
-      let there : kept_at_number n w.image ≡ Some (kept n s.section) = kept_is w is n ∙ ap (option_map (kept n)) s.is_section in
+  strings_size n is_number j s own =
+      let there : kept_at_number n w.image ≡ Some (kept_as j s.number s.section) =
+      ap (λ (m : ℕ). kept_at_number m w.image) (sym own) ∙ kept_is w is f j s in
       let place : place_of_kept w.plan (dynamic_strings_number w.image >>= λ number. kept_at_number number w.image) ≡ Some s.place =
       ap (λ (o : Option ℕ). place_of_kept w.plan (o >>= λ number. kept_at_number number w.image)) is_number
       ∙ ap (place_of_kept w.plan) there ∙ s.is_place in
@@ -107,7 +108,7 @@ module _ (w : Output) (is : IsPlannedOutput w) (has : HasWrittenParts w) (f : Re
   limit_is : (i : ℕ) (at : SectionAt w f.parts i) (l : Linked w is f i at)
       → ((list : SectionHeader) → section_of_type SHT_DYNAMIC f.parts.sections ≡ Some list → at.old.sh_link ≡ list.sh_link)
       → (value : ℕ) → value_of_tag DT_STRSZ (raw_entries (written_parts w)) ≡ Some value → value ≡ length l.table.bytes
-  limit_is i at l shares value h = elim (type_at w is f SHT_DYNAMIC) [
+  limit_is i at l shares value h = elim (type_at w is f SHT_DYNAMIC refl) [
     | Nowhere was now none ↦ absurd (none-some value (sym (ap (value_of_tag DT_STRSZ) (raw_nowhere now)) ∙ h))
     | There j list typed was now there ↦
         let number : dynamic_strings_number w.image ≡ Some at.old.sh_link =
@@ -118,7 +119,7 @@ module _ (w : Output) (is : IsPlannedOutput w) (has : HasWrittenParts w) (f : Re
         value_is (resized w.image) w.plan strings (list_at (λ es. es) (final (image_at_read w.image) w.image).entries) w.raw
         (entries_content w is f j list typed) (listed_all w f) value
         (sym (ap (value_of_tag DT_STRSZ) (raw_is w is has list.header now)) ∙ h) in
-        own ∙ strings_size at.old.sh_link number l.table ∙ sym (size_is w is f at.old.sh_link l.table SHT_STRTAB l.type refl)
+        own ∙ strings_size at.old.sh_link number l.position l.table l.number ∙ sym (size_is w is f l.position l.table SHT_STRTAB l.type refl)
   ]
 
   -- the texts of a user of the dynamic strings are those that were written

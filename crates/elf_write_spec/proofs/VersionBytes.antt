@@ -1,6 +1,6 @@
 -- Versions of symbols and their bytes: two tables of bytes that hold the same versions are one, and so a written one is as it was read
 -- where the versions are.
-use Rattle.std.proofs.Common.{◌≡◌, ℕ, zero, suc, ◌+◌, ◌*◌, ◌/◌, ◌%◌, ◌<◌, ◌≤◌, Bool, true, false, List, [], ◌∷◌, ◌++◌, length, map, take, drop, eqb, refl, sym, ap, ◌∙◌, subst, Option, Some, None, arith}
+use Rattle.std.proofs.Common.{◌≡◌, ℕ, zero, suc, ◌*◌, ◌/◌, ◌%◌, ◌<◌, ◌≤◌, Bool, true, false, List, [], ◌∷◌, ◌++◌, length, map, take, drop, eqb, refl, sym, ap, ◌∙◌, subst, Option, Some, None, arith}
 use Rattle.std.specs.Prelude.{◌&&◌, ◌==◌, ◌^◌, if◌then◌else◌, nat_le, not}
 use Rattle.std.specs.List.{slice_get}
 use Rattle.std.proofs.lemmas.Bool.{and_parts, eqb-true, false≢true, leb-false, leb-true}
@@ -183,17 +183,17 @@ module _ (read image : Image) (is : IsWholeEdit read image) (i : ℕ) (s : Image
 
   counted : Counted
   counted =
-      let here = section_read read image is facts i (slice_get_within image.sections i s at) in
+      let here = section_read read image facts i (slice_get_within image.sections i s at) in
       let own : here.section ≡ s = same_Some here.section s (sym here.is_section ∙ at) in
       let old : SectionHeader = here.old in
       let old_type : old.sh_type ≡ SHT_GNU_VERSYM =
       ap (λ (x : ImageSection). x.sh_type) (sym here.of_old.fields ∙ own) ∙ type in
       let content : s.content ≡ section_bytes (file_of p) old = ap (λ (x : ImageSection). x.content) (sym own ∙ here.of_old.fields) in
-      let found = only_one p (read_linked p facts.rules.linked).single SHT_GNU_VERSYM refl i old here.is_old old_type in
+      let found = only_one p (read_linked p facts.rules.linked).single SHT_GNU_VERSYM refl here.number old here.is_old old_type in
       let agreed : version_symbols_agree p old ≡ true =
       test_at (λ (x : SectionHeader). version_symbols_agree p x) (section_of_type SHT_GNU_VERSYM p.sections) old
       (version_symbols_right p facts.rules) found in
-      let inside = IsIn-slice_get p.sections i old here.is_old in
+      let inside = IsIn-slice_get p.sections here.number old here.is_old in
       let test : SectionHeader → Bool = λ x. old.sh_size / 2 == x.sh_size / symbol_size p.opened.form in
       let (symbols, symbols_there, half) = there_and test (section_of_type SHT_DYNSYM p.sections) (and_parts _ _ agreed).0 in
       let (symbols_in, typed) = find_some (λ (x : SectionHeader). x.sh_type == SHT_DYNSYM) p.sections symbols symbols_there in

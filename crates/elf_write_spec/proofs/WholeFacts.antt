@@ -1,20 +1,22 @@
 -- What is known of what is written: the parts that were read, and how they match, section by section, what is written.
-use Rattle.std.proofs.Common.{◌≡◌, ℕ, zero, suc, ◌<◌, List, length, map, Bool, true, false, ◌||◌, [], ◌∷◌, refl, sym, ap, ◌∙◌, subst, inl, inr, Option, Some, None, arith}
+use Rattle.std.proofs.Common.{◌≡◌, ℕ, zero, suc, ◌<◌, ◌≤◌, List, length, map, Bool, true, false, ◌||◌, [], ◌∷◌, refl, sym, ap, ◌∙◌, subst, Option, Some, None, arith}
 use Rattle.std.specs.Prelude.{if◌then◌else◌, ◌==◌, unwrap_or}
-use Rattle.std.proofs.lemmas.Bool.{both_ways, eq-eqb, eqb-true, ne_eqb}
+use Rattle.std.proofs.lemmas.Bool.{both_ways, eq-eqb, false≢true, ne_eqb}
 use Rattle.std.proofs.lemmas.List.{length-map}
 use Rattle.std.proofs.lemmas.Option.{none-some, same_Some, slice_get_within}
 use Rattle.patch_bytes.specs.Memory.{◌>>=◌}
-use Rattle.std.specs.Option.{option_map}
 use Rattle.std.specs.List.{slice_get}
 use Rattle.elf_format.specs.declared.constants.TheConstants.{SHT_DYNSYM, SHT_GNU_VERDEF, SHT_GNU_VERNEED, SHT_SYMTAB}
 use Rattle.elf_format.specs.declared.records.SectionHeader.{SectionHeader}
 use Rattle.elf_format.specs.File.{Parts, section_of_type}
-use Rattle.elf_format.specs.Image.{ImageSection}
+use Rattle.elf_format.specs.Image.{Image, ImageSection}
 use Rattle.elf_format.specs.Options.{is_one_of}
 use Rattle.elf_format.specs.Places.{Place, place_of, places_of}
+use Rattle.elf_format.specs.Rules.{has_section_info}
+use Rattle.elf_image.specs.Edited.{IsName}
+use Rattle.elf_image.specs.Needed.{is_info_number, is_lasting, lasting_types, names_section}
 use Rattle.elf_image.specs.ReadImage.{IsSectionOf}
-use Rattle.elf_image.specs.Kept.{KeptSection, image_at_read, kept_at_number, kept_of_type, kept_sections}
+use Rattle.elf_image.specs.Kept.{KeptSection, dynamic_strings_number, image_at_read, is_numbered, kept_at_number, kept_of_type, kept_sections}
 use Rattle.elf_layout_plan.specs.Memory.{Resized, SizedSection, sized_sections}
 use Rattle.elf_layout_plan.specs.Plan.{Layout, layout_for, resized}
 use Rattle.elf_layout_plan.specs.Sizes.{new_size}
@@ -22,21 +24,21 @@ use Rattle.elf_layout_plan.specs.Standing.{place_in, places}
 use Rattle.elf_write_spec.specs.Contents.{content_at_number}
 use Rattle.elf_write_spec.specs.Final.{final, new_number}
 use Rattle.elf_write_spec.specs.Output.{AreSectionsWritten, IsSectionWritten, IsPlannedOutput, Output}
-use Rattle.elf_write_spec.specs.Headers.{behind_locals, is_info_number, written_info}
+use Rattle.elf_write_spec.specs.Headers.{behind_locals, written_info}
 use Rattle.elf_layout_plan.proofs.ForCallers.ApartLists.{at-map, map-at}
 use Rattle.elf_layout_plan.proofs.ForCallers.ApartRead.{edited_facts}
-use Rattle.elf_layout_plan.proofs.ForCallers.ApartSections.{at-sized, sized_of}
+use Rattle.elf_layout_plan.proofs.ForCallers.ApartSections.{at-sized, kept-at as kept-parts, sized_of}
 use Rattle.elf_layout_plan.proofs.ForCallers.PlacedLists.{slice_get-at}
 use Rattle.elf_layout_plan.proofs.ForCallers.PlacedPlaces.{keeps_kind}
-use Rattle.elf_write_spec.proofs.WholeLists.{FoundAt, NonePasses, find-is, find-no, first_at, same_items, there_at}
-use Rattle.elf_write_spec.proofs.NumberedSections.{kept}
+use Rattle.elf_write_spec.proofs.WholeLists.{before-first, find-is, find-no, none-passes, same_items, there_at}
+use Rattle.elf_write_spec.proofs.NumberedSections.{kept_as}
 use Rattle.elf_write_spec.proofs.WholeEdits as edits
 
 -- ## The file that was read
 
--- the image is edited, and nothing of it went
+-- the image is edited
 pub whole_edit : (w : Output) → IsPlannedOutput w → edits.IsWholeEdit (image_at_read w.image) w.image
-whole_edit w is = record { at_read = refl; edited = is.edited; whole = is.whole }
+whole_edit w is = record { at_read = refl; edited = is.edited }
 
 abbrev pub ReadFacts : Output → Type 0
 ReadFacts w = edits.ReadFacts (image_at_read w.image) w.image
@@ -46,23 +48,15 @@ read_facts w is = edits.read_facts (image_at_read w.image) w.image (whole_edit w
 
 -- ## Section by section
 
+-- as many of each as sections that are there, and no more than were read
 pub record Lengths (w : Output) (p : Parts) : Type 0 where
-  pub sections : length w.image.sections ≡ length p.sections
-  pub places : length w.plan.places ≡ length p.sections
-  pub headers : length w.headers ≡ length p.sections
-  pub contents : length w.contents ≡ length p.sections
+  pub sections : length w.image.sections ≤ length p.sections
+  pub places : length w.plan.places ≡ length w.image.sections
+  pub headers : length w.headers ≡ length w.image.sections
+  pub contents : length w.contents ≡ length w.image.sections
 
 pub length-kept : (w : Output) → IsPlannedOutput w → length (kept_sections w.image) ≡ length w.image.sections
-length-kept w is = edits.length-kept (image_at_read w.image) w.image (whole_edit w is)
-
--- the i-th section that is there
-kept-at : (w : Output) → IsPlannedOutput w → (i : ℕ)
-    → slice_get (kept_sections w.image) i ≡ option_map (kept i) (slice_get w.image.sections i)
-kept-at w is = edits.kept-at (image_at_read w.image) w.image (whole_edit w is)
-
--- the section that was read at a number stands at that position
-pub kept_is : (w : Output) → IsPlannedOutput w → (n : ℕ) → kept_at_number n w.image ≡ option_map (kept n) (slice_get w.image.sections n)
-kept_is w is = edits.kept_is (image_at_read w.image) w.image (whole_edit w is)
+length-kept w is = edits.length-kept (image_at_read w.image) w.image (read_facts w is)
 
 -- as many of each
 record SameLengths (w : Output) (ks : List KeptSection) (ps : List Place) (hs : List SectionHeader) (cs : List (List ℕ)) : Type 0 where
@@ -81,25 +75,14 @@ same_lengths w _ _ _ _ is = absurd is
 
 pub lengths : (w : Output) → IsPlannedOutput w → (f : ReadFacts w) → Lengths w f.parts
 lengths w is f =
-    let sections : length w.image.sections ≡ length f.parts.sections =
-    edits.length-now (image_at_read w.image) w.image (whole_edit w is) f in
-    let all : length (kept_sections w.image) ≡ length f.parts.sections = length-kept w is ∙ sections in
+    let all : length (kept_sections w.image) ≡ length w.image.sections = length-kept w is in
     let same = same_lengths w (kept_sections w.image) w.plan.places w.headers w.contents is.written.sections in
-    record { sections = sections; places = same.places ∙ all; headers = same.headers ∙ all; contents = same.contents ∙ all }
-
-pub new_number-same : (w : Output) → IsPlannedOutput w → (n : ℕ) → new_number w.image n ≡ n
-new_number-same w is = edits.new_number-same (image_at_read w.image) w.image (whole_edit w is)
-
--- the bytes of the section with a number are those at that position
-pub content_is : (w : Output) → IsPlannedOutput w → (n : ℕ) (bytes : List ℕ) → slice_get w.contents n ≡ Some bytes
-    → content_at_number w.image w.contents n ≡ bytes
-content_is w is n bytes there =
-    let f = read_facts w is in
-    let long = lengths w is f in
-    let within : n < length w.image.sections = omega (arith, slice_get_within w.contents n bytes there, long.sections, long.contents) in
-    let (s, at) = there_at w.image.sections n within in
-    ap (λ (o : Option KeptSection). unwrap_or (o >>= λ k. slice_get w.contents k.position) []) (kept_is w is n ∙ ap (option_map (kept n)) at)
-    ∙ ap (λ (o : Option (List ℕ)). unwrap_or o []) there
+    record {
+      sections = edits.length-now (image_at_read w.image) w.image f;
+      places = same.places ∙ all;
+      headers = same.headers ∙ all;
+      contents = same.contents ∙ all;
+    }
 
 -- ## Each section, with what is written of it
 
@@ -179,99 +162,132 @@ info_chain n a b c d z h =
     ∙ ap (λ (t : Bool). if t then c else if n == SHT_GNU_VERNEED then d else z) (not_type SHT_GNU_VERDEF n three.0)
     ∙ ap (λ (t : Bool). if t then d else z) (not_type SHT_GNU_VERNEED n four.0)
 
--- sh_info stays, where it isn't that of a table that is made of the image's lists
-same_info : (w : Output) → IsPlannedOutput w → (s : ImageSection)
-    → is_one_of (SHT_SYMTAB ∷ SHT_DYNSYM ∷ SHT_GNU_VERDEF ∷ SHT_GNU_VERNEED ∷ []) s.sh_type ≡ false → written_info (image_at_read w.image) w.image s ≡ s.sh_info
-same_info w is s h =
+-- sh_info stays, or is a section's new number, where it isn't that of a table that is made of the image's lists
+same_info : (w : Output) → (s : ImageSection) → is_one_of (SHT_SYMTAB ∷ SHT_DYNSYM ∷ SHT_GNU_VERDEF ∷ SHT_GNU_VERNEED ∷ []) s.sh_type ≡ false
+    → written_info (image_at_read w.image) w.image s ≡ (if is_info_number s then new_number w.image s.sh_info else s.sh_info)
+same_info w s h =
     let r : Resized = resized w.image in
     info_chain s.sh_type (behind_locals (final r.read r.image).symbols) (behind_locals (final r.read r.image).dynamic_symbols)
     (length r.image.definitions) (length (final r.read r.image).needs)
     (if is_info_number s then new_number r.image s.sh_info else s.sh_info) h
-    ∙ by_test (is_info_number s)
-  where
-    by_test : (b : Bool) → (if b then new_number w.image s.sh_info else s.sh_info) ≡ s.sh_info
-    by_test true = new_number-same w is s.sh_info
-    by_test false = refl
 
--- the i-th section of the image, as it was read, and what is written of it
+-- the section at a position, its number at read, the header that it was read from, and what is written of it
 pub record SectionAt (w : Output) (p : Parts) (i : ℕ) : Type 0 where
+  pub number : ℕ
   pub section : ImageSection
   pub old : SectionHeader
   pub place : Place
   pub header : SectionHeader
   pub bytes : List ℕ
+  pub is_number : slice_get w.image.section_numbers i ≡ Some number
   pub is_section : slice_get w.image.sections i ≡ Some section
-  pub is_kept : slice_get (kept_sections w.image) i ≡ Some (kept i section)
-  pub is_old : slice_get p.sections i ≡ Some old
+  pub is_kept : slice_get (kept_sections w.image) i ≡ Some (kept_as i number section)
+  pub is_old : slice_get p.sections number ≡ Some old
   pub is_place : slice_get w.plan.places i ≡ Some place
   pub is_header : slice_get w.headers i ≡ Some header
   pub is_bytes : slice_get w.contents i ≡ Some bytes
-  pub of_old : IsSectionOf p old section
-  pub written : IsSectionWritten w (kept i section) place header bytes
+  pub of_old : edits.IsOfHeader p old section
+  pub written : IsSectionWritten w (kept_as i number section) place header bytes
+  -- as it was read, perhaps with another name
+  pub was : ImageSection
+  pub is_was : slice_get (image_at_read w.image).sections number ≡ Some was
+  pub was_old : IsSectionOf p old was
+  pub renamed : section ≡ record was { name = section.name }
+  pub named : IsName section.name
   -- its place: of what kind, and how large
   pub place_type : place.sh_type ≡ old.sh_type
   pub place_flags : place.sh_flags ≡ old.sh_flags
-  pub place_size : place.sh_size ≡ new_size (image_at_read w.image) w.image (kept i section)
-  -- its header: all but its name, its place and perhaps its sh_info are those that were read
+  pub place_size : place.sh_size ≡ new_size (image_at_read w.image) w.image (kept_as i number section)
+  -- its header: all but its name, its place, perhaps its sh_info and numbers of sections are those that were read
   pub type : header.sh_type ≡ old.sh_type
   pub flags : header.sh_flags ≡ old.sh_flags
-  pub link : header.sh_link ≡ old.sh_link
+  pub link : header.sh_link ≡ new_number w.image old.sh_link
   pub align : header.sh_addralign ≡ old.sh_addralign
   pub entsize : header.sh_entsize ≡ old.sh_entsize
-  pub info : is_one_of (SHT_SYMTAB ∷ SHT_DYNSYM ∷ SHT_GNU_VERDEF ∷ SHT_GNU_VERNEED ∷ []) old.sh_type ≡ false → header.sh_info ≡ old.sh_info
+  pub info : is_one_of (SHT_SYMTAB ∷ SHT_DYNSYM ∷ SHT_GNU_VERDEF ∷ SHT_GNU_VERNEED ∷ []) old.sh_type ≡ false
+      → header.sh_info ≡ (if has_section_info old then new_number w.image old.sh_info else old.sh_info)
   pub address : header.sh_addr ≡ place.sh_addr
   pub offset : header.sh_offset ≡ place.sh_offset
   pub size : header.sh_size ≡ place.sh_size
 
-pub section_at : (w : Output) → IsPlannedOutput w → (f : ReadFacts w) → (i : ℕ) → i < length f.parts.sections → SectionAt w f.parts i
-section_at w is f i h =
+-- what of it doesn't ask for what is written
+abbrev pub read_at : {w : Output} {p : Parts} {i : ℕ} → SectionAt w p i → edits.SectionRead (image_at_read w.image) w.image p i
+read_at at = record {
+  number = at.number;
+  old = at.old;
+  section = at.section;
+  is_number = at.is_number;
+  is_old = at.is_old;
+  is_section = at.is_section;
+  is_kept = at.is_kept;
+  of_old = at.of_old;
+  was = at.was;
+  is_was = at.is_was;
+  was_old = at.was_old;
+  renamed = at.renamed;
+  named = at.named;
+}
+
+pub section_of : (w : Output) → IsPlannedOutput w → (f : ReadFacts w) → (i : ℕ) → (read : edits.SectionRead (image_at_read w.image) w.image f.parts i)
+    → (at : SectionAt w f.parts i) × (at.number ≡ read.number)
+section_of w is f i read =
     let p : Parts = f.parts in
-    let long = lengths w is f in
-    let read = edits.section_read (image_at_read w.image) w.image (whole_edit w is) f i (omega (arith, h, long.sections)) in
+    let n : ℕ = read.number in
     let s : ImageSection = read.section in
     let old : SectionHeader = read.old in
-    let of_old : IsSectionOf p old s = read.of_old in
-    let at = written-at w (kept_sections w.image) w.plan.places w.headers w.contents is.written.sections i (kept i s) read.is_kept in
-    let kind = kind_at w is i (kept i s) at.place read.is_kept at.is_place in
+    let of_old : edits.IsOfHeader p old s = read.of_old in
+    let at = written-at w (kept_sections w.image) w.plan.places w.headers w.contents is.written.sections i (kept_as i n s) read.is_kept in
+    let kind = kind_at w is i (kept_as i n s) at.place read.is_kept at.is_place in
     let fields = at.written.has_header.fields in
-    let type : s.sh_type ≡ old.sh_type = ap (λ (x : ImageSection). x.sh_type) of_old.fields in
-    record {
-      section = s;
-      old = old;
-      place = at.place;
-      header = at.header;
-      bytes = at.bytes;
-      is_section = read.is_section;
-      is_kept = read.is_kept;
-      is_old = read.is_old;
-      is_place = at.is_place;
-      is_header = at.is_header;
-      is_bytes = at.is_bytes;
-      of_old = of_old;
-      written = at.written;
-      place_type = kind.0 ∙ type;
-      place_flags = kind.1 ∙ ap (λ (x : ImageSection). x.sh_flags) of_old.fields;
-      place_size = kind.2;
-      type = ap (λ (x : SectionHeader). x.sh_type) fields ∙ type;
-      flags = ap (λ (x : SectionHeader). x.sh_flags) fields ∙ ap (λ (x : ImageSection). x.sh_flags) of_old.fields;
-      link = ap (λ (x : SectionHeader). x.sh_link) fields ∙ new_number-same w is s.sh_link
-          ∙ ap (λ (x : ImageSection). x.sh_link) of_old.fields;
-      align = ap (λ (x : SectionHeader). x.sh_addralign) fields ∙ ap (λ (x : ImageSection). x.sh_addralign) of_old.fields;
-      entsize = ap (λ (x : SectionHeader). x.sh_entsize) fields ∙ ap (λ (x : ImageSection). x.sh_entsize) of_old.fields;
-      info = λ other.
-          ap (λ (x : SectionHeader). x.sh_info) fields
-          ∙ same_info w is s (ap (is_one_of (SHT_SYMTAB ∷ SHT_DYNSYM ∷ SHT_GNU_VERDEF ∷ SHT_GNU_VERNEED ∷ [])) type ∙ other)
-          ∙ ap (λ (x : ImageSection). x.sh_info) of_old.fields;
-      address = ap (λ (x : SectionHeader). x.sh_addr) fields;
-      offset = ap (λ (x : SectionHeader). x.sh_offset) fields;
-      size = ap (λ (x : SectionHeader). x.sh_size) fields;
-    }
+    let type : s.sh_type ≡ old.sh_type = ap (λ (x : ImageSection). x.sh_type) of_old.fields in (
+      record {
+        number = n;
+        section = s;
+        old = old;
+        place = at.place;
+        header = at.header;
+        bytes = at.bytes;
+        is_number = read.is_number;
+        is_section = read.is_section;
+        is_kept = read.is_kept;
+        is_old = read.is_old;
+        is_place = at.is_place;
+        is_header = at.is_header;
+        is_bytes = at.is_bytes;
+        of_old = of_old;
+        written = at.written;
+        was = read.was;
+        is_was = read.is_was;
+        was_old = read.was_old;
+        renamed = read.renamed;
+        named = read.named;
+        place_type = kind.0 ∙ type;
+        place_flags = kind.1 ∙ ap (λ (x : ImageSection). x.sh_flags) of_old.fields;
+        place_size = kind.2;
+        type = ap (λ (x : SectionHeader). x.sh_type) fields ∙ type;
+        flags = ap (λ (x : SectionHeader). x.sh_flags) fields ∙ ap (λ (x : ImageSection). x.sh_flags) of_old.fields;
+        link = ap (λ (x : SectionHeader). x.sh_link) fields ∙ ap (λ (x : ImageSection). new_number w.image x.sh_link) of_old.fields;
+        align = ap (λ (x : SectionHeader). x.sh_addralign) fields ∙ ap (λ (x : ImageSection). x.sh_addralign) of_old.fields;
+        entsize = ap (λ (x : SectionHeader). x.sh_entsize) fields ∙ ap (λ (x : ImageSection). x.sh_entsize) of_old.fields;
+        info = λ other.
+            ap (λ (x : SectionHeader). x.sh_info) fields
+            ∙ same_info w s (ap (is_one_of (SHT_SYMTAB ∷ SHT_DYNSYM ∷ SHT_GNU_VERDEF ∷ SHT_GNU_VERNEED ∷ [])) type ∙ other)
+            ∙ ap (λ (x : ImageSection). if is_info_number x then new_number w.image x.sh_info else x.sh_info) of_old.fields;
+        address = ap (λ (x : SectionHeader). x.sh_addr) fields;
+        offset = ap (λ (x : SectionHeader). x.sh_offset) fields;
+        size = ap (λ (x : SectionHeader). x.sh_size) fields;
+      },
+      refl,
+    )
+
+pub section_at : (w : Output) → IsPlannedOutput w → (f : ReadFacts w) → (i : ℕ) → i < length w.image.sections → SectionAt w f.parts i
+section_at w is f i h = (section_of w is f i (edits.section_read (image_at_read w.image) w.image f i h)).0
 
 -- the header at a position
 pub section_at_header : (w : Output) → IsPlannedOutput w → (f : ReadFacts w) → (i : ℕ) (h : SectionHeader) → slice_get w.headers i ≡ Some h
     → (at : SectionAt w f.parts i) × (at.header ≡ h)
 section_at_header w is f i h there =
-    let within : i < length f.parts.sections = omega (arith, slice_get_within w.headers i h there, (lengths w is f).headers) in
+    let within : i < length w.image.sections = omega (arith, slice_get_within w.headers i h there, (lengths w is f).headers) in
     let at : SectionAt w f.parts i = section_at w is f i within in
     (at, same_Some at.header h (sym at.is_header ∙ there))
 
@@ -298,54 +314,135 @@ places_are w is =
     place_is : {p : Parts} {i : ℕ} (at : SectionAt w p i) → place_of at.header ≡ at.place
     place_is at = by_fields (place_of at.header) at.place (at.type ∙ sym at.place_type) (at.flags ∙ sym at.place_flags) at.address at.offset at.size
 
+-- ## By number
+
+module _ (w : Output) (is : IsPlannedOutput w) (f : ReadFacts w) where
+  -- the section that is there with a number
+  pub section_numbered : (n : ℕ) (k : KeptSection) → kept_at_number n w.image ≡ Some k
+      → (at : SectionAt w f.parts k.position) × (at.number ≡ n)
+  section_numbered n k is_k =
+      let (read, _, number) = edits.read_number (image_at_read w.image) w.image f n k is_k in
+      let (at, same) = section_of w is f k.position read in
+      (at, same ∙ number)
+
+  -- its position is its new number
+  pub new_number-at : (i : ℕ) → (at : SectionAt w f.parts i) → new_number w.image at.number ≡ i
+  new_number-at i at = edits.new_number-at (image_at_read w.image) w.image f i (read_at at)
+
+  pub kept_is : (i : ℕ) → (at : SectionAt w f.parts i) → kept_at_number at.number w.image ≡ Some (kept_as i at.number at.section)
+  kept_is i at = edits.kept_is (image_at_read w.image) w.image f i (read_at at)
+
+  -- the bytes of the section with a number are those at its position
+  pub content_is : (i : ℕ) → (at : SectionAt w f.parts i) → content_at_number w.image w.contents at.number ≡ at.bytes
+  content_is i at =
+      ap (λ (o : Option KeptSection). unwrap_or (o >>= λ k. slice_get w.contents k.position) []) (kept_is i at)
+      ∙ ap (λ (o : Option (List ℕ)). unwrap_or o []) at.is_bytes
+
+  -- the section that another names is there, at its new number
+  pub moved_to : (i n : ℕ) → (at : SectionAt w f.parts i) → n < length f.parts.sections → names_section at.section n ≡ true
+      → (j : ℕ) × (to : SectionAt w f.parts j) × (to.number ≡ n) × (new_number w.image n ≡ j)
+  moved_to i n at below names =
+      let (j, read, number) = edits.named_there (image_at_read w.image) w.image f i n (read_at at) below names in
+      let (to, same) = section_of w is f j read in
+      let own : to.number ≡ n = same ∙ number in
+      (j, to, own, ap (new_number w.image) (sym own) ∙ new_number-at j to)
+
+-- the section of names is there
+pub names_section_at : (w : Output) → IsPlannedOutput w → (f : ReadFacts w) → f.parts.opened.header.e_shstrndx < length f.parts.sections
+    → (j : ℕ) × (at : SectionAt w f.parts j) × (at.number ≡ f.parts.opened.header.e_shstrndx) × (new_number w.image w.image.header.e_shstrndx ≡ j)
+names_section_at w is f below =
+    let read : Image = image_at_read w.image in
+    let n : ℕ = f.parts.opened.header.e_shstrndx in
+    let same : read.header.e_shstrndx ≡ n = ap (λ h. h.e_shstrndx) f.holds.header in
+    let now : w.image.header.e_shstrndx ≡ n = ap (λ h. h.e_shstrndx) f.edit.header ∙ same in
+    let (was, was_at) = there_at read.sections n (omega (arith, below, edits.length-read read w.image f)) in
+    let lasts : is_lasting read (kept_as n n was) ≡ true =
+    second_of_four (n == 0) (n == read.header.e_shstrndx) (is_numbered (dynamic_strings_number read) (kept_as n n was))
+    (is_one_of lasting_types was.sh_type) (eq-eqb n read.header.e_shstrndx (sym same)) in
+    let (j, there, number) = edits.lasting_there read w.image f n was was_at lasts in
+    let (at, own) = section_of w is f j there in
+    let is_n : at.number ≡ n = own ∙ number in
+    (j, at, is_n, ap (new_number w.image) (now ∙ sym is_n) ∙ new_number-at w is f j at)
+  where
+    second_of_four : (a b c d : Bool) → b ≡ true → (a || b || c || d) ≡ true
+    second_of_four true b c d h = refl
+    second_of_four false true c d h = refl
+    second_of_four false false c d h = absurd (false≢true h)
+
 -- ## The one section of a type
 
--- either there is none, before and after, or the first of the type stands at the same position
+-- either there is none, before and after, or the first of the type that was read is the first that is there
 pub data TypeAt (w : Output) (p : Parts) (type : ℕ) : Type 0 where
   Nowhere : section_of_type type p.sections ≡ None → section_of_type type w.headers ≡ None → kept_of_type type w.image ≡ None
       → TypeAt w p type
   There : (i : ℕ) → (at : SectionAt w p i) → at.old.sh_type ≡ type
       → section_of_type type p.sections ≡ Some at.old → section_of_type type w.headers ≡ Some at.header
-      → kept_of_type type w.image ≡ Some (kept i at.section) → TypeAt w p type
+      → kept_of_type type w.image ≡ Some (kept_as i at.number at.section) → TypeAt w p type
+
+-- that of the static symbols may have gone, too
+pub data StaticAt (w : Output) (p : Parts) : Type 0 where
+  Stays : TypeAt w p SHT_SYMTAB → StaticAt w p
+  Went : (old : SectionHeader) → section_of_type SHT_SYMTAB p.sections ≡ Some old → section_of_type SHT_SYMTAB w.headers ≡ None
+      → kept_of_type SHT_SYMTAB w.image ≡ None → StaticAt w p
 
 -- a section of the image is of the type that its header has, at read and now
 same_types : {w : Output} {p : Parts} {i : ℕ} (at : SectionAt w p i)
     → (at.section.sh_type ≡ at.old.sh_type) × (at.header.sh_type ≡ at.old.sh_type)
 same_types at = (ap (λ (x : ImageSection). x.sh_type) at.of_old.fields, at.type)
 
--- what is known of all headers that were read is known of those that are written
+-- what is found of the sections that are there is found of the headers that are written
 module _ (w : Output) (is : IsPlannedOutput w) (f : ReadFacts w) (type : ℕ) where
   abbrev was : SectionHeader → Bool
   was s = s.sh_type == type
 
+  abbrev was_kept : KeptSection → Bool
+  was_kept s = s.section.sh_type == type
+
   in_headers : (j : ℕ) (h : SectionHeader) → slice_get w.headers j ≡ Some h
-      → (old : SectionHeader) × (slice_get f.parts.sections j ≡ Some old) × (was h ≡ was old)
+      → (k : KeptSection) × (slice_get (kept_sections w.image) j ≡ Some k) × (was h ≡ was_kept k)
   in_headers j h at =
-      let (here, same) = section_at_header w is f j h at in
-      (here.old, here.is_old, ap (λ (x : SectionHeader). x.sh_type == type) (sym same) ∙ ap (λ (n : ℕ). n == type) here.type)
+      let (here, same) = section_at_header w is f j h at in (
+        kept_as j here.number here.section,
+        here.is_kept,
+        ap (λ (x : SectionHeader). x.sh_type == type) (sym same)
+            ∙ ap (λ (n : ℕ). n == type) (here.type ∙ sym (same_types here).0),
+      )
 
-  type_found : FoundAt was f.parts.sections → TypeAt w f.parts type
-  type_found found =
-      let i : ℕ = found.index in
-      let at : SectionAt w f.parts i = section_at w is f i (slice_get_within f.parts.sections i found.element found.there) in
-      let same : found.element ≡ at.old = same_Some found.element at.old (sym found.there ∙ at.is_old) in
-      let passes : was at.old ≡ true = ap was (sym same) ∙ found.passes in
-      let typed : at.old.sh_type ≡ type = eqb-true at.old.sh_type type passes in
+  headers_nowhere : kept_of_type type w.image ≡ None → section_of_type type w.headers ≡ None
+  headers_nowhere none =
+      find-no was w.headers (λ j h h_at. let (k, k_at, tells) = in_headers j h h_at in
+      tells ∙ none-passes was_kept (kept_sections w.image) none j k k_at)
+
+  headers_found : (i : ℕ) → (at : SectionAt w f.parts i) → kept_of_type type w.image ≡ Some (kept_as i at.number at.section)
+      → at.old.sh_type ≡ type → section_of_type type w.headers ≡ Some at.header
+  headers_found i at found typed =
       let types = same_types at in
-      There i at typed (found.is_first ∙ ap (λ (x : SectionHeader). Some x) same)
-      (find-is was w.headers i at.header at.is_header (ap (λ (n : ℕ). n == type) types.1 ∙ passes) (λ j h less h_at.
-      let (old, old_at, tells) = in_headers j h h_at in
-      tells ∙ found.before j old less old_at))
-      (edits.kept_found (image_at_read w.image) w.image (whole_edit w is) f type found at.section at.is_kept (types.0 ∙ typed))
+      find-is was w.headers i at.header at.is_header (ap (λ (n : ℕ). n == type) types.1 ∙ eq-eqb at.old.sh_type type typed)
+      (λ j h less h_at. let (k, k_at, tells) = in_headers j h h_at in
+      tells ∙ before-first was_kept (kept_sections w.image) (kept_as i at.number at.section) found i at.is_kept (only_here i at) j k less k_at)
+    where
+      -- it stands nowhere else
+      only_here : (i : ℕ) → (at : SectionAt w f.parts i) → (j : ℕ) → slice_get (kept_sections w.image) j ≡ Some (kept_as i at.number at.section) → j ≡ i
+      only_here i at j there =
+          let (position, _, _) = kept-parts 0 w.image.section_numbers w.image.sections j (kept_as i at.number at.section) there in
+          omega (arith, position)
 
-  type_nowhere : NonePasses was f.parts.sections → TypeAt w f.parts type
-  type_nowhere none =
-      Nowhere (find-no was f.parts.sections none)
-      (find-no was w.headers (λ j h h_at. let (old, old_at, tells) = in_headers j h h_at in tells ∙ none j old old_at))
-      (edits.kept_nowhere (image_at_read w.image) w.image (whole_edit w is) f type none)
+  type_of : edits.TypeAt (image_at_read w.image) w.image f.parts type → TypeAt w f.parts type
+  type_of (edits.Nowhere none gone) = Nowhere none (headers_nowhere gone) gone
+  type_of (edits.There i read typed now found there) =
+      let (at, same) = section_of w is f i read in
+      let own : kept_as i at.number at.section ≡ kept_as i read.number read.section =
+      same_Some (kept_as i at.number at.section) (kept_as i read.number read.section) (sym at.is_kept ∙ read.is_kept) in
+      let old : at.old ≡ read.old = same_Some at.old read.old (sym at.is_old ∙ ap (slice_get f.parts.sections) same ∙ read.is_old) in
+      let here : kept_of_type type w.image ≡ Some (kept_as i at.number at.section) = there ∙ ap (λ (k : KeptSection). Some k) (sym own) in
+      let is_type : at.old.sh_type ≡ type = ap (λ (x : SectionHeader). x.sh_type) old ∙ typed in
+      There i at is_type (found ∙ ap (λ (x : SectionHeader). Some x) (sym old)) (headers_found i at here is_type) here
 
-pub type_at : (w : Output) → IsPlannedOutput w → (f : ReadFacts w) → (type : ℕ) → TypeAt w f.parts type
-type_at w is f type = elim (first_at (was w is f type) f.parts.sections) [
-  | inl found ↦ type_found w is f type found
-  | inr none ↦ type_nowhere w is f type none
+pub type_at : (w : Output) → IsPlannedOutput w → (f : ReadFacts w) → (type : ℕ) → is_one_of lasting_types type ≡ true → TypeAt w f.parts type
+type_at w is f type lasting = type_of w is f type (edits.type_at (image_at_read w.image) w.image f type lasting)
+
+pub static_at : (w : Output) → IsPlannedOutput w → (f : ReadFacts w) → StaticAt w f.parts
+static_at w is f = elim (edits.static_at (image_at_read w.image) w.image f) [
+  | edits.Stays at ↦ Stays (type_of w is f SHT_SYMTAB at)
+  | edits.Went old found gone ↦ Went old found (headers_nowhere w is f SHT_SYMTAB gone) gone
 ]

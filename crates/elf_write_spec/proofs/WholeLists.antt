@@ -1,6 +1,6 @@
 -- Lists: elements at positions, and the first one that passes a test.
 use Rattle.std.proofs.Common.{◌≡◌, ℕ, zero, suc, ◌<◌, ◌⊎◌, Bool, true, false, cond, List, ◌∷◌, length, map, refl, sym, ap, ◌∙◌, subst, inl, inr, Option, Some, None, arith, []}
-use Rattle.std.specs.Prelude.{◌==◌, find, option_map}
+use Rattle.std.specs.Prelude.{◌==◌, IsSome, find, option_map}
 use Rattle.std.specs.List.{list_all, slice_get}
 use Rattle.std.proofs.lemmas.Bool.{and_from, and_parts, eqb-true, false≢true, or_cases}
 use Rattle.std.proofs.lemmas.Option.{none-some, same_Some}
@@ -51,6 +51,11 @@ passes_one test (m ∷ ms) n all one =
       | inl same ↦ ap test (sym (eqb-true m n same)) ∙ both.0
       | inr later ↦ passes_one test ms n both.1 later
     ]
+
+-- a value that is there
+pub some_there : {A : Type 0} (o : Option A) → IsSome o → (x : A) × (o ≡ Some x)
+some_there None h = absurd (false≢true h)
+some_there (Some x) h = (x, refl)
 
 -- ## The first that passes a test
 
@@ -116,6 +121,24 @@ find-is test (z ∷ xs) (suc i) x at passes before =
 pub find-no : {A : Type 0} (test : A → Bool) (xs : List A) → NonePasses test xs → find test xs ≡ None
 find-no test [] none = refl
 find-no test (x ∷ xs) none = find-step test x xs false (none zero x refl) ∙ find-no test xs (λ j y. none (suc j) y)
+
+-- where none is found none passes
+pub none-passes : {A : Type 0} (test : A → Bool) (xs : List A) → find test xs ≡ None → NonePasses test xs
+none-passes test xs none = elim (first_at test xs) [
+  | inl found ↦ absurd (none-some found.element (sym none ∙ found.is_first))
+  | inr never ↦ never
+]
+
+-- what stands before the first that is found, which stands at one position, doesn't pass
+pub before-first : {A : Type 0} (test : A → Bool) (xs : List A) (x : A) → find test xs ≡ Some x → (i : ℕ) → slice_get xs i ≡ Some x
+    → ((j : ℕ) → slice_get xs j ≡ Some x → j ≡ i) → (j : ℕ) (y : A) → j < i → slice_get xs j ≡ Some y → test y ≡ false
+before-first {A} test xs x is i at only j y less y_at = elim (first_at test xs) [
+  | inl found ↦
+      let same : found.element ≡ x = same_Some found.element x (sym found.is_first ∙ is) in
+      let here : found.index ≡ i = only found.index (found.there ∙ ap (λ (z : A). Some z) same) in
+      found.before j y (omega (arith, less, here)) y_at
+  | inr never ↦ never j y y_at
+]
 
 -- ## What is in a list
 

@@ -1,6 +1,6 @@
 -- The first program header of a type: the one that was read, the one of the image, and what is written of it.
 use Rattle.std.proofs.Common.{◌≡◌, ◌≤◌, ℕ, Bool, true, false, cond, List, [], ◌∷◌, ◌++◌, map, length, refl, sym, ap, ◌∙◌, subst, inl, inr, arith, Option, Some, None}
-use Rattle.std.specs.Prelude.{◌==◌, ◌&&◌, not, find, if◌then◌else◌, nat_le}
+use Rattle.std.specs.Prelude.{◌==◌, ◌&&◌, not, count_by, find, if◌then◌else◌, nat_le}
 use Rattle.std.specs.List.{cons_option, flat_map, list_all, list_any, slice_get}
 use Rattle.std.specs.Option.{option_map, option_or, option_to_list}
 use Rattle.std.proofs.lemmas.Bool.{and_parts, both_ways, cond-false, cond_both, eqb-true}
@@ -10,7 +10,8 @@ use Rattle.elf_format.specs.declared.records.SegmentHeader.{SegmentHeader}
 use Rattle.elf_format.specs.File.{is_loaded, segment_of_type}
 use Rattle.elf_format.specs.Options.{is_one_of}
 use Rattle.elf_format.specs.Places.{Place}
-use Rattle.elf_image.specs.Edited.{AreKept, kept_segment}
+use Rattle.elf_format.specs.Rules.{single_segment_types}
+use Rattle.elf_image.specs.Edited.{AreKept, AreSegments, CanGo, kept_segment}
 use Rattle.elf_image.specs.Segments.{added_stack}
 use Rattle.elf_layout_plan.specs.Anchors.{HeaderTable, Itself, Anchor, Notes, OneSection, is_note_in, is_over_notes, anchor_by_range, anchor_of, anchor_or_itself, notes_under, section_or_table, section_under, sharers}
 use Rattle.elf_image.specs.Kept.{KeptSection, image_at_read, interpreter_number, is_numbered, kept_of_type, kept_sections}
@@ -18,10 +19,11 @@ use Rattle.elf_layout_plan.specs.Memory.{Resized}
 use Rattle.elf_layout_plan.specs.Plan.{Layout, layout_for, resized}
 use Rattle.elf_layout_plan.specs.Standing.{places}
 use Rattle.elf_layout_plan.specs.Written.{Target, behind_last_load, anchored_to, places_of_kept, resized_table, target_at, targets_of, targets_of_notes, written_from, written_segments}
-use Rattle.elf_layout_plan.proofs.ForCallers.ApartLists.{Each}
+use Rattle.elf_layout_plan.proofs.ForCallers.ApartLists.{Each, find-at}
 use Rattle.elf_layout_plan.proofs.ForCallers.ApartWritten.{added_headers, all_added_are_loaded, section_targets}
-use Rattle.elf_write_spec.specs.Whole.{AreAllKept}
 use Rattle.elf_write_spec.specs.Output.{IsPlannedOutput, Output}
+use Rattle.elf_write_spec.proofs.SingleTypes.{one_segment}
+use Rattle.elf_write_spec.proofs.LinkedLists.{count-cons, one_if, one_there}
 use Rattle.elf_write_spec.proofs.WholeFacts.{ReadFacts}
 use Rattle.elf_layout_plan.proofs.ForCallers.PlacedWritten.{table_type}
 
@@ -208,13 +210,8 @@ pub data Found (page_size : Option ℕ) (olds news : List SegmentHeader) (type :
   Both : (old p : SegmentHeader) → segment_of_type type olds ≡ Some old → segment_of_type type news ≡ Some p
       → p ≡ kept_segment page_size p.p_flags old
       → Found page_size olds news type
-
-kept-short : (page_size : Option ℕ) (olds news : List SegmentHeader) → AreKept page_size olds news → length news ≤ length olds
-kept-short page_size [] [] h = omega arith
-kept-short page_size [] (p ∷ ps) h = absurd h
-kept-short page_size (old ∷ olds) [] h = omega arith
-kept-short page_size (old ∷ olds) (p ∷ ps) (inl (_, rest)) = omega (arith, kept-short page_size olds ps rest)
-kept-short page_size (old ∷ olds) (p ∷ ps) (inr (_, rest)) = omega (arith, kept-short page_size olds (p ∷ ps) rest)
+  Gone : (old : SegmentHeader) → segment_of_type type olds ≡ Some old → CanGo old → segment_of_type type news ≡ None
+      → Found page_size olds news type
 
 found-next : (page_size : Option ℕ) (old p : SegmentHeader) (olds news : List SegmentHeader) (type : ℕ)
     → p ≡ kept_segment page_size p.p_flags old
@@ -230,16 +227,42 @@ found-next page_size old p olds news type same (Both first now at_first at_now l
     let also : has_type type p ≡ false = ap (has_type type) same ∙ h in
     Both first now (ap (λ c. cond c (Some old) (segment_of_type type olds)) h ∙ at_first)
     (ap (λ c. cond c (Some p) (segment_of_type type news)) also ∙ at_now) like
+found-next page_size old p olds news type same (Gone first at_first can none) false h =
+    let also : has_type type p ≡ false = ap (has_type type) same ∙ h in
+    Gone first (ap (λ c. cond c (Some old) (segment_of_type type olds)) h ∙ at_first) can
+    (ap (λ c. cond c (Some p) (segment_of_type type news)) also ∙ none)
 
--- none went
-find-kept : (page_size : Option ℕ) (olds news : List SegmentHeader) (type : ℕ) → AreKept page_size olds news → length news ≡ length olds
-    → Found page_size olds news type
-find-kept page_size [] [] type h e = Neither refl refl
-find-kept page_size [] (p ∷ ps) type h e = absurd h
-find-kept page_size (old ∷ olds) [] type h e = absurd (omega (arith, e))
-find-kept page_size (old ∷ olds) (p ∷ ps) type (inl (same, rest)) e =
-    found-next page_size old p olds ps type same (find-kept page_size olds ps type rest (omega (arith, e))) (has_type type old) refl
-find-kept page_size (old ∷ olds) (p ∷ ps) type (inr (_, rest)) e = absurd (omega (arith, e, kept-short page_size olds (p ∷ ps) rest))
+-- one of a type that comes once went
+found-gone : (page_size : Option ℕ) (old : SegmentHeader) (olds news : List SegmentHeader) (type : ℕ) → CanGo old
+    → count_by (has_type type) (old ∷ olds) ≤ 1
+    → Found page_size olds news type → (b : Bool) → has_type type old ≡ b → Found page_size (old ∷ olds) news type
+found-gone page_size old olds news type can few (Neither no_old none) true h =
+    Gone old (ap (λ c. cond c (Some old) (segment_of_type type olds)) h) can none
+found-gone page_size old olds news type can few (Both first now at_first at_now like) true h =
+    let (i, at, passes) = find-at (has_type type) olds first at_first in
+    absurd (omega (arith, few, count-cons (has_type type) old olds, ap one_if h, one_there (has_type type) olds i first at passes))
+found-gone page_size old olds news type can few (Gone first at_first first_can none) true h =
+    Gone old (ap (λ c. cond c (Some old) (segment_of_type type olds)) h) can none
+found-gone page_size old olds news type can few (Neither no_old none) false h =
+    Neither (ap (λ c. cond c (Some old) (segment_of_type type olds)) h ∙ no_old) none
+found-gone page_size old olds news type can few (Both first now at_first at_now like) false h =
+    Both first now (ap (λ c. cond c (Some old) (segment_of_type type olds)) h ∙ at_first) at_now like
+found-gone page_size old olds news type can few (Gone first at_first first_can none) false h =
+    Gone first (ap (λ c. cond c (Some old) (segment_of_type type olds)) h ∙ at_first) first_can none
+
+find-kept : (page_size : Option ℕ) (olds news : List SegmentHeader) (type : ℕ) → AreKept page_size olds news
+    → count_by (has_type type) olds ≤ 1 → Found page_size olds news type
+find-kept page_size [] [] type h few = Neither refl refl
+find-kept page_size [] (p ∷ ps) type h few = absurd h
+find-kept page_size (old ∷ olds) [] type (can, rest) few =
+    found-gone page_size old olds [] type can few
+    (find-kept page_size olds [] type rest (omega (arith, few, count-cons (has_type type) old olds))) (has_type type old) refl
+find-kept page_size (old ∷ olds) (p ∷ ps) type (inl (same, rest)) few =
+    found-next page_size old p olds ps type same
+    (find-kept page_size olds ps type rest (omega (arith, few, count-cons (has_type type) old olds))) (has_type type old) refl
+find-kept page_size (old ∷ olds) (p ∷ ps) type (inr (can, rest)) few =
+    found-gone page_size old olds (p ∷ ps) type can few
+    (find-kept page_size olds (p ∷ ps) type rest (omega (arith, few, count-cons (has_type type) old olds))) (has_type type old) refl
 
 module _ (page_size : Option ℕ) (type : ℕ) (other : (PT_GNU_STACK == type) ≡ false) where
   -- what is added for the stack is of another type
@@ -251,22 +274,24 @@ module _ (page_size : Option ℕ) (type : ℕ) (other : (PT_GNU_STACK == type) �
   or-none None = refl
   or-none (Some p) = refl
 
-  pub find-whole : (olds news : List SegmentHeader) → AreAllKept page_size olds news → Found page_size olds news type
-  find-whole olds news all =
+  pub find-segment : (olds news : List SegmentHeader) → AreSegments page_size olds news → count_by (has_type type) olds ≤ 1
+      → Found page_size olds news type
+  find-segment olds news all few =
       let stack : List SegmentHeader = option_to_list (option_map added_stack all.added) in
       let same : segment_of_type type news ≡ segment_of_type type all.kept =
       ap (segment_of_type type) all.are_all ∙ find-append (has_type type) all.kept stack
       ∙ ap (option_or (segment_of_type type all.kept)) (stack-none all.added) ∙ or-none (segment_of_type type all.kept) in
-      by_found same (find-kept page_size olds all.kept type all.are_kept all.none_gone)
+      by_found same (find-kept page_size olds all.kept type all.are_kept few)
     where
       by_found : segment_of_type type news ≡ segment_of_type type all.kept → Found page_size olds all.kept type
           → Found page_size olds news type
       by_found same (Neither no_old none) = Neither no_old (same ∙ none)
       by_found same (Both old p at_old at_p like) = Both old p at_old (same ∙ at_p) like
+      by_found same (Gone old at_old can none) = Gone old at_old can (same ∙ none)
 
 -- ## The program headers of a plan
 
--- the first one of a type: neither was read nor is written, or what is written became of the one that was read
+-- the one of a type: none was read and none is written, what is written became of the one that was read, or that went
 pub data SegmentAt (w : Output) (is : IsPlannedOutput w) (f : ReadFacts w) (type : ℕ) : Type 0 where
   NoSegment : segment_of_type type f.parts.segments ≡ None → segment_of_type type w.image.segments ≡ None
       → segment_of_type type w.plan.segments ≡ None
@@ -274,6 +299,9 @@ pub data SegmentAt (w : Output) (is : IsPlannedOutput w) (f : ReadFacts w) (type
   ASegment : (old p : SegmentHeader) → segment_of_type type f.parts.segments ≡ Some old → segment_of_type type w.image.segments ≡ Some p
       → p ≡ kept_segment w.image.page_size p.p_flags old
       → segment_of_type type w.plan.segments ≡ Some (becomes (resized w.image) is.planned.moved p)
+      → SegmentAt w is f type
+  GoneSegment : (old : SegmentHeader) → segment_of_type type f.parts.segments ≡ Some old → CanGo old → segment_of_type type w.image.segments ≡ None
+      → segment_of_type type w.plan.segments ≡ None
       → SegmentAt w is f type
 
 pub segments_are : (w : Output) (is : IsPlannedOutput w) → w.plan.segments ≡ written_segments (resized w.image) is.planned.moved
@@ -285,9 +313,10 @@ unfolding layout_for
 all_places_are w is = ap (λ (l : Layout). l.places) is.planned.follows
 
 pub segment_at : (w : Output) (is : IsPlannedOutput w) (f : ReadFacts w) (type : ℕ) → (PT_LOAD == type) ≡ false
-    → (PT_GNU_STACK == type) ≡ false → SegmentAt w is f type
-segment_at w is f type no_load no_stack =
-    by_found (find-whole w.image.page_size type no_stack (image_at_read w.image).segments w.image.segments is.whole.segments)
+    → (PT_GNU_STACK == type) ≡ false → is_one_of single_segment_types type ≡ true → SegmentAt w is f type
+segment_at w is f type no_load no_stack single =
+    by_found (find-segment w.image.page_size type no_stack (image_at_read w.image).segments w.image.segments f.edit.segments
+    (subst (λ (l : List SegmentHeader). count_by (has_type type) l ≤ 1) (sym f.holds.segments) (one_segment f.parts f.rules type single)))
   where
     were : segment_of_type type f.parts.segments ≡ segment_of_type type (image_at_read w.image).segments
     were = sym (ap (segment_of_type type) f.holds.segments)
@@ -301,3 +330,5 @@ segment_at w is f type no_load no_stack =
         (now ∙ ap (option_map (becomes (resized w.image) is.planned.moved)) none)
     by_found (Both old p at_old at_p like) =
         ASegment old p (were ∙ at_old) at_p like (now ∙ ap (option_map (becomes (resized w.image) is.planned.moved)) at_p)
+    by_found (Gone old at_old can none) =
+        GoneSegment old (were ∙ at_old) can none (now ∙ ap (option_map (becomes (resized w.image) is.planned.moved)) none)

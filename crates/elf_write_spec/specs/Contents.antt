@@ -3,7 +3,7 @@ use Rattle.std.specs.Prelude.{ℕ, ◌-◌, ◌*◌, ◌≤◌, ◌≡◌, List,
 use Rattle.std.specs.List.{flat_map, slice_get}
 use Rattle.patch_bytes.specs.Memory.{◌>>=◌, memory_of}
 use Rattle.patch_bytes.specs.declared.number.ByteOrder2.{ByteOrder2}
-use Rattle.elf_format.specs.declared.constants.TheConstants.{DT_GNU_HASH, DT_HASH, DT_STRSZ, DT_STRTAB, DT_SYMENT, DT_SYMTAB, DT_VERDEF, DT_VERDEFNUM, DT_VERNEED, DT_VERSYM, SHT_DYNSYM, SHT_GNU_HASH, SHT_GNU_VERDEF, SHT_GNU_VERNEED, SHT_GNU_VERSYM, SHT_HASH}
+use Rattle.elf_format.specs.declared.constants.TheConstants.{DT_GNU_HASH, DT_HASH, DT_STRSZ, DT_STRTAB, DT_SYMENT, DT_SYMTAB, DT_VERDEF, DT_VERDEFNUM, DT_VERNEED, DT_VERSYM, SHT_DYNSYM, SHT_GNU_HASH, SHT_GNU_VERDEF, SHT_GNU_VERNEED, SHT_GNU_VERSYM, SHT_HASH, SHT_SYMTAB}
 use Rattle.elf_format.specs.declared.form.Form.{Form}
 use Rattle.elf_format.specs.declared.records.EntryNumbers.{EntryNumbers}
 use Rattle.elf_format.specs.declared.records.SymbolNumbers.{SymbolNumbers}
@@ -34,7 +34,7 @@ use Rattle.elf_layout_plan.specs.Memory.{Resized}
 use Rattle.elf_layout_plan.specs.Plan.{Layout}
 use Rattle.elf_layout_plan.specs.Texts.{is_table_copied}
 use Rattle.elf_write_spec.specs.Base.{is_interpreter}
-use Rattle.elf_write_spec.specs.Final.{are_versions_kept, final, new_dynamic_symbols}
+use Rattle.elf_write_spec.specs.Final.{are_symbols_kept, are_versions_kept, final, is_static_renumbered, new_dynamic_symbols, new_static_symbols}
 use Rattle.elf_write_spec.specs.Headers.{Reads}
 
 -- ## The dynamic list (gABI, Dynamic Section)
@@ -103,6 +103,11 @@ AreSymbolsOf strings [] (n ∷ ns) = ⊥
 AreSymbolsOf strings (y ∷ ys) [] = ⊥
 AreSymbolsOf strings (y ∷ ys) (n ∷ ns) = IsSymbolOf strings y n × AreSymbolsOf strings ys ns
 
+-- The static symbols, as they were read where nothing of them changed and the table of their names is copied.
+pub record AreStaticSymbolsIn (r : Resized) (s : KeptSection) (strings bytes : List ℕ) : Type 0 where
+  pub symbols : AreSymbolsOf strings (final r.read r.image).symbols (symbols_in r.image.form bytes)
+  pub copied : IsTrue (are_symbols_kept r.read r.image && is_table_copied r.read r.image s.section.sh_link) → bytes ≡ s.section.content
+
 -- ## Versions (GNU symbol versioning)
 
 -- records of versions in bytes, with their texts, so many of them
@@ -149,12 +154,19 @@ pub record AreVersionsIn (r : Resized) (s : ImageSection) (bytes : List ℕ) : T
 
 -- ## Relocations (gABI, Relocation)
 
--- The relocations of a section are as they were read; where the dynamic symbols are renumbered and these are against them, each names
+-- as they were read; where static symbols went and these are against them, each names its symbol by the new number
+abbrev pub AreStaticRelocationsOf : Resized → ImageSection → List ℕ → Type 0
+AreStaticRelocationsOf r s bytes = elim (is_static_renumbered r.read r.image && is_against (table_number SHT_SYMTAB r.image) s) [
+  | true ↦ AreRenumbered r.image.form s.sh_type (new_static_symbols r.read r.image) s.content bytes
+  | _ ↦ bytes ≡ s.content
+]
+
+-- The relocations of a section are as they were read; where the symbols of a table are renumbered and these are against them, each names
 -- its symbol by the new number.
 abbrev pub AreRelocationsOf : Resized → ImageSection → List ℕ → Type 0
 AreRelocationsOf r s bytes = elim (are_names_changed r.read r.image && is_against (table_number SHT_DYNSYM r.image) s) [
   | true ↦ AreRenumbered r.image.form s.sh_type (new_dynamic_symbols r.read r.image) s.content bytes
-  | _ ↦ bytes ≡ s.content
+  | _ ↦ AreStaticRelocationsOf r s bytes
 ]
 
 -- ## Hash tables
@@ -194,6 +206,7 @@ abbrev pub IsContentOfKind : Resized → Layout → List EntryNumbers → List �
 IsContentOfKind r plan raw strings s bytes kind = elim kind [
   | kinds.Dynamic ↦ AreEntriesOf r plan strings (list_at (λ es. es) (final r.read r.image).entries) raw × (bytes ≡ spelled_list r.image.form raw (length bytes))
   | kinds.Strings ↦ IsTrue (is_table_copied r.read r.image s.number) → bytes ≡ s.section.content
+  | kinds.Symbols ↦ AreStaticSymbolsIn r s strings bytes
   | kinds.DynamicSymbols ↦ AreSymbolsOf strings (final r.read r.image).dynamic_symbols (symbols_in r.image.form bytes)
   | kinds.GnuVerdef ↦ AreDefinitionsIn r.image strings bytes
   | kinds.GnuVerneed ↦ AreNeedsIn r strings bytes

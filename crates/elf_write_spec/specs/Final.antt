@@ -1,6 +1,7 @@
 -- What an edited image shows in the end, once it is written: needed versions that no symbol has any more are dropped, sections have
 -- their numbers in the file that is written, and the dynamic symbols stand in the order that a GNU hash table asks for.
 use Rattle.std.specs.Prelude.{ℕ, List, [], ◌∷◌, length, map, position, slice_index, Bool, true, false, ◌&&◌, not, Option, Some, None, nat_le, ◌==◌, if◌then◌else◌, unwrap_or}
+use Rattle.std.specs.Str.{bytes_eq}
 use Rattle.patch_bytes.specs.Memory.{◌>>=◌, memory_of}
 use Rattle.elf_format.specs.declared.constants.TheConstants.{SHN_LORESERVE, SHT_GNU_HASH}
 use Rattle.elf_format.specs.declared.version_id.VersionId.{VersionId}
@@ -61,6 +62,20 @@ new_dynamic_symbol read image number =
 abbrev pub new_dynamic_symbols : Image → Image → List ℕ
 new_dynamic_symbols read image = map (new_dynamic_symbol read image) (counted (length read.dynamic_symbols))
 
+-- ## The numbers of the static symbols
+
+-- the number that the static symbol gets which was read at a number: its position among those that are there; 0 where it isn't there
+abbrev pub new_static_symbol : Image → ℕ → ℕ
+new_static_symbol image number = unwrap_or (position (λ n. n == number) image.symbol_numbers) 0
+
+-- the new number of each static symbol that was read
+abbrev pub new_static_symbols : Image → Image → List ℕ
+new_static_symbols read image = map (new_static_symbol image) (counted (length read.symbols))
+
+-- Some static symbol went, so that others may get other numbers.
+abbrev pub is_static_renumbered : Image → Image → Bool
+is_static_renumbered read image = not (length image.symbol_numbers == length read.symbols)
+
 -- ## All of it
 
 -- The image in its final form, of which each list is written as it stands here.
@@ -75,6 +90,25 @@ final read image = record image {
 -- What a file shows to which the image was written.
 abbrev pub final_view : Image → Image → View
 final_view read image = shown (final read image)
+
+-- ## Whether static symbols changed
+
+-- the same name and the same numbers, but for a version, which no static symbol has (gABI, Symbol Table)
+abbrev pub is_same_symbol : NamedSymbol → NamedSymbol → Bool
+is_same_symbol x y =
+    bytes_eq x.name y.name && x.st_info == y.st_info && x.st_other == y.st_other
+    && x.st_shndx == y.st_shndx && x.st_value == y.st_value && x.st_size == y.st_size
+
+-- the symbols are the same, one by one
+abbrev pub are_same_symbols : List NamedSymbol → List NamedSymbol → Bool
+are_same_symbols [] [] = true
+are_same_symbols [] (y ∷ ys) = false
+are_same_symbols (x ∷ xs) [] = false
+are_same_symbols (x ∷ xs) (y ∷ ys) = is_same_symbol x y && are_same_symbols xs ys
+
+-- the final static symbols are those that were read: none went, and none has another name or another number of its section
+abbrev pub are_symbols_kept : Image → Image → Bool
+are_symbols_kept read image = are_same_symbols read.symbols (final read image).symbols
 
 -- ## Whether versions changed
 

@@ -69,7 +69,7 @@ WrittenFilesFindNames = (w : Output) → IsPlannedOutput w → are_names_changed
     → lists_tag DT_SYMTAB (list_at (λ es. es) w.image.entries) ≡ true
     → (again : Image) → image_of (written_bytes w) ≡ Ok again → AreNamesFound again w.raw (written_bytes w)
 
--- Each dynamic symbol of the image stands in a written file at its new number.
+-- Each symbol of the image stands in a written file at its new number.
 abbrev pub WrittenFilesKeepSymbols : Type 0
 WrittenFilesKeepSymbols = (w : Output) → IsPlannedOutput w
     → (again : Image) → image_of (written_bytes w) ≡ Ok again → AreSymbolsKept w.image again

@@ -1,5 +1,4 @@
 pub mod Final
-pub mod Whole
 pub mod Ready
 pub mod Base
 pub mod Headers
@@ -11,3 +10,4 @@ pub mod Look
 pub mod KeptSymbols
 pub mod WrittenFile
 pub mod Laws
+pub mod Whole

@@ -22,7 +22,6 @@ use Rattle.elf_layout_plan.specs.Plan.{IsPlan, Layout, resized}
 use Rattle.elf_write_spec.specs.Base.{base, is_data}
 use Rattle.elf_write_spec.specs.Contents.{IsContent, content_at_number}
 use Rattle.elf_write_spec.specs.Headers.{IsHeaderOf, written_header}
-use Rattle.elf_write_spec.specs.Whole.{IsWhole}
 
 -- An image with its plan, and what the plan leaves open: the section headers, with where the names stand; the bytes of each section;
 -- and the numbers of the dynamic entries.
@@ -100,10 +99,9 @@ pub record IsOutput (w : Output) : Type 0 where
   pub sections : AreSectionsWritten w (kept_sections w.image) w.plan.places w.headers w.contents
   pub fit : DoNumbersFit w
 
--- what the laws are about: an edited image of which nothing went, read from bytes, its plan, and what is written of them
+-- what the laws are about: an edited image, read from bytes, its plan, and what is written of them
 pub record IsPlannedOutput (w : Output) : Type 0 where
   pub edited : IsEdited w.image
   pub source : AreBytes w.image.source
-  pub whole : IsWhole (image_at_read w.image) w.image
   pub planned : IsPlan (resized w.image) w.plan
   pub written : IsOutput w

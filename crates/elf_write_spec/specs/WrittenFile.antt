@@ -3,7 +3,7 @@ use Rattle.std.specs.Prelude.{ℕ, ◌*◌, ◌≡◌, List, [], ◌∷◌, ◌+
 use Rattle.std.specs.List.{list_all, slice_get}
 use Rattle.patch_bytes.specs.Memory.{memory_of}
 use Rattle.patch_bytes.specs.Number.{field}
-use Rattle.elf_format.specs.declared.constants.TheConstants.{DT_SYMTAB, SHT_DYNAMIC, SHT_DYNSYM, SHT_GNU_VERDEF, SHT_GNU_VERNEED, SHT_GNU_VERSYM}
+use Rattle.elf_format.specs.declared.constants.TheConstants.{DT_SYMTAB, SHT_DYNAMIC, SHT_DYNSYM, SHT_GNU_VERDEF, SHT_GNU_VERNEED, SHT_GNU_VERSYM, SHT_SYMTAB}
 use Rattle.elf_format.specs.declared.range.Range.{Range}
 use Rattle.elf_format.specs.declared.records.EntryNumbers.{EntryNumbers}
 use Rattle.elf_format.specs.declared.section_data.SectionData.{SectionData}
@@ -28,7 +28,7 @@ use Rattle.elf_image.specs.Kept.{KeptSection, image_at_read, kept_of_type, kept_
 use Rattle.elf_write_spec.specs.ReadBack.{HasWrittenParts, IsReadBack}
 use Rattle.elf_write_spec.specs.Base.{is_interpreter}
 use Rattle.elf_write_spec.specs.Contents.{AreDefinitionsSpelled, AreNeedsSpelled}
-use Rattle.elf_write_spec.specs.Final.{are_versions_kept, final, final_view, new_number}
+use Rattle.elf_write_spec.specs.Final.{are_symbols_kept, are_versions_kept, final, final_view, is_static_renumbered, new_number}
 use Rattle.elf_write_spec.specs.Headers.{written_info}
 use Rattle.elf_write_spec.specs.KeptSymbols.{AreRelocationsKept, AreSymbolsKept}
 use Rattle.elf_write_spec.specs.Look.{AreNamesFound}
@@ -108,14 +108,18 @@ is_fixed image s = not (is_interpreter (image_at_read image) s) && not (is_movab
 abbrev pub is_loaded_with_bytes : ImageSection → Bool
 is_loaded_with_bytes s = is_loaded_section s && occupies_file (place_at_read s)
 
--- What decides on the bytes of sections of some kinds: whether the section is a string table that is copied, whether the names of the
+-- What decides on the bytes of sections of some kinds: whether the section is a string table that is copied; whether the names of the
 -- dynamic symbols are those that were read, whether their versions in the final order are, and whether the section's relocations are
--- against them.
+-- against them; whether the static symbols are those that were read and the section links to a string table that is copied, whether none
+-- of them went, and whether the section's relocations are against them.
 pub record Unchanged : Type 0 where
   pub table : Bool
   pub names : Bool
   pub versions : Bool
   pub against_dynamic : Bool
+  pub symbols : Bool
+  pub numbers : Bool
+  pub against_static : Bool
 
 abbrev pub unchanged_for : Image → KeptSection → Unchanged
 unchanged_for image s =
@@ -125,6 +129,9 @@ unchanged_for image s =
       names = not (are_names_changed read image);
       versions = are_versions_kept read image;
       against_dynamic = is_against (table_number SHT_DYNSYM image) s.section;
+      symbols = are_symbols_kept read image && is_table_copied read image s.section.sh_link;
+      numbers = not (is_static_renumbered read image);
+      against_static = is_against (table_number SHT_SYMTAB image) s.section;
     }
 
 -- sections of that kind are written as they were read
@@ -132,10 +139,10 @@ abbrev pub is_kind_copied : Unchanged → SectionData → Bool
 is_kind_copied u kinds.Opaque = true
 is_kind_copied u kinds.Uninitialized = true
 is_kind_copied u kinds.Dynamic = false
-is_kind_copied u kinds.Relocation = u.names || not u.against_dynamic
+is_kind_copied u kinds.Relocation = (u.names || not u.against_dynamic) && (u.numbers || not u.against_static)
 is_kind_copied u kinds.Note = true
 is_kind_copied u kinds.Strings = u.table
-is_kind_copied u kinds.Symbols = true
+is_kind_copied u kinds.Symbols = u.symbols
 is_kind_copied u kinds.DynamicSymbols = false
 is_kind_copied u kinds.Hash = u.names
 is_kind_copied u kinds.GnuHash = u.names
@@ -145,7 +152,8 @@ is_kind_copied u kinds.GnuVerneed = false
 
 -- The bytes of the section are written as they were read: it isn't the interpreter's, nor one of the dynamic list, the dynamic symbols
 -- or the records of versions, nor a string table with a text that was added or changed; where names of dynamic symbols changed, it is no
--- hash table and has no relocations against them; where their versions did, it doesn't hold these.
+-- hash table and has no relocations against them; where their versions did, it doesn't hold these; where static symbols went, it has no
+-- relocations against them; and where something of these or of the table of their names changed, it doesn't hold them.
 abbrev pub is_copied : Image → KeptSection → Bool
 is_copied image s = not (is_interpreter (image_at_read image) s) && is_kind_copied (unchanged_for image s) s.section.kind
 
@@ -227,7 +235,7 @@ pub record IsWrittenOf (image : Image) (file : List ℕ) : Type 0 where
   pub found : are_names_changed (image_at_read image) image ≡ true
       → (raw : List EntryNumbers) → IsNumberedList image again raw → lists_tag DT_SYMTAB (list_at (λ es. es) image.entries) ≡ true
       → AreNamesFound again raw file
-  -- each dynamic symbol stands at its new number, and relocations and versions follow
+  -- each symbol stands at its new number, and relocations and versions follow
   pub symbols : AreSymbolsKept image again
   pub relocations : EachSection image again (λ s now. AreRelocationsKept image again s.section now)
   pub symbol_versions : EachSection image again (λ s now.

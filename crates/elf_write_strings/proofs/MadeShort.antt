@@ -19,8 +19,8 @@ use Rattle.elf_tables.specs.Strings.{table_length}
 use Rattle.elf_layout_sizes.specs.MadeTables.{IsTooLong}
 use Rattle.elf_write_spec.specs.Ready.{IsReady}
 use Rattle.elf_write_strings.proofs.ReadyEdits.{edit_of}
-use Rattle.elf_write_spec.proofs.ForCallers.WholeEdits.{Nowhere, ReadFacts, SectionRead, There, length-now, read_facts, section_read, type_at}
-use Rattle.elf_write_spec.proofs.ForCallers.NumberedSections.{kept}
+use Rattle.elf_write_spec.proofs.ForCallers.IntactEdits.{Nowhere, ReadFacts, SectionRead, There, length-now, read_facts, section_read, type_at}
+use Rattle.elf_write_spec.proofs.ForCallers.IntactSections.{kept}
 
 -- ## What the dynamic list or the dynamic symbols link to
 

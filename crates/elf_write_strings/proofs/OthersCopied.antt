@@ -21,10 +21,10 @@ use Rattle.elf_layout_plan.specs.Texts.{is_table_copied}
 use Rattle.elf_write_spec.specs.Ready.{IsReady}
 use Rattle.elf_write_strings.specs.DynamicStrings.{content_read}
 use Rattle.elf_write_strings.proofs.ReadyEdits.{edit_of}
-use Rattle.elf_write_spec.proofs.ForCallers.WholeEdits.{Nowhere, ReadFacts, There, kept_is, type_at}
-use Rattle.elf_write_spec.proofs.ForCallers.NumberedSections.{kept}
-use Rattle.elf_write_spec.proofs.ForCallers.TextsStay.{IsTableApart}
-use Rattle.elf_write_spec.proofs.ForCallers.TextsStay as texts_stay
+use Rattle.elf_write_spec.proofs.ForCallers.IntactEdits.{Nowhere, ReadFacts, There, kept_is, type_at}
+use Rattle.elf_write_spec.proofs.ForCallers.IntactSections.{kept}
+use Rattle.elf_write_spec.proofs.ForCallers.IntactTexts.{IsTableApart}
+use Rattle.elf_write_spec.proofs.ForCallers.IntactTexts as texts_stay
 
 -- the bytes that the section at a position had at read
 pub content_is_read : (read image : Image) → IsReady read image → (n : ℕ) (s : ImageSection) → slice_get image.sections n ≡ Some s

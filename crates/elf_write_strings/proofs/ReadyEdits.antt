@@ -1,6 +1,6 @@
 -- An image that is ready to be written is edited, and nothing of it went.
 use Rattle.elf_format.specs.Image.{Image}
-use Rattle.elf_write_spec.proofs.ForCallers.WholeEdits.{IsWholeEdit}
+use Rattle.elf_write_spec.proofs.ForCallers.IntactEdits.{IsWholeEdit}
 use Rattle.elf_write_spec.specs.Ready.{IsReady}
 
 pub edit_of : {read image : Image} → IsReady read image → IsWholeEdit read image

@@ -42,8 +42,8 @@ use Rattle.elf_write_strings.proofs.OthersCopied.{content_is_read, list_linked}
 use Rattle.elf_write_strings.proofs.TextsTold.{told_list}
 use Rattle.elf_write_strings.proofs.VersionsTexts.{text_stands}
 use Rattle.elf_write_strings.proofs.ReadyEdits.{edit_of}
-use Rattle.elf_write_spec.proofs.ForCallers.WholeEdits.{ReadFacts, SectionRead, Nowhere, There, length-now, read_facts, section_read, type_at}
-use Rattle.elf_write_spec.proofs.ForCallers.NumberedSections.{kept}
+use Rattle.elf_write_spec.proofs.ForCallers.IntactEdits.{ReadFacts, SectionRead, Nowhere, There, length-now, read_facts, section_read, type_at}
+use Rattle.elf_write_spec.proofs.ForCallers.IntactSections.{kept}
 
 -- ## Places that are made one by one
 

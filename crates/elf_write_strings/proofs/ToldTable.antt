@@ -42,8 +42,8 @@ use Rattle.elf_write_strings.proofs.VersionsCopied.{same_parts}
 use Rattle.elf_write_strings.proofs.VersionsHave.{written_told}
 use Rattle.elf_write_strings.proofs.VersionsLinks.{linked_keeps}
 use Rattle.elf_write_strings.proofs.VersionsTexts.{text_stands}
-use Rattle.elf_write_spec.proofs.ForCallers.WholeEdits.{Nowhere, ReadFacts, SectionRead, There, TypeAt, read_facts, type_at}
-use Rattle.elf_write_spec.proofs.ForCallers.NumberedSections.{kept}
+use Rattle.elf_write_spec.proofs.ForCallers.IntactEdits.{Nowhere, ReadFacts, SectionRead, There, TypeAt, read_facts, type_at}
+use Rattle.elf_write_spec.proofs.ForCallers.IntactSections.{kept}
 
 abbrev link_in : Option ImageSection → ℕ
 link_in o = unwrap_or (o >>= λ s. Some s.sh_link) 0

@@ -20,10 +20,10 @@ use Rattle.elf_write_strings.specs.DynamicStrings.{content_read}
 use Rattle.elf_write_spec.specs.Ready.{IsReady, IsSectionOfType}
 use Rattle.elf_write_strings.specs.VersionPlaces.{AreDefinitionsAt, AreNeedsAt, content_in}
 use Rattle.elf_write_strings.proofs.ReadyEdits.{edit_of}
-use Rattle.elf_write_spec.proofs.ForCallers.WholeEdits.{ReadFacts, kept_is, read_facts}
+use Rattle.elf_write_spec.proofs.ForCallers.IntactEdits.{ReadFacts, kept_is, read_facts}
 use Rattle.elf_write_strings.proofs.VersionsLinks.{IsTheOne, linked_stands, the_one}
 use Rattle.elf_write_strings.proofs.VersionsTexts.{definitions_at_places, needs_at_places}
-use Rattle.elf_write_spec.proofs.ForCallers.NumberedSections.{kept}
+use Rattle.elf_write_spec.proofs.ForCallers.IntactSections.{kept}
 
 -- the bytes that a section had at read are those that it has
 pub content_same : (read image : Image) → IsReady read image → (n : ℕ) → content_in image.sections n ≡ content_read image n

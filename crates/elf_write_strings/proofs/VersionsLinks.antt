@@ -21,7 +21,7 @@ use Rattle.elf_write_strings.specs.DynamicStrings.{content_read}
 use Rattle.elf_write_spec.specs.Ready.{IsReady, IsSectionOfType}
 use Rattle.elf_write_strings.proofs.OthersCopied.{content_is_read}
 use Rattle.elf_write_strings.proofs.ReadyEdits.{edit_of}
-use Rattle.elf_write_spec.proofs.ForCallers.WholeEdits.{Nowhere, ReadFacts, SectionRead, There, length-now, read_facts, section_read, type_at}
+use Rattle.elf_write_spec.proofs.ForCallers.IntactEdits.{Nowhere, ReadFacts, SectionRead, There, length-now, read_facts, section_read, type_at}
 use Rattle.elf_write_strings.proofs.VersionsTexts.{text_stands}
 
 -- ## One of a type

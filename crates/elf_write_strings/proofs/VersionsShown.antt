@@ -17,7 +17,7 @@ use Rattle.elf_write_spec.specs.Final.{final}
 use Rattle.elf_write_strings.specs.DynamicStrings.{content_read, strings_at}
 use Rattle.elf_write_spec.specs.Ready.{IsReady}
 use Rattle.elf_write_strings.specs.declared.made.Made.{Made}
-use Rattle.elf_write_spec.proofs.ForCallers.WholeEdits.{needs_written}
+use Rattle.elf_write_spec.proofs.ForCallers.IntactEdits.{needs_written}
 
 -- records that are spelled by a table of their texts, and are read back
 pub definitions_of : (order : ByteOrder2) (form : Form) (table : Strings) (ds now : List VersionDefinition) (count : ℕ) (bytes : List ℕ)

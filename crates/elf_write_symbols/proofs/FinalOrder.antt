@@ -21,10 +21,10 @@ use Rattle.elf_image.specs.Names.{are_names_changed}
 use Rattle.elf_image.specs.Renumbering.{can_make_gabi, can_make_gnu, can_renumber, is_gnu_front}
 use Rattle.elf_write_spec.specs.Final.{buckets_of, dynamic_order, final, final_symbol, new_number}
 use Rattle.elf_write_spec.specs.Ready.{IsReady}
-use Rattle.elf_write_spec.proofs.ForCallers.NumberedSections.{kept, kept_is}
+use Rattle.elf_write_spec.proofs.ForCallers.IntactSections.{kept, kept_is}
 use Rattle.elf_layout_plan.proofs.ForCallers.SameTexts.{names_same}
 use Rattle.elf_write_symbols.proofs.HashSteps.{front_long, header_there}
-use Rattle.elf_write_spec.proofs.ForCallers.OrderFacts.{HasAllSymbols, final_symbol-same, order_are_places, ordered-same}
+use Rattle.elf_write_spec.proofs.ForCallers.IntactOrder.{HasAllSymbols, final_symbol-same, order_are_places, ordered-same}
 use Rattle.elf_write_symbols.proofs.ReadyFacts.{Facts, counts, symbols_were}
 
 -- ## Hash tables that can be made anew

@@ -19,8 +19,8 @@ use Rattle.elf_layout_plan.specs.Sizes.{gnu_size, hash_size}
 use Rattle.elf_write_spec.specs.Contents.{gabi_buckets, sizes_in}
 use Rattle.elf_write_spec.specs.Final.{dynamic_order, final}
 use Rattle.elf_write_spec.specs.Ready.{IsReady, IsSectionOfType}
-use Rattle.elf_write_spec.proofs.ForCallers.NumberedSections.{kept}
-use Rattle.elf_write_spec.proofs.ForCallers.OrderFacts as orders
+use Rattle.elf_write_spec.proofs.ForCallers.IntactSections.{kept}
+use Rattle.elf_write_spec.proofs.ForCallers.IntactOrder as orders
 use Rattle.elf_write_symbols.proofs.FinalOrder.{HeaderRead, all, final_is, gabi_made, gnu_made, header_read}
 use Rattle.elf_write_symbols.proofs.HashSteps.{BucketsRead, buckets_read}
 use Rattle.elf_write_symbols.proofs.ListSteps.{count-behind}

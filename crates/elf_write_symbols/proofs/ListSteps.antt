@@ -16,7 +16,7 @@ use Rattle.elf_hashes.specs.Found.{in_order}
 use Rattle.elf_hashes.proofs.ForCallers.{in_order-counted}
 use Rattle.elf_format.proofs.ForCallers.Lengths.{slice_get-counted}
 use Rattle.elf_image.specs.Kept.{KeptSection, kept_from, kept_sections}
-use Rattle.elf_write_spec.proofs.ForCallers.LinkedLists.{count-cons, one_if}
+use Rattle.elf_write_spec.proofs.ForCallers.IntactCounts.{count-cons, one_if}
 
 -- ## The place of the first that passes a test
 

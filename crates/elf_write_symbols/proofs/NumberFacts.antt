@@ -5,7 +5,7 @@ use Rattle.elf_format.specs.Image.{Image}
 use Rattle.elf_relocations.specs.Inverse.{IsInverse}
 use Rattle.elf_write_spec.specs.Final.{dynamic_order, new_dynamic_symbols}
 use Rattle.elf_write_spec.specs.Ready.{IsReady}
-use Rattle.elf_write_spec.proofs.ForCallers.OrderFacts.{new_inverse}
+use Rattle.elf_write_spec.proofs.ForCallers.IntactOrder.{new_inverse}
 use Rattle.elf_write_symbols.proofs.ReadyFacts.{Facts}
 use Rattle.elf_write_symbols.proofs.FinalOrder.{all}
 

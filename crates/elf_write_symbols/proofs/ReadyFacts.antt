@@ -22,9 +22,9 @@ use Rattle.elf_image.specs.Kept.{KeptSection, image_at_read, kept_of_type, kept_
 use Rattle.elf_image.specs.ReadImage.{HoldsParts, IsSectionOf}
 use Rattle.elf_image.proofs.ForCallers.ReadImageLaws.{read_images_hold_parts}
 use Rattle.elf_write_spec.specs.Ready.{IsReady, IsSectionOfType}
-use Rattle.elf_write_spec.proofs.ForCallers.LinkedLists.{count-same, found_only}
-use Rattle.elf_write_spec.proofs.ForCallers.NumberedSections as numbered
-use Rattle.elf_write_spec.proofs.ForCallers.NumberedSections.{kept}
+use Rattle.elf_write_spec.proofs.ForCallers.IntactCounts.{count-same, found_only}
+use Rattle.elf_write_spec.proofs.ForCallers.IntactSections as numbered
+use Rattle.elf_write_spec.proofs.ForCallers.IntactSections.{kept}
 
 -- ## The file that was read
 

@@ -21,8 +21,8 @@ use Rattle.elf_image.specs.Staying.{table_number}
 use Rattle.elf_relocations.specs.Renumbered.{are_symbols_below, do_relocations_fit, is_symbol_below}
 use Rattle.elf_write_spec.specs.Final.{new_dynamic_symbol, new_dynamic_symbols}
 use Rattle.elf_write_spec.specs.Ready.{IsReady}
-use Rattle.elf_write_spec.proofs.ForCallers.LinkedLists.{all-at_each}
-use Rattle.elf_write_spec.proofs.ForCallers.NumberedSections.{kept}
+use Rattle.elf_write_spec.proofs.ForCallers.IntactCounts.{all-at_each}
+use Rattle.elf_write_spec.proofs.ForCallers.IntactSections.{kept}
 use Rattle.elf_write_symbols.specs.Fits.{do_section_relocations_fit}
 use Rattle.elf_write_symbols.proofs.ReadyFacts.{Facts, SectionRead, as_many, sized, symbol_counts}
 

@@ -31,7 +31,7 @@ use Rattle.elf_image.specs.ReadImage.{AreDynamicSymbols, AreSymbolsOf}
 use Rattle.elf_image_symbol_edits.specs.EditedList.{as_global}
 use Rattle.elf_tables.specs.VersionRecords.{is_index_too_large}
 use Rattle.elf_write_spec.specs.Ready.{IsReady}
-use Rattle.elf_write_spec.proofs.ForCallers.WholeLists.{same_items}
+use Rattle.elf_write_spec.proofs.ForCallers.IntactLists.{same_items}
 use Rattle.elf_write_symbols.proofs.ReadyFacts.{Facts, SectionRead, content_was, one_read, sized}
 
 -- ## A version that fits

@@ -142,7 +142,7 @@ returns-in_default c =
     if_ok c.numbering_content.result (λ content. IsNumbering c.args.read.now c.args.image.now s content.bytes)
     (λ content. IsBytesAt c.args.image.now c.args.plan.now c.args.made.now c.args.raw.now c.args.i content.bytes)
     (λ content. numbering_at c.args.read.now c.args.image.now c.args.plan.now c.args.made.now c.args.raw.now c.requires.planned c.args.i s at
-    c.requires.apart (record {
+    c.requires.apart c.requires.strings (record {
       dynamic = λ (e : c.index-sections-i.result.sh_type ≡ SHT_DYNAMIC). omega (arith, e);
       strings = λ (e : c.index-sections-i.result.sh_type ≡ SHT_STRTAB). omega (arith, e);
       symbols = λ (e : c.index-sections-i.result.sh_type ≡ SHT_DYNSYM). omega (arith, e);

@@ -10,7 +10,7 @@ use Rattle.elf_hashes.specs.Gabi.{IsGabiTable}
 use Rattle.elf_image.specs.ImageModel.{section_model}
 use Rattle.elf_image_symbol_edits.specs.Loan.{symbols_now}
 use Rattle.elf_write_spec.specs.Contents.{gabi_buckets}
-use Rattle.elf_write_spec.proofs.ForCallers.OrderFacts.{length-order}
+use Rattle.elf_write_spec.proofs.ForCallers.IntactOrder.{length-order}
 use Rattle.elf_write_symbols.proofs.FinalOrder.{all, lent_final, lent_places}
 use Rattle.elf_write_symbols.proofs.HashFacts.{gabi_read}
 use Rattle.elf_write_symbols.proofs.HashSteps.{at_one_place}

@@ -11,7 +11,7 @@ use Rattle.elf_hashes.specs.Gnu.{IsGnuTable}
 use Rattle.elf_image.specs.ImageModel.{section_model}
 use Rattle.elf_image_symbol_edits.specs.Loan.{symbols_now}
 use Rattle.elf_write_spec.specs.Contents.{sizes_in}
-use Rattle.elf_write_spec.proofs.ForCallers.OrderFacts.{length-order}
+use Rattle.elf_write_spec.proofs.ForCallers.IntactOrder.{length-order}
 use Rattle.elf_write_symbols.proofs.FinalOrder.{all, lent_final, lent_places, small_shift, some_buckets, some_words}
 use Rattle.elf_write_symbols.proofs.HashFacts.{gnu_read}
 use Rattle.elf_write_symbols.proofs.HashSteps.{front_long}

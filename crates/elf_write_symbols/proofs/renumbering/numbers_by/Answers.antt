@@ -4,7 +4,7 @@ use Rattle.std.specs.List.Sorted.{IsPermutation}
 use Rattle.elf_format.specs.Image.{Image, counted}
 use Rattle.elf_relocations.specs.Inverse.{IsInverse}
 use Rattle.elf_write_spec.specs.Final.{dynamic_order}
-use Rattle.elf_write_spec.proofs.ForCallers.OrderFacts.{length-order, order_once}
+use Rattle.elf_write_spec.proofs.ForCallers.IntactOrder.{length-order, order_once}
 use Rattle.elf_write_symbols.proofs.FinalOrder.{all}
 use Rattle.elf_write_symbols.proofs.ListSteps.{match_more}
 use Rattle.elf_write_symbols.proofs.NumberFacts.{numbers_are}

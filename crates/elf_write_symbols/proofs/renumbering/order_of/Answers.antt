@@ -6,7 +6,7 @@ use Rattle.elf_format.specs.Image.{Image}
 use Rattle.elf_format.proofs.ForCallers.Lengths.{slice_get-counted}
 use Rattle.elf_write_symbols.specs.declared.renumbering.Renumbering.{Renumbering}
 use Rattle.elf_write_symbols.specs.Renumbering.{IsRenumbering, IsRenumberingFor}
-use Rattle.elf_write_spec.proofs.ForCallers.OrderFacts.{length-order, order-same}
+use Rattle.elf_write_spec.proofs.ForCallers.IntactOrder.{length-order, order-same}
 use Rattle.elf_write_symbols.proofs.FinalOrder.{all, place_inside}
 use Rattle.elf_write_symbols.proofs.ReadyFacts.{facts}
 use Rattle.elf_write_symbols.proofs.renumbering.order_of.Goals as goal

@@ -4,7 +4,7 @@ use Rattle.std.specs.Prelude.{length}
 use Rattle.elf_format.specs.Image.{Image, counted}
 use Rattle.elf_write_symbols.specs.declared.renumbering.Renumbering.{Renumbering}
 use Rattle.elf_write_symbols.specs.Renumbering.{IsRenumberingFor}
-use Rattle.elf_write_spec.proofs.ForCallers.OrderFacts.{order-same}
+use Rattle.elf_write_spec.proofs.ForCallers.IntactOrder.{order-same}
 use Rattle.elf_write_symbols.proofs.versions.versions_anew.Goals as goal
 
 pub versions_by-requires-in-None-clause-order : goal.versions_by-requires-in-None-clause-order

@@ -15,7 +15,7 @@ use Rattle.elf_layout_plan.specs.Needs.{written_entries, written_needs}
 use Rattle.elf_layout_plan.specs.Texts.{if_linked, if_names, is_subsequence, is_table_copied, texts_in_use, texts_of_definitions, texts_of_entries, texts_of_needs, texts_of_symbols}
 use Rattle.elf_layout_plan.proofs.ForCallers.SameTexts.{subsequence_of_itself}
 use Rattle.elf_write_spec.specs.Whole.{IsWhole}
-use Rattle.elf_write_spec.proofs.WholeEdits.{same_kept}
+use Rattle.elf_write_spec.proofs.IntactEdits.{same_kept}
 
 -- all texts of a table, user by user
 abbrev all_texts : List (List ℕ) → List (List ℕ) → List (List ℕ) → List (List ℕ) → List (List ℕ) → List (List ℕ) → List (List ℕ)

@@ -1,0 +1,341 @@
+-- The order in which the dynamic symbols are written, and the new number of each, in an image that still has all of them.
+use Rattle.std.proofs.Common.{◌≡◌, ◌≢◌, ◌↔◌, ℕ, ◌<◌, ◌≤◌, List, [], ◌∷◌, length, get_or, map, Bool, true, false, refl, sym, ap, ◌∙◌, subst, inl, inr, Option, Some, None, arith}
+use Rattle.std.specs.Prelude.{if◌then◌else◌, ◌||◌, ◌==◌, is_some, nat_le, option_map, position, slice_index, unwrap_or}
+use Rattle.std.specs.List.{slice_get}
+use Rattle.std.specs.List.Sorted.{IsPermutation}
+use Rattle.std.proofs.lemmas.Bool.{cases_eq, cases_lt, cond-false, cond-true, eq-eqb, eqb-true, ne_eqb}
+use Rattle.std.proofs.lemmas.List.{get_or-map, length-map}
+use Rattle.std.proofs.lemmas.Option.{get_or_from_slice_get, same_Some, slice_get-get_or, slice_get-map, slice_get_within}
+use Rattle.patch_bytes.specs.Memory.{◌>>=◌, memory_of}
+use Rattle.patch_bytes.proofs.MemoryLaws.{bind_some}
+use Rattle.elf_format.specs.declared.constants.TheConstants.{SHN_LORESERVE, SHT_GNU_HASH}
+use Rattle.elf_format.specs.Hashes.{gnu_hash, gnu_header}
+use Rattle.elf_format.specs.Image.{Image, counted}
+use Rattle.elf_format.specs.Views.{NamedSymbol}
+use Rattle.elf_format.proofs.ForCallers.Lengths.{length-counted, slice_get-counted, slice_index-counted}
+use Rattle.elf_hashes.specs.Buckets.{AreBucketed, hashes_of, in_buckets}
+use Rattle.elf_hashes.specs.Found.{ArePlaces, hashed_names, in_order}
+use Rattle.elf_hashes.specs.Order.{by_bucket, places_by_bucket}
+use Rattle.elf_hashes.proofs.ForCallers.{IsSeenAlike, counted-once, hashed_names-alike, in_order-counted}
+use Rattle.elf_hashes.proofs.OrderLaws.{orders_by_bucket}
+use Rattle.elf_image.specs.Complete.{IsComplete, has_section}
+use Rattle.elf_image.specs.Kept.{KeptSection, kept_at_number, kept_of_type}
+use Rattle.elf_image.specs.Names.{are_names_changed}
+use Rattle.elf_relocations.specs.Inverse.{IsInverse}
+use Rattle.elf_write_spec.specs.Final.{buckets_of, dynamic_order, final, final_symbol, new_dynamic_symbol, new_dynamic_symbols, new_number, new_symbol_section, ordered}
+use Rattle.elf_write_spec.proofs.OrderLists as orders
+use Rattle.elf_write_spec.proofs.OrderLists.{in_order-at, length-in_order, position-at, position-none}
+use Rattle.elf_write_spec.proofs.OrderTables.{buckets_are, gnu_sizes_told}
+
+-- Each dynamic symbol that was read is still there, and what leans on them can follow another order.
+pub record HasAllSymbols (read image : Image) : Type 0 where
+  pub complete : IsComplete read image
+  pub numbers : image.dynamic_symbol_numbers ≡ counted (length read.dynamic_symbols)
+  pub as_many : length image.dynamic_symbols ≡ length image.dynamic_symbol_numbers
+
+-- ## Sections of symbols
+
+-- of the sections that are there the one that was read first, and no other, is the first
+abbrev pub KeepsFirst : Image → Type 0
+KeepsFirst image = (n : ℕ) (s : KeptSection) → kept_at_number n image ≡ Some s → (s.position ≡ 0) ↔ (n ≡ 0)
+
+-- it is where sections keep their numbers
+pub keeps_first-same : (image : Image) → ((n : ℕ) → new_number image n ≡ n) → KeepsFirst image
+keeps_first-same image same n s at =
+    let is : s.position ≡ n = sym (ap (λ (o : Option KeptSection). elim o as (λ _. ℕ) [ Some k ↦ k.position | None ↦ n ]) at) ∙ same n in
+    (λ e. sym is ∙ e, λ e. is ∙ e)
+
+first_of_or : (a : Bool) → (a || false || false) ≡ true → a ≡ true
+first_of_or true h = refl
+first_of_or false h = h
+
+section-same : (image : Image) → ((n : ℕ) → new_number image n ≡ n) → (n : ℕ)
+    → (n == 0 || nat_le SHN_LORESERVE n || is_some (kept_at_number n image)) ≡ true → new_symbol_section image n ≡ n
+section-same image same n there = by_tests (nat_le SHN_LORESERVE n) (kept_at_number n image) there (same n)
+  where
+    by_tests : (high : Bool) (o : Option KeptSection) → (n == 0 || high || is_some o) ≡ true
+        → (elim o as (λ _. ℕ) [ Some s ↦ s.position | None ↦ n ]) ≡ n
+        → (if high then n else elim o as (λ _. ℕ) [ Some s ↦ s.position | None ↦ 0 ]) ≡ n
+    by_tests true o h e = refl
+    by_tests false None h e = sym (eqb-true n 0 (first_of_or (n == 0) h))
+    by_tests false (Some s) h e = e
+
+-- then a symbol whose section is there keeps the number of its section
+pub final_symbol-same : (image : Image) → ((n : ℕ) → new_number image n ≡ n) → (y : NamedSymbol) → has_section image y ≡ true → final_symbol image y ≡ y
+final_symbol-same image same y there = ap (λ (n : ℕ). record y { st_shndx = n }) (section-same image same y.st_shndx there)
+
+same_tests : (a b : ℕ) → (a ≡ 0) ↔ (b ≡ 0) → (a == 0) ≡ (b == 0)
+same_tests a b both = elim (cases_eq b 0) [
+  | inl e ↦ eq-eqb a 0 (both.1 e) ∙ sym (eq-eqb b 0 e)
+  | inr other ↦ ne_eqb a 0 (λ e. other (both.0 e)) ∙ sym (ne_eqb b 0 other)
+]
+
+-- a symbol is defined where it was
+section-zero : (image : Image) → KeepsFirst image → (n : ℕ)
+    → (n == 0 || nat_le SHN_LORESERVE n || is_some (kept_at_number n image)) ≡ true → (new_symbol_section image n == 0) ≡ (n == 0)
+section-zero image first n there = by_tests (nat_le SHN_LORESERVE n) (kept_at_number n image) refl there
+  where
+    by_tests : (high : Bool) (o : Option KeptSection) → kept_at_number n image ≡ o → (n == 0 || high || is_some o) ≡ true
+        → ((if high then n else elim o as (λ _. ℕ) [ Some s ↦ s.position | None ↦ 0 ]) == 0) ≡ (n == 0)
+    by_tests true o is h = refl
+    by_tests false None is h = sym (first_of_or (n == 0) h)
+    by_tests false (Some s) is h = same_tests s.position n (first n s is)
+
+final_symbol-alike : (image : Image) → KeepsFirst image → (y : NamedSymbol) → has_section image y ≡ true → IsSeenAlike (final_symbol image y) y
+final_symbol-alike image first y there = record { named = refl; bound = refl; defined = section-zero image first y.st_shndx there }
+
+-- ## Names that are those that were read
+
+-- the symbols stay in their order
+pub order-same : (read image : Image) → are_names_changed read image ≡ false → dynamic_order read image ≡ counted (length image.dynamic_symbols)
+unfolding dynamic_order
+order-same read image same =
+    cond-false (are_names_changed read image)
+    (elim (buckets_of image) as (λ _. List ℕ) [
+      | Some buckets ↦ places_by_bucket buckets image.dynamic_symbols
+      | None ↦ counted (length image.dynamic_symbols)
+    ])
+    (counted (length image.dynamic_symbols)) same
+
+pub ordered-same : (read image : Image) → are_names_changed read image ≡ false → ordered read image ≡ image.dynamic_symbols
+ordered-same read image same = ap (in_order image.dynamic_symbols) (order-same read image same) ∙ in_order-counted image.dynamic_symbols
+
+-- ## Other names
+
+order-by_table : (read image : Image) (o : Option ℕ) → are_names_changed read image ≡ true → buckets_of image ≡ o
+    → dynamic_order read image
+    ≡ (elim o as (λ _. List ℕ) [ Some buckets ↦ places_by_bucket buckets image.dynamic_symbols | None ↦ counted (length image.dynamic_symbols) ])
+unfolding dynamic_order
+order-by_table read image o changed is =
+    let by_table : Option ℕ → List ℕ = λ t. elim t as (λ _. List ℕ) [
+      | Some buckets ↦ places_by_bucket buckets image.dynamic_symbols
+      | None ↦ counted (length image.dynamic_symbols)
+    ] in
+    cond-true (are_names_changed read image) (by_table (buckets_of image)) (counted (length image.dynamic_symbols)) changed ∙ ap by_table is
+
+-- a GNU hash table decides on the order
+pub order-by_bucket : (read image : Image) (buckets : ℕ) → are_names_changed read image ≡ true → buckets_of image ≡ Some buckets
+    → dynamic_order read image ≡ places_by_bucket buckets image.dynamic_symbols
+order-by_bucket read image buckets changed some = order-by_table read image (Some buckets) changed some
+
+-- without one they stay in their order
+pub order-unbucketed : (read image : Image) → buckets_of image ≡ None → dynamic_order read image ≡ counted (length image.dynamic_symbols)
+order-unbucketed read image none = by_names (are_names_changed read image) refl
+  where
+    by_names : (b : Bool) → are_names_changed read image ≡ b → dynamic_order read image ≡ counted (length image.dynamic_symbols)
+    by_names true is = order-by_table read image None is none
+    by_names false is = order-same read image is
+
+-- the first stays the first
+first_place : (buckets : ℕ) (ys : List NamedSymbol) → 0 < length ys → slice_get (places_by_bucket buckets ys) 0 ≡ Some 0
+unfolding places_by_bucket
+first_place buckets [] some = absurd (omega (arith, some))
+first_place buckets (y ∷ ys) some = refl
+
+module _ (read image : Image) (all : HasAllSymbols read image) where
+  -- the table has a bucket
+  pub some_buckets : (buckets : ℕ) → are_names_changed read image ≡ true → buckets_of image ≡ Some buckets → buckets ≢ 0
+  some_buckets buckets changed is none =
+      let (s, there, _) = bind_some (kept_of_type SHT_GNU_HASH image)
+      (λ k. gnu_header image.form (memory_of k.section.content) >>= λ h. Some h.buckets) buckets is in
+      let told = gnu_sizes_told image (all.complete.tables changed) s there in
+      let same : told.header.buckets ≡ buckets =
+      same_Some told.header.buckets buckets (sym (buckets_are image s told.header there told.is_there) ∙ is) in
+      told.buckets (same ∙ none)
+
+  -- ## The order
+
+  -- what holds of both orders
+  order_cases : (P : List ℕ → Type 0) → P (counted (length image.dynamic_symbols))
+      → ((buckets : ℕ) → buckets ≢ 0 → P (places_by_bucket buckets image.dynamic_symbols)) → P (dynamic_order read image)
+  order_cases P same bucketed = by_names (are_names_changed read image) refl
+    where
+      by_table : (o : Option ℕ) → are_names_changed read image ≡ true → buckets_of image ≡ o → P (dynamic_order read image)
+      by_table None changed is = subst P (sym (order-unbucketed read image is)) same
+      by_table (Some buckets) changed is =
+          subst P (sym (order-by_bucket read image buckets changed is)) (bucketed buckets (some_buckets buckets changed is))
+
+      by_names : (b : Bool) → are_names_changed read image ≡ b → P (dynamic_order read image)
+      by_names true is = by_table (buckets_of image) is refl
+      by_names false is = subst P (sym (order-same read image is)) same
+
+  -- each symbol stands in it once
+  pub order_once : IsPermutation (counted (length image.dynamic_symbols)) (dynamic_order read image)
+  order_once =
+      order_cases (IsPermutation (counted (length image.dynamic_symbols))) (counted-once image.dynamic_symbols)
+      (λ buckets some. orders_by_bucket.once buckets image.dynamic_symbols some)
+
+  pub order_are_places : ArePlaces image.dynamic_symbols (dynamic_order read image)
+  order_are_places = orders.all_below (length image.dynamic_symbols) (dynamic_order read image) order_once
+
+  pub length-order : length (dynamic_order read image) ≡ length image.dynamic_symbols
+  length-order = orders.as_many (length image.dynamic_symbols) (dynamic_order read image) order_once
+
+  -- the first symbol stays the first
+  pub order_first : 0 < length image.dynamic_symbols → slice_get (dynamic_order read image) 0 ≡ Some 0
+  order_first some =
+      let Starts : List ℕ → Type 0 = λ l. slice_get l 0 ≡ Some 0 in
+      order_cases Starts (slice_get-counted (length image.dynamic_symbols) 0 some) (λ buckets _. first_place buckets image.dynamic_symbols some)
+
+  pub length-ordered : length (ordered read image) ≡ length image.dynamic_symbols
+  length-ordered = length-in_order image.dynamic_symbols (dynamic_order read image) order_are_places ∙ length-order
+
+  -- what stands at a position of the order stands there in the ordered list
+  pub ordered-at : (i n : ℕ) → slice_get (dynamic_order read image) i ≡ Some n → slice_get (ordered read image) i ≡ slice_get image.dynamic_symbols n
+  ordered-at i n at = in_order-at image.dynamic_symbols (dynamic_order read image) order_are_places i n at
+
+  -- ## New numbers
+
+  -- each symbol has the number that it was read at
+  number-at : (i : ℕ) → i < length image.dynamic_symbols → slice_index image.dynamic_symbol_numbers i ≡ i
+  number-at i below =
+      let many : length image.dynamic_symbols ≡ length read.dynamic_symbols =
+      all.as_many ∙ ap length all.numbers ∙ length-counted (length read.dynamic_symbols) in
+      ap (λ (l : List ℕ). slice_index l i) all.numbers ∙ slice_index-counted (length read.dynamic_symbols) i (omega (arith, below, many))
+
+  is_below : (i n : ℕ) → slice_get (dynamic_order read image) i ≡ Some n → n < length image.dynamic_symbols
+  is_below i n at = orders.is_below (length image.dynamic_symbols) (dynamic_order read image) order_once i n at
+
+  stands : (n : ℕ) → n < length image.dynamic_symbols → (i : ℕ) × (slice_get (dynamic_order read image) i ≡ Some n)
+  stands n below = orders.stands (length image.dynamic_symbols) (dynamic_order read image) order_once n below
+
+  -- another symbol has another number
+  other_number : (n i m : ℕ) → slice_get (dynamic_order read image) i ≡ Some m → m ≢ n → (slice_index image.dynamic_symbol_numbers m == n) ≡ false
+  other_number n i m at other =
+      ne_eqb (slice_index image.dynamic_symbol_numbers m) n (λ e. other (sym (number-at m (is_below i m at)) ∙ e))
+
+  -- where the order has a symbol, that is its new number
+  pub new-order : (i n : ℕ) → slice_get (dynamic_order read image) i ≡ Some n → new_dynamic_symbol read image n ≡ i
+  new-order i n at =
+      let test : ℕ → Bool = λ j. slice_index image.dynamic_symbol_numbers j == n in
+      let here : test n ≡ true = eq-eqb (slice_index image.dynamic_symbol_numbers n) n (number-at n (is_below i n at)) in
+      let found : position test (dynamic_order read image) ≡ Some i =
+      position-at test (dynamic_order read image) i n at here (λ j m less there. other_number n j m there (λ same.
+      let one : j ≡ i = orders.one_place (length image.dynamic_symbols) (dynamic_order read image) order_once j i n
+      (there ∙ ap (λ (k : ℕ). Some k) same) at in
+      omega (arith, one, less))) in
+      ap (λ (o : Option ℕ). unwrap_or o 0) found
+
+  -- at the new number of a symbol the order has that symbol
+  pub order-new : (n : ℕ) → n < length image.dynamic_symbols → slice_get (dynamic_order read image) (new_dynamic_symbol read image n) ≡ Some n
+  order-new n below =
+      let (i, at) = stands n below in
+      ap (slice_get (dynamic_order read image)) (new-order i n at) ∙ at
+
+  pub new_below : (n : ℕ) → n < length image.dynamic_symbols → new_dynamic_symbol read image n < length image.dynamic_symbols
+  new_below n below =
+      omega (arith, slice_get_within (dynamic_order read image) (new_dynamic_symbol read image n) n (order-new n below), length-order)
+
+  -- one that isn't there has none
+  pub new_past : (n : ℕ) → length image.dynamic_symbols ≤ n → new_dynamic_symbol read image n ≡ 0
+  new_past n past =
+      let none : position (λ j. slice_index image.dynamic_symbol_numbers j == n) (dynamic_order read image) ≡ None =
+      position-none (λ j. slice_index image.dynamic_symbol_numbers j == n) (dynamic_order read image)
+      (λ j m there. other_number n j m there (λ same. omega (arith, same, is_below j m there, past))) in
+      ap (λ (o : Option ℕ). unwrap_or o 0) none
+
+  pub new-first : new_dynamic_symbol read image 0 ≡ 0
+  new-first = elim (cases_lt 0 (length image.dynamic_symbols)) [
+    | inl some ↦ new-order 0 0 (order_first some)
+    | inr none ↦ new_past 0 none
+  ]
+
+  -- only the first symbol is the first
+  pub new-zero : (n : ℕ) → n < length image.dynamic_symbols → (new_dynamic_symbol read image n ≡ 0) ↔ (n ≡ 0)
+  new-zero n below = (
+    λ e.
+        same_Some n 0 (sym (ap (slice_get (dynamic_order read image)) (sym e) ∙ order-new n below) ∙ order_first (omega (arith, below))),
+    λ e. ap (new_dynamic_symbol read image) e ∙ new-first,
+  )
+
+  -- with the names that were read each symbol keeps its number
+  pub new-same : are_names_changed read image ≡ false → (n : ℕ) → n < length image.dynamic_symbols → new_dynamic_symbol read image n ≡ n
+  new-same same n below =
+      new-order n n (ap (λ (l : List ℕ). slice_get l n) (order-same read image same) ∙ slice_get-counted (length image.dynamic_symbols) n below)
+
+  -- each symbol stands at its new number
+  pub ordered-new : (n : ℕ) → n < length image.dynamic_symbols
+      → slice_get (ordered read image) (new_dynamic_symbol read image n) ≡ slice_get image.dynamic_symbols n
+  ordered-new n below = ordered-at (new_dynamic_symbol read image n) n (order-new n below)
+
+  -- the new numbers, one by one
+  pub new-at : (n : ℕ) → n < length image.dynamic_symbols → slice_index (new_dynamic_symbols read image) n ≡ new_dynamic_symbol read image n
+  new-at n below =
+      let count : ℕ = length read.dynamic_symbols in
+      let inside : n < count = omega (arith, below, all.as_many ∙ ap length all.numbers ∙ length-counted count) in
+      get_or-map (new_dynamic_symbol read image) (counted count) n 0 0 (omega (arith, inside, length-counted count))
+      ∙ ap (new_dynamic_symbol read image) (slice_index-counted count n inside)
+
+  pub length-new : length (new_dynamic_symbols read image) ≡ length image.dynamic_symbols
+  length-new =
+      let count : ℕ = length read.dynamic_symbols in
+      length-map (counted count) (new_dynamic_symbol read image) ∙ sym (all.as_many ∙ ap length all.numbers)
+
+  -- they are the inverse of the order
+  pub new_inverse : IsInverse (dynamic_order read image) (new_dynamic_symbols read image)
+  new_inverse =
+      let order : List ℕ = dynamic_order read image in
+      let numbers : List ℕ = new_dynamic_symbols read image in
+      record {
+        long = length-new ∙ sym length-order;
+        inside = λ old less.
+            let below : old < length image.dynamic_symbols = omega (arith, less, length-order) in
+            omega (arith, new-at old below, new_below old below, length-order);
+        from_old = λ old less.
+            let below : old < length image.dynamic_symbols = omega (arith, less, length-order) in
+            ap (slice_index order) (new-at old below) ∙ get_or_from_slice_get order (new_dynamic_symbol read image old) old 0 (order-new old below);
+        from_new = λ new less.
+            let old : ℕ = slice_index order new in
+            let at : slice_get order new ≡ Some old = slice_get-get_or order new 0 less in
+            new-at old (is_below new old at) ∙ new-order new old at;
+      }
+
+  -- ## The final symbols
+
+  final_list : (final read image).dynamic_symbols ≡ map (final_symbol image) (ordered read image)
+  unfolding final
+  final_list = refl
+
+  pub length-final : length (final read image).dynamic_symbols ≡ length image.dynamic_symbols
+  length-final = ap length final_list ∙ length-map (ordered read image) (final_symbol image) ∙ length-ordered
+
+  -- each stands at its new number
+  pub final-new : (n : ℕ) (y : NamedSymbol) → slice_get image.dynamic_symbols n ≡ Some y
+      → slice_get (final read image).dynamic_symbols (new_dynamic_symbol read image n) ≡ Some (final_symbol image y)
+  final-new n y at =
+      let new : ℕ = new_dynamic_symbol read image n in
+      ap (λ (l : List NamedSymbol). slice_get l new) final_list ∙ slice_get-map (final_symbol image) (ordered read image) new
+      ∙ ap (option_map (final_symbol image)) (ordered-new n (slice_get_within image.dynamic_symbols n y at) ∙ at)
+
+  -- the section of each of them is there
+  ordered_there : (i : ℕ) (y : NamedSymbol) → slice_get (ordered read image) i ≡ Some y → has_section image y ≡ true
+  ordered_there i y at =
+      let order : List ℕ = dynamic_order read image in
+      let Placed : NamedSymbol → Type 0 = λ z. has_section image z ≡ true in
+      let inside : i < length order = omega (arith, slice_get_within (ordered read image) i y at, length-ordered, length-order) in
+      let n : ℕ = get_or order i 0 in
+      let here : slice_get order i ≡ Some n = slice_get-get_or order i 0 inside in
+      let there : slice_get image.dynamic_symbols n ≡ Some y = sym (ordered-at i n here) ∙ at in
+      subst Placed (get_or_from_slice_get image.dynamic_symbols n y y there)
+      (all.complete.dynamic_sections n y (slice_get_within image.dynamic_symbols n y there))
+
+  -- hash tables are made of the names of the symbols in their order
+  pub final_names : KeepsFirst image → hashed_names (final read image).dynamic_symbols ≡ hashed_names (ordered read image)
+  final_names first =
+      let f : NamedSymbol → NamedSymbol = final_symbol image in
+      let ys : List NamedSymbol = ordered read image in
+      ap hashed_names final_list
+      ∙ hashed_names-alike (map f ys) ys (length-map ys f) (λ i y z at_y at_z.
+      let is : f z ≡ y = same_Some (f z) y (sym (slice_get-map f ys i ∙ ap (option_map f) at_z) ∙ at_y) in
+      subst (λ v. IsSeenAlike v z) is (final_symbol-alike image first z (ordered_there i z at_z)))
+
+  -- with other names they stand by rising buckets of the GNU hash table
+  pub final_bucketed : KeepsFirst image → (buckets : ℕ) → are_names_changed read image ≡ true → buckets_of image ≡ Some buckets
+      → AreBucketed (in_buckets buckets (hashes_of gnu_hash (hashed_names (final read image).dynamic_symbols)))
+  final_bucketed first buckets changed is =
+      let ys : List NamedSymbol = image.dynamic_symbols in
+      let Bucketed : List (Option (List ℕ)) → Type 0 = λ l. AreBucketed (in_buckets buckets (hashes_of gnu_hash l)) in
+      let in_that : ordered read image ≡ by_bucket buckets ys =
+      ap (in_order ys) (order-by_bucket read image buckets changed is) ∙ orders_by_bucket.ordered buckets ys in
+      subst Bucketed (sym (final_names first ∙ ap hashed_names in_that))
+      (orders_by_bucket.bucketed buckets ys (some_buckets buckets changed is))
