@@ -2,8 +2,9 @@
 """Makes ELF files whose dynamic symbols keep their names, of `data/library-gnu-x86_64`, into `data` or the folder that is named.
 
 Each is the linked library with a number or two changed, so that a hash table can't be made anew, or that a section of a kind that
-isn't read links to the symbols: `fixed-` and what is wrong with it. `looped-chain` is no such file: a symbol of its hash tables
-is the next one of itself.
+isn't read links to the symbols: `fixed-` and what is wrong with it. The symbols of three others may have other names: in
+`looped-chain` a symbol of the hash tables is the next one of itself, `late-gnu-hash` has a GNU hash table that begins behind
+a symbol that is defined, and `unlinked-relocations` has relocations that name symbols of no table.
 """
 import os
 import sys
@@ -51,6 +52,10 @@ def made(data):
     buckets, chains = file.get(at, WORD), file.get(at + 4, WORD)
     file.put(at + 4 * (2 + buckets + chains - 1), WORD, chains - 1)
     files["looped-chain"] = bytes(file.data)
+
+    # the first symbol of the GNU hash table is the one behind the first that is defined
+    number("late-gnu-hash", b".gnu.hash", 4, 3)
+    header("unlinked-relocations", b".rela.dyn", SECTION["sh_link"], 0)
     return files
 
 

@@ -1,11 +1,16 @@
 -- What is told of edits: of an image, of bytes, of a store.
-use Rattle.std.proofs.Common.{◌≡◌, ◌∙◌, ℕ, List, [], Option, Ok, false, true, refl, sym, subst, inl, inr}
+use Rattle.std.proofs.Common.{◌≡◌, ◌∙◌, ℕ, List, [], Option, Result, Ok, false, true, refl, sym, ap, subst, inl, inr}
 use Rattle.byte_store.specs.Known.{IsAll}
 use Rattle.command_words.specs.Rows.{Text}
 use Rattle.command_words.specs.declared.noting.Notes.{Notes}
 use Rattle.command_words.specs.declared.noting.Notes.TheVariants.{LeftOut, Wanted}
+use Rattle.elf_edits.specs.Batch.{Refusal, left_by, run}
 use Rattle.elf_edits.specs.Edit.{Edit}
 use Rattle.elf_image.specs.Image.{Image, image_of}
+use Rattle.elf_notes.specs.Lines.{lines_of}
+use Rattle.elf_notes.specs.Notes.{AreFindings, AreLeft, AreNotes}
+use Rattle.elf_notes.specs.declared.findings.Findings.{Findings}
+use Rattle.elf_notes.specs.declared.notes.ElfNotes.{ElfNotes}
 use Rattle.elf_commands.specs.ElfAsked.{ElfAsked, asks_edits, one, printing, several, shrinking}
 use Rattle.elf_commands.specs.ElfEngine.{AreEditsAsked, TellsEdit}
 use Rattle.elf_commands.specs.Noting.{TellsImage, TellsNotes, TellsUnmade, TellsWanted, TellsWantedAt}
@@ -24,6 +29,19 @@ told_of_file Wanted a edits path file read told are is tells = record {
   is_told = tells.2;
 }
 told_of_file LeftOut a edits path file read told are is tells = tells
+
+-- what edits found in an image, and what holds of the image that they leave, are their notes
+pub notes_made : (edits : List Edit) (image edited : Image) (found : Findings) (path told : Text) → AreFindings edits image found → run edits image ≡ Ok edited
+    → (notes : ElfNotes) × (notes.found ≡ found) × AreLeft edited notes × (told ≡ lines_of path notes)
+    → (notes : ElfNotes) × AreNotes edits image notes × (told ≡ lines_of path notes)
+notes_made edits image edited found path told are runs made = (
+  made.0,
+  record {
+    found = subst (λ (f : Findings). AreFindings edits image f) (sym made.1) are;
+    left = subst (λ (i : Image). AreLeft i made.0) (sym (ap (λ (r : Result Image Refusal). left_by r image) runs)) made.2;
+  },
+  made.3,
+)
 
 -- edits that are not made of the image are not made of the file
 pub unmade_of_file : (a : ElfAsked) (edits : List Edit) (file : List ℕ) (read : Image) (e : ElfCommandError) → AreEditsAsked a edits → image_of file ≡ Ok read → TellsUnmade a edits read e → TellsEdit a file e

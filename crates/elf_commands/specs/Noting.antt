@@ -18,7 +18,7 @@ use Rattle.elf_commands.specs.declared.error.ElfCommandError.TheVariants.{Memory
 
 -- ---- an image that was read
 
--- the lines of the notes of edits of an image, where they are wanted
+-- the lines of the notes of edits of an image, of what they find in it and leave of it, where they are wanted
 abbrev pub TellsImage : Notes → List Edit → Text → Image → Text → Type 0
 TellsImage Wanted edits path read told = (notes : ElfNotes) × AreNotes edits read notes × (told ≡ lines_of path notes)
 TellsImage LeftOut edits path read told = told ≡ []

@@ -3,6 +3,7 @@ use Rattle.std.specs.Prelude.{ℕ, List, [], ◌++◌, Bool, codes, if◌then◌
 use Rattle.std.specs.List.{flat_map}
 use Rattle.std.specs.Str.Lossy.{utf8_lossy}
 use Rattle.elf_notes.specs.Notes.{Name}
+use Rattle.elf_notes.specs.declared.findings.Findings.{Findings}
 use Rattle.elf_notes.specs.declared.notes.ElfNotes.{ElfNotes}
 
 abbrev pub Words : Type 0
@@ -19,6 +20,9 @@ old_need_line file name =
 abbrev pub unmatched_line : Words → Name → Words
 unmatched_line file name = line_of file (codes "no entry needs ") name []
 
+abbrev pub unmatched_symbol_line : Words → Name → Words
+unmatched_symbol_line file name = line_of file (codes "no dynamic symbol is named ") name []
+
 -- a line where something holds
 abbrev pub line_if : Bool → Words → Words → Words
 line_if holds file words = if holds then line_of file words [] [] else []
@@ -26,16 +30,35 @@ line_if holds file words = if holds then line_of file words [] [] else []
 abbrev pub no_names_line : Words
 no_names_line = codes "no name of a library is given"
 
+abbrev pub no_pairs_line : Words
+no_pairs_line = codes "no name of a symbol is given"
+
 abbrev pub own_loader_line : Words
 own_loader_line = codes "it loads itself, and glibc stops where such a file has a run path"
 
 abbrev pub no_list_line : Words
 no_list_line = codes "it has no dynamic section: a loader finds no library and no run path in it"
 
+abbrev pub more_finds_line : Words
+more_finds_line = codes "names that its GNU hash table left out can be found now"
+
+abbrev pub old_numbers_line : Words
+old_numbers_line = codes "relocations that can't be read name symbols by their old numbers, which may be others now"
+
+-- what edits found
+abbrev pub finding_lines : Words → Findings → Words
+finding_lines file found =
+    flat_map (unmatched_line file) (map (λ n. n.now) found.unmatched.items)
+    ++ flat_map (unmatched_symbol_line file) (map (λ n. n.now) found.unmatched_symbols.items)
+    ++ line_if found.has_no_names file no_names_line
+    ++ line_if found.has_no_pairs file no_pairs_line
+    ++ line_if found.is_own_loader file own_loader_line
+    ++ line_if found.lacks_list file no_list_line
+
+-- what holds after them
+abbrev pub left_lines : Words → ElfNotes → Words
+left_lines file notes = line_if notes.finds_more file more_finds_line ++ line_if notes.keeps_numbers file old_numbers_line
+
 abbrev pub lines_of : Words → ElfNotes → Words
 lines_of file notes =
-    flat_map (old_need_line file) (map (λ n. n.now) notes.old_needs.items)
-    ++ flat_map (unmatched_line file) (map (λ n. n.now) notes.unmatched.items)
-    ++ line_if notes.has_no_names file no_names_line
-    ++ line_if notes.is_own_loader file own_loader_line
-    ++ line_if notes.lacks_list file no_list_line
+    flat_map (old_need_line file) (map (λ n. n.now) notes.old_needs.items) ++ finding_lines file notes.found ++ left_lines file notes

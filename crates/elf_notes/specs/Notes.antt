@@ -1,12 +1,24 @@
--- What a user should know of edits of an image that was read.
-use Rattle.std.specs.Prelude.{ℕ, ◌≡◌, ◌==◌, ◌&&◌, ◌||◌, List, [], ◌∷◌, Bool, true, false, not, map, filter, is_none, bit_and, nat_eq, unwrap_or}
+-- What a user should know of edits of an image.
+use Rattle.std.specs.Prelude.{ℕ, ◌≡◌, ◌==◌, ◌&&◌, ◌||◌, List, [], ◌∷◌, Bool, true, false, not, drop, map, filter, is_none, take, bit_and, nat_eq, unwrap_or}
 use Rattle.std.specs.List.{flat_map, list_any, starts_with}
-use Rattle.elf_edits.specs.Edit.{AddNeeded, AddRunPath, DeleteNeeded, Edit, ReplaceNeeded, SetRunPath}
+use Rattle.elf_edits.specs.Batch.{left_by, run}
+use Rattle.elf_edits.specs.Edit.{AddNeeded, AddRunPath, ClearSymbolVersion, DeleteNeeded, Edit, RenameDynamicSymbols, ReplaceNeeded, SetRunPath}
 use Rattle.elf_edits.specs.Entries.{needed_names}
+use Rattle.elf_edits.specs.Symbols.{names_behind_first}
 use Rattle.elf_edits.specs.Texts.{has_some, is_among}
 use Rattle.elf_format.specs.Dynamic.{Entry, Integer, Text}
-use Rattle.elf_format.specs.Image.{Image}
-use Rattle.elf_format.specs.declared.constants.TheConstants.{DT_FLAGS_1, DT_SONAME, ET_DYN}
+use Rattle.elf_format.specs.Image.{Image, ImageSection}
+use Rattle.elf_format.specs.Options.{is_one_of}
+use Rattle.elf_format.specs.Views.{NamedSymbol}
+use Rattle.elf_format.specs.declared.constants.TheConstants.{DT_FLAGS_1, DT_SONAME, ET_DYN, SHT_GNU_HASH, SHT_REL, SHT_RELA}
+use Rattle.elf_format.specs.Form.{fixed_field}
+use Rattle.elf_format.specs.declared.form.Form.{Form}
+use Rattle.elf_hashes.specs.Found.{is_found}
+use Rattle.elf_image.specs.Kept.{image_at_read}
+use Rattle.elf_image.specs.Names.{are_names_changed}
+use Rattle.elf_image.specs.Renumbering.{is_opaque}
+use Rattle.elf_layout_plan.specs.Needs.{written_needs}
+use Rattle.elf_notes.specs.declared.findings.Findings.{Findings}
 use Rattle.elf_notes.specs.declared.notes.ElfNotes.{ElfNotes}
 
 abbrev pub Name : Type 0
@@ -20,9 +32,10 @@ entries_of image = unwrap_or image.entries []
 abbrev pub needed_of : Image → List Name
 needed_of image = needed_names (entries_of image)
 
--- the libraries of which versions are needed (GNU symbol versioning, .gnu.version_r)
+-- the libraries of which versions are needed in the file that is written (GNU symbol versioning, .gnu.version_r): a record goes
+-- with the last of its versions, and a version with the last symbol that had it
 abbrev pub versioned_of : Image → List Name
-versioned_of image = map (λ n. n.file) image.needs
+versioned_of image = map (λ n. n.file) (written_needs (image_at_read image) image)
 
 -- ## Names in edits
 
@@ -44,6 +57,23 @@ asked edits = flat_map asked_by edits
 abbrev pub put : List Edit → List Name
 put edits = flat_map put_by edits
 
+-- the names that an edit looks for among dynamic symbols
+abbrev pub symbols_asked_by : Edit → List Name
+symbols_asked_by (RenameDynamicSymbols pairs) = map (λ pair. pair.0) pairs
+symbols_asked_by (ClearSymbolVersion name) = name ∷ []
+symbols_asked_by _ = []
+
+-- the names that it may give them
+abbrev pub symbols_put_by : Edit → List Name
+symbols_put_by (RenameDynamicSymbols pairs) = map (λ pair. pair.1) pairs
+symbols_put_by _ = []
+
+abbrev pub symbols_asked : List Edit → List Name
+symbols_asked edits = flat_map symbols_asked_by edits
+
+abbrev pub symbols_put : List Edit → List Name
+symbols_put edits = flat_map symbols_put_by edits
+
 -- an edit of needed libraries without names
 abbrev pub has_no_names : Edit → Bool
 has_no_names (DeleteNeeded names) = not (has_some names)
@@ -51,28 +81,37 @@ has_no_names (ReplaceNeeded pairs) = not (has_some pairs)
 has_no_names (AddNeeded names) = not (has_some names)
 has_no_names _ = false
 
+-- an edit of dynamic symbols' names without pairs
+abbrev pub has_no_pairs : Edit → Bool
+has_no_pairs (RenameDynamicSymbols pairs) = not (has_some pairs)
+has_no_pairs _ = false
+
 -- an edit that sets a run path
 abbrev pub sets_run_path : Edit → Bool
 sets_run_path (SetRunPath text) = true
 sets_run_path (AddRunPath texts) = true
 sets_run_path _ = false
 
--- ## What edits leave
+-- ## What edits find
 
--- a library that was needed, that an edit removes or renames, and that none puts back
-abbrev pub goes : Image → List Edit → Name → Bool
-goes image edits name = is_among (needed_of image) name && is_among (asked edits) name && not (is_among (put edits) name)
-
--- versions are needed of it still
-abbrev pub old_needs : Image → List Edit → List Name
-old_needs image edits = filter (goes image edits) (versioned_of image)
+-- the libraries that were needed, and that an edit removes or renames
+abbrev pub dropped : List Edit → Image → List Name
+dropped edits image = filter (is_among (needed_of image)) (asked edits)
 
 -- a name that no entry has, and that no edit puts there
-abbrev pub is_unmatched : Image → List Edit → Name → Bool
-is_unmatched image edits name = not (is_among (needed_of image) name) && not (is_among (put edits) name)
+abbrev pub is_unmatched : List Edit → Image → Name → Bool
+is_unmatched edits image name = not (is_among (needed_of image) name) && not (is_among (put edits) name)
 
-abbrev pub unmatched : Image → List Edit → List Name
-unmatched image edits = filter (is_unmatched image edits) (asked edits)
+abbrev pub unmatched : List Edit → Image → List Name
+unmatched edits image = filter (is_unmatched edits image) (asked edits)
+
+-- a name that no dynamic symbol behind the first has, and that no edit gives one
+abbrev pub is_symbol_unmatched : List Edit → Image → Name → Bool
+is_symbol_unmatched edits image name =
+    not (is_among (names_behind_first image.dynamic_symbols) name) && not (is_among (symbols_put edits) name)
+
+abbrev pub unmatched_symbols : List Edit → Image → List Name
+unmatched_symbols edits image = filter (is_symbol_unmatched edits image) (symbols_asked edits)
 
 -- ## Programs that load themselves
 
@@ -97,11 +136,43 @@ loads_itself image =
     image.header.e_type == ET_DYN && is_none image.interpreter
     && list_any (λ e. says_pie e || says_loader e) (entries_of image)
 
+-- ## What edits leave
+
+-- versions are needed still of a library that was dropped, and that no entry needs any more
+abbrev pub old_needs : List Name → Image → List Name
+old_needs names edited = filter (λ name. is_among names name && not (is_among (needed_of edited) name)) (versioned_of edited)
+
+-- a symbol that a look-up may find stands before the first one of the GNU hash table (GNU hash section, symoffset)
+abbrev pub leaves_out : Form → List NamedSymbol → ImageSection → Bool
+leaves_out form ys s = s.sh_type == SHT_GNU_HASH && list_any is_found (drop 1 (take (fixed_field form (4, 4) s.content) ys))
+
+-- relocations that are kept as they are, since they can't be read
+abbrev pub is_unread : ImageSection → Bool
+is_unread s = is_one_of (SHT_REL ∷ SHT_RELA ∷ []) s.sh_type && is_opaque s.kind
+
+-- a dynamic symbol has another name than it was read with: the hash tables are made anew, and symbols may get other numbers
+abbrev pub is_hashed_anew : Image → Bool
+is_hashed_anew edited = are_names_changed (image_at_read edited) edited
+
 -- ## All of them
 
+-- What edits look for in an image, and find.
+pub record AreFindings (edits : List Edit) (image : Image) (found : Findings) : Type 0 where
+  pub dropped : map (λ n. n.now) found.dropped.items ≡ dropped edits image
+  pub unmatched : map (λ n. n.now) found.unmatched.items ≡ unmatched edits image
+  pub unmatched_symbols : map (λ n. n.now) found.unmatched_symbols.items ≡ unmatched_symbols edits image
+  pub no_names : found.has_no_names ≡ list_any has_no_names edits
+  pub no_pairs : found.has_no_pairs ≡ list_any has_no_pairs edits
+  pub own_loader : found.is_own_loader ≡ (loads_itself image && list_any sets_run_path edits)
+  pub no_list : found.lacks_list ≡ is_none image.entries
+
+-- What an edited image shows beside these.
+pub record AreLeft (edited : Image) (notes : ElfNotes) : Type 0 where
+  pub old_needs : map (λ n. n.now) notes.old_needs.items ≡ old_needs (map (λ n. n.now) notes.found.dropped.items) edited
+  pub new_finds : notes.finds_more ≡ (is_hashed_anew edited && list_any (leaves_out edited.form edited.dynamic_symbols) edited.sections)
+  pub old_numbers : notes.keeps_numbers ≡ (is_hashed_anew edited && list_any is_unread edited.sections)
+
+-- Notes of edits of an image: of what they find in it, and of the image after them.
 pub record AreNotes (edits : List Edit) (image : Image) (notes : ElfNotes) : Type 0 where
-  pub old_needs : map (λ n. n.now) notes.old_needs.items ≡ old_needs image edits
-  pub unmatched : map (λ n. n.now) notes.unmatched.items ≡ unmatched image edits
-  pub no_names : notes.has_no_names ≡ list_any has_no_names edits
-  pub own_loader : notes.is_own_loader ≡ (loads_itself image && list_any sets_run_path edits)
-  pub no_list : notes.lacks_list ≡ is_none image.entries
+  pub found : AreFindings edits image notes.found
+  pub left : AreLeft (left_by (run edits image) image) notes

@@ -1,9 +1,12 @@
 //! What a user should know of edits of an ELF file that were made, and the lines that tell it.
 #![tactic(auto)]
 
+pub mod findings;
 mod lines;
 mod names;
 pub mod notes;
+mod symbols;
 
+pub use crate::findings::{Findings, findings_of};
 pub use crate::lines::note_lines;
 pub use crate::notes::{ElfNotes, notes_of};

@@ -1,8 +1,9 @@
 //! The lines that tell notes.
-ghost use Rattle.std.specs.Prelude.{◌≡◌, ◌++◌, [], IfOk, OnOk, codes, map, string_bytes};
+ghost use Rattle.std.specs.Prelude.{◌≡◌, ◌++◌, IfOk, OnOk, map, string_bytes};
 ghost use Rattle.std.specs.List.{flat_map};
-ghost use Rattle.elf_notes.specs.Lines.{line_if, line_of, lines_of, old_need_line, unmatched_line};
+ghost use Rattle.elf_notes.specs.Lines.{finding_lines, left_lines, line_if, line_of, lines_of, no_list_line, no_names_line, no_pairs_line, old_need_line, own_loader_line, unmatched_line, unmatched_symbol_line};
 
+use crate::findings::Findings;
 use crate::notes::ElfNotes;
 use std::alloc::{AllocError, Global};
 
@@ -12,31 +13,65 @@ pub fn note_lines(alloc: Global, file: &str, notes: &ElfNotes<'_>) -> Result<Str
 {
     let mut text = String::new(alloc);
     put_old_needs(alloc, &mut text, file, &notes.old_needs)?;
-    put_unmatched(alloc, &mut text, file, &notes.unmatched)?;
-    put_flags(alloc, &mut text, file, notes)?;
+    put_findings(alloc, &mut text, file, &notes.found)?;
+    put_left(alloc, &mut text, file, notes)?;
     Ok(text)
 }
 
-/// Puts the lines of what holds of the edits behind others.
+/// Puts the lines of what edits found behind others.
+fn put_findings(
+    alloc: Global,
+    text: &mut String,
+    file: &str,
+    found: &Findings<'_>,
+) -> Result<(), AllocError>
+    ensures { OnOk result (string_bytes text.new
+        ≡ string_bytes text.old ++ finding_lines file.now found.now) }
+{
+    put_unmatched(alloc, text, file, &found.unmatched)?;
+    put_unmatched_symbols(alloc, text, file, &found.unmatched_symbols)?;
+    put_flags(alloc, text, file, found)?;
+    Ok(())
+}
+
+/// Puts the lines of what holds of the edits and the file behind others.
 fn put_flags(
+    alloc: Global,
+    text: &mut String,
+    file: &str,
+    found: &Findings<'_>,
+) -> Result<(), AllocError>
+    ensures { OnOk result (string_bytes text.new ≡ string_bytes text.old
+        ++ line_if found.now.has_no_names file.now no_names_line
+        ++ line_if found.now.has_no_pairs file.now no_pairs_line
+        ++ line_if found.now.is_own_loader file.now own_loader_line
+        ++ line_if found.now.lacks_list file.now no_list_line) }
+{
+    let no_names = "no name of a library is given";
+    put_if(alloc, text, found.has_no_names, file, no_names)?;
+    let no_pairs = "no name of a symbol is given";
+    put_if(alloc, text, found.has_no_pairs, file, no_pairs)?;
+    let own_loader = "it loads itself, and glibc stops where such a file has a run path";
+    put_if(alloc, text, found.is_own_loader, file, own_loader)?;
+    let no_list = "it has no dynamic section: a loader finds no library and no run path in it";
+    put_if(alloc, text, found.lacks_list, file, no_list)
+}
+
+/// Puts the lines of what holds after the edits behind others.
+fn put_left(
     alloc: Global,
     text: &mut String,
     file: &str,
     notes: &ElfNotes<'_>,
 ) -> Result<(), AllocError>
-    ensures { OnOk result (string_bytes text.new ≡ string_bytes text.old
-        ++ line_if notes.now.has_no_names file.now (codes "no name of a library is given")
-        ++ line_if notes.now.is_own_loader file.now
-        (codes "it loads itself, and glibc stops where such a file has a run path")
-        ++ line_if notes.now.lacks_list file.now
-        (codes "it has no dynamic section: a loader finds no library and no run path in it")) }
+    ensures { OnOk result (string_bytes text.new
+        ≡ string_bytes text.old ++ left_lines file.now notes.now) }
 {
-    let no_names = "no name of a library is given";
-    put_if(alloc, text, notes.has_no_names, file, no_names)?;
-    let own_loader = "it loads itself, and glibc stops where such a file has a run path";
-    put_if(alloc, text, notes.is_own_loader, file, own_loader)?;
-    let no_list = "it has no dynamic section: a loader finds no library and no run path in it";
-    put_if(alloc, text, notes.lacks_list, file, no_list)
+    let finds_more = "names that its GNU hash table left out can be found now";
+    put_if(alloc, text, notes.finds_more, file, finds_more)?;
+    let keeps_numbers =
+        "relocations that can't be read name symbols by their old numbers, which may be others now";
+    put_if(alloc, text, notes.keeps_numbers, file, keeps_numbers)
 }
 
 /// Puts a line behind others, where something holds.
@@ -86,6 +121,22 @@ fn put_unmatched(
 {
     for name in names {
         put_line(alloc, text, file, ("no entry needs ", name, ""))?;
+    }
+    Ok(())
+}
+
+/// Puts the lines of names that were looked for in vain among symbols behind others.
+fn put_unmatched_symbols(
+    alloc: Global,
+    text: &mut String,
+    file: &str,
+    names: &[&[u8]],
+) -> Result<(), AllocError>
+    ensures { OnOk result (string_bytes text.new ≡ string_bytes text.old
+        ++ flat_map (unmatched_symbol_line file.now) (map (λ n. n.now) names.now)) }
+{
+    for name in names {
+        put_line(alloc, text, file, ("no dynamic symbol is named ", name, ""))?;
     }
     Ok(())
 }

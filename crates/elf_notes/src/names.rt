@@ -1,11 +1,11 @@
-//! Names of libraries, in entries and in edits.
+//! Names of libraries and of symbols, in entries and in edits.
 ghost use Rattle.std.specs.Prelude.{◌≡◌, ◌++◌, IfOk, OnOk, filter, map};
 ghost use Rattle.std.specs.List.{flat_map};
 ghost use Rattle.elf_edits.specs.EditModel.{edit_model, pairs_model, texts_model};
 ghost use Rattle.elf_edits.specs.Entries.{has_tag as has_this_tag, needed_names, text_if};
 ghost use Rattle.elf_edits.specs.Texts.{is_among as among};
 ghost use Rattle.elf_image.specs.ImageModel.{entry_model};
-ghost use Rattle.elf_notes.specs.Notes.{asked, asked_by, put, put_by};
+ghost use Rattle.elf_notes.specs.Notes.{asked, asked_by, put, put_by, symbols_asked, symbols_asked_by, symbols_put, symbols_put_by};
 
 use elf_edits::ElfEdit;
 use elf_format::constants::DT_NEEDED;
@@ -95,6 +95,59 @@ fn push_put<'e>(names: &mut Vec<&'e [u8]>, edit: &'e ElfEdit) -> Result<(), Allo
     match edit {
         ElfEdit::AddNeeded(texts) => push_texts(names, texts.as_slice()),
         ElfEdit::ReplaceNeeded(pairs) => push_new(names, pairs.as_slice()),
+        _ => Ok(()),
+    }
+}
+
+/// The names that edits look for among dynamic symbols, in order.
+pub(crate) fn symbols_asked_in<'e>(
+    alloc: Global,
+    edits: &'e [ElfEdit],
+) -> Result<Vec<&'e [u8]>, AllocError>
+    ensures { IfOk result (λ names.
+        map (λ n. n.now) names.items ≡ symbols_asked (map edit_model edits.entry.now)) }
+{
+    let mut names = Vec::new(alloc);
+    for edit in edits {
+        push_symbols_asked(&mut names, edit)?;
+    }
+    Ok(names)
+}
+
+/// Puts the names that an edit looks for among dynamic symbols behind others.
+fn push_symbols_asked<'e>(names: &mut Vec<&'e [u8]>, edit: &'e ElfEdit) -> Result<(), AllocError>
+    ensures { OnOk result (map (λ n. n.now) names.new.items
+        ≡ map (λ n. n.now) names.old.items ++ symbols_asked_by (edit_model edit.entry.now)) }
+{
+    match edit {
+        ElfEdit::RenameDynamicSymbols(pairs) => push_old(names, pairs.as_slice()),
+        ElfEdit::ClearSymbolVersion(name) => Ok(names.push(name.as_slice())?),
+        _ => Ok(()),
+    }
+}
+
+/// The names that edits may give dynamic symbols, in order.
+pub(crate) fn symbols_put_in<'e>(
+    alloc: Global,
+    edits: &'e [ElfEdit],
+) -> Result<Vec<&'e [u8]>, AllocError>
+    ensures { IfOk result (λ names.
+        map (λ n. n.now) names.items ≡ symbols_put (map edit_model edits.entry.now)) }
+{
+    let mut names = Vec::new(alloc);
+    for edit in edits {
+        push_symbols_put(&mut names, edit)?;
+    }
+    Ok(names)
+}
+
+/// Puts the names that an edit may give dynamic symbols behind others.
+fn push_symbols_put<'e>(names: &mut Vec<&'e [u8]>, edit: &'e ElfEdit) -> Result<(), AllocError>
+    ensures { OnOk result (map (λ n. n.now) names.new.items
+        ≡ map (λ n. n.now) names.old.items ++ symbols_put_by (edit_model edit.entry.now)) }
+{
+    match edit {
+        ElfEdit::RenameDynamicSymbols(pairs) => push_new(names, pairs.as_slice()),
         _ => Ok(()),
     }
 }

@@ -1,209 +1,196 @@
 //! What a user should know of edits of an ELF file.
-ghost use Rattle.std.specs.Prelude.{◌≡◌, ◌&&◌, ◌||◌, not, IfOk, filter, map};
+ghost use Rattle.std.specs.Prelude.{◌≡◌, ◌&&◌, [], ◌∷◌, not, IfOk, drop, filter, map, take};
 ghost use Rattle.std.specs.List.{list_any};
-ghost use Rattle.elf_edits.specs.EditModel.{edit_model};
 ghost use Rattle.elf_edits.specs.Texts.{is_among as among};
-ghost use Rattle.elf_image.specs.ImageModel.{entry_model};
-ghost use Rattle.elf_image_versions.specs.VersionsModel.{needs_model};
-ghost use Rattle.elf_notes.specs.Notes.{AreNotes, entries_of as entries_shown, has_no_names as lacks_names, is_loader_name as names_loader, loads_itself as is_self_loading, says_loader as tells_loader, says_pie as tells_pie, sets_run_path as gives_run_path};
+ghost use Rattle.elf_format.specs.Options.{is_one_of};
+ghost use Rattle.elf_format.specs.declared.constants.TheConstants.{SHT_REL as REL, SHT_RELA as RELA};
+ghost use Rattle.elf_hashes.specs.Found.{is_found as may_be_found};
+ghost use Rattle.elf_image.specs.ImageModel.{needs_model, section_model};
+ghost use Rattle.elf_image.specs.Renumbering.{is_opaque as is_kept};
+ghost use Rattle.elf_image_symbols.specs.SymbolModel.{symbol_model};
+ghost use Rattle.elf_image_symbol_edits.specs.Loan.{symbols_now};
+ghost use Rattle.elf_layout_needs.specs.Staying.{unmarked_needs};
+ghost use Rattle.elf_notes.specs.Notes.{AreLeft, is_hashed_anew as are_tables_made_anew, is_unread as are_numbers_kept, leaves_out as does_leave_out, old_needs, versioned_of};
 
-use crate::names::{asked_in, is_among, needed_of, put_in};
-use elf_edits::ElfEdit;
-use elf_format::constants::{DT_FLAGS_1, DT_SONAME, ET_DYN};
-use elf_image::{Builder, Dynamic, VersionNeed};
+use crate::findings::{Findings, entries_of};
+use crate::names::{is_among, needed_of};
+use elf_format::constants::{SHT_GNU_HASH, SHT_REL, SHT_RELA};
+use elf_format::numbers::word_at;
+use elf_format::{Form, SectionData};
+use elf_image::{Builder, Section, Symbol, SymbolsNow, VersionNeed};
+use elf_layout_needs::StayingNeeds;
+use elf_layout_plan::read_source;
 use std::alloc::{AllocError, Global};
-
-/// The bit of DT_FLAGS_1 that says that the file is a program (a GNU extension).
-const DF_1_PIE: u64 = 0x0800_0000;
 
 /// What a user should know of edits that are made of a file.
 #[derive(Drop)]
 pub struct ElfNotes<'a> {
-    /// The libraries of which versions are needed, in their order, and that an edit removes or renames.
+    /// What the edits looked for, and found.
+    pub found: Findings<'a>,
+    /// The libraries of which versions are needed in the file that is written, in their order, that were dropped and that
+    /// no entry needs any more.
     pub old_needs: Vec<&'a [u8]>,
-    /// The names that edits look for, and that no entry has and no edit puts there, in order and with repeats.
-    pub unmatched: Vec<&'a [u8]>,
-    /// Whether an edit of needed libraries has no names.
-    pub has_no_names: bool,
-    /// Whether a run path is set in a static PIE, or in a loader.
-    pub is_own_loader: bool,
-    /// Whether the file has no dynamic list, so that a loader finds no name and no run path in it.
-    pub lacks_list: bool,
+    /// Whether look-ups may find symbols by the new GNU hash table that the one that was read left out.
+    pub finds_more: bool,
+    /// Whether relocations that can't be read keep the numbers of dynamic symbols that may get others.
+    pub keeps_numbers: bool,
 }
 
-/// What a user should know of edits of an image that was read. Error: `AllocError`.
+/// What a user should know of edits that were made, by what they found and the image after them. Where a library was
+/// dropped and the edits changed dynamic symbols, the image's source is read again. Error: `AllocError`.
 pub fn notes_of<'a>(
     alloc: Global,
-    image: &'a Builder<'_>,
-    edits: &'a [ElfEdit],
+    found: Findings<'a>,
+    edited: &'a Builder<'_>,
 ) -> Result<ElfNotes<'a>, AllocError>
-    ensures { IfOk result (AreNotes (map edit_model edits.entry.now) image.entry.now) }
+    ensures found { IfOk result (λ notes. notes.found ≡ found.entry) }
+    ensures left { IfOk result (AreLeft edited.entry.now) }
 {
-    let needed = needed_of(alloc, entries_of(image))?;
-    let asked = asked_in(alloc, edits)?;
-    let put = put_in(alloc, edits)?;
-    let old_needs = kept_needs(alloc, &image.versions().needs, &needed, &asked, &put)?;
-    let unmatched = unmatched_of(alloc, &asked, &needed, &put)?;
+    let old_needs = old_needs_of(alloc, edited, &found.dropped)?;
+    let is_hashed_anew = is_hashed_anew(edited);
     Ok(ElfNotes {
+        found,
         old_needs,
-        unmatched,
-        has_no_names: has_no_names(edits),
-        is_own_loader: gives_itself_a_run_path(image, edits),
-        lacks_list: image.dynamic_data().is_none(),
+        finds_more: is_hashed_anew && leave_out(edited),
+        keeps_numbers: is_hashed_anew && are_unread(edited.sections()),
     })
 }
 
-/// The entries of the dynamic list, none without one.
-fn entries_of<'a, 'd>(image: &'a Builder<'d>) -> &'a [Dynamic<'d>]
-    ensures { map entry_model result.now ≡ entries_shown image.entry.now }
+/// The libraries of which versions are needed in the file that is written, that are among some and that no entry needs.
+fn old_needs_of<'a>(
+    alloc: Global,
+    edited: &'a Builder<'_>,
+    names: &[&[u8]],
+) -> Result<Vec<&'a [u8]>, AllocError>
+    ensures { IfOk result (λ needs. map (λ n. n.now) needs.items
+        ≡ old_needs (map (λ n. n.now) names.now) edited.entry.now) }
 {
-    image.dynamic_data().unwrap_or_default()
+    if names.is_empty() {
+        return Ok(Vec::new(alloc));
+    }
+    let needed = needed_of(alloc, entries_of(edited))?;
+    let staying = staying_needs(alloc, edited)?;
+    kept_needs(alloc, &edited.versions().needs, &staying, names, &needed)
 }
 
-/// Whether edits set a run path of a file that loads itself.
-fn gives_itself_a_run_path(image: &Builder<'_>, edits: &[ElfEdit]) -> bool
-    ensures { result
-        ≡ (is_self_loading image.now && list_any gives_run_path (map edit_model edits.now)) }
+/// Which needed versions of an edited image stay.
+fn staying_needs(alloc: Global, edited: &Builder<'_>) -> Result<StayingNeeds, AllocError>
+    ensures { IfOk result (λ staying.
+        map (λ n. n.file) (unmarked_needs staying.marks edited.now.needs) ≡ versioned_of edited.now) }
 {
-    loads_itself(image) && sets_run_path(edits)
+    let read = read_source(alloc, edited)?;
+    StayingNeeds::new(alloc, &read, edited)
 }
 
-/// The libraries of which versions are needed, and that were needed, are looked for and aren't put back.
+/// The libraries whose records stay, that are among some and not among others.
 fn kept_needs<'a>(
     alloc: Global,
     needs: &'a [VersionNeed<'_>],
+    staying: &StayingNeeds,
+    names: &[&[u8]],
     needed: &[&[u8]],
-    asked: &[&[u8]],
-    put: &[&[u8]],
 ) -> Result<Vec<&'a [u8]>, AllocError>
-    ensures { IfOk result (λ names. map (λ n. n.now) names.items ≡ filter
-        (λ name. among (map (λ n. n.now) needed.now) name && among (map (λ n. n.now) asked.now) name
-        && not (among (map (λ n. n.now) put.now) name))
-        (map (λ n. n.file) (map needs_model needs.entry.now))) }
+    ensures { IfOk result (λ kept. map (λ n. n.now) kept.items ≡ filter
+        (λ name. among (map (λ n. n.now) names.now) name
+        && not (among (map (λ n. n.now) needed.now) name))
+        (map (λ n. n.file) (unmarked_needs staying.now.marks (map needs_model needs.entry.now)))) }
 {
-    let mut names = Vec::new(alloc);
+    let mut kept = Vec::new(alloc);
     for need in needs {
         let name = need.file.as_slice();
-        if is_among(needed, name) && is_among(asked, name) && !is_among(put, name) {
-            names.push(name)?;
+        if staying.does_need_stay(need) && is_among(names, name) && !is_among(needed, name) {
+            kept.push(name)?;
         }
     }
-    Ok(names)
+    Ok(kept)
 }
 
-/// The names of some that are in neither of two lists.
-fn unmatched_of<'a>(
-    alloc: Global,
-    asked: &[&'a [u8]],
-    needed: &[&[u8]],
-    put: &[&[u8]],
-) -> Result<Vec<&'a [u8]>, AllocError>
-    ensures { IfOk result (λ names. map (λ n. n.now) names.items ≡ filter
-        (λ name. not (among (map (λ n. n.now) needed.now) name)
-        && not (among (map (λ n. n.now) put.now) name)) (map (λ n. n.now) asked.now)) }
+/// Whether a dynamic symbol has another name than it was read with.
+fn is_hashed_anew(edited: &Builder<'_>) -> bool
+    ensures { result ≡ are_tables_made_anew edited.now }
 {
-    let mut names = Vec::new(alloc);
-    for name in asked {
-        if !is_among(needed, name) && !is_among(put, name) {
-            names.push(*name)?;
-        }
-    }
-    Ok(names)
+    // the image was read from its source
+    let _source = edited.source();
+    !edited.keeps_dynamic_names()
 }
 
-/// Whether one of some edits of needed libraries has no names.
-fn has_no_names(edits: &[ElfEdit]) -> bool
-    ensures { result ≡ list_any lacks_names (map edit_model edits.now) }
+/// Whether the GNU hash table that was read left out a symbol that a look-up may find.
+fn leave_out(edited: &Builder<'_>) -> bool
+    ensures { result ≡ list_any
+        (does_leave_out edited.now.form edited.now.dynamic_symbols) edited.now.sections }
 {
-    for edit in edits {
-        if is_without_names(edit) {
+    any_leaves_out(edited.form(), edited.dynamic_symbols(), edited.sections())
+}
+
+/// Whether one of some sections is a GNU hash table that does.
+fn any_leaves_out(form: Form, symbols: SymbolsNow<'_>, sections: &[Section<'_>]) -> bool
+    ensures { result ≡ list_any (does_leave_out form (symbols_now symbols.entry))
+        (map section_model sections.now) }
+{
+    for section in sections {
+        if leaves_out(form, &symbols, section) {
             return true;
         }
     }
     false
 }
 
-/// Whether an edit is one of needed libraries, without names.
-fn is_without_names(edit: &ElfEdit) -> bool
-    ensures { result ≡ lacks_names (edit_model edit.now) }
+/// Whether a section is one.
+fn leaves_out(form: Form, symbols: &SymbolsNow<'_>, section: &Section<'_>) -> bool
+    ensures { result
+        ≡ does_leave_out form (symbols_now symbols.now) (section_model section.now) }
 {
-    match edit {
-        ElfEdit::AddNeeded(names) => names.is_empty(),
-        ElfEdit::RemoveNeeded(names) => names.is_empty(),
-        ElfEdit::ReplaceNeeded(pairs) => pairs.is_empty(),
-        _ => false,
-    }
+    section.sh_type == SHT_GNU_HASH && is_any_found(symbols, word_at(form, section.content, 4))
 }
 
-/// Whether one of some edits sets a run path.
-fn sets_run_path(edits: &[ElfEdit]) -> bool
-    ensures { result ≡ list_any gives_run_path (map edit_model edits.now) }
+/// Whether a look-up may find a symbol behind the first and before the one with this number.
+fn is_any_found(symbols: &SymbolsNow<'_>, end: u32) -> bool
+    ensures { result ≡ list_any may_be_found (drop 1 (take end (symbols_now symbols.now))) }
 {
-    for edit in edits {
-        if is_of_run_path(edit) {
+    for i in 1..symbols.len().min(end as usize) {
+        if is_found(&symbols.get(i)) {
             return true;
         }
     }
     false
 }
 
-/// Whether an edit sets a run path.
-fn is_of_run_path(edit: &ElfEdit) -> bool
-    ensures { result ≡ gives_run_path (edit_model edit.now) }
+/// Whether a look-up may find a symbol: it is defined, and not local.
+fn is_found(symbol: &Symbol<'_>) -> bool
+    ensures { result ≡ may_be_found (symbol_model symbol.now) }
 {
-    match edit {
-        ElfEdit::SetRpath(_) => true,
-        ElfEdit::AddRpath(_) => true,
-        _ => false,
-    }
+    symbol.st_shndx != 0 && symbol.st_info / 16 != 0
 }
 
-/// Whether a file is a static PIE, or a loader.
-fn loads_itself(image: &Builder<'_>) -> bool
-    ensures { result ≡ is_self_loading image.now }
+/// Whether some sections have relocations that can't be read.
+fn are_unread(sections: &[Section<'_>]) -> bool
+    ensures { result ≡ list_any are_numbers_kept (map section_model sections.now) }
 {
-    image.header().e_type == ET_DYN
-        && image.interp_data().is_none()
-        && say_own_loader(entries_of(image))
-}
-
-/// Whether an entry says that the file is a program, or has the name of a loader.
-fn say_own_loader(entries: &[Dynamic<'_>]) -> bool
-    ensures { result ≡ list_any (λ e. tells_pie e || tells_loader e) (map entry_model entries.now) }
-{
-    for entry in entries {
-        if says_pie(entry) || says_loader(entry) {
+    for section in sections {
+        if is_unread(section) {
             return true;
         }
     }
     false
 }
 
-/// Whether an entry says that the file is a program.
-fn says_pie(entry: &Dynamic<'_>) -> bool
-    ensures { result ≡ tells_pie (entry_model entry.now) }
+/// Whether a section has relocations that can't be read.
+fn is_unread(section: &Section<'_>) -> bool
+    ensures { result ≡ are_numbers_kept (section_model section.now) }
 {
-    match entry {
-        Dynamic::Integer { tag, val } => *tag == DT_FLAGS_1 && *val & DF_1_PIE != 0,
-        _ => false,
-    }
+    is_of_relocations(section.sh_type) && is_opaque(section.kind)
 }
 
-/// Whether an entry has the name of a loader.
-fn says_loader(entry: &Dynamic<'_>) -> bool
-    ensures { result ≡ tells_loader (entry_model entry.now) }
+/// Whether sections of a type have relocations (gABI, Sections, `sh_type`).
+fn is_of_relocations(kind: u32) -> bool
+    ensures { result ≡ is_one_of (REL ∷ RELA ∷ []) kind }
 {
-    match entry {
-        Dynamic::Text { tag, val } => *tag == DT_SONAME && is_loader_name(val.as_slice()),
-        _ => false,
-    }
+    kind == SHT_REL || kind == SHT_RELA
 }
 
-/// Whether a name begins as those of loaders do.
-fn is_loader_name(name: &[u8]) -> bool
-    ensures { result ≡ names_loader name.now }
+/// Whether a section is kept as it is.
+fn is_opaque(kind: SectionData) -> bool
+    ensures { result ≡ is_kept kind }
 {
-    name.starts_with(&[0x6c, 0x64, 0x2d])
-        || name.starts_with(&[0x6c, 0x64, 0x2e])
-        || name.starts_with(&[0x6c, 0x64, 0x36, 0x34, 0x2e])
+    matches!(kind, SectionData::Opaque)
 }

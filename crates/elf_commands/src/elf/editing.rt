@@ -31,7 +31,7 @@ use std::rt::Files;
 /// what is found, leaves the store as it is.
 ///
 /// Where notes are wanted, the lines are answered that tell what a user should know of the edits, of the bytes as they
-/// were, each with the command's path; else no text. They are made before anything is written.
+/// were and of the image after them, each with the command's path; else no text. They are made before anything is written.
 ///
 /// # Errors
 ///

@@ -6,7 +6,7 @@ ghost use Rattle.elf_commands.specs.ElfWords.{edits_model};
 ghost use Rattle.elf_commands.specs.Meaning.{elf_command_model, elf_file_of};
 ghost use Rattle.elf_commands.specs.Noting.{TellsImage, TellsUnmade};
 ghost use Rattle.elf_notes.specs.Lines.{lines_of};
-ghost use Rattle.elf_notes.specs.Notes.{AreNotes};
+ghost use Rattle.elf_notes.specs.Notes.{AreFindings, AreLeft, AreNotes};
 ghost use Rattle.elf_notes.specs.declared.notes.ElfNotes.{ElfNotes};
 
 use crate::command::ElfCommand;
@@ -15,11 +15,11 @@ use crate::error::ElfCommandError;
 use arwen_elf::elf::ElfContainer;
 use command_words::Notes;
 use elf_edits::ElfEdit;
-use elf_notes::{note_lines, notes_of};
+use elf_notes::{Findings, findings_of, note_lines, notes_of};
 use std::alloc::{AllocError, Global};
 
-/// Makes the edits that a command asks for in an image, and answers the lines of their notes, of the image as it was;
-/// no text where they are left out.
+/// Makes the edits that a command asks for in an image, and answers the lines of their notes, of the image as it was and
+/// as it is then; no text where they are left out.
 pub(crate) fn apply_noting(
     alloc: Global,
     elf: &mut ElfContainer<'_>,
@@ -33,42 +33,74 @@ pub(crate) fn apply_noting(
     ensures err { IfErr result (TellsUnmade (elf_asked (elf_command_model command.now))
         (edits_model edits.now) elf.old.inner) }
 {
-    let text = lines_if(alloc, elf, command, edits, notes)?;
+    match notes {
+        Notes::Wanted => apply_telling(alloc, elf, command, edits),
+        Notes::LeftOut => {
+            apply_edits(alloc, elf, command, edits)?;
+            Ok(String::new(alloc))
+        }
+    }
+}
+
+/// Makes the edits that a command asks for in an image.
+fn apply_edits(
+    alloc: Global,
+    elf: &mut ElfContainer<'_>,
+    command: &ElfCommand,
+    edits: &[ElfEdit],
+) -> Result<(), ElfCommandError>
+    ensures runs { OnOk result (run (edits_model edits.now) elf.old.inner ≡ Ok elf.new.inner) }
+    ensures err { IfErr result (TellsUnmade (elf_asked (elf_command_model command.now))
+        (edits_model edits.now) elf.old.inner) }
+{
     match elf.apply(alloc, edits) {
-        Ok(()) => Ok(text),
+        Ok(()) => Ok(()),
         Err(error) => Err(refusal(command, error)),
     }
 }
 
-/// The lines of the notes of edits of an image; no text where they are left out.
-fn lines_if(
+/// Makes the edits that a command asks for in an image, and answers the lines of their notes.
+fn apply_telling(
     alloc: Global,
-    elf: &ElfContainer<'_>,
+    elf: &mut ElfContainer<'_>,
     command: &ElfCommand,
     edits: &[ElfEdit],
-    notes: Notes,
-) -> Result<String, AllocError>
-    ensures { IfOk result (λ text. TellsImage notes (edits_model edits.now)
-        (elf_file_of (elf_command_model command.now)) elf.now.inner (string_bytes text)) }
+) -> Result<String, ElfCommandError>
+    ensures runs { OnOk result (run (edits_model edits.now) elf.old.inner ≡ Ok elf.new.inner) }
+    ensures told { IfOk result (λ text. (notes : ElfNotes)
+        × AreNotes (edits_model edits.now) elf.old.inner notes
+        × (string_bytes text ≡ lines_of (elf_file_of (elf_command_model command.now)) notes)) }
+    ensures err { IfErr result (TellsUnmade (elf_asked (elf_command_model command.now))
+        (edits_model edits.now) elf.old.inner) }
 {
-    match notes {
-        Notes::Wanted => lines_for(alloc, elf, command, edits),
-        Notes::LeftOut => Ok(String::new(alloc)),
-    }
+    let found = findings_in(alloc, elf, edits)?;
+    apply_edits(alloc, elf, command, edits)?;
+    Ok(lines_for(alloc, elf, command, found)?)
 }
 
-/// The lines of the notes of edits of an image.
+/// What edits look for in an image, and find.
+fn findings_in<'e>(
+    alloc: Global,
+    elf: &ElfContainer<'_>,
+    edits: &'e [ElfEdit],
+) -> Result<Findings<'e>, AllocError>
+    ensures { IfOk result (AreFindings (edits_model edits.entry.now) elf.now.inner) }
+{
+    findings_of(alloc, elf.inner.builder(), edits)
+}
+
+/// The lines of the notes of an edited image, by what the edits found.
 fn lines_for(
     alloc: Global,
     elf: &ElfContainer<'_>,
     command: &ElfCommand,
-    edits: &[ElfEdit],
+    found: Findings<'_>,
 ) -> Result<String, AllocError>
-    ensures { IfOk result (λ text. (notes : ElfNotes)
-        × AreNotes (edits_model edits.now) elf.now.inner notes
+    ensures { IfOk result (λ text. (notes : ElfNotes) × (notes.found ≡ found.entry)
+        × AreLeft elf.now.inner notes
         × (string_bytes text ≡ lines_of (elf_file_of (elf_command_model command.now)) notes)) }
 {
-    let notes = notes_of(alloc, elf.inner.builder(), edits)?;
+    let notes = notes_of(alloc, found, elf.inner.builder())?;
     note_lines(alloc, command.path_to_binary(), &notes)
 }
 

@@ -1,6 +1,6 @@
 use Rattle.std.proofs.Common.{◌≡◌, ◌++◌, ◌&&◌, not, drop, filter, map}
 use Rattle.elf_edits.specs.Texts.{is_among}
-use Rattle.elf_notes.proofs.notes.unmatched_of.Given as goal
+use Rattle.elf_notes.proofs.findings.unmatched_of.Given as goal
 
 -- the names so far, with those that are left
 abbrev pub invariant-loop-name : goal.invariant-loop-name

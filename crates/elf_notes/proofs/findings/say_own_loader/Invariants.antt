@@ -2,7 +2,7 @@ use Rattle.std.proofs.Common.{◌≡◌, ◌||◌, drop, map}
 use Rattle.std.specs.List.{list_any}
 use Rattle.elf_image.specs.ImageModel.{entry_model}
 use Rattle.elf_notes.specs.Notes.{says_loader, says_pie}
-use Rattle.elf_notes.proofs.notes.say_own_loader.Given as goal
+use Rattle.elf_notes.proofs.findings.say_own_loader.Given as goal
 
 -- none so far does
 abbrev pub invariant-loop-entry : goal.invariant-loop-entry

@@ -2,7 +2,7 @@ use Rattle.std.proofs.Common.{◌≡◌, drop, map}
 use Rattle.std.specs.List.{list_any}
 use Rattle.elf_edits.specs.EditModel.{edit_model}
 use Rattle.elf_notes.specs.Notes.{has_no_names}
-use Rattle.elf_notes.proofs.notes.has_no_names.Given as goal
+use Rattle.elf_notes.proofs.findings.has_no_names.Given as goal
 
 -- none so far lacks them
 abbrev pub invariant-loop-edit : goal.invariant-loop-edit

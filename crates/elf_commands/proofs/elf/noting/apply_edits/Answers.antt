@@ -1,5 +1,5 @@
 use Rattle.std.proofs.Common.{inr}
-use Rattle.elf_commands.proofs.elf.noting.apply_noting.Goals as goal
+use Rattle.elf_commands.proofs.elf.noting.apply_edits.Goals as goal
 
 -- an edit is refused
 pub returns-in-Err-clause-err : goal.returns-in-Err-clause-err

@@ -2,7 +2,7 @@ use Rattle.std.proofs.Common.{◌≡◌, drop, map}
 use Rattle.std.specs.List.{list_any}
 use Rattle.elf_edits.specs.EditModel.{edit_model}
 use Rattle.elf_notes.specs.Notes.{sets_run_path}
-use Rattle.elf_notes.proofs.notes.sets_run_path.Given as goal
+use Rattle.elf_notes.proofs.findings.sets_run_path.Given as goal
 
 -- none so far does
 abbrev pub invariant-loop-edit : goal.invariant-loop-edit

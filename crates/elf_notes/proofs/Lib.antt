@@ -1,0 +1,2 @@
+mod NameSteps
+mod SymbolSteps
