@@ -1,0 +1,11 @@
+pub mod OverlapLaws
+pub mod IndexLaws
+pub mod DirectoryLaws
+pub mod PlaceLaws
+pub mod SignatureLaws
+pub mod PageLaws
+pub mod RenewalSteps
+pub mod HashLengths
+pub mod LaidLaws
+pub mod RenewedLaws
+pub mod FitLaws

@@ -1,0 +1,11 @@
+use Rattle.macho_signatures.proofs.RenewalSteps.{directories_all, directory_more, placed_at}
+use Rattle.macho_signatures.proofs.signature.Signature.renewed_slots.Goals as goal
+
+pub returns : goal.returns
+returns c = directories_all c.args.self.now.directories.items c.deref-directory-items.result.now c.args.touched.now c.args.bytes.now c.loop-directory.directory-index c.loop-directory.slots.items _ c.deref-directory-items.ensures.value c.loop-directory-test.false c.loop-directory.invariant
+
+pub push_slots-requires : goal.push_slots-requires
+push_slots-requires c = placed_at c.args.self.now.start _ c.args.self.now.directories.items c.deref-directory-items.result.now c.loop-directory.directory-index _ c.requires.each c.deref-directory-items.ensures.value c.loop-directory-test.true
+
+pub loop-directory-preserved : goal.loop-directory-preserved
+loop-directory-preserved c = directory_more c.args.self.now.directories.items c.deref-directory-items.result.now c.args.touched.now c.args.bytes.now c.loop-directory.directory-index _ c.loop-directory.slots.items c.push_slots.new.slots.items _ c.deref-directory-items.ensures.value c.loop-directory-test.true c.in_ok-push_slots.ensures c.loop-directory.invariant
