@@ -1,10 +1,10 @@
 -- The texts of a string table that aren't names of symbols.
-use Rattle.std.specs.Prelude.{ℕ, ◌+◌, ◌≡◌, List, ◌++◌, length}
+use Rattle.std.specs.Prelude.{ℕ, ◌+◌, ◌≡◌, List, ◌++◌, length, false}
 use Rattle.elf_format.specs.declared.constants.TheConstants.{SHT_DYNAMIC, SHT_DYNSYM, SHT_GNU_VERDEF, SHT_GNU_VERNEED, SHT_SYMTAB}
 use Rattle.elf_format.specs.Image.{Image}
 use Rattle.elf_format.specs.Options.{list_at}
 use Rattle.elf_layout_plan.specs.Needs.{written_entries, written_needs}
-use Rattle.elf_layout_plan.specs.Texts.{if_linked, if_names, texts_of_definitions, texts_of_entries, texts_of_needs, texts_of_symbols}
+use Rattle.elf_layout_plan.specs.Texts.{if_linked, if_names, is_subsequence, texts_of_definitions, texts_of_entries, texts_of_needs, texts_of_symbols}
 use Rattle.elf_layout_sizes.specs.declared.other_texts.Others.{Others}
 use Rattle.elf_layout_sizes.specs.Inner.{Edit}
 
@@ -42,3 +42,8 @@ HasStaticNamesOf read image number = if_linked image SHT_SYMTAB number (texts_of
 pub record HasNamesOf (read image : Image) (number : ℕ) : Type 0 where
   pub dynamic : HasDynamicNamesOf read image number
   pub static : HasStaticNamesOf read image number
+
+-- as many names of dynamic symbols stand in the string table with that number as stood there at read, and they are others
+pub record HasOtherDynamicNames (read image : Image) (number : ℕ) : Type 0 where
+  pub count : length (if_linked image SHT_DYNSYM number (texts_of_symbols image.dynamic_symbols)) ≡ length (if_linked read SHT_DYNSYM number (texts_of_symbols read.dynamic_symbols))
+  pub other : is_subsequence (if_linked image SHT_DYNSYM number (texts_of_symbols image.dynamic_symbols)) (if_linked read SHT_DYNSYM number (texts_of_symbols read.dynamic_symbols)) ≡ false

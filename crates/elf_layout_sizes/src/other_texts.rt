@@ -23,7 +23,7 @@ fn count(texts: &Others<'_>) -> u128
 }
 
 // Whether there are as many of each kind.
-fn have_same_counts(now: &Others<'_>, at_read: &Others<'_>) -> bool
+pub(crate) fn have_same_counts(now: &Others<'_>, at_read: &Others<'_>) -> bool
     ensures { IsTrue result → HaveSameCounts now.now at_read.now }
 {
     now.list.len() == at_read.list.len()

@@ -1,16 +1,15 @@
 //! The sizes of hash tables that are made anew.
-ghost use Rattle.std.specs.Prelude.{◌≡◌, ◌<◌, ◌≤◌, ◌*◌, ◌^◌, ◌+◌, count_by, drop, option_map, unwrap_or, SomeIff};
+ghost use Rattle.std.specs.Prelude.{◌≡◌, ◌<◌, ◌≤◌, ◌*◌, ◌^◌, ◌+◌, Some, count_by, drop, length, option_map, slice_get, unwrap_or, SomeIff};
 ghost use Rattle.patch_bytes.specs.Memory.{memory_of};
 ghost use Rattle.patch_bytes.specs.Number.{word_size};
 ghost use Rattle.elf_format.specs.Hashes.{gnu_header, word_of_table};
-ghost use Rattle.elf_image.specs.ImageModel.{symbol_model};
 ghost use Rattle.elf_image_symbol_edits.specs.Loan.{symbols_now};
 ghost use Rattle.elf_layout_plan.specs.Sizes.{gabi_table_size, is_found as is_found_symbol};
 ghost use Rattle.elf_layout_sizes.specs.Inner.{gnu_size_with as size_of_gnu};
 
 use crate::versions::grown;
 use elf_format::numbers::word_at;
-use elf_image::{Form, Symbol, SymbolsNow};
+use elf_image::{Form, SymbolsNow};
 use patch_bytes::Wide;
 
 // The number of buckets that a gABI hash table had, 0 where it isn't there (gABI, Hash Table).
@@ -57,11 +56,15 @@ fn gnu_front(form: Form, content: &[u8]) -> Option<u64>
     Some(16 + filter_words as u64 * word_bytes(form.wide) + 4 * buckets as u64)
 }
 
-// Whether a look-up may find a symbol: it is defined, and not local (gABI, Symbol Table, `st_shndx` and `st_info`).
-fn is_found(symbol: &Symbol<'_>) -> bool
-    ensures { result ≡ is_found_symbol (symbol_model symbol.now) }
+// Whether a look-up may find the symbol at a position: it is defined, and not local (gABI, Symbol Table, `st_shndx` and
+// `st_info`). Its name isn't looked at.
+#[inline(always)]
+fn is_found(symbols: SymbolsNow<'_>, i: usize) -> bool
+    requires { i < length (symbols_now symbols) }
+    ensures { option_map is_found_symbol (slice_get (symbols_now symbols.entry) i) ≡ Some result }
 {
-    symbol.st_shndx != 0 && symbol.st_info / 16 != 0
+    let numbers = symbols.numbers(i, 0);
+    numbers.st_shndx != 0 && numbers.st_info / 16 != 0
 }
 
 // How many symbols a look-up may find, without the first, which is never one.
@@ -70,7 +73,7 @@ fn count_found(symbols: SymbolsNow<'_>) -> usize
 {
     let mut count = 0;
     for i in 1..symbols.len() {
-        if is_found(&symbols.get(i)) {
+        if is_found(symbols, i) {
             count += 1;
         }
     }

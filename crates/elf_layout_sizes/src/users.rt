@@ -1,6 +1,6 @@
 //! Who uses the texts of string tables, and which texts.
 use crate::links::{Links, links_of};
-use crate::other_texts::{Others, is_known_copied};
+use crate::other_texts::{Others, have_same_counts, is_known_copied};
 use crate::texts::Texts;
 use crate::versions::{grown, needs_size};
 use elf_image::constants::{SHT_DYNAMIC, SHT_DYNSYM, SHT_GNU_VERDEF, SHT_GNU_VERNEED, SHT_SYMTAB};
@@ -41,7 +41,7 @@ impl<'a, 'data> Users<'a, 'data> {
     ghost use Rattle.elf_layout_plan.specs.Sizes.{dynamic_size as size_of_dynamic, needs_size as size_of_needs};
     ghost use Rattle.elf_tables.specs.Strings.{HoldNoNul};
     ghost use Rattle.elf_layout_plan.specs.Needs.{written_entries, written_needs};
-    ghost use Rattle.elf_layout_sizes.specs.OtherTexts.{HasDynamicNamesOf, HasNamesOf, HasStaticNamesOf, others_in_use};
+    ghost use Rattle.elf_layout_sizes.specs.OtherTexts.{HasDynamicNamesOf, HasNamesOf, HasOtherDynamicNames, HasStaticNamesOf, others_in_use};
     ghost use Rattle.elf_layout_plan.specs.Texts.{are_names_changed as have_names_changed, if_linked, if_names, is_table_copied, texts_in_use, texts_of_definitions, texts_of_entries, texts_of_needs, texts_of_symbols};
 
     // What is known of the users of an edited image's texts.
@@ -274,6 +274,45 @@ impl<'a, 'data> Users<'a, 'data> {
         self.keeps_dynamic_names(read_users, number) && self.keeps_static_names(read_users, number)
     }
 
+    // Whether as many names of dynamic symbols are known to stand in that string table as at read, and other ones.
+    fn has_other_dynamic_names(&self, read_users: &Users<'_, '_>, number: usize) -> bool
+        requires { read_users.now ≡ record { read = self.now.read; image = self.now.read } }
+        ensures { IsTrue result → HasOtherDynamicNames self.now.read self.now.image number }
+    {
+        if !is_numbered(self.links.dynamic_symbols, number) {
+            return false;
+        }
+        if !is_numbered(read_users.links.dynamic_symbols, number) {
+            return false;
+        }
+        self.are_names_changed
+            && self.image.dynamic_symbols().len() == self.read.dynamic_symbols().len()
+    }
+
+    // Whether that string table is copied, where names of dynamic symbols may have changed and it can be told without a look
+    // at them: it isn't, where there are as many texts of each kind and some of the names are others.
+    fn is_copied_by_counts(
+        &self,
+        read_users: &Users<'_, '_>,
+        number: usize,
+        now: &Others<'_>,
+        at_read: &Others<'_>,
+    ) -> Option<bool>
+        requires users { read_users.now ≡ record { read = self.now.read; image = self.now.read } }
+        requires now { now.now ≡ others_in_use self.now number }
+        requires at_read { at_read.now ≡ others_in_use read_users.now number }
+        ensures { IfSome result (λ is. is ≡ is_table_copied self.now.read self.now.image number) }
+    {
+        if self.keeps_static_names(read_users, number)
+            && self.has_other_dynamic_names(read_users, number)
+            && have_same_counts(now, at_read)
+        {
+            Some(false)
+        } else {
+            None
+        }
+    }
+
     // Whether that string table is copied, where it can be told without a look at the names of symbols.
     pub(crate) fn is_copied_by_others(
         &self,
@@ -285,11 +324,11 @@ impl<'a, 'data> Users<'a, 'data> {
         ensures { IfOk result (λ told. IfSome told (λ is.
             is ≡ is_table_copied self.now.read self.now.image number)) }
     {
-        if !self.keeps_names(read_users, number) {
-            return Ok(None);
-        }
         let now = self.others(alloc, number)?;
         let at_read = read_users.others(alloc, number)?;
+        if !self.keeps_names(read_users, number) {
+            return Ok(self.is_copied_by_counts(read_users, number, &now, &at_read));
+        }
         Ok(is_known_copied(&now, &at_read))
     }
 
