@@ -2,10 +2,11 @@
 use Rattle.std.proofs.Common.{◌≡◌, ℕ, ◌+◌, ◌<◌, Bool, true, false, cond, ◌||◌, not, List, [], ◌∷◌, ◌++◌, length, take, get_or, map, filter, refl, sym, ap, ◌∙◌, Option, Some, None, option_map, Bor, arith}
 use Rattle.std.specs.Prelude.{◌&&◌, ◌==◌, is_none, is_some}
 use Rattle.std.specs.Str.{bytes_eq}
-use Rattle.std.proofs.lemmas.Bool.{both_ways, eqb-true}
+use Rattle.std.proofs.lemmas.Bool.{eqb-true}
 use Rattle.std.proofs.lemmas.List.{append_assoc, map-append, take_more}
 use Rattle.std.proofs.lemmas.List.Folds.{list_any-append}
 use Rattle.std.proofs.lemmas.Slice.Eq.{bytes_eq-Decides}
+use Rattle.elf_edits.proofs.ForCallers.{other_way}
 use Rattle.elf_edits.specs.Changes.{has_name}
 use Rattle.elf_edits.specs.Texts.{is_among}
 use Rattle.elf_format.specs.Image.{Image}
@@ -13,17 +14,6 @@ use Rattle.elf_notes.specs.Notes.{Name, needed_of, old_needs, versioned_of}
 
 abbrev pub now_of : Bor Name → Name
 now_of n = n.now
-
-by_test : {A : Type 0} (b : Bool) → (b ≡ true → A) → (b ≡ false → A) → A
-by_test true then_so else_so = then_so refl
-by_test false then_so else_so = else_so refl
-
-other_way : (a b : Name) → bytes_eq a b ≡ bytes_eq b a
-other_way a b = by_test (bytes_eq a b)
-    (λ holds. holds ∙ sym ((bytes_eq-Decides b a).1 (sym ((bytes_eq-Decides a b).0 holds))))
-    (λ fails. by_test (bytes_eq b a)
-    (λ back. absurd (both_ways (bytes_eq a b) fails ((bytes_eq-Decides a b).1 (sym ((bytes_eq-Decides b a).0 back)))))
-    (λ back. fails ∙ sym back))
 
 itself : (a : Name) → bytes_eq a a ≡ true
 itself a = (bytes_eq-Decides a a).1 refl
@@ -112,6 +102,14 @@ pub two_left_out : (set : List (Bor Name)) (a b : Name → Bool) (names : List N
 two_left_out set a b names has =
     filter_within (has_name set) (λ name. not (a name) && not (b name)) names names (λ y there. there)
     (λ y there. has y ∙ ap (λ c. (c && not (a y)) && not (b y)) there)
+
+-- a set that has a name just where a test holds
+pub by_set : (set : List (Bor Name)) (test : Name → Bool) (names : List Name) → ((name : Name) → has_name set name ≡ test name)
+    → filter (has_name set) names ≡ filter test names
+by_set set test [] has = refl
+by_set set test (y ∷ ys) has =
+    ap (λ b. cond b (y ∷ filter (has_name set) ys) (filter (has_name set) ys)) (has y)
+    ∙ ap (λ l. cond (test y) (y ∷ l) l) (by_set set test ys has)
 
 -- ## No library was dropped
 

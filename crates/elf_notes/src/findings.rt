@@ -6,7 +6,8 @@ ghost use Rattle.elf_edits.specs.Texts.{is_among as among};
 ghost use Rattle.elf_image.specs.ImageModel.{entry_model};
 ghost use Rattle.elf_notes.specs.Notes.{AreFindings, entries_of as entries_shown, has_no_names as lacks_names, has_no_pairs as lacks_pairs, is_loader_name as names_loader, loads_itself as is_self_loading, says_loader as tells_loader, says_pie as tells_pie, sets_run_path as gives_run_path, unmatched_symbols};
 
-use crate::names::{asked_in, is_among, needed_of, put_in, symbols_asked_in, symbols_put_in};
+use crate::names::{asked_in, needed_of, put_in, symbols_asked_in, symbols_put_in};
+use crate::sets::{names_in, set_of, take_out};
 use crate::symbols::unmatched_symbols_of;
 use elf_edits::ElfEdit;
 use elf_format::constants::{DT_FLAGS_1, DT_SONAME, ET_DYN};
@@ -91,7 +92,7 @@ fn gives_itself_a_run_path(image: &Builder<'_>, edits: &[ElfEdit]) -> bool
     loads_itself(image) && sets_run_path(edits)
 }
 
-/// The names of some that are needed.
+/// The names of some that are needed. The cost is in proportion to all of them.
 fn needed_among<'a>(
     alloc: Global,
     asked: &[&'a [u8]],
@@ -100,16 +101,14 @@ fn needed_among<'a>(
     ensures { IfOk result (λ names. map (λ n. n.now) names.items
         ≡ filter (among (map (λ n. n.now) needed.now)) (map (λ n. n.now) asked.now)) }
 {
-    let mut names = Vec::new(alloc);
-    for name in asked {
-        if is_among(needed, name) {
-            names.push(*name)?;
-        }
+    if asked.is_empty() {
+        return Ok(Vec::new(alloc));
     }
-    Ok(names)
+    let set = set_of(alloc, needed)?;
+    names_in(alloc, asked, &set)
 }
 
-/// The names of some that are in neither of two lists.
+/// The names of some that are in neither of two lists. The cost is in proportion to all of them.
 fn unmatched_of<'a>(
     alloc: Global,
     asked: &[&'a [u8]],
@@ -120,13 +119,13 @@ fn unmatched_of<'a>(
         (λ name. not (among (map (λ n. n.now) needed.now) name)
         && not (among (map (λ n. n.now) put.now) name)) (map (λ n. n.now) asked.now)) }
 {
-    let mut names = Vec::new(alloc);
-    for name in asked {
-        if !is_among(needed, name) && !is_among(put, name) {
-            names.push(*name)?;
-        }
+    if asked.is_empty() {
+        return Ok(Vec::new(alloc));
     }
-    Ok(names)
+    let mut missing = set_of(alloc, asked)?;
+    take_out(&mut missing, needed);
+    take_out(&mut missing, put);
+    names_in(alloc, asked, &missing)
 }
 
 /// Whether one of some edits of needed libraries has no names.

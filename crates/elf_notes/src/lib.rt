@@ -5,6 +5,7 @@ pub mod findings;
 mod lines;
 mod names;
 pub mod notes;
+mod sets;
 mod symbols;
 
 pub use crate::findings::{Findings, findings_of};

@@ -3,7 +3,6 @@ ghost use Rattle.std.specs.Prelude.{◌≡◌, ◌++◌, IfOk, OnOk, filter, map
 ghost use Rattle.std.specs.List.{flat_map};
 ghost use Rattle.elf_edits.specs.EditModel.{edit_model, pairs_model, texts_model};
 ghost use Rattle.elf_edits.specs.Entries.{has_tag as has_this_tag, needed_names, text_if};
-ghost use Rattle.elf_edits.specs.Texts.{is_among as among};
 ghost use Rattle.elf_image.specs.ImageModel.{entry_model};
 ghost use Rattle.elf_notes.specs.Notes.{asked, asked_by, put, put_by, symbols_asked, symbols_asked_by, symbols_put, symbols_put_by};
 
@@ -11,18 +10,6 @@ use elf_edits::ElfEdit;
 use elf_format::constants::DT_NEEDED;
 use elf_image::Dynamic;
 use std::alloc::{AllocError, Global};
-
-/// Whether a name is one of some. Takes no memory.
-pub(crate) fn is_among(names: &[&[u8]], name: &[u8]) -> bool
-    ensures { result ≡ among (map (λ n. n.now) names.now) name.now }
-{
-    for other in names {
-        if name == *other {
-            return true;
-        }
-    }
-    false
-}
 
 /// The libraries that entries need, in order.
 pub(crate) fn needed_of<'e>(

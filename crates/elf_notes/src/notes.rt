@@ -1,26 +1,28 @@
 //! What a user should know of edits of an ELF file.
-ghost use Rattle.std.specs.Prelude.{◌≡◌, ◌&&◌, [], ◌∷◌, not, IfOk, drop, filter, map, take};
+ghost use Rattle.std.specs.Prelude.{◌≡◌, ◌<◌, [], ◌∷◌, IfOk, Some, drop, filter, length, map, option_map, slice_get, take};
+ghost use Rattle.std.specs.HashSet.{keys};
 ghost use Rattle.std.specs.List.{list_any};
-ghost use Rattle.elf_edits.specs.Texts.{is_among as among};
+ghost use Rattle.elf_edits.specs.Changes.{has_name};
 ghost use Rattle.elf_format.specs.Options.{is_one_of};
 ghost use Rattle.elf_format.specs.declared.constants.TheConstants.{SHT_REL as REL, SHT_RELA as RELA};
 ghost use Rattle.elf_hashes.specs.Found.{is_found as may_be_found};
 ghost use Rattle.elf_image.specs.ImageModel.{needs_model, section_model};
 ghost use Rattle.elf_image.specs.Renumbering.{is_opaque as is_kept};
-ghost use Rattle.elf_image_symbols.specs.SymbolModel.{symbol_model};
 ghost use Rattle.elf_image_symbol_edits.specs.Loan.{symbols_now};
 ghost use Rattle.elf_layout_needs.specs.Staying.{unmarked_needs};
 ghost use Rattle.elf_notes.specs.Notes.{AreLeft, is_hashed_anew as are_tables_made_anew, is_unread as are_numbers_kept, leaves_out as does_leave_out, old_needs, versioned_of};
 
 use crate::findings::{Findings, entries_of};
-use crate::names::{is_among, needed_of};
+use crate::names::needed_of;
+use crate::sets::{is_in, set_of, take_out};
 use elf_format::constants::{SHT_GNU_HASH, SHT_REL, SHT_RELA};
 use elf_format::numbers::word_at;
 use elf_format::{Form, SectionData};
-use elf_image::{Builder, Section, Symbol, SymbolsNow, VersionNeed};
+use elf_image::{Builder, Section, SymbolsNow, VersionNeed};
 use elf_layout_needs::StayingNeeds;
 use elf_layout_plan::read_source;
 use std::alloc::{AllocError, Global};
+use std::collections::HashSet;
 
 /// What a user should know of edits that are made of a file.
 #[derive(Drop)]
@@ -69,8 +71,10 @@ fn old_needs_of<'a>(
         return Ok(Vec::new(alloc));
     }
     let needed = needed_of(alloc, entries_of(edited))?;
+    let mut old = set_of(alloc, names)?;
+    take_out(&mut old, &needed);
     let staying = staying_needs(alloc, edited)?;
-    kept_needs(alloc, &edited.versions().needs, &staying, names, &needed)
+    kept_needs(alloc, &edited.versions().needs, &staying, &old)
 }
 
 /// Which needed versions of an edited image stay.
@@ -82,23 +86,20 @@ fn staying_needs(alloc: Global, edited: &Builder<'_>) -> Result<StayingNeeds, Al
     StayingNeeds::new(alloc, &read, edited)
 }
 
-/// The libraries whose records stay, that are among some and not among others.
+/// The libraries whose records stay, and that are in a set.
 fn kept_needs<'a>(
     alloc: Global,
     needs: &'a [VersionNeed<'_>],
     staying: &StayingNeeds,
-    names: &[&[u8]],
-    needed: &[&[u8]],
+    old: &HashSet<&[u8]>,
 ) -> Result<Vec<&'a [u8]>, AllocError>
-    ensures { IfOk result (λ kept. map (λ n. n.now) kept.items ≡ filter
-        (λ name. among (map (λ n. n.now) names.now) name
-        && not (among (map (λ n. n.now) needed.now) name))
+    ensures { IfOk result (λ kept. map (λ n. n.now) kept.items ≡ filter (has_name (keys old.now))
         (map (λ n. n.file) (unmarked_needs staying.now.marks (map needs_model needs.entry.now)))) }
 {
     let mut kept = Vec::new(alloc);
     for need in needs {
         let name = need.file.as_slice();
-        if staying.does_need_stay(need) && is_among(names, name) && !is_among(needed, name) {
+        if staying.does_need_stay(need) && is_in(old, name) {
             kept.push(name)?;
         }
     }
@@ -148,18 +149,21 @@ fn is_any_found(symbols: &SymbolsNow<'_>, end: u32) -> bool
     ensures { result ≡ list_any may_be_found (drop 1 (take end (symbols_now symbols.now))) }
 {
     for i in 1..symbols.len().min(end as usize) {
-        if is_found(&symbols.get(i)) {
+        if is_found(symbols, i) {
             return true;
         }
     }
     false
 }
 
-/// Whether a look-up may find a symbol: it is defined, and not local.
-fn is_found(symbol: &Symbol<'_>) -> bool
-    ensures { result ≡ may_be_found (symbol_model symbol.now) }
+/// Whether a look-up may find the symbol at a position: it is defined, and not local (gABI, Symbol Table). Its name isn't
+/// looked at.
+fn is_found(symbols: &SymbolsNow<'_>, i: usize) -> bool
+    requires { i < length (symbols_now symbols.now) }
+    ensures { option_map may_be_found (slice_get (symbols_now symbols.now) i) ≡ Some result }
 {
-    symbol.st_shndx != 0 && symbol.st_info / 16 != 0
+    let numbers = symbols.numbers(i, 0);
+    numbers.st_shndx != 0 && numbers.st_info / 16 != 0
 }
 
 /// Whether some sections have relocations that can't be read.

@@ -6,6 +6,7 @@ ghost use Rattle.elf_edits.specs.Symbols.{names_behind_first};
 ghost use Rattle.elf_edits.specs.Texts.{is_among as among};
 ghost use Rattle.elf_image_symbol_edits.specs.Loan.{symbols_now};
 
+use crate::sets::{names_in, set_of, take_out};
 use elf_image::SymbolsNow;
 use std::alloc::{AllocError, Global};
 use std::collections::HashSet;
@@ -27,56 +28,19 @@ pub(crate) fn unmatched_symbols_of<'e>(
     }
     let mut missing = set_of(alloc, asked)?;
     leave_out_symbols(&mut missing, &symbols);
-    leave_out(&mut missing, put);
+    take_out(&mut missing, put);
     names_in(alloc, asked, &missing)
 }
 
-/// The set of some names.
-fn set_of<'e>(alloc: Global, names: &[&'e [u8]]) -> Result<HashSet<&'e [u8]>, AllocError>
-    ensures { IfOk result (λ set. (name : List ℕ) →
-        has_name (keys set) name ≡ among (map (λ n. n.now) names.now) name) }
-{
-    let mut set = HashSet::new(alloc);
-    for name in names {
-        set.insert(*name)?;
-    }
-    Ok(set)
-}
-
-/// Takes the names of the symbols behind the first out of a set.
+/// Takes the names of the symbols behind the first out of a set, as long as there are any.
 fn leave_out_symbols(set: &mut HashSet<&[u8]>, symbols: &SymbolsNow<'_>)
     ensures { (name : List ℕ) → has_name (keys set.new) name ≡ (has_name (keys set.old) name
         && not (among (names_behind_first (symbols_now symbols.now)) name)) }
 {
     for i in 1..symbols.len() {
+        if set.is_empty() {
+            return;
+        }
         set.remove(symbols.name(i));
     }
-}
-
-/// Takes names out of a set.
-fn leave_out(set: &mut HashSet<&[u8]>, names: &[&[u8]])
-    ensures { (name : List ℕ) → has_name (keys set.new) name
-        ≡ (has_name (keys set.old) name && not (among (map (λ n. n.now) names.now) name)) }
-{
-    for name in names {
-        set.remove(*name);
-    }
-}
-
-/// The names of some that are in a set.
-fn names_in<'e>(
-    alloc: Global,
-    names: &[&'e [u8]],
-    set: &HashSet<&[u8]>,
-) -> Result<Vec<&'e [u8]>, AllocError>
-    ensures { IfOk result (λ found. map (λ n. n.now) found.items
-        ≡ filter (has_name (keys set.now)) (map (λ n. n.now) names.now)) }
-{
-    let mut found = Vec::new(alloc);
-    for name in names {
-        if set.contains(*name) {
-            found.push(*name)?;
-        }
-    }
-    Ok(found)
 }

@@ -14,5 +14,5 @@ pub returns : goal.returns
 returns c =
     let there : Name → Bool = is_among (names_behind_first (symbols_now c.args.symbols)) in
     let put : Name → Bool = is_among (map (λ n. n.now) c.args.put.now) in
-    IfOk-weaker c.names_in.result _ _ (λ found is. is ∙ two_left_out (keys c.leave_out.new.set) there put (map (λ n. n.now) c.args.asked.now) (λ name.
-    c.leave_out.ensures name ∙ ap (λ b. b && not (put name)) (c.leave_out_symbols.ensures name ∙ ap (λ b. b && not (there name)) (c.in_ok-missing.ensures name)))) c.names_in.ensures
+    IfOk-weaker c.names_in.result _ _ (λ found is. is ∙ two_left_out (keys c.take_out.new.set) there put (map (λ n. n.now) c.args.asked.now) (λ name.
+    c.take_out.ensures name ∙ ap (λ b. b && not (put name)) (c.leave_out_symbols.ensures name ∙ ap (λ b. b && not (there name)) (c.in_ok-missing.ensures name)))) c.names_in.ensures

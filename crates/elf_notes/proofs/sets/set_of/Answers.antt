@@ -3,7 +3,7 @@ use Rattle.std.proofs.Common.{get_or}
 use Rattle.std.specs.HashSet.{keys}
 use Rattle.std.proofs.lemmas.List.{get_or_default}
 use Rattle.elf_notes.proofs.NameSteps.{put_more}
-use Rattle.elf_notes.proofs.symbols.set_of.Goals as goal
+use Rattle.elf_notes.proofs.sets.set_of.Goals as goal
 
 pub loop-name-preserved : goal.loop-name-preserved
 loop-name-preserved c = λ name.

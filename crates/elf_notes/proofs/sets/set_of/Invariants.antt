@@ -2,7 +2,7 @@ use Rattle.std.proofs.Common.{◌≡◌, ℕ, List, map, take}
 use Rattle.std.specs.HashSet.{keys}
 use Rattle.elf_edits.specs.Changes.{has_name}
 use Rattle.elf_edits.specs.Texts.{is_among}
-use Rattle.elf_notes.proofs.symbols.set_of.Given as goal
+use Rattle.elf_notes.proofs.sets.set_of.Given as goal
 
 -- the set has the names so far
 abbrev pub invariant-loop-name : goal.invariant-loop-name

@@ -3,7 +3,7 @@ use Rattle.std.specs.Prelude.{◌&&◌}
 use Rattle.std.specs.HashSet.{keys}
 use Rattle.elf_edits.specs.Changes.{has_name}
 use Rattle.elf_edits.specs.Texts.{is_among}
-use Rattle.elf_notes.proofs.symbols.leave_out.Given as goal
+use Rattle.elf_notes.proofs.sets.take_out.Given as goal
 
 -- the set is without the names so far
 abbrev pub invariant-loop-name : goal.invariant-loop-name

@@ -4,7 +4,7 @@ use Rattle.std.specs.HashSet.{keys}
 use Rattle.std.proofs.lemmas.List.{get_or_default}
 use Rattle.elf_edits.specs.Changes.{has_name}
 use Rattle.elf_notes.proofs.NameSteps.{all_there, take_out_more}
-use Rattle.elf_notes.proofs.symbols.leave_out.Goals as goal
+use Rattle.elf_notes.proofs.sets.take_out.Goals as goal
 
 pub loop-name-init : goal.loop-name-init
 loop-name-init c = λ name. all_there (has_name (keys c.args.set.now) name)

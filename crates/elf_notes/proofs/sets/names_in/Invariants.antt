@@ -1,7 +1,7 @@
 use Rattle.std.proofs.Common.{◌≡◌, ◌++◌, drop, filter, map}
 use Rattle.std.specs.HashSet.{keys}
 use Rattle.elf_edits.specs.Changes.{has_name}
-use Rattle.elf_notes.proofs.symbols.names_in.Given as goal
+use Rattle.elf_notes.proofs.sets.names_in.Given as goal
 
 -- the names so far, with those that are left
 abbrev pub invariant-loop-name : goal.invariant-loop-name
