@@ -103,7 +103,8 @@ few_symbols : (read image : Image) → do_symbols_fit read image ≡ true → ar
     → length image.dynamic_symbols < 2 ^ 32
 few_symbols read image fit changed =
     ltb-true (length image.dynamic_symbols) (2 ^ 32)
-    (ap (λ (b : Bool). not b || nat_lt (length image.dynamic_symbols) (2 ^ 32)) (sym changed) ∙ fit)
+    (ap (λ (b : Bool). not b || nat_lt (length image.dynamic_symbols) (2 ^ 32)) (sym changed)
+    ∙ (and_parts (not (are_names_changed read image) || nat_lt (length image.dynamic_symbols) (2 ^ 32)) _ fit).0)
 
 module _ (read image : Image) (plan : Layout) (made : Option Made) (raw : List EntryNumbers) (contents : List (List ℕ))
     (planned : IsPlanned read image plan)

@@ -30,10 +30,10 @@ use Rattle.elf_write_contents.specs.ContentSteps.{AreBytesOf, IsBytesAt, IsNumbe
 use Rattle.elf_write_strings.specs.DynamicStrings.{AreStrings, strings_at}
 use Rattle.elf_write_spec.specs.Ready.{IsPlanned, IsReady}
 use Rattle.elf_write_contents.specs.Inner.{AreContents, AreRaw, IsMadeContent}
-use Rattle.elf_write_strings.proofs.ForCallers.ReadyEdits.{edit_of}
+use Rattle.elf_write_contents.proofs.ReadyEdits.{edit_of}
 use Rattle.elf_write_spec.proofs.ForCallers.IntactEdits.{ReadFacts, kept-at, length-kept, read_facts}
 use Rattle.elf_write_strings.proofs.ForCallers.MadeShort.{all_at as fits_at}
-use Rattle.elf_write_strings.proofs.ForCallers.OthersCopied.{content_is_read}
+use Rattle.elf_write_contents.proofs.OthersCopied.{content_is_read}
 use Rattle.elf_write_symbols.specs.Fits.{do_numbers_fit_in, do_section_relocations_fit}
 use Rattle.elf_write_contents.proofs.ContentsMade.{IsOther, PlacedAt, bytes_at, definitions_made, gabi_made, gnu_made, needs_made, placed_at, resized_with, symbols_made, versions_made}
 use Rattle.elf_write_contents.proofs.ContentsByType.{interpreter_made, list_made, others_made, room, strings_made, symbols_made as static_symbols_made}

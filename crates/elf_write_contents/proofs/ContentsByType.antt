@@ -41,9 +41,9 @@ use Rattle.elf_write_strings.specs.DynamicStrings.{AreStrings, IsTold, content_r
 use Rattle.elf_write_spec.specs.Ready.{IsReady}
 use Rattle.elf_write_contents.specs.ContentSteps.{IsRelocated, IsRelocatedOf}
 use Rattle.elf_write_contents.specs.Inner.{AreRaw, IsMadeContent}
-use Rattle.elf_write_strings.proofs.ForCallers.ReadyEdits.{edit_of}
+use Rattle.elf_write_contents.proofs.ReadyEdits.{edit_of}
 use Rattle.elf_write_spec.proofs.ForCallers.IntactEdits.{ReadFacts, SectionRead, interpreter_stands, interpreter_type, length-kept, length-now, section_read}
-use Rattle.elf_write_strings.proofs.ForCallers.OthersCopied.{content_is_read, others_copied}
+use Rattle.elf_write_contents.proofs.OthersCopied.{content_is_read, others_copied}
 use Rattle.elf_write_contents.proofs.ContentsMade.{IsOther, PlacedAt, content_by, content_from, content_plain, is_plain, kind_is, kind_plain, plain_long, relocations_stored, resized_with, statics_made, stored, typed, typed_size}
 use Rattle.elf_write_contents.proofs.ContentsCopied.{content_long, content_sized, copied_size, few_lists, static_size}
 use Rattle.elf_write_contents.proofs.SymbolsStatic.{statics_copied}

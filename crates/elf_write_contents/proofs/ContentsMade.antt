@@ -34,7 +34,7 @@ use Rattle.elf_write_contents.specs.ContentSteps.{IsBytesAt, IsRelocatedOf}
 use Rattle.elf_write_strings.specs.DynamicStrings.{strings_at}
 use Rattle.elf_write_spec.specs.Ready.{IsPlanned}
 use Rattle.elf_write_contents.specs.Inner.{IsMadeContent}
-use Rattle.elf_write_strings.proofs.ForCallers.ReadyEdits.{edit_of}
+use Rattle.elf_write_contents.proofs.ReadyEdits.{edit_of}
 use Rattle.elf_write_spec.proofs.ForCallers.IntactEdits.{ReadFacts, SectionRead, section_read}
 use Rattle.elf_write_spec.proofs.ForCallers.IntactSections.{kept}
 use Rattle.elf_write_spec.proofs.ForCallers.SectionKinds.{kind_by}

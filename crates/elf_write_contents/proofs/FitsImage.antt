@@ -34,7 +34,7 @@ use Rattle.elf_write_spec.specs.Ready.{IsPlanned, IsReady}
 use Rattle.elf_write_contents.specs.Inner.{AreHeaders, AreRaw}
 use Rattle.elf_write_contents.specs.Numbers.{do_header_numbers_fit, do_sections_fit, does_entry_fit, entry_with}
 use Rattle.elf_write_contents.proofs.FitsStrings.{strings_short, words_end}
-use Rattle.elf_write_strings.proofs.ForCallers.ReadyEdits.{edit_of}
+use Rattle.elf_write_contents.proofs.ReadyEdits.{edit_of}
 use Rattle.elf_write_spec.proofs.ForCallers.IntactEdits.{Nowhere, ReadFacts, There, entries_written, read_facts, type_at}
 
 -- ## Section headers

@@ -23,9 +23,10 @@ use Rattle.elf_tables.specs.Strings.{table_length}
 use Rattle.elf_write_strings.specs.declared.made.Made.{Made}
 use Rattle.elf_write_strings.specs.DynamicStrings.{AreStrings, content_read, strings_at}
 use Rattle.elf_write_spec.specs.Ready.{IsReady}
-use Rattle.elf_write_strings.proofs.ForCallers.MadeShort.{all_at, strings_read}
-use Rattle.elf_write_strings.proofs.ForCallers.OthersCopied.{content_is_read, list_linked}
-use Rattle.elf_write_strings.proofs.ForCallers.ReadyEdits.{edit_of}
+use Rattle.elf_write_strings.proofs.ForCallers.MadeShort.{all_at}
+use Rattle.elf_write_contents.proofs.StringsRead.{strings_read}
+use Rattle.elf_write_contents.proofs.OthersCopied.{content_is_read, list_linked}
+use Rattle.elf_write_contents.proofs.ReadyEdits.{edit_of}
 use Rattle.elf_write_spec.proofs.ForCallers.IntactEdits.{ReadFacts, kept-at, not_interpreter, read_facts}
 use Rattle.elf_write_spec.proofs.ForCallers.IntactSections.{kept}
 

@@ -9,6 +9,6 @@ pub use Rattle.elf_write_contents.proofs.ContentsAll.{long_held}
 pub use Rattle.elf_write_contents.proofs.NamesTable.{linked_at, names_at, names_typed, shows_none}
 unfoldable pub use Rattle.elf_write_contents.proofs.NamesTable.{shows_texts}
 -- an image that is ready to be written is edited, and nothing of it went
-pub use Rattle.elf_write_strings.proofs.ForCallers.ReadyEdits.{edit_of}
+pub use Rattle.elf_write_contents.proofs.ReadyEdits.{edit_of, edited_ready}
 -- dynamic strings that are copied, past what 32 bits reach, are numbers that don't fit
 pub use Rattle.elf_write_contents.proofs.PreparedFaults.{names_far}

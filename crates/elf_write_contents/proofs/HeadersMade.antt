@@ -1,6 +1,6 @@
 -- What is known of each section header that is written.
-use Rattle.std.proofs.Common.{◌≡◌, ℕ, ◌<◌, ◌≤◌, ◌^◌, Bool, true, false, List, [], length, map, get_or, refl, sym, ap, ◌∙◌, subst, Option, Some, arith}
-use Rattle.std.specs.Prelude.{Contains, IsSome, if◌then◌else◌, ◌==◌, unwrap_or}
+use Rattle.std.proofs.Common.{◌≡◌, ℕ, ◌<◌, ◌≤◌, ◌^◌, Bool, false, List, [], length, map, get_or, refl, sym, ap, ◌∙◌, subst, Option, Some, arith}
+use Rattle.std.specs.Prelude.{Contains, IsSome, if◌then◌else◌, ◌==◌, slice_index, unwrap_or}
 use Rattle.std.specs.List.{slice_get}
 use Rattle.std.specs.Option.{option_map}
 use Rattle.std.proofs.lemmas.List.{length-map}
@@ -15,7 +15,8 @@ use Rattle.elf_format.specs.File.{Opened, Parts, section_bytes, sections_of}
 use Rattle.elf_format.specs.Image.{Image, ImageSection}
 use Rattle.elf_format.specs.Places.{Place}
 use Rattle.elf_format.specs.Records.{section_header_size, segment_header_size}
-use Rattle.elf_format.specs.Rules.{file_of, texts_of}
+use Rattle.elf_format.specs.Rules.{file_of, has_section_info, texts_of}
+use Rattle.elf_format.proofs.ForCallers.Lengths.{slice_index-counted}
 use Rattle.elf_image.specs.declared.section.Section.{Section}
 use Rattle.elf_image.specs.ImageModel.{section_model}
 use Rattle.elf_image.specs.Kept.{KeptSection, image_at_read, kept_sections}
@@ -36,20 +37,17 @@ use Rattle.elf_write_contents.specs.declared.headers.Known.{Known}
 use Rattle.elf_write_strings.specs.declared.made.Made.{Made}
 use Rattle.elf_write_contents.specs.HeaderSteps.{IsHeaderAt, IsKnown, header_by, headers_read, info_by}
 use Rattle.elf_write_strings.specs.DynamicStrings.{AreStrings, content_read}
-use Rattle.elf_write_spec.specs.Ready.{IsPlanned, IsReady}
+use Rattle.elf_write_spec.specs.Ready.{IsEditedReady, IsPlanned, IsReady}
 use Rattle.elf_write_contents.specs.Numbers.{do_numbers_fit}
 use Rattle.elf_write_contents.proofs.HeadersLists.{far_numbers, far_section}
+use Rattle.elf_write_contents.proofs.HeadersOrder.{behind_static}
 use Rattle.elf_write_contents.proofs.NamesTable.{names_at}
-use Rattle.elf_write_strings.proofs.ForCallers.ReadyEdits.{edit_of}
+use Rattle.elf_write_contents.proofs.ReadyEdits.{edit_of}
 use Rattle.elf_write_strings.proofs.ForCallers.TextsTold.{told_names}
-use Rattle.elf_write_spec.proofs.ForCallers.IntactEdits.{ReadFacts, SectionRead, kept-at, kept_is, length-kept, length-now, needs_written, new_number-same, read_facts, section_read, static_same}
+use Rattle.elf_write_spec.proofs.ForCallers.IntactEdits.{ReadFacts, SectionRead, counts, kept-at, kept_is, length-kept, length-now, needs_written, read_facts, section_read}
 use Rattle.elf_write_spec.proofs.ForCallers.IntactSections.{kept}
 
 -- ## The file header
-
--- the section of names keeps its number
-names_number : (read image : Image) (plan : Layout) → IsPlanned read image plan → image.header.e_shstrndx ≡ new_number image image.header.e_shstrndx
-names_number read image plan is = sym (new_number-same read image (edit_of is.ready) image.header.e_shstrndx)
 
 -- the file header by its numbers
 abbrev header_with : Header → ℕ → ℕ → ℕ → ℕ → ℕ → ℕ → ℕ → FileHeader
@@ -69,12 +67,13 @@ header_with h phoff shoff phentsize phnum shentsize shnum names = record {
   e_shstrndx = names;
 }
 
-pub file_header_is : (read image : Image) (plan : Layout) → IsPlanned read image plan
-    → (h : Header) (form : Form) (phoff shoff phentsize phnum shentsize shnum : ℕ) → h ≡ image.header → form.wide ≡ image.form.wide
+pub file_header_is : (image : Image) (plan : Layout)
+    → (h : Header) (form : Form) (phoff shoff phentsize phnum shentsize shnum names : ℕ) → h ≡ image.header → form.wide ≡ image.form.wide
     → form.order ≡ image.form.order → phoff ≡ plan.e_phoff → shoff ≡ plan.e_shoff → phentsize ≡ segment_header_size form
     → phnum ≡ length plan.segments → shentsize ≡ section_header_size form → shnum ≡ length plan.places
-    → header_with h phoff shoff phentsize phnum shentsize shnum h.e_shstrndx ≡ written_header image plan
-file_header_is read image plan is h form phoff shoff phentsize phnum shentsize shnum is_h is_wide is_order is_phoff is_shoff is_phentsize is_phnum is_shentsize is_shnum =
+    → names ≡ new_number image image.header.e_shstrndx
+    → header_with h phoff shoff phentsize phnum shentsize shnum names ≡ written_header image plan
+file_header_is image plan h form phoff shoff phentsize phnum shentsize shnum names is_h is_wide is_order is_phoff is_shoff is_phentsize is_phnum is_shentsize is_shnum is_names =
     let i : Header = image.header in
     let f : Form = image.form in
     let same_form : form ≡ f =
@@ -82,14 +81,14 @@ file_header_is read image plan is h form phoff shoff phentsize phnum shentsize s
     let a : ℕ = segment_header_size f in
     let b : ℕ = section_header_size f in
     let m : ℕ = length plan.segments in
-    ap (λ (x : Header). header_with x phoff shoff phentsize phnum shentsize shnum x.e_shstrndx) is_h
-    ∙ ap (λ (n : ℕ). header_with i n shoff phentsize phnum shentsize shnum i.e_shstrndx) is_phoff
-    ∙ ap (λ (n : ℕ). header_with i plan.e_phoff n phentsize phnum shentsize shnum i.e_shstrndx) is_shoff
-    ∙ ap (λ (n : ℕ). header_with i plan.e_phoff plan.e_shoff n phnum shentsize shnum i.e_shstrndx) (is_phentsize ∙ ap segment_header_size same_form)
-    ∙ ap (λ (n : ℕ). header_with i plan.e_phoff plan.e_shoff a n shentsize shnum i.e_shstrndx) is_phnum
-    ∙ ap (λ (n : ℕ). header_with i plan.e_phoff plan.e_shoff a m n shnum i.e_shstrndx) (is_shentsize ∙ ap section_header_size same_form)
-    ∙ ap (λ (n : ℕ). header_with i plan.e_phoff plan.e_shoff a m b n i.e_shstrndx) is_shnum
-    ∙ ap (λ (n : ℕ). header_with i plan.e_phoff plan.e_shoff a m b (length plan.places) n) (names_number read image plan is)
+    ap (λ (x : Header). header_with x phoff shoff phentsize phnum shentsize shnum names) is_h
+    ∙ ap (λ (n : ℕ). header_with i n shoff phentsize phnum shentsize shnum names) is_phoff
+    ∙ ap (λ (n : ℕ). header_with i plan.e_phoff n phentsize phnum shentsize shnum names) is_shoff
+    ∙ ap (λ (n : ℕ). header_with i plan.e_phoff plan.e_shoff n phnum shentsize shnum names) (is_phentsize ∙ ap segment_header_size same_form)
+    ∙ ap (λ (n : ℕ). header_with i plan.e_phoff plan.e_shoff a n shentsize shnum names) is_phnum
+    ∙ ap (λ (n : ℕ). header_with i plan.e_phoff plan.e_shoff a m n shnum names) (is_shentsize ∙ ap section_header_size same_form)
+    ∙ ap (λ (n : ℕ). header_with i plan.e_phoff plan.e_shoff a m b n names) is_shnum
+    ∙ ap (λ (n : ℕ). header_with i plan.e_phoff plan.e_shoff a m b (length plan.places) n) is_names
 
 -- ## The lengths of lists
 
@@ -145,14 +144,14 @@ name_made read image made strings i s at m is own =
 
 -- ## What is known of the image as a whole
 
-pub known_of : (read image : Image) (s : Staying) (known : Known) → IsReady read image → AreWritten read image s
+pub known_of : (read image : Image) (s : Staying) (known : Known) → IsEditedReady read image → AreWritten read image s
     → known.symbols ≡ behind_locals image.symbols
     → known.dynamic_symbols ≡ behind_locals (final read image).dynamic_symbols
     → known.needs ≡ length (unmarked_needs s.marks image.needs)
     → headers_read image ≡ Some known.headers.items
     → IsKnown image known
 known_of read image s known is stays symbols dynamic needs headers = record {
-  symbols = symbols;
+  symbols = symbols ∙ behind_static (image_at_read image) image;
   dynamic_symbols = dynamic ∙ ap (λ (r : Image). behind_locals (final r image).dynamic_symbols) is.at_read;
   needs = needs ∙ ap length (stays.needs ∙ sym (needs_written read image) ∙ ap (λ (r : Image). (final r image).needs) is.at_read);
   headers = headers;
@@ -161,32 +160,31 @@ known_of read image s known is stays symbols dynamic needs headers = record {
 -- ## Headers
 
 -- sh_info of a section that is written
-pub info_is : (image : Image) → IsReady (image_at_read image) image → (known : Known) → IsKnown image known → (s : ImageSection)
+pub info_is : (image : Image) → (known : Known) → IsKnown image known → (s : ImageSection)
     → written_info (image_at_read image) image s ≡ info_by known image s
-info_is image is known known_is s =
+info_is image known known_is s =
     let t : ℕ = s.sh_type in
     let other : ℕ = if is_info_number s then new_number image s.sh_info else s.sh_info in
-    let info : ℕ → ℕ → ℕ → ℕ → ℕ =
-    λ a b d z. if t == SHT_SYMTAB then a else if t == SHT_DYNSYM then b else if t == SHT_GNU_VERDEF then length image.definitions
-    else if t == SHT_GNU_VERNEED then d else z in
+    let info : ℕ → ℕ → ℕ → ℕ =
+    λ a b d. if t == SHT_SYMTAB then a else if t == SHT_DYNSYM then b else if t == SHT_GNU_VERDEF then length image.definitions
+    else if t == SHT_GNU_VERNEED then d else other in
     let b : ℕ = behind_locals (final (image_at_read image) image).dynamic_symbols in
     let d : ℕ = length (final (image_at_read image) image).needs in
-    ap (λ (n : ℕ). info n b d other)
-    (ap behind_locals (static_same (image_at_read image) image (edit_of is)) ∙ sym known_is.symbols)
-    ∙ ap (λ (n : ℕ). info known.symbols n d other) (sym known_is.dynamic_symbols)
-    ∙ ap (λ (n : ℕ). info known.symbols known.dynamic_symbols n other) (sym known_is.needs)
-    ∙ ap (info known.symbols known.dynamic_symbols known.needs) (by_test (is_info_number s))
-  where
-    by_test : (b : Bool) → (if b then new_number image s.sh_info else s.sh_info) ≡ s.sh_info
-    by_test true = new_number-same (image_at_read image) image (edit_of is) s.sh_info
-    by_test false = refl
+    ap (λ (n : ℕ). info n b d) (sym known_is.symbols)
+    ∙ ap (λ (n : ℕ). info known.symbols n d) (sym known_is.dynamic_symbols)
+    ∙ ap (info known.symbols known.dynamic_symbols) (sym known_is.needs)
 
-pub header_is : (image : Image) → IsReady (image_at_read image) image → (known : Known) → IsKnown image known → (s : ImageSection) (p : Place)
-    (name : ℕ) → header_by s p name (info_by known image s) ≡ written_section (resized image) s p name
-header_is image is known known_is s p name =
-    ap (λ (n : ℕ). header_by s p name n) (sym (info_is image is known known_is s))
-    ∙ ap (λ (n : ℕ). record (written_section (resized image) s p name) { sh_link = n })
-    (sym (new_number-same (image_at_read image) image (edit_of is) s.sh_link))
+pub header_is : (image : Image) → (known : Known) → IsKnown image known → (s : ImageSection) (p : Place) (name : ℕ)
+    → header_by s p name (new_number image s.sh_link) (info_by known image s) ≡ written_section (resized image) s p name
+header_is image known known_is s p name =
+    ap (header_by s p name (new_number image s.sh_link)) (sym (info_is image known known_is s))
+
+-- whether sh_info is a section's number can be told by the header that was read
+pub info_told : (p : Parts) (old : SectionHeader) (s : ImageSection) → s.sh_type ≡ old.sh_type → s.sh_flags ≡ old.sh_flags
+    → has_section_info old ≡ is_info_number s
+info_told p old s type flags =
+    sym (ap (λ (n : ℕ). is_info_number (record s { sh_type = n })) type
+    ∙ ap (λ (n : ℕ). is_info_number (record s { sh_type = old.sh_type; sh_flags = n })) flags)
 
 -- ## The section at a position
 
@@ -204,41 +202,64 @@ module _ (image : Image) (plan : Layout) (made : Option Made) (known : Known)
   facts : ReadFacts (image_at_read image) image
   facts = read_facts (image_at_read image) image (edit_of planned.ready)
 
-  pub header_there : i < length known.headers.items
+  -- the number that it was read at is its position
+  number_is : slice_index image.section_numbers i ≡ i
+  number_is =
+      ap (λ (l : List ℕ). slice_index l i) (counts (image_at_read image) image (edit_of planned.ready))
+      ∙ slice_index-counted (length image.sections) i less
+
+  pub header_there : slice_index image.section_numbers i < length known.headers.items
   header_there =
       omega (
         arith,
+        number_is,
         less,
         ap length (headers_are (image_at_read image) image facts known.headers.items is.headers),
         length-now (image_at_read image) image (edit_of planned.ready) facts,
       )
 
+  -- the header that it was read from
+  old_here : (old : SectionHeader) → slice_get known.headers.items (slice_index image.section_numbers i) ≡ Some old
+      → (at : SectionRead (image_at_read image) image facts.parts i) × (old ≡ at.old)
+  old_here old old_at =
+      let at = section_read (image_at_read image) image (edit_of planned.ready) facts i less in (
+        at,
+        same_Some old at.old (sym (ap (slice_get known.headers.items) (sym number_is) ∙ old_at) ∙ ap (λ (l : List SectionHeader). slice_get l i)
+            (headers_are (image_at_read image) image facts known.headers.items is.headers) ∙ at.is_old),
+      )
+
+  pub info_here : (s : ImageSection) (old : SectionHeader) → slice_get image.sections i ≡ Some s
+      → slice_get known.headers.items (slice_index image.section_numbers i) ≡ Some old → has_section_info old ≡ is_info_number s
+  info_here s old s_at old_at =
+      let (at, same_old) = old_here old old_at in
+      let same : s ≡ at.section = same_Some s at.section (sym s_at ∙ at.is_section) in
+      info_told facts.parts old s
+      (ap (λ (x : ImageSection). x.sh_type) (same ∙ at.of_old.fields) ∙ ap (λ (h : SectionHeader). h.sh_type) (sym same_old))
+      (ap (λ (x : ImageSection). x.sh_flags) (same ∙ at.of_old.fields) ∙ ap (λ (h : SectionHeader). h.sh_flags) (sym same_old))
+
   pub place_there : i < length plan.places
   place_there = omega (arith, less, length-places image plan planned, length-kept (image_at_read image) image (edit_of planned.ready))
 
   -- the name of a section stands where it was read
-  pub name_copied : (s : ImageSection) (old : SectionHeader) → slice_get image.sections i ≡ Some s → slice_get known.headers.items i ≡ Some old
-      → Reads (content_read image image.header.e_shstrndx) old.sh_name s.name
+  pub name_copied : (s : ImageSection) (old : SectionHeader) → slice_get image.sections i ≡ Some s
+      → slice_get known.headers.items (slice_index image.section_numbers i) ≡ Some old → Reads (content_read image image.header.e_shstrndx) old.sh_name s.name
   name_copied s old s_at old_at =
-      let at : SectionRead (image_at_read image) image facts.parts i =
-      section_read (image_at_read image) image (edit_of planned.ready) facts i less in
+      let (at, same_old) = old_here old old_at in
       let same : s ≡ at.section = same_Some s at.section (sym s_at ∙ at.is_section) in
-      let same_old : old ≡ at.old =
-      same_Some old at.old (sym old_at ∙ ap (λ (l : List SectionHeader). slice_get l i)
-      (headers_are (image_at_read image) image facts known.headers.items is.headers) ∙ at.is_old) in
       subst (λ (x : ImageSection). Reads (content_read image image.header.e_shstrndx) old.sh_name x.name) (sym same)
       (subst (λ (x : SectionHeader). Reads (content_read image image.header.e_shstrndx) x.sh_name at.section.name) (sym same_old)
       (name_read (image_at_read image) image planned.ready facts i at))
 
   -- the header of the section
-  pub header_made : (names : List ℕ) (s : ImageSection) (p : Place) (name : ℕ) (info : ℕ) (h : SectionHeader)
+  pub header_made : (names : List ℕ) (s : ImageSection) (p : Place) (name link info : ℕ) (h : SectionHeader)
       → slice_get image.sections i ≡ Some s → slice_get plan.places i ≡ Some p
-      → Reads names name s.name → info ≡ info_by known image s → h ≡ header_by s p name info
+      → Reads names name s.name → link ≡ new_number image s.sh_link → info ≡ info_by known image s → h ≡ header_by s p name link info
       → IsHeaderAt (resized image) names (kept_sections image) plan.places i h
-  header_made names s p name info h s_at p_at reads info_is is_h =
+  header_made names s p name link info h s_at p_at reads link_is info_is is_h =
       let is_name : h.sh_name ≡ name = ap (λ (x : SectionHeader). x.sh_name) is_h in
       let fields : h ≡ written_section (resized image) s p name =
-      is_h ∙ ap (header_by s p name) info_is ∙ header_is image planned.ready known is s p name in (
+      is_h ∙ ap (λ (n : ℕ). header_by s p name n info) link_is ∙ ap (header_by s p name (new_number image s.sh_link)) info_is
+      ∙ header_is image known is s p name in (
         kept i s,
         p,
         kept-at (image_at_read image) image (edit_of planned.ready) i ∙ ap (option_map (kept i)) s_at,
@@ -256,4 +277,4 @@ module _ (image : Image) (plan : Layout) (made : Option Made) (known : Known)
       let (p, p_at) = there_at plan.places i place_there in
       far_numbers image plan (far_section (resized image) (kept_sections image) plan.places i (kept i s) p
       (kept-at (image_at_read image) image (edit_of planned.ready) i ∙ ap (option_map (kept i)) s_at) p_at
-      (subst (λ (n : ℕ). 2 ^ 32 ≤ n) (sym (info_is image planned.ready known is s)) far))
+      (subst (λ (n : ℕ). 2 ^ 32 ≤ n) (sym (info_is image known is s)) far))

@@ -1,3 +1,7 @@
+pub mod OthersCopied
+pub mod ReadyEdits
+pub mod StringsRead
+pub mod SymbolsRead
 pub mod NamesInOrder
 pub mod SymbolsFinal
 pub mod SymbolsNext

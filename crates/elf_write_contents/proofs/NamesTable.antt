@@ -18,7 +18,7 @@ use Rattle.elf_format.proofs.ForCallers.Placed.{IsIn-slice_get, passes_picked}
 use Rattle.elf_format.proofs.ForCallers.ViewsAgree.{links_right, there_and}
 use Rattle.elf_write_spec.proofs.ForCallers.HeaderTables.{header_bytes}
 use Rattle.elf_write_spec.specs.Ready.{IsReady}
-use Rattle.elf_write_strings.proofs.ForCallers.ReadyEdits.{edit_of}
+use Rattle.elf_write_contents.proofs.ReadyEdits.{edit_of}
 use Rattle.elf_write_spec.proofs.ForCallers.IntactEdits.{ReadFacts, SectionRead, length-now, section_read}
 use Rattle.elf_format.proofs.ForCallers.Lengths.{length-sections}
 use Rattle.elf_write_spec.proofs.ForCallers.SectionKinds.{kind_by}

@@ -24,13 +24,13 @@ use Rattle.elf_write_strings.specs.declared.made.Made.{Made}
 use Rattle.elf_write_strings.specs.DynamicStrings.{AreStrings, IsTold, content_read, strings_at}
 use Rattle.elf_write_spec.specs.Ready.{IsReady, IsSectionOfType}
 use Rattle.elf_write_contents.specs.SymbolSteps.{HasNames, TellsNames, does_symbol_fit, made_for, symbol_bytes}
-use Rattle.elf_write_strings.proofs.ForCallers.ReadyEdits.{edit_of}
+use Rattle.elf_write_contents.proofs.ReadyEdits.{edit_of}
 use Rattle.elf_write_spec.proofs.ForCallers.IntactSymbols.{all_symbols, count_read, final_ordered}
 use Rattle.elf_write_spec.proofs.ForCallers.IntactOrder.{ordered-same}
 use Rattle.elf_write_spec.proofs.ForCallers.IntactEdits.{ReadFacts, SectionRead, read_facts, section_read}
 use Rattle.elf_write_contents.proofs.SymbolsFinal.{final_long}
 use Rattle.elf_write_contents.proofs.SymbolsMade.{anew, fits, length-spelled, named_in_order, strings_are, tells_names}
-use Rattle.elf_write_strings.proofs.ForCallers.SymbolsRead.{count, each_symbol, name_stands, sized, symbol_read}
+use Rattle.elf_write_contents.proofs.SymbolsRead.{count, each_symbol, name_stands, sized, symbol_read}
 
 -- ## Which table
 

@@ -44,14 +44,14 @@ use Rattle.elf_write_spec.proofs.ForCallers.FinalEntries.{written_none}
 use Rattle.elf_write_spec.proofs.ForCallers.IntactSymbols.{final_at}
 use Rattle.elf_write_strings.specs.declared.made.Made.{Made}
 use Rattle.elf_write_strings.specs.DynamicStrings.{IsTold}
-use Rattle.elf_write_strings.proofs.ForCallers.OthersCopied.{list_linked, no_entries_read, none_edited, symbols_linked}
+use Rattle.elf_write_contents.proofs.OthersCopied.{list_linked, no_entries_read, none_edited, symbols_linked}
 use Rattle.elf_write_strings.proofs.ForCallers.TextsTold.{linked_if, told_symbols}
 use Rattle.elf_write_contents.specs.SymbolSteps.{HasNames, TellsNames, begins_empty, does_symbol_fit, place_of_name, symbol_bytes, symbol_in}
 use Rattle.elf_image_symbols.specs.TableSymbols.{symbol_with}
 use Rattle.elf_write_contents.proofs.NamesInOrder.{names_behind}
-use Rattle.elf_write_strings.proofs.ForCallers.ReadyEdits.{edit_of}
+use Rattle.elf_write_contents.proofs.ReadyEdits.{edit_of}
 use Rattle.elf_write_spec.proofs.ForCallers.IntactEdits.{Nowhere, ReadFacts, SectionRead, There, type_at}
-use Rattle.elf_write_strings.proofs.ForCallers.SymbolsRead.{count, each_symbol, is_one, link_was, record_at, symbol_read, symbol_size-positive}
+use Rattle.elf_write_contents.proofs.SymbolsRead.{count, each_symbol, is_one, link_was, record_at, symbol_read, symbol_size-positive}
 
 -- ## Numbers that fit their fields
 

@@ -1,5 +1,5 @@
 -- The symbol that is spelled next, in the new order: its numbers are those of the final symbol at that position.
-use Rattle.std.proofs.Common.{◌≡◌, ◌≤◌, ℕ, ◌+◌, ◌++◌, Bool, true, List, drop, length, sym, ap, ◌∙◌, Some, arith}
+use Rattle.std.proofs.Common.{◌≡◌, ◌≤◌, ℕ, ◌+◌, ◌++◌, Bool, true, List, drop, length, refl, sym, ap, ◌∙◌, Some, arith}
 use Rattle.std.specs.Prelude.{option_map, slice_index}
 use Rattle.std.specs.List.{flat_map, list_all, slice_get}
 use Rattle.std.proofs.lemmas.List.{append-nil, drop_all}
@@ -13,7 +13,7 @@ use Rattle.elf_layout_sizes.proofs.ForCallers.SymbolSteps.{part_at, with_part}
 use Rattle.elf_tables.specs.Fields.{do_fields_fit}
 use Rattle.elf_tables.specs.Spelled.{spelled_symbol, symbol_fields}
 use Rattle.elf_tables.specs.Strings.{Strings}
-use Rattle.elf_write_spec.specs.Final.{dynamic_order, final}
+use Rattle.elf_write_spec.specs.Final.{dynamic_order, final, final_symbol}
 use Rattle.elf_write_spec.specs.Ready.{IsReady}
 use Rattle.elf_write_contents.specs.SymbolSteps.{HasNames, begins_empty, does_symbol_fit, place_in, place_of_named, symbol_bytes, symbol_in}
 use Rattle.elf_write_contents.proofs.NamesInOrder.{placed_fits, placed_next, record_more}
@@ -27,9 +27,18 @@ pub record IsNext (table : Strings) (ys : List NamedSymbol) (i : ℕ) (numbers :
 
 module _ (read image : Image) (is : IsReady read image) (table : Strings) (lent : List NamedSymbol) (are : lent ≡ image.dynamic_symbols) (i k : ℕ)
     (ordered : slice_get (dynamic_order read image) i ≡ Some k) (place : ℕ) (numbers : SymbolNumbers)
-    (spelled : option_map (symbol_with place) (slice_get lent k) ≡ Some numbers) where
-  here : (y : NamedSymbol) → slice_get lent k ≡ Some y → slice_get image.dynamic_symbols k ≡ Some y
-  here y y_at = ap (λ (l : List NamedSymbol). slice_get l k) (sym are) ∙ y_at
+    (spelled : option_map (λ y. symbol_with place (final_symbol image y)) (slice_get image.dynamic_symbols k) ≡ Some numbers) where
+  there_lent : (y : NamedSymbol) → slice_get image.dynamic_symbols k ≡ Some y → slice_get lent k ≡ Some y
+  there_lent y y_at = ap (λ (l : List NamedSymbol). slice_get l k) are ∙ y_at
+
+  -- where its name stands
+  next_at : (y : NamedSymbol) → slice_get image.dynamic_symbols k ≡ Some y → symbol_with place (final_symbol image y) ≡ numbers
+      → place ≡ place_in table y → IsNext table (final read image).dynamic_symbols i numbers
+  next_at y y_at is_numbers stands = record {
+    symbol = final_symbol image y;
+    is_there = final_there read image is i k y ordered y_at;
+    are = sym is_numbers ∙ ap (λ (n : ℕ). symbol_with n (final_symbol image y)) stands;
+  }
 
   -- its name has the next place in the order of the table
   pub next_placed : (before : ℕ) (begins : Bool) (places : List ℕ) → HasNames table before image.dynamic_symbols → places ≡ table.in_order
@@ -37,25 +46,21 @@ module _ (read image : Image) (is : IsReady read image) (table : Strings) (lent 
       → option_map (λ y. place_of_named begins y (slice_index places (before + k))) (slice_get lent k) ≡ Some place
       → IsNext table (final read image).dynamic_symbols i numbers
   next_placed before begins places named own starts placed =
-      let (y, y_at, is_numbers) = with_part (symbol_with place) (slice_get lent k) numbers spelled in
+      let (y, y_at, is_numbers) =
+      with_part (λ y. symbol_with place (final_symbol image y)) (slice_get image.dynamic_symbols k) numbers spelled in
       let is_place : place_of_named begins y (slice_index places (before + k)) ≡ place =
-      part_at (λ z. place_of_named begins z (slice_index places (before + k))) (slice_get lent k) y place y_at placed in
-      record {
-        symbol = y;
-        is_there = final_there read image is i k y ordered (here y y_at);
-        are = placed_next table image.dynamic_symbols before k place begins y places numbers named (here y y_at) own starts is_place is_numbers;
-      }
+      part_at (λ z. place_of_named begins z (slice_index places (before + k))) (slice_get lent k) y place (there_lent y y_at) placed in
+      let told : symbol_with place y ≡ symbol_in table y =
+      placed_next table image.dynamic_symbols before k place begins y places (symbol_with place y) named y_at own starts is_place refl in
+      next_at y y_at is_numbers (ap (λ (n : SymbolNumbers). n.st_name) told)
 
   -- the table tells where its name stands
   pub next_told : option_map (λ y. place_in table y) (slice_get lent k) ≡ Some place → IsNext table (final read image).dynamic_symbols i numbers
   next_told placed =
-      let (y, y_at, is_numbers) = with_part (symbol_with place) (slice_get lent k) numbers spelled in
-      let is_place : place_in table y ≡ place = part_at (λ z. place_in table z) (slice_get lent k) y place y_at placed in
-      record {
-        symbol = y;
-        is_there = final_there read image is i k y ordered (here y y_at);
-        are = sym is_numbers ∙ ap (λ (n : ℕ). symbol_with n y) (sym is_place);
-      }
+      let (y, y_at, is_numbers) =
+      with_part (λ y. symbol_with place (final_symbol image y)) (slice_get image.dynamic_symbols k) numbers spelled in
+      let is_place : place_in table y ≡ place = part_at (λ z. place_in table z) (slice_get lent k) y place (there_lent y y_at) placed in
+      next_at y y_at is_numbers (sym is_place)
 
 -- its numbers fit, as those of all symbols do
 pub next_fits : (form : Form) (table : Strings) (ys : List NamedSymbol) (i : ℕ) (numbers : SymbolNumbers) → IsNext table ys i numbers

@@ -27,9 +27,9 @@ use Rattle.elf_write_spec.proofs.ForCallers.IntactSections.{kept}
 use Rattle.elf_write_spec.proofs.ForCallers.TextsRead.{text_reads}
 use Rattle.elf_write_strings.specs.declared.made.Made.{Made}
 use Rattle.elf_write_strings.specs.DynamicStrings.{AreStrings, content_read, strings_at}
-use Rattle.elf_write_strings.proofs.ForCallers.OthersCopied.{content_is_read}
-use Rattle.elf_write_strings.proofs.ForCallers.ReadyEdits.{edit_of}
-use Rattle.elf_write_strings.proofs.ForCallers.SymbolsRead.{each_symbol}
+use Rattle.elf_write_contents.proofs.OthersCopied.{content_is_read}
+use Rattle.elf_write_contents.proofs.ReadyEdits.{edit_of}
+use Rattle.elf_write_contents.proofs.SymbolsRead.{each_symbol}
 use Rattle.elf_write_contents.proofs.ContentsMade.{resized_with}
 use Rattle.elf_write_contents.proofs.ContentsCopied.{only_static}
 use Rattle.elf_write_contents.proofs.NamesTable.{linked_at}

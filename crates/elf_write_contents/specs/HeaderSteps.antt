@@ -9,8 +9,8 @@ use Rattle.elf_format.specs.Image.{Image, ImageSection}
 use Rattle.elf_format.specs.Places.{Place}
 use Rattle.elf_image.specs.Kept.{KeptSection, image_at_read}
 use Rattle.elf_layout_plan.specs.Memory.{Resized}
-use Rattle.elf_write_spec.specs.Final.{final}
-use Rattle.elf_write_spec.specs.Headers.{IsHeaderOf, behind_locals}
+use Rattle.elf_write_spec.specs.Final.{final, new_number}
+use Rattle.elf_write_spec.specs.Headers.{IsHeaderOf, behind_locals, is_info_number}
 use Rattle.elf_write_contents.specs.declared.headers.Known.{Known}
 
 -- the section headers that were read
@@ -19,7 +19,7 @@ headers_read image = opened_of image.source >>= sections_of
 
 -- what is known of the image as a whole is right
 pub record IsKnown (image : Image) (known : Known) : Type 0 where
-  pub symbols : known.symbols ≡ behind_locals image.symbols
+  pub symbols : known.symbols ≡ behind_locals (final (image_at_read image) image).symbols
   pub dynamic_symbols : known.dynamic_symbols ≡ behind_locals (final (image_at_read image) image).dynamic_symbols
   pub needs : known.needs ≡ length (final (image_at_read image) image).needs
   pub headers : headers_read image ≡ Some known.headers.items
@@ -31,18 +31,19 @@ info_by known image s =
     else if s.sh_type == SHT_DYNSYM then known.dynamic_symbols
     else if s.sh_type == SHT_GNU_VERDEF then length image.definitions
     else if s.sh_type == SHT_GNU_VERNEED then known.needs
+    else if is_info_number s then new_number image s.sh_info
     else s.sh_info
 
--- a section's header at a place, its name at a place of the names
-abbrev pub header_by : ImageSection → Place → ℕ → ℕ → SectionHeader
-header_by s place name info = record {
+-- a section's header at a place, its name at a place of the names, with the numbers that it names other sections by
+abbrev pub header_by : ImageSection → Place → ℕ → ℕ → ℕ → SectionHeader
+header_by s place name link info = record {
   sh_name = name;
   sh_type = s.sh_type;
   sh_flags = s.sh_flags;
   sh_addr = place.sh_addr;
   sh_offset = place.sh_offset;
   sh_size = place.sh_size;
-  sh_link = s.sh_link;
+  sh_link = link;
   sh_info = info;
   sh_addralign = s.sh_addralign;
   sh_entsize = s.sh_entsize;

@@ -8,14 +8,14 @@ use Rattle.elf_write_spec.specs.Headers.{written_header}
 use Rattle.elf_write_strings.specs.DynamicStrings.{AreStrings, strings_at}
 use Rattle.elf_write_contents.specs.Inner.{AreHeaders, AreRaw}
 use Rattle.elf_write_symbols.specs.Fits.{do_section_relocations_fit}
-use Rattle.elf_write_symbols.specs.Renumbering.{IsRenumberingFor, do_symbols_fit}
+use Rattle.elf_write_symbols.specs.Renumbering.{IsRenumbering, do_symbols_fit}
 use Rattle.elf_write_contents.specs.Numbers.{do_records_fit}
 use Rattle.elf_write_contents.specs.declared.prepared.Prepared.{Prepared}
 
 -- the string table, the headers and the dynamic entries of an image that is written by a plan, each number of which fits its field
 pub record IsPrepared (read image : Image) (plan : Layout) (p : Prepared) : Type 0 where
   pub strings : AreStrings read image p.made
-  pub renumbering : IsRenumberingFor read image p.renumbering
+  pub renumbering : IsRenumbering read image p.renumbering
   pub header : p.header ≡ written_header image plan
   pub headers : AreHeaders (resized image) (strings_at image p.made image.header.e_shstrndx) (kept_sections image) plan.places p.headers.items
   pub raw : AreRaw (resized image) plan p.made p.raw.items

@@ -11,7 +11,7 @@ ghost use Rattle.elf_image.specs.Kept.{interpreter_number as number_of_interpret
 ghost use Rattle.elf_layout_plan.specs.Plan.{resized};
 ghost use Rattle.elf_image.specs.ImageModel.{section_model};
 ghost use Rattle.elf_write_symbols.specs.Fits.{do_numbers_fit_in, do_section_relocations_fit};
-ghost use Rattle.elf_write_symbols.specs.Renumbering.{IsRenumberingFor};
+ghost use Rattle.elf_write_symbols.specs.Renumbering.{IsRenumbering, IsReorderingFor};
 ghost use Rattle.elf_write_contents.specs.ContentSteps.{IsBytesAt, IsNumbering, IsRelocated, made_or};
 ghost use Rattle.elf_write_strings.specs.DynamicStrings.{AreStrings};
 ghost use Rattle.elf_write_spec.specs.Contents.{AreVersionsIn};
@@ -32,7 +32,7 @@ use elf_layout_plan::{Plan, is_numbered};
 use elf_write_strings::made::Made;
 use elf_write_strings::versions::{definitions_content, needs_content};
 use elf_write_symbols::{
-    Renumbering, gabi_content, gnu_content, relocations_content, versions_content,
+    Renumbering, Reordering, gabi_content, gnu_content, relocations_content, versions_content,
 };
 use patch_bytes::ByteString;
 use std::alloc::{AllocError, Global};
@@ -45,12 +45,12 @@ pub fn contents<'a, 'data>(
     image: &'a Builder<'data>,
     plan: &Plan,
     made: &'a Option<Made<'_>>,
-    renumbering: &Option<Renumbering>,
+    renumbering: &Renumbering,
     raw: &[EntryNumbers],
 ) -> Result<Vec<ByteString<'a>>, AllocError>
     requires planned { IsPlanned read.now image.now plan.now }
     requires strings { AreStrings read.now image.now made.now }
-    requires renumbering { IsRenumberingFor read.now image.now renumbering.now }
+    requires renumbering { IsRenumbering read.now image.now renumbering.now }
     requires relocations { IsTrue (list_all (do_section_relocations_fit read.now image.now)
         (kept_sections image.now)) }
     requires raw { AreRaw (resized image.now) plan.now made.now raw.now }
@@ -108,13 +108,13 @@ fn section_content<'a, 'data>(
     image: &'a Builder<'data>,
     plan: &Plan,
     made: &'a Option<Made<'_>>,
-    renumbering: &Option<Renumbering>,
+    renumbering: &Renumbering,
     raw: &[EntryNumbers],
     i: usize,
 ) -> Result<ByteString<'a>, AllocError>
     requires planned { IsPlanned read.now image.now plan.now }
     requires strings { AreStrings read.now image.now made.now }
-    requires renumbering { IsRenumberingFor read.now image.now renumbering.now }
+    requires renumbering { IsRenumbering read.now image.now renumbering.now }
     requires relocations { IsTrue (list_all (do_section_relocations_fit read.now image.now)
         (kept_sections image.now)) }
     requires raw { AreRaw (resized image.now) plan.now made.now raw.now }
@@ -163,60 +163,63 @@ fn show_versions(
 {}
 
 // The bytes of the section of versions.
+#[tactic(auto, using(crate::proofs::ReadyEdits::edited_ready))]
 fn symbol_versions<'data>(
     alloc: Global,
     read: &Builder<'data>,
     image: &Builder<'data>,
-    renumbering: &Option<Renumbering>,
+    reordering: &Option<Reordering>,
     section: &Section<'data>,
 ) -> Result<ByteString<'data>, AllocError>
     requires ready { IsReady read.now image.now }
-    requires renumbering { IsRenumberingFor read.now image.now renumbering.now }
+    requires reordering { IsReorderingFor read.now image.now reordering.now }
     requires at { IsSectionOfType VERSYM image.now (section_model section.now) }
     ensures sized { IfOk result (λ content. length content.bytes
         ≡ 2 * length image.now.dynamic_symbols) }
     ensures versions { IfOk result (λ content.
         AreVersionsIn (resized image.now) (section_model section.now) content.bytes) }
 {
-    let bytes = versions_content(alloc, read, image, renumbering, section)?;
+    let bytes = versions_content(alloc, read, image, reordering, section)?;
     show_versions(read, image, section, section.content, bytes.as_slice());
     Ok(bytes)
 }
 
 // The bytes of a section that numbers the dynamic symbols, or of one that is as it was read: none of those of which the
 // bytes are made by types above.
+#[tactic(auto, using(crate::proofs::ReadyEdits::edited_ready))]
 fn numbering_content<'data>(
     alloc: Global,
     read: &Builder<'data>,
     image: &Builder<'data>,
-    renumbering: &Option<Renumbering>,
+    renumbering: &Renumbering,
     section: &Section<'data>,
 ) -> Result<ByteString<'data>, AllocError>
     requires ready { IsReady read.now image.now }
-    requires renumbering { IsRenumberingFor read.now image.now renumbering.now }
+    requires renumbering { IsRenumbering read.now image.now renumbering.now }
     requires at { IsSectionOfType section.now.sh_type image.now (section_model section.now) }
     requires fit { IsTrue (do_numbers_fit_in read.now image.now (section_model section.now)) }
     ensures { IfOk result (λ content. IsNumbering read.now image.now
         (section_model section.now) content.bytes) }
 {
     match section.sh_type {
-        SHT_GNU_VERSYM => symbol_versions(alloc, read, image, renumbering, section),
-        SHT_HASH => gabi_content(alloc, read, image, renumbering, section),
-        SHT_GNU_HASH => gnu_content(alloc, read, image, renumbering, section),
+        SHT_GNU_VERSYM => symbol_versions(alloc, read, image, &renumbering.dynamic, section),
+        SHT_HASH => gabi_content(alloc, read, image, &renumbering.dynamic, section),
+        SHT_GNU_HASH => gnu_content(alloc, read, image, &renumbering.dynamic, section),
         _ => relocated_content(alloc, read, image, renumbering, section),
     }
 }
 
 // The bytes of a section of relocations that is one, or of one that is as it was read.
+#[tactic(auto, using(crate::proofs::ReadyEdits::edited_ready))]
 fn relocated_content<'data>(
     alloc: Global,
     read: &Builder<'data>,
     image: &Builder<'data>,
-    renumbering: &Option<Renumbering>,
+    renumbering: &Renumbering,
     section: &Section<'data>,
 ) -> Result<ByteString<'data>, AllocError>
     requires ready { IsReady read.now image.now }
-    requires renumbering { IsRenumberingFor read.now image.now renumbering.now }
+    requires renumbering { IsRenumbering read.now image.now renumbering.now }
     requires at { IsSectionOfType section.now.sh_type image.now (section_model section.now) }
     requires fit { IsTrue (do_numbers_fit_in read.now image.now (section_model section.now)) }
     ensures { IfOk result (λ content. IsRelocated (resized image.now)

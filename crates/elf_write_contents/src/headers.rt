@@ -2,7 +2,9 @@
 ghost use Rattle.std.specs.Prelude.{◌≡◌, ◌<◌, ◌≤◌, ◌^◌, false, length, option_map, slice_get, IfErr, IfOk, IfNone, IfSome, IsSome, Some};
 ghost use Rattle.elf_format.specs.Answers.{Gives};
 ghost use Rattle.elf_image.specs.ImageModel.{section_model};
+ghost use Rattle.elf_format.specs.Rules.{has_section_info};
 ghost use Rattle.elf_image.specs.Kept.{image_at_read, kept_sections};
+ghost use Rattle.elf_image.specs.Needed.{is_info_number};
 ghost use Rattle.elf_layout_plan.specs.Plan.{IsPlan, resized};
 ghost use Rattle.elf_layout_plan.specs.PlanModel.{place_model};
 ghost use Rattle.elf_tables.specs.declared.fault.TableFault.TheVariants.{NumberTooLarge};
@@ -10,12 +12,13 @@ ghost use Rattle.elf_tables.specs.Strings.{place_of};
 ghost use Rattle.elf_hashes.specs.Found.{is_local as is_local_symbol};
 ghost use Rattle.elf_image_symbol_edits.specs.Loan.{symbols_now};
 ghost use Rattle.elf_layout_needs.specs.Written.{AreWritten};
-ghost use Rattle.elf_write_spec.specs.Final.{final};
+ghost use Rattle.elf_write_spec.specs.Final.{final, new_number as number_of};
 ghost use Rattle.elf_write_spec.specs.Headers.{Reads, behind_locals as behind_all, written_header};
 ghost use Rattle.elf_write_contents.specs.HeaderSteps.{IsHeaderAt, IsKnown, header_by, headers_read, info_by};
 ghost use Rattle.elf_write_strings.specs.DynamicStrings.{AreStrings, content_read, strings_at};
-ghost use Rattle.elf_write_spec.specs.Ready.{IsPlanned, IsReady};
-ghost use Rattle.elf_write_symbols.specs.Renumbering.{IsRenumberingFor};
+ghost use Rattle.elf_write_spec.specs.Ready.{IsEditedReady, IsPlanned};
+ghost use Rattle.elf_write_symbols.specs.NewSections.{AreNewSections};
+ghost use Rattle.elf_write_symbols.specs.Renumbering.{IsReorderingFor};
 ghost use Rattle.elf_write_contents.specs.Inner.{AreHeaders};
 ghost use Rattle.elf_write_contents.specs.Numbers.{do_numbers_fit};
 ghost use Rattle.elf_write_strings.specs.declared.made.Made.{Made};
@@ -31,7 +34,7 @@ use elf_layout_needs::StayingNeeds;
 use elf_layout_plan::{Plan, SectionPlace};
 use elf_tables::TableFault;
 use elf_write_strings::made::Made;
-use elf_write_symbols::{Renumbering, order_of};
+use elf_write_symbols::{NewSections, Reordering, new_number, order_of};
 use std::alloc::Global;
 
 // How many program headers and sections a plan has: few enough for plain numbering (gABI, ELF Header, e_phnum and e_shnum).
@@ -43,9 +46,26 @@ fn counts(image: &Builder<'_>, plan: &Plan) -> (u16, u16)
     (plan.segments().len() as u16, plan.places().len() as u16)
 }
 
+// The new number of the section of names (gABI, ELF Header, e_shstrndx).
+fn names_number(read: &Builder<'_>, image: &Builder<'_>, sections: &NewSections) -> u16
+    requires ready { IsEditedReady read.now image.now }
+    requires sections { AreNewSections read.now image.now sections.now }
+    ensures { result ≡ number_of image.now image.now.header.e_shstrndx }
+{
+    let number = image.header().e_shstrndx;
+    new_number(read, image, sections, u32::from(number)) as u16
+}
+
 // The file header.
-pub(crate) fn file_header(image: &Builder<'_>, plan: &Plan) -> FileHeader
-    requires { IsPlanned (image_at_read image.now) image.now plan.now }
+pub(crate) fn file_header(
+    read: &Builder<'_>,
+    image: &Builder<'_>,
+    plan: &Plan,
+    sections: &NewSections,
+) -> FileHeader
+    requires ready { IsEditedReady read.now image.now }
+    requires planned { IsPlan (resized image.now) plan.now }
+    requires sections { AreNewSections read.now image.now sections.now }
     ensures { result ≡ written_header image.now plan.now }
 {
     let header = image.header();
@@ -64,7 +84,7 @@ pub(crate) fn file_header(image: &Builder<'_>, plan: &Plan) -> FileHeader
         e_phnum,
         e_shentsize: form.section_header_size() as u16,
         e_shnum,
-        e_shstrndx: header.e_shstrndx,
+        e_shstrndx: names_number(read, image, sections),
     }
 }
 
@@ -106,16 +126,16 @@ fn behind_locals(symbols: SymbolsNow<'_>) -> usize
 fn behind_dynamic_locals(
     read: &Builder<'_>,
     image: &Builder<'_>,
-    renumbering: &Option<Renumbering>,
+    reordering: &Option<Reordering>,
 ) -> usize
-    requires ready { IsReady read.now image.now }
-    requires renumbering { IsRenumberingFor read.now image.now renumbering.now }
+    requires ready { IsEditedReady read.now image.now }
+    requires reordering { IsReorderingFor read.now image.now reordering.now }
     ensures { result ≡ behind_all (final read.now image.now).dynamic_symbols }
 {
     let symbols = image.dynamic_symbols();
     let mut behind = 0;
     for i in 0..symbols.len() {
-        if is_local(symbols, order_of(read, image, renumbering, i)) {
+        if is_local(symbols, order_of(read, image, reordering, i)) {
             behind = i + 1;
         }
     }
@@ -137,11 +157,11 @@ fn known_of(
     read: &Builder<'_>,
     image: &Builder<'_>,
     staying: &StayingNeeds,
-    renumbering: &Option<Renumbering>,
+    reordering: &Option<Reordering>,
 ) -> Option<Known>
-    requires ready { IsReady read.now image.now }
+    requires ready { IsEditedReady read.now image.now }
     requires staying { AreWritten read.now image.now staying.now }
-    requires renumbering { IsRenumberingFor read.now image.now renumbering.now }
+    requires reordering { IsReorderingFor read.now image.now reordering.now }
     ensures { IfSome result (λ known. IsKnown image.now known) }
 {
     let Ok(headers) = read_headers(alloc, image) else {
@@ -149,7 +169,7 @@ fn known_of(
     };
     Some(Known {
         symbols: behind_locals(image.symbols()),
-        dynamic_symbols: behind_dynamic_locals(read, image, renumbering),
+        dynamic_symbols: behind_dynamic_locals(read, image, reordering),
         needs: staying.count_needs(&image.versions().needs),
         headers,
     })
@@ -171,8 +191,18 @@ fn name_place(image: &Builder<'_>, made: &Option<Made<'_>>, name: &[u8], old: u3
     }
 }
 
-// The `sh_info` of a section; `None` where it is past its field.
-fn info_of(image: &Builder<'_>, known: &Known, section: &Section<'_>) -> Option<u32>
+// The `sh_info` of a section that was read from a header; `None` where it is past its field.
+fn info_of(
+    read: &Builder<'_>,
+    image: &Builder<'_>,
+    known: &Known,
+    sections: &NewSections,
+    section: &Section<'_>,
+    old: SectionHeader,
+) -> Option<u32>
+    requires ready { IsEditedReady read.now image.now }
+    requires sections { AreNewSections read.now image.now sections.now }
+    requires old { has_section_info old ≡ is_info_number (section_model section.now) }
     ensures info { IfSome result (λ info.
         info ≡ info_by known.now image.now (section_model section.now)) }
     ensures far { IfNone result
@@ -183,6 +213,9 @@ fn info_of(image: &Builder<'_>, known: &Known, section: &Section<'_>) -> Option<
         SHT_DYNSYM => known.dynamic_symbols,
         SHT_GNU_VERDEF => image.versions().definitions.len(),
         SHT_GNU_VERNEED => known.needs,
+        _ if old.has_section_info() => {
+            return Some(new_number(read, image, sections, section.sh_info));
+        }
         _ => return Some(section.sh_info),
     };
     if count > u32::MAX as usize {
@@ -192,8 +225,15 @@ fn info_of(image: &Builder<'_>, known: &Known, section: &Section<'_>) -> Option<
 }
 
 // The header of a section at its place, its name at a place of the names.
-fn header_of(section: &Section<'_>, place: &SectionPlace, name: u32, info: u32) -> SectionHeader
-    ensures { result ≡ header_by (section_model section.now) (place_model place.now) name info }
+fn header_of(
+    section: &Section<'_>,
+    place: &SectionPlace,
+    name: u32,
+    link: u32,
+    info: u32,
+) -> SectionHeader
+    ensures { result
+        ≡ header_by (section_model section.now) (place_model place.now) name link info }
 {
     SectionHeader {
         sh_name: name,
@@ -202,7 +242,7 @@ fn header_of(section: &Section<'_>, place: &SectionPlace, name: u32, info: u32) 
         sh_addr: place.sh_addr,
         sh_offset: place.sh_offset,
         sh_size: place.sh_size,
-        sh_link: section.sh_link,
+        sh_link: link,
         sh_info: info,
         sh_addralign: section.sh_addralign,
         sh_entsize: section.sh_entsize,
@@ -211,12 +251,16 @@ fn header_of(section: &Section<'_>, place: &SectionPlace, name: u32, info: u32) 
 
 // The header of the section at a position; `None` where a number is past its field.
 fn header_at(
+    read: &Builder<'_>,
     image: &Builder<'_>,
     plan: &Plan,
     made: &Option<Made<'_>>,
     known: &Known,
+    sections: &NewSections,
     i: usize,
 ) -> Option<SectionHeader>
+    requires ready { IsEditedReady read.now image.now }
+    requires sections { AreNewSections read.now image.now sections.now }
     requires planned { IsPlanned (image_at_read image.now) image.now plan.now }
     requires strings { AreStrings (image_at_read image.now) image.now made.now }
     requires known { IsKnown image.now known.now }
@@ -227,27 +271,28 @@ fn header_at(
     ensures far { IfNone result (do_numbers_fit image.now plan.now ≡ false) }
 {
     let section = &image.sections()[i];
-    let Some(info) = info_of(image, known, section) else {
+    let old = known.headers[image.read_section(i)];
+    let Some(info) = info_of(read, image, known, sections, section, old) else {
         return None;
     };
-    let name = name_place(
-        image,
-        made,
-        section.name.as_slice(),
-        known.headers[i].sh_name,
-    );
+    let name = name_place(image, made, section.name.as_slice(), old.sh_name);
     let place = &plan.places()[i];
-    Some(header_of(section, place, name, info))
+    let link = new_number(read, image, sections, section.sh_link);
+    Some(header_of(section, place, name, link, info))
 }
 
 // The section headers, one by one.
 fn headers_with(
     alloc: Global,
+    read: &Builder<'_>,
     image: &Builder<'_>,
     plan: &Plan,
     made: &Option<Made<'_>>,
     known: &Known,
+    sections: &NewSections,
 ) -> Result<Vec<SectionHeader>, TableFault>
+    requires ready { IsEditedReady read.now image.now }
+    requires sections { AreNewSections read.now image.now sections.now }
     requires planned { IsPlanned (image_at_read image.now) image.now plan.now }
     requires strings { AreStrings (image_at_read image.now) image.now made.now }
     requires known { IsKnown image.now known.now }
@@ -259,7 +304,7 @@ fn headers_with(
 {
     let mut headers = Vec::new(alloc);
     for i in 0..image.sections().len() {
-        let Some(header) = header_at(image, plan, made, known, i) else {
+        let Some(header) = header_at(read, image, plan, made, known, sections, i) else {
             return Err(TableFault::NumberTooLarge);
         };
         headers.push(header)?;
@@ -268,18 +313,21 @@ fn headers_with(
 }
 
 // The section headers. `NumberTooLarge` where a number is past its field.
+#[tactic(auto, using(crate::proofs::ReadyEdits::edited_ready))]
 pub(crate) fn section_headers<'data>(
     alloc: Global,
     read: &Builder<'data>,
     image: &Builder<'data>,
     plan: &Plan,
     staying: &StayingNeeds,
-    renumbering: &Option<Renumbering>,
+    reordering: &Option<Reordering>,
+    sections: &NewSections,
     made: &Option<Made<'_>>,
 ) -> Result<Vec<SectionHeader>, TableFault>
     requires planned { IsPlanned read.now image.now plan.now }
+    requires sections { AreNewSections read.now image.now sections.now }
     requires staying { AreWritten read.now image.now staying.now }
-    requires renumbering { IsRenumberingFor read.now image.now renumbering.now }
+    requires reordering { IsReorderingFor read.now image.now reordering.now }
     requires strings { AreStrings read.now image.now made.now }
     ensures headers { IfOk result (λ headers. AreHeaders (resized image.now)
         (strings_at image.now made.now image.now.header.e_shstrndx)
@@ -287,8 +335,8 @@ pub(crate) fn section_headers<'data>(
     ensures fault { IfErr result (λ fault.
         fault ≡ NumberTooLarge → do_numbers_fit image.now plan.now ≡ false) }
 {
-    let Some(known) = known_of(alloc, read, image, staying, renumbering) else {
+    let Some(known) = known_of(alloc, read, image, staying, reordering) else {
         return Err(TableFault::Memory);
     };
-    headers_with(alloc, image, plan, made, &known)
+    headers_with(alloc, read, image, plan, made, &known, sections)
 }

@@ -3,7 +3,7 @@ ghost use Rattle.std.specs.Prelude.{◌≡◌, false, IfErr, IfOk};
 ghost use Rattle.elf_tables.specs.declared.fault.TableFault.TheVariants.{NumberTooLarge};
 ghost use Rattle.elf_write_spec.specs.Ready.{IsPlanned};
 ghost use Rattle.elf_write_strings.specs.DynamicStrings.{AreStrings};
-ghost use Rattle.elf_write_symbols.specs.Renumbering.{IsRenumberingFor};
+ghost use Rattle.elf_write_symbols.specs.Renumbering.{IsRenumbering};
 ghost use Rattle.elf_write_contents.specs.Numbers.{do_numbers_fit as do_all_fit};
 ghost use Rattle.elf_write_contents.specs.PreparedSteps.{IsPrepared};
 
@@ -24,8 +24,8 @@ use std::alloc::Global;
 pub struct Prepared<'t> {
     /// The dynamic strings, where they are told anew.
     pub made: Option<Made<'t>>,
-    /// The new order and numbers of the dynamic symbols, where names changed.
-    pub renumbering: Option<Renumbering>,
+    /// The new numbers of sections and symbols.
+    pub renumbering: Renumbering,
     /// The file header (gABI, ELF Header).
     pub header: FileHeader,
     /// The section headers, in order (gABI, Sections).
@@ -53,6 +53,7 @@ pub fn prepare<'a, 'data>(
 
 /// The same, with the dynamic strings that are told anew, which [`strings_from`](elf_write_strings::made::strings_from)
 /// gives. Errors as there.
+#[tactic(auto, using(crate::proofs::ReadyEdits::edited_ready))]
 pub fn prepare_with_strings<'a, 'data>(
     alloc: Global,
     read: &'a Builder<'data>,
@@ -70,26 +71,36 @@ pub fn prepare_with_strings<'a, 'data>(
     prepare_numbered(alloc, read, image, plan, made, renumbering)
 }
 
-// The same, with the new order and numbers of the dynamic symbols.
+// The same, with the new numbers of sections and symbols.
+#[tactic(auto, using(crate::proofs::ReadyEdits::edited_ready))]
 fn prepare_numbered<'a, 'data>(
     alloc: Global,
     read: &'a Builder<'data>,
     image: &'a Builder<'data>,
     plan: &Plan,
     made: Option<Made<'a>>,
-    renumbering: Option<Renumbering>,
+    renumbering: Renumbering,
 ) -> Result<Prepared<'a>, TableFault>
     requires planned { IsPlanned read.now image.now plan.now }
     requires strings { AreStrings read.now image.now made }
-    requires renumbering { IsRenumberingFor read.now image.now renumbering }
+    requires renumbering { IsRenumbering read.now image.now renumbering }
     ensures prepared { IfOk result (IsPrepared read.entry.now image.entry.now plan.now) }
     ensures fault { IfErr result (λ fault.
         fault ≡ NumberTooLarge → do_all_fit image.entry.now plan.now ≡ false) }
 {
     let staying = StayingNeeds::new(alloc, read, image)?;
     let raw = raw_entries(alloc, read, image, plan, &staying, &made)?;
-    let headers = section_headers(alloc, read, image, plan, &staying, &renumbering, &made)?;
-    let header = file_header(image, plan);
+    let headers = section_headers(
+        alloc,
+        read,
+        image,
+        plan,
+        &staying,
+        &renumbering.dynamic,
+        &renumbering.sections,
+        &made,
+    )?;
+    let header = file_header(read, image, plan, &renumbering.sections);
     if !do_header_numbers_fit(read, image, plan, &made, header, &headers, &raw) {
         return Err(TableFault::NumberTooLarge);
     }

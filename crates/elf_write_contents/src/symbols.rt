@@ -6,15 +6,17 @@ ghost use Rattle.elf_format.specs.Options.{list_at};
 ghost use Rattle.elf_format.specs.Records.{symbol_size, symbols_in};
 ghost use Rattle.elf_image.specs.ImageModel.{section_model};
 ghost use Rattle.elf_image_symbol_edits.specs.Loan.{symbols_now};
+ghost use Rattle.elf_image_symbols.specs.TableSymbols.{symbol_with};
 ghost use Rattle.elf_layout_plan.specs.Needs.{written_entries};
 ghost use Rattle.elf_layout_plan.specs.Texts.{texts_of_entries};
 ghost use Rattle.elf_write_spec.specs.Contents.{AreSymbolsOf};
-ghost use Rattle.elf_write_spec.specs.Final.{final};
+ghost use Rattle.elf_write_spec.specs.Final.{final, final_symbol};
 ghost use Rattle.elf_write_spec.specs.Ready.{IsReady, IsSectionOfType};
 ghost use Rattle.elf_write_strings.specs.DynamicStrings.{AreStrings, IsTold, strings_at};
-ghost use Rattle.elf_write_symbols.specs.Renumbering.{IsRenumberingFor};
+ghost use Rattle.elf_write_symbols.specs.Renumbering.{IsRenumbering};
 ghost use Rattle.elf_write_contents.specs.SymbolSteps.{HasNames, TellsNames, begins_empty as begins_empty_text, does_symbol_fit, made_for as made_with, place_in, place_of_named, symbol_bytes};
 
+use elf_format::records::SymbolNumbers;
 use elf_image::{Builder, Section};
 use elf_image_symbol_edits::SymbolsNow;
 use elf_layout_needs::StayingNeeds;
@@ -22,7 +24,7 @@ use elf_tables::Finished;
 use elf_tables::spelled::push_symbol;
 use elf_write_strings::made::Made;
 use elf_write_strings::texts::list_texts;
-use elf_write_symbols::{Renumbering, order_of};
+use elf_write_symbols::{Renumbering, new_symbol_section, order_of};
 use patch_bytes::ByteString;
 use std::alloc::{AllocError, Global};
 
@@ -62,18 +64,41 @@ fn name_place(symbols: SymbolsNow<'_>, i: usize, place: u32, begins: bool) -> u3
     }
 }
 
+// The numbers of the dynamic symbol at a position, its name at a place, with the number that its section gets (gABI, Symbol
+// Table, st_shndx).
+#[inline(always)]
+#[tactic(auto, using(crate::proofs::ReadyEdits::edited_ready))]
+fn new_numbers(
+    read: &Builder<'_>,
+    image: &Builder<'_>,
+    renumbering: &Renumbering,
+    i: usize,
+    place: u32,
+) -> SymbolNumbers
+    requires ready { IsReady read.now image.now }
+    requires renumbering { IsRenumbering read.now image.now renumbering.now }
+    requires inside { i < length image.now.dynamic_symbols }
+    ensures { option_map (λ y. symbol_with place (final_symbol image.now y))
+        (slice_get image.now.dynamic_symbols i) ≡ Some result }
+{
+    let mut numbers = image.dynamic_symbols().numbers(i, place);
+    numbers.st_shndx = new_symbol_section(read, image, &renumbering.sections, numbers.st_shndx);
+    numbers
+}
+
 // Appends the records of the symbols in their new order, whose names were added to a string table behind so many other
 // texts.
+#[tactic(auto, using(crate::proofs::ReadyEdits::edited_ready))]
 fn push_in_order(
     bytes: &mut Vec<u8>,
     read: &Builder<'_>,
     image: &Builder<'_>,
-    renumbering: &Option<Renumbering>,
+    renumbering: &Renumbering,
     table: &Finished<'_>,
     before: usize,
 ) -> Result<(), AllocError>
     requires ready { IsReady read.now image.now }
-    requires renumbering { IsRenumberingFor read.now image.now renumbering.now }
+    requires renumbering { IsRenumbering read.now image.now renumbering.now }
     requires named { HasNames table.now before image.now.dynamic_symbols }
     requires fit { IsTrue (list_all (does_symbol_fit image.now.form table.now)
         (final read.now image.now).dynamic_symbols) }
@@ -86,9 +111,13 @@ fn push_in_order(
     let begins = begins_empty(table);
     let places = table.in_order();
     for i in 0..symbols.len() {
-        let at = order_of(read, image, renumbering, i);
+        let at = order_of(read, image, &renumbering.dynamic, i);
         let place = name_place(symbols, at, places[before + at], begins);
-        push_symbol(bytes, form, symbols.numbers(at, place))?;
+        push_symbol(
+            bytes,
+            form,
+            new_numbers(read, image, renumbering, at, place),
+        )?;
     }
     Ok(())
 }
@@ -106,15 +135,16 @@ fn told_place(symbols: SymbolsNow<'_>, table: &Finished<'_>, i: usize, begins: b
 }
 
 // Appends the records of the symbols in their new order, whose names a string table tells.
+#[tactic(auto, using(crate::proofs::ReadyEdits::edited_ready))]
 fn push_told(
     bytes: &mut Vec<u8>,
     read: &Builder<'_>,
     image: &Builder<'_>,
-    renumbering: &Option<Renumbering>,
+    renumbering: &Renumbering,
     table: &Finished<'_>,
 ) -> Result<(), AllocError>
     requires ready { IsReady read.now image.now }
-    requires renumbering { IsRenumberingFor read.now image.now renumbering.now }
+    requires renumbering { IsRenumbering read.now image.now renumbering.now }
     requires named { TellsNames table.now image.now.dynamic_symbols }
     requires fit { IsTrue (list_all (does_symbol_fit image.now.form table.now)
         (final read.now image.now).dynamic_symbols) }
@@ -126,9 +156,13 @@ fn push_told(
     let symbols = image.dynamic_symbols();
     let begins = begins_empty(table);
     for i in 0..symbols.len() {
-        let at = order_of(read, image, renumbering, i);
+        let at = order_of(read, image, &renumbering.dynamic, i);
         let place = told_place(symbols, table, at, begins);
-        push_symbol(bytes, form, symbols.numbers(at, place))?;
+        push_symbol(
+            bytes,
+            form,
+            new_numbers(read, image, renumbering, at, place),
+        )?;
     }
     Ok(())
 }
@@ -192,11 +226,11 @@ fn push_symbols(
     read: &Builder<'_>,
     image: &Builder<'_>,
     made: &Made<'_>,
-    renumbering: &Option<Renumbering>,
+    renumbering: &Renumbering,
     section: &Section<'_>,
 ) -> Result<(), AllocError>
     requires ready { IsReady read.now image.now }
-    requires renumbering { IsRenumberingFor read.now image.now renumbering.now }
+    requires renumbering { IsRenumbering read.now image.now renumbering.now }
     requires at { IsSectionOfType SHT_DYNSYM image.now (section_model section.now) }
     requires told { IsTold read.now image.now made.now }
     requires linked { made.now.number ≡ section.now.sh_link }
@@ -219,11 +253,11 @@ fn symbols_anew<'data>(
     read: &Builder<'data>,
     image: &Builder<'data>,
     made: &Made<'_>,
-    renumbering: &Option<Renumbering>,
+    renumbering: &Renumbering,
     section: &Section<'data>,
 ) -> Result<ByteString<'data>, AllocError>
     requires ready { IsReady read.now image.now }
-    requires renumbering { IsRenumberingFor read.now image.now renumbering.now }
+    requires renumbering { IsRenumbering read.now image.now renumbering.now }
     requires at { IsSectionOfType SHT_DYNSYM image.now (section_model section.now) }
     requires told { IsTold read.now image.now made.now }
     requires linked { made.now.number ≡ section.now.sh_link }
@@ -245,12 +279,12 @@ pub(crate) fn symbols_content<'data>(
     read: &Builder<'data>,
     image: &Builder<'data>,
     made: &Option<Made<'_>>,
-    renumbering: &Option<Renumbering>,
+    renumbering: &Renumbering,
     section: &Section<'data>,
 ) -> Result<ByteString<'data>, AllocError>
     requires ready { IsReady read.now image.now }
     requires strings { AreStrings read.now image.now made.now }
-    requires renumbering { IsRenumberingFor read.now image.now renumbering.now }
+    requires renumbering { IsRenumbering read.now image.now renumbering.now }
     requires at { IsSectionOfType SHT_DYNSYM image.now (section_model section.now) }
     ensures sized { IfOk result (λ content. length content.bytes
         ≡ length image.now.dynamic_symbols * symbol_size image.now.form) }

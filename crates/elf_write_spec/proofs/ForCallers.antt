@@ -29,6 +29,10 @@ pub use Rattle.elf_write_spec.proofs.LinkedLists
 pub use Rattle.elf_write_spec.proofs.LinkedRelocations
 -- the order in which the dynamic symbols are written, and the new number of each
 pub use Rattle.elf_write_spec.proofs.OrderFacts
+-- orders: lists in which each number below another stands once, and the first that passes a test, by its position
+pub use Rattle.elf_write_spec.proofs.OrderLists
+-- of the types that may come once no two sections and no two program headers were read
+pub use Rattle.elf_write_spec.proofs.SingleTypes
 -- the patches of a written file: they share no byte, lie in the file, and each stands in it
 pub use Rattle.elf_write_spec.proofs.Patches
 -- the dynamic entries of a written file are those that were written

@@ -8,7 +8,13 @@ use Rattle.elf_layout_plan.specs.Plan.{IsPlan, Layout, resized}
 use Rattle.elf_layout_plan.specs.Refusals.{do_sizes_of_image_fit}
 use Rattle.elf_write_spec.specs.Whole.{IsWhole}
 
--- An edited image of which nothing went, with the image that was read from its source.
+-- An edited image, with the image that was read from its source.
+pub record IsEditedReady (read image : Image) : Type 0 where
+  pub at_read : read ≡ image_at_read image
+  pub edited : IsEdited image
+  pub sized : IsTrue (do_sizes_of_image_fit image)
+
+-- the same of an image of which nothing went
 pub record IsReady (read image : Image) : Type 0 where
   pub at_read : read ≡ image_at_read image
   pub edited : IsEdited image

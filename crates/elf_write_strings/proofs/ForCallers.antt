@@ -3,15 +3,15 @@
 
 -- the first section of a type, by its position and by its number
 pub use Rattle.elf_write_strings.proofs.LinksAt
--- the dynamic strings of a read file are a string table
+-- string tables that are there are so long that their new size fits
 pub use Rattle.elf_write_strings.proofs.MadeShort
--- each string table but that of the dynamic strings is copied
-pub use Rattle.elf_write_strings.proofs.OthersCopied
--- an image that is ready to be written is edited, and nothing of it went
-pub use Rattle.elf_write_strings.proofs.ReadyEdits
+-- where the texts of a file that was read stand in its string tables
+pub use Rattle.elf_write_strings.proofs.ReadTables
 -- results of which a value shows more
 pub use Rattle.elf_write_strings.proofs.Results
--- the section of dynamic symbols as it was read
-pub use Rattle.elf_write_strings.proofs.SymbolsRead
+-- the string tables that sections name are there
+pub use Rattle.elf_write_strings.proofs.TablesThere
 -- which texts a string table tells
 pub use Rattle.elf_write_strings.proofs.TextsTold
+-- texts that are read stand in their table
+pub use Rattle.elf_write_strings.proofs.VersionsTexts

@@ -2,10 +2,9 @@ pub mod ForCallers
 pub mod LinksAt
 pub mod MadeShort
 pub mod MadeStrings
-pub mod OthersCopied
-pub mod ReadyEdits
+pub mod ReadTables
 pub mod Results
-pub mod SymbolsRead
+pub mod TablesThere
 pub mod TellsPlaced
 pub mod TextsPlaced
 pub mod TextsTold

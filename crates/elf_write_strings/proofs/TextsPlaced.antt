@@ -9,19 +9,14 @@ use Rattle.std.proofs.lemmas.Bool.{cases_lt, eq-eqb, eqb-true, false≢true, ne_
 use Rattle.std.proofs.lemmas.List.{drop_all, drop_more, get_or-map, length-map, take_more}
 use Rattle.std.proofs.lemmas.List.Elements.{Contains-get_or}
 use Rattle.std.proofs.lemmas.Option.{none-some, same_Some, slice_get_within}
-use Rattle.patch_bytes.specs.Memory.{◌>>=◌, Keeps, Memory, memory_of, text_at}
-use Rattle.patch_bytes.proofs.MemoryLaws.{Keeps-first_places, bind_some, text_at-keeps}
-use Rattle.elf_format.specs.declared.constants.TheConstants.{DT_STRSZ, SHT_DYNAMIC}
+use Rattle.patch_bytes.specs.Memory.{◌>>=◌}
+use Rattle.elf_format.specs.declared.constants.TheConstants.{SHT_DYNAMIC, SHT_DYNSYM}
 use Rattle.elf_format.specs.declared.records.EntryNumbers.{EntryNumbers}
-use Rattle.elf_format.specs.declared.records.SectionHeader.{SectionHeader}
 use Rattle.elf_format.specs.Answers.{borrowed}
-use Rattle.elf_format.specs.declared.form.Form.{Form}
-use Rattle.elf_format.specs.Dynamic.{Auto, Entry, Integer, Text, entries_at, shown_entry, table_tags, text_tags, value_of_tag}
-use Rattle.elf_format.specs.File.{section_bytes, section_of_type}
-use Rattle.elf_format.specs.Image.{Image, ImageSection, entries_read}
-use Rattle.elf_format.specs.Options.{each, is_one_of, is_some_and, list_at}
-use Rattle.elf_format.specs.Rules.{file_of, linked_texts, raw_entries}
-use Rattle.elf_format.specs.Views.{first_by_tag, section_memory}
+use Rattle.elf_format.specs.Dynamic.{Auto, Entry, Integer, Text}
+use Rattle.elf_format.specs.File.{Parts}
+use Rattle.elf_format.specs.Image.{Image, ImageSection}
+use Rattle.elf_format.specs.Options.{first_there, is_some_and, list_at}
 use Rattle.elf_image.specs.declared.dynamic.Dynamic.{Dynamic}
 use Rattle.elf_image.specs.declared.section.Section.{Section}
 use Rattle.elf_image.specs.ImageModel.{entry_model, section_model}
@@ -33,17 +28,15 @@ use Rattle.elf_layout_plan.specs.Needs.{written_entries}
 use Rattle.elf_layout_plan.specs.Texts.{is_subsequence, texts_of_entries}
 use Rattle.elf_write_spec.specs.Headers.{Reads}
 use Rattle.elf_write_strings.specs.declared.made.Made.{Made}
-use Rattle.elf_write_strings.specs.PlacedTexts.{EntriesStand, EntryStands, TellsAll, TextsStand, content_at, has_text, link_at, numbers_in, places_among}
+use Rattle.elf_write_strings.specs.PlacedTexts.{EntriesStand, EntryStands, IsContentOfUser, IsUnedited, TellsAll, TextsStand, content_at, has_text, link_at, numbers_in, places_among}
 use Rattle.elf_write_strings.specs.DynamicStrings.{AreStrings, IsTold, content_read, is_list_left, strings_at}
-use Rattle.elf_write_spec.specs.Ready.{IsReady}
+use Rattle.elf_write_spec.specs.Ready.{IsEditedReady}
 use Rattle.elf_write_strings.proofs.LinksAt.{Link, NoLink}
 use Rattle.elf_write_strings.proofs.LinksAt as tables
-use Rattle.elf_write_strings.proofs.OthersCopied.{content_is_read, list_linked}
+use Rattle.elf_write_strings.proofs.ReadTables.{ContentWas, content_was, entries_stand, facts, read_unedited, ready_edit, same_read}
+use Rattle.elf_write_strings.proofs.TablesThere.{content_same, dynamic_there}
 use Rattle.elf_write_strings.proofs.TextsTold.{told_list}
-use Rattle.elf_write_strings.proofs.VersionsTexts.{text_stands}
-use Rattle.elf_write_strings.proofs.ReadyEdits.{edit_of}
-use Rattle.elf_write_spec.proofs.ForCallers.IntactEdits.{ReadFacts, SectionRead, Nowhere, There, length-now, read_facts, section_read, type_at}
-use Rattle.elf_write_spec.proofs.ForCallers.IntactSections.{kept}
+use Rattle.elf_write_spec.proofs.ForCallers.WholeEdits.{read_facts}
 
 -- ## Places that are made one by one
 
@@ -222,131 +215,6 @@ module _ (strings : List ℕ) where
       by_text (bytes_eq t own) t own refl ts (texts_of_entries es) x es xs stand.0.read (texts_stand es xs stand.1 ts)
       (texts_stand es xs stand.1 (t ∷ ts)) h
 
--- ## The entries that were read
-
-module _ (strings : List ℕ) (room : ℕ) (texts : Memory) (keeps : Keeps texts (memory_of strings)) where
-  by_tag : (is_text is_table : Bool) (x : EntryNumbers) (e : Entry)
-      → cond is_text (text_at room texts x.d_value >>= λ t. Some (Text x.d_tag t))
-      (cond is_table (Some (Auto x.d_tag)) (Some (Integer x.d_tag x.d_value))) ≡ Some e
-      → EntryStands strings e x.d_value
-  by_tag true is_table x e h =
-      let (t, there, made) = bind_some (text_at room texts x.d_value) (λ t. Some (Text x.d_tag t)) e h in
-      subst (λ (y : Entry). EntryStands strings y x.d_value) (same_Some (Text x.d_tag t) e made)
-      (text_stands room strings x.d_value t
-      (text_at-keeps room room (omega arith) texts (memory_of strings) keeps x.d_value t there))
-  by_tag false true x e h = subst (λ (y : Entry). EntryStands strings y x.d_value) (same_Some (Auto x.d_tag) e h) tt
-  by_tag false false x e h = subst (λ (y : Entry). EntryStands strings y x.d_value) (same_Some (Integer x.d_tag x.d_value) e h) tt
-
-  one_stands : (x : EntryNumbers) (e : Entry) → shown_entry room texts x ≡ Some e → EntryStands strings e x.d_value
-  unfolding shown_entry
-  one_stands x e h = by_tag (is_one_of text_tags x.d_tag) (is_one_of table_tags x.d_tag) x e h
-
-  all_stand : (xs : List EntryNumbers) (es : List Entry) → each (shown_entry room texts) xs ≡ Some es → EntriesStand strings es xs
-  unfolding each
-  all_stand [] es h = subst (λ (l : List Entry). EntriesStand strings l []) (same_Some [] es h) tt
-  all_stand (x ∷ xs) es h =
-      let (e, there, more) = bind_some (shown_entry room texts x) (λ z. each (shown_entry room texts) xs >>= λ zs. Some (z ∷ zs)) es h in
-      let (rest, rest_there, made) = bind_some (each (shown_entry room texts) xs) (λ zs. Some (e ∷ zs)) es more in
-      subst (λ (l : List Entry). EntriesStand strings l (x ∷ xs)) (same_Some (e ∷ rest) es made)
-      (one_stands x e there, all_stand xs rest rest_there)
-
--- as many places of a memory as a tag says, or all
-limited : (o : Option ℕ) (m : Memory) → Keeps (first_by_tag o m) m
-limited None m a x h = h
-limited (Some n) m a x h = Keeps-first_places n m a x h
-
-module _ (read image : Image) (is : IsReady read image) (f : ReadFacts read image) where
-  memory_kept : (link : ℕ) (o : Option SectionHeader) → slice_get f.parts.sections link ≡ o
-      → Keeps (section_memory (file_of f.parts) o) (memory_of (content_read image link))
-  memory_kept link None o_is = λ a x h. absurd (none-some x h)
-  memory_kept link (Some old) o_is =
-      let within : link < length image.sections =
-      omega (arith, slice_get_within f.parts.sections link old o_is, length-now read image (edit_of is) f) in
-      let here : SectionRead read image f.parts link = section_read read image (edit_of is) f link within in
-      let same : old ≡ here.old = same_Some old here.old (sym o_is ∙ here.is_old) in
-      let bytes : content_read image link ≡ section_bytes (file_of f.parts) old =
-      content_is_read read image is link here.section here.is_section ∙ ap (λ (s : ImageSection). s.content) here.of_old.fields
-      ∙ ap (section_bytes (file_of f.parts)) (sym same) in
-      λ a x h. ap (λ (l : List ℕ). slice_get l a) bytes ∙ h
-
-  -- the texts of the table that a section linked to lie in its bytes
-  texts_kept : (s : SectionHeader) → Keeps (linked_texts f.parts s) (memory_of (content_read image s.sh_link))
-  texts_kept s a x h =
-      memory_kept s.sh_link (slice_get f.parts.sections s.sh_link) refl a x
-      (limited (value_of_tag DT_STRSZ (raw_entries f.parts)) (section_memory (file_of f.parts) (slice_get f.parts.sections s.sh_link)) a x h)
-
-  -- the section of the dynamic list, at that position
-  pub record ListHere (list : ℕ) : Type 0 where
-    pub i : ℕ
-    pub at : SectionRead read image f.parts i
-    pub was : section_of_type SHT_DYNAMIC f.parts.sections ≡ Some at.old
-    pub now : kept_of_type SHT_DYNAMIC image ≡ Some (kept i at.section)
-    pub there : slice_get image.sections list ≡ Some at.section
-
-  list_here : (list : ℕ) → type_position image SHT_DYNAMIC ≡ Some list → ListHere list
-  list_here list here = elim (tables.link_at image SHT_DYNAMIC is.edited) [
-    | NoLink none not ↦ absurd (none-some list (sym none ∙ here))
-    | Link j k position at found ↦ elim (type_at read image (edit_of is) f SHT_DYNAMIC) [
-      | Nowhere was now ↦ absurd (none-some k (sym now ∙ found))
-      | There i section e e' was now ↦
-          let own : 0 + j ≡ list = same_Some (0 + j) list (sym position ∙ here) in
-          let index : j ≡ list = omega (arith, own) in
-          let same : k ≡ kept i section.section = same_Some k (kept i section.section) (sym found ∙ now) in
-          record {
-            i = i;
-            at = section;
-            was = was;
-            now = now;
-            there = ap (slice_get image.sections) (sym index) ∙ at ∙ ap (λ (x : KeptSection). Some x.section) same;
-          }
-    ]
-  ]
-
--- what is read of two parts of a list of entries is one
-texts_at : (o : Option (List Entry)) → list_at texts_of_entries o ≡ texts_of_entries (list_at (λ es. es) o)
-texts_at None = refl
-texts_at (Some es) = refl
-
-module _ (read image : Image) (is : IsReady read image) (f : ReadFacts read image) (list : ℕ) (here : ListHere read image is f list) where
-  -- the bytes of that section, the number that it links to
-  content_here : content_at read list ≡ section_bytes (file_of f.parts) here.at.old
-  content_here =
-      ap (λ (ss : List ImageSection). unwrap_or (slice_get ss list >>= λ s. Some s.content) []) (sym is.whole.sections)
-      ∙ ap (λ (o : Option ImageSection). unwrap_or (o >>= λ s. Some s.content) []) here.there
-      ∙ ap (λ (s : ImageSection). s.content) here.at.of_old.fields
-
-  section_link : link_at image list ≡ here.at.section.sh_link
-  section_link = ap (λ (o : Option ImageSection). unwrap_or (o >>= λ s. Some s.sh_link) 0) here.there
-
-  old_link : here.at.old.sh_link ≡ link_at image list
-  old_link = sym (section_link ∙ ap (λ (s : ImageSection). s.sh_link) here.at.of_old.fields)
-
-  pub link_now : link_of_type SHT_DYNAMIC image ≡ Some (link_at image list)
-  link_now = ap (λ (o : Option KeptSection). o >>= λ s. Some s.section.sh_link) here.now ∙ ap (λ (n : ℕ). Some n) (sym section_link)
-
-  -- the numbers of the entries that were read
-  numbers_here : numbers_in read (content_at read list) ≡ raw_entries f.parts
-  numbers_here =
-      ap (numbers_in read) content_here
-      ∙ ap (λ (file : List ℕ). unwrap_or (entries_at (length file) read.form (memory_of (section_bytes (file_of f.parts) here.at.old)) 0) []) f.holds.source
-      ∙ ap (λ (form : Form). unwrap_or (entries_at (length (file_of f.parts)) form (memory_of (section_bytes (file_of f.parts) here.at.old)) 0) []) f.holds.form
-      ∙ ap (λ (o : Option SectionHeader). unwrap_or (entries_at (length (file_of f.parts)) f.parts.opened.form (section_memory (file_of f.parts) o) 0) []) (sym here.was)
-
-  -- each text that was read stands where its entry says
-  entries_stand : EntriesStand (content_read image (link_at image list)) (list_at (λ es. es) read.entries) (numbers_in read (content_at read list))
-  unfolding entries_read
-  entries_stand =
-      let of_section : entries_read f.parts (Some here.at.old) ≡ Some read.entries = ap (entries_read f.parts) (sym here.was) ∙ f.holds.entries in
-      let (es, there, made) = bind_some (each (shown_entry (length (file_of f.parts)) (linked_texts f.parts here.at.old)) (raw_entries f.parts))
-      (λ es. Some (Some es)) read.entries of_section in
-      let stand : EntriesStand (content_read image here.at.old.sh_link) es (raw_entries f.parts) =
-      all_stand (content_read image here.at.old.sh_link) (length (file_of f.parts)) (linked_texts f.parts here.at.old)
-      (texts_kept read image is f here.at.old) (raw_entries f.parts) es there in
-      subst (λ (xs : List EntryNumbers). EntriesStand (content_read image (link_at image list)) (list_at (λ es. es) read.entries) xs) (sym numbers_here)
-      (subst (λ (o : Option (List Entry)). EntriesStand (content_read image (link_at image list)) (list_at (λ es. es) o) (raw_entries f.parts))
-      (same_Some (Some es) read.entries made)
-      (subst (λ (n : ℕ). EntriesStand (content_read image n) es (raw_entries f.parts)) old_link stand))
-
 -- ## Both kinds of tables
 
 stays : (a b : Bool) → (a || not b) ≡ false → b ≡ true
@@ -354,39 +222,76 @@ stays true b h = absurd (false≢true (sym h))
 stays false true h = refl
 stays false false h = absurd (false≢true (sym h))
 
-module _ (read image : Image) (is : IsReady read image) (list : ℕ) (at : type_position image SHT_DYNAMIC ≡ Some list) where
-  abbrev facts : ReadFacts read image
-  facts = read_facts read image (edit_of is)
+-- what is read of two parts of a list of entries is one
+texts_at : (o : Option (List Entry)) → list_at texts_of_entries o ≡ texts_of_entries (list_at (λ es. es) o)
+texts_at None = refl
+texts_at (Some es) = refl
 
-  pub here : ListHere read image is facts list
-  here = list_here read image is facts list at
+module _ (read image : Image) (is : IsEditedReady read image) (list : ℕ) (at : type_position image SHT_DYNAMIC ≡ Some list) where
+  -- the section of the dynamic list, at that position
+  record ListHere : Type 0 where
+    pub section : KeptSection
+    pub now : kept_of_type SHT_DYNAMIC image ≡ Some section
+    pub there : slice_get image.sections list ≡ Some section.section
+
+  here : ListHere
+  here = elim (tables.link_at image SHT_DYNAMIC is.edited) [
+    | NoLink none not ↦ absurd (none-some list (sym none ∙ at))
+    | Link j k position there found ↦
+        let own : 0 + j ≡ list = same_Some (0 + j) list (sym position ∙ at) in
+        let index : j ≡ list = omega (arith, own) in
+        record {
+          section = k;
+          now = found;
+          there = ap (slice_get image.sections) (sym index) ∙ there;
+        }
+  ]
+
+  section_link : link_at image list ≡ here.section.section.sh_link
+  section_link = ap (λ (o : Option ImageSection). unwrap_or (o >>= λ s. Some s.sh_link) 0) here.there
 
   pub linked_now : link_of_type SHT_DYNAMIC image ≡ Some (link_at image list)
-  linked_now = link_now read image is facts list here
+  linked_now = ap (λ (o : Option KeptSection). o >>= λ s. Some s.section.sh_link) here.now ∙ ap (λ (n : ℕ). Some n) (sym section_link)
 
   -- so it has its texts among the dynamic strings
   pub strings_number : dynamic_strings_number image ≡ Some (link_at image list)
-  strings_number = list_linked read image is facts (link_at image list) linked_now
+  strings_number = ap (λ (o : Option ℕ). first_there o (link_of_type SHT_DYNSYM image)) linked_now
+
+  user_here : IsContentOfUser image SHT_DYNAMIC (link_at image list) (content_at image list)
+  user_here = record {
+    section = here.section;
+    there = here.now;
+    link = sym section_link;
+    content = ap (λ (o : Option ImageSection). unwrap_or (o >>= λ s. Some s.content) []) here.there;
+  }
 
   -- each text that was read stands where its entry says
-  pub read_stand : EntriesStand (content_read image (link_at image list)) (list_at (λ es. es) read.entries) (numbers_in read (content_at read list))
-  read_stand = entries_stand read image is facts list here
+  pub read_stand : EntriesStand (content_read image (link_at image list)) (list_at (λ es. es) read.entries) (numbers_in read (content_at image list))
+  read_stand =
+      let f = read_facts read image (ready_edit is) in
+      let un : IsUnedited read = read_unedited is in
+      let was = content_was read image f SHT_DYNAMIC (link_at image list) (content_at image list) refl user_here in
+      let same : f.parts ≡ (facts read un).parts = same_read is in
+      subst (λ (l : List ℕ). EntriesStand l (list_at (λ es. es) read.entries) (numbers_in read (content_at image list)))
+      (content_same read image f (link_at image list) (dynamic_there read image f (link_at image list) strings_number))
+      (entries_stand read un (link_at image list) (content_at image list)
+      (subst (λ (p : Parts). ContentWas p SHT_DYNAMIC (link_at image list) (content_at image list)) same was))
 
   -- the texts stand in a table that is copied with the places of its texts
   copied_stand : AreStrings read image None → (ts : List (List ℕ)) → ts ≡ list_at texts_of_entries (written_entries read image)
       → TextsStand (content_read image (link_at image list)) ts
-      (places_among ts (list_at (λ es. es) read.entries) (numbers_in read (content_at read list)))
+      (places_among ts (list_at (λ es. es) read.entries) (numbers_in read (content_at image list)))
   copied_stand are ts own =
       let left : is_list_left read image ≡ true =
       stays (are_names_changed read image) (is_list_left read image) (are.as_read refl (link_at image list) strings_number).stay in
-      texts_stand (content_read image (link_at image list)) (list_at (λ es. es) read.entries) (numbers_in read (content_at read list)) read_stand ts
+      texts_stand (content_read image (link_at image list)) (list_at (λ es. es) read.entries) (numbers_in read (content_at image list)) read_stand ts
       (ap (λ (us : List (List ℕ)). is_subsequence us (texts_of_entries (list_at (λ es. es) read.entries))) own
       ∙ ap (is_subsequence (list_at texts_of_entries (written_entries read image))) (sym (texts_at read.entries)) ∙ left)
 
   pub if_copied : (made : Option Made) → made ≡ None → AreStrings read image made → (ts : List (List ℕ))
       → ts ≡ list_at texts_of_entries (written_entries read image)
       → TextsStand (strings_at image made (link_at image list)) ts
-      (places_among ts (list_at (λ es. es) read.entries) (numbers_in read (content_at read list)))
+      (places_among ts (list_at (λ es. es) read.entries) (numbers_in read (content_at image list)))
   if_copied None none are ts own = copied_stand are ts own
   if_copied (Some m) none are ts own = absurd (none-some m (sym none))
 

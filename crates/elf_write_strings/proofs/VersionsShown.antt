@@ -15,9 +15,9 @@ use Rattle.elf_layout_plan.specs.Needs.{written_needs}
 use Rattle.elf_write_spec.specs.Contents.{AreDefinitionsOf, AreNeedsOf, table_in}
 use Rattle.elf_write_spec.specs.Final.{final}
 use Rattle.elf_write_strings.specs.DynamicStrings.{content_read, strings_at}
-use Rattle.elf_write_spec.specs.Ready.{IsReady}
+use Rattle.elf_write_spec.specs.Ready.{IsEditedReady}
 use Rattle.elf_write_strings.specs.declared.made.Made.{Made}
-use Rattle.elf_write_spec.proofs.ForCallers.IntactEdits.{needs_written}
+use Rattle.elf_write_spec.proofs.ForCallers.WholeEdits.{needs_written}
 
 -- records that are spelled by a table of their texts, and are read back
 pub definitions_of : (order : ByteOrder2) (form : Form) (table : Strings) (ds now : List VersionDefinition) (count : ℕ) (bytes : List ℕ)
@@ -61,7 +61,7 @@ needs_of order form table ns now count bytes same_order same many told stand are
     }))
 
 -- the needed versions in their final form are those that are written
-pub needs_final : (read image : Image) → IsReady read image → written_needs read image ≡ (final (image_at_read image) image).needs
+pub needs_final : (read image : Image) → IsEditedReady read image → written_needs read image ≡ (final (image_at_read image) image).needs
 needs_final read image is = ap (λ (r : Image). written_needs r image) is.at_read ∙ sym (needs_written (image_at_read image) image)
 
 -- ## The string table

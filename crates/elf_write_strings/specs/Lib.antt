@@ -1,3 +1,4 @@
 pub mod DynamicStrings
 pub mod PlacedTexts
 pub mod VersionPlaces
+pub mod WrittenStrings

@@ -9,9 +9,25 @@ use Rattle.elf_format.specs.declared.records.SymbolNumbers.{SymbolNumbers}
 use Rattle.elf_format.specs.Dynamic.{Auto, Entry, Integer, Text, entries_at}
 use Rattle.elf_format.specs.Image.{Image, ImageSection}
 use Rattle.elf_format.specs.Views.{NamedSymbol}
+use Rattle.elf_image.specs.Edited.{IsEdited}
+use Rattle.elf_image.specs.Kept.{KeptSection, image_at_read, kept_of_type}
 use Rattle.elf_tables.specs.Strings.{StandsAt, Strings, place_of}
 use Rattle.elf_write_spec.specs.Headers.{Reads}
 use Rattle.elf_write_strings.specs.VersionPlaces.{Tells}
+
+-- ## The image that was read
+
+-- an image as its source was read
+pub record IsUnedited (read : Image) : Type 0 where
+  pub at_read : read ≡ image_at_read read
+  pub edited : IsEdited read
+
+-- the bytes are those of the first section of a type, which has its texts in the string table with that number
+pub record IsContentOfUser (image : Image) (type number : ℕ) (bytes : List ℕ) : Type 0 where
+  pub section : KeptSection
+  pub there : kept_of_type type image ≡ Some section
+  pub link : section.section.sh_link ≡ number
+  pub content : bytes ≡ section.section.content
 
 -- ## Texts
 

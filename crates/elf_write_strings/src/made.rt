@@ -4,7 +4,7 @@ ghost use Rattle.elf_image.specs.Kept.{dynamic_strings_number};
 ghost use Rattle.elf_layout_plan.specs.Texts.{is_table_copied};
 ghost use Rattle.elf_layout_sizes.specs.MadeTables.{IsMade, IsMadeOfDynamic};
 ghost use Rattle.elf_tables.specs.declared.fault.TableFault.TheVariants.{NumberTooLarge};
-ghost use Rattle.elf_write_spec.specs.Ready.{IsReady};
+ghost use Rattle.elf_write_spec.specs.Ready.{IsEditedReady};
 ghost use Rattle.elf_write_strings.specs.DynamicStrings.{AreStrings, IsTold, content_read, do_names_reach, do_texts_move as do_any_move, is_list_left};
 
 use crate::texts::{are_left, list_texts};
@@ -46,7 +46,7 @@ fn strings_anew<'a, 'data>(
     image: &'a Builder<'data>,
     number: usize,
 ) -> Result<Option<Finished<'a>>, AllocError>
-    requires ready { IsReady read.now image.now }
+    requires ready { IsEditedReady read.now image.now }
     requires linked { dynamic_strings_number image.now ≡ Some number }
     ensures { IfOk result (λ made. MatchOption made
         (IsTrue (is_table_copied read.entry.now image.entry.now number))
@@ -61,7 +61,7 @@ fn strings_anew<'a, 'data>(
 
 // Whether the dynamic list has texts that it had at read, in their order.
 fn has_list_left(alloc: Global, read: &Builder<'_>, image: &Builder<'_>) -> Result<bool, AllocError>
-    requires { IsReady read.now image.now }
+    requires { IsEditedReady read.now image.now }
     ensures { IfOk result (λ is. is ≡ is_list_left read.now image.now) }
 {
     let staying = StayingNeeds::new(alloc, read, image)?;
@@ -74,7 +74,7 @@ fn has_list_left(alloc: Global, read: &Builder<'_>, image: &Builder<'_>) -> Resu
 
 // Whether names of dynamic symbols or texts of the dynamic list may stand elsewhere in a table that is copied.
 fn do_texts_move(alloc: Global, read: &Builder<'_>, image: &Builder<'_>) -> Result<bool, AllocError>
-    requires { IsReady read.now image.now }
+    requires { IsEditedReady read.now image.now }
     ensures { IfOk result (λ move. move ≡ do_any_move read.now image.now) }
 {
     if !image.keeps_dynamic_names() {
@@ -91,7 +91,7 @@ fn strings_copied<'a, 'data>(
     image: &'a Builder<'data>,
     number: usize,
 ) -> Result<Option<Made<'a>>, TableFault>
-    requires ready { IsReady read.now image.now }
+    requires ready { IsEditedReady read.now image.now }
     requires linked { dynamic_strings_number image.now ≡ Some number }
     requires copied { is_table_copied read.now image.now number ≡ true }
     ensures strings { IfOk result (AreStrings read.entry.now image.entry.now) }
@@ -101,11 +101,11 @@ fn strings_copied<'a, 'data>(
     if !do_texts_move(alloc, read, image)? {
         return Ok(None);
     }
-    let content = content_of(image, number);
+    let content = content_of(read, number);
     if content.len() > 1 << 32 {
         return Err(TableFault::NumberTooLarge);
     }
-    let table = told_table(alloc, read, image, number, content)?;
+    let table = told_table(alloc, read, number)?;
     Ok(Some(Made {
         number,
         table,
@@ -120,7 +120,7 @@ pub fn made_strings<'a, 'data>(
     read: &'a Builder<'data>,
     image: &'a Builder<'data>,
 ) -> Result<Option<Made<'a>>, TableFault>
-    requires { IsReady read.now image.now }
+    requires { IsEditedReady read.now image.now }
     ensures strings { IfOk result (AreStrings read.entry.now image.entry.now) }
     ensures fault { IfErr result (λ fault. fault ≡ NumberTooLarge
         → do_names_reach read.entry.now image.entry.now ≡ false) }
@@ -145,7 +145,7 @@ pub fn strings_from<'a, 'data>(
     image: &'a Builder<'data>,
     strings: Option<Finished<'a>>,
 ) -> Result<Option<Made<'a>>, TableFault>
-    requires ready { IsReady read.now image.now }
+    requires ready { IsEditedReady read.now image.now }
     requires strings { IfSome strings (IsMadeOfDynamic read.now image.now) }
     ensures strings { IfOk result (AreStrings read.entry.now image.entry.now) }
     ensures fault { IfErr result (λ fault. fault ≡ NumberTooLarge

@@ -12,7 +12,7 @@ ghost use Rattle.elf_layout_needs.specs.Written.{AreWritten};
 ghost use Rattle.elf_layout_plan.specs.Needs.{written_entries};
 ghost use Rattle.elf_layout_plan.specs.Texts.{is_subsequence, texts_of_entries};
 ghost use Rattle.elf_tables.specs.Strings.{place_of};
-ghost use Rattle.elf_write_spec.specs.Ready.{IsReady};
+ghost use Rattle.elf_write_spec.specs.Ready.{IsEditedReady};
 ghost use Rattle.elf_write_strings.specs.DynamicStrings.{AreStrings, strings_at};
 ghost use Rattle.elf_write_strings.specs.PlacedTexts.{TextsStand, content_at, has_text as has_that_text, link_at, numbers_in, places_among as places_found};
 
@@ -136,18 +136,19 @@ pub(crate) fn read_numbers(
 fn copied_places(
     alloc: Global,
     read: &Builder<'_>,
+    image: &Builder<'_>,
     list: usize,
     texts: &[&[u8]],
 ) -> Result<Vec<u64>, AllocError>
-    requires { list < length read.now.sections }
+    requires { list < length image.now.sections }
     ensures { IfOk result (λ places. places.items ≡ places_found (map borrowed texts.now)
         (list_at (λ es. es) read.now.entries)
-        (numbers_in read.now (content_at read.now list))) }
+        (numbers_in read.now (content_at image.now list))) }
 {
     let Some(entries) = read.dynamic_data() else {
         return Ok(Vec::new(alloc));
     };
-    let numbers = read_numbers(alloc, read, read.sections()[list].content)?;
+    let numbers = read_numbers(alloc, read, image.sections()[list].content)?;
     places_among(alloc, texts, entries, numbers.as_slice())
 }
 
@@ -173,7 +174,7 @@ pub fn text_places<'data>(
     list: usize,
     texts: &[&[u8]],
 ) -> Result<Vec<u64>, AllocError>
-    requires ready { IsReady read.now image.now }
+    requires ready { IsEditedReady read.now image.now }
     requires strings { AreStrings read.now image.now made.now }
     requires list { type_position image.now DYNAMIC ≡ Some list }
     requires texts { map borrowed texts.now
@@ -184,6 +185,6 @@ pub fn text_places<'data>(
 {
     match made {
         Some(made) => made_places(alloc, &made.table, texts),
-        None => copied_places(alloc, read, list, texts),
+        None => copied_places(alloc, read, image, list, texts),
     }
 }

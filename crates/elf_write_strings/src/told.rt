@@ -1,152 +1,205 @@
-//! The dynamic strings where they are copied and texts move: each text that was read is placed where it stood.
-ghost use Rattle.std.specs.Prelude.{◌≡◌, ◌≤◌, ◌^◌, IfOk, Some, length, true};
+//! String tables that are copied and told anew: each text that was read is placed where it stood.
+ghost use Rattle.std.specs.Prelude.{◌≡◌, ◌≤◌, ◌^◌, IfNone, IfOk, IfSome, false, length};
 ghost use Rattle.elf_format.specs.declared.constants.TheConstants as constants;
 ghost use Rattle.elf_format.specs.Options.{list_at};
-ghost use Rattle.elf_image.specs.Kept.{dynamic_strings_number};
-ghost use Rattle.elf_layout_plan.specs.Texts.{if_linked, if_names, is_table_copied, texts_in_use, texts_of_definitions, texts_of_entries, texts_of_needs, texts_of_symbols};
+ghost use Rattle.elf_layout_plan.specs.Texts.{if_linked, if_names, texts_in_use, texts_of_definitions, texts_of_entries, texts_of_needs, texts_of_symbols};
 ghost use Rattle.elf_tables.specs.Strings.{PlacesStand};
-ghost use Rattle.elf_write_spec.specs.Ready.{IsReady};
-ghost use Rattle.elf_write_strings.specs.DynamicStrings.{content_read};
-ghost use Rattle.elf_write_strings.specs.PlacedTexts.{TellsAll};
-ghost use Rattle.elf_write_strings.specs.VersionPlaces.{HasMore};
+ghost use Rattle.elf_write_strings.specs.PlacedTexts.{IsContentOfUser, IsUnedited, TellsAll};
+ghost use Rattle.elf_write_strings.specs.VersionPlaces.{HasMore, content_in};
+ghost use Rattle.elf_write_strings.specs.WrittenStrings.{has_texts_in as has_texts_there};
 
 mod placed;
 mod records;
 
 use self::placed::{place_entries, place_sections, place_symbols};
-use self::records::{header_records, list_numbers, symbol_records};
-use crate::versions::{place_read_definitions, place_read_needs};
+use self::records::{header_records, records_of};
+use crate::texts::read_numbers;
+use crate::versions::{content_of, place_read_definitions, place_read_needs};
 use elf_image::Builder;
-use elf_image::constants::{SHT_DYNAMIC, SHT_DYNSYM, SHT_GNU_VERDEF, SHT_GNU_VERNEED};
+use elf_image::constants::{SHT_DYNAMIC, SHT_DYNSYM, SHT_GNU_VERDEF, SHT_GNU_VERNEED, SHT_SYMTAB};
 use elf_tables::Finished;
 use std::alloc::{AllocError, Global};
 
-// Places the texts of the dynamic list that was read.
-fn tell_list<'t, 'data>(
+// Whether the first section of a type has its texts in the string table with that number.
+pub(crate) fn has_texts_in(image: &Builder<'_>, kind: u32, number: usize) -> bool
+    ensures { result ≡ has_texts_there image.now kind number }
+{
+    match image.link_of_type(kind) {
+        Some(link) => link == number,
+        None => false,
+    }
+}
+
+// The bytes of the first section of a type, where it has its texts in the string table with that number.
+fn content_of_user<'data>(image: &Builder<'data>, kind: u32, number: usize) -> Option<&'data [u8]>
+    ensures none { IfNone result (has_texts_there image.now kind number ≡ false) }
+    ensures some { IfSome result (λ bytes. IsContentOfUser image.now kind number bytes.now) }
+{
+    let _source = image.source();
+    let Some(i) = image.type_position(kind) else {
+        return None;
+    };
+    let section = &image.sections()[i];
+    if section.sh_link as usize != number {
+        return None;
+    }
+    Some(section.content)
+}
+
+// Places the texts of the dynamic list, where they stand in the string table with that number.
+fn tell_list<'t>(
     alloc: Global,
-    read: &'t Builder<'data>,
-    image: &Builder<'data>,
+    read: &'t Builder<'_>,
     number: usize,
     table: &mut Finished<'t>,
 ) -> Result<(), AllocError>
-    requires ready { IsReady read.now image.now }
-    requires linked { dynamic_strings_number image.now ≡ Some number }
-    requires bytes { table.old.bytes ≡ content_read image.now number }
+    requires unedited { IsUnedited read.now }
+    requires bytes { table.old.bytes ≡ content_in read.now.sections number }
     requires short { length table.old.bytes ≤ 2 ^ 32 }
     ensures more { IfOk result (λ _. HasMore table.old table.new) }
     ensures told { IfOk result (λ _. TellsAll table.new (if_linked read.entry.now
         constants.SHT_DYNAMIC number (list_at texts_of_entries read.entry.now.entries))) }
 {
-    let Some(list) = image.type_position(SHT_DYNAMIC) else {
+    let Some(content) = content_of_user(read, SHT_DYNAMIC, number) else {
         return Ok(());
     };
     let Some(entries) = read.dynamic_data() else {
         return Ok(());
     };
-    let numbers = list_numbers(alloc, read, image, list)?;
+    let numbers = read_numbers(alloc, read, content)?;
     place_entries(table, entries, &numbers)
 }
 
-// Places the names of the dynamic symbols that were read.
-fn tell_symbols<'t, 'data>(
+// Places the names of the dynamic symbols, the same.
+fn tell_dynamic_symbols<'t>(
     alloc: Global,
-    read: &'t Builder<'data>,
-    image: &Builder<'data>,
+    read: &'t Builder<'_>,
     number: usize,
     table: &mut Finished<'t>,
 ) -> Result<(), AllocError>
-    requires ready { IsReady read.now image.now }
-    requires linked { dynamic_strings_number image.now ≡ Some number }
-    requires bytes { table.old.bytes ≡ content_read image.now number }
+    requires unedited { IsUnedited read.now }
+    requires bytes { table.old.bytes ≡ content_in read.now.sections number }
     ensures more { IfOk result (λ _. HasMore table.old table.new) }
     ensures told { IfOk result (λ _. TellsAll table.new (if_linked read.entry.now
         constants.SHT_DYNSYM number (texts_of_symbols read.entry.now.dynamic_symbols))) }
 {
-    let Some(i) = image.type_position(SHT_DYNSYM) else {
+    let Some(content) = content_of_user(read, SHT_DYNSYM, number) else {
         return Ok(());
     };
-    let records = symbol_records(alloc, read, image, i)?;
+    let records = records_of(alloc, read, content)?;
     place_symbols(table, read.dynamic_symbols(), &records)
 }
 
-// Places the names of the defined versions, where they stand in the string table with that number.
-fn tell_definitions<'t, 'data>(
+// Places the names of the static symbols, the same.
+fn tell_static_symbols<'t>(
     alloc: Global,
-    read: &'t Builder<'data>,
-    image: &'t Builder<'data>,
+    read: &'t Builder<'_>,
     number: usize,
     table: &mut Finished<'t>,
 ) -> Result<(), AllocError>
-    requires ready { IsReady read.now image.now }
-    requires bytes { table.old.bytes ≡ content_read image.now number }
+    requires unedited { IsUnedited read.now }
+    requires bytes { table.old.bytes ≡ content_in read.now.sections number }
+    ensures more { IfOk result (λ _. HasMore table.old table.new) }
+    ensures told { IfOk result (λ _. TellsAll table.new (if_linked read.entry.now
+        constants.SHT_SYMTAB number (texts_of_symbols read.entry.now.symbols))) }
+{
+    let Some(content) = content_of_user(read, SHT_SYMTAB, number) else {
+        return Ok(());
+    };
+    let records = records_of(alloc, read, content)?;
+    place_symbols(table, read.symbols(), &records)
+}
+
+// Places the names of the defined versions, the same.
+fn tell_definitions<'t>(
+    alloc: Global,
+    read: &'t Builder<'_>,
+    number: usize,
+    table: &mut Finished<'t>,
+) -> Result<(), AllocError>
+    requires unedited { IsUnedited read.now }
+    requires bytes { table.old.bytes ≡ content_in read.now.sections number }
     ensures more { IfOk result (λ _. HasMore table.old table.new) }
     ensures told { IfOk result (λ _. TellsAll table.new (if_linked read.entry.now
         constants.SHT_GNU_VERDEF number (texts_of_definitions read.entry.now.definitions))) }
 {
-    let Some(i) = image.type_position(SHT_GNU_VERDEF) else {
-        return Ok(());
-    };
-    let section = &image.sections()[i];
-    if section.sh_link as usize != number {
+    if !has_texts_in(read, SHT_GNU_VERDEF, number) {
         return Ok(());
     }
-    place_read_definitions(alloc, read, image, section, table)
+    place_read_definitions(alloc, read, number, table)
 }
 
 // Places the texts of the needed versions, the same.
-fn tell_needs<'t, 'data>(
+fn tell_needs<'t>(
     alloc: Global,
-    read: &'t Builder<'data>,
-    image: &'t Builder<'data>,
+    read: &'t Builder<'_>,
     number: usize,
     table: &mut Finished<'t>,
 ) -> Result<(), AllocError>
-    requires ready { IsReady read.now image.now }
-    requires bytes { table.old.bytes ≡ content_read image.now number }
+    requires unedited { IsUnedited read.now }
+    requires bytes { table.old.bytes ≡ content_in read.now.sections number }
     ensures more { IfOk result (λ _. HasMore table.old table.new) }
     ensures told { IfOk result (λ _. TellsAll table.new (if_linked read.entry.now
         constants.SHT_GNU_VERNEED number (texts_of_needs read.entry.now.needs))) }
 {
-    let Some(i) = image.type_position(SHT_GNU_VERNEED) else {
-        return Ok(());
-    };
-    let section = &image.sections()[i];
-    if section.sh_link as usize != number {
+    if !has_texts_in(read, SHT_GNU_VERNEED, number) {
         return Ok(());
     }
-    place_read_needs(alloc, read, image, section, table)
+    place_read_needs(alloc, read, number, table)
 }
 
 // Places the names of the sections, the same.
-fn tell_sections<'t, 'data>(
+fn tell_sections<'t>(
     alloc: Global,
-    read: &'t Builder<'data>,
-    image: &Builder<'data>,
+    read: &'t Builder<'_>,
     number: usize,
     table: &mut Finished<'t>,
 ) -> Result<(), AllocError>
-    requires ready { IsReady read.now image.now }
-    requires bytes { table.old.bytes ≡ content_read image.now number }
+    requires unedited { IsUnedited read.now }
+    requires bytes { table.old.bytes ≡ content_in read.now.sections number }
     ensures more { IfOk result (λ _. HasMore table.old table.new) }
     ensures told { IfOk result (λ _. TellsAll table.new (if_names read.entry.now number)) }
 {
     if read.header().e_shstrndx as usize != number {
         return Ok(());
     }
-    let headers = header_records(alloc, read, image)?;
+    let headers = header_records(alloc, read)?;
     place_sections(table, read.sections(), &headers)
 }
 
-// Places the texts of the versions and the names of the sections that were read.
-fn tell_others<'t, 'data>(
+// Places the texts of the dynamic list and of the symbols.
+fn tell_dynamic<'t>(
     alloc: Global,
-    read: &'t Builder<'data>,
-    image: &'t Builder<'data>,
+    read: &'t Builder<'_>,
     number: usize,
     table: &mut Finished<'t>,
 ) -> Result<(), AllocError>
-    requires ready { IsReady read.now image.now }
-    requires bytes { table.old.bytes ≡ content_read image.now number }
+    requires unedited { IsUnedited read.now }
+    requires bytes { table.old.bytes ≡ content_in read.now.sections number }
+    requires short { length table.old.bytes ≤ 2 ^ 32 }
+    ensures more { IfOk result (λ _. HasMore table.old table.new) }
+    ensures list { IfOk result (λ _. TellsAll table.new (if_linked read.entry.now
+        constants.SHT_DYNAMIC number (list_at texts_of_entries read.entry.now.entries))) }
+    ensures symbols { IfOk result (λ _. TellsAll table.new (if_linked read.entry.now
+        constants.SHT_DYNSYM number (texts_of_symbols read.entry.now.dynamic_symbols))) }
+    ensures statics { IfOk result (λ _. TellsAll table.new (if_linked read.entry.now
+        constants.SHT_SYMTAB number (texts_of_symbols read.entry.now.symbols))) }
+{
+    tell_list(alloc, read, number, table)?;
+    tell_dynamic_symbols(alloc, read, number, table)?;
+    tell_static_symbols(alloc, read, number, table)?;
+    Ok(())
+}
+
+// Places the texts of the versions and the names of the sections.
+fn tell_others<'t>(
+    alloc: Global,
+    read: &'t Builder<'_>,
+    number: usize,
+    table: &mut Finished<'t>,
+) -> Result<(), AllocError>
+    requires unedited { IsUnedited read.now }
+    requires bytes { table.old.bytes ≡ content_in read.now.sections number }
     ensures more { IfOk result (λ _. HasMore table.old table.new) }
     ensures definitions { IfOk result (λ _. TellsAll table.new (if_linked read.entry.now
         constants.SHT_GNU_VERDEF number (texts_of_definitions read.entry.now.definitions))) }
@@ -154,53 +207,47 @@ fn tell_others<'t, 'data>(
         constants.SHT_GNU_VERNEED number (texts_of_needs read.entry.now.needs))) }
     ensures sections { IfOk result (λ _. TellsAll table.new (if_names read.entry.now number)) }
 {
-    tell_definitions(alloc, read, image, number, table)?;
-    tell_needs(alloc, read, image, number, table)?;
-    tell_sections(alloc, read, image, number, table)?;
+    tell_definitions(alloc, read, number, table)?;
+    tell_needs(alloc, read, number, table)?;
+    tell_sections(alloc, read, number, table)?;
     Ok(())
 }
 
-// Places all texts that were read of the dynamic strings.
-fn tell_all<'t, 'data>(
+// Places all texts that stand in the string table with that number.
+fn tell_all<'t>(
     alloc: Global,
-    read: &'t Builder<'data>,
-    image: &'t Builder<'data>,
+    read: &'t Builder<'_>,
     number: usize,
     table: &mut Finished<'t>,
 ) -> Result<(), AllocError>
-    requires ready { IsReady read.now image.now }
-    requires linked { dynamic_strings_number image.now ≡ Some number }
-    requires bytes { table.old.bytes ≡ content_read image.now number }
+    requires unedited { IsUnedited read.now }
+    requires bytes { table.old.bytes ≡ content_in read.now.sections number }
     requires short { length table.old.bytes ≤ 2 ^ 32 }
     ensures more { IfOk result (λ _. HasMore table.old table.new) }
     ensures told { IfOk result (λ _. TellsAll table.new
         (texts_in_use read.entry.now read.entry.now number)) }
 {
-    tell_list(alloc, read, image, number, table)?;
-    tell_symbols(alloc, read, image, number, table)?;
-    tell_others(alloc, read, image, number, table)?;
+    tell_dynamic(alloc, read, number, table)?;
+    tell_others(alloc, read, number, table)?;
     Ok(())
 }
 
-// The dynamic strings with these bytes, which are copied: the table tells where each text stands that the image uses.
-pub(crate) fn told_table<'t, 'data>(
+// A copy of the string table with that number in the file that was read: it tells where each text stands in it.
+pub(crate) fn told_table<'t>(
     alloc: Global,
-    read: &'t Builder<'data>,
-    image: &'t Builder<'data>,
+    read: &'t Builder<'_>,
     number: usize,
-    content: &[u8],
 ) -> Result<Finished<'t>, AllocError>
-    requires ready { IsReady read.now image.now }
-    requires linked { dynamic_strings_number image.now ≡ Some number }
-    requires copied { is_table_copied read.now image.now number ≡ true }
-    requires content { content.now ≡ content_read image.now number }
-    requires short { length content.now ≤ 2 ^ 32 }
-    ensures bytes { IfOk result (λ table. table.bytes ≡ content_read image.entry.now number) }
+    requires unedited { IsUnedited read.now }
+    requires short { length (content_in read.now.sections number) ≤ 2 ^ 32 }
+    ensures bytes { IfOk result (λ table.
+        table.bytes ≡ content_in read.entry.now.sections number) }
     ensures told { IfOk result (λ table. TellsAll table
-        (texts_in_use read.entry.now image.entry.now number)) }
+        (texts_in_use read.entry.now read.entry.now number)) }
     ensures stand { IfOk result PlacesStand }
 {
+    let content = content_of(read, number);
     let mut table = Finished::copied(Vec::from_slice(alloc, content)?, alloc);
-    tell_all(alloc, read, image, number, &mut table)?;
+    tell_all(alloc, read, number, &mut table)?;
     Ok(table)
 }

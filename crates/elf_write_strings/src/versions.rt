@@ -1,17 +1,18 @@
 //! The bytes of version tables (GNU symbol versioning).
-ghost use Rattle.std.specs.Prelude.{◌≡◌, IfOk, length};
+ghost use Rattle.std.specs.Prelude.{◌≡◌, IfOk, Some, length};
 ghost use Rattle.elf_format.specs.declared.constants.TheConstants.{SHT_GNU_VERDEF, SHT_GNU_VERNEED};
 ghost use Rattle.elf_image.specs.ImageModel.{section_model};
+ghost use Rattle.elf_image.specs.Kept.{link_of_type};
 ghost use Rattle.elf_layout_plan.specs.Plan.{resized};
 ghost use Rattle.elf_layout_plan.specs.Needs.{written_needs};
 ghost use Rattle.elf_layout_plan.specs.Sizes.{definitions_size, needs_size};
 ghost use Rattle.elf_layout_plan.specs.Texts.{texts_of_definitions, texts_of_needs};
 ghost use Rattle.elf_tables.specs.Strings.{PlacesStand};
 ghost use Rattle.elf_write_spec.specs.Contents.{AreDefinitionsIn, AreNeedsIn};
-ghost use Rattle.elf_write_spec.specs.Ready.{IsReady, IsSectionOfType};
-ghost use Rattle.elf_write_strings.specs.DynamicStrings.{AreStrings, content_read, strings_at};
-ghost use Rattle.elf_write_strings.specs.PlacedTexts.{TellsAll};
-ghost use Rattle.elf_write_strings.specs.VersionPlaces.{HasMore};
+ghost use Rattle.elf_write_spec.specs.Ready.{IsEditedReady, IsSectionOfType};
+ghost use Rattle.elf_write_strings.specs.DynamicStrings.{AreStrings, strings_at};
+ghost use Rattle.elf_write_strings.specs.PlacedTexts.{IsUnedited, TellsAll};
+ghost use Rattle.elf_write_strings.specs.VersionPlaces.{HasMore, content_in};
 
 mod needing;
 mod placing;
@@ -31,84 +32,79 @@ use elf_tables::Finished;
 use std::alloc::{AllocError, Global};
 
 // Places the names of the defined versions where their records say.
-pub(crate) fn place_read_definitions<'t, 'data>(
+pub(crate) fn place_read_definitions<'t>(
     alloc: Global,
-    read: &Builder<'data>,
-    image: &'t Builder<'data>,
-    section: &Section<'data>,
+    read: &'t Builder<'_>,
+    number: usize,
     table: &mut Finished<'t>,
 ) -> Result<(), AllocError>
-    requires ready { IsReady read.now image.now }
-    requires at { IsSectionOfType SHT_GNU_VERDEF image.now (section_model section.now) }
-    requires bytes { table.old.bytes ≡ content_read image.now section.now.sh_link }
+    requires unedited { IsUnedited read.now }
+    requires linked { link_of_type SHT_GNU_VERDEF read.now ≡ Some number }
+    requires bytes { table.old.bytes ≡ content_in read.now.sections number }
     ensures more { IfOk result (λ _. HasMore table.old table.new) }
     ensures told { IfOk result (λ _.
-        TellsAll table.new (texts_of_definitions image.entry.now.definitions)) }
+        TellsAll table.new (texts_of_definitions read.entry.now.definitions)) }
 {
     let headers = headers_of(alloc, read)?;
     let walk = walk_definitions(alloc, &headers)?;
-    place_definitions(table, &image.versions().definitions, &walk.values)
+    place_definitions(table, &read.versions().definitions, &walk.values)
 }
 
 // Places the texts of the needed versions where their records say.
-pub(crate) fn place_read_needs<'t, 'data>(
+pub(crate) fn place_read_needs<'t>(
     alloc: Global,
-    read: &Builder<'data>,
-    image: &'t Builder<'data>,
-    section: &Section<'data>,
+    read: &'t Builder<'_>,
+    number: usize,
     table: &mut Finished<'t>,
 ) -> Result<(), AllocError>
-    requires ready { IsReady read.now image.now }
-    requires at { IsSectionOfType SHT_GNU_VERNEED image.now (section_model section.now) }
-    requires bytes { table.old.bytes ≡ content_read image.now section.now.sh_link }
+    requires unedited { IsUnedited read.now }
+    requires linked { link_of_type SHT_GNU_VERNEED read.now ≡ Some number }
+    requires bytes { table.old.bytes ≡ content_in read.now.sections number }
     ensures more { IfOk result (λ _. HasMore table.old table.new) }
-    ensures told { IfOk result (λ _.
-        TellsAll table.new (texts_of_needs image.entry.now.needs)) }
+    ensures told { IfOk result (λ _. TellsAll table.new (texts_of_needs read.entry.now.needs)) }
 {
     let headers = headers_of(alloc, read)?;
     let walk = walk_needs(alloc, &headers)?;
-    place_needs(table, &image.versions().needs, &walk.values)
+    place_needs(table, &read.versions().needs, &walk.values)
 }
 
-// A copy of the string table that a section of defined versions links to, which tells where their names stand.
-fn names_of_definitions<'t, 'data>(
+// A copy of the string table with that number, in which the names of the defined versions stand: it tells where.
+fn names_of_definitions<'t>(
     alloc: Global,
-    read: &Builder<'data>,
-    image: &'t Builder<'data>,
-    section: &Section<'data>,
+    read: &'t Builder<'_>,
+    number: usize,
 ) -> Result<Finished<'t>, AllocError>
-    requires ready { IsReady read.now image.now }
-    requires at { IsSectionOfType SHT_GNU_VERDEF image.now (section_model section.now) }
+    requires unedited { IsUnedited read.now }
+    requires linked { link_of_type SHT_GNU_VERDEF read.now ≡ Some number }
     ensures bytes { IfOk result (λ table.
-        table.bytes ≡ content_read image.entry.now section.now.sh_link) }
+        table.bytes ≡ content_in read.entry.now.sections number) }
     ensures stand { IfOk result PlacesStand }
     ensures told { IfOk result (λ table.
-        TellsAll table (texts_of_definitions image.entry.now.definitions)) }
+        TellsAll table (texts_of_definitions read.entry.now.definitions)) }
 {
-    let content = content_of(image, section.sh_link as usize);
+    let content = content_of(read, number);
     let mut table = Finished::copied(Vec::from_slice(alloc, content)?, alloc);
-    place_read_definitions(alloc, read, image, section, &mut table)?;
+    place_read_definitions(alloc, read, number, &mut table)?;
     Ok(table)
 }
 
-// A copy of the string table that a section of needed versions links to, which tells where their texts stand.
-fn names_of_needs<'t, 'data>(
+// The same of the texts of the needed versions.
+fn names_of_needs<'t>(
     alloc: Global,
-    read: &Builder<'data>,
-    image: &'t Builder<'data>,
-    section: &Section<'data>,
+    read: &'t Builder<'_>,
+    number: usize,
 ) -> Result<Finished<'t>, AllocError>
-    requires ready { IsReady read.now image.now }
-    requires at { IsSectionOfType SHT_GNU_VERNEED image.now (section_model section.now) }
+    requires unedited { IsUnedited read.now }
+    requires linked { link_of_type SHT_GNU_VERNEED read.now ≡ Some number }
     ensures bytes { IfOk result (λ table.
-        table.bytes ≡ content_read image.entry.now section.now.sh_link) }
+        table.bytes ≡ content_in read.entry.now.sections number) }
     ensures stand { IfOk result PlacesStand }
     ensures told { IfOk result (λ table.
-        TellsAll table (texts_of_needs image.entry.now.needs)) }
+        TellsAll table (texts_of_needs read.entry.now.needs)) }
 {
-    let content = content_of(image, section.sh_link as usize);
+    let content = content_of(read, number);
     let mut table = Finished::copied(Vec::from_slice(alloc, content)?, alloc);
-    place_read_needs(alloc, read, image, section, &mut table)?;
+    place_read_needs(alloc, read, number, &mut table)?;
     Ok(table)
 }
 
@@ -120,7 +116,7 @@ pub fn definitions_content<'data>(
     made: &Option<Made<'_>>,
     section: &Section<'data>,
 ) -> Result<Vec<u8>, AllocError>
-    requires ready { IsReady read.now image.now }
+    requires ready { IsEditedReady read.now image.now }
     requires strings { AreStrings read.now image.now made.now }
     requires at { IsSectionOfType SHT_GNU_VERDEF image.now (section_model section.now) }
     ensures sized { IfOk result (λ bytes. length bytes.items
@@ -133,7 +129,7 @@ pub fn definitions_content<'data>(
             return definition_records(alloc, image, &made.table);
         }
     }
-    let table = names_of_definitions(alloc, read, image, section)?;
+    let table = names_of_definitions(alloc, read, section.sh_link as usize)?;
     definition_records(alloc, image, &table)
 }
 
@@ -145,7 +141,7 @@ pub fn needs_content<'data>(
     made: &Option<Made<'_>>,
     section: &Section<'data>,
 ) -> Result<Vec<u8>, AllocError>
-    requires ready { IsReady read.now image.now }
+    requires ready { IsEditedReady read.now image.now }
     requires strings { AreStrings read.now image.now made.now }
     requires at { IsSectionOfType SHT_GNU_VERNEED image.now (section_model section.now) }
     ensures sized { IfOk result (λ bytes. length bytes.items
@@ -159,6 +155,6 @@ pub fn needs_content<'data>(
             return need_records(alloc, read, image, &needs, &made.table);
         }
     }
-    let table = names_of_needs(alloc, read, image, section)?;
+    let table = names_of_needs(alloc, read, section.sh_link as usize)?;
     need_records(alloc, read, image, &needs, &table)
 }

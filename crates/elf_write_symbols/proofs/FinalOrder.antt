@@ -1,35 +1,39 @@
 -- The final order of the dynamic symbols: it has each once, and the final symbols are those of the image in that order.
-use Rattle.std.proofs.Common.{◌≡◌, ◌≢◌, ℕ, ◌<◌, ◌≤◌, List, [], ◌∷◌, length, map, get_or, Bool, true, false, not, refl, sym, ap, ◌∙◌, subst, Option, Some, None, arith}
-use Rattle.std.specs.Prelude.{◌&&◌, ◌||◌, ◌==◌, count_ones, if◌then◌else◌, is_some, nat_le}
+use Rattle.std.proofs.Common.{◌≡◌, ◌≢◌, ℕ, ◌*◌, ◌<◌, ◌≤◌, List, [], ◌∷◌, length, map, Bool, true, false, not, refl, sym, ap, ◌∙◌, subst, Option, Some, None, arith}
+use Rattle.std.specs.Prelude.{◌&&◌, ◌==◌, count_ones}
 use Rattle.std.specs.Int.{is_power_of_two}
-use Rattle.std.specs.List.{All, cons_option, slice_get}
+use Rattle.std.specs.List.{slice_get}
 use Rattle.std.specs.Option.{option_map}
 use Rattle.std.proofs.lemmas.Bool.{and_parts, eqb-true, false≢true, leb-true}
+use Rattle.std.proofs.lemmas.List.{length-map}
 use Rattle.std.proofs.lemmas.Nat.{ones_le_self}
 use Rattle.std.proofs.lemmas.Option.{get_or_from_slice_get, none-some, same_Some, slice_get_within}
 use Rattle.patch_bytes.specs.Memory.{◌>>=◌, memory_of}
 use Rattle.patch_bytes.specs.Number.{number_at}
-use Rattle.elf_format.specs.declared.constants.TheConstants.{SHN_LORESERVE, SHT_GNU_HASH, SHT_HASH}
+use Rattle.elf_format.specs.declared.constants.TheConstants.{SHT_GNU_HASH, SHT_HASH}
+use Rattle.elf_format.specs.declared.version_id.VersionId.{VersionId}
+use Rattle.elf_format.specs.Form.{records}
 use Rattle.elf_format.specs.Hashes.{GnuHeader, gnu_header}
-use Rattle.elf_format.specs.Image.{Image, ImageSection, counted}
+use Rattle.elf_format.specs.Image.{Image, ImageSection}
 use Rattle.elf_format.specs.Options.{is_none_or, is_some_and}
+use Rattle.elf_format.specs.Versions.{version_id}
 use Rattle.elf_format.specs.Views.{NamedSymbol}
-use Rattle.elf_hashes.specs.Found.{ArePlaces, in_order}
-use Rattle.elf_image.specs.Complete.{has_section}
-use Rattle.elf_image.specs.Kept.{KeptSection, kept_at_number, kept_of_type}
+use Rattle.elf_hashes.specs.Found.{ArePlaces, hashed_names, in_order}
+use Rattle.elf_hashes.specs.Versions.{AreVersionsOf}
+use Rattle.elf_image.specs.Kept.{KeptSection, kept_of_type}
 use Rattle.elf_image.specs.Names.{are_names_changed}
 use Rattle.elf_image.specs.Renumbering.{can_make_gabi, can_make_gnu, can_renumber, is_gnu_front}
-use Rattle.elf_write_spec.specs.Final.{buckets_of, dynamic_order, final, final_symbol, new_number}
-use Rattle.elf_write_spec.specs.Ready.{IsReady}
-use Rattle.elf_write_spec.proofs.ForCallers.IntactSections.{kept, kept_is}
+use Rattle.elf_write_spec.specs.Final.{buckets_of, dynamic_order, final, final_symbol, ordered}
+use Rattle.elf_write_spec.specs.Ready.{IsEditedReady}
+use Rattle.elf_write_spec.proofs.ForCallers.FinalSymbols.{all_symbols, final_ordered}
+use Rattle.elf_write_spec.proofs.ForCallers.OrderFacts.{HasSymbols, final_names, keeps_first, order_are_places, ordered-same}
+use Rattle.elf_write_spec.proofs.ForCallers.WholeEdits.{ReadFacts}
 use Rattle.elf_layout_plan.proofs.ForCallers.SameTexts.{names_same}
 use Rattle.elf_write_symbols.proofs.HashSteps.{front_long, header_there}
-use Rattle.elf_write_spec.proofs.ForCallers.IntactOrder.{HasAllSymbols, final_symbol-same, order_are_places, ordered-same}
-use Rattle.elf_write_symbols.proofs.ReadyFacts.{Facts, counts, symbols_were}
 
 -- ## Hash tables that can be made anew
 
-module _ (read image : Image) (is : IsReady read image) (f : Facts read image) (changed : are_names_changed read image ≡ true) where
+module _ (read image : Image) (is : IsEditedReady read image) (f : ReadFacts read image) (changed : are_names_changed read image ≡ true) where
   both : (is_none_or (λ s. can_make_gabi image.form s.section) (kept_of_type SHT_HASH image)
       && is_none_or (λ s. can_make_gnu image.form s.section) (kept_of_type SHT_GNU_HASH image)) ≡ true
   both = (and_parts _ _ (f.edit.complete.tables changed)).0
@@ -77,51 +81,13 @@ small_shift image s h =
 
 -- ## The order
 
-module _ (read image : Image) (is : IsReady read image) (f : Facts read image) where
-  -- each symbol that was read is still there
-  pub all : HasAllSymbols read image
-  all = record {
-    complete = f.edit.complete;
-    numbers = symbols_were read image is f;
-    as_many = sym f.edit.dynamic_symbols.numbered;
-  }
+module _ (read image : Image) (is : IsEditedReady read image) (f : ReadFacts read image) where
+  -- each symbol that is there has a number at read
+  pub all : HasSymbols read image
+  all = all_symbols read image f
 
-  abbrev pub places : ArePlaces image.dynamic_symbols (dynamic_order read image)
+  abbrev places : ArePlaces image.dynamic_symbols (dynamic_order read image)
   places = order_are_places read image all
-
-  -- ## The final symbols
-
-  numbers_stay : (n : ℕ) → new_number image n ≡ n
-  numbers_stay n =
-      ap (λ (o : Option KeptSection). elim o as (λ _. ℕ) [ Some s ↦ s.position | None ↦ n ]) (kept_is image (counts read image is f) n)
-      ∙ by_section (slice_get image.sections n)
-    where
-      by_section : (o : Option ImageSection) → (elim (option_map (kept n) o) as (λ _. ℕ) [ Some s ↦ s.position | None ↦ n ]) ≡ n
-      by_section None = refl
-      by_section (Some s) = refl
-
-  symbol_stays : (i : ℕ) (y : NamedSymbol) → slice_get image.dynamic_symbols i ≡ Some y → final_symbol image y ≡ y
-  symbol_stays i y at =
-      let own : get_or image.dynamic_symbols i y ≡ y = get_or_from_slice_get image.dynamic_symbols i y y at in
-      final_symbol-same image numbers_stay y
-      (ap (has_section image) (sym own) ∙ f.edit.complete.dynamic_sections i y (slice_get_within image.dynamic_symbols i y at))
-
-  stay_in_order : (order : List ℕ) → map (final_symbol image) (in_order image.dynamic_symbols order) ≡ in_order image.dynamic_symbols order
-  stay_in_order [] = refl
-  stay_in_order (k ∷ order) = by_symbol (slice_get image.dynamic_symbols k) refl (stay_in_order order)
-    where
-      by_symbol : (o : Option NamedSymbol) → slice_get image.dynamic_symbols k ≡ o
-          → map (final_symbol image) (in_order image.dynamic_symbols order) ≡ in_order image.dynamic_symbols order
-          → map (final_symbol image) (cons_option o (in_order image.dynamic_symbols order)) ≡ cons_option o (in_order image.dynamic_symbols order)
-      by_symbol None at rest = rest
-      by_symbol (Some y) at rest =
-          ap (λ (x : NamedSymbol). x ∷ map (final_symbol image) (in_order image.dynamic_symbols order)) (symbol_stays k y at)
-          ∙ ap (λ (xs : List NamedSymbol). y ∷ xs) rest
-
-  -- none of them changed but for its place
-  pub final_is : (final read image).dynamic_symbols ≡ in_order image.dynamic_symbols (dynamic_order read image)
-  unfolding final
-  final_is = stay_in_order (dynamic_order read image)
 
   -- of symbols that are lent
   pub lent_places : (ys : List NamedSymbol) (order : List ℕ) → ys ≡ image.dynamic_symbols → order ≡ dynamic_order read image → ArePlaces ys order
@@ -129,21 +95,56 @@ module _ (read image : Image) (is : IsReady read image) (f : Facts read image) w
       subst (λ (l : List NamedSymbol). ArePlaces l order) (sym same)
       (subst (λ (l : List ℕ). ArePlaces image.dynamic_symbols l) (sym is_order) places)
 
-  -- where the symbols are those that were read
-  pub final_stays : image.dynamic_symbols ≡ read.dynamic_symbols → (final read image).dynamic_symbols ≡ read.dynamic_symbols
-  final_stays same =
-      final_is ∙ ordered-same read image (names_same read image same) ∙ same
-
   -- the symbol at a place of it
   pub place_inside : (i k : ℕ) → slice_get (dynamic_order read image) i ≡ Some k → k < length image.dynamic_symbols
   place_inside i k at =
       subst (λ n. n < length image.dynamic_symbols) (get_or_from_slice_get (dynamic_order read image) i k k at)
       (places i k (slice_get_within (dynamic_order read image) i k at))
 
-  pub lent_final : (ys : List NamedSymbol) (order : List ℕ) → ys ≡ image.dynamic_symbols → order ≡ dynamic_order read image
-      → in_order ys order ≡ (final read image).dynamic_symbols
-  lent_final ys order same is_order =
-      ap (λ (l : List NamedSymbol). in_order l order) same ∙ ap (in_order image.dynamic_symbols) is_order ∙ sym final_is
+  -- ## The final symbols
+
+  abbrev finals : List NamedSymbol
+  finals = (final read image).dynamic_symbols
+
+  lent_ordered : (ys : List NamedSymbol) (order : List ℕ) → ys ≡ image.dynamic_symbols → order ≡ dynamic_order read image
+      → in_order ys order ≡ ordered read image
+  lent_ordered ys order same is_order =
+      ap (λ (l : List NamedSymbol). in_order l order) same ∙ ap (in_order image.dynamic_symbols) is_order
+
+  -- look-ups find the same of the symbols that are lent
+  pub lent_names : (ys : List NamedSymbol) (order : List ℕ) → ys ≡ image.dynamic_symbols → order ≡ dynamic_order read image
+      → hashed_names (in_order ys order) ≡ hashed_names finals
+  lent_names ys order same is_order =
+      ap hashed_names (lent_ordered ys order same is_order) ∙ sym (final_names read image all (keeps_first read image f))
+
+  -- no symbol's version depends on where its section stands
+  same_versions : (ys : List NamedSymbol) → map (λ (y : NamedSymbol). y.version) (map (final_symbol image) ys) ≡ map (λ (y : NamedSymbol). y.version) ys
+  same_versions [] = refl
+  same_versions (y ∷ ys) = ap (λ (l : List (Option VersionId)). y.version ∷ l) (same_versions ys)
+
+  -- bytes that hold the versions of symbols hold those of the final ones
+  pub versions_final : (ys : List NamedSymbol) (bytes : List ℕ) → ys ≡ ordered read image → AreVersionsOf image.form ys bytes
+      → AreVersionsOf image.form finals bytes
+  versions_final ys bytes same are =
+      let long : length finals ≡ length ys =
+      ap length (final_ordered read image f) ∙ length-map (ordered read image) (final_symbol image) ∙ ap length (sym same) in
+      let told : map (λ (y : NamedSymbol). y.version) finals ≡ map (λ (y : NamedSymbol). y.version) ys =
+      ap (map (λ (y : NamedSymbol). y.version)) (final_ordered read image f) ∙ same_versions (ordered read image)
+      ∙ ap (map (λ (y : NamedSymbol). y.version)) (sym same) in
+      record {
+        sized = are.sized ∙ ap (λ n. 2 * n) (sym long);
+        versions = ap (λ (n : ℕ). records (λ b. Some (version_id image.form b)) 2 n bytes) long ∙ are.versions ∙ sym told;
+      }
+
+  pub lent_versions : (ys : List NamedSymbol) (order : List ℕ) (bytes : List ℕ) → ys ≡ image.dynamic_symbols → order ≡ dynamic_order read image
+      → AreVersionsOf image.form (in_order ys order) bytes → AreVersionsOf image.form finals bytes
+  lent_versions ys order bytes same is_order = versions_final (in_order ys order) bytes (lent_ordered ys order same is_order)
+
+  -- where the symbols are those that were read
+  pub read_versions : (bytes : List ℕ) → image.dynamic_symbols ≡ read.dynamic_symbols → AreVersionsOf image.form read.dynamic_symbols bytes
+      → AreVersionsOf image.form finals bytes
+  read_versions bytes same =
+      versions_final read.dynamic_symbols bytes (sym (ordered-same read image (names_same read image same) ∙ same))
 
   -- the first number of a GNU table that is made anew
   pub buckets_told : are_names_changed read image ≡ true → (s : ImageSection)

@@ -3,6 +3,8 @@ pub mod ReadyFacts
 pub mod HashSteps
 pub mod FinalOrder
 pub mod NumberFacts
+pub mod SectionFacts
 pub mod VersionFacts
 pub mod RelocationFacts
 pub mod HashFacts
+pub mod ForCallers

@@ -1,6 +1,6 @@
 -- Lists: the first element that passes a test and its place, loops that ask whether all pass, and elements in an order.
 use Rattle.std.proofs.Common.{◌≡◌, ℕ, zero, suc, ◌+◌, ◌<◌, ◌≤◌, List, [], ◌∷◌, ◌++◌, length, drop, take, get_or, Bool, true, false, not, refl, sym, ap, ◌∙◌, subst, inl, inr, Option, Some, None, Result, Ok, Err, arith}
-use Rattle.std.specs.Prelude.{◌&&◌, count_by, find, if◌then◌else◌, nat_lt, position, sum_by}
+use Rattle.std.specs.Prelude.{◌&&◌, count_by, find, if◌then◌else◌, nat_lt, position, slice_index, sum_by}
 use Rattle.std.specs.List.{All, cons_option, list_all, position_or_len, slice_get}
 use Rattle.std.specs.List.Sorted.{IsPermutation}
 use Rattle.std.specs.Option.{option_map}
@@ -10,13 +10,12 @@ use Rattle.std.proofs.lemmas.List.{drop_all, drop_more}
 use Rattle.std.proofs.lemmas.List.Sorted.{sum_by-IsPermutation}
 use Rattle.std.proofs.lemmas.List.Sums.{sum_by-cons}
 use Rattle.std.proofs.lemmas.Option.{get_or_from_slice_get, none-some, slice_get_within}
-use Rattle.elf_format.specs.Image.{Image, ImageSection, counted}
+use Rattle.elf_format.specs.Image.{ImageSection, counted}
 use Rattle.elf_format.specs.Views.{NamedSymbol}
 use Rattle.elf_hashes.specs.Found.{in_order}
 use Rattle.elf_hashes.proofs.ForCallers.{in_order-counted}
-use Rattle.elf_format.proofs.ForCallers.Lengths.{slice_get-counted}
-use Rattle.elf_image.specs.Kept.{KeptSection, kept_from, kept_sections}
-use Rattle.elf_write_spec.proofs.ForCallers.IntactCounts.{count-cons, one_if}
+use Rattle.elf_image.specs.Kept.{KeptSection, kept_from}
+use Rattle.elf_write_spec.proofs.ForCallers.LinkedLists.{count-cons, one_if}
 
 -- ## The place of the first that passes a test
 
@@ -56,44 +55,25 @@ section-kept test at (n ∷ ns) (s ∷ ss) same =
     section_by (test s) (record { position = at; number = n; section = s }) (find (λ k. test k.section) (kept_from (at + 1) ns ss)) (find test ss)
     (section-kept test (at + 1) ns ss (omega (arith, same)))
 
-number_by : (b : Bool) (at : ℕ) (k : KeptSection) (rest : Option KeptSection) (other : Option ℕ) → k.number ≡ at + 0
-    → option_map (λ s. s.number) rest ≡ option_map (λ i. at + 1 + i) other
-    → option_map (λ s. s.number) (if b then Some k else rest) ≡ option_map (λ i. at + i) (if b then Some 0 else option_map (λ i. suc i) other)
-number_by true at k rest other own same = ap (λ n. Some n) own
-number_by false at k rest None own same = same
-number_by false at k rest (Some i) own same =
-    let next : at + 1 + i ≡ at + suc i = omega arith in
-    same ∙ ap (λ n. Some n) next
+number_by : (b : Bool) (k : KeptSection) (rest : Option KeptSection) (ns : List ℕ) (other : Option ℕ)
+    → option_map (λ s. s.number) rest ≡ option_map (slice_index ns) other
+    → option_map (λ s. s.number) (if b then Some k else rest)
+    ≡ option_map (slice_index (k.number ∷ ns)) (if b then Some 0 else option_map (λ i. suc i) other)
+number_by true k rest ns other same = refl
+number_by false k rest ns None same = same
+number_by false k rest ns (Some i) same = same
 
--- where each has its position for its number, that is the place of the first that passes a test
-pub number-kept : (test : ImageSection → Bool) (at : ℕ) (numbers : List ℕ) (sections : List ImageSection)
-    → ((j : ℕ) → j < length sections → slice_get numbers j ≡ Some (at + j))
-    → option_map (λ s. s.number) (find (λ s. test s.section) (kept_from at numbers sections)) ≡ option_map (λ i. at + i) (position test sections)
-number-kept test at [] [] counts = refl
-number-kept test at (n ∷ ns) [] counts = refl
-number-kept test at [] (s ∷ ss) counts = absurd (none-some (at + 0) (counts 0 (omega arith)))
-number-kept test at (n ∷ ns) (s ∷ ss) counts =
-    let first : n ≡ at + 0 = first_is n (at + 0) (counts 0 (omega arith)) in
-    number_by (test s) at (record { position = at; number = n; section = s }) (find (λ k. test k.section) (kept_from (at + 1) ns ss)) (position test ss) first
-    (number-kept test (at + 1) ns ss (λ j less.
-    let next : at + suc j ≡ at + 1 + j = omega arith in
-    counts (suc j) (omega (arith, less)) ∙ ap (λ k. Some k) next))
-    ∙ ap (option_map (λ i. at + i)) (sym (position-cons test s ss))
-  where
-    first_is : (a b : ℕ) → Some a ≡ Some b → a ≡ b
-    first_is a b e = grind (arith, e)
-
-pub place-kept : (test : ImageSection → Bool) (image : Image) → image.section_numbers ≡ counted (length image.sections)
-    → position test image.sections ≡ option_map (λ s. s.number) (find (λ s. test s.section) (kept_sections image))
-place-kept test image counts =
-    from_zero (position test image.sections)
-    ∙ sym (number-kept test 0 image.section_numbers image.sections (λ j less.
-    let own : j ≡ 0 + j = omega arith in
-    ap (λ (l : List ℕ). slice_get l j) counts ∙ slice_get-counted (length image.sections) j less ∙ ap (λ k. Some k) own))
-  where
-    from_zero : (o : Option ℕ) → o ≡ option_map (λ i. 0 + i) o
-    from_zero None = refl
-    from_zero (Some i) = let own : i ≡ 0 + i = omega arith in ap (λ k. Some k) own
+-- the number of the first that passes a test is the one at its place
+pub number-kept : (test : ImageSection → Bool) (at : ℕ) (numbers : List ℕ) (sections : List ImageSection) → length numbers ≡ length sections
+    → option_map (λ s. s.number) (find (λ s. test s.section) (kept_from at numbers sections))
+    ≡ option_map (slice_index numbers) (position test sections)
+number-kept test at [] [] same = refl
+number-kept test at [] (s ∷ ss) same = absurd (omega (arith, same))
+number-kept test at (n ∷ ns) [] same = absurd (omega (arith, same))
+number-kept test at (n ∷ ns) (s ∷ ss) same =
+    number_by (test s) (record { position = at; number = n; section = s }) (find (λ k. test k.section) (kept_from (at + 1) ns ss)) ns
+    (position test ss) (number-kept test (at + 1) ns ss (omega (arith, same)))
+    ∙ ap (option_map (slice_index (n ∷ ns))) (sym (position-cons test s ss))
 
 -- ## Loops that ask whether all pass a test
 

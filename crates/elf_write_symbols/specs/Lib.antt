@@ -1,3 +1,4 @@
 pub mod Renumbering
 pub mod Fits
 pub mod Steps
+pub mod NewSections

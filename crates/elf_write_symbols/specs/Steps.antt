@@ -1,8 +1,8 @@
 -- What the steps of making contents answer.
-use Rattle.std.specs.Prelude.{ℕ}
-use Rattle.elf_format.specs.Image.{ImageSection}
+use Rattle.std.specs.Prelude.{ℕ, slice_index}
+use Rattle.elf_format.specs.Image.{Image, ImageSection}
 use Rattle.elf_image.specs.Kept.{KeptSection}
 
--- the section at a position, which is its number where none went
-abbrev pub kept : ℕ → ImageSection → KeptSection
-kept i s = record { position = i; number = i; section = s }
+-- the section at a position, with the number that it was read at
+abbrev pub kept : Image → ℕ → ImageSection → KeptSection
+kept image i s = record { position = i; number = slice_index image.section_numbers i; section = s }

@@ -11,10 +11,10 @@ ghost use Rattle.elf_layout_plan.specs.Plan.{resized};
 ghost use Rattle.elf_layout_plan.specs.Sizes.{hash_size};
 ghost use Rattle.elf_write_spec.specs.Contents.{IsGabiContent, IsGnuContent, gabi_buckets, sizes_in};
 ghost use Rattle.elf_write_spec.specs.Final.{final};
-ghost use Rattle.elf_write_spec.specs.Ready.{IsReady, IsSectionOfType};
-ghost use Rattle.elf_write_symbols.specs.Renumbering.{IsRenumbering, IsRenumberingFor};
+ghost use Rattle.elf_write_spec.specs.Ready.{IsEditedReady, IsSectionOfType};
+ghost use Rattle.elf_write_symbols.specs.Renumbering.{IsReordering, IsReorderingFor};
 
-use crate::renumbering::Renumbering;
+use crate::renumbering::Reordering;
 use elf_format::form::Form;
 use elf_format::numbers::word_at;
 use elf_hashes::{GnuSizes, build_gnu_hash, build_hash};
@@ -28,11 +28,11 @@ fn gabi_anew(
     alloc: Global,
     read: &Builder<'_>,
     image: &Builder<'_>,
-    renumbering: &Renumbering,
+    reordering: &Reordering,
     section: &Section<'_>,
 ) -> Result<Vec<u8>, AllocError>
-    requires ready { IsReady read.now image.now }
-    requires renumbering { IsRenumbering read.now image.now renumbering.now }
+    requires ready { IsEditedReady read.now image.now }
+    requires reordering { IsReordering read.now image.now reordering.now }
     requires at { IsSectionOfType SHT_HASH image.now (section_model section.now) }
     ensures { IfOk result (λ bytes. IsGabiTable image.now.form
         (gabi_buckets image.now.form section.now.content.now)
@@ -43,7 +43,7 @@ fn gabi_anew(
     match build_hash(
         alloc,
         image.dynamic_symbols(),
-        &renumbering.order,
+        &reordering.order,
         buckets,
         form,
     ) {
@@ -59,21 +59,21 @@ pub fn gabi_content<'data>(
     alloc: Global,
     read: &Builder<'data>,
     image: &Builder<'data>,
-    renumbering: &Option<Renumbering>,
+    reordering: &Option<Reordering>,
     section: &Section<'data>,
 ) -> Result<ByteString<'data>, AllocError>
-    requires ready { IsReady read.now image.now }
-    requires renumbering { IsRenumberingFor read.now image.now renumbering.now }
+    requires ready { IsEditedReady read.now image.now }
+    requires reordering { IsReorderingFor read.now image.now reordering.now }
     requires at { IsSectionOfType SHT_HASH image.now (section_model section.now) }
     ensures sized { IfOk result (λ content. length content.bytes
         ≡ hash_size read.now image.now (section_model section.now)) }
     ensures table { IfOk result (λ content.
         IsGabiContent (resized image.now) (section_model section.now) content.bytes) }
 {
-    let Some(renumbering) = renumbering else {
+    let Some(reordering) = reordering else {
         return Ok(ByteString::borrowed(section.content));
     };
-    let bytes = gabi_anew(alloc, read, image, renumbering, section)?;
+    let bytes = gabi_anew(alloc, read, image, reordering, section)?;
     Ok(ByteString::owned(bytes))
 }
 
@@ -95,11 +95,11 @@ fn gnu_anew(
     alloc: Global,
     read: &Builder<'_>,
     image: &Builder<'_>,
-    renumbering: &Renumbering,
+    reordering: &Reordering,
     section: &Section<'_>,
 ) -> Result<Vec<u8>, AllocError>
-    requires ready { IsReady read.now image.now }
-    requires renumbering { IsRenumbering read.now image.now renumbering.now }
+    requires ready { IsEditedReady read.now image.now }
+    requires reordering { IsReordering read.now image.now reordering.now }
     requires at { IsSectionOfType SHT_GNU_HASH image.now (section_model section.now) }
     ensures { IfOk result (λ bytes. (header : GnuHeader)
         → gnu_header image.now.form (memory_of section.now.content.now) ≡ Some header
@@ -111,7 +111,7 @@ fn gnu_anew(
     match build_gnu_hash(
         alloc,
         image.dynamic_symbols(),
-        &renumbering.order,
+        &reordering.order,
         sizes,
         form,
     ) {
@@ -127,20 +127,20 @@ pub fn gnu_content<'data>(
     alloc: Global,
     read: &Builder<'data>,
     image: &Builder<'data>,
-    renumbering: &Option<Renumbering>,
+    reordering: &Option<Reordering>,
     section: &Section<'data>,
 ) -> Result<ByteString<'data>, AllocError>
-    requires ready { IsReady read.now image.now }
-    requires renumbering { IsRenumberingFor read.now image.now renumbering.now }
+    requires ready { IsEditedReady read.now image.now }
+    requires reordering { IsReorderingFor read.now image.now reordering.now }
     requires at { IsSectionOfType SHT_GNU_HASH image.now (section_model section.now) }
     ensures sized { IfOk result (λ content. length content.bytes
         ≡ hash_size read.now image.now (section_model section.now)) }
     ensures table { IfOk result (λ content.
         IsGnuContent (resized image.now) (section_model section.now) content.bytes) }
 {
-    let Some(renumbering) = renumbering else {
+    let Some(reordering) = reordering else {
         return Ok(ByteString::borrowed(section.content));
     };
-    let bytes = gnu_anew(alloc, read, image, renumbering, section)?;
+    let bytes = gnu_anew(alloc, read, image, reordering, section)?;
     Ok(ByteString::owned(bytes))
 }

@@ -1,14 +1,11 @@
 //! Sections of an image by their types.
 ghost use Rattle.std.specs.Prelude.{◌≡◌, ◌==◌, find, map, option_map};
-ghost use Rattle.elf_format.specs.declared.constants.TheConstants.{SHT_DYNSYM as DYNSYM};
 ghost use Rattle.elf_image.specs.ImageModel.{section_model};
 ghost use Rattle.elf_image.specs.Kept.{kept_of_type};
 ghost use Rattle.elf_image.specs.Relocated.{is_against as is_section_against};
-ghost use Rattle.elf_image.specs.Staying.{table_number};
-ghost use Rattle.elf_write_spec.specs.Ready.{IsReady};
+ghost use Rattle.elf_image.specs.Staying.{table_number as number_of_table};
 
 use elf_format::SectionData;
-use elf_format::constants::SHT_DYNSYM;
 use elf_image::{Builder, Section};
 use elf_layout_plan::is_numbered;
 
@@ -33,12 +30,14 @@ pub(crate) fn first_of_type<'a, 'data>(
     find_type(image.sections(), kind)
 }
 
-// The number of the section of dynamic symbols: none went, so that is where it stands.
-pub(crate) fn symbols_number(read: &Builder<'_>, image: &Builder<'_>) -> Option<usize>
-    requires { IsReady read.now image.now }
-    ensures { result ≡ table_number DYNSYM image.now }
+// The number at read of the first section of a type.
+pub(crate) fn table_number(image: &Builder<'_>, kind: u32) -> Option<usize>
+    ensures { result ≡ number_of_table kind image.now }
 {
-    image.type_position(SHT_DYNSYM)
+    // the image has as many numbers of sections as sections
+    let _source = image.source();
+    let position = image.type_position(kind)?;
+    Some(image.read_section(position))
 }
 
 // Whether the relocations of a section are against the table of symbols with that number.

@@ -5,10 +5,10 @@ ghost use Rattle.elf_hashes.specs.Versions.{AreVersionsOf};
 ghost use Rattle.elf_image.specs.ImageModel.{section_model};
 ghost use Rattle.elf_image.specs.SymbolsRead.{HasDynamicSymbolsOf};
 ghost use Rattle.elf_write_spec.specs.Final.{dynamic_order, final};
-ghost use Rattle.elf_write_spec.specs.Ready.{IsReady, IsSectionOfType};
-ghost use Rattle.elf_write_symbols.specs.Renumbering.{IsRenumberingFor};
+ghost use Rattle.elf_write_spec.specs.Ready.{IsEditedReady, IsSectionOfType};
+ghost use Rattle.elf_write_symbols.specs.Renumbering.{IsReorderingFor};
 
-use crate::renumbering::Renumbering;
+use crate::renumbering::Reordering;
 use elf_format::numbers::counted;
 use elf_hashes::build_versym;
 use elf_image::{Builder, Section};
@@ -22,7 +22,7 @@ fn versions_copied<'data>(
     image: &Builder<'data>,
     section: &Section<'data>,
 ) -> ByteString<'data>
-    requires ready { IsReady read.now image.now }
+    requires ready { IsEditedReady read.now image.now }
     requires same { HasDynamicSymbolsOf read.now image.now }
     requires at { IsSectionOfType SHT_GNU_VERSYM image.now (section_model section.now) }
     ensures { AreVersionsOf image.now.form (final read.now image.now).dynamic_symbols
@@ -39,7 +39,7 @@ fn versions_by(
     section: &Section<'_>,
     order: &[usize],
 ) -> Result<Vec<u8>, AllocError>
-    requires ready { IsReady read.now image.now }
+    requires ready { IsEditedReady read.now image.now }
     requires at { IsSectionOfType SHT_GNU_VERSYM image.now (section_model section.now) }
     requires order { order.now ≡ dynamic_order read.now image.now }
     ensures { IfOk result (λ bytes. AreVersionsOf image.now.form
@@ -57,17 +57,17 @@ fn versions_anew(
     alloc: Global,
     read: &Builder<'_>,
     image: &Builder<'_>,
-    renumbering: &Option<Renumbering>,
+    reordering: &Option<Reordering>,
     section: &Section<'_>,
 ) -> Result<Vec<u8>, AllocError>
-    requires ready { IsReady read.now image.now }
-    requires renumbering { IsRenumberingFor read.now image.now renumbering.now }
+    requires ready { IsEditedReady read.now image.now }
+    requires reordering { IsReorderingFor read.now image.now reordering.now }
     requires at { IsSectionOfType SHT_GNU_VERSYM image.now (section_model section.now) }
     ensures { IfOk result (λ bytes. AreVersionsOf image.now.form
         (final read.now image.now).dynamic_symbols bytes.items) }
 {
-    match renumbering {
-        Some(renumbering) => versions_by(alloc, read, image, section, &renumbering.order),
+    match reordering {
+        Some(reordering) => versions_by(alloc, read, image, section, &reordering.order),
         None => {
             let order = counted(alloc, image.dynamic_symbols().len())?;
             versions_by(alloc, read, image, section, &order)
@@ -81,11 +81,11 @@ pub fn versions_content<'data>(
     alloc: Global,
     read: &Builder<'data>,
     image: &Builder<'data>,
-    renumbering: &Option<Renumbering>,
+    reordering: &Option<Reordering>,
     section: &Section<'data>,
 ) -> Result<ByteString<'data>, AllocError>
-    requires ready { IsReady read.now image.now }
-    requires renumbering { IsRenumberingFor read.now image.now renumbering.now }
+    requires ready { IsEditedReady read.now image.now }
+    requires reordering { IsReorderingFor read.now image.now reordering.now }
     requires at { IsSectionOfType SHT_GNU_VERSYM image.now (section_model section.now) }
     ensures sized { IfOk result (λ content. length content.bytes
         ≡ 2 * length image.now.dynamic_symbols) }
@@ -95,6 +95,6 @@ pub fn versions_content<'data>(
     if image.keeps_dynamic_symbols() {
         return Ok(versions_copied(read, image, section));
     }
-    let bytes = versions_anew(alloc, read, image, renumbering, section)?;
+    let bytes = versions_anew(alloc, read, image, reordering, section)?;
     Ok(ByteString::owned(bytes))
 }

@@ -11,7 +11,7 @@ ghost use Rattle.elf_layout_plan.specs.Needs.{written_needs};
 ghost use Rattle.elf_layout_plan.specs.Plan.{resized};
 ghost use Rattle.elf_layout_plan.specs.Texts.{texts_of_definitions, texts_of_needs};
 ghost use Rattle.elf_write_spec.specs.Contents.{AreDefinitionsIn, AreNeedsIn};
-ghost use Rattle.elf_write_spec.specs.Ready.{IsReady};
+ghost use Rattle.elf_write_spec.specs.Ready.{IsEditedReady};
 ghost use Rattle.elf_write_strings.specs.PlacedTexts.{TellsAll};
 ghost use Rattle.elf_write_strings.specs.VersionPlaces.{content_in};
 
@@ -83,7 +83,7 @@ pub(crate) fn definition_records(
 
 // No library has more of the needed versions that stay than 16 bits can count: each was read with a count of 16 bits.
 fn count_versions(read: &Builder<'_>, image: &Builder<'_>, source: &[u8])
-    requires ready { IsReady read.now image.now }
+    requires ready { IsEditedReady read.now image.now }
     requires source { source.now ≡ image.now.source }
     ensures { list_any are_versions_too_many (written_needs read.now image.now) ≡ false }
 {}
@@ -96,7 +96,7 @@ pub(crate) fn need_records<'data>(
     needs: &[VersionNeed<'_>],
     names: &Finished<'_>,
 ) -> Result<Vec<u8>, AllocError>
-    requires ready { IsReady read.now image.now }
+    requires ready { IsEditedReady read.now image.now }
     requires needs { map needs_model needs.now ≡ written_needs read.now image.now }
     requires told { TellsAll names.now (texts_of_needs (written_needs read.now image.now)) }
     requires stand { PlacesStand names.now }

@@ -2,7 +2,7 @@ ghost use Rattle.std.specs.Prelude.{◌≡◌, IfOk, map};
 ghost use Rattle.elf_image.specs.ImageModel.{name_model, needs_model};
 ghost use Rattle.elf_layout_needs.specs.Staying.{unmarked_names, unmarked_needs};
 ghost use Rattle.elf_layout_plan.specs.Needs.{written_needs};
-ghost use Rattle.elf_write_spec.specs.Ready.{IsReady};
+ghost use Rattle.elf_write_spec.specs.Ready.{IsEditedReady};
 
 use elf_image::{Builder, VersionNeed, VersionNeedName};
 use elf_layout_needs::StayingNeeds;
@@ -65,7 +65,7 @@ pub(super) fn written_needs_of<'n, 'data>(
     read: &Builder<'data>,
     image: &'n Builder<'data>,
 ) -> Result<Vec<VersionNeed<'n>>, AllocError>
-    requires { IsReady read.now image.now }
+    requires { IsEditedReady read.now image.now }
     ensures { IfOk result (λ kept. map needs_model kept.items
         ≡ written_needs read.now image.entry.now) }
 {

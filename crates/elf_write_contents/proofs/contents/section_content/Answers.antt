@@ -14,6 +14,7 @@ use Rattle.elf_write_spec.specs.Contents.{spelled_list}
 use Rattle.elf_write_contents.specs.ContentSteps.{IsBytesAt, IsNumbering}
 use Rattle.elf_write_contents.proofs.ContentsAll.{both_ok, definitions_at, list_at_place, list_fits, needs_at, numbering_at, numbers_fit, place_there, place_within, places_long, section_there, strings_at_place, symbols_at}
 use Rattle.elf_write_strings.proofs.ForCallers.Results.{if_ok}
+use Rattle.elf_write_contents.proofs.ReadyEdits.{edited_ready}
 use Rattle.elf_write_contents.proofs.contents.section_content.Goals as goal
 
 pub bounds-places-i : goal.bounds-places-i
@@ -149,3 +150,9 @@ returns-in_default c =
       definitions = λ (e : c.index-sections-i.result.sh_type ≡ SHT_GNU_VERDEF). omega (arith, e);
       needs = λ (e : c.index-sections-i.result.sh_type ≡ SHT_GNU_VERNEED). omega (arith, e);
     }) content.bytes) c.numbering_content.ensures
+
+pub definitions_content-requires-clause-ready : goal.definitions_content-requires-clause-ready
+definitions_content-requires-clause-ready c = edited_ready c.requires.planned.ready
+
+pub needs_content-requires-clause-ready : goal.needs_content-requires-clause-ready
+needs_content-requires-clause-ready c = edited_ready c.requires.planned.ready

@@ -15,6 +15,7 @@ use Rattle.elf_write_strings.proofs.ForCallers.Results.{if_ok}
 use Rattle.elf_write_contents.specs.EntrySteps.{numbers_with}
 use Rattle.elf_write_contents.specs.Inner.{AreRaw}
 use Rattle.elf_write_contents.proofs.EntriesRaw.{made_raw, none_listed, none_raw}
+use Rattle.elf_write_contents.proofs.ReadyEdits.{edited_ready}
 use Rattle.elf_write_contents.proofs.entries.raw_entries.Goals as goal
 
 pub returns-in_default : goal.returns-in_default
@@ -57,3 +58,6 @@ returns c =
     c.in_ok-places.ensures raw.items
     (same ∙ ap (λ (places : List ℕ). numbers_with value places left) c.as_slice-2.ensures.value))
     c.numbers_of.ensures
+
+pub text_places-requires-clause-ready : goal.text_places-requires-clause-ready
+text_places-requires-clause-ready c = edited_ready c.requires.planned.ready

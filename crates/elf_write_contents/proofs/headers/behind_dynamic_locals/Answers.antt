@@ -6,7 +6,7 @@ use Rattle.elf_format.specs.Views.{NamedSymbol}
 use Rattle.elf_hashes.specs.Found.{is_local}
 use Rattle.elf_image_symbol_edits.specs.Loan.{symbols_now}
 use Rattle.elf_layout_sizes.proofs.ForCallers.SymbolSteps.{with_part}
-use Rattle.elf_write_spec.specs.Final.{final}
+use Rattle.elf_write_spec.specs.Final.{final, final_symbol}
 use Rattle.elf_write_spec.specs.Headers.{behind_locals as behind_all}
 use Rattle.elf_write_contents.proofs.HeadersLists.{behind_more}
 use Rattle.elf_write_contents.proofs.HeadersOrder.{behind_end, placed}
@@ -26,10 +26,10 @@ loop-i-preserved c =
     let (y, at, told) = with_part is_local (slice_get (symbols_now c.dynamic_symbols-symbols.result) c.order_of.result) c.is_local.result c.is_local.ensures in
     let there : slice_get image.dynamic_symbols c.order_of.result ≡ Some y =
     ap (λ (l : List NamedSymbol). slice_get l c.order_of.result) (sym c.dynamic_symbols-symbols.ensures.symbols) ∙ at in
-    let final_at : slice_get ys i ≡ Some y = placed read image c.requires.ready i c.order_of.result y c.order_of.ensures.place there in
+    let final_at : slice_get ys i ≡ Some (final_symbol image y) = placed read image c.requires.ready i c.order_of.result y c.order_of.ensures.place there in
     elim c.if-is_local.branch [
-      | then-is_local w ↦ w.behind-is ∙ sym (behind_more ys i y true final_at (told ∙ w.if-is_local.true))
-      | else-is_local w ↦ w.behind-is ∙ c.loop-i.invariant ∙ sym (behind_more ys i y false final_at (told ∙ w.if-is_local.false))
+      | then-is_local w ↦ w.behind-is ∙ sym (behind_more ys i (final_symbol image y) true final_at (told ∙ w.if-is_local.true))
+      | else-is_local w ↦ w.behind-is ∙ c.loop-i.invariant ∙ sym (behind_more ys i (final_symbol image y) false final_at (told ∙ w.if-is_local.false))
     ]
 
 pub returns : goal.returns

@@ -1,5 +1,5 @@
 use Rattle.std.proofs.Common.{◌≡◌, ◌<◌, ◌∙◌, ℕ, List, length, get_or, refl, ap, sym, subst, arith}
-use Rattle.std.specs.Prelude.{IsSome, Some}
+use Rattle.std.specs.Prelude.{IsSome, Some, slice_index}
 use Rattle.std.specs.List.{slice_get}
 use Rattle.std.proofs.lemmas.List.{length-map}
 use Rattle.std.proofs.lemmas.Option.{slice_get-get_or, slice_get_read}
@@ -14,7 +14,7 @@ use Rattle.elf_layout_plan.proofs.ForCallers.ApartLists.{at-map}
 use Rattle.elf_tables.specs.Strings.{place_of}
 use Rattle.elf_write_spec.specs.Headers.{Reads}
 use Rattle.elf_write_strings.specs.DynamicStrings.{content_read, strings_at}
-use Rattle.elf_write_contents.proofs.HeadersMade.{header_far, header_made, header_there, name_copied, name_made, place_there, seen_at}
+use Rattle.elf_write_contents.proofs.HeadersMade.{header_far, header_made, header_there, info_here, name_copied, name_made, place_there, seen_at}
 use Rattle.elf_write_contents.proofs.headers.header_at.Goals as goal
 
 pub returns-in_default-clause-far : goal.returns-in_default-clause-far
@@ -25,14 +25,33 @@ returns-in_default-clause-far c =
     (seen_at c.args.image.now c.sections.result.now c.args.i x c.sections.ensures c.requires.there c.index-sections-i.is)
     c.in_default.ensures.far
 
-pub index-requires : goal.index-requires
-index-requires c =
+pub index-old-requires : goal.index-old-requires
+index-old-requires c =
     omega (
       arith,
+      c.read_section.ensures,
       header_there c.args.image.now c.args.plan.now c.args.made.now c.args.known.now c.requires.planned c.requires.strings c.requires.known
           c.args.i c.requires.there,
       c.args.known.now.headers.ok,
     )
+
+pub info_of-requires-clause-old : goal.info_of-requires-clause-old
+info_of-requires-clause-old c =
+    let x : Section = c.index-sections-i.result in
+    let old : SectionHeader = c.index-old.result.now in
+    let items : List SectionHeader = c.args.known.now.headers.items in
+    let there : c.read_section.result < length items =
+    omega (
+      arith,
+      c.read_section.ensures,
+      header_there c.args.image.now c.args.plan.now c.args.made.now c.args.known.now c.requires.planned c.requires.strings c.requires.known
+          c.args.i c.requires.there,
+    ) in
+    info_here c.args.image.now c.args.plan.now c.args.made.now c.args.known.now c.requires.planned c.requires.strings c.requires.known
+    c.args.i c.requires.there (section_model x) old
+    (seen_at c.args.image.now c.sections.result.now c.args.i x c.sections.ensures c.requires.there c.index-sections-i.is)
+    (ap (λ (n : ℕ). slice_get items n) (sym c.read_section.ensures)
+    ∙ slice_get_read items (length items) c.read_section.result old refl there c.index-old.ensures)
 
 pub name_place-name-requires-clause-anew : goal.name_place-name-requires-clause-anew
 name_place-name-requires-clause-anew c =
@@ -45,14 +64,20 @@ name_place-name-requires-clause-anew c =
 pub name_place-name-requires-clause-copied : goal.name_place-name-requires-clause-copied
 name_place-name-requires-clause-copied c =
     let x : Section = c.index-sections-i.result in
-    let old : SectionHeader = c.index.result.now in
+    let old : SectionHeader = c.index-old.result.now in
+    let items : List SectionHeader = c.args.known.now.headers.items in
     let at : slice_get c.args.image.now.sections c.args.i ≡ Some (section_model x) =
     seen_at c.args.image.now c.sections.result.now c.args.i x c.sections.ensures c.requires.there c.index-sections-i.is in
-    let there : c.args.i < length c.args.known.now.headers.items =
-    header_there c.args.image.now c.args.plan.now c.args.made.now c.args.known.now c.requires.planned c.requires.strings c.requires.known
-    c.args.i c.requires.there in
-    let old_at : slice_get c.args.known.now.headers.items c.args.i ≡ Some old =
-    slice_get_read c.args.known.now.headers.items (length c.args.known.now.headers.items) c.args.i old refl there c.index.ensures in
+    let there : c.read_section.result < length items =
+    omega (
+      arith,
+      c.read_section.ensures,
+      header_there c.args.image.now c.args.plan.now c.args.made.now c.args.known.now c.requires.planned c.requires.strings c.requires.known
+          c.args.i c.requires.there,
+    ) in
+    let old_at : slice_get items (slice_index c.args.image.now.section_numbers c.args.i) ≡ Some old =
+    ap (λ (n : ℕ). slice_get items n) (sym c.read_section.ensures)
+    ∙ slice_get_read items (length items) c.read_section.result old refl there c.index-old.ensures in
     subst (λ (text : List ℕ). Reads (content_read c.args.image.now c.args.image.now.header.e_shstrndx) old.sh_name text) (sym c.as_slice.ensures)
     (name_copied c.args.image.now c.args.plan.now c.args.made.now c.args.known.now c.requires.planned c.requires.strings c.requires.known
     c.args.i c.requires.there (section_model x) old at old_at)
@@ -88,7 +113,7 @@ returns-clause-header c =
     (slice_get-get_or c.places.result.now c.args.i none there) in
     header_made c.args.image.now c.args.plan.now c.args.made.now c.args.known.now c.requires.planned c.requires.strings c.requires.known
     c.args.i c.requires.there (strings_at c.args.image.now c.args.made.now c.args.image.now.header.e_shstrndx) (section_model x)
-    (place_model place) c.name_place-name.result c.in-Some.info c.header_of.result at place_at
+    (place_model place) c.name_place-name.result c.new_number-link.result c.in-Some.info c.header_of.result at place_at
     (subst (λ (text : List ℕ). Reads (strings_at c.args.image.now c.args.made.now c.args.image.now.header.e_shstrndx)
     c.name_place-name.result text) c.as_slice.ensures c.name_place-name.ensures)
-    c.in-Some.ensures.info c.header_of.ensures
+    c.new_number-link.ensures c.in-Some.ensures.info c.header_of.ensures

@@ -9,7 +9,7 @@ use Rattle.elf_write_contents.specs.HeaderSteps.{AreMade}
 use Rattle.elf_write_strings.specs.DynamicStrings.{strings_at}
 use Rattle.elf_write_contents.proofs.HeadersLists.{made_all, made_more}
 use Rattle.elf_write_contents.proofs.HeadersMade.{length-places}
-use Rattle.elf_write_strings.proofs.ForCallers.ReadyEdits.{edit_of}
+use Rattle.elf_write_contents.proofs.ReadyEdits.{edit_of}
 use Rattle.elf_write_spec.proofs.ForCallers.IntactEdits.{length-kept}
 use Rattle.elf_write_contents.proofs.headers.headers_with.Goals as goal
 

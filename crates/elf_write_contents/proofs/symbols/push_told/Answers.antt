@@ -12,21 +12,21 @@ use Rattle.elf_write_contents.proofs.symbols.push_told.Goals as goal
 pub push_symbol-requires : goal.push_symbol-requires
 push_symbol-requires c =
     let ys : List NamedSymbol = (final c.args.read.now c.args.image.now).dynamic_symbols in
-    let next : IsNext c.args.table.now ys c.loop-i.i c.numbers.result =
+    let next : IsNext c.args.table.now ys c.loop-i.i c.new_numbers.result =
     next_told c.args.read.now c.args.image.now c.requires.ready c.args.table.now (symbols_now c.dynamic_symbols-symbols.result)
-    c.dynamic_symbols-symbols.ensures.symbols c.loop-i.i c.order_of-at.result c.order_of-at.ensures.place c.told_place-place.result c.numbers.result
-    c.numbers.ensures c.told_place-place.ensures in
-    next_fits c.form-form.result c.args.table.now ys c.loop-i.i c.numbers.result next
+    c.dynamic_symbols-symbols.ensures.symbols c.loop-i.i c.order_of-at.result c.order_of-at.ensures.place c.told_place-place.result c.new_numbers.result
+    c.new_numbers.ensures c.told_place-place.ensures in
+    next_fits c.form-form.result c.args.table.now ys c.loop-i.i c.new_numbers.result next
     (subst (λ (form : Form). list_all (does_symbol_fit form c.args.table.now) ys ≡ true) (sym c.form-form.ensures) c.requires.fit)
 
 pub loop-i-preserved : goal.loop-i-preserved
 loop-i-preserved c =
     let ys : List NamedSymbol = (final c.args.read.now c.args.image.now).dynamic_symbols in
-    let next : IsNext c.args.table.now ys c.loop-i.i c.numbers.result =
+    let next : IsNext c.args.table.now ys c.loop-i.i c.new_numbers.result =
     next_told c.args.read.now c.args.image.now c.requires.ready c.args.table.now (symbols_now c.dynamic_symbols-symbols.result)
-    c.dynamic_symbols-symbols.ensures.symbols c.loop-i.i c.order_of-at.result c.order_of-at.ensures.place c.told_place-place.result c.numbers.result
-    c.numbers.ensures c.told_place-place.ensures in
-    next_more c.form-form.result c.args.table.now ys c.loop-i.i c.numbers.result c.loop-i.bytes.items c.push_symbol.new.bytes.items
+    c.dynamic_symbols-symbols.ensures.symbols c.loop-i.i c.order_of-at.result c.order_of-at.ensures.place c.told_place-place.result c.new_numbers.result
+    c.new_numbers.ensures c.told_place-place.ensures in
+    next_more c.form-form.result c.args.table.now ys c.loop-i.i c.new_numbers.result c.loop-i.bytes.items c.push_symbol.new.bytes.items
     (c.args.bytes.now.items ++ flat_map (symbol_bytes c.form-form.result c.args.table.now) ys) next c.in_ok-push_symbol.ensures c.loop-i.invariant
 
 pub returns : goal.returns

@@ -23,7 +23,7 @@ returns-in-Some c =
 pub returns-in-None : goal.returns-in-None
 returns-in-None c =
     let ts : List (List ℕ) = map borrowed c.args.texts.now in
-    let found : List ℕ = places_among ts (list_at (λ es. es) c.args.read.now.entries) (numbers_in c.args.read.now (content_at c.args.read.now c.args.list)) in
+    let found : List ℕ = places_among ts (list_at (λ es. es) c.args.read.now.entries) (numbers_in c.args.read.now (content_at c.args.image.now c.args.list)) in
     let strings : List ℕ = strings_at c.args.image.now c.args.made.now (link_at c.args.image.now c.args.list) in
     if_ok c.copied_places.result (λ places. places.items ≡ found) (λ places. TextsStand strings ts places.items)
     (λ places same. subst (λ (ps : List ℕ). TextsStand strings ts ps) (sym same)

@@ -4,10 +4,10 @@ use Rattle.patch_bytes.specs.ByteString.{StringValue}
 use Rattle.elf_format.specs.declared.constants.TheConstants.{SHT_GNU_HASH}
 use Rattle.elf_format.specs.Image.{Image}
 use Rattle.elf_image.specs.ImageModel.{section_model}
-use Rattle.elf_write_symbols.specs.declared.renumbering.Renumbering.{Renumbering}
-use Rattle.elf_write_symbols.specs.Renumbering.{IsRenumbering, IsRenumberingFor}
+use Rattle.elf_write_symbols.specs.declared.renumbering.Reordering.{Reordering}
+use Rattle.elf_write_symbols.specs.Renumbering.{IsReordering, IsReorderingFor}
 use Rattle.elf_write_symbols.proofs.HashFacts.{gnu_read, gnu_sized, size_stays}
-use Rattle.elf_write_symbols.proofs.ReadyFacts.{facts, section_read, sized}
+use Rattle.elf_write_symbols.proofs.ReadyFacts.{facts, section_here, sized}
 use Rattle.elf_write_symbols.proofs.hashes.gnu_content.Goals as goal
 
 pub returns-in_default-clause-sized : goal.returns-in_default-clause-sized
@@ -16,9 +16,9 @@ returns-in_default-clause-sized c =
     let image : Image = c.args.image.now in
     let f = facts read image c.requires.ready in
     let s = section_model c.args.section.now in
-    let r = section_read read image c.requires.ready f SHT_GNU_HASH s c.requires.at in
-    ap (λ (v : StringValue). length v.bytes) c.borrowed.ensures ∙ sized read image c.requires.ready f SHT_GNU_HASH s r refl
-    ∙ sym (size_stays read image c.requires.ready f s (subst (λ (o : Option Renumbering). IsRenumberingFor read image o) c.in_default.is c.requires.renumbering))
+    let r = section_here read image f SHT_GNU_HASH s c.requires.at in
+    ap (λ (v : StringValue). length v.bytes) c.borrowed.ensures ∙ sized read image f SHT_GNU_HASH s r refl
+    ∙ sym (size_stays read image c.requires.ready f s (subst (λ (o : Option Reordering). IsReorderingFor read image o) c.in_default.is c.requires.reordering))
 
 pub returns-clause-sized : goal.returns-clause-sized
 returns-clause-sized c =
@@ -26,7 +26,7 @@ returns-clause-sized c =
     let image : Image = c.args.image.now in
     let f = facts read image c.requires.ready in
     let s = section_model c.args.section.now in
-    let is : IsRenumbering read image c.in-Some.renumbering = subst (λ (o : Option Renumbering). IsRenumberingFor read image o) c.in-Some.is c.requires.renumbering in
+    let is : IsReordering read image c.in-Some.reordering = subst (λ (o : Option Reordering). IsReorderingFor read image o) c.in-Some.is c.requires.reordering in
     let h = gnu_read read image c.requires.ready f is.changed s c.requires.at in
     ap (λ (v : StringValue). length v.bytes) c.owned.ensures
     ∙ gnu_sized read image c.requires.ready f s c.in_ok-bytes.bytes.items h.header is.changed c.requires.at.typed h.is_header (c.in_ok-bytes.ensures h.header h.is_header)

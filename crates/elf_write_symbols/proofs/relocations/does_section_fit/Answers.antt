@@ -1,12 +1,12 @@
 -- There is a new number for each symbol that is named.
-use Rattle.std.proofs.Common.{◌≡◌, ap, sym, ◌∙◌, length}
+use Rattle.std.proofs.Common.{◌≡◌, Some, ap, sym, ◌∙◌, length, option_map}
 use Rattle.elf_format.specs.declared.form.Form.{Form}
 use Rattle.elf_format.specs.Image.{Image}
 use Rattle.elf_image.specs.ImageModel.{section_model}
-use Rattle.elf_image.specs.Relocated.{is_against}
 use Rattle.elf_relocations.specs.Renumbered.{are_symbols_below}
-use Rattle.elf_write_symbols.proofs.ReadyFacts.{facts, section_read}
-use Rattle.elf_write_symbols.proofs.RelocationFacts.{all_below, length-numbers}
+use Rattle.elf_write_symbols.specs.Fits.{numbers_for}
+use Rattle.elf_write_symbols.proofs.ReadyFacts.{facts, section_here}
+use Rattle.elf_write_symbols.proofs.RelocationFacts.{named_below}
 use Rattle.elf_write_symbols.proofs.relocations.does_section_fit.Goals as goal
 
 pub do_relocations_fit-requires : goal.do_relocations_fit-requires
@@ -15,10 +15,7 @@ do_relocations_fit-requires c =
     let image : Image = c.args.image.now in
     let f = facts read image c.requires.ready in
     let s = section_model c.args.section.now in
-    let r = section_read read image c.requires.ready f c.args.section.now.sh_type s c.requires.at in
-    let many : length c.as_slice-numbers.result.now ≡ length image.dynamic_symbols =
-    ap length (c.as_slice-numbers.ensures.value ∙ c.requires.renumbering.numbers) ∙ length-numbers read image c.requires.ready f in
-    ap (λ (form : Form). are_symbols_below form s.sh_type (length c.as_slice-numbers.result.now) s.content) c.form.ensures
-    ∙ ap (λ n. are_symbols_below image.form s.sh_type n s.content) many
-    ∙ all_below read image c.requires.ready f c.args.section.now.sh_type s r
-    (ap (λ table. is_against table s) (sym c.requires.table) ∙ sym c.is_against.ensures ∙ c.if-not-is_against.false)
+    let told : numbers_for read image s ≡ Some c.in-Some.numbers.now =
+    sym c.numbers_for.ensures ∙ ap (option_map (λ n. n.now)) c.in-Some.is in
+    ap (λ (form : Form). are_symbols_below form s.sh_type (length c.in-Some.numbers.now) s.content) c.form.ensures
+    ∙ named_below read image f s.sh_type s (section_here read image f s.sh_type s c.requires.at) c.in-Some.numbers.now told

@@ -2,7 +2,7 @@
 use Rattle.std.proofs.Common.{ap, sym, ◌∙◌, ℕ, length, arith}
 use Rattle.elf_format.specs.Image.{Image, counted}
 use Rattle.elf_hashes.specs.Order.{places_by_bucket}
-use Rattle.elf_write_spec.proofs.ForCallers.IntactOrder.{order-by_bucket, order-unbucketed}
+use Rattle.elf_write_spec.proofs.ForCallers.OrderFacts.{order-by_bucket, order-unbucketed}
 use Rattle.elf_write_symbols.proofs.ListSteps.{match_more}
 use Rattle.elf_write_symbols.proofs.renumbering.new_order.Goals as goal
 

@@ -3,7 +3,6 @@ use Rattle.std.proofs.Common.{ap, sym, ◌∙◌, subst, List}
 use Rattle.std.specs.Prelude.{IsTrue, is_some}
 use Rattle.std.specs.List.{All, list_any}
 use Rattle.std.proofs.lemmas.Bool.{false≢true}
-use Rattle.elf_format.specs.declared.constants.TheConstants.{SHT_GNU_VERSYM}
 use Rattle.elf_format.specs.declared.form.Form.{Form}
 use Rattle.elf_format.specs.Image.{Image}
 use Rattle.elf_format.specs.Views.{NamedSymbol}
@@ -12,8 +11,8 @@ use Rattle.elf_hashes.specs.Versions.{AreVersionsOf, versions_of}
 use Rattle.elf_image.specs.ImageModel.{section_model}
 use Rattle.elf_image_symbol_edits.specs.Loan.{symbols_now}
 use Rattle.elf_tables.specs.VersionRecords.{is_index_too_large}
-use Rattle.elf_write_symbols.proofs.FinalOrder.{lent_final, lent_places}
-use Rattle.elf_write_symbols.proofs.ReadyFacts.{facts, section_read}
+use Rattle.elf_write_symbols.proofs.FinalOrder.{lent_places, lent_versions}
+use Rattle.elf_write_symbols.proofs.ReadyFacts.{facts}
 use Rattle.elf_write_symbols.proofs.VersionFacts.{all_have, have, none_large}
 use Rattle.elf_write_symbols.proofs.versions.versions_by.Goals as goal
 
@@ -28,20 +27,16 @@ pub build_versym-requires-clause-versions : goal.build_versym-requires-clause-ve
 build_versym-requires-clause-versions c =
     let read : Image = c.args.read.now in
     let image : Image = c.args.image.now in
-    let f = facts read image c.requires.ready in
     let s = section_model c.args.section.now in
-    let r = section_read read image c.requires.ready f SHT_GNU_VERSYM s c.requires.at in
     subst (λ (ys : List NamedSymbol). All (λ (y : NamedSymbol). IsTrue (is_some y.version)) ys) (sym c.dynamic_symbols.ensures.symbols)
-    (all_have image.dynamic_symbols (have read image c.requires.ready f s r))
+    (all_have image.dynamic_symbols (have read image c.requires.ready s c.requires.at))
 
 pub unreachable-requires : goal.unreachable-requires
 unreachable-requires c =
     let read : Image = c.args.read.now in
     let image : Image = c.args.image.now in
-    let f = facts read image c.requires.ready in
     let s = section_model c.args.section.now in
-    let r = section_read read image c.requires.ready f SHT_GNU_VERSYM s c.requires.at in
-    false≢true (sym (none_large image.dynamic_symbols c.args.order.now (have read image c.requires.ready f s r))
+    false≢true (sym (none_large image.dynamic_symbols c.args.order.now (have read image c.requires.ready s c.requires.at))
     ∙ sym (ap (λ (ys : List NamedSymbol). list_any is_index_too_large (versions_of (in_order ys c.args.order.now))) c.dynamic_symbols.ensures.symbols)
     ∙ c.in-Err-NumberTooLarge.ensures c.in-Err-NumberTooLarge.field-0-is)
 
@@ -50,6 +45,6 @@ returns-in-Ok c =
     let read : Image = c.args.read.now in
     let image : Image = c.args.image.now in
     let lent : List NamedSymbol = symbols_now c.dynamic_symbols.result in
-    let shown = lent_final read image c.requires.ready (facts read image c.requires.ready) lent c.args.order.now c.dynamic_symbols.ensures.symbols c.requires.order in
-    subst (λ (ys : List NamedSymbol). AreVersionsOf image.form ys c.in-Ok.bytes.items) shown
+    lent_versions read image c.requires.ready (facts read image c.requires.ready) lent c.args.order.now c.in-Ok.bytes.items
+    c.dynamic_symbols.ensures.symbols c.requires.order
     (subst (λ (form : Form). AreVersionsOf form (in_order lent c.args.order.now) c.in-Ok.bytes.items) c.form.ensures c.in-Ok.ensures.0)

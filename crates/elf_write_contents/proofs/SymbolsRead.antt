@@ -30,13 +30,13 @@ use Rattle.elf_image_symbols.specs.TableSymbols.{kept_as}
 use Rattle.elf_write_spec.specs.Contents.{AreSymbolsOf as AreSymbolsWritten, IsSymbolOf as IsSymbolWritten}
 use Rattle.elf_tables.specs.Strings.{StandsAt}
 use Rattle.elf_write_strings.specs.PlacedTexts.{AreSymbolsAt}
-use Rattle.elf_write_strings.proofs.VersionsTexts.{text_stands}
+use Rattle.elf_write_strings.proofs.ForCallers.VersionsTexts.{text_stands}
 use Rattle.elf_write_spec.proofs.ForCallers.IntactSymbols.{count_read}
 use Rattle.elf_write_spec.proofs.ForCallers.IntactCounts.{found_only}
 use Rattle.elf_write_strings.specs.DynamicStrings.{content_read}
 use Rattle.elf_write_spec.specs.Ready.{IsReady}
-use Rattle.elf_write_strings.proofs.OthersCopied.{content_is_read}
-use Rattle.elf_write_strings.proofs.ReadyEdits.{edit_of}
+use Rattle.elf_write_contents.proofs.OthersCopied.{content_is_read}
+use Rattle.elf_write_contents.proofs.ReadyEdits.{edit_of}
 use Rattle.elf_write_spec.proofs.ForCallers.IntactEdits.{ReadFacts, SectionRead, length-now, section_read}
 use Rattle.elf_format.proofs.ForCallers.Lengths.{length-records}
 

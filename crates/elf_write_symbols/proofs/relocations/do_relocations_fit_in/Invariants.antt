@@ -3,7 +3,7 @@ use Rattle.std.specs.List.{list_all}
 use Rattle.elf_image.specs.Kept.{kept_sections}
 use Rattle.elf_write_symbols.specs.Fits.{do_section_relocations_fit}
 use Rattle.elf_write_symbols.proofs.ListSteps.{all_from}
-use Rattle.elf_write_symbols.proofs.relocations.do_sections_fit.Given as goal
+use Rattle.elf_write_symbols.proofs.relocations.do_relocations_fit_in.Given as goal
 
 -- all do if those do that are left
 abbrev pub invariant-loop-i : goal.invariant-loop-i
