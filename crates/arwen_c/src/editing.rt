@@ -14,7 +14,7 @@ use crate::words::words_in;
 use elf_commands::elf::{self, run_elf};
 use elf_commands::{ElfCommand, ElfCommandError};
 use elf_format::opening::has_magic;
-use macho_commands::{MachoCommand, MachoCommandError, apply, run_macho};
+use macho_commands::{MachoCommand, MachoCommandError, Signing, apply, run_macho};
 use std::alloc::{AllocError, AllocFailed, Global};
 use thiserror::Error;
 
@@ -130,5 +130,5 @@ fn edited_macho(
         path_to_binary: String::new(alloc),
         edits: words,
     });
-    run_macho(alloc, bytes, &command)
+    run_macho(alloc, bytes, &command, Signing::Left)
 }

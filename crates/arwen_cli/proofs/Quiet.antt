@@ -1,7 +1,8 @@
 -- Where no word begins with a hyphen, none asks for quiet.
-use Rattle.std.proofs.Common.{◌≡◌, ◌∙◌, ◌∷◌, [], List, ap, false, refl, subst}
+use Rattle.std.proofs.Common.{◌≡◌, ◌∙◌, ◌∷◌, [], Bool, List, ap, false, if◌then◌else◌, refl, subst, true}
 use Rattle.arwen_cli.specs.Line.{has_option}
 use Rattle.arwen_cli.specs.Quiet.{is_mark, is_quiet_word, without_quiet}
+use Rattle.arwen_cli.specs.Signing.{is_macho_line, is_sign_word, unsigned, without_sign}
 use Rattle.arwen_cli.proofs.Values.{first_value}
 use Rattle.arwen_cli.proofs.Words.{IsValue}
 use Rattle.command_words.specs.Rows.{Text}
@@ -20,8 +21,25 @@ all_heard (word ∷ words) none =
     let parts = first_value word words none in
     rw (not_quiet word parts.0, not_mark word parts.0) (ap (λ (ws : List Text). word ∷ ws) (all_heard words parts.1))
 
+-- none asks for signing
+not_sign : (word : Text) → IsValue word → is_sign_word word ≡ false
+not_sign [] is = refl
+not_sign (x ∷ xs) is = simp is
+
+all_unsigned : (words : List Text) → has_option words ≡ false → without_sign words ≡ words
+all_unsigned [] none = refl
+all_unsigned (word ∷ words) none =
+    let parts = first_value word words none in
+    rw (not_sign word parts.0, not_mark word parts.0) (ap (λ (ws : List Text). word ∷ ws) (all_unsigned words parts.1))
+
+either_line : (words : List Text) (b : Bool) → without_sign words ≡ words → (if b then without_sign words else words) ≡ words
+either_line words true same = same
+either_line words false same = refl
+
 -- what holds of the words that are heard holds of those of the line
-pub heard_for_all : (P : List Text → Type 0) (heard words : List Text) → heard ≡ without_quiet words → (has_option heard ≡ false → P heard) → has_option words ≡ false → P words
-heard_for_all P heard words is holds plain =
-    let same : heard ≡ words = is ∙ all_heard words plain in
+pub heard_for_all : (P : List Text → Type 0) (heard audible words : List Text) → heard ≡ unsigned audible → audible ≡ without_quiet words → (has_option heard ≡ false → P heard) → has_option words ≡ false → P words
+heard_for_all P heard audible words is_unsigned is holds plain =
+    let first : audible ≡ words = is ∙ all_heard words plain in
+    let rest : unsigned audible ≡ words = ap unsigned first ∙ either_line words (is_macho_line words) (all_unsigned words plain) in
+    let same : heard ≡ words = is_unsigned ∙ rest in
     subst P same (holds (ap has_option same ∙ plain))

@@ -18,7 +18,7 @@ use Rattle.arwen_cli_show.specs.declared.command.ShowCommandError.{ShowCommandEr
 use Rattle.arwen_cli_show.specs.declared.command.ShowCommandError.TheVariants as show_command
 use Rattle.arwen_cli.specs.declared.cli.error.ArwenError.{ArwenError}
 use Rattle.arwen_cli.specs.declared.cli.error.FaultLine.{FaultLine}
-use Rattle.arwen_cli.specs.declared.cli.error.ArwenError.TheVariants.{Edits, Elf, ElfBatch, Io, Line, Macho, MachoBatch, Memory, NotAllShown}
+use Rattle.arwen_cli.specs.declared.cli.error.ArwenError.TheVariants.{Edits, Elf, ElfBatch, Io, Line, Macho, MachoBatch, Memory, NotAllFit, NotAllShown, Signing}
 
 -- the status that the program ends with
 abbrev pub status_of : ArwenError → ℕ
@@ -37,6 +37,8 @@ words_told (Edits fault) = codes "invalid edit list"
 words_told (MachoBatch e) = codes "Mach-O batch refused"
 words_told (ElfBatch e) = codes "ELF batch refused"
 words_told NotAllShown = codes "some files are not shown"
+words_told (Signing fault) = codes "error in code signature"
+words_told NotAllFit = codes "some pages do not fit"
 
 -- the error of a line that means no command, or want of memory
 abbrev pub IsOfLine : ArwenError → Type 0
@@ -82,6 +84,8 @@ answer_to_macho_command (macho_command.Macho e) = answer_to e
 answer_to_macho_command (macho_command.MachoBatch e) = answer_to_batch e
 answer_to_macho_command (macho_command.Io e) = Io e
 answer_to_macho_command (macho_command.Edits fault) = Edits fault
+answer_to_macho_command (macho_command.Signing fault) = Signing fault
+answer_to_macho_command macho_command.Unfit = NotAllFit
 answer_to_macho_command macho_command.Memory = Memory
 
 -- the same of a command for an ELF file

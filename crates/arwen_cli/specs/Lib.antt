@@ -3,4 +3,5 @@ pub mod Line
 pub mod Meaning
 pub mod Parser
 pub mod Quiet
+pub mod Signing
 pub mod Telling

@@ -13,7 +13,7 @@ use Rattle.arwen_cli.specs.Fault.{words_told}
 use Rattle.arwen_cli.specs.Line.{has_option, meaning_of}
 use Rattle.arwen_cli.specs.Meaning.{Meaning, of_elf, of_macho, of_show}
 use Rattle.arwen_cli.specs.declared.cli.error.ArwenError.{ArwenError}
-use Rattle.arwen_cli.specs.declared.cli.error.ArwenError.TheVariants.{Edits, Elf, Line, Macho, Memory, NotAllShown}
+use Rattle.arwen_cli.specs.declared.cli.error.ArwenError.TheVariants.{Edits, Elf, Line, Macho, Memory, NotAllFit, NotAllShown}
 
 -- ## What a fault leaves open
 
@@ -38,6 +38,7 @@ abbrev pub IsCausesText : ArwenError → Text → Type 0
 IsCausesText (Line text status) causes = causes ≡ string_bytes text
 IsCausesText Memory causes = causes ≡ words_told Memory
 IsCausesText NotAllShown causes = causes ≡ words_told NotAllShown
+IsCausesText NotAllFit causes = causes ≡ words_told NotAllFit
 IsCausesText e causes = (inner : Text) × (causes ≡ words_told e ++ (codes ": " ++ inner))
 
 -- the file that is named, unless by the empty word; none where files are shown, of which each has a line of its own

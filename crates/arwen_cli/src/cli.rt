@@ -3,6 +3,7 @@ ghost use Rattle.std.specs.Prelude.{◌≡◌, false, IfErr, IsSome, OnOk, map};
 ghost use Rattle.arwen_cli.specs.Line.{ElfMayFail, LineMayFail, MachoMayFail, MeaningMayFail, ShowMayFail, has_option, meaning_of};
 ghost use Rattle.arwen_cli.specs.Meaning.{shown};
 ghost use Rattle.arwen_cli.specs.Quiet.{notes_asked};
+ghost use Rattle.arwen_cli.specs.Signing.{signing_asked};
 ghost use Rattle.elf_commands.specs.Meaning.{elf_command_model};
 ghost use Rattle.macho_commands.specs.Meaning.{macho_command_model};
 
@@ -12,6 +13,7 @@ mod file;
 mod line;
 mod parser;
 mod quiet;
+mod signing;
 mod telling;
 
 pub use arwen_cli_show as show;
@@ -29,16 +31,18 @@ pub use error::{ArwenError, FaultLine};
 pub use file::read_bytes;
 pub use line::parse_line;
 pub use macho_commands::{
-    MachoCommand, MachoCommandError, add, apply, change, delete, install_id, install_name,
+    MachoCommand, MachoCommandError, Signing, add, apply, change, delete, install_id, install_name,
     macho_execute, macho_execute_telling, parse_macho_edits, patch_path, patch_store, run_macho,
+    sign, verify, verify_bytes,
 };
 use quiet::is_quiet;
+use signing::is_signed_by;
 use std::rt::Files;
 pub use telling::fault_line;
 
 /// Does what the words behind the program's name ask. A line that asks for help, and one that is
 /// wrong, is answered by `ArwenError::Line`. Notes go to the standard error once an edit is made, unless a word `-q` or
-/// `--quiet` leaves them out.
+/// `--quiet` leaves them out. A word `--sign` on a line of a Mach-O file makes the code signatures of what is edited fit.
 pub fn execute<R: Files + Print + Eprint + AllocGlobal>(
     rt: &R,
     words: &[&str],
@@ -49,7 +53,7 @@ pub fn execute<R: Files + Print + Eprint + AllocGlobal>(
         → LineMayFail (meaning_of (map (λ w. w.now) words.now)) e) }
 {
     let command = parse_line(rt.alloc(), words)?;
-    execute_command(rt, command, notes_for(words))
+    execute_command(rt, command, notes_for(words), signing_for(words))
 }
 
 /// Whether the words of a line leave notes out. Takes no memory.
@@ -63,30 +67,43 @@ fn notes_for(words: &[&str]) -> Notes
     }
 }
 
+/// Whether the words of a line ask for signatures that fit. Takes no memory.
+fn signing_for(words: &[&str]) -> Signing
+    ensures { result ≡ signing_asked (map (λ w. w.now) words.now) }
+{
+    if is_signed_by(words) {
+        Signing::Renewed
+    } else {
+        Signing::Left
+    }
+}
+
 /// Does what a command asks.
 fn execute_command<R: Files + Print + Eprint + AllocGlobal>(
     rt: &R,
     command: Command,
     notes: Notes,
+    signing: Signing,
 ) -> Result<(), ArwenError>
     ensures { IfErr result (MeaningMayFail (shown command)) }
 {
     match command {
-        Command::Macho(macho) => execute_macho(rt, macho, notes),
+        Command::Macho(macho) => execute_macho(rt, macho, notes, signing),
         Command::Elf(elf) => execute_elf(rt, elf, notes),
         Command::Show(args) => execute_show(rt, args),
     }
 }
 
 /// Does what is asked of a Mach-O file.
-fn execute_macho<R: Files + Eprint + AllocGlobal>(
+fn execute_macho<R: Files + Print + Eprint + AllocGlobal>(
     rt: &R,
     macho: MachoCommand,
     notes: Notes,
+    signing: Signing,
 ) -> Result<(), ArwenError>
     ensures { IfErr result (MachoMayFail (macho_command_model macho)) }
 {
-    Ok(macho_execute_telling(rt, macho, notes)?)
+    Ok(macho_execute_telling(rt, macho, notes, signing)?)
 }
 
 /// Does what is asked of an ELF file.

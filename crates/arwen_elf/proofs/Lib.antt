@@ -1,4 +1,1 @@
-pub mod ReadSteps
 pub mod PrintSteps
-pub mod WholeLaws
-pub mod WrittenLaws

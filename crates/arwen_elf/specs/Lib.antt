@@ -1,8 +1,2 @@
-pub mod Reads
-pub mod WriterModel
-pub mod Held
-pub mod PageSizes
 pub mod Prints
 pub mod Contained
-pub mod Written
-pub mod NewFile

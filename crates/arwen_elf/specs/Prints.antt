@@ -4,7 +4,7 @@ use Rattle.std.specs.List.{flat_map, slice_split}
 use Rattle.std.specs.Fmt.{decimal}
 use Rattle.bstr.specs.Utf8.{lossy_chars}
 use Rattle.elf_image.specs.Views.{View}
-use Rattle.arwen_elf.specs.Reads.{needed_shown, runpath_shown, searched_shown, soname_shown}
+use Rattle.arwen_elf_writer.specs.Reads.{needed_shown, runpath_shown, searched_shown, soname_shown}
 
 -- the UTF-8 text of bytes, with U+FFFD for what is no character
 abbrev pub lossily : List ℕ → List ℕ

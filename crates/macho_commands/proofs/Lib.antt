@@ -1,3 +1,4 @@
 pub mod NotingLaws
 pub mod Outcomes
 pub mod StoreLaws
+pub mod SigningLaws

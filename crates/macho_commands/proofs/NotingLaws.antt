@@ -1,5 +1,5 @@
 -- What is told of an edit: of a file that was read, of bytes, of a store.
-use Rattle.std.proofs.Common.{◌≡◌, ◌∙◌, ◌^◌, ℕ, List, None, Option, ap, subst}
+use Rattle.std.proofs.Common.{◌≡◌, ◌∙◌, ◌^◌, ℕ, Bool, List, [], None, Option, ap, subst}
 use Rattle.arwen_macho.specs.Container.{first_container}
 use Rattle.arwen_macho.specs.Found.{container_found}
 use Rattle.arwen_macho.specs.Fronts.{fronts_on}
@@ -9,9 +9,16 @@ use Rattle.byte_store.specs.Known.{IsFirst}
 use Rattle.command_words.specs.Rows.{Text}
 use Rattle.command_words.specs.declared.noting.Notes.{Notes}
 use Rattle.command_words.specs.declared.noting.Notes.TheVariants.{LeftOut, Wanted}
-use Rattle.macho_commands.specs.Engine.{Writes, asked}
-use Rattle.macho_commands.specs.Meaning.{MachoMeaning}
-use Rattle.macho_commands.specs.Notes.{TellsNotes, TellsOf, TellsWanted, TellsWantedAt, is_signed_file, note_line}
+use Rattle.macho_commands.specs.Engine.{Asked, SignsBy, Writes, WritesEdits, asked, signs_of}
+use Rattle.macho_commands.specs.Meaning.{MachoMeaning, file_of}
+use Rattle.macho_commands.specs.Notes.{TellsBy, TellsCommand, TellsLeft, TellsOf, TellsSigned, TellsWanted, TellsWantedAt, is_signed_file, is_some_left, left_line, note_line}
+use Rattle.macho_commands.specs.declared.signing.Signing.{Signing}
+use Rattle.macho_commands.specs.declared.signing.Signs.{Signs}
+use Rattle.macho_commands.specs.declared.signing.Signs.TheVariants.{Nothing, Touched, Whole}
+use Rattle.macho_signatures.specs.Renewed.{laid}
+use Rattle.macho_signatures.specs.declared.renewal.Slot.{Slot}
+use Rattle.macho_signing.specs.Thin.{Pages}
+use Rattle.macho_signing.specs.declared.file.NewSlots.{NewSlots}
 use Rattle.macho_commands.proofs.StoreLaws.{read_whole}
 
 -- what is told of the file that was read is told of its bytes
@@ -20,8 +27,20 @@ told_of_bytes Wanted path file read told found is tells = (found, tells ∙ ap (
 told_of_bytes LeftOut path file read told found is tells = tells
 
 -- what is told of the first 4 GiB of a store, where they are edited
-pub told_of_store : (n : Notes) (meaning : MachoMeaning) (path : Text) (known : Option (List ℕ)) (loaded : List ℕ) (fronts : List Front) (told : Text) → IsFirst (2 ^ 32) known loaded → Writes meaning loaded fronts → TellsWanted n path loaded told → TellsWantedAt n path known told
-told_of_store Wanted meaning path known loaded fronts told first writes tells = λ file is.
-    let P : List ℕ → Type 0 = λ l. TellsNotes path l told in
-    subst P (read_whole (asked meaning) known loaded file (fronts_on fronts loaded) first is writes.is) tells
-told_of_store LeftOut meaning path known loaded fronts told first writes tells = tells
+left_out : (signs : Signs) (a : Asked) (path : Text) (file : List ℕ) (told : Text) → TellsBy signs LeftOut a path file told → told ≡ []
+left_out Nothing a path file told tells = tells
+left_out Touched a path file told tells = tells
+left_out Whole a path file told tells = tells
+
+pub told_of_store : (n : Notes) (choice : Signing) (meaning : MachoMeaning) (known : Option (List ℕ)) (loaded : List ℕ) (fronts : List Front) (slots : List Slot) (told : Text) → IsFirst (2 ^ 32) known loaded → Writes choice meaning loaded fronts slots → TellsCommand choice meaning n loaded told → TellsWantedAt choice meaning n known told
+told_of_store Wanted choice meaning known loaded fronts slots told first writes tells = λ file is.
+    let P : List ℕ → Type 0 = λ l. TellsCommand choice meaning Wanted l told in
+    subst P (read_whole (signs_of choice meaning) (asked meaning) known loaded file (laid slots (fronts_on fronts loaded)) first is writes.is) tells
+told_of_store LeftOut choice meaning known loaded fronts slots told first writes tells = left_out (signs_of choice meaning) (asked meaning) (file_of meaning) loaded told tells
+
+-- what is told where slots were made anew
+pub told_signed : (signs : Signs) (n : Notes) (a : Asked) (path at : Text) (file : List ℕ) (fronts : List Front) (pages : Pages) (new : NewSlots) (told : Text) → WritesEdits a file fronts → SignsBy pages (fronts_on fronts file) new → at ≡ path → TellsLeft signs n new.are_some_left at told → TellsSigned signs n a path file told
+told_signed signs Wanted a path at file fronts pages new told writes by same tells =
+    let edited : List ℕ = fronts_on fronts file in
+    (edited, writes.is, tells ∙ ap (λ (b : Bool). left_line signs b at) by.left ∙ ap (left_line signs (is_some_left edited)) same)
+told_signed signs LeftOut a path at file fronts pages new told writes by same tells = tells

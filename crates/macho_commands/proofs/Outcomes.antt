@@ -13,13 +13,12 @@ use Rattle.arwen_macho.specs.Found.{container_found}
 use Rattle.macho_edits.specs.Held.{RefusesStep}
 use Rattle.macho_edits.specs.Refused.{cause_of}
 use Rattle.macho_edits.specs.State.{Refusal}
-use Rattle.macho_commands.specs.Engine.{AreAsked, Asked, Tells, TellsBatch, TellsMacho, Writes, asked, outcome_of, refused_answer, written}
+use Rattle.macho_commands.specs.Engine.{AreAsked, Asked, Tells, TellsBatch, TellsMacho, WritesEdits, outcome_of, refused_answer, written}
 use Rattle.macho_commands.specs.Engine.Asked.{one, several}
 use Rattle.macho_commands.specs.Engine.Outcome.{bytes, refused, refused_batch}
 use Rattle.arwen_macho.specs.Container.{container_bytes, container_step, first_container}
 use Rattle.arwen_macho.specs.ContainerShown.{ShowsFile, StepShows}
 use Rattle.arwen_macho.specs.Fronts.{LeadOn, LiesIn, fronts_on}
-use Rattle.macho_commands.specs.Meaning.{MachoMeaning}
 use Rattle.macho_commands.specs.Errors.{answer_by_fault, answer_to, answer_to_batch}
 
 refused_by : (cause : Cause) (e : MachoError) (answer : Result MachoType Refusal) → cause_of e ≡ Some cause → RefusesStep (Some cause) answer → TellsMacho (written refused answer) e
@@ -69,15 +68,15 @@ tells_refused (one call) calls file e are found refuses =
 tells_refused (several edits) calls file e are found refuses =
     rw (are, found) (tells_batch (container_step calls (first_container file)) e refuses)
 
-pub writes_on : (meaning : MachoMeaning) (calls : List Call) (file : List ℕ) (fronts : List Front) → AreAsked (asked meaning) calls → container_found file ≡ None → container_bytes (first_container file) ≡ file → LeadOn container_bytes (first_container file) (container_step calls (first_container file)) fronts → StepShows (container_step calls (first_container file)) → Writes meaning file fronts
-writes_on meaning calls file fronts are found same lead shows =
+pub writes_on : (a : Asked) (calls : List Call) (file : List ℕ) (fronts : List Front) → AreAsked a calls → container_found file ≡ None → container_bytes (first_container file) ≡ file → LeadOn container_bytes (first_container file) (container_step calls (first_container file)) fronts → StepShows (container_step calls (first_container file)) → WritesEdits a file fronts
+writes_on a calls file fronts are found same lead shows =
     let Inside : List ℕ → Type 0 = λ l. All (LiesIn (length l)) fronts in
     let Shown : List ℕ → Type 0 = λ l. ShowsFile lead.new l in
     let after : container_bytes lead.new ≡ fronts_on fronts file = sym lead.after ∙ ap (fronts_on fronts) same in
     let step_shows : StepShows (Ok lead.new) = subst StepShows lead.is shows in
     record {
       inside = subst Inside same lead.inside;
-      is = outcome_is (asked meaning) calls file lead.new are found lead.is ∙ ap (λ (l : List ℕ). bytes l) after;
+      is = outcome_is a calls file lead.new are found lead.is ∙ ap (λ (l : List ℕ). bytes l) after;
       shows = record { calls = calls; are = are; made = lead.new; step = lead.is; shows = subst Shown after step_shows };
     }
   where

@@ -2,14 +2,16 @@
 use Rattle.std.specs.Prelude.{List, Option, Some, None, Result, Ok, Err}
 use Rattle.macho_edits.specs.Call.{Call}
 use Rattle.command_words.specs.Groups.{Wrong, edits_by, group_edit, no_edit}
-use Rattle.macho_commands.specs.Meaning.{MachoMeaning, apply, edit, macho_lines}
+use Rattle.macho_commands.specs.Meaning.{MachoMeaning, apply, edit, macho_lines, sign, verify}
 use Rattle.command_words.specs.Rows.{Text}
 use Rattle.command_words.specs.declared.edits.EditFault.{EditFault}
 
--- the edit that a command asks for; `apply` asks for several
+-- the edit that a command asks for; `apply` asks for several, `sign` and `verify` for none
 abbrev pub edit_asked : MachoMeaning → Option Call
 edit_asked (edit call path) = Some call
 edit_asked (apply path words) = None
+edit_asked (sign path) = None
+edit_asked (verify path) = None
 
 -- the edit of a command that asks for one
 abbrev pub one_edit : Option Call → Result Call Wrong

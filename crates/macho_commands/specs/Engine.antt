@@ -1,5 +1,6 @@
 -- What a command makes of a file's bytes.
-use Rattle.std.specs.Prelude.{ℕ, ◌≡◌, List, [], ◌∷◌, length, All, Option, Some, None, Result, Ok, Err, ⊤}
+use Rattle.std.specs.List.{list_any}
+use Rattle.std.specs.Prelude.{ℕ, ◌≡◌, ◌⊎◌, List, [], ◌∷◌, length, All, Option, Some, None, Result, Ok, Err, ⊤}
 use Rattle.macho_edits.specs.declared.batch.MachoBatchError.{MachoBatchError}
 use Rattle.macho_edits.specs.declared.error.MachoError.{MachoError}
 use Rattle.macho_edits.specs.declared.error.MachoError.TheVariants.{Parsing, UnixArchive}
@@ -15,12 +16,24 @@ use Rattle.macho_edits.specs.Refused.{cause_of}
 use Rattle.macho_edits.specs.State.{Refusal}
 use Rattle.command_words.specs.declared.edits.EditFault.{EditFault}
 use Rattle.macho_commands.specs.declared.error.MachoCommandError.{MachoCommandError}
-use Rattle.macho_commands.specs.declared.error.MachoCommandError.TheVariants.{Edits, Io, Macho, MachoBatch, Memory}
+use Rattle.macho_commands.specs.declared.error.MachoCommandError.TheVariants.{Edits, Io, Macho, MachoBatch, Memory, Signing as signing, Unfit}
 use Rattle.macho_commands.specs.Edits.{edits_of}
 use Rattle.macho_commands.specs.Errors.{answer_to, answer_to_batch}
-use Rattle.macho_commands.specs.Meaning.{MachoMeaning, apply, edit}
+use Rattle.macho_commands.specs.Meaning.{MachoMeaning, apply, edit, sign, verify}
+use Rattle.macho_commands.specs.declared.signing.Signing.{Signing}
+use Rattle.macho_commands.specs.declared.signing.Signing.TheVariants.{Left, Renewed}
+use Rattle.macho_commands.specs.declared.signing.Signs.{Signs}
+use Rattle.macho_commands.specs.declared.signing.Signs.TheVariants.{Nothing, Touched, Whole}
+use Rattle.macho_signatures.specs.Renewed.{SlotLies, laid}
+use Rattle.macho_signatures.specs.declared.renewal.Slot.{Slot}
+use Rattle.macho_signing.specs.Check.{checking_fault}
+use Rattle.macho_signing.specs.File.{IsSigned, has_identity_in, parts_of, signed_slots, signing_fault}
+use Rattle.macho_signing.specs.declared.file.NewSlots.{NewSlots}
+use Rattle.macho_signing.specs.Shown.{FileShowsSame}
+use Rattle.macho_signing.specs.Thin.{Pages, all, since}
+use Rattle.macho_signing.specs.declared.fault.SigningFault.{SigningFault}
 
--- what is asked for: one edit, or those that words name
+-- what is asked for: one edit, or several, as those that words name
 pub data Asked : Type 0 where
   one : Call → Asked
   several : Result (List Call) EditFault → Asked
@@ -28,6 +41,8 @@ pub data Asked : Type 0 where
 abbrev pub asked : MachoMeaning → Asked
 asked (edit call path) = one call
 asked (apply path words) = several (edits_of words)
+asked (sign path) = several (Ok [])
+asked (verify path) = several (Ok [])
 
 -- what comes of it: new bytes, or what is found wrong first
 pub data Outcome : Type 0 where
@@ -40,6 +55,8 @@ pub data Outcome : Type 0 where
   refused : Refusal → Outcome
   -- an edit of several is refused
   refused_batch : Refusal → Outcome
+  -- a signature is not made to fit
+  not_signed : SigningFault → Outcome
 
 abbrev pub written : (Refusal → Outcome) → Result MachoType Refusal → Outcome
 written refusing (Ok file) = bytes (container_bytes file)
@@ -56,9 +73,49 @@ outcome_of (one call) file = edited_file refused (call ∷ []) file (container_f
 outcome_of (several (Ok calls)) file = edited_file refused_batch calls file (container_found file)
 outcome_of (several (Err wrong)) file = no_edits wrong
 
+-- ---- signatures
+
+-- which slots of ad-hoc signatures are made anew
+abbrev pub signs_by : Signing → Signs
+signs_by Left = Nothing
+signs_by Renewed = Touched
+
+abbrev pub signs_of : Signing → MachoMeaning → Signs
+signs_of choice (sign path) = Whole
+signs_of choice (verify path) = Nothing
+signs_of choice (edit call path) = signs_by choice
+signs_of choice (apply path words) = signs_by choice
+
+-- of a file: those of the pages in which the edited bytes differ from its own, or all
+abbrev pub pages_by : Signs → List ℕ → Pages
+pages_by Touched file = since file
+pages_by _ file = all
+
+-- edited bytes with such slots made anew, or why that is not done
+abbrev pub signed_or : Option SigningFault → List ℕ → Outcome
+signed_or None new = bytes new
+signed_or (Some why) new = not_signed why
+
+abbrev pub signed_with : Pages → List ℕ → Outcome
+signed_with pages edited = signed_or (signing_fault pages edited) (laid (signed_slots pages edited) edited)
+
+-- what signing makes of the outcome of edits
+abbrev pub sign_on : Pages → Outcome → Outcome
+sign_on pages (bytes edited) = signed_with pages edited
+sign_on pages (no_edits wrong) = no_edits wrong
+sign_on pages (no_file found) = no_file found
+sign_on pages (refused refusal) = refused refusal
+sign_on pages (refused_batch refusal) = refused_batch refusal
+sign_on pages (not_signed why) = not_signed why
+
+abbrev pub outcome_by : Signs → Asked → List ℕ → Outcome
+outcome_by Nothing a file = outcome_of a file
+outcome_by Touched a file = sign_on (since file) (outcome_of a file)
+outcome_by Whole a file = sign_on all (outcome_of a file)
+
 -- what a command makes of a file's bytes
-abbrev pub outcome : MachoMeaning → List ℕ → Outcome
-outcome meaning file = outcome_of (asked meaning) file
+abbrev pub outcome : Signing → MachoMeaning → List ℕ → Outcome
+outcome choice meaning file = outcome_by (signs_of choice meaning) (asked meaning) file
 
 -- ---- which answer tells an outcome; want of memory may be answered in any case
 
@@ -84,15 +141,32 @@ Tells outcome Memory = ⊤
 Tells outcome (Macho e) = TellsMacho outcome e
 Tells outcome (MachoBatch e) = TellsBatch outcome e
 Tells outcome (Edits wrong) = outcome ≡ no_edits wrong
+Tells outcome (signing why) = outcome ≡ not_signed why
+Tells outcome Unfit = ⊥
 Tells outcome (Io e) = ⊥
 
 -- ---- why a command may fail. No clause can say that a file can be read or written
 
--- the error of a command: a file's, want of memory, or one that tells the outcome of some file
+-- the command asks whether signatures fit
+abbrev pub IsCheck : MachoMeaning → Type 0
+IsCheck (verify path) = ⊤
+IsCheck _ = ⊥
+
+-- an error that tells the outcome of some file, with one choice or the other
+abbrev pub TellsSome : MachoMeaning → MachoCommandError → Type 0
+TellsSome meaning e = (choice : Signing) × (file : List ℕ) × Tells (outcome choice meaning file) e
+
+-- an error that tells why a signature of some file is not read
+abbrev pub TellsCheck : MachoMeaning → SigningFault → Type 0
+TellsCheck meaning why = IsCheck meaning × (file : List ℕ) × (checking_fault file ≡ Some why)
+
+-- the error of a command: a file's, want of memory, one that tells the outcome of some file, or of a check of signatures
 abbrev pub MayFail : MachoMeaning → MachoCommandError → Type 0
 MayFail meaning Memory = ⊤
 MayFail meaning (Io e) = ⊤
-MayFail meaning e = (file : List ℕ) × Tells (outcome meaning file) e
+MayFail meaning Unfit = IsCheck meaning
+MayFail meaning (signing why) = TellsSome meaning (signing why) ⊎ TellsCheck meaning why
+MayFail meaning e = TellsSome meaning e
 
 -- ---- the edits that a command asks for, and what they write
 
@@ -119,8 +193,52 @@ pub record ShowsEdited (a : Asked) (file new : List ℕ) : Type 0 where
   pub step : container_step calls (first_container file) ≡ Ok made
   pub shows : ShowsFile made new
 
--- fronts that lie in a file's bytes, and make them what a command makes of them, which shows its edits
-pub record Writes (meaning : MachoMeaning) (file : List ℕ) (fronts : List Front) : Type 0 where
+-- new bytes of a file: edited bytes, in which slots of ad-hoc signatures were made anew, and in which a parse finds what it finds
+-- in the edited ones, the edited list of load commands of each slice among it
+pub record ShowsSigned (pages : Pages) (a : Asked) (file new : List ℕ) : Type 0 where
+  pub edited : List ℕ
+  pub shows : ShowsEdited a file edited
+  pub signed : IsSigned pages edited new
+  pub same : FileShowsSame edited new
+
+-- what new bytes of a file show, by which slots are made anew
+abbrev pub ShowsBy : Signs → Asked → List ℕ → List ℕ → Type 0
+ShowsBy Nothing a file new = ShowsEdited a file new
+ShowsBy Touched a file new = ShowsSigned (since file) a file new
+ShowsBy Whole a file new = ShowsSigned all a file new
+
+-- what new bytes of a file show that a command made
+abbrev pub IsSignedOutcome : Signing → MachoMeaning → List ℕ → List ℕ → Type 0
+IsSignedOutcome choice meaning file new = ShowsBy (signs_of choice meaning) (asked meaning) file new
+
+-- fronts that lie in a file's bytes, and make them what edits make of them, which shows these
+pub record WritesEdits (a : Asked) (file : List ℕ) (fronts : List Front) : Type 0 where
   pub inside : All (LiesIn (length file)) fronts
-  pub is : outcome meaning file ≡ bytes (fronts_on fronts file)
-  pub shows : ShowsEdited (asked meaning) file (fronts_on fronts file)
+  pub is : outcome_of a file ≡ bytes (fronts_on fronts file)
+  pub shows : ShowsEdited a file (fronts_on fronts file)
+
+-- new slots of edited bytes, with which these are signed
+pub record SignsBy (pages : Pages) (edited : List ℕ) (new : NewSlots) : Type 0 where
+  pub passes : signing_fault pages edited ≡ None
+  pub is : new.slots.items ≡ signed_slots pages edited
+  pub left : new.are_some_left ≡ list_any (has_identity_in edited) (parts_of edited)
+  pub inside : All (SlotLies (length edited)) new.slots.items
+  pub signed : IsSigned pages edited (laid new.slots.items edited)
+  pub same : FileShowsSame edited (laid new.slots.items edited)
+
+-- why there are none: no memory, or what is found first
+abbrev pub IsSigningError : Pages → List ℕ → MachoCommandError → Type 0
+IsSigningError pages edited Memory = ⊤
+IsSigningError pages edited (signing why) = signing_fault pages edited ≡ Some why
+IsSigningError pages edited _ = ⊥
+
+-- fronts and slots that lie in a file's bytes, and make them what edits and such signing make of them
+pub record WritesBy (signs : Signs) (a : Asked) (file : List ℕ) (fronts : List Front) (slots : List Slot) : Type 0 where
+  pub inside : All (LiesIn (length file)) fronts
+  pub slots_inside : All (SlotLies (length file)) slots
+  pub is : outcome_by signs a file ≡ bytes (laid slots (fronts_on fronts file))
+  pub shows : ShowsBy signs a file (laid slots (fronts_on fronts file))
+
+-- what a command makes of them
+abbrev pub Writes : Signing → MachoMeaning → List ℕ → List Front → List Slot → Type 0
+Writes choice meaning file fronts slots = WritesBy (signs_of choice meaning) (asked meaning) file fronts slots

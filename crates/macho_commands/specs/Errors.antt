@@ -7,7 +7,9 @@ use Rattle.byte_store.specs.declared.reading.ReadError.TheVariants as read
 use Rattle.command_words.specs.declared.edits.EditsError.{EditsError}
 use Rattle.command_words.specs.declared.edits.EditsError.TheVariants as edits
 use Rattle.macho_commands.specs.declared.error.MachoCommandError.{MachoCommandError}
-use Rattle.macho_commands.specs.declared.error.MachoCommandError.TheVariants.{Edits, Io, Macho, MachoBatch, Memory}
+use Rattle.macho_commands.specs.declared.error.MachoCommandError.TheVariants.{Edits, Io, Macho, MachoBatch, Memory, Signing}
+use Rattle.macho_signing.specs.declared.fault.SigningFault.{SigningFault}
+use Rattle.macho_signing.specs.declared.fault.SigningFault.TheVariants as signing
 
 -- of a file that is not read, and of a refused edit
 abbrev pub answer_to : MachoError → MachoCommandError
@@ -31,3 +33,8 @@ answer_to_words (edits.Fault fault) = Edits fault
 abbrev pub answer_to_read : ReadError → MachoCommandError
 answer_to_read read.Memory = Memory
 answer_to_read (read.Io e) = Io e
+
+-- of signatures that are not read or not made to fit
+abbrev pub answer_to_signing : SigningFault → MachoCommandError
+answer_to_signing signing.Memory = Memory
+answer_to_signing fault = Signing fault

@@ -5,3 +5,4 @@ pub mod Failures
 pub mod Meaning
 pub mod Notes
 pub mod Stores
+pub mod Verifying

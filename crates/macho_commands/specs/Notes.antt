@@ -1,4 +1,4 @@
--- What a command tells that a user should know of an edit of a Mach-O file: that it is signed.
+-- What a command tells that a user should know of an edit of a Mach-O file: that it is signed, or that a signature is left.
 use Rattle.std.specs.Prelude.{ℕ, ◌≡◌, ◌==◌, ◌++◌, List, [], Bool, false, None, Option, Some, codes, if◌then◌else◌}
 use Rattle.std.specs.List.{list_any}
 use Rattle.arwen_macho.specs.Container.{first_container}
@@ -13,6 +13,13 @@ use Rattle.macho_image.specs.declared.command.CommandVariant.{CommandVariant}
 use Rattle.macho_image.specs.declared.command.CommandVariant.TheVariants.{Other}
 use Rattle.macho_image.specs.declared.command.LoadCommand.{LoadCommand}
 use Rattle.command_words.specs.Rows.{Text}
+use Rattle.macho_commands.specs.Engine.{Asked, asked, outcome_of, signs_of}
+use Rattle.macho_commands.specs.Engine.Outcome.{bytes as made}
+use Rattle.macho_commands.specs.Meaning.{MachoMeaning, file_of}
+use Rattle.macho_commands.specs.declared.signing.Signing.{Signing}
+use Rattle.macho_commands.specs.declared.signing.Signs.{Signs}
+use Rattle.macho_commands.specs.declared.signing.Signs.TheVariants.{Nothing, Touched, Whole}
+use Rattle.macho_signing.specs.File.{has_identity_in, parts_of}
 use Rattle.command_words.specs.declared.noting.Notes.{Notes}
 use Rattle.command_words.specs.declared.noting.Notes.TheVariants.{LeftOut, Wanted}
 
@@ -45,10 +52,6 @@ note_line signed path =
 abbrev pub TellsNotes : Text → List ℕ → Text → Type 0
 TellsNotes path file told = (container_found file ≡ None) × (told ≡ note_line (is_signed_file (first_container file)) path)
 
--- that of known bytes at a path
-abbrev pub TellsNotesAt : Text → Option (List ℕ) → Text → Type 0
-TellsNotesAt path known told = (file : List ℕ) → known ≡ Some file → TellsNotes path file told
-
 -- ---- where notes are wanted; else no line is told
 
 -- of a file that was read
@@ -60,6 +63,34 @@ abbrev pub TellsWanted : Notes → Text → List ℕ → Text → Type 0
 TellsWanted Wanted path file told = TellsNotes path file told
 TellsWanted LeftOut path file told = told ≡ []
 
-abbrev pub TellsWantedAt : Notes → Text → Option (List ℕ) → Text → Type 0
-TellsWantedAt Wanted path known told = TellsNotesAt path known told
-TellsWantedAt LeftOut path known told = told ≡ []
+-- ---- where slots were made anew: of a signature that an identity made, which is left
+
+abbrev pub is_some_left : List ℕ → Bool
+is_some_left edited = list_any (has_identity_in edited) (parts_of edited)
+
+abbrev pub left_line : Signs → Bool → Text → Text
+left_line Whole is path = if is then codes "note: " ++ path ++ codes ": its code signature is an identity's, and is left as it was\n" else []
+left_line signs is path = note_line is path
+
+abbrev pub TellsLeft : Signs → Notes → Bool → Text → Text → Type 0
+TellsLeft signs Wanted is path told = told ≡ left_line signs is path
+TellsLeft signs LeftOut is path told = told ≡ []
+
+abbrev pub TellsSigned : Signs → Notes → Asked → Text → List ℕ → Text → Type 0
+TellsSigned signs Wanted a path file told = (edited : List ℕ) × (outcome_of a file ≡ made edited) × (told ≡ left_line signs (is_some_left edited) path)
+TellsSigned signs LeftOut a path file told = told ≡ []
+
+-- ---- of a command
+
+abbrev pub TellsBy : Signs → Notes → Asked → Text → List ℕ → Text → Type 0
+TellsBy Nothing notes a path file told = TellsWanted notes path file told
+TellsBy Touched notes a path file told = TellsSigned Touched notes a path file told
+TellsBy Whole notes a path file told = TellsSigned Whole notes a path file told
+
+abbrev pub TellsCommand : Signing → MachoMeaning → Notes → List ℕ → Text → Type 0
+TellsCommand choice meaning notes file told = TellsBy (signs_of choice meaning) notes (asked meaning) (file_of meaning) file told
+
+-- of known bytes at a path
+abbrev pub TellsWantedAt : Signing → MachoMeaning → Notes → Option (List ℕ) → Text → Type 0
+TellsWantedAt choice meaning Wanted known told = (file : List ℕ) → known ≡ Some file → TellsCommand choice meaning Wanted file told
+TellsWantedAt choice meaning LeftOut known told = told ≡ []

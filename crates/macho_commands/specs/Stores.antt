@@ -1,47 +1,46 @@
 -- What a command makes of the bytes of a store, where they are known.
 use Rattle.std.specs.Prelude.{ℕ, ◌≡◌, ◌⊎◌, List, length, All, Option, Some, ⊤}
-use Rattle.arwen_macho.specs.declared.front.Front.{Front}
-use Rattle.arwen_macho.specs.Fronts.{fronts_on}
 use Rattle.byte_store.specs.declared.pieces.Piece.{Piece}
 use Rattle.byte_store.specs.Known.{Stays}
 use Rattle.byte_store.specs.Laid.{LiesIn, Patch, first_bytes, laid, patches_of}
 use Rattle.macho_commands.specs.declared.error.MachoCommandError.{MachoCommandError}
 use Rattle.macho_commands.specs.declared.error.MachoCommandError.TheVariants.{Io}
-use Rattle.macho_commands.specs.Engine.{ShowsEdited, Tells, asked, outcome}
+use Rattle.macho_commands.specs.Engine.{IsSignedOutcome, Tells, outcome}
 use Rattle.macho_commands.specs.Engine.Outcome.{bytes}
 use Rattle.macho_commands.specs.Meaning.{MachoMeaning}
+use Rattle.macho_commands.specs.declared.signing.Signing.{Signing}
 
 -- known bytes become those that a command makes of them, which are accepted and show its edits
-abbrev pub Patched : MachoMeaning → Option (List ℕ) → Option (List ℕ) → Type 0
-Patched meaning old new = (file : List ℕ) → old ≡ Some file
-    → (made : List ℕ) × (outcome meaning file ≡ bytes made) × (new ≡ Some made)
-    × ShowsEdited (asked meaning) file made
+abbrev pub Patched : Signing → MachoMeaning → Option (List ℕ) → Option (List ℕ) → Type 0
+Patched choice meaning old new = (file : List ℕ) → old ≡ Some file
+    → (made : List ℕ) × (outcome choice meaning file ≡ bytes made) × (new ≡ Some made)
+    × IsSignedOutcome choice meaning file made
 
 -- known bytes get first bytes of patches laid over them, in order; all of these make what the command makes
-abbrev pub Torn : MachoMeaning → Option (List ℕ) → Option (List ℕ) → Type 0
-Torn meaning old new = (file : List ℕ) → old ≡ Some file
-    → (patches : List Patch) × (outcome meaning file ≡ bytes (laid patches file))
+abbrev pub Torn : Signing → MachoMeaning → Option (List ℕ) → Option (List ℕ) → Type 0
+Torn choice meaning old new = (file : List ℕ) → old ≡ Some file
+    → (patches : List Patch) × (outcome choice meaning file ≡ bytes (laid patches file))
     × ((n : ℕ) × (new ≡ Some (laid (first_bytes n patches) file)))
 
 -- a refusal leaves the bytes, and tells the outcome
-abbrev pub RefusesPatch : MachoMeaning → Option (List ℕ) → Option (List ℕ) → MachoCommandError → Type 0
-RefusesPatch meaning old new e =
-    Stays old new × ((file : List ℕ) → old ≡ Some file → Tells (outcome meaning file) e)
+abbrev pub RefusesPatch : Signing → MachoMeaning → Option (List ℕ) → Option (List ℕ) → MachoCommandError → Type 0
+RefusesPatch choice meaning old new e =
+    Stays old new × ((file : List ℕ) → old ≡ Some file → Tells (outcome choice meaning file) e)
 
 -- what an error leaves and tells: only a write that failed changes bytes, where the command was accepted
-abbrev pub FailsPatch : MachoMeaning → Option (List ℕ) → Option (List ℕ) → MachoCommandError → Type 0
-FailsPatch meaning old new (Io e) = Stays old new ⊎ Torn meaning old new
-FailsPatch meaning old new e = RefusesPatch meaning old new e
+abbrev pub FailsPatch : Signing → MachoMeaning → Option (List ℕ) → Option (List ℕ) → MachoCommandError → Type 0
+FailsPatch choice meaning old new (Io e) = Stays old new ⊎ Torn choice meaning old new
+FailsPatch choice meaning old new e = RefusesPatch choice meaning old new e
 
 -- what the error of a command tells of the bytes at its path; one of reading or writing them tells nothing
-abbrev pub TellsPath : MachoMeaning → Option (List ℕ) → MachoCommandError → Type 0
-TellsPath meaning known (Io e) = ⊤
-TellsPath meaning known e = (file : List ℕ) → known ≡ Some file → Tells (outcome meaning file) e
+abbrev pub TellsPath : Signing → MachoMeaning → Option (List ℕ) → MachoCommandError → Type 0
+TellsPath choice meaning known (Io e) = ⊤
+TellsPath choice meaning known e = (file : List ℕ) → known ≡ Some file → Tells (outcome choice meaning file) e
 
--- pieces that lie in a file's bytes, and make of them what fronts make
-pub record ArePiecesOf (file : List ℕ) (fronts : List Front) (pieces : List Piece) : Type 0 where
+-- pieces that lie in a file's bytes, and make of them these
+pub record ArePiecesOf (file new : List ℕ) (pieces : List Piece) : Type 0 where
   pub inside : All (LiesIn (length file)) (patches_of pieces)
-  pub same : laid (patches_of pieces) file ≡ fronts_on fronts file
+  pub same : laid (patches_of pieces) file ≡ new
 
 -- where the old pieces lead to bytes, the new ones lead on to others
 abbrev pub LaysOn : List Piece → List Piece → List ℕ → List ℕ → Type 0

@@ -1,61 +1,101 @@
-//! The bytes that fronts change, and writing them into a store.
+//! The bytes that fronts and slots change, and writing them into a store.
 ghost use Rattle.std.specs.Prelude.{◌≡◌, ◌+◌, ◌≤◌, ◌⊎◌, All, IfErr, IfOk, IsTrue, OnErr, OnOk, length};
 ghost use Rattle.byte_store.specs.Causes.{EndsBy};
 ghost use Rattle.byte_store.specs.Fault.{BecomesLaid};
 ghost use Rattle.byte_store.specs.Known.{Becomes, HasLength, Stays, put_at};
 ghost use Rattle.byte_store.specs.Laid.{LiesIn, laid, patches_of};
-ghost use Rattle.arwen_macho.specs.Fronts.{LiesIn as IsInside};
+ghost use Rattle.arwen_macho.specs.Fronts.{LiesIn as IsInside, fronts_on};
+ghost use Rattle.macho_signatures.specs.Pages.{hash_bytes};
+ghost use Rattle.macho_signatures.specs.Renewed.{SlotLies, laid as slots_on};
 ghost use Rattle.macho_commands.specs.Stores.{ArePiecesOf, LaysOn, LiesOn};
 ghost use Rattle.macho_commands.specs.declared.error.MachoCommandError.TheVariants.{Memory};
 
 use crate::error::MachoCommandError;
 use arwen_macho::macho::Front;
 use byte_store::{Piece, Store, write_pieces};
+use macho_signatures::Slot;
 use std::alloc::Global;
 use std::io;
 
-/// The fronts that change bytes, in the order in which they are laid, from the last one back. The bytes
-/// get them all.
+/// The fronts and then the slots that change bytes, in the order in which they are laid. The bytes get them all.
 pub(crate) fn changes_of<'a>(
+    alloc: Global,
+    bytes: &mut [u8],
+    fronts: &'a [Front],
+    slots: &'a [Slot],
+) -> Result<Vec<Piece<'a>>, MachoCommandError>
+    requires fronts { All (IsInside (length bytes.old)) fronts.now }
+    requires slots { All (SlotLies (length bytes.old)) slots.now }
+    ensures ok { IfOk result (λ pieces. ArePiecesOf bytes.old
+        (slots_on slots.now (fronts_on fronts.now bytes.old)) pieces.items) }
+    ensures err { IfErr result (λ e. e ≡ Memory) }
+{
+    let mut pieces = front_changes(alloc, bytes, fronts)?;
+    lay_slots(&mut pieces, bytes, slots)?;
+    Ok(pieces)
+}
+
+/// The fronts that change bytes, from the last one back. The bytes get them all.
+pub(crate) fn front_changes<'a>(
     alloc: Global,
     bytes: &mut [u8],
     fronts: &'a [Front],
 ) -> Result<Vec<Piece<'a>>, MachoCommandError>
     requires { All (IsInside (length bytes.old)) fronts.now }
-    ensures ok { IfOk result (λ pieces. ArePiecesOf bytes.old fronts.now pieces.items) }
+    ensures ok { IfOk result (λ pieces.
+        ArePiecesOf bytes.old (fronts_on fronts.now bytes.old) pieces.items) }
+    ensures bytes { OnOk result (bytes.new ≡ fronts_on fronts.now bytes.old) }
     ensures err { IfErr result (λ e. e ≡ Memory) }
 {
     let mut pieces = Vec::with_capacity(alloc, fronts.len())?;
     let mut left = fronts.len();
     while left > 0 {
         left -= 1;
-        lay_change(&mut pieces, bytes, &fronts[left])?;
+        let front = &fronts[left];
+        lay_change(&mut pieces, bytes, front.offset, front.bytes.as_slice())?;
     }
     Ok(pieces)
 }
 
-/// Writes a front over the bytes, and puts it behind the pieces, where it changes any.
+/// Writes slots over the bytes, and puts those that change any behind the pieces, in order.
+fn lay_slots<'a>(
+    pieces: &mut Vec<Piece<'a>>,
+    bytes: &mut [u8],
+    slots: &'a [Slot],
+) -> Result<(), MachoCommandError>
+    requires { All (SlotLies (length bytes.old)) slots.now }
+    ensures laid { OnOk result (LaysOn pieces.old.items pieces.new.items bytes.old
+        (slots_on slots.now bytes.old)) }
+    ensures inside { OnOk result (LiesOn (length bytes.old) pieces.old.items pieces.new.items) }
+    ensures err { IfErr result (λ e. e ≡ Memory) }
+{
+    for slot in slots {
+        lay_change(pieces, bytes, slot.place, slot.hash.as_slice())?;
+    }
+    Ok(())
+}
+
+/// Writes a part over the bytes from a position on, and puts it behind the pieces, where it changes any.
 fn lay_change<'a>(
     pieces: &mut Vec<Piece<'a>>,
     bytes: &mut [u8],
-    front: &'a Front,
+    at: usize,
+    part: &'a [u8],
 ) -> Result<(), MachoCommandError>
-    requires { IsInside (length bytes.old) front.now }
-    ensures bytes { OnOk result
-        (bytes.new ≡ put_at front.now.offset front.now.bytes.items bytes.old) }
+    requires { at + length part.now ≤ length bytes.old }
+    ensures bytes { OnOk result (bytes.new ≡ put_at at part.now bytes.old) }
     ensures laid { OnOk result (LaysOn pieces.old.items pieces.new.items bytes.old bytes.new) }
     ensures inside { OnOk result (LiesOn (length bytes.old) pieces.old.items pieces.new.items) }
     ensures err { IfErr result (λ e. e ≡ Memory) }
 {
-    let part = front.bytes.as_slice();
-    if stands_in(bytes, front.offset, part) {
+    if stands_in(bytes, at, part) {
         return Ok(());
     }
     pieces.push(Piece {
-        offset: front.offset as u64,
+        offset: at as u64,
         bytes: part,
     })?;
-    put(bytes, front.offset, part);
+    put(bytes, at, part);
     Ok(())
 }
 

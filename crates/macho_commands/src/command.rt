@@ -1,7 +1,7 @@
 //! What is asked of a Mach-O file, with its values.
 ghost use Rattle.std.specs.Prelude.{◌≡◌, IfOk, string_bytes};
 
-use crate::commands::{add, apply, change, delete, install_id, install_name};
+use crate::commands::{add, apply, change, delete, install_id, install_name, sign, verify};
 use arwen_macho::macho::MachoEdit;
 use command_words::{Values, copied};
 use std::alloc::{AllocError, Global};
@@ -21,6 +21,10 @@ pub enum MachoCommand {
     ChangeInstallId(install_id::Args),
     /// Several of these edits, all or none.
     Apply(apply::Args),
+    /// Make its ad-hoc code signatures fit.
+    Sign(sign::Args),
+    /// Tell whether its code signatures fit.
+    Verify(verify::Args),
 }
 
 impl MachoCommand {
@@ -28,7 +32,7 @@ impl MachoCommand {
     ghost use Rattle.macho_edits.specs.Batch.{call_made};
     ghost use Rattle.macho_commands.specs.Edits.{edit_asked};
     ghost use Rattle.macho_commands.specs.Meaning.{file_of, macho_lines, macho_command_model};
-    ghost use Rattle.command_words.specs.Rows.{given_model, meant_with, text, texts, words as words_given};
+    ghost use Rattle.command_words.specs.Rows.{given_model, meant_with, path, text, texts, words as words_given};
 
     /// The command of a name with its values; `None` where no command of that name takes such
     /// values.
@@ -37,11 +41,23 @@ impl MachoCommand {
             ≡ meant_with macho_lines name.now (given_model values) }
     {
         match values {
-            Values::Path(_) => None,
+            Values::Path(path) => MachoCommand::with_path(name, path),
             Values::Text(value, path) => MachoCommand::with_text(name, value, path),
             Values::Texts(old, new, path) => MachoCommand::with_texts(name, old, new, path),
             Values::Words(path, words) => MachoCommand::with_words(name, path, words),
             Values::Options(..) => None,
+        }
+    }
+
+    /// The command of a name that takes the path alone.
+    fn with_path(name: &str, path_to_binary: String) -> Option<MachoCommand>
+        ensures { option_map macho_command_model result ≡ meant_with macho_lines name.now
+            (path (string_bytes path_to_binary)) }
+    {
+        match name {
+            sign::NAME => Some(MachoCommand::Sign(sign::Args { path_to_binary })),
+            verify::NAME => Some(MachoCommand::Verify(verify::Args { path_to_binary })),
+            _ => None,
         }
     }
 
@@ -106,7 +122,7 @@ impl MachoCommand {
         }
     }
 
-    /// The edit that the command asks for; `None` for `apply`, which asks for several.
+    /// The edit that the command asks for; `None` for `apply`, which asks for several, and where none is asked for.
     pub(crate) fn edit(&self, alloc: Global) -> Result<Option<MachoEdit>, AllocError>
         ensures { IfOk result (λ edit.
             option_map call_made edit ≡ edit_asked (macho_command_model self.now)) }
@@ -136,11 +152,11 @@ impl MachoCommand {
                 let new = copied(alloc, &args.new_install_id)?;
                 Ok(Some(MachoEdit::ChangeInstallId(new)))
             }
-            MachoCommand::Apply(_) => Ok(None),
+            MachoCommand::Apply(_) | MachoCommand::Sign(_) | MachoCommand::Verify(_) => Ok(None),
         }
     }
 
-    /// The file that is edited.
+    /// The file that is edited or looked at.
     pub fn path_to_binary(&self) -> &str
         ensures { result.now ≡ file_of (macho_command_model self.now) }
     {
@@ -151,6 +167,8 @@ impl MachoCommand {
             MachoCommand::ChangeInstallName(args) => args.path_to_binary.as_str(),
             MachoCommand::ChangeInstallId(args) => args.path_to_binary.as_str(),
             MachoCommand::Apply(args) => args.path_to_binary.as_str(),
+            MachoCommand::Sign(args) => args.path_to_binary.as_str(),
+            MachoCommand::Verify(args) => args.path_to_binary.as_str(),
         }
     }
 }

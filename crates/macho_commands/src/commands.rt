@@ -143,6 +143,59 @@ pub mod install_id {
     }
 }
 
+/// `sign`.
+pub mod sign {
+    use crate::command::MachoCommand;
+    use crate::engine::macho_execute;
+    use crate::error::MachoCommandError;
+    use std::rt::Files;
+
+    /// The word that names the command.
+    pub const NAME: &str = "sign";
+
+    /// Make all pages of ad-hoc code signatures fit.
+    #[derive(Debug, Drop)]
+    pub struct Args {
+        /// Path to the file to change.
+        pub path_to_binary: String,
+    }
+
+    /// Edits the file.
+    pub fn execute<R: Files + AllocGlobal>(rt: &R, args: Args) -> Result<(), MachoCommandError>
+        ensures { IfErr result (MayFail (macho_command_model (MachoCommand.Sign args))) }
+    {
+        macho_execute(rt, MachoCommand::Sign(args))
+    }
+}
+
+/// `verify`.
+pub mod verify {
+    use crate::command::MachoCommand;
+    use crate::error::MachoCommandError;
+    use crate::verifying::verify_file;
+    use std::rt::Files;
+
+    /// The word that names the command.
+    pub const NAME: &str = "verify";
+
+    /// Tell whether the pages of code signatures fit.
+    #[derive(Debug, Drop)]
+    pub struct Args {
+        /// Path to the file to look at.
+        pub path_to_binary: String,
+    }
+
+    /// Prints what is found; an error where some page does not fit.
+    pub fn execute<R: Files + Print + AllocGlobal>(
+        rt: &R,
+        args: Args,
+    ) -> Result<(), MachoCommandError>
+        ensures { IfErr result (MayFail (macho_command_model (MachoCommand.Verify args))) }
+    {
+        verify_file(rt, &args.path_to_binary)
+    }
+}
+
 /// `apply`.
 pub mod apply {
     use crate::command::MachoCommand;

@@ -1,47 +1,210 @@
 //! New bytes of old ones.
-ghost use Rattle.std.specs.Prelude.{◌≡◌, ◌∷◌, [], Ok, IfOk, IfErr, OnOk, string_bytes};
+ghost use Rattle.std.specs.Prelude.{◌≡◌, ◌≢◌, ◌∷◌, [], All, None, Ok, Some, IfOk, IfErr, OnOk, length, string_bytes};
 ghost use Rattle.macho_edits.specs.Batch.{calls_of};
-ghost use Rattle.macho_commands.specs.Engine.{AreAsked, MayFail, Outcome, ShowsEdited};
-ghost use Rattle.macho_commands.specs.Engine.{Tells, TellsAsked, Writes};
-ghost use Rattle.macho_commands.specs.Engine.{asked, outcome, refused_answer};
+ghost use Rattle.arwen_macho.specs.Fronts.{LiesIn, fronts_on};
+ghost use Rattle.macho_commands.specs.Engine.{AreAsked, IsSignedOutcome, IsSigningError, MayFail, Outcome};
+ghost use Rattle.macho_commands.specs.Engine.{SignsBy, Tells, TellsAsked, Writes, WritesBy, WritesEdits};
+ghost use Rattle.macho_commands.specs.Engine.{asked, outcome, outcome_by, outcome_of, pages_by, refused_answer, signs_of};
 ghost use Rattle.macho_commands.specs.Failures.{HasCause, HasCauseAt};
 ghost use Rattle.macho_commands.specs.Meaning.{file_of, macho_command_model};
-ghost use Rattle.macho_commands.specs.Notes.{TellsWanted, TellsWantedAt};
+ghost use Rattle.macho_commands.specs.Notes.{TellsBy, TellsCommand, TellsSigned, TellsWanted, TellsWantedAt};
 ghost use Rattle.macho_commands.specs.Stores.{FailsPatch, Patched, TellsPath};
 ghost use Rattle.macho_commands.specs.declared.error.MachoCommandError.TheVariants.{Memory};
+ghost use Rattle.macho_signing.specs.Thin.{AreAsLong, pages_of};
 
-use crate::changes::{changes_of, write_changes_of};
+use crate::changes::{changes_of, front_changes, write_changes_of};
 use crate::command::MachoCommand;
+use crate::commands::verify;
 use crate::edits::parse_macho_edits;
 use crate::error::MachoCommandError;
-use crate::noting::{note_wanted, tell};
+use crate::noting::{left_note, note_wanted, tell};
+use crate::signing::{Signing, Signs};
 use arwen_macho::macho::{Front, MachoBatchError, MachoContainer, MachoEdit, lay_fronts};
 use byte_store::{Opens, Store, load_up_to};
 use command_words::{MOST_BYTES, Notes, RegularFiles, words_of};
+use macho_signatures::{Slot, lay_slots};
+use macho_signing::{NewSlots, Scope, signed_slots};
 use std::alloc::Global;
 use std::rt::Files;
 
 /// The bytes of a file after a command: a parse accepts them again, and finds the edited load commands. Of
 /// `apply` the words are read before the bytes are looked at.
+///
+/// Where signing is asked for, the slots of ad-hoc code signatures are made anew whose pages the edit touched, and then
+/// a parse still finds the edited load commands. `sign` makes all anew in either case, and `verify` leaves the bytes.
 pub fn run_macho(
     alloc: Global,
     bytes: &[u8],
     command: &MachoCommand,
+    signing: Signing,
 ) -> Result<Vec<u8>, MachoCommandError>
-    ensures ok { IfOk result (λ new.
-        outcome (macho_command_model command.now) bytes.now ≡ Outcome.bytes new.items) }
+    ensures ok { IfOk result (λ new. outcome signing (macho_command_model command.now) bytes.now
+        ≡ Outcome.bytes new.items) }
     ensures shows { IfOk result (λ new.
-        ShowsEdited (asked (macho_command_model command.now)) bytes.now new.items) }
-    ensures err { IfErr result (λ e. Tells (outcome (macho_command_model command.now) bytes.now) e) }
+        IsSignedOutcome signing (macho_command_model command.now) bytes.now new.items) }
+    ensures err { IfErr result (λ e.
+        Tells (outcome signing (macho_command_model command.now) bytes.now) e) }
 {
-    let (fronts, _text) = fronts_of(alloc, bytes, command, Notes::LeftOut)?;
+    let Made { fronts, slots, .. } = made_of(alloc, bytes, command, Notes::LeftOut, signing)?;
     let mut new = Vec::from_slice(alloc, bytes)?;
     lay_fronts(&mut new, fronts);
+    lay_slots(&mut new, &slots);
     Ok(new)
 }
 
-/// What a command writes over the bytes of a file, and the line of its note; no text where it is left out. Its edits
-/// are read before the bytes are looked at.
+/// What a command writes over the bytes of a file, and the line of its note.
+#[derive(Drop)]
+struct Made {
+    /// The fronts of its edits.
+    fronts: Vec<Front>,
+    /// The slots of signatures, which are laid behind the fronts.
+    slots: Vec<Slot>,
+    /// The line; no text where it is left out.
+    text: String,
+}
+
+/// What a command writes over the bytes of a file, and the line of its note.
+fn made_of(
+    alloc: Global,
+    bytes: &[u8],
+    command: &MachoCommand,
+    notes: Notes,
+    signing: Signing,
+) -> Result<Made, MachoCommandError>
+    ensures ok { IfOk result (λ made. Writes signing (macho_command_model command.now) bytes.now
+        made.fronts.items made.slots.items) }
+    ensures told { IfOk result (λ made. TellsCommand signing (macho_command_model command.now)
+        notes bytes.now (string_bytes made.text)) }
+    ensures err { IfErr result (λ e.
+        Tells (outcome signing (macho_command_model command.now) bytes.now) e) }
+{
+    made_by(alloc, bytes, command, notes, signs_of(signing, command))
+}
+
+/// Which slots of signatures a command makes anew.
+fn signs_of(signing: Signing, command: &MachoCommand) -> Signs
+    ensures { result ≡ signs_of signing (macho_command_model command.now) }
+{
+    match (command, signing) {
+        (MachoCommand::Sign(_), _) => Signs::Whole,
+        (MachoCommand::Verify(_), _) => Signs::Nothing,
+        (_, Signing::Renewed) => Signs::Touched,
+        (_, Signing::Left) => Signs::Nothing,
+    }
+}
+
+/// The same where it is known which slots are made anew.
+fn made_by(
+    alloc: Global,
+    bytes: &[u8],
+    command: &MachoCommand,
+    notes: Notes,
+    signs: Signs,
+) -> Result<Made, MachoCommandError>
+    ensures ok { IfOk result (λ made. WritesBy signs (asked (macho_command_model command.now))
+        bytes.now made.fronts.items made.slots.items) }
+    ensures told { IfOk result (λ made. TellsBy signs notes
+        (asked (macho_command_model command.now)) (file_of (macho_command_model command.now))
+        bytes.now (string_bytes made.text)) }
+    ensures err { IfErr result (λ e.
+        Tells (outcome_by signs (asked (macho_command_model command.now)) bytes.now) e) }
+{
+    match signs {
+        Signs::Nothing => made_unsigned(alloc, bytes, command, notes),
+        _ => made_signed(alloc, bytes, command, notes, signs),
+    }
+}
+
+/// What a command writes that leaves signatures.
+fn made_unsigned(
+    alloc: Global,
+    bytes: &[u8],
+    command: &MachoCommand,
+    notes: Notes,
+) -> Result<Made, MachoCommandError>
+    ensures ok { IfOk result (λ made. WritesBy Signs.Nothing
+        (asked (macho_command_model command.now)) bytes.now made.fronts.items made.slots.items) }
+    ensures told { IfOk result (λ made. TellsWanted notes
+        (file_of (macho_command_model command.now)) bytes.now (string_bytes made.text)) }
+    ensures err { IfErr result (λ e.
+        Tells (outcome_of (asked (macho_command_model command.now)) bytes.now) e) }
+{
+    let (fronts, text) = fronts_of(alloc, bytes, command, notes)?;
+    Ok(Made {
+        fronts,
+        slots: Vec::new(alloc),
+        text,
+    })
+}
+
+/// What a command writes that makes slots of signatures anew.
+fn made_signed(
+    alloc: Global,
+    bytes: &[u8],
+    command: &MachoCommand,
+    notes: Notes,
+    signs: Signs,
+) -> Result<Made, MachoCommandError>
+    requires { signs ≢ Signs.Nothing }
+    ensures ok { IfOk result (λ made. WritesBy signs (asked (macho_command_model command.now))
+        bytes.now made.fronts.items made.slots.items) }
+    ensures told { IfOk result (λ made. TellsSigned signs notes
+        (asked (macho_command_model command.now)) (file_of (macho_command_model command.now))
+        bytes.now (string_bytes made.text)) }
+    ensures err { IfErr result (λ e.
+        Tells (outcome_by signs (asked (macho_command_model command.now)) bytes.now) e) }
+{
+    let (fronts, _text) = fronts_of(alloc, bytes, command, Notes::LeftOut)?;
+    let new = slots_of(alloc, bytes, &fronts, signs)?;
+    let path = command.path_to_binary();
+    let text = left_note(alloc, new.are_some_left, path, notes, signs)?;
+    Ok(Made {
+        fronts,
+        slots: new.slots,
+        text,
+    })
+}
+
+/// The slots of the edited bytes that are made anew, where fronts make these of the bytes of a file.
+fn slots_of(
+    alloc: Global,
+    bytes: &[u8],
+    fronts: &[Front],
+    signs: Signs,
+) -> Result<NewSlots, MachoCommandError>
+    requires { All (LiesIn (length bytes.now)) fronts.now }
+    ensures ok { IfOk result (λ new. SignsBy (pages_by signs bytes.now)
+        (fronts_on fronts.now bytes.now) new) }
+    ensures err { IfErr result (λ e. IsSigningError (pages_by signs bytes.now)
+        (fronts_on fronts.now bytes.now) e) }
+{
+    let mut edited = Vec::from_slice(alloc, bytes)?;
+    let pieces = front_changes(alloc, &mut edited, fronts)?;
+    drop(pieces);
+    signed(alloc, &edited, scope_by(signs, bytes))
+}
+
+/// Which pages of a file get their slots made anew.
+fn scope_by(signs: Signs, bytes: &[u8]) -> Scope<'_>
+    ensures { pages_of result ≡ pages_by signs bytes.entry.now }
+{
+    match signs {
+        Signs::Touched => Scope::Since(bytes),
+        _ => Scope::All,
+    }
+}
+
+/// The slots of edited bytes that are made anew.
+fn signed(alloc: Global, edited: &[u8], scope: Scope<'_>) -> Result<NewSlots, MachoCommandError>
+    requires { AreAsLong (pages_of scope) edited.now }
+    ensures ok { IfOk result (λ new. SignsBy (pages_of scope.entry) edited.now new) }
+    ensures err { IfErr result (λ e. IsSigningError (pages_of scope.entry) edited.now e) }
+{
+    Ok(signed_slots(alloc, edited, scope)?)
+}
+
+/// The fronts that the edits of a command write over the bytes of a file, and the line of its note; no text where it is
+/// left out. Its edits are read before the bytes are looked at.
 fn fronts_of(
     alloc: Global,
     bytes: &[u8],
@@ -49,10 +212,11 @@ fn fronts_of(
     notes: Notes,
 ) -> Result<(Vec<Front>, String), MachoCommandError>
     ensures ok { IfOk result (λ made.
-        Writes (macho_command_model command.now) bytes.now made.0.items) }
+        WritesEdits (asked (macho_command_model command.now)) bytes.now made.0.items) }
     ensures told { IfOk result (λ made. TellsWanted notes
         (file_of (macho_command_model command.now)) bytes.now (string_bytes made.1)) }
-    ensures err { IfErr result (λ e. Tells (outcome (macho_command_model command.now) bytes.now) e) }
+    ensures err { IfErr result (λ e.
+        Tells (outcome_of (asked (macho_command_model command.now)) bytes.now) e) }
 {
     let edits = edits_asked(alloc, command)?;
     let macho = MachoContainer::parse(alloc, bytes)?;
@@ -68,7 +232,9 @@ fn refusal(command: &MachoCommand, error: MachoBatchError) -> MachoCommandError
     ensures { result ≡ refused_answer (asked (macho_command_model command.now)) error }
 {
     match command {
-        MachoCommand::Apply(_) => MachoCommandError::from(error),
+        MachoCommand::Apply(_) | MachoCommand::Sign(_) | MachoCommand::Verify(_) => {
+            MachoCommandError::from(error)
+        }
         _ => MachoCommandError::from(error.fault),
     }
 }
@@ -116,20 +282,25 @@ pub fn patch_store<S: Store>(
     store: &mut S,
     command: &MachoCommand,
     notes: Notes,
+    signing: Signing,
 ) -> Result<String, MachoCommandError>
-    ensures patched { OnOk result
-        (Patched (macho_command_model command.now) (S.contents store.old) (S.contents store.new)) }
-    ensures told { IfOk result (λ text. TellsWantedAt notes
-        (file_of (macho_command_model command.now)) (S.contents store.old) (string_bytes text)) }
+    ensures patched { OnOk result (Patched signing (macho_command_model command.now)
+        (S.contents store.old) (S.contents store.new)) }
+    ensures told { IfOk result (λ text. TellsWantedAt signing (macho_command_model command.now)
+        notes (S.contents store.old) (string_bytes text)) }
     ensures err { IfErr result (λ e. MayFail (macho_command_model command.now) e) }
-    ensures left { IfErr result (λ e.
-        FailsPatch (macho_command_model command.now) (S.contents store.old) (S.contents store.new) e) }
+    ensures left { IfErr result (λ e. FailsPatch signing (macho_command_model command.now)
+        (S.contents store.old) (S.contents store.new) e) }
     ensures cause { IfErr result (HasCause S.may_fail_read S.may_fail_write S.may_take_none
         (S.contents store.old) (S.failed store.old) (S.failed store.new)) }
 {
     let mut bytes = load_up_to(alloc, store, MOST_BYTES)?;
-    let (fronts, text) = fronts_of(alloc, bytes.as_slice(), command, notes)?;
-    let pieces = changes_of(alloc, &mut bytes, fronts.as_slice())?;
+    let Made {
+        fronts,
+        slots,
+        text,
+    } = made_of(alloc, bytes.as_slice(), command, notes, signing)?;
+    let pieces = changes_of(alloc, &mut bytes, fronts.as_slice(), slots.as_slice())?;
     write_changes_of(store, bytes.len() as u64, pieces.as_slice())?;
     Ok(text)
 }
@@ -141,16 +312,17 @@ pub fn patch_path<'p, O: Opens<'p>>(
     files: &O,
     command: &'p MachoCommand,
     notes: Notes,
+    signing: Signing,
 ) -> Result<(O::Opened, String), MachoCommandError>
-    ensures patched { IfOk result (λ edited. Patched (macho_command_model command.now)
+    ensures patched { IfOk result (λ edited. Patched signing (macho_command_model command.now)
         (O.contents files.now (file_of (macho_command_model command.now)))
         (O.Opened.contents edited.0)) }
-    ensures told { IfOk result (λ edited. TellsWantedAt notes
-        (file_of (macho_command_model command.now))
+    ensures told { IfOk result (λ edited. TellsWantedAt signing
+        (macho_command_model command.now) notes
         (O.contents files.now (file_of (macho_command_model command.now)))
         (string_bytes edited.1)) }
     ensures err { IfErr result (λ e. MayFail (macho_command_model command.now) e) }
-    ensures tells { IfErr result (λ e. TellsPath (macho_command_model command.now)
+    ensures tells { IfErr result (λ e. TellsPath signing (macho_command_model command.now)
         (O.contents files.now (file_of (macho_command_model command.now))) e) }
     ensures cause { IfErr result (HasCauseAt
         (O.may_fail files.now (file_of (macho_command_model command.now)))
@@ -158,11 +330,11 @@ pub fn patch_path<'p, O: Opens<'p>>(
         (O.contents files.now (file_of (macho_command_model command.now)))) }
 {
     let mut store = files.open(command.path_to_binary())?;
-    let text = patch_store(alloc, &mut store, command, notes)?;
+    let text = patch_store(alloc, &mut store, command, notes, signing)?;
     Ok((store, text))
 }
 
-/// Edits a Mach-O file in its place, and tells no notes. Only bytes that change are written, and only after all of
+/// Edits a Mach-O file in its place, leaves its signatures unless the command is `sign`, and tells no notes. Only bytes that change are written, and only after all of
 /// them exist, so a refused edit leaves the file as it was.
 pub fn macho_execute<R: Files + AllocGlobal>(
     rt: &R,
@@ -170,21 +342,39 @@ pub fn macho_execute<R: Files + AllocGlobal>(
 ) -> Result<(), MachoCommandError>
     ensures { IfErr result (MayFail (macho_command_model macho)) }
 {
-    let answer = patch_file(rt, &macho, Notes::LeftOut);
+    let answer = patch_file(rt, &macho, Notes::LeftOut, Signing::Left);
     drop(macho);
     answer?;
     Ok(())
 }
 
-/// The same, and then tells the note, where it is wanted, on the standard error; whether that fails doesn't matter.
-pub fn macho_execute_telling<R: Files + Eprint + AllocGlobal>(
+/// Does what a command asks: edits its file in its place, with its signatures made to fit where that is asked for, and then
+/// tells the note, where it is wanted, on the standard error; whether that fails doesn't matter. `verify` prints what it
+/// finds.
+pub fn macho_execute_telling<R: Files + Print + Eprint + AllocGlobal>(
     rt: &R,
     macho: MachoCommand,
     notes: Notes,
+    signing: Signing,
 ) -> Result<(), MachoCommandError>
     ensures { IfErr result (MayFail (macho_command_model macho)) }
 {
-    let answer = patch_file(rt, &macho, notes);
+    match macho {
+        MachoCommand::Verify(args) => verify::execute(rt, args),
+        macho => edit_telling(rt, macho, notes, signing),
+    }
+}
+
+/// Edits the file of a command, and tells the note.
+fn edit_telling<R: Files + Eprint + AllocGlobal>(
+    rt: &R,
+    macho: MachoCommand,
+    notes: Notes,
+    signing: Signing,
+) -> Result<(), MachoCommandError>
+    ensures { IfErr result (MayFail (macho_command_model macho)) }
+{
+    let answer = patch_file(rt, &macho, notes, signing);
     drop(macho);
     let text = answer?;
     tell(rt, text.as_str());
@@ -196,10 +386,11 @@ fn patch_file<R: Files + AllocGlobal>(
     rt: &R,
     command: &MachoCommand,
     notes: Notes,
+    signing: Signing,
 ) -> Result<String, MachoCommandError>
     ensures { IfErr result (MayFail (macho_command_model command.now)) }
 {
     let files = RegularFiles { files: rt };
-    let (_store, text) = patch_path(rt.alloc(), &files, command, notes)?;
+    let (_store, text) = patch_path(rt.alloc(), &files, command, notes, signing)?;
     Ok(text)
 }

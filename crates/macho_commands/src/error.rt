@@ -1,11 +1,12 @@
 //! Why a command for a Mach-O file is not done.
 ghost use Rattle.std.specs.Prelude.{◌≡◌};
-ghost use Rattle.macho_commands.specs.Errors.{answer_to, answer_to_batch, answer_to_read, answer_to_words};
+ghost use Rattle.macho_commands.specs.Errors.{answer_to, answer_to_batch, answer_to_read, answer_to_signing, answer_to_words};
 ghost use Rattle.macho_commands.specs.declared.error.MachoCommandError.TheVariants.{Io, Memory};
 
 use arwen_macho::macho::{MachoBatchError, MachoError};
 use byte_store::ReadError;
 use command_words::{EditFault, EditsError};
+use macho_signing::SigningFault;
 use std::alloc::{AllocError, AllocFailed};
 use std::io;
 use thiserror::Error;
@@ -25,6 +26,12 @@ pub enum MachoCommandError {
     /// The words of `apply` are no list of edits.
     #[error("invalid edit list")]
     Edits(EditFault),
+    /// A code signature was not read, or not made to fit.
+    #[error("error in code signature")]
+    Signing(SigningFault),
+    /// Some pages of a code signature do not fit.
+    #[error("some pages do not fit")]
+    Unfit,
     /// There was no memory.
     #[error("out of memory")]
     Memory,
@@ -62,6 +69,17 @@ impl From<EditsError> for MachoCommandError {
         match error {
             EditsError::Memory => MachoCommandError::Memory,
             EditsError::Fault(fault) => MachoCommandError::Edits(fault),
+        }
+    }
+}
+
+impl From<SigningFault> for MachoCommandError {
+    ghost from_gives = { λ e answer. answer ≡ answer_to_signing e };
+
+    fn from(fault: SigningFault) -> MachoCommandError {
+        match fault {
+            SigningFault::Memory => MachoCommandError::Memory,
+            fault => MachoCommandError::Signing(fault),
         }
     }
 }

@@ -9,11 +9,15 @@ mod edits;
 mod engine;
 mod error;
 mod noting;
+mod signing;
 mod tables;
+mod verifying;
 
 pub use command::MachoCommand;
-pub use commands::{add, apply, change, delete, install_id, install_name};
+pub use commands::{add, apply, change, delete, install_id, install_name, sign, verify};
 pub use edits::parse_macho_edits;
 pub use engine::{macho_execute, macho_execute_telling, patch_path, patch_store, run_macho};
 pub use error::MachoCommandError;
+pub use signing::Signing;
 pub use tables::macho_table;
+pub use verifying::{Verdict, verify_bytes};

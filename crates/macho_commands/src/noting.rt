@@ -2,8 +2,10 @@
 ghost use Rattle.std.specs.Prelude.{◌≡◌, ◌<◌, IfOk, map, string_bytes};
 ghost use Rattle.std.specs.List.{list_any};
 ghost use Rattle.arwen_macho.specs.FatSlice.{slice_model};
-ghost use Rattle.macho_commands.specs.Notes.{TellsOf, is_signed as bears_signature, is_signature as bears_it, is_signed_file as is_file_signed, is_signed_slice, note_line};
+ghost use Rattle.macho_commands.specs.declared.signing.Signs.TheVariants.{Whole};
+ghost use Rattle.macho_commands.specs.Notes.{TellsLeft, TellsOf, left_line, is_signed as bears_signature, is_signature as bears_it, is_signed_file as is_file_signed, is_signed_slice, note_line};
 
+use crate::signing::Signs;
 use arwen_macho::macho::{FatMacho, MachO, MachoType};
 use command_words::Notes;
 use macho_image::command::{CommandVariant, LoadCommand};
@@ -36,6 +38,36 @@ fn note_if(alloc: Global, is_signed: bool, path: &str) -> Result<String, AllocEr
         text.push_str("note: ")?;
         text.push_str(path)?;
         text.push_str(": its code signature no longer fits: sign it again after the last edit\n")?;
+    }
+    Ok(text)
+}
+
+/// The line that tells of a signature that is left while others are made to fit. No text where it is left out.
+pub(crate) fn left_note(
+    alloc: Global,
+    is_left: bool,
+    path: &str,
+    notes: Notes,
+    signs: Signs,
+) -> Result<String, AllocError>
+    ensures { IfOk result (λ text. TellsLeft signs notes is_left path.now (string_bytes text)) }
+{
+    match (notes, signs) {
+        (Notes::LeftOut, _) => Ok(String::new(alloc)),
+        (Notes::Wanted, Signs::Whole) => whole_note(alloc, is_left, path),
+        (Notes::Wanted, _) => note_if(alloc, is_left, path),
+    }
+}
+
+/// The line of a signature that is left where all slots of others are made anew.
+fn whole_note(alloc: Global, is_left: bool, path: &str) -> Result<String, AllocError>
+    ensures { IfOk result (λ text. string_bytes text ≡ left_line Whole is_left path.now) }
+{
+    let mut text = String::new(alloc);
+    if is_left {
+        text.push_str("note: ")?;
+        text.push_str(path)?;
+        text.push_str(": its code signature is an identity's, and is left as it was\n")?;
     }
     Ok(text)
 }

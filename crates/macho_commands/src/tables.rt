@@ -3,7 +3,7 @@ ghost use Rattle.std.specs.Prelude.{◌≡◌, map};
 ghost use Rattle.command_words.specs.Rows.{named_of, row_model};
 ghost use Rattle.macho_commands.specs.Meaning.{macho_lines};
 
-use crate::commands::{add, apply, change, delete, install_id, install_name};
+use crate::commands::{add, apply, change, delete, install_id, install_name, sign, verify};
 use command_words::{Row, Value, ValueForm};
 
 /// What help says of `apply` below its values.
@@ -14,12 +14,23 @@ const EDITS: &str = "Edits:
   change-install-name <OLD> <NEW>
   change-install-id <NEW>
 
+With --sign, the pages that they touched fit again in ad-hoc code signatures.
+
 Example:
   arwen macho apply libgreet.dylib add-rpath /opt/lib + delete-rpath /usr/local/lib
 ";
 
+/// What help says of `verify` below its values.
+const VERIFIED: &str = "Status 1 where some page does not fit.
+";
+
+/// What help says of an edit below its values.
+const SIGNED: &str =
+    "With --sign, the pages that the edit touched fit again in ad-hoc code signatures.
+";
+
 /// The commands for Mach-O files.
-pub static MACHO_ROWS: [Row; 6] = [
+pub static MACHO_ROWS: [Row; 8] = [
     Row {
         name: delete::NAME,
         about: "Remove a run path",
@@ -28,7 +39,7 @@ pub static MACHO_ROWS: [Row; 6] = [
             help: "Run path to remove",
         }),
         is_edit: true,
-        more: "",
+        more: SIGNED,
     },
     Row {
         name: change::NAME,
@@ -44,7 +55,7 @@ pub static MACHO_ROWS: [Row; 6] = [
             },
         ),
         is_edit: true,
-        more: "",
+        more: SIGNED,
     },
     Row {
         name: add::NAME,
@@ -54,7 +65,7 @@ pub static MACHO_ROWS: [Row; 6] = [
             help: "Run path to add",
         }),
         is_edit: true,
-        more: "",
+        more: SIGNED,
     },
     Row {
         name: install_name::NAME,
@@ -70,7 +81,7 @@ pub static MACHO_ROWS: [Row; 6] = [
             },
         ),
         is_edit: true,
-        more: "",
+        more: SIGNED,
     },
     Row {
         name: install_id::NAME,
@@ -80,7 +91,7 @@ pub static MACHO_ROWS: [Row; 6] = [
             help: "New install id",
         }),
         is_edit: true,
-        more: "",
+        more: SIGNED,
     },
     Row {
         name: apply::NAME,
@@ -91,6 +102,20 @@ pub static MACHO_ROWS: [Row; 6] = [
         }),
         is_edit: false,
         more: EDITS,
+    },
+    Row {
+        name: sign::NAME,
+        about: "Make all pages of ad-hoc code signatures fit",
+        form: ValueForm::Path,
+        is_edit: false,
+        more: "",
+    },
+    Row {
+        name: verify::NAME,
+        about: "Tell whether the pages of code signatures fit",
+        form: ValueForm::Path,
+        is_edit: false,
+        more: VERIFIED,
     },
 ];
 

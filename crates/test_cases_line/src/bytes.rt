@@ -3,8 +3,8 @@ use crate::changes::print_rows;
 use crate::faults::{tell, tell_answer};
 use crate::runs::file_bytes;
 use arwen_cli::cli::{
-    ArwenError, Command, ElfCommand, ElfCommandError, MachoCommand, MachoCommandError, run_elf,
-    run_macho,
+    ArwenError, Command, ElfCommand, ElfCommandError, MachoCommand, MachoCommandError, Signing,
+    run_elf, run_macho,
 };
 use std::io;
 use std::io::{Cursor, Write};
@@ -48,8 +48,8 @@ fn edited_macho<R: AllocGlobal>(
     bytes: &[u8],
     command: &MachoCommand,
 ) -> Result<Vec<u8>, ArwenError> {
-    let new = match run_macho(rt.alloc(), bytes, command) {
-        Err(MachoCommandError::Memory) => run_macho(rt.alloc(), bytes, command),
+    let new = match run_macho(rt.alloc(), bytes, command, Signing::Left) {
+        Err(MachoCommandError::Memory) => run_macho(rt.alloc(), bytes, command, Signing::Left),
         answer => answer,
     };
     Ok(new?)

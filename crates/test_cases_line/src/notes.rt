@@ -1,6 +1,8 @@
 //! The notes of commands on files, which stay as they are.
 use crate::faults::tell;
-use arwen_cli::cli::{ArwenError, Command, ElfCommand, MachoCommand, Notes, edit_path, patch_path};
+use arwen_cli::cli::{
+    ArwenError, Command, ElfCommand, MachoCommand, Notes, Signing, edit_path, patch_path,
+};
 use byte_store::MemoryFile;
 use std::alloc::Global;
 use std::io;
@@ -44,7 +46,7 @@ fn macho_notes<R: Files + AllocGlobal>(
     let path = command.path_to_binary();
     let bytes = read_file(rt, path)?;
     let file = file_at(rt.alloc(), path, bytes.as_slice());
-    let (_store, notes) = patch_path(rt.alloc(), &file, command, Notes::Wanted)?;
+    let (_store, notes) = patch_path(rt.alloc(), &file, command, Notes::Wanted, Signing::Left)?;
     Ok(notes)
 }
 

@@ -1,6 +1,8 @@
 use crate::stores::{PLAIN, WITH_RPATH};
 use arwen_cli::cli::elf::{print_os_abi, print_path, set_os_abi};
-use arwen_cli::cli::{ArwenError, ElfCommand, MachoCommand, Notes, add, edit_path, patch_path};
+use arwen_cli::cli::{
+    ArwenError, ElfCommand, MachoCommand, Notes, Signing, add, edit_path, patch_path,
+};
 use arwen_cli::elf::Sink;
 use byte_store::{MemoryFile, MemoryStore};
 use std::alloc::{AllocError, Global};
@@ -85,8 +87,8 @@ fn patched(
     command: &MachoCommand,
     notes: Notes,
 ) -> Result<(MemoryStore, String), ArwenError> {
-    let made = match patch_path(alloc, &file(alloc, bytes), command, notes) {
-        Err(_) => patch_path(alloc, &file(alloc, bytes), command, notes)?,
+    let made = match patch_path(alloc, &file(alloc, bytes), command, notes, Signing::Left) {
+        Err(_) => patch_path(alloc, &file(alloc, bytes), command, notes, Signing::Left)?,
         Ok(made) => made,
     };
     Ok(made)

@@ -1,7 +1,7 @@
 ghost use Rattle.std.specs.Prelude.{◌≡◌};
 ghost use Rattle.std.specs.Io.{WritesAtMost};
 
-use arwen_cli::cli::{MachoCommand, MachoCommandError, Notes, add, patch_store};
+use arwen_cli::cli::{MachoCommand, MachoCommandError, Notes, Signing, add, patch_store};
 use byte_store::{Failures, MemoryStore, Store};
 use std::alloc::{AllocError, Global};
 use std::io;
@@ -123,10 +123,10 @@ fn patched(
     command: &MachoCommand,
     old: &[u8],
 ) -> Result<String, MachoCommandError> {
-    let answer = patch_store(alloc, store, command, Notes::LeftOut);
+    let answer = patch_store(alloc, store, command, Notes::LeftOut, Signing::Left);
     if let Err(MachoCommandError::Memory) = &answer {
         assert_eq!(rt; store.inner.bytes.as_slice(), old);
-        return patch_store(alloc, store, command, Notes::LeftOut);
+        return patch_store(alloc, store, command, Notes::LeftOut, Signing::Left);
     }
     answer
 }

@@ -12,6 +12,7 @@ use byte_store::ReadError;
 use command_words::{EditFault, EditsError};
 use elf_commands::ElfCommandError;
 use macho_commands::MachoCommandError;
+use macho_signing::SigningFault;
 use std::alloc::{AllocError, AllocFailed};
 use std::error::Error;
 use std::{fmt, io};
@@ -42,6 +43,10 @@ pub enum ArwenError {
     ElfBatch(ElfBatchError),
     /// Of some files nothing is told; a line on the standard error said why of each of them.
     NotAllShown,
+    /// A code signature was not read, or not made to fit.
+    Signing(SigningFault),
+    /// Some pages of a code signature do not fit.
+    NotAllFit,
 }
 
 impl ArwenError {
@@ -70,6 +75,8 @@ impl ArwenError {
             ArwenError::MachoBatch(_) => "Mach-O batch refused",
             ArwenError::ElfBatch(_) => "ELF batch refused",
             ArwenError::NotAllShown => "some files are not shown",
+            ArwenError::Signing(_) => "error in code signature",
+            ArwenError::NotAllFit => "some pages do not fit",
         }
     }
 
@@ -97,6 +104,8 @@ impl From<MachoCommandError> for ArwenError {
             MachoCommandError::MachoBatch(fault) => ArwenError::from(fault),
             MachoCommandError::Io(fault) => ArwenError::Io(fault),
             MachoCommandError::Edits(fault) => ArwenError::Edits(fault),
+            MachoCommandError::Signing(fault) => ArwenError::Signing(fault),
+            MachoCommandError::Unfit => ArwenError::NotAllFit,
             MachoCommandError::Memory => ArwenError::Memory,
         }
     }
@@ -247,7 +256,9 @@ impl fmt::Display for FaultLine<'_> {
         let outer = self.error;
         match outer {
             ArwenError::Line { text, .. } => write!(f, "{text}"),
-            ArwenError::Memory | ArwenError::NotAllShown => write!(f, "{outer}"),
+            ArwenError::Memory | ArwenError::NotAllShown | ArwenError::NotAllFit => {
+                write!(f, "{outer}")
+            }
             _ => {
                 let cause = InnerCause { error: outer };
                 write!(f, "{outer}: {cause}")
@@ -271,7 +282,11 @@ impl fmt::Display for InnerCause<'_> {
             ArwenError::Edits(fault) => write!(f, "{fault}"),
             ArwenError::ElfBatch(batch) => write!(f, "{}", ElfBatchCauses { batch }),
             ArwenError::MachoBatch(batch) => write!(f, "{}", MachoBatchCauses { batch }),
-            ArwenError::Line { .. } | ArwenError::Memory | ArwenError::NotAllShown => Ok(()),
+            ArwenError::Signing(fault) => write!(f, "{fault}"),
+            ArwenError::Line { .. }
+            | ArwenError::Memory
+            | ArwenError::NotAllShown
+            | ArwenError::NotAllFit => Ok(()),
         }
     }
 }

@@ -13,6 +13,7 @@ ghost use Rattle.arwen_cli.specs.Parser.{MayRefuse, MayRefuseReading, MayRefuseT
 
 use crate::cli::parser::{First, parse_values};
 use crate::cli::quiet::without_quiet;
+use crate::cli::signing::without_sign;
 use crate::cli::{ArwenError, Command, ElfCommand, MachoCommand};
 use arwen_cli_show::{Args, ArgsFault, HELP, parse_args};
 use command_words::{ValueError, Values};
@@ -56,7 +57,7 @@ const ELF: First = First {
 
 /// The command that a line's words mean, those behind the program's name. A line that asks for help,
 /// and one that is wrong, is answered by `ArwenError::Line` with the text to print. Words `-q` and `--quiet` are passed
-/// over.
+/// over, and `--sign` where the first word is `macho`.
 pub fn parse_line(alloc: Global, words: &[&str]) -> Result<Command, ArwenError>
     ensures means { IfOk result (λ command. has_option (map (λ w. w.now) words.now) ≡ false
         → meaning_of (map (λ w. w.now) words.now) ≡ Some (shown command)) }
@@ -65,11 +66,12 @@ pub fn parse_line(alloc: Global, words: &[&str]) -> Result<Command, ArwenError>
         → error ≡ ArwenError.Memory) }
     ensures err { IfErr result (λ error. IsOfLine error) }
 {
-    let heard = without_quiet(alloc, words)?;
+    let audible = without_quiet(alloc, words)?;
+    let heard = without_sign(alloc, audible.as_slice())?;
     parse_heard(alloc, heard.as_slice())
 }
 
-/// The same of words without `-q`.
+/// The same of words without `-q` and `--sign`.
 fn parse_heard(alloc: Global, words: &[&str]) -> Result<Command, ArwenError>
     ensures means { IfOk result (λ command. has_option (map (λ w. w.now) words.now) ≡ false
         → meaning_of (map (λ w. w.now) words.now) ≡ Some (shown command)) }

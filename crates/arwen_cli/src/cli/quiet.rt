@@ -50,7 +50,7 @@ fn is_quiet_word(word: &str) -> bool
 }
 
 /// Whether a word is the one behind which all are values.
-fn is_mark(word: &str) -> bool
+pub(crate) fn is_mark(word: &str) -> bool
     ensures { result ≡ marks_values word.now }
 {
     word == "--"

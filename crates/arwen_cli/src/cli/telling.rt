@@ -67,7 +67,9 @@ fn causes_text(alloc: Global, error: &ArwenError) -> Result<String, AllocError>
 {
     match error {
         ArwenError::Line { text, .. } => String::from_str(alloc, text.as_str()),
-        ArwenError::Memory | ArwenError::NotAllShown => String::from_str(alloc, error.words()),
+        ArwenError::Memory | ArwenError::NotAllShown | ArwenError::NotAllFit => {
+            String::from_str(alloc, error.words())
+        }
         _ => inner_text(alloc, error),
     }
 }

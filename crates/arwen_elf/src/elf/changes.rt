@@ -6,13 +6,21 @@ ghost use Rattle.elf_apply.specs.Taken.{RemovedAre, edits_model, shrink_model};
 ghost use Rattle.arwen_elf.specs.Contained.{BatchTaken, EditTaken, InPlaceTaken};
 
 use crate::elf::container::ElfContainer;
-use crate::elf::rewriter::values::one_text;
 use elf_apply::batch::ElfBatchError;
 use elf_apply::error::Result;
 use elf_edits::ElfEdit;
 use elf_edits_shrink::{ProbeAnswer, Removed};
-use std::alloc::Global;
+use std::alloc::{AllocError, Global};
 use std::collections::HashMap;
+
+// A copy of a text, alone.
+fn one_text(alloc: Global, text: &[u8]) -> std::result::Result<Vec<Vec<u8>>, AllocError>
+    ensures { IfOk result (λ copies. texts_model copies.items ≡ text.now ∷ []) }
+{
+    let mut texts = Vec::new(alloc);
+    texts.push(Vec::from_slice(alloc, text)?)?;
+    Ok(texts)
+}
 
 impl<'a> ElfContainer<'a> {
     /// Makes several edits, each upon what the one before it left: all of them, or none. An empty batch is accepted

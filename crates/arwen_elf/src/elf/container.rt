@@ -5,11 +5,11 @@ ghost use Rattle.std.specs.Io.KnownBytes.{Appends};
 ghost use Rattle.elf_image.specs.Image.{image_of, shown};
 ghost use Rattle.elf_image.specs.Answers.{borrowed};
 ghost use Rattle.elf_apply.specs.Causes.{FailsPrint, FailsWrite, RefusesRead};
-ghost use Rattle.arwen_elf.specs.PageSizes.{page_size_for};
+ghost use Rattle.arwen_elf_writer.specs.PageSizes.{page_size_for};
 ghost use Rattle.arwen_elf.specs.Prints.{before_nul as bytes_before_nul, cut_at_colons as parts_between_colons, directories_shown, line_if, line_of, lossily, printed_exec_stack, printed_interpreter, printed_needed, printed_os_abi, printed_runpath, printed_soname, stack_line};
-ghost use Rattle.arwen_elf.specs.WriterModel.{ShowsBothViews, needed_left};
-ghost use Rattle.arwen_elf.specs.NewFile.{HoldsImage, IsNotStored};
-ghost use Rattle.arwen_elf.specs.Written.{AnswersBytes, AnswersPieces, AnswersWrite, IsIo, MayNotWrite};
+ghost use Rattle.arwen_elf_writer.specs.WriterModel.{ShowsBothViews, needed_left};
+ghost use Rattle.arwen_elf_writer.specs.NewFile.{HoldsImage, IsNotStored};
+ghost use Rattle.arwen_elf_writer.specs.Written.{AnswersBytes, AnswersPieces, AnswersWrite, IsIo, MayNotWrite};
 
 use crate::elf::rewriter::new_file::NotWritten;
 use crate::elf::rewriter::writer::{Needed, Writer};

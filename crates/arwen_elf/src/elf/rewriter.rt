@@ -1,14 +1,6 @@
 //! The writer: the image of an ELF file, what is read from it, and its edits.
 
-mod edits;
-pub mod machines;
-pub mod new_file;
-mod output;
-pub(crate) mod values;
-pub mod writer;
-
-pub use crate::elf::rewriter::new_file::NotWritten;
-pub use crate::elf::rewriter::writer::{Needed, Writer};
+pub use arwen_elf_writer::{Needed, NotWritten, Writer, machines, new_file, writer};
 pub use elf_apply::batch::ElfBatchError;
 pub use elf_apply::error::{ElfError, ModifyCause, Result};
 pub use elf_apply::ext::BuilderExt;

@@ -5,7 +5,7 @@ ghost use Rattle.byte_store.specs.Known.{HasLength, IsAll};
 ghost use Rattle.elf_edits_shrink.specs.ShrinkModel.{answer_model};
 ghost use Rattle.elf_edits.specs.Edit.{ShrinkRunPath};
 ghost use Rattle.elf_apply.specs.Told.{Refuses};
-ghost use Rattle.arwen_elf.specs.Written.{IsImageWritten};
+ghost use Rattle.arwen_elf_writer.specs.Written.{IsImageWritten};
 ghost use Rattle.elf_edits_shrink.specs.ShrinkModel.{removal_model};
 ghost use Rattle.elf_edits.specs.Edited.{step};
 ghost use Rattle.elf_commands_probe.specs.Shrinking.{removal_lines};

@@ -4,5 +4,5 @@ use Rattle.macho_commands.proofs.changes.lay_change.Goals as goal
 
 pub returns-clause-laid : goal.returns-clause-laid
 returns-clause-laid c =
-    let piece : Piece = record { offset = c.args.front.now.offset; bytes = c.as_slice-part.result } in
+    let piece : Piece = record { offset = c.args.at; bytes = c.args.part } in
     lays_on c.args.pieces.now.items c.push.new.self.items piece c.args.bytes.now c.put.new.bytes c.in_ok-push.ensures.items c.put.ensures

@@ -34,7 +34,7 @@ returns-in-Ok-clause-ok c =
     let Shows : List MachoEdit → Type 0 = λ l. StepShows (container_step (calls_of l) c.in_ok-macho.macho) in
     let FirstShows : MachoType → Type 0 = λ f. StepShows (container_step (calls_of edits) f) in
     let shows = subst FirstShows c.in_ok-macho.ensures.1 (subst Shows c.deref.ensures.value c.in-Ok.ensures.shows) in
-    writes_on (macho_command_model c.args.command.now) (calls_of edits) file c.in-Ok.fronts.items c.in_ok-edits.ensures.ok found (first_bytes file bytes found) lead shows
+    writes_on (asked (macho_command_model c.args.command.now)) (calls_of edits) file c.in-Ok.fronts.items c.in_ok-edits.ensures.ok found (first_bytes file bytes found) lead shows
 
 pub returns-clause-err : goal.returns-clause-err
 returns-clause-err c =

@@ -1,7 +1,7 @@
 use Rattle.std.proofs.Common.{◌≡◌, ◌++◌, string_bytes}
 use Rattle.std.specs.List.{flat_map}
 use Rattle.arwen_elf.specs.Prints.{line_of}
-use Rattle.arwen_elf.specs.WriterModel.{needed_left}
+use Rattle.arwen_elf_writer.specs.WriterModel.{needed_left}
 use Rattle.arwen_elf.proofs.elf.container.lines_of.Given as goal
 
 -- the lines that are made, and those of the texts that are still to come

@@ -1,0 +1,7 @@
+use Rattle.std.proofs.Common.{◌≡◌, drop, map}
+use Rattle.arwen_cli.specs.Signing.{is_signed_line}
+use Rattle.arwen_cli.proofs.cli.signing.is_signed_by.Given as goal
+
+-- no word so far tells
+abbrev pub invariant-loop-word : goal.invariant-loop-word
+invariant-loop-word l = is_signed_line (map (λ w. w.now) (drop l.word-index l.words)) ≡ is_signed_line (map (λ w. w.now) l.words)

@@ -1,0 +1,4 @@
+pub mod EditWords
+pub mod NameWords
+pub mod Options
+pub mod Tables

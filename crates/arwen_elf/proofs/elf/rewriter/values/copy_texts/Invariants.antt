@@ -1,7 +1,0 @@
-use Rattle.std.proofs.Common.{◌≡◌, take}
-use Rattle.elf_edits.specs.EditModel.{texts_model}
-use Rattle.arwen_elf.proofs.elf.rewriter.values.copy_texts.Given as goal
-
--- the texts so far
-abbrev pub invariant-loop-text : goal.invariant-loop-text
-invariant-loop-text l = texts_model l.copies.items ≡ texts_model (take l.text-index l.texts)

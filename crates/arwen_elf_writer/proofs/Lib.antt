@@ -1,0 +1,3 @@
+pub mod ReadSteps
+pub mod WholeLaws
+pub mod WrittenLaws

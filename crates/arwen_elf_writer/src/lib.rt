@@ -1,0 +1,12 @@
+//! The writer of ELF files: the image of a file, what is read from it, its edits, and the bytes that it is written as.
+#![tactic(auto)]
+
+mod edits;
+pub mod machines;
+pub mod new_file;
+mod output;
+mod values;
+pub mod writer;
+
+pub use crate::new_file::NotWritten;
+pub use crate::writer::{Needed, Writer};

@@ -1,0 +1,9 @@
+pub mod NumberSteps
+pub mod DeletionSteps
+pub mod PutSteps
+pub mod RenameSteps
+pub mod MakeSteps
+pub mod DecidedLaws
+pub mod ByNameLaws
+pub mod RenameLaws
+pub mod ShownLaws

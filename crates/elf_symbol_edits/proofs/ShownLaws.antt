@@ -1,0 +1,67 @@
+-- What edited images show.
+use Rattle.std.proofs.Common.{◌≡◌, ℕ, Bool, true, false, cond, List, [], ◌∷◌, map, filter, refl, sym, ap, ◌∙◌, Option, Some, None, option_map}
+use Rattle.std.specs.Prelude.{if◌then◌else◌, not}
+use Rattle.patch_bytes.specs.Memory.{◌>>=◌}
+use Rattle.elf_format.specs.declared.constants.TheConstants.{DT_SYMTAB, DT_VERSYM}
+use Rattle.elf_format.specs.Dynamic.{Entry}
+use Rattle.elf_format.specs.Image.{Image, lists_tag, seen_symbol, shown, shown_if}
+use Rattle.elf_format.specs.Views.{NamedSymbol}
+use Rattle.elf_edits.specs.Texts.{has_some, is_among}
+use Rattle.elf_image.specs.Deleted.{parts_left}
+use Rattle.elf_image.specs.Edited.{IsEdited}
+use Rattle.elf_symbol_edits.specs.Laws.{SymbolEditsShow, without_named}
+use Rattle.elf_symbol_edits.specs.Named.{named_dynamic_symbols, symbol_name}
+use Rattle.elf_symbol_edits.specs.SymbolEdit.{DeleteDynamicSymbols, DeleteSymbols, RenameSections, RenameSymbols, edited, touches, without_dynamic_symbols, written}
+use Rattle.elf_symbol_edits.proofs.ByNameLaws.{dynamic_left_by_name, none_left_out}
+
+-- an image that shows the same where the edit wrote something
+same_if : (b : Bool) (old new : Image) → shown new ≡ shown old → shown (if b then new else old) ≡ shown old
+same_if true old new same = same
+same_if false old new same = refl
+
+module _ (names : List (List ℕ)) where
+  seen_left : (b : Bool) (ys : List NamedSymbol) → map (seen_symbol b) (without_named names ys) ≡ without_named names (map (seen_symbol b) ys)
+  seen_left b [] = refl
+  seen_left b (y ∷ ys) = ap (λ l. seen_symbol b y ∷ l) (each ys)
+    where
+      by_test : (c : Bool) (z : NamedSymbol) (zs : List NamedSymbol) → map (seen_symbol b) (cond c (z ∷ zs) zs) ≡ cond c (seen_symbol b z ∷ map (seen_symbol b) zs) (map (seen_symbol b) zs)
+      by_test true z zs = refl
+      by_test false z zs = refl
+
+      each : (zs : List NamedSymbol) → map (seen_symbol b) (filter (λ z. not (is_among names (symbol_name z))) zs) ≡ filter (λ z. not (is_among names (symbol_name z))) (map (seen_symbol b) zs)
+      each [] = refl
+      each (z ∷ zs) =
+          by_test (not (is_among names (symbol_name z))) z (filter (λ w. not (is_among names (symbol_name w))) zs)
+          ∙ ap (λ l. cond (not (is_among names (symbol_name z))) (seen_symbol b z ∷ l) l) (each zs)
+
+  shown_left : (c : Bool) (b : Bool) (ys : List NamedSymbol) → shown_if c (map (seen_symbol b) (without_named names ys)) ≡ option_map (without_named names) (shown_if c (map (seen_symbol b) ys))
+  shown_left true b ys = ap Some (seen_left b ys)
+  shown_left false b ys = refl
+
+  by_entries : (o : Option (List Entry)) (ys : List NamedSymbol)
+      → (o >>= (λ entries. shown_if (lists_tag DT_SYMTAB entries) (map (seen_symbol (lists_tag DT_VERSYM entries)) (without_named names ys))))
+      ≡ option_map (without_named names) (o >>= (λ entries. shown_if (lists_tag DT_SYMTAB entries) (map (seen_symbol (lists_tag DT_VERSYM entries)) ys)))
+  by_entries None ys = refl
+  by_entries (Some entries) ys = shown_left (lists_tag DT_SYMTAB entries) (lists_tag DT_VERSYM entries) ys
+
+  module _ (image : Image) (h : IsEdited image) where
+    abbrev with_dynamic : List NamedSymbol → Image
+    with_dynamic ys = record image { dynamic_symbols = ys }
+
+    by_gone : (gone : List ℕ) → shown (if has_some gone then without_dynamic_symbols gone image else image) ≡ shown (with_dynamic (parts_left gone image.dynamic_symbol_numbers image.dynamic_symbols))
+    by_gone [] = ap (λ ys. shown (with_dynamic ys)) (sym (none_left_out image.dynamic_symbol_numbers image.dynamic_symbols h.is_edit.dynamic_symbols.numbered))
+    by_gone (n ∷ ns) = refl
+
+    dynamic_shown : shown (edited (DeleteDynamicSymbols names) image) ≡ record (shown image) { symbols = option_map (without_named names) (shown image).symbols }
+    dynamic_shown =
+        by_gone (named_dynamic_symbols names image)
+        ∙ ap (λ ys. shown (with_dynamic ys)) (dynamic_left_by_name names image h)
+        ∙ ap (λ (s : Option (List NamedSymbol)). record (shown image) { symbols = s }) (by_entries image.entries image.dynamic_symbols)
+
+pub symbol_edits_show : SymbolEditsShow
+symbol_edits_show = record {
+  renamed = λ pairs image. same_if (touches (RenameSymbols pairs) image) image (written (RenameSymbols pairs) image) refl;
+  deleted = λ names image. same_if (touches (DeleteSymbols names) image) image (written (DeleteSymbols names) image) refl;
+  sections_renamed = λ pairs image. same_if (touches (RenameSections pairs) image) image (written (RenameSections pairs) image) refl;
+  dynamic_deleted = λ names image h. dynamic_shown names image h;
+}

@@ -1,0 +1,61 @@
+-- What holds of all edits.
+use Rattle.std.specs.Prelude.{ℕ, ◌≡◌, List, [], ◌∷◌, Bool, filter, map, not, ◌||◌, option_map, None, Some, Ok, Err}
+use Rattle.elf_format.specs.Image.{Image}
+use Rattle.elf_format.specs.Views.{NamedSymbol}
+use Rattle.elf_edits.specs.Laws.{swap_of}
+use Rattle.elf_edits.specs.Symbols.{behind_first, names_behind_first, new_name}
+use Rattle.elf_edits.specs.Texts.{is_among}
+use Rattle.elf_image.specs.Edited.{IsEdited}
+use Rattle.elf_image.specs.Image.{shown}
+use Rattle.elf_symbol_edits.specs.declared.cause.Cause.{Cause}
+use Rattle.elf_symbol_edits.specs.Cause.{cause, step}
+use Rattle.elf_symbol_edits.specs.Named.{renamed_section, symbol_name}
+use Rattle.elf_symbol_edits.specs.SymbolEdit.{DeleteDynamicSymbols, DeleteSymbols, RenameSections, RenameSymbols, SymbolEdit, edited, touches}
+
+-- ## One edit
+
+-- An edit that isn't refused gives the edited image, which counts as changed where the edit found something; it is refused exactly where
+-- a cause stands, with the first one.
+pub record EditsAreDecided : Type 0 where
+  pub made : (edit : SymbolEdit) (old new : Image) → step edit old ≡ Ok new → new ≡ edited edit old
+  pub accepted : (edit : SymbolEdit) (old new : Image) → step edit old ≡ Ok new → cause edit old ≡ None
+  pub refused : (edit : SymbolEdit) (old : Image) (reason : Cause) → step edit old ≡ Err reason → cause edit old ≡ Some reason
+  pub marks : (edit : SymbolEdit) (old new : Image) → step edit old ≡ Ok new → new.changed ≡ (old.changed || touches edit old)
+
+-- ## All at once
+
+-- A map is applied to all symbols but the first, or to all sections but the null section, at once, each by its old name; one that swaps two
+-- names gives, the second time, back what was there. Dynamic symbols keep their names.
+pub record RenamesAreAtOnce : Type 0 where
+  pub symbols : (pairs : List (List ℕ × List ℕ)) (image : Image) → names_behind_first (edited (RenameSymbols pairs) image).symbols ≡ map (new_name pairs) (names_behind_first image.symbols)
+  pub symbols_swapped : (f g : List ℕ) (image : Image) → let swap = edited (RenameSymbols (swap_of f g)) in (swap (swap image)).symbols ≡ image.symbols
+  pub dynamic_left : (pairs : List (List ℕ × List ℕ)) (image : Image) → (edited (RenameSymbols pairs) image).dynamic_symbols ≡ image.dynamic_symbols
+  pub sections : (pairs : List (List ℕ × List ℕ)) (image : Image) → (edited (RenameSections pairs) image).sections ≡ behind_first (renamed_section pairs) image.sections
+  pub sections_swapped : (f g : List ℕ) (image : Image) → let swap = edited (RenameSections (swap_of f g)) in (swap (swap image)).sections ≡ image.sections
+
+-- ## By name
+
+-- the first, and of the others those that pass a test
+abbrev pub kept_behind_first : {A : Type 0} → (A → Bool) → List A → List A
+kept_behind_first keep [] = []
+kept_behind_first keep (x ∷ xs) = x ∷ filter keep xs
+
+-- the first, and of the others those that don't have one of some names
+abbrev pub without_named : List (List ℕ) → List NamedSymbol → List NamedSymbol
+without_named names symbols = kept_behind_first (λ y. not (is_among names (symbol_name y))) symbols
+
+-- Of an image that was read and edited exactly those symbols go, but the first, that have one of the names; the others stay as they were,
+-- in their order.
+pub record SymbolsGoByName : Type 0 where
+  pub symbols : (names : List (List ℕ)) (image : Image) → IsEdited image → (edited (DeleteSymbols names) image).symbols ≡ without_named names image.symbols
+  pub dynamic_symbols : (names : List (List ℕ)) (image : Image) → IsEdited image → (edited (DeleteDynamicSymbols names) image).dynamic_symbols ≡ without_named names image.dynamic_symbols
+
+-- ## What is shown
+
+-- Edits of static symbols, and other names of sections, leave what is shown; dynamic symbols that go are shown no more.
+pub record SymbolEditsShow : Type 0 where
+  pub renamed : (pairs : List (List ℕ × List ℕ)) (image : Image) → shown (edited (RenameSymbols pairs) image) ≡ shown image
+  pub deleted : (names : List (List ℕ)) (image : Image) → shown (edited (DeleteSymbols names) image) ≡ shown image
+  pub sections_renamed : (pairs : List (List ℕ × List ℕ)) (image : Image) → shown (edited (RenameSections pairs) image) ≡ shown image
+  pub dynamic_deleted : (names : List (List ℕ)) (image : Image) → IsEdited image
+      → shown (edited (DeleteDynamicSymbols names) image) ≡ record (shown image) { symbols = option_map (without_named names) (shown image).symbols }

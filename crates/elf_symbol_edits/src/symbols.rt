@@ -1,0 +1,116 @@
+//! Symbols that get other names, or go.
+ghost use Rattle.std.specs.Prelude.{◌≡◌, ◌&&◌, [], not, IfOk, IfSome, MatchResult, false, is_some};
+ghost use Rattle.std.specs.List.{list_any};
+ghost use Rattle.std.specs.List.Sorted.{IsNonDecreasing};
+ghost use Rattle.elf_format.specs.declared.constants.TheConstants.{SHT_DYNSYM as DYNSYM, SHT_SYMTAB as SYMTAB};
+ghost use Rattle.elf_format.specs.Options.{is_one_of};
+ghost use Rattle.elf_edits.specs.TextModel.{pairs_model};
+ghost use Rattle.elf_edits.specs.Texts.{has_some, holds_nul as nul_in};
+ghost use Rattle.elf_image_symbol_edits.specs.EditedList.{without_numbers};
+ghost use Rattle.elf_image.specs.Relocated.{is_symbol_used as are_symbols_used};
+ghost use Rattle.elf_image.specs.Renumbering.{can_renumber as can_image_renumber};
+ghost use Rattle.elf_image.specs.Staying.{staying, table_number as number_of_table};
+ghost use Rattle.elf_image.specs.SymbolEdits.{IsStaticPutFor};
+ghost use Rattle.elf_symbol_edits.specs.EditModel.{IsDone};
+ghost use Rattle.elf_symbol_edits.specs.Steps.{AreDynamicGone, AreGone, with_symbols_put};
+ghost use Rattle.elf_symbol_edits.specs.SymbolEdit.{RenameSymbols, texts_of};
+
+use elf_edits::symbols::renamed;
+use elf_image::Builder;
+use elf_image_symbol_edits::EditedSymbols;
+use std::alloc::{AllocError, Global};
+
+// Puts symbols for a link editor in place, where there are some, and tells whether there are.
+fn put_symbols<'d>(image: &mut Builder<'d>, symbols: Option<EditedSymbols<'d>>) -> bool
+    requires { IfSome symbols (IsStaticPutFor image.old) }
+    ensures told { result ≡ is_some symbols.entry }
+    ensures put { image.new ≡ with_symbols_put symbols.entry image.old }
+{
+    match symbols {
+        None => false,
+        Some(symbols) => {
+            image.put_symbols(symbols);
+            true
+        }
+    }
+}
+
+// Gives symbols for a link editor other names, and tells whether there was one to rename. Error: `AllocError`, and nothing
+// has changed.
+pub(crate) fn rename_symbols(
+    alloc: Global,
+    image: &mut Builder<'_>,
+    pairs: &[(Vec<u8>, Vec<u8>)],
+) -> Result<bool, AllocError>
+    requires { list_any nul_in (texts_of (RenameSymbols (pairs_model pairs.now))) ≡ false }
+    ensures { MatchResult result
+        (IsDone (RenameSymbols (pairs_model pairs.now)) image.old image.new)
+        (λ _. image.new ≡ image.old) }
+{
+    // what is there of an image's symbols leans on nothing that went
+    let _source = image.source();
+    let symbols = renamed(alloc, pairs, image.edited_symbols())?;
+    Ok(put_symbols(image, symbols))
+}
+
+// A copy of symbols without those that have some numbers.
+fn symbols_without<'d>(
+    alloc: Global,
+    symbols: &EditedSymbols<'d>,
+    gone: &[usize],
+) -> Result<EditedSymbols<'d>, AllocError>
+    requires { IsNonDecreasing gone.now }
+    ensures { IfOk result (λ left. left ≡ without_numbers gone.now symbols.now) }
+{
+    let mut left = symbols.try_clone(alloc)?;
+    left.delete_all(gone);
+    Ok(left)
+}
+
+// Deletes the symbols for a link editor with some numbers, and tells whether there are some. Error: `AllocError`, and
+// nothing has changed.
+pub(crate) fn delete_symbols(
+    alloc: Global,
+    image: &mut Builder<'_>,
+    gone: &[usize],
+) -> Result<bool, AllocError>
+    requires rising { IsNonDecreasing gone.now }
+    requires first { is_one_of gone.now 0 ≡ false }
+    requires unnamed { are_symbols_used image.old.form (number_of_table SYMTAB image.old) gone.now
+        (staying [] image.old) ≡ false }
+    ensures { MatchResult result (AreGone gone.now image.old image.new)
+        (λ _. image.new ≡ image.old) }
+{
+    if gone.is_empty() {
+        return Ok(false);
+    }
+    // what is there of an image's symbols leans on nothing that went
+    let _source = image.source();
+    let left = symbols_without(alloc, image.edited_symbols(), gone)?;
+    image.put_symbols(left);
+    Ok(true)
+}
+
+// The same of the symbols for a loader, where hash tables and relocations can follow.
+pub(crate) fn delete_dynamic_symbols(
+    alloc: Global,
+    image: &mut Builder<'_>,
+    gone: &[usize],
+) -> Result<bool, AllocError>
+    requires rising { IsNonDecreasing gone.now }
+    requires first { is_one_of gone.now 0 ≡ false }
+    requires unnamed { are_symbols_used image.old.form (number_of_table DYNSYM image.old) gone.now
+        (staying [] image.old) ≡ false }
+    requires tables { (has_some gone.now && not (can_image_renumber image.old)) ≡ false }
+    ensures { MatchResult result (AreDynamicGone gone.now image.old image.new)
+        (λ _. image.new ≡ image.old) }
+{
+    if gone.is_empty() {
+        return Ok(false);
+    }
+    // what is there of an image's symbols leans on nothing that went
+    let _source = image.source();
+    let left = symbols_without(alloc, image.edited_dynamic_symbols(), gone)?;
+    image.put_dynamic_symbols(left);
+    Ok(true)
+}

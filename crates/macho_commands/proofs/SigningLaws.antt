@@ -1,0 +1,123 @@
+-- What signing makes of edits.
+use Rattle.std.proofs.Common.{◌≡◌, ◌≢◌, ◌≤◌, ◌<◌, ◌+◌, ◌∙◌, ℕ, List, [], ◌∷◌, ◌++◌, length, take, drop, get_or, None, ap, arith, refl, subst, sym}
+use Rattle.std.specs.List.{All}
+use Rattle.std.proofs.lemmas.List.{length-append, length-drop, length-take-le}
+use Rattle.std.proofs.lemmas.List.Elements.{All-head, All-tail}
+use Rattle.arwen_macho.specs.declared.front.Front.{Front}
+use Rattle.arwen_macho.specs.FatState.{put_at}
+use Rattle.arwen_macho.specs.Fronts.{LiesIn, fronts_on}
+use Rattle.macho_signatures.specs.Pages.{hash_bytes}
+use Rattle.macho_signatures.proofs.RenewalSteps.{laid_more, lies_at}
+use Rattle.macho_commands.proofs.StoreLaws.{with_slot-is}
+use Rattle.macho_signatures.specs.Renewed.{SlotLies, laid}
+use Rattle.macho_signatures.specs.declared.renewal.Slot.{Slot}
+use Rattle.macho_signing.specs.File.{signed_slots, signing_fault}
+use Rattle.macho_signing.specs.Thin.{Pages, all, since}
+use Rattle.macho_signing.specs.declared.file.NewSlots.{NewSlots}
+use Rattle.macho_commands.specs.Engine.{Asked, IsSigningError, Outcome, SignsBy, Tells, WritesBy, WritesEdits, outcome_by, outcome_of, pages_by, sign_on, signed_or}
+use Rattle.macho_commands.specs.Engine.Outcome.{bytes, no_edits, no_file, not_signed, refused, refused_batch}
+use Rattle.macho_commands.specs.declared.error.MachoCommandError.{MachoCommandError}
+use Rattle.macho_commands.specs.declared.error.MachoCommandError.TheVariants.{Edits, Io, Macho, MachoBatch, Memory, Signing as signing, Unfit}
+use Rattle.macho_commands.specs.declared.signing.Signs.{Signs}
+use Rattle.macho_commands.specs.declared.signing.Signs.TheVariants.{Nothing, Touched, Whole}
+
+-- ## Errors
+
+tells_on : (pages : Pages) (o : Outcome) (e : MachoCommandError) → Tells o e → Tells (sign_on pages o) e
+tells_on pages (bytes new) Memory tells = tt
+tells_on pages (bytes new) (Macho e) tells = absurd tells
+tells_on pages (bytes new) (MachoBatch e) tells = absurd tells
+tells_on pages (bytes new) (Edits wrong) tells = absurd (let is : bytes new ≡ no_edits wrong = tells in cc)
+tells_on pages (bytes new) (signing fault) tells = absurd (let is : bytes new ≡ not_signed fault = tells in cc)
+tells_on pages (bytes new) Unfit tells = absurd tells
+tells_on pages (bytes new) (Io e) tells = absurd tells
+tells_on pages (no_edits wrong) e tells = tells
+tells_on pages (no_file found) e tells = tells
+tells_on pages (refused refusal) e tells = tells
+tells_on pages (refused_batch refusal) e tells = tells
+tells_on pages (not_signed fault) e tells = tells
+
+-- an error of the edits is one of what is signed
+pub tells_signed : (signs : Signs) (a : Asked) (file : List ℕ) (e : MachoCommandError) → Tells (outcome_of a file) e → Tells (outcome_by signs a file) e
+tells_signed Nothing a file e tells = tells
+tells_signed Touched a file e tells = tells_on (since file) (outcome_of a file) e tells
+tells_signed Whole a file e tells = tells_on all (outcome_of a file) e tells
+
+fault_is : (pages : Pages) (o : Outcome) (edited : List ℕ) (e : MachoCommandError) → o ≡ bytes edited → IsSigningError pages edited e → Tells (sign_on pages o) e
+fault_is pages o edited Memory is wrong = tt
+fault_is pages o edited (Macho e) is wrong = absurd wrong
+fault_is pages o edited (MachoBatch e) is wrong = absurd wrong
+fault_is pages o edited (Edits e) is wrong = absurd wrong
+fault_is pages o edited (signing fault) is wrong = ap (sign_on pages) is ∙ ap (λ f. signed_or f (laid (signed_slots pages edited) edited)) wrong
+fault_is pages o edited Unfit is wrong = absurd wrong
+fault_is pages o edited (Io e) is wrong = absurd wrong
+
+-- one of signing is too
+pub tells_signing : (signs : Signs) (a : Asked) (file : List ℕ) (fronts : List Front) (e : MachoCommandError) → signs ≢ Nothing → WritesEdits a file fronts → IsSigningError (pages_by signs file) (fronts_on fronts file) e → Tells (outcome_by signs a file) e
+tells_signing Nothing a file fronts e other writes wrong = absurd (other refl)
+tells_signing Touched a file fronts e other writes wrong = fault_is (since file) (outcome_of a file) (fronts_on fronts file) e writes.is wrong
+tells_signing Whole a file fronts e other writes wrong = fault_is all (outcome_of a file) (fronts_on fronts file) e writes.is wrong
+
+-- ## What is written
+
+pub length-put_at : (at : ℕ) (part file : List ℕ) → at + length part ≤ length file → length (put_at at part file) ≡ length file
+length-put_at at part file inside =
+    let a = length-take-le at file (omega (arith, inside)) in
+    let b = length-drop (at + length part) file in
+    let c = length-append part (drop (at + length part) file) in
+    let d = length-append (take at file) (part ++ drop (at + length part) file) in
+    omega (arith, a, b, c, d, inside)
+
+pub length-fronts_on : (fronts : List Front) (file : List ℕ) → All (LiesIn (length file)) fronts → length (fronts_on fronts file) ≡ length file
+length-fronts_on [] file inside = refl
+length-fronts_on (front ∷ fronts) file inside =
+    let rest = length-fronts_on fronts file (All-tail (LiesIn (length file)) front fronts inside) in
+    let here = All-head (LiesIn (length file)) front fronts inside in
+    length-put_at front.offset front.bytes.items (fronts_on fronts file) (omega (arith, rest, here)) ∙ rest
+
+made_is : (pages : Pages) (o : Outcome) (edited : List ℕ) (slots : List Slot) → o ≡ bytes edited → signing_fault pages edited ≡ None → slots ≡ signed_slots pages edited → sign_on pages o ≡ bytes (laid slots edited)
+made_is pages o edited slots is none made =
+    ap (sign_on pages) is ∙ ap (λ f. signed_or f (laid (signed_slots pages edited) edited)) none
+    ∙ ap (λ (l : List Slot). bytes (laid l edited)) (sym made)
+
+pub writes_signed : (signs : Signs) (a : Asked) (file : List ℕ) (fronts : List Front) (new : NewSlots) → signs ≢ Nothing → WritesEdits a file fronts → SignsBy (pages_by signs file) (fronts_on fronts file) new → WritesBy signs a file fronts new.slots.items
+writes_signed Nothing a file fronts new other writes by = absurd (other refl)
+writes_signed Touched a file fronts new other writes by =
+    let P : ℕ → Type 0 = λ n. All (SlotLies n) new.slots.items in
+    record {
+      inside = writes.inside;
+      slots_inside = subst P (length-fronts_on fronts file writes.inside) by.inside;
+      is = made_is (since file) (outcome_of a file) (fronts_on fronts file) new.slots.items writes.is by.passes by.is;
+      shows = record { edited = fronts_on fronts file; shows = writes.shows; signed = by.signed; same = by.same };
+    }
+writes_signed Whole a file fronts new other writes by =
+    let P : ℕ → Type 0 = λ n. All (SlotLies n) new.slots.items in
+    record {
+      inside = writes.inside;
+      slots_inside = subst P (length-fronts_on fronts file writes.inside) by.inside;
+      is = made_is all (outcome_of a file) (fronts_on fronts file) new.slots.items writes.is by.passes by.is;
+      shows = record { edited = fronts_on fronts file; shows = writes.shows; signed = by.signed; same = by.same };
+    }
+
+-- edits without slots
+pub writes_plain : (a : Asked) (file : List ℕ) (fronts : List Front) (slots : List Slot) → slots ≡ [] → WritesEdits a file fronts → WritesBy Nothing a file fronts slots
+writes_plain a file fronts slots none writes =
+    let P : List Slot → Type 0 = λ l. WritesBy Nothing a file fronts l in
+    subst P (sym none)
+    (record {
+      inside = writes.inside;
+      slots_inside = λ k e here. absurd (omega (arith, here));
+      is = writes.is;
+      shows = writes.shows;
+    })
+
+-- ## A slot more
+
+pub slot_long : (slots : List Slot) (i : ℕ) (d : Slot) (initial held next part : List ℕ) → All (SlotLies (length initial)) slots → length held ≡ length initial → i < length slots → part ≡ hash_bytes (get_or slots i d).hash → next ≡ put_at (get_or slots i d).place part held → length next ≡ length initial
+slot_long slots i d initial held next part lie long inside is put =
+    let lies = lies_at slots i d initial held lie long inside in
+    ap length put ∙ length-put_at (get_or slots i d).place part held (omega (arith, lies, ap length is)) ∙ long
+
+pub slot_done : (slots : List Slot) (i : ℕ) (d : Slot) (held next made part : List ℕ) → i < length slots → part ≡ hash_bytes (get_or slots i d).hash → next ≡ put_at (get_or slots i d).place part held → laid (drop i slots) held ≡ made → laid (drop (i + 1) slots) next ≡ made
+slot_done slots i d held next made part inside is put before =
+    laid_more slots i d held next made inside (put ∙ ap (λ (l : List ℕ). put_at (get_or slots i d).place l held) is ∙ sym (with_slot-is (get_or slots i d) held)) before

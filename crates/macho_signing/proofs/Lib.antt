@@ -1,0 +1,11 @@
+pub mod CheckLaws
+pub mod DifferenceLaws
+pub mod FitLaws
+pub mod LaidParts
+pub mod PartLaws
+pub mod PartSteps
+pub mod PlaceSteps
+pub mod PlacedLaws
+pub mod ShownLaws
+pub mod SignedLaws
+pub mod ThinLaws

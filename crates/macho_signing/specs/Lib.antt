@@ -1,0 +1,7 @@
+pub mod Check
+pub mod Fault
+pub mod File
+pub mod Laws
+pub mod Place
+pub mod Shown
+pub mod Thin
