@@ -56,8 +56,8 @@ pub(crate) trait Container<'a>: Sized + Drop {
 
 // The list and the counts of a thin file.
 fn list_thin(lines: &mut String, file: &MachO<'_>) -> Result<(), AllocError> {
-    let (header, commands, first) = (file.header(), file.load_commands(), file.first_content());
-    write!(lines, "{header:?} {commands:?} {first}\n")
+    write!(lines, "{:?} {:?} ", file.header(), file.load_commands())?;
+    write!(lines, "{}\n", file.first_content())
 }
 
 impl<'a> Container<'a> for SingleMachO<'a> {
@@ -176,7 +176,7 @@ fn lists<'a, T: Container<'a>>(alloc: Global, file: &T) -> Result<String, AllocE
 }
 
 fn lists_of<'a, T: Container<'a>>(rt: &impl Runtime, file: &T) -> String {
-    again!(rt; lists(rt.alloc(), file)).expect(rt, "memory")
+    sure!(rt; lists(rt.alloc(), file))
 }
 
 fn look<'a, T: Container<'a>>(rt: &impl Runtime, file: &T) -> Seen {
@@ -193,33 +193,52 @@ fn stays<'a, T: Container<'a>>(rt: &impl Runtime, file: &T, want: &Seen) {
     same(rt, "lists", &found.lists, &want.lists);
 }
 
-// The lists and counts that a parse of bytes finds.
-fn list_parsed(alloc: Global, bytes: &[u8], lines: &mut String) -> Result<(), MachoError> {
-    let file = MachoContainer::parse(alloc, bytes)?;
+// The lists and counts that a parse of bytes finds. (What is written for any container is proved in less time than for one.)
+fn list_parsed<'a, T: Container<'a>>(
+    alloc: Global,
+    bytes: &'a [u8],
+    lines: &mut String,
+) -> Result<(), MachoError> {
+    let file = T::parse(alloc, bytes)?;
     Ok(file.list(lines)?)
 }
 
 fn parsed_lists(alloc: Global, bytes: &[u8]) -> Result<String, MachoError> {
     let mut lines = String::new(alloc);
-    list_parsed(alloc, bytes, &mut lines)?;
+    list_parsed::<MachoContainer<'_>>(alloc, bytes, &mut lines)?;
     Ok(lines)
 }
 
 // The same, asked for again where there was no memory.
 pub(crate) fn found_lists(rt: &impl Runtime, bytes: &[u8]) -> String {
-    again!(rt; parsed_lists(rt.alloc(), bytes)).expect(rt, "a file")
+    sure!(rt; parsed_lists(rt.alloc(), bytes))
+}
+
+// The texts of an edit, the second one empty where there is one alone.
+fn texts_of<'e>(edit: Edit<'e>) -> (&'e str, &'e str) {
+    match edit {
+        Edit::Add(text) | Edit::Remove(text) | Edit::Id(text) => (text, ""),
+        Edit::Change(old, new) | Edit::Name(old, new) => (old, new),
+    }
+}
+
+// An edit of such a kind with these texts.
+fn edit_of(edit: Edit<'_>, first: String, second: String) -> MachoEdit {
+    match edit {
+        Edit::Add(_) => MachoEdit::AddRpath(first),
+        Edit::Change(_, _) => MachoEdit::ChangeRpath(first, second),
+        Edit::Remove(_) => MachoEdit::RemoveRpath(first),
+        Edit::Id(_) => MachoEdit::ChangeInstallId(first),
+        Edit::Name(_, _) => MachoEdit::ChangeInstallName(first, second),
+    }
 }
 
 // An edit that owns its texts.
 fn owned(alloc: Global, edit: Edit<'_>) -> Result<MachoEdit, AllocError> {
-    let text = |text: &str| String::from_str(alloc, text);
-    Ok(match edit {
-        Edit::Add(new) => MachoEdit::AddRpath(text(new)?),
-        Edit::Change(old, new) => MachoEdit::ChangeRpath(text(old)?, text(new)?),
-        Edit::Remove(old) => MachoEdit::RemoveRpath(text(old)?),
-        Edit::Id(new) => MachoEdit::ChangeInstallId(text(new)?),
-        Edit::Name(old, new) => MachoEdit::ChangeInstallName(text(old)?, text(new)?),
-    })
+    let texts = texts_of(edit);
+    let first = String::from_str(alloc, texts.0)?;
+    let second = String::from_str(alloc, texts.1)?;
+    Ok(edit_of(edit, first, second))
 }
 
 fn all_owned(alloc: Global, edits: &[Edit<'_>]) -> Result<Vec<MachoEdit>, AllocError> {
@@ -251,7 +270,7 @@ fn called<'a, T: Container<'a>>(
     file: &mut T,
     edits: &[Edit<'_>],
 ) -> Result<(), MachoBatchError> {
-    let batch = again!(rt; all_owned(rt.alloc(), edits)).expect(rt, "memory");
+    let batch = sure!(rt; all_owned(rt.alloc(), edits));
     let before = look(rt, file);
     let answer = call(rt.alloc(), file, edits, &batch);
     if !wants_memory(&answer) {
@@ -270,6 +289,15 @@ fn told(rt: &impl Runtime, edits: &[Edit<'_>], answer: &Result<(), MachoBatchErr
     }
 }
 
+// Puts bytes at their places in each thin file.
+fn change(want: &mut [u8], starts: &[usize], changes: &[(usize, &[u8])]) {
+    for start in starts {
+        for (place, part) in changes {
+            put(want, start.saturating_add(*place), part);
+        }
+    }
+}
+
 // Takes a step in a file with thin files at these places, and compares its answer and all bytes.
 fn taken<'a, T: Container<'a>>(
     rt: &impl Runtime,
@@ -278,25 +306,30 @@ fn taken<'a, T: Container<'a>>(
     step: &Step<'_>,
     want: &mut Vec<u8>,
 ) {
-    let answer = called(rt, file, step.edits);
-    for start in starts {
-        for (place, part) in step.changes {
-            put(want, start.saturating_add(*place), part);
-        }
-    }
     same(
         rt,
         "answer",
-        &told(rt, step.edits, &answer).as_str(),
+        &told(rt, step.edits, &called(rt, file, step.edits)).as_str(),
         &step.answer,
     );
+    change(want, starts, step.changes);
     same(rt, step.answer, &file.bytes(), &want.as_slice());
+    agrees(rt, step.answer, file);
+}
+
+// Compares the lists and counts with those that a parse of the bytes finds.
+fn agrees<'a, T: Container<'a>>(rt: &impl Runtime, what: &str, file: &T) {
     same(
         rt,
-        step.answer,
+        what,
         &lists_of(rt, file),
         &found_lists(rt, file.bytes()),
     );
+}
+
+// A file that is to be accepted.
+fn opened<'a, T: Container<'a>, R: Runtime>(rt: &R, bytes: &'a [u8]) -> T {
+    sure!(rt; T::parse(rt.alloc(), bytes))
 }
 
 fn handed<'a, T: Container<'a>>(alloc: Global, bytes: &'a [u8]) -> Result<Vec<u8>, MachoError> {
@@ -314,7 +347,7 @@ fn handed_out<'a, T: Container<'a>>(
         Ok(handed) => handed,
         Err(_) => {
             assert!(rt; !is_edited, "no memory for bytes that are there");
-            again!(rt; handed::<T>(rt.alloc(), bytes)).expect(rt, "bytes")
+            sure!(rt; handed::<T>(rt.alloc(), bytes))
         }
     }
 }
@@ -326,7 +359,7 @@ pub(crate) fn walk<'a, T: Container<'a>, R: Runtime>(
     starts: &[usize],
     steps: &[Step<'_>],
 ) {
-    let mut file = again!(rt; T::parse(rt.alloc(), bytes)).expect(rt, "a file");
+    let mut file: T = opened(rt, bytes);
     let mut want = copied(rt, bytes);
     let mut is_edited = false;
     for step in steps {
@@ -353,12 +386,12 @@ const SECOND: u32 = 400;
 
 // Takes steps in a thin file, and in a fat file that holds it twice.
 fn walks(rt: &impl Runtime, sample: &Sample<'_>, steps: &[Step<'_>]) {
-    let thin = again!(rt; laid(rt.alloc(), sample)).expect(rt, "memory");
+    let thin = sure!(rt; laid(rt.alloc(), sample));
     walk::<SingleMachO<'_>, _>(rt, &thin, &[0], steps);
     walk::<MachoContainer<'_>, _>(rt, &thin, &[0], steps);
     let slices = [(FIRST, thin.as_slice()), (SECOND, thin.as_slice())];
     let starts = [FIRST as usize, SECOND as usize];
-    let fat = again!(rt; joined(rt.alloc(), &slices)).expect(rt, "memory");
+    let fat = sure!(rt; joined(rt.alloc(), &slices));
     walk::<FatMachoContainer<'_>, _>(rt, &fat, &starts, steps);
     walk::<MachoContainer<'_>, _>(rt, &fat, &starts, steps);
 }

@@ -3,7 +3,7 @@
 use crate::containers::{Edit, Step, walk};
 use crate::support::{Runtime, put, same, shows};
 use arwen_macho::macho::{
-    FatMachoContainer, MachoBatchError, MachoContainer, MachoEdit, MachoError, lay_fronts,
+    FatMachoContainer, Front, MachoBatchError, MachoContainer, MachoEdit, MachoError, lay_fronts,
 };
 use std::alloc::{AllocError, Global};
 use std::fmt::Write;
@@ -72,7 +72,7 @@ pub(crate) fn joined(alloc: Global, slices: &[(u32, &[u8])]) -> Result<Vec<u8>, 
 
 // Takes steps in a fat file of slices, by the calls of both containers. Places are those in the whole file.
 fn walks(rt: &impl Runtime, slices: &[(u32, &[u8])], steps: &[Step<'_>]) {
-    let file = again!(rt; joined(rt.alloc(), slices)).expect(rt, "memory");
+    let file = sure!(rt; joined(rt.alloc(), slices));
     walk::<FatMachoContainer<'_>, _>(rt, &file, &[0], steps);
     walk::<MachoContainer<'_>, _>(rt, &file, &[0], steps);
 }
@@ -187,20 +187,24 @@ fn places(alloc: Global, bytes: &[u8]) -> Result<String, MachoError> {
 }
 
 fn push_places(alloc: Global, lines: &mut String, bytes: &[u8]) -> Result<(), MachoError> {
-    for slice in FatMachoContainer::parse(alloc, bytes)?.archs() {
+    Ok(push_each_place(lines, &FatMachoContainer::parse(alloc, bytes)?)?)
+}
+
+fn push_each_place(lines: &mut String, file: &FatMachoContainer<'_>) -> Result<(), AllocError> {
+    for slice in file.archs() {
         write!(lines, "{} {}\n", slice.arch().offset, slice.arch().size)?;
     }
     Ok(())
 }
 
 fn file_of_three(rt: &impl Runtime) -> Vec<u8> {
-    again!(rt; joined(rt.alloc(), &THREE)).expect(rt, "memory")
+    sure!(rt; joined(rt.alloc(), &THREE))
 }
 
 #[test]
 fn shows_records(rt: HostRuntime) {
     let file = file_of_three(&rt);
-    let found = again!(&rt; places(rt.alloc(), &file)).expect(&rt, "a file");
+    let found = sure!(&rt; places(rt.alloc(), &file));
     same(&rt, "places", &found.as_str(), &"80 128\n216 128\n400 44\n");
 }
 
@@ -225,7 +229,11 @@ fn push_fronts(
     lines: &mut String,
     file: &FatMachoContainer<'_>,
 ) -> Result<(), MachoBatchError> {
-    for front in &file.fronts(alloc, &empty_path(alloc))? {
+    Ok(push_each_front(lines, &file.fronts(alloc, &empty_path(alloc))?)?)
+}
+
+fn push_each_front(lines: &mut String, fronts: &[Front]) -> Result<(), AllocError> {
+    for front in fronts {
         write!(lines, "{} {}\n", front.offset, front.bytes.len())?;
     }
     Ok(())
@@ -241,7 +249,7 @@ fn front_places(alloc: Global, bytes: &[u8]) -> Result<String, MachoBatchError> 
 #[test]
 fn writes_fronts_alone(rt: HostRuntime) {
     let file = file_of_three(&rt);
-    let found = again!(&rt; front_places(rt.alloc(), &file)).expect(&rt, "fronts");
+    let found = sure!(&rt; front_places(rt.alloc(), &file));
     same(&rt, "fronts", &found.as_str(), &"80 112\n216 128\n400 44\n");
 }
 
@@ -259,7 +267,7 @@ fn with_fronts(alloc: Global, bytes: &[u8]) -> Result<Vec<u8>, MachoBatchError> 
 #[test]
 fn lays_fronts(rt: HostRuntime) {
     let mut want = file_of_three(&rt);
-    let found = again!(&rt; with_fronts(rt.alloc(), &want)).expect(&rt, "fronts");
+    let found = sure!(&rt; with_fronts(rt.alloc(), &want));
     for (place, part) in EMPTY_PATHS {
         put(&mut want, *place, part);
     }
@@ -268,7 +276,7 @@ fn lays_fronts(rt: HostRuntime) {
 
 #[test]
 fn lays_the_front_of_a_thin_file(rt: HostRuntime) {
-    let found = again!(&rt; with_fronts(rt.alloc(), NARROW)).expect(&rt, "fronts");
+    let found = sure!(&rt; with_fronts(rt.alloc(), NARROW));
     let want = b"\xfe\xed\xfa\xce\0\0\0\x07\0\0\0\x03\0\0\0\x06\0\0\0\x01\0\0\0\x10\0\0\0\x85\
 \x80\0\0\x1c\0\0\0\x10\0\0\0\x0c\0\0\0\0";
     same(&rt, "bytes", &found.as_slice(), &want.as_slice());
@@ -295,7 +303,7 @@ const CHECKED_SLICES: [(&[u8], &[u8], &str); 5] = [
 
 #[test]
 fn checks_slices_in_order(rt: HostRuntime) {
-    for (first, second, want) in CHECKED_SLICES {
+    for (first, second, want) in &CHECKED_SLICES {
         let answer = again!(&rt; answer_of(rt.alloc(), first, second));
         shows(&rt, &answer, want);
     }

@@ -61,6 +61,15 @@ pub(crate) fn granted<T: Drop, E: Refusal>(
     second
 }
 
+// What the answer gives, which is no error.
+pub(crate) fn given<T: Drop, E: Refusal + fmt::Debug>(
+    rt: &impl Abort,
+    first: Result<T, E>,
+    second: Result<T, E>,
+) -> T {
+    granted(rt, first, second).expect(rt, "an answer")
+}
+
 // Compares.
 pub(crate) fn same<T: PartialEq + fmt::Debug>(rt: &impl Abort, what: &str, found: &T, want: &T) {
     assert_eq!(rt; found, want, "{what}");
@@ -68,12 +77,12 @@ pub(crate) fn same<T: PartialEq + fmt::Debug>(rt: &impl Abort, what: &str, found
 
 // A copy of bytes.
 pub(crate) fn copied(rt: &impl Runtime, bytes: &[u8]) -> Vec<u8> {
-    again!(rt; Vec::from_slice(rt.alloc(), bytes)).expect(rt, "memory")
+    sure!(rt; Vec::from_slice(rt.alloc(), bytes))
 }
 
 // What `Debug` prints of a value.
 pub(crate) fn text_of<T: fmt::Debug>(rt: &impl Runtime, value: &T) -> String {
-    again!(rt; format!(in rt.alloc(); "{value:?}")).expect(rt, "memory")
+    sure!(rt; format!(in rt.alloc(); "{value:?}"))
 }
 
 // Compares what `Debug` prints of a value with a text.

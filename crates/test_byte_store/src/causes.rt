@@ -36,9 +36,9 @@ fn store_that_is_read(rt: HostRuntime) {
         path: "a/b",
         bytes: b"abcdef",
     };
-    let mut store = again!(&rt; opened(&file)).expect(&rt, "memory");
+    let mut store = sure!(&rt; opened(&file));
     if store.bytes.len() <= 9 {
-        let bytes = again!(&rt; loaded(rt.alloc(), &mut store)).expect(&rt, "memory");
+        let bytes = sure!(&rt; loaded(rt.alloc(), &mut store));
         same_bytes(&rt, "bytes", &bytes, b"abcdef");
     }
 }

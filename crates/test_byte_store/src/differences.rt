@@ -3,7 +3,7 @@ ghost use Rattle.std.specs.Prelude.{◌≡◌, ◌≤◌, All, length};
 ghost use Rattle.byte_store.specs.Laid.{LiesIn, patches_of};
 ghost use Rattle.byte_store.specs.Composed.{IsDifference};
 
-use crate::runs::{left, planned};
+use crate::runs::{Row, left, plan_of, planned};
 use crate::support::{Runtime, same, same_bytes, wants_memory};
 use crate::trial::{Plan, TrialStore};
 use byte_store::{
@@ -20,92 +20,83 @@ fn word(answer: Result<(), ReplaceError>) -> &'static str {
     }
 }
 
-// What comes of a store with the bytes `abcdef` that is to hold others, by a plan.
-#[derive(Clone, Copy)]
-struct Row {
-    plan: Plan,
-    word: &'static str,
-    bytes: &'static [u8],
-    writes: usize,
-}
+const OLD: &[u8] = b"abcdef";
 
-const fn outcome(plan: Plan, word: &'static str, bytes: &'static [u8], writes: usize) -> Row {
-    Row {
-        plan,
-        word,
-        bytes,
-        writes,
+// What comes of a store that is to hold other bytes. It is asked once more where memory was refused.
+fn replaced(rt: &impl Runtime, store: &mut TrialStore, old: &[u8], new: &[u8]) -> &'static str {
+    match replace(rt.alloc(), store, old, new) {
+        Err(ReplaceError::Memory) => word(replace(rt.alloc(), store, old, new)),
+        answer => word(answer),
     }
 }
 
-const OLD: &[u8] = b"abcdef";
-
-// So many writes go well, each of one byte.
-const fn until(fails_at: usize) -> Plan {
-    planned(fails_at, 1, 0, false)
+// Compares what comes of a store with the bytes `abcdef` that is to hold others, by a plan.
+fn expect(rt: &impl Runtime, plan: Plan, row: &Row, new: &[u8]) {
+    let mut store = TrialStore::closed(rt, OLD, plan);
+    let word = replaced(rt, &mut store, OLD, new);
+    let found = (word, store.inner.bytes.as_slice(), store.writes);
+    same(rt, row.1, &found, &(row.1, row.2, row.3));
 }
 
-fn follow(rt: &impl Runtime, row: Row, new: &[u8]) {
-    let mut store = TrialStore::closed(rt, OLD, row.plan);
-    let answer = again!(rt; replace(rt.alloc(), &mut store, OLD, new));
-    let found = (word(answer), store.inner.bytes.as_slice(), store.writes);
-    same(rt, row.word, &found, &(row.word, row.bytes, row.writes));
+fn follow(rt: &impl Runtime, row: &Row, new: &[u8]) {
+    expect(rt, plan_of(row.0), row, new);
 }
 
 // The growth is written first, then the block in which both differ. Each write fails in turn.
+const LONGER: [Row; 11] = [
+    ((0, 1, 0, false), "old", b"abcdef", 1),
+    ((1, 1, 0, false), "old", b"abcdef", 2),
+    ((1, 1, 0, true), "longer", b"abcdefg", 2),
+    ((2, 1, 0, false), "torn", b"abcdefgh", 3),
+    ((3, 1, 0, false), "torn", b"abcdefgh", 4),
+    ((4, 1, 0, false), "torn", b"aXcdefgh", 5),
+    ((5, 1, 0, false), "torn", b"aXcdefgh", 6),
+    ((6, 1, 0, false), "torn", b"aXcdefgh", 7),
+    ((7, 1, 0, false), "torn", b"aXcdYfgh", 8),
+    ((8, 1, 0, false), "done", b"aXcdYfgh", 8),
+    ((2, 9, 0, true), "done", b"aXcdYfgh", 2),
+];
+
 #[test]
 fn longer_bytes(rt: HostRuntime) {
-    let rows = [
-        outcome(until(0), "old", b"abcdef", 1),
-        outcome(until(1), "old", b"abcdef", 2),
-        outcome(planned(1, 1, 0, true), "longer", b"abcdefg", 2),
-        outcome(until(2), "torn", b"abcdefgh", 3),
-        outcome(until(3), "torn", b"abcdefgh", 4),
-        outcome(until(4), "torn", b"aXcdefgh", 5),
-        outcome(until(5), "torn", b"aXcdefgh", 6),
-        outcome(until(6), "torn", b"aXcdefgh", 7),
-        outcome(until(7), "torn", b"aXcdYfgh", 8),
-        outcome(until(8), "done", b"aXcdYfgh", 8),
-        outcome(planned(2, 9, 0, true), "done", b"aXcdYfgh", 2),
-    ];
-    for row in rows {
+    for row in &LONGER {
         follow(&rt, row, b"aXcdYfgh");
     }
 }
 
 // The store is cut last.
+const SHORTER: [Row; 5] = [
+    ((0, 1, 0, false), "torn", b"abcdef", 1),
+    ((1, 1, 0, false), "torn", b"abcdef", 2),
+    ((2, 1, 0, false), "torn", b"aXcdef", 3),
+    ((9, 9, 0, true), "torn", b"aXcdef", 1),
+    ((9, 9, 0, false), "done", b"aXc", 1),
+];
+
 #[test]
 fn shorter_bytes(rt: HostRuntime) {
-    let rows = [
-        outcome(until(0), "torn", b"abcdef", 1),
-        outcome(until(1), "torn", b"abcdef", 2),
-        outcome(until(2), "torn", b"aXcdef", 3),
-        outcome(planned(9, 9, 0, true), "torn", b"aXcdef", 1),
-        outcome(planned(9, 9, 0, false), "done", b"aXc", 1),
-    ];
-    for row in rows {
+    for row in &SHORTER {
         follow(&rt, row, b"aXc");
     }
 }
 
+const CUT: [Row; 2] = [
+    ((0, 9, 0, true), "torn", b"abcdef", 0),
+    ((0, 9, 0, false), "done", b"abc", 0),
+];
+
 #[test]
 fn bytes_that_are_cut_alone(rt: HostRuntime) {
-    let rows = [
-        outcome(planned(0, 9, 0, true), "torn", b"abcdef", 0),
-        outcome(planned(0, 9, 0, false), "done", b"abc", 0),
-    ];
-    for row in rows {
+    for row in &CUT {
         follow(&rt, row, b"abc");
     }
 }
 
+const GROWN: Row = ((1, 9, 0, true), "done", b"abcdefgh", 1);
+
 #[test]
 fn bytes_that_grow_alone(rt: HostRuntime) {
-    follow(
-        &rt,
-        outcome(planned(1, 9, 0, true), "done", b"abcdefgh", 1),
-        b"abcdefgh",
-    );
+    follow(&rt, &GROWN, b"abcdefgh");
 }
 
 // A store that can't be opened for writing.
@@ -119,7 +110,8 @@ const SHUT: Plan = Plan {
 
 #[test]
 fn store_that_stays_closed(rt: HostRuntime) {
-    follow(&rt, outcome(SHUT, "old", b"abcdef", 0), b"aXcdefgh");
+    let row = ((9, 9, 0, false), "old", b"abcdef".as_slice(), 0);
+    expect(&rt, SHUT, &row, b"aXcdefgh");
 }
 
 // Bytes that are the same need no store that can be opened.
@@ -144,22 +136,22 @@ fn mark(bytes: &mut [u8], position: usize) {
     }
 }
 
+// How many writes, of so many bytes at most, make bytes others.
+fn count_writes(rt: &impl Runtime, old: &[u8], new: &[u8], takes: usize) -> usize {
+    let mut store = TrialStore::closed(rt, old, planned(9, takes, 0, true));
+    let word = replaced(rt, &mut store, old, new);
+    let found = (word, store.inner.bytes.as_slice() == new);
+    same(rt, "answer", &found, &("done", true));
+    store.writes
+}
+
 // How many writes, of so many bytes at most, put ones at two positions in a store of three blocks.
 fn writes(rt: &impl Runtime, first: usize, second: usize, takes: usize) -> usize {
-    let old = again!(rt; blocks(rt.alloc())).expect(rt, "memory");
-    let mut new = again!(rt; blocks(rt.alloc())).expect(rt, "memory");
+    let old = sure!(rt; blocks(rt.alloc()));
+    let mut new = sure!(rt; blocks(rt.alloc()));
     mark(&mut new, first);
     mark(&mut new, second);
-    let mut store = TrialStore::closed(rt, &old, planned(9, takes, 0, true));
-    let answer = again!(rt; replace(rt.alloc(), &mut store, &old, &new));
-    same(rt, "answer", &word(answer), &"done");
-    same(
-        rt,
-        "bytes",
-        &(store.inner.bytes.as_slice() == new.as_slice()),
-        &true,
-    );
-    store.writes
+    count_writes(rt, &old, &new, takes)
 }
 
 // One block is written, and no byte around it: by one write of as many bytes, or by two of half as many.
@@ -268,6 +260,23 @@ fn difference_of(rt: &impl Runtime, composition: Composition<'_>, source: &[u8])
     }
 }
 
+// What comes of a store with the bytes of the source that is to have a difference, asked once more where memory was refused.
+fn made(
+    rt: &impl Runtime,
+    store: &mut TrialStore,
+    source: &[u8],
+    difference: &Difference,
+) -> &'static str
+    requires difference { IsDifference source.now difference.now }
+    requires few { length source.now ≤ 100000 }
+{
+    let length = source.len() as u64;
+    match make_difference(rt.alloc(), store, length, difference) {
+        Err(ReplaceError::Memory) => word(make_difference(rt.alloc(), store, length, difference)),
+        answer => word(answer),
+    }
+}
+
 // Makes them in a store with the bytes of the source, by so many writes.
 fn make(rt: &impl Runtime, composition: Composition<'_>, source: &[u8], writes: usize)
     requires inside { All (LiesIn composition.size) (patches_of composition.pieces.now) }
@@ -275,15 +284,9 @@ fn make(rt: &impl Runtime, composition: Composition<'_>, source: &[u8], writes: 
 {
     let difference = difference_of(rt, composition, source);
     let mut store = TrialStore::closed(rt, source, planned(99, 12_288, 0, false));
-    let length = source.len() as u64;
-    let answer = again!(rt; make_difference(rt.alloc(), &mut store, length, &difference));
-    same(
-        rt,
-        "answer",
-        &(word(answer), store.writes),
-        &("done", writes),
-    );
-    let want = again!(rt; composed(rt.alloc(), composition, source)).expect(rt, "memory");
+    let word = made(rt, &mut store, source, &difference);
+    same(rt, "answer", &(word, store.writes), &("done", writes));
+    let want = sure!(rt; composed(rt.alloc(), composition, source));
     same_bytes(rt, "bytes", &store.inner.bytes, &want);
 }
 
@@ -313,7 +316,7 @@ fn longer_composed_bytes(rt: HostRuntime) {
         cleared: &[span(1, 2), span(3, 4)],
         pieces: &pieces,
     };
-    let want = again!(&rt; composed(rt.alloc(), composition, SOURCE)).expect(&rt, "memory");
+    let want = sure!(&rt; composed(rt.alloc(), composition, SOURCE));
     same_bytes(&rt, "composed", &want, b"a\0cXY\0ghijkZ\0\0");
     make(&rt, composition, SOURCE, 4);
 }
@@ -331,7 +334,7 @@ fn shorter_composed_bytes(rt: HostRuntime) {
         cleared: &[span(1, 3), span(6, 9)],
         pieces: &pieces,
     };
-    let want = again!(&rt; composed(rt.alloc(), composition, SOURCE)).expect(&rt, "memory");
+    let want = sure!(&rt; composed(rt.alloc(), composition, SOURCE));
     same_bytes(&rt, "composed", &want, b"a\0\0XYf\0");
     make(&rt, composition, SOURCE, 3);
 }
@@ -346,7 +349,7 @@ fn ones(alloc: Global) -> Result<Vec<u8>, AllocError> {
 // Zeros are written by the block, where nothing is kept.
 #[test]
 fn zeros_in_blocks(rt: HostRuntime) {
-    let source = again!(&rt; ones(rt.alloc())).expect(&rt, "memory");
+    let source = sure!(&rt; ones(rt.alloc()));
     let composition = Composition {
         size: 12_000,
         kept: &[span(0, 100), span(11_000, 20_000)],

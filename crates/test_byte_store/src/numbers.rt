@@ -138,7 +138,7 @@ fn rounds_up(rt: HostRuntime) {
 }
 
 fn text_of_outside(rt: &impl Runtime) -> String {
-    again!(rt; format!(in rt.alloc(); "{Outside}")).expect(rt, "memory")
+    sure!(rt; format!(in rt.alloc(); "{Outside}"))
 }
 
 #[test]

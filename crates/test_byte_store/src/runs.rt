@@ -8,22 +8,14 @@ use byte_store::{
 };
 use std::io;
 
-// What a run does to `abcdef` by a plan, and what comes of it.
-#[derive(Clone, Copy)]
-struct Row {
-    plan: Plan,
-    word: &'static str,
-    bytes: &'static [u8],
-    writes: usize,
-}
+// The write that fails, how much a write takes, how many interruptions come before it, and whether setting the length fails.
+pub(crate) type Calls = (usize, usize, usize, bool);
 
-const fn outcome(plan: Plan, word: &'static str, bytes: &'static [u8], writes: usize) -> Row {
-    Row {
-        plan,
-        word,
-        bytes,
-        writes,
-    }
+// What a run does to `abcdef` by a plan: its word, the bytes, and how many writes there were.
+pub(crate) type Row = (Calls, &'static str, &'static [u8], usize);
+
+pub(crate) fn plan_of((fails_at, takes, interruptions, keeps_length): Calls) -> Plan {
+    planned(fails_at, takes, interruptions, keeps_length)
 }
 
 pub(crate) const fn planned(
@@ -58,11 +50,11 @@ fn word(answer: Result<(), WriteError>) -> &'static str {
 }
 
 // Two pieces are laid, `XY` at 4 and `Z` at 1, and the growth and the new length are given.
-fn follow(rt: &impl Runtime, row: Row, growth: &[u8], new_length: u64)
+fn follow(rt: &impl Runtime, row: &Row, growth: &[u8], new_length: u64)
     requires room { length growth.now ≤ 9 }
     requires end { new_length ≤ 6 + length growth.now }
 {
-    let mut store = TrialStore::open(rt, row.plan);
+    let mut store = TrialStore::open(rt, plan_of(row.0));
     let pieces = [
         Piece {
             offset: 4,
@@ -81,37 +73,39 @@ fn follow(rt: &impl Runtime, row: Row, growth: &[u8], new_length: u64)
     };
     let word = word(write_changes(&mut store, &changes));
     let found = (word, store.inner.bytes.as_slice(), store.writes);
-    same(rt, row.word, &found, &(row.word, row.bytes, row.writes));
+    same(rt, row.1, &found, &(row.1, row.2, row.3));
 }
 
 // One byte is written at a time: `gh` behind the end, then the pieces.
+const EACH_FAILS: [Row; 10] = [
+    ((0, 1, 0, false), "old", b"abcdef", 1),
+    ((1, 1, 0, false), "old", b"abcdef", 2),
+    ((1, 1, 0, true), "longer", b"abcdefg", 2),
+    ((2, 1, 0, false), "torn", b"abcdefgh", 3),
+    ((3, 1, 0, false), "torn", b"abcdXfgh", 4),
+    ((4, 1, 0, false), "torn", b"abcdXYgh", 5),
+    ((5, 1, 0, false), "done", b"aZcdXYgh", 5),
+    ((5, 9, 1000, false), "done", b"aZcdXYgh", 3),
+    ((5, 9, 1001, false), "old", b"abcdef", 0),
+    ((5, 0, 0, false), "old", b"abcdef", 1),
+];
+
 #[test]
 fn each_write_fails(rt: HostRuntime) {
-    let rows = [
-        outcome(planned(0, 1, 0, false), "old", b"abcdef", 1),
-        outcome(planned(1, 1, 0, false), "old", b"abcdef", 2),
-        outcome(planned(1, 1, 0, true), "longer", b"abcdefg", 2),
-        outcome(planned(2, 1, 0, false), "torn", b"abcdefgh", 3),
-        outcome(planned(3, 1, 0, false), "torn", b"abcdXfgh", 4),
-        outcome(planned(4, 1, 0, false), "torn", b"abcdXYgh", 5),
-        outcome(planned(5, 1, 0, false), "done", b"aZcdXYgh", 5),
-        outcome(planned(5, 9, 1000, false), "done", b"aZcdXYgh", 3),
-        outcome(planned(5, 9, 1001, false), "old", b"abcdef", 0),
-        outcome(planned(5, 0, 0, false), "old", b"abcdef", 1),
-    ];
-    for row in rows {
+    for row in &EACH_FAILS {
         follow(&rt, row, b"gh", 8);
     }
 }
 
+const CUT_LAST: [Row; 3] = [
+    ((1, 1, 0, false), "torn", b"abcdXf", 2),
+    ((9, 9, 0, true), "torn", b"aZcdXY", 2),
+    ((9, 9, 0, false), "done", b"aZc", 2),
+];
+
 #[test]
 fn shorter_length_comes_last(rt: HostRuntime) {
-    let rows = [
-        outcome(planned(1, 1, 0, false), "torn", b"abcdXf", 2),
-        outcome(planned(9, 9, 0, true), "torn", b"aZcdXY", 2),
-        outcome(planned(9, 9, 0, false), "done", b"aZc", 2),
-    ];
-    for row in rows {
+    for row in &CUT_LAST {
         follow(&rt, row, b"", 3);
     }
 }

@@ -47,10 +47,26 @@ pub(crate) fn wants_memory<T, E: Refusal>(answer: &Result<T, E>) -> bool {
     }
 }
 
-// The answer of a call that is made once more, which is not refused memory again.
-pub(crate) fn granted<T, E: Refusal>(rt: &impl Abort, answer: Result<T, E>) -> Result<T, E> {
-    assert!(rt; !wants_memory(&answer), "refused memory twice");
-    answer
+// The first answer of a call, or the second where the first is want of memory. The second is not, then.
+pub(crate) fn granted<T: Drop, E: Refusal>(
+    rt: &impl Abort,
+    first: Result<T, E>,
+    second: Result<T, E>,
+) -> Result<T, E> {
+    if !wants_memory(&first) {
+        return first;
+    }
+    assert!(rt; !wants_memory(&second), "refused memory twice");
+    second
+}
+
+// What the answer gives, which is no error.
+pub(crate) fn given<T: Drop, E: Refusal + fmt::Debug>(
+    rt: &impl Abort,
+    first: Result<T, E>,
+    second: Result<T, E>,
+) -> T {
+    granted(rt, first, second).expect(rt, "an answer")
 }
 
 // Compares.
@@ -65,5 +81,5 @@ pub(crate) fn same_bytes(rt: &impl Abort, what: &str, found: &[u8], want: &[u8])
 
 // A copy of bytes.
 pub(crate) fn copied(rt: &impl Runtime, bytes: &[u8]) -> Vec<u8> {
-    again!(rt; Vec::from_slice(rt.alloc(), bytes)).expect(rt, "memory")
+    sure!(rt; Vec::from_slice(rt.alloc(), bytes))
 }

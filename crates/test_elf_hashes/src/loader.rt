@@ -90,6 +90,23 @@ fn passes(table: &[u8], hash: u32) -> Option<bool> {
     Some((bits >> (hash % 64)) & (bits >> second) & 1 == 1)
 }
 
+// Where the heads of the buckets begin, in words.
+fn heads_at(table: &[u8]) -> Option<usize> {
+    word(table, 2)?.checked_mul(2)?.checked_add(4)
+}
+
+// The first symbol in the bucket of a hash.
+fn first_of(table: &[u8], hash: u32) -> Option<usize> {
+    let bucket = (hash as usize).checked_rem(word(table, 0)?)?;
+    word(table, heads_at(table)?.checked_add(bucket)?)
+}
+
+// The word of a symbol.
+fn word_of(table: &[u8], i: usize) -> Option<usize> {
+    let words = heads_at(table)?.checked_add(word(table, 0)?)?;
+    word(table, words.checked_add(i)?.checked_sub(word(table, 1)?)?)
+}
+
 // The number of the symbol that a look-up in the GNU table comes to.
 fn found_by_gnu_hash(
     table: &[u8],
@@ -101,19 +118,12 @@ fn found_by_gnu_hash(
     if !passes(table, hash)? {
         return None;
     }
-    let buckets = word(table, 0)?;
-    let offset = word(table, 1)?;
-    let heads = word(table, 2)?.checked_mul(2)?.checked_add(4)?;
-    let words = heads.checked_add(buckets)?;
-    let first = word(
-        table,
-        heads.checked_add((hash as usize).checked_rem(buckets)?)?,
-    )?;
+    let first = first_of(table, hash)?;
     if first == 0 {
         return None;
     }
     for i in first..=COUNT {
-        let word = word(table, words.checked_add(i)?.checked_sub(offset)?)?;
+        let word = word_of(table, i)?;
         if word / 2 == hash as usize / 2 && has_name(symbols, order, i, name) {
             return Some(i);
         }
@@ -134,8 +144,8 @@ fn wanted(order: &[usize], number: usize) -> Option<usize> {
 
 #[test]
 fn each_name(rt: HostRuntime) {
-    let texts = again!(&rt; texts(&rt)).expect(&rt, "memory");
-    let records = again!(&rt; records(&rt)).expect(&rt, "memory");
+    let texts = sure!(&rt; texts(&rt));
+    let records = sure!(&rt; records(&rt));
     let edited = symbols(&rt, LITTLE_64, &texts, &records, None);
     let symbols = edited.lend();
     let order = order_of(&rt, symbols, 37);
@@ -147,10 +157,11 @@ fn each_name(rt: HostRuntime) {
     };
     let gnu = gnu_table(&rt, symbols, order.as_slice(), sizes, LITTLE_64);
     for i in 0..COUNT {
+        let name = name(i);
         let want = wanted(order.as_slice(), i);
-        let found = found_by_gabi_hash(&gabi, symbols, order.as_slice(), &name(i));
+        let found = found_by_gabi_hash(&gabi, symbols, order.as_slice(), &name);
         same(&rt, "by the gABI's table", &found, &want);
-        let found = found_by_gnu_hash(&gnu, symbols, order.as_slice(), &name(i));
+        let found = found_by_gnu_hash(&gnu, symbols, order.as_slice(), &name);
         same(&rt, "by the GNU table", &found, &want);
     }
 }

@@ -18,7 +18,7 @@ fn repeated(rt: &impl Runtime, count: usize) -> Result<Vec<u8>, AllocError> {
 
 #[test]
 fn one_bucket(rt: HostRuntime) {
-    let bytes = again!(&rt; repeated(&rt, COUNT)).expect(&rt, "memory");
+    let bytes = sure!(&rt; repeated(&rt, COUNT));
     let edited = symbols(&rt, LITTLE_64, b"\0f\0", &bytes, None);
     let symbols = edited.lend();
     let order = order_of(&rt, symbols, 1);
@@ -34,7 +34,7 @@ fn one_bucket(rt: HostRuntime) {
 
 #[test]
 fn one_run(rt: HostRuntime) {
-    let bytes = again!(&rt; repeated(&rt, COUNT)).expect(&rt, "memory");
+    let bytes = sure!(&rt; repeated(&rt, COUNT));
     let edited = symbols(&rt, LITTLE_64, b"\0f\0", &bytes, None);
     let symbols = edited.lend();
     let order = order_of(&rt, symbols, 3);

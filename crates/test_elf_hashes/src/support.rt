@@ -53,12 +53,26 @@ pub(crate) fn wants_memory<T, E: Refusal>(answer: &Result<T, E>) -> bool {
     }
 }
 
-// The answer of a call that is made once more, which is not refused memory again.
-pub(crate) fn granted<T, E: Refusal>(rt: &impl Abort, answer: Result<T, E>) -> Result<T, E>
-    ensures { result ≡ answer }
-{
-    assert!(rt; !wants_memory(&answer), "refused memory twice");
-    answer
+// The first answer of a call, or the second where the first is want of memory. The second is not, then.
+pub(crate) fn granted<T: Drop, E: Refusal>(
+    rt: &impl Abort,
+    first: Result<T, E>,
+    second: Result<T, E>,
+) -> Result<T, E> {
+    if !wants_memory(&first) {
+        return first;
+    }
+    assert!(rt; !wants_memory(&second), "refused memory twice");
+    second
+}
+
+// What the answer gives, which is no error.
+pub(crate) fn given<T: Drop, E: Refusal + fmt::Debug>(
+    rt: &impl Abort,
+    first: Result<T, E>,
+    second: Result<T, E>,
+) -> T {
+    granted(rt, first, second).expect(rt, "an answer")
 }
 
 // Compares.
@@ -75,7 +89,7 @@ pub(crate) fn symbols<'d>(
     versions: Option<&'d [u8]>,
 ) -> EditedSymbols<'d> {
     let table = Symbols::read(form, texts, bytes, versions).expect(rt, "names of symbols");
-    again!(rt; EditedSymbols::new(rt.alloc(), table.same())).expect(rt, "memory")
+    sure!(rt; EditedSymbols::new(rt.alloc(), table.same()))
 }
 
 // Whether each position is that of a symbol.
@@ -86,10 +100,14 @@ pub(crate) fn are_places(symbols: SymbolsNow<'_>, order: &[usize]) -> bool
     order.iter().all(|i| *i < count)
 }
 
-// The order that a GNU table of so many buckets asks for.
+// The order that a GNU table of so many buckets asks for, asked for once more where memory was refused: not always, since
+// there are many symbols in some tests.
 pub(crate) fn order_of(rt: &impl Runtime, symbols: SymbolsNow<'_>, buckets: u32) -> Vec<usize> {
     assert!(rt; buckets > 0, "no buckets");
-    again!(rt; order_for_gnu_hash(rt.alloc(), symbols, buckets)).expect(rt, "an order")
+    match order_for_gnu_hash(rt.alloc(), symbols, buckets) {
+        Ok(order) => order,
+        Err(_) => order_for_gnu_hash(rt.alloc(), symbols, buckets).expect(rt, "an order"),
+    }
 }
 
 // The gABI's table of symbols in an order.
@@ -104,7 +122,10 @@ pub(crate) fn gabi_table(
         buckets > 0 && are_places(symbols, order),
         "buckets and positions"
     );
-    again!(rt; build_hash(rt.alloc(), symbols, order, buckets, form)).expect(rt, "a gABI table")
+    match build_hash(rt.alloc(), symbols, order, buckets, form) {
+        Ok(table) => table,
+        Err(_) => build_hash(rt.alloc(), symbols, order, buckets, form).expect(rt, "a gABI table"),
+    }
 }
 
 // The GNU table of symbols in an order.
@@ -120,5 +141,8 @@ pub(crate) fn gnu_table(
         sizes.filter_shift < 32 && are_places(symbols, order),
         "positions"
     );
-    again!(rt; build_gnu_hash(rt.alloc(), symbols, order, sizes, form)).expect(rt, "a GNU table")
+    match build_gnu_hash(rt.alloc(), symbols, order, sizes, form) {
+        Ok(table) => table,
+        Err(_) => build_gnu_hash(rt.alloc(), symbols, order, sizes, form).expect(rt, "a GNU table"),
+    }
 }

@@ -1,7 +1,9 @@
 //! Tables whose bytes were laid out by hand. `g` stands in the even bucket of two by both hashes' tables.
 
-use crate::support::{BIG_32, LITTLE_64, gabi_table, gnu_table, order_of, same, symbols};
+use crate::support::{BIG_32, LITTLE_64, Runtime, gabi_table, gnu_table, order_of, same, symbols};
+use elf_format::form::Form;
 use elf_hashes::GnuSizes;
+use elf_image_symbol_edits::SymbolsNow;
 
 // No name, `f`, `g`.
 const TEXTS: &[u8] = b"\0f\0g\0";
@@ -36,92 +38,148 @@ const ONE: GnuSizes = GnuSizes {
     filter_shift: 6,
 };
 
-#[test]
-fn order_of_two(rt: HostRuntime) {
-    let edited = symbols(&rt, LITTLE_64, TEXTS, WIDE, None);
-    let symbols = edited.lend();
-    let order = order_of(&rt, symbols, 2);
-    same(&rt, "order", &order.as_slice(), &[0, 2, 1].as_slice());
+// Orders that a GNU table of so many buckets asks for.
+struct Order {
+    what: &'static str,
+    form: Form,
+    records: &'static [u8],
+    buckets: u32,
+    want: &'static [usize],
+}
+
+const ORDERS: [Order; 3] = [
+    Order {
+        what: "order of two",
+        form: LITTLE_64,
+        records: WIDE,
+        buckets: 2,
+        want: &[0, 2, 1],
+    },
+    Order {
+        what: "order of mixed",
+        form: BIG_32,
+        records: MIXED,
+        buckets: 1,
+        want: &[0, 3, 2, 5, 1, 4],
+    },
+    Order {
+        what: "order of no symbol",
+        form: BIG_32,
+        records: b"",
+        buckets: 3,
+        want: &[],
+    },
+];
+
+fn expect_order(rt: &impl Runtime, row: &Order) {
+    let edited = symbols(rt, row.form, TEXTS, row.records, None);
+    let order = order_of(rt, edited.lend(), row.buckets);
+    same(rt, row.what, &order.as_slice(), &row.want);
 }
 
 #[test]
-fn gabi_table_of_two(rt: HostRuntime) {
-    let edited = symbols(&rt, LITTLE_64, TEXTS, WIDE, None);
-    let symbols = edited.lend();
-    let table = gabi_table(&rt, symbols, &[0, 2, 1], 2, LITTLE_64);
-    let want = b"\x02\0\0\0\x03\0\0\0\x02\0\0\0\x01\0\0\0\0\0\0\0\0\0\0\0\0\0\0\0";
-    same(&rt, "table", &table.as_slice(), &want.as_slice());
+fn orders_symbols(rt: HostRuntime) {
+    for row in &ORDERS {
+        expect_order(&rt, row);
+    }
+}
+
+// A kind of table.
+#[derive(Clone, Copy)]
+enum Kind {
+    Gabi(u32),
+    Gnu(GnuSizes),
+}
+
+// A table of symbols in an order, and its bytes.
+struct Row {
+    what: &'static str,
+    form: Form,
+    records: &'static [u8],
+    order: &'static [usize],
+    kind: Kind,
+    want: &'static [u8],
+}
+
+const TABLES: [Row; 7] = [
+    Row {
+        what: "gABI table of two",
+        form: LITTLE_64,
+        records: WIDE,
+        order: &[0, 2, 1],
+        kind: Kind::Gabi(2),
+        want: b"\x02\0\0\0\x03\0\0\0\x02\0\0\0\x01\0\0\0\0\0\0\0\0\0\0\0\0\0\0\0",
+    },
+    Row {
+        what: "gABI table as they stand",
+        form: BIG_32,
+        records: NARROW,
+        order: &[0, 1, 2],
+        kind: Kind::Gabi(2),
+        want: b"\0\0\0\x02\0\0\0\x03\0\0\0\x01\0\0\0\x02\0\0\0\0\0\0\0\0\0\0\0\0",
+    },
+    Row {
+        what: "GNU table of two",
+        form: LITTLE_64,
+        records: WIDE,
+        order: &[0, 2, 1],
+        kind: Kind::Gnu(TWO),
+        want: b"\x02\0\0\0\x01\0\0\0\x01\0\0\0\x06\0\0\0\0\x18\0\x01\0\0\0\0\
+        \x01\0\0\0\x02\0\0\0\x0d\xb6\x02\0\x0b\xb6\x02\0",
+    },
+    Row {
+        what: "GNU table of one bucket",
+        form: BIG_32,
+        records: NARROW,
+        order: &[0, 1, 2],
+        kind: Kind::Gnu(ONE),
+        want: b"\0\0\0\x01\0\0\0\x01\0\0\0\x01\0\0\0\x06\x01\0\x18\0\
+        \0\0\0\x01\0\x02\xb6\x0a\0\x02\xb6\x0d",
+    },
+    Row {
+        what: "GNU table of mixed",
+        form: BIG_32,
+        records: MIXED,
+        order: &[0, 3, 2, 5, 1, 4],
+        kind: Kind::Gnu(ONE),
+        want: b"\0\0\0\x01\0\0\0\x04\0\0\0\x01\0\0\0\x06\x01\0\x18\0\
+        \0\0\0\x04\0\x02\xb6\x0a\0\x02\xb6\x0d",
+    },
+    // The bucket's first symbol and the first symbol are numbers of none.
+    Row {
+        what: "GNU table of none",
+        form: BIG_32,
+        records: MIXED,
+        order: &[4, 3, 2],
+        kind: Kind::Gnu(ONE),
+        want: b"\0\0\0\x01\0\0\0\x03\0\0\0\x01\0\0\0\x06\0\0\0\0\0\0\0\0",
+    },
+    Row {
+        what: "gABI table of no symbol",
+        form: BIG_32,
+        records: b"",
+        order: &[],
+        kind: Kind::Gabi(1),
+        want: b"\0\0\0\x01\0\0\0\0\0\0\0\0",
+    },
+];
+
+fn table_of(rt: &impl Runtime, symbols: SymbolsNow<'_>, row: &Row) -> Vec<u8> {
+    match row.kind {
+        Kind::Gabi(buckets) => gabi_table(rt, symbols, row.order, buckets, row.form),
+        Kind::Gnu(sizes) => gnu_table(rt, symbols, row.order, sizes, row.form),
+    }
+}
+
+fn expect_table(rt: &impl Runtime, row: &Row) {
+    let edited = symbols(rt, row.form, TEXTS, row.records, None);
+    let table = table_of(rt, edited.lend(), row);
+    same(rt, row.what, &table.as_slice(), &row.want);
 }
 
 #[test]
-fn gabi_table_as_they_stand(rt: HostRuntime) {
-    let edited = symbols(&rt, BIG_32, TEXTS, NARROW, None);
-    let symbols = edited.lend();
-    let table = gabi_table(&rt, symbols, &[0, 1, 2], 2, BIG_32);
-    let want = b"\0\0\0\x02\0\0\0\x03\0\0\0\x01\0\0\0\x02\0\0\0\0\0\0\0\0\0\0\0\0";
-    same(&rt, "table", &table.as_slice(), &want.as_slice());
-}
-
-#[test]
-fn gnu_table_of_two(rt: HostRuntime) {
-    let edited = symbols(&rt, LITTLE_64, TEXTS, WIDE, None);
-    let symbols = edited.lend();
-    let table = gnu_table(&rt, symbols, &[0, 2, 1], TWO, LITTLE_64);
-    let want = b"\x02\0\0\0\x01\0\0\0\x01\0\0\0\x06\0\0\0\0\x18\0\x01\0\0\0\0\
-        \x01\0\0\0\x02\0\0\0\x0d\xb6\x02\0\x0b\xb6\x02\0";
-    same(&rt, "table", &table.as_slice(), &want.as_slice());
-}
-
-#[test]
-fn gnu_table_of_one_bucket(rt: HostRuntime) {
-    let edited = symbols(&rt, BIG_32, TEXTS, NARROW, None);
-    let symbols = edited.lend();
-    let table = gnu_table(&rt, symbols, &[0, 1, 2], ONE, BIG_32);
-    let want = b"\0\0\0\x01\0\0\0\x01\0\0\0\x01\0\0\0\x06\x01\0\x18\0\
-        \0\0\0\x01\0\x02\xb6\x0a\0\x02\xb6\x0d";
-    same(&rt, "table", &table.as_slice(), &want.as_slice());
-}
-
-#[test]
-fn order_of_mixed(rt: HostRuntime) {
-    let edited = symbols(&rt, BIG_32, TEXTS, MIXED, None);
-    let symbols = edited.lend();
-    let order = order_of(&rt, symbols, 1);
-    let want: [usize; 6] = [0, 3, 2, 5, 1, 4];
-    same(&rt, "order", &order.as_slice(), &want.as_slice());
-}
-
-#[test]
-fn gnu_table_of_mixed(rt: HostRuntime) {
-    let edited = symbols(&rt, BIG_32, TEXTS, MIXED, None);
-    let symbols = edited.lend();
-    let table = gnu_table(&rt, symbols, &[0, 3, 2, 5, 1, 4], ONE, BIG_32);
-    let want = b"\0\0\0\x01\0\0\0\x04\0\0\0\x01\0\0\0\x06\x01\0\x18\0\
-        \0\0\0\x04\0\x02\xb6\x0a\0\x02\xb6\x0d";
-    same(&rt, "table", &table.as_slice(), &want.as_slice());
-}
-
-// The bucket's first symbol and the first symbol are numbers of none.
-#[test]
-fn gnu_table_of_none(rt: HostRuntime) {
-    let edited = symbols(&rt, BIG_32, TEXTS, MIXED, None);
-    let symbols = edited.lend();
-    let table = gnu_table(&rt, symbols, &[4, 3, 2], ONE, BIG_32);
-    let want = b"\0\0\0\x01\0\0\0\x03\0\0\0\x01\0\0\0\x06\0\0\0\0\0\0\0\0";
-    same(&rt, "table", &table.as_slice(), &want.as_slice());
-}
-
-#[test]
-fn tables_of_no_symbol(rt: HostRuntime) {
-    let edited = symbols(&rt, BIG_32, TEXTS, b"", None);
-    let symbols = edited.lend();
-    let order = order_of(&rt, symbols, 3);
-    same(&rt, "order", &order.len(), &0);
-    let table = gabi_table(&rt, symbols, &[], 1, BIG_32);
-    same(
-        &rt,
-        "table",
-        &table.as_slice(),
-        &b"\0\0\0\x01\0\0\0\0\0\0\0\0".as_slice(),
-    );
+fn spells_tables(rt: HostRuntime) {
+    for row in &TABLES {
+        expect_table(&rt, row);
+    }
 }

@@ -47,7 +47,7 @@ fn made(rt: &impl Runtime, number: u32) -> Result<Vec<&'static [u8]>, AllocError
 
 // The table of a made list is as long as the slow count says.
 fn compare(rt: &impl Runtime, number: u32) {
-    let texts = again!(rt; made(rt, number)).expect(rt, "memory");
+    let texts = sure!(rt; made(rt, number));
     let table = table_of(rt, &texts);
     same(rt, "length", &table.bytes().len(), &slow_length(&texts));
 }
@@ -103,15 +103,15 @@ fn names_and_ends<'n>(rt: &impl Runtime, names: &'n [u8]) -> Result<Vec<&'n [u8]
 
 #[test]
 fn many_texts_with_common_ends(rt: HostRuntime) {
-    let names = again!(&rt; names(&rt)).expect(&rt, "memory");
-    let texts = again!(&rt; names_and_ends(&rt, &names)).expect(&rt, "memory");
+    let names = sure!(&rt; names(&rt));
+    let texts = sure!(&rt; names_and_ends(&rt, &names));
     same(&rt, "texts", &texts.len(), &65_536);
     follow(&rt, &texts, 212_993);
 }
 
 #[test]
 fn one_text_many_times(rt: HostRuntime) {
-    let texts = again!(&rt; repeated(&rt)).expect(&rt, "memory");
+    let texts = sure!(&rt; repeated(&rt));
     follow(&rt, &texts, 5);
 }
 
@@ -127,6 +127,6 @@ fn ends<'t>(rt: &impl Runtime, text: &'t [u8]) -> Result<Vec<&'t [u8]>, AllocErr
 #[test]
 fn all_ends_of_a_text(rt: HostRuntime) {
     let text = [b'a'; 1000];
-    let texts = again!(&rt; ends(&rt, &text)).expect(&rt, "memory");
+    let texts = sure!(&rt; ends(&rt, &text));
     follow(&rt, &texts, 1002);
 }

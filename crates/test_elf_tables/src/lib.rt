@@ -2,17 +2,21 @@
 //! test does not wait for them.
 #![tactic(auto)]
 
-// What a call answers. One that was refused memory is made once more, and is then not refused it again.
+// What a call answers whose answer counts alone. It is made twice, and what it answers first counts where that is not want of
+// memory. Then it is not refused memory again. (So no call needs a branch for it.)
 #[cfg(test)]
 macro_rules! again {
-    ($rt:expr; $call:expr) => {{
-        let answer = $call;
-        if crate::support::wants_memory(&answer) {
-            crate::support::granted($rt, $call)
-        } else {
-            answer
-        }
-    }};
+    ($rt:expr; $call:expr) => {
+        crate::support::granted($rt, $call, $call)
+    };
+}
+
+// What such a call gives, which is to succeed.
+#[cfg(test)]
+macro_rules! sure {
+    ($rt:expr; $call:expr) => {
+        crate::support::given($rt, $call, $call)
+    };
 }
 
 #[cfg(test)]

@@ -83,7 +83,7 @@ fn needed(
     texts: &[&[u8]],
 ) -> Result<Vec<u8>, TableFault> {
     let table = table_of(rt, texts);
-    let records = again!(rt; kept(rt, libraries)).expect(rt, "memory");
+    let records = sure!(rt; kept(rt, libraries));
     assert!(rt; has_names(&records, &table), "texts of versions");
     again!(rt; build_verneed(rt.alloc(), &records, &table, ByteOrder2::Little))
 }
@@ -116,7 +116,7 @@ fn repeated_version(rt: &impl Runtime) -> Result<Vec<(u16, u16, &'static [u8])>,
 
 #[test]
 fn too_many_versions(rt: HostRuntime) {
-    let versions = again!(&rt; repeated_version(&rt)).expect(&rt, "memory");
+    let versions = sure!(&rt; repeated_version(&rt));
     let answer = needed(&rt, &[(b"abc", &versions)], &[b"abc"]);
     answers(&rt, "versions", answer, Err(TableFault::NumberTooLarge));
 }

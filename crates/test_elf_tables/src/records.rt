@@ -1,7 +1,4 @@
 //! The bytes of records, which were made by hand from the tables of the gABI.
-ghost use Rattle.std.specs.Prelude.{IsTrue};
-ghost use Rattle.elf_tables.specs.Fields.{do_fields_fit};
-ghost use Rattle.elf_tables.specs.Spelled.{entry_fields, file_header_fields, section_fields, segment_fields, symbol_fields};
 
 use crate::support::{Runtime, same_bytes};
 use elf_format::form::Form;
@@ -22,6 +19,16 @@ const WIDE: Form = Form {
     order: ByteOrder2::Big,
 };
 
+// A kind of record.
+#[derive(Clone, Copy)]
+enum Kind {
+    Segment,
+    Section,
+    Symbol,
+    Entry,
+    Header,
+}
+
 const SEGMENT: SegmentHeader = SegmentHeader {
     p_type: 1,
     p_flags: 5,
@@ -33,39 +40,13 @@ const SEGMENT: SegmentHeader = SegmentHeader {
     p_align: 0x1000,
 };
 
-// The bytes of a program header.
-fn segment_bytes(
-    rt: &impl Runtime,
-    form: Form,
-    numbers: SegmentHeader,
-) -> Result<Vec<u8>, AllocError>
-    requires { IsTrue (do_fields_fit (segment_fields form numbers)) }
-{
-    let mut bytes = Vec::new(rt.alloc());
-    push_segment_header(&mut bytes, form, numbers)?;
-    Ok(bytes)
-}
-
-#[test]
-fn narrow_segment(rt: HostRuntime) {
-    let found = again!(&rt; segment_bytes(&rt, NARROW, SEGMENT)).expect(&rt, "memory");
-    same_bytes(
-        &rt,
-        "bytes",
-        found.as_slice(),
-        b"\x01\x00\x00\x00\x34\x12\x00\x00\x34\x12\x40\x00\x34\x12\x50\x00\x10\x00\x00\x00\x20\x00\x00\x00\x05\x00\x00\x00\x00\x10\x00\x00",
-    );
-}
-
-#[test]
-fn wide_segment(rt: HostRuntime) {
-    let found = again!(&rt; segment_bytes(&rt, WIDE, SEGMENT)).expect(&rt, "memory");
-    same_bytes(
-        &rt,
-        "bytes",
-        found.as_slice(),
-        b"\x00\x00\x00\x01\x00\x00\x00\x05\x00\x00\x00\x00\x00\x00\x12\x34\x00\x00\x00\x00\x00\x40\x12\x34\x00\x00\x00\x00\x00\x50\x12\x34\x00\x00\x00\x00\x00\x00\x00\x10\x00\x00\x00\x00\x00\x00\x00\x20\x00\x00\x00\x00\x00\x00\x10\x00",
-    );
+// Appends a program header, for 32 or for 64 bits.
+fn put_segment(bytes: &mut Vec<u8>, is_wide: bool) -> Result<(), AllocError> {
+    if is_wide {
+        push_segment_header(bytes, WIDE, SEGMENT)
+    } else {
+        push_segment_header(bytes, NARROW, SEGMENT)
+    }
 }
 
 const SECTION: SectionHeader = SectionHeader {
@@ -81,39 +62,13 @@ const SECTION: SectionHeader = SectionHeader {
     sh_entsize: 4,
 };
 
-// The bytes of a section header.
-fn section_bytes(
-    rt: &impl Runtime,
-    form: Form,
-    numbers: SectionHeader,
-) -> Result<Vec<u8>, AllocError>
-    requires { IsTrue (do_fields_fit (section_fields form numbers)) }
-{
-    let mut bytes = Vec::new(rt.alloc());
-    push_section_header(&mut bytes, form, numbers)?;
-    Ok(bytes)
-}
-
-#[test]
-fn narrow_section(rt: HostRuntime) {
-    let found = again!(&rt; section_bytes(&rt, NARROW, SECTION)).expect(&rt, "memory");
-    same_bytes(
-        &rt,
-        "bytes",
-        found.as_slice(),
-        b"\x11\x00\x00\x00\xf6\xff\xff\x6f\x02\x00\x00\x00\x20\x03\x40\x00\x20\x03\x00\x00\x24\x00\x00\x00\x06\x00\x00\x00\x03\x00\x00\x00\x08\x00\x00\x00\x04\x00\x00\x00",
-    );
-}
-
-#[test]
-fn wide_section(rt: HostRuntime) {
-    let found = again!(&rt; section_bytes(&rt, WIDE, SECTION)).expect(&rt, "memory");
-    same_bytes(
-        &rt,
-        "bytes",
-        found.as_slice(),
-        b"\x00\x00\x00\x11\x6f\xff\xff\xf6\x00\x00\x00\x00\x00\x00\x00\x02\x00\x00\x00\x00\x00\x40\x03\x20\x00\x00\x00\x00\x00\x00\x03\x20\x00\x00\x00\x00\x00\x00\x00\x24\x00\x00\x00\x06\x00\x00\x00\x03\x00\x00\x00\x00\x00\x00\x00\x08\x00\x00\x00\x00\x00\x00\x00\x04",
-    );
+// Appends a section header, for 32 or for 64 bits.
+fn put_section(bytes: &mut Vec<u8>, is_wide: bool) -> Result<(), AllocError> {
+    if is_wide {
+        push_section_header(bytes, WIDE, SECTION)
+    } else {
+        push_section_header(bytes, NARROW, SECTION)
+    }
 }
 
 const SYMBOL: SymbolNumbers = SymbolNumbers {
@@ -125,39 +80,13 @@ const SYMBOL: SymbolNumbers = SymbolNumbers {
     st_size: 7,
 };
 
-// The bytes of a symbol.
-fn symbol_bytes(
-    rt: &impl Runtime,
-    form: Form,
-    numbers: SymbolNumbers,
-) -> Result<Vec<u8>, AllocError>
-    requires { IsTrue (do_fields_fit (symbol_fields form numbers)) }
-{
-    let mut bytes = Vec::new(rt.alloc());
-    push_symbol(&mut bytes, form, numbers)?;
-    Ok(bytes)
-}
-
-#[test]
-fn narrow_symbol(rt: HostRuntime) {
-    let found = again!(&rt; symbol_bytes(&rt, NARROW, SYMBOL)).expect(&rt, "memory");
-    same_bytes(
-        &rt,
-        "bytes",
-        found.as_slice(),
-        b"\x09\x00\x00\x00\x34\x12\x01\x00\x07\x00\x00\x00\x12\x02\xf1\xff",
-    );
-}
-
-#[test]
-fn wide_symbol(rt: HostRuntime) {
-    let found = again!(&rt; symbol_bytes(&rt, WIDE, SYMBOL)).expect(&rt, "memory");
-    same_bytes(
-        &rt,
-        "bytes",
-        found.as_slice(),
-        b"\x00\x00\x00\x09\x12\x02\xff\xf1\x00\x00\x00\x00\x00\x01\x12\x34\x00\x00\x00\x00\x00\x00\x00\x07",
-    );
+// Appends a symbol, for 32 or for 64 bits.
+fn put_symbol(bytes: &mut Vec<u8>, is_wide: bool) -> Result<(), AllocError> {
+    if is_wide {
+        push_symbol(bytes, WIDE, SYMBOL)
+    } else {
+        push_symbol(bytes, NARROW, SYMBOL)
+    }
 }
 
 const ENTRY: EntryNumbers = EntryNumbers {
@@ -165,35 +94,13 @@ const ENTRY: EntryNumbers = EntryNumbers {
     d_value: 0x800,
 };
 
-// The bytes of a dynamic entry.
-fn entry_bytes(rt: &impl Runtime, form: Form, numbers: EntryNumbers) -> Result<Vec<u8>, AllocError>
-    requires { IsTrue (do_fields_fit (entry_fields form numbers)) }
-{
-    let mut bytes = Vec::new(rt.alloc());
-    push_entry(&mut bytes, form, numbers)?;
-    Ok(bytes)
-}
-
-#[test]
-fn narrow_entry(rt: HostRuntime) {
-    let found = again!(&rt; entry_bytes(&rt, NARROW, ENTRY)).expect(&rt, "memory");
-    same_bytes(
-        &rt,
-        "bytes",
-        found.as_slice(),
-        b"\xfb\xff\xff\x6f\x00\x08\x00\x00",
-    );
-}
-
-#[test]
-fn wide_entry(rt: HostRuntime) {
-    let found = again!(&rt; entry_bytes(&rt, WIDE, ENTRY)).expect(&rt, "memory");
-    same_bytes(
-        &rt,
-        "bytes",
-        found.as_slice(),
-        b"\x00\x00\x00\x00\x6f\xff\xff\xfb\x00\x00\x00\x00\x00\x00\x08\x00",
-    );
+// Appends a dynamic entry, for 32 or for 64 bits.
+fn put_entry(bytes: &mut Vec<u8>, is_wide: bool) -> Result<(), AllocError> {
+    if is_wide {
+        push_entry(bytes, WIDE, ENTRY)
+    } else {
+        push_entry(bytes, NARROW, ENTRY)
+    }
 }
 
 const HEADER: FileHeader = FileHeader {
@@ -212,33 +119,99 @@ const HEADER: FileHeader = FileHeader {
     e_shstrndx: 27,
 };
 
-// The bytes of a file header.
-fn header_bytes(rt: &impl Runtime, form: Form, numbers: FileHeader) -> Result<Vec<u8>, AllocError>
-    requires { IsTrue (do_fields_fit (file_header_fields form numbers)) }
-{
+// Appends a file header, for 32 or for 64 bits.
+fn put_header(bytes: &mut Vec<u8>, is_wide: bool) -> Result<(), AllocError> {
+    if is_wide {
+        push_file_header(bytes, WIDE, HEADER)
+    } else {
+        push_file_header(bytes, NARROW, HEADER)
+    }
+}
+
+fn put(bytes: &mut Vec<u8>, kind: Kind, is_wide: bool) -> Result<(), AllocError> {
+    match kind {
+        Kind::Segment => put_segment(bytes, is_wide),
+        Kind::Section => put_section(bytes, is_wide),
+        Kind::Symbol => put_symbol(bytes, is_wide),
+        Kind::Entry => put_entry(bytes, is_wide),
+        Kind::Header => put_header(bytes, is_wide),
+    }
+}
+
+// The bytes of a record.
+fn bytes_of(rt: &impl Runtime, kind: Kind, is_wide: bool) -> Result<Vec<u8>, AllocError> {
     let mut bytes = Vec::new(rt.alloc());
-    push_file_header(&mut bytes, form, numbers)?;
+    put(&mut bytes, kind, is_wide)?;
     Ok(bytes)
 }
 
-#[test]
-fn narrow_header(rt: HostRuntime) {
-    let found = again!(&rt; header_bytes(&rt, NARROW, HEADER)).expect(&rt, "memory");
-    same_bytes(
-        &rt,
-        "bytes",
-        found.as_slice(),
+// Records, whether they are for 64 bits, and their bytes.
+const ROWS: [(&str, Kind, bool, &[u8]); 10] = [
+    (
+        "narrow segment",
+        Kind::Segment,
+        false,
+        b"\x01\x00\x00\x00\x34\x12\x00\x00\x34\x12\x40\x00\x34\x12\x50\x00\x10\x00\x00\x00\x20\x00\x00\x00\x05\x00\x00\x00\x00\x10\x00\x00",
+    ),
+    (
+        "wide segment",
+        Kind::Segment,
+        true,
+        b"\x00\x00\x00\x01\x00\x00\x00\x05\x00\x00\x00\x00\x00\x00\x12\x34\x00\x00\x00\x00\x00\x40\x12\x34\x00\x00\x00\x00\x00\x50\x12\x34\x00\x00\x00\x00\x00\x00\x00\x10\x00\x00\x00\x00\x00\x00\x00\x20\x00\x00\x00\x00\x00\x00\x10\x00",
+    ),
+    (
+        "narrow section",
+        Kind::Section,
+        false,
+        b"\x11\x00\x00\x00\xf6\xff\xff\x6f\x02\x00\x00\x00\x20\x03\x40\x00\x20\x03\x00\x00\x24\x00\x00\x00\x06\x00\x00\x00\x03\x00\x00\x00\x08\x00\x00\x00\x04\x00\x00\x00",
+    ),
+    (
+        "wide section",
+        Kind::Section,
+        true,
+        b"\x00\x00\x00\x11\x6f\xff\xff\xf6\x00\x00\x00\x00\x00\x00\x00\x02\x00\x00\x00\x00\x00\x40\x03\x20\x00\x00\x00\x00\x00\x00\x03\x20\x00\x00\x00\x00\x00\x00\x00\x24\x00\x00\x00\x06\x00\x00\x00\x03\x00\x00\x00\x00\x00\x00\x00\x08\x00\x00\x00\x00\x00\x00\x00\x04",
+    ),
+    (
+        "narrow symbol",
+        Kind::Symbol,
+        false,
+        b"\x09\x00\x00\x00\x34\x12\x01\x00\x07\x00\x00\x00\x12\x02\xf1\xff",
+    ),
+    (
+        "wide symbol",
+        Kind::Symbol,
+        true,
+        b"\x00\x00\x00\x09\x12\x02\xff\xf1\x00\x00\x00\x00\x00\x01\x12\x34\x00\x00\x00\x00\x00\x00\x00\x07",
+    ),
+    (
+        "narrow entry",
+        Kind::Entry,
+        false,
+        b"\xfb\xff\xff\x6f\x00\x08\x00\x00",
+    ),
+    (
+        "wide entry",
+        Kind::Entry,
+        true,
+        b"\x00\x00\x00\x00\x6f\xff\xff\xfb\x00\x00\x00\x00\x00\x00\x08\x00",
+    ),
+    (
+        "narrow header",
+        Kind::Header,
+        false,
         b"\x7f\x45\x4c\x46\x01\x01\x01\x03\x01\x00\x00\x00\x00\x00\x00\x00\x03\x00\x3e\x00\x01\x00\x00\x00\x40\x10\x00\x00\x40\x00\x00\x00\x00\x30\x00\x00\x07\x00\x00\x00\x34\x00\x38\x00\x09\x00\x40\x00\x1c\x00\x1b\x00",
-    );
-}
+    ),
+    (
+        "wide header",
+        Kind::Header,
+        true,
+        b"\x7f\x45\x4c\x46\x02\x02\x01\x03\x01\x00\x00\x00\x00\x00\x00\x00\x00\x03\x00\x3e\x00\x00\x00\x01\x00\x00\x00\x00\x00\x00\x10\x40\x00\x00\x00\x00\x00\x00\x00\x40\x00\x00\x00\x00\x00\x00\x30\x00\x00\x00\x00\x07\x00\x40\x00\x38\x00\x09\x00\x40\x00\x1c\x00\x1b",
+    ),
+];
 
 #[test]
-fn wide_header(rt: HostRuntime) {
-    let found = again!(&rt; header_bytes(&rt, WIDE, HEADER)).expect(&rt, "memory");
-    same_bytes(
-        &rt,
-        "bytes",
-        found.as_slice(),
-        b"\x7f\x45\x4c\x46\x02\x02\x01\x03\x01\x00\x00\x00\x00\x00\x00\x00\x00\x03\x00\x3e\x00\x00\x00\x01\x00\x00\x00\x00\x00\x00\x10\x40\x00\x00\x00\x00\x00\x00\x00\x40\x00\x00\x00\x00\x00\x00\x30\x00\x00\x00\x00\x07\x00\x40\x00\x38\x00\x09\x00\x40\x00\x1c\x00\x1b",
-    );
+fn spells_records(rt: HostRuntime) {
+    for (what, kind, is_wide, want) in ROWS {
+        same_bytes(&rt, what, &sure!(&rt; bytes_of(&rt, kind, is_wide)), want);
+    }
 }

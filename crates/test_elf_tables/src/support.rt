@@ -37,12 +37,26 @@ pub(crate) fn wants_memory<T, E: Refusal>(answer: &Result<T, E>) -> bool {
     }
 }
 
-// The answer of a call that is made once more, which is not refused memory again.
-pub(crate) fn granted<T, E: Refusal>(rt: &impl Abort, answer: Result<T, E>) -> Result<T, E>
-    ensures { result ≡ answer }
-{
-    assert!(rt; !wants_memory(&answer), "refused memory twice");
-    answer
+// The first answer of a call, or the second where the first is want of memory. The second is not, then.
+pub(crate) fn granted<T: Drop, E: Refusal>(
+    rt: &impl Abort,
+    first: Result<T, E>,
+    second: Result<T, E>,
+) -> Result<T, E> {
+    if !wants_memory(&first) {
+        return first;
+    }
+    assert!(rt; !wants_memory(&second), "refused memory twice");
+    second
+}
+
+// What the answer gives, which is no error.
+pub(crate) fn given<T: Drop, E: Refusal + fmt::Debug>(
+    rt: &impl Abort,
+    first: Result<T, E>,
+    second: Result<T, E>,
+) -> T {
+    granted(rt, first, second).expect(rt, "an answer")
 }
 
 // Compares.
@@ -64,7 +78,9 @@ fn add<'t>(rt: &impl Runtime, table: &mut StringTable<'t>, text: &'t [u8]) -> Re
     if table.add(text).is_ok() {
         return Ok(());
     }
-    granted(rt, table.add(text))
+    let second = table.add(text);
+    assert!(rt; second.is_ok(), "refused memory twice");
+    second
 }
 
 // The table of these texts, of which half have room before they are added.
@@ -83,7 +99,10 @@ fn finished<'t>(rt: &impl Runtime, texts: &[&'t [u8]]) -> Result<Finished<'t>, T
 
 // The same, made again where there was no memory.
 pub(crate) fn table_of<'t>(rt: &impl Runtime, texts: &[&'t [u8]]) -> Finished<'t> {
-    again!(rt; finished(rt, texts)).expect(rt, "memory")
+    match finished(rt, texts) {
+        Ok(table) => table,
+        Err(_) => finished(rt, texts).expect(rt, "memory"),
+    }
 }
 
 // One text 65,536 times.

@@ -117,7 +117,7 @@ fn defined(
     order: ByteOrder2,
 ) -> Result<Vec<u8>, TableFault> {
     let table = table_of(rt, texts);
-    let records = again!(rt; kept(rt, versions)).expect(rt, "memory");
+    let records = sure!(rt; kept(rt, versions));
     assert!(rt; has_names(&records, &table), "names of versions");
     again!(rt; build_verdef(rt.alloc(), &records, &table, order))
 }
@@ -155,7 +155,7 @@ fn two_defined_versions(rt: HostRuntime) {
 
 #[test]
 fn too_many_names(rt: HostRuntime) {
-    let names = again!(&rt; repeated(&rt)).expect(&rt, "memory");
+    let names = sure!(&rt; repeated(&rt));
     let answer = defined(&rt, &[(2, 0, &names)], &[b"abc"], ByteOrder2::Little);
     answers(&rt, "names", answer, Err(TableFault::NumberTooLarge));
 }

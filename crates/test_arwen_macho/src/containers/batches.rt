@@ -1,6 +1,6 @@
 //! Batch after batch in one call.
 
-use super::{Edit, all_owned, found_lists, lists_of};
+use super::{Container, Edit, agrees, all_owned, opened};
 use crate::support::{Runtime, copied, same, shows, wants_memory};
 use arwen_macho::macho::{MachoBatchError, MachoContainer, MachoEdit};
 use std::alloc::{AllocError, Global};
@@ -48,8 +48,7 @@ fn answers_of(
     match file.apply_each(rt.alloc(), batches) {
         Ok(answers) => answers,
         Err(_) => {
-            same(rt, "bytes", &file.bytes(), &EMPTY.as_slice());
-            same(rt, "lists", &lists_of(rt, file), &found_lists(rt, EMPTY));
+            same(rt, "bytes", &left(rt, file).as_slice(), &EMPTY.as_slice());
             file.apply_each(rt.alloc(), batches).expect(rt, "memory")
         }
     }
@@ -62,35 +61,36 @@ fn refused(answers: &[Result<(), MachoBatchError>]) -> Option<usize> {
 
 // What batches answer in the file without commands, and the bytes that they leave.
 fn applied(rt: &impl Runtime, batches: &[Vec<MachoEdit>]) -> (Answers, Vec<u8>) {
-    let mut file = again!(rt; MachoContainer::parse(rt.alloc(), EMPTY)).expect(rt, "a file");
+    let mut file: MachoContainer<'_> = opened(rt, EMPTY);
     let answers = answers_of(rt, &mut file, batches);
-    same(
-        rt,
-        "lists",
-        &lists_of(rt, &file),
-        &found_lists(rt, file.bytes()),
-    );
-    (answers, copied(rt, file.bytes()))
+    (answers, left(rt, &file))
+}
+
+// The bytes of a file, whose lists agree with them.
+fn left<'a, T: Container<'a>>(rt: &impl Runtime, file: &T) -> Vec<u8> {
+    agrees(rt, "lists", file);
+    copied(rt, file.bytes())
 }
 
 // The same. A batch that was refused memory changed nothing, and then all are made once more.
 fn applied_whole(rt: &impl Runtime) -> (Answers, Vec<u8>) {
-    let mut all = again!(rt; batches(rt.alloc())).expect(rt, "memory");
+    let all = sure!(rt; batches(rt.alloc()));
     let first = applied(rt, &all);
     let Some(place) = refused(&first.0) else {
         return first;
     };
+    leaves(rt, place, &first.1);
+    applied(rt, &all)
+}
+
+// Compares bytes with those that all batches leave but one.
+fn leaves(rt: &impl Runtime, place: usize, bytes: &[u8]) {
+    let mut all = sure!(rt; batches(rt.alloc()));
     if let Some(batch) = all.get_mut(place) {
         *batch = Vec::new(rt.alloc());
     }
-    same(
-        rt,
-        "bytes without a refused batch",
-        &first.1,
-        &applied(rt, &all).1,
-    );
-    let all = again!(rt; batches(rt.alloc())).expect(rt, "memory");
-    applied(rt, &all)
+    let (_, found) = applied(rt, &all);
+    same(rt, "without a refused batch", &found.as_slice(), &bytes);
 }
 
 #[test]
