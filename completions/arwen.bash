@@ -12,7 +12,7 @@ _arwen() {
     fi
     if [ "$COMP_CWORD" -eq 2 ]; then
         case "${COMP_WORDS[1]}" in
-        macho) words="delete-rpath change-rpath add-rpath change-install-name change-install-id apply help" ;;
+        macho) words="delete-rpath change-rpath add-rpath change-install-name change-install-id apply sign verify help" ;;
         elf) words="add-debug-tag clear-exec-stack force-rpath no-default-lib remove-rpath set-exec-stack add-rpath set-rpath set-interpreter set-os-abi set-soname set-page-size clear-symbol-version add-needed remove-needed replace-needed rename-dynamic-symbols apply shrink-rpath print-rpath print-needed print-soname print-interpreter print-os-abi print-exec-stack help" ;;
         help) words="macho elf show" ;;
         esac
@@ -21,6 +21,12 @@ _arwen() {
     fi
     if [ "${word:0:1}" = - ]; then
         case "${COMP_WORDS[1]} ${COMP_WORDS[2]}" in
+        'macho delete-rpath') words="--sign" ;;
+        'macho change-rpath') words="--sign" ;;
+        'macho add-rpath') words="--sign" ;;
+        'macho change-install-name') words="--sign" ;;
+        'macho change-install-id') words="--sign" ;;
+        'macho apply') words="--sign" ;;
         'elf shrink-rpath') words="--allowed-rpath-prefixes" ;;
         esac
         COMPREPLY=($(compgen -W "$words --quiet --help" -- "$word"))
