@@ -32,7 +32,7 @@ use Rattle.elf_write_spec.specs.Output.{AreHeadersApart, AreSectionsWritten, IsP
 use Rattle.elf_layout_plan.specs.ApartLaws.{PlansAreApart, PlansShowNotes}
 use Rattle.elf_write_spec.proofs.ForCallers.FilesWritten.{files_are_written, files_by_plan}
 use Rattle.elf_write_strings.specs.declared.made.Made.{Made}
-use Rattle.elf_write_strings.specs.DynamicStrings.{strings_at}
+use Rattle.elf_write_strings.specs.WrittenStrings.{strings_at}
 use Rattle.elf_write_symbols.specs.Renumbering.{do_symbols_fit}
 use Rattle.elf_write_contents.specs.Inner.{AreContents, AreHeaders, ArePromised, AreRaw, IsMadeContent, IsPlanned, IsPlannedFile, output_of}
 use Rattle.elf_write_contents.specs.Numbers.{do_records_fit}
@@ -41,13 +41,13 @@ use Rattle.elf_write_spec.proofs.ForCallers.IntactEdits.{ReadFacts, SectionRead,
 use Rattle.elf_write_spec.proofs.ForCallers.IntactSections.{kept}
 
 -- the content at a position
-record ContentAt (r : Resized) (plan : Layout) (made : Option Made) (raw : List EntryNumbers) (ps : List Place) (cs : List (List ℕ)) (i : ℕ) (k : KeptSection) : Type 0 where
+record ContentAt (r : Resized) (plan : Layout) (made : List Made) (raw : List EntryNumbers) (ps : List Place) (cs : List (List ℕ)) (i : ℕ) (k : KeptSection) : Type 0 where
   place : Place
   bytes : List ℕ
   is_bytes : slice_get cs i ≡ Some bytes
   is : IsMadeContent r plan made raw k place bytes
 
-content-at : (r : Resized) (plan : Layout) (made : Option Made) (raw : List EntryNumbers) (ks : List KeptSection) (ps : List Place) (cs : List (List ℕ))
+content-at : (r : Resized) (plan : Layout) (made : List Made) (raw : List EntryNumbers) (ks : List KeptSection) (ps : List Place) (cs : List (List ℕ))
     → AreContents r plan made raw ks ps cs
     → (i : ℕ) (k : KeptSection) → slice_get ks i ≡ Some k → ContentAt r plan made raw ps cs i k
 content-at r plan made raw [] [] [] are i k at = absurd (none-some k at)
@@ -106,7 +106,7 @@ few_symbols read image fit changed =
     (ap (λ (b : Bool). not b || nat_lt (length image.dynamic_symbols) (2 ^ 32)) (sym changed)
     ∙ (and_parts (not (are_names_changed read image) || nat_lt (length image.dynamic_symbols) (2 ^ 32)) _ fit).0)
 
-module _ (read image : Image) (plan : Layout) (made : Option Made) (raw : List EntryNumbers) (contents : List (List ℕ))
+module _ (read image : Image) (plan : Layout) (made : List Made) (raw : List EntryNumbers) (contents : List (List ℕ))
     (planned : IsPlanned read image plan)
     (are : AreContents (resized image) plan made raw (kept_sections image) plan.places contents) where
   facts : ReadFacts read image

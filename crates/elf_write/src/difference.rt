@@ -40,7 +40,7 @@ fn difference_of_contents<'data>(
     requires planned { IsPlanned read.now image.now plan.now }
     requires apart { AreHeadersApart image.now plan.now }
     requires prepared { IsPrepared read.now image.now plan.now prepared.now }
-    requires contents { AreContents (resized image.now) plan.now prepared.now.made
+    requires contents { AreContents (resized image.now) plan.now prepared.now.made.items
         prepared.now.raw.items (kept_sections image.now) plan.now.places
         (bytes_of_each contents.now) }
     ensures written { IfOk result (λ d.

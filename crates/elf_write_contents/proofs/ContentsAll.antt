@@ -1,6 +1,6 @@
 -- The bytes of all sections, and of each by what its type asks for.
 use Rattle.std.proofs.Common.{◌≡◌, ◌≢◌, ◌≤◌, ◌<◌, ℕ, zero, suc, ◌*◌, true, false, List, [], ◌∷◌, ◌++◌, length, map, refl, sym, ap, ◌∙◌, subst, inl, inr, Option, Some, None, Result, Ok, Err, get_or, arith}
-use Rattle.std.specs.Prelude.{IfOk, option_map, if◌then◌else◌, ◌==◌}
+use Rattle.std.specs.Prelude.{IfOk, option_map, ◌==◌}
 use Rattle.std.specs.List.{list_all, slice_get}
 use Rattle.std.proofs.lemmas.Bool.{cases_eq, ne_eqb}
 use Rattle.std.proofs.lemmas.List.{length-map}
@@ -27,7 +27,7 @@ use Rattle.elf_write_spec.specs.Contents.{AreDefinitionsIn, AreNeedsIn, AreSymbo
 use Rattle.elf_write_spec.specs.Final.{final}
 use Rattle.elf_write_strings.specs.declared.made.Made.{Made}
 use Rattle.elf_write_contents.specs.ContentSteps.{AreBytesOf, IsBytesAt, IsNumbering, IsRelocated, made_or}
-use Rattle.elf_write_strings.specs.DynamicStrings.{AreStrings, strings_at}
+use Rattle.elf_write_strings.specs.WrittenStrings.{AreStrings, content_read, made_of, strings_at}
 use Rattle.elf_write_spec.specs.Ready.{IsPlanned, IsReady}
 use Rattle.elf_write_contents.specs.Inner.{AreContents, AreRaw, IsMadeContent}
 use Rattle.elf_write_contents.proofs.ReadyEdits.{edit_of}
@@ -60,7 +60,7 @@ each_of_more P last [] each is (suc i) b at = absurd (none-some b at)
 each_of_more P last (c ∷ cs) each is zero b at = each 0 b at
 each_of_more P last (c ∷ cs) each is (suc i) b at = each_of_more (λ j. P (suc j)) last cs (λ j. each (suc j)) is i b at
 
-module _ (image : Image) (plan : Layout) (made : Option Made) (raw : List EntryNumbers) where
+module _ (image : Image) (plan : Layout) (made : List Made) (raw : List EntryNumbers) where
   -- one more
   pub one_more : (contents now : List (List ℕ)) (bytes : List ℕ) → AreBytesOf image plan made raw contents
       → IsBytesAt image plan made raw (length contents) bytes → now ≡ contents ++ bytes ∷ [] → AreBytesOf image plan made raw now
@@ -136,7 +136,7 @@ numbers_fit read image is all i s at =
     fits_at (do_section_relocations_fit read image) (kept_sections image) i (kept i s) all
     (kept-at read image (edit_of is) i ∙ ap (option_map (kept i)) at)
 
-module _ (read image : Image) (plan : Layout) (made : Option Made) (raw : List EntryNumbers) (is : IsPlanned read image plan) (i : ℕ)
+module _ (read image : Image) (plan : Layout) (made : List Made) (raw : List EntryNumbers) (is : IsPlanned read image plan) (i : ℕ)
     (s : ImageSection) (s_at : slice_get image.sections i ≡ Some s) where
   -- the section with its place
   abbrev facts : ReadFacts read image
@@ -225,13 +225,13 @@ module _ (read image : Image) (plan : Layout) (made : Option Made) (raw : List E
 
     pub strings_at_place : AreStrings read image made → s.sh_type ≡ SHT_STRTAB → IsBytesAt image plan made raw i (made_or made i s.content)
     strings_at_place strings e =
-        subst (λ (bytes : List ℕ). IsBytesAt image plan made raw i bytes) (by_made made)
+        subst (λ (bytes : List ℕ). IsBytesAt image plan made raw i bytes) (by_made (made_of made i))
         (all_at_place (strings_at image made i) (strings_made read image plan made raw is.ready facts i place apart (of_type SHT_STRTAB e) strings))
       where
-        by_made : (m : Option Made) → strings_at image m i ≡ made_or m i s.content
+        by_made : (o : Option Made) → (elim o as (λ _. List ℕ) [ Some m ↦ m.table.bytes | None ↦ content_read image i ])
+            ≡ (elim o as (λ _. List ℕ) [ Some m ↦ m.table.bytes | None ↦ s.content ])
         by_made None = content_is_read read image is.ready i s s_at
-        by_made (Some m) =
-            ap (λ (l : List ℕ). if m.number == i then m.table.bytes else l) (content_is_read read image is.ready i s s_at)
+        by_made (Some m) = refl
 
     pub symbols_at : s.sh_type ≡ SHT_DYNSYM → (bytes : List ℕ) → length bytes ≡ length image.dynamic_symbols * symbol_size image.form
         → AreSymbolsOf (strings_at image made s.sh_link) (final read image).dynamic_symbols (symbols_in image.form bytes)
@@ -271,7 +271,7 @@ module _ (read image : Image) (plan : Layout) (made : Option Made) (raw : List E
           (list_made read image plan made raw is.ready facts are i place apart (of_type SHT_DYNAMIC e)))
 
 -- the interpreter's
-pub interpreter_at : (read image : Image) (plan : Layout) (made : Option Made) (raw : List EntryNumbers) → IsPlanned read image plan → (i : ℕ)
+pub interpreter_at : (read image : Image) (plan : Layout) (made : List Made) (raw : List EntryNumbers) → IsPlanned read image plan → (i : ℕ)
     → i < length image.sections
     → is_some_and (λ n. n == i) (interpreter_number read) ≡ true
     → IsBytesAt image plan made raw i (list_at (λ name. name) image.interpreter)

@@ -1,5 +1,5 @@
 -- The bytes of each section by its type: those that are copied, string tables, the dynamic list and the interpreter.
-use Rattle.std.proofs.Common.{◌≡◌, ◌≤◌, ◌<◌, ℕ, suc, add-one, ◌+◌, ◌-◌, ◌*◌, Bool, true, false, eqb, List, [], ◌∷◌, length, max, replicate, refl, sym, ap, ◌∙◌, subst, Option, Some, None, arith}
+use Rattle.std.proofs.Common.{◌≡◌, ◌≤◌, ◌<◌, ℕ, suc, add-one, ◌+◌, ◌-◌, ◌*◌, Bool, true, false, eqb, List, [], ◌∷◌, length, max, replicate, refl, sym, ap, ◌∙◌, subst, Option, Some, None, arith, inl}
 use Rattle.std.specs.Prelude.{IsSome, ◌&&◌, count_by, is_some, not, if◌then◌else◌, ◌==◌}
 use Rattle.std.specs.List.{flat_map}
 use Rattle.std.proofs.Math.Nat.{suc-mul}
@@ -37,7 +37,8 @@ use Rattle.elf_write_spec.proofs.ForCallers.SectionKinds.{kind_by}
 use Rattle.elf_write_spec.proofs.ForCallers.IntactCounts.{count-same, found_only}
 use Rattle.elf_write_spec.proofs.ForCallers.RawEntries.{length-raw}
 use Rattle.elf_write_strings.specs.declared.made.Made.{Made}
-use Rattle.elf_write_strings.specs.DynamicStrings.{AreStrings, IsTold, content_read, strings_at}
+use Rattle.elf_write_strings.specs.WrittenStrings.{AreStrings, IsTold, content_read, made_of, strings_at}
+use Rattle.elf_write_strings.proofs.ForCallers.VersionsShown.{number_found, strings_copied, strings_made as strings_told}
 use Rattle.elf_write_spec.specs.Ready.{IsReady}
 use Rattle.elf_write_contents.specs.ContentSteps.{IsRelocated, IsRelocatedOf}
 use Rattle.elf_write_contents.specs.Inner.{AreRaw, IsMadeContent}
@@ -49,7 +50,7 @@ use Rattle.elf_write_contents.proofs.ContentsCopied.{content_long, content_sized
 use Rattle.elf_write_contents.proofs.SymbolsStatic.{statics_copied}
 use Rattle.elf_write_spec.proofs.ForCallers.IntactSections.{kept}
 
-module _ (read image : Image) (plan : Layout) (made : Option Made) (raw : List EntryNumbers) (is : IsReady read image) (f : ReadFacts read image)
+module _ (read image : Image) (plan : Layout) (made : List Made) (raw : List EntryNumbers) (is : IsReady read image) (f : ReadFacts read image)
     (i : ℕ) (at : PlacedAt read image plan f.parts i) (apart : is_numbered (interpreter_number read) (kept i at.section) ≡ false) where
   -- ## Sections that are copied
 
@@ -129,28 +130,31 @@ module _ (read image : Image) (plan : Layout) (made : Option Made) (raw : List E
                 ∙ sym (cond-false (is_table_copied read image i) at.section.sh_size _ anew);
           }
 
-  table_is : (m : Option Made) → AreStrings read image m → IsTable (strings_at image m i)
-  table_is None strings = copied_table (content_read image i) refl (by_link (dynamic_strings_number image) refl)
+  -- a table that isn't told anew is copied
+  copied_here : AreStrings read image made → made_of made i ≡ None → is_table_copied read image i ≡ true
+  copied_here strings none = by_link (dynamic_strings_number image) refl
     where
       by_link : (o : Option ℕ) → dynamic_strings_number image ≡ o → is_table_copied read image i ≡ true
       by_link None e = others_copied read image is f i (ap (is_some_and (λ link. link == i)) e)
       by_link (Some n) e = by_test (n == i) refl
         where
           by_test : (b : Bool) → (n == i) ≡ b → is_table_copied read image i ≡ true
-          by_test true same = (strings.as_read refl i (e ∙ ap (λ k. Some k) (eqb-true n i same))).copied
+          by_test true same = (strings.as_read i (inl (e ∙ ap (λ k. Some k) (eqb-true n i same))) none).copied
           by_test false other = others_copied read image is f i (ap (is_some_and (λ link. link == i)) e ∙ other)
-  table_is (Some m) strings = by_test (m.number == i) refl
+
+  table_is : AreStrings read image made → IsTable (strings_at image made i)
+  table_is strings = by_made (made_of made i) refl
     where
-      by_test : (b : Bool) → (m.number == i) ≡ b → IsTable (if b then m.table.bytes else content_read image i)
-      by_test true same = told_table m (strings.told m refl) (eqb-true m.number i same)
-      by_test false other =
-          copied_table (content_read image i) refl
-          (others_copied read image is f i (ap (is_some_and (λ link. link == i)) (strings.told m refl).linked ∙ other))
+      by_made : (o : Option Made) → made_of made i ≡ o → IsTable (strings_at image made i)
+      by_made None none =
+          subst IsTable (strings_copied image made i none) (copied_table (content_read image i) refl (copied_here strings none))
+      by_made (Some m) found =
+          subst IsTable (strings_told image made i m found) (told_table m (strings.told i m found) (number_found made i m found))
 
   pub strings_made : at.section.sh_type ≡ SHT_STRTAB → AreStrings read image made
       → IsMadeContent (resized_with read image) plan made raw (kept i at.section) at.place (strings_at image made i)
   strings_made e strings =
-      let table : IsTable (strings_at image made i) = table_is made strings in
+      let table : IsTable (strings_at image made i) = table_is strings in
       record {
         sized = table.long (content_long read image plan is f i at (ap (λ t. not (eqb t 0) && not (eqb t 8)) e))
             ∙ sym (typed_size read image plan made raw f.parts i at apart SHT_STRTAB e)
@@ -189,7 +193,7 @@ room_for n size old =
     let e : (n + 1) * size ≡ n * size + size = ap (λ m. m * size) (add-one n) ∙ suc-mul n size in
     omega arith
 
-module _ (read image : Image) (plan : Layout) (made : Option Made) (raw : List EntryNumbers) (is : IsReady read image) (f : ReadFacts read image)
+module _ (read image : Image) (plan : Layout) (made : List Made) (raw : List EntryNumbers) (is : IsReady read image) (f : ReadFacts read image)
     (are : AreRaw (resized image) plan made raw)
     (i : ℕ) (at : PlacedAt read image plan f.parts i) (apart : is_numbered (interpreter_number read) (kept i at.section) ≡ false)
     (typed_so : at.section.sh_type ≡ SHT_DYNAMIC) where
@@ -238,7 +242,7 @@ module _ (read image : Image) (plan : Layout) (made : Option Made) (raw : List E
 
 -- ## The interpreter
 
-module _ (read image : Image) (plan : Layout) (made : Option Made) (raw : List EntryNumbers) (is : IsReady read image) (f : ReadFacts read image)
+module _ (read image : Image) (plan : Layout) (made : List Made) (raw : List EntryNumbers) (is : IsReady read image) (f : ReadFacts read image)
     (i : ℕ) (at : PlacedAt read image plan f.parts i) (own : is_numbered (interpreter_number read) (kept i at.section) ≡ true) where
   -- the section stands where PT_INTERP says
   stands_there : (q : SegmentHeader) × (segment_of_type PT_INTERP read.segments ≡ Some q) × (stands_as_interpreter q at.section ≡ true)

@@ -1,5 +1,5 @@
 -- The bytes of each section of an edited image of which nothing went: as many as its place has, and what they show, by the section's type.
-use Rattle.std.proofs.Common.{◌≡◌, ◌<◌, ℕ, ◌*◌, Bool, true, false, eqb, List, [], ◌∷◌, length, map, refl, sym, ap, ◌∙◌, subst, Option, Some}
+use Rattle.std.proofs.Common.{◌≡◌, ◌<◌, ℕ, ◌*◌, Bool, true, false, eqb, List, [], ◌∷◌, length, map, refl, sym, ap, ◌∙◌, subst, Some}
 use Rattle.std.specs.Prelude.{◌&&◌, not, if◌then◌else◌, ◌==◌}
 use Rattle.std.specs.List.{slice_get}
 use Rattle.std.proofs.lemmas.Bool.{both_ways, cond-false, cond-true, eq-eqb, eqb-true, false≢true}
@@ -31,7 +31,7 @@ use Rattle.elf_write_spec.specs.Contents.{AreDefinitionsIn, AreNeedsIn, AreStati
 use Rattle.elf_write_spec.specs.Final.{final}
 use Rattle.elf_write_strings.specs.declared.made.Made.{Made}
 use Rattle.elf_write_contents.specs.ContentSteps.{IsBytesAt, IsRelocatedOf}
-use Rattle.elf_write_strings.specs.DynamicStrings.{strings_at}
+use Rattle.elf_write_strings.specs.WrittenStrings.{strings_at}
 use Rattle.elf_write_spec.specs.Ready.{IsPlanned}
 use Rattle.elf_write_contents.specs.Inner.{IsMadeContent}
 use Rattle.elf_write_contents.proofs.ReadyEdits.{edit_of}
@@ -85,7 +85,7 @@ placed_at read image plan is f i within =
     }
 
 -- the bytes of a section, once they are those of its place
-pub bytes_at : (read image : Image) (plan : Layout) (made : Option Made) (raw : List EntryNumbers) (p : Parts) (i : ℕ) (bytes : List ℕ)
+pub bytes_at : (read image : Image) (plan : Layout) (made : List Made) (raw : List EntryNumbers) (p : Parts) (i : ℕ) (bytes : List ℕ)
     → read ≡ image_at_read image → (at : PlacedAt read image plan p i)
     → IsMadeContent (resized_with read image) plan made raw (kept i at.section) at.place bytes → IsBytesAt image plan made raw i bytes
 bytes_at read image plan made raw p i bytes same at is = record {
@@ -201,7 +201,7 @@ relocations_stored n opaque is = by_tests (eqb n 0) refl (eqb n 8) refl
     by_tests false a true b = absurd (none (kind_by 8 opaque) refl (ap (λ (m : ℕ). kind_by m opaque) (sym (eqb-true n 8 b)) ∙ is))
     by_tests false a false b = refl
 
-module _ (read image : Image) (plan : Layout) (made : Option Made) (raw : List EntryNumbers) (p : Parts) (i : ℕ) (at : PlacedAt read image plan p i) where
+module _ (read image : Image) (plan : Layout) (made : List Made) (raw : List EntryNumbers) (p : Parts) (i : ℕ) (at : PlacedAt read image plan p i) where
   abbrev pub here : KeptSection
   here = kept i at.section
 

@@ -29,7 +29,7 @@ use Rattle.elf_write_spec.proofs.ForCallers.FinalEntries.{written_none}
 use Rattle.elf_write_spec.proofs.ForCallers.TextsRead.{text_inside}
 use Rattle.elf_write_strings.specs.declared.made.Made.{Made}
 use Rattle.elf_write_contents.specs.FitSteps.{do_unnamed_fit, unnamed}
-use Rattle.elf_write_strings.specs.DynamicStrings.{AreStrings, strings_at}
+use Rattle.elf_write_strings.specs.WrittenStrings.{AreStrings, strings_at}
 use Rattle.elf_write_spec.specs.Ready.{IsPlanned, IsReady}
 use Rattle.elf_write_contents.specs.Inner.{AreHeaders, AreRaw}
 use Rattle.elf_write_contents.specs.Numbers.{do_header_numbers_fit, do_sections_fit, does_entry_fit, entry_with}
@@ -114,7 +114,7 @@ no_entries read image is none =
       | There i at _ _ _ now ↦ absurd (none-some _ (sym none ∙ now))
     ]
 
-module _ (read image : Image) (plan : Layout) (made : Option Made) (raw : List EntryNumbers) where
+module _ (read image : Image) (plan : Layout) (made : List Made) (raw : List EntryNumbers) where
   list_fits : IsReady read image → AreStrings read image made → AreRaw (resized image) plan made raw → (o : Option KeptSection)
       → kept_of_type SHT_DYNAMIC image ≡ o
       → list_all (λ x. do_fields_fit (entry_fields image.form x)) raw

@@ -1,12 +1,11 @@
 -- The strings of the dynamic list are no longer than a word of the class can tell.
-use Rattle.std.proofs.Common.{◌≡◌, ◌≤◌, ◌<◌, ◌^◌, ℕ, Bool, true, false, List, [], length, drop, refl, sym, ap, ◌∙◌, subst, Option, Some, None, arith}
+use Rattle.std.proofs.Common.{◌≡◌, ◌≤◌, ◌<◌, ◌^◌, ℕ, Bool, true, false, List, [], length, drop, refl, sym, ap, ◌∙◌, subst, Option, Some, None, arith, inl}
 use Rattle.std.specs.Prelude.{◌==◌, if◌then◌else◌}
 use Rattle.std.specs.List.{list_all, slice_get}
 use Rattle.std.specs.Option.{option_map}
-use Rattle.std.proofs.lemmas.Bool.{and_parts, cond_both, eq-eqb, ltb-true}
+use Rattle.std.proofs.lemmas.Bool.{and_parts, cond_both, ltb-true}
 use Rattle.std.proofs.lemmas.List.{length-take}
 use Rattle.std.proofs.lemmas.List.Folds.{list_all-map}
-use Rattle.std.proofs.lemmas.Option.{same_Some}
 use Rattle.patch_bytes.specs.declared.number.Wide.{Wide}
 use Rattle.patch_bytes.specs.declared.number.Wide.TheVariants.{W32, W64}
 use Rattle.patch_bytes.specs.Number.{field}
@@ -21,7 +20,8 @@ use Rattle.elf_layout_plan.specs.Sizes.{fits_field, interpreter_size, new_size, 
 use Rattle.elf_layout_plan.specs.Texts.{is_table_copied, texts_in_use}
 use Rattle.elf_tables.specs.Strings.{table_length}
 use Rattle.elf_write_strings.specs.declared.made.Made.{Made}
-use Rattle.elf_write_strings.specs.DynamicStrings.{AreStrings, content_read, strings_at}
+use Rattle.elf_write_strings.specs.WrittenStrings.{AreStrings, content_read, made_of, strings_at}
+use Rattle.elf_write_strings.proofs.ForCallers.VersionsShown.{strings_copied, strings_made}
 use Rattle.elf_write_spec.specs.Ready.{IsReady}
 use Rattle.elf_write_strings.proofs.ForCallers.MadeShort.{all_at}
 use Rattle.elf_write_contents.proofs.StringsRead.{strings_read}
@@ -100,16 +100,15 @@ copied_short read image is number linked copied =
     bounded : (a b c d e : ℕ) → a ≡ b → b ≤ c → d ≡ c → d < e → a ≤ e
     bounded a b c d e ab bc dc de = omega (arith, ab, bc, dc, de)
 
-pub strings_short : (read image : Image) (made : Option Made) → IsReady read image → AreStrings read image made → (number : ℕ)
+pub strings_short : (read image : Image) (made : List Made) → IsReady read image → AreStrings read image made → (number : ℕ)
     → link_of_type SHT_DYNAMIC image ≡ Some number → length (strings_at image made number) ≤ words_end image.form.wide
-strings_short read image None is strings number linked =
-    let here = list_linked read image is (read_facts read image (edit_of is)) number linked in
-    copied_short read image is number here (strings.as_read refl number here).copied
-strings_short read image (Some m) is strings number linked =
-    let told = strings.told m refl in
-    let here = list_linked read image is (read_facts read image (edit_of is)) number linked in
-    let same : m.number ≡ number = same_Some m.number number (sym told.linked ∙ here) in
-    let table : strings_at image (Some m) number ≡ m.table.bytes =
-    ap (λ (b : Bool). if b then m.table.bytes else content_read image number) (eq-eqb m.number number same) in
-    subst (λ (n : ℕ). n ≤ words_end image.form.wide) (sym (ap length table))
-    (narrow_fits image.form.wide (length m.table.bytes) told.short)
+strings_short read image made is strings number linked = by_made (made_of made number) refl
+  where
+    by_made : (o : Option Made) → made_of made number ≡ o → length (strings_at image made number) ≤ words_end image.form.wide
+    by_made None none =
+        let here = list_linked read image is (read_facts read image (edit_of is)) number linked in
+        subst (λ (l : List ℕ). length l ≤ words_end image.form.wide) (strings_copied image made number none)
+        (copied_short read image is number here (strings.as_read number (inl here) none).copied)
+    by_made (Some m) found =
+        subst (λ (l : List ℕ). length l ≤ words_end image.form.wide) (strings_made image made number m found)
+        (narrow_fits image.form.wide (length m.table.bytes) (strings.told number m found).short)

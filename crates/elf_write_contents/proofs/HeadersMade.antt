@@ -1,5 +1,5 @@
 -- What is known of each section header that is written.
-use Rattle.std.proofs.Common.{◌≡◌, ℕ, ◌<◌, ◌≤◌, ◌^◌, Bool, false, List, [], length, map, get_or, refl, sym, ap, ◌∙◌, subst, Option, Some, arith}
+use Rattle.std.proofs.Common.{◌≡◌, ℕ, ◌<◌, ◌≤◌, ◌^◌, false, List, [], length, map, get_or, sym, ap, ◌∙◌, subst, Option, Some, arith}
 use Rattle.std.specs.Prelude.{Contains, IsSome, if◌then◌else◌, ◌==◌, slice_index, unwrap_or}
 use Rattle.std.specs.List.{slice_get}
 use Rattle.std.specs.Option.{option_map}
@@ -36,7 +36,8 @@ use Rattle.elf_write_spec.proofs.ForCallers.IntactLists.{there_at}
 use Rattle.elf_write_contents.specs.declared.headers.Known.{Known}
 use Rattle.elf_write_strings.specs.declared.made.Made.{Made}
 use Rattle.elf_write_contents.specs.HeaderSteps.{IsHeaderAt, IsKnown, header_by, headers_read, info_by}
-use Rattle.elf_write_strings.specs.DynamicStrings.{AreStrings, content_read}
+use Rattle.elf_write_strings.specs.WrittenStrings.{AreStrings, content_read, made_of}
+use Rattle.elf_write_strings.proofs.ForCallers.VersionsShown.{number_found}
 use Rattle.elf_write_spec.specs.Ready.{IsEditedReady, IsPlanned, IsReady}
 use Rattle.elf_write_contents.specs.Numbers.{do_numbers_fit}
 use Rattle.elf_write_contents.proofs.HeadersLists.{far_numbers, far_section}
@@ -132,15 +133,15 @@ name_read read image is f i at =
     (ap (λ (m : Memory). text_at (length (file_of p)) m at.old.sh_name) (sym memory) ∙ at.of_old.name)
 
 -- the name of a section stands in a table that is told anew in place of the names
-pub name_made : (read image : Image) (made : Option Made) → AreStrings read image made → (i : ℕ) (s : ImageSection)
+pub name_made : (read image : Image) (made : List Made) → AreStrings read image made → (i : ℕ) (s : ImageSection)
     → slice_get image.sections i ≡ Some s
-    → (m : Made) → made ≡ Some m → m.number ≡ image.header.e_shstrndx → IsSome (place_of m.table s.name)
-name_made read image made strings i s at m is own =
+    → (m : Made) → made_of made image.header.e_shstrndx ≡ Some m → IsSome (place_of m.table s.name)
+name_made read image made strings i s at m is =
     let named : List (List ℕ) = map (λ (x : ImageSection). x.name) image.sections in
     let name_at : slice_get named i ≡ Some s.name = at-map (λ (x : ImageSection). x.name) image.sections i s at in
     let here : Contains named s.name =
     (i, slice_get_within named i s.name name_at, get_or_from_slice_get named i s.name s.name name_at) in
-    told_names read image m (strings.told m is) own s.name here
+    told_names read image m (strings.told image.header.e_shstrndx m is) (number_found made image.header.e_shstrndx m is) s.name here
 
 -- ## What is known of the image as a whole
 
@@ -196,7 +197,7 @@ seen_at image sections i x seen less is =
     ap (λ (l : List ImageSection). slice_get l i) (sym seen)
     ∙ at-map section_model sections i x (slice_get_read sections (length sections) i x (λ j. length sections) within is)
 
-module _ (image : Image) (plan : Layout) (made : Option Made) (known : Known)
+module _ (image : Image) (plan : Layout) (made : List Made) (known : Known)
     (planned : IsPlanned (image_at_read image) image plan) (strings : AreStrings (image_at_read image) image made) (is : IsKnown image known)
     (i : ℕ) (less : i < length image.sections) where
   facts : ReadFacts (image_at_read image) image

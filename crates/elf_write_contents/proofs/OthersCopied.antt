@@ -19,7 +19,7 @@ use Rattle.elf_image.specs.Kept.{KeptSection, dynamic_strings_number, link_of_ty
 use Rattle.elf_layout_plan.specs.Needs.{lists_needs, staying_needs, written_needs}
 use Rattle.elf_layout_plan.specs.Texts.{is_table_copied}
 use Rattle.elf_write_spec.specs.Ready.{IsReady}
-use Rattle.elf_write_strings.specs.DynamicStrings.{content_read}
+use Rattle.elf_write_strings.specs.WrittenStrings.{content_read}
 use Rattle.elf_write_contents.proofs.ReadyEdits.{edit_of}
 use Rattle.elf_write_spec.proofs.ForCallers.IntactEdits.{Nowhere, ReadFacts, There, kept_is, type_at}
 use Rattle.elf_write_spec.proofs.ForCallers.IntactSections.{kept}

@@ -1,8 +1,8 @@
 -- The dynamic strings of a read file are a string table.
-use Rattle.std.proofs.Common.{◌≡◌, ◌≤◌, ◌<◌, ◌^◌, ℕ, Bool, true, false, List, refl, sym, ap, ◌∙◌, subst, Option, Some, None, arith}
-use Rattle.std.specs.Prelude.{◌||◌, not, ◌==◌, IsTrue, filter, nat_le, if◌then◌else◌}
+use Rattle.std.proofs.Common.{◌≡◌, ◌<◌, ℕ, true, refl, sym, ap, ◌∙◌, Option, Some, None, arith}
+use Rattle.std.specs.Prelude.{◌==◌, IsTrue, filter}
 use Rattle.std.specs.List.{list_all, slice_get}
-use Rattle.std.proofs.lemmas.Bool.{and_parts, eq-eqb, eqb-true, false≢true, leb-true}
+use Rattle.std.proofs.lemmas.Bool.{and_parts, eqb-true, false≢true}
 use Rattle.std.proofs.lemmas.Option.{none-some, same_Some, slice_get_within}
 use Rattle.patch_bytes.specs.Memory.{◌>>=◌}
 use Rattle.elf_format.specs.declared.constants.TheConstants.{SHT_DYNAMIC, SHT_DYNSYM, SHT_STRTAB}
@@ -12,15 +12,10 @@ use Rattle.elf_format.specs.Image.{Image, ImageSection}
 use Rattle.elf_format.specs.Options.{first_there, is_one_of, is_some_and}
 use Rattle.elf_format.specs.Rules.{are_linked, are_tables_linked, are_whole, infos_are_sections, is_one_of_each, links_to, relocations_fit, symbols_have_sections, text_users}
 use Rattle.elf_format.proofs.ForCallers.Placed.{IsIn-slice_get, passes_picked}
-use Rattle.elf_image.specs.Kept.{KeptSection, dynamic_strings_number, image_at_read, kept_sections, link_of_type}
-use Rattle.elf_layout_plan.specs.Sizes.{do_texts_fit, strings_size, table_size}
-use Rattle.elf_layout_plan.specs.Texts.{is_table_copied, texts_in_use}
-use Rattle.elf_tables.specs.Strings.{table_length}
-use Rattle.elf_layout_sizes.specs.MadeTables.{IsTooLong}
+use Rattle.elf_image.specs.Kept.{KeptSection, dynamic_strings_number, link_of_type}
 use Rattle.elf_write_spec.specs.Ready.{IsReady}
 use Rattle.elf_write_contents.proofs.ReadyEdits.{edit_of}
-use Rattle.elf_write_spec.proofs.ForCallers.IntactEdits.{Nowhere, ReadFacts, SectionRead, There, length-now, read_facts, section_read, type_at}
-use Rattle.elf_write_spec.proofs.ForCallers.IntactSections.{kept}
+use Rattle.elf_write_spec.proofs.ForCallers.IntactEdits.{Nowhere, ReadFacts, SectionRead, There, length-now, section_read, type_at}
 
 -- ## What the dynamic list or the dynamic symbols link to
 

@@ -1,18 +1,18 @@
 -- What the section of dynamic symbols shows, copied or spelled anew, by what its callers know of it.
-use Rattle.std.proofs.Common.{◌≡◌, ◌<◌, ℕ, ◌*◌, Bool, true, false, List, length, refl, sym, ap, ◌∙◌, subst, Option, Some, None, arith}
-use Rattle.std.specs.Prelude.{◌||◌, IsTrue, ◌==◌, if◌then◌else◌, option_map, slice_index}
+use Rattle.std.proofs.Common.{◌≡◌, ◌<◌, ℕ, ◌*◌, Bool, true, false, List, length, refl, sym, ap, ◌∙◌, subst, Some, None, arith, inl}
+use Rattle.std.specs.Prelude.{◌&&◌, ◌||◌, not, IsTrue, ◌==◌, option_map, slice_index}
 use Rattle.std.specs.List.{flat_map, list_all, slice_get}
-use Rattle.std.proofs.lemmas.Bool.{eq-eqb, eqb-true, false≢true}
-use Rattle.std.proofs.lemmas.Option.{none-some, same_Some, slice_get-map, slice_get_within}
+use Rattle.std.proofs.lemmas.Bool.{eq-eqb, false≢true}
+use Rattle.std.proofs.lemmas.Option.{same_Some, slice_get-map, slice_get_within}
 use Rattle.patch_bytes.specs.Bytes.{AreBytes}
-use Rattle.elf_format.specs.declared.constants.TheConstants.{SHT_DYNSYM}
+use Rattle.elf_format.specs.declared.constants.TheConstants.{SHT_DYNAMIC, SHT_DYNSYM, SHT_SYMTAB}
 use Rattle.elf_format.specs.declared.records.SymbolNumbers.{SymbolNumbers}
-use Rattle.elf_format.specs.Options.{list_at}
+use Rattle.elf_format.specs.Options.{is_some_and, list_at}
 use Rattle.elf_format.specs.Image.{Image, ImageSection}
 use Rattle.elf_format.specs.Records.{symbol_size, symbols_in}
 use Rattle.elf_format.specs.Views.{NamedSymbol}
 use Rattle.elf_format.proofs.ForCallers.Lengths.{slice_index-counted}
-use Rattle.elf_image.specs.Kept.{dynamic_strings_number}
+use Rattle.elf_image.specs.Kept.{dynamic_strings_number, link_of_type}
 use Rattle.elf_image.specs.Names.{are_names_changed}
 use Rattle.elf_layout_plan.specs.Needs.{written_entries}
 use Rattle.elf_layout_plan.specs.Texts.{texts_of_entries}
@@ -21,57 +21,55 @@ use Rattle.elf_tables.specs.Strings.{StandsAt, Strings}
 use Rattle.elf_write_spec.specs.Contents.{AreSymbolsOf, IsSymbolOf}
 use Rattle.elf_write_spec.specs.Final.{final}
 use Rattle.elf_write_strings.specs.declared.made.Made.{Made}
-use Rattle.elf_write_strings.specs.DynamicStrings.{AreStrings, IsTold, content_read, strings_at}
+use Rattle.elf_write_strings.specs.WrittenStrings.{AreStrings, IsTold, are_section_names_left, are_static_names_left, content_read, do_texts_move, has_names_in, has_texts_in, is_list_left, made_of, strings_at}
+use Rattle.elf_write_strings.proofs.ForCallers.VersionsShown.{number_found, strings_copied, strings_made}
 use Rattle.elf_write_spec.specs.Ready.{IsReady, IsSectionOfType}
-use Rattle.elf_write_contents.specs.SymbolSteps.{HasNames, TellsNames, does_symbol_fit, made_for, symbol_bytes}
+use Rattle.elf_write_contents.specs.SymbolSteps.{HasNames, TellsNames, does_symbol_fit, symbol_bytes}
 use Rattle.elf_write_contents.proofs.ReadyEdits.{edit_of}
 use Rattle.elf_write_spec.proofs.ForCallers.IntactSymbols.{all_symbols, count_read, final_ordered}
 use Rattle.elf_write_spec.proofs.ForCallers.IntactOrder.{ordered-same}
 use Rattle.elf_write_spec.proofs.ForCallers.IntactEdits.{ReadFacts, SectionRead, read_facts, section_read}
 use Rattle.elf_write_contents.proofs.SymbolsFinal.{final_long}
-use Rattle.elf_write_contents.proofs.SymbolsMade.{anew, fits, length-spelled, named_in_order, strings_are, tells_names}
+use Rattle.elf_write_contents.proofs.SymbolsMade.{anew, fits, length-spelled, link_is, named_in_order, strings_are, tells_names}
 use Rattle.elf_write_contents.proofs.SymbolsRead.{count, each_symbol, name_stands, sized, symbol_read}
 
 -- ## Which table
 
 -- the strings that are told where the section links
-pub record IsMadeFor (read image : Image) (made : Option Made) (number : ℕ) (m : Made) : Type 0 where
+pub record IsMadeFor (read image : Image) (made : List Made) (number : ℕ) (m : Made) : Type 0 where
   pub linked : m.number ≡ number
   pub told : IsTold read image m
   pub strings : strings_at image made number ≡ m.table.bytes
 
-pub is_made_for : (read image : Image) (made : Option Made) (number : ℕ) (m : Made) → AreStrings read image made → made_for made number ≡ Some m
+pub is_made_for : (read image : Image) (made : List Made) (number : ℕ) (m : Made) → AreStrings read image made → made_of made number ≡ Some m
     → IsMadeFor read image made number m
-is_made_for read image None number m are h = absurd (none-some m h)
-is_made_for read image (Some n) number m are h = by_test (n.number == number) refl h
-  where
-    by_test : (b : Bool) → (n.number == number) ≡ b → (if b then Some n else None) ≡ Some m → IsMadeFor read image (Some n) number m
-    by_test false e there = absurd (none-some m there)
-    by_test true e there =
-        subst (λ (k : Made). IsMadeFor read image (Some n) number k) (same_Some n m there) (record {
-          linked = eqb-true n.number number e;
-          told = are.told n refl;
-          strings = ap (λ (b : Bool). if b then n.table.bytes else content_read image number) e;
-        })
+is_made_for read image made number m are h = record {
+  linked = number_found made number m h;
+  told = are.told number m h;
+  strings = sym (strings_made image made number m h);
+}
 
 -- without them the names are those that were read
-pub record IsNoneFor (read image : Image) (made : Option Made) (number : ℕ) : Type 0 where
+pub record IsNoneFor (read image : Image) (made : List Made) (number : ℕ) : Type 0 where
   pub same : are_names_changed read image ≡ false
   pub strings : strings_at image made number ≡ content_read image number
 
-neither : (a b : Bool) → (a || b) ≡ false → a ≡ false
-neither false b h = refl
-neither true b h = absurd (false≢true (sym h))
+neither : (a b c d e : Bool) → ((((a && b) || c) || d) || e) ≡ false → a ≡ true → b ≡ false
+neither true false c d e h _ = refl
+neither true true c d e h _ = absurd (false≢true (sym h))
+neither false b c d e h other = absurd (false≢true other)
 
-pub is_none_for : (read image : Image) (made : Option Made) (number : ℕ) → AreStrings read image made → dynamic_strings_number image ≡ Some number
-    → made_for made number ≡ None → IsNoneFor read image made number
-is_none_for read image None number are linked h = record {
-  same = neither (are_names_changed read image) _ (are.as_read refl number linked).stay;
-  strings = refl;
+pub is_none_for : (read image : Image) (made : List Made) (number : ℕ) → AreStrings read image made → dynamic_strings_number image ≡ Some number
+    → link_of_type SHT_DYNSYM image ≡ Some number → made_of made number ≡ None → IsNoneFor read image made number
+unfolding do_texts_move
+is_none_for read image made number are linked symbols none = record {
+  same = neither (has_texts_in image SHT_DYNSYM number) (are_names_changed read image)
+      (has_texts_in image SHT_SYMTAB number && not (are_static_names_left read image))
+      (has_names_in image number && not (are_section_names_left read image))
+      (has_texts_in image SHT_DYNAMIC number && not (is_list_left read image)) (are.as_read number (inl linked) none).stay
+      (ap (is_some_and (λ n. n == number)) symbols ∙ eq-eqb number number refl);
+  strings = sym (strings_copied image made number none);
 }
-is_none_for read image (Some m) number are linked h =
-    let own : (m.number == number) ≡ true = eq-eqb m.number number (same_Some m.number number (sym (are.told m refl).linked ∙ linked)) in
-    absurd (none-some m (sym h ∙ ap (λ (b : Bool). if b then Some m else None) own))
 
 -- ## The section
 
@@ -124,13 +122,15 @@ module _ (read image : Image) (section : ImageSection) (is : IsReady read image)
         st_size = sym (ap (λ (z : NamedSymbol). z.st_size) is_same.2 ∙ ap (λ (z : NamedSymbol). z.st_size) was.fields);
       }
 
-  pub symbols_copied : (made : Option Made) → AreStrings read image made → made_for made section.sh_link ≡ None
+  pub symbols_copied : (made : List Made) → AreStrings read image made → made_of made section.sh_link ≡ None
       → AreSymbolsOf (strings_at image made section.sh_link) (final read image).dynamic_symbols (symbols_in image.form section.content)
   symbols_copied made are none =
       let link : at.section.sh_link ≡ section.sh_link = ap (λ (x : ImageSection). x.sh_link) same in
       let linked : dynamic_strings_number image ≡ Some section.sh_link =
       strings_are read image is f of.position at typed ∙ ap (λ (n : ℕ). Some n) link in
-      let so = is_none_for read image made section.sh_link are linked none in
+      let user : link_of_type SHT_DYNSYM image ≡ Some section.sh_link =
+      link_is read image is f of.position at typed ∙ ap (λ (n : ℕ). Some n) link in
+      let so = is_none_for read image made section.sh_link are linked user none in
       let finally : (final read image).dynamic_symbols ≡ image.dynamic_symbols =
       final_ordered read image (edit_of is) f ∙ ordered-same read image so.same in
       subst (λ (ys : List NamedSymbol). AreSymbolsOf (strings_at image made section.sh_link) ys (symbols_in image.form section.content)) (sym finally)

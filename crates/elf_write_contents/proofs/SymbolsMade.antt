@@ -43,7 +43,7 @@ use Rattle.elf_write_spec.specs.Ready.{IsReady}
 use Rattle.elf_write_spec.proofs.ForCallers.FinalEntries.{written_none}
 use Rattle.elf_write_spec.proofs.ForCallers.IntactSymbols.{final_at}
 use Rattle.elf_write_strings.specs.declared.made.Made.{Made}
-use Rattle.elf_write_strings.specs.DynamicStrings.{IsTold}
+use Rattle.elf_write_strings.specs.WrittenStrings.{IsTold}
 use Rattle.elf_write_contents.proofs.OthersCopied.{list_linked, no_entries_read, none_edited, symbols_linked}
 use Rattle.elf_write_strings.proofs.ForCallers.TextsTold.{linked_if, told_symbols}
 use Rattle.elf_write_contents.specs.SymbolSteps.{HasNames, TellsNames, begins_empty, does_symbol_fit, place_of_name, symbol_bytes, symbol_in}
@@ -184,7 +184,7 @@ module _ (read image : Image) (is : IsReady read image) (f : ReadFacts read imag
       by_link : (o : Option ℕ) → link_of_type SHT_DYNAMIC image ≡ o → if_linked image SHT_DYNAMIC m.number front ≡ front
       by_link (Some n) o_is =
           let same : n ≡ m.number =
-          same_Some n m.number (sym (list_linked read image is f n o_is) ∙ told.linked) in
+          same_Some n m.number (sym (list_linked read image is f n o_is) ∙ symbols_linked read image is f m.number link_here) in
           linked_if image SHT_DYNAMIC m.number front (o_is ∙ ap (λ (k : ℕ). Some k) same)
       by_link None o_is =
           let none_read : read.entries ≡ None = no_entries_read read image is f o_is in

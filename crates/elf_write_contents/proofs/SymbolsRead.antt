@@ -33,7 +33,7 @@ use Rattle.elf_write_strings.specs.PlacedTexts.{AreSymbolsAt}
 use Rattle.elf_write_strings.proofs.ForCallers.VersionsTexts.{text_stands}
 use Rattle.elf_write_spec.proofs.ForCallers.IntactSymbols.{count_read}
 use Rattle.elf_write_spec.proofs.ForCallers.IntactCounts.{found_only}
-use Rattle.elf_write_strings.specs.DynamicStrings.{content_read}
+use Rattle.elf_write_strings.specs.WrittenStrings.{content_read}
 use Rattle.elf_write_spec.specs.Ready.{IsReady}
 use Rattle.elf_write_contents.proofs.OthersCopied.{content_is_read}
 use Rattle.elf_write_contents.proofs.ReadyEdits.{edit_of}

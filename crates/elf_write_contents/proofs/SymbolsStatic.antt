@@ -1,6 +1,6 @@
 -- What the section of static symbols shows of an image of which nothing went: it is as it was read, and so is the table of its names.
 use Rattle.std.proofs.Common.{◌≡◌, ℕ, Bool, true, false, List, [], ◌∷◌, length, replicate, refl, sym, ap, ◌∙◌, subst, Option, Some, None}
-use Rattle.std.specs.Prelude.{◌||◌, not, ◌==◌, if◌then◌else◌}
+use Rattle.std.specs.Prelude.{◌||◌, not, ◌==◌}
 use Rattle.std.specs.List.{list_all, slice_get}
 use Rattle.std.proofs.lemmas.Bool.{and_parts, eq-eqb, false≢true, ne_eqb, not-true}
 use Rattle.std.proofs.lemmas.Option.{none-some, same_Some}
@@ -11,7 +11,7 @@ use Rattle.elf_format.specs.declared.records.SectionHeader.{SectionHeader}
 use Rattle.elf_format.specs.declared.records.SymbolNumbers.{SymbolNumbers}
 use Rattle.elf_format.specs.File.{Parts, linked_section, section_bytes, section_of_type}
 use Rattle.elf_format.specs.Image.{Image, ImageSection, symbols_of}
-use Rattle.elf_format.specs.Options.{first_there, is_one_of}
+use Rattle.elf_format.specs.Options.{first_there, is_one_of, is_some_and}
 use Rattle.elf_format.specs.Records.{symbols_in}
 use Rattle.elf_format.specs.Rules.{are_dynamic_strings_own, dynamic_strings_user, file_of, text_users, texts_of}
 use Rattle.elf_format.specs.Views.{NamedSymbol}
@@ -19,6 +19,7 @@ use Rattle.elf_format.proofs.ForCallers.Placed.{IsIn-slice_get}
 use Rattle.elf_format.proofs.ForCallers.ViewsAgree.{test_at}
 use Rattle.elf_image.specs.ReadImage.{AreStaticSymbols, AreSymbolsOf}
 use Rattle.elf_image.specs.Kept.{KeptSection, dynamic_strings_number, kept_of_type, link_of_type}
+use Rattle.elf_layout_plan.specs.Texts.{is_table_copied}
 use Rattle.elf_write_spec.specs.Contents.{AreStaticSymbolsIn, AreSymbolsOf as AreSymbolsWritten, IsSymbolOf}
 use Rattle.elf_write_spec.specs.Final.{final}
 use Rattle.elf_write_spec.specs.Ready.{IsReady}
@@ -26,8 +27,9 @@ use Rattle.elf_write_spec.proofs.ForCallers.IntactEdits.{Nowhere, ReadFacts, Sec
 use Rattle.elf_write_spec.proofs.ForCallers.IntactSections.{kept}
 use Rattle.elf_write_spec.proofs.ForCallers.TextsRead.{text_reads}
 use Rattle.elf_write_strings.specs.declared.made.Made.{Made}
-use Rattle.elf_write_strings.specs.DynamicStrings.{AreStrings, content_read, strings_at}
-use Rattle.elf_write_contents.proofs.OthersCopied.{content_is_read}
+use Rattle.elf_write_strings.specs.WrittenStrings.{AreStrings, content_read, made_of, strings_at}
+use Rattle.elf_write_strings.proofs.ForCallers.VersionsShown.{number_found, strings_copied, strings_made}
+use Rattle.elf_write_contents.proofs.OthersCopied.{content_is_read, others_copied}
 use Rattle.elf_write_contents.proofs.ReadyEdits.{edit_of}
 use Rattle.elf_write_contents.proofs.SymbolsRead.{each_symbol}
 use Rattle.elf_write_contents.proofs.ContentsMade.{resized_with}
@@ -99,10 +101,24 @@ module _ (read image : Image) (is : IsReady read image) (f : ReadFacts read imag
   ]
 
   -- it is copied
-  names_as_read : (made : Option Made) → AreStrings read image made → strings_at image made at.section.sh_link ≡ content_read image at.section.sh_link
-  names_as_read None are = refl
-  names_as_read (Some m) are =
-      ap (λ (b : Bool). if b then m.table.bytes else content_read image at.section.sh_link) (strings_apart m.number (are.told m refl).linked)
+  names_apart : is_some_and (λ link. link == at.section.sh_link) (dynamic_strings_number image) ≡ false
+  names_apart = by_number (dynamic_strings_number image) refl
+    where
+      by_number : (o : Option ℕ) → dynamic_strings_number image ≡ o → is_some_and (λ link. link == at.section.sh_link) o ≡ false
+      by_number None none = refl
+      by_number (Some n) linked = strings_apart n linked
+
+  names_as_read : (made : List Made) → AreStrings read image made → strings_at image made at.section.sh_link ≡ content_read image at.section.sh_link
+  names_as_read made are = by_made (made_of made at.section.sh_link) refl
+    where
+      by_made : (o : Option Made) → made_of made at.section.sh_link ≡ o → strings_at image made at.section.sh_link ≡ content_read image at.section.sh_link
+      by_made None none = sym (strings_copied image made at.section.sh_link none)
+      by_made (Some m) found =
+          let told = are.told at.section.sh_link m found in
+          let own : m.number ≡ at.section.sh_link = number_found made at.section.sh_link m found in
+          let copied : is_table_copied read image m.number ≡ true =
+          ap (is_table_copied read image) own ∙ others_copied read image is f at.section.sh_link names_apart in
+          sym (strings_made image made at.section.sh_link m found) ∙ told.copied copied ∙ ap (content_read image) own
 
   -- ## Its records
 
@@ -156,7 +172,7 @@ module _ (read image : Image) (is : IsReady read image) (f : ReadFacts read imag
       (were.count ∙ sym (ap length records_were)) symbol_as_read
 
   -- the final symbols are those that were read
-  pub statics_copied : (made : Option Made) → AreStrings read image made → (bytes : List ℕ) → bytes ≡ at.section.content
+  pub statics_copied : (made : List Made) → AreStrings read image made → (bytes : List ℕ) → bytes ≡ at.section.content
       → AreStaticSymbolsIn (resized_with read image) (kept i at.section) (strings_at image made at.section.sh_link) bytes
   statics_copied made are bytes same =
       let finally : read.symbols ≡ (final read image).symbols = sym is.whole.symbols ∙ sym (static_same read image (edit_of is)) in

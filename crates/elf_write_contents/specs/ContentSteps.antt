@@ -1,5 +1,5 @@
 -- The bytes of one section among those of an image.
-use Rattle.std.specs.Prelude.{ℕ, ◌*◌, ◌≡◌, ◌≢◌, List, length, Option, Some, None, ◌==◌, if◌then◌else◌}
+use Rattle.std.specs.Prelude.{ℕ, ◌*◌, ◌≡◌, ◌≢◌, List, length, Some, None}
 use Rattle.std.specs.List.{slice_get}
 use Rattle.elf_format.specs.declared.records.EntryNumbers.{EntryNumbers}
 use Rattle.elf_format.specs.declared.constants.TheConstants.{SHT_GNU_HASH, SHT_GNU_VERSYM, SHT_HASH}
@@ -13,20 +13,20 @@ use Rattle.elf_layout_plan.specs.Plan.{Layout, resized}
 use Rattle.elf_layout_plan.specs.Sizes.{hash_size}
 use Rattle.elf_write_spec.specs.Contents.{AreRelocationsOf, AreVersionsIn, IsGabiContent, IsGnuContent}
 use Rattle.elf_write_strings.specs.declared.made.Made.{Made}
+use Rattle.elf_write_strings.specs.WrittenStrings.{made_of}
 use Rattle.elf_write_contents.specs.Inner.{IsMadeContent}
 
--- the table that is made anew, where it has a number, else these bytes
-abbrev pub made_or : Option Made → ℕ → List ℕ → List ℕ
-made_or None number content = content
-made_or (Some m) number content = if m.number == number then m.table.bytes else content
+-- the table that is told anew, where one had a number, else these bytes
+abbrev pub made_or : List Made → ℕ → List ℕ → List ℕ
+made_or made number content = elim (made_of made number) [ Some m ↦ m.table.bytes | None ↦ content ]
 
 -- the bytes are those of the section at a position, as many as its place
-pub record IsBytesAt (image : Image) (plan : Layout) (made : Option Made) (raw : List EntryNumbers) (i : ℕ) (bytes : List ℕ) : Type 0 where
+pub record IsBytesAt (image : Image) (plan : Layout) (made : List Made) (raw : List EntryNumbers) (i : ℕ) (bytes : List ℕ) : Type 0 where
   pub are : (k : KeptSection) (place : Place) → slice_get (kept_sections image) i ≡ Some k → slice_get plan.places i ≡ Some place
       → IsMadeContent (resized image) plan made raw k place bytes
 
 -- these are those of the first sections, each
-pub record AreBytesOf (image : Image) (plan : Layout) (made : Option Made) (raw : List EntryNumbers) (contents : List (List ℕ)) : Type 0 where
+pub record AreBytesOf (image : Image) (plan : Layout) (made : List Made) (raw : List EntryNumbers) (contents : List (List ℕ)) : Type 0 where
   pub each : (i : ℕ) (bytes : List ℕ) → slice_get contents i ≡ Some bytes → IsBytesAt image plan made raw i bytes
 
 -- ## Sections that number the dynamic symbols

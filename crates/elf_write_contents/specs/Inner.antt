@@ -1,5 +1,5 @@
 -- What the steps towards the bytes of a file hand to each other.
-use Rattle.std.specs.Prelude.{ℕ, ◌≡◌, List, [], ◌∷◌, length, Option, Some, None, if◌then◌else◌}
+use Rattle.std.specs.Prelude.{ℕ, ◌≡◌, List, [], ◌∷◌, length, Some, None, if◌then◌else◌}
 use Rattle.elf_format.specs.declared.constants.TheConstants.{SHT_DYNAMIC, SHT_STRTAB}
 use Rattle.elf_format.specs.declared.records.EntryNumbers.{EntryNumbers}
 use Rattle.elf_format.specs.declared.records.SectionHeader.{SectionHeader}
@@ -16,7 +16,7 @@ use Rattle.elf_write_spec.specs.Output.{IsPlannedOutput, Output, written_bytes}
 use Rattle.elf_write_spec.specs.WrittenFile.{IsWrittenByPlan, IsWrittenOf}
 pub use Rattle.elf_write_spec.specs.Ready.{IsPlanned, IsReady, IsSectionOfType}
 use Rattle.elf_write_strings.specs.declared.made.Made.{Made}
-use Rattle.elf_write_strings.specs.DynamicStrings.{strings_at}
+use Rattle.elf_write_strings.specs.WrittenStrings.{strings_at}
 
 -- ## Headers and entries
 
@@ -27,7 +27,7 @@ AreHeaders r names (s ∷ ss) (p ∷ ps) (h ∷ hs) = IsHeaderOf r names s.secti
 AreHeaders r names _ _ _ = ⊥
 
 -- the numbers of the dynamic list's entries, none without a dynamic section
-pub record AreRaw (r : Resized) (plan : Layout) (made : Option Made) (raw : List EntryNumbers) : Type 0 where
+pub record AreRaw (r : Resized) (plan : Layout) (made : List Made) (raw : List EntryNumbers) : Type 0 where
   pub no_list : kept_of_type SHT_DYNAMIC r.image ≡ None → raw ≡ []
   pub listed : (s : KeptSection) → kept_of_type SHT_DYNAMIC r.image ≡ Some s
       → AreEntriesOf r plan (strings_at r.image made s.section.sh_link) (list_at (λ es. es) (final r.read r.image).entries) raw
@@ -35,13 +35,13 @@ pub record AreRaw (r : Resized) (plan : Layout) (made : Option Made) (raw : List
 -- ## Contents
 
 -- the bytes of a section, as many as its place
-pub record IsMadeContent (r : Resized) (plan : Layout) (made : Option Made) (raw : List EntryNumbers) (s : KeptSection) (place : Place) (bytes : List ℕ) : Type 0 where
+pub record IsMadeContent (r : Resized) (plan : Layout) (made : List Made) (raw : List EntryNumbers) (s : KeptSection) (place : Place) (bytes : List ℕ) : Type 0 where
   pub sized : length bytes ≡ (if occupies_file place then place.sh_size else 0)
   pub content : IsContent r plan raw (strings_at r.image made s.section.sh_link) s bytes
   pub strings : s.section.sh_type ≡ SHT_STRTAB → bytes ≡ strings_at r.image made s.number
 
 -- section by section
-abbrev pub AreContents : Resized → Layout → Option Made → List EntryNumbers → List KeptSection → List Place → List (List ℕ) → Type 0
+abbrev pub AreContents : Resized → Layout → List Made → List EntryNumbers → List KeptSection → List Place → List (List ℕ) → Type 0
 AreContents r plan made raw [] [] [] = Unit {0}
 AreContents r plan made raw (s ∷ ss) (p ∷ ps) (bytes ∷ more) = IsMadeContent r plan made raw s p bytes × AreContents r plan made raw ss ps more
 AreContents r plan made raw _ _ _ = ⊥

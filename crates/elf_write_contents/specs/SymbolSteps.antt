@@ -1,5 +1,5 @@
 -- The steps of spelling the dynamic symbols (gABI, Symbol Table).
-use Rattle.std.specs.Prelude.{ℕ, ◌+◌, ◌≡◌, ◌≤◌, List, length, slice_get, slice_index, Bool, ◌&&◌, Option, Some, None, IsSome, ◌==◌, if◌then◌else◌, unwrap_or}
+use Rattle.std.specs.Prelude.{ℕ, ◌+◌, ◌≡◌, ◌≤◌, List, length, slice_get, slice_index, Bool, ◌&&◌, Some, IsSome, ◌==◌, if◌then◌else◌, unwrap_or}
 use Rattle.elf_format.specs.Options.{is_some_and}
 use Rattle.elf_format.specs.declared.form.Form.{Form}
 use Rattle.elf_format.specs.declared.records.SymbolNumbers.{SymbolNumbers}
@@ -8,12 +8,6 @@ use Rattle.elf_tables.specs.Fields.{do_fields_fit}
 use Rattle.elf_tables.specs.Spelled.{spelled_symbol, symbol_fields}
 use Rattle.elf_image_symbols.specs.TableSymbols.{symbol_with}
 use Rattle.elf_tables.specs.Strings.{Strings, place_of}
-use Rattle.elf_write_strings.specs.declared.made.Made.{Made}
-
--- the dynamic strings that are told anew, where they had that number
-abbrev pub made_for : Option Made → ℕ → Option Made
-made_for None number = None
-made_for (Some m) number = if m.number == number then Some m else None
 
 -- the empty text stands at 0
 abbrev pub begins_empty : Strings → Bool

@@ -13,7 +13,7 @@ ghost use Rattle.elf_image.specs.ImageModel.{section_model};
 ghost use Rattle.elf_write_symbols.specs.Fits.{do_numbers_fit_in, do_section_relocations_fit};
 ghost use Rattle.elf_write_symbols.specs.Renumbering.{IsRenumbering, IsReorderingFor};
 ghost use Rattle.elf_write_contents.specs.ContentSteps.{IsBytesAt, IsNumbering, IsRelocated, made_or};
-ghost use Rattle.elf_write_strings.specs.DynamicStrings.{AreStrings};
+ghost use Rattle.elf_write_strings.specs.WrittenStrings.{AreStrings};
 ghost use Rattle.elf_write_spec.specs.Contents.{AreVersionsIn};
 ghost use Rattle.elf_write_spec.specs.Final.{final};
 ghost use Rattle.elf_write_spec.specs.Ready.{IsPlanned, IsReady, IsSectionOfType};
@@ -29,7 +29,7 @@ use elf_image::constants::{
 };
 use elf_image::{Builder, Section};
 use elf_layout_plan::{Plan, is_numbered};
-use elf_write_strings::made::Made;
+use elf_write_strings::made::{Made, made_of};
 use elf_write_strings::versions::{definitions_content, needs_content};
 use elf_write_symbols::{
     Renumbering, Reordering, gabi_content, gnu_content, relocations_content, versions_content,
@@ -44,7 +44,7 @@ pub fn contents<'a, 'data>(
     read: &'a Builder<'data>,
     image: &'a Builder<'data>,
     plan: &Plan,
-    made: &'a Option<Made<'_>>,
+    made: &'a [Made<'_>],
     renumbering: &Renumbering,
     raw: &[EntryNumbers],
 ) -> Result<Vec<ByteString<'a>>, AllocError>
@@ -83,22 +83,18 @@ fn interpreter_content<'a, 'data>(image: &'a Builder<'data>) -> ByteString<'a>
     }
 }
 
-// The bytes of a string table that had that number: the table that is made anew where it has this one, else those
-// that were read.
+// The bytes of a string table that had that number: those of the table that is told anew, else those that were read.
 fn strings_content<'a, 'data>(
-    made: &'a Option<Made<'_>>,
+    made: &'a [Made<'_>],
     section: &'a Section<'data>,
     number: usize,
 ) -> ByteString<'a>
     ensures { result.bytes ≡ made_or made.entry.now number section.entry.now.content.now }
 {
-    let Some(made) = made else {
+    let Some(made) = made_of(made, number) else {
         return ByteString::borrowed(section.content);
     };
-    if made.number == number {
-        return ByteString::borrowed(made.table.bytes());
-    }
-    ByteString::borrowed(section.content)
+    ByteString::borrowed(made.table.bytes())
 }
 
 // The bytes of the section at a position, which isn't the interpreter's. None went, so that is its number at read.
@@ -107,7 +103,7 @@ fn section_content<'a, 'data>(
     read: &'a Builder<'data>,
     image: &'a Builder<'data>,
     plan: &Plan,
-    made: &'a Option<Made<'_>>,
+    made: &'a [Made<'_>],
     renumbering: &Renumbering,
     raw: &[EntryNumbers],
     i: usize,

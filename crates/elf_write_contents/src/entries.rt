@@ -11,7 +11,7 @@ ghost use Rattle.elf_write_spec.specs.Contents.{spelled_list, table_value as val
 ghost use Rattle.elf_layout_needs.specs.Staying.{staying_entries};
 ghost use Rattle.elf_layout_needs.specs.Written.{AreWritten};
 ghost use Rattle.elf_write_contents.specs.EntrySteps.{numbers_with, places_behind as places_left, value_with};
-ghost use Rattle.elf_write_strings.specs.DynamicStrings.{AreStrings};
+ghost use Rattle.elf_write_strings.specs.WrittenStrings.{AreStrings};
 ghost use Rattle.elf_write_spec.specs.Ready.{IsPlanned};
 ghost use Rattle.elf_write_contents.specs.Inner.{AreRaw};
 
@@ -99,7 +99,7 @@ pub(crate) fn raw_entries<'data>(
     image: &Builder<'data>,
     plan: &Plan,
     staying: &StayingNeeds,
-    made: &Option<Made<'_>>,
+    made: &[Made<'_>],
 ) -> Result<Vec<EntryNumbers>, AllocError>
     requires planned { IsPlanned read.now image.now plan.now }
     requires staying { AreWritten read.now image.now staying.now }

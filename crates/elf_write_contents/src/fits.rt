@@ -7,7 +7,7 @@ ghost use Rattle.elf_tables.specs.Fields.{do_fields_fit, does_field_fit};
 ghost use Rattle.elf_tables.specs.Spelled.{class_word, entry_fields, file_header_fields, section_fields, segment_fields};
 ghost use Rattle.elf_write_spec.specs.Headers.{written_header};
 ghost use Rattle.elf_write_contents.specs.FitSteps.{do_unnamed_fit, do_words_fit as do_all_words_fit, unnamed};
-ghost use Rattle.elf_write_strings.specs.DynamicStrings.{AreStrings, strings_at};
+ghost use Rattle.elf_write_strings.specs.WrittenStrings.{AreStrings, strings_at};
 ghost use Rattle.elf_write_spec.specs.Ready.{IsPlanned};
 ghost use Rattle.elf_write_contents.specs.Inner.{AreHeaders, AreRaw};
 ghost use Rattle.elf_write_contents.specs.Numbers.{do_header_numbers_fit as do_all_fit, do_records_fit as do_records_fit_fields};
@@ -127,7 +127,7 @@ pub(crate) fn do_header_numbers_fit<'data>(
     read: &Builder<'data>,
     image: &Builder<'data>,
     plan: &Plan,
-    made: &Option<Made<'_>>,
+    made: &[Made<'_>],
     header: FileHeader,
     sections: &[SectionHeader],
     entries: &[EntryNumbers],

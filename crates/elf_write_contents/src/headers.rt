@@ -15,7 +15,7 @@ ghost use Rattle.elf_layout_needs.specs.Written.{AreWritten};
 ghost use Rattle.elf_write_spec.specs.Final.{final, new_number as number_of};
 ghost use Rattle.elf_write_spec.specs.Headers.{Reads, behind_locals as behind_all, written_header};
 ghost use Rattle.elf_write_contents.specs.HeaderSteps.{IsHeaderAt, IsKnown, header_by, headers_read, info_by};
-ghost use Rattle.elf_write_strings.specs.DynamicStrings.{AreStrings, content_read, strings_at};
+ghost use Rattle.elf_write_strings.specs.WrittenStrings.{AreStrings, content_read, made_of as made_at, strings_at};
 ghost use Rattle.elf_write_spec.specs.Ready.{IsEditedReady, IsPlanned};
 ghost use Rattle.elf_write_symbols.specs.NewSections.{AreNewSections};
 ghost use Rattle.elf_write_symbols.specs.Renumbering.{IsReorderingFor};
@@ -33,7 +33,7 @@ use elf_image_symbol_edits::SymbolsNow;
 use elf_layout_needs::StayingNeeds;
 use elf_layout_plan::{Plan, SectionPlace};
 use elf_tables::TableFault;
-use elf_write_strings::made::Made;
+use elf_write_strings::made::{Made, made_of};
 use elf_write_symbols::{NewSections, Reordering, new_number, order_of};
 use std::alloc::Global;
 
@@ -176,18 +176,16 @@ fn known_of(
 }
 
 // Where a section's name stands among the names that are written, which was read at a place.
-fn name_place(image: &Builder<'_>, made: &Option<Made<'_>>, name: &[u8], old: u32) -> u32
-    requires anew { (m : Made) → made.now ≡ Some m
-        → m.number ≡ image.now.header.e_shstrndx → IsSome (place_of m.table name.now) }
+fn name_place(image: &Builder<'_>, made: &[Made<'_>], name: &[u8], old: u32) -> u32
+    requires anew { (m : Made) → made_at made.now image.now.header.e_shstrndx ≡ Some m
+        → IsSome (place_of m.table name.now) }
     requires copied { Reads (content_read image.now image.now.header.e_shstrndx) old name.now }
     ensures { Reads (strings_at image.now made.now image.now.header.e_shstrndx)
         result name.now }
 {
-    match made {
-        Some(made) if made.number == image.header().e_shstrndx as usize => {
-            made.table.offset_of(name).unwrap()
-        }
-        _ => old,
+    match made_of(made, image.header().e_shstrndx as usize) {
+        Some(made) => made.table.offset_of(name).unwrap(),
+        None => old,
     }
 }
 
@@ -254,7 +252,7 @@ fn header_at(
     read: &Builder<'_>,
     image: &Builder<'_>,
     plan: &Plan,
-    made: &Option<Made<'_>>,
+    made: &[Made<'_>],
     known: &Known,
     sections: &NewSections,
     i: usize,
@@ -287,7 +285,7 @@ fn headers_with(
     read: &Builder<'_>,
     image: &Builder<'_>,
     plan: &Plan,
-    made: &Option<Made<'_>>,
+    made: &[Made<'_>],
     known: &Known,
     sections: &NewSections,
 ) -> Result<Vec<SectionHeader>, TableFault>
@@ -322,7 +320,7 @@ pub(crate) fn section_headers<'data>(
     staying: &StayingNeeds,
     reordering: &Option<Reordering>,
     sections: &NewSections,
-    made: &Option<Made<'_>>,
+    made: &[Made<'_>],
 ) -> Result<Vec<SectionHeader>, TableFault>
     requires planned { IsPlanned read.now image.now plan.now }
     requires sections { AreNewSections read.now image.now sections.now }

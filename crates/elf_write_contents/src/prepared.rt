@@ -2,7 +2,7 @@
 ghost use Rattle.std.specs.Prelude.{◌≡◌, false, IfErr, IfOk};
 ghost use Rattle.elf_tables.specs.declared.fault.TableFault.TheVariants.{NumberTooLarge};
 ghost use Rattle.elf_write_spec.specs.Ready.{IsPlanned};
-ghost use Rattle.elf_write_strings.specs.DynamicStrings.{AreStrings};
+ghost use Rattle.elf_write_strings.specs.WrittenStrings.{AreStrings};
 ghost use Rattle.elf_write_symbols.specs.Renumbering.{IsRenumbering};
 ghost use Rattle.elf_write_contents.specs.Numbers.{do_numbers_fit as do_all_fit};
 ghost use Rattle.elf_write_contents.specs.PreparedSteps.{IsPrepared};
@@ -22,8 +22,8 @@ use std::alloc::Global;
 /// What stands in the headers of a written file, and in its dynamic section.
 #[derive(Drop)]
 pub struct Prepared<'t> {
-    /// The dynamic strings, where they are told anew.
-    pub made: Option<Made<'t>>,
+    /// The string tables that are told anew.
+    pub made: Vec<Made<'t>>,
     /// The new numbers of sections and symbols.
     pub renumbering: Renumbering,
     /// The file header (gABI, ELF Header).
@@ -51,7 +51,7 @@ pub fn prepare<'a, 'data>(
     prepare_with_strings(alloc, read, image, plan, made)
 }
 
-/// The same, with the dynamic strings that are told anew, which [`strings_from`](elf_write_strings::made::strings_from)
+/// The same, with the string tables that are told anew, which [`strings_from`](elf_write_strings::made::strings_from)
 /// gives. Errors as there.
 #[tactic(auto, using(crate::proofs::ReadyEdits::edited_ready))]
 pub fn prepare_with_strings<'a, 'data>(
@@ -59,10 +59,10 @@ pub fn prepare_with_strings<'a, 'data>(
     read: &'a Builder<'data>,
     image: &'a Builder<'data>,
     plan: &Plan,
-    made: Option<Made<'a>>,
+    made: Vec<Made<'a>>,
 ) -> Result<Prepared<'a>, TableFault>
     requires planned { IsPlanned read.now image.now plan.now }
-    requires strings { AreStrings read.now image.now made }
+    requires strings { AreStrings read.now image.now made.items }
     ensures prepared { IfOk result (IsPrepared read.entry.now image.entry.now plan.now) }
     ensures fault { IfErr result (λ fault.
         fault ≡ NumberTooLarge → do_all_fit image.entry.now plan.now ≡ false) }
@@ -78,11 +78,11 @@ fn prepare_numbered<'a, 'data>(
     read: &'a Builder<'data>,
     image: &'a Builder<'data>,
     plan: &Plan,
-    made: Option<Made<'a>>,
+    made: Vec<Made<'a>>,
     renumbering: Renumbering,
 ) -> Result<Prepared<'a>, TableFault>
     requires planned { IsPlanned read.now image.now plan.now }
-    requires strings { AreStrings read.now image.now made }
+    requires strings { AreStrings read.now image.now made.items }
     requires renumbering { IsRenumbering read.now image.now renumbering }
     ensures prepared { IfOk result (IsPrepared read.entry.now image.entry.now plan.now) }
     ensures fault { IfErr result (λ fault.

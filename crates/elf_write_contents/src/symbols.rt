@@ -12,9 +12,9 @@ ghost use Rattle.elf_layout_plan.specs.Texts.{texts_of_entries};
 ghost use Rattle.elf_write_spec.specs.Contents.{AreSymbolsOf};
 ghost use Rattle.elf_write_spec.specs.Final.{final, final_symbol};
 ghost use Rattle.elf_write_spec.specs.Ready.{IsReady, IsSectionOfType};
-ghost use Rattle.elf_write_strings.specs.DynamicStrings.{AreStrings, IsTold, strings_at};
+ghost use Rattle.elf_write_strings.specs.WrittenStrings.{AreStrings, IsTold, made_of as made_at, strings_at};
 ghost use Rattle.elf_write_symbols.specs.Renumbering.{IsRenumbering};
-ghost use Rattle.elf_write_contents.specs.SymbolSteps.{HasNames, TellsNames, begins_empty as begins_empty_text, does_symbol_fit, made_for as made_with, place_in, place_of_named, symbol_bytes};
+ghost use Rattle.elf_write_contents.specs.SymbolSteps.{HasNames, TellsNames, begins_empty as begins_empty_text, does_symbol_fit, place_in, place_of_named, symbol_bytes};
 
 use elf_format::records::SymbolNumbers;
 use elf_image::{Builder, Section};
@@ -22,21 +22,11 @@ use elf_image_symbol_edits::SymbolsNow;
 use elf_layout_needs::StayingNeeds;
 use elf_tables::Finished;
 use elf_tables::spelled::push_symbol;
-use elf_write_strings::made::Made;
+use elf_write_strings::made::{Made, made_of};
 use elf_write_strings::texts::list_texts;
 use elf_write_symbols::{Renumbering, new_symbol_section, order_of};
 use patch_bytes::ByteString;
 use std::alloc::{AllocError, Global};
-
-// The dynamic strings that are told anew, where they had that number.
-fn made_for<'m, 't>(made: &'m Option<Made<'t>>, number: u32) -> Option<&'m Made<'t>>
-    ensures { option_map (λ m. m.now) result ≡ made_with made.entry.now number }
-{
-    match made {
-        Some(made) if made.number == number as usize => Some(made),
-        _ => None,
-    }
-}
 
 // Whether the empty text stands at 0 of a table.
 fn begins_empty(table: &Finished<'_>) -> bool
@@ -182,13 +172,13 @@ fn count_texts(alloc: Global, read: &Builder<'_>, image: &Builder<'_>) -> Result
 fn symbols_copied<'data>(
     read: &Builder<'data>,
     image: &Builder<'data>,
-    made: &Option<Made<'_>>,
+    made: &[Made<'_>],
     section: &Section<'data>,
 ) -> ByteString<'data>
     requires ready { IsReady read.now image.now }
     requires strings { AreStrings read.now image.now made.now }
     requires at { IsSectionOfType SHT_DYNSYM image.now (section_model section.now) }
-    requires copied { made_with made.now section.now.sh_link ≡ None }
+    requires copied { made_at made.now section.now.sh_link ≡ None }
     ensures sized { length result.bytes
         ≡ length image.now.dynamic_symbols * symbol_size image.now.form }
     ensures symbols { AreSymbolsOf (strings_at image.now made.now section.now.sh_link)
@@ -278,7 +268,7 @@ pub(crate) fn symbols_content<'data>(
     alloc: Global,
     read: &Builder<'data>,
     image: &Builder<'data>,
-    made: &Option<Made<'_>>,
+    made: &[Made<'_>],
     renumbering: &Renumbering,
     section: &Section<'data>,
 ) -> Result<ByteString<'data>, AllocError>
@@ -293,7 +283,7 @@ pub(crate) fn symbols_content<'data>(
         (final read.now image.now).dynamic_symbols
         (symbols_in image.now.form content.bytes)) }
 {
-    match made_for(made, section.sh_link) {
+    match made_of(made, section.sh_link as usize) {
         None => Ok(symbols_copied(read, image, made, section)),
         Some(made) => symbols_anew(alloc, read, image, made, renumbering, section),
     }

@@ -13,5 +13,7 @@ pub use Rattle.elf_write_strings.proofs.Results
 pub use Rattle.elf_write_strings.proofs.TablesThere
 -- which texts a string table tells
 pub use Rattle.elf_write_strings.proofs.TextsTold
+-- which table has a number, and its bytes
+pub use Rattle.elf_write_strings.proofs.VersionsShown
 -- texts that are read stand in their table
 pub use Rattle.elf_write_strings.proofs.VersionsTexts

@@ -2,6 +2,7 @@ pub mod ForCallers
 pub mod LinksAt
 pub mod MadeShort
 pub mod MadeStrings
+pub mod NamesLeft
 pub mod ReadTables
 pub mod Results
 pub mod TablesThere

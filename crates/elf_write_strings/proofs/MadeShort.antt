@@ -1,13 +1,12 @@
 -- String tables that are there are so long that their new size fits with the offsets of their texts.
-use Rattle.std.proofs.Common.{◌≡◌, ◌≤◌, ◌<◌, ◌^◌, ℕ, Bool, true, false, List, refl, sym, ap, ◌∙◌, subst, Option, Some, arith}
+use Rattle.std.proofs.Common.{◌≡◌, ◌≤◌, ◌<◌, ◌^◌, ℕ, Bool, true, false, List, refl, sym, ap, ◌∙◌, subst, Some, arith}
 use Rattle.std.specs.Prelude.{◌||◌, not, ◌==◌, nat_le, if◌then◌else◌}
 use Rattle.std.specs.List.{list_all, slice_get}
 use Rattle.std.proofs.lemmas.Bool.{and_parts, eq-eqb, false≢true, leb-true}
-use Rattle.std.proofs.lemmas.Option.{none-some}
 use Rattle.elf_format.specs.declared.constants.TheConstants.{SHT_STRTAB}
 use Rattle.elf_format.specs.Image.{Image}
 use Rattle.elf_format.proofs.ForCallers.Placed.{IsIn-slice_get}
-use Rattle.elf_image.specs.Kept.{KeptSection, dynamic_strings_number, image_at_read, kept_sections}
+use Rattle.elf_image.specs.Kept.{KeptSection, image_at_read, kept_sections}
 use Rattle.elf_layout_plan.specs.Sizes.{do_texts_fit, strings_size, table_size}
 use Rattle.elf_layout_plan.specs.Texts.{is_table_copied, texts_in_use}
 use Rattle.elf_tables.specs.Strings.{table_length}
@@ -16,7 +15,8 @@ use Rattle.elf_write_spec.specs.Ready.{IsEditedReady}
 use Rattle.elf_write_spec.proofs.ForCallers.NumberedSections.{kept_as}
 use Rattle.elf_write_spec.proofs.ForCallers.WholeEdits.{ReadFacts, read_facts}
 use Rattle.elf_write_strings.proofs.ReadTables.{ready_edit}
-use Rattle.elf_write_strings.proofs.TablesThere.{TableThere, dynamic_there}
+use Rattle.elf_write_strings.specs.WrittenStrings.{IsEditedTable}
+use Rattle.elf_write_strings.proofs.TablesThere.{TableThere, edited_there}
 
 pub all_at : {A : Type 0} (test : A → Bool) (xs : List A) (i : ℕ) (x : A) → list_all test xs ≡ true → slice_get xs i ≡ Some x → test x ≡ true
 all_at test xs i x all at = (IsIn-slice_get xs i x at).passes test all
@@ -56,8 +56,8 @@ never_long read image number is f t long =
     let own : IsTooLong read image s.number = subst (IsTooLong read image) (sym t.is_number) long in
     too_long (table_length (texts_in_use read image s.number)) (2 ^ 32) own.long (long_size read image s t.type own.anew fit)
 
-pub never_too_long : (read image : Image) (number : ℕ) → IsEditedReady read image → dynamic_strings_number image ≡ Some number
+pub never_too_long : (read image : Image) (number : ℕ) → IsEditedReady read image → IsEditedTable image number
     → IsTooLong read image number → ⊥
-never_too_long read image number is linked long =
+never_too_long read image number is edited long =
     let f = read_facts read image (ready_edit is) in
-    never_long read image number is f (dynamic_there read image f number linked) long
+    never_long read image number is f (edited_there read image f number edited) long

@@ -1,6 +1,6 @@
 -- The string tables of a file as it was read: where the texts of their users stand in them.
-use Rattle.std.proofs.Common.{◌≡◌, ◌<◌, ◌≤◌, ℕ, Bool, true, false, cond, List, [], ◌∷◌, length, refl, sym, ap, ◌∙◌, subst, Option, Some, None, Ok, arith}
-use Rattle.std.specs.Prelude.{◌==◌, if◌then◌else◌, unwrap_or}
+use Rattle.std.proofs.Common.{◌≡◌, ℕ, Bool, true, false, cond, List, [], ◌∷◌, length, refl, sym, ap, ◌∙◌, subst, Option, Some, None, Ok, arith}
+use Rattle.std.specs.Prelude.{◌==◌, unwrap_or}
 use Rattle.std.specs.List.{slice_get}
 use Rattle.std.proofs.lemmas.Bool.{eqb-true, false≢true}
 use Rattle.std.proofs.lemmas.Option.{none-some, same_Some}
@@ -19,20 +19,18 @@ use Rattle.elf_format.specs.Options.{each, is_one_of, is_some_and, list_at}
 use Rattle.elf_format.specs.Records.{symbols_in}
 use Rattle.elf_format.specs.Rules.{accepted_parts, file_of, linked_texts, raw_entries, texts_of}
 use Rattle.elf_format.specs.Views.{NamedSymbol, first_by_tag, section_memory}
-use Rattle.elf_image.specs.Edited.{IsEdited}
-use Rattle.elf_image.specs.Kept.{KeptSection, image_at_read, kept_of_type, link_of_type}
+use Rattle.elf_image.specs.Kept.{KeptSection, kept_of_type, link_of_type}
 use Rattle.elf_image.specs.Needed.{lasting_types}
-use Rattle.elf_image.specs.ReadImage.{AreDynamicSymbols, AreStaticSymbols, AreSymbolsOf, IsSectionOf}
+use Rattle.elf_image.specs.ReadImage.{AreDynamicSymbols, AreStaticSymbols, AreSymbolsOf}
 use Rattle.elf_image.proofs.ForCallers.EditedLaws.{read_is_edited}
 use Rattle.elf_layout_plan.proofs.ForCallers.PlacedRead.{at_read}
 use Rattle.elf_tables.specs.Strings.{StandsAt}
 use Rattle.elf_write_spec.specs.Ready.{IsEditedReady}
 use Rattle.elf_write_strings.specs.PlacedTexts.{AreSectionsAt, AreSymbolsAt, EntriesStand, EntryStands, IsContentOfUser, IsUnedited, numbers_in}
 use Rattle.elf_write_strings.specs.VersionPlaces.{content_in}
-use Rattle.elf_write_strings.specs.WrittenStrings.{has_texts_in}
 use Rattle.elf_write_strings.proofs.VersionsTexts.{text_stands}
 use Rattle.elf_write_spec.proofs.ForCallers.NumberedSections.{kept_as}
-use Rattle.elf_write_spec.proofs.ForCallers.WholeEdits.{IsWholeEdit, Nowhere, ReadFacts, SectionRead, StaticAt, Stays, There, TypeAt, Went, read_facts, static_at, type_at, was_there}
+use Rattle.elf_write_spec.proofs.ForCallers.WholeEdits.{IsWholeEdit, Nowhere, ReadFacts, StaticAt, Stays, There, TypeAt, Went, read_facts, static_at, type_at, was_there}
 
 -- ## The image that was read
 

@@ -1,13 +1,11 @@
 -- The string tables that sections which are there name: each is there, and a string table.
-use Rattle.std.proofs.Common.{◌≡◌, ◌<◌, ℕ, Bool, true, false, List, [], ◌∷◌, length, refl, sym, ap, ◌∙◌, subst, Option, Some, None, arith}
-use Rattle.std.specs.Prelude.{◌&&◌, ◌||◌, not, ◌==◌, Contains, IsTrue, filter, nat_lt, unwrap_or}
+use Rattle.std.proofs.Common.{◌≡◌, ◌<◌, ℕ, Bool, true, false, List, [], length, refl, sym, ap, ◌∙◌, subst, Option, Some, None, arith, inl, inr}
+use Rattle.std.specs.Prelude.{◌&&◌, ◌||◌, not, ◌==◌, IsTrue, filter, nat_lt, unwrap_or}
 use Rattle.std.specs.List.{list_all, slice_get}
 use Rattle.std.proofs.lemmas.Bool.{and_parts, eq-eqb, eqb-true, false≢true, ltb-true, ne_eqb}
 use Rattle.std.proofs.lemmas.Option.{none-some, same_Some, slice_get_within}
 use Rattle.patch_bytes.specs.Memory.{◌>>=◌}
-use Rattle.patch_bytes.proofs.MemoryLaws.{bind_some}
-use Rattle.elf_format.specs.declared.constants.TheConstants.{PN_XNUM, SHN_LORESERVE, SHT_DYNAMIC, SHT_DYNSYM, SHT_NULL, SHT_STRTAB, SHT_SYMTAB}
-use Rattle.elf_format.specs.declared.header.Header.{Header}
+use Rattle.elf_format.specs.declared.constants.TheConstants.{SHT_DYNAMIC, SHT_DYNSYM, SHT_NULL, SHT_STRTAB, SHT_SYMTAB}
 use Rattle.elf_format.specs.declared.records.SectionHeader.{SectionHeader}
 use Rattle.elf_format.specs.File.{Opened, Parts, sections_of}
 use Rattle.elf_format.specs.Image.{Image, ImageSection}
@@ -16,10 +14,10 @@ use Rattle.elf_format.specs.Records.{section_header}
 use Rattle.elf_format.specs.Rules.{are_linked, are_tables_linked, are_whole, infos_are_sections, is_file_kind, is_one_of_each, links_to, names_are_texts, no_extended_numbers, relocations_fit, symbols_have_sections, text_users}
 use Rattle.elf_format.proofs.ForCallers.Lengths.{length-sections}
 use Rattle.elf_format.proofs.ForCallers.Placed.{IsIn-slice_get, passes_picked}
-use Rattle.elf_image.specs.Kept.{KeptSection, dynamic_strings_number, is_numbered, kept_at_number, kept_of_type, link_of_type}
+use Rattle.elf_image.specs.Kept.{KeptSection, dynamic_strings_number, is_numbered, link_of_type}
 use Rattle.elf_image.specs.Needed.{is_info_number, is_lasting, lasting_types, names_section}
 use Rattle.elf_write_spec.specs.Ready.{IsEditedReady}
-use Rattle.elf_write_strings.specs.DynamicStrings.{content_read}
+use Rattle.elf_write_strings.specs.WrittenStrings.{IsEditedTable, content_read}
 use Rattle.elf_write_strings.specs.VersionPlaces.{content_in}
 use Rattle.elf_write_strings.proofs.ReadTables.{ready_edit}
 use Rattle.elf_write_spec.proofs.ForCallers.HeaderTables.{header_bytes}
@@ -180,6 +178,12 @@ module _ (read image : Image) (f : ReadFacts read image) where
         old_type = old_type;
       }
 
+  -- each table of which texts may change
+  pub edited_there : (number : ℕ) → IsEditedTable image number → TableThere read image f.parts number
+  edited_there number (inl is) = dynamic_there number is
+  edited_there number (inr (inl is)) = static_there number is
+  edited_there number (inr (inr is)) = subst (TableThere read image f.parts) is names_there
+
   -- ## The bytes of a table
 
   -- those that were read
@@ -195,12 +199,12 @@ module _ (read image : Image) (f : ReadFacts read image) where
       ∙ ap (λ (x : ImageSection). x.content) (sym at.renamed) ∙ sym (content_at t.i at) in
       subst (λ (n : ℕ). content_in read.sections n ≡ content_read image n) t.is_number here
 
--- the dynamic strings have the bytes that were read
-pub dynamic_content : (read image : Image) → IsEditedReady read image → (number : ℕ) → dynamic_strings_number image ≡ Some number
+-- such a table has the bytes that were read
+pub edited_content : (read image : Image) → IsEditedReady read image → (number : ℕ) → IsEditedTable image number
     → content_in read.sections number ≡ content_read image number
-dynamic_content read image is number linked =
+edited_content read image is number edited =
     let f = read_facts read image (ready_edit is) in
-    content_same read image f number (dynamic_there read image f number linked)
+    content_same read image f number (edited_there read image f number edited)
 
 -- so have those that a section of a type that lasts links to
 pub linked_content : (read image : Image) → IsEditedReady read image → (type number : ℕ) → is_one_of lasting_types type ≡ true

@@ -1,6 +1,6 @@
 -- Where the texts of the dynamic list stand.
 use Rattle.std.proofs.Common.{◌≡◌, ℕ, zero, suc, ◌+◌, ◌≤◌, ◌<◌, Bool, true, false, cond, List, [], ◌∷◌, ◌++◌, length, map, drop, take, get_or, append_assoc, refl, sym, ap, ◌∙◌, subst, Option, Some, None, arith, length-append, inl, inr}
-use Rattle.std.specs.Prelude.{Contains, IfSome, IsSome, min, not, ◌||◌, ◌==◌, if◌then◌else◌, unwrap_or}
+use Rattle.std.specs.Prelude.{Contains, IfSome, IsSome, min, not, ◌&&◌, ◌||◌, ◌==◌, unwrap_or}
 use Rattle.std.specs.List.{slice_get}
 use Rattle.std.specs.Borrow.{Bor}
 use Rattle.std.specs.Str.{bytes_eq}
@@ -23,19 +23,19 @@ use Rattle.elf_image.specs.ImageModel.{entry_model, section_model}
 use Rattle.elf_image.specs.Lookups.{type_position}
 use Rattle.elf_tables.specs.Strings.{StandsAt, place_of}
 use Rattle.elf_image.specs.Kept.{KeptSection, dynamic_strings_number, kept_of_type, link_of_type}
-use Rattle.elf_image.specs.Names.{are_names_changed}
 use Rattle.elf_layout_plan.specs.Needs.{written_entries}
 use Rattle.elf_layout_plan.specs.Texts.{is_subsequence, texts_of_entries}
 use Rattle.elf_write_spec.specs.Headers.{Reads}
 use Rattle.elf_write_strings.specs.declared.made.Made.{Made}
-use Rattle.elf_write_strings.specs.PlacedTexts.{EntriesStand, EntryStands, IsContentOfUser, IsUnedited, TellsAll, TextsStand, content_at, has_text, link_at, numbers_in, places_among}
-use Rattle.elf_write_strings.specs.DynamicStrings.{AreStrings, IsTold, content_read, is_list_left, strings_at}
+use Rattle.elf_write_strings.specs.PlacedTexts.{EntriesStand, IsContentOfUser, IsUnedited, TellsAll, TextsStand, content_at, has_text, link_at, numbers_in, places_among}
+use Rattle.elf_write_strings.specs.WrittenStrings.{AreStrings, IsTold, content_read, do_names_move, do_texts_move, has_texts_in, is_list_left, made_of, strings_at}
 use Rattle.elf_write_spec.specs.Ready.{IsEditedReady}
 use Rattle.elf_write_strings.proofs.LinksAt.{Link, NoLink}
 use Rattle.elf_write_strings.proofs.LinksAt as tables
 use Rattle.elf_write_strings.proofs.ReadTables.{ContentWas, content_was, entries_stand, facts, read_unedited, ready_edit, same_read}
 use Rattle.elf_write_strings.proofs.TablesThere.{content_same, dynamic_there}
 use Rattle.elf_write_strings.proofs.TextsTold.{told_list}
+use Rattle.elf_write_strings.proofs.VersionsShown.{number_found, strings_copied}
 use Rattle.elf_write_spec.proofs.ForCallers.WholeEdits.{read_facts}
 
 -- ## Places that are made one by one
@@ -217,10 +217,12 @@ module _ (strings : List ℕ) where
 
 -- ## Both kinds of tables
 
-stays : (a b : Bool) → (a || not b) ≡ false → b ≡ true
-stays true b h = absurd (false≢true (sym h))
-stays false true h = refl
-stays false false h = absurd (false≢true (sym h))
+-- the list has its texts in a table of which none move
+stays : (a b c : Bool) → (a || (b && not c)) ≡ false → b ≡ true → c ≡ true
+stays true b c h _ = absurd (false≢true (sym h))
+stays false true true h _ = refl
+stays false true false h _ = absurd (false≢true (sym h))
+stays false false c h e = absurd (false≢true e)
 
 -- what is read of two parts of a list of entries is one
 texts_at : (o : Option (List Entry)) → list_at texts_of_entries o ≡ texts_of_entries (list_at (λ es. es) o)
@@ -246,6 +248,9 @@ module _ (read image : Image) (is : IsEditedReady read image) (list : ℕ) (at :
           there = ap (slice_get image.sections) (sym index) ∙ there;
         }
   ]
+
+  pub list_within : list < length image.sections
+  list_within = slice_get_within image.sections list here.section.section here.there
 
   section_link : link_at image list ≡ here.section.section.sh_link
   section_link = ap (λ (o : Option ImageSection). unwrap_or (o >>= λ s. Some s.sh_link) 0) here.there
@@ -277,48 +282,40 @@ module _ (read image : Image) (is : IsEditedReady read image) (list : ℕ) (at :
       (entries_stand read un (link_at image list) (content_at image list)
       (subst (λ (p : Parts). ContentWas p SHT_DYNAMIC (link_at image list) (content_at image list)) same was))
 
-  -- the texts stand in a table that is copied with the places of its texts
-  copied_stand : AreStrings read image None → (ts : List (List ℕ)) → ts ≡ list_at texts_of_entries (written_entries read image)
-      → TextsStand (content_read image (link_at image list)) ts
-      (places_among ts (list_at (λ es. es) read.entries) (numbers_in read (content_at image list)))
-  copied_stand are ts own =
-      let left : is_list_left read image ≡ true =
-      stays (are_names_changed read image) (is_list_left read image) (are.as_read refl (link_at image list) strings_number).stay in
-      texts_stand (content_read image (link_at image list)) (list_at (λ es. es) read.entries) (numbers_in read (content_at image list)) read_stand ts
-      (ap (λ (us : List (List ℕ)). is_subsequence us (texts_of_entries (list_at (λ es. es) read.entries))) own
-      ∙ ap (is_subsequence (list_at texts_of_entries (written_entries read image))) (sym (texts_at read.entries)) ∙ left)
+  -- no text of the list moves in a table that stays as it was read
+  left_here : do_texts_move read image (link_at image list) ≡ false → is_list_left read image ≡ true
+  unfolding do_texts_move
+  left_here stay =
+      stays (do_names_move read image (link_at image list)) (has_texts_in image SHT_DYNAMIC (link_at image list)) (is_list_left read image) stay
+      (ap (is_some_and (λ n. n == link_at image list)) linked_now ∙ eq-eqb (link_at image list) (link_at image list) refl)
 
-  pub if_copied : (made : Option Made) → made ≡ None → AreStrings read image made → (ts : List (List ℕ))
+  -- the texts stand in a table that is copied with the places of its texts
+  pub if_copied : (made : List Made) → made_of made (link_at image list) ≡ None → AreStrings read image made → (ts : List (List ℕ))
       → ts ≡ list_at texts_of_entries (written_entries read image)
       → TextsStand (strings_at image made (link_at image list)) ts
       (places_among ts (list_at (λ es. es) read.entries) (numbers_in read (content_at image list)))
-  if_copied None none are ts own = copied_stand are ts own
-  if_copied (Some m) none are ts own = absurd (none-some m (sym none))
+  if_copied made none are ts own =
+      let left : is_list_left read image ≡ true =
+      left_here (are.as_read (link_at image list) (inl strings_number) none).stay in
+      subst (λ (strings : List ℕ). TextsStand strings ts (places_among ts (list_at (λ es. es) read.entries) (numbers_in read (content_at image list))))
+      (strings_copied image made (link_at image list) none)
+      (texts_stand (content_read image (link_at image list)) (list_at (λ es. es) read.entries) (numbers_in read (content_at image list)) read_stand ts
+      (ap (λ (us : List (List ℕ)). is_subsequence us (texts_of_entries (list_at (λ es. es) read.entries))) own
+      ∙ ap (is_subsequence (list_at texts_of_entries (written_entries read image))) (sym (texts_at read.entries)) ∙ left))
 
-  -- the number of strings that are told anew is what the list links to
-  made_number : (m : Made) → IsTold read image m → m.number ≡ link_at image list
-  made_number m told = same_Some m.number (link_at image list) (sym told.linked ∙ strings_number)
+  -- a table that is told anew tells each text of the list
+  held : (made : List Made) (m : Made) → made_of made (link_at image list) ≡ Some m → IsTold read image m
+      → TellsAll m.table (list_at texts_of_entries (written_entries read image))
+  held made m found told =
+      told_list read image m told (linked_now ∙ ap (λ (n : ℕ). Some n) (sym (number_found made (link_at image list) m found)))
 
-  pub made_strings : (made : Option Made) (m : Made) → made ≡ Some m → AreStrings read image made
-      → strings_at image made (link_at image list) ≡ m.table.bytes
-  made_strings None m some are = absurd (none-some m some)
-  made_strings (Some n) m some are =
-      let same : n ≡ m = same_Some n m some in
-      ap (λ (b : Bool). if b then n.table.bytes else content_read image (link_at image list))
-      (eq-eqb n.number (link_at image list) (made_number n (are.told n refl)))
-      ∙ ap (λ (x : Made). x.table.bytes) same
-
-  -- they tell each text of the list
-  held : (m : Made) → IsTold read image m → TellsAll m.table (list_at texts_of_entries (written_entries read image))
-  held m told = told_list read image m told (linked_now ∙ ap (λ (n : ℕ). Some n) (sym (made_number m told)))
-
-  pub made_holds : (made : Option Made) (m : Made) → made ≡ Some m → AreStrings read image made → (texts : List (Bor (List ℕ)))
+  pub made_holds : (made : List Made) (m : Made) → made_of made (link_at image list) ≡ Some m → AreStrings read image made → (texts : List (Bor (List ℕ)))
       → map borrowed texts ≡ list_at texts_of_entries (written_entries read image)
       → (k : ℕ) (d : Bor (List ℕ)) → k < length texts → IsSome (place_of m.table (get_or texts k d).now)
   made_holds made m some are texts own k d within =
       let inside : k < length (map borrowed texts) = omega (arith, within, length-map texts borrowed) in
       let has : Contains (map borrowed texts) (get_or (map borrowed texts) k d.now) = Contains-get_or (map borrowed texts) k d.now inside in
-      held m (are.told m some) (get_or texts k d).now
+      held made m some (are.told (link_at image list) m some) (get_or texts k d).now
       (subst (λ (ts : List (List ℕ)). Contains ts (get_or texts k d).now) own
       (subst (λ (t : List ℕ). Contains (map borrowed texts) t) (get_or-map borrowed texts k d d.now within) has))
 
@@ -408,3 +405,17 @@ pub content_of : (sections : List Section) (i : ℕ) (d : Section) → i < lengt
 content_of [] i d within = absurd (omega (arith, within))
 content_of (s ∷ ss) zero d within = refl
 content_of (s ∷ ss) (suc i) d within = content_of ss i d (omega (arith, within))
+
+-- what a section of an image links to
+pub link_of : (sections : List Section) (i : ℕ) (d : Section) → i < length sections
+    → unwrap_or (slice_get (map section_model sections) i >>= λ s. Some s.sh_link) 0 ≡ (get_or sections i d).sh_link
+link_of [] i d within = absurd (omega (arith, within))
+link_of (s ∷ ss) zero d within = refl
+link_of (s ∷ ss) (suc i) d within = link_of ss i d (omega (arith, within))
+
+-- the same of a section as it is lent
+pub link_lent : (image : Image) (list : ℕ) (sections : List Section) (d : Section) → map section_model sections ≡ image.sections
+    → list < length sections → (get_or sections list d).sh_link ≡ link_at image list
+link_lent image list sections d same within =
+    sym (link_of sections list d within)
+    ∙ ap (λ (ss : List ImageSection). unwrap_or (slice_get ss list >>= λ s. Some s.sh_link) 0) same

@@ -13,7 +13,7 @@ use Rattle.elf_layout_plan.specs.Needs.{written_entries, written_needs}
 use Rattle.elf_layout_plan.specs.Texts.{if_linked, if_names, is_subsequence, texts_in_use, texts_of_definitions, texts_of_entries, texts_of_needs, texts_of_symbols}
 use Rattle.elf_tables.specs.Strings.{Strings}
 use Rattle.elf_write_strings.specs.declared.made.Made.{Made}
-use Rattle.elf_write_strings.specs.DynamicStrings.{IsTold}
+use Rattle.elf_write_strings.specs.WrittenStrings.{IsTold}
 use Rattle.elf_write_strings.specs.PlacedTexts.{TellsAll}
 use Rattle.elf_write_strings.specs.VersionPlaces.{Tells}
 
@@ -147,7 +147,7 @@ told_if table image type number texts all = by_test (is_some_and (λ link. link 
     by_test true = all
     by_test false = none_told table
 
--- ## The dynamic strings that are told anew
+-- ## A table that is told anew
 
 module _ (read image : Image) (m : Made) (is : IsTold read image m) where
   of_users : UsersTold read image m.number m.table
@@ -168,6 +168,10 @@ module _ (read image : Image) (m : Made) (is : IsTold read image m) where
   pub told_needs : link_of_type SHT_GNU_VERNEED image ≡ Some m.number → TellsAll m.table (texts_of_needs (written_needs read image))
   told_needs links =
       subst (TellsAll m.table) (linked_if image SHT_GNU_VERNEED m.number (texts_of_needs (written_needs read image)) links) of_users.needs
+
+  pub told_statics : link_of_type SHT_SYMTAB image ≡ Some m.number → TellsAll m.table (texts_of_symbols image.symbols)
+  told_statics links =
+      subst (TellsAll m.table) (linked_if image SHT_SYMTAB m.number (texts_of_symbols image.symbols) links) of_users.statics
 
   pub told_names : m.number ≡ image.header.e_shstrndx → TellsAll m.table (map (λ s. s.name) image.sections)
   told_names own =

@@ -1,7 +1,8 @@
 -- The versions that are written are those of the image.
-use Rattle.std.proofs.Common.{◌≡◌, ◌≢◌, ℕ, ◌≤◌, Bool, true, List, length, map, refl, sym, ap, ◌∙◌, subst, Option, Some, None}
-use Rattle.std.specs.Prelude.{if◌then◌else◌}
-use Rattle.std.proofs.lemmas.Bool.{eq-eqb, ne_eqb}
+use Rattle.std.proofs.Common.{◌≡◌, ℕ, ◌≤◌, Bool, true, false, cond, List, [], ◌∷◌, length, map, refl, sym, ap, ◌∙◌, subst, Option, Some, None}
+use Rattle.std.specs.Prelude.{◌==◌}
+use Rattle.std.proofs.lemmas.Bool.{eqb-true}
+use Rattle.std.proofs.lemmas.Option.{none-some, same_Some}
 use Rattle.elf_format.specs.Image.{Image}
 use Rattle.elf_format.specs.declared.form.Form.{Form}
 use Rattle.elf_format.specs.Versions.{VersionDefinition, VersionNeeds}
@@ -14,7 +15,7 @@ use Rattle.elf_image.specs.Kept.{image_at_read}
 use Rattle.elf_layout_plan.specs.Needs.{written_needs}
 use Rattle.elf_write_spec.specs.Contents.{AreDefinitionsOf, AreNeedsOf, table_in}
 use Rattle.elf_write_spec.specs.Final.{final}
-use Rattle.elf_write_strings.specs.DynamicStrings.{content_read, strings_at}
+use Rattle.elf_write_strings.specs.WrittenStrings.{content_read, made_of, strings_at}
 use Rattle.elf_write_spec.specs.Ready.{IsEditedReady}
 use Rattle.elf_write_strings.specs.declared.made.Made.{Made}
 use Rattle.elf_write_spec.proofs.ForCallers.WholeEdits.{needs_written}
@@ -66,17 +67,20 @@ needs_final read image is = ap (λ (r : Image). written_needs r image) is.at_rea
 
 -- ## The string table
 
-pub strings_made : (image : Image) (made : Option Made) (m : Made) (n : ℕ) → made ≡ Some m → m.number ≡ n
-    → m.table.bytes ≡ strings_at image made n
-strings_made image made m n is same =
-    sym (ap (λ (b : Bool). if b then m.table.bytes else content_read image n) (eq-eqb m.number n same))
-    ∙ ap (λ (o : Option Made). strings_at image o n) (sym is)
+pub strings_made : (image : Image) (made : List Made) (n : ℕ) (m : Made) → made_of made n ≡ Some m → m.table.bytes ≡ strings_at image made n
+strings_made image made n m is =
+    sym (ap (λ (o : Option Made). elim o as (λ _. List ℕ) [ Some x ↦ x.table.bytes | None ↦ content_read image n ]) is)
 
-pub strings_other : (image : Image) (made : Option Made) (m : Made) (n : ℕ) → made ≡ Some m → m.number ≢ n
-    → content_read image n ≡ strings_at image made n
-strings_other image made m n is apart =
-    sym (ap (λ (b : Bool). if b then m.table.bytes else content_read image n) (ne_eqb m.number n apart))
-    ∙ ap (λ (o : Option Made). strings_at image o n) (sym is)
+pub strings_copied : (image : Image) (made : List Made) (n : ℕ) → made_of made n ≡ None → content_read image n ≡ strings_at image made n
+strings_copied image made n is =
+    sym (ap (λ (o : Option Made). elim o as (λ _. List ℕ) [ Some x ↦ x.table.bytes | None ↦ content_read image n ]) is)
 
-pub strings_copied : (image : Image) (made : Option Made) (n : ℕ) → made ≡ None → content_read image n ≡ strings_at image made n
-strings_copied image made n is = ap (λ (o : Option Made). strings_at image o n) (sym is)
+number_by : (b : Bool) (x : Made) (o : Option Made) (n : ℕ) (m : Made) → (x.number == n) ≡ b → (o ≡ Some m → m.number ≡ n)
+    → cond b (Some x) o ≡ Some m → m.number ≡ n
+number_by true x o n m own rest found = ap (λ (y : Made). y.number) (sym (same_Some x m found)) ∙ eqb-true x.number n own
+number_by false x o n m own rest found = rest found
+
+-- a table that is told has the number that it was asked for by
+pub number_found : (made : List Made) (n : ℕ) (m : Made) → made_of made n ≡ Some m → m.number ≡ n
+number_found [] n m is = absurd (none-some m is)
+number_found (x ∷ made) n m is = number_by (x.number == n) x (made_of made n) n m refl (number_found made n m) is

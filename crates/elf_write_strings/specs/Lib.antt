@@ -1,4 +1,5 @@
-pub mod DynamicStrings
+pub mod LeftSteps
+pub mod MadeSteps
 pub mod PlacedTexts
 pub mod VersionPlaces
 pub mod WrittenStrings

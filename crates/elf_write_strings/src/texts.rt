@@ -13,10 +13,10 @@ ghost use Rattle.elf_layout_plan.specs.Needs.{written_entries};
 ghost use Rattle.elf_layout_plan.specs.Texts.{is_subsequence, texts_of_entries};
 ghost use Rattle.elf_tables.specs.Strings.{place_of};
 ghost use Rattle.elf_write_spec.specs.Ready.{IsEditedReady};
-ghost use Rattle.elf_write_strings.specs.DynamicStrings.{AreStrings, strings_at};
+ghost use Rattle.elf_write_strings.specs.WrittenStrings.{AreStrings, strings_at};
 ghost use Rattle.elf_write_strings.specs.PlacedTexts.{TextsStand, content_at, has_text as has_that_text, link_at, numbers_in, places_among as places_found};
 
-use crate::made::Made;
+use crate::made::{Made, made_of};
 use elf_format::records::EntryNumbers;
 use elf_format::tables::read_entries;
 use elf_format::view_fault::ViewFault;
@@ -170,7 +170,7 @@ pub fn text_places<'data>(
     alloc: Global,
     read: &Builder<'data>,
     image: &Builder<'data>,
-    made: &Option<Made<'_>>,
+    made: &[Made<'_>],
     list: usize,
     texts: &[&[u8]],
 ) -> Result<Vec<u64>, AllocError>
@@ -183,7 +183,8 @@ pub fn text_places<'data>(
         TextsStand (strings_at image.now made.now (link_at image.now list))
         (map borrowed texts.now) places.items) }
 {
-    match made {
+    let link = image.sections()[list].sh_link as usize;
+    match made_of(made, link) {
         Some(made) => made_places(alloc, &made.table, texts),
         None => copied_places(alloc, read, image, list, texts),
     }

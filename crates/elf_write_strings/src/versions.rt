@@ -10,7 +10,7 @@ ghost use Rattle.elf_layout_plan.specs.Texts.{texts_of_definitions, texts_of_nee
 ghost use Rattle.elf_tables.specs.Strings.{PlacesStand};
 ghost use Rattle.elf_write_spec.specs.Contents.{AreDefinitionsIn, AreNeedsIn};
 ghost use Rattle.elf_write_spec.specs.Ready.{IsEditedReady, IsSectionOfType};
-ghost use Rattle.elf_write_strings.specs.DynamicStrings.{AreStrings, strings_at};
+ghost use Rattle.elf_write_strings.specs.WrittenStrings.{AreStrings, strings_at};
 ghost use Rattle.elf_write_strings.specs.PlacedTexts.{IsUnedited, TellsAll};
 ghost use Rattle.elf_write_strings.specs.VersionPlaces.{HasMore, content_in};
 
@@ -19,7 +19,7 @@ mod placing;
 mod records;
 mod staying;
 
-use crate::made::Made;
+use crate::made::{Made, made_of};
 use crate::versions::needing::place_needs;
 use crate::versions::placing::place_definitions;
 pub(crate) use crate::versions::placing::place_text;
@@ -113,7 +113,7 @@ pub fn definitions_content<'data>(
     alloc: Global,
     read: &Builder<'data>,
     image: &Builder<'data>,
-    made: &Option<Made<'_>>,
+    made: &[Made<'_>],
     section: &Section<'data>,
 ) -> Result<Vec<u8>, AllocError>
     requires ready { IsEditedReady read.now image.now }
@@ -124,10 +124,8 @@ pub fn definitions_content<'data>(
     ensures versions { IfOk result (λ bytes. AreDefinitionsIn image.now
         (strings_at image.now made.now section.now.sh_link) bytes.items) }
 {
-    if let Some(made) = made {
-        if made.number == section.sh_link as usize {
-            return definition_records(alloc, image, &made.table);
-        }
+    if let Some(made) = made_of(made, section.sh_link as usize) {
+        return definition_records(alloc, image, &made.table);
     }
     let table = names_of_definitions(alloc, read, section.sh_link as usize)?;
     definition_records(alloc, image, &table)
@@ -138,7 +136,7 @@ pub fn needs_content<'data>(
     alloc: Global,
     read: &Builder<'data>,
     image: &Builder<'data>,
-    made: &Option<Made<'_>>,
+    made: &[Made<'_>],
     section: &Section<'data>,
 ) -> Result<Vec<u8>, AllocError>
     requires ready { IsEditedReady read.now image.now }
@@ -150,10 +148,8 @@ pub fn needs_content<'data>(
         (strings_at image.now made.now section.now.sh_link) bytes.items) }
 {
     let needs = written_needs_of(alloc, read, image)?;
-    if let Some(made) = made {
-        if made.number == section.sh_link as usize {
-            return need_records(alloc, read, image, &needs, &made.table);
-        }
+    if let Some(made) = made_of(made, section.sh_link as usize) {
+        return need_records(alloc, read, image, &needs, &made.table);
     }
     let table = names_of_needs(alloc, read, section.sh_link as usize)?;
     need_records(alloc, read, image, &needs, &table)

@@ -15,14 +15,14 @@ laid_bytes-requires-clause-output c =
     subst (λ (hs : List SectionHeader).
     (raw : List EntryNumbers) × IsPlannedOutput (output_of c.args.image.now c.args.plan.now hs (bytes_of_each c.args.contents.now) raw))
     (sym c.deref.ensures.value)
-    (are_written c.args.read.now c.args.image.now c.args.plan.now c.args.prepared.now.made c.args.prepared.now.raw.items
+    (are_written c.args.read.now c.args.image.now c.args.plan.now c.args.prepared.now.made.items c.args.prepared.now.raw.items
     (bytes_of_each c.args.contents.now) c.requires.planned c.requires.contents source c.args.prepared.now.headers.items c.requires.apart p.raw p.headers p.fit p.symbols)
 
 pub returns : goal.returns
 returns c =
     let p = c.requires.prepared in
     let source : AreBytes c.args.image.now.source = subst (λ (l : List ℕ). AreBytes l) c.source.ensures.source c.show_bytes.ensures in
-    is_planned_file c.args.read.now c.args.image.now c.args.plan.now c.args.prepared.now.made c.args.prepared.now.raw.items
+    is_planned_file c.args.read.now c.args.image.now c.args.plan.now c.args.prepared.now.made.items c.args.prepared.now.raw.items
     (bytes_of_each c.args.contents.now) c.requires.planned c.requires.contents source c.args.prepared.now.headers.items c.in_ok-bytes.bytes.items
     c.requires.apart p.raw p.headers p.fit p.symbols
     (c.in_ok-bytes.ensures c.args.prepared.now.raw.items

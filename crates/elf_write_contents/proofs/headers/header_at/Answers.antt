@@ -13,7 +13,7 @@ use Rattle.elf_layout_plan.specs.PlanModel.{place_model}
 use Rattle.elf_layout_plan.proofs.ForCallers.ApartLists.{at-map}
 use Rattle.elf_tables.specs.Strings.{place_of}
 use Rattle.elf_write_spec.specs.Headers.{Reads}
-use Rattle.elf_write_strings.specs.DynamicStrings.{content_read, strings_at}
+use Rattle.elf_write_strings.specs.WrittenStrings.{content_read, strings_at}
 use Rattle.elf_write_contents.proofs.HeadersMade.{header_far, header_made, header_there, info_here, name_copied, name_made, place_there, seen_at}
 use Rattle.elf_write_contents.proofs.headers.header_at.Goals as goal
 
@@ -58,8 +58,8 @@ name_place-name-requires-clause-anew c =
     let x : Section = c.index-sections-i.result in
     let at : slice_get c.args.image.now.sections c.args.i ≡ Some (section_model x) =
     seen_at c.args.image.now c.sections.result.now c.args.i x c.sections.ensures c.requires.there c.index-sections-i.is in
-    λ m is own. subst (λ (text : List ℕ). IsSome (place_of m.table text)) (sym c.as_slice.ensures)
-    (name_made (image_at_read c.args.image.now) c.args.image.now c.args.made.now c.requires.strings c.args.i (section_model x) at m is own)
+    λ m is. subst (λ (text : List ℕ). IsSome (place_of m.table text)) (sym c.as_slice.ensures)
+    (name_made (image_at_read c.args.image.now) c.args.image.now c.args.made.now c.requires.strings c.args.i (section_model x) at m is)
 
 pub name_place-name-requires-clause-copied : goal.name_place-name-requires-clause-copied
 name_place-name-requires-clause-copied c =

@@ -6,7 +6,7 @@ use Rattle.elf_image.specs.Kept.{KeptSection, image_at_read, kept_sections}
 use Rattle.elf_layout_plan.specs.Memory.{Resized}
 use Rattle.elf_layout_plan.specs.Plan.{resized}
 use Rattle.elf_write_contents.specs.HeaderSteps.{AreMade}
-use Rattle.elf_write_strings.specs.DynamicStrings.{strings_at}
+use Rattle.elf_write_strings.specs.WrittenStrings.{strings_at}
 use Rattle.elf_write_contents.proofs.HeadersLists.{made_all, made_more}
 use Rattle.elf_write_contents.proofs.HeadersMade.{length-places}
 use Rattle.elf_write_contents.proofs.ReadyEdits.{edit_of}

@@ -4,7 +4,7 @@ use Rattle.elf_format.specs.Records.{symbols_in}
 use Rattle.elf_image.specs.ImageModel.{section_model}
 use Rattle.elf_write_spec.specs.Contents.{AreSymbolsOf}
 use Rattle.elf_write_spec.specs.Final.{final}
-use Rattle.elf_write_strings.specs.DynamicStrings.{strings_at}
+use Rattle.elf_write_strings.specs.WrittenStrings.{strings_at}
 use Rattle.elf_write_contents.proofs.SymbolsGiven.{symbols_copied, symbol_sizes}
 use Rattle.elf_write_contents.proofs.symbols.symbols_copied.Goals as goal
 

@@ -1,6 +1,5 @@
 -- The section of that type, and what it links to.
-use Rattle.std.proofs.Common.{◌≡◌, ◌∙◌, Some, sym}
-use Rattle.std.specs.List.{slice_get}
+use Rattle.std.proofs.Common.{◌∙◌, sym}
 use Rattle.elf_image.specs.ImageModel.{section_model}
 use Rattle.elf_write_strings.proofs.ToldTable.{section_here, user_apart, user_none, user_there}
 use Rattle.elf_write_strings.proofs.told.content_of_user.Goals as goal

@@ -1,5 +1,5 @@
 -- The section has its names elsewhere, or they stand where the records tell.
-use Rattle.std.proofs.Common.{◌≡◌, ◌∙◌, List, ℕ, refl, sym, subst}
+use Rattle.std.proofs.Common.{◌∙◌, List, ℕ, refl, sym, subst}
 use Rattle.elf_format.specs.declared.constants.TheConstants.{SHT_DYNSYM}
 use Rattle.elf_format.specs.declared.records.SymbolNumbers.{SymbolNumbers}
 use Rattle.elf_format.specs.Views.{NamedSymbol}

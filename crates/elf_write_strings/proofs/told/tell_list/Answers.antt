@@ -1,5 +1,5 @@
 -- The list has its texts elsewhere, or they stand as they were read.
-use Rattle.std.proofs.Common.{◌≡◌, ◌∙◌, ℕ, List, map, ap, refl, sym, subst, Option}
+use Rattle.std.proofs.Common.{◌∙◌, ℕ, List, map, refl, sym, subst, Option}
 use Rattle.elf_format.specs.declared.constants.TheConstants.{SHT_DYNAMIC}
 use Rattle.elf_format.specs.declared.records.EntryNumbers.{EntryNumbers}
 use Rattle.elf_format.specs.Dynamic.{Entry}

@@ -9,25 +9,26 @@ use Rattle.elf_layout_plan.specs.Texts.{texts_of_needs}
 use Rattle.elf_write_strings.proofs.VersionsHave.{written_told}
 use Rattle.elf_write_spec.proofs.ForCallers.WholeEdits.{read_facts}
 use Rattle.elf_write_spec.specs.Contents.{AreNeedsIn}
-use Rattle.elf_write_strings.specs.DynamicStrings.{content_read, strings_at}
+use Rattle.elf_write_strings.specs.WrittenStrings.{content_read, strings_at}
 use Rattle.elf_write_strings.specs.PlacedTexts.{TellsAll}
 use Rattle.elf_write_strings.specs.VersionPlaces.{content_in}
 use Rattle.elf_write_strings.proofs.TablesThere.{linked_content}
-use Rattle.elf_write_strings.proofs.VersionsShown.{strings_copied, strings_other}
+use Rattle.elf_write_strings.proofs.VersionsShown.{number_found, strings_copied}
 use Rattle.elf_write_strings.proofs.ReadTables.{read_unedited, ready_edit}
 use Rattle.elf_write_strings.proofs.TextsTold.{told_needs}
 use Rattle.elf_write_strings.proofs.VersionsLinks.{links_read, links_there}
 use Rattle.elf_write_strings.proofs.versions.needs_content.Goals as goal
-use Rattle.elf_write_strings.proofs.versions.needs_content.Goals.{in-Some+else-made-section, in_default}
 
 pub need_records-requires-clause-told : goal.need_records-requires-clause-told
 need_records-requires-clause-told c =
-    told_needs c.args.read.now c.args.image.now c.in-Some.made (c.requires.strings.told c.in-Some.made c.in-Some.is)
+    let number : ℕ = c.args.section.now.sh_link in
+    told_needs c.args.read.now c.args.image.now c.in-Some.made.now (c.requires.strings.told number c.in-Some.made.now c.in-Some.ensures.some)
     (links_there c.args.read.now c.args.image.now c.requires.ready 7 SHT_GNU_VERNEED refl refl (section_model c.args.section.now) c.requires.at
-    c.in-Some.made.number c.if-made-section.true)
+    c.in-Some.made.now.number (number_found c.args.made.now number c.in-Some.made.now c.in-Some.ensures.some))
 
 pub need_records-requires-clause-stand : goal.need_records-requires-clause-stand
-need_records-requires-clause-stand c = (c.requires.strings.told c.in-Some.made c.in-Some.is).stand
+need_records-requires-clause-stand c =
+    (c.requires.strings.told c.args.section.now.sh_link c.in-Some.made.now c.in-Some.ensures.some).stand
 
 pub names_of_needs-requires-clause-unedited : goal.names_of_needs-requires-clause-unedited
 names_of_needs-requires-clause-unedited c = read_unedited c.requires.ready
@@ -52,9 +53,6 @@ returns-clause-versions c =
     linked_content read image c.requires.ready SHT_GNU_VERNEED number refl refl
     (links_there read image c.requires.ready 7 SHT_GNU_VERNEED refl refl (section_model c.args.section.now) c.requires.at number refl) in
     let there : content_read image number ≡ strings_at image c.args.made.now number =
-    elim c.match-made.branch [
-      | in-Some+else-made-section w ↦ strings_other image c.args.made.now w.in-Some.made number w.in-Some.is w.if-made-section.false
-      | in_default w ↦ strings_copied image c.args.made.now number w.in_default.is
-    ] in
+    strings_copied image c.args.made.now number c.in_default.ensures.none in
     subst (λ (l : List ℕ). IfOk c.need_records-2.result (λ bytes. AreNeedsIn (resized c.args.image.now) l bytes.items))
     (c.in_ok-table.ensures.bytes ∙ copied ∙ there) c.need_records-2.ensures.versions

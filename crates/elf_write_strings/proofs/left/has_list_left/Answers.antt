@@ -9,7 +9,7 @@ use Rattle.elf_format.specs.Options.{list_at}
 use Rattle.elf_layout_plan.specs.Needs.{written_entries}
 use Rattle.elf_layout_plan.specs.Texts.{is_subsequence, texts_of_entries}
 use Rattle.elf_write_strings.proofs.MadeStrings.{none_left}
-use Rattle.elf_write_strings.proofs.made.has_list_left.Goals as goal
+use Rattle.elf_write_strings.proofs.left.has_list_left.Goals as goal
 
 pub returns : goal.returns
 returns c =
