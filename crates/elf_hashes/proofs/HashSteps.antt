@@ -7,7 +7,7 @@ use Rattle.std.proofs.lemmas.List.Elements.{All-head, All-tail, filter_map-appen
 use Rattle.std.proofs.lemmas.Option.{get_or_from_slice_get, none-some, same_Some, slice_get-map, slice_get_within}
 use Rattle.elf_format.specs.Views.{NamedSymbol}
 use Rattle.elf_hashes.specs.Buckets.{hashes_of}
-use Rattle.elf_hashes.specs.Found.{ArePlaces, found_name, hashed_names, in_order}
+use Rattle.elf_hashes.specs.Found.{ArePlaces, found_hashes, found_name, hashed_names, in_order}
 use Rattle.elf_hashes.proofs.NameLaws.{length-hashes}
 
 -- ## Symbols in an order
@@ -84,19 +84,12 @@ length-in_order ys (k ∷ order) places =
 
 -- ## Hashes of symbols as they stand
 
-pub own-first : (hash : List ℕ → ℕ) (ys : List NamedSymbol) (i : ℕ) → i < length ys → i ≡ 0 → slice_get (hashes_of hash (hashed_names ys)) i ≡ Some None
+-- the first has none
+pub own-behind : (hash : List ℕ → ℕ) (ys : List NamedSymbol) (found : List (Option ℕ)) → 0 < length ys → found ≡ found_hashes hash ys
+    → None ∷ drop 1 found ≡ hashes_of hash (hashed_names ys)
 unfolding hashed_names
-own-first hash [] i inside zeroth = absurd (omega (arith, inside))
-own-first hash (y ∷ ys) i inside zeroth = ap (slice_get (hashes_of hash (None ∷ map found_name ys))) zeroth
-
-pub own-other : (hash : List ℕ → ℕ) (ys : List NamedSymbol) (i : ℕ) (y : NamedSymbol) → 0 < i → slice_get ys i ≡ Some y
-    → slice_get (hashes_of hash (hashed_names ys)) i ≡ Some (option_map hash (found_name y))
-unfolding hashed_names
-own-other hash [] i y some at = absurd (none-some y at)
-own-other hash (first ∷ ys) zero y some at = absurd (omega (arith, some))
-own-other hash (first ∷ ys) (suc i) y some at =
-    slice_get-map (option_map hash) (map found_name ys) i
-    ∙ ap (option_map (option_map hash)) (slice_get-map found_name ys i ∙ ap (option_map found_name) at)
+own-behind hash [] found some is = absurd (omega (arith, some))
+own-behind hash (y ∷ ys) found some is = ap (λ l. None ∷ drop 1 l) is ∙ ap (λ l. None ∷ l) (sym (map-twice (option_map hash) found_name ys))
 
 -- what is made of the symbol there
 pub made-at : {X Y : Type 0} (f : X → Y) (xs : List X) (i : ℕ) (x : X) (y : Y) → slice_get xs i ≡ Some x → y ≡ f x → slice_get (map f xs) i ≡ Some y

@@ -1,5 +1,5 @@
 -- Which dynamic symbols a look-up by name finds, and symbols in an order.
-use Rattle.std.specs.Prelude.{ℕ, ◌/◌, ◌≡◌, ◌≢◌, ◌<◌, List, [], ◌∷◌, length, map, Bool, ◌&&◌, not, Option, Some, None, All, ◌==◌, if◌then◌else◌, slice_get}
+use Rattle.std.specs.Prelude.{ℕ, ◌/◌, ◌≡◌, ◌≢◌, ◌<◌, List, [], ◌∷◌, length, map, Bool, ◌&&◌, not, Option, Some, None, All, ◌==◌, if◌then◌else◌, option_map, slice_get}
 use Rattle.std.specs.List.{filter_map}
 use Rattle.elf_format.specs.Views.{NamedSymbol}
 
@@ -30,6 +30,10 @@ in_order ys order = filter_map (λ i. slice_get ys i) order
 -- the name by which a look-up finds the symbol
 abbrev pub found_name : NamedSymbol → Option (List ℕ)
 found_name y = if is_found y then Some y.name else None
+
+-- the hash of each name by which a look-up may find a symbol, symbol by symbol
+abbrev pub found_hashes : (List ℕ → ℕ) → List NamedSymbol → List (Option ℕ)
+found_hashes hash ys = map (λ y. option_map hash (found_name y)) ys
 
 -- the names by which look-ups find symbols, symbol by symbol: none finds the first one (gABI, Symbol Table, STN_UNDEF)
 unfoldable pub hashed_names : List NamedSymbol → List (Option (List ℕ))

@@ -8,7 +8,7 @@ ghost use Rattle.elf_hashes.specs.Found.{ArePlaces, hashed_names, in_order};
 ghost use Rattle.elf_hashes.specs.Gabi.{IsGabiTable, gabi_words};
 
 use crate::chains::make_chains;
-use crate::hashes::{Hashing, hashes};
+use crate::hashes::{Hashing, found_hashes, hashes};
 use elf_format::form::Form;
 use elf_image_symbol_edits::SymbolsNow;
 use elf_tables::{TableFault, push_words};
@@ -54,7 +54,8 @@ pub fn build_hash(
     if order.len() > u32::MAX as usize {
         return Err(TableFault::NumberTooLarge);
     }
-    let hashes = hashes(alloc, Hashing::Gabi, symbols, order)?;
+    let found = found_hashes(alloc, Hashing::Gabi, symbols)?;
+    let hashes = hashes(alloc, Hashing::Gabi, symbols, &found, order)?;
     let table = gabi_table(alloc, hashes.as_slice(), buckets, form)?;
     Ok(table)
 }

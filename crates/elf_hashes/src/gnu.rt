@@ -5,7 +5,7 @@ ghost use Rattle.elf_image_symbol_edits.specs.Loan.{symbols_now};
 ghost use Rattle.elf_tables.specs.Fields.{fields, words};
 ghost use Rattle.elf_tables.specs.declared.fault.TableFault.TheVariants.{NumberTooLarge};
 ghost use Rattle.elf_hashes.specs.Buckets.{heads, in_buckets};
-ghost use Rattle.elf_hashes.specs.Found.{ArePlaces, hashed_names, in_order};
+ghost use Rattle.elf_hashes.specs.Found.{ArePlaces, found_hashes, hashed_names, in_order};
 ghost use Rattle.elf_hashes.specs.Gnu.{IsGnuTable, ends as ends_in, first_hashed as first_with_hash, gnu_table as table_of, gnu_words, header_of, header_words, word_of as word_of_hash};
 
 use crate::chains::make_chains;
@@ -156,12 +156,13 @@ fn gnu_table(
 }
 
 /// The GNU hash table of symbols in an order (GNU hash section). It has those that are defined and not local, but for the
-/// first. Look-ups find them where the order is that of `order_for_gnu_hash`. `NumberTooLarge` where there are more symbols
-/// than 32 bits can count.
+/// first, by their hashes as `gnu_hashes` tells them. Look-ups find them where the order is that of `order_for_gnu_hash`.
+/// `NumberTooLarge` where there are more symbols than 32 bits can count.
 pub fn build_gnu_hash(
     alloc: Global,
     symbols: SymbolsNow<'_>,
     order: &[usize],
+    found: &[Option<u32>],
     sizes: GnuSizes,
     form: Form,
 ) -> Result<Vec<u8>, TableFault>
@@ -169,6 +170,7 @@ pub fn build_gnu_hash(
     requires filter_words { 0 < sizes.filter_words }
     requires filter_shift { sizes.filter_shift < 32 }
     requires places { ArePlaces (symbols_now symbols) order.now }
+    requires found { found.now ≡ found_hashes gnu_hash (symbols_now symbols) }
     ensures { MatchResult result
         (λ table. (IsGnuTable form sizes
         (hashed_names (in_order (symbols_now symbols.entry) order.now)) table.items)
@@ -178,7 +180,7 @@ pub fn build_gnu_hash(
     if order.len() > u32::MAX as usize {
         return Err(TableFault::NumberTooLarge);
     }
-    let hashes = hashes(alloc, Hashing::Gnu, symbols, order)?;
+    let hashes = hashes(alloc, Hashing::Gnu, symbols, found, order)?;
     let table = gnu_table(alloc, hashes.as_slice(), sizes, form)?;
     Ok(table)
 }

@@ -1,11 +1,11 @@
 //! The hashes of symbols that look-ups find.
-ghost use Rattle.std.specs.Prelude.{◌≡◌, ◌<◌, ◌++◌, All, Some, length, map, option_map, slice_get, IfOk, OnOk};
+ghost use Rattle.std.specs.Prelude.{◌≡◌, ◌<◌, ◌++◌, ◌∷◌, All, None as none, drop, length, option_map, slice_get, IfOk, OnOk};
 ghost use Rattle.std.specs.List.{filter_map};
 ghost use Rattle.elf_format.specs.Hashes.{gnu_hash as gnu_hash_of};
 ghost use Rattle.elf_image_symbols.specs.SymbolModel.{symbol_model};
 ghost use Rattle.elf_image_symbol_edits.specs.Loan.{symbols_now};
 ghost use Rattle.elf_hashes.specs.Buckets.{hashes_of};
-ghost use Rattle.elf_hashes.specs.Found.{ArePlaces, found_name, hashed_names, in_order, is_found as is_symbol_found, is_local as is_symbol_local};
+ghost use Rattle.elf_hashes.specs.Found.{ArePlaces, found_hashes as hashes_found, found_name, hashed_names, in_order, is_found as is_symbol_found, is_local as is_symbol_local};
 ghost use Rattle.elf_hashes.specs.Steps.{hash_by};
 
 use elf_image_symbol_edits::SymbolsNow;
@@ -58,13 +58,13 @@ fn found_hash(hashing: Hashing, symbol: &Symbol<'_>) -> Option<u32>
 }
 
 // The hash of each symbol that a look-up may find, as the symbols stand: so their names are read one behind the other.
-fn found_hashes(
+pub(crate) fn found_hashes(
     alloc: Global,
     hashing: Hashing,
     symbols: SymbolsNow<'_>,
 ) -> Result<Vec<Option<u32>>, AllocError>
     ensures { IfOk result (λ hashes. hashes.items
-        ≡ map (λ y. option_map (hash_by hashing) (found_name y)) (symbols_now symbols.entry)) }
+        ≡ hashes_found (hash_by hashing) (symbols_now symbols.entry)) }
 {
     let mut hashes = Vec::with_capacity(alloc, symbols.len())?;
     for i in 0..symbols.len() {
@@ -72,6 +72,15 @@ fn found_hashes(
         hashes.push(found_hash(hashing, &symbol))?;
     }
     Ok(hashes)
+}
+
+/// The GNU hash of each symbol that a look-up may find, as the symbols stand (GNU hash section). The order by buckets and
+/// the table are made of them. Error: `AllocError`.
+pub fn gnu_hashes(alloc: Global, symbols: SymbolsNow<'_>) -> Result<Vec<Option<u32>>, AllocError>
+    ensures { IfOk result (λ hashes. hashes.items
+        ≡ hashes_found gnu_hash_of (symbols_now symbols.entry)) }
+{
+    found_hashes(alloc, Hashing::Gnu, symbols)
 }
 
 // Appends the hashes at these positions.
@@ -90,14 +99,16 @@ fn push_hashes(
     Ok(())
 }
 
-// The hash of each symbol that a look-up finds, the symbols being in an order.
+// The hash of each symbol that a look-up finds, the symbols being in an order: of the hashes of those that it may find.
 pub(crate) fn hashes(
     alloc: Global,
     hashing: Hashing,
     symbols: SymbolsNow<'_>,
+    found: &[Option<u32>],
     order: &[usize],
 ) -> Result<Vec<Option<u32>>, AllocError>
-    requires { ArePlaces (symbols_now symbols) order.now }
+    requires places { ArePlaces (symbols_now symbols) order.now }
+    requires found { found.now ≡ hashes_found (hash_by hashing) (symbols_now symbols) }
     ensures { IfOk result (λ hashes. hashes.items
         ≡ hashes_of (hash_by hashing)
         (hashed_names (in_order (symbols_now symbols.entry) order.now))) }
@@ -105,37 +116,23 @@ pub(crate) fn hashes(
     if order.len() == 0 {
         return Ok(Vec::new(alloc));
     }
-    let found = found_hashes(alloc, hashing, symbols)?;
     let mut hashes = Vec::with_capacity(alloc, order.len())?;
     hashes.push(None)?;
-    push_hashes(&mut hashes, &found, &order[1..])?;
+    push_hashes(&mut hashes, found, &order[1..])?;
     Ok(hashes)
 }
 
-// The GNU hash of a symbol, where a look-up finds it.
-fn own_hash(symbols: SymbolsNow<'_>, i: usize) -> Option<u32>
-    requires { i < length (symbols_now symbols) }
-    ensures { slice_get (hashes_of gnu_hash_of (hashed_names (symbols_now symbols.entry))) i
-        ≡ Some result }
-{
-    if i == 0 {
-        return None;
-    }
-    let symbol = symbols.get(i);
-    found_hash(Hashing::Gnu, &symbol)
-}
-
-// The GNU hash of each symbol that a look-up finds, the symbols being as they stand.
+// The hash of each symbol that a look-up finds, the symbols being as they stand, of which there is one at least: of the
+// hashes of those that it may find.
 pub(crate) fn own_hashes(
     alloc: Global,
-    symbols: SymbolsNow<'_>,
+    found: &[Option<u32>],
 ) -> Result<Vec<Option<u32>>, AllocError>
-    ensures { IfOk result (λ hashes. hashes.items
-        ≡ hashes_of gnu_hash_of (hashed_names (symbols_now symbols.entry))) }
+    requires { 0 < length found.now }
+    ensures { IfOk result (λ own. own.items ≡ none ∷ drop 1 found.now) }
 {
-    let mut hashes = Vec::with_capacity(alloc, symbols.len())?;
-    for i in 0..symbols.len() {
-        hashes.push(own_hash(symbols, i))?;
-    }
-    Ok(hashes)
+    let mut own = Vec::with_capacity(alloc, found.len())?;
+    own.push(None)?;
+    own.extend_from_slice(&found[1..])?;
+    Ok(own)
 }

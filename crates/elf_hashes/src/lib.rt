@@ -13,5 +13,6 @@ pub mod versions;
 
 pub use crate::gabi::build_hash;
 pub use crate::gnu::{GnuSizes, build_gnu_hash};
+pub use crate::hashes::gnu_hashes;
 pub use crate::order::order_for_gnu_hash;
 pub use crate::versions::build_versym;

@@ -3,7 +3,8 @@ ghost use Rattle.std.specs.Prelude.{◌≡◌, ◌<◌, ◌≤◌, ◌^◌, ◌+
 ghost use Rattle.std.specs.List.{flat_map};
 ghost use Rattle.elf_image_symbol_edits.specs.Loan.{symbols_now};
 ghost use Rattle.elf_tables.specs.declared.fault.TableFault.TheVariants.{NumberTooLarge};
-ghost use Rattle.elf_hashes.specs.Found.{is_local as is_symbol_local, is_sought as is_symbol_sought};
+ghost use Rattle.elf_format.specs.Hashes.{gnu_hash};
+ghost use Rattle.elf_hashes.specs.Found.{found_hashes, is_local as is_symbol_local, is_sought as is_symbol_sought};
 ghost use Rattle.elf_hashes.specs.Order.{places_by_bucket, places_where};
 ghost use Rattle.elf_hashes.specs.Steps.{walk};
 
@@ -116,13 +117,16 @@ fn places(
 
 /// The positions of dynamic symbols in the order that a GNU hash table with so many buckets asks for (GNU hash section): the
 /// first stays first; then those that are local, those that are defined elsewhere, and bucket by bucket those that are
-/// found, each group as it stands. `NumberTooLarge` where there are more symbols than 32 bits can count.
+/// found, each group as it stands, by their hashes as `gnu_hashes` tells them. `NumberTooLarge` where there are more
+/// symbols than 32 bits can count.
 pub fn order_for_gnu_hash(
     alloc: Global,
     symbols: SymbolsNow<'_>,
+    found: &[Option<u32>],
     buckets: u32,
 ) -> Result<Vec<usize>, TableFault>
-    requires { 0 < buckets }
+    requires some { 0 < buckets }
+    requires found { found.now ≡ found_hashes gnu_hash (symbols_now symbols) }
     ensures { MatchResult result
         (λ order. (order.items ≡ places_by_bucket buckets (symbols_now symbols.entry))
         × (length (symbols_now symbols.entry) < 2 ^ 32))
@@ -134,7 +138,7 @@ pub fn order_for_gnu_hash(
     if symbols.len() == 0 {
         return Ok(Vec::new(alloc));
     }
-    let hashes = own_hashes(alloc, symbols)?;
+    let hashes = own_hashes(alloc, found)?;
     let chained = make_chains(alloc, buckets, hashes.as_slice())?;
     let order = places(alloc, symbols, &chained)?;
     Ok(order)

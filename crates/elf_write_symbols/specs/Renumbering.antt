@@ -1,7 +1,9 @@
 -- The new order of dynamic symbols and the new numbers of all sections and symbols, as they are handed on.
 use Rattle.std.specs.Prelude.{ℕ, ◌<◌, ◌^◌, ◌≡◌, List, length, Bool, true, false, ◌&&◌, ◌||◌, not, Option, Some, None, is_some, nat_lt}
 use Rattle.elf_format.specs.declared.constants.TheConstants.{SHT_DYNSYM, SHT_SYMTAB}
+use Rattle.elf_format.specs.Hashes.{gnu_hash}
 use Rattle.elf_format.specs.Image.{Image}
+use Rattle.elf_hashes.specs.Found.{found_hashes}
 use Rattle.elf_image.specs.Names.{are_names_changed}
 use Rattle.elf_image.specs.Staying.{table_number}
 use Rattle.elf_write_spec.specs.Final.{dynamic_order, is_static_renumbered, new_dynamic_symbols, new_static_symbols}
@@ -18,10 +20,11 @@ pub record AreNewNumbers (table : Option ℕ) (numbers : List ℕ) (n : NewNumbe
 -- ## Dynamic symbols
 
 -- The order of an image whose dynamic symbols haven't, one by one, the names that were read, and the new number of each symbol that was
--- read. Their numbers fit 32 bits.
+-- read. Their numbers fit 32 bits, and their hashes are those of the names that they have.
 pub record IsReordering (read image : Image) (r : Reordering) : Type 0 where
   pub changed : are_names_changed read image ≡ true
   pub order : r.order.items ≡ dynamic_order read image
+  pub hashes : r.hashes.items ≡ found_hashes gnu_hash image.dynamic_symbols
   pub numbers : AreNewNumbers (table_number SHT_DYNSYM image) (new_dynamic_symbols read image) r.numbers
   pub few : length image.dynamic_symbols < 2 ^ 32
 

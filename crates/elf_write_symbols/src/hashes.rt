@@ -112,6 +112,7 @@ fn gnu_anew(
         alloc,
         image.dynamic_symbols(),
         &reordering.order,
+        &reordering.hashes,
         sizes,
         form,
     ) {

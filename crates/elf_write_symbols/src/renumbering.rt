@@ -3,6 +3,8 @@ ghost use Rattle.std.specs.Prelude.{◌≡◌, ◌≢◌, ◌<◌, ◌^◌, IfOk
 ghost use Rattle.std.specs.List.{slice_get};
 ghost use Rattle.elf_tables.specs.declared.fault.TableFault.TheVariants.{NumberTooLarge};
 ghost use Rattle.elf_format.specs.declared.constants.TheConstants.{SHT_SYMTAB as SYMTAB};
+ghost use Rattle.elf_format.specs.Hashes.{gnu_hash};
+ghost use Rattle.elf_hashes.specs.Found.{found_hashes};
 ghost use Rattle.elf_image.specs.Names.{are_names_changed};
 ghost use Rattle.elf_image.specs.Staying.{table_number as table_number_of};
 ghost use Rattle.elf_write_spec.specs.Final.{buckets_of, dynamic_order, is_static_renumbered};
@@ -14,7 +16,7 @@ use crate::section_numbers::{NewSections, new_sections};
 use crate::sections::{first_of_type, table_number};
 use elf_format::constants::{SHT_DYNSYM, SHT_GNU_HASH, SHT_SYMTAB};
 use elf_format::numbers::{counted, word_at};
-use elf_hashes::order_for_gnu_hash;
+use elf_hashes::{gnu_hashes, order_for_gnu_hash};
 use elf_image::Builder;
 use elf_tables::TableFault;
 use std::alloc::Global;
@@ -25,6 +27,8 @@ use std::alloc::Global;
 pub struct Reordering {
     /// For each new place, where its symbol stands in the image.
     pub order: Vec<usize>,
+    /// Their GNU hashes as they stand in the image, of those that a look-up may find.
+    pub hashes: Vec<Option<u32>>,
     /// Their new numbers.
     pub numbers: NewNumbers,
 }
@@ -51,22 +55,24 @@ fn buckets(read: &Builder<'_>, image: &Builder<'_>) -> Option<u32>
     Some(word_at(image.form(), section.content, 0))
 }
 
-// The order that a GNU hash table asks for; without one that of the list.
+// The order that a GNU hash table asks for, by these hashes; without one that of the list.
 fn new_order(
     alloc: Global,
     read: &Builder<'_>,
     image: &Builder<'_>,
+    hashes: &[Option<u32>],
 ) -> Result<Vec<usize>, TableFault>
     requires ready { IsEditedReady read.now image.now }
     requires changed { are_names_changed read.now image.now ≡ true }
     requires few { length image.now.dynamic_symbols < 2 ^ 32 }
+    requires hashes { hashes.now ≡ found_hashes gnu_hash image.now.dynamic_symbols }
     ensures { MatchResult result
         (λ order. order.items ≡ dynamic_order read.now image.now)
         (λ fault. fault ≢ NumberTooLarge) }
 {
     let symbols = image.dynamic_symbols();
     match buckets(read, image) {
-        Some(buckets) => order_for_gnu_hash(alloc, symbols, buckets),
+        Some(buckets) => order_for_gnu_hash(alloc, symbols, hashes, buckets),
         None => {
             let order = counted(alloc, symbols.len())?;
             Ok(order)
@@ -87,11 +93,13 @@ fn reordered(
         (IsReordering read.now image.now)
         (λ fault. fault ≢ NumberTooLarge) }
 {
-    let order = new_order(alloc, read, image)?;
+    let hashes = gnu_hashes(alloc, image.dynamic_symbols())?;
+    let order = new_order(alloc, read, image, hashes.as_slice())?;
     let numbers = dynamic_numbers(alloc, read, image, order.as_slice())?;
     let table = table_number(image, SHT_DYNSYM);
     Ok(Reordering {
         order,
+        hashes,
         numbers: NewNumbers { table, numbers },
     })
 }

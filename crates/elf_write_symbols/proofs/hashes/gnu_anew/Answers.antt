@@ -1,12 +1,12 @@
 -- The table can be made anew, so its numbers serve; and the symbols fit 32 bits.
-use Rattle.std.proofs.Common.{◌≡◌, ap, ◌∙◌, subst, ℕ, List, Option, length, arith}
+use Rattle.std.proofs.Common.{◌≡◌, ap, sym, ◌∙◌, subst, ℕ, List, Option, length, arith}
 use Rattle.patch_bytes.specs.Memory.{memory_of}
 use Rattle.elf_format.specs.declared.form.Form.{Form}
-use Rattle.elf_format.specs.Hashes.{gnu_header}
+use Rattle.elf_format.specs.Hashes.{gnu_hash, gnu_header}
 use Rattle.elf_format.specs.Image.{Image}
 use Rattle.elf_format.specs.Views.{NamedSymbol}
 use Rattle.elf_hashes.specs.declared.gnu.GnuSizes.{GnuSizes}
-use Rattle.elf_hashes.specs.Found.{hashed_names, in_order}
+use Rattle.elf_hashes.specs.Found.{found_hashes, hashed_names, in_order}
 use Rattle.elf_hashes.specs.Gnu.{IsGnuTable}
 use Rattle.elf_image.specs.ImageModel.{section_model}
 use Rattle.elf_image_symbol_edits.specs.Loan.{symbols_now}
@@ -62,6 +62,10 @@ build_gnu_hash-requires-clause-places c =
     let image : Image = c.args.image.now in
     lent_places read image c.requires.ready (facts read image c.requires.ready) (symbols_now c.dynamic_symbols.result) c.deref.result.now
     c.dynamic_symbols.ensures.symbols (c.deref.ensures.value ∙ c.requires.reordering.order)
+
+pub build_gnu_hash-requires-clause-found : goal.build_gnu_hash-requires-clause-found
+build_gnu_hash-requires-clause-found c =
+    c.deref-2.ensures.value ∙ c.requires.reordering.hashes ∙ sym (ap (found_hashes gnu_hash) c.dynamic_symbols.ensures.symbols)
 
 pub unreachable-requires : goal.unreachable-requires
 unreachable-requires c =

@@ -1,10 +1,15 @@
 -- With other names a GNU table decides on the order.
 use Rattle.std.proofs.Common.{ap, sym, ◌∙◌, ℕ, length, arith}
+use Rattle.elf_format.specs.Hashes.{gnu_hash}
 use Rattle.elf_format.specs.Image.{Image, counted}
+use Rattle.elf_hashes.specs.Found.{found_hashes}
 use Rattle.elf_hashes.specs.Order.{places_by_bucket}
 use Rattle.elf_write_spec.proofs.ForCallers.OrderFacts.{order-by_bucket, order-unbucketed}
 use Rattle.elf_write_symbols.proofs.ListSteps.{match_more}
 use Rattle.elf_write_symbols.proofs.renumbering.new_order.Goals as goal
+
+pub order_for_gnu_hash-requires-clause-found : goal.order_for_gnu_hash-requires-clause-found
+order_for_gnu_hash-requires-clause-found c = c.requires.hashes ∙ sym (ap (found_hashes gnu_hash) c.dynamic_symbols-symbols.ensures.symbols)
 
 pub returns-in-Some : goal.returns-in-Some
 returns-in-Some c =
