@@ -8,7 +8,7 @@ use Rattle.std.proofs.lemmas.List.Sorted.{list_any-IsPermutation}
 use Rattle.std.proofs.lemmas.Bool.{and_left, cases_lt, cond_both, le-leb, le-ltb, lt-leb, lt-ltb, ltb-true}
 use Rattle.byte_store.specs.Laid.{Patch}
 use Rattle.byte_store.specs.Composed.{has_position, is_in_spans, is_patched, is_patched_at}
-use Rattle.byte_store.specs.Gaps.{AreZeros, HasRest, IsSpanIn, gap, gaps_from, spans_of}
+use Rattle.byte_store.specs.Gaps.{AreKept, AreZeros, HasRest, IsSpanIn, gap, gaps_from, spans_of}
 use Rattle.byte_store.specs.declared.composed.Span.{Span}
 
 or_none : (b : Bool) → (b || false) ≡ b
@@ -164,18 +164,23 @@ spans_have : (patches : List Patch) (k : ℕ) → is_in_spans (spans_of patches)
 spans_have [] k = refl
 spans_have (patch ∷ patches) k = ap (λ (b : Bool). is_patched_at k patch || b) (spans_have patches k)
 
-not_not : (a c p : Bool) → not (not (not a || c) || p) ≡ not (a && not c || p)
-not_not true c p = refl
-not_not false c p = refl
+not_or : (a c : Bool) → not (not a || c) ≡ (a && not c)
+not_or true c = refl
+not_or false c = refl
 
-pub zeros_are : (size : ℕ) (kept cleared unkept lost left held zeros : List Span) (patches : List Patch) → HasRest size kept unkept → lost ≡ unkept ++ cleared → HasRest size lost left → held ≡ left ++ spans_of patches → HasRest size held zeros → AreZeros size kept cleared patches zeros
-zeros_are size kept cleared unkept lost left held zeros patches first is_lost second is_held third k inside =
+pub kept_are : (size : ℕ) (kept cleared unkept lost held : List Span) → HasRest size kept unkept → lost ≡ unkept ++ cleared → HasRest size lost held → AreKept size kept cleared held
+kept_are size kept cleared unkept lost held first is_lost second k inside =
     let P : List Span → Bool = λ spans. is_in_spans spans k in
     let a : is_in_spans lost k ≡ (not (is_in_spans kept k) || is_in_spans cleared k) =
     ap P is_lost ∙ list_any-append (has_position k) unkept cleared ∙ ap (λ (b : Bool). b || is_in_spans cleared k) (first k inside) in
-    let b : is_in_spans held k ≡ (not (not (is_in_spans kept k) || is_in_spans cleared k) || is_patched patches k) =
+    second k inside ∙ ap not a ∙ not_or (is_in_spans kept k) (is_in_spans cleared k)
+
+pub zeros_are : (size : ℕ) (kept cleared spans held zeros : List Span) (patches : List Patch) → AreKept size kept cleared spans → held ≡ spans ++ spans_of patches → HasRest size held zeros → AreZeros size kept cleared patches zeros
+zeros_are size kept cleared spans held zeros patches are is_held rest k inside =
+    let P : List Span → Bool = λ spans. is_in_spans spans k in
+    let a : is_in_spans held k ≡ (is_in_spans kept k && not (is_in_spans cleared k) || is_patched patches k) =
     ap P is_held
-    ∙ list_any-append (has_position k) left (spans_of patches)
-    ∙ ap (λ (b : Bool). b || is_in_spans (spans_of patches) k) (second k inside ∙ ap not a)
-    ∙ ap (λ (b : Bool). not (not (is_in_spans kept k) || is_in_spans cleared k) || b) (spans_have patches k) in
-    third k inside ∙ ap not b ∙ not_not (is_in_spans kept k) (is_in_spans cleared k) (is_patched patches k)
+    ∙ list_any-append (has_position k) spans (spans_of patches)
+    ∙ ap (λ (b : Bool). b || is_in_spans (spans_of patches) k) (are k inside)
+    ∙ ap (λ (b : Bool). is_in_spans kept k && not (is_in_spans cleared k) || b) (spans_have patches k) in
+    rest k inside ∙ ap not a

@@ -12,6 +12,10 @@ IsSpanIn size span = (span.start ≤ span.end) × (span.end ≤ size)
 abbrev pub HasRest : ℕ → List Span → List Span → Type 0
 HasRest size spans gaps = (k : ℕ) → k < size → is_in_spans gaps k ≡ not (is_in_spans spans k)
 
+-- spans have the positions below a size that are kept and not cleared
+abbrev pub AreKept : ℕ → List Span → List Span → List Span → Type 0
+AreKept size kept cleared spans = (k : ℕ) → k < size → is_in_spans spans k ≡ (is_in_spans kept k && not (is_in_spans cleared k))
+
 -- the span from a position to another, if it has one
 abbrev pub gap : ℕ → ℕ → List Span
 gap start end = if nat_lt start end then record { start = start; end = end } ∷ [] else []

@@ -155,7 +155,7 @@ pub(crate) fn differences<'a>(
             let end = end_of_run(old, new, next);
             pieces.push(Piece {
                 offset: at as u64,
-                bytes: &new[at..end],
+                bytes: between(new, at, end),
             })?;
             at = end;
         }
@@ -197,5 +197,14 @@ fn is_same(old: &[u8], new: &[u8], at: usize, end: usize) -> bool
     requires new { end ≤ length new.now }
     ensures { IsTrue result ↔ slice_range old.now at end ≡ slice_range new.now at end }
 {
-    &old[at..end] == &new[at..end]
+    between(old, at, end) == between(new, at, end)
+}
+
+/// The bytes between two positions.
+fn between(bytes: &[u8], start: usize, end: usize) -> &[u8]
+    requires order { start ≤ end }
+    requires within { end ≤ length bytes.now }
+    ensures { result.now ≡ slice_range bytes.now start end }
+{
+    &bytes[start..end]
 }

@@ -1,6 +1,6 @@
 -- The reader goes through the read rules in stages: which stage's fault is the answer.
 use Rattle.std.proofs.Common.{◌≡◌, ℕ, List, [], ◌∷◌, Bool, true, false, Option, Some, None, Result, Ok, Err, refl, sym, ap, ◌∙◌, inl, inr}
-use Rattle.std.specs.Prelude.{is_some}
+use Rattle.std.specs.Prelude.{MatchResult, is_some}
 use Rattle.elf_format.specs.declared.fault.ElfFault.{ElfFault}
 use Rattle.elf_format.specs.declared.fault.ElfFault.TheVariants as faults
 use Rattle.elf_format.specs.declared.fault.ElfFault.TheVariants.{BadText}
@@ -124,3 +124,9 @@ module _ (file : List ℕ) (p : Parts) (there : parts_read file ≡ Ok p) where
         | inl refused ↦ λ other. texts_refused e (groups ∙ refused_is e (there_or BadText (image_by_groups p)) refused other)
         | inr late ↦ λ other. last_refused late.0 (groups ∙ late.1) e (refused_is e (checked last_rules p) late.2 other)
       ]
+
+      -- the answer where the texts were looked for
+      pub image_is_read : {X : Type 0} → (view : X → Image) (r : Result X ElfFault) → TextsRead view p r
+          → MatchResult r (λ x. image_of file ≡ Ok (view x)) (λ e. (e ≡ faults.Memory → ⊥) → image_of file ≡ Err e)
+      image_is_read view (Ok x) h = texts_read view x h
+      image_is_read view (Err e) h = no_image view e h

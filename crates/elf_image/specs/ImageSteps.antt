@@ -1,17 +1,17 @@
 -- The image of a file in groups of its parts, and what the last stages of reading answer.
-use Rattle.std.specs.Prelude.{◌≡◌, ◌⊎◌, List, map, length, false, Option, Some, None, Result, Ok, Err, option_map}
+use Rattle.std.specs.Prelude.{ℕ, ◌≡◌, ◌≢◌, ◌⊎◌, List, MatchResult, map, length, false, Option, Some, None, Result, Ok, Err, option_map}
 use Rattle.std.specs.Global.{Vec}
 use Rattle.patch_bytes.specs.Memory.{◌>>=◌}
 use Rattle.elf_format.specs.declared.constants.TheConstants.{SHT_DYNAMIC, SHT_DYNSYM, SHT_GNU_VERDEF, SHT_GNU_VERNEED, SHT_SYMTAB}
 use Rattle.elf_format.specs.declared.fault.ElfFault.{ElfFault}
-use Rattle.elf_format.specs.declared.fault.ElfFault.TheVariants.{BadText}
+use Rattle.elf_format.specs.declared.fault.ElfFault.TheVariants.{BadText, Memory}
 use Rattle.elf_format.specs.declared.section_data.SectionData.{SectionData}
 use Rattle.elf_format.specs.Dynamic.{Entry}
 use Rattle.elf_format.specs.File.{Parts, section_of_type}
-use Rattle.elf_format.specs.Image.{Image, ImageSection, counted, definitions_read, dynamic_symbols_read, entries_read, image_header, interpreter_read, needs_read, section_read, static_symbols}
+use Rattle.elf_format.specs.Image.{Image, ImageSection, counted, definitions_read, dynamic_symbols_read, entries_read, image_header, image_of, interpreter_read, needs_read, section_read, static_symbols}
 use Rattle.elf_format.specs.Options.{each}
 use Rattle.elf_format.specs.Rules.{checked, data_of, file_of, there_or}
-use Rattle.elf_format.specs.Stages.{last_rules, link_rules}
+use Rattle.elf_format.specs.Stages.{last_rules, link_rules, parts_read}
 use Rattle.elf_format.specs.Versions.{VersionDefinition, VersionNeeds}
 use Rattle.elf_format.specs.Views.{NamedSymbol}
 use Rattle.elf_image_rules.specs.Read.{Refuses}
@@ -114,3 +114,8 @@ image_gathered p g = record {
 abbrev pub TextsRead : {X : Type 0} → (X → Image) → Parts → Result X ElfFault → Type 0
 TextsRead view p (Ok x) = (there_or BadText (image_by_groups p) ≡ Ok (view x)) × (checked last_rules p ≡ Ok p)
 TextsRead view p (Err e) = Refuses e (there_or BadText (image_by_groups p)) ⊎ ((image : Image) × (there_or BadText (image_by_groups p) ≡ Ok image) × Refuses e (checked last_rules p))
+
+-- the image of a file that has these parts, seen by view, or the first fault of the rules on them
+abbrev pub ImageRead : {X : Type 0} → (X → Image) → Parts → Result X ElfFault → Type 0
+ImageRead view p result = (file : List ℕ) → parts_read file ≡ Ok p
+    → MatchResult result (λ x. image_of file ≡ Ok (view x)) (λ e. e ≢ Memory → image_of file ≡ Err e)

@@ -9,6 +9,7 @@ use crate::read::Listed;
 use crate::version::Versions;
 use elf_image_parts::dynamic::Dynamic;
 use elf_image_parts::section::Section;
+use elf_image_parts::segment;
 use patch_bytes::ByteString;
 use std::alloc::{AllocError, Global};
 
@@ -17,27 +18,86 @@ impl<'data> Builder<'data> {
     pub fn try_clone(&self, alloc: Global) -> Result<Builder<'data>, AllocError>
         ensures { IfOk result (λ copy. copy ≡ self.now) }
     {
-        let sections = copied_sections(alloc, &self.sections)?;
-        let listed = copied_listed(alloc, &self.dynamic, &self.versions)?;
-        let interpreter = copied_interpreter(alloc, &self.interpreter)?;
-        let section_numbers = Vec::from_slice(alloc, &self.section_numbers)?;
-        let segments = Vec::from_slice(alloc, &self.segments)?;
+        let texts = copied_texts(
+            alloc,
+            &self.sections,
+            &self.dynamic,
+            &self.versions,
+            &self.interpreter,
+        )?;
+        let tables = copied_tables(alloc, &self.segments, &self.section_numbers)?;
         let lists = self.lists.try_clone(alloc)?;
         Ok(Builder {
             source: self.source,
             changed: self.changed,
             form: self.form,
             header: self.header,
-            segments,
-            sections,
+            segments: tables.segments,
+            sections: texts.sections,
             lists,
-            versions: listed.versions,
-            dynamic: listed.dynamic,
-            interpreter,
-            section_numbers,
+            versions: texts.listed.versions,
+            dynamic: texts.listed.dynamic,
+            interpreter: texts.interpreter,
+            section_numbers: tables.section_numbers,
             page_size: self.page_size,
         })
     }
+}
+
+// Copies of what has texts, besides symbols.
+#[derive(Drop)]
+struct Texts<'data> {
+    sections: Vec<Section<'data>>,
+    listed: Listed<'data>,
+    interpreter: Option<ByteString<'data>>,
+}
+
+// Copies of what has numbers alone.
+#[derive(Drop)]
+struct Tables {
+    segments: Vec<segment::Segment>,
+    section_numbers: Vec<usize>,
+}
+
+// The same sections, dynamic list, versions and interpreter.
+fn copied_texts<'data>(
+    alloc: Global,
+    sections: &[Section<'data>],
+    dynamic: &Option<Vec<Dynamic<'data>>>,
+    versions: &Versions<'data>,
+    interpreter: &Option<ByteString<'data>>,
+) -> Result<Texts<'data>, AllocError>
+    ensures sections { IfOk result (λ texts.
+        map section_model texts.sections.items ≡ map section_model sections.now) }
+    ensures listed { IfOk result (λ texts.
+        listed_model texts.listed ≡ listed_parts_model dynamic.now versions.now) }
+    ensures interpreter { IfOk result (λ texts. texts.interpreter ≡ interpreter.now) }
+{
+    let sections = copied_sections(alloc, sections)?;
+    let listed = copied_listed(alloc, dynamic, versions)?;
+    let interpreter = copied_interpreter(alloc, interpreter)?;
+    Ok(Texts {
+        sections,
+        listed,
+        interpreter,
+    })
+}
+
+// The same program headers and numbers of sections.
+fn copied_tables(
+    alloc: Global,
+    segments: &[segment::Segment],
+    numbers: &[usize],
+) -> Result<Tables, AllocError>
+    ensures segments { IfOk result (λ tables. tables.segments.items ≡ segments.now) }
+    ensures numbers { IfOk result (λ tables. tables.section_numbers.items ≡ numbers.now) }
+{
+    let segments = Vec::from_slice(alloc, segments)?;
+    let section_numbers = Vec::from_slice(alloc, numbers)?;
+    Ok(Tables {
+        segments,
+        section_numbers,
+    })
 }
 
 // The same dynamic list and versions.

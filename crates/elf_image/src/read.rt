@@ -1,7 +1,7 @@
 //! The reader: the read rules in their order, each in time in proportion to what it looks at.
 ghost use Rattle.std.specs.Prelude.{◌≡◌, ◌≢◌, Ok, Err, MatchResult, All, length, map, IfOk, IfSome};
 ghost use Rattle.elf_format.specs.Image.{counted as numbers_below, image_of, interpreter_read};
-ghost use Rattle.elf_image.specs.ImageSteps.{LinksRead, TextsRead, image_built, image_by_groups, image_gathered, listed_in, listed_model, named_in, named_model};
+ghost use Rattle.elf_image.specs.ImageSteps.{ImageRead, LinksRead, TextsRead, image_built, image_by_groups, image_gathered, listed_in, listed_model, named_in, named_model};
 ghost use Rattle.elf_image.specs.Edited.{IsEdited};
 ghost use Rattle.elf_image.specs.EditedLists.{edits_of_none};
 ghost use Rattle.elf_image.specs.ImageModel.{segment_model, text_model};
@@ -166,6 +166,22 @@ fn gather<'data>(
     }
 }
 
+// The parts together with the program headers and the numbers of the sections.
+fn gather_all<'data>(
+    alloc: Global,
+    parts: &Headers<'data>,
+    named: Named<'data>,
+    listed: Listed<'data>,
+) -> Result<Gathered<'data>, AllocError>
+    ensures image { IfOk result (λ made. image_gathered (parts_model parts.now) made
+        ≡ image_built (parts_model parts.now) named.entry listed.entry) }
+    ensures lists { IfOk result (λ made. made.named.lists ≡ named.entry.lists) }
+{
+    let section_numbers = counted(alloc, named.sections.len())?;
+    let segments = segments(alloc, &parts.segments)?;
+    Ok(gather(parts, segments, named, listed, section_numbers))
+}
+
 // The file's image in its parts, absent where a text isn't there.
 #[tactic(auto, unfolding(crate::specs::ImageSteps::image_by_groups))]
 fn image<'data>(
@@ -188,9 +204,7 @@ fn image<'data>(
 {
     let named = named_parts(alloc, parts, raw, kinds, known)?;
     let listed = listed_parts(alloc, parts, raw, defined, needed)?;
-    let section_numbers = counted(alloc, named.sections.len())?;
-    let segments = segments(alloc, &parts.segments)?;
-    Ok(gather(parts, segments, named, listed, section_numbers))
+    Ok(gather_all(alloc, parts, named, listed)?)
 }
 
 // The bytes of the interpreter's section, where there is a PT_INTERP.
@@ -262,6 +276,30 @@ fn linked_kinds(
     Ok(kinds(alloc, parts, &checked)?)
 }
 
+// The file's image in its parts, where its texts are there and the last rules hold, by the records of versions.
+fn image_with_versions<'data>(
+    alloc: Global,
+    parts: &Headers<'data>,
+    raw: &[EntryNumbers],
+    kinds: &[SectionData],
+    defined: &Walk<RawDefinition>,
+    needed: &Walk<RawNeeds>,
+    known: Option<&SymbolLists<'data>>,
+) -> Result<Gathered<'data>, ElfFault>
+    requires kinds { kinds.now ≡ map (data_of (parts_model parts.now)) parts.now.sections.items }
+    requires raw { raw.now ≡ entries_of (parts_model parts.now) }
+    requires defined { AreDefinitions (parts_model parts.now) defined.now }
+    requires needed { AreNeeds (parts_model parts.now) needed.now }
+    requires known { IfSome known (λ lists. AreSymbolsRead (parts_model parts.now) lists.now) }
+    ensures image { TextsRead (image_gathered (parts_model parts.now)) (parts_model parts.now)
+        result }
+    ensures lists { IfOk result (λ made. AreSymbolsRead (parts_model parts.now) made.named.lists) }
+{
+    let image = image_or_fault(alloc, parts, raw, kinds, defined, needed, known)?;
+    check_last(alloc, parts, defined, needed)?;
+    Ok(image)
+}
+
 // The file's image in its parts, where its texts are there and the last rules hold.
 fn image_and_last<'data>(
     alloc: Global,
@@ -279,9 +317,25 @@ fn image_and_last<'data>(
 {
     let defined = walk_definitions(alloc, parts)?;
     let needed = walk_needs(alloc, parts)?;
-    let image = image_or_fault(alloc, parts, raw, kinds, &defined, &needed, known)?;
-    check_last(alloc, parts, &defined, &needed)?;
-    Ok(image)
+    image_with_versions(alloc, parts, raw, kinds, &defined, &needed, known)
+}
+
+// The image of the file that has these header tables, in its parts, or the fault of the first rule behind those on the
+// header tables that doesn't hold.
+fn image_of_parts<'data>(
+    alloc: Global,
+    parts: &Headers<'data>,
+    known: Option<&SymbolLists<'data>>,
+) -> Result<Gathered<'data>, ElfFault>
+    requires { IfSome known (λ lists. AreSymbolsRead (parts_model parts.now) lists.now) }
+    ensures image { ImageRead (image_gathered (parts_model parts.now)) (parts_model parts.now)
+        result }
+    ensures lists { IfOk result (λ made. AreSymbolsRead (parts_model parts.now) made.named.lists) }
+{
+    check_placement(alloc, parts)?;
+    let raw = raw_entries(alloc, parts)?;
+    let kinds = linked_kinds(alloc, parts, &raw)?;
+    image_and_last(alloc, parts, &raw, &kinds, known)
 }
 
 // The image that has these parts, with room for edits of its symbols.
@@ -323,10 +377,7 @@ fn image_of_file<'data>(
         (λ e. e ≢ ElfFault.Memory → image_of bytes.entry.now ≡ Err e) }
 {
     let parts = read_headers(alloc, bytes)?;
-    check_placement(alloc, &parts)?;
-    let raw = raw_entries(alloc, &parts)?;
-    let kinds = linked_kinds(alloc, &parts, &raw)?;
-    let gathered = image_and_last(alloc, &parts, &raw, &kinds, known)?;
+    let gathered = image_of_parts(alloc, &parts, known)?;
     let lists = EditedLists::new(alloc, &gathered.named.lists)?;
     Ok(builder(&parts, gathered, lists))
 }

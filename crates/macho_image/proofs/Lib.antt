@@ -11,6 +11,7 @@ pub mod ForCallers
 pub mod LaidLaws
 pub mod ListingLaws
 pub mod MeaningLaws
+pub mod PickedLaws
 pub mod PlaceLaws
 pub mod StoreLaws
 pub mod StoredFields

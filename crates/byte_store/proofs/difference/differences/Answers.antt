@@ -22,10 +22,10 @@ loop-at-preserved c =
     let old = c.args.old.now in
     let new = c.args.new.now in record {
       within = c.end_of_run-end.ensures.end;
-      inside = pushed_lies c.loop-at.pieces.items _ _ old new end c.in_ok-push.ensures.items refl (omega arith) c.end_of_run-end.ensures.end c.requires c.loop-at.invariant.inside;
-      makes = pushed_makes c.loop-at.pieces.items _ _ old new end c.in_ok-push.ensures.items refl (omega arith) c.end_of_run-end.ensures.end c.loop-at.invariant.makes;
-      stand = pushed_stands c.loop-at.pieces.items _ _ old new end c.in_ok-push.ensures.items refl (omega arith) c.end_of_run-end.ensures.end c.loop-at.invariant.stand;
-      changes = pushed_changes c.loop-at.pieces.items _ _ old new end c.in_ok-push.ensures.items refl (omega arith) c.end_of_run-end.ensures.end next c.end_of_run-end.ensures.begin
+      inside = pushed_lies c.loop-at.pieces.items _ _ old new end c.in_ok-push.ensures.items c.between.ensures (omega arith) c.end_of_run-end.ensures.end c.requires c.loop-at.invariant.inside;
+      makes = pushed_makes c.loop-at.pieces.items _ _ old new end c.in_ok-push.ensures.items c.between.ensures (omega arith) c.end_of_run-end.ensures.end c.loop-at.invariant.makes;
+      stand = pushed_stands c.loop-at.pieces.items _ _ old new end c.in_ok-push.ensures.items c.between.ensures (omega arith) c.end_of_run-end.ensures.end c.loop-at.invariant.stand;
+      changes = pushed_changes c.loop-at.pieces.items _ _ old new end c.in_ok-push.ensures.items c.between.ensures (omega arith) c.end_of_run-end.ensures.end next c.end_of_run-end.ensures.begin
           (λ is. let same = c.if-is_same.ensures.1 is in cc same) c.loop-at.invariant.changes;
       idle = λ is. let same = c.if-is_same.ensures.1 (ap (λ (xs : List ℕ). slice_range xs at next) is) in absurd (cc same);
     }

@@ -1,17 +1,16 @@
--- Each stage's refusal is the answer, and the image where none refuses.
+-- The refusal of the header tables is the answer, and what their parts give where they are there.
 use Rattle.std.proofs.Common.{◌≡◌, ◌∙◌, ℕ, List, Ok, Result, ap, refl, subst, sym}
 use Rattle.std.proofs.lemmas.Result.{err_from_is_err_and}
 use Rattle.elf_format.specs.declared.fault.ElfFault.{ElfFault}
 use Rattle.elf_format.specs.Image.{Image, image_of}
-use Rattle.elf_format.specs.Stages.{link_rules, parts_read}
+use Rattle.elf_format.specs.Stages.{parts_read}
 use Rattle.elf_image_rules.specs.Read.{parts_model}
-use Rattle.elf_format.specs.Rules.{checked, placement_rules}
 use Rattle.elf_image.specs.ImageSteps.{image_gathered}
 use Rattle.elf_format.specs.File.{Parts}
 use Rattle.elf_image.specs.SymbolsRead.{AreSymbolsOfFile, AreSymbolsRead}
 use Rattle.elf_image.proofs.SymbolLists.{lists_of_file, of_what_is_there, source_is_file}
 use Rattle.elf_image.proofs.EditedLaws.{read_is_edited}
-use Rattle.elf_image.proofs.ReadSteps.{links_refused, no_image, open_refused, placement_refused, refused_is, texts_read}
+use Rattle.elf_image.proofs.ReadSteps.{open_refused, refused_is}
 use Rattle.elf_image.proofs.read.image_of_file.Goals as goal
 
 pub returns-in_err-parts : goal.returns-in_err-parts
@@ -19,26 +18,13 @@ returns-in_err-parts c =
     let e = err_from_is_err_and c.from_residual.result c.from_residual.ensures.1 in
     rw (e.1, e.2) (λ other. open_refused c.args.bytes.now c.in_err-parts.field-0.0 (refused_is c.in_err-parts.field-0.0 (parts_read c.args.bytes.now) c.in_err-parts.ensures other))
 
-pub returns-in_err-check_placement : goal.returns-in_err-check_placement
-returns-in_err-check_placement c =
-    let e = err_from_is_err_and c.from_residual-in_err-check_placement.result c.from_residual-in_err-check_placement.ensures.1 in
-    rw (e.1, e.2) (λ other. placement_refused c.args.bytes.now (parts_model c.in_ok-parts.parts) c.in_ok-parts.ensures c.in_err-check_placement.field-0.0
-    (refused_is c.in_err-check_placement.field-0.0 (checked placement_rules (parts_model c.in_ok-parts.parts)) c.in_err-check_placement.ensures other))
-
-pub returns-in_err-kinds : goal.returns-in_err-kinds
-returns-in_err-kinds c =
-    let e = err_from_is_err_and c.from_residual-in_err-kinds.result c.from_residual-in_err-kinds.ensures.1 in
-    rw (e.1, e.2) (λ other. links_refused c.args.bytes.now (parts_model c.in_ok-parts.parts) c.in_ok-parts.ensures c.in_ok-check_placement.ensures c.in_err-kinds.field-0.0
-    (refused_is c.in_err-kinds.field-0.0 (checked link_rules (parts_model c.in_ok-parts.parts)) c.in_err-kinds.ensures other))
-
 pub returns-in_err-gathered : goal.returns-in_err-gathered
 returns-in_err-gathered c =
     let e = err_from_is_err_and c.from_residual-in_err-gathered.result c.from_residual-in_err-gathered.ensures.1 in
-    rw (e.1, e.2) (no_image c.args.bytes.now (parts_model c.in_ok-parts.parts) c.in_ok-parts.ensures c.in_ok-check_placement.ensures c.in_ok-kinds.ensures.0
-    (image_gathered (parts_model c.in_ok-parts.parts)) c.in_err-gathered.field-0.0 c.in_err-gathered.ensures.image)
+    rw (e.1, e.2) (c.in_err-gathered.ensures.image c.args.bytes.now c.in_ok-parts.ensures)
 
-pub image_and_last-requires-clause-known : goal.image_and_last-requires-clause-known
-image_and_last-requires-clause-known c =
+pub image_of_parts-requires : goal.image_of_parts-requires
+image_of_parts-requires c =
     of_what_is_there (λ lists. AreSymbolsOfFile c.args.bytes.now lists.now) (λ lists. AreSymbolsRead (parts_model c.in_ok-parts.parts) lists.now) c.args.known
     (λ lists are. are.by_parts (parts_model c.in_ok-parts.parts) c.in_ok-parts.ensures) c.requires
 
@@ -46,8 +32,7 @@ pub builder-requires : goal.builder-requires
 builder-requires c =
     let parts : Parts = parts_model c.in_ok-parts.parts in
     let image : Image = image_gathered parts c.in_ok-gathered.gathered in
-    let read : image_of c.args.bytes.now ≡ Ok image = texts_read c.args.bytes.now parts c.in_ok-parts.ensures c.in_ok-check_placement.ensures c.in_ok-kinds.ensures.0
-    (image_gathered parts) c.in_ok-gathered.gathered c.in_ok-gathered.ensures.image in
+    let read : image_of c.args.bytes.now ≡ Ok image = c.in_ok-gathered.ensures.image c.args.bytes.now c.in_ok-parts.ensures in
     record {
       edited = read_is_edited c.args.bytes.now image read;
       known = subst (λ (file : List ℕ). AreSymbolsOfFile file c.in_ok-gathered.gathered.named.lists) (sym (source_is_file c.args.bytes.now image read))
@@ -62,6 +47,5 @@ answer_of i = Ok i
 pub returns : goal.returns
 unfolding answer_of
 returns c =
-    let read : image_of c.args.bytes.now ≡ Ok (image_gathered (parts_model c.in_ok-parts.parts) c.in_ok-gathered.gathered) = texts_read c.args.bytes.now (parts_model c.in_ok-parts.parts) c.in_ok-parts.ensures c.in_ok-check_placement.ensures c.in_ok-kinds.ensures.0
-    (image_gathered (parts_model c.in_ok-parts.parts)) c.in_ok-gathered.gathered c.in_ok-gathered.ensures.image in
+    let read : image_of c.args.bytes.now ≡ Ok (image_gathered (parts_model c.in_ok-parts.parts) c.in_ok-gathered.gathered) = c.in_ok-gathered.ensures.image c.args.bytes.now c.in_ok-parts.ensures in
     read ∙ ap answer_of (sym c.builder.ensures)
