@@ -1,7 +1,8 @@
 //! The words of several edits on one line, whatever kind of file they are of.
-ghost use Rattle.std.specs.Prelude.{◌≡◌, Ok, IfErr, IfOk, map, option_map, string_bytes};
+ghost use Rattle.std.specs.Prelude.{◌≡◌, ◌++◌, ◌∷◌, [], Ok, IfErr, IfOk, OnOk, map, option_map, string_bytes};
 ghost use Rattle.command_words.specs.Groups.{IsWrong, fault_at, other_words as wrong_words, row_asked};
-ghost use Rattle.command_words.specs.Rows.{given_model, given_without_path, kind_model, row_model};
+ghost use Rattle.command_words.specs.Rows.{given_model, given_without_path, kind_model, options, path_and_words, row_model};
+ghost use Rattle.command_words.specs.Rows.{text_and_path, texts_and_path};
 ghost use Rattle.command_words.specs.WordValues.{value_answer};
 ghost use Rattle.command_words.specs.declared.edits.EditsError.TheVariants.{Memory};
 
@@ -45,30 +46,36 @@ pub struct EditFault {
     pub takes: usize,
 }
 
+impl EditFault {
+    /// Writes which word is missing or too many, and how many the edit takes.
+    fn write_count<W: fmt::Write>(&self, f: &mut fmt::Formatter<W>) -> fmt::Result {
+        let takes = self.takes;
+        let what = if self.word > takes {
+            "too many"
+        } else {
+            "missing"
+        };
+        self.write_word(f)?;
+        write!(f, " is {what}, the edit takes {takes}")
+    }
+
+    /// Writes which word is wrong.
+    fn write_word<W: fmt::Write>(&self, f: &mut fmt::Formatter<W>) -> fmt::Result {
+        let word = self.word;
+        write!(f, "word {word}")
+    }
+}
+
 impl fmt::Display for EditFault {
     fn fmt<W: fmt::Write>(&self, f: &mut fmt::Formatter<W>) -> fmt::Result {
         let group = self.group;
         let kind = self.kind;
-        let word = self.word;
-        let takes = self.takes;
+        write!(f, "group {group}: {kind}: ")?;
         match kind {
-            EditKind::Empty => write!(f, "group {group}: {kind}: no edit stands there"),
-            EditKind::UnknownEdit => {
-                write!(f, "group {group}: {kind}: its first word names no edit")
-            }
-            EditKind::WrongWords if word > takes => {
-                write!(
-                    f,
-                    "group {group}: {kind}: word {word} is too many, the edit takes {takes}"
-                )
-            }
-            EditKind::WrongWords => {
-                write!(
-                    f,
-                    "group {group}: {kind}: word {word} is missing, the edit takes {takes}"
-                )
-            }
-            _ => write!(f, "group {group}: {kind}: word {word}"),
+            EditKind::Empty => f.write_str("no edit stands there"),
+            EditKind::UnknownEdit => f.write_str("its first word names no edit"),
+            EditKind::WrongWords => self.write_count(f),
+            EditKind::KeyValue | EditKind::Number => self.write_word(f),
         }
     }
 }
@@ -183,22 +190,49 @@ pub fn values_without_path(
     ensures { IfOk result (λ values. option_map given_model values
         ≡ given_without_path (kind_model form.now) (map (λ w. w.now) words.now)) }
 {
-    let path = String::new(alloc);
     match (form, words) {
-        (ValueForm::Path, []) => Ok(Some(Values::Path(path))),
-        (ValueForm::Text(_), [word]) => {
-            let value = String::from_str(alloc, word)?;
-            Ok(Some(Values::Text(value, path)))
-        }
-        (ValueForm::Texts(..), [first, second]) => {
-            let first = String::from_str(alloc, first)?;
-            let second = String::from_str(alloc, second)?;
-            Ok(Some(Values::Texts(first, second, path)))
-        }
-        (ValueForm::Words(_), words) => Ok(Some(Values::Words(path, copies(alloc, words)?))),
-        (ValueForm::Options(_), []) => Ok(Some(Values::Options(path, Vec::new(alloc)))),
+        (ValueForm::Path, []) => Ok(Some(Values::Path(String::new(alloc)))),
+        (ValueForm::Text(_), [word]) => text_alone(alloc, word),
+        (ValueForm::Texts(..), [first, second]) => texts_alone(alloc, first, second),
+        (ValueForm::Words(_), words) => words_alone(alloc, words),
+        (ValueForm::Options(_), []) => Ok(Some(no_options(alloc))),
         _ => Ok(None),
     }
+}
+
+/// A text, with an empty path.
+fn text_alone(alloc: Global, word: &str) -> Result<Option<Values>, AllocError>
+    ensures { IfOk result (λ values. option_map given_model values
+        ≡ given_without_path text_and_path (word.now ∷ [])) }
+{
+    let word = String::from_str(alloc, word)?;
+    Ok(Some(Values::Text(word, String::new(alloc))))
+}
+
+/// Two texts, with an empty path.
+fn texts_alone(alloc: Global, first: &str, second: &str) -> Result<Option<Values>, AllocError>
+    ensures { IfOk result (λ values. option_map given_model values
+        ≡ given_without_path texts_and_path (first.now ∷ second.now ∷ [])) }
+{
+    let first = String::from_str(alloc, first)?;
+    let second = String::from_str(alloc, second)?;
+    Ok(Some(Values::Texts(first, second, String::new(alloc))))
+}
+
+/// Any number of words, with an empty path.
+fn words_alone(alloc: Global, words: &[&str]) -> Result<Option<Values>, AllocError>
+    ensures { IfOk result (λ values. option_map given_model values
+        ≡ given_without_path path_and_words (map (λ w. w.now) words.now)) }
+{
+    let words = copies(alloc, words)?;
+    Ok(Some(Values::Words(String::new(alloc), words)))
+}
+
+/// No values of an option, with an empty path.
+fn no_options(alloc: Global) -> Values
+    ensures { given_model result ≡ options [] [] }
+{
+    Values::Options(String::new(alloc), Vec::new(alloc))
 }
 
 /// The same words, owned. Error: `AllocError`.
@@ -208,9 +242,18 @@ pub fn copies(alloc: Global, words: &[&str]) -> Result<Vec<String>, AllocError>
 {
     let mut copies = Vec::with_capacity(alloc, words.len())?;
     for word in words {
-        copies.push(String::from_str(alloc, word)?)?;
+        push_copy(alloc, &mut copies, word)?;
     }
     Ok(copies)
+}
+
+/// Puts a word, owned, behind others.
+fn push_copy(alloc: Global, copies: &mut Vec<String>, word: &str) -> Result<(), AllocError>
+    ensures { OnOk result (map string_bytes copies.new.items
+        ≡ map string_bytes copies.old.items ++ word.now ∷ []) }
+{
+    copies.push(String::from_str(alloc, word)?)?;
+    Ok(())
 }
 
 /// The same words, lent. Error: `AllocError`.

@@ -11,10 +11,11 @@ use Rattle.command_words.specs.declared.noting.Notes.{Notes}
 use Rattle.command_words.specs.declared.noting.Notes.TheVariants.{LeftOut, Wanted}
 use Rattle.macho_commands.specs.Engine.{Asked, SignsBy, Writes, WritesEdits, asked, signs_of}
 use Rattle.macho_commands.specs.Meaning.{MachoMeaning, file_of}
-use Rattle.macho_commands.specs.Notes.{TellsBy, TellsCommand, TellsLeft, TellsOf, TellsSigned, TellsWanted, TellsWantedAt, is_signed_file, is_some_left, left_line, note_line}
+use Rattle.macho_commands.specs.Notes.{TellsBy, TellsCommand, TellsLeft, TellsOf, TellsSigned, TellsWanted, TellsWantedAt, is_some_left, left_line, note_line}
 use Rattle.macho_commands.specs.declared.signing.Signing.{Signing}
 use Rattle.macho_commands.specs.declared.signing.Signs.{Signs}
 use Rattle.macho_commands.specs.declared.signing.Signs.TheVariants.{Nothing, Touched, Whole}
+use Rattle.macho_commands_signing.specs.Signed.{is_signed_file}
 use Rattle.macho_signatures.specs.Renewed.{laid}
 use Rattle.macho_signatures.specs.declared.renewal.Slot.{Slot}
 use Rattle.macho_signing.specs.Thin.{Pages}

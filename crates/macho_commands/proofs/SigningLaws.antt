@@ -1,14 +1,10 @@
 -- What signing makes of edits.
-use Rattle.std.proofs.Common.{◌≡◌, ◌≢◌, ◌≤◌, ◌<◌, ◌+◌, ◌∙◌, ℕ, List, [], ◌∷◌, ◌++◌, length, take, drop, get_or, None, ap, arith, refl, subst, sym}
+use Rattle.std.proofs.Common.{◌≡◌, ◌≢◌, ◌≤◌, ◌<◌, ◌+◌, ◌∙◌, ℕ, List, [], ◌∷◌, length, None, ap, arith, refl, subst, sym}
 use Rattle.std.specs.List.{All}
-use Rattle.std.proofs.lemmas.List.{length-append, length-drop, length-take-le}
+use Rattle.macho_commands_signing.proofs.PieceLaws.{length-put_at}
 use Rattle.std.proofs.lemmas.List.Elements.{All-head, All-tail}
 use Rattle.arwen_macho.specs.declared.front.Front.{Front}
-use Rattle.arwen_macho.specs.FatState.{put_at}
 use Rattle.arwen_macho.specs.Fronts.{LiesIn, fronts_on}
-use Rattle.macho_signatures.specs.Pages.{hash_bytes}
-use Rattle.macho_signatures.proofs.RenewalSteps.{laid_more, lies_at}
-use Rattle.macho_commands.proofs.StoreLaws.{with_slot-is}
 use Rattle.macho_signatures.specs.Renewed.{SlotLies, laid}
 use Rattle.macho_signatures.specs.declared.renewal.Slot.{Slot}
 use Rattle.macho_signing.specs.File.{signed_slots, signing_fault}
@@ -60,14 +56,6 @@ tells_signing Whole a file fronts e other writes wrong = fault_is all (outcome_o
 
 -- ## What is written
 
-pub length-put_at : (at : ℕ) (part file : List ℕ) → at + length part ≤ length file → length (put_at at part file) ≡ length file
-length-put_at at part file inside =
-    let a = length-take-le at file (omega (arith, inside)) in
-    let b = length-drop (at + length part) file in
-    let c = length-append part (drop (at + length part) file) in
-    let d = length-append (take at file) (part ++ drop (at + length part) file) in
-    omega (arith, a, b, c, d, inside)
-
 pub length-fronts_on : (fronts : List Front) (file : List ℕ) → All (LiesIn (length file)) fronts → length (fronts_on fronts file) ≡ length file
 length-fronts_on [] file inside = refl
 length-fronts_on (front ∷ fronts) file inside =
@@ -110,14 +98,3 @@ writes_plain a file fronts slots none writes =
       is = writes.is;
       shows = writes.shows;
     })
-
--- ## A slot more
-
-pub slot_long : (slots : List Slot) (i : ℕ) (d : Slot) (initial held next part : List ℕ) → All (SlotLies (length initial)) slots → length held ≡ length initial → i < length slots → part ≡ hash_bytes (get_or slots i d).hash → next ≡ put_at (get_or slots i d).place part held → length next ≡ length initial
-slot_long slots i d initial held next part lie long inside is put =
-    let lies = lies_at slots i d initial held lie long inside in
-    ap length put ∙ length-put_at (get_or slots i d).place part held (omega (arith, lies, ap length is)) ∙ long
-
-pub slot_done : (slots : List Slot) (i : ℕ) (d : Slot) (held next made part : List ℕ) → i < length slots → part ≡ hash_bytes (get_or slots i d).hash → next ≡ put_at (get_or slots i d).place part held → laid (drop i slots) held ≡ made → laid (drop (i + 1) slots) next ≡ made
-slot_done slots i d held next made part inside is put before =
-    laid_more slots i d held next made inside (put ∙ ap (λ (l : List ℕ). put_at (get_or slots i d).place l held) is ∙ sym (with_slot-is (get_or slots i d) held)) before

@@ -1,26 +1,24 @@
--- Of a file that is too long its first bytes tell as much as the whole; and pieces that are made of fronts.
-use Rattle.std.proofs.Common.{◌≡◌, ◌≤◌, ◌<◌, ◌+◌, ◌-◌, ◌^◌, ◌⊎◌, inl, inr, if◌then◌else◌, ℕ, Bool, true, false, List, [], ◌∷◌, ◌++◌, length, take, drop, Option, Some, Ok, Err, get_or, refl, sym, ap, ◌∙◌, subst, arith}
-use Rattle.std.specs.Str.{bytes_eq}
-use Rattle.std.proofs.lemmas.Slice.Eq.{bytes_eq-Decides}
+-- Of a file that is too long its first bytes tell as much as the whole.
+use Rattle.std.proofs.Common.{◌≡◌, ◌≤◌, ◌-◌, ◌^◌, ◌⊎◌, inl, inr, if◌then◌else◌, ℕ, Bool, true, false, List, [], ◌∷◌, length, take, Option, Some, Ok, Err, refl, sym, ap, ◌∙◌, subst, arith}
 use Rattle.byte_store.specs.declared.pieces.Piece.{Piece}
 use Rattle.byte_store.specs.Fault.{BecomesLaid}
-use Rattle.byte_store.specs.Known.{Becomes, IsFirst, Stays, put_at}
+use Rattle.byte_store.specs.Known.{Becomes, IsFirst, Stays}
 use Rattle.byte_store.specs.Laid.{laid, patches_of}
 use Rattle.arwen_macho.specs.declared.front.Front.{Front}
 use Rattle.arwen_macho.specs.Fronts.{fronts_on}
-use Rattle.macho_commands.specs.Stores.{ArePiecesOf, FailsPatch, LaysOn, LiesOn, Patched, Torn}
+use Rattle.macho_commands.specs.Stores.{FailsPatch, Patched, Torn}
+use Rattle.macho_commands_signing.specs.Pieces.{ArePiecesOf}
 use Rattle.macho_commands.specs.declared.signing.Signing.{Signing}
 use Rattle.macho_commands.specs.declared.signing.Signs.{Signs}
 use Rattle.macho_commands.specs.declared.signing.Signs.TheVariants.{Nothing, Touched, Whole}
-use Rattle.macho_signatures.specs.Pages.{hash_bytes}
-use Rattle.macho_signatures.specs.Renewed.{laid as slots_on, with_slot}
+use Rattle.macho_signatures.specs.Renewed.{laid as slots_on}
 use Rattle.macho_signatures.specs.declared.renewal.Slot.{Slot}
 use Rattle.macho_signing.specs.Thin.{Pages, all, since}
 use Rattle.macho_commands.specs.Meaning.{MachoMeaning}
 use Rattle.macho_commands.specs.declared.error.MachoCommandError.{MachoCommandError}
 use Rattle.macho_commands.specs.declared.error.MachoCommandError.TheVariants.{Edits, Io, Macho, MachoBatch, Memory, Signing as signing, Unfit}
 use Rattle.std.proofs.lemmas.Bool.{cases_lt, cond-true, lt-ltb}
-use Rattle.std.proofs.lemmas.List.{drop-drop, drop_more, length-drop, length-take-le, take_all, take-append-drop}
+use Rattle.std.proofs.lemmas.List.{length-take-le, take_all}
 use Rattle.macho_image.specs.Checks.{file_fault}
 use Rattle.macho_image.specs.Fat.{table_fault}
 use Rattle.macho_image.specs.declared.format.MachFault.TheVariants.{TooLong}
@@ -123,56 +121,6 @@ whole_of_first_by Whole a file new makes = elim (cases_lt (length file) (2 ^ 32)
   | inl short ↦ take_all (2 ^ 32) file (omega (arith, short))
   | inr long ↦ absurd (long_signs_none all a (take (2 ^ 32) file) new (long_first file long) makes)
 ]
-
--- ---- pieces that are made of fronts
-
--- a part over held in which it stands
-pub stands : (at : ℕ) (part held : List ℕ) → bytes_eq (take (length part) (take (length held - at) (drop at held))) part ≡ true → put_at at part held ≡ held
-stands at part held is =
-    let rest : List ℕ = drop at held in
-    let all : take (length held - at) rest ≡ rest = take_all (length held - at) rest (omega (arith, length-drop at held)) in
-    let same : take (length part) rest ≡ part = ap (take (length part)) (sym all) ∙ (bytes_eq-Decides (take (length part) (take (length held - at) rest)) part).0 is in
-    ap (λ (xs : List ℕ). take at held ++ (xs ++ drop (at + length part) held)) (sym same)
-    ∙ ap (λ (xs : List ℕ). take at held ++ (take (length part) rest ++ xs)) (sym (drop-drop (length part) at held))
-    ∙ ap (λ (xs : List ℕ). take at held ++ xs) (take-append-drop (length part) rest)
-    ∙ take-append-drop at held
-
--- a further piece is laid last
-laid-push : (pieces : List Piece) (piece : Piece) (file : List ℕ) → laid (patches_of (pieces ++ piece ∷ [])) file ≡ put_at piece.offset piece.bytes.now (laid (patches_of pieces) file)
-laid-push [] piece file = refl
-laid-push (p ∷ pieces) piece file = laid-push pieces piece (put_at p.offset p.bytes.now file)
-
-pub lays_on : (old new : List Piece) (piece : Piece) (before after : List ℕ) → new ≡ old ++ piece ∷ [] → after ≡ put_at piece.offset piece.bytes.now before → LaysOn old new before after
-lays_on old new piece before after grown put file is =
-    ap (λ (l : List Piece). laid (patches_of l) file) grown
-    ∙ laid-push old piece file
-    ∙ ap (put_at piece.offset piece.bytes.now) is
-    ∙ sym put
-
--- the fronts from one on, over what those behind it make
-pub fronts_from : (fronts : List Front) (i left : ℕ) (front : Front) (file held after : List ℕ) → left ≡ i + 1 → i < length fronts → get_or fronts i front ≡ front → held ≡ fronts_on (drop left fronts) file → after ≡ put_at front.offset front.bytes.items held → after ≡ fronts_on (drop i fronts) file
-fronts_from fronts i left front file held after next below is made put =
-    put
-    ∙ ap (put_at front.offset front.bytes.items) made
-    ∙ ap (λ (k : ℕ). put_at front.offset front.bytes.items (fronts_on (drop k fronts) file)) next
-    ∙ ap (λ (f : Front). put_at f.offset f.bytes.items (fronts_on (drop (i + 1) fronts) file)) (sym is)
-    ∙ sym (ap (λ (l : List Front). fronts_on l file) (drop_more fronts i front below))
-
--- ---- pieces that are made of slots
-
--- a slot more is laid behind those before it
-pub lays_further : (old before after : List Piece) (first now next : List ℕ) → LaysOn old before first now → LaysOn before after now next → LaysOn old after first next
-lays_further old before after first now next lays further file is = further file (lays file is)
-
-pub lies_further : (len other : ℕ) (old before after : List Piece) → len ≡ other → LiesOn len old before → LiesOn other before after → LiesOn len old after
-lies_further len other old before after same lies further inside =
-    let P : ℕ → Type 0 = λ n. LiesOn n before after in
-    subst P (sym same) further (lies inside)
-
--- a part over bytes is a slot's
-pub with_slot-is : (slot : Slot) (held : List ℕ) → with_slot slot held ≡ put_at slot.place (hash_bytes slot.hash) held
-unfolding with_slot
-with_slot-is slot held = refl
 
 -- ---- a run over a store, of which the first 4 GiB were read
 

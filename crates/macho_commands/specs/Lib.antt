@@ -4,5 +4,6 @@ pub mod Errors
 pub mod Failures
 pub mod Meaning
 pub mod Notes
+pub mod Refusing
 pub mod Stores
 pub mod Verifying

@@ -1,8 +1,7 @@
 -- What a command makes of the bytes of a store, where they are known.
-use Rattle.std.specs.Prelude.{ℕ, ◌≡◌, ◌⊎◌, List, length, All, Option, Some, ⊤}
-use Rattle.byte_store.specs.declared.pieces.Piece.{Piece}
+use Rattle.std.specs.Prelude.{ℕ, ◌≡◌, ◌⊎◌, List, Option, Some, ⊤}
 use Rattle.byte_store.specs.Known.{Stays}
-use Rattle.byte_store.specs.Laid.{LiesIn, Patch, first_bytes, laid, patches_of}
+use Rattle.byte_store.specs.Laid.{Patch, first_bytes, laid}
 use Rattle.macho_commands.specs.declared.error.MachoCommandError.{MachoCommandError}
 use Rattle.macho_commands.specs.declared.error.MachoCommandError.TheVariants.{Io}
 use Rattle.macho_commands.specs.Engine.{IsSignedOutcome, Tells, outcome}
@@ -36,17 +35,3 @@ FailsPatch choice meaning old new e = RefusesPatch choice meaning old new e
 abbrev pub TellsPath : Signing → MachoMeaning → Option (List ℕ) → MachoCommandError → Type 0
 TellsPath choice meaning known (Io e) = ⊤
 TellsPath choice meaning known e = (file : List ℕ) → known ≡ Some file → Tells (outcome choice meaning file) e
-
--- pieces that lie in a file's bytes, and make of them these
-pub record ArePiecesOf (file new : List ℕ) (pieces : List Piece) : Type 0 where
-  pub inside : All (LiesIn (length file)) (patches_of pieces)
-  pub same : laid (patches_of pieces) file ≡ new
-
--- where the old pieces lead to bytes, the new ones lead on to others
-abbrev pub LaysOn : List Piece → List Piece → List ℕ → List ℕ → Type 0
-LaysOn old new before after =
-    (file : List ℕ) → laid (patches_of old) file ≡ before → laid (patches_of new) file ≡ after
-
--- where the old pieces lie in so many bytes, the new ones do
-abbrev pub LiesOn : ℕ → List Piece → List Piece → Type 0
-LiesOn len old new = All (LiesIn len) (patches_of old) → All (LiesIn len) (patches_of new)

@@ -1,15 +1,12 @@
 -- Whether the pages of the code signatures of a file fit.
-use Rattle.std.specs.Prelude.{ℕ, ◌≡◌, ◌==◌, Bool, List, [], length, Ok, Some, ⊤}
+use Rattle.std.specs.Prelude.{ℕ, ◌≡◌, Bool, List, [], Ok, Some, ⊤}
 use Rattle.std.specs.List.{list_all}
-use Rattle.macho_signing.specs.Check.{Found, checking_fault, parts_checked}
+use Rattle.macho_signing.specs.Check.{checking_fault, parts_checked}
+use Rattle.macho_commands_signing.specs.Verdicts.{has_none}
 use Rattle.macho_commands.specs.Engine.{Tells, outcome_of}
 use Rattle.macho_commands.specs.Engine.Asked.{several}
 use Rattle.macho_commands.specs.declared.error.MachoCommandError.{MachoCommandError}
 use Rattle.macho_commands.specs.declared.error.MachoCommandError.TheVariants.{Macho, Memory, Signing}
-
--- no page of a part fails to fit
-abbrev pub has_none : Found → Bool
-has_none found = length found.unfit == 0
 
 -- none of any part of a file does
 unfoldable pub do_pages_fit : List ℕ → Bool

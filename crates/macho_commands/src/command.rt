@@ -1,5 +1,8 @@
 //! What is asked of a Mach-O file, with its values.
-ghost use Rattle.std.specs.Prelude.{◌≡◌, IfOk, string_bytes};
+ghost use Rattle.std.specs.Prelude.{◌≡◌, IfOk, Some, option_map, string_bytes};
+ghost use Rattle.macho_edits.specs.Batch.{call_made};
+ghost use Rattle.macho_edits.specs.Call.Call.{add_rpath, change_install_id, change_install_name};
+ghost use Rattle.macho_edits.specs.Call.Call.{change_rpath, remove_rpath};
 
 use crate::commands::{add, apply, change, delete, install_id, install_name, sign, verify};
 use arwen_macho::macho::MachoEdit;
@@ -128,30 +131,13 @@ impl MachoCommand {
             option_map call_made edit ≡ edit_asked (macho_command_model self.now)) }
     {
         match self {
-            MachoCommand::DeleteRpath(args) => {
-                let old = copied(alloc, &args.rpath_to_remove)?;
-                Ok(Some(MachoEdit::RemoveRpath(old)))
-            }
-            MachoCommand::ChangeRpath(args) => {
-                let (old, new) = both_copied(alloc, &args.old_rpath, &args.new_rpath)?;
-                Ok(Some(MachoEdit::ChangeRpath(old, new)))
-            }
-            MachoCommand::AddRpath(args) => {
-                let new = copied(alloc, &args.new_rpath)?;
-                Ok(Some(MachoEdit::AddRpath(new)))
-            }
+            MachoCommand::DeleteRpath(args) => removal(alloc, &args.rpath_to_remove),
+            MachoCommand::ChangeRpath(args) => change_of(alloc, &args.old_rpath, &args.new_rpath),
+            MachoCommand::AddRpath(args) => addition(alloc, &args.new_rpath),
             MachoCommand::ChangeInstallName(args) => {
-                let (old, new) = both_copied(
-                    alloc,
-                    &args.old_install_name,
-                    &args.new_install_name,
-                )?;
-                Ok(Some(MachoEdit::ChangeInstallName(old, new)))
+                name_change(alloc, &args.old_install_name, &args.new_install_name)
             }
-            MachoCommand::ChangeInstallId(args) => {
-                let new = copied(alloc, &args.new_install_id)?;
-                Ok(Some(MachoEdit::ChangeInstallId(new)))
-            }
+            MachoCommand::ChangeInstallId(args) => id_change(alloc, &args.new_install_id),
             MachoCommand::Apply(_) | MachoCommand::Sign(_) | MachoCommand::Verify(_) => Ok(None),
         }
     }
@@ -173,16 +159,49 @@ impl MachoCommand {
     }
 }
 
-/// The same two texts.
-fn both_copied(
-    alloc: Global,
-    first: &String,
-    second: &String,
-) -> Result<(String, String), AllocError>
-    ensures { IfOk result (λ copies. (string_bytes copies.0 ≡ string_bytes first.now)
-        × (string_bytes copies.1 ≡ string_bytes second.now)) }
+/// The edit that removes a run path.
+fn removal(alloc: Global, old: &String) -> Result<Option<MachoEdit>, AllocError>
+    ensures { IfOk result (λ edit.
+        option_map call_made edit ≡ Some (remove_rpath (string_bytes old.now))) }
 {
-    let first = copied(alloc, first)?;
-    let second = copied(alloc, second)?;
-    Ok((first, second))
+    let old = copied(alloc, old)?;
+    Ok(Some(MachoEdit::RemoveRpath(old)))
+}
+
+/// The edit that adds a run path.
+fn addition(alloc: Global, new: &String) -> Result<Option<MachoEdit>, AllocError>
+    ensures { IfOk result (λ edit.
+        option_map call_made edit ≡ Some (add_rpath (string_bytes new.now))) }
+{
+    let new = copied(alloc, new)?;
+    Ok(Some(MachoEdit::AddRpath(new)))
+}
+
+/// The edit that puts a run path in the place of another.
+fn change_of(alloc: Global, old: &String, new: &String) -> Result<Option<MachoEdit>, AllocError>
+    ensures { IfOk result (λ edit. option_map call_made edit
+        ≡ Some (change_rpath (string_bytes old.now) (string_bytes new.now))) }
+{
+    let old = copied(alloc, old)?;
+    let new = copied(alloc, new)?;
+    Ok(Some(MachoEdit::ChangeRpath(old, new)))
+}
+
+/// The edit that puts a library's name in the place of another.
+fn name_change(alloc: Global, old: &String, new: &String) -> Result<Option<MachoEdit>, AllocError>
+    ensures { IfOk result (λ edit. option_map call_made edit
+        ≡ Some (change_install_name (string_bytes old.now) (string_bytes new.now))) }
+{
+    let old = copied(alloc, old)?;
+    let new = copied(alloc, new)?;
+    Ok(Some(MachoEdit::ChangeInstallName(old, new)))
+}
+
+/// The edit that gives a library another id.
+fn id_change(alloc: Global, new: &String) -> Result<Option<MachoEdit>, AllocError>
+    ensures { IfOk result (λ edit.
+        option_map call_made edit ≡ Some (change_install_id (string_bytes new.now))) }
+{
+    let new = copied(alloc, new)?;
+    Ok(Some(MachoEdit::ChangeInstallId(new)))
 }

@@ -7,21 +7,22 @@ ghost use Rattle.macho_commands.specs.Engine.{SignsBy, Tells, TellsAsked, Writes
 ghost use Rattle.macho_commands.specs.Engine.{asked, outcome, outcome_by, outcome_of, pages_by, refused_answer, signs_of};
 ghost use Rattle.macho_commands.specs.Failures.{HasCause, HasCauseAt};
 ghost use Rattle.macho_commands.specs.Meaning.{file_of, macho_command_model};
-ghost use Rattle.macho_commands.specs.Notes.{TellsBy, TellsCommand, TellsSigned, TellsWanted, TellsWantedAt};
+ghost use Rattle.macho_commands.specs.Notes.{TellsBy, TellsCommand, TellsOf, TellsSigned, TellsWanted, TellsWantedAt};
+ghost use Rattle.macho_commands.specs.Refusing.{IsRefusal, LeadsWith};
 ghost use Rattle.macho_commands.specs.Stores.{FailsPatch, Patched, TellsPath};
 ghost use Rattle.macho_commands.specs.declared.error.MachoCommandError.TheVariants.{Memory};
 ghost use Rattle.macho_signing.specs.Thin.{AreAsLong, pages_of};
 
-use crate::changes::{changes_of, front_changes, write_changes_of};
 use crate::command::MachoCommand;
-use crate::commands::verify;
 use crate::edits::parse_macho_edits;
 use crate::error::MachoCommandError;
 use crate::noting::{left_note, note_wanted, tell};
 use crate::signing::{Signing, Signs};
+use crate::verifying::verify_file;
 use arwen_macho::macho::{Front, MachoBatchError, MachoContainer, MachoEdit, lay_fronts};
 use byte_store::{Opens, Store, load_up_to};
 use command_words::{MOST_BYTES, Notes, RegularFiles, words_of};
+use macho_commands_signing::{changes_of, front_changes, write_changes_of};
 use macho_signatures::{Slot, lay_slots};
 use macho_signing::{NewSlots, Scope, signed_slots};
 use std::alloc::Global;
@@ -219,9 +220,45 @@ fn fronts_of(
         Tells (outcome_of (asked (macho_command_model command.now)) bytes.now) e) }
 {
     let edits = edits_asked(alloc, command)?;
+    fronts_by(alloc, bytes, command, edits.as_slice(), notes)
+}
+
+/// The same by the edits that were read.
+fn fronts_by(
+    alloc: Global,
+    bytes: &[u8],
+    command: &MachoCommand,
+    edits: &[MachoEdit],
+    notes: Notes,
+) -> Result<(Vec<Front>, String), MachoCommandError>
+    requires { AreAsked (asked (macho_command_model command.now)) (calls_of edits.now) }
+    ensures ok { IfOk result (λ made.
+        WritesEdits (asked (macho_command_model command.now)) bytes.now made.0.items) }
+    ensures told { IfOk result (λ made. TellsWanted notes
+        (file_of (macho_command_model command.now)) bytes.now (string_bytes made.1)) }
+    ensures err { IfErr result (λ e.
+        Tells (outcome_of (asked (macho_command_model command.now)) bytes.now) e) }
+{
     let macho = MachoContainer::parse(alloc, bytes)?;
+    fronts_in(alloc, &macho, command, edits, notes)
+}
+
+/// The fronts that edits write over the bytes of a file that was read, and the line of its note.
+fn fronts_in(
+    alloc: Global,
+    macho: &MachoContainer<'_>,
+    command: &MachoCommand,
+    edits: &[MachoEdit],
+    notes: Notes,
+) -> Result<(Vec<Front>, String), MachoCommandError>
+    ensures ok { IfOk result (λ made. LeadsWith (calls_of edits.now) macho.now made.0.items) }
+    ensures told { IfOk result (λ made. TellsOf notes
+        (file_of (macho_command_model command.now)) macho.now (string_bytes made.1)) }
+    ensures err { IfErr result (IsRefusal (asked (macho_command_model command.now))
+        (calls_of edits.now) macho.now) }
+{
     let text = note_wanted(alloc, macho.inner(), command.path_to_binary(), notes)?;
-    match macho.fronts(alloc, &edits) {
+    match macho.fronts(alloc, edits) {
         Ok(fronts) => Ok((fronts, text)),
         Err(error) => Err(refusal(command, error)),
     }
@@ -334,8 +371,8 @@ pub fn patch_path<'p, O: Opens<'p>>(
     Ok((store, text))
 }
 
-/// Edits a Mach-O file in its place, leaves its signatures unless the command is `sign`, and tells no notes. Only bytes that change are written, and only after all of
-/// them exist, so a refused edit leaves the file as it was.
+/// Edits a Mach-O file in its place, leaves its signatures unless the command is `sign`, and tells no notes. Only bytes
+/// that change are written, and only after all of them exist, so a refused edit leaves the file as it was.
 pub fn macho_execute<R: Files + AllocGlobal>(
     rt: &R,
     macho: MachoCommand,
@@ -344,13 +381,15 @@ pub fn macho_execute<R: Files + AllocGlobal>(
 {
     let answer = patch_file(rt, &macho, Notes::LeftOut, Signing::Left);
     drop(macho);
-    answer?;
-    Ok(())
+    match answer {
+        Ok(_) => Ok(()),
+        Err(error) => Err(error),
+    }
 }
 
-/// Does what a command asks: edits its file in its place, with its signatures made to fit where that is asked for, and then
-/// tells the note, where it is wanted, on the standard error; whether that fails doesn't matter. `verify` prints what it
-/// finds.
+/// Does what a command asks: edits its file in its place, with its signatures made to fit where that is asked for, and
+/// then tells the note, where it is wanted, on the standard error; whether that fails doesn't matter. `verify` prints
+/// what it finds.
 pub fn macho_execute_telling<R: Files + Print + Eprint + AllocGlobal>(
     rt: &R,
     macho: MachoCommand,
@@ -359,24 +398,36 @@ pub fn macho_execute_telling<R: Files + Print + Eprint + AllocGlobal>(
 ) -> Result<(), MachoCommandError>
     ensures { IfErr result (MayFail (macho_command_model macho)) }
 {
-    match macho {
-        MachoCommand::Verify(args) => verify::execute(rt, args),
-        macho => edit_telling(rt, macho, notes, signing),
+    let answer = execute_lent(rt, &macho, notes, signing);
+    drop(macho);
+    answer
+}
+
+/// The same by a command that is lent.
+fn execute_lent<R: Files + Print + Eprint + AllocGlobal>(
+    rt: &R,
+    command: &MachoCommand,
+    notes: Notes,
+    signing: Signing,
+) -> Result<(), MachoCommandError>
+    ensures { IfErr result (MayFail (macho_command_model command.now)) }
+{
+    match command {
+        MachoCommand::Verify(args) => verify_file(rt, &args.path_to_binary),
+        _ => edit_telling(rt, command, notes, signing),
     }
 }
 
 /// Edits the file of a command, and tells the note.
 fn edit_telling<R: Files + Eprint + AllocGlobal>(
     rt: &R,
-    macho: MachoCommand,
+    command: &MachoCommand,
     notes: Notes,
     signing: Signing,
 ) -> Result<(), MachoCommandError>
-    ensures { IfErr result (MayFail (macho_command_model macho)) }
+    ensures { IfErr result (MayFail (macho_command_model command.now)) }
 {
-    let answer = patch_file(rt, &macho, notes, signing);
-    drop(macho);
-    let text = answer?;
+    let text = patch_file(rt, command, notes, signing)?;
     tell(rt, text.as_str());
     Ok(())
 }

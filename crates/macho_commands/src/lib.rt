@@ -2,7 +2,6 @@
 //! file itself.
 #![tactic(auto)]
 
-mod changes;
 mod command;
 mod commands;
 mod edits;
@@ -18,6 +17,7 @@ pub use commands::{add, apply, change, delete, install_id, install_name, sign, v
 pub use edits::parse_macho_edits;
 pub use engine::{macho_execute, macho_execute_telling, patch_path, patch_store, run_macho};
 pub use error::MachoCommandError;
+pub use macho_commands_signing::Verdict;
 pub use signing::Signing;
 pub use tables::macho_table;
-pub use verifying::{Verdict, verify_bytes};
+pub use verifying::verify_bytes;

@@ -1,9 +1,0 @@
-use Rattle.std.proofs.Common.{◌≡◌, drop}
-use Rattle.std.specs.List.{list_any}
-use Rattle.macho_image.specs.Commands.{load_commands_of}
-use Rattle.macho_commands.specs.Notes.{is_signature}
-use Rattle.macho_commands.proofs.noting.is_signed.Given as goal
-
--- none so far tells of one
-abbrev pub invariant-loop-command : goal.invariant-loop-command
-invariant-loop-command l = list_any is_signature (drop l.command-index l.command-items) ≡ list_any is_signature (load_commands_of l.macho.bytes)

@@ -1,0 +1,18 @@
+-- Pieces of a file's bytes that an edit changes.
+use Rattle.std.specs.Prelude.{ℕ, ◌≡◌, List, length, All}
+use Rattle.byte_store.specs.declared.pieces.Piece.{Piece}
+use Rattle.byte_store.specs.Laid.{LiesIn, laid, patches_of}
+
+-- pieces that lie in a file's bytes, and make of them these
+pub record ArePiecesOf (file new : List ℕ) (pieces : List Piece) : Type 0 where
+  pub inside : All (LiesIn (length file)) (patches_of pieces)
+  pub same : laid (patches_of pieces) file ≡ new
+
+-- where the old pieces lead to bytes, the new ones lead on to others
+abbrev pub LaysOn : List Piece → List Piece → List ℕ → List ℕ → Type 0
+LaysOn old new before after =
+    (file : List ℕ) → laid (patches_of old) file ≡ before → laid (patches_of new) file ≡ after
+
+-- where the old pieces lie in so many bytes, the new ones do
+abbrev pub LiesOn : ℕ → List Piece → List Piece → Type 0
+LiesOn len old new = All (LiesIn len) (patches_of old) → All (LiesIn len) (patches_of new)

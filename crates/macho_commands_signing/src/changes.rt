@@ -1,0 +1,130 @@
+//! The bytes that fronts and slots change, and writing them into a store.
+ghost use Rattle.std.specs.Prelude.{◌≡◌, ◌+◌, ◌≤◌, ◌⊎◌, All, IfErr, IfOk, IsTrue, OnErr, OnOk, length};
+ghost use Rattle.byte_store.specs.Causes.{EndsBy};
+ghost use Rattle.byte_store.specs.Fault.{BecomesLaid};
+ghost use Rattle.byte_store.specs.Known.{Becomes, HasLength, Stays, put_at};
+ghost use Rattle.byte_store.specs.Laid.{LiesIn, laid, patches_of};
+ghost use Rattle.arwen_macho.specs.Fronts.{LiesIn as IsInside, fronts_on};
+ghost use Rattle.macho_signatures.specs.Pages.{hash_bytes};
+ghost use Rattle.macho_signatures.specs.Renewed.{SlotLies, laid as slots_on};
+ghost use Rattle.macho_commands_signing.specs.Pieces.{ArePiecesOf, LaysOn, LiesOn};
+
+use arwen_macho::macho::Front;
+use byte_store::{Piece, Store, write_pieces};
+use macho_signatures::Slot;
+use std::alloc::{AllocError, Global};
+use std::io;
+
+/// The fronts and then the slots that change bytes, in the order in which they are laid. The bytes get them all. Error:
+/// `AllocError`.
+pub fn changes_of<'a>(
+    alloc: Global,
+    bytes: &mut [u8],
+    fronts: &'a [Front],
+    slots: &'a [Slot],
+) -> Result<Vec<Piece<'a>>, AllocError>
+    requires fronts { All (IsInside (length bytes.old)) fronts.now }
+    requires slots { All (SlotLies (length bytes.old)) slots.now }
+    ensures ok { IfOk result (λ pieces. ArePiecesOf bytes.old
+        (slots_on slots.now (fronts_on fronts.now bytes.old)) pieces.items) }
+{
+    let mut pieces = front_changes(alloc, bytes, fronts)?;
+    lay_slots(&mut pieces, bytes, slots)?;
+    Ok(pieces)
+}
+
+/// The fronts that change bytes, from the last one back. The bytes get them all. Error: `AllocError`.
+pub fn front_changes<'a>(
+    alloc: Global,
+    bytes: &mut [u8],
+    fronts: &'a [Front],
+) -> Result<Vec<Piece<'a>>, AllocError>
+    requires { All (IsInside (length bytes.old)) fronts.now }
+    ensures ok { IfOk result (λ pieces.
+        ArePiecesOf bytes.old (fronts_on fronts.now bytes.old) pieces.items) }
+    ensures bytes { OnOk result (bytes.new ≡ fronts_on fronts.now bytes.old) }
+{
+    let mut pieces = Vec::with_capacity(alloc, fronts.len())?;
+    let mut left = fronts.len();
+    while left > 0 {
+        left -= 1;
+        let front = &fronts[left];
+        lay_change(&mut pieces, bytes, front.offset, front.bytes.as_slice())?;
+    }
+    Ok(pieces)
+}
+
+/// Writes slots over the bytes, and puts those that change any behind the pieces, in order.
+fn lay_slots<'a>(
+    pieces: &mut Vec<Piece<'a>>,
+    bytes: &mut [u8],
+    slots: &'a [Slot],
+) -> Result<(), AllocError>
+    requires { All (SlotLies (length bytes.old)) slots.now }
+    ensures laid { OnOk result (LaysOn pieces.old.items pieces.new.items bytes.old
+        (slots_on slots.now bytes.old)) }
+    ensures inside { OnOk result (LiesOn (length bytes.old) pieces.old.items pieces.new.items) }
+{
+    for slot in slots {
+        lay_change(pieces, bytes, slot.place, slot.hash.as_slice())?;
+    }
+    Ok(())
+}
+
+/// Writes a part over the bytes from a position on, and puts it behind the pieces, where it changes any.
+fn lay_change<'a>(
+    pieces: &mut Vec<Piece<'a>>,
+    bytes: &mut [u8],
+    at: usize,
+    part: &'a [u8],
+) -> Result<(), AllocError>
+    requires { at + length part.now ≤ length bytes.old }
+    ensures bytes { OnOk result (bytes.new ≡ put_at at part.now bytes.old) }
+    ensures laid { OnOk result (LaysOn pieces.old.items pieces.new.items bytes.old bytes.new) }
+    ensures inside { OnOk result (LiesOn (length bytes.old) pieces.old.items pieces.new.items) }
+{
+    if stands_in(bytes, at, part) {
+        return Ok(());
+    }
+    pieces.push(Piece {
+        offset: at as u64,
+        bytes: part,
+    })?;
+    put(bytes, at, part);
+    Ok(())
+}
+
+/// Whether a part stands at a position.
+fn stands_in(bytes: &[u8], at: usize, part: &[u8]) -> bool
+    requires { at + length part.now ≤ length bytes.now }
+    ensures { IsTrue result → put_at at part.now bytes.now ≡ bytes.now }
+{
+    &bytes[at..][..part.len()] == part
+}
+
+/// Writes a part over the bytes from a position on.
+fn put(bytes: &mut [u8], at: usize, part: &[u8])
+    requires { at + length part.now ≤ length bytes.old }
+    ensures { bytes.new ≡ put_at at part.now bytes.old }
+{
+    bytes[at..at + part.len()].copy_from_slice(part);
+}
+
+/// Writes pieces over the bytes of a store that has so many. It is opened for writing also where there are
+/// none. Error: that of the call of the store that failed, or of `write_pieces`.
+pub fn write_changes_of<S: Store>(store: &mut S, len: u64, pieces: &[Piece<'_>]) -> io::Result<()>
+    requires old { HasLength (S.contents store.old) len }
+    requires inside { All (LiesIn len) (patches_of pieces.now) }
+    ensures ok { OnOk result
+        (Becomes (laid (patches_of pieces.now)) (S.contents store.old) (S.contents store.new)) }
+    ensures err { OnErr result (Stays (S.contents store.old) (S.contents store.new)
+        ⊎ BecomesLaid (patches_of pieces.now) (S.contents store.old) (S.contents store.new)) }
+    ensures idle { length pieces.now ≡ 0 → Stays (S.contents store.old) (S.contents store.new) }
+    ensures opens { length pieces.now ≡ 0 → OnOk result (IsTrue (S.is_writable store.new)) }
+    ensures grows { S.failed store.old ≤ S.failed store.new }
+    ensures cause { IfErr result (λ e.
+        EndsBy S.may_fail_write S.may_take_none e (S.failed store.old) (S.failed store.new)) }
+{
+    store.open_for_writing()?;
+    write_pieces(store, len, pieces)
+}

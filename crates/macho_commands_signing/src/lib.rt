@@ -1,0 +1,11 @@
+//! What stands below the commands for Mach-O files: whether a file bears code signatures, what is told of those whose
+//! pages don't fit, and the pieces of a file's bytes that an edit and new slots of its signatures change.
+#![tactic(auto)]
+
+mod changes;
+mod signed;
+mod verdict;
+
+pub use changes::{changes_of, front_changes, write_changes_of};
+pub use signed::{is_signed_file, note_if};
+pub use verdict::{Verdict, verdict_of};
