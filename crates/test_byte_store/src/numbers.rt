@@ -66,49 +66,54 @@ fn write_word(
     }
 }
 
+const READ: [(Field, usize, ByteOrder2, u64); 8] = [
+    (Field::U16, 7, LITTLE, 0x0908),
+    (Field::U16, 7, BIG, 0x0809),
+    (Field::U32, 1, LITTLE, 0x0504_0302),
+    (Field::U32, 1, BIG, 0x0203_0405),
+    (Field::U64, 1, LITTLE, 0x0908_0706_0504_0302),
+    (Field::U64, 1, BIG, 0x0203_0405_0607_0809),
+    (NARROW, 0, BIG, 0x0102_0304),
+    (WIDE, 0, BIG, 0x0102_0304_0506_0708),
+];
+
 #[test]
 fn reads_numbers(rt: HostRuntime) {
-    let rows = [
-        (Field::U16, 7, LITTLE, 0x0908),
-        (Field::U16, 7, BIG, 0x0809),
-        (Field::U32, 1, LITTLE, 0x0504_0302),
-        (Field::U32, 1, BIG, 0x0203_0405),
-        (Field::U64, 1, LITTLE, 0x0908_0706_0504_0302),
-        (Field::U64, 1, BIG, 0x0203_0405_0607_0809),
-        (NARROW, 0, BIG, 0x0102_0304),
-        (WIDE, 0, BIG, 0x0102_0304_0506_0708),
-    ];
-    for (field, position, order, want) in rows {
+    for (field, position, order, want) in READ {
         same(&rt, "number", &read(field, position, order), &Ok(want));
     }
 }
 
+const WRITTEN: [(Field, usize, ByteOrder2, [u8; 9]); 5] = [
+    (Field::U16, 0, LITTLE, [0x0b, 0x0a, 3, 4, 5, 6, 7, 8, 9]),
+    (Field::U32, 2, BIG, [1, 2, 0, 0, 0x0a, 0x0b, 7, 8, 9]),
+    (Field::U64, 1, BIG, [1, 0, 0, 0, 0, 0, 0, 0x0a, 0x0b]),
+    (NARROW, 5, LITTLE, [1, 2, 3, 4, 5, 0x0b, 0x0a, 0, 0]),
+    (WIDE, 0, LITTLE, [0x0b, 0x0a, 0, 0, 0, 0, 0, 0, 9]),
+];
+
 #[test]
 fn writes_numbers(rt: HostRuntime) {
-    let rows = [
-        (Field::U16, 0, LITTLE, [0x0b, 0x0a, 3, 4, 5, 6, 7, 8, 9]),
-        (Field::U32, 2, BIG, [1, 2, 0, 0, 0x0a, 0x0b, 7, 8, 9]),
-        (Field::U64, 1, BIG, [1, 0, 0, 0, 0, 0, 0, 0x0a, 0x0b]),
-        (NARROW, 5, LITTLE, [1, 2, 3, 4, 5, 0x0b, 0x0a, 0, 0]),
-        (WIDE, 0, LITTLE, [0x0b, 0x0a, 0, 0, 0, 0, 0, 0, 9]),
-    ];
-    for (field, position, order, want) in rows {
+    for (field, position, order, want) in WRITTEN {
         let found = written(field, position, 0x0a0b, order);
         same(&rt, "bytes", &found, &(Ok(()), want));
     }
 }
 
+const PAST_THE_END: [(Field, usize); 6] = [
+    (Field::U16, 8),
+    (Field::U32, 6),
+    (Field::U64, 2),
+    (Field::U64, usize::MAX),
+    (NARROW, 6),
+    (WIDE, 2),
+];
+
 #[test]
 fn refuses_fields_outside(rt: HostRuntime) {
-    let rows = [
-        (Field::U16, 8),
-        (Field::U32, 6),
-        (Field::U64, 2),
-        (Field::U64, usize::MAX),
-        (NARROW, 6),
-        (WIDE, 2),
-    ];
-    for (field, position) in rows {
+    let text = sure!(&rt; format!(in rt.alloc(); "{Outside}"));
+    same(&rt, "text", &text.as_str(), &"Outside");
+    for (field, position) in PAST_THE_END {
         same(&rt, "number", &read(field, position, BIG), &Err(Outside));
         let found = written(field, position, 0x0a0b, BIG);
         same(&rt, "bytes", &found, &(Err(Outside), BYTES));
@@ -121,27 +126,20 @@ fn knows_wide_words(rt: HostRuntime) {
     same(&rt, "is_big", &found, &[false, true]);
 }
 
+// Numbers, units, and the first multiples from there on.
+const MULTIPLES: [(u64, u64, Option<u64>); 7] = [
+    (0, 4, Some(0)),
+    (5, 4, Some(8)),
+    (8, 4, Some(8)),
+    (9, 8, Some(16)),
+    (7, 1, Some(7)),
+    (u64::MAX, 2, None),
+    (u64::MAX, 1, Some(u64::MAX)),
+];
+
 #[test]
 fn rounds_up(rt: HostRuntime) {
-    let rows = [
-        (0, 4, Some(0)),
-        (5, 4, Some(8)),
-        (8, 4, Some(8)),
-        (9, 8, Some(16)),
-        (7, 1, Some(7)),
-        (u64::MAX, 2, None),
-        (u64::MAX, 1, Some(u64::MAX)),
-    ];
-    for (number, unit, want) in rows {
+    for (number, unit, want) in MULTIPLES {
         same(&rt, "multiple", &round_up(number, unit), &want);
     }
-}
-
-fn text_of_outside(rt: &impl Runtime) -> String {
-    sure!(rt; format!(in rt.alloc(); "{Outside}"))
-}
-
-#[test]
-fn says_what_is_outside(rt: HostRuntime) {
-    same(&rt, "text", &text_of_outside(&rt).as_str(), &"Outside");
 }

@@ -15,57 +15,35 @@ fn fails(answer: &Result<Vec<u8>, ReadError>) -> bool {
 }
 
 #[test]
-fn first_bytes_of_a_reader_without_end(rt: HostRuntime) {
+fn readers(rt: HostRuntime) {
+    // One without end: its first bytes are read, and all of it is too much.
     let mut zeros = io::repeat(0);
     let first = sure!(&rt; read_up_to(rt.alloc(), &mut zeros, 0, 300_000));
     same(&rt, "length", &first.len(), &300_000);
-}
-
-#[test]
-fn all_of_a_reader_without_end(rt: HostRuntime) {
-    let mut zeros = io::repeat(0);
     let answer = again!(&rt; read_whole(rt.alloc(), &mut zeros, 9, 300_000));
     same(&rt, "fails", &fails(&answer), &true);
-}
-
-#[test]
-fn reader_with_an_end(rt: HostRuntime) {
     let mut reader = b"abcdef".as_slice();
     let bytes = sure!(&rt; read_whole(rt.alloc(), &mut reader, 6, 6));
     same_bytes(&rt, "bytes", &bytes, b"abcdef");
 }
 
-fn store_of(rt: &impl Runtime, bytes: &[u8]) -> MemoryStore {
-    MemoryStore::new(copied(rt, bytes))
-}
-
 #[test]
 fn store_in_memory(rt: HostRuntime) {
-    let mut store = store_of(&rt, b"abcdef");
+    let mut store = MemoryStore::new(copied(&rt, b"abcdef"));
     let bytes = sure!(&rt; load_whole(rt.alloc(), &mut store, 6));
     same_bytes(&rt, "bytes", &bytes, b"abcdef");
-}
-
-#[test]
-fn first_bytes_of_a_store(rt: HostRuntime) {
-    let mut store = store_of(&rt, b"abcdef");
-    let bytes = sure!(&rt; load_up_to(rt.alloc(), &mut store, 4));
-    same_bytes(&rt, "bytes", &bytes, b"abcd");
-}
-
-#[test]
-fn store_that_is_longer(rt: HostRuntime) {
-    let mut store = store_of(&rt, b"abcdef");
+    let first = sure!(&rt; load_up_to(rt.alloc(), &mut store, 4));
+    same_bytes(&rt, "first bytes", &first, b"abcd");
     let answer = again!(&rt; load_whole(rt.alloc(), &mut store, 5));
     same(&rt, "fails", &fails(&answer), &true);
 }
 
-// A path that no other run of the tests uses.
-fn own_path(rt: &HostRuntime) -> io::Result<String> {
+// A path with this end that no other run of the tests uses.
+fn own_path(rt: &HostRuntime, end: &str) -> io::Result<String> {
     let folder = env::temp_dir(rt)?;
     let folder = folder.as_path().to_string_lossy();
     let id = process::id(rt.process());
-    Ok(format!(in rt.alloc(); "{folder}/store-test-{id}")?)
+    Ok(format!(in rt.alloc(); "{folder}/store-test-{id}{end}")?)
 }
 
 // A folder is opened as a file is, and can't be read.
@@ -118,17 +96,10 @@ fn create_at<R: Files>(rt: &R, path: &str) -> io::Result<()> {
 // What is there at a path is cut.
 #[test]
 fn file_created_at_a_path(rt: HostRuntime) {
-    let path = sure!(&rt; created_path(&rt));
+    let path = sure!(&rt; own_path(&rt, "-created"));
     put_file(&rt, path.as_str());
     create_at(&rt, path.as_str()).expect(&rt, "a file");
     take_file(&rt, path.as_str(), b"ab");
-}
-
-// Another path.
-fn created_path(rt: &HostRuntime) -> io::Result<String> {
-    let mut path = own_path(rt)?;
-    path.push_str("-created")?;
-    Ok(path)
 }
 
 // Lays a piece over a file.
@@ -160,7 +131,7 @@ fn expect_patched<R: Runtime + Files>(rt: &R, path: &str) {
 
 #[test]
 fn file_in_its_place(rt: HostRuntime) {
-    let path = sure!(&rt; own_path(&rt));
+    let path = sure!(&rt; own_path(&rt, ""));
     put_file(&rt, path.as_str());
     expect_patched(&rt, path.as_str());
     take_file(&rt, path.as_str(), b"abcXYf");

@@ -1,5 +1,5 @@
 //! Runs of writes, each of whose calls fails in turn.
-ghost use Rattle.std.specs.Prelude.{◌≡◌, ◌+◌, ◌≤◌, length};
+ghost use Rattle.std.specs.Prelude.{◌≡◌, ◌+◌, ◌≤◌, length, true};
 
 use crate::support::{Runtime, same, same_bytes};
 use crate::trial::{Plan, TrialStore, copy};
@@ -14,16 +14,7 @@ pub(crate) type Calls = (usize, usize, usize, bool);
 // What a run does to `abcdef` by a plan: its word, the bytes, and how many writes there were.
 pub(crate) type Row = (Calls, &'static str, &'static [u8], usize);
 
-pub(crate) fn plan_of((fails_at, takes, interruptions, keeps_length): Calls) -> Plan {
-    planned(fails_at, takes, interruptions, keeps_length)
-}
-
-pub(crate) const fn planned(
-    fails_at: usize,
-    takes: usize,
-    interruptions: usize,
-    keeps_length: bool,
-) -> Plan {
+pub(crate) fn planned((fails_at, takes, interruptions, keeps_length): Calls) -> Plan {
     Plan {
         fails_at,
         takes,
@@ -49,12 +40,12 @@ fn word(answer: Result<(), WriteError>) -> &'static str {
     }
 }
 
-// Two pieces are laid, `XY` at 4 and `Z` at 1, and the growth and the new length are given.
-fn follow(rt: &impl Runtime, row: &Row, growth: &[u8], new_length: u64)
+// Two pieces are laid, `XY` at 4 and `Z` at 1, and the growth and the new length are given. What comes of it, in a word.
+fn change(store: &mut TrialStore, growth: &[u8], new_length: u64) -> &'static str
+    requires open { store.old.inner.is_open ≡ true }
     requires room { length growth.now ≤ 9 }
     requires end { new_length ≤ 6 + length growth.now }
 {
-    let mut store = TrialStore::open(rt, plan_of(row.0));
     let pieces = [
         Piece {
             offset: 4,
@@ -71,7 +62,15 @@ fn follow(rt: &impl Runtime, row: &Row, growth: &[u8], new_length: u64)
         pieces: &pieces,
         new_length,
     };
-    let word = word(write_changes(&mut store, &changes));
+    word(write_changes(store, &changes))
+}
+
+fn follow(rt: &impl Runtime, row: &Row, growth: &[u8], new_length: u64)
+    requires room { length growth.now ≤ 9 }
+    requires end { new_length ≤ 6 + length growth.now }
+{
+    let mut store = TrialStore::open(rt, planned(row.0));
+    let word = change(&mut store, growth, new_length);
     let found = (word, store.inner.bytes.as_slice(), store.writes);
     same(rt, row.1, &found, &(row.1, row.2, row.3));
 }
@@ -90,13 +89,7 @@ const EACH_FAILS: [Row; 10] = [
     ((5, 0, 0, false), "old", b"abcdef", 1),
 ];
 
-#[test]
-fn each_write_fails(rt: HostRuntime) {
-    for row in &EACH_FAILS {
-        follow(&rt, row, b"gh", 8);
-    }
-}
-
+// A shorter length comes last.
 const CUT_LAST: [Row; 3] = [
     ((1, 1, 0, false), "torn", b"abcdXf", 2),
     ((9, 9, 0, true), "torn", b"aZcdXY", 2),
@@ -104,7 +97,10 @@ const CUT_LAST: [Row; 3] = [
 ];
 
 #[test]
-fn shorter_length_comes_last(rt: HostRuntime) {
+fn each_write_fails(rt: HostRuntime) {
+    for row in &EACH_FAILS {
+        follow(&rt, row, b"gh", 8);
+    }
     for row in &CUT_LAST {
         follow(&rt, row, b"", 3);
     }
@@ -112,7 +108,7 @@ fn shorter_length_comes_last(rt: HostRuntime) {
 
 #[test]
 fn nothing_to_write_writes_nothing(rt: HostRuntime) {
-    let mut store = TrialStore::open(&rt, planned(0, 9, 0, true));
+    let mut store = TrialStore::open(&rt, planned((0, 9, 0, true)));
     let changes = Changes {
         old_length: 6,
         growth: b"",
@@ -141,18 +137,19 @@ fn failures(rt: &impl Runtime, plan: Plan) -> u64 {
 }
 
 // Each interruption counts, an answer of no byte, and what comes after the first error.
+const FAILURES: [(Calls, u64); 6] = [
+    ((9, 9, 0, false), 0),
+    ((1, 9, 0, false), 1),
+    ((0, 9, 0, true), 2),
+    ((9, 9, 5, false), 10),
+    ((9, 9, 1001, false), 1001),
+    ((9, 0, 0, false), 1),
+];
+
 #[test]
 fn counts_failures(rt: HostRuntime) {
-    let rows = [
-        (planned(9, 9, 0, false), 0),
-        (planned(1, 9, 0, false), 1),
-        (planned(0, 9, 0, true), 2),
-        (planned(9, 9, 5, false), 10),
-        (planned(9, 9, 1001, false), 1001),
-        (planned(9, 0, 0, false), 1),
-    ];
-    for (plan, count) in rows {
-        same(&rt, "failures", &failures(&rt, plan), &count);
+    for (calls, count) in FAILURES {
+        same(&rt, "failures", &failures(&rt, planned(calls)), &count);
     }
 }
 
@@ -168,22 +165,24 @@ fn lay(store: &mut MemoryStore) -> io::Result<()>
     write_pieces(store, 6, &pieces)
 }
 
+// Compares a store with these bytes and so many failures.
+fn expect_store(rt: &impl Runtime, store: &MemoryStore, bytes: &[u8], failures: u64) {
+    same_bytes(rt, "bytes", &store.bytes, bytes);
+    same(rt, "failures", &store.failures(), &failures);
+}
+
+// Writes behind the end, which is an error, and counts.
+fn write_behind(rt: &impl Runtime, store: &mut MemoryStore) {
+    expect_store(rt, store, b"abXYZf", 0);
+    store.open_for_writing().expect(rt, "a store");
+    same(rt, "write", &store.write_at(7, b"X").is_err(), &true);
+    expect_store(rt, store, b"abXYZf", 1);
+}
+
 #[test]
 fn pieces_in_memory(rt: HostRuntime) {
     let bytes = copy(rt.alloc(), b"abcdef").expect(&rt, "memory");
     let mut store = MemoryStore::new(bytes);
     lay(&mut store).expect(&rt, "pieces");
-    same_bytes(&rt, "bytes", &store.bytes, b"abXYZf");
-    same(&rt, "failures", &store.failures(), &0);
-}
-
-// A write that begins behind the end is an error, and counts.
-#[test]
-fn write_behind_the_end(rt: HostRuntime) {
-    let bytes = copy(rt.alloc(), b"abcdef").expect(&rt, "memory");
-    let mut store = MemoryStore::new(bytes);
-    store.open_for_writing().expect(&rt, "a store");
-    same(&rt, "write", &store.write_at(7, b"X").is_err(), &true);
-    same(&rt, "failures", &store.failures(), &1);
-    same_bytes(&rt, "bytes", &store.bytes, b"abcdef");
+    write_behind(&rt, &mut store);
 }

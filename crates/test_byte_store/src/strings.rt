@@ -15,10 +15,6 @@ fn push(alloc: Global, string: &mut ByteString<'_>) -> Result<(), AllocError> {
     Ok(string.to_mut(alloc)?.push(b'b')?)
 }
 
-fn changed<'a>(rt: &impl Runtime, string: &ByteString<'a>) -> ByteString<'a> {
-    sure!(rt; try_changed(rt.alloc(), string))
-}
-
 // Compares a string's bytes, and whether it owns them.
 fn shows(rt: &impl Runtime, string: &ByteString<'_>, bytes: &[u8], is_owned: bool) {
     same_bytes(rt, "bytes", string.as_slice(), bytes);
@@ -30,49 +26,48 @@ fn is_lent(rt: &impl Runtime, string: &mut ByteString<'_>) -> bool {
     string.to_mut(rt.alloc()).is_ok()
 }
 
-// Bytes are owned from the first change on, and those of which they are a copy stay.
+// A string that took a copy for its first change lends it without memory, also where each further growth is refused. The
+// bytes of which it is a copy stay.
+fn expect_changed(rt: &impl Runtime, string: &ByteString<'_>, copy: &mut ByteString<'_>) {
+    for _ in 0..2 {
+        same(rt, "lent", &is_lent(rt, copy), &true);
+    }
+    shows(rt, copy, b"ab", true);
+    shows(rt, string, b"a", false);
+}
+
 #[test]
 fn changes_a_copy(rt: HostRuntime) {
     let string = ByteString::borrowed(b"a");
-    shows(&rt, &changed(&rt, &string), b"ab", true);
-    shows(&rt, &string, b"a", false);
+    let mut copy = sure!(&rt; try_changed(rt.alloc(), &string));
+    expect_changed(&rt, &string, &mut copy);
 }
 
-// Bytes that a string owns are lent without memory, also where each further growth is refused.
+// Bytes that a string owns are lent without memory. They are copied.
+fn expect_own(rt: &impl Runtime, string: &mut ByteString<'_>) {
+    same(rt, "lent", &is_lent(rt, string), &true);
+    shows(rt, string, b"own", true);
+    let copy = sure!(rt; string.try_clone(rt.alloc()));
+    same_bytes(rt, "copy", copy.as_slice(), b"own");
+}
+
 #[test]
-fn lends_what_it_owns(rt: HostRuntime) {
+fn lends_and_copies_what_it_owns(rt: HostRuntime) {
     let mut string = ByteString::owned(copied(&rt, b"own"));
-    same(&rt, "lent", &is_lent(&rt, &mut string), &true);
-    shows(&rt, &string, b"own", true);
-}
-
-// The same of a string that took a copy for its first change.
-#[test]
-fn lends_what_it_copied(rt: HostRuntime) {
-    let mut copy = changed(&rt, &ByteString::borrowed(b"a"));
-    for _ in 0..2 {
-        same(&rt, "lent", &is_lent(&rt, &mut copy), &true);
-    }
-    shows(&rt, &copy, b"ab", true);
-}
-
-fn cloned<'a>(rt: &impl Runtime, string: &ByteString<'a>) -> ByteString<'a> {
-    sure!(rt; string.try_clone(rt.alloc()))
-}
-
-#[test]
-fn copies_what_it_owns(rt: HostRuntime) {
-    let string = ByteString::owned(copied(&rt, b"own"));
-    same_bytes(&rt, "copy", cloned(&rt, &string).as_slice(), b"own");
+    expect_own(&rt, &mut string);
 }
 
 // A string that cannot be copied stays as it was.
+fn expect_lent(rt: &impl Runtime, string: &mut ByteString<'_>) {
+    if !is_lent(rt, string) {
+        same_bytes(rt, "string", string.as_slice(), b"abc");
+        same(rt, "lent", &is_lent(rt, string), &true);
+    }
+    same_bytes(rt, "string", string.as_slice(), b"abc");
+}
+
 #[test]
 fn stays_where_there_is_no_memory(rt: HostRuntime) {
     let mut string = ByteString::borrowed(b"abc");
-    if !is_lent(&rt, &mut string) {
-        same_bytes(&rt, "string", string.as_slice(), b"abc");
-        same(&rt, "lent", &is_lent(&rt, &mut string), &true);
-    }
-    same_bytes(&rt, "string", string.as_slice(), b"abc");
+    expect_lent(&rt, &mut string);
 }

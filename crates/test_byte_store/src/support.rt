@@ -1,6 +1,6 @@
 //! What the tests share: calls that are refused memory, and comparisons.
 
-use byte_store::{ReadError, ReplaceError};
+use byte_store::ReadError;
 use std::alloc::AllocError;
 use std::process::Abort;
 use std::{fmt, io};
@@ -24,12 +24,6 @@ impl Refusal for AllocError {
 impl Refusal for ReadError {
     fn is_memory(&self) -> bool {
         matches!(self, ReadError::Memory)
-    }
-}
-
-impl Refusal for ReplaceError {
-    fn is_memory(&self) -> bool {
-        matches!(self, ReplaceError::Memory)
     }
 }
 

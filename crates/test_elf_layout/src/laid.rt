@@ -1,21 +1,26 @@
-use crate::made::{Counts, file};
+//! Files with as many sections and program headers as there can be, read and laid out.
+
+use crate::files::{Counts, file};
+use crate::support::{Runtime, same};
 use elf_image::{Builder, ElfFault};
-use elf_layout::{LayoutFault, Plan, lay_out};
+use elf_layout::{LayoutFault, lay_out};
 use std::alloc::Global;
 
-// Reads a file, once more where memory was refused.
-fn read<'data>(alloc: Global, bytes: &'data [u8]) -> Result<Builder<'data>, ElfFault> {
-    match Builder::read(alloc, bytes) {
-        Err(ElfFault::Memory) => Builder::read(alloc, bytes),
-        image => image,
-    }
+// How many sections and program headers a file is read with, and how many places, program headers and rounds the plan of
+// it has.
+type Found = ((usize, usize), Option<(usize, usize, usize)>);
+
+// How many places, program headers and rounds the plan of an image has.
+fn planned(alloc: Global, image: &Builder<'_>) -> Result<(usize, usize, usize), LayoutFault> {
+    let plan = lay_out(alloc, image)?;
+    Ok((plan.places().len(), plan.segments().len(), plan.rounds()))
 }
 
-// Lays an image out, once more where memory was refused.
-fn plan(alloc: Global, image: &Builder<'_>) -> Result<Plan, LayoutFault> {
-    match lay_out(alloc, image) {
-        Err(LayoutFault::Memory) => lay_out(alloc, image),
-        plan => plan,
+// The same, asked for once more where memory was refused.
+fn laid(alloc: Global, image: &Builder<'_>) -> Option<(usize, usize, usize)> {
+    match planned(alloc, image) {
+        Ok(counts) => Some(counts),
+        Err(_) => planned(alloc, image).ok(),
     }
 }
 
@@ -28,51 +33,34 @@ fn add_header(alloc: Global, image: &mut Builder<'_>) {
     }
 }
 
-// How many places, program headers and rounds the plan of a file has.
-fn counted(alloc: Global, counts: Counts) -> Result<(usize, usize, usize), &'static str> {
-    let Ok(bytes) = file(alloc, counts) else {
-        return Err("no memory");
-    };
-    let Ok(image) = read(alloc, &bytes) else {
-        return Err("not read");
-    };
-    laid(alloc, &image)
+// How many sections and program headers a file is read with.
+fn sizes(image: &Builder<'_>) -> (usize, usize) {
+    (image.sections().len(), image.segments().len())
 }
 
-// The same, with one more program header, for which notes have to move.
-fn counted_with_header(
-    alloc: Global,
-    counts: Counts,
-) -> Result<(usize, usize, usize), &'static str> {
-    let Ok(bytes) = file(alloc, counts) else {
-        return Err("no memory");
-    };
-    let Ok(mut image) = read(alloc, &bytes) else {
-        return Err("not read");
-    };
-    add_header(alloc, &mut image);
-    laid(alloc, &image)
+// What is found of a file, with one more program header or none.
+fn read(alloc: Global, bytes: &[u8], has_more: bool) -> Result<Found, ElfFault> {
+    let mut image = Builder::read(alloc, bytes)?;
+    let sizes = sizes(&image);
+    if has_more {
+        add_header(alloc, &mut image);
+    }
+    Ok((sizes, laid(alloc, &image)))
 }
 
-// How many places, program headers and rounds the plan of an image has.
-fn laid(alloc: Global, image: &Builder<'_>) -> Result<(usize, usize, usize), &'static str> {
-    match plan(alloc, image) {
-        Ok(plan) => Ok((plan.places().len(), plan.segments().len(), plan.rounds())),
-        Err(LayoutFault::Overlap) => Err("two blocks that never move overlap"),
-        Err(LayoutFault::NumberTooLarge) => Err("a number is too large"),
-        Err(LayoutFault::Memory) => Err("no memory"),
+// The same, read once more where memory was refused.
+fn found(alloc: Global, bytes: &[u8], has_more: bool) -> Option<Found> {
+    match read(alloc, bytes, has_more) {
+        Ok(found) => Some(found),
+        Err(_) => read(alloc, bytes, has_more).ok(),
     }
 }
 
-// How many sections and program headers are read of a file.
-fn read_counts(alloc: Global, counts: Counts) -> Result<(usize, usize), &'static str> {
-    let Ok(bytes) = file(alloc, counts) else {
-        return Err("no memory");
-    };
-    match read(alloc, &bytes) {
-        Ok(image) => Ok((image.sections().len(), image.segments().len())),
-        Err(_) => Err("not read"),
-    }
+// Compares what is found of a file, with one more program header or none.
+fn expect(rt: &impl Runtime, counts: &Counts, has_more: bool, want: Found) {
+    let bytes = file(rt, counts);
+    let found = found(rt.alloc(), &bytes, has_more);
+    same(rt, "counts", &found, &Some(want));
 }
 
 // As many sections as there can be, and few program headers.
@@ -100,33 +88,22 @@ const MOVING: Counts = Counts {
 };
 
 #[test]
-fn many_sections_are_read(rt: HostRuntime) {
-    let found = read_counts(rt.alloc(), SECTIONS);
-    assert_eq!(rt; found, Ok((65_279, 3)));
+fn many_sections(rt: HostRuntime) {
+    let want = ((65_279, 3), Some((65_279, 3, 1)));
+    expect(&rt, &SECTIONS, false, want);
 }
 
 #[test]
-fn many_sections_are_laid_out(rt: HostRuntime) {
-    let found = counted(rt.alloc(), SECTIONS);
-    assert_eq!(rt; found, Ok((65_279, 3, 1)));
+fn many_headers(rt: HostRuntime) {
+    let want = ((30_002, 60_001), Some((30_002, 60_001, 1)));
+    expect(&rt, &HEADERS, false, want);
 }
 
+// One header more, for which notes have to move. The table of program headers reaches over 14 notes with each header that it
+// gains, and 25, 375 and 5,275 headers are wanted until it reaches over all notes; then one is enough, of the segment that
+// they move to.
 #[test]
-fn many_headers_are_read(rt: HostRuntime) {
-    let found = read_counts(rt.alloc(), HEADERS);
-    assert_eq!(rt; found, Ok((30_002, 60_001)));
-}
-
-#[test]
-fn many_headers_are_laid_out(rt: HostRuntime) {
-    let found = counted(rt.alloc(), HEADERS);
-    assert_eq!(rt; found, Ok((30_002, 60_001, 1)));
-}
-
-// The table of program headers reaches over 14 notes with each header that it gains, and 25, 375 and 5,275 headers are
-// wanted until it reaches over all notes; then one is enough, of the segment that they move to.
-#[test]
-fn many_headers_over_moving_notes_are_laid_out(rt: HostRuntime) {
-    let found = counted_with_header(rt.alloc(), MOVING);
-    assert_eq!(rt; found, Ok((30_002, 30_003, 4)));
+fn many_headers_over_moving_notes(rt: HostRuntime) {
+    let want = ((30_002, 30_001), Some((30_002, 30_003, 4)));
+    expect(&rt, &MOVING, true, want);
 }

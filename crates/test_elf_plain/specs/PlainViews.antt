@@ -23,12 +23,11 @@ use Rattle.elf_format.specs.declared.records.SegmentHeader.{SegmentHeader}
 use Rattle.elf_format.specs.Records.{symbol_size}
 use Rattle.elf_format.specs.Views.{NamedSymbol, Table, Tables, View, byte_at, defined_versions, dynamic_symbols, first_by_tag, memory_at_tag, needed_versions, section_table, tables_by_tags, view_of}
 use Rattle.patch_bytes.specs.Memory.{◌>>=◌, Memory, from, memory_of}
-use Rattle.elf_format.specs.Answers.{borrowed, chain, whole_step}
-use Rattle.elf_format.specs.declared.records.NeedNameNumbers.{NeedNameNumbers}
+use Rattle.elf_format.specs.Answers.{borrowed}
 use Rattle.elf_format.specs.declared.records.SectionHeader.{SectionHeader}
 use Rattle.elf_format.specs.declared.view_fault.ViewFault.{ViewFault}
 use Rattle.elf_format.specs.declared.view_fault.ViewFault.TheVariants as faults
-use Rattle.elf_format.specs.Versions.{DefinitionNumbers, NeedNumbers, Step, VersionDefinition, VersionName, VersionNeeds, definition_at, definition_name_at, need_at, need_name_at}
+use Rattle.elf_format.specs.Versions.{VersionDefinition, VersionName, VersionNeeds}
 use Rattle.elf_format.specs.Dynamic.{Auto, Entry, Integer, Text, entries_at, has_tag, value_of_tag}
 
 -- a text that was copied
@@ -135,32 +134,6 @@ loaded_by_dynamic form file outline segments symbol_count (Some list) =
     entries_at (length file) form (from (byte_at segments file) list.p_vaddr) 0 >>= λ raw. if holds_symbol_size form raw
     then view_of form (length file) outline raw (tables_by_tags (byte_at segments file) symbol_count raw)
     else None
-
--- the records of a chain, one behind the other, as a source shows them
-abbrev pub definition_names_from : Form → Source → ℕ → ℕ → Option (List ℕ)
-definition_names_from form source count start = chain (definition_name_at form (source_model source)) count start
-
-abbrev pub need_names_from : Form → Source → ℕ → ℕ → Option (List NeedNameNumbers)
-need_names_from form source count start = chain (need_name_at form (source_model source)) count start
-
-abbrev pub definitions_from : Form → Source → ℕ → Option (List DefinitionNumbers)
-definitions_from form source count = chain (definition_at form (source_model source)) count 0
-
-abbrev pub needs_from : Form → Source → ℕ → Option (List NeedNumbers)
-needs_from form source count = chain (need_at form (source_model source)) count 0
-
--- the record at a place of a source, with all that it leads to
-abbrev pub definition_name_in : Form → Source → ℕ → Option (Step ℕ)
-definition_name_in form source place = whole_step (definition_name_at form (source_model source) place)
-
-abbrev pub need_name_in : Form → Source → ℕ → Option (Step NeedNameNumbers)
-need_name_in form source place = whole_step (need_name_at form (source_model source) place)
-
-abbrev pub definition_in : Form → Source → ℕ → Option (Step DefinitionNumbers)
-definition_in form source place = whole_step (definition_at form (source_model source) place)
-
-abbrev pub need_in : Form → Source → ℕ → Option (Step NeedNumbers)
-need_in form source place = whole_step (need_at form (source_model source) place)
 
 -- what a list of entries asks for: the symbols, the defined and the needed versions
 abbrev pub symbols_when_wanted : Form → ℕ → List EntryNumbers → Tables → Option (Option (List NamedSymbol))

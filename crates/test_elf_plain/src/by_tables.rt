@@ -6,18 +6,18 @@ ghost use Rattle.test_elf_plain.specs.PlainViews.{definitions_model, libraries_m
 ghost use Rattle.test_elf_plain.specs.PlainViews.{outline_model, table_source_model, tables_model, view_model};
 ghost use Rattle.elf_format.specs.Views.{defined_versions, needed_versions, view_of};
 
-use crate::chains::{read_definitions, read_needs};
-use crate::entries::view_entries;
-use crate::names::{show_definitions, show_needs};
+use crate::chains::read_chain;
+use crate::names::show_each;
 use crate::source::{TableSource, TableSources};
 use crate::symbols::show_symbols;
-use crate::view::{Outline, ShownDefinition, ShownNeeds, ShownSymbol, ShownView};
+use crate::view::{EntryView, Outline, ShownDefinition, ShownNeeds, ShownSymbol, ShownView};
 use elf_format::constants::{
     DT_SYMTAB, DT_VERDEF, DT_VERDEFNUM, DT_VERNEED, DT_VERNEEDNUM, DT_VERSYM, PT_GNU_STACK,
 };
 use elf_format::form::Form;
 use elf_format::lookups::{has_tag, segment_of_type};
 use elf_format::records::{EntryNumbers, SegmentHeader};
+use elf_format::versions::{RawDefinition, RawNeeds};
 use elf_format::view_fault::ViewFault;
 use std::alloc::Global;
 
@@ -55,8 +55,8 @@ fn definitions_of(
     ensures { Gives definitions_model result
         (defined_versions form room (table_source_model table.now)) }
 {
-    let raw = read_definitions(alloc, form, &table.bytes, table.count)?;
-    show_definitions(alloc, room, &table.texts, &raw)
+    let raw = read_chain::<RawDefinition>(alloc, form, &table.bytes, table.count, 0)?;
+    show_each::<ShownDefinition>(alloc, room, &table.texts, &raw)
 }
 
 // The needed versions of a table.
@@ -70,8 +70,8 @@ fn needs_of(
     ensures { Gives libraries_model result
         (needed_versions form room (table_source_model table.now)) }
 {
-    let raw = read_needs(alloc, form, &table.bytes, table.count)?;
-    show_needs(alloc, room, &table.texts, &raw)
+    let raw = read_chain::<RawNeeds>(alloc, form, &table.bytes, table.count, 0)?;
+    show_each::<ShownNeeds>(alloc, room, &table.texts, &raw)
 }
 
 // The dynamic symbols, where the list names their table.
@@ -152,7 +152,7 @@ pub(crate) fn show_tables<'a>(
     ensures { Gives view_model result
         (view_of form room (outline_model outline.entry) raw.now (tables_model tables.now)) }
 {
-    let entries = view_entries(alloc, room, &tables.entry_texts, raw)?;
+    let entries = show_each::<EntryView>(alloc, room, &tables.entry_texts, raw)?;
     let symbols = asked_symbols(alloc, form, room, raw, tables)?;
     let definitions = asked_definitions(alloc, form, room, raw, &tables.definitions)?;
     let needs = asked_needs(alloc, form, room, raw, &tables.needs)?;

@@ -1,136 +1,175 @@
 ghost use Rattle.patch_bytes.specs.Memory.{text_at};
+ghost use Rattle.elf_format.specs.Dynamic.{Entry, shown_entry};
 ghost use Rattle.elf_format.specs.Options.{each};
 ghost use Rattle.elf_format.specs.Answers.{Gives};
-ghost use Rattle.test_elf_plain.specs.PlainViews.{definition_model, name_model, needs_model, source_model};
-ghost use Rattle.test_elf_plain.specs.PlainViews.{definitions_model, libraries_model, names_model, texts_model};
-ghost use Rattle.elf_format.specs.Versions.{shown_definition, shown_need, shown_need_name};
+ghost use Rattle.test_elf_plain.specs.PlainViews.{definition_model, entry_viewed, name_model, needs_model, source_model, text_model};
+ghost use Rattle.elf_format.specs.Versions.{VersionDefinition, VersionName, VersionNeeds, shown_definition, shown_need, shown_need_name};
+ghost use Rattle.std.specs.Prelude.{ℕ, List, map};
 
 use crate::source::{Source, read_text};
-use crate::view::{ShownDefinition, ShownName, ShownNeeds};
-use elf_format::records::NeedNameNumbers;
+use crate::view::{EntryView, ShownDefinition, ShownName, ShownNeeds};
+use elf_format::entries::{is_table_tag, is_text_tag};
+use elf_format::records::{EntryNumbers, NeedNameNumbers};
 use elf_format::versions::{RawDefinition, RawNeeds};
 use elf_format::view_fault::ViewFault;
 use std::alloc::Global;
 
-// Texts by where they stand.
-fn show_texts(
-    alloc: Global,
-    room: usize,
-    texts: &Source<'_>,
-    places: &[u32],
-) -> Result<Vec<Vec<u8>>, ViewFault>
-    ensures { Gives texts_model result (each (text_at room (source_model texts.now)) places.now) }
-{
-    let mut shown = Vec::new(alloc);
-    for place in places {
-        let one = read_text(alloc, room, texts, *place as u64)?;
-        shown.push(one)?;
+// What is shown of a raw value that names texts by where they stand.
+pub(crate) trait Shown: Drop {
+    ghost use Rattle.std.specs.Prelude.{ℕ, Option};
+    ghost use Rattle.patch_bytes.specs.Memory.{Memory};
+    ghost use Rattle.elf_format.specs.Answers.{Gives};
+    ghost use Rattle.test_elf_plain.specs.PlainViews.{source_model};
+
+    type Raw;
+
+    ghost Shape: { Type 0 };
+
+    // It, seen without where copies of texts lie.
+    ghost shape: { Self → Shape };
+
+    ghost shown: { ℕ → Memory → Self.Raw → Option Shape };
+
+    fn show(
+        alloc: Global,
+        room: usize,
+        texts: &Source<'_>,
+        raw: &Self::Raw,
+    ) -> Result<Self, ViewFault>
+        ensures { Gives shape result (shown room (source_model texts.now) raw.now) };
+}
+
+impl Shown for Vec<u8> {
+    type Raw = u32;
+
+    ghost Shape = { List ℕ };
+
+    ghost shape = { text_model };
+
+    ghost shown = { text_at };
+
+    fn show(
+        alloc: Global,
+        room: usize,
+        texts: &Source<'_>,
+        raw: &u32,
+    ) -> Result<Vec<u8>, ViewFault> {
+        read_text(alloc, room, texts, *raw as u64)
     }
-    Ok(shown)
 }
 
-// A defined version with its names.
-#[tactic(auto, unfolding(elf_format::specs::Versions::shown_definition))]
-fn show_definition(
-    alloc: Global,
-    room: usize,
-    texts: &Source<'_>,
-    definition: &RawDefinition,
-) -> Result<ShownDefinition, ViewFault>
-    ensures { Gives definition_model result
-        (shown_definition room (source_model texts.now) definition.now) }
-{
-    let names = show_texts(alloc, room, texts, &definition.names)?;
-    Ok(ShownDefinition {
-        index: definition.index,
-        flags: definition.flags,
-        names,
-    })
-}
+impl Shown for ShownDefinition {
+    type Raw = RawDefinition;
 
-// The defined versions with their names.
-pub(crate) fn show_definitions(
-    alloc: Global,
-    room: usize,
-    texts: &Source<'_>,
-    definitions: &[RawDefinition],
-) -> Result<Vec<ShownDefinition>, ViewFault>
-    ensures { Gives definitions_model result (each
-        (shown_definition room (source_model texts.now)) definitions.now) }
-{
-    let mut shown = Vec::new(alloc);
-    for definition in definitions {
-        let one = show_definition(alloc, room, texts, definition)?;
-        shown.push(one)?;
+    ghost Shape = { VersionDefinition };
+
+    ghost shape = { definition_model };
+
+    ghost shown = { shown_definition };
+
+    #[tactic(auto, unfolding(elf_format::specs::Versions::shown_definition))]
+    fn show(
+        alloc: Global,
+        room: usize,
+        texts: &Source<'_>,
+        raw: &RawDefinition,
+    ) -> Result<ShownDefinition, ViewFault> {
+        let names = show_each::<Vec<u8>>(alloc, room, texts, &raw.names)?;
+        Ok(ShownDefinition {
+            index: raw.index,
+            flags: raw.flags,
+            names,
+        })
     }
-    Ok(shown)
 }
 
-// A needed version with its name.
-#[tactic(auto, unfolding(elf_format::specs::Versions::shown_need_name))]
-fn show_name(
-    alloc: Global,
-    room: usize,
-    texts: &Source<'_>,
-    version: NeedNameNumbers,
-) -> Result<ShownName, ViewFault>
-    ensures { Gives name_model result (shown_need_name room (source_model texts.now) version) }
-{
-    let name = read_text(alloc, room, texts, version.name as u64)?;
-    Ok(ShownName {
-        index: version.index,
-        name,
-        flags: version.flags,
-    })
-}
+impl Shown for ShownName {
+    type Raw = NeedNameNumbers;
 
-// Needed versions with their names.
-fn show_names(
-    alloc: Global,
-    room: usize,
-    texts: &Source<'_>,
-    versions: &[NeedNameNumbers],
-) -> Result<Vec<ShownName>, ViewFault>
-    ensures { Gives names_model result
-        (each (shown_need_name room (source_model texts.now)) versions.now) }
-{
-    let mut shown = Vec::new(alloc);
-    for version in versions {
-        let one = show_name(alloc, room, texts, *version)?;
-        shown.push(one)?;
+    ghost Shape = { VersionName };
+
+    ghost shape = { name_model };
+
+    ghost shown = { shown_need_name };
+
+    #[tactic(auto, unfolding(elf_format::specs::Versions::shown_need_name))]
+    fn show(
+        alloc: Global,
+        room: usize,
+        texts: &Source<'_>,
+        raw: &NeedNameNumbers,
+    ) -> Result<ShownName, ViewFault> {
+        let name = read_text(alloc, room, texts, raw.name as u64)?;
+        Ok(ShownName {
+            index: raw.index,
+            name,
+            flags: raw.flags,
+        })
     }
-    Ok(shown)
 }
 
-// The versions needed of one library with its name.
-#[tactic(auto, unfolding(elf_format::specs::Versions::shown_need))]
-fn show_need(
+impl Shown for ShownNeeds {
+    type Raw = RawNeeds;
+
+    ghost Shape = { VersionNeeds };
+
+    ghost shape = { needs_model };
+
+    ghost shown = { shown_need };
+
+    #[tactic(auto, unfolding(elf_format::specs::Versions::shown_need))]
+    fn show(
+        alloc: Global,
+        room: usize,
+        texts: &Source<'_>,
+        raw: &RawNeeds,
+    ) -> Result<ShownNeeds, ViewFault> {
+        let file = read_text(alloc, room, texts, raw.file as u64)?;
+        let versions = show_each::<ShownName>(alloc, room, texts, &raw.versions)?;
+        Ok(ShownNeeds { file, versions })
+    }
+}
+
+impl Shown for EntryView {
+    type Raw = EntryNumbers;
+
+    ghost Shape = { Entry };
+
+    ghost shape = { entry_viewed };
+
+    ghost shown = { shown_entry };
+
+    #[tactic(auto, unfolding(elf_format::specs::Dynamic::shown_entry))]
+    fn show(
+        alloc: Global,
+        room: usize,
+        texts: &Source<'_>,
+        raw: &EntryNumbers,
+    ) -> Result<EntryView, ViewFault> {
+        if is_text_tag(raw.d_tag) {
+            let text = read_text(alloc, room, texts, raw.d_value)?;
+            Ok(EntryView::Text(raw.d_tag, text))
+        } else if is_table_tag(raw.d_tag) {
+            Ok(EntryView::Auto(raw.d_tag))
+        } else {
+            Ok(EntryView::Integer(raw.d_tag, raw.d_value))
+        }
+    }
+}
+
+// What is shown of each raw value.
+pub(crate) fn show_each<S: Shown>(
     alloc: Global,
     room: usize,
     texts: &Source<'_>,
-    needs: &RawNeeds,
-) -> Result<ShownNeeds, ViewFault>
-    ensures { Gives needs_model result
-        (shown_need room (source_model texts.now) needs.now) }
-{
-    let file = read_text(alloc, room, texts, needs.file as u64)?;
-    let versions = show_names(alloc, room, texts, &needs.versions)?;
-    Ok(ShownNeeds { file, versions })
-}
-
-// The needed versions, library by library.
-pub(crate) fn show_needs(
-    alloc: Global,
-    room: usize,
-    texts: &Source<'_>,
-    libraries: &[RawNeeds],
-) -> Result<Vec<ShownNeeds>, ViewFault>
-    ensures { Gives libraries_model result
-        (each (shown_need room (source_model texts.now)) libraries.now) }
+    raws: &[S::Raw],
+) -> Result<Vec<S>, ViewFault>
+    ensures { Gives (λ v. map S.shape v.items) result
+        (each (S.shown room (source_model texts.now)) raws.now) }
 {
     let mut shown = Vec::new(alloc);
-    for library in libraries {
-        let one = show_need(alloc, room, texts, library)?;
+    for raw in raws {
+        let one = S::show(alloc, room, texts, raw)?;
         shown.push(one)?;
     }
     Ok(shown)

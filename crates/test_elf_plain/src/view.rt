@@ -1,7 +1,7 @@
 use elf_format::version_id::VersionId;
 
 /// An entry of the dynamic list, with a copy of its text.
-#[derive(Debug, Drop, PartialEq, Eq)]
+#[derive(Debug, Drop)]
 pub enum EntryView {
     /// The tag of an entry whose number follows from the file's layout.
     Auto(u64),
@@ -12,7 +12,7 @@ pub enum EntryView {
 }
 
 /// A dynamic symbol, with its name and its version.
-#[derive(Debug, Drop, PartialEq, Eq)]
+#[derive(Debug, Drop)]
 pub struct ShownSymbol {
     /// Its name, without the NUL.
     pub name: Vec<u8>,
@@ -31,7 +31,7 @@ pub struct ShownSymbol {
 }
 
 /// A defined version, with its names.
-#[derive(Debug, Drop, PartialEq, Eq)]
+#[derive(Debug, Drop)]
 pub struct ShownDefinition {
     /// The index by which symbols name it.
     pub index: u16,
@@ -42,7 +42,7 @@ pub struct ShownDefinition {
 }
 
 /// A needed version, with its name.
-#[derive(Debug, Drop, PartialEq, Eq)]
+#[derive(Debug, Drop)]
 pub struct ShownName {
     /// The index by which symbols name it.
     pub index: u16,
@@ -53,7 +53,7 @@ pub struct ShownName {
 }
 
 /// The versions needed of one library, with its name.
-#[derive(Debug, Drop, PartialEq, Eq)]
+#[derive(Debug, Drop)]
 pub struct ShownNeeds {
     /// The library's name.
     pub file: Vec<u8>,
@@ -62,7 +62,7 @@ pub struct ShownNeeds {
 }
 
 /// What a file shows: its bytes are copied, but for the interpreter's, which lie in one piece of the file.
-#[derive(Debug, Drop, PartialEq, Eq)]
+#[derive(Debug, Drop)]
 pub struct ShownView<'a> {
     /// The ABI byte.
     pub os_abi: u8,

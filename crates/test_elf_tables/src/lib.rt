@@ -1,5 +1,5 @@
-//! Tests of the tables of ELF files: hashes, string tables, versions. They stand apart, so that a proof of what they
-//! test does not wait for them.
+//! Tests of the tables of ELF files: hashes, string tables, versions, hash tables. They stand apart, so that a proof of what
+//! they test does not wait for them.
 #![tactic(auto)]
 
 // What a call answers whose answer counts alone. It is made twice, and what it answers first counts where that is not want of
@@ -21,6 +21,8 @@ macro_rules! sure {
 
 #[cfg(test)]
 mod copied;
+#[cfg(test)]
+mod hash_tables;
 #[cfg(test)]
 mod hashes;
 #[cfg(test)]

@@ -88,21 +88,27 @@ fn needed(
     again!(rt; build_verneed(rt.alloc(), &records, &table, ByteOrder2::Little))
 }
 
-#[test]
-fn no_needed_version(rt: HostRuntime) {
-    answers(&rt, "none", needed(&rt, &[], &[]), Ok(b""));
-}
-
-// The texts stand at 1, 11 and 23.
-#[test]
-fn two_needed_versions(rt: HostRuntime) {
-    let texts: [&[u8]; 3] = [b"GLIBC_2.34", b"GLIBC_2.2.5", b"libc.so.6"];
-    let versions: [(u16, u16, &[u8]); 2] = [(3, 0, b"GLIBC_2.2.5"), (2, 2, b"GLIBC_2.34")];
-    let answer = needed(&rt, &[(b"libc.so.6", &versions)], &texts);
-    let want = b"\x01\0\x02\0\x01\0\0\0\x10\0\0\0\0\0\0\0\
+// Needed versions, texts of a table, and the bytes.
+const NEEDED: [(&[Needs<'static>], &[&[u8]], &[u8]); 2] = [
+    (&[], &[], b""),
+    // The texts stand at 1, 11 and 23.
+    (
+        &[(
+            b"libc.so.6",
+            &[(3, 0, b"GLIBC_2.2.5"), (2, 2, b"GLIBC_2.34")],
+        )],
+        &[b"GLIBC_2.34", b"GLIBC_2.2.5", b"libc.so.6"],
+        b"\x01\0\x02\0\x01\0\0\0\x10\0\0\0\0\0\0\0\
         \x75\x1a\x69\x09\0\0\x03\0\x0b\0\0\0\x10\0\0\0\
-        \xb4\x91\x96\x06\x02\0\x02\0\x17\0\0\0\0\0\0\0";
-    answers(&rt, "two", answer, Ok(want));
+        \xb4\x91\x96\x06\x02\0\x02\0\x17\0\0\0\0\0\0\0",
+    ),
+];
+
+#[test]
+fn needed_versions(rt: HostRuntime) {
+    for (libraries, texts, want) in &NEEDED {
+        answers(&rt, "needed", needed(&rt, libraries, texts), Ok(want));
+    }
 }
 
 // One version, again and again.

@@ -40,15 +40,6 @@ const SEGMENT: SegmentHeader = SegmentHeader {
     p_align: 0x1000,
 };
 
-// Appends a program header, for 32 or for 64 bits.
-fn put_segment(bytes: &mut Vec<u8>, is_wide: bool) -> Result<(), AllocError> {
-    if is_wide {
-        push_segment_header(bytes, WIDE, SEGMENT)
-    } else {
-        push_segment_header(bytes, NARROW, SEGMENT)
-    }
-}
-
 const SECTION: SectionHeader = SectionHeader {
     sh_name: 17,
     sh_type: 0x6fff_fff6,
@@ -62,15 +53,6 @@ const SECTION: SectionHeader = SectionHeader {
     sh_entsize: 4,
 };
 
-// Appends a section header, for 32 or for 64 bits.
-fn put_section(bytes: &mut Vec<u8>, is_wide: bool) -> Result<(), AllocError> {
-    if is_wide {
-        push_section_header(bytes, WIDE, SECTION)
-    } else {
-        push_section_header(bytes, NARROW, SECTION)
-    }
-}
-
 const SYMBOL: SymbolNumbers = SymbolNumbers {
     st_name: 9,
     st_info: 0x12,
@@ -80,28 +62,10 @@ const SYMBOL: SymbolNumbers = SymbolNumbers {
     st_size: 7,
 };
 
-// Appends a symbol, for 32 or for 64 bits.
-fn put_symbol(bytes: &mut Vec<u8>, is_wide: bool) -> Result<(), AllocError> {
-    if is_wide {
-        push_symbol(bytes, WIDE, SYMBOL)
-    } else {
-        push_symbol(bytes, NARROW, SYMBOL)
-    }
-}
-
 const ENTRY: EntryNumbers = EntryNumbers {
     d_tag: 0x6fff_fffb,
     d_value: 0x800,
 };
-
-// Appends a dynamic entry, for 32 or for 64 bits.
-fn put_entry(bytes: &mut Vec<u8>, is_wide: bool) -> Result<(), AllocError> {
-    if is_wide {
-        push_entry(bytes, WIDE, ENTRY)
-    } else {
-        push_entry(bytes, NARROW, ENTRY)
-    }
-}
 
 const HEADER: FileHeader = FileHeader {
     os_abi: 3,
@@ -119,22 +83,19 @@ const HEADER: FileHeader = FileHeader {
     e_shstrndx: 27,
 };
 
-// Appends a file header, for 32 or for 64 bits.
-fn put_header(bytes: &mut Vec<u8>, is_wide: bool) -> Result<(), AllocError> {
-    if is_wide {
-        push_file_header(bytes, WIDE, HEADER)
-    } else {
-        push_file_header(bytes, NARROW, HEADER)
-    }
-}
-
+// Appends a record, for 32 or for 64 bits.
 fn put(bytes: &mut Vec<u8>, kind: Kind, is_wide: bool) -> Result<(), AllocError> {
-    match kind {
-        Kind::Segment => put_segment(bytes, is_wide),
-        Kind::Section => put_section(bytes, is_wide),
-        Kind::Symbol => put_symbol(bytes, is_wide),
-        Kind::Entry => put_entry(bytes, is_wide),
-        Kind::Header => put_header(bytes, is_wide),
+    match (kind, is_wide) {
+        (Kind::Segment, false) => push_segment_header(bytes, NARROW, SEGMENT),
+        (Kind::Segment, true) => push_segment_header(bytes, WIDE, SEGMENT),
+        (Kind::Section, false) => push_section_header(bytes, NARROW, SECTION),
+        (Kind::Section, true) => push_section_header(bytes, WIDE, SECTION),
+        (Kind::Symbol, false) => push_symbol(bytes, NARROW, SYMBOL),
+        (Kind::Symbol, true) => push_symbol(bytes, WIDE, SYMBOL),
+        (Kind::Entry, false) => push_entry(bytes, NARROW, ENTRY),
+        (Kind::Entry, true) => push_entry(bytes, WIDE, ENTRY),
+        (Kind::Header, false) => push_file_header(bytes, NARROW, HEADER),
+        (Kind::Header, true) => push_file_header(bytes, WIDE, HEADER),
     }
 }
 

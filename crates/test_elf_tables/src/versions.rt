@@ -11,45 +11,60 @@ use elf_tables::{Finished, TableFault, build_verdef, build_versym};
 use patch_bytes::{ByteOrder2, ByteString};
 use std::alloc::AllocError;
 
-const fn version(index: u16, hidden: bool) -> VersionId {
-    VersionId { index, hidden }
-}
-
 // Versions of symbols, the byte order, and the bytes.
-type Row<'i> = (
-    &'i [VersionId],
-    ByteOrder2,
-    Result<&'static [u8], TableFault>,
-);
+const SYMBOLS: [(&[VersionId], ByteOrder2, Result<&[u8], TableFault>); 5] = [
+    (&[], ByteOrder2::Little, Ok(b"")),
+    (
+        &[VersionId {
+            index: 0x7fff,
+            hidden: false,
+        }],
+        ByteOrder2::Little,
+        Ok(b"\xff\x7f"),
+    ),
+    (
+        &[VersionId {
+            index: 0x7fff,
+            hidden: true,
+        }],
+        ByteOrder2::Big,
+        Ok(b"\xff\xff"),
+    ),
+    (
+        &[
+            VersionId {
+                index: 0,
+                hidden: false,
+            },
+            VersionId {
+                index: 2,
+                hidden: true,
+            },
+        ],
+        ByteOrder2::Big,
+        Ok(b"\0\0\x80\x02"),
+    ),
+    (
+        &[
+            VersionId {
+                index: 1,
+                hidden: false,
+            },
+            VersionId {
+                index: 0x8000,
+                hidden: false,
+            },
+        ],
+        ByteOrder2::Little,
+        Err(TableFault::NumberTooLarge),
+    ),
+];
 
 #[test]
 fn versions_of_symbols(rt: HostRuntime) {
-    let rows: [Row<'_>; 5] = [
-        (&[], ByteOrder2::Little, Ok(b"")),
-        (
-            &[version(0x7fff, false)],
-            ByteOrder2::Little,
-            Ok(b"\xff\x7f"),
-        ),
-        (&[version(0x7fff, true)], ByteOrder2::Big, Ok(b"\xff\xff")),
-        (
-            &[version(0, false), version(2, true)],
-            ByteOrder2::Big,
-            Ok(b"\0\0\x80\x02"),
-        ),
-        (
-            &[version(1, false), version(0x8000, false)],
-            ByteOrder2::Little,
-            Err(TableFault::NumberTooLarge),
-        ),
-    ];
-    for (ids, order, want) in rows {
-        answers(
-            &rt,
-            "versions",
-            again!(&rt; build_versym(rt.alloc(), ids, order)),
-            want,
-        );
+    for (ids, order, want) in &SYMBOLS {
+        let answer = again!(&rt; build_versym(rt.alloc(), ids, *order));
+        answers(&rt, "versions", answer, *want);
     }
 }
 
@@ -126,31 +141,39 @@ const OWN: Definition<'static> = (1, 1, &[b"libx.so.1"]);
 
 const SECOND: Definition<'static> = (2, 0, &[b"V_2", b"V_1"]);
 
-#[test]
-fn no_defined_version(rt: HostRuntime) {
-    let answer = defined(&rt, &[], &[], ByteOrder2::Little);
-    answers(&rt, "none", answer, Ok(b""));
-}
-
-// The name stands at 1.
-#[test]
-fn one_defined_version(rt: HostRuntime) {
-    let answer = defined(&rt, &[OWN], &[b"libx.so.1"], ByteOrder2::Little);
-    let want = b"\x01\0\x01\0\x01\0\x01\0\xe1\xf4\xb5\x09\x14\0\0\0\0\0\0\0\
-        \x01\0\0\0\0\0\0\0";
-    answers(&rt, "one", answer, Ok(want));
-}
-
-// The names stand at 9, 1 and 5.
-#[test]
-fn two_defined_versions(rt: HostRuntime) {
-    let texts: [&[u8]; 3] = [b"libx.so.1", b"V_1", b"V_2"];
-    let answer = defined(&rt, &[OWN, SECOND], &texts, ByteOrder2::Big);
-    let want = b"\0\x01\0\x01\0\x01\0\x01\x09\xb5\xf4\xe1\0\0\0\x14\0\0\0\x1c\
+// Defined versions, texts of a table, the byte order, and the bytes.
+const DEFINED: [(&[Definition<'static>], &[&[u8]], ByteOrder2, &[u8]); 3] = [
+    (&[], &[], ByteOrder2::Little, b""),
+    // The name stands at 1.
+    (
+        &[OWN],
+        &[b"libx.so.1"],
+        ByteOrder2::Little,
+        b"\x01\0\x01\0\x01\0\x01\0\xe1\xf4\xb5\x09\x14\0\0\0\0\0\0\0\
+        \x01\0\0\0\0\0\0\0",
+    ),
+    // The names stand at 9, 1 and 5.
+    (
+        &[OWN, SECOND],
+        &[b"libx.so.1", b"V_1", b"V_2"],
+        ByteOrder2::Big,
+        b"\0\x01\0\x01\0\x01\0\x01\x09\xb5\xf4\xe1\0\0\0\x14\0\0\0\x1c\
         \0\0\0\x09\0\0\0\0\
         \0\x01\0\0\0\x02\0\x02\0\0\x5c\x22\0\0\0\x14\0\0\0\0\
-        \0\0\0\x01\0\0\0\x08\0\0\0\x05\0\0\0\0";
-    answers(&rt, "two", answer, Ok(want));
+        \0\0\0\x01\0\0\0\x08\0\0\0\x05\0\0\0\0",
+    ),
+];
+
+#[test]
+fn defined_versions(rt: HostRuntime) {
+    for (versions, texts, order, want) in &DEFINED {
+        answers(
+            &rt,
+            "defined",
+            defined(&rt, versions, texts, *order),
+            Ok(want),
+        );
+    }
 }
 
 #[test]

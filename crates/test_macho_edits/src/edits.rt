@@ -74,7 +74,7 @@ fn built_rpath(
 
 // Compares a built run path's command, whose size and bytes are these.
 fn expect_rpath(rt: &impl Runtime, ctx: Ctx, text: &str, cmdsize: u32, bytes: &[u8]) {
-    let built = again!(rt; built_rpath(rt.alloc(), text, ctx)).expect(rt, "a command");
+    let built = sure!(rt; built_rpath(rt.alloc(), text, ctx));
     let command = RpathCommand {
         cmd: 0x8000_001c,
         cmdsize,
@@ -124,8 +124,8 @@ const RPATH_COMMANDS: [(Ctx, &str, u32, &[u8]); 5] = [
 
 #[test]
 fn builds_rpath_commands(rt: HostRuntime) {
-    for (ctx, text, cmdsize, bytes) in RPATH_COMMANDS {
-        expect_rpath(&rt, ctx, text, cmdsize, bytes);
+    for (ctx, text, cmdsize, bytes) in &RPATH_COMMANDS {
+        expect_rpath(&rt, *ctx, text, *cmdsize, bytes);
     }
 }
 
@@ -139,7 +139,7 @@ fn built_library(
 
 // Compares a built command of a library, whose size and bytes are these.
 fn expect_library(rt: &impl Runtime, ctx: Ctx, cmdsize: u32, bytes: &[u8]) {
-    let built = again!(rt; built_library(rt.alloc(), "libx.dylib", ctx)).expect(rt, "a command");
+    let built = sure!(rt; built_library(rt.alloc(), "libx.dylib", ctx));
     let dylib = Dylib {
         name: 24,
         ..OLD.dylib
@@ -173,8 +173,8 @@ const LIBRARY_COMMANDS: [(Ctx, u32, &[u8]); 2] = [
 
 #[test]
 fn builds_library_commands(rt: HostRuntime) {
-    for (ctx, cmdsize, bytes) in LIBRARY_COMMANDS {
-        expect_library(&rt, ctx, cmdsize, bytes);
+    for (ctx, cmdsize, bytes) in &LIBRARY_COMMANDS {
+        expect_library(&rt, *ctx, *cmdsize, bytes);
     }
 }
 
@@ -227,7 +227,7 @@ fn prints_file_errors(rt: HostRuntime) {
 }
 
 fn string(rt: &impl Runtime, text: &str) -> String {
-    again!(rt; String::from_str(rt.alloc(), text)).expect(rt, "memory")
+    sure!(rt; String::from_str(rt.alloc(), text))
 }
 
 #[test]

@@ -1,4 +1,5 @@
-//! Tests of what edits of Mach-O files do to lists of load commands: what is built, found, put in and taken out.
+//! Tests of what edits of Mach-O files do to lists of load commands, and of code signatures, which are made anew after an
+//! edit.
 #![tactic(auto)]
 
 // What a call answers that changes nothing. It is made twice, and what it answers first counts where that is not want of
@@ -10,7 +11,17 @@ macro_rules! again {
     };
 }
 
+// What such a call gives, which is to succeed.
+#[cfg(test)]
+macro_rules! sure {
+    ($rt:expr; $call:expr) => {
+        crate::support::given($rt, $call, $call)
+    };
+}
+
 #[cfg(test)]
 mod edits;
+#[cfg(test)]
+mod signatures;
 #[cfg(test)]
 mod support;

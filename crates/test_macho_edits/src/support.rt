@@ -4,6 +4,7 @@ use macho_edits::batch::MachoBatchError;
 use macho_edits::commands::CommandBuilderError;
 use macho_edits::error::MachoError;
 use macho_image::MachFault;
+use macho_signatures::SignatureFault;
 use std::alloc::AllocError;
 use std::fmt;
 use std::process::Abort;
@@ -48,6 +49,12 @@ impl Refusal for MachoBatchError {
     }
 }
 
+impl Refusal for SignatureFault {
+    fn is_memory(&self) -> bool {
+        matches!(self, SignatureFault::Memory)
+    }
+}
+
 // Whether an answer is want of memory.
 pub(crate) fn wants_memory<T, E: Refusal>(answer: &Result<T, E>) -> bool {
     match answer {
@@ -69,6 +76,15 @@ pub(crate) fn granted<T: Drop, E: Refusal>(
     second
 }
 
+// What the answer gives, which is no error.
+pub(crate) fn given<T: Drop, E: Refusal + fmt::Debug>(
+    rt: &impl Abort,
+    first: Result<T, E>,
+    second: Result<T, E>,
+) -> T {
+    granted(rt, first, second).expect(rt, "an answer")
+}
+
 // Compares.
 pub(crate) fn same<T: PartialEq + fmt::Debug>(rt: &impl Abort, what: &str, found: &T, want: &T) {
     assert_eq!(rt; found, want, "{what}");
@@ -76,12 +92,12 @@ pub(crate) fn same<T: PartialEq + fmt::Debug>(rt: &impl Abort, what: &str, found
 
 // A copy of bytes.
 pub(crate) fn copied(rt: &impl Runtime, bytes: &[u8]) -> Vec<u8> {
-    again!(rt; Vec::from_slice(rt.alloc(), bytes)).expect(rt, "memory")
+    sure!(rt; Vec::from_slice(rt.alloc(), bytes))
 }
 
 // What `Debug` prints of a value.
 pub(crate) fn text_of<T: fmt::Debug>(rt: &impl Runtime, value: &T) -> String {
-    again!(rt; format!(in rt.alloc(); "{value:?}")).expect(rt, "memory")
+    sure!(rt; format!(in rt.alloc(); "{value:?}"))
 }
 
 // Compares what `Debug` prints of a value with a text.
@@ -91,6 +107,6 @@ pub(crate) fn shows<T: fmt::Debug>(rt: &impl Runtime, value: &T, text: &str) {
 
 // Compares what `Display` prints of a value with a text.
 pub(crate) fn prints<T: fmt::Display>(rt: &impl Runtime, value: &T, text: &str) {
-    let printed = again!(rt; format!(in rt.alloc(); "{value}")).expect(rt, "memory");
+    let printed = sure!(rt; format!(in rt.alloc(); "{value}"));
     same(rt, "printed", &printed.as_str(), &text);
 }

@@ -68,55 +68,44 @@ fn fault_of(rt: &impl Runtime, bytes: &[u8], places: &[(u32, u32)]) -> Option<Ma
     }
 }
 
-// Looks at files of 8192 bytes with tables.
-fn expect(rt: &impl Runtime, rows: &[&[(u32, u32)]], want: Option<MachFault>) {
-    for places in rows {
+// Where slices of files of 8192 bytes begin and how long they are, and what their tables are refused for.
+const TABLES: [(&[(u32, u32)], Option<MachFault>); 20] = [
+    (&[], None),
+    (&[(28, 8164)], None),
+    (&[(4096, 64), (4160, 64)], None),
+    (&[(8191, 1), (4160, 64), (4096, 64)], None),
+    // Empty slices share no byte.
+    (&[(4096, 64), (4100, 0), (4100, 0)], None),
+    (&[(8192, 0), (4096, 0), (4096, 9)], None),
+    // Shared bytes.
+    (&[(4096, 64), (4159, 64)], OVERLAP),
+    (&[(4159, 64), (4096, 64)], OVERLAP),
+    (&[(4096, 64), (5000, 9), (4096, 64)], OVERLAP),
+    (&[(6000, 1), (4096, 2048), (7000, 9)], OVERLAP),
+    (&[(4096, 64), (4100, 0), (4101, 9)], OVERLAP),
+    // Slices outside.
+    (&[(27, 0)], OUTSIDE),
+    (&[(8193, 0)], OUTSIDE),
+    (&[(27, 1)], OUTSIDE),
+    (&[(47, 1), (4096, 1)], OUTSIDE),
+    (&[(8191, 2)], OUTSIDE),
+    (&[(u32::MAX, u32::MAX)], OUTSIDE),
+    (&[(u32::MAX, 2)], OUTSIDE),
+    (&[(u32::MAX - 99, 200)], OUTSIDE),
+    (&[(4096, 64), (4159, 64), (8191, 2)], OUTSIDE),
+];
+
+const OVERLAP: Option<MachFault> = Some(MachFault::SlicesOverlap);
+
+const OUTSIDE: Option<MachFault> = Some(MachFault::SliceOutside);
+
+#[test]
+fn reads_and_refuses_tables(rt: HostRuntime) {
+    for (places, want) in &TABLES {
         let count = u32::try_from(places.len()).unwrap_or(0);
-        let file = again!(rt; file_with(rt.alloc(), 8192, count, places)).expect(rt, "memory");
-        same(rt, "a table's fault", &fault_of(rt, &file, places), &want);
+        let file = sure!(&rt; file_with(rt.alloc(), 8192, count, places));
+        same(&rt, "a table's fault", &fault_of(&rt, &file, places), want);
     }
-}
-
-#[test]
-fn reads_tables(rt: HostRuntime) {
-    let rows: [&[(u32, u32)]; 6] = [
-        &[],
-        &[(28, 8164)],
-        &[(4096, 64), (4160, 64)],
-        &[(8191, 1), (4160, 64), (4096, 64)],
-        // Empty slices share no byte.
-        &[(4096, 64), (4100, 0), (4100, 0)],
-        &[(8192, 0), (4096, 0), (4096, 9)],
-    ];
-    expect(&rt, &rows, None);
-}
-
-#[test]
-fn refuses_shared_bytes(rt: HostRuntime) {
-    let rows: [&[(u32, u32)]; 5] = [
-        &[(4096, 64), (4159, 64)],
-        &[(4159, 64), (4096, 64)],
-        &[(4096, 64), (5000, 9), (4096, 64)],
-        &[(6000, 1), (4096, 2048), (7000, 9)],
-        &[(4096, 64), (4100, 0), (4101, 9)],
-    ];
-    expect(&rt, &rows, Some(MachFault::SlicesOverlap));
-}
-
-#[test]
-fn refuses_slices_outside(rt: HostRuntime) {
-    let rows: [&[(u32, u32)]; 9] = [
-        &[(27, 0)],
-        &[(8193, 0)],
-        &[(27, 1)],
-        &[(47, 1), (4096, 1)],
-        &[(8191, 2)],
-        &[(u32::MAX, u32::MAX)],
-        &[(u32::MAX, 2)],
-        &[(u32::MAX - 99, 200)],
-        &[(4096, 64), (4159, 64), (8191, 2)],
-    ];
-    expect(&rt, &rows, Some(MachFault::SliceOutside));
 }
 
 // First bytes of files, and their faults.
@@ -132,13 +121,9 @@ const FRONTS: [(&[u8], MachFault); 7] = [
 
 #[test]
 fn refuses_other_fronts(rt: HostRuntime) {
-    for (bytes, fault) in FRONTS {
-        same(
-            &rt,
-            "a front's fault",
-            &fault_of(&rt, bytes, &[]),
-            &Some(fault),
-        );
+    for (bytes, fault) in &FRONTS {
+        let found = fault_of(&rt, bytes, &[]);
+        same(&rt, "a front's fault", &found, &Some(*fault));
     }
 }
 
@@ -150,8 +135,7 @@ fn expect_truncated(rt: &impl Runtime, bytes: &[u8]) {
 #[test]
 fn refuses_tables_past_the_end(rt: HostRuntime) {
     for nfat_arch in [2, 0x0ccc_cccd, u32::MAX] {
-        let file = again!(&rt; file_with(rt.alloc(), 47, nfat_arch, &[(28, 1)]));
-        let file = file.expect(&rt, "memory");
+        let file = sure!(&rt; file_with(rt.alloc(), 47, nfat_arch, &[(28, 1)]));
         expect_truncated(&rt, file.get(..8).unwrap_or_default());
         expect_truncated(&rt, &file);
     }

@@ -14,7 +14,7 @@ use std::fmt::Write;
 const LC_UUID: u32 = 0x1b;
 
 // The bytes of a file that a test lays out, zeros where it wrote nothing.
-#[derive(Drop)]
+#[derive(Clone, Copy)]
 struct Sample {
     bytes: [u8; 640],
     end: usize,
@@ -221,9 +221,9 @@ fn shown_owned(alloc: Global, bytes: &[u8], what: What) -> Result<String, MachFa
 
 // Compares what a file shows, by bytes that are lent and by its own.
 fn expect(rt: &impl Runtime, bytes: &[u8], what: What, want: &str) {
-    let found = again!(rt; shown(rt.alloc(), bytes, what)).expect(rt, "a file");
+    let found = sure!(rt; shown(rt.alloc(), bytes, what));
     same(rt, "lent", &found.as_str(), &want);
-    let found = again!(rt; shown_owned(rt.alloc(), bytes, what)).expect(rt, "a file");
+    let found = sure!(rt; shown_owned(rt.alloc(), bytes, what));
     same(rt, "owned", &found.as_str(), &want);
 }
 
@@ -341,50 +341,58 @@ fn handed_out(alloc: Global, bytes: &[u8]) -> Result<Vec<u8>, MachFault> {
 fn hands_out_bytes(rt: HostRuntime) {
     for form in FORMS {
         let sample = library(form);
-        let found = again!(&rt; handed_out(rt.alloc(), sample.front(200))).expect(&rt, "bytes");
+        let found = sure!(&rt; handed_out(rt.alloc(), sample.front(200)));
         same(&rt, "bytes", &found.as_slice(), &sample.front(200));
     }
 }
 
 // Compares the check that a file fails.
-fn expect_fault(rt: &impl Runtime, what: &str, bytes: &[u8], want: Option<MachFault>) {
-    same(
-        rt,
-        what,
-        &again!(rt; MachO::parse(rt.alloc(), bytes)).err(),
-        &want,
-    );
+fn expect_fault(rt: &impl Runtime, what: &str, bytes: &[u8], want: &Option<MachFault>) {
+    let found = again!(rt; MachO::parse(rt.alloc(), bytes)).err();
+    same(rt, what, &found, want);
 }
+
+const LITTLE: Ctx = Ctx {
+    container: Wide::W64,
+    le: ByteOrder2::Little,
+};
+
+const NARROW: Ctx = Ctx {
+    container: Wide::W32,
+    le: ByteOrder2::Big,
+};
+
+const TRUNCATED: Option<MachFault> = Some(MachFault::Truncated);
+
+// Headers of a form, how long the commands are, how many bytes there are, and the fault of the file.
+const HEADER_FAULTS: [(&str, Ctx, u32, usize, Option<MachFault>); 7] = [
+    ("no header", LITTLE, 0, 3, TRUNCATED),
+    ("a part of it", LITTLE, 0, 31, TRUNCATED),
+    ("a part of a narrow one", NARROW, 0, 27, TRUNCATED),
+    ("commands past the end", LITTLE, 1, 32, TRUNCATED),
+    ("far past the end", LITTLE, 0xffff_ffe0, 640, TRUNCATED),
+    ("a header", LITTLE, 0, 32, None),
+    ("a narrow header", NARROW, 0, 28, None),
+];
 
 #[test]
 fn refuses_headers(rt: HostRuntime) {
-    let little = (Wide::W64, ByteOrder2::Little);
-    let narrow = (Wide::W32, ByteOrder2::Big);
-    let truncated = Some(MachFault::Truncated);
-    let rows = [
-        ("no header", little, 0, 3, truncated),
-        ("a part of it", little, 0, 31, truncated),
-        ("a part of a narrow one", narrow, 0, 27, truncated),
-        ("commands past the end", little, 1, 32, truncated),
-        ("far past the end", little, 0xffff_ffe0, 640, truncated),
-        ("a header", little, 0, 32, None),
-        ("a narrow header", narrow, 0, 28, None),
-    ];
-    for (what, (container, order), sizeofcmds, length, want) in rows {
-        let sample = Sample::new(container, order, 0, sizeofcmds);
-        expect_fault(&rt, what, sample.front(length), want);
+    for (what, form, sizeofcmds, length, want) in &HEADER_FAULTS {
+        let sample = Sample::new(form.container, form.le, 0, *sizeofcmds);
+        expect_fault(&rt, what, sample.front(*length), want);
     }
 }
 
+const OTHER_MAGICS: [(&[u8], MachFault); 3] = [
+    (b"", MachFault::Truncated),
+    (b"\x7fELF", MachFault::BadMagic),
+    (b"\xca\xfe\xba\xbe", MachFault::BadMagic),
+];
+
 #[test]
 fn refuses_other_magics(rt: HostRuntime) {
-    let rows: [(&[u8], MachFault); 3] = [
-        (b"", MachFault::Truncated),
-        (b"\x7fELF", MachFault::BadMagic),
-        (b"\xca\xfe\xba\xbe", MachFault::BadMagic),
-    ];
-    for (bytes, fault) in rows {
-        expect_fault(&rt, "other bytes", bytes, Some(fault));
+    for (bytes, fault) in &OTHER_MAGICS {
+        expect_fault(&rt, "other bytes", bytes, &Some(*fault));
     }
 }
 
@@ -432,84 +440,92 @@ const FAULTY_COMMANDS: [(&str, u32, u32, &[u32], Option<MachFault>); 10] = [
 
 #[test]
 fn refuses_commands(rt: HostRuntime) {
-    for (what, ncmds, sizeofcmds, words, want) in FAULTY_COMMANDS {
-        let mut sample = Sample::new(Wide::W64, ByteOrder2::Little, ncmds, sizeofcmds);
+    for (what, ncmds, sizeofcmds, words, want) in &FAULTY_COMMANDS {
+        let mut sample = Sample::new(Wide::W64, ByteOrder2::Little, *ncmds, *sizeofcmds);
         sample.words(words);
         expect_fault(&rt, what, sample.front(640), want);
     }
 }
 
+// A width, the size of a segment's command, and how many sections it tells.
+const SECTIONS: [(Wide, u32, u32); 5] = [
+    (Wide::W64, 72, 1),
+    (Wide::W64, 72, 0xffff_ffff),
+    (Wide::W64, 72, 0x1000_0000),
+    (Wide::W32, 56, 1),
+    (Wide::W32, 56, 0x4000_0000),
+];
+
 #[test]
 fn refuses_sections(rt: HostRuntime) {
-    for (container, size, nsects) in [
-        (Wide::W64, 72, 1),
-        (Wide::W64, 72, 0xffff_ffff),
-        (Wide::W64, 72, 0x1000_0000),
-        (Wide::W32, 56, 1),
-        (Wide::W32, 56, 0x4000_0000),
-    ] {
-        let mut sample = Sample::new(container, ByteOrder2::Little, 1, size);
-        sample.segment(size, 0, 0, nsects);
-        let bad_size = Some(MachFault::BadCommandSize);
-        expect_fault(&rt, "sections", sample.front(640), bad_size);
+    for (container, size, nsects) in &SECTIONS {
+        let mut sample = Sample::new(*container, ByteOrder2::Little, 1, *size);
+        sample.segment(*size, 0, 0, *nsects);
+        expect_fault(&rt, "sections", sample.front(640), &BAD_SIZE);
     }
 }
 
-// Where the content of a file begins whose segment, symbols and strings have these offsets and sizes: of
-// its sections only one has bytes in the file, at 600.
-fn first_content(
-    alloc: Global,
-    form: Ctx,
-    segment: (u32, u32),
-    symbols: (u32, u32),
-    strings: (u32, u32),
-) -> Result<usize, MachFault> {
+// Where the segment, the symbols and the strings of a file begin and how long each is.
+type Places = [u32; 6];
+
+// A file with these places: of its sections only one has bytes in the file, at 600.
+fn with_sections(form: Ctx, places: &Places) -> Sample {
     let size = match form.container {
         Wide::W32 => 56 + 5 * 68,
         Wide::W64 => 72 + 5 * 80,
     };
     let mut sample = Sample::new(form.container, form.le, 2, size + 24);
-    sample.words(&[LC_SYMTAB, 24, symbols.0, symbols.1, strings.0, strings.1]);
-    sample.segment(size, segment.0, segment.1, 5);
+    sample.words(&[LC_SYMTAB, 24]);
+    sample.words(&places[2..]);
+    sample.segment(size, places[0], places[1], 5);
     sample.section(16, 600, 0x8000_0400);
     sample.section(16, 4, 0x1);
     sample.section(16, 4, 0xc);
     sample.section(16, 4, 0x8000_0012);
     sample.section(0, 4, 0);
-    Ok(MachO::parse(alloc, sample.front(640))?.first_content())
+    sample
 }
+
+// Where the content of a file begins.
+fn first_content(alloc: Global, bytes: &[u8]) -> Result<usize, MachFault> {
+    Ok(MachO::parse(alloc, bytes)?.first_content())
+}
+
+const FIRST_CONTENT: [(Places, usize); 6] = [
+    ([0, 640, 0, 0, 0, 0], 600),
+    ([590, 8, 0, 0, 0, 0], 590),
+    ([590, 0, 0, 0, 0, 0], 600),
+    ([0, 640, 592, 1, 0, 9], 592),
+    ([0, 640, 592, 0, 594, 9], 594),
+    ([0, 640, 0, 3, 594, 0], 600),
+];
 
 #[test]
 fn finds_first_content(rt: HostRuntime) {
-    let rows = [
-        ((0, 640), (0, 0), (0, 0), 600),
-        ((590, 8), (0, 0), (0, 0), 590),
-        ((590, 0), (0, 0), (0, 0), 600),
-        ((0, 640), (592, 1), (0, 9), 592),
-        ((0, 640), (592, 0), (594, 9), 594),
-        ((0, 640), (0, 3), (594, 0), 600),
-    ];
     for form in FORMS {
-        for (segment, symbols, strings, first) in rows {
-            let found = again!(&rt; first_content(rt.alloc(), form, segment, symbols, strings));
-            same(&rt, "first content", &found, &Ok(first));
+        for (places, first) in &FIRST_CONTENT {
+            let sample = with_sections(form, places);
+            let found = again!(&rt; first_content(rt.alloc(), sample.front(640)));
+            same(&rt, "first content", &found, &Ok(*first));
         }
     }
 }
 
+const FAULTS: [(MachFault, &str); 9] = [
+    (MachFault::BadMagic, "BadMagic"),
+    (MachFault::Truncated, "Truncated"),
+    (MachFault::BadCommandSize, "BadCommandSize"),
+    (MachFault::BadNameOffset, "BadNameOffset"),
+    (MachFault::CountsDisagree, "CountsDisagree"),
+    (MachFault::SliceOutside, "SliceOutside"),
+    (MachFault::SlicesOverlap, "SlicesOverlap"),
+    (MachFault::TooLong, "TooLong"),
+    (MachFault::Memory, "Memory"),
+];
+
 #[test]
 fn prints_faults(rt: HostRuntime) {
-    for (fault, name) in [
-        (MachFault::BadMagic, "BadMagic"),
-        (MachFault::Truncated, "Truncated"),
-        (MachFault::BadCommandSize, "BadCommandSize"),
-        (MachFault::BadNameOffset, "BadNameOffset"),
-        (MachFault::CountsDisagree, "CountsDisagree"),
-        (MachFault::SliceOutside, "SliceOutside"),
-        (MachFault::SlicesOverlap, "SlicesOverlap"),
-        (MachFault::TooLong, "TooLong"),
-        (MachFault::Memory, "Memory"),
-    ] {
-        prints(&rt, &fault, name);
+    for (fault, name) in &FAULTS {
+        prints(&rt, fault, name);
     }
 }

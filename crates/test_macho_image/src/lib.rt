@@ -11,6 +11,14 @@ macro_rules! again {
     };
 }
 
+// What such a call gives, which is to succeed.
+#[cfg(test)]
+macro_rules! sure {
+    ($rt:expr; $call:expr) => {
+        crate::support::given($rt, $call, $call)
+    };
+}
+
 #[cfg(test)]
 mod fat_table;
 #[cfg(test)]

@@ -13,7 +13,7 @@ use std::process::Abort;
 use std::test::Fail;
 
 // Bytes that a test lays out one behind the other, up to 128 of them.
-#[derive(Drop)]
+#[derive(Clone, Copy)]
 struct Laid {
     bytes: [u8; 128],
     end: usize,
@@ -54,15 +54,6 @@ impl Laid {
     }
 }
 
-// Three pieces, one behind the other.
-fn joined(first: &[u8], second: &[u8], third: &[u8]) -> Laid {
-    let mut laid = Laid::new();
-    laid.put(first);
-    laid.put(second);
-    laid.put(third);
-    laid
-}
-
 // An rpath command of 16 bytes, with a text of one letter.
 fn rpath(order: ByteOrder2, letter: u8) -> Laid {
     let mut laid = Laid::new();
@@ -95,14 +86,86 @@ fn file_of(ctx: Ctx, counts: [u32; 2], body: &[u8]) -> Laid {
     laid
 }
 
-// What a file shows: the counts of its header, the bytes behind it, where each of its commands begins
-// (up to two), and where its content does.
-#[derive(Drop)]
-struct Shown<'a> {
-    counts: [u32; 2],
-    body: &'a [u8],
-    offsets: [usize; 2],
-    first_content: usize,
+// What stands behind a file's header.
+#[derive(Clone, Copy)]
+enum Content {
+    // A run path, and other bytes.
+    One,
+    // A run path and a symbol table, and zeros behind them.
+    Two,
+    // Zeros in place of commands.
+    None,
+}
+
+// What a file shows.
+#[derive(Clone, Copy)]
+struct Shown {
+    ctx: Ctx,
+    // Where its commands begin.
+    start: u8,
+    content: Content,
+}
+
+impl Shown {
+    // How many commands there are, and how long they are.
+    fn counts(&self) -> [u32; 2] {
+        match self.content {
+            Content::One => [1, 16],
+            Content::Two => [2, 40],
+            Content::None => [0, 0],
+        }
+    }
+
+    // Where each of its commands begins, up to two.
+    fn offsets(&self) -> [usize; 2] {
+        let start = usize::from(self.start);
+        match self.content {
+            Content::One => [start, 0],
+            Content::Two => [start, start + 16],
+            Content::None => [0, 0],
+        }
+    }
+
+    // Its commands.
+    fn area(&self) -> Laid {
+        let strings = u32::from(self.start) + 48;
+        match self.content {
+            Content::One => rpath(self.ctx.le, b'a'),
+            Content::Two => two_commands(self.ctx.le, strings + 4, strings),
+            Content::None => Laid::new(),
+        }
+    }
+
+    // Its bytes behind the header.
+    fn body(&self) -> Laid {
+        let mut body = self.area();
+        match self.content {
+            Content::One => body.put(&[0xff; 28]),
+            Content::Two => body.put(&[0; 4]),
+            Content::None => body.put(&[0; 44]),
+        }
+        body.put(&[0xff; 12]);
+        body
+    }
+
+    // How long it is, to where its commands may be stored, and where its content begins.
+    fn measures(&self) -> [usize; 3] {
+        let end = usize::from(self.start) + 56;
+        match self.content {
+            Content::Two => [end, end - 12, end - 8],
+            Content::One | Content::None => [end, end - 12, end],
+        }
+    }
+
+    // A file of this form with what it shows.
+    fn file(&self, ctx: Ctx) -> Laid {
+        file_of(ctx, self.counts(), self.body().as_slice())
+    }
+
+    // The same with other content.
+    fn with(&self, content: Content) -> Shown {
+        Shown { content, ..*self }
+    }
 }
 
 // Where the commands begin that a file shows, up to two.
@@ -114,24 +177,24 @@ fn offsets(file: &MachO<'_>) -> [usize; 2] {
     offsets
 }
 
-fn expect_file(rt: &impl Abort, file: &MachO<'_>, shown: &Shown<'_>) {
-    let expected = file_of(file.ctx(), shown.counts, shown.body);
+fn expect_file(rt: &impl Abort, file: &MachO<'_>, shown: &Shown) {
+    let expected = shown.file(file.ctx());
     same(rt, "bytes", &file.bytes(), &expected.as_slice());
     expect_lists(rt, file, shown);
 }
 
-fn expect_lists(rt: &impl Abort, file: &MachO<'_>, shown: &Shown<'_>) {
+fn expect_lists(rt: &impl Abort, file: &MachO<'_>, shown: &Shown) {
+    let [ncmds, sizeofcmds] = shown.counts();
     let counts = [file.header().ncmds, file.header().sizeofcmds];
-    same(rt, "counts", &counts, &shown.counts);
-    let [ncmds, _] = shown.counts;
-    let places = [file.load_commands().len(), file.first_content()];
-    same(
-        rt,
-        "places",
-        &places,
-        &[ncmds as usize, shown.first_content],
-    );
-    same(rt, "offsets", &offsets(file), &shown.offsets);
+    same(rt, "counts", &counts, &[ncmds, sizeofcmds]);
+    let [end, _, content] = shown.measures();
+    let found = [
+        file.bytes().len(),
+        file.load_commands().len(),
+        file.first_content(),
+    ];
+    same(rt, "measures", &found, &[end, ncmds as usize, content]);
+    same(rt, "offsets", &offsets(file), &shown.offsets());
 }
 
 // A call that was refused memory is made once more.
@@ -170,7 +233,7 @@ fn prepared(
     rt: &impl Abort,
     alloc: Global,
     file: &MachO<'_>,
-    shown: &Shown<'_>,
+    shown: &Shown,
     count: u32,
     area: &[u8],
 ) -> Result<Prepared, AllocError>
@@ -209,7 +272,7 @@ fn store_area(
     rt: &impl Abort,
     alloc: Global,
     file: &mut MachO<'_>,
-    shown: &Shown<'_>,
+    shown: &Shown,
     count: u32,
     area: &[u8],
     high: usize,
@@ -233,47 +296,40 @@ fn store_area(
 }
 
 // The bytes of a file that was edited are handed out without memory.
-fn expect_handed_out(rt: &impl Abort, alloc: Global, file: MachO<'_>, shown: &Shown<'_>) {
-    let expected = file_of(file.ctx(), shown.counts, shown.body);
+fn expect_handed_out(rt: &impl Abort, alloc: Global, file: MachO<'_>, shown: &Shown) {
+    let expected = shown.file(file.ctx());
     let handed = file.into_bytes(alloc).expect(rt, "bytes");
     same(rt, "handed out", &handed.as_slice(), &expected.as_slice());
 }
 
+// Stores other content in a file that shows this before.
+fn store_content(
+    rt: &impl Abort,
+    alloc: Global,
+    file: &mut MachO<'_>,
+    shown: &Shown,
+    content: Content,
+) -> Result<(), Fail> {
+    let new = shown.with(content);
+    let [count, _] = new.counts();
+    let [_, high, _] = new.measures();
+    store_area(rt, alloc, file, shown, count, new.area().as_slice(), high)
+}
+
 // Stores two commands in place of one, and then none over the copy that is there.
-fn expect_stores(rt: &impl Abort, alloc: Global, ctx: Ctx, start: u8) -> Result<(), Fail> {
-    let end = usize::from(start) + 56;
-    let tail = [0xff; 12];
-    let one = joined(rpath(ctx.le, b'a').as_slice(), &[0xff; 28], &tail);
-    let bytes = file_of(ctx, [1, 16], one.as_slice());
+fn expect_stores(rt: &impl Abort, alloc: Global, shown: &Shown) -> Result<(), Fail> {
+    let bytes = shown.file(shown.ctx);
     let mut file = parse(alloc, bytes.as_slice())?;
-    let before = Shown {
-        counts: [1, 16],
-        body: one.as_slice(),
-        offsets: [usize::from(start), 0],
-        first_content: end,
-    };
-    let strings = u32::from(start) + 48;
-    let area = two_commands(ctx.le, strings + 4, strings);
-    store_area(rt, alloc, &mut file, &before, 2, area.as_slice(), end - 12)?;
-
-    let two = joined(area.as_slice(), &[0; 4], &tail);
-    let longer = Shown {
-        counts: [2, 40],
-        body: two.as_slice(),
-        offsets: [usize::from(start), usize::from(start) + 16],
-        first_content: end - 8,
-    };
-    store_area(rt, alloc, &mut file, &longer, 0, &[], end - 12)?;
-
-    let none = joined(&[0; 40], &[0; 4], &tail);
-    let shorter = Shown {
-        counts: [0, 0],
-        body: none.as_slice(),
-        offsets: [0, 0],
-        first_content: end,
-    };
-    expect_file(rt, &file, &shorter);
-    expect_handed_out(rt, alloc, file, &shorter);
+    store_content(rt, alloc, &mut file, shown, Content::Two)?;
+    store_content(
+        rt,
+        alloc,
+        &mut file,
+        &shown.with(Content::Two),
+        Content::None,
+    )?;
+    expect_file(rt, &file, &shown.with(Content::None));
+    expect_handed_out(rt, alloc, file, &shown.with(Content::None));
     Ok(())
 }
 
@@ -281,7 +337,17 @@ fn expect_stores(rt: &impl Abort, alloc: Global, ctx: Ctx, start: u8) -> Result<
 fn stores_in_each_form(rt: HostRuntime) -> Result<(), Fail> {
     for (container, start) in [(Wide::W32, 28), (Wide::W64, 32)] {
         for le in [ByteOrder2::Little, ByteOrder2::Big] {
-            expect_stores(&rt, rt.alloc(), Ctx { container, le }, start)?;
+            let content = Content::One;
+            let ctx = Ctx { container, le };
+            expect_stores(
+                &rt,
+                rt.alloc(),
+                &Shown {
+                    ctx,
+                    start,
+                    content,
+                },
+            )?;
         }
     }
     Ok(())

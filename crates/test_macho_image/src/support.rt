@@ -48,6 +48,15 @@ pub(crate) fn granted<T: Drop, E: Refusal>(
     second
 }
 
+// What the answer gives, which is no error.
+pub(crate) fn given<T: Drop, E: Refusal + fmt::Debug>(
+    rt: &impl Abort,
+    first: Result<T, E>,
+    second: Result<T, E>,
+) -> T {
+    granted(rt, first, second).expect(rt, "an answer")
+}
+
 // Compares.
 pub(crate) fn same<T: PartialEq + fmt::Debug>(rt: &impl Abort, what: &str, found: &T, want: &T) {
     assert_eq!(rt; found, want, "{what}");
@@ -55,7 +64,7 @@ pub(crate) fn same<T: PartialEq + fmt::Debug>(rt: &impl Abort, what: &str, found
 
 // Compares what `Display` prints of a value with a text.
 pub(crate) fn prints<T: fmt::Display>(rt: &impl Runtime, value: &T, text: &str) {
-    let printed = again!(rt; format!(in rt.alloc(); "{value}")).expect(rt, "memory");
+    let printed = sure!(rt; format!(in rt.alloc(); "{value}"));
     same(rt, "printed", &printed.as_str(), &text);
 }
 

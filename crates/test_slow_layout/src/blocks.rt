@@ -11,36 +11,45 @@ use std::alloc::{AllocError, Global};
 pub(crate) struct Block {
     start: u128,
     size: u128,
+    /// How blocks come that start together and have one size: starts of loaded segments, what is no section, and
+    /// sections by their positions.
+    rank: u128,
     priority: u8,
-    section: Option<usize>,
     is_stray: bool,
-    is_load_start: bool,
 }
 
-fn fixed(start: u128, size: u128) -> Block {
+/// The rank of a start of a loaded segment.
+const LOAD_START: u128 = 0;
+
+/// The rank of what is no section.
+const NO_SECTION: u128 = 1;
+
+/// The rank of the first section.
+const SECTION: u128 = 2;
+
+fn fixed(start: u128, size: u128, rank: u128) -> Block {
     Block {
         start,
         size,
+        rank,
         priority: 0,
-        section: None,
         is_stray: false,
-        is_load_start: false,
     }
 }
 
 /// The first loaded segment that has all of a range.
-pub(crate) fn loaded_over(pieces: &[Piece], offset: u128, size: u128) -> Option<Piece> {
+pub(crate) fn loaded_over(pieces: &[Piece], offset: u128, size: u128) -> Option<&Piece> {
     for piece in pieces {
         if piece.is_loaded() && piece.has(offset, size) {
-            return Some(*piece);
+            return Some(piece);
         }
     }
     None
 }
 
 /// The loaded segment that had all of the program header table.
-pub(crate) fn table_load(plain: &Plain) -> Option<Piece> {
-    let size = (plain.read_pieces.len() as u128).saturating_mul(plain.facts.program_header());
+pub(crate) fn table_load(plain: &Plain) -> Option<&Piece> {
+    let size = (plain.read_pieces.len() as u128).saturating_mul(plain.facts.program_header);
     loaded_over(&plain.read_pieces, plain.facts.e_phoff, size)
 }
 
@@ -53,36 +62,36 @@ fn address_at(piece: &Piece, offset: u128) -> u128 {
 }
 
 fn add_headers(blocks: &mut Vec<Block>, plain: &Plain, added: usize) -> Result<(), AllocError> {
-    let header = plain.facts.file_header();
+    let header = plain.facts.file_header;
     if let Some(piece) = loaded_over(&plain.read_pieces, 0, header) {
-        blocks.push(fixed(address_at(&piece, 0), header))?;
+        blocks.push(fixed(address_at(piece, 0), header, NO_SECTION))?;
     }
     if let Some(piece) = table_load(plain) {
         let count = (plain.pieces.len() as u128).saturating_add(added as u128);
-        let start = address_at(&piece, plain.facts.e_phoff);
-        blocks.push(fixed(start, count.saturating_mul(plain.facts.program_header())))?;
+        let size = count.saturating_mul(plain.facts.program_header);
+        let start = address_at(piece, plain.facts.e_phoff);
+        blocks.push(fixed(start, size, NO_SECTION))?;
     }
     Ok(())
 }
 
 fn add_edges(blocks: &mut Vec<Block>, piece: &Piece) -> Result<(), AllocError> {
-    let mut start = fixed(piece.address, 0);
-    start.is_load_start = true;
-    blocks.push(start)?;
-    blocks.push(fixed(piece.address.saturating_add(piece.in_file), 0))?;
-    blocks.push(fixed(piece.memory_end(), 0))?;
+    let file_end = piece.address.saturating_add(piece.in_file);
+    blocks.push(fixed(piece.address, 0, LOAD_START))?;
+    blocks.push(fixed(file_end, 0, NO_SECTION))?;
+    blocks.push(fixed(piece.memory_end(), 0, NO_SECTION))?;
     Ok(())
 }
 
 /// How readily a section moves.
-fn priority_of(facts: Facts, part: &Part) -> u8 {
+fn priority_of(facts: &Facts, part: &Part) -> u8 {
     let moves = match part.sh_type {
         SHT_NOTE | SHT_DYNSYM | SHT_HASH | SHT_GNU_HASH => true,
         SHT_GNU_VERSYM | SHT_GNU_VERDEF | SHT_GNU_VERNEED => true,
-        SHT_STRTAB => facts.is_strings(part.number),
+        SHT_STRTAB => matches!(facts.strings, Some(it) if it == part.number),
         _ => false,
     };
-    if facts.is_interpreter(part.number) {
+    if matches!(facts.interpreter, Some(it) if it == part.number) {
         1
     } else if moves {
         2
@@ -91,20 +100,33 @@ fn priority_of(facts: Facts, part: &Part) -> u8 {
     }
 }
 
-/// The section was empty, and what it is to hold can't stand where it stood.
+/// The section was empty, and what it is to hold can't stand where it stood, where anything is loaded.
 fn is_stray(plain: &Plain, part: &Part) -> bool {
     if !part.is_in_file() || part.old != 0 || part.size == 0 {
         return false;
     }
-    if part.offset < plain.facts.file_header() {
-        return true;
-    }
+    let is_in_header = part.offset < plain.facts.file_header;
+    let mut is_any_loaded = false;
     for piece in &plain.pieces {
-        if piece.is_loaded() && piece.shows(part.offset, part.size, part.address) {
-            return false;
+        if piece.is_loaded() {
+            if !is_in_header && piece.shows(part.offset, part.size, part.address) {
+                return false;
+            }
+            is_any_loaded = true;
         }
     }
-    true
+    is_any_loaded
+}
+
+/// The block of a section.
+fn block_of(plain: &Plain, part: &Part) -> Block {
+    Block {
+        start: part.address,
+        size: part.size,
+        rank: part.position as u128 + SECTION,
+        priority: priority_of(&plain.facts, part),
+        is_stray: is_stray(plain, part),
+    }
 }
 
 /// Every block, with so many program headers more.
@@ -122,28 +144,10 @@ pub(crate) fn blocks_with(
     }
     for part in &plain.parts {
         if part.takes_memory() {
-            blocks.push(Block {
-                start: part.address,
-                size: part.size,
-                priority: priority_of(plain.facts, part),
-                section: Some(part.position),
-                is_stray: is_stray(plain, part),
-                is_load_start: false,
-            })?;
+            blocks.push(block_of(plain, part))?;
         }
     }
     Ok(blocks)
-}
-
-/// How blocks come that start together and have one size: starts of loaded segments, what is no section, sections.
-fn rank(block: &Block) -> u128 {
-    if block.is_load_start {
-        return 0;
-    }
-    match block.section {
-        None => 1,
-        Some(position) => position as u128 + 2,
-    }
 }
 
 /// The first of two blocks is the earlier one.
@@ -154,13 +158,13 @@ fn is_earlier(a: &Block, b: &Block) -> bool {
     if a.size != b.size {
         return a.size < b.size;
     }
-    rank(a) <= rank(b)
+    a.rank <= b.rank
 }
 
 /// The first of two blocks is the earlier one, and overlaps the later one.
 fn overlaps(earlier: &Block, later: &Block) -> bool {
-    let kept_out = earlier.is_stray && later.is_load_start
-        || earlier.is_load_start && later.is_stray;
+    let kept_out = earlier.is_stray && later.rank == LOAD_START
+        || earlier.rank == LOAD_START && later.is_stray;
     is_earlier(earlier, later)
         && (later.start < earlier.start.saturating_add(earlier.size) || kept_out)
 }
@@ -177,23 +181,27 @@ pub(crate) fn is_stuck(blocks: &[Block]) -> bool {
     false
 }
 
+/// A block comes before the one at a place, if there is one.
+fn is_before(blocks: &[Block], block: &Block, place: Option<usize>) -> bool {
+    let Some(place) = place else {
+        return true;
+    };
+    match blocks.get(place) {
+        Some(other) => !is_earlier(other, block),
+        None => true,
+    }
+}
+
 /// The earliest block that isn't done.
 fn earliest(blocks: &[Block], done: &[bool]) -> Option<usize> {
-    let mut found: Option<(usize, Block)> = None;
+    let mut found = None;
     for (i, block) in blocks.iter().enumerate() {
         let is_done = matches!(done.get(i), Some(true));
-        let is_first = match &found {
-            None => true,
-            Some((_, first)) => !is_earlier(first, block),
-        };
-        if !is_done && is_first {
-            found = Some((i, *block));
+        if !is_done && is_before(blocks, block, found) {
+            found = Some(i);
         }
     }
-    match found {
-        Some((i, _)) => Some(i),
-        None => None,
-    }
+    found
 }
 
 fn mark(marks: &mut [bool], at: usize) {
@@ -202,14 +210,13 @@ fn mark(marks: &mut [bool], at: usize) {
     }
 }
 
-/// Marks the stray blocks, where they are kept out.
-fn mark_strays(blocks: &[Block], marks: &mut [bool]) {
-    let is_any_loaded = blocks.iter().any(|block| block.is_load_start);
-    for (i, block) in blocks.iter().enumerate() {
-        if is_any_loaded && block.is_stray {
-            mark(marks, i);
-        }
+/// Which blocks are stray.
+fn strays(alloc: Global, blocks: &[Block]) -> Result<Vec<bool>, AllocError> {
+    let mut marks = Vec::new(alloc);
+    for block in blocks {
+        marks.push(block.is_stray)?;
     }
+    Ok(marks)
 }
 
 /// Marks the block that moves of two, and tells which one stays, the last one or the next one.
@@ -230,26 +237,30 @@ fn meet(blocks: &[Block], last: usize, next: usize, moves: &mut [bool]) -> usize
 
 /// Which blocks move, of blocks none of which are stuck: the last one that stays is looked at beside the next one.
 pub(crate) fn moving(alloc: Global, blocks: &[Block]) -> Result<Vec<bool>, AllocError> {
-    let mut moves = vec![in alloc; false; blocks.len()]?;
-    mark_strays(blocks, &mut moves);
-    let mut done = moves.clone()?;
+    let mut moves = strays(alloc, blocks)?;
+    let mut done = strays(alloc, blocks)?;
+    mark_moving(blocks, &mut moves, &mut done);
+    Ok(moves)
+}
+
+/// Marks the blocks that move, of those that aren't done.
+fn mark_moving(blocks: &[Block], moves: &mut [bool], done: &mut [bool]) {
     let mut last: Option<usize> = None;
     for _ in 0..blocks.len() {
-        if let Some(next) = earliest(blocks, &done) {
+        if let Some(next) = earliest(blocks, done) {
             last = match last {
                 None => Some(next),
-                Some(last) => Some(meet(blocks, last, next, &mut moves)),
+                Some(last) => Some(meet(blocks, last, next, moves)),
             };
-            mark(&mut done, next);
+            mark(done, next);
         }
     }
-    Ok(moves)
 }
 
 /// The position is that of a block that moves.
 pub(crate) fn does_move(blocks: &[Block], moves: &[bool], position: usize) -> bool {
     for (i, block) in blocks.iter().enumerate() {
-        let is_its = matches!(block.section, Some(at) if at == position);
+        let is_its = block.rank == position as u128 + SECTION;
         if is_its && matches!(moves.get(i), Some(true)) {
             return true;
         }

@@ -3,15 +3,14 @@ use crate::plain::{Part, Piece, Plain};
 use elf_format::constants::{
     PT_DYNAMIC, PT_GNU_PROPERTY, PT_INTERP, PT_LOAD, PT_NOTE, PT_PHDR, SHT_DYNAMIC, SHT_NOTE,
 };
-use std::alloc::{AllocError, Global};
 
 /// What a program header goes by.
-#[derive(Drop)]
-pub(crate) enum Anchor {
+#[derive(Clone, Copy)]
+pub(crate) enum Anchor<'a> {
     Itself,
     HeaderTable,
-    OneSection(Part),
-    Notes(Vec<Part>),
+    OneSection(&'a Part),
+    Notes,
 }
 
 /// The section shares a byte of the file with the program header.
@@ -36,125 +35,130 @@ fn is_over_notes(plain: &Plain, piece: &Piece) -> bool {
     (piece.p_type == PT_NOTE || piece.p_type == PT_GNU_PROPERTY) && count >= 2
 }
 
-/// The sections that are still there of those that shared bytes with the program header.
-fn notes_under(alloc: Global, plain: &Plain, piece: &Piece) -> Result<Vec<Part>, AllocError> {
-    let mut notes = Vec::new(alloc);
-    for part in &plain.parts {
-        for old in &plain.read_parts {
-            if old.number == part.number && shares_bytes(piece, old) {
-                notes.push(*part)?;
-            }
+/// The section is one of those that shared bytes with the program header.
+pub(crate) fn is_under(plain: &Plain, piece: &Piece, part: &Part) -> bool {
+    for old in &plain.read_parts {
+        if old.number == part.number && shares_bytes(piece, old) {
+            return true;
         }
     }
-    Ok(notes)
+    false
 }
 
-/// The section that the program header is just over: of several one that is loaded.
-fn section_under(plain: &Plain, piece: &Piece) -> Option<Part> {
-    let mut found: Option<Part> = None;
+/// The section that the program header is just over: of several one that is loaded, or else the first one.
+fn section_under<'a>(plain: &'a Plain, piece: &Piece) -> Option<&'a Part> {
+    match section_just_under(plain, piece, true) {
+        None => section_just_under(plain, piece, false),
+        found => found,
+    }
+}
+
+/// The first section that the program header is just over, of those that are loaded or not.
+fn section_just_under<'a>(plain: &'a Plain, piece: &Piece, is_loaded: bool) -> Option<&'a Part> {
     for part in &plain.parts {
-        if part.had_bytes() && part.offset == piece.offset && part.old == piece.in_file {
-            if part.is_loaded() {
-                return Some(*part);
-            }
-            if found.is_none() {
-                found = Some(*part);
-            }
-        }
-    }
-    found
-}
-
-fn position_or_itself_at(part: Option<Part>) -> Anchor {
-    match part {
-        Some(part) => Anchor::OneSection(part),
-        None => Anchor::Itself,
-    }
-}
-
-fn section_or_table(part: Option<Part>) -> Anchor {
-    match part {
-        Some(part) => Anchor::OneSection(part),
-        None => Anchor::HeaderTable,
-    }
-}
-
-/// The first section of a type.
-fn first_of_type(plain: &Plain, sh_type: u32) -> Option<Part> {
-    for part in &plain.parts {
-        if part.sh_type == sh_type {
-            return Some(*part);
+        if part.had_bytes()
+            && part.offset == piece.offset
+            && part.old == piece.in_file
+            && part.is_loaded() == is_loaded
+        {
+            return Some(part);
         }
     }
     None
 }
 
-fn interpreter(plain: &Plain) -> Option<Part> {
+/// A section, or without one another anchor.
+fn section_or<'a>(part: Option<&'a Part>, other: Anchor<'a>) -> Anchor<'a> {
+    match part {
+        Some(part) => Anchor::OneSection(part),
+        None => other,
+    }
+}
+
+/// The first section of a type.
+fn first_of_type(plain: &Plain, sh_type: u32) -> Option<&Part> {
     for part in &plain.parts {
-        if plain.facts.is_interpreter(part.number) {
-            return Some(*part);
+        if part.sh_type == sh_type {
+            return Some(part);
+        }
+    }
+    None
+}
+
+fn interpreter(plain: &Plain) -> Option<&Part> {
+    for part in &plain.parts {
+        if matches!(plain.facts.interpreter, Some(it) if it == part.number) {
+            return Some(part);
         }
     }
     None
 }
 
 /// What a program header goes by.
-pub(crate) fn anchor_of(alloc: Global, plain: &Plain, piece: &Piece) -> Result<Anchor, AllocError> {
+pub(crate) fn anchor_of<'a>(plain: &'a Plain, piece: &Piece) -> Anchor<'a> {
     match piece.p_type {
-        PT_LOAD => Ok(Anchor::Itself),
-        PT_PHDR => Ok(section_or_table(section_under(plain, piece))),
-        PT_DYNAMIC => Ok(position_or_itself_at(first_of_type(plain, SHT_DYNAMIC))),
-        PT_INTERP => Ok(position_or_itself_at(interpreter(plain))),
-        _ if piece.in_file == 0 => Ok(Anchor::Itself),
-        _ if is_over_notes(plain, piece) => Ok(Anchor::Notes(notes_under(alloc, plain, piece)?)),
-        _ => Ok(position_or_itself_at(section_under(plain, piece))),
+        PT_LOAD => Anchor::Itself,
+        PT_PHDR => section_or(section_under(plain, piece), Anchor::HeaderTable),
+        PT_DYNAMIC => section_or(first_of_type(plain, SHT_DYNAMIC), Anchor::Itself),
+        PT_INTERP => section_or(interpreter(plain), Anchor::Itself),
+        _ if piece.in_file == 0 => Anchor::Itself,
+        _ if is_over_notes(plain, piece) => Anchor::Notes,
+        _ => section_or(section_under(plain, piece), Anchor::Itself),
     }
 }
 
 /// The section is one of those that move.
 pub(crate) fn is_moved(moved: &[Part], part: &Part) -> bool {
-    moved.iter().any(|other| other.position == part.position)
-}
-
-/// How many of these sections move.
-pub(crate) fn count_moved(moved: &[Part], parts: &[Part]) -> usize {
-    parts.iter().filter(|part| is_moved(moved, part)).count()
-}
-
-/// The sets of flags that the sections need, each once, in the order of the first sections that do.
-pub(crate) fn added_flags(alloc: Global, moved: &[Part]) -> Result<Vec<u32>, AllocError> {
-    let mut flags: Vec<u32> = Vec::new(alloc);
-    for part in moved {
-        let wanted = part.segment_flags();
-        if !flags.iter().any(|other| *other == wanted) {
-            flags.push(wanted)?;
+    for other in moved {
+        if other.position == part.position {
+            return true;
         }
     }
-    Ok(flags)
+    false
+}
+
+/// One of the sections moves, or stays, that shared bytes with a program header.
+pub(crate) fn is_any_under(plain: &Plain, moved: &[Part], piece: &Piece, does_move: bool) -> bool {
+    for part in &plain.parts {
+        if is_under(plain, piece, part) && is_moved(moved, part) == does_move {
+            return true;
+        }
+    }
+    false
+}
+
+/// No section before this one of those that move needs a segment of these flags.
+pub(crate) fn is_first_of_flags(moved: &[Part], place: usize, p_flags: u32) -> bool {
+    for (i, part) in moved.iter().enumerate() {
+        if i < place && part.segment_flags() == p_flags {
+            return false;
+        }
+    }
+    true
 }
 
 /// Whether a program header is split in two.
-fn is_split(moved: &[Part], anchor: &Anchor) -> bool {
-    match anchor {
-        Anchor::Notes(notes) => {
-            let count = count_moved(moved, notes);
-            count > 0 && count < notes.len()
+fn is_split(plain: &Plain, moved: &[Part], piece: &Piece) -> bool {
+    match anchor_of(plain, piece) {
+        Anchor::Notes => {
+            is_any_under(plain, moved, piece, true) && is_any_under(plain, moved, piece, false)
         }
         _ => false,
     }
 }
 
 /// How many program headers more the sections that move need.
-pub(crate) fn headers_needed(
-    alloc: Global,
-    plain: &Plain,
-    moved: &[Part],
-) -> Result<usize, AllocError> {
-    let mut count = added_flags(alloc, moved)?.len();
-    for piece in &plain.pieces {
-        if is_split(moved, &anchor_of(alloc, plain, piece)?) {
+pub(crate) fn headers_needed(plain: &Plain, moved: &[Part]) -> usize {
+    let mut count: usize = 0;
+    for (i, part) in moved.iter().enumerate() {
+        if is_first_of_flags(moved, i, part.segment_flags()) {
             count = count.saturating_add(1);
         }
     }
-    Ok(count)
+    for piece in &plain.pieces {
+        if is_split(plain, moved, piece) {
+            count = count.saturating_add(1);
+        }
+    }
+    count
 }

@@ -136,7 +136,14 @@ pub struct Plain {
 /// What else is asked of an image.
 #[derive(Clone, Copy)]
 pub(crate) struct Facts {
-    pub(crate) wide: Wide,
+    /// The size of the file header.
+    pub(crate) file_header: u128,
+    /// The size of a program header.
+    pub(crate) program_header: u128,
+    /// The size of a word.
+    pub(crate) word: u128,
+    /// The largest number that a word holds.
+    pub(crate) most: u128,
     pub(crate) machine: u16,
     pub(crate) e_phoff: u128,
     pub(crate) page_size: Option<u128>,
@@ -145,38 +152,6 @@ pub(crate) struct Facts {
     pub(crate) interpreter: Option<usize>,
     /// The number of the dynamic strings.
     pub(crate) strings: Option<usize>,
-}
-
-impl Facts {
-    /// One of two numbers, by the class.
-    pub(crate) fn by_class(&self, narrow: u128, wide: u128) -> u128 {
-        match self.wide {
-            Wide::W32 => narrow,
-            Wide::W64 => wide,
-        }
-    }
-
-    pub(crate) fn file_header(&self) -> u128 {
-        self.by_class(52, 64)
-    }
-
-    pub(crate) fn program_header(&self) -> u128 {
-        self.by_class(32, 56)
-    }
-
-    pub(crate) fn word(&self) -> u128 {
-        self.by_class(4, 8)
-    }
-
-    /// The number is that of the interpreter's section.
-    pub(crate) fn is_interpreter(&self, number: usize) -> bool {
-        matches!(self.interpreter, Some(it) if it == number)
-    }
-
-    /// The number is that of the dynamic strings.
-    pub(crate) fn is_strings(&self, number: usize) -> bool {
-        matches!(self.strings, Some(it) if it == number)
-    }
 }
 
 fn part_of(section: &Section<'_>, position: usize, number: usize, size: u64) -> Part
@@ -273,8 +248,15 @@ fn link_of(parts: &[Part], sh_type: u32) -> Option<usize> {
 }
 
 fn facts_of(image: &Builder<'_>, interpreter: Option<usize>, strings: Option<usize>) -> Facts {
+    let (file_header, program_header, word, most) = match image.class() {
+        Wide::W32 => (52, 32, 4, u128::from(u32::MAX)),
+        Wide::W64 => (64, 56, 8, u128::from(u64::MAX)),
+    };
     Facts {
-        wide: image.class(),
+        file_header,
+        program_header,
+        word,
+        most,
         machine: image.header().e_machine,
         e_phoff: u128::from(image.header().e_phoff),
         page_size: match image.page_size() {

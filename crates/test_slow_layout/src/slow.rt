@@ -3,9 +3,8 @@ use crate::blocks::{Block, blocks_with, does_move, is_right, is_stuck, moving};
 use crate::following::headers_needed;
 use crate::plain::{Part, Piece, Plain};
 use crate::standing::{Standing, slot_at, standing_of};
-use crate::written::written_of;
+use crate::written::add_all;
 use elf_format::constants::{PN_XNUM, SHN_LORESERVE};
-use patch_bytes::Wide;
 use std::alloc::{AllocError, Global};
 
 /// Where everything goes.
@@ -34,12 +33,23 @@ pub enum Found {
     Wrong,
 }
 
-/// The sections that move in a round.
-#[derive(Drop)]
+/// What comes of a round.
+#[derive(Clone, Copy)]
 enum Round {
-    Moved(Vec<Part>),
+    /// Sections move, if any.
+    Moved,
+    /// Two blocks overlap that can't move.
     Stuck,
+    /// What the slow way finds isn't what the definitions say.
     Wrong,
+}
+
+/// The last round, in which sections move that need no more program headers than it looked with.
+#[derive(Clone, Copy)]
+struct Last {
+    rounds: usize,
+    looked: usize,
+    needed: usize,
 }
 
 /// One section stands before another in memory: by address, size at read and position.
@@ -53,112 +63,80 @@ fn comes_before(a: &Part, b: &Part) -> bool {
     a.position < b.position
 }
 
-/// The first in memory of some sections that stand behind one of them, or behind none.
-fn next_of(parts: &[Part], last: &Option<Part>) -> Option<Part> {
-    let mut next: Option<Part> = None;
-    for part in parts {
-        if is_behind(part, last) && is_next(part, &next) {
-            next = Some(*part);
+/// How many of some sections stand before one in memory.
+fn count_before(parts: &[Part], part: &Part) -> usize {
+    let mut count: usize = 0;
+    for other in parts {
+        if comes_before(other, part) {
+            count = count.saturating_add(1);
         }
     }
-    next
+    count
 }
 
-/// A section stands behind another, if there is one.
-fn is_behind(part: &Part, last: &Option<Part>) -> bool {
-    match last {
-        Some(last) => comes_before(last, part),
-        None => true,
-    }
-}
-
-/// A section stands before another, if there is one.
-fn is_next(part: &Part, next: &Option<Part>) -> bool {
-    match next {
-        Some(next) => comes_before(part, next),
-        None => true,
-    }
-}
-
-/// The sections in the order in which they stood in memory.
-fn in_old_order(alloc: Global, parts: &[Part]) -> Result<Vec<Part>, AllocError> {
-    let mut ordered = Vec::new(alloc);
-    let mut last = None;
-    for _ in 0..parts.len() {
-        last = next_of(parts, &last);
-        if let Some(part) = last {
-            ordered.push(part)?;
-        }
-    }
-    Ok(ordered)
-}
-
-/// The sections that move.
-fn moved_by(
-    alloc: Global,
+/// Puts down the sections that move in the order in which they stood in memory.
+fn put_moved(
     plain: &Plain,
     blocks: &[Block],
     moves: &[bool],
-) -> Result<Vec<Part>, AllocError> {
-    let mut moved = Vec::new(alloc);
-    for part in &plain.parts {
-        if does_move(blocks, moves, part.position) {
-            moved.push(*part)?;
+    moved: &mut Vec<Part>,
+) -> Result<(), AllocError> {
+    for place in 0..plain.parts.len() {
+        for part in &plain.parts {
+            if does_move(blocks, moves, part.position)
+                && count_before(&plain.parts, part) == place
+            {
+                moved.push(*part)?;
+            }
         }
     }
-    Ok(moved)
+    Ok(())
 }
 
-/// A round with so many program headers more.
-fn round_with(alloc: Global, plain: &Plain, added: usize) -> Result<Round, AllocError> {
+/// A round with so many program headers more, which puts down the sections that move.
+fn round_with(
+    alloc: Global,
+    plain: &Plain,
+    added: usize,
+    moved: &mut Vec<Part>,
+) -> Result<Round, AllocError> {
     let blocks = blocks_with(alloc, plain, added)?;
     if is_stuck(&blocks) {
         return Ok(Round::Stuck);
     }
-    round_of(alloc, plain, &blocks)
+    round_of(alloc, plain, &blocks, moved)
 }
 
 /// A round with blocks none of which are stuck.
-fn round_of(alloc: Global, plain: &Plain, blocks: &[Block]) -> Result<Round, AllocError> {
+fn round_of(
+    alloc: Global,
+    plain: &Plain,
+    blocks: &[Block],
+    moved: &mut Vec<Part>,
+) -> Result<Round, AllocError> {
     let moves = moving(alloc, blocks)?;
     if !is_right(blocks, &moves) {
         return Ok(Round::Wrong);
     }
-    round_by(alloc, plain, blocks, &moves)
+    moved.clear();
+    put_moved(plain, blocks, &moves, moved)?;
+    Ok(Round::Moved)
 }
 
-/// A round by which of the blocks move.
-fn round_by(
-    alloc: Global,
-    plain: &Plain,
-    blocks: &[Block],
-    moves: &[bool],
-) -> Result<Round, AllocError> {
-    let moved = moved_by(alloc, plain, blocks, moves)?;
-    Ok(Round::Moved(in_old_order(alloc, &moved)?))
-}
-
-/// A number fits a field.
-fn fits(plain: &Plain, number: u128) -> bool {
-    match plain.facts.wide {
-        Wide::W32 => number <= u128::from(u32::MAX),
-        Wide::W64 => number <= u128::from(u64::MAX),
+/// The numbers fit their fields.
+fn do_fit(plain: &Plain, numbers: &[u128]) -> bool {
+    for number in numbers {
+        if *number > plain.facts.most {
+            return false;
+        }
     }
-}
-
-fn does_piece_fit(plain: &Plain, piece: &Piece) -> bool {
-    fits(plain, piece.offset)
-        && fits(plain, piece.address)
-        && fits(plain, piece.physical)
-        && fits(plain, piece.in_file)
-        && fits(plain, piece.in_memory)
-        && fits(plain, piece.align)
+    true
 }
 
 fn do_parts_fit(plain: &Plain, standing: &Standing) -> bool {
     for part in &plain.parts {
         if let Some(slot) = slot_at(&standing.slots, part.position) {
-            if !fits(plain, slot.offset) || !fits(plain, slot.address) || !fits(plain, slot.size) {
+            if !do_fit(plain, &[slot.offset, slot.address, slot.size]) {
                 return false;
             }
         }
@@ -166,16 +144,16 @@ fn do_parts_fit(plain: &Plain, standing: &Standing) -> bool {
     plain.parts.len() < usize::from(SHN_LORESERVE)
 }
 
-fn does_fit(plain: &Plain, slow: &Slow) -> bool {
-    for piece in &slow.pieces {
-        if !does_piece_fit(plain, piece) {
+fn does_fit(plain: &Plain, standing: &Standing, pieces: &[Piece]) -> bool {
+    for p in pieces {
+        let sizes = [p.in_file, p.in_memory, p.align];
+        if !do_fit(plain, &sizes) || !do_fit(plain, &[p.offset, p.address, p.physical]) {
             return false;
         }
     }
-    do_parts_fit(plain, &slow.standing)
-        && fits(plain, slow.standing.e_phoff)
-        && fits(plain, slow.standing.e_shoff)
-        && slow.pieces.len() < usize::from(PN_XNUM)
+    do_parts_fit(plain, standing)
+        && do_fit(plain, &[standing.e_phoff, standing.e_shoff])
+        && pieces.len() < usize::from(PN_XNUM)
 }
 
 /// What follows from the sections that move in the last round.
@@ -183,64 +161,56 @@ fn last_round(
     alloc: Global,
     plain: &Plain,
     moved: &[Part],
-    needed: usize,
-    (rounds, looked): (usize, usize),
+    last: Last,
 ) -> Result<Found, AllocError> {
-    let headers = plain.pieces.len().saturating_add(needed);
-    let standing = standing_of(alloc, plain, moved, headers)?;
-    let written = written_of(alloc, plain, &standing, moved, headers)?;
-    let falls = written.falls;
-    let slow = Slow {
-        standing,
-        pieces: written.pieces,
-        rounds,
-        looked,
-    };
-    if falls || !does_fit(plain, &slow) {
+    let headers = plain.pieces.len().saturating_add(last.needed) as u128;
+    let table_size = headers.saturating_mul(plain.facts.program_header);
+    let standing = standing_of(alloc, plain, moved, table_size)?;
+    let mut pieces = Vec::new(alloc);
+    add_all(&mut pieces, plain, &standing, moved, table_size)?;
+    if !does_fit(plain, &standing, &pieces) {
         return Ok(Found::TooLarge);
     }
-    Ok(Found::Plan(slow))
+    Ok(Found::Plan(Slow {
+        standing,
+        pieces,
+        rounds: last.rounds,
+        looked: last.looked,
+    }))
 }
 
-/// What comes of the sections that move in a round, unless another one follows: that is with so many program headers more.
-fn found_by(
+/// Goes through rounds, each with as many program headers more as the one before needed, and puts down the sections
+/// that move in the last one.
+fn go_through(
     alloc: Global,
     plain: &Plain,
-    moved: &[Part],
-    round: usize,
-    looked: &mut usize,
-) -> Result<Option<Found>, AllocError> {
-    let needed = headers_needed(alloc, plain, moved)?;
-    if needed <= *looked {
-        let found = last_round(alloc, plain, moved, needed, (round, *looked))?;
-        return Ok(Some(found));
+    moved: &mut Vec<Part>,
+) -> Result<(Round, Last), AllocError> {
+    let most = plain.pieces.len().saturating_add(6);
+    let mut last = Last {
+        rounds: 0,
+        looked: 0,
+        needed: 0,
+    };
+    for rounds in 1..most {
+        last.rounds = rounds;
+        last.looked = last.needed;
+        let round = round_with(alloc, plain, last.looked, moved)?;
+        last.needed = headers_needed(plain, moved);
+        if !matches!(round, Round::Moved) || last.needed <= last.looked {
+            return Ok((round, last));
+        }
     }
-    *looked = needed;
-    Ok(None)
-}
-
-/// What comes of a round, unless another one follows.
-fn found_in(
-    alloc: Global,
-    plain: &Plain,
-    round: usize,
-    looked: &mut usize,
-) -> Result<Option<Found>, AllocError> {
-    match round_with(alloc, plain, *looked)? {
-        Round::Moved(moved) => found_by(alloc, plain, &moved, round, looked),
-        Round::Stuck => Ok(Some(Found::Overlap)),
-        Round::Wrong => Ok(Some(Found::Wrong)),
-    }
+    Ok((Round::Wrong, last))
 }
 
 /// Looks in rounds for where everything goes.
 pub fn lay_out_slowly(alloc: Global, plain: &Plain) -> Result<Found, AllocError> {
-    let most = plain.pieces.len().saturating_add(6);
-    let mut looked = 0;
-    for round in 1..most {
-        if let Some(found) = found_in(alloc, plain, round, &mut looked)? {
-            return Ok(found);
-        }
+    let mut moved = Vec::new(alloc);
+    let (round, last) = go_through(alloc, plain, &mut moved)?;
+    match round {
+        Round::Moved => last_round(alloc, plain, &moved, last),
+        Round::Stuck => Ok(Found::Overlap),
+        Round::Wrong => Ok(Found::Wrong),
     }
-    Ok(Found::Wrong)
 }

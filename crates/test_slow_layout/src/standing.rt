@@ -2,7 +2,7 @@
 ghost use Rattle.std.specs.Prelude.{◌≡◌, ◌==◌, find};
 
 use crate::blocks::table_load;
-use crate::following::{Anchor, added_flags, anchor_of, count_moved, is_moved};
+use crate::following::{Anchor, anchor_of, is_any_under, is_first_of_flags, is_moved};
 use crate::plain::{Part, Piece, Plain};
 use elf_format::constants::{
     EM_AARCH64, EM_ALPHA, EM_IA_64, EM_LOONGARCH, EM_MIPS, EM_PPC, EM_PPC64, EM_SPARC, EM_SPARCV9,
@@ -52,20 +52,11 @@ fn remainder(number: u128, of: u128) -> u128 {
     if of == 0 { number } else { number % of }
 }
 
-/// The program header keeps its range, with so many program headers.
-fn keeps_range(
-    plain: &Plain,
-    moved: &[Part],
-    piece: &Piece,
-    anchor: &Anchor,
-    headers: u128,
-) -> bool {
-    match anchor {
+/// The program header keeps its range, with program headers of this size in all.
+fn keeps_range(plain: &Plain, moved: &[Part], piece: &Piece, table_size: u128) -> bool {
+    match anchor_of(plain, piece) {
         Anchor::Itself => true,
-        Anchor::HeaderTable => {
-            let size = headers.saturating_mul(plain.facts.program_header());
-            piece.in_file == size && piece.in_memory == piece.in_file
-        }
+        Anchor::HeaderTable => piece.in_file == table_size && piece.in_memory == piece.in_file,
         Anchor::OneSection(part) => {
             !is_moved(moved, part)
                 && part.is_loaded()
@@ -73,26 +64,20 @@ fn keeps_range(
                 && part.address == piece.address
                 && part.size == piece.in_file
         }
-        Anchor::Notes(notes) => count_moved(moved, notes) == 0,
+        Anchor::Notes => !is_any_under(plain, moved, piece, true),
     }
 }
 
 /// Where the file parts end that stay.
-fn kept_end(
-    alloc: Global,
-    plain: &Plain,
-    moved: &[Part],
-    headers: u128,
-) -> Result<u128, AllocError> {
-    let mut end = plain.facts.file_header();
+fn kept_end(plain: &Plain, moved: &[Part], table_size: u128) -> u128 {
+    let mut end = plain.facts.file_header;
     for piece in &plain.pieces {
-        let anchor = anchor_of(alloc, plain, piece)?;
         let is_inside = piece.file_end() <= plain.facts.source_size;
-        if is_inside && keeps_range(plain, moved, piece, &anchor, headers) {
+        if is_inside && keeps_range(plain, moved, piece, table_size) {
             end = end.max(piece.file_end());
         }
     }
-    Ok(end)
+    end
 }
 
 /// Where memory ends.
@@ -238,78 +223,66 @@ pub fn slot_at(slots: &[Slot], position: usize) -> Option<Slot>
     None
 }
 
-/// Adds the segments that the sections need that move, and tells where the last one ends in the file.
+/// Adds the segments that the sections need that move, for each set of flags in the order of the first sections that
+/// need it, and tells where the last one ends in the file.
 fn add_loads(
-    alloc: Global,
     standing: &mut Standing,
     plain: &Plain,
     moved: &[Part],
     start: u128,
-) -> Result<u128, AllocError> {
-    let flags = added_flags(alloc, moved)?;
-    add_loads_of(standing, plain, moved, start, &flags)
-}
-
-/// Adds segments of these flags.
-fn add_loads_of(
-    standing: &mut Standing,
-    plain: &Plain,
-    moved: &[Part],
-    start: u128,
-    flags: &[u32],
 ) -> Result<u128, AllocError> {
     let align = load_alignment(plain);
     let (mut end, mut memory) = (start, memory_end(plain));
-    for p_flags in flags {
-        let address = next_multiple(memory, align).saturating_add(remainder(end, align));
-        let size = add_load(standing, moved, align, *p_flags, (end, address))?;
-        end = end.saturating_add(size);
-        memory = address.saturating_add(size);
+    for (i, part) in moved.iter().enumerate() {
+        let p_flags = part.segment_flags();
+        if is_first_of_flags(moved, i, p_flags) {
+            let address = next_multiple(memory, align).saturating_add(remainder(end, align));
+            let size = add_load(standing, moved, align, p_flags, (end, address))?;
+            end = end.saturating_add(size);
+            memory = address.saturating_add(size);
+        }
     }
     Ok(end)
 }
 
 /// Puts the program header table behind the loaded parts where no loaded segment had it, and tells where that ends.
-fn place_table(standing: &mut Standing, plain: &Plain, headers: u128, end: u128) -> u128 {
+fn place_table(standing: &mut Standing, plain: &Plain, table_size: u128, end: u128) -> u128 {
     if table_load(plain).is_some() {
         return end;
     }
-    standing.e_phoff = next_multiple(end, plain.facts.word());
-    let size = headers.saturating_mul(plain.facts.program_header());
-    standing.e_phoff.saturating_add(size)
+    standing.e_phoff = next_multiple(end, plain.facts.word);
+    standing.e_phoff.saturating_add(table_size)
 }
 
-/// Puts everything where it stands, behind what stays.
+/// Puts everything where it stands.
 fn place_all(
-    alloc: Global,
     standing: &mut Standing,
     plain: &Plain,
     moved: &[Part],
-    (headers, kept): (u128, u128),
+    table_size: u128,
 ) -> Result<(), AllocError> {
-    let end = add_loads(alloc, standing, plain, moved, kept)?;
-    let end = place_table(standing, plain, headers, end);
+    let kept = kept_end(plain, moved, table_size);
+    let end = add_loads(standing, plain, moved, kept)?;
+    let end = place_table(standing, plain, table_size, end);
     let end = add_unloaded(standing, plain, end)?;
     add_others(standing, plain, end)?;
-    standing.e_shoff = next_multiple(end, plain.facts.word());
+    standing.e_shoff = next_multiple(end, plain.facts.word);
     Ok(())
 }
 
-/// Where everything stands once these sections move, with so many program headers.
+/// Where everything stands once these sections move, with program headers of this size in all.
 pub(crate) fn standing_of(
     alloc: Global,
     plain: &Plain,
     moved: &[Part],
-    headers: usize,
+    table_size: u128,
 ) -> Result<Standing, AllocError> {
-    let headers = headers as u128;
-    let kept = kept_end(alloc, plain, moved, headers)?;
     let mut standing = Standing {
         loads: Vec::new(alloc),
         slots: Vec::new(alloc),
         e_phoff: plain.facts.e_phoff,
         e_shoff: 0,
     };
-    place_all(alloc, &mut standing, plain, moved, (headers, kept))?;
+    place_all(&mut standing, plain, moved, table_size)?;
     Ok(standing)
 }

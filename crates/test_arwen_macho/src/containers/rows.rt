@@ -2,7 +2,6 @@
 //! by the calls of each container.
 
 use super::{Edit, Sample, Step, walks};
-use crate::support::Runtime;
 
 // A command with the run path `/a`, low byte first.
 const PATH: &[u8] = b"\x1c\0\0\x80\x10\0\0\0\x0c\0\0\0/a\0\0";
@@ -417,31 +416,22 @@ const MAKE_EACH_KIND: [Step<'static>; 1] = [Step {
 // A file, and steps in it.
 type Row = (Sample<'static>, &'static [Step<'static>]);
 
-// Files without commands, which are filled.
-const FILLS: [Row; 4] = [
+const ROWS: [Row; 16] = [
+    // Files without commands, which are filled.
     (EMPTY, &FILL_WIDE),
     (WIDE_BIG, &FILL_WIDE_BIG),
     (NARROW_LITTLE, &FILL_NARROW),
     (NARROW_BIG, &FILL_NARROW_BIG),
-];
-
-// Run paths that are changed and removed.
-const PATHS: [Row; 4] = [
+    // Run paths that are changed and removed.
     (WITH_PATH, &CHANGE_PATH),
     (EQUAL_PATHS, &REMOVE_PATHS),
     (FULL, &CHANGE_NO_BYTE),
     (FULL, &LEAVE_ZEROS),
-];
-
-// Room that ends at the content, or with the last list.
-const ROOM: [Row; 3] = [
+    // Room that ends at the content, or with the last list.
     (CONTENT_AT_256, &STOP_BEFORE_CONTENT),
     (CONTENT_AT_264, &REACH_CONTENT),
     (EMPTY, &DECIDE_ROOM),
-];
-
-// Names of libraries, own ones and those that are loaded.
-const NAMES: [Row; 5] = [
+    // Names of libraries, own ones and those that are loaded.
     (LIBRARY, &CHANGE_NAME),
     (LIBRARY, &CHANGE_OWN_NAME),
     (LIBX, &SHORTEN_NAME),
@@ -449,28 +439,9 @@ const NAMES: [Row; 5] = [
     (LIBRARY, &MAKE_EACH_KIND),
 ];
 
-fn walk_all(rt: &impl Runtime, rows: &[Row]) {
-    for (sample, steps) in rows {
-        walks(rt, sample, steps);
+#[test]
+fn follows_steps(rt: HostRuntime) {
+    for (sample, steps) in &ROWS {
+        walks(&rt, sample, steps);
     }
-}
-
-#[test]
-fn fills_files_of_each_form(rt: HostRuntime) {
-    walk_all(&rt, &FILLS);
-}
-
-#[test]
-fn changes_and_removes_run_paths(rt: HostRuntime) {
-    walk_all(&rt, &PATHS);
-}
-
-#[test]
-fn knows_how_much_room_there_is(rt: HostRuntime) {
-    walk_all(&rt, &ROOM);
-}
-
-#[test]
-fn changes_names_of_libraries(rt: HostRuntime) {
-    walk_all(&rt, &NAMES);
 }

@@ -14,7 +14,7 @@ returns-in_err-raw c =
 
 pub returns : goal.returns
 returns c =
-    subst (λ (o : Option (List VersionDefinition)). Gives (λ v. map definition_model v.items) c.show_definitions.result o)
+    subst (λ (o : Option (List VersionDefinition)). Gives (λ v. map definition_model v.items) c.show_each.result o)
     (definitions_on c.args.form c.args.room (source_model c.args.table.now.bytes) (source_model c.args.table.now.texts) c.args.table.now.count c.deref.result.now
     (c.in_ok-raw.ensures ∙ ap (λ l. Some l) (sym c.deref.ensures.value)))
-    c.show_definitions.ensures
+    c.show_each.ensures

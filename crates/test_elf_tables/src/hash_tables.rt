@@ -1,0 +1,8 @@
+//! Hash tables of symbols, and their versions in the order of such a table.
+
+mod loader;
+mod made;
+mod many;
+mod ordered;
+mod told;
+mod worked;
