@@ -22,10 +22,10 @@ use Rattle.elf_layout_plan.specs.Memory.{Resized}
 use Rattle.elf_layout_plan.specs.Plan.{resized}
 use Rattle.elf_write_spec.specs.Base.{base, base_byte, is_rewritten, old_places, values_from}
 use Rattle.elf_write_spec.proofs.ForCallers.Laying.{length-values, value-at}
-use Rattle.elf_write_contents.specs.Inner.{IsReady}
+use Rattle.elf_write_spec.specs.Ready.{IsEditedReady}
 use Rattle.elf_write.specs.LayingSteps.{IsCleared, TakesFrom, is_in_load, is_in_range, is_rewritten_at, rewritten_places}
-use Rattle.elf_write_contents.proofs.ForCallers.{edit_of}
-use Rattle.elf_write_spec.proofs.ForCallers.IntactEdits.{ReadFacts, read_facts}
+use Rattle.elf_write_spec.proofs.ForCallers.WholeEdits.{ReadFacts, read_facts}
+use Rattle.elf_write_strings.proofs.ForCallers.ReadTables.{ready_edit}
 use Rattle.elf_format.proofs.ForCallers.Lengths.{length-segments}
 use Rattle.elf_image.proofs.ForCallers.KeptSections.{kept-at, length-kept}
 
@@ -52,9 +52,9 @@ few o kind =
     omega arith
 
 -- no more than plain numbering has
-pub few_segments : (read image : Image) → IsReady read image → length read.segments < 65536
+pub few_segments : (read image : Image) → IsEditedReady read image → length read.segments < 65536
 few_segments read image is =
-    let f : ReadFacts read image = read_facts read image (edit_of is) in
+    let f : ReadFacts read image = read_facts read image (ready_edit is) in
     let many : length read.segments ≡ f.parts.opened.header.e_phnum =
     ap length f.holds.segments ∙ length-segments f.parts.opened f.parts.segments f.are_parts.segments in
     omega (arith, many, few f.parts.opened f.rules.file_kind)

@@ -1,10 +1,9 @@
 -- What the steps give is a file to which the image is written.
-use Rattle.std.proofs.Common.{◌≡◌, ◌<◌, ◌^◌, ℕ, zero, suc, Bool, true, false, List, [], ◌∷◌, length, refl, sym, ap, ◌∙◌, subst, Option, Some, arith}
+use Rattle.std.proofs.Common.{◌≡◌, ◌<◌, ◌^◌, ℕ, zero, suc, Bool, true, false, List, [], ◌∷◌, length, refl, sym, ap, ◌∙◌, subst, Option, Some}
 use Rattle.std.specs.Prelude.{◌||◌, not, nat_lt, unwrap_or, IsTrue}
 use Rattle.std.specs.List.{list_all, slice_get}
-use Rattle.std.specs.Option.{option_map}
 use Rattle.std.proofs.lemmas.Bool.{and_parts, false≢true, ltb-true}
-use Rattle.std.proofs.lemmas.Option.{none-some, same_Some, slice_get_within}
+use Rattle.std.proofs.lemmas.Option.{none-some, same_Some}
 use Rattle.patch_bytes.specs.Memory.{◌>>=◌}
 use Rattle.patch_bytes.specs.Bytes.{AreBytes}
 use Rattle.elf_format.specs.declared.constants.TheConstants.{SHT_STRTAB}
@@ -16,12 +15,12 @@ use Rattle.elf_format.specs.declared.records.SectionHeader.{SectionHeader}
 use Rattle.elf_format.specs.declared.section_data.SectionData.{SectionData}
 use Rattle.elf_format.specs.declared.section_data.SectionData.TheVariants as kinds
 use Rattle.elf_format.specs.Image.{Image, ImageSection}
-use Rattle.elf_format.specs.Options.{is_one_of, list_at}
+use Rattle.elf_format.specs.Options.{is_one_of}
 use Rattle.elf_format.specs.Places.{Place}
 use Rattle.elf_format.specs.Rules.{text_users}
 use Rattle.elf_tables.specs.Fields.{do_fields_fit}
 use Rattle.elf_tables.specs.Spelled.{entry_fields}
-use Rattle.elf_image.specs.Kept.{KeptSection, image_at_read, kept_sections}
+use Rattle.elf_image.specs.Kept.{KeptSection, kept_sections}
 use Rattle.elf_image.specs.Names.{are_names_changed}
 use Rattle.elf_layout_plan.specs.Memory.{Resized}
 use Rattle.elf_layout_plan.specs.Plan.{Layout, resized}
@@ -36,9 +35,11 @@ use Rattle.elf_write_strings.specs.WrittenStrings.{strings_at}
 use Rattle.elf_write_symbols.specs.Renumbering.{do_symbols_fit}
 use Rattle.elf_write_contents.specs.Inner.{AreContents, AreHeaders, ArePromised, AreRaw, IsMadeContent, IsPlanned, IsPlannedFile, output_of}
 use Rattle.elf_write_contents.specs.Numbers.{do_records_fit}
-use Rattle.elf_write_contents.proofs.ForCallers.{edit_of, linked_at, names_at, names_typed, shows_none, shows_texts}
-use Rattle.elf_write_spec.proofs.ForCallers.IntactEdits.{ReadFacts, SectionRead, kept-at, kept_is, length-kept, read_facts, section_read}
-use Rattle.elf_write_spec.proofs.ForCallers.IntactSections.{kept}
+use Rattle.elf_write_contents.proofs.ForCallers.{shows_none, shows_texts}
+use Rattle.elf_write_strings.proofs.ForCallers.ReadTables.{ready_edit}
+use Rattle.elf_write_strings.proofs.ForCallers.TablesThere.{TableThere, link_there, names_there}
+use Rattle.elf_write_spec.proofs.ForCallers.NumberedSections.{kept_as}
+use Rattle.elf_write_spec.proofs.ForCallers.WholeEdits.{ReadFacts, SectionRead, kept_is, kept_read, read_facts}
 
 -- the content at a position
 record ContentAt (r : Resized) (plan : Layout) (made : List Made) (raw : List EntryNumbers) (ps : List Place) (cs : List (List ℕ)) (i : ℕ) (k : KeptSection) : Type 0 where
@@ -87,8 +88,8 @@ without_texts r plan raw a b s bytes none shown = by_interpreter (is_interpreter
     by_kind kinds.GnuVersym h is = is
 
     by_interpreter : (t : Bool)
-        → (elim t as (λ _. Type 0) [ true ↦ bytes ≡ list_at (λ name. name) r.image.interpreter | _ ↦ content_of a s.section.kind ])
-        → elim t as (λ _. Type 0) [ true ↦ bytes ≡ list_at (λ name. name) r.image.interpreter | _ ↦ content_of b s.section.kind ]
+        → (elim t as (λ _. Type 0) [ true ↦ bytes ≡ unwrap_or r.image.interpreter s.section.content | _ ↦ content_of a s.section.kind ])
+        → elim t as (λ _. Type 0) [ true ↦ bytes ≡ unwrap_or r.image.interpreter s.section.content | _ ↦ content_of b s.section.kind ]
     by_interpreter true is = is
     by_interpreter false is = by_kind s.section.kind none is
 
@@ -110,34 +111,38 @@ module _ (read image : Image) (plan : Layout) (made : List Made) (raw : List Ent
     (planned : IsPlanned read image plan)
     (are : AreContents (resized image) plan made raw (kept_sections image) plan.places contents) where
   facts : ReadFacts read image
-  facts = read_facts read image (edit_of planned.ready)
+  facts = read_facts read image (ready_edit planned.ready)
 
   -- the bytes of a string table are those that were found for it
-  strings_are : (n : ℕ) (s : ImageSection) → slice_get image.sections n ≡ Some s → s.sh_type ≡ SHT_STRTAB
-      → content_at_number image contents n ≡ strings_at image made n
-  strings_are n s at typed =
-      let k_at : slice_get (kept_sections image) n ≡ Some (kept n s) =
-      kept-at read image (edit_of planned.ready) n ∙ ap (option_map (kept n)) at in
-      let c = content-at (resized image) plan made raw (kept_sections image) plan.places contents are n (kept n s) k_at in
-      ap (λ (o : Option KeptSection). unwrap_or (o >>= λ x. slice_get contents x.position) [])
-      (kept_is read image (edit_of planned.ready) n ∙ ap (option_map (kept n)) at)
+  strings_are : (i : ℕ) (at : SectionRead read image facts.parts i) → at.section.sh_type ≡ SHT_STRTAB
+      → content_at_number image contents at.number ≡ strings_at image made at.number
+  strings_are i at typed =
+      let k : KeptSection = kept_as i at.number at.section in
+      let c = content-at (resized image) plan made raw (kept_sections image) plan.places contents are i k at.is_kept in
+      ap (λ (o : Option KeptSection). unwrap_or (o >>= λ x. slice_get contents x.position) []) (kept_is read image facts i at)
       ∙ ap (λ (o : Option (List ℕ)). unwrap_or o []) c.is_bytes
       ∙ c.is.strings typed
 
+  table_is : (number : ℕ) → TableThere read image facts.parts number
+      → content_at_number image contents number ≡ strings_at image made number
+  table_is number t =
+      subst (λ (n : ℕ). content_at_number image contents n ≡ strings_at image made n) t.is_number (strings_are t.i t.at t.type)
+
   section_linked : (i : ℕ) (at : SectionRead read image facts.parts i) (bytes : List ℕ)
-      → IsContent (resized image) plan raw (strings_at image made at.section.sh_link) (kept i at.section) bytes
-      → IsContent (resized image) plan raw (content_at_number image contents at.section.sh_link) (kept i at.section) bytes
+      → IsContent (resized image) plan raw (strings_at image made at.section.sh_link) (kept_as i at.number at.section) bytes
+      → IsContent (resized image) plan raw (content_at_number image contents at.section.sh_link) (kept_as i at.number at.section) bytes
   section_linked i at bytes shown = by_users (is_one_of text_users at.section.sh_type) refl
     where
       by_users : (b : Bool) → is_one_of text_users at.section.sh_type ≡ b
-          → IsContent (resized image) plan raw (content_at_number image contents at.section.sh_link) (kept i at.section) bytes
+          → IsContent (resized image) plan raw (content_at_number image contents at.section.sh_link) (kept_as i at.number at.section) bytes
       by_users true user =
-          let l = linked_at read image planned.ready facts i at user in
-          subst (λ (strings : List ℕ). IsContent (resized image) plan raw strings (kept i at.section) bytes)
-          (sym (strings_are at.section.sh_link l.table.section l.table.is_section l.typed)) shown
+          let was : is_one_of text_users at.old.sh_type ≡ true =
+          ap (λ (x : ImageSection). is_one_of text_users x.sh_type) (sym at.of_old.fields) ∙ user in
+          subst (λ (strings : List ℕ). IsContent (resized image) plan raw strings (kept_as i at.number at.section) bytes)
+          (sym (table_is at.section.sh_link (link_there read image facts i at was))) shown
       by_users false none =
           without_texts (resized image) plan raw (strings_at image made at.section.sh_link)
-          (content_at_number image contents at.section.sh_link) (kept i at.section) bytes
+          (content_at_number image contents at.section.sh_link) (kept_as i at.number at.section) bytes
           (shows_none read image facts.parts i at none) shown
 
   -- what a section's bytes show doesn't depend on texts, or these are the linked table's
@@ -145,19 +150,13 @@ module _ (read image : Image) (plan : Layout) (made : List Made) (raw : List Ent
       → IsContent (resized image) plan raw (strings_at image made k.section.sh_link) k bytes
       → IsContent (resized image) plan raw (content_at_number image contents k.section.sh_link) k bytes
   content_linked i k at bytes shown =
-      let long : length (kept_sections image) ≡ length image.sections =
-      length-kept read image (edit_of planned.ready) in
-      let within : i < length image.sections = omega (arith, slice_get_within (kept_sections image) i k at, long) in
-      let here = section_read read image (edit_of planned.ready) facts i within in
-      let same : kept i here.section ≡ k = same_Some (kept i here.section) k (sym here.is_kept ∙ at) in
+      let (here, same) = kept_read read image facts i k at in
       subst (λ (x : KeptSection). IsContent (resized image) plan raw (content_at_number image contents x.section.sh_link) x bytes) same
       (section_linked i here bytes
       (subst (λ (x : KeptSection). IsContent (resized image) plan raw (strings_at image made x.section.sh_link) x bytes) (sym same) shown))
 
   names_are : content_at_number image contents image.header.e_shstrndx ≡ strings_at image made image.header.e_shstrndx
-  names_are =
-      let at = names_at read image planned.ready facts in
-      strings_are image.header.e_shstrndx at.section at.is_section (names_typed read image planned.ready facts)
+  names_are = table_is image.header.e_shstrndx (names_there read image facts)
 
   sections_written : (hs : List SectionHeader) (ks : List KeptSection) (ps : List Place) (part : List SectionHeader) (cs : List (List ℕ))
       → ((i : ℕ) (k : KeptSection) → slice_get ks i ≡ Some k → (bytes : List ℕ)

@@ -6,7 +6,7 @@ ghost use Rattle.elf_image.specs.ImageModel.{segment_model};
 ghost use Rattle.elf_image.specs.Kept.{image_at_read, interpreter_number as number_of_interpreter, kept_sections};
 ghost use Rattle.elf_layout_plan.specs.Plan.{resized};
 ghost use Rattle.elf_write_spec.specs.Base.{base, has_position, old_places as places_rewritten};
-ghost use Rattle.elf_write_contents.specs.Inner.{IsReady};
+ghost use Rattle.elf_write_spec.specs.Ready.{IsEditedReady};
 ghost use Rattle.elf_write.specs.LayingSteps.{IsCleared, TakesFrom, is_in_load, is_in_range, rewritten_places};
 
 use crate::data::is_rewritten;
@@ -81,7 +81,7 @@ fn zeros(alloc: Global, count: usize) -> Result<Vec<u8>, AllocError>
 
 // There are no more program headers than plain numbering has (gABI, ELF Header, e_phnum).
 fn few_segments<'data>(read: &Builder<'data>, image: &Builder<'data>)
-    requires { IsReady read.now image.now }
+    requires { IsEditedReady read.now image.now }
     ensures { length read.now.segments < 65536 }
 {}
 
@@ -129,7 +129,7 @@ pub(crate) fn old_places<'data>(
     read: &Builder<'data>,
     image: &Builder<'data>,
 ) -> Result<Vec<Range>, AllocError>
-    requires { IsReady read.now image.now }
+    requires { IsEditedReady read.now image.now }
     ensures { IfOk result (λ places. places.items
         ≡ places_rewritten (image_at_read image.now) image.now) }
 {
@@ -151,7 +151,7 @@ fn write_base<'data>(
     image: &Builder<'data>,
     places: &[Range],
 )
-    requires ready { IsReady read.now image.now }
+    requires ready { IsEditedReady read.now image.now }
     requires zeros { bytes.old ≡ replicate (length bytes.old) 0 }
     requires places { places.now ≡ places_rewritten (image_at_read image.now) image.now }
     ensures { bytes.new ≡ base (resized image.now) (length bytes.old) }
@@ -167,7 +167,7 @@ pub(crate) fn base_bytes<'data>(
     image: &Builder<'data>,
     size: usize,
 ) -> Result<Vec<u8>, AllocError>
-    requires { IsReady read.now image.now }
+    requires { IsEditedReady read.now image.now }
     ensures { IfOk result (λ bytes. bytes.items ≡ base (resized image.now) size) }
 {
     let places = old_places(alloc, read, image)?;

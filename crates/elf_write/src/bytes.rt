@@ -9,7 +9,6 @@ ghost use Rattle.elf_layout_plan.specs.FilePlaced.{written_table};
 ghost use Rattle.elf_image.specs.Kept.{image_at_read, kept_sections};
 ghost use Rattle.elf_layout_plan.specs.Plan.{IsPlan, resized};
 ghost use Rattle.elf_layout_plan.specs.Refusals.{do_sizes_of_image_fit};
-ghost use Rattle.elf_write_spec.specs.Whole.{IsWhole};
 ghost use Rattle.elf_write_spec.specs.Output.{AreHeadersApart};
 ghost use Rattle.elf_write_spec.specs.WrittenFile.{IsWrittenByPlan, IsWrittenOf};
 ghost use Rattle.elf_write_contents.specs.Inner.{AreContents, ArePromised, IsPlanned, IsPlannedFile};
@@ -148,7 +147,6 @@ pub fn image_bytes_from_read<'data>(
     plan: &Plan,
 ) -> Result<Vec<u8>, LayoutFault>
     requires read { read.now ≡ image_at_read image.now }
-    requires whole { IsWhole read.now image.now }
     requires planned { IsPlan (resized image.now) plan.now }
     requires sized { IsTrue (do_sizes_of_image_fit image.now) }
     ensures written { IfOk result (λ bytes. IsWrittenOf image.now bytes.items) }
@@ -167,10 +165,9 @@ pub fn image_bytes_from_read<'data>(
     }
 }
 
-/// The bytes of the file to which an edited image is written by a plan, of which nothing went. `Overlap` where the file header and
+/// The bytes of the file to which an edited image is written by a plan. `Overlap` where the file header and
 /// the program header table share a byte; `NumberTooLarge` where a number is past its field. The image's source is read once more.
 pub fn image_bytes(alloc: Global, image: &Builder<'_>, plan: &Plan) -> Result<Vec<u8>, LayoutFault>
-    requires whole { IsWhole (image_at_read image.now) image.now }
     requires planned { IsPlan (resized image.now) plan.now }
     requires sized { IsTrue (do_sizes_of_image_fit image.now) }
     ensures written { IfOk result (λ bytes. IsWrittenOf image.now bytes.items) }

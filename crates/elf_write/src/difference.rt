@@ -7,7 +7,6 @@ ghost use Rattle.elf_image.specs.Kept.{image_at_read, kept_sections};
 ghost use Rattle.elf_layout_plan.specs.Plan.{IsPlan, resized};
 ghost use Rattle.elf_layout_plan.specs.Refusals.{do_sizes_of_image_fit};
 ghost use Rattle.elf_layout_sizes.specs.MadeTables.{IsMadeOfDynamic};
-ghost use Rattle.elf_write_spec.specs.Whole.{IsWhole};
 ghost use Rattle.elf_write_spec.specs.Output.{AreHeadersApart};
 ghost use Rattle.elf_write_spec.specs.WrittenFile.{IsWrittenByPlan, IsWrittenOf};
 ghost use Rattle.elf_write_contents.specs.Inner.{AreContents, ArePromised, IsPlanned, IsPlannedFile};
@@ -127,7 +126,6 @@ pub fn image_pieces_with_strings<'a, 'data>(
     strings: Option<Finished<'a>>,
 ) -> Result<Difference, LayoutFault>
     requires read { read.now ≡ image_at_read image.now }
-    requires whole { IsWhole read.now image.now }
     requires planned { IsPlan (resized image.now) plan.now }
     requires sized { IsTrue (do_sizes_of_image_fit image.now) }
     requires strings { IfSome strings (IsMadeOfDynamic read.now image.now) }
@@ -159,7 +157,6 @@ pub fn image_pieces_from_read<'data>(
     plan: &Plan,
 ) -> Result<Difference, LayoutFault>
     requires read { read.now ≡ image_at_read image.now }
-    requires whole { IsWhole read.now image.now }
     requires planned { IsPlan (resized image.now) plan.now }
     requires sized { IsTrue (do_sizes_of_image_fit image.now) }
     ensures makeable { IfOk result (λ d. IsDifference image.now.source d) }
@@ -172,7 +169,7 @@ pub fn image_pieces_from_read<'data>(
     image_pieces_with_strings(alloc, read, image, plan, None)
 }
 
-/// What of the bytes of the file to which an edited image is written by a plan, of which nothing went, differs from
+/// What of the bytes of the file to which an edited image is written by a plan differs from
 /// the image's source: how many bytes there are, what comes behind the source's, and pieces that change some of
 /// these. Costs what is written anew and what doesn't stay, not what the source weighs. `Overlap` where the file
 /// header and the program header table share a byte; `NumberTooLarge` where a number is past its field. The image's
@@ -182,7 +179,6 @@ pub fn image_pieces(
     image: &Builder<'_>,
     plan: &Plan,
 ) -> Result<Difference, LayoutFault>
-    requires whole { IsWhole (image_at_read image.now) image.now }
     requires planned { IsPlan (resized image.now) plan.now }
     requires sized { IsTrue (do_sizes_of_image_fit image.now) }
     ensures makeable { IfOk result (λ d. IsDifference image.now.source d) }

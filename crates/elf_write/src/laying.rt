@@ -8,7 +8,8 @@ ghost use Rattle.elf_format.specs.Records.{section_header_size};
 ghost use Rattle.elf_format.specs.declared.records.EntryNumbers.{EntryNumbers};
 ghost use Rattle.elf_write_spec.specs.Headers.{written_header};
 ghost use Rattle.elf_write_spec.specs.Output.{IsPlannedOutput, written_bytes};
-ghost use Rattle.elf_write_contents.specs.Inner.{IsReady, output_of};
+ghost use Rattle.elf_write_spec.specs.Ready.{IsEditedReady};
+ghost use Rattle.elf_write_contents.specs.Inner.{output_of};
 
 use crate::base::base_bytes;
 use crate::pieces::pieces;
@@ -60,7 +61,7 @@ pub(crate) fn laid_bytes<'data>(
     headers: &[SectionHeader],
     contents: &[ByteString<'_>],
 ) -> Result<Vec<u8>, AllocError>
-    requires read { IsReady read.now image.now }
+    requires read { IsEditedReady read.now image.now }
     requires header { header ≡ written_header image.now plan.now }
     requires output { (raw : List EntryNumbers) × IsPlannedOutput
         (output_of image.now plan.now headers.now (bytes_of_each contents.now) raw) }
@@ -91,7 +92,7 @@ pub(crate) fn laid_difference<'data>(
     headers: &[SectionHeader],
     contents: &[ByteString<'_>],
 ) -> Result<Difference, AllocError>
-    requires read { IsReady read.now image.now }
+    requires read { IsEditedReady read.now image.now }
     requires header { header ≡ written_header image.now plan.now }
     requires output { (raw : List EntryNumbers) × IsPlannedOutput
         (output_of image.now plan.now headers.now (bytes_of_each contents.now) raw) }

@@ -4,7 +4,7 @@ ghost use Rattle.byte_store.specs.Composed.{IsDifference, made_of};
 ghost use Rattle.byte_store.specs.Laid.{LiesIn, patches_of};
 ghost use Rattle.elf_image.specs.ImageModel.{segment_model};
 ghost use Rattle.elf_layout_plan.specs.Plan.{resized};
-ghost use Rattle.elf_write_contents.specs.Inner.{IsReady};
+ghost use Rattle.elf_write_spec.specs.Ready.{IsEditedReady};
 ghost use Rattle.elf_write.specs.PieceSteps.{IsOverBase, load_spans, span_in};
 
 use crate::base::{old_places, within};
@@ -61,7 +61,7 @@ pub(crate) fn differing<'data>(
     size: usize,
     pieces: &[Piece<'_>],
 ) -> Result<Difference, AllocError>
-    requires ready { IsReady read.now image.now }
+    requires ready { IsEditedReady read.now image.now }
     requires lie { All (LiesIn size) (patches_of pieces.now) }
     ensures makes { IfOk result (λ d. (bytes : List ℕ)
         → IsOverBase (resized image.now) (patches_of pieces.now) size bytes

@@ -1,14 +1,14 @@
 -- The bytes of all sections, and of each by what its type asks for.
 use Rattle.std.proofs.Common.{◌≡◌, ◌≢◌, ◌≤◌, ◌<◌, ℕ, zero, suc, ◌*◌, true, false, List, [], ◌∷◌, ◌++◌, length, map, refl, sym, ap, ◌∙◌, subst, inl, inr, Option, Some, None, Result, Ok, Err, get_or, arith}
-use Rattle.std.specs.Prelude.{IfOk, option_map, ◌==◌}
+use Rattle.std.specs.Prelude.{IfOk, IsTrue, ◌&&◌, option_map, slice_index, unwrap_or, ◌==◌}
 use Rattle.std.specs.List.{list_all, slice_get}
 use Rattle.std.proofs.lemmas.Bool.{cases_eq, ne_eqb}
 use Rattle.std.proofs.lemmas.List.{length-map}
-use Rattle.std.proofs.lemmas.Option.{none-some, same_Some, slice_get-get_or, slice_get-map, slice_get_read, slice_get_within}
+use Rattle.std.proofs.lemmas.Option.{get_or_from_slice_get, none-some, same_Some, slice_get-get_or, slice_get-map, slice_get_read, slice_get_within}
 use Rattle.elf_format.specs.declared.constants.TheConstants.{SHT_DYNAMIC, SHT_DYNSYM, SHT_GNU_HASH, SHT_GNU_VERDEF, SHT_GNU_VERNEED, SHT_GNU_VERSYM, SHT_HASH, SHT_STRTAB, SHT_SYMTAB}
 use Rattle.elf_format.specs.declared.records.EntryNumbers.{EntryNumbers}
 use Rattle.elf_format.specs.Image.{Image, ImageSection}
-use Rattle.elf_format.specs.Options.{is_some_and, list_at}
+use Rattle.elf_format.specs.Options.{is_some_and}
 use Rattle.elf_format.specs.Places.{Place}
 use Rattle.elf_format.specs.Records.{entry_size, symbol_size, symbols_in}
 use Rattle.elf_image.specs.declared.section.Section.{Section}
@@ -21,23 +21,24 @@ use Rattle.elf_layout_plan.specs.Plan.{Layout, layout_for, resized}
 use Rattle.elf_layout_plan.specs.Needs.{written_needs}
 use Rattle.elf_layout_plan.specs.Sizes.{definitions_size, hash_size, needs_size}
 use Rattle.elf_layout_plan.specs.Standing.{place_in, places}
+use Rattle.elf_layout_plan.specs.Texts.{is_table_copied}
 use Rattle.elf_layout_plan.proofs.ForCallers.ApartRead.{edited_facts}
 use Rattle.elf_layout_plan.proofs.ForCallers.ApartSections.{sized_of}
 use Rattle.elf_write_spec.specs.Contents.{AreDefinitionsIn, AreNeedsIn, AreSymbolsOf, AreVersionsIn, IsGabiContent, IsGnuContent, spelled_list}
-use Rattle.elf_write_spec.specs.Final.{final}
+use Rattle.elf_write_spec.specs.Final.{are_symbols_kept, final}
 use Rattle.elf_write_strings.specs.declared.made.Made.{Made}
 use Rattle.elf_write_contents.specs.ContentSteps.{AreBytesOf, IsBytesAt, IsNumbering, IsRelocated, made_or}
 use Rattle.elf_write_strings.specs.WrittenStrings.{AreStrings, content_read, made_of, strings_at}
-use Rattle.elf_write_spec.specs.Ready.{IsPlanned, IsReady}
-use Rattle.elf_write_contents.specs.Inner.{AreContents, AreRaw, IsMadeContent}
-use Rattle.elf_write_contents.proofs.ReadyEdits.{edit_of}
-use Rattle.elf_write_spec.proofs.ForCallers.IntactEdits.{ReadFacts, kept-at, length-kept, read_facts}
+use Rattle.elf_write_spec.specs.Ready.{IsEditedReady}
+use Rattle.elf_write_contents.specs.Inner.{AreContents, AreRaw, IsMadeContent, IsPlanned}
+use Rattle.elf_write_spec.proofs.ForCallers.NumberedSections.{kept_as}
+use Rattle.elf_write_spec.proofs.ForCallers.WholeEdits.{ReadFacts, length-kept, read_facts, section_read}
 use Rattle.elf_write_strings.proofs.ForCallers.MadeShort.{all_at as fits_at}
-use Rattle.elf_write_contents.proofs.OthersCopied.{content_is_read}
+use Rattle.elf_write_strings.proofs.ForCallers.ReadTables.{ready_edit}
+use Rattle.elf_write_strings.proofs.ForCallers.TablesThere.{content_at}
 use Rattle.elf_write_symbols.specs.Fits.{do_numbers_fit_in, do_section_relocations_fit}
-use Rattle.elf_write_contents.proofs.ContentsMade.{IsOther, PlacedAt, bytes_at, definitions_made, gabi_made, gnu_made, needs_made, placed_at, resized_with, symbols_made, versions_made}
-use Rattle.elf_write_contents.proofs.ContentsByType.{interpreter_made, list_made, others_made, room, strings_made, symbols_made as static_symbols_made}
-use Rattle.elf_write_spec.proofs.ForCallers.IntactSections.{kept}
+use Rattle.elf_write_contents.proofs.ContentsMade.{IsOther, PlacedAt, bytes_at, definitions_made, gabi_made, gnu_made, needs_made, placed_at, resized_with, statics_made, symbols_made, versions_made}
+use Rattle.elf_write_contents.proofs.ContentsByType.{interpreter_made, list_made, others_made, room, strings_made}
 
 -- ## Position by position
 
@@ -49,7 +50,7 @@ places_long read image plan is =
     let places_are : plan.places ≡ map (place_in r is.planned.moved) (sized_sections r) = ap (λ (l : Layout). l.places) is.planned.follows in
     ap length places_are ∙ length-map (sized_sections r) (place_in r is.planned.moved)
     ∙ ap length (edited_facts image is.ready.edited).sized ∙ length-map (kept_sections image) (sized_of r)
-    ∙ length-kept read image (edit_of is.ready)
+    ∙ length-kept read image (read_facts read image (ready_edit is.ready))
 
 -- what is known of each, and of one behind them
 each_of_more : (P : ℕ → List ℕ → Type 0) (last : List ℕ) (cs : List (List ℕ)) → ((j : ℕ) (c : List ℕ) → slice_get cs j ≡ Some c → P j c)
@@ -86,7 +87,7 @@ module _ (image : Image) (plan : Layout) (made : List Made) (raw : List EntryNum
       → length contents ≡ length image.sections → AreContents (resized image) plan made raw (kept_sections image) plan.places contents
   all_made read is contents are long =
       let kept_long : length (kept_sections image) ≡ length image.sections =
-      length-kept read image (edit_of is.ready) in
+      length-kept read image (read_facts read image (ready_edit is.ready)) in
       all_at (resized image) (kept_sections image) plan.places contents (places_long read image plan is ∙ sym kept_long) (long ∙ sym kept_long)
       (λ i k p c k_at p_at c_at. (are.each i c c_at).are k p k_at p_at)
 
@@ -119,43 +120,61 @@ pub both_ok : {T E : Type 0} (answer : Result T E) (P Q R : T → Type 0) → ((
 both_ok (Ok x) P Q R both p q = both x p q
 both_ok (Err e) P Q R both p q = p
 
+-- three of them
+pub three_ok : {T E : Type 0} (answer : Result T E) (P Q R S : T → Type 0) → ((x : T) → P x → Q x → R x → S x) → IfOk answer P → IfOk answer Q
+    → IfOk answer R → IfOk answer S
+three_ok (Ok x) P Q R S all p q r = all x p q r
+three_ok (Err e) P Q R S all p q r = p
+
 -- ## By type
 
 -- none of the types of tables that are made of the image's lists, or of string tables
 pub record HasNoTable (n : ℕ) : Type 0 where
   pub dynamic : n ≢ SHT_DYNAMIC
   pub strings : n ≢ SHT_STRTAB
+  pub static : n ≢ SHT_SYMTAB
   pub symbols : n ≢ SHT_DYNSYM
   pub definitions : n ≢ SHT_GNU_VERDEF
   pub needs : n ≢ SHT_GNU_VERNEED
 
 -- the new numbers of symbols fit the relocations of each section
-pub numbers_fit : (read image : Image) → IsReady read image → list_all (do_section_relocations_fit read image) (kept_sections image) ≡ true
+pub numbers_fit : (read image : Image) → IsEditedReady read image → list_all (do_section_relocations_fit read image) (kept_sections image) ≡ true
     → (i : ℕ) (s : ImageSection) → slice_get image.sections i ≡ Some s → do_numbers_fit_in read image s ≡ true
-numbers_fit read image is all i s at =
-    fits_at (do_section_relocations_fit read image) (kept_sections image) i (kept i s) all
-    (kept-at read image (edit_of is) i ∙ ap (option_map (kept i)) at)
+numbers_fit read image is all i s s_at =
+    let at = section_read read image (read_facts read image (ready_edit is)) i (slice_get_within image.sections i s s_at) in
+    ap (do_numbers_fit_in read image) (same_Some s at.section (sym s_at ∙ at.is_section))
+    ∙ fits_at (do_section_relocations_fit read image) (kept_sections image) i (kept_as i at.number at.section) all at.is_kept
 
 module _ (read image : Image) (plan : Layout) (made : List Made) (raw : List EntryNumbers) (is : IsPlanned read image plan) (i : ℕ)
     (s : ImageSection) (s_at : slice_get image.sections i ≡ Some s) where
   -- the section with its place
   abbrev facts : ReadFacts read image
-  facts = read_facts read image (edit_of is.ready)
+  facts = read_facts read image (ready_edit is.ready)
 
   place : PlacedAt read image plan facts.parts i
   place = placed_at read image plan is facts i (slice_get_within image.sections i s s_at)
 
-  same : place.section ≡ s
-  same = same_Some place.section s (sym place.is_section ∙ s_at)
+  same : place.here.section ≡ s
+  same = same_Some place.here.section s (sym place.here.is_section ∙ s_at)
 
-  of_type : (type : ℕ) → s.sh_type ≡ type → place.section.sh_type ≡ type
+  -- its number at read
+  abbrev n : ℕ
+  n = place.here.number
+
+  number_is : slice_index image.section_numbers i ≡ place.here.number
+  number_is = get_or_from_slice_get image.section_numbers i place.here.number 0 place.here.is_number
+
+  of_type : (type : ℕ) → s.sh_type ≡ type → place.here.section.sh_type ≡ type
   of_type type e = ap (λ (x : ImageSection). x.sh_type) same ∙ e
 
-  all_at_place : (bytes : List ℕ) → IsMadeContent (resized_with read image) plan made raw (kept i place.section) place.place bytes
+  all_at_place : (bytes : List ℕ) → IsMadeContent (resized_with read image) plan made raw (kept_as i place.here.number place.here.section) place.place bytes
       → IsBytesAt image plan made raw i bytes
   all_at_place bytes h = bytes_at read image plan made raw facts.parts i bytes is.ready.at_read place h
 
-  module _ (apart : is_some_and (λ n. n == i) (interpreter_number read) ≡ false) where
+  module _ (other : is_some_and (λ n. n == slice_index image.section_numbers i) (interpreter_number read) ≡ false) where
+    apart : is_some_and (λ n. n == place.here.number) (interpreter_number read) ≡ false
+    apart = ap (λ (k : ℕ). is_some_and (λ n. n == k) (interpreter_number read)) (sym number_is) ∙ other
+
     -- ## Tables that number the dynamic symbols
 
     versions_at : s.sh_type ≡ SHT_GNU_VERSYM → (bytes : List ℕ) → length bytes ≡ 2 * length image.dynamic_symbols
@@ -188,50 +207,55 @@ module _ (read image : Image) (plan : Layout) (made : List Made) (raw : List Ent
         (subst (λ (x : ImageSection). IsRelocated (resized_with read image) x bytes) (sym same)
         (subst (λ (x : Image). IsRelocated (resized_with x image) s bytes) (sym is.ready.at_read) are)))
 
-    static_at : AreStrings read image made → s.sh_type ≡ SHT_SYMTAB → (bytes : List ℕ) → IsRelocated (resized image) s bytes
-        → IsBytesAt image plan made raw i bytes
-    static_at strings e bytes are =
-        all_at_place bytes (static_symbols_made read image plan made raw is.ready facts i place apart (of_type SHT_SYMTAB e) strings bytes
-        (subst (λ (x : ImageSection). IsRelocated (resized_with read image) x bytes) (sym same)
-        (subst (λ (x : Image). IsRelocated (resized_with x image) s bytes) (sym is.ready.at_read) are)))
-
     -- and what is as it was read
-    pub numbering_at : AreStrings read image made → HasNoTable s.sh_type → (bytes : List ℕ) → IsNumbering read image s bytes → IsBytesAt image plan made raw i bytes
-    numbering_at texts none bytes numbers = elim (cases_eq s.sh_type SHT_GNU_VERSYM) [
+    pub numbering_at : HasNoTable s.sh_type → (bytes : List ℕ) → IsNumbering read image s bytes → IsBytesAt image plan made raw i bytes
+    numbering_at none bytes numbers = elim (cases_eq s.sh_type SHT_GNU_VERSYM) [
       | inl e ↦ versions_at e bytes (numbers.versions e).0 (numbers.versions e).1
       | inr versions ↦ elim (cases_eq s.sh_type SHT_HASH) [
         | inl e ↦ gabi_at e bytes (numbers.gabi e).0 (numbers.gabi e).1
         | inr gabi ↦ elim (cases_eq s.sh_type SHT_GNU_HASH) [
           | inl e ↦ gnu_at e bytes (numbers.gnu e).0 (numbers.gnu e).1
-          | inr gnu ↦ elim (cases_eq s.sh_type SHT_SYMTAB) [
-            | inl e ↦ static_at texts e bytes (numbers.others versions gabi gnu)
-            | inr static ↦ others_at (record {
-              dynamic = ne_eqb s.sh_type SHT_DYNAMIC none.dynamic;
-              strings = ne_eqb s.sh_type SHT_STRTAB none.strings;
-              static = ne_eqb s.sh_type SHT_SYMTAB static;
-              symbols = ne_eqb s.sh_type SHT_DYNSYM none.symbols;
-              gabi = ne_eqb s.sh_type SHT_HASH gabi;
-              gnu = ne_eqb s.sh_type SHT_GNU_HASH gnu;
-              versions = ne_eqb s.sh_type SHT_GNU_VERSYM versions;
-              definitions = ne_eqb s.sh_type SHT_GNU_VERDEF none.definitions;
-              needs = ne_eqb s.sh_type SHT_GNU_VERNEED none.needs;
-            }) bytes (numbers.others versions gabi gnu)
-          ]
+          | inr gnu ↦ others_at (record {
+            dynamic = ne_eqb s.sh_type SHT_DYNAMIC none.dynamic;
+            strings = ne_eqb s.sh_type SHT_STRTAB none.strings;
+            static = ne_eqb s.sh_type SHT_SYMTAB none.static;
+            symbols = ne_eqb s.sh_type SHT_DYNSYM none.symbols;
+            gabi = ne_eqb s.sh_type SHT_HASH gabi;
+            gnu = ne_eqb s.sh_type SHT_GNU_HASH gnu;
+            versions = ne_eqb s.sh_type SHT_GNU_VERSYM versions;
+            definitions = ne_eqb s.sh_type SHT_GNU_VERDEF none.definitions;
+            needs = ne_eqb s.sh_type SHT_GNU_VERNEED none.needs;
+          }) bytes (numbers.others versions gabi gnu)
         ]
       ]
     ]
 
     -- ## Tables that are made of the image's lists
 
-    pub strings_at_place : AreStrings read image made → s.sh_type ≡ SHT_STRTAB → IsBytesAt image plan made raw i (made_or made i s.content)
+    pub strings_at_place : AreStrings read image made → s.sh_type ≡ SHT_STRTAB
+        → IsBytesAt image plan made raw i (made_or made (slice_index image.section_numbers i) s.content)
     strings_at_place strings e =
-        subst (λ (bytes : List ℕ). IsBytesAt image plan made raw i bytes) (by_made (made_of made i))
-        (all_at_place (strings_at image made i) (strings_made read image plan made raw is.ready facts i place apart (of_type SHT_STRTAB e) strings))
+        subst (λ (k : ℕ). IsBytesAt image plan made raw i (made_or made k s.content)) (sym number_is)
+        (subst (λ (bytes : List ℕ). IsBytesAt image plan made raw i bytes) (by_made (made_of made n))
+        (all_at_place (strings_at image made n) (strings_made read image plan made raw is.ready facts i place apart (of_type SHT_STRTAB e) strings)))
       where
-        by_made : (o : Option Made) → (elim o as (λ _. List ℕ) [ Some m ↦ m.table.bytes | None ↦ content_read image i ])
+        by_made : (o : Option Made) → (elim o as (λ _. List ℕ) [ Some m ↦ m.table.bytes | None ↦ content_read image n ])
             ≡ (elim o as (λ _. List ℕ) [ Some m ↦ m.table.bytes | None ↦ s.content ])
-        by_made None = content_is_read read image is.ready i s s_at
+        by_made None = content_at read image facts i place.here ∙ ap (λ (x : ImageSection). x.content) same
         by_made (Some m) = refl
+
+    pub static_at : s.sh_type ≡ SHT_SYMTAB → (bytes : List ℕ) → length bytes ≡ length image.symbols * symbol_size image.form
+        → AreSymbolsOf (strings_at image made s.sh_link) (final read image).symbols (symbols_in image.form bytes)
+        → (IsTrue (are_symbols_kept read image && is_table_copied read image s.sh_link) → bytes ≡ s.content)
+        → IsBytesAt image plan made raw i bytes
+    static_at e bytes long are copied =
+        all_at_place bytes (statics_made read image plan made raw facts.parts i place apart bytes (of_type SHT_SYMTAB e) long
+        (record {
+          symbols = subst (λ (x : ImageSection). AreSymbolsOf (strings_at image made x.sh_link) (final read image).symbols
+              (symbols_in image.form bytes)) (sym same) are;
+          copied = subst (λ (x : ImageSection). IsTrue (are_symbols_kept read image && is_table_copied read image x.sh_link) → bytes ≡ x.content)
+              (sym same) copied;
+        }))
 
     pub symbols_at : s.sh_type ≡ SHT_DYNSYM → (bytes : List ℕ) → length bytes ≡ length image.dynamic_symbols * symbol_size image.form
         → AreSymbolsOf (strings_at image made s.sh_link) (final read image).dynamic_symbols (symbols_in image.form bytes)
@@ -272,11 +296,16 @@ module _ (read image : Image) (plan : Layout) (made : List Made) (raw : List Ent
 
 -- the interpreter's
 pub interpreter_at : (read image : Image) (plan : Layout) (made : List Made) (raw : List EntryNumbers) → IsPlanned read image plan → (i : ℕ)
-    → i < length image.sections
-    → is_some_and (λ n. n == i) (interpreter_number read) ≡ true
-    → IsBytesAt image plan made raw i (list_at (λ name. name) image.interpreter)
-interpreter_at read image plan made raw is i within own =
-    let facts : ReadFacts read image = read_facts read image (edit_of is.ready) in
-    let place : PlacedAt read image plan facts.parts i = placed_at read image plan is facts i within in
-    bytes_at read image plan made raw facts.parts i (list_at (λ name. name) image.interpreter) is.ready.at_read place
-    (interpreter_made read image plan made raw is.ready facts i place own)
+    → (s : ImageSection) → slice_get image.sections i ≡ Some s
+    → is_some_and (λ n. n == slice_index image.section_numbers i) (interpreter_number read) ≡ true
+    → IsBytesAt image plan made raw i (unwrap_or image.interpreter s.content)
+interpreter_at read image plan made raw is i s s_at own =
+    let facts : ReadFacts read image = read_facts read image (ready_edit is.ready) in
+    let place : PlacedAt read image plan facts.parts i = placed_at read image plan is facts i (slice_get_within image.sections i s s_at) in
+    let same : place.here.section ≡ s = same_Some place.here.section s (sym place.here.is_section ∙ s_at) in
+    let number : slice_index image.section_numbers i ≡ place.here.number =
+    get_or_from_slice_get image.section_numbers i place.here.number 0 place.here.is_number in
+    subst (λ (x : ImageSection). IsBytesAt image plan made raw i (unwrap_or image.interpreter x.content)) same
+    (bytes_at read image plan made raw facts.parts i (unwrap_or image.interpreter place.here.section.content) is.ready.at_read place
+    (interpreter_made read image plan made raw facts i place
+    (ap (λ (k : ℕ). is_some_and (λ n. n == k) (interpreter_number read)) (sym number) ∙ own)))

@@ -1,22 +1,20 @@
--- The bytes of each section of an edited image of which nothing went: as many as its place has, and what they show, by the section's type.
+-- The bytes of each section of an edited image: as many as its place has, and what they show, by the section's type.
 use Rattle.std.proofs.Common.{◌≡◌, ◌<◌, ℕ, ◌*◌, Bool, true, false, eqb, List, [], ◌∷◌, length, map, refl, sym, ap, ◌∙◌, subst, Some}
-use Rattle.std.specs.Prelude.{◌&&◌, not, if◌then◌else◌, ◌==◌}
+use Rattle.std.specs.Prelude.{◌&&◌, not, if◌then◌else◌, unwrap_or, ◌==◌}
 use Rattle.std.specs.List.{slice_get}
 use Rattle.std.proofs.lemmas.Bool.{both_ways, cond-false, cond-true, eq-eqb, eqb-true, false≢true}
 use Rattle.std.proofs.lemmas.Option.{same_Some}
 use Rattle.elf_format.specs.declared.constants.TheConstants.{SHT_DYNAMIC, SHT_DYNSYM, SHT_GNU_HASH, SHT_GNU_VERDEF, SHT_GNU_VERNEED, SHT_GNU_VERSYM, SHT_HASH, SHT_NOBITS, SHT_NOTE, SHT_REL, SHT_RELA, SHT_STRTAB, SHT_SYMTAB}
 use Rattle.elf_format.specs.declared.records.EntryNumbers.{EntryNumbers}
-use Rattle.elf_format.specs.declared.records.SectionHeader.{SectionHeader}
 use Rattle.elf_format.specs.declared.section_data.SectionData.{SectionData}
 use Rattle.elf_format.specs.declared.section_data.SectionData.TheVariants as kinds
 use Rattle.elf_format.specs.File.{Parts}
 use Rattle.elf_format.specs.Image.{Image, ImageSection}
-use Rattle.elf_format.specs.Options.{is_one_of, list_at}
+use Rattle.elf_format.specs.Options.{is_one_of}
 use Rattle.elf_format.specs.Places.{Place, occupies_file}
 use Rattle.elf_format.specs.Records.{symbol_size, symbols_in}
 use Rattle.elf_format.specs.Rules.{is_opaque_relocation}
-use Rattle.elf_image.specs.ReadImage.{IsSectionOf}
-use Rattle.elf_image.specs.Kept.{KeptSection, image_at_read, interpreter_number, is_numbered, kept_sections}
+use Rattle.elf_image.specs.Kept.{KeptSection, image_at_read, interpreter_number, is_numbered}
 use Rattle.elf_layout_plan.specs.Memory.{Resized, SizedSection, sized_sections}
 use Rattle.elf_layout_plan.specs.Needs.{written_needs}
 use Rattle.elf_layout_plan.specs.Plan.{Layout, layout_for, resized}
@@ -32,11 +30,9 @@ use Rattle.elf_write_spec.specs.Final.{final}
 use Rattle.elf_write_strings.specs.declared.made.Made.{Made}
 use Rattle.elf_write_contents.specs.ContentSteps.{IsBytesAt, IsRelocatedOf}
 use Rattle.elf_write_strings.specs.WrittenStrings.{strings_at}
-use Rattle.elf_write_spec.specs.Ready.{IsPlanned}
-use Rattle.elf_write_contents.specs.Inner.{IsMadeContent}
-use Rattle.elf_write_contents.proofs.ReadyEdits.{edit_of}
-use Rattle.elf_write_spec.proofs.ForCallers.IntactEdits.{ReadFacts, SectionRead, section_read}
-use Rattle.elf_write_spec.proofs.ForCallers.IntactSections.{kept}
+use Rattle.elf_write_contents.specs.Inner.{IsMadeContent, IsPlanned}
+use Rattle.elf_write_spec.proofs.ForCallers.NumberedSections.{kept_as}
+use Rattle.elf_write_spec.proofs.ForCallers.WholeEdits.{ReadFacts, SectionRead, section_read}
 use Rattle.elf_write_spec.proofs.ForCallers.SectionKinds.{kind_by}
 
 -- ## A section and its place
@@ -45,24 +41,20 @@ use Rattle.elf_write_spec.proofs.ForCallers.SectionKinds.{kind_by}
 abbrev pub resized_with : Image → Image → Resized
 resized_with read image = record { read = read; image = image; sizes = new_sizes read image }
 
+-- a section that is there, with its place
 pub record PlacedAt (read image : Image) (plan : Layout) (p : Parts) (i : ℕ) : Type 0 where
-  pub section : ImageSection
-  pub old : SectionHeader
+  pub here : SectionRead read image p i
   pub place : Place
-  pub is_section : slice_get image.sections i ≡ Some section
-  pub is_kept : slice_get (kept_sections image) i ≡ Some (kept i section)
-  pub is_old : slice_get p.sections i ≡ Some old
-  pub of_old : IsSectionOf p old section
   pub is_place : slice_get plan.places i ≡ Some place
-  pub place_type : place.sh_type ≡ section.sh_type
-  pub place_size : place.sh_size ≡ new_size read image (kept i section)
+  pub place_type : place.sh_type ≡ here.section.sh_type
+  pub place_size : place.sh_size ≡ new_size read image (kept_as i here.number here.section)
 
 pub placed_at : (read image : Image) (plan : Layout) → IsPlanned read image plan → (f : ReadFacts read image) → (i : ℕ)
     → i < length image.sections → PlacedAt read image plan f.parts i
 unfolding layout_for places
 placed_at read image plan is f i within =
-    let at : SectionRead read image f.parts i = section_read read image (edit_of is.ready) f i within in
-    let k : KeptSection = kept i at.section in
+    let at : SectionRead read image f.parts i = section_read read image f i within in
+    let k : KeptSection = kept_as i at.number at.section in
     let r : Resized = resized image in
     let moved : List ℕ = is.planned.moved in
     let s : SizedSection = sized_of r k in
@@ -72,13 +64,8 @@ placed_at read image plan is f i within =
     ap (λ (l : List Place). slice_get l i) all ∙ at-map (place_in r moved) (sized_sections r) i s s_at in
     let keeps = keeps_kind r moved s (slice_get-at (sized_sections r) i s s_at) in
     record {
-      section = at.section;
-      old = at.old;
+      here = at;
       place = place_in r moved s;
-      is_section = at.is_section;
-      is_kept = at.is_kept;
-      is_old = at.is_old;
-      of_old = at.of_old;
       is_place = here;
       place_type = keeps.type;
       place_size = keeps.size ∙ ap (λ (x : Image). new_size x image k) (sym is.ready.at_read);
@@ -87,14 +74,14 @@ placed_at read image plan is f i within =
 -- the bytes of a section, once they are those of its place
 pub bytes_at : (read image : Image) (plan : Layout) (made : List Made) (raw : List EntryNumbers) (p : Parts) (i : ℕ) (bytes : List ℕ)
     → read ≡ image_at_read image → (at : PlacedAt read image plan p i)
-    → IsMadeContent (resized_with read image) plan made raw (kept i at.section) at.place bytes → IsBytesAt image plan made raw i bytes
+    → IsMadeContent (resized_with read image) plan made raw (kept_as i at.here.number at.here.section) at.place bytes → IsBytesAt image plan made raw i bytes
 bytes_at read image plan made raw p i bytes same at is = record {
   are = λ k place k_at place_at.
       subst (λ (x : Image). IsMadeContent (resized_with x image) plan made raw k place bytes) same
       (subst (λ (x : Place). IsMadeContent (resized_with read image) plan made raw k x bytes)
       (same_Some at.place place (sym at.is_place ∙ place_at))
       (subst (λ (x : KeptSection). IsMadeContent (resized_with read image) plan made raw x at.place bytes)
-      (same_Some (kept i at.section) k (sym at.is_kept ∙ k_at)) is));
+      (same_Some (kept_as i at.here.number at.here.section) k (sym at.here.is_kept ∙ k_at)) is));
 }
 
 -- ## Kinds
@@ -203,118 +190,118 @@ relocations_stored n opaque is = by_tests (eqb n 0) refl (eqb n 8) refl
 
 module _ (read image : Image) (plan : Layout) (made : List Made) (raw : List EntryNumbers) (p : Parts) (i : ℕ) (at : PlacedAt read image plan p i) where
   abbrev pub here : KeptSection
-  here = kept i at.section
+  here = kept_as i at.here.number at.here.section
 
   abbrev pub r : Resized
   r = resized_with read image
 
-  old_type : at.old.sh_type ≡ at.section.sh_type
-  old_type = sym (ap (λ (x : ImageSection). x.sh_type) at.of_old.fields)
+  old_type : at.here.old.sh_type ≡ at.here.section.sh_type
+  old_type = sym (ap (λ (x : ImageSection). x.sh_type) at.here.of_old.fields)
 
-  pub kind_is : (type : ℕ) → at.section.sh_type ≡ type → at.section.kind ≡ kind_by type (is_opaque_relocation p at.old)
+  pub kind_is : (type : ℕ) → at.here.section.sh_type ≡ type → at.here.section.kind ≡ kind_by type (is_opaque_relocation p at.here.old)
   kind_is type e =
-      ap (λ (x : ImageSection). x.kind) at.of_old.fields ∙ ap (λ (n : ℕ). kind_by n (is_opaque_relocation p at.old)) (old_type ∙ e)
+      ap (λ (x : ImageSection). x.kind) at.here.of_old.fields ∙ ap (λ (n : ℕ). kind_by n (is_opaque_relocation p at.here.old)) (old_type ∙ e)
 
   -- ## Sections but the interpreter's
 
-  module _ (apart : is_numbered (interpreter_number read) (kept i at.section) ≡ false) where
+  module _ (apart : is_numbered (interpreter_number read) (kept_as i at.here.number at.here.section) ≡ false) where
     -- by the kind
-    pub content_from : (strings bytes : List ℕ) (kind : SectionData) → at.section.kind ≡ kind → IsContentOfKind r plan raw strings here bytes kind
+    pub content_from : (strings bytes : List ℕ) (kind : SectionData) → at.here.section.kind ≡ kind → IsContentOfKind r plan raw strings here bytes kind
         → IsContent r plan raw strings here bytes
     content_from strings bytes kind e h =
         subst (λ (b : Bool). elim b as (λ _. Type 0) [
-          | true ↦ bytes ≡ list_at (λ name. name) image.interpreter
-          | _ ↦ IsContentOfKind r plan raw strings here bytes at.section.kind
+          | true ↦ bytes ≡ unwrap_or image.interpreter at.here.section.content
+          | _ ↦ IsContentOfKind r plan raw strings here bytes at.here.section.kind
         ]) (sym apart) (subst (IsContentOfKind r plan raw strings here bytes) (sym e) h)
 
-    plain_size : at.place.sh_size ≡ table_size read image (kept i at.section)
+    plain_size : at.place.sh_size ≡ table_size read image (kept_as i at.here.number at.here.section)
     unfolding new_size
     plain_size =
         at.place_size
-        ∙ cond-false (is_numbered (interpreter_number read) (kept i at.section)) (interpreter_size image at.section) _ apart
+        ∙ cond-false (is_numbered (interpreter_number read) (kept_as i at.here.number at.here.section)) (interpreter_size image at.here.section) _ apart
 
     -- of a type that decides the kind
-    pub content_by : (strings bytes : List ℕ) (type : ℕ) → at.section.sh_type ≡ type → (kind : SectionData) → ((opaque : Bool) → kind_by type opaque ≡ kind)
+    pub content_by : (strings bytes : List ℕ) (type : ℕ) → at.here.section.sh_type ≡ type → (kind : SectionData) → ((opaque : Bool) → kind_by type opaque ≡ kind)
         → IsContentOfKind r plan raw strings here bytes kind → IsContent r plan raw strings here bytes
     content_by strings bytes type e kind by_type h =
-        content_from strings bytes kind (kind_is type e ∙ by_type (is_opaque_relocation p at.old)) h
+        content_from strings bytes kind (kind_is type e ∙ by_type (is_opaque_relocation p at.here.old)) h
 
     -- ## Sizes
 
     -- how large the section would be, were it of a type
     abbrev pub size_for : ℕ → ℕ
     size_for n =
-        if n == SHT_DYNAMIC then dynamic_size read image at.section
+        if n == SHT_DYNAMIC then dynamic_size read image at.here.section
         else if n == SHT_STRTAB then strings_size read image here
         else if n == SHT_SYMTAB then length image.symbols * symbol_size image.form
         else if n == SHT_DYNSYM then length image.dynamic_symbols * symbol_size image.form
         else if n == SHT_GNU_VERSYM then 2 * length image.dynamic_symbols
         else if n == SHT_GNU_VERDEF then definitions_size image.definitions
         else if n == SHT_GNU_VERNEED then needs_size (written_needs read image)
-        else if n == SHT_HASH then hash_size read image at.section
-        else if n == SHT_GNU_HASH then hash_size read image at.section
-        else at.section.sh_size
+        else if n == SHT_HASH then hash_size read image at.here.section
+        else if n == SHT_GNU_HASH then hash_size read image at.here.section
+        else at.here.section.sh_size
 
-    pub typed_size : (type : ℕ) → at.section.sh_type ≡ type → at.place.sh_size ≡ size_for type
+    pub typed_size : (type : ℕ) → at.here.section.sh_type ≡ type → at.place.sh_size ≡ size_for type
     typed_size type e = plain_size ∙ ap (λ (n : ℕ). size_for n) e
 
     -- a type of which the bytes stand in the file
-    pub stored : (type : ℕ) → at.section.sh_type ≡ type → (not (eqb type 0) && not (eqb type 8)) ≡ true
+    pub stored : (type : ℕ) → at.here.section.sh_type ≡ type → (not (eqb type 0) && not (eqb type 8)) ≡ true
         → (if occupies_file at.place then at.place.sh_size else 0) ≡ at.place.sh_size
     stored type e h =
         cond-true (occupies_file at.place) at.place.sh_size 0 (ap (λ t. not (eqb t 0) && not (eqb t 8)) (at.place_type ∙ e) ∙ h)
 
     -- it is no string table
-    pub no_strings : (type : ℕ) → at.section.sh_type ≡ type → (type == SHT_STRTAB) ≡ false → (bytes : List ℕ)
-        → at.section.sh_type ≡ SHT_STRTAB → bytes ≡ strings_at image made i
+    pub no_strings : (type : ℕ) → at.here.section.sh_type ≡ type → (type == SHT_STRTAB) ≡ false → (bytes : List ℕ)
+        → at.here.section.sh_type ≡ SHT_STRTAB → bytes ≡ strings_at image made at.here.number
     no_strings type e other bytes h = absurd (both_ways (type == SHT_STRTAB) other (eq-eqb type SHT_STRTAB (sym e ∙ h)))
 
     -- bytes of a type that is made anew, as many as the type's size
-    pub typed : (bytes : List ℕ) (type : ℕ) → at.section.sh_type ≡ type → (not (eqb type 0) && not (eqb type 8)) ≡ true → (type == SHT_STRTAB) ≡ false
+    pub typed : (bytes : List ℕ) (type : ℕ) → at.here.section.sh_type ≡ type → (not (eqb type 0) && not (eqb type 8)) ≡ true → (type == SHT_STRTAB) ≡ false
         → (kind : SectionData) → ((opaque : Bool) → kind_by type opaque ≡ kind) → length bytes ≡ size_for type
-        → IsContentOfKind r plan raw (strings_at image made at.section.sh_link) here bytes kind
+        → IsContentOfKind r plan raw (strings_at image made at.here.section.sh_link) here bytes kind
         → IsMadeContent r plan made raw here at.place bytes
     typed bytes type e in_file other kind by_type long h = record {
       sized = long ∙ sym (typed_size type e) ∙ sym (stored type e in_file);
-      content = content_by (strings_at image made at.section.sh_link) bytes type e kind by_type h;
+      content = content_by (strings_at image made at.here.section.sh_link) bytes type e kind by_type h;
       strings = no_strings type e other bytes;
     }
 
     -- ## Tables that are made of the image's lists
 
-    pub symbols_made : (bytes : List ℕ) → at.section.sh_type ≡ SHT_DYNSYM → length bytes ≡ length image.dynamic_symbols * symbol_size image.form
-        → AreSymbolsOf (strings_at image made at.section.sh_link) (final read image).dynamic_symbols (symbols_in image.form bytes)
+    pub symbols_made : (bytes : List ℕ) → at.here.section.sh_type ≡ SHT_DYNSYM → length bytes ≡ length image.dynamic_symbols * symbol_size image.form
+        → AreSymbolsOf (strings_at image made at.here.section.sh_link) (final read image).dynamic_symbols (symbols_in image.form bytes)
         → IsMadeContent r plan made raw here at.place bytes
     symbols_made bytes e long are = typed bytes SHT_DYNSYM e refl refl kinds.DynamicSymbols (λ opaque. refl) long are
 
-    pub statics_made : (bytes : List ℕ) → at.section.sh_type ≡ SHT_SYMTAB → length bytes ≡ length image.symbols * symbol_size image.form
-        → AreStaticSymbolsIn r here (strings_at image made at.section.sh_link) bytes
+    pub statics_made : (bytes : List ℕ) → at.here.section.sh_type ≡ SHT_SYMTAB → length bytes ≡ length image.symbols * symbol_size image.form
+        → AreStaticSymbolsIn r here (strings_at image made at.here.section.sh_link) bytes
         → IsMadeContent r plan made raw here at.place bytes
     statics_made bytes e long are = typed bytes SHT_SYMTAB e refl refl kinds.Symbols (λ opaque. refl) long are
 
-    pub definitions_made : (bytes : List ℕ) → at.section.sh_type ≡ SHT_GNU_VERDEF → length bytes ≡ definitions_size image.definitions
-        → AreDefinitionsIn image (strings_at image made at.section.sh_link) bytes
+    pub definitions_made : (bytes : List ℕ) → at.here.section.sh_type ≡ SHT_GNU_VERDEF → length bytes ≡ definitions_size image.definitions
+        → AreDefinitionsIn image (strings_at image made at.here.section.sh_link) bytes
         → IsMadeContent r plan made raw here at.place bytes
     definitions_made bytes e long are = typed bytes SHT_GNU_VERDEF e refl refl kinds.GnuVerdef (λ opaque. refl) long are
 
-    pub needs_made : (bytes : List ℕ) → at.section.sh_type ≡ SHT_GNU_VERNEED → length bytes ≡ needs_size (written_needs read image)
-        → AreNeedsIn r (strings_at image made at.section.sh_link) bytes
+    pub needs_made : (bytes : List ℕ) → at.here.section.sh_type ≡ SHT_GNU_VERNEED → length bytes ≡ needs_size (written_needs read image)
+        → AreNeedsIn r (strings_at image made at.here.section.sh_link) bytes
         → IsMadeContent r plan made raw here at.place bytes
     needs_made bytes e long are = typed bytes SHT_GNU_VERNEED e refl refl kinds.GnuVerneed (λ opaque. refl) long are
 
     -- ## Tables that number the dynamic symbols
 
-    pub versions_made : (bytes : List ℕ) → at.section.sh_type ≡ SHT_GNU_VERSYM → length bytes ≡ 2 * length image.dynamic_symbols
-        → AreVersionsIn r at.section bytes
+    pub versions_made : (bytes : List ℕ) → at.here.section.sh_type ≡ SHT_GNU_VERSYM → length bytes ≡ 2 * length image.dynamic_symbols
+        → AreVersionsIn r at.here.section bytes
         → IsMadeContent r plan made raw here at.place bytes
     versions_made bytes e long are = typed bytes SHT_GNU_VERSYM e refl refl kinds.GnuVersym (λ opaque. refl) long are
 
-    pub gabi_made : (bytes : List ℕ) → at.section.sh_type ≡ SHT_HASH → length bytes ≡ hash_size read image at.section
-        → IsGabiContent r at.section bytes
+    pub gabi_made : (bytes : List ℕ) → at.here.section.sh_type ≡ SHT_HASH → length bytes ≡ hash_size read image at.here.section
+        → IsGabiContent r at.here.section bytes
         → IsMadeContent r plan made raw here at.place bytes
     gabi_made bytes e long are = typed bytes SHT_HASH e refl refl kinds.Hash (λ opaque. refl) long are
 
-    pub gnu_made : (bytes : List ℕ) → at.section.sh_type ≡ SHT_GNU_HASH → length bytes ≡ hash_size read image at.section
-        → IsGnuContent r at.section bytes
+    pub gnu_made : (bytes : List ℕ) → at.here.section.sh_type ≡ SHT_GNU_HASH → length bytes ≡ hash_size read image at.here.section
+        → IsGnuContent r at.here.section bytes
         → IsMadeContent r plan made raw here at.place bytes
     gnu_made bytes e long are = typed bytes SHT_GNU_HASH e refl refl kinds.GnuHash (λ opaque. refl) long are

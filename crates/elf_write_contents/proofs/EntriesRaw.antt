@@ -24,11 +24,11 @@ use Rattle.elf_write_strings.specs.declared.made.Made.{Made}
 use Rattle.elf_write_contents.specs.EntrySteps.{numbers_with}
 use Rattle.elf_write_strings.specs.PlacedTexts.{TextsStand, link_at}
 use Rattle.elf_write_strings.specs.WrittenStrings.{strings_at}
-use Rattle.elf_write_spec.specs.Ready.{IsReady}
+use Rattle.elf_write_spec.specs.Ready.{IsEditedReady}
 use Rattle.elf_write_contents.specs.Inner.{AreRaw}
 use Rattle.elf_write_strings.proofs.ForCallers.LinksAt.{Link, NoLink}
 use Rattle.elf_write_strings.proofs.ForCallers.LinksAt as links
-use Rattle.elf_write_spec.proofs.ForCallers.IntactEdits.{entries_written}
+use Rattle.elf_write_spec.proofs.ForCallers.WholeEdits.{entries_written}
 
 -- one entry for each, where each text stands at its place
 pub are_entries : (r : Resized) (plan : Layout) (strings : List ℕ) (es : List Entry) (places : List ℕ)
@@ -66,7 +66,7 @@ linked_now image is list at = elim (links.link_at image SHT_DYNAMIC is) [
 ]
 
 -- the entries of an image with a dynamic section
-pub are_raw : (read image : Image) (plan : Layout) (made : List Made) → IsReady read image → (list : ℕ)
+pub are_raw : (read image : Image) (plan : Layout) (made : List Made) → IsEditedReady read image → (list : ℕ)
     → type_position image SHT_DYNAMIC ≡ Some list → (raw : List EntryNumbers)
     → AreEntriesOf (resized image) plan (strings_at image made (link_at image list)) (list_at (λ es. es) (written_entries read image)) raw
     → AreRaw (resized image) plan made raw
@@ -87,7 +87,7 @@ are_raw read image plan made is list at raw are =
     }
 
 -- those that were made by the places of their texts
-pub made_raw : (read image : Image) (plan : Layout) (made : List Made) (s : Staying) → IsReady read image → AreWritten read image s
+pub made_raw : (read image : Image) (plan : Layout) (made : List Made) (s : Staying) → IsEditedReady read image → AreWritten read image s
     → (list : ℕ) → type_position image SHT_DYNAMIC ≡ Some list → (es : List Entry) → Some es ≡ image.entries
     → (texts : List (List ℕ)) (places : List ℕ) → texts ≡ list_at texts_of_entries (written_entries read image)
     → TextsStand (strings_at image made (link_at image list)) texts places → (raw : List EntryNumbers)
@@ -104,7 +104,7 @@ made_raw read image plan made s is stays list at es there texts places own stand
     (are_entries (resized image) plan strings left places (subst (λ (ts : List (List ℕ)). TextsStand strings ts places) texts_left stand))))
 
 -- an image with a dynamic section and no list has none
-pub none_listed : (read image : Image) (plan : Layout) (made : List Made) (s : Staying) → IsReady read image → AreWritten read image s
+pub none_listed : (read image : Image) (plan : Layout) (made : List Made) (s : Staying) → IsEditedReady read image → AreWritten read image s
     → (list : ℕ) → type_position image SHT_DYNAMIC ≡ Some list → None ≡ image.entries → (raw : List EntryNumbers) → raw ≡ []
     → AreRaw (resized image) plan made raw
 none_listed read image plan made s is stays list at none raw raw_none =

@@ -3,7 +3,6 @@ use Rattle.std.proofs.Common.{◌≡◌, ◌≤◌, ◌<◌, ◌^◌, ℕ, ◌+�
 use Rattle.std.specs.Prelude.{◌&&◌}
 use Rattle.std.specs.List.{list_all}
 use Rattle.std.proofs.lemmas.Bool.{lt-ltb}
-use Rattle.std.proofs.lemmas.Option.{none-some, same_Some}
 use Rattle.patch_bytes.specs.declared.number.Wide.{Wide}
 use Rattle.patch_bytes.specs.declared.number.Wide.TheVariants.{W32, W64}
 use Rattle.patch_bytes.specs.Number.{word_size}
@@ -13,10 +12,9 @@ use Rattle.elf_format.specs.declared.records.EntryNumbers.{EntryNumbers}
 use Rattle.elf_format.specs.declared.records.FileHeader.{FileHeader}
 use Rattle.elf_format.specs.declared.records.SectionHeader.{SectionHeader}
 use Rattle.elf_format.specs.Dynamic.{Auto, Entry, Integer, Text}
-use Rattle.elf_format.specs.Image.{Image, entries_read}
+use Rattle.elf_format.specs.Image.{Image}
 use Rattle.elf_format.specs.Options.{list_at}
 use Rattle.elf_format.specs.Places.{Place}
-use Rattle.elf_image.specs.Edited.{AreEntriesOf as AreEditedEntries}
 use Rattle.elf_tables.specs.Fields.{do_fields_fit, does_field_fit}
 use Rattle.elf_tables.specs.Spelled.{entry_fields, file_header_fields, section_fields, segment_fields}
 use Rattle.elf_image.specs.Kept.{KeptSection, image_at_read, kept_of_type, kept_sections, link_of_type}
@@ -30,12 +28,13 @@ use Rattle.elf_write_spec.proofs.ForCallers.TextsRead.{text_inside}
 use Rattle.elf_write_strings.specs.declared.made.Made.{Made}
 use Rattle.elf_write_contents.specs.FitSteps.{do_unnamed_fit, unnamed}
 use Rattle.elf_write_strings.specs.WrittenStrings.{AreStrings, strings_at}
-use Rattle.elf_write_spec.specs.Ready.{IsPlanned, IsReady}
-use Rattle.elf_write_contents.specs.Inner.{AreHeaders, AreRaw}
+use Rattle.elf_write_spec.specs.Ready.{IsEditedReady}
+use Rattle.elf_write_contents.specs.Inner.{AreHeaders, AreRaw, IsPlanned}
 use Rattle.elf_write_contents.specs.Numbers.{do_header_numbers_fit, do_sections_fit, does_entry_fit, entry_with}
 use Rattle.elf_write_contents.proofs.FitsStrings.{strings_short, words_end}
-use Rattle.elf_write_contents.proofs.ReadyEdits.{edit_of}
-use Rattle.elf_write_spec.proofs.ForCallers.IntactEdits.{Nowhere, ReadFacts, There, entries_written, read_facts, type_at}
+use Rattle.elf_write_contents.proofs.OthersCopied.{no_entries_read, none_edited}
+use Rattle.elf_write_spec.proofs.ForCallers.WholeEdits.{entries_written, read_facts}
+use Rattle.elf_write_strings.proofs.ForCallers.ReadTables.{ready_edit}
 
 -- ## Section headers
 
@@ -93,29 +92,19 @@ module _ (r : Resized) (plan : Layout) (strings : List ℕ) (short : length stri
       ap (λ (b : Bool). b && list_all (λ y. do_fields_fit (entry_fields r.image.form y)) xs) (entry_fit e x are.0)
       ∙ ap (λ (b : Bool). does_entry_fit r plan e && b) (entries_fit es xs are.1)
 
--- no list without a dynamic section
-none_edited : (read now : Option (List Entry)) → AreEditedEntries read now → read ≡ None → now ≡ None
-none_edited None None are none = refl
-none_edited None (Some now) are none = absurd are
-none_edited (Some read) now are none = absurd (none-some read (sym none))
-
-no_entries : (read image : Image) → IsReady read image → kept_of_type SHT_DYNAMIC image ≡ None
+-- no entries without a dynamic section
+no_entries : (read image : Image) → IsEditedReady read image → kept_of_type SHT_DYNAMIC image ≡ None
     → list_at (λ es. es) (final (image_at_read image) image).entries ≡ []
-unfolding entries_read
 no_entries read image is none =
-    let f = read_facts read image (edit_of is) in
+    let f = read_facts read image (ready_edit is) in
+    let none_read : read.entries ≡ None =
+    no_entries_read is (ap (λ (o : Option KeptSection). o >>= λ s. Some s.section.sh_link) none) in
     ap (λ (r : Image). list_at (λ es. es) (final r image).entries) (sym is.at_read)
     ∙ ap (list_at (λ es. es)) (entries_written read image)
-    ∙ ap (list_at (λ es. es)) (written_none read image (none_edited read.entries image.entries f.edit.entries (read_none f)))
-  where
-    read_none : (f : ReadFacts read image) → read.entries ≡ None
-    read_none f = elim (type_at read image (edit_of is) f SHT_DYNAMIC) [
-      | Nowhere was now ↦ sym (same_Some None read.entries (ap (entries_read f.parts) (sym was) ∙ f.holds.entries))
-      | There i at _ _ _ now ↦ absurd (none-some _ (sym none ∙ now))
-    ]
+    ∙ ap (list_at (λ es. es)) (written_none read image (none_edited read.entries image.entries f.edit.entries none_read))
 
 module _ (read image : Image) (plan : Layout) (made : List Made) (raw : List EntryNumbers) where
-  list_fits : IsReady read image → AreStrings read image made → AreRaw (resized image) plan made raw → (o : Option KeptSection)
+  list_fits : IsEditedReady read image → AreStrings read image made → AreRaw (resized image) plan made raw → (o : Option KeptSection)
       → kept_of_type SHT_DYNAMIC image ≡ o
       → list_all (λ x. do_fields_fit (entry_fields image.form x)) raw
       ≡ list_all (does_entry_fit (resized image) plan) (list_at (λ es. es) (final (image_at_read image) image).entries)

@@ -5,10 +5,8 @@
 pub use Rattle.elf_write_contents.proofs.PlanCounts.{plan_counts}
 -- contents that are those of an image are as long as the plan says
 pub use Rattle.elf_write_contents.proofs.ContentsAll.{long_held}
--- which texts a string table of an image shows
-pub use Rattle.elf_write_contents.proofs.NamesTable.{linked_at, names_at, names_typed, shows_none}
+-- which sections show texts
+pub use Rattle.elf_write_contents.proofs.NamesTable.{shows_none}
 unfoldable pub use Rattle.elf_write_contents.proofs.NamesTable.{shows_texts}
--- an image that is ready to be written is edited, and nothing of it went
-pub use Rattle.elf_write_contents.proofs.ReadyEdits.{edit_of, edited_ready}
 -- dynamic strings that are copied, past what 32 bits reach, are numbers that don't fit
 pub use Rattle.elf_write_contents.proofs.PreparedFaults.{names_far}

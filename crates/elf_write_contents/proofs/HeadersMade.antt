@@ -1,25 +1,27 @@
 -- What is known of each section header that is written.
-use Rattle.std.proofs.Common.{◌≡◌, ℕ, ◌<◌, ◌≤◌, ◌^◌, false, List, [], length, map, get_or, sym, ap, ◌∙◌, subst, Option, Some, arith}
-use Rattle.std.specs.Prelude.{Contains, IsSome, if◌then◌else◌, ◌==◌, slice_index, unwrap_or}
+use Rattle.std.proofs.Common.{◌≡◌, ℕ, zero, suc, ◌<◌, ◌≤◌, ◌^◌, Bool, true, false, List, [], ◌∷◌, length, map, get_or, refl, sym, ap, ◌∙◌, subst, inr, Option, Some, None, arith}
+use Rattle.std.specs.Prelude.{Contains, IsSome, ◌&&◌, ◌||◌, not, if◌then◌else◌, ◌==◌, slice_index}
 use Rattle.std.specs.List.{slice_get}
-use Rattle.std.specs.Option.{option_map}
+use Rattle.std.specs.Str.{bytes_eq}
+use Rattle.std.proofs.lemmas.Bool.{and_parts, eq-eqb, false≢true}
 use Rattle.std.proofs.lemmas.List.{length-map}
-use Rattle.std.proofs.lemmas.Option.{get_or_from_slice_get, same_Some, slice_get_read, slice_get_within}
-use Rattle.patch_bytes.specs.Memory.{◌>>=◌, Memory, memory_of, text_at}
+use Rattle.std.proofs.lemmas.Option.{get_or_from_slice_get, none-some, same_Some, slice_get_read, slice_get_within}
+use Rattle.std.proofs.lemmas.Slice.Eq.{bytes_eq-Decides}
+use Rattle.patch_bytes.specs.Memory.{◌>>=◌}
 use Rattle.elf_format.specs.declared.constants.TheConstants.{SHT_DYNSYM, SHT_GNU_VERDEF, SHT_GNU_VERNEED, SHT_SYMTAB}
 use Rattle.elf_format.specs.declared.form.Form.{Form}
 use Rattle.elf_format.specs.declared.header.Header.{Header}
 use Rattle.elf_format.specs.declared.records.FileHeader.{FileHeader}
 use Rattle.elf_format.specs.declared.records.SectionHeader.{SectionHeader}
-use Rattle.elf_format.specs.File.{Opened, Parts, section_bytes, sections_of}
+use Rattle.elf_format.specs.File.{Opened, Parts, sections_of}
 use Rattle.elf_format.specs.Image.{Image, ImageSection}
+use Rattle.elf_format.specs.Options.{is_some_and}
 use Rattle.elf_format.specs.Places.{Place}
 use Rattle.elf_format.specs.Records.{section_header_size, segment_header_size}
-use Rattle.elf_format.specs.Rules.{file_of, has_section_info, texts_of}
-use Rattle.elf_format.proofs.ForCallers.Lengths.{slice_index-counted}
+use Rattle.elf_format.specs.Rules.{has_section_info}
 use Rattle.elf_image.specs.declared.section.Section.{Section}
 use Rattle.elf_image.specs.ImageModel.{section_model}
-use Rattle.elf_image.specs.Kept.{KeptSection, image_at_read, kept_sections}
+use Rattle.elf_image.specs.Kept.{image_at_read, kept_sections}
 use Rattle.elf_layout_needs.specs.Staying.{Staying, unmarked_needs}
 use Rattle.elf_layout_needs.specs.Written.{AreWritten}
 use Rattle.elf_layout_plan.specs.Memory.{Resized, sized_sections}
@@ -28,25 +30,27 @@ use Rattle.elf_layout_plan.specs.Standing.{place_in, places}
 use Rattle.elf_layout_plan.proofs.ForCallers.ApartLists.{at-map}
 use Rattle.elf_layout_plan.proofs.ForCallers.ApartRead.{edited_facts}
 use Rattle.elf_layout_plan.proofs.ForCallers.ApartSections.{sized_of}
-use Rattle.elf_tables.specs.Strings.{place_of}
+use Rattle.elf_tables.specs.Strings.{StandsAt, place_of}
 use Rattle.elf_write_spec.specs.Final.{final, new_number}
 use Rattle.elf_write_spec.specs.Headers.{Reads, behind_locals, is_info_number, written_header, written_info, written_section}
-use Rattle.elf_write_spec.proofs.ForCallers.TextsRead.{text_reads}
-use Rattle.elf_write_spec.proofs.ForCallers.IntactLists.{there_at}
-use Rattle.elf_write_contents.specs.declared.headers.Known.{Known}
+use Rattle.elf_write_spec.specs.Ready.{IsEditedReady}
+use Rattle.elf_write_spec.proofs.ForCallers.NumberedSections.{kept_as}
+use Rattle.elf_write_spec.proofs.ForCallers.WholeEdits.{ReadFacts, SectionRead, length-kept, needs_written, read_facts, section_read}
+use Rattle.elf_write_spec.proofs.ForCallers.WholeLists.{there_at}
 use Rattle.elf_write_strings.specs.declared.made.Made.{Made}
-use Rattle.elf_write_contents.specs.HeaderSteps.{IsHeaderAt, IsKnown, header_by, headers_read, info_by}
-use Rattle.elf_write_strings.specs.WrittenStrings.{AreStrings, content_read, made_of}
+use Rattle.elf_write_strings.specs.PlacedTexts.{IsUnedited, names_of_sections}
+use Rattle.elf_write_strings.specs.VersionPlaces.{content_in}
+use Rattle.elf_write_strings.specs.WrittenStrings.{AreStrings, are_section_names_left, are_texts_left, content_read, do_texts_move, has_names_in, made_of}
+use Rattle.elf_write_strings.proofs.ForCallers.ReadTables.{facts, read_unedited, ready_edit, same_read, sections_stand}
+use Rattle.elf_write_strings.proofs.ForCallers.TablesThere.{edited_content}
+use Rattle.elf_write_strings.proofs.ForCallers.TextsTold.{told_names}
 use Rattle.elf_write_strings.proofs.ForCallers.VersionsShown.{number_found}
-use Rattle.elf_write_spec.specs.Ready.{IsEditedReady, IsPlanned, IsReady}
+use Rattle.elf_write_contents.specs.declared.headers.Known.{Known}
+use Rattle.elf_write_contents.specs.HeaderSteps.{IsHeaderAt, IsKnown, header_by, headers_read, info_by}
+use Rattle.elf_write_contents.specs.Inner.{IsPlanned}
 use Rattle.elf_write_contents.specs.Numbers.{do_numbers_fit}
 use Rattle.elf_write_contents.proofs.HeadersLists.{far_numbers, far_section}
 use Rattle.elf_write_contents.proofs.HeadersOrder.{behind_static}
-use Rattle.elf_write_contents.proofs.NamesTable.{names_at}
-use Rattle.elf_write_contents.proofs.ReadyEdits.{edit_of}
-use Rattle.elf_write_strings.proofs.ForCallers.TextsTold.{told_names}
-use Rattle.elf_write_spec.proofs.ForCallers.IntactEdits.{ReadFacts, SectionRead, counts, kept-at, kept_is, length-kept, length-now, needs_written, read_facts, section_read}
-use Rattle.elf_write_spec.proofs.ForCallers.IntactSections.{kept}
 
 -- ## The file header
 
@@ -113,24 +117,20 @@ headers_are read image f headers is =
 
 -- ## Names
 
--- the name of a section stands where it was read
-pub name_read : (read image : Image) → IsReady read image → (f : ReadFacts read image) → (i : ℕ) → (at : SectionRead read image f.parts i)
-    → Reads (content_read image image.header.e_shstrndx) at.old.sh_name at.section.name
-name_read read image is f i at =
-    let p : Parts = f.parts in
-    let n : ℕ = image.header.e_shstrndx in
-    let number : n ≡ p.opened.header.e_shstrndx =
-    ap (λ (h : Header). h.e_shstrndx) f.edit.header ∙ ap (λ (h : Header). h.e_shstrndx) f.holds.header in
-    let names : SectionRead read image p n = names_at read image is f in
-    let content : content_read image n ≡ section_bytes (file_of p) names.old =
-    ap (λ (o : Option KeptSection). unwrap_or (o >>= λ s. Some s.section.content) [])
-    (kept_is read image (edit_of is) n ∙ ap (option_map (kept n)) names.is_section)
-    ∙ ap (λ (x : ImageSection). x.content) names.of_old.fields in
-    let memory : texts_of p (slice_get p.sections p.opened.header.e_shstrndx) ≡ memory_of (content_read image n) =
-    ap (λ (k : ℕ). texts_of p (slice_get p.sections k)) (sym number) ∙ ap (texts_of p) names.is_old
-    ∙ ap (λ (xs : List ℕ). memory_of xs) (sym content) in
-    text_reads (length (file_of p)) (memory_of (content_read image n)) at.old.sh_name at.section.name
-    (ap (λ (m : Memory). text_at (length (file_of p)) m at.old.sh_name) (sym memory) ∙ at.of_old.name)
+-- The name of a section that was read at a number stands where its header tells: in the table of names that was read.
+name_was : (read image : Image) → (is : IsEditedReady read image) → (n : ℕ) (was : ImageSection) (old : SectionHeader)
+    → slice_get read.sections n ≡ Some was → slice_get (read_facts read image (ready_edit is)).parts.sections n ≡ Some old
+    → StandsAt (content_read image image.header.e_shstrndx) old.sh_name was.name
+name_was read image is n was old was_at old_at =
+    let un : IsUnedited read = read_unedited is in
+    let f = read_facts read image (ready_edit is) in
+    let stands = sections_stand read un in
+    let there : slice_get (facts read un).parts.sections n ≡ Some old =
+    ap (λ (p : Parts). slice_get p.sections n) (sym (same_read is)) ∙ old_at in
+    let number : read.header.e_shstrndx ≡ image.header.e_shstrndx = sym (ap (λ (h : Header). h.e_shstrndx) f.edit.header) in
+    subst (λ (bytes : List ℕ). StandsAt bytes old.sh_name was.name)
+    (ap (content_in read.sections) number ∙ edited_content read image is image.header.e_shstrndx (inr (inr refl)))
+    (stands.each n was old was_at there)
 
 -- the name of a section stands in a table that is told anew in place of the names
 pub name_made : (read image : Image) (made : List Made) → AreStrings read image made → (i : ℕ) (s : ImageSection)
@@ -187,6 +187,31 @@ info_told p old s type flags =
     sym (ap (λ (n : ℕ). is_info_number (record s { sh_type = n })) type
     ∙ ap (λ (n : ℕ). is_info_number (record s { sh_type = old.sh_type; sh_flags = n })) flags)
 
+-- ## Names that are left
+
+-- neither of two
+not_either : (a b : Bool) → (a || b) ≡ false → (a ≡ false) × (b ≡ false)
+not_either true b h = absurd (false≢true (sym h))
+not_either false b h = (refl, h)
+
+both_false : (a b : Bool) → a ≡ true → (a && not b) ≡ false → b ≡ true
+both_false true true e h = refl
+both_false true false e h = absurd (false≢true (sym h))
+both_false false b e h = absurd (false≢true e)
+
+-- each text that is left is the one that was read at its number
+left_at : (was : List (List ℕ)) (ns : List ℕ) (now : List (List ℕ)) → are_texts_left was ns now ≡ true → (i n : ℕ) (t old : List ℕ)
+    → slice_get ns i ≡ Some n → slice_get now i ≡ Some t → slice_get was n ≡ Some old → t ≡ old
+left_at was [] now left i n t old n_at t_at old_at = absurd (none-some n n_at)
+left_at was (m ∷ ns) [] left i n t old n_at t_at old_at = absurd (none-some t t_at)
+left_at was (m ∷ ns) (x ∷ now) left zero n t old n_at t_at old_at =
+    let first = (and_parts (is_some_and (bytes_eq x) (slice_get was m)) (are_texts_left was ns now) left).0 in
+    let there : slice_get was m ≡ Some old = ap (slice_get was) (same_Some m n n_at) ∙ old_at in
+    let equal : bytes_eq x old ≡ true = ap (is_some_and (bytes_eq x)) (sym there) ∙ first in
+    sym (same_Some x t t_at) ∙ (bytes_eq-Decides x old).0 equal
+left_at was (m ∷ ns) (x ∷ now) left (suc i) n t old n_at t_at old_at =
+    left_at was ns now (and_parts (is_some_and (bytes_eq x) (slice_get was m)) (are_texts_left was ns now) left).1 i n t old n_at t_at old_at
+
 -- ## The section at a position
 
 -- a section as it is lent
@@ -200,56 +225,72 @@ seen_at image sections i x seen less is =
 module _ (image : Image) (plan : Layout) (made : List Made) (known : Known)
     (planned : IsPlanned (image_at_read image) image plan) (strings : AreStrings (image_at_read image) image made) (is : IsKnown image known)
     (i : ℕ) (less : i < length image.sections) where
-  facts : ReadFacts (image_at_read image) image
-  facts = read_facts (image_at_read image) image (edit_of planned.ready)
+  known_facts : ReadFacts (image_at_read image) image
+  known_facts = read_facts (image_at_read image) image (ready_edit planned.ready)
 
-  -- the number that it was read at is its position
-  number_is : slice_index image.section_numbers i ≡ i
-  number_is =
-      ap (λ (l : List ℕ). slice_index l i) (counts (image_at_read image) image (edit_of planned.ready))
-      ∙ slice_index-counted (length image.sections) i less
+  here : SectionRead (image_at_read image) image known_facts.parts i
+  here = section_read (image_at_read image) image known_facts i less
+
+  -- the number that it was read at
+  number_is : slice_index image.section_numbers i ≡ here.number
+  number_is = get_or_from_slice_get image.section_numbers i here.number 0 here.is_number
 
   pub header_there : slice_index image.section_numbers i < length known.headers.items
   header_there =
       omega (
         arith,
         number_is,
-        less,
-        ap length (headers_are (image_at_read image) image facts known.headers.items is.headers),
-        length-now (image_at_read image) image (edit_of planned.ready) facts,
+        slice_get_within known_facts.parts.sections here.number here.old here.is_old,
+        ap length (headers_are (image_at_read image) image known_facts known.headers.items is.headers),
       )
 
   -- the header that it was read from
-  old_here : (old : SectionHeader) → slice_get known.headers.items (slice_index image.section_numbers i) ≡ Some old
-      → (at : SectionRead (image_at_read image) image facts.parts i) × (old ≡ at.old)
+  old_here : (old : SectionHeader) → slice_get known.headers.items (slice_index image.section_numbers i) ≡ Some old → old ≡ here.old
   old_here old old_at =
-      let at = section_read (image_at_read image) image (edit_of planned.ready) facts i less in (
-        at,
-        same_Some old at.old (sym (ap (slice_get known.headers.items) (sym number_is) ∙ old_at) ∙ ap (λ (l : List SectionHeader). slice_get l i)
-            (headers_are (image_at_read image) image facts known.headers.items is.headers) ∙ at.is_old),
-      )
+      same_Some old here.old (sym (ap (slice_get known.headers.items) (sym number_is) ∙ old_at)
+      ∙ ap (λ (l : List SectionHeader). slice_get l here.number)
+      (headers_are (image_at_read image) image known_facts known.headers.items is.headers) ∙ here.is_old)
+
+  section_here : (s : ImageSection) → slice_get image.sections i ≡ Some s → s ≡ here.section
+  section_here s s_at = same_Some s here.section (sym s_at ∙ here.is_section)
+
+  kept_here : (s : ImageSection) → slice_get image.sections i ≡ Some s → slice_get (kept_sections image) i ≡ Some (kept_as i here.number s)
+  kept_here s s_at = here.is_kept ∙ ap (λ (x : ImageSection). Some (kept_as i here.number x)) (sym (section_here s s_at))
 
   pub info_here : (s : ImageSection) (old : SectionHeader) → slice_get image.sections i ≡ Some s
       → slice_get known.headers.items (slice_index image.section_numbers i) ≡ Some old → has_section_info old ≡ is_info_number s
   info_here s old s_at old_at =
-      let (at, same_old) = old_here old old_at in
-      let same : s ≡ at.section = same_Some s at.section (sym s_at ∙ at.is_section) in
-      info_told facts.parts old s
-      (ap (λ (x : ImageSection). x.sh_type) (same ∙ at.of_old.fields) ∙ ap (λ (h : SectionHeader). h.sh_type) (sym same_old))
-      (ap (λ (x : ImageSection). x.sh_flags) (same ∙ at.of_old.fields) ∙ ap (λ (h : SectionHeader). h.sh_flags) (sym same_old))
+      let same_old : old ≡ here.old = old_here old old_at in
+      let same : s ≡ here.section = section_here s s_at in
+      info_told known_facts.parts old s
+      (ap (λ (x : ImageSection). x.sh_type) (same ∙ here.of_old.fields) ∙ ap (λ (h : SectionHeader). h.sh_type) (sym same_old))
+      (ap (λ (x : ImageSection). x.sh_flags) (same ∙ here.of_old.fields) ∙ ap (λ (h : SectionHeader). h.sh_flags) (sym same_old))
 
   pub place_there : i < length plan.places
-  place_there = omega (arith, less, length-places image plan planned, length-kept (image_at_read image) image (edit_of planned.ready))
+  place_there = omega (arith, less, length-places image plan planned, length-kept (image_at_read image) image known_facts)
 
-  -- the name of a section stands where it was read
+  -- The name of a section stands where it was read, if the table of names isn't told anew: then it is the name that was read.
   pub name_copied : (s : ImageSection) (old : SectionHeader) → slice_get image.sections i ≡ Some s
-      → slice_get known.headers.items (slice_index image.section_numbers i) ≡ Some old → Reads (content_read image image.header.e_shstrndx) old.sh_name s.name
-  name_copied s old s_at old_at =
-      let (at, same_old) = old_here old old_at in
-      let same : s ≡ at.section = same_Some s at.section (sym s_at ∙ at.is_section) in
-      subst (λ (x : ImageSection). Reads (content_read image image.header.e_shstrndx) old.sh_name x.name) (sym same)
-      (subst (λ (x : SectionHeader). Reads (content_read image image.header.e_shstrndx) x.sh_name at.section.name) (sym same_old)
-      (name_read (image_at_read image) image planned.ready facts i at))
+      → slice_get known.headers.items (slice_index image.section_numbers i) ≡ Some old
+      → made_of made image.header.e_shstrndx ≡ None
+      → Reads (content_read image image.header.e_shstrndx) old.sh_name s.name
+  unfolding do_texts_move known_facts
+  name_copied s old s_at old_at none =
+      let n : ℕ = image.header.e_shstrndx in
+      let moved = not_either _ _ (strings.as_read n (inr (inr refl)) none).stay in
+      let left : are_section_names_left (image_at_read image) image ≡ true =
+      both_false (has_names_in image n) (are_section_names_left (image_at_read image) image) (eq-eqb n n refl) (not_either _ _ moved.0).1 in
+      let named : slice_get (names_of_sections (image_at_read image).sections) here.number ≡ Some here.was.name =
+      at-map (λ (x : ImageSection). x.name) (image_at_read image).sections here.number here.was here.is_was in
+      let now : slice_get (names_of_sections image.sections) i ≡ Some here.section.name =
+      at-map (λ (x : ImageSection). x.name) image.sections i here.section here.is_section in
+      let same : here.section.name ≡ here.was.name =
+      left_at (names_of_sections (image_at_read image).sections) image.section_numbers (names_of_sections image.sections) left
+      i here.number here.section.name here.was.name here.is_number now named in
+      let own : s.name ≡ here.was.name = ap (λ (x : ImageSection). x.name) (section_here s s_at) ∙ same in
+      subst (λ (text : List ℕ). Reads (content_read image n) old.sh_name text) (sym own)
+      (subst (λ (h : SectionHeader). StandsAt (content_read image n) h.sh_name here.was.name) (sym (old_here old old_at))
+      (name_was (image_at_read image) image planned.ready here.number here.was here.old here.is_was here.is_old)).read
 
   -- the header of the section
   pub header_made : (names : List ℕ) (s : ImageSection) (p : Place) (name link info : ℕ) (h : SectionHeader)
@@ -261,9 +302,9 @@ module _ (image : Image) (plan : Layout) (made : List Made) (known : Known)
       let fields : h ≡ written_section (resized image) s p name =
       is_h ∙ ap (λ (n : ℕ). header_by s p name n info) link_is ∙ ap (header_by s p name (new_number image s.sh_link)) info_is
       ∙ header_is image known is s p name in (
-        kept i s,
+        kept_as i here.number s,
         p,
-        kept-at (image_at_read image) image (edit_of planned.ready) i ∙ ap (option_map (kept i)) s_at,
+        kept_here s s_at,
         p_at,
         record {
           name = subst (λ (n : ℕ). Reads names n s.name) (sym is_name) reads;
@@ -276,6 +317,6 @@ module _ (image : Image) (plan : Layout) (made : List Made) (known : Known)
       → do_numbers_fit image plan ≡ false
   header_far s s_at far =
       let (p, p_at) = there_at plan.places i place_there in
-      far_numbers image plan (far_section (resized image) (kept_sections image) plan.places i (kept i s) p
-      (kept-at (image_at_read image) image (edit_of planned.ready) i ∙ ap (option_map (kept i)) s_at) p_at
+      far_numbers image plan (far_section (resized image) (kept_sections image) plan.places i (kept_as i here.number s) p
+      (kept_here s s_at) p_at
       (subst (λ (n : ℕ). 2 ^ 32 ≤ n) (sym (info_is image known is s)) far))

@@ -1,12 +1,4 @@
 pub mod OthersCopied
-pub mod ReadyEdits
-pub mod StringsRead
-pub mod SymbolsRead
-pub mod NamesInOrder
-pub mod SymbolsFinal
-pub mod SymbolsNext
-pub mod SymbolsMade
-pub mod SymbolsGiven
 pub mod NumbersUnfit
 pub mod PreparedFaults
 pub mod HeadersLists
@@ -15,7 +7,6 @@ pub mod HeadersOrder
 pub mod ContentsNumbering
 pub mod ContentsMade
 pub mod ContentsCopied
-pub mod SymbolsStatic
 pub mod ContentsByType
 pub mod ContentsAll
 pub mod NamesTable

@@ -1,36 +1,81 @@
--- Each string table but that of the dynamic strings is copied.
-use Rattle.std.proofs.Common.{◌≡◌, ℕ, true, false, List, [], refl, sym, ap, ◌∙◌, inl, inr, Option, Some, None}
-use Rattle.std.specs.Prelude.{◌==◌, if◌then◌else◌, unwrap_or}
-use Rattle.std.specs.List.{slice_get}
-use Rattle.std.specs.Option.{option_map}
-use Rattle.std.proofs.lemmas.Bool.{and_parts, eqb-true}
+-- Each string table of which no text may change is copied: neither the dynamic list nor symbols nor sections have their texts in it.
+use Rattle.std.proofs.Common.{◌≡◌, ℕ, Bool, true, false, List, [], ◌∷◌, ◌++◌, refl, sym, ap, ◌∙◌, inl, inr, Option, Some, None}
+use Rattle.std.specs.Prelude.{◌==◌, if◌then◌else◌, map}
+use Rattle.std.specs.Str.{bytes_eq}
+use Rattle.std.proofs.lemmas.Bool.{and_parts, eqb-true, false≢true}
+use Rattle.std.proofs.lemmas.List.{append-nil}
 use Rattle.std.proofs.lemmas.Option.{none-some, same_Some}
 use Rattle.patch_bytes.specs.Memory.{◌>>=◌}
-use Rattle.elf_format.specs.declared.constants.TheConstants.{SHT_DYNAMIC, SHT_DYNSYM, SHT_GNU_VERNEED}
+use Rattle.patch_bytes.proofs.MemoryLaws.{bind_some}
+use Rattle.elf_format.specs.declared.constants.TheConstants.{SHT_DYNAMIC, SHT_DYNSYM, SHT_GNU_VERDEF, SHT_GNU_VERNEED, SHT_SYMTAB}
 use Rattle.elf_format.specs.declared.records.SectionHeader.{SectionHeader}
 use Rattle.elf_format.specs.Dynamic.{Entry}
 use Rattle.elf_format.specs.File.{section_of_type}
 use Rattle.elf_format.specs.Image.{Image, ImageSection, entries_read}
-use Rattle.elf_format.specs.Options.{first_there, is_some_and}
+use Rattle.elf_format.specs.Options.{first_there, is_one_of, is_some_and, list_at}
 use Rattle.elf_format.specs.Rules.{dynamic_tables_agree, shares_texts, texts_are_shared}
+use Rattle.elf_format.specs.Versions.{VersionDefinition, VersionNeeds}
 use Rattle.elf_format.proofs.ForCallers.ViewsAgree.{test_at}
 use Rattle.elf_image.specs.Edited.{AreEntriesOf}
-use Rattle.elf_image.specs.Kept.{KeptSection, dynamic_strings_number, link_of_type}
-use Rattle.elf_layout_plan.specs.Needs.{lists_needs, staying_needs, written_needs}
-use Rattle.elf_layout_plan.specs.Texts.{is_table_copied}
-use Rattle.elf_write_spec.specs.Ready.{IsReady}
-use Rattle.elf_write_strings.specs.WrittenStrings.{content_read}
-use Rattle.elf_write_contents.proofs.ReadyEdits.{edit_of}
-use Rattle.elf_write_spec.proofs.ForCallers.IntactEdits.{Nowhere, ReadFacts, There, kept_is, type_at}
-use Rattle.elf_write_spec.proofs.ForCallers.IntactSections.{kept}
-use Rattle.elf_write_spec.proofs.ForCallers.IntactTexts.{IsTableApart}
-use Rattle.elf_write_spec.proofs.ForCallers.IntactTexts as texts_stay
+use Rattle.elf_image.specs.Kept.{dynamic_strings_number, link_of_type}
+use Rattle.elf_image.specs.Needed.{lasting_types}
+use Rattle.elf_layout_plan.specs.Needs.{lists_needs, staying_needs, written_entries, written_needs}
+use Rattle.elf_layout_plan.specs.Texts.{if_linked, if_names, is_subsequence, is_table_copied, texts_in_use, texts_of_definitions, texts_of_entries, texts_of_needs, texts_of_symbols}
+use Rattle.elf_layout_plan.proofs.ForCallers.SameTexts.{subsequence_of_itself}
+use Rattle.elf_write_spec.specs.Ready.{IsEditedReady}
+use Rattle.elf_write_spec.proofs.ForCallers.WholeEdits.{ReadFacts, read_facts, type_at}
+use Rattle.elf_write_strings.specs.WrittenStrings.{IsEditedTable, has_names_in, has_texts_in}
+use Rattle.elf_write_strings.proofs.ForCallers.ReadTables.{link_by, linked_to, ready_edit, same_link}
 
--- the bytes that the section at a position had at read
-pub content_is_read : (read image : Image) → IsReady read image → (n : ℕ) (s : ImageSection) → slice_get image.sections n ≡ Some s
-    → content_read image n ≡ s.content
-content_is_read read image is n s at =
-    ap (λ (o : Option KeptSection). unwrap_or (o >>= λ k. Some k.section.content) []) (kept_is read image (edit_of is) n ∙ ap (option_map (kept n)) at)
+-- ## Lists of texts
+
+none_before : (all : List (List ℕ)) → is_subsequence [] all ≡ true
+unfolding is_subsequence
+none_before all = refl
+
+one_before : (t : List ℕ) (ts us more : List (List ℕ)) (b : Bool) → (is_subsequence ts us ≡ true → is_subsequence ts (us ++ more) ≡ true)
+    → (is_subsequence (t ∷ ts) us ≡ true → is_subsequence (t ∷ ts) (us ++ more) ≡ true)
+    → (elim b as (λ _. Bool) [ true ↦ is_subsequence ts us | _ ↦ is_subsequence (t ∷ ts) us ]) ≡ true
+    → (elim b as (λ _. Bool) [ true ↦ is_subsequence ts (us ++ more) | _ ↦ is_subsequence (t ∷ ts) (us ++ more) ]) ≡ true
+one_before t ts us more true taken left h = taken h
+one_before t ts us more false taken left h = left h
+
+-- texts that are a part of others are one of these and more
+part_of_more : (ts us more : List (List ℕ)) → is_subsequence ts us ≡ true → is_subsequence ts (us ++ more) ≡ true
+unfolding is_subsequence
+part_of_more [] us more h = none_before (us ++ more)
+part_of_more (t ∷ ts) [] more h = absurd (false≢true h)
+part_of_more (t ∷ ts) (u ∷ us) more h =
+    one_before t ts us more (bytes_eq t u) (part_of_more ts us more) (part_of_more (t ∷ ts) us more) h
+
+-- all texts of a table, user by user
+abbrev all_texts : List (List ℕ) → List (List ℕ) → List (List ℕ) → List (List ℕ) → List (List ℕ) → List (List ℕ) → List (List ℕ)
+all_texts a b c d e g = a ++ b ++ c ++ d ++ e ++ g
+
+-- those of two users alone, which had them, are a part of all
+two_left : (a b c d e g was_a was_b was_c was_d was_e was_g : List (List ℕ)) → a ≡ [] → b ≡ [] → e ≡ [] → g ≡ [] → was_a ≡ [] → was_b ≡ []
+    → c ≡ was_c → d ≡ was_d → is_subsequence (all_texts a b c d e g) (all_texts was_a was_b was_c was_d was_e was_g) ≡ true
+two_left a b c d e g was_a was_b was_c was_d was_e was_g ha hb he hg wa wb hc hd =
+    ap (λ (x : List (List ℕ)). is_subsequence (all_texts x b c d e g) (all_texts was_a was_b was_c was_d was_e was_g)) ha
+    ∙ ap (λ (x : List (List ℕ)). is_subsequence (all_texts [] x c d e g) (all_texts was_a was_b was_c was_d was_e was_g)) hb
+    ∙ ap (λ (x : List (List ℕ)). is_subsequence (all_texts [] [] x d e g) (all_texts was_a was_b was_c was_d was_e was_g)) hc
+    ∙ ap (λ (x : List (List ℕ)). is_subsequence (all_texts [] [] was_c x e g) (all_texts was_a was_b was_c was_d was_e was_g)) hd
+    ∙ ap (λ (x : List (List ℕ)). is_subsequence (all_texts [] [] was_c was_d x g) (all_texts was_a was_b was_c was_d was_e was_g)) he
+    ∙ ap (λ (x : List (List ℕ)). is_subsequence (all_texts [] [] was_c was_d [] x) (all_texts was_a was_b was_c was_d was_e was_g)) hg
+    ∙ ap (λ (x : List (List ℕ)). is_subsequence (all_texts [] [] was_c was_d [] []) (all_texts x was_b was_c was_d was_e was_g)) wa
+    ∙ ap (λ (x : List (List ℕ)). is_subsequence (all_texts [] [] was_c was_d [] []) (all_texts [] x was_c was_d was_e was_g)) wb
+    ∙ ap (λ (x : List (List ℕ)). is_subsequence (x ++ []) (was_c ++ was_d ++ was_e ++ was_g)) (append-nil (was_c ++ was_d))
+    ∙ ap (λ (x : List (List ℕ)). is_subsequence x (was_c ++ was_d ++ was_e ++ was_g)) (append-nil (was_c ++ was_d))
+    ∙ part_of_more (was_c ++ was_d) (was_c ++ was_d ++ was_e) was_g
+    (part_of_more (was_c ++ was_d) (was_c ++ was_d) was_e (subsequence_of_itself (was_c ++ was_d)))
+
+-- one user's texts, by the number that it links to
+abbrev texts_by : Option ℕ → ℕ → List (List ℕ) → List (List ℕ)
+texts_by linked number texts = if is_some_and (λ link. link == number) linked then texts else []
+
+not_linked : (linked : Option ℕ) (number : ℕ) (texts : List (List ℕ)) → is_some_and (λ link. link == number) linked ≡ false
+    → texts_by linked number texts ≡ []
+not_linked linked number texts h = ap (λ b. if b then texts else []) h
 
 -- no list where none was read
 pub none_edited : (was now : Option (List Entry)) → AreEntriesOf was now → was ≡ None → now ≡ None
@@ -38,54 +83,48 @@ none_edited None None are none = refl
 none_edited None (Some now) are none = absurd are
 none_edited (Some read) now are none = absurd (none-some read (sym none))
 
-module _ (read image : Image) (is : IsReady read image) (f : ReadFacts read image) where
-  -- a type's section links where it did
-  pub same_link : (type : ℕ) → link_of_type type image ≡ link_of_type type read
-  same_link = texts_stay.same_link read image is.whole f.edit
+no_section : (o : Option SectionHeader) → (o >>= λ h. Some h.sh_link) ≡ None → o ≡ None
+no_section None h = refl
+no_section (Some s) h = absurd (none-some s.sh_link (sym h))
+
+module _ {read image : Image} (is : IsEditedReady read image) where
+  facts : ReadFacts read image
+  facts = read_facts read image (ready_edit is)
+
+  -- where a section of a type that lasts links is what its header says that was read
+  link_was : (type : ℕ) → is_one_of lasting_types type ≡ true
+      → link_of_type type image ≡ (section_of_type type facts.parts.sections >>= λ h. Some h.sh_link)
+  link_was type lasting = link_by read image facts type (type_at read image facts type lasting)
 
   -- ## Where the dynamic list has its texts, all that is dynamic has its own
 
-  shared_at : (list : SectionHeader) → section_of_type SHT_DYNAMIC f.parts.sections ≡ Some list → texts_are_shared f.parts list ≡ true
+  shared_at : (list : SectionHeader) → section_of_type SHT_DYNAMIC facts.parts.sections ≡ Some list → texts_are_shared facts.parts list ≡ true
   shared_at list is_list =
-      (and_parts _ (texts_are_shared f.parts list)
-      (test_at (λ (t : SectionHeader). dynamic_tables_agree f.parts t) (section_of_type SHT_DYNAMIC f.parts.sections) list f.rules.tables is_list)).1
+      (and_parts _ (texts_are_shared facts.parts list)
+      (test_at (λ (t : SectionHeader). dynamic_tables_agree facts.parts t) (section_of_type SHT_DYNAMIC facts.parts.sections) list
+      facts.rules.tables is_list)).1
 
-  pub shared_link : (l : ℕ) → link_of_type SHT_DYNAMIC image ≡ Some l → (type : ℕ)
-      → ((list : SectionHeader) → texts_are_shared f.parts list ≡ true → shares_texts f.parts list type ≡ true)
+  shared_link : (l : ℕ) → link_of_type SHT_DYNAMIC image ≡ Some l → (type : ℕ) → is_one_of lasting_types type ≡ true
+      → ((list : SectionHeader) → texts_are_shared facts.parts list ≡ true → shares_texts facts.parts list type ≡ true)
       → (m : ℕ) → link_of_type type image ≡ Some m → m ≡ l
-  shared_link l list_link type shares m link = elim (type_at read image (edit_of is) f SHT_DYNAMIC) [
-    | Nowhere _ now ↦ absurd (none-some l (sym (ap (λ (o : Option KeptSection). o >>= λ s. Some s.section.sh_link) now) ∙ list_link))
-    | There i list _ _ was now ↦ elim (type_at read image (edit_of is) f type) [
-      | Nowhere _ none ↦ absurd (none-some m (sym (ap (λ (o : Option KeptSection). o >>= λ s. Some s.section.sh_link) none) ∙ link))
-      | There j user _ _ user_was user_now ↦
-          let list_own : list.section.sh_link ≡ l = same_Some list.section.sh_link l
-          (sym (ap (λ (o : Option KeptSection). o >>= λ s. Some s.section.sh_link) now) ∙ list_link) in
-          let own : user.section.sh_link ≡ m = same_Some user.section.sh_link m
-          (sym (ap (λ (o : Option KeptSection). o >>= λ s. Some s.section.sh_link) user_now) ∙ link) in
-          let both : user.old.sh_link ≡ list.old.sh_link =
-          eqb-true user.old.sh_link list.old.sh_link
-          (test_at (λ (s : SectionHeader). s.sh_link == list.old.sh_link) (section_of_type type f.parts.sections) user.old
-          (shares list.old (shared_at list.old was)) user_was) in
-          sym own ∙ ap (λ (x : ImageSection). x.sh_link) user.of_old.fields ∙ both
-          ∙ sym (ap (λ (x : ImageSection). x.sh_link) list.of_old.fields) ∙ list_own
-    ]
-  ]
+  shared_link l list_link type lasting shares m link =
+      let (list, list_is, list_own) = bind_some (section_of_type SHT_DYNAMIC facts.parts.sections) (λ h. Some h.sh_link) l
+      (sym (link_was SHT_DYNAMIC refl) ∙ list_link) in
+      let (user, user_is, user_own) = bind_some (section_of_type type facts.parts.sections) (λ h. Some h.sh_link) m
+      (sym (link_was type lasting) ∙ link) in
+      let both : user.sh_link ≡ list.sh_link =
+      eqb-true user.sh_link list.sh_link
+      (test_at (λ (s : SectionHeader). s.sh_link == list.sh_link) (section_of_type type facts.parts.sections) user
+      (shares list (shared_at list list_is)) user_is) in
+      sym (same_Some user.sh_link m user_own) ∙ both ∙ same_Some list.sh_link l list_own
 
-  pub symbols_share : (list : SectionHeader) → texts_are_shared f.parts list ≡ true → shares_texts f.parts list SHT_DYNSYM ≡ true
-  symbols_share list h = (and_parts _ _ (and_parts _ (shares_texts f.parts list SHT_GNU_VERNEED) h).0).0
+  symbols_share : (list : SectionHeader) → texts_are_shared facts.parts list ≡ true → shares_texts facts.parts list SHT_DYNSYM ≡ true
+  symbols_share list h = (and_parts _ _ (and_parts _ (shares_texts facts.parts list SHT_GNU_VERNEED) h).0).0
 
-  pub needs_share : (list : SectionHeader) → texts_are_shared f.parts list ≡ true → shares_texts f.parts list SHT_GNU_VERNEED ≡ true
-  needs_share list h = (and_parts _ (shares_texts f.parts list SHT_GNU_VERNEED) h).1
+  needs_share : (list : SectionHeader) → texts_are_shared facts.parts list ≡ true → shares_texts facts.parts list SHT_GNU_VERNEED ≡ true
+  needs_share list h = (and_parts _ (shares_texts facts.parts list SHT_GNU_VERNEED) h).1
 
-  -- the dynamic symbols have their names among the dynamic strings
-  pub symbols_linked : (m : ℕ) → link_of_type SHT_DYNSYM image ≡ Some m → dynamic_strings_number image ≡ Some m
-  symbols_linked m link = by_list (link_of_type SHT_DYNAMIC image) refl
-    where
-      by_list : (o : Option ℕ) → link_of_type SHT_DYNAMIC image ≡ o → first_there o (link_of_type SHT_DYNSYM image) ≡ Some m
-      by_list None o_is = link
-      by_list (Some l) o_is = ap (λ (n : ℕ). Some n) (sym (shared_link l o_is SHT_DYNSYM symbols_share m link))
-
-  -- so has the dynamic list
+  -- the dynamic list has its texts among the dynamic strings
   pub list_linked : (l : ℕ) → link_of_type SHT_DYNAMIC image ≡ Some l → dynamic_strings_number image ≡ Some l
   list_linked l link = ap (λ (o : Option ℕ). first_there o (link_of_type SHT_DYNSYM image)) link
 
@@ -93,46 +132,113 @@ module _ (read image : Image) (is : IsReady read image) (f : ReadFacts read imag
 
   pub no_entries_read : link_of_type SHT_DYNAMIC image ≡ None → read.entries ≡ None
   unfolding entries_read
-  no_entries_read none = elim (type_at read image (edit_of is) f SHT_DYNAMIC) [
-    | Nowhere was now ↦ sym (same_Some None read.entries (ap (entries_read f.parts) (sym was) ∙ f.holds.entries))
-    | There i at _ _ _ now ↦
-        absurd (none-some at.section.sh_link (sym none ∙ ap (λ (o : Option KeptSection). o >>= λ s. Some s.section.sh_link) now))
-  ]
+  no_entries_read none =
+      let was : section_of_type SHT_DYNAMIC facts.parts.sections ≡ None =
+      no_section (section_of_type SHT_DYNAMIC facts.parts.sections) (sym (link_was SHT_DYNAMIC refl) ∙ none) in
+      sym (same_Some None read.entries (ap (entries_read facts.parts) (sym was) ∙ facts.holds.entries))
 
   needs_stay : read.entries ≡ None → image.entries ≡ None → written_needs read image ≡ written_needs read read
   unfolding written_needs
   needs_stay none_read none =
       ap (λ (o : Option (List Entry)). if is_some_and lists_needs o then staying_needs read image else image.needs) none
-      ∙ f.edit.needs
+      ∙ facts.edit.needs
       ∙ sym (ap (λ (o : Option (List Entry)). if is_some_and lists_needs o then staying_needs read read else read.needs) none_read)
 
-  -- ## All other tables
+  -- ## A table
 
-  linked_apart : (l number : ℕ) → link_of_type SHT_DYNAMIC image ≡ Some l → (l == number) ≡ false → (type : ℕ)
-      → ((list : SectionHeader) → texts_are_shared f.parts list ≡ true → shares_texts f.parts list type ≡ true)
-      → is_some_and (λ link. link == number) (link_of_type type image) ≡ false
-  linked_apart l number list_link other type shares = by_link (link_of_type type image) refl
-    where
-      by_link : (o : Option ℕ) → link_of_type type image ≡ o → is_some_and (λ link. link == number) o ≡ false
-      by_link None o_is = refl
-      by_link (Some m) o_is = ap (λ (n : ℕ). n == number) (shared_link l list_link type shares m o_is) ∙ other
+  module _ (number : ℕ) (apart : is_some_and (λ link. link == number) (dynamic_strings_number image) ≡ false) where
+    list_apart : is_some_and (λ link. link == number) (link_of_type SHT_DYNAMIC image) ≡ false
+    list_apart = by_list (link_of_type SHT_DYNAMIC image) refl
+      where
+        by_list : (o : Option ℕ) → link_of_type SHT_DYNAMIC image ≡ o → is_some_and (λ link. link == number) o ≡ false
+        by_list None o_is = refl
+        by_list (Some l) o_is = ap (is_some_and (λ link. link == number)) (sym (list_linked l o_is)) ∙ apart
 
-  pub others_copied : (number : ℕ) → is_some_and (λ link. link == number) (dynamic_strings_number image) ≡ false
+    -- a user that shares the texts of the list links elsewhere, too
+    user_apart : (l : ℕ) → link_of_type SHT_DYNAMIC image ≡ Some l → (type : ℕ) → is_one_of lasting_types type ≡ true
+        → ((list : SectionHeader) → texts_are_shared facts.parts list ≡ true → shares_texts facts.parts list type ≡ true)
+        → is_some_and (λ link. link == number) (link_of_type type image) ≡ false
+    user_apart l list_link type lasting shares = by_link (link_of_type type image) refl
+      where
+        by_link : (o : Option ℕ) → link_of_type type image ≡ o → is_some_and (λ link. link == number) o ≡ false
+        by_link None o_is = refl
+        by_link (Some m) o_is =
+            ap (λ (n : ℕ). n == number) (shared_link l list_link type lasting shares m o_is)
+            ∙ ap (is_some_and (λ link. link == number)) (sym (list_linked l list_link)) ∙ apart
+
+    symbols_apart : is_some_and (λ link. link == number) (link_of_type SHT_DYNSYM image) ≡ false
+    symbols_apart = by_list (link_of_type SHT_DYNAMIC image) refl
+      where
+        by_list : (o : Option ℕ) → link_of_type SHT_DYNAMIC image ≡ o → is_some_and (λ link. link == number) (link_of_type SHT_DYNSYM image) ≡ false
+        by_list None o_is =
+            ap (λ (o : Option ℕ). is_some_and (λ link. link == number) (first_there o (link_of_type SHT_DYNSYM image))) (sym o_is) ∙ apart
+        by_list (Some l) o_is = user_apart l o_is SHT_DYNSYM refl symbols_share
+
+    needs_same : if_linked image SHT_GNU_VERNEED number (texts_of_needs (written_needs read image))
+        ≡ if_linked read SHT_GNU_VERNEED number (texts_of_needs (written_needs read read))
+    needs_same = by_list (link_of_type SHT_DYNAMIC image) refl
+      where
+        by_list : (o : Option ℕ) → link_of_type SHT_DYNAMIC image ≡ o
+            → if_linked image SHT_GNU_VERNEED number (texts_of_needs (written_needs read image))
+            ≡ if_linked read SHT_GNU_VERNEED number (texts_of_needs (written_needs read read))
+        by_list None o_is =
+            let none_read : read.entries ≡ None = no_entries_read o_is in
+            ap (λ (o : Option ℕ). texts_by o number (texts_of_needs (written_needs read image))) (same_link is SHT_GNU_VERNEED refl)
+            ∙ ap (λ (ns : List VersionNeeds). if_linked read SHT_GNU_VERNEED number (texts_of_needs ns))
+            (needs_stay none_read (none_edited read.entries image.entries facts.edit.entries none_read))
+        by_list (Some l) o_is =
+            let other = user_apart l o_is SHT_GNU_VERNEED refl needs_share in
+            not_linked (link_of_type SHT_GNU_VERNEED image) number (texts_of_needs (written_needs read image)) other
+            ∙ sym (not_linked (link_of_type SHT_GNU_VERNEED read) number (texts_of_needs (written_needs read read))
+            (ap (is_some_and (λ link. link == number)) (sym (same_link is SHT_GNU_VERNEED refl)) ∙ other))
+
+    definitions_same : if_linked image SHT_GNU_VERDEF number (texts_of_definitions image.definitions)
+        ≡ if_linked read SHT_GNU_VERDEF number (texts_of_definitions read.definitions)
+    definitions_same =
+        ap (λ (o : Option ℕ). texts_by o number (texts_of_definitions image.definitions)) (same_link is SHT_GNU_VERDEF refl)
+        ∙ ap (λ (ds : List VersionDefinition). if_linked read SHT_GNU_VERDEF number (texts_of_definitions ds)) facts.edit.definitions
+
+    apart_copied : has_texts_in image SHT_SYMTAB number ≡ false → has_names_in image number ≡ false → is_table_copied read image number ≡ true
+    unfolding texts_in_use
+    apart_copied no_symbols no_names =
+        two_left
+        (if_linked image SHT_DYNAMIC number (list_at texts_of_entries (written_entries read image)))
+        (if_linked image SHT_DYNSYM number (texts_of_symbols image.dynamic_symbols))
+        (if_linked image SHT_GNU_VERDEF number (texts_of_definitions image.definitions))
+        (if_linked image SHT_GNU_VERNEED number (texts_of_needs (written_needs read image)))
+        (if_linked image SHT_SYMTAB number (texts_of_symbols image.symbols))
+        (if_names image number)
+        (if_linked read SHT_DYNAMIC number (list_at texts_of_entries (written_entries read read)))
+        (if_linked read SHT_DYNSYM number (texts_of_symbols read.dynamic_symbols))
+        (if_linked read SHT_GNU_VERDEF number (texts_of_definitions read.definitions))
+        (if_linked read SHT_GNU_VERNEED number (texts_of_needs (written_needs read read)))
+        (if_linked read SHT_SYMTAB number (texts_of_symbols read.symbols))
+        (if_names read number)
+        (not_linked (link_of_type SHT_DYNAMIC image) number (list_at texts_of_entries (written_entries read image)) list_apart)
+        (not_linked (link_of_type SHT_DYNSYM image) number (texts_of_symbols image.dynamic_symbols) symbols_apart)
+        (not_linked (link_of_type SHT_SYMTAB image) number (texts_of_symbols image.symbols) no_symbols)
+        (ap (λ b. if b then map (λ (s : ImageSection). s.name) image.sections else []) no_names)
+        (not_linked (link_of_type SHT_DYNAMIC read) number (list_at texts_of_entries (written_entries read read))
+        (ap (is_some_and (λ link. link == number)) (sym (same_link is SHT_DYNAMIC refl)) ∙ list_apart))
+        (not_linked (link_of_type SHT_DYNSYM read) number (texts_of_symbols read.dynamic_symbols)
+        (ap (is_some_and (λ link. link == number)) (sym (same_link is SHT_DYNSYM refl)) ∙ symbols_apart))
+        definitions_same needs_same
+
+  -- a table that isn't one of those of which texts may change is copied
+  pub others_copied : (number : ℕ) → (IsEditedTable image number → is_table_copied read image number ≡ true)
       → is_table_copied read image number ≡ true
-  others_copied number apart =
-      texts_stay.others_copied read image is.whole f.edit number (by_list (link_of_type SHT_DYNAMIC image) refl apart)
+  others_copied number edited = by_dynamic (is_some_and (λ link. link == number) (dynamic_strings_number image)) refl
     where
-      by_list : (o : Option ℕ) → link_of_type SHT_DYNAMIC image ≡ o
-          → is_some_and (λ link. link == number) (first_there o (link_of_type SHT_DYNSYM image)) ≡ false → IsTableApart read image number
-      by_list None o_is other =
-          let none_read : read.entries ≡ None = no_entries_read o_is in
-          record {
-            list = ap (is_some_and (λ link. link == number)) o_is;
-            symbols = other;
-            needs = inr (needs_stay none_read (none_edited read.entries image.entries f.edit.entries none_read));
-          }
-      by_list (Some l) o_is other = record {
-        list = ap (is_some_and (λ link. link == number)) o_is ∙ other;
-        symbols = linked_apart l number o_is other SHT_DYNSYM symbols_share;
-        needs = inl (linked_apart l number o_is other SHT_GNU_VERNEED needs_share);
-      }
+      by_names : is_some_and (λ link. link == number) (dynamic_strings_number image) ≡ false → has_texts_in image SHT_SYMTAB number ≡ false
+          → (b : Bool) → has_names_in image number ≡ b → is_table_copied read image number ≡ true
+      by_names dynamic symbols true h = edited (inr (inr (eqb-true image.header.e_shstrndx number h)))
+      by_names dynamic symbols false h = apart_copied number dynamic symbols h
+
+      by_symbols : is_some_and (λ link. link == number) (dynamic_strings_number image) ≡ false
+          → (b : Bool) → has_texts_in image SHT_SYMTAB number ≡ b → is_table_copied read image number ≡ true
+      by_symbols dynamic true h = edited (inr (inl (linked_to (link_of_type SHT_SYMTAB image) number h)))
+      by_symbols dynamic false h = by_names dynamic h (has_names_in image number) refl
+
+      by_dynamic : (b : Bool) → is_some_and (λ link. link == number) (dynamic_strings_number image) ≡ b → is_table_copied read image number ≡ true
+      by_dynamic true h = edited (inl (linked_to (dynamic_strings_number image) number h))
+      by_dynamic false h = by_symbols h (has_texts_in image SHT_SYMTAB number) refl

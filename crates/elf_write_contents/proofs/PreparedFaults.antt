@@ -7,7 +7,6 @@ use Rattle.elf_format.specs.Image.{Image}
 use Rattle.elf_image.specs.Kept.{kept_sections}
 use Rattle.elf_image.specs.Names.{are_names_changed}
 use Rattle.elf_layout_plan.specs.Plan.{Layout}
-use Rattle.elf_write_spec.specs.Ready.{IsPlanned}
 use Rattle.elf_write_strings.specs.WrittenStrings.{do_names_reach}
 use Rattle.elf_write_symbols.specs.declared.numbers.NewNumbers.{NewNumbers}
 use Rattle.elf_write_symbols.specs.declared.renumbering.Renumbering.{Renumbering}
@@ -16,6 +15,7 @@ use Rattle.elf_write_symbols.specs.Fits.{do_section_relocations_fit}
 use Rattle.elf_write_symbols.specs.Renumbering.{AreStaticNumbersFor, IsRenumbering, IsReorderingFor, are_static_numbers_new, do_symbols_fit}
 use Rattle.elf_write_contents.specs.Numbers.{do_numbers_fit}
 use Rattle.elf_write_contents.proofs.NumbersUnfit.{names_unfit, relocations_unfit, symbols_unfit}
+use Rattle.elf_write_contents.specs.Inner.{IsPlanned}
 
 -- the new numbers of dynamic symbols fit
 order_fits : (read image : Image) (o : Option Reordering) → IsReorderingFor read image o

@@ -8,15 +8,22 @@ use Rattle.elf_format.specs.Options.{list_at}
 use Rattle.elf_format.specs.Places.{Place, occupies_file}
 use Rattle.elf_image.specs.Kept.{KeptSection, kept_of_type}
 use Rattle.elf_layout_plan.specs.Memory.{Resized}
-use Rattle.elf_layout_plan.specs.Plan.{Layout}
+use Rattle.elf_layout_plan.specs.Plan.{IsPlan, Layout, resized}
 use Rattle.elf_write_spec.specs.Contents.{AreEntriesOf, IsContent}
 use Rattle.elf_write_spec.specs.Final.{final}
 use Rattle.elf_write_spec.specs.Headers.{IsHeaderOf}
 use Rattle.elf_write_spec.specs.Output.{IsPlannedOutput, Output, written_bytes}
+use Rattle.elf_write_spec.specs.Ready.{IsEditedReady}
 use Rattle.elf_write_spec.specs.WrittenFile.{IsWrittenByPlan, IsWrittenOf}
-pub use Rattle.elf_write_spec.specs.Ready.{IsPlanned, IsReady, IsSectionOfType}
 use Rattle.elf_write_strings.specs.declared.made.Made.{Made}
 use Rattle.elf_write_strings.specs.WrittenStrings.{strings_at}
+
+-- ## What is written
+
+-- an edited image with a plan of it
+pub record IsPlanned (read image : Image) (plan : Layout) : Type 0 where
+  pub ready : IsEditedReady read image
+  pub planned : IsPlan (resized image) plan
 
 -- ## Headers and entries
 

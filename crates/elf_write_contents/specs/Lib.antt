@@ -5,4 +5,3 @@ pub mod HeaderSteps
 pub mod Inner
 pub mod Numbers
 pub mod PreparedSteps
-pub mod SymbolSteps

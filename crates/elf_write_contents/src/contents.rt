@@ -1,9 +1,9 @@
 //! The bytes of each section that is written.
-ghost use Rattle.std.specs.Prelude.{◌≡◌, ◌<◌, ◌==◌, ◌*◌, IfOk, IsTrue, false, length};
+ghost use Rattle.std.specs.Prelude.{◌≡◌, ◌<◌, ◌==◌, ◌*◌, IfOk, IsTrue, false, length, slice_index, unwrap_or};
 ghost use Rattle.std.specs.List.{list_all};
 ghost use Rattle.patch_bytes.specs.ByteString.{bytes_of_each};
 ghost use Rattle.elf_format.specs.declared.constants.TheConstants.{SHT_GNU_VERSYM as VERSYM};
-ghost use Rattle.elf_format.specs.Options.{is_some_and, list_at};
+ghost use Rattle.elf_format.specs.Options.{is_some_and};
 ghost use Rattle.elf_hashes.specs.Versions.{AreVersionsOf};
 ghost use Rattle.elf_tables.specs.Fields.{do_fields_fit};
 ghost use Rattle.elf_tables.specs.Spelled.{entry_fields};
@@ -16,21 +16,21 @@ ghost use Rattle.elf_write_contents.specs.ContentSteps.{IsBytesAt, IsNumbering, 
 ghost use Rattle.elf_write_strings.specs.WrittenStrings.{AreStrings};
 ghost use Rattle.elf_write_spec.specs.Contents.{AreVersionsIn};
 ghost use Rattle.elf_write_spec.specs.Final.{final};
-ghost use Rattle.elf_write_spec.specs.Ready.{IsPlanned, IsReady, IsSectionOfType};
-ghost use Rattle.elf_write_contents.specs.Inner.{AreContents, AreRaw};
+ghost use Rattle.elf_write_spec.specs.Ready.{IsEditedReady, IsSectionOfType};
+ghost use Rattle.elf_write_contents.specs.Inner.{AreContents, AreRaw, IsPlanned};
 
 use crate::entries::list_content;
-use crate::symbols::symbols_content;
 use elf_format::records::EntryNumbers;
 use elf_format::section_data::SectionData;
 use elf_image::constants::{
     SHT_DYNAMIC, SHT_DYNSYM, SHT_GNU_HASH, SHT_GNU_VERDEF, SHT_GNU_VERNEED, SHT_GNU_VERSYM,
-    SHT_HASH, SHT_STRTAB,
+    SHT_HASH, SHT_STRTAB, SHT_SYMTAB,
 };
 use elf_image::{Builder, Section};
 use elf_layout_plan::{Plan, is_numbered};
 use elf_write_strings::made::{Made, made_of};
 use elf_write_strings::versions::{definitions_content, needs_content};
+use elf_write_symbol_tables::{dynamic_symbols_content, static_symbols_content};
 use elf_write_symbols::{
     Renumbering, Reordering, gabi_content, gnu_content, relocations_content, versions_content,
 };
@@ -63,8 +63,8 @@ pub fn contents<'a, 'data>(
     let interpreter = read.interpreter_number();
     let mut contents = Vec::new(alloc);
     for i in 0..image.sections().len() {
-        let bytes = if is_numbered(interpreter, i) {
-            interpreter_content(image)
+        let bytes = if is_numbered(interpreter, image.read_section(i)) {
+            interpreter_content(image, &image.sections()[i])
         } else {
             section_content(alloc, read, image, plan, made, renumbering, raw, i)?
         };
@@ -73,14 +73,18 @@ pub fn contents<'a, 'data>(
     Ok(contents)
 }
 
-// The bytes of the interpreter's section.
-fn interpreter_content<'a, 'data>(image: &'a Builder<'data>) -> ByteString<'a>
-    ensures { result.bytes ≡ list_at (λ name. name) image.entry.now.interpreter }
+// The bytes of the interpreter's section: its name, which is as it was read where no program header names it any more.
+fn interpreter_content<'a, 'data>(
+    image: &'a Builder<'data>,
+    section: &'a Section<'data>,
+) -> ByteString<'a>
+    ensures { result.bytes
+        ≡ unwrap_or image.entry.now.interpreter (section_model section.entry.now).content }
 {
-    match image.interp_data() {
-        Some(name) => ByteString::borrowed(name),
-        None => ByteString::borrowed(&[]),
-    }
+    let Some(name) = image.interp_data() else {
+        return ByteString::borrowed(section.content);
+    };
+    ByteString::borrowed(name)
 }
 
 // The bytes of a string table that had that number: those of the table that is told anew, else those that were read.
@@ -97,7 +101,7 @@ fn strings_content<'a, 'data>(
     ByteString::borrowed(made.table.bytes())
 }
 
-// The bytes of the section at a position, which isn't the interpreter's. None went, so that is its number at read.
+// The bytes of the section at a position, which isn't the interpreter's.
 fn section_content<'a, 'data>(
     alloc: Global,
     read: &'a Builder<'data>,
@@ -117,7 +121,8 @@ fn section_content<'a, 'data>(
     requires fit { IsTrue (list_all (λ e. do_fields_fit (entry_fields image.now.form e))
         raw.now) }
     requires within { i < length image.now.sections }
-    requires apart { is_some_and (λ n. n == i) (number_of_interpreter read.now) ≡ false }
+    requires apart { is_some_and (λ n. n == slice_index image.now.section_numbers i)
+        (number_of_interpreter read.now) ≡ false }
     ensures { IfOk result (λ content.
         IsBytesAt image.entry.now plan.now made.entry.now raw.now i content.bytes) }
 {
@@ -128,8 +133,9 @@ fn section_content<'a, 'data>(
             let bytes = list_content(alloc, image.form(), raw, size)?;
             Ok(ByteString::owned(bytes))
         }
-        SHT_STRTAB => Ok(strings_content(made, section, i)),
-        SHT_DYNSYM => symbols_content(alloc, read, image, made, renumbering, section),
+        SHT_STRTAB => Ok(strings_content(made, section, image.read_section(i))),
+        SHT_SYMTAB => static_symbols_content(alloc, read, image, made, renumbering, section),
+        SHT_DYNSYM => dynamic_symbols_content(alloc, read, image, made, renumbering, section),
         SHT_GNU_VERDEF => {
             let bytes = definitions_content(alloc, read, image, made, section)?;
             Ok(ByteString::owned(bytes))
@@ -150,7 +156,7 @@ fn show_versions(
     content: &[u8],
     bytes: &[u8],
 )
-    requires ready { IsReady read.now image.now }
+    requires ready { IsEditedReady read.now image.now }
     requires at { IsSectionOfType VERSYM image.now (section_model section.now) }
     requires content { content.now ≡ (section_model section.now).content }
     requires versions { AreVersionsOf image.now.form (final read.now image.now).dynamic_symbols
@@ -159,7 +165,6 @@ fn show_versions(
 {}
 
 // The bytes of the section of versions.
-#[tactic(auto, using(crate::proofs::ReadyEdits::edited_ready))]
 fn symbol_versions<'data>(
     alloc: Global,
     read: &Builder<'data>,
@@ -167,7 +172,7 @@ fn symbol_versions<'data>(
     reordering: &Option<Reordering>,
     section: &Section<'data>,
 ) -> Result<ByteString<'data>, AllocError>
-    requires ready { IsReady read.now image.now }
+    requires ready { IsEditedReady read.now image.now }
     requires reordering { IsReorderingFor read.now image.now reordering.now }
     requires at { IsSectionOfType VERSYM image.now (section_model section.now) }
     ensures sized { IfOk result (λ content. length content.bytes
@@ -182,7 +187,6 @@ fn symbol_versions<'data>(
 
 // The bytes of a section that numbers the dynamic symbols, or of one that is as it was read: none of those of which the
 // bytes are made by types above.
-#[tactic(auto, using(crate::proofs::ReadyEdits::edited_ready))]
 fn numbering_content<'data>(
     alloc: Global,
     read: &Builder<'data>,
@@ -190,7 +194,7 @@ fn numbering_content<'data>(
     renumbering: &Renumbering,
     section: &Section<'data>,
 ) -> Result<ByteString<'data>, AllocError>
-    requires ready { IsReady read.now image.now }
+    requires ready { IsEditedReady read.now image.now }
     requires renumbering { IsRenumbering read.now image.now renumbering.now }
     requires at { IsSectionOfType section.now.sh_type image.now (section_model section.now) }
     requires fit { IsTrue (do_numbers_fit_in read.now image.now (section_model section.now)) }
@@ -206,7 +210,6 @@ fn numbering_content<'data>(
 }
 
 // The bytes of a section of relocations that is one, or of one that is as it was read.
-#[tactic(auto, using(crate::proofs::ReadyEdits::edited_ready))]
 fn relocated_content<'data>(
     alloc: Global,
     read: &Builder<'data>,
@@ -214,7 +217,7 @@ fn relocated_content<'data>(
     renumbering: &Renumbering,
     section: &Section<'data>,
 ) -> Result<ByteString<'data>, AllocError>
-    requires ready { IsReady read.now image.now }
+    requires ready { IsEditedReady read.now image.now }
     requires renumbering { IsRenumbering read.now image.now renumbering.now }
     requires at { IsSectionOfType section.now.sh_type image.now (section_model section.now) }
     requires fit { IsTrue (do_numbers_fit_in read.now image.now (section_model section.now)) }

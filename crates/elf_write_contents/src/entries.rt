@@ -12,8 +12,7 @@ ghost use Rattle.elf_layout_needs.specs.Staying.{staying_entries};
 ghost use Rattle.elf_layout_needs.specs.Written.{AreWritten};
 ghost use Rattle.elf_write_contents.specs.EntrySteps.{numbers_with, places_behind as places_left, value_with};
 ghost use Rattle.elf_write_strings.specs.WrittenStrings.{AreStrings};
-ghost use Rattle.elf_write_spec.specs.Ready.{IsPlanned};
-ghost use Rattle.elf_write_contents.specs.Inner.{AreRaw};
+ghost use Rattle.elf_write_contents.specs.Inner.{AreRaw, IsPlanned};
 
 mod tables;
 

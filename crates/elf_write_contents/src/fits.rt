@@ -8,8 +8,7 @@ ghost use Rattle.elf_tables.specs.Spelled.{class_word, entry_fields, file_header
 ghost use Rattle.elf_write_spec.specs.Headers.{written_header};
 ghost use Rattle.elf_write_contents.specs.FitSteps.{do_unnamed_fit, do_words_fit as do_all_words_fit, unnamed};
 ghost use Rattle.elf_write_strings.specs.WrittenStrings.{AreStrings, strings_at};
-ghost use Rattle.elf_write_spec.specs.Ready.{IsPlanned};
-ghost use Rattle.elf_write_contents.specs.Inner.{AreHeaders, AreRaw};
+ghost use Rattle.elf_write_contents.specs.Inner.{AreHeaders, AreRaw, IsPlanned};
 ghost use Rattle.elf_write_contents.specs.Numbers.{do_header_numbers_fit as do_all_fit, do_records_fit as do_records_fit_fields};
 
 use elf_format::form::Form;

@@ -1,5 +1,5 @@
 //! The file header and the section headers that are written (gABI, ELF Header, Sections).
-ghost use Rattle.std.specs.Prelude.{◌≡◌, ◌<◌, ◌≤◌, ◌^◌, false, length, option_map, slice_get, IfErr, IfOk, IfNone, IfSome, IsSome, Some};
+ghost use Rattle.std.specs.Prelude.{◌≡◌, ◌<◌, ◌≤◌, ◌^◌, false, length, option_map, slice_get, IfErr, IfOk, IfNone, IfSome, IsSome, None, Some};
 ghost use Rattle.elf_format.specs.Answers.{Gives};
 ghost use Rattle.elf_image.specs.ImageModel.{section_model};
 ghost use Rattle.elf_format.specs.Rules.{has_section_info};
@@ -16,10 +16,10 @@ ghost use Rattle.elf_write_spec.specs.Final.{final, new_number as number_of};
 ghost use Rattle.elf_write_spec.specs.Headers.{Reads, behind_locals as behind_all, written_header};
 ghost use Rattle.elf_write_contents.specs.HeaderSteps.{IsHeaderAt, IsKnown, header_by, headers_read, info_by};
 ghost use Rattle.elf_write_strings.specs.WrittenStrings.{AreStrings, content_read, made_of as made_at, strings_at};
-ghost use Rattle.elf_write_spec.specs.Ready.{IsEditedReady, IsPlanned};
+ghost use Rattle.elf_write_spec.specs.Ready.{IsEditedReady};
 ghost use Rattle.elf_write_symbols.specs.NewSections.{AreNewSections};
 ghost use Rattle.elf_write_symbols.specs.Renumbering.{IsReorderingFor};
-ghost use Rattle.elf_write_contents.specs.Inner.{AreHeaders};
+ghost use Rattle.elf_write_contents.specs.Inner.{AreHeaders, IsPlanned};
 ghost use Rattle.elf_write_contents.specs.Numbers.{do_numbers_fit};
 ghost use Rattle.elf_write_strings.specs.declared.made.Made.{Made};
 
@@ -179,7 +179,8 @@ fn known_of(
 fn name_place(image: &Builder<'_>, made: &[Made<'_>], name: &[u8], old: u32) -> u32
     requires anew { (m : Made) → made_at made.now image.now.header.e_shstrndx ≡ Some m
         → IsSome (place_of m.table name.now) }
-    requires copied { Reads (content_read image.now image.now.header.e_shstrndx) old name.now }
+    requires copied { made_at made.now image.now.header.e_shstrndx ≡ None
+        → Reads (content_read image.now image.now.header.e_shstrndx) old name.now }
     ensures { Reads (strings_at image.now made.now image.now.header.e_shstrndx)
         result name.now }
 {
@@ -311,7 +312,6 @@ fn headers_with(
 }
 
 // The section headers. `NumberTooLarge` where a number is past its field.
-#[tactic(auto, using(crate::proofs::ReadyEdits::edited_ready))]
 pub(crate) fn section_headers<'data>(
     alloc: Global,
     read: &Builder<'data>,

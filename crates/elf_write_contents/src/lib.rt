@@ -7,4 +7,3 @@ mod entries;
 mod fits;
 mod headers;
 pub mod prepared;
-mod symbols;

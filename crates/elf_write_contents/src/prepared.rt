@@ -1,11 +1,11 @@
 //! What is made of an image before the contents of its sections: strings, numbers of symbols, headers and dynamic entries.
 ghost use Rattle.std.specs.Prelude.{◌≡◌, false, IfErr, IfOk};
 ghost use Rattle.elf_tables.specs.declared.fault.TableFault.TheVariants.{NumberTooLarge};
-ghost use Rattle.elf_write_spec.specs.Ready.{IsPlanned};
 ghost use Rattle.elf_write_strings.specs.WrittenStrings.{AreStrings};
 ghost use Rattle.elf_write_symbols.specs.Renumbering.{IsRenumbering};
 ghost use Rattle.elf_write_contents.specs.Numbers.{do_numbers_fit as do_all_fit};
 ghost use Rattle.elf_write_contents.specs.PreparedSteps.{IsPrepared};
+ghost use Rattle.elf_write_contents.specs.Inner.{IsPlanned};
 
 use crate::entries::raw_entries;
 use crate::fits::do_header_numbers_fit;
@@ -53,7 +53,6 @@ pub fn prepare<'a, 'data>(
 
 /// The same, with the string tables that are told anew, which [`strings_from`](elf_write_strings::made::strings_from)
 /// gives. Errors as there.
-#[tactic(auto, using(crate::proofs::ReadyEdits::edited_ready))]
 pub fn prepare_with_strings<'a, 'data>(
     alloc: Global,
     read: &'a Builder<'data>,
@@ -72,7 +71,6 @@ pub fn prepare_with_strings<'a, 'data>(
 }
 
 // The same, with the new numbers of sections and symbols.
-#[tactic(auto, using(crate::proofs::ReadyEdits::edited_ready))]
 fn prepare_numbered<'a, 'data>(
     alloc: Global,
     read: &'a Builder<'data>,

@@ -1,6 +1,6 @@
 -- What the bytes that are written of a section are, by the section's type.
 use Rattle.std.proofs.Common.{◌≡◌, ℕ, List, length, Bool, true, false, refl, sym, ap, ◌∙◌, subst}
-use Rattle.std.specs.Prelude.{IsTrue, ◌==◌}
+use Rattle.std.specs.Prelude.{IsTrue, ◌==◌, unwrap_or}
 use Rattle.std.proofs.lemmas.Bool.{false≢true}
 use Rattle.elf_format.specs.declared.constants.TheConstants.{SHT_DYNAMIC, SHT_DYNSYM, SHT_GNU_HASH, SHT_GNU_VERDEF, SHT_GNU_VERNEED, SHT_GNU_VERSYM, SHT_HASH, SHT_PROGBITS, SHT_STRTAB, SHT_SYMTAB}
 use Rattle.elf_format.specs.declared.section_data.SectionData.{SectionData}
@@ -57,7 +57,7 @@ module _ (w : Output) (is : IsPlannedOutput w) (f : ReadFacts w) (i : ℕ) (at :
   shows type is_type other kind kind_same =
       let content : IsContent (resized w.image) w.plan w.raw linked_bytes (kept_as i at.number at.section) at.bytes = at.written.content in
       let plain : ShowsAs at.section.kind = subst (λ (b : Bool). elim b as (λ _. Type 0) [
-        | true ↦ at.bytes ≡ list_at (λ name. name) w.image.interpreter
+        | true ↦ at.bytes ≡ unwrap_or w.image.interpreter at.section.content
         | _ ↦ ShowsAs at.section.kind
       ]) (not_interpreter type is_type other) content in
       subst ShowsAs (kind_at type is_type ∙ kind_same) plain

@@ -1,6 +1,6 @@
 -- What the sections of a written file show: the content of each kind, and the texts that a section links to.
 use Rattle.std.proofs.Common.{◌≡◌, ◌≢◌, ◌≤◌, ℕ, Bool, true, false, eqb, List, length, refl, sym, ap, ◌∙◌, subst, Some, arith}
-use Rattle.std.specs.Prelude.{◌&&◌, not, filter}
+use Rattle.std.specs.Prelude.{◌&&◌, not, filter, unwrap_or}
 use Rattle.std.specs.List.{list_all, slice_get}
 use Rattle.std.proofs.lemmas.Bool.{and_parts, cond-true, eqb-true, false≢true, ne_eqb}
 use Rattle.std.proofs.lemmas.Option.{same_Some, slice_get_within}
@@ -49,7 +49,7 @@ kind_at p old x of_old type e kind by_type =
 by_kind : (r : Resized) (plan : Layout) (raw : List EntryNumbers) (strings : List ℕ) (s : KeptSection) (bytes : List ℕ) (b : Bool)
     → b ≡ false
     → (elim b as (λ _. Type 0) [
-      | true ↦ bytes ≡ list_at (λ name. name) r.image.interpreter
+      | true ↦ bytes ≡ unwrap_or r.image.interpreter s.section.content
       | _ ↦ IsContentByKind r plan raw strings s bytes
     ])
     → IsContentOfKind r plan raw strings s bytes s.section.kind

@@ -1,6 +1,6 @@
 -- A written file has the parts that were written.
 use Rattle.std.proofs.Common.{◌≡◌, ◌≤◌, ℕ, ◌+◌, ◌*◌, Bool, true, false, List, [], ◌∷◌, ◌++◌, drop, length, refl, sym, ap, ◌∙◌, subst, Option, Some, None, arith}
-use Rattle.std.specs.Prelude.{nat_le}
+use Rattle.std.specs.Prelude.{nat_le, unwrap_or}
 use Rattle.std.specs.List.{flat_map, list_all, slice_get}
 use Rattle.std.proofs.lemmas.Bool.{cond-false, cond-true, false≢true, le-leb}
 use Rattle.std.proofs.lemmas.List.{append-nil, take-append-drop}
@@ -21,7 +21,6 @@ use Rattle.elf_format.specs.declared.section_data.SectionData.TheVariants as kin
 use Rattle.elf_format.specs.File.{bytes_in, has_file_bytes, opened_of, section_bytes, sections_of, segments_of}
 use Rattle.elf_format.specs.Form.{records}
 use Rattle.elf_format.specs.Image.{ImageSection}
-use Rattle.elf_format.specs.Options.{list_at}
 use Rattle.elf_format.specs.Places.{occupies_file}
 use Rattle.elf_format.specs.Records.{section_header, section_header_size, segment_header, segment_header_size}
 use Rattle.elf_format.specs.Rules.{file_of, has_magic}
@@ -113,7 +112,7 @@ pub data_content : (r : Resized) (plan : Layout) (raw : List EntryNumbers) (stri
 data_content r plan raw strings s bytes is_it content =
     let facts = data_facts r s is_it in
     by_kind r plan raw strings s bytes s.section.kind facts.opaque
-    (other_than (bytes ≡ list_at (λ name. name) r.image.interpreter) (IsContentByKind r plan raw strings s bytes) (is_interpreter r.read s)
+    (other_than (bytes ≡ unwrap_or r.image.interpreter s.section.content) (IsContentByKind r plan raw strings s bytes) (is_interpreter r.read s)
     facts.other content)
 
 -- ## The law

@@ -1,6 +1,6 @@
 -- A file that is written whole is one to which its image is written.
 use Rattle.std.proofs.Common.{◌≡◌, ℕ, true, ◌&&◌, List, [], ◌∷◌, ◌++◌, map, length, refl, sym, ap, ◌∙◌, subst, Option, Some}
-use Rattle.std.specs.Prelude.{◌*◌, ◌==◌, filter, if◌then◌else◌, not}
+use Rattle.std.specs.Prelude.{◌*◌, ◌==◌, filter, if◌then◌else◌, not, unwrap_or}
 use Rattle.std.specs.List.{list_all, list_any, slice_get}
 use Rattle.std.proofs.lemmas.Bool.{and_parts, cond-false, cond-true, not-true}
 use Rattle.std.proofs.lemmas.List.{length-map}
@@ -13,7 +13,7 @@ use Rattle.elf_format.specs.declared.records.SectionHeader.{SectionHeader}
 use Rattle.elf_format.specs.Dynamic.{entries_at}
 use Rattle.elf_format.specs.File.{has_file_bytes, section_bytes}
 use Rattle.elf_format.specs.Image.{ImageSection}
-use Rattle.elf_format.specs.Options.{is_one_of, is_some_and, list_at}
+use Rattle.elf_format.specs.Options.{is_one_of, is_some_and}
 use Rattle.elf_format.specs.Rules.{text_users}
 use Rattle.elf_format.specs.Places.{Place, file_range, occupies_file, occupies_memory, place_of, places_of}
 use Rattle.elf_format.specs.Ranges.{all_apart, range}
@@ -130,7 +130,7 @@ module _ (w : Output) (is : IsPlannedOutput w) (f : ReadFacts w) (i : ℕ) (at :
       let strings : List ℕ = content_at_number w.image w.contents at.section.sh_link in
       let both = and_parts (not (is_interpreter r.read k)) (is_kind_copied (unchanged_for w.image k) at.section.kind) h in
       copied_by r w.plan w.raw strings k at.bytes (unchanged_for w.image k) unchanged_told at.section.kind both.1
-      (other_than (at.bytes ≡ list_at (λ name. name) w.image.interpreter) (IsContentByKind r w.plan w.raw strings k at.bytes)
+      (other_than (at.bytes ≡ unwrap_or w.image.interpreter at.section.content) (IsContentByKind r w.plan w.raw strings k at.bytes)
       (is_interpreter r.read k) (not-true (is_interpreter r.read k) both.0) at.written.content)
 
   stored_at : occupies_file (place_at_read at.section) ≡ true

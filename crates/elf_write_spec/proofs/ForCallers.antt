@@ -53,13 +53,3 @@ pub use Rattle.elf_write_spec.proofs.WholeLists
 pub use Rattle.elf_write_spec.proofs.StaticSymbols
 -- what a section's bytes are, by its type
 pub use Rattle.elf_write_spec.proofs.SectionKinds
--- the same of an image of which nothing went
-pub use Rattle.elf_write_spec.proofs.IntactSections
-pub use Rattle.elf_write_spec.proofs.IntactEdits
-pub use Rattle.elf_write_spec.proofs.IntactOrder
-pub use Rattle.elf_write_spec.proofs.IntactSymbols
-pub use Rattle.elf_write_spec.proofs.IntactVersions
-pub use Rattle.elf_write_spec.proofs.IntactTexts
-pub use Rattle.elf_write_spec.proofs.IntactCounts
-pub use Rattle.elf_write_spec.proofs.IntactKnown
-pub use Rattle.elf_write_spec.proofs.IntactLists

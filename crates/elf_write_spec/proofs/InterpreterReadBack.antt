@@ -1,6 +1,6 @@
 -- The interpreter's name of a written file is that of its image.
 use Rattle.std.proofs.Common.{◌≡◌, ℕ, Bool, true, false, not, List, refl, sym, ap, ◌∙◌, subst, Option, Some, None}
-use Rattle.std.specs.Prelude.{◌==◌, ◌&&◌, IsSome, is_some}
+use Rattle.std.specs.Prelude.{◌==◌, ◌&&◌, IsSome, is_some, unwrap_or}
 use Rattle.std.specs.List.{slice_get}
 use Rattle.std.proofs.lemmas.Bool.{and_parts, eq-eqb, eqb-true, false≢true}
 use Rattle.std.proofs.lemmas.Option.{none-some}
@@ -13,7 +13,7 @@ use Rattle.elf_format.specs.declared.records.SectionHeader.{SectionHeader}
 use Rattle.elf_format.specs.declared.records.SegmentHeader.{SegmentHeader}
 use Rattle.elf_format.specs.File.{Parts, has_file_bytes, section_bytes, segment_of_type}
 use Rattle.elf_format.specs.Image.{Image, ImageSection, interpreter_read}
-use Rattle.elf_format.specs.Options.{is_none_or, list_at}
+use Rattle.elf_format.specs.Options.{is_none_or}
 use Rattle.elf_format.specs.Places.{Place}
 use Rattle.elf_format.specs.Rules.{file_of}
 use Rattle.elf_format.specs.Views.{interpreter_section}
@@ -140,20 +140,20 @@ name_gone None None e is = refl
 name_gone None (Some now) e is = absurd is
 name_gone (Some read) now e is = absurd (none-some read (sym e))
 
-name_of : (o : Option (List ℕ)) → IsSome o → Some (list_at (λ name. name) o) ≡ o
-name_of None h = absurd (false≢true h)
-name_of (Some name) h = refl
+name_of : (o : Option (List ℕ)) (was : List ℕ) → IsSome o → Some (unwrap_or o was) ≡ o
+name_of None was h = absurd (false≢true h)
+name_of (Some name) was h = refl
 
 none_of : (o : Option (List ℕ)) → is_some o ≡ false → o ≡ None
 none_of None h = refl
 none_of (Some name) h = absurd (false≢true (sym h))
 
--- the content of the interpreter's section is its name
+-- the content of the interpreter's section is its name, where there is one
 name_written : (r : Resized) (plan : Layout) (raw : List EntryNumbers) (strings : List ℕ) (s : KeptSection) (bytes : List ℕ) (b : Bool)
     → b ≡ true
     → (elim b as (λ _. Type 0)
-    [ true ↦ bytes ≡ list_at (λ name. name) r.image.interpreter | _ ↦ IsContentByKind r plan raw strings s bytes ])
-    → bytes ≡ list_at (λ name. name) r.image.interpreter
+    [ true ↦ bytes ≡ unwrap_or r.image.interpreter s.section.content | _ ↦ IsContentByKind r plan raw strings s bytes ])
+    → bytes ≡ unwrap_or r.image.interpreter s.section.content
 name_written r plan raw strings s bytes true e content = content
 name_written r plan raw strings s bytes false e content = absurd (false≢true e)
 
@@ -167,7 +167,7 @@ module _ (w : Output) (is : IsPlannedOutput w) (has : HasWrittenParts w) (f : Re
   name_here p there_now again =
       let at = again.at in
       let file : List ℕ = written_bytes w in
-      let bytes : at.bytes ≡ list_at (λ name. name) w.image.interpreter =
+      let bytes : at.bytes ≡ unwrap_or w.image.interpreter at.section.content =
       name_written (resized w.image) w.plan w.raw (content_at_number w.image w.contents at.section.sh_link)
       (kept_as again.number at.number at.section) at.bytes
       (is_interpreter (image_at_read w.image) (kept_as again.number at.number at.section)) again.named at.written.content in
@@ -176,7 +176,7 @@ module _ (w : Output) (is : IsPlannedOutput w) (has : HasWrittenParts w) (f : Re
       read_is (written_parts w) ∙ ap (read_by (written_parts w)) again.is_segment
       ∙ found_bytes file again.segment w.headers at.header again.is_placed right
       ∙ ap Some (bytes_are w is has f again.number at ∙ bytes)
-      ∙ name_of w.image.interpreter (name_there w is f p there_now)
+      ∙ name_of w.image.interpreter at.section.content (name_there w is f p there_now)
 
   name_by : SegmentAt w is f PT_INTERP → interpreter_read (written_parts w) ≡ w.image.interpreter
   unfolding read read_by

@@ -68,13 +68,4 @@ pub mod FoundNames
 pub mod NamesFound
 pub mod DataSeen
 pub mod FilesWritten
-pub mod IntactLists
-pub mod IntactCounts
-pub mod IntactKnown
-pub mod IntactSections
-pub mod IntactEdits
-pub mod IntactOrder
-pub mod IntactSymbols
-pub mod IntactVersions
-pub mod IntactTexts
 pub mod ForCallers

@@ -1,12 +1,11 @@
 -- What the bytes of a written section are, where it isn't the interpreter's.
 use Rattle.std.proofs.Common.{◌≡◌, ℕ, Bool, true, false, sym, ap, ◌∙◌, subst}
-use Rattle.std.specs.Prelude.{◌==◌}
+use Rattle.std.specs.Prelude.{◌==◌, unwrap_or}
 use Rattle.std.proofs.lemmas.Bool.{false≢true}
 use Rattle.elf_format.specs.declared.constants.TheConstants.{SHT_PROGBITS}
 use Rattle.elf_format.specs.declared.section_data.SectionData.{SectionData}
 use Rattle.elf_format.specs.File.{section_bytes}
 use Rattle.elf_format.specs.Image.{ImageSection}
-use Rattle.elf_format.specs.Options.{list_at}
 use Rattle.elf_format.specs.Rules.{data_of, file_of}
 use Rattle.elf_image.specs.Kept.{image_at_read, interpreter_number, is_numbered}
 use Rattle.elf_layout_plan.specs.Plan.{resized}
@@ -43,7 +42,7 @@ module _ (w : Output) (is : IsPlannedOutput w) (f : ReadFacts w) where
 
   content_by : (i : ℕ) (at : SectionAt w f.parts i) (b : Bool) → b ≡ false
       → (elim b as (λ _. Type 0) [
-        | true ↦ at.bytes ≡ list_at (λ name. name) w.image.interpreter
+        | true ↦ at.bytes ≡ unwrap_or w.image.interpreter at.section.content
         | _ ↦ IsContentByKind (resized w.image) w.plan w.raw (content_at_number w.image w.contents at.section.sh_link)
             (kept_as i at.number at.section) at.bytes
       ])

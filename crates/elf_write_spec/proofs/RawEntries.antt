@@ -115,7 +115,7 @@ module _ (w : Output) (is : IsPlannedOutput w) (f : ReadFacts w) (i : ℕ) (at :
 
   content_by : Bool → SectionData → Type 0
   content_by b kind = elim b [
-    | true ↦ at.bytes ≡ list_at (λ name. name) w.image.interpreter
+    | true ↦ at.bytes ≡ unwrap_or w.image.interpreter at.section.content
     | _ ↦ IsContentOfKind (resized w.image) w.plan w.raw list_strings (kept_as i at.number at.section) at.bytes kind
   ]
 

@@ -220,8 +220,9 @@ IsContentOfKind r plan raw strings s bytes kind = elim kind [
 abbrev pub IsContentByKind : Resized → Layout → List EntryNumbers → List ℕ → KeptSection → List ℕ → Type 0
 IsContentByKind r plan raw strings s bytes = IsContentOfKind r plan raw strings s bytes s.section.kind
 
+-- The interpreter's section has its name, which is as it was read where no program header names it any more.
 abbrev pub IsContent : Resized → Layout → List EntryNumbers → List ℕ → KeptSection → List ℕ → Type 0
 IsContent r plan raw strings s bytes = elim (is_interpreter r.read s) [
-  | true ↦ bytes ≡ list_at (λ name. name) r.image.interpreter
+  | true ↦ bytes ≡ unwrap_or r.image.interpreter s.section.content
   | _ ↦ IsContentByKind r plan raw strings s bytes
 ]

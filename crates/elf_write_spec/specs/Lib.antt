@@ -10,4 +10,3 @@ pub mod Look
 pub mod KeptSymbols
 pub mod WrittenFile
 pub mod Laws
-pub mod Whole

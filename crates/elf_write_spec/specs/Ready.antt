@@ -4,27 +4,13 @@ use Rattle.std.specs.List.{slice_get}
 use Rattle.elf_format.specs.Image.{Image, ImageSection}
 use Rattle.elf_image.specs.Edited.{IsEdited}
 use Rattle.elf_image.specs.Kept.{image_at_read}
-use Rattle.elf_layout_plan.specs.Plan.{IsPlan, Layout, resized}
 use Rattle.elf_layout_plan.specs.Refusals.{do_sizes_of_image_fit}
-use Rattle.elf_write_spec.specs.Whole.{IsWhole}
 
 -- An edited image, with the image that was read from its source.
 pub record IsEditedReady (read image : Image) : Type 0 where
   pub at_read : read ≡ image_at_read image
   pub edited : IsEdited image
   pub sized : IsTrue (do_sizes_of_image_fit image)
-
--- the same of an image of which nothing went
-pub record IsReady (read image : Image) : Type 0 where
-  pub at_read : read ≡ image_at_read image
-  pub edited : IsEdited image
-  pub whole : IsWhole read image
-  pub sized : IsTrue (do_sizes_of_image_fit image)
-
--- the same with a plan of it
-pub record IsPlanned (read image : Image) (plan : Layout) : Type 0 where
-  pub ready : IsReady read image
-  pub planned : IsPlan (resized image) plan
 
 -- the section is one of an image, and has that type
 pub record IsSectionOfType (type : ℕ) (image : Image) (section : ImageSection) : Type 0 where

@@ -3,7 +3,7 @@ use Rattle.std.proofs.Common.{◌≡◌, false}
 use Rattle.std.proofs.lemmas.Result.{err_from_is_err_and}
 use Rattle.elf_tables.specs.declared.fault.TableFault.TheVariants.{NumberTooLarge}
 use Rattle.elf_write_contents.specs.Numbers.{do_numbers_fit}
-use Rattle.elf_write_contents.proofs.ForCallers.{edited_ready, names_far}
+use Rattle.elf_write_contents.proofs.ForCallers.{names_far}
 use Rattle.elf_write.proofs.difference.difference_where_apart.Goals as goal
 
 pub returns-in_err-made-clause-fault : goal.returns-in_err-made-clause-fault
@@ -14,4 +14,4 @@ returns-in_err-made-clause-fault c =
     rw (p.1, p.2) far
 
 pub strings_from-requires-clause-ready : goal.strings_from-requires-clause-ready
-strings_from-requires-clause-ready c = edited_ready c.requires.planned.ready
+strings_from-requires-clause-ready c = c.requires.planned.ready

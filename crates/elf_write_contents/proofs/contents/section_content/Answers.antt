@@ -3,7 +3,7 @@ use Rattle.std.proofs.Common.{◌≡◌, ◌≤◌, ◌*◌, ℕ, List, length, 
 use Rattle.std.specs.Prelude.{slice_index_or}
 use Rattle.std.specs.List.{slice_get}
 use Rattle.patch_bytes.specs.ByteString.{StringValue}
-use Rattle.elf_format.specs.declared.constants.TheConstants.{SHT_DYNAMIC, SHT_DYNSYM, SHT_GNU_VERDEF, SHT_GNU_VERNEED, SHT_STRTAB}
+use Rattle.elf_format.specs.declared.constants.TheConstants.{SHT_DYNAMIC, SHT_DYNSYM, SHT_GNU_VERDEF, SHT_GNU_VERNEED, SHT_STRTAB, SHT_SYMTAB}
 use Rattle.elf_format.specs.declared.form.Form.{Form}
 use Rattle.elf_format.specs.Image.{ImageSection}
 use Rattle.elf_format.specs.Records.{entry_size}
@@ -11,10 +11,9 @@ use Rattle.elf_image.specs.ImageModel.{section_model}
 use Rattle.elf_layout_plan.specs.declared.plan.SectionPlace.{SectionPlace}
 use Rattle.elf_layout_plan.specs.PlanModel.{place_model}
 use Rattle.elf_write_spec.specs.Contents.{spelled_list}
-use Rattle.elf_write_contents.specs.ContentSteps.{IsBytesAt, IsNumbering}
-use Rattle.elf_write_contents.proofs.ContentsAll.{both_ok, definitions_at, list_at_place, list_fits, needs_at, numbering_at, numbers_fit, place_there, place_within, places_long, section_there, strings_at_place, symbols_at}
+use Rattle.elf_write_contents.specs.ContentSteps.{IsBytesAt, IsNumbering, made_or}
+use Rattle.elf_write_contents.proofs.ContentsAll.{both_ok, definitions_at, list_at_place, list_fits, needs_at, numbering_at, numbers_fit, place_there, place_within, places_long, section_there, static_at, strings_at_place, symbols_at, three_ok}
 use Rattle.elf_write_strings.proofs.ForCallers.Results.{if_ok}
-use Rattle.elf_write_contents.proofs.ReadyEdits.{edited_ready}
 use Rattle.elf_write_contents.proofs.contents.section_content.Goals as goal
 
 pub bounds-places-i : goal.bounds-places-i
@@ -38,12 +37,20 @@ list_content-requires-clause-room c =
     (list_fits c.args.read.now c.args.image.now c.args.plan.now c.args.made.now c.args.raw.now c.requires.planned c.args.i s at
     c.requires.apart c.requires.raw c.in-6.is (place_model place) place_at)
 
-pub symbols_content-requires-clause-at : goal.symbols_content-requires-clause-at
-symbols_content-requires-clause-at c = record {
+pub dynamic_symbols_content-requires-clause-at : goal.dynamic_symbols_content-requires-clause-at
+dynamic_symbols_content-requires-clause-at c = record {
   position = c.args.i;
   there = section_there c.sections.result.now c.args.image.now.sections c.args.i c.index-sections-i.result c.sections.ensures
       c.requires.within c.index-sections-i.is;
   typed = c.in-11.is;
+}
+
+pub static_symbols_content-requires-clause-at : goal.static_symbols_content-requires-clause-at
+static_symbols_content-requires-clause-at c = record {
+  position = c.args.i;
+  there = section_there c.sections.result.now c.args.image.now.sections c.args.i c.index-sections-i.result c.sections.ensures
+      c.requires.within c.index-sections-i.is;
+  typed = c.in-2.is;
 }
 
 pub definitions_content-requires-clause-at : goal.definitions_content-requires-clause-at
@@ -85,19 +92,30 @@ returns-in-3 c =
     let at : _ = section_there c.sections.result.now c.args.image.now.sections c.args.i c.index-sections-i.result c.sections.ensures
     c.requires.within c.index-sections-i.is in
     subst (λ (bytes : List ℕ). IsBytesAt c.args.image.now c.args.plan.now c.args.made.now c.args.raw.now c.args.i bytes)
-    (sym c.strings_content.ensures)
+    (sym (c.strings_content.ensures ∙ ap (λ (n : ℕ). made_or c.args.made.now n s.content) c.read_section.ensures))
     (strings_at_place c.args.read.now c.args.image.now c.args.plan.now c.args.made.now c.args.raw.now c.requires.planned c.args.i s at
     c.requires.apart c.requires.strings c.in-3.is)
+
+pub returns-in-2 : goal.returns-in-2
+returns-in-2 c =
+    let s : ImageSection = section_model c.index-sections-i.result in
+    let at : _ = section_there c.sections.result.now c.args.image.now.sections c.args.i c.index-sections-i.result c.sections.ensures
+    c.requires.within c.index-sections-i.is in
+    three_ok c.static_symbols_content.result _ _ _
+    (λ content. IsBytesAt c.args.image.now c.args.plan.now c.args.made.now c.args.raw.now c.args.i content.bytes)
+    (λ content. static_at c.args.read.now c.args.image.now c.args.plan.now c.args.made.now c.args.raw.now c.requires.planned c.args.i s at
+    c.requires.apart c.in-2.is content.bytes) c.static_symbols_content.ensures.sized c.static_symbols_content.ensures.symbols
+    c.static_symbols_content.ensures.copied
 
 pub returns-in-11 : goal.returns-in-11
 returns-in-11 c =
     let s : ImageSection = section_model c.index-sections-i.result in
     let at : _ = section_there c.sections.result.now c.args.image.now.sections c.args.i c.index-sections-i.result c.sections.ensures
     c.requires.within c.index-sections-i.is in
-    both_ok c.symbols_content.result _ _
+    both_ok c.dynamic_symbols_content.result _ _
     (λ content. IsBytesAt c.args.image.now c.args.plan.now c.args.made.now c.args.raw.now c.args.i content.bytes)
     (λ content. symbols_at c.args.read.now c.args.image.now c.args.plan.now c.args.made.now c.args.raw.now c.requires.planned c.args.i s at
-    c.requires.apart c.in-11.is content.bytes) c.symbols_content.ensures.sized c.symbols_content.ensures.symbols
+    c.requires.apart c.in-11.is content.bytes) c.dynamic_symbols_content.ensures.sized c.dynamic_symbols_content.ensures.symbols
 
 pub returns-in_ok-bytes-in-1879048189 : goal.returns-in_ok-bytes-in-1879048189
 returns-in_ok-bytes-in-1879048189 c =
@@ -143,16 +161,11 @@ returns-in_default c =
     if_ok c.numbering_content.result (λ content. IsNumbering c.args.read.now c.args.image.now s content.bytes)
     (λ content. IsBytesAt c.args.image.now c.args.plan.now c.args.made.now c.args.raw.now c.args.i content.bytes)
     (λ content. numbering_at c.args.read.now c.args.image.now c.args.plan.now c.args.made.now c.args.raw.now c.requires.planned c.args.i s at
-    c.requires.apart c.requires.strings (record {
+    c.requires.apart (record {
       dynamic = λ (e : c.index-sections-i.result.sh_type ≡ SHT_DYNAMIC). omega (arith, e);
       strings = λ (e : c.index-sections-i.result.sh_type ≡ SHT_STRTAB). omega (arith, e);
+      static = λ (e : c.index-sections-i.result.sh_type ≡ SHT_SYMTAB). omega (arith, e);
       symbols = λ (e : c.index-sections-i.result.sh_type ≡ SHT_DYNSYM). omega (arith, e);
       definitions = λ (e : c.index-sections-i.result.sh_type ≡ SHT_GNU_VERDEF). omega (arith, e);
       needs = λ (e : c.index-sections-i.result.sh_type ≡ SHT_GNU_VERNEED). omega (arith, e);
     }) content.bytes) c.numbering_content.ensures
-
-pub definitions_content-requires-clause-ready : goal.definitions_content-requires-clause-ready
-definitions_content-requires-clause-ready c = edited_ready c.requires.planned.ready
-
-pub needs_content-requires-clause-ready : goal.needs_content-requires-clause-ready
-needs_content-requires-clause-ready c = edited_ready c.requires.planned.ready

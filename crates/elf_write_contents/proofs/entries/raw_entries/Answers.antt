@@ -15,7 +15,6 @@ use Rattle.elf_write_strings.proofs.ForCallers.Results.{if_ok}
 use Rattle.elf_write_contents.specs.EntrySteps.{numbers_with}
 use Rattle.elf_write_contents.specs.Inner.{AreRaw}
 use Rattle.elf_write_contents.proofs.EntriesRaw.{made_raw, none_listed, none_raw}
-use Rattle.elf_write_contents.proofs.ReadyEdits.{edited_ready}
 use Rattle.elf_write_contents.proofs.entries.raw_entries.Goals as goal
 
 pub returns-in_default : goal.returns-in_default
@@ -60,4 +59,4 @@ returns c =
     c.numbers_of.ensures
 
 pub text_places-requires-clause-ready : goal.text_places-requires-clause-ready
-text_places-requires-clause-ready c = edited_ready c.requires.planned.ready
+text_places-requires-clause-ready c = c.requires.planned.ready

@@ -78,9 +78,10 @@ name_place-name-requires-clause-copied c =
     let old_at : slice_get items (slice_index c.args.image.now.section_numbers c.args.i) ≡ Some old =
     ap (λ (n : ℕ). slice_get items n) (sym c.read_section.ensures)
     ∙ slice_get_read items (length items) c.read_section.result old refl there c.index-old.ensures in
-    subst (λ (text : List ℕ). Reads (content_read c.args.image.now c.args.image.now.header.e_shstrndx) old.sh_name text) (sym c.as_slice.ensures)
+    λ none. subst (λ (text : List ℕ). Reads (content_read c.args.image.now c.args.image.now.header.e_shstrndx) old.sh_name text)
+    (sym c.as_slice.ensures)
     (name_copied c.args.image.now c.args.plan.now c.args.made.now c.args.known.now c.requires.planned c.requires.strings c.requires.known
-    c.args.i c.requires.there (section_model x) old at old_at)
+    c.args.i c.requires.there (section_model x) old at old_at none)
 
 pub bounds-places-i : goal.bounds-places-i
 bounds-places-i c =

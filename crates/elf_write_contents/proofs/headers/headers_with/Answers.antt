@@ -9,8 +9,8 @@ use Rattle.elf_write_contents.specs.HeaderSteps.{AreMade}
 use Rattle.elf_write_strings.specs.WrittenStrings.{strings_at}
 use Rattle.elf_write_contents.proofs.HeadersLists.{made_all, made_more}
 use Rattle.elf_write_contents.proofs.HeadersMade.{length-places}
-use Rattle.elf_write_contents.proofs.ReadyEdits.{edit_of}
-use Rattle.elf_write_spec.proofs.ForCallers.IntactEdits.{length-kept}
+use Rattle.elf_write_spec.proofs.ForCallers.WholeEdits.{length-kept, read_facts}
+use Rattle.elf_write_strings.proofs.ForCallers.ReadTables.{ready_edit}
 use Rattle.elf_write_contents.proofs.headers.headers_with.Goals as goal
 
 pub loop-i-preserved : goal.loop-i-preserved
@@ -33,7 +33,8 @@ returns-clause-headers c =
       c.loop-i.auto.i-end,
       ap length c.sections-i-end.ensures,
       length-map c.sections-i-end.result.now section_model,
-      length-kept (image_at_read c.args.image.now) c.args.image.now (edit_of c.requires.planned.ready),
+      length-kept (image_at_read c.args.image.now) c.args.image.now
+          (read_facts (image_at_read c.args.image.now) c.args.image.now (ready_edit c.requires.planned.ready)),
     ) in
     made_all r names ss ps c.loop-i.headers.items (length-places c.args.image.now c.args.plan.now c.requires.planned)
     (subst (λ (n : ℕ). AreMade r names ss ps c.loop-i.headers.items n) end c.loop-i.invariant)

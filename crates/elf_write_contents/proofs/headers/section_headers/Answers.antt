@@ -1,9 +1,9 @@
 -- The image was read from its source.
 use Rattle.std.proofs.Common.{subst}
 use Rattle.elf_format.specs.Image.{Image}
-use Rattle.elf_write_spec.specs.Ready.{IsPlanned}
 use Rattle.elf_write_strings.specs.WrittenStrings.{AreStrings}
 use Rattle.elf_write_contents.proofs.headers.section_headers.Goals as goal
+use Rattle.elf_write_contents.specs.Inner.{IsPlanned}
 
 pub headers_with-requires-clause-planned : goal.headers_with-requires-clause-planned
 headers_with-requires-clause-planned c =

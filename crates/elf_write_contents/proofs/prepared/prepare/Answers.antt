@@ -4,7 +4,6 @@ use Rattle.std.proofs.lemmas.Result.{err_from_is_err_and}
 use Rattle.elf_tables.specs.declared.fault.TableFault.TheVariants.{NumberTooLarge}
 use Rattle.elf_write_contents.specs.Numbers.{do_numbers_fit}
 use Rattle.elf_write_contents.proofs.PreparedFaults.{names_far}
-use Rattle.elf_write_contents.proofs.ReadyEdits.{edited_ready}
 use Rattle.elf_write_contents.proofs.prepared.prepare.Goals as goal
 
 pub returns-in_err-made-clause-fault : goal.returns-in_err-made-clause-fault
@@ -15,4 +14,4 @@ returns-in_err-made-clause-fault c =
     rw (p.1, p.2) far
 
 pub made_strings-requires : goal.made_strings-requires
-made_strings-requires c = edited_ready c.requires.ready
+made_strings-requires c = c.requires.ready

@@ -1,0 +1,2 @@
+-- For callers: what the crates above may cite. These are laws of the words of specs/; no other module of
+-- this crate's proofs is meant for them.

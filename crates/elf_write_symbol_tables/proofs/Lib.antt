@@ -1,0 +1,9 @@
+pub mod Spelled
+pub mod Fits
+pub mod TablesRead
+pub mod NamesTold
+pub mod SymbolsShown
+pub mod SymbolsStay
+pub mod RecordsGiven
+pub mod SectionsKept
+pub mod ForCallers

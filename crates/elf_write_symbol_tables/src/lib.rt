@@ -1,0 +1,10 @@
+//! The bytes of the two symbol tables of an edited image (gABI, Symbol Table).
+#![tactic(auto)]
+
+mod dynamic;
+mod names;
+mod records;
+mod statics;
+
+pub use crate::dynamic::dynamic_symbols_content;
+pub use crate::statics::static_symbols_content;
