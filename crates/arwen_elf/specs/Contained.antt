@@ -4,7 +4,9 @@ use Rattle.elf_edits.specs.Edit.{Edit}
 use Rattle.arwen_elf.specs.declared.elf.container.ElfContainer.{ElfContainer}
 use Rattle.elf_apply.specs.declared.batch.ElfBatchError.{ElfBatchError}
 use Rattle.elf_apply.specs.declared.error.ElfError.{ElfError}
+use Rattle.elf_apply.specs.SymbolsTaken.{TakesSymbolEdit}
 use Rattle.elf_apply.specs.Taken.{TakesBatch, TakesEdit, TakesInPlace}
+use Rattle.elf_symbol_edits.specs.SymbolEdit.{SymbolEdit}
 
 abbrev pub EditTaken : {T : Type 0} → Edit → ElfContainer → ElfContainer → Result T ElfError → Type 0
 EditTaken edit old new answer = TakesEdit edit old.inner new.inner answer × (new.bytes ≡ old.bytes)
@@ -14,3 +16,6 @@ InPlaceTaken edit old new answer = TakesInPlace edit old.inner new.inner answer 
 
 abbrev pub BatchTaken : List Edit → ElfContainer → ElfContainer → Result (Unit {0}) ElfBatchError → Type 0
 BatchTaken edits old new answer = TakesBatch edits old.inner new.inner answer × (new.bytes ≡ old.bytes)
+
+abbrev pub SymbolEditTaken : SymbolEdit → ElfContainer → ElfContainer → Result (Unit {0}) ElfError → Type 0
+SymbolEditTaken edit old new answer = TakesSymbolEdit edit old.inner new.inner answer × (new.bytes ≡ old.bytes)

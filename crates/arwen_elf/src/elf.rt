@@ -7,5 +7,5 @@ pub mod rewriter;
 pub use crate::elf::container::ElfContainer;
 pub use crate::elf::rewriter::{
     BuilderExt, ElfBatchError, ElfEdit, ElfError, ModifyCause, Needed, NotWritten, ProbeAnswer,
-    Reason, Removed, Task, Writer,
+    Reason, Removed, SymbolEdit, Task, Writer,
 };

@@ -1,3 +1,2 @@
 pub mod ReadSteps
-pub mod WholeLaws
 pub mod WrittenLaws

@@ -19,7 +19,6 @@ use elf_edits_shrink::{ProbeAnswer, Removed, shrink_questions};
 use std::alloc::{AllocError, Global};
 use std::collections::{HashMap, HashSet};
 
-#[tactic(auto, using(crate::proofs::WholeLaws::edit_leaves, crate::proofs::WholeLaws::in_place_leaves, crate::proofs::WholeLaws::batch_leaves))]
 impl<'data> Writer<'data> {
     /// Makes several edits, each upon what the one before it left: all of them, or none. All memory is wanted before
     /// anything changes. An empty batch is accepted without memory, and changes nothing. The cost is in proportion to
@@ -83,9 +82,7 @@ impl<'data> Writer<'data> {
     {
         steps::shrink_run_paths(&mut self.builder, alloc, prefixes, probe)
     }
-}
 
-impl<'data> Writer<'data> {
     /// Applies batch after batch, each of them all or none, and answers each. After an error, that there is no memory
     /// for the answers, nothing was applied.
     pub fn apply_each(

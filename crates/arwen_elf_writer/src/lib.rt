@@ -5,6 +5,7 @@ mod edits;
 pub mod machines;
 pub mod new_file;
 mod output;
+mod symbols;
 mod values;
 pub mod writer;
 

@@ -5,7 +5,6 @@ ghost use Rattle.elf_image.specs.Kept.{image_at_read};
 ghost use Rattle.elf_layout_plan.specs.Plan.{IsPlan, resized};
 ghost use Rattle.elf_layout_plan.specs.Refusals.{do_sizes_of_image_fit, sizes_of_image};
 ghost use Rattle.elf_layout_sizes.specs.MadeTables.{IsMadeOfDynamic};
-ghost use Rattle.elf_write_spec.specs.Whole.{IsWhole};
 ghost use Rattle.elf_write_spec.specs.WrittenFile.{IsWrittenOf};
 ghost use Rattle.arwen_elf_writer.specs.NewFile.{HoldsImage, IsNotStored};
 ghost use Rattle.arwen_elf_writer.specs.Written.{AnswersBytes, AnswersPieces, AnswersWrite, IsImageWritten, IsIo, IsNoDifference, IsNoEdit, IsNoImage, IsTold, MayNotWrite};
@@ -34,7 +33,6 @@ fn bytes_by<'data>(
     plan: &Plan,
 ) -> std::result::Result<Vec<u8>, LayoutFault>
     requires read { read.now ≡ image_at_read image.now }
-    requires whole { IsWhole read.now image.now }
     requires planned { IsPlan (resized image.now) plan.now }
     requires sized { IsTrue (do_sizes_of_image_fit image.now) }
     ensures bytes { IfOk result (λ bytes. IsWrittenOf image.now bytes.items) }
@@ -52,8 +50,7 @@ fn bytes_from<'data>(
     read: &Builder<'data>,
     image: &Builder<'data>,
 ) -> std::result::Result<Vec<u8>, LayoutFault>
-    requires read { read.now ≡ image_at_read image.now }
-    requires whole { IsWhole read.now image.now }
+    requires { read.now ≡ image_at_read image.now }
     ensures bytes { IfOk result (λ bytes. IsWrittenOf image.now bytes.items) }
     ensures fault { IfErr result (IsNoEdit image.now) }
 {
@@ -65,7 +62,6 @@ fn bytes_from<'data>(
 
 // The bytes of an edited image.
 fn edited_bytes(alloc: Global, image: &Builder<'_>) -> std::result::Result<Vec<u8>, LayoutFault>
-    requires { IsWhole (image_at_read image.now) image.now }
     ensures bytes { IfOk result (λ bytes. IsWrittenOf image.now bytes.items) }
     ensures fault { IfErr result (IsNoEdit image.now) }
 {
@@ -85,7 +81,6 @@ fn pieces_by<'a, 'data>(
     strings: Option<Finished<'a>>,
 ) -> std::result::Result<Difference, LayoutFault>
     requires read { read.now ≡ image_at_read image.now }
-    requires whole { IsWhole read.now image.now }
     requires planned { IsPlan (resized image.now) plan.now }
     requires sized { IsTrue (do_sizes_of_image_fit image.now) }
     requires strings { IfSome strings (IsMadeOfDynamic read.now image.now) }
@@ -108,7 +103,6 @@ fn pieces_by_sizes<'a, 'data>(
     new: NewSizes<'a>,
 ) -> std::result::Result<Difference, LayoutFault>
     requires read { read.now ≡ image_at_read image.now }
-    requires whole { IsWhole read.now image.now }
     requires sizes { new.sizes.items ≡ sizes_of_image image.now }
     requires sized { IsTrue (do_sizes_of_image_fit image.now) }
     requires strings { IfSome new.strings (IsMadeOfDynamic read.now image.now) }
@@ -132,8 +126,7 @@ fn pieces_from<'a, 'data>(
     read: &'a Builder<'data>,
     image: &'a Builder<'data>,
 ) -> std::result::Result<Difference, LayoutFault>
-    requires read { read.now ≡ image_at_read image.now }
-    requires whole { IsWhole read.now image.now }
+    requires { read.now ≡ image_at_read image.now }
     ensures makeable { IfOk result (λ d. IsDifference image.entry.now.source d) }
     ensures bytes { IfOk result (λ d.
         IsWrittenOf image.entry.now (made_of image.entry.now.source d)) }
@@ -147,7 +140,6 @@ fn pieces_from<'a, 'data>(
 
 // What of the bytes of an edited image differs from its source.
 fn edited_pieces(alloc: Global, image: &Builder<'_>) -> std::result::Result<Difference, LayoutFault>
-    requires { IsWhole (image_at_read image.now) image.now }
     ensures makeable { IfOk result (λ d. IsDifference image.now.source d) }
     ensures bytes { IfOk result (λ d.
         IsWrittenOf image.now (made_of image.now.source d)) }

@@ -2,8 +2,6 @@ ghost use Rattle.std.specs.Prelude.{◌≡◌, ◌∷◌, [], Ok, IfOk, MatchRes
 ghost use Rattle.elf_image.specs.Image.{image_of, shown};
 ghost use Rattle.elf_image.specs.ImageModel.{entry_model};
 ghost use Rattle.elf_image.specs.Answers.{borrowed};
-ghost use Rattle.elf_image.specs.Kept.{image_at_read};
-ghost use Rattle.elf_write_spec.specs.Whole.{IsWhole};
 ghost use Rattle.elf_apply.specs.Causes.{RefusesRead};
 ghost use Rattle.arwen_elf_writer.specs.PageSizes.{page_size_for, page_size_of};
 ghost use Rattle.arwen_elf_writer.specs.Reads.{entries_shown, text_if, first_of, needed_shown, runpath_shown, searched_shown, soname_shown, texts_tagged};
@@ -34,10 +32,6 @@ impl<'data> Model for Writer<'data> {
     ghost use Rattle.arwen_elf_writer.specs.WriterModel.{image_model};
 
     ghost view = { image_model };
-
-    ghost use Rattle.arwen_elf_writer.specs.Held.{is_whole_held};
-
-    ghost invariant = { is_whole_held };
 }
 
 /// The texts of the DT_NEEDED entries (gABI, Dynamic Section), in order, equal ones too.
@@ -102,11 +96,9 @@ impl<'data> Writer<'data> {
         Ok(Writer { builder })
     }
 
-    /// The file's image, of which no edit took anything away. Takes no memory.
-    #[tactic(auto, using(crate::proofs::WholeLaws::whole_at_read))]
+    /// The file's image. Takes no memory.
     pub fn builder(&self) -> &Builder<'data>
-        ensures image { result.now ≡ self.now }
-        ensures whole { IsWhole (image_at_read self.now) self.now }
+        ensures { result.now ≡ self.now }
     {
         &self.builder
     }

@@ -6,3 +6,4 @@ pub mod BatchSteps
 pub mod ShrinkLaws
 pub mod ForCallers
 pub mod DropLaws
+pub mod SymbolLaws

@@ -3,3 +3,4 @@ pub mod Told
 pub mod StackLent
 pub mod Taken
 pub mod Drafted
+pub mod SymbolsTaken

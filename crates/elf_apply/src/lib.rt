@@ -8,3 +8,4 @@ pub mod error;
 pub mod ext;
 mod refusals;
 pub mod steps;
+pub mod symbols;

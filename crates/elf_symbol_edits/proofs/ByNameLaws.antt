@@ -12,7 +12,7 @@ use Rattle.elf_image.specs.Edited.{IsEdited}
 use Rattle.elf_image.proofs.ForCallers.SymbolsKept.{dynamic_first, static_first}
 use Rattle.elf_symbol_edits.specs.Laws.{SymbolsGoByName, kept_behind_first, without_named}
 use Rattle.elf_symbol_edits.specs.Named.{named_dynamic_symbols, named_symbols, numbers_passing, symbol_name}
-use Rattle.elf_symbol_edits.specs.SymbolEdit.{DeleteDynamicSymbols, DeleteSymbols, edited, without_dynamic_symbols, without_symbols}
+use Rattle.elf_symbol_edits.specs.SymbolEdit.{DeleteAllSymbols, DeleteDynamicSymbols, DeleteSymbols, edited, without_dynamic_symbols, without_symbols}
 
 module _ {A : Type 0} (test : A → Bool) where
   -- the numbers rise from a bound on
@@ -124,10 +124,11 @@ module _ (names : List (List ℕ)) (image : Image) (h : IsEdited image) where
   static_there [] = sym (none_left_out image.symbol_numbers image.symbols h.is_edit.symbols.numbered)
   static_there (n ∷ ns) = refl
 
+  static_left_by_name : parts_left (named_symbols names image) image.symbol_numbers image.symbols ≡ without_named names image.symbols
+  static_left_by_name = left_by_test (λ y. is_among names (symbol_name y)) image.symbol_numbers image.symbols h.is_edit.symbols.numbered h.is_edit.symbols.rising (static_first image h)
+
   static_by_name : (edited (DeleteSymbols names) image).symbols ≡ without_named names image.symbols
-  static_by_name =
-      static_there (named_symbols names image)
-      ∙ left_by_test (λ y. is_among names (symbol_name y)) image.symbol_numbers image.symbols h.is_edit.symbols.numbered h.is_edit.symbols.rising (static_first image h)
+  static_by_name = static_there (named_symbols names image) ∙ static_left_by_name
 
   dynamic_there : (gone : List ℕ) → (if has_some gone then without_dynamic_symbols gone image else image).dynamic_symbols ≡ parts_left gone image.dynamic_symbol_numbers image.dynamic_symbols
   dynamic_there [] = sym (none_left_out image.dynamic_symbol_numbers image.dynamic_symbols h.is_edit.dynamic_symbols.numbered)
@@ -139,8 +140,29 @@ module _ (names : List (List ℕ)) (image : Image) (h : IsEdited image) where
   dynamic_by_name : (edited (DeleteDynamicSymbols names) image).dynamic_symbols ≡ without_named names image.dynamic_symbols
   dynamic_by_name = dynamic_there (named_dynamic_symbols names image) ∙ dynamic_left_by_name
 
+  -- both lists, of which perhaps only one has such a name
+  abbrev all_there : List ℕ → List ℕ → Image
+  all_there gone dynamic_gone = if has_some gone || has_some dynamic_gone then without_dynamic_symbols dynamic_gone (without_symbols gone image) else image
+
+  all_static_there : (gone dynamic_gone : List ℕ) → (all_there gone dynamic_gone).symbols ≡ parts_left gone image.symbol_numbers image.symbols
+  all_static_there [] [] = sym (none_left_out image.symbol_numbers image.symbols h.is_edit.symbols.numbered)
+  all_static_there [] (m ∷ ms) = refl
+  all_static_there (n ∷ ns) ms = refl
+
+  all_dynamic_there : (gone dynamic_gone : List ℕ) → (all_there gone dynamic_gone).dynamic_symbols ≡ parts_left dynamic_gone image.dynamic_symbol_numbers image.dynamic_symbols
+  all_dynamic_there [] [] = sym (none_left_out image.dynamic_symbol_numbers image.dynamic_symbols h.is_edit.dynamic_symbols.numbered)
+  all_dynamic_there [] (m ∷ ms) = refl
+  all_dynamic_there (n ∷ ns) ms = refl
+
+  all_by_name : ((edited (DeleteAllSymbols names) image).symbols ≡ without_named names image.symbols) × ((edited (DeleteAllSymbols names) image).dynamic_symbols ≡ without_named names image.dynamic_symbols)
+  all_by_name = (
+    all_static_there (named_symbols names image) (named_dynamic_symbols names image) ∙ static_left_by_name,
+    all_dynamic_there (named_symbols names image) (named_dynamic_symbols names image) ∙ dynamic_left_by_name,
+  )
+
 pub symbols_go_by_name : SymbolsGoByName
 symbols_go_by_name = record {
   symbols = λ names image h. static_by_name names image h;
   dynamic_symbols = λ names image h. dynamic_by_name names image h;
+  all = λ names image h. all_by_name names image h;
 }

@@ -8,7 +8,7 @@ use Rattle.elf_symbol_edits.specs.declared.cause.Cause.{Cause}
 use Rattle.elf_symbol_edits.specs.Cause.{cause}
 use Rattle.elf_symbol_edits.specs.Laws.{EditsAreDecided}
 use Rattle.elf_symbol_edits.specs.Named.{named_sections}
-use Rattle.elf_symbol_edits.specs.SymbolEdit.{DeleteDynamicSymbols, DeleteSections, DeleteSymbols, RenameSections, RenameSymbols, SymbolEdit, edited, touches, written}
+use Rattle.elf_symbol_edits.specs.SymbolEdit.{DeleteAllSymbols, DeleteDynamicSymbols, DeleteSections, DeleteSymbols, RenameAllSymbols, RenameSections, RenameSymbols, SymbolEdit, edited, touches, written}
 
 -- what a cause answers
 abbrev decided : Option Cause → Image → Result Image Cause
@@ -42,6 +42,8 @@ pub marked : (edit : SymbolEdit) (old : Image) → (edited edit old).changed ≡
 marked (RenameSymbols pairs) old = marked_if (touches (RenameSymbols pairs) old) old (written (RenameSymbols pairs) old) (λ _. refl)
 marked (DeleteSymbols names) old = marked_if (touches (DeleteSymbols names) old) old (written (DeleteSymbols names) old) (λ _. refl)
 marked (DeleteDynamicSymbols names) old = marked_if (touches (DeleteDynamicSymbols names) old) old (written (DeleteDynamicSymbols names) old) (λ _. refl)
+marked (RenameAllSymbols pairs) old = marked_if (touches (RenameAllSymbols pairs) old) old (written (RenameAllSymbols pairs) old) (λ _. refl)
+marked (DeleteAllSymbols names) old = marked_if (touches (DeleteAllSymbols names) old) old (written (DeleteAllSymbols names) old) (λ _. refl)
 marked (RenameSections pairs) old = marked_if (touches (RenameSections pairs) old) old (written (RenameSections pairs) old) (λ _. refl)
 marked (DeleteSections names) old = marked_if (touches (DeleteSections names) old) old (written (DeleteSections names) old) (sections_marked (named_sections names old) old)
 

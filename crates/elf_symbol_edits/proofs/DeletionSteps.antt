@@ -17,7 +17,7 @@ use Rattle.elf_image_uses.proofs.ForCallers.{kept_firsts_rise}
 use Rattle.elf_symbol_edits.specs.declared.deletion.Deletion.{Deletion as DeletionHeld}
 use Rattle.elf_symbol_edits.specs.Deletion.{AreRising, Deletion, deletion_of, no_deletion}
 use Rattle.elf_symbol_edits.specs.EditModel.{IsDeletionOf, deletion_model}
-use Rattle.elf_symbol_edits.specs.SymbolEdit.{DeleteDynamicSymbols, DeleteSections, DeleteSymbols, SymbolEdit}
+use Rattle.elf_symbol_edits.specs.SymbolEdit.{DeleteAllSymbols, DeleteDynamicSymbols, DeleteSections, DeleteSymbols, SymbolEdit}
 use Rattle.elf_symbol_edits.specs.Named.{named_dynamic_symbols, named_sections, named_symbols, numbers_passing, section_name, symbol_name}
 use Rattle.elf_symbol_edits.proofs.NumberSteps.{passing_rise}
 
@@ -73,6 +73,9 @@ module _ (image : Image) (h : IsEdited image) (names : List (List ℕ)) where
 
   pub rising_dynamic_symbols : AreRising (deletion_of (DeleteDynamicSymbols names) image)
   rising_dynamic_symbols = record { symbols = none_rise; dynamic_symbols = dynamic_symbols_rise; sections = none_rise }
+
+  pub rising_all_symbols : AreRising (deletion_of (DeleteAllSymbols names) image)
+  rising_all_symbols = record { symbols = symbols_rise; dynamic_symbols = dynamic_symbols_rise; sections = none_rise }
 
   pub rising_sections : AreRising (deletion_of (DeleteSections names) image)
   rising_sections = record { symbols = along_rise; dynamic_symbols = none_rise; sections = sections_rise }

@@ -1,9 +1,11 @@
 pub mod NumberSteps
 pub mod DeletionSteps
 pub mod PutSteps
+pub mod BothSteps
 pub mod RenameSteps
 pub mod MakeSteps
 pub mod DecidedLaws
+pub mod KeptLaws
 pub mod ByNameLaws
 pub mod RenameLaws
 pub mod ShownLaws

@@ -15,12 +15,12 @@ use Rattle.elf_image.specs.Renumbering.{can_renumber, has_opaque_user}
 use Rattle.elf_image.specs.Staying.{staying, table_number}
 use Rattle.elf_symbol_edits.specs.declared.cause.Cause.{Cause}
 use Rattle.elf_symbol_edits.specs.declared.cause.Cause.TheVariants.{CannotRenumber, MipsImage, NulInText, SymbolInRelocation}
-use Rattle.elf_symbol_edits.specs.Cause.{cause, cause_before, cause_if, cause_of_deletion, is_fixed, is_named_by_relocation}
+use Rattle.elf_symbol_edits.specs.Cause.{cause, cause_before, cause_if, cause_of_deletion, is_fixed, is_name_fixed, is_named_by_relocation}
 use Rattle.elf_symbol_edits.specs.Deletion.{Deletion, deletion_of}
 use Rattle.elf_symbol_edits.specs.EditModel.{IsDone}
 use Rattle.elf_symbol_edits.specs.Named.{named_dynamic_symbols, named_sections, named_symbols, section_name, symbol_name}
-use Rattle.elf_symbol_edits.specs.Steps.{AreDynamicGone, AreGone, AreSectionsGone}
-use Rattle.elf_symbol_edits.specs.SymbolEdit.{DeleteDynamicSymbols, DeleteSections, DeleteSymbols, SymbolEdit, texts_of}
+use Rattle.elf_symbol_edits.specs.Steps.{AreAllGone, AreDynamicGone, AreGone, AreSectionsGone}
+use Rattle.elf_symbol_edits.specs.SymbolEdit.{DeleteAllSymbols, DeleteDynamicSymbols, DeleteSections, DeleteSymbols, SymbolEdit, texts_of}
 use Rattle.elf_symbol_edits.proofs.NumberSteps.{all_there, none_first}
 
 -- ## No cause stands
@@ -36,6 +36,7 @@ both_none (Some c) p h = absurd (none-some c (sym h))
 -- what stands against an edit where no cause does: nothing
 pub record IsFree (edit : SymbolEdit) (image : Image) (d : Deletion) : Type 0 where
   pub whole : list_any holds_nul (texts_of edit) ≡ false
+  pub names : is_name_fixed edit image ≡ false
   pub unnamed : is_symbol_used image.form (table_number SHT_SYMTAB image) d.symbols (staying d.sections image) ≡ false
   pub dynamic_unnamed : is_symbol_used image.form (table_number SHT_DYNSYM image) d.dynamic_symbols (staying d.sections image) ≡ false
   pub renumbers : (has_some d.dynamic_symbols && not (can_renumber image)) ≡ false
@@ -45,7 +46,8 @@ pub is_free : (edit : SymbolEdit) (image : Image) → cause edit image ≡ None 
 is_free edit image h =
     let d : Deletion = deletion_of edit image in
     let (before, after) = both_none (cause_before edit image) (cause_of_deletion d image) h in
-    let (machine, nul) = both_none (cause_if (image.header.e_machine == EM_MIPS) MipsImage) (cause_if (list_any holds_nul (texts_of edit)) NulInText) before in
+    let (machine, behind) = both_none (cause_if (image.header.e_machine == EM_MIPS) MipsImage) _ before in
+    let (nul, name) = both_none (cause_if (list_any holds_nul (texts_of edit)) NulInText) (cause_if (is_name_fixed edit image) CannotRenumber) behind in
     let (named, rest) = both_none (cause_if (is_named_by_relocation d image) SymbolInRelocation) _ after in
     let (fixed, used) = both_none (cause_if (is_fixed d image) CannotRenumber) _ rest in
     let unnamed = or_parts (is_symbol_used image.form (table_number SHT_SYMTAB image) d.symbols (staying d.sections image))
@@ -54,6 +56,7 @@ is_free edit image h =
     (has_some d.dynamic_symbols && not (can_renumber image)) (none_if (is_fixed d image) _ fixed) in
     record {
       whole = none_if (list_any holds_nul (texts_of edit)) _ nul;
+      names = none_if (is_name_fixed edit image) _ name;
       unnamed = unnamed.0;
       dynamic_unnamed = unnamed.1;
       renumbers = free.1;
@@ -86,6 +89,13 @@ module _ (names : List (List ℕ)) (old new : Image) (gone : List ℕ) (touched 
   pub dynamic_symbols_done : gone ≡ named_dynamic_symbols names old → AreDynamicGone gone old new touched → IsDone (DeleteDynamicSymbols names) old new touched
   dynamic_symbols_done is h =
       let all : AreDynamicGone (named_dynamic_symbols names old) old new touched = subst (λ (g : List ℕ). AreDynamicGone g old new touched) is h in
+      record { told = all.told; made = all.made }
+
+  pub all_symbols_done : (dynamic_gone : List ℕ) → gone ≡ named_symbols names old → dynamic_gone ≡ named_dynamic_symbols names old → AreAllGone gone dynamic_gone old new touched
+      → IsDone (DeleteAllSymbols names) old new touched
+  all_symbols_done dynamic_gone is dynamic_is h =
+      let half : AreAllGone (named_symbols names old) dynamic_gone old new touched = subst (λ (g : List ℕ). AreAllGone g dynamic_gone old new touched) is h in
+      let all : AreAllGone (named_symbols names old) (named_dynamic_symbols names old) old new touched = subst (λ (g : List ℕ). AreAllGone (named_symbols names old) g old new touched) dynamic_is half in
       record { told = all.told; made = all.made }
 
   some_gone : (g : List ℕ) → without_sections g old ≡ (if has_some g then without_sections g old else old)

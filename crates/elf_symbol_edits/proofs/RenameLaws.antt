@@ -1,6 +1,7 @@
 -- Names are given all at once: two that are swapped twice are as they were.
 use Rattle.std.proofs.Common.{◌≡◌, ℕ, Bool, true, false, List, [], ◌∷◌, map, refl, sym, ap, ◌∙◌, Some, None}
-use Rattle.std.specs.Prelude.{if◌then◌else◌, unwrap_or}
+use Rattle.std.specs.Prelude.{◌||◌, drop, if◌then◌else◌, unwrap_or}
+use Rattle.std.specs.List.{list_any}
 use Rattle.std.specs.Str.{bytes_eq}
 use Rattle.std.proofs.lemmas.Slice.Eq.{bytes_eq-Decides}
 use Rattle.elf_format.specs.Image.{Image, ImageSection}
@@ -8,12 +9,12 @@ use Rattle.elf_format.specs.Options.{first_there}
 use Rattle.elf_format.specs.Views.{NamedSymbol}
 use Rattle.elf_edits.specs.Edit.{RenameDynamicSymbols}
 use Rattle.elf_edits.specs.Laws.{swap_of}
-use Rattle.elf_edits.specs.Symbols.{behind_first, name_of_symbol, names_behind_first, new_name, renamed}
+use Rattle.elf_edits.specs.Symbols.{behind_first, has_new_name, name_of_symbol, names_behind_first, new_name, renamed}
 use Rattle.elf_edits.proofs.ForCallers.{symbols_untouched}
 use Rattle.elf_image.specs.SectionEdits.{with_section_name}
 use Rattle.elf_symbol_edits.specs.Laws.{RenamesAreAtOnce}
 use Rattle.elf_symbol_edits.specs.Named.{is_section_renamed, renamed_section}
-use Rattle.elf_symbol_edits.specs.SymbolEdit.{RenameSections, RenameSymbols, edited, touches, written}
+use Rattle.elf_symbol_edits.specs.SymbolEdit.{RenameAllSymbols, RenameSections, RenameSymbols, edited, touches, written}
 use Rattle.elf_symbol_edits.proofs.RenameSteps.{none_at_all}
 
 -- ## One name
@@ -71,6 +72,17 @@ module _ (pairs : List (List ℕ × List ℕ)) where
       by_test true = refl
       by_test false = refl
 
+  -- both lists, of which perhaps only one has such a name
+  pub all_after : (image : Image) → ((edited (RenameAllSymbols pairs) image).symbols ≡ behind_first (renamed pairs) image.symbols) × ((edited (RenameAllSymbols pairs) image).dynamic_symbols ≡ behind_first (renamed pairs) image.dynamic_symbols)
+  all_after image = by_test (list_any (λ y. has_new_name pairs y.name) (drop 1 image.symbols)) (list_any (λ y. has_new_name pairs y.name) (drop 1 image.dynamic_symbols)) refl refl
+    where
+      by_test : (a b : Bool) → list_any (λ y. has_new_name pairs y.name) (drop 1 image.symbols) ≡ a → list_any (λ y. has_new_name pairs y.name) (drop 1 image.dynamic_symbols) ≡ b
+          → ((if a || b then written (RenameAllSymbols pairs) image else image).symbols ≡ behind_first (renamed pairs) image.symbols)
+          × ((if a || b then written (RenameAllSymbols pairs) image else image).dynamic_symbols ≡ behind_first (renamed pairs) image.dynamic_symbols)
+      by_test true b e f = (refl, refl)
+      by_test false true e f = (refl, refl)
+      by_test false false e f = (sym (symbols_untouched (RenameDynamicSymbols pairs) image.symbols e), sym (symbols_untouched (RenameDynamicSymbols pairs) image.dynamic_symbols f))
+
   pub sections_after : (image : Image) → (edited (RenameSections pairs) image).sections ≡ behind_first (renamed_section pairs) image.sections
   sections_after image = by_test (is_section_renamed pairs image.sections) refl
     where
@@ -90,6 +102,14 @@ module _ (f g : List ℕ) where
       symbols_after (swap_of f g) (edited (RenameSymbols (swap_of f g)) image) ∙ ap (behind_first (renamed (swap_of f g))) (symbols_after (swap_of f g) image)
       ∙ behind_twice (renamed (swap_of f g)) symbol_swapped image.symbols
 
+  all_twice : (image : Image) → let swap = edited (RenameAllSymbols (swap_of f g)) in ((swap (swap image)).symbols ≡ image.symbols) × ((swap (swap image)).dynamic_symbols ≡ image.dynamic_symbols)
+  all_twice image =
+      let once = all_after (swap_of f g) image in
+      let twice = all_after (swap_of f g) (edited (RenameAllSymbols (swap_of f g)) image) in (
+        twice.0 ∙ ap (behind_first (renamed (swap_of f g))) once.0 ∙ behind_twice (renamed (swap_of f g)) symbol_swapped image.symbols,
+        twice.1 ∙ ap (behind_first (renamed (swap_of f g))) once.1 ∙ behind_twice (renamed (swap_of f g)) symbol_swapped image.dynamic_symbols,
+      )
+
   sections_twice : (image : Image) → (edited (RenameSections (swap_of f g)) (edited (RenameSections (swap_of f g)) image)).sections ≡ image.sections
   sections_twice image =
       sections_after (swap_of f g) (edited (RenameSections (swap_of f g)) image) ∙ ap (behind_first (renamed_section (swap_of f g))) (sections_after (swap_of f g) image)
@@ -100,6 +120,9 @@ renames_are_at_once = record {
   symbols = λ pairs image. ap names_behind_first (symbols_after pairs image) ∙ names_after pairs image.symbols;
   symbols_swapped = λ f g image. symbols_twice f g image;
   dynamic_left = λ pairs image. dynamic_after pairs image;
+  all_symbols = λ pairs image. ap names_behind_first (all_after pairs image).0 ∙ names_after pairs image.symbols;
+  all_dynamic = λ pairs image. ap names_behind_first (all_after pairs image).1 ∙ names_after pairs image.dynamic_symbols;
+  all_swapped = λ f g image. all_twice f g image;
   sections = λ pairs image. sections_after pairs image;
   sections_swapped = λ f g image. sections_twice f g image;
 }

@@ -1,18 +1,20 @@
 -- What edited images show.
 use Rattle.std.proofs.Common.{◌≡◌, ℕ, Bool, true, false, cond, List, [], ◌∷◌, map, filter, refl, sym, ap, ◌∙◌, Option, Some, None, option_map}
-use Rattle.std.specs.Prelude.{if◌then◌else◌, not}
+use Rattle.std.specs.Prelude.{◌||◌, if◌then◌else◌, not}
 use Rattle.patch_bytes.specs.Memory.{◌>>=◌}
 use Rattle.elf_format.specs.declared.constants.TheConstants.{DT_SYMTAB, DT_VERSYM}
 use Rattle.elf_format.specs.Dynamic.{Entry}
 use Rattle.elf_format.specs.Image.{Image, lists_tag, seen_symbol, shown, shown_if}
 use Rattle.elf_format.specs.Views.{NamedSymbol}
+use Rattle.elf_edits.specs.Symbols.{behind_first, renamed}
 use Rattle.elf_edits.specs.Texts.{has_some, is_among}
 use Rattle.elf_image.specs.Deleted.{parts_left}
 use Rattle.elf_image.specs.Edited.{IsEdited}
 use Rattle.elf_symbol_edits.specs.Laws.{SymbolEditsShow, without_named}
-use Rattle.elf_symbol_edits.specs.Named.{named_dynamic_symbols, symbol_name}
-use Rattle.elf_symbol_edits.specs.SymbolEdit.{DeleteDynamicSymbols, DeleteSymbols, RenameSections, RenameSymbols, edited, touches, without_dynamic_symbols, written}
+use Rattle.elf_symbol_edits.specs.Named.{named_dynamic_symbols, named_symbols, symbol_name}
+use Rattle.elf_symbol_edits.specs.SymbolEdit.{DeleteAllSymbols, DeleteDynamicSymbols, DeleteSymbols, RenameAllSymbols, RenameSections, RenameSymbols, edited, touches, without_dynamic_symbols, without_symbols, written}
 use Rattle.elf_symbol_edits.proofs.ByNameLaws.{dynamic_left_by_name, none_left_out}
+use Rattle.elf_symbol_edits.proofs.RenameLaws.{all_after}
 
 -- an image that shows the same where the edit wrote something
 same_if : (b : Bool) (old new : Image) → shown new ≡ shown old → shown (if b then new else old) ≡ shown old
@@ -58,10 +60,60 @@ module _ (names : List (List ℕ)) where
         ∙ ap (λ ys. shown (with_dynamic ys)) (dynamic_left_by_name names image h)
         ∙ ap (λ (s : Option (List NamedSymbol)). record (shown image) { symbols = s }) (by_entries image.entries image.dynamic_symbols)
 
+    -- of both lists, what is shown looks at the dynamic one
+    all_by_gone : (gone dynamic_gone : List ℕ) → shown (if has_some gone || has_some dynamic_gone then without_dynamic_symbols dynamic_gone (without_symbols gone image) else image)
+        ≡ shown (with_dynamic (parts_left dynamic_gone image.dynamic_symbol_numbers image.dynamic_symbols))
+    all_by_gone [] [] = ap (λ ys. shown (with_dynamic ys)) (sym (none_left_out image.dynamic_symbol_numbers image.dynamic_symbols h.is_edit.dynamic_symbols.numbered))
+    all_by_gone [] (m ∷ ms) = refl
+    all_by_gone (n ∷ ns) ms = refl
+
+    all_shown : shown (edited (DeleteAllSymbols names) image) ≡ record (shown image) { symbols = option_map (without_named names) (shown image).symbols }
+    all_shown =
+        all_by_gone (named_symbols names image) (named_dynamic_symbols names image)
+        ∙ ap (λ ys. shown (with_dynamic ys)) (dynamic_left_by_name names image h)
+        ∙ ap (λ (s : Option (List NamedSymbol)). record (shown image) { symbols = s }) (by_entries image.entries image.dynamic_symbols)
+
+module _ (pairs : List (List ℕ × List ℕ)) where
+  seen_renamed : (b : Bool) (ys : List NamedSymbol) → map (seen_symbol b) (behind_first (renamed pairs) ys) ≡ behind_first (renamed pairs) (map (seen_symbol b) ys)
+  seen_renamed b [] = refl
+  seen_renamed b (y ∷ ys) = ap (λ l. seen_symbol b y ∷ l) (each ys)
+    where
+      one : (c : Bool) (z : NamedSymbol) → seen_symbol c (renamed pairs z) ≡ renamed pairs (seen_symbol c z)
+      one true z = refl
+      one false z = refl
+
+      each : (zs : List NamedSymbol) → map (seen_symbol b) (map (renamed pairs) zs) ≡ map (renamed pairs) (map (seen_symbol b) zs)
+      each [] = refl
+      each (z ∷ zs) = ap (λ w. w ∷ map (seen_symbol b) (map (renamed pairs) zs)) (one b z) ∙ ap (λ l. renamed pairs (seen_symbol b z) ∷ l) (each zs)
+
+  shown_renamed : (c : Bool) (b : Bool) (ys : List NamedSymbol) → shown_if c (map (seen_symbol b) (behind_first (renamed pairs) ys)) ≡ option_map (behind_first (renamed pairs)) (shown_if c (map (seen_symbol b) ys))
+  shown_renamed true b ys = ap Some (seen_renamed b ys)
+  shown_renamed false b ys = refl
+
+  renamed_by_entries : (o : Option (List Entry)) (ys : List NamedSymbol)
+      → (o >>= (λ entries. shown_if (lists_tag DT_SYMTAB entries) (map (seen_symbol (lists_tag DT_VERSYM entries)) (behind_first (renamed pairs) ys))))
+      ≡ option_map (behind_first (renamed pairs)) (o >>= (λ entries. shown_if (lists_tag DT_SYMTAB entries) (map (seen_symbol (lists_tag DT_VERSYM entries)) ys)))
+  renamed_by_entries None ys = refl
+  renamed_by_entries (Some entries) ys = shown_renamed (lists_tag DT_SYMTAB entries) (lists_tag DT_VERSYM entries) ys
+
+  -- all that is shown is that of the image with its dynamic symbols now
+  shown_by : (b : Bool) (image : Image) → shown (if b then written (RenameAllSymbols pairs) image else image)
+      ≡ shown (record image { dynamic_symbols = (if b then written (RenameAllSymbols pairs) image else image).dynamic_symbols })
+  shown_by true image = refl
+  shown_by false image = refl
+
+  all_renamed_shown : (image : Image) → shown (edited (RenameAllSymbols pairs) image) ≡ record (shown image) { symbols = option_map (behind_first (renamed pairs)) (shown image).symbols }
+  all_renamed_shown image =
+      shown_by (touches (RenameAllSymbols pairs) image) image
+      ∙ ap (λ (ys : List NamedSymbol). shown (record image { dynamic_symbols = ys })) (all_after pairs image).1
+      ∙ ap (λ (s : Option (List NamedSymbol)). record (shown image) { symbols = s }) (renamed_by_entries image.entries image.dynamic_symbols)
+
 pub symbol_edits_show : SymbolEditsShow
 symbol_edits_show = record {
   renamed = λ pairs image. same_if (touches (RenameSymbols pairs) image) image (written (RenameSymbols pairs) image) refl;
   deleted = λ names image. same_if (touches (DeleteSymbols names) image) image (written (DeleteSymbols names) image) refl;
   sections_renamed = λ pairs image. same_if (touches (RenameSections pairs) image) image (written (RenameSections pairs) image) refl;
   dynamic_deleted = λ names image h. dynamic_shown names image h;
+  all_renamed = λ pairs image. all_renamed_shown pairs image;
+  all_deleted = λ names image h. all_shown names image h;
 }

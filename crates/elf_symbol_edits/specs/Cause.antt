@@ -1,9 +1,11 @@
 -- Why an edit is refused.
-use Rattle.std.specs.Prelude.{Bool, ◌&&◌, ◌||◌, not, ◌==◌, if◌then◌else◌, Option, Some, None, Result, Ok, Err}
+use Rattle.std.specs.Prelude.{Bool, false, ◌&&◌, ◌||◌, not, ◌==◌, if◌then◌else◌, Option, Some, None, Result, Ok, Err}
 use Rattle.std.specs.List.{list_any}
 use Rattle.elf_format.specs.declared.constants.TheConstants.{EM_MIPS, SHT_DYNSYM, SHT_SYMTAB}
 use Rattle.elf_format.specs.Image.{Image}
 use Rattle.elf_format.specs.Options.{first_there}
+use Rattle.elf_edits.specs.Cause.{fixed_names}
+use Rattle.elf_edits.specs.Symbols.{has_new_name}
 use Rattle.elf_edits.specs.Texts.{has_some, holds_nul}
 use Rattle.elf_image.specs.Needed.{is_section_used}
 use Rattle.elf_image.specs.Relocated.{is_symbol_used}
@@ -12,16 +14,24 @@ use Rattle.elf_image.specs.Staying.{staying, table_number}
 use Rattle.elf_symbol_edits.specs.declared.cause.Cause.{Cause}
 use Rattle.elf_symbol_edits.specs.declared.cause.Cause.TheVariants.{CannotRenumber, MipsImage, NulInText, SectionInUse, SymbolInRelocation}
 use Rattle.elf_symbol_edits.specs.Deletion.{Deletion, deletion_of}
-use Rattle.elf_symbol_edits.specs.SymbolEdit.{SymbolEdit, edited, texts_of}
+use Rattle.elf_symbol_edits.specs.SymbolEdit.{RenameAllSymbols, SymbolEdit, edited, texts_of}
 
 abbrev pub cause_if : Bool → Cause → Option Cause
 cause_if stands cause = if stands then Some cause else None
 
--- ## Before it is looked at what the edit finds
+-- ## Before it is looked at what is to go
 
--- the machine, then a NUL in a name
+-- a dynamic symbol is to have another name, and hash tables or relocations can't follow
+abbrev pub is_name_fixed : SymbolEdit → Image → Bool
+is_name_fixed (RenameAllSymbols pairs) image = list_any (has_new_name pairs) (fixed_names image)
+is_name_fixed _ image = false
+
+-- the machine, then a NUL in a name, then names that have to stay
 abbrev pub cause_before : SymbolEdit → Image → Option Cause
-cause_before edit image = first_there (cause_if (image.header.e_machine == EM_MIPS) MipsImage) (cause_if (list_any holds_nul (texts_of edit)) NulInText)
+cause_before edit image =
+    first_there (cause_if (image.header.e_machine == EM_MIPS) MipsImage)
+    (first_there (cause_if (list_any holds_nul (texts_of edit)) NulInText)
+    (cause_if (is_name_fixed edit image) CannotRenumber))
 
 -- ## What is to go
 

@@ -4,7 +4,7 @@ use Rattle.std.specs.List.Sorted.{IsNonDecreasing}
 use Rattle.elf_format.specs.Image.{Image}
 use Rattle.elf_image.specs.Along.{symbols_along}
 use Rattle.elf_symbol_edits.specs.Named.{named_dynamic_symbols, named_sections, named_symbols}
-use Rattle.elf_symbol_edits.specs.SymbolEdit.{DeleteDynamicSymbols, DeleteSections, DeleteSymbols, RenameSections, RenameSymbols, SymbolEdit}
+use Rattle.elf_symbol_edits.specs.SymbolEdit.{DeleteAllSymbols, DeleteDynamicSymbols, DeleteSections, DeleteSymbols, RenameAllSymbols, RenameSections, RenameSymbols, SymbolEdit}
 
 -- Static symbols, dynamic symbols and sections, by their numbers at read.
 pub record Deletion : Type 0 where
@@ -20,6 +20,8 @@ abbrev pub deletion_of : SymbolEdit → Image → Deletion
 deletion_of (RenameSymbols pairs) image = no_deletion
 deletion_of (DeleteSymbols names) image = record { symbols = named_symbols names image; dynamic_symbols = []; sections = [] }
 deletion_of (DeleteDynamicSymbols names) image = record { symbols = []; dynamic_symbols = named_dynamic_symbols names image; sections = [] }
+deletion_of (RenameAllSymbols pairs) image = no_deletion
+deletion_of (DeleteAllSymbols names) image = record { symbols = named_symbols names image; dynamic_symbols = named_dynamic_symbols names image; sections = [] }
 deletion_of (RenameSections pairs) image = no_deletion
 deletion_of (DeleteSections names) image = record { symbols = symbols_along image (named_sections names image); dynamic_symbols = []; sections = named_sections names image }
 

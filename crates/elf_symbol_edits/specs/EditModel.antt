@@ -10,12 +10,14 @@ use Rattle.elf_symbol_edits.specs.declared.error.SymbolEditError.TheVariants as 
 use Rattle.elf_symbol_edits.specs.declared.cause.Cause.{Cause}
 use Rattle.elf_symbol_edits.specs.Cause.{cause}
 use Rattle.elf_symbol_edits.specs.Deletion.{AreRising, Deletion, deletion_of}
-use Rattle.elf_symbol_edits.specs.SymbolEdit.{DeleteDynamicSymbols, DeleteSections, DeleteSymbols, RenameSections, RenameSymbols, SymbolEdit, edited, touches}
+use Rattle.elf_symbol_edits.specs.SymbolEdit.{DeleteAllSymbols, DeleteDynamicSymbols, DeleteSections, DeleteSymbols, RenameAllSymbols, RenameSections, RenameSymbols, SymbolEdit, edited, touches}
 
 abbrev pub edit_model : EditHeld → SymbolEdit
 edit_model (edits.RenameSymbols pairs) = RenameSymbols (pairs_model pairs.now)
 edit_model (edits.DeleteSymbols names) = DeleteSymbols (texts_model names.now)
 edit_model (edits.DeleteDynamicSymbols names) = DeleteDynamicSymbols (texts_model names.now)
+edit_model (edits.RenameAllSymbols pairs) = RenameAllSymbols (pairs_model pairs.now)
+edit_model (edits.DeleteAllSymbols names) = DeleteAllSymbols (texts_model names.now)
 edit_model (edits.RenameSections pairs) = RenameSections (pairs_model pairs.now)
 edit_model (edits.DeleteSections names) = DeleteSections (texts_model names.now)
 

@@ -10,7 +10,7 @@ use Rattle.elf_format.specs.Image.{Image, ImageSection}
 use Rattle.elf_format.specs.Views.{NamedSymbol}
 use Rattle.elf_symbol_edits.specs.declared.cause.Cause.TheVariants.{CannotRenumber, MipsImage, NulInText, SectionInUse, SymbolInRelocation}
 use Rattle.elf_symbol_edits.specs.Cause.{step}
-use Rattle.elf_symbol_edits.specs.SymbolEdit.{DeleteDynamicSymbols, DeleteSections, DeleteSymbols, RenameSections, RenameSymbols, SymbolEdit}
+use Rattle.elf_symbol_edits.specs.SymbolEdit.{DeleteAllSymbols, DeleteDynamicSymbols, DeleteSections, DeleteSymbols, RenameAllSymbols, RenameSections, RenameSymbols, SymbolEdit}
 
 -- ## Sections
 
@@ -163,6 +163,36 @@ pub record SymbolRows : Type 0 where
   pub deleted_twice : step (DeleteSymbols (codes "g" ∷ [])) (record plain { symbols = first ∷ symbol (codes "g") 4 ∷ symbol [] 0 ∷ []; symbol_numbers = 0 ∷ 2 ∷ 3 ∷ [] })
       ≡ Ok (record plain { changed = true; symbols = first ∷ symbol [] 0 ∷ []; symbol_numbers = 0 ∷ 3 ∷ [] })
 
+-- symbols of both lists; only the dynamic ones have a name "d", and only the static ones none
+abbrev pub with_own_names : Image
+with_own_names = record plain { dynamic_symbols = first ∷ symbol (codes "f") 0 ∷ symbol (codes "d") 0 ∷ [] }
+
+pub record BothRows : Type 0 where
+  pub renamed : step (RenameAllSymbols ((codes "f", codes "h") ∷ [])) plain
+      ≡ Ok (record plain {
+        changed = true;
+        symbols = first ∷ symbol (codes "h") 4 ∷ symbol (codes "g") 4 ∷ symbol [] 0 ∷ [];
+        dynamic_symbols = first ∷ symbol (codes "h") 0 ∷ symbol (codes "g") 0 ∷ [];
+      })
+  pub one_renamed : step (RenameAllSymbols ((codes "d", codes "h") ∷ [])) with_own_names
+      ≡ Ok (record with_own_names { changed = true; dynamic_symbols = first ∷ symbol (codes "f") 0 ∷ symbol (codes "h") 0 ∷ [] })
+  pub nameless_renamed : step (RenameAllSymbols (([], codes "x") ∷ [])) plain
+      ≡ Ok (record plain { changed = true; symbols = first ∷ symbol (codes "f") 4 ∷ symbol (codes "g") 4 ∷ symbol (codes "x") 0 ∷ [] })
+  pub none_named : LeavesAll (RenameAllSymbols ((codes "x", codes "f") ∷ [])) plain
+  pub deleted : step (DeleteAllSymbols (codes "f" ∷ [])) plain
+      ≡ Ok (record plain {
+        changed = true;
+        symbols = first ∷ symbol (codes "g") 4 ∷ symbol [] 0 ∷ [];
+        symbol_numbers = 0 ∷ 2 ∷ 3 ∷ [];
+        dynamic_symbols = first ∷ symbol (codes "g") 0 ∷ [];
+        dynamic_symbol_numbers = 0 ∷ 2 ∷ [];
+      })
+  pub one_deleted : step (DeleteAllSymbols (codes "d" ∷ [])) with_own_names
+      ≡ Ok (record with_own_names { changed = true; dynamic_symbols = first ∷ symbol (codes "f") 0 ∷ []; dynamic_symbol_numbers = 0 ∷ 1 ∷ [] })
+  pub nameless_deleted : step (DeleteAllSymbols ([] ∷ [])) plain
+      ≡ Ok (record plain { changed = true; symbols = first ∷ symbol (codes "f") 4 ∷ symbol (codes "g") 4 ∷ []; symbol_numbers = 0 ∷ 1 ∷ 2 ∷ [] })
+  pub none_deleted : LeavesAll (DeleteAllSymbols (codes "x" ∷ [])) plain
+
 -- ## Refusals
 
 abbrev pub with_nul_in_it : List ℕ
@@ -188,6 +218,15 @@ pub record RefusalRows : Type 0 where
   pub table_fixed : step (DeleteDynamicSymbols (codes "f" ∷ [])) fixed ≡ Err CannotRenumber
   -- where no symbol goes, nothing is asked of the table
   pub none_fixed : LeavesAll (DeleteDynamicSymbols (codes "x" ∷ [])) fixed
+  -- a name is fixed where hash tables or relocations can't follow, which no static symbol asks for
+  pub name_fixed : step (RenameAllSymbols ((codes "f", codes "f") ∷ [])) fixed ≡ Err CannotRenumber
+  pub no_name_fixed : step (RenameAllSymbols (([], codes "x") ∷ [])) fixed
+      ≡ Ok (record fixed { changed = true; symbols = first ∷ symbol (codes "f") 4 ∷ symbol (codes "g") 4 ∷ symbol (codes "x") 0 ∷ [] })
+  pub one_list_named : step (DeleteAllSymbols (codes "f" ∷ [])) dynamic_relocated ≡ Err SymbolInRelocation
+  pub other_list_named : step (DeleteAllSymbols (codes "f" ∷ [])) static_relocated ≡ Err SymbolInRelocation
+  pub one_list_fixed : step (DeleteAllSymbols (codes "f" ∷ [])) (grouped 3) ≡ Err CannotRenumber
+  pub other_list_fixed : step (DeleteAllSymbols (codes "f" ∷ [])) fixed ≡ Err CannotRenumber
+  pub nul_before_names : step (RenameAllSymbols ((codes "f", with_nul_in_it) ∷ [])) fixed ≡ Err NulInText
   pub nul_in_old : step (RenameSymbols ((with_nul_in_it, []) ∷ [])) plain ≡ Err NulInText
   pub nul_in_new : step (RenameSections (([], with_nul_in_it) ∷ [])) plain ≡ Err NulInText
   pub nul_before_relocations : step (DeleteSymbols (codes "f" ∷ with_nul_in_it ∷ [])) static_relocated ≡ Err NulInText

@@ -1,11 +1,11 @@
 -- Steps of making an edit.
-use Rattle.std.specs.Prelude.{ℕ, ◌≡◌, List, [], ◌∷◌, All, IfSome, true, Bool, ◌||◌, if◌then◌else◌, is_some, Option, Some, None}
+use Rattle.std.specs.Prelude.{ℕ, ◌≡◌, List, [], ◌∷◌, All, IfSome, false, true, Bool, ◌||◌, if◌then◌else◌, is_some, Option, Some, None}
 use Rattle.std.specs.List.{list_any}
 use Rattle.elf_format.specs.Image.{Image, ImageSection}
 use Rattle.elf_edits.specs.Texts.{has_some}
 use Rattle.elf_image.specs.Deleted.{without_sections}
 use Rattle.elf_image.specs.SectionEdits.{with_section_name}
-use Rattle.elf_image.specs.SymbolEdits.{with_static_symbols}
+use Rattle.elf_image.specs.SymbolEdits.{IsPutFor, with_dynamic_symbols, with_static_symbols}
 use Rattle.elf_image_symbol_edits.specs.EditedList.{EditedList, IsName, changed_at}
 use Rattle.elf_symbol_edits.specs.SymbolEdit.{without_dynamic_symbols, without_symbols}
 
@@ -16,15 +16,29 @@ abbrev pub with_symbols_put : Option EditedList → Image → Image
 with_symbols_put None image = image
 with_symbols_put (Some edited) image = with_static_symbols edited image
 
+-- the same of dynamic symbols
+abbrev pub with_dynamic_put : Option EditedList → Image → Image
+with_dynamic_put None image = image
+with_dynamic_put (Some edited) image = with_dynamic_symbols edited image
+
+-- the dynamic symbols without those that have some numbers, where there are such: the image may take them in place of its own
+abbrev pub AreDynamicLeft : List ℕ → Image → Option EditedList → Type 0
+AreDynamicLeft gone image None = has_some gone ≡ false
+AreDynamicLeft gone image (Some left) = (has_some gone ≡ true) × IsPutFor image left × (with_dynamic_symbols left image ≡ without_dynamic_symbols gone image)
+
 -- the static symbols with some numbers went, and it is told whether there were some
 pub record AreGone (gone : List ℕ) (old new : Image) (touched : Bool) : Type 0 where
   pub told : touched ≡ has_some gone
   pub made : new ≡ (if has_some gone then without_symbols gone old else old)
 
--- the same of dynamic symbols, and of sections with what goes along
+-- the same of dynamic symbols, of both, and of sections with what goes along
 pub record AreDynamicGone (gone : List ℕ) (old new : Image) (touched : Bool) : Type 0 where
   pub told : touched ≡ has_some gone
   pub made : new ≡ (if has_some gone then without_dynamic_symbols gone old else old)
+
+pub record AreAllGone (gone dynamic_gone : List ℕ) (old new : Image) (touched : Bool) : Type 0 where
+  pub told : touched ≡ (has_some gone || has_some dynamic_gone)
+  pub made : new ≡ (if has_some gone || has_some dynamic_gone then without_dynamic_symbols dynamic_gone (without_symbols gone old) else old)
 
 pub record AreSectionsGone (gone : List ℕ) (old new : Image) (touched : Bool) : Type 0 where
   pub told : touched ≡ has_some gone

@@ -1,5 +1,5 @@
 -- The edits of symbols and sections by their names, and what each makes of an image.
-use Rattle.std.specs.Prelude.{ℕ, List, [], ◌∷◌, drop, Bool, true, if◌then◌else◌}
+use Rattle.std.specs.Prelude.{ℕ, List, [], ◌∷◌, drop, Bool, true, ◌||◌, if◌then◌else◌}
 use Rattle.std.specs.List.{flat_map, list_any}
 use Rattle.elf_format.specs.Image.{Image}
 use Rattle.elf_edits.specs.Symbols.{behind_first, has_new_name, renamed}
@@ -14,6 +14,9 @@ pub data SymbolEdit : Type 0 where
   DeleteSymbols : List (List ℕ) → SymbolEdit
   -- those for a loader (SHT_DYNSYM), but the first
   DeleteDynamicSymbols : List (List ℕ) → SymbolEdit
+  -- both, but the first of each
+  RenameAllSymbols : List (List ℕ × List ℕ) → SymbolEdit
+  DeleteAllSymbols : List (List ℕ) → SymbolEdit
   -- the sections (gABI, Sections), but the null section
   RenameSections : List (List ℕ × List ℕ) → SymbolEdit
   DeleteSections : List (List ℕ) → SymbolEdit
@@ -23,6 +26,8 @@ abbrev pub texts_of : SymbolEdit → List (List ℕ)
 texts_of (RenameSymbols pairs) = flat_map (λ pair. pair.0 ∷ pair.1 ∷ []) pairs
 texts_of (DeleteSymbols names) = names
 texts_of (DeleteDynamicSymbols names) = names
+texts_of (RenameAllSymbols pairs) = flat_map (λ pair. pair.0 ∷ pair.1 ∷ []) pairs
+texts_of (DeleteAllSymbols names) = names
 texts_of (RenameSections pairs) = flat_map (λ pair. pair.0 ∷ pair.1 ∷ []) pairs
 texts_of (DeleteSections names) = names
 
@@ -31,6 +36,8 @@ abbrev pub touches : SymbolEdit → Image → Bool
 touches (RenameSymbols pairs) image = list_any (λ y. has_new_name pairs y.name) (drop 1 image.symbols)
 touches (DeleteSymbols names) image = has_some (named_symbols names image)
 touches (DeleteDynamicSymbols names) image = has_some (named_dynamic_symbols names image)
+touches (RenameAllSymbols pairs) image = list_any (λ y. has_new_name pairs y.name) (drop 1 image.symbols) || list_any (λ y. has_new_name pairs y.name) (drop 1 image.dynamic_symbols)
+touches (DeleteAllSymbols names) image = has_some (named_symbols names image) || has_some (named_dynamic_symbols names image)
 touches (RenameSections pairs) image = is_section_renamed pairs image.sections
 touches (DeleteSections names) image = has_some (named_sections names image)
 
@@ -56,6 +63,12 @@ abbrev pub written : SymbolEdit → Image → Image
 written (RenameSymbols pairs) image = record image { changed = true; symbols = behind_first (renamed pairs) image.symbols }
 written (DeleteSymbols names) image = without_symbols (named_symbols names image) image
 written (DeleteDynamicSymbols names) image = without_dynamic_symbols (named_dynamic_symbols names image) image
+written (RenameAllSymbols pairs) image = record image {
+  changed = true;
+  symbols = behind_first (renamed pairs) image.symbols;
+  dynamic_symbols = behind_first (renamed pairs) image.dynamic_symbols;
+}
+written (DeleteAllSymbols names) image = without_dynamic_symbols (named_dynamic_symbols names image) (without_symbols (named_symbols names image) image)
 written (RenameSections pairs) image = record image { changed = true; sections = behind_first (renamed_section pairs) image.sections }
 written (DeleteSections names) image = without_sections (named_sections names image) image
 

@@ -8,7 +8,7 @@ ghost use Rattle.elf_image.specs.Staying.{staying, table_number as number_of_tab
 ghost use Rattle.elf_symbol_edits.specs.Cause.{cause_of_deletion, is_fixed, is_named_by_relocation};
 ghost use Rattle.elf_symbol_edits.specs.Deletion.{AreRising, no_deletion};
 ghost use Rattle.elf_symbol_edits.specs.EditModel.{IsDeletionOf, deletion_model, edit_model};
-ghost use Rattle.elf_symbol_edits.specs.SymbolEdit.{DeleteDynamicSymbols, DeleteSections, DeleteSymbols};
+ghost use Rattle.elf_symbol_edits.specs.SymbolEdit.{DeleteAllSymbols, DeleteDynamicSymbols, DeleteSections, DeleteSymbols};
 
 use crate::cause::Cause;
 use crate::edit::SymbolEdit;
@@ -80,6 +80,26 @@ impl Deletion {
         })
     }
 
+    // The symbols of both with one of some names.
+    fn of_all_symbols(
+        alloc: Global,
+        image: &Builder<'_>,
+        names: &[Vec<u8>],
+    ) -> Result<Deletion, AllocError>
+        ensures { IfOk result
+            (IsDeletionOf (DeleteAllSymbols (texts_model names.now)) image.now) }
+    {
+        // the numbers of an image's symbols rise
+        let _source = image.source();
+        let symbols = symbols_with(alloc, names, &image.symbols())?;
+        let dynamic_symbols = symbols_with(alloc, names, &image.dynamic_symbols())?;
+        Ok(Deletion {
+            symbols,
+            dynamic_symbols,
+            sections: Vec::new(alloc),
+        })
+    }
+
     // The sections with one of some names, and the symbols for a link editor that go along.
     fn of_sections(
         alloc: Global,
@@ -114,6 +134,8 @@ impl Deletion {
             SymbolEdit::DeleteDynamicSymbols(names) => {
                 Deletion::of_dynamic_symbols(alloc, image, names)
             }
+            SymbolEdit::RenameAllSymbols(_) => Ok(Deletion::none(alloc)),
+            SymbolEdit::DeleteAllSymbols(names) => Deletion::of_all_symbols(alloc, image, names),
             SymbolEdit::RenameSections(_) => Ok(Deletion::none(alloc)),
             SymbolEdit::DeleteSections(names) => Deletion::of_sections(alloc, image, names),
         }

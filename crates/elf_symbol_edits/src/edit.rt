@@ -17,6 +17,10 @@ pub enum SymbolEdit<'e> {
     DeleteSymbols(&'e [Vec<u8>]),
     /// Deletes the symbols for a loader that have one of these names, but the first.
     DeleteDynamicSymbols(&'e [Vec<u8>]),
+    /// Gives the symbols of both, but the first of each, other names.
+    RenameAllSymbols(&'e [(Vec<u8>, Vec<u8>)]),
+    /// Deletes the symbols of both that have one of these names, but the first of each.
+    DeleteAllSymbols(&'e [Vec<u8>]),
     /// Gives the sections, but the null section, other names (gABI, Sections, `sh_name`).
     RenameSections(&'e [(Vec<u8>, Vec<u8>)]),
     /// Deletes the sections that have one of these names, but the null section, with the symbols for a link editor and the
@@ -33,6 +37,8 @@ impl SymbolEdit<'_> {
             SymbolEdit::RenameSymbols(pairs) => any_nul_in_pairs(pairs),
             SymbolEdit::DeleteSymbols(names) => any_nul(names),
             SymbolEdit::DeleteDynamicSymbols(names) => any_nul(names),
+            SymbolEdit::RenameAllSymbols(pairs) => any_nul_in_pairs(pairs),
+            SymbolEdit::DeleteAllSymbols(names) => any_nul(names),
             SymbolEdit::RenameSections(pairs) => any_nul_in_pairs(pairs),
             SymbolEdit::DeleteSections(names) => any_nul(names),
         }

@@ -1,10 +1,16 @@
 //! What is proved of the edits themselves. The functions do nothing: each stands for the law that is its contract.
-ghost use Rattle.elf_symbol_edits.specs.Laws.{EditsAreDecided, RenamesAreAtOnce, SymbolEditsShow, SymbolsGoByName};
+ghost use Rattle.elf_symbol_edits.specs.Laws.{EditsAreDecided, RenamesAreAtOnce, SymbolEditsKeep, SymbolEditsShow, SymbolsGoByName};
 
 /// An edit gives the edited image, or is refused with the first cause.
 #[tactic(auto, using(crate::proofs::DecidedLaws::edits_are_decided))]
 pub fn edits_are_decided()
     ensures { EditsAreDecided }
+{}
+
+/// What no edit changes.
+#[tactic(auto, using(crate::proofs::KeptLaws::symbol_edits_keep))]
+pub fn symbol_edits_keep()
+    ensures { SymbolEditsKeep }
 {}
 
 /// Names are given all at once: a map can swap two, and swapped twice all are as they were.

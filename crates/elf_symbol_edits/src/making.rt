@@ -12,7 +12,9 @@ use crate::deletion::Deletion;
 use crate::edit::SymbolEdit;
 use crate::error::SymbolEditError;
 use crate::sections::{delete_sections, rename_sections};
-use crate::symbols::{delete_dynamic_symbols, delete_symbols, rename_symbols};
+use crate::symbols::{
+    delete_all_symbols, delete_dynamic_symbols, delete_symbols, rename_all_symbols, rename_symbols,
+};
 use elf_image::Builder;
 use std::alloc::{AllocError, Global};
 
@@ -50,6 +52,10 @@ fn carry_out(
         SymbolEdit::DeleteSymbols(_) => delete_symbols(alloc, image, &deletion.symbols),
         SymbolEdit::DeleteDynamicSymbols(_) => {
             delete_dynamic_symbols(alloc, image, &deletion.dynamic_symbols)
+        }
+        SymbolEdit::RenameAllSymbols(pairs) => rename_all_symbols(alloc, image, pairs),
+        SymbolEdit::DeleteAllSymbols(_) => {
+            delete_all_symbols(alloc, image, &deletion.symbols, &deletion.dynamic_symbols)
         }
         SymbolEdit::RenameSections(pairs) => rename_sections(alloc, image, pairs),
         SymbolEdit::DeleteSections(_) => delete_all(alloc, image, deletion),

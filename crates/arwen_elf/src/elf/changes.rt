@@ -3,13 +3,15 @@ ghost use Rattle.std.specs.Prelude.{◌≡◌, ◌∷◌, [], IfOk, IsOk};
 ghost use Rattle.elf_edits.specs.Edit.{AddDebugEntry, AddNeeded, AddRunPath, ClearExecStack, ClearSymbolVersion, DeleteNeeded, DeleteRunPath, NoDefaultLibrary, RenameDynamicSymbols, ReplaceNeeded, SetExecStack, SetInterpreter, SetOsAbi, SetPageSize, SetRunPath, SetSoname, UseRpath};
 ghost use Rattle.elf_edits.specs.EditModel.{pairs_model, texts_model};
 ghost use Rattle.elf_apply.specs.Taken.{RemovedAre, edits_model, shrink_model};
-ghost use Rattle.arwen_elf.specs.Contained.{BatchTaken, EditTaken, InPlaceTaken};
+ghost use Rattle.elf_symbol_edits.specs.EditModel.{edit_model as symbol_edit_model};
+ghost use Rattle.arwen_elf.specs.Contained.{BatchTaken, EditTaken, InPlaceTaken, SymbolEditTaken};
 
 use crate::elf::container::ElfContainer;
 use elf_apply::batch::ElfBatchError;
 use elf_apply::error::Result;
 use elf_edits::ElfEdit;
 use elf_edits_shrink::{ProbeAnswer, Removed};
+use elf_symbol_edits::SymbolEdit;
 use std::alloc::{AllocError, Global};
 use std::collections::HashMap;
 
@@ -34,6 +36,13 @@ impl<'a> ElfContainer<'a> {
         ensures none { edits.now ≡ [] → IsOk result }
     {
         self.inner.apply(alloc, edits)
+    }
+
+    /// Makes one edit of symbols or sections, all of it or nothing.
+    pub fn edit_symbols(&mut self, alloc: Global, edit: SymbolEdit<'_>) -> Result<()>
+        ensures { SymbolEditTaken (symbol_edit_model edit.entry) self.old self.new result }
+    {
+        self.inner.edit_symbols(alloc, edit)
     }
 
     /// Adds a directory to every run path; without one, puts a DT_RUNPATH last (gABI, Dynamic Section).

@@ -7,3 +7,4 @@ pub use elf_apply::ext::BuilderExt;
 pub use elf_apply::{batch, error, ext};
 pub use elf_edits::{ElfEdit, Task};
 pub use elf_edits_shrink::{ProbeAnswer, Reason, Removed};
+pub use elf_symbol_edits::SymbolEdit;

@@ -8,7 +8,7 @@ pub returns-in-Ok : goal.returns-in-Ok
 returns-in-Ok c =
     let lent : Image = c.builder-image.result.now in
     let image : Image = c.args.self.now in
-    let same : lent ≡ image = c.builder-image.ensures.image in
+    let same : lent ≡ image = c.builder-image.ensures in
     let edited = sym c.changed.ensures ∙ c.if-not-changed.false in
     record { bytes = edit_written lent image same c.in-Ok.bytes.items edited c.in-Ok.ensures.bytes; fault = tt }
 
@@ -16,7 +16,7 @@ pub returns-in-Err : goal.returns-in-Err
 returns-in-Err c =
     let lent : Image = c.builder-image.result.now in
     let image : Image = c.args.self.now in
-    let same : lent ≡ image = c.builder-image.ensures.image in
+    let same : lent ≡ image = c.builder-image.ensures in
     let edited = sym c.changed.ensures ∙ c.if-not-changed.false in
     record {
       bytes = tt;

@@ -11,7 +11,7 @@ returns-then-not-changed c =
     let lent : Image = c.builder-image.result.now in
     let image : Image = c.args.self.now in
     let d = c.no_difference.result in
-    let same : lent ≡ image = c.builder-image.ensures.image in
+    let same : lent ≡ image = c.builder-image.ensures in
     let unedited = sym c.changed.ensures ∙ c.if-not-changed.true in
     let source : lent.source ≡ image.source = ap (λ (i : Image). i.source) same in
     let read : c.source.result.now ≡ image.source = c.source.ensures.source ∙ source in
@@ -28,7 +28,7 @@ returns-in-Ok c =
     let lent : Image = c.builder-image.result.now in
     let image : Image = c.args.self.now in
     let d = c.in-Ok.difference in
-    let same : lent ≡ image = c.builder-image.ensures.image in
+    let same : lent ≡ image = c.builder-image.ensures in
     let edited = sym c.changed.ensures ∙ c.if-not-changed.false in
     let source : lent.source ≡ image.source = ap (λ (i : Image). i.source) same in
     record {
@@ -42,7 +42,7 @@ pub returns-in-Err : goal.returns-in-Err
 returns-in-Err c =
     let lent : Image = c.builder-image.result.now in
     let image : Image = c.args.self.now in
-    let same : lent ≡ image = c.builder-image.ensures.image in
+    let same : lent ≡ image = c.builder-image.ensures in
     let edited = sym c.changed.ensures ∙ c.if-not-changed.false in
     record {
       makeable = tt;

@@ -1,10 +1,6 @@
 -- An image that is read shows both views of its file.
 use Rattle.elf_format.proofs.ImageShows.{images_show}
-use Rattle.arwen_elf_writer.proofs.WholeLaws.{read_is_there}
 use Rattle.arwen_elf_writer.proofs.writer.Writer.read.Goals as goal
-
-pub invariant_of-result : goal.invariant_of-result
-invariant_of-result c = read_is_there c.args.bytes.now c.in_ok-builder.builder c.in_ok-builder.ensures
 
 pub returns-clause-shows : goal.returns-clause-shows
 returns-clause-shows c =
